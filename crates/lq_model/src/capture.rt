@@ -1,0 +1,20 @@
+/// Why bytes are refused as a capture. The numbers are those that the refusal's line shows.
+#[derive(Clone, Copy, Debug, PartialEq, Eq)]
+pub enum CaptureReason {
+    /// Fewer than the 24 bytes of the header.
+    ShortHeader = 1,
+    /// The first four bytes are neither magic number in either order.
+    Magic,
+    /// The major version isn't 2.
+    Version,
+    /// Fewer than the 16 bytes of a record's header are left.
+    CutRecordHeader,
+    /// A captured length above 262,144.
+    LongRecord,
+    /// Fewer bytes are left than the captured length says.
+    CutData,
+    /// More than 1,000,000 records.
+    TooMany,
+    /// More than 67,108,864 bytes, whatever they are.
+    TooLong = 9,
+}

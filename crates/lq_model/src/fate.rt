@@ -1,0 +1,35 @@
+/// What a packet is to the rules.
+#[derive(Clone, Copy, Debug, PartialEq, Eq)]
+pub struct Info {
+    /// The sender that transmits it.
+    pub owner: u32,
+    pub station: u32,
+    pub band: u32,
+    pub queue: u32,
+    /// How many lower packets have the same owner and station.
+    pub rank: u32,
+}
+
+/// Why a packet was purged.
+#[derive(Clone, Copy, Debug, PartialEq, Eq)]
+pub enum Cause {
+    /// An event of the plan, by its number.
+    Event(u32),
+    /// The device of this unit hung.
+    Hung(u32),
+}
+
+/// What became of a packet.
+#[derive(Clone, Copy, Debug, PartialEq, Eq)]
+pub enum Fate {
+    /// The unit's device accepted it, after `serial` others.
+    Sent { unit: u32, serial: u32 },
+    /// Its band's ring was full; `seen` is the packet in the slot that it would have had.
+    Full { seen: u32 },
+    /// A resize of the rings, an event of the plan, dropped it.
+    Shrunk { event: u32 },
+    /// It was held when its station was emptied.
+    Purged { cause: Cause },
+    /// Its station was deactivated, by an event of the plan.
+    Refused { event: u32 },
+}

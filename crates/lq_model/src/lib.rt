@@ -1,0 +1,13 @@
+//! The plain types of the transmit path and, in `specs/`, every definition that the contracts of the other
+//! crates cite. `docs/RULES.md` and `docs/FORMATS.md` say the same in words, in the same order.
+#![tactic(auto)]
+
+mod capture;
+mod fate;
+
+pub use capture::CaptureReason;
+pub use fate::{Cause, Fate, Info};
+
+/// Want of memory.
+#[derive(Clone, Copy, Debug, PartialEq, Eq)]
+pub struct NoMemory;
