@@ -2,3 +2,5 @@
 pub mod Capture
 -- fates and counts as texts
 pub mod Texts
+-- a band's packets, and when it is full
+pub mod Band
