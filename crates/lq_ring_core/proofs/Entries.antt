@@ -1,0 +1,27 @@
+-- The entries of a run of slots.
+use Rattle.std.proofs.Common.{◌≡◌, ◌≢◌, ℕ, zero, suc, ◌+◌, ◌-◌, ◌<◌, ◌≤◌, arith, List, [], ◌∷◌, ◌++◌, length, Some, refl, ap, sym, ◌∙◌, add-zero, add-one, add-suc, add_assoc, append_assoc, append-nil, length-append}
+use Rattle.std.specs.List.{slice_get}
+use Rattle.std.proofs.lemmas.Grind.{common_steps}
+use Rattle.lq_ring_core.specs.Slots.{round, slot_at, entries_from}
+
+pub length-entries_from : (slots : List ℕ) (size place n : ℕ) → length (entries_from slots size place n) ≡ n
+length-entries_from slots size place zero = refl
+length-entries_from slots size place (suc n) =
+    omega (arith, length-append (entries_from slots size place n) ((slot_at slots size (place + n) - 1) ∷ []), length-entries_from slots size place n)
+
+pub entries_from-alike : (slots others : List ℕ) (size p q n : ℕ) → ((i : ℕ) → i < n → slot_at slots size (p + i) ≡ slot_at others size (q + i))
+    → entries_from slots size p n ≡ entries_from others size q n
+entries_from-alike slots others size p q zero same = refl
+entries_from-alike slots others size p q (suc n) same =
+    let last : slot_at slots size (p + n) ≡ slot_at others size (q + n) = same n (omega arith) in
+    let front : entries_from slots size p n ≡ entries_from others size q n = entries_from-alike slots others size p q n (λ i h. same i (omega arith)) in
+    rw (last, front)
+
+pub entries_from-append : (slots : List ℕ) (size p a b : ℕ) → entries_from slots size p (a + b) ≡ entries_from slots size p a ++ entries_from slots size (p + a) b
+entries_from-append slots size p a zero = rw (add-zero, append-nil)
+entries_from-append slots size p a (suc b) =
+    rw (add-suc, entries_from-append slots size p a b, ← add_assoc p a b, append_assoc)
+
+-- the first of them
+pub entries_from-first : (slots : List ℕ) (size p count n : ℕ) → count ≡ 1 + n → entries_from slots size p count ≡ (slot_at slots size p - 1) ∷ entries_from slots size (p + 1) n
+entries_from-first slots size p count n e = rw (e, entries_from-append slots size p 1 n, add-zero)
