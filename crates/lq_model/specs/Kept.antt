@@ -7,18 +7,22 @@ use Rattle.lq_model.specs.declared.machine.Attempt.TheVariants.{Queued, Direct}
 use Rattle.lq_model.specs.declared.machine.Blocked.{Blocked}
 use Rattle.lq_model.specs.declared.machine.Blocked.TheVariants.{InHand, NoneTaken}
 use Rattle.lq_model.specs.declared.machine.Phase.TheVariants.{Purged}
+use Rattle.lq_model.specs.declared.machine.Answer.{Answer}
+use Rattle.lq_model.specs.declared.machine.Beginning.{Beginning}
+use Rattle.lq_model.specs.declared.machine.Beginning.TheVariants.{Transmits, Interrupts, Wakes, Controls}
+use Rattle.lq_model.specs.declared.machine.ControlStep.{ControlStep}
 use Rattle.lq_model.specs.declared.machine.Position.{Position}
 use Rattle.lq_model.specs.declared.machine.Position.TheVariants.{Idle, Enter, Check, Put, Try1, Miss, Try2, Recheck, Gate, Xmit, StoreXoff, Post, Deq, Scan, Test, ClearMissed, ClearDraining, BlockedClear, BlockedLoad, BlockedMiss, BlockedDrain, Again, Quota, Unlock, Tail, Sched, Leave, Soft, SoftClear, Late, Wake, Control}
 use Rattle.lq_model.specs.declared.machine.Seat.{Seat}
 use Rattle.lq_model.specs.Machine.{Qdisc, Machine, Purge, bit, is_open, is_shared, is_closed, band_at, seat_at}
-use Rattle.lq_model.specs.Steps.{is_idle, queue_of_slot}
-use Rattle.lq_model.specs.Control.{is_quiet}
+use Rattle.lq_model.specs.Steps.{is_idle, queue_of_slot, Steps, Begins}
+use Rattle.lq_model.specs.Control.{is_quiet, Controls as ControlsTo}
 
 -- HELD AND EXPOSED
 
 -- in a band or in the requeue slot
 abbrev pub Holds : Machine → Packet → Type 0
-Holds m p = (m.qdisc.slot ≡ Some p) ⊎ ((k : ℕ) × Contains (band_at m.qdisc k) p)
+Holds m p = (m.qdisc.slot ≡ Some p) ⊎ ((k : ℕ) × ((k < 3) × Contains (band_at m.qdisc k) p))
 
 -- the packet of a transmit that has put it and hasn't yet got the run lock or set MISSED
 abbrev pub queued : Position → Option Packet
@@ -31,7 +35,7 @@ IsHidden m p = (i : ℕ) × (queued (seat_at m i).position ≡ Some p)
 
 -- it is held, and no transmit of its own is still sure to look for it
 abbrev pub Exposes : Machine → Packet → Type 0
-Exposes m p = (m.qdisc.slot ≡ Some p) ⊎ ((k : ℕ) × (Contains (band_at m.qdisc k) p × (IsHidden m p → ⊥)))
+Exposes m p = (m.qdisc.slot ≡ Some p) ⊎ ((k : ℕ) × ((k < 3) × (Contains (band_at m.qdisc k) p × (IsHidden m p → ⊥))))
 
 -- nothing is exposed in the requeue slot, or in a band below this one
 pub record ClearBelow (m : Machine) (band : ℕ) : Type 0 where
@@ -196,39 +200,82 @@ pub record IsStuck (m : Machine) : Type 0 where
 
 -- THE INVARIANT
 
+-- a free lock with MISSED set: SCHED or DEACTIVATED is set, or some seat will come
+abbrev pub LockFreeMissed : Machine → Type 0
+LockFreeMissed m =
+    m.qdisc.locked ≡ false → m.qdisc.missed ≡ true → (m.qdisc.sched || m.qdisc.deactivated || some_seat is_going m) ≡ true
+
+-- a free lock with neither bit set: nothing is exposed
+abbrev pub LockFreeClear : Machine → Type 0
+LockFreeClear m = m.qdisc.locked ≡ false → BitsClear m.qdisc → IsClear m
+
+-- a free lock with DRAINING alone: nothing is exposed, unless there is a way on
+abbrev pub LockFreeDraining : Machine → Type 0
+LockFreeDraining m = m.qdisc.locked ≡ false → IsStuck m → IsClear m
+
+-- the same where the holder is about to release the lock
+abbrev pub EndingDraining : Machine → Type 0
+EndingDraining m = (i : ℕ) → is_ending m.qdisc.purge (seat_at m i).position ≡ true → IsStuck m → IsClear m
+
+-- where a holder is about to set DRAINING, MISSED is set or there is a way on
+abbrev pub BlockedDraining : Machine → Type 0
+BlockedDraining m =
+    (i : ℕ) (b : Blocked) → (seat_at m i).position ≡ BlockedDrain b → (m.qdisc.missed || has_way_on m (blocking_at b m.qdisc)) ≡ true
+
+-- what a holder has looked at, or goes past, is not exposed while neither bit is set
+abbrev pub LookedClear : Machine → Type 0
+LookedClear m =
+    (i band : ℕ) → looked_below m.qdisc.purge (seat_at m i).position ≡ Some band → BitsClear m.qdisc → ClearBelow m band
+
+-- the bands are looked at once more with DRAINING clear
+abbrev pub SecondScan : Machine → Type 0
+SecondScan m = (i : ℕ) → is_second_scan (seat_at m i).position ≡ true → m.qdisc.draining ≡ false
+
+-- the requeue slot is empty where a packet in hand may need it, and where the bands are looked at
+abbrev pub SlotFree : Machine → Type 0
+SlotFree m = (i : ℕ) → needs_slot (seat_at m i).position ≡ true → m.qdisc.slot ≡ None
+
+-- with nothing in hand the stopped queue is that of the packet in the requeue slot; with one queue there may be none
+abbrev pub SlotWaits : Machine → Type 0
+SlotWaits m =
+    (i queue : ℕ) → blocked (seat_at m i).position ≡ Some (NoneTaken queue)
+    → (queue ≡ queue_of_slot m.qdisc.slot) × (is_shared m.qdisc ≡ true → is_some m.qdisc.slot ≡ true)
+
+-- the lock is 1 exactly where one seat stands as its holder; never more than one does
+abbrev pub OneHolder : Machine → Type 0
+OneHolder m = sum_by (λ s. bit (holds_lock s.position)) m.seats ≡ bit m.qdisc.locked
+
+-- the calls inside are the seats between their enter and their leave
+abbrev pub CallsInside : Machine → Type 0
+CallsInside m = sum_by (λ s. bit (is_inside s.position)) m.seats ≡ m.qdisc.inside
+
+-- SCHED is set exactly where one seat is raised, or in a soft interrupt that hasn't cleared it; never more than one is
+abbrev pub OneScheduled : Machine → Type 0
+OneScheduled m = sum_by marks m.seats ≡ bit m.qdisc.sched
+
+-- once the calls inside were loaded as 0 under DEACTIVATED, each later call is on its way out
+abbrev pub QuietInside : Machine → Type 0
+QuietInside m = is_quiet m.qdisc.phase ≡ true → (i : ℕ) → may_be_inside (seat_at m i).position ≡ true
+
+-- once the purge has ended, neither bit is set and nothing is held
+abbrev pub PurgedHoldsNothing : Machine → Type 0
+PurgedHoldsNothing m = m.qdisc.phase ≡ Purged → BitsClear m.qdisc × ((p : Packet) → Holds m p → ⊥)
+
 pub record IsKept (m : Machine) : Type 0 where
-  -- a free lock with MISSED set: somebody will come
-  pub lock_free_missed :
-      m.qdisc.locked ≡ false → m.qdisc.missed ≡ true → (m.qdisc.sched || m.qdisc.deactivated || some_seat is_going m) ≡ true
-  -- a free lock with neither bit set: nothing is exposed
-  pub lock_free_clear : m.qdisc.locked ≡ false → BitsClear m.qdisc → IsClear m
-  -- with DRAINING alone: nothing is exposed, unless there is a way on
-  pub lock_free_draining : m.qdisc.locked ≡ false → IsStuck m → IsClear m
-  pub ending_draining : (i : ℕ) → is_ending m.qdisc.purge (seat_at m i).position ≡ true → IsStuck m → IsClear m
-  -- DRAINING is about to be set: MISSED is set, or there is a way on
-  pub blocked_draining :
-      (i : ℕ) (b : Blocked) → (seat_at m i).position ≡ BlockedDrain b → (m.qdisc.missed || has_way_on m (blocking_at b m.qdisc)) ≡ true
-  -- what a holder has looked at, or goes past, is not exposed while neither bit is set
-  pub looked_clear :
-      (i band : ℕ) → looked_below m.qdisc.purge (seat_at m i).position ≡ Some band → BitsClear m.qdisc → ClearBelow m band
-  -- the bands are looked at once more with DRAINING clear
-  pub second_scan : (i : ℕ) → is_second_scan (seat_at m i).position ≡ true → m.qdisc.draining ≡ false
-  -- the requeue slot is empty where its place may be needed
-  pub slot_free : (i : ℕ) → needs_slot (seat_at m i).position ≡ true → m.qdisc.slot ≡ None
-  -- with nothing in hand the stopped queue is that of the packet in the requeue slot; with one queue there may be none
-  pub slot_waits :
-      (i queue : ℕ) → blocked (seat_at m i).position ≡ Some (NoneTaken queue)
-      → (queue ≡ queue_of_slot m.qdisc.slot) × (is_shared m.qdisc ≡ true → is_some m.qdisc.slot ≡ true)
-  -- the lock is 1 exactly where one seat stands as its holder; never more than one does
-  pub one_holder : sum_by (λ s. bit (holds_lock s.position)) m.seats ≡ bit m.qdisc.locked
-  pub calls_inside : sum_by (λ s. bit (is_inside s.position)) m.seats ≡ m.qdisc.inside
-  -- SCHED is set exactly where one seat is raised, or in a soft interrupt that hasn't cleared it; never more than one is
-  pub one_scheduled : sum_by marks m.seats ≡ bit m.qdisc.sched
-  -- once the calls inside were loaded as 0 under DEACTIVATED, each later one is on its way out
-  pub quiet_inside : is_quiet m.qdisc.phase ≡ true → (i : ℕ) → may_be_inside (seat_at m i).position ≡ true
-  -- once the purge has ended, neither bit is set and nothing is held
-  pub purged_bits : m.qdisc.phase ≡ Purged → BitsClear m.qdisc
-  pub purged_holds : m.qdisc.phase ≡ Purged → (p : Packet) → Holds m p → ⊥
+  pub lock_free_missed : LockFreeMissed m
+  pub lock_free_clear : LockFreeClear m
+  pub lock_free_draining : LockFreeDraining m
+  pub ending_draining : EndingDraining m
+  pub blocked_draining : BlockedDraining m
+  pub looked_clear : LookedClear m
+  pub second_scan : SecondScan m
+  pub slot_free : SlotFree m
+  pub slot_waits : SlotWaits m
+  pub one_holder : OneHolder m
+  pub calls_inside : CallsInside m
+  pub one_scheduled : OneScheduled m
+  pub quiet_inside : QuietInside m
+  pub purged_holds_nothing : PurgedHoldsNothing m
 
 -- what makes it inductive
 
@@ -275,16 +322,47 @@ pub record IsPurging (m : Machine) (u : Purge) : Type 0 where
   pub draining : u.draining ≡ true → m.qdisc.draining ≡ false
   pub alone : (is_quiet m.qdisc.phase ≡ true) ⊎ ((i : ℕ) → i < length m.seats → (seat_at m i).position ≡ Control true)
 
+-- a purge half done
+abbrev pub Purging : Machine → Type 0
+Purging m = (u : Purge) → m.qdisc.purge ≡ Some u → IsPurging m u
+
+-- the device is called only for an open queue
+abbrev pub DeviceOpen : Machine → Type 0
+DeviceOpen m = (i : ℕ) (p : Packet) (direct : Bool) → (seat_at m i).position ≡ Xmit p direct → is_open m.qdisc p.queue ≡ true
+
+-- with several queues a dequeue begins at a stop word only where the requeue slot is full
+abbrev pub DequeueWaits : Machine → Type 0
+DequeueWaits m = (i : ℕ) → (seat_at m i).position ≡ Deq → is_shared m.qdisc ≡ true → is_some m.qdisc.slot ≡ true
+
+-- no packet goes past the bands while one of the same owner is held
+abbrev pub DirectAlone : Machine → Type 0
+DirectAlone m = (i : ℕ) (p r : Packet) → direct_packet (seat_at m i).position ≡ Some p → Holds m r → r.owner ≢ p.owner
+
+-- DEACTIVATED is set exactly where a deactivation is under way
+abbrev pub Deactivation : Machine → Type 0
+Deactivation m = m.qdisc.deactivated ≡ is_closed m.qdisc.phase
+
 pub record IsInductive (m : Machine) : Type 0 where
   pub kept : IsKept m
-  -- DEACTIVATED is set exactly where a deactivation is under way
-  pub deactivated : m.qdisc.deactivated ≡ is_closed m.qdisc.phase
-  pub purging : (u : Purge) → m.qdisc.purge ≡ Some u → IsPurging m u
-  -- the device is called only for an open queue
-  pub device_open : (i : ℕ) (p : Packet) (direct : Bool) → (seat_at m i).position ≡ Xmit p direct → is_open m.qdisc p.queue ≡ true
-  pub owners : OwnersDiffer m
-  -- no packet goes past the bands while one of the same owner is held
-  pub direct_alone : (i : ℕ) (p r : Packet) → direct_packet (seat_at m i).position ≡ Some p → Holds m r → r.owner ≢ p.owner
+  pub deactivation : Deactivation m
+  pub purging : Purging m
+  pub device_open : DeviceOpen m
+  pub dequeue_waits : DequeueWaits m
+  pub owners_differ : OwnersDiffer m
+  pub direct_alone : DirectAlone m
+
+-- a call of a seat may begin beside the others: of an owner one packet at a time is in a transmit
+abbrev pub IsFree : Beginning → ℕ → Machine → Type 0
+IsFree (Transmits p) i m = (j : ℕ) (r : Packet) → i ≢ j → own_packet (seat_at m j).position ≡ Some r → p.owner ≢ r.owner
+IsFree Interrupts i m = Unit {0}
+IsFree (Wakes queue) i m = Unit {0}
+IsFree Controls i m = Unit {0}
+
+-- what one step may leave: of a seat, of a start, or of control
+pub data Moves (m m' : Machine) : Type 0 where
+  steps : (i : ℕ) (answer : Answer) → Steps m i answer m' → Moves m m'
+  begins : (i : ℕ) (b : Beginning) → IsFree b i m → Begins m i b m' → Moves m m'
+  controls : (i : ℕ) (step : ControlStep) → ControlsTo m i step m' → Moves m m'
 
 -- QUIET
 

@@ -14,6 +14,7 @@ use Rattle.lq_model.specs.declared.machine.Answer.TheVariants.{Plain, FullSlot, 
 use Rattle.lq_model.specs.declared.machine.Position.{Position}
 use Rattle.lq_model.specs.declared.machine.Position.TheVariants.{Idle, Enter, Check, Put, Try1, Miss, Try2, Recheck, Gate, Xmit, StoreXoff, Post, Deq, Scan, Test, ClearMissed, ClearDraining, BlockedClear, BlockedLoad, BlockedMiss, BlockedDrain, Again, Quota, Unlock, Tail, Sched, Leave, Soft, SoftClear, Late, Wake, Control}
 use Rattle.lq_model.specs.declared.machine.Seat.{Seat}
+use Rattle.lq_model.specs.Band.{batch}
 use Rattle.lq_model.specs.Machine.{Qdisc, Machine, seat_at, is_non_empty, is_open, is_shared, band_at}
 
 -- what a step leaves of the shared words and of the seat that made it; it touches no other seat
@@ -57,7 +58,8 @@ miss attempt q s = if q.missed then goes_to q s (gives_up attempt) else goes_to 
 
 -- DEQUEUE
 
--- the queue whose stop word a dequeue loads first
+-- the queue whose stop word a dequeue loads first: that of the packet in the requeue slot; where the slot is
+-- empty there is one queue, since with several a dequeue then begins at the bands
 abbrev pub queue_of_slot : Option Packet → ℕ
 queue_of_slot (Some p) = p.queue
 queue_of_slot None = 0
@@ -198,16 +200,12 @@ may_step Idle = false
 may_step (Control holds) = false
 may_step _ = true
 
--- the rule of the ring: entries taken are zeroed this many at a time
-abbrev pub zeroed_at_once : ℕ → ℕ
-zeroed_at_once len = if nat_le 32 len then 16 else 1
-
 abbrev pub has_room : Position → Qdisc → Bool
 has_room (Put p holds) q = nat_lt (length (band_at q p.band)) q.len
 has_room _ q = true
 
 abbrev pub may_be_full : Position → Qdisc → Bool
-may_be_full (Put p holds) q = nat_le (q.len - zeroed_at_once q.len) (length (band_at q p.band))
+may_be_full (Put p holds) q = nat_le (q.len - batch q.len) (length (band_at q p.band))
 may_be_full _ q = false
 
 abbrev pub is_at_device : Position → Bool
