@@ -8,3 +8,5 @@ pub mod Entries
 pub mod Uses
 -- what each call makes of the slots and the ends
 pub mod Steps
+-- the ring is a band of a station
+pub mod BandLaws

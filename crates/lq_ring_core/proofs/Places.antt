@@ -2,7 +2,7 @@
 use Rattle.std.proofs.Common.{◌≡◌, ◌≢◌, ℕ, ◌+◌, ◌-◌, ◌<◌, ◌≤◌, arith, List, slice_index}
 use Rattle.std.proofs.lemmas.Bool.Decides.{nat_tests}
 use Rattle.lq_model.specs.Band.{batch}
-use Rattle.lq_ring_core.specs.Ring.{next_place}
+use Rattle.lq_ring_core.specs.Ring.{next_place, place_before}
 use Rattle.lq_ring_core.specs.Slots.{round, slot_at, distance, held_count}
 
 pub round-below : (size p : ℕ) → p < size → round size p ≡ p
@@ -43,3 +43,30 @@ batch-positive size = grind (arith, nat_tests)
 
 pub batch-within : (size : ℕ) → 0 < size → batch size ≤ size
 batch-within size h = grind (arith, nat_tests)
+
+-- THE COUNT
+
+pub held_count-all : (slots : List ℕ) (size head producer : ℕ) → head < size → producer < size → distance size head producer ≡ 0
+    → slice_index slots head ≢ 0 → size ≡ held_count slots size head producer
+held_count-all slots size head producer hh hp ahead some = grind (arith, nat_tests)
+
+pub held_count-ahead : (slots : List ℕ) (size head producer : ℕ) → head < size → producer < size
+    → (distance size head producer ≡ 0 → slice_index slots head ≡ 0) → distance size head producer ≡ held_count slots size head producer
+held_count-ahead slots size head producer hh hp none = grind (arith, nat_tests)
+
+-- THE PLACE BEFORE
+
+pub place_before-within : (size head : ℕ) → head < size → place_before size head 1 < size
+place_before-within size head h = grind (arith, nat_tests)
+
+pub round-place_before : (size head i : ℕ) → head < size → i < size → round size (place_before size head 1 + (i + 1)) ≡ round size (head + i)
+round-place_before size head i h hi = grind (arith, nat_tests)
+
+pub round-place_before_all : (size head : ℕ) → head < size → round size (place_before size head 1 + size) ≡ place_before size head 1
+round-place_before_all size head h = grind (arith, nat_tests)
+
+pub round-last : (size head : ℕ) → head < size → round size (head + (size - 1)) ≡ place_before size head 1
+round-last size head h = grind (arith, nat_tests)
+
+pub place_before-place_before : (size head k : ℕ) → head < size → k < size → place_before size (place_before size head k) 1 ≡ place_before size head (k + 1)
+place_before-place_before size head k h hk = grind (arith, nat_tests)

@@ -4,11 +4,11 @@ use Rattle.std.specs.List.{slice_get}
 use Rattle.std.specs.Option.{SomeIff}
 use Rattle.std.proofs.lemmas.Bool.{cases_lt, lt-leb, ne_eqb, le-leb, eq-eqb, or_left, or_right}
 use Rattle.lq_model.specs.Band.{batch}
-use Rattle.lq_ring_core.specs.Ring.{next_place, after_produce, after_consume, entries_of, IsFull, IsBounded, RingState}
+use Rattle.lq_ring_core.specs.Ring.{next_place, after_produce, after_consume, after_clear, with_before, place_before, entries_of, IsFull, IsBounded, RingState}
 use Rattle.lq_ring_core.specs.Slots.{round, slot_at, held_count, entries_from, IsUsed, IsCleared, IsInOrder, ring_of}
-use Rattle.lq_ring_core.proofs.Places.{round-below, round-above, round-within, round-apart, round-round, round-count, held_count-is, next_place-round, batch-positive}
+use Rattle.lq_ring_core.proofs.Places.{round-below, round-above, round-within, round-apart, round-round, round-count, held_count-is, next_place-round, batch-positive, round-place_before, round-last, place_before-within}
 use Rattle.lq_ring_core.proofs.Entries.{entries_from-alike, entries_from-first, entries_from-append, length-entries_from}
-use Rattle.lq_ring_core.proofs.Uses.{IsUsed-set, IsUsed-cleared, slot_at-cleared}
+use Rattle.lq_ring_core.proofs.Uses.{IsUsed-set, IsUsed-cleared, slot_at-cleared, IsUsed-set_before, slot_at-set_before, slot_at-set_itself}
 
 -- the slots in use tell how many entries are held
 pub held_count-used : (slots : List ℕ) (size producer head tail s c : ℕ) → tail + s ≡ head → head < size → producer ≡ round size (head + c) → IsUsed slots size tail (s + c)
@@ -326,3 +326,110 @@ pub held_count-positive : (slots : List ℕ) (max_size size producer head tail :
     → 0 < length ring.held → 0 < held_count slots size head producer
 held_count-positive slots max_size size producer head tail ring e h =
     omega (arith, rw (← e) at h, length-entries_from slots size head (held_count slots size head producer))
+
+-- UNCONSUME
+
+-- the slots in use, once none is stale
+pub IsUsed-clear : (slots new : List ℕ) (size producer head tail : ℕ) → IsInOrder slots size producer head tail → IsCleared slots new tail head
+    → IsUsed new size head (0 + held_count slots size head producer)
+IsUsed-clear slots new size producer head tail o cleared =
+    let count = held_count slots size head producer in
+    let e : head ≡ tail + (head - tail) = omega (arith, o.tail_before_head) in
+    let total : head - tail + count - (head - tail) ≡ 0 + count = omega arith in
+    let place : round size (tail + (head - tail)) ≡ head = rw (← e) (round-below size head o.head_within) in
+    let u = IsUsed-cleared slots new size tail (head - tail) (head - tail + count) (omega (arith, o.tail_before_head, o.head_within)) (omega arith) (rw e at cleared) o.uses in
+    rw (place, total) at u
+
+pub IsInOrder-clear : (slots new : List ℕ) (size producer head tail : ℕ) → IsInOrder slots size producer head tail → IsCleared slots new tail head
+    → IsInOrder new size producer head head
+IsInOrder-clear slots new size producer head tail o cleared =
+    IsInOrder-from new size producer head head 0 (held_count slots size head producer) (add-zero head) o.head_within (batch-positive size)
+      (sym (round-count slots size head producer o.head_within o.producer_within)) (IsUsed-clear slots new size producer head tail o cleared)
+
+pub ring_of-clear : (slots new : List ℕ) (max_size size producer head tail : ℕ) → IsInOrder slots size producer head tail → IsCleared slots new tail head
+    → ring_of new max_size size producer head head ≡ after_clear (ring_of slots max_size size producer head tail)
+ring_of-clear slots new max_size size producer head tail o cleared =
+    let count = held_count slots size head producer in
+    let none : head - head ≡ 0 = omega arith in
+    let count_is : held_count new size head producer ≡ count =
+        held_count-used new size producer head head 0 count (add-zero head) o.head_within
+          (sym (round-count slots size head producer o.head_within o.producer_within)) (IsUsed-clear slots new size producer head tail o cleared) in
+    let to_head : head ≡ tail + (head - tail) = omega (arith, o.tail_before_head) in
+    let place : round size (tail + (head - tail)) ≡ head = rw (← to_head) (round-below size head o.head_within) in
+    let held_is : entries_from new size head count ≡ entries_from slots size head count =
+        entries_from-alike new slots size head head count
+          (λ i h.
+             let e : tail + (head - tail + i) ≡ head + i = omega (arith, o.tail_before_head) in
+             let same = slot_at-cleared slots new size tail (head - tail) i (omega (arith, o.tail_before_head, o.head_within)) (rw to_head at cleared)
+                 (omega (arith, o.uses.within, o.tail_before_head)) in
+             rw (place, e) at same) in
+    rw (none, count_is, held_is)
+
+-- the slot before the head is empty unless all are in use
+pub slice_index-before : (slots : List ℕ) (size producer head : ℕ) → IsInOrder slots size producer head head
+    → (slice_index slots (place_before size head 1) ≡ 0) ↔ (held_count slots size head producer < size)
+slice_index-before slots size producer head o =
+    let count = held_count slots size head producer in
+    let total : head - head + count ≡ count = omega arith in
+    let u : IsUsed slots size head count = rw total at o.uses in
+    let place : round size (head + (size - 1)) ≡ place_before size head 1 = round-last size head o.head_within in
+    ( λ z. elim (cases_lt count size) [
+        inl h ↦ h
+      | inr h ↦ absurd (omega (arith, z, rw place at (u.used (size - 1) (omega (arith, o.head_within)))))
+      ]
+    , λ h. rw place at (u.empty (size - 1) (omega arith) (omega (arith, o.head_within)))
+    )
+
+pub producer-before : (slots : List ℕ) (size producer head : ℕ) → IsInOrder slots size producer head head → held_count slots size head producer < size
+    → producer ≡ round size (place_before size head 1 + (held_count slots size head producer + 1))
+producer-before slots size producer head o h =
+    sym (round-place_before size head (held_count slots size head producer) o.head_within h ∙ round-count slots size head producer o.head_within o.producer_within)
+
+pub IsUsed-before : (slots : List ℕ) (size producer head n : ℕ) → size ≤ length slots → IsInOrder slots size producer head head → held_count slots size head producer < size
+    → IsUsed (set slots (place_before size head 1) (n + 1)) size (place_before size head 1) (0 + (held_count slots size head producer + 1))
+IsUsed-before slots size producer head n long o h =
+    let count = held_count slots size head producer in
+    let total : head - head + count ≡ count = omega arith in
+    IsUsed-set_before slots size head count (n + 1) long o.head_within h (omega arith) (rw total at o.uses)
+
+pub IsInOrder-before : (slots : List ℕ) (size producer head n : ℕ) → size ≤ length slots → IsInOrder slots size producer head head
+    → held_count slots size head producer < size
+    → IsInOrder (set slots (place_before size head 1) (n + 1)) size producer (place_before size head 1) (place_before size head 1)
+IsInOrder-before slots size producer head n long o h =
+    let place = place_before size head 1 in
+    IsInOrder-from (set slots place (n + 1)) size producer place place 0 (held_count slots size head producer + 1) (add-zero place) (place_before-within size head o.head_within)
+      (batch-positive size) (producer-before slots size producer head o h) (IsUsed-before slots size producer head n long o h)
+
+pub ring_of-before : (slots : List ℕ) (max_size size producer head n : ℕ) → size ≤ length slots → IsInOrder slots size producer head head
+    → held_count slots size head producer < size
+    → ring_of (set slots (place_before size head 1) (n + 1)) max_size size producer (place_before size head 1) (place_before size head 1)
+      ≡ with_before (ring_of slots max_size size producer head head) (n ∷ [])
+ring_of-before slots max_size size producer head n long o h =
+    let count = held_count slots size head producer in
+    let place = place_before size head 1 in
+    let new = set slots place (n + 1) in
+    let none : (p : ℕ) → p - p ≡ 0 = λ p. omega arith in
+    let count_is : held_count new size place producer ≡ count + 1 =
+        held_count-used new size producer place place 0 (count + 1) (add-zero place) (place_before-within size head o.head_within)
+          (producer-before slots size producer head o h) (IsUsed-before slots size producer head n long o h) in
+    let first : entries_from new size place (count + 1) ≡ (slot_at new size place - 1) ∷ entries_from new size (place + 1) count =
+        entries_from-first new size place (count + 1) count (omega arith) in
+    let entry : slot_at new size place - 1 ≡ n = omega (arith, slot_at-set_itself slots size head (n + 1) long o.head_within) in
+    let held_is : entries_from new size (place + 1) count ≡ entries_from slots size head count =
+        entries_from-alike new slots size (place + 1) head count
+          (λ i hi.
+             let e : place + 1 + i ≡ place + (i + 1) = omega arith in
+             rw e (slot_at-set_before slots size head (n + 1) i o.head_within (omega arith))) in
+    rw (none place, count_is, first, entry, held_is)
+
+-- where nothing is stale, the ends meet
+pub ends-meet : (slots : List ℕ) (max_size size producer head tail : ℕ) (ring : RingState) → IsInOrder slots size producer head tail
+    → ring_of slots max_size size producer head tail ≡ ring → ring.stale ≡ [] → tail ≡ head
+ends-meet slots max_size size producer head tail ring o e none =
+    omega (arith, o.tail_before_head, length-entries_from slots size tail (head - tail), ap length (rw (← e) at none))
+
+pub room-before : (slots : List ℕ) (max_size size producer head tail : ℕ) (ring : RingState) → IsInOrder slots size producer head head
+    → ring_of slots max_size size producer head tail ≡ ring
+    → (slice_index slots (place_before size head 1) ≡ 0) ↔ (length ring.held < ring.size)
+room-before slots max_size size producer head tail ring o e =
+    rw (← e, length-entries_from slots size head (held_count slots size head producer)) (slice_index-before slots size producer head o)

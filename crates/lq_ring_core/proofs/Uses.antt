@@ -1,9 +1,10 @@
 -- Which slots are in use, after each change.
-use Rattle.std.proofs.Common.{◌≡◌, ◌≢◌, ℕ, ◌+◌, ◌-◌, ◌<◌, ◌≤◌, arith, List, length, slice_index, get_or, set, get_or-set_same, get_or-set_other, length-set, ◌⊎◌, inl, inr, refl, ◌∙◌}
+use Rattle.std.proofs.Common.{◌≡◌, ◌≢◌, ℕ, ◌+◌, ◌-◌, ◌<◌, ◌≤◌, arith, List, length, slice_index, get_or, set, get_or-set_same, get_or-set_other, length-set, ◌⊎◌, inl, inr, refl, ap, add-zero, ◌∙◌}
 use Rattle.std.proofs.lemmas.Bool.{cases_eq, cases_lt}
 use Rattle.std.proofs.lemmas.Bool.Decides.{nat_tests}
 use Rattle.lq_ring_core.specs.Slots.{round, slot_at, IsUsed, IsCleared}
-use Rattle.lq_ring_core.proofs.Places.{round-below, round-above, round-within, round-apart, round-round}
+use Rattle.lq_ring_core.proofs.Places.{round-below, round-above, round-within, round-apart, round-round, round-place_before, place_before-within}
+use Rattle.lq_ring_core.specs.Ring.{place_before}
 
 -- one more, behind the others
 pub IsUsed-set : (slots : List ℕ) (size tail count v : ℕ) → size ≤ length slots → tail < size → count < size → 0 < v → IsUsed slots size tail count
@@ -69,4 +70,39 @@ IsCleared-set old new place end hp he hl cleared =
           ];
       below = λ i h. rw (other i (omega arith)) (cleared.below i (omega arith));
       above = λ i h. rw (other i (omega arith)) (cleared.above i h);
+    }
+
+-- a slot behind the one before the head, once that one was set
+pub slot_at-set_before : (slots : List ℕ) (size head v i : ℕ) → head < size → i + 1 < size
+    → slot_at (set slots (place_before size head 1) v) size (place_before size head 1 + (i + 1)) ≡ slot_at slots size (head + i)
+slot_at-set_before slots size head v i h hi =
+    let place = place_before size head 1 in
+    let within : place < size = place_before-within size head h in
+    let itself : round size (place + 0) ≡ place = rw (add-zero, round-below size place within) in
+    let apart : round size (place + (i + 1)) ≢ round size (place + 0) = round-apart size place (i + 1) 0 within hi (omega arith) (omega arith) in
+    let same = round-place_before size head i h (omega arith) in
+    get_or-set_other slots place (round size (place + (i + 1))) v 0 (rw itself at apart) ∙ ap (λ p. get_or slots p 0) same
+
+pub slot_at-set_itself : (slots : List ℕ) (size head v : ℕ) → size ≤ length slots → head < size
+    → slot_at (set slots (place_before size head 1) v) size (place_before size head 1) ≡ v
+slot_at-set_itself slots size head v long h =
+    let place = place_before size head 1 in
+    let within : place < size = place_before-within size head h in
+    rw (round-below size place within) (get_or-set_same slots place v 0 (omega arith))
+
+-- one more, before the others
+pub IsUsed-set_before : (slots : List ℕ) (size head count v : ℕ) → size ≤ length slots → head < size → count < size → 0 < v → IsUsed slots size head count
+    → IsUsed (set slots (place_before size head 1) v) size (place_before size head 1) (0 + (count + 1))
+IsUsed-set_before slots size head count v long h hc hv u =
+    let place = place_before size head 1 in
+    record {
+      within = omega arith;
+      used = λ i hi.
+          elim (cases_eq i 0) [
+            inl e ↦ rw (e, add-zero, slot_at-set_itself slots size head v long h) hv
+          | inr e ↦ let back : i ≡ i - 1 + 1 = omega arith in rw (back, slot_at-set_before slots size head v (i - 1) h (omega arith)) (u.used (i - 1) (omega arith))
+          ];
+      empty = λ i hi hs.
+          let back : i ≡ i - 1 + 1 = omega arith in
+          rw (back, slot_at-set_before slots size head v (i - 1) h (omega arith)) (u.empty (i - 1) (omega arith) (omega arith));
     }

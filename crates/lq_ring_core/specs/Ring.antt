@@ -64,7 +64,11 @@ after_consumes (suc n) ring = after_consume (after_consumes n ring)
 
 -- UNCONSUME
 
--- how many entries of a batch find no slot
+-- no slot is stale any more
+abbrev pub after_clear : RingState → RingState
+after_clear ring = record ring { stale = [] }
+
+-- how many of these entries find no slot beside the held ones
 abbrev pub excess : RingState → List ℕ → ℕ
 excess ring entries = length entries + length ring.held - ring.size
 
@@ -72,14 +76,13 @@ excess ring entries = length entries + length ring.held - ring.size
 abbrev pub place_before : ℕ → ℕ → ℕ → ℕ
 place_before size place count = if nat_le count place then place - count else place + size - count
 
--- The entries at the batch's front are destroyed, as many as find no slot; the others stand before the held ones.
+-- with these entries before the held ones
+abbrev pub with_before : RingState → List ℕ → RingState
+with_before ring entries = record ring { head = place_before ring.size ring.head (length entries); stale = []; held = entries ++ ring.held }
+
+-- The entries at the front are destroyed, as many as find no slot; the others stand before the held ones.
 abbrev pub after_unconsume : RingState → List ℕ → RingState
-after_unconsume ring entries =
-    record ring {
-      head = place_before ring.size ring.head (length entries - excess ring entries);
-      stale = [];
-      held = drop (excess ring entries) entries ++ ring.held;
-    }
+after_unconsume ring entries = with_before ring (drop (excess ring entries) entries)
 
 -- RESIZE
 

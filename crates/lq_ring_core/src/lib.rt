@@ -4,5 +4,6 @@
 #![tactic(auto)]
 
 mod ring;
+mod slots;
 
 pub use ring::{Full, Ring, RingRefusal};

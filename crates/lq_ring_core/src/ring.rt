@@ -1,12 +1,14 @@
-ghost use Rattle.std.specs.Prelude.{◌≡◌, ℕ, ◌+◌, ◌-◌, ◌*◌, ◌<◌, ◌≤◌, ◌↔◌, [], ◌++◌, length, take, drop, min, slice_get, Some, None, IfOk, IfErr, OnOk, OnErr, OnSome, IfNone, IsErr, IsNone, MatchResult};
-ghost use Rattle.lq_model.specs.Band.{Band, IsOccupied, MayBeFull, empty_band, joined, taken_by};
-ghost use Rattle.lq_ring_core.specs.Ring.{IsBounded, IsFull, new_ring, entries_of, after_produce, after_consume, next_place};
+ghost use Rattle.std.specs.Prelude.{◌≡◌, ℕ, ◌+◌, ◌-◌, ◌<◌, ◌≤◌, ◌↔◌, [], ◌∷◌, ◌++◌, length, take, drop, min, slice_get, Some, None, IfOk, IfErr, OnOk, OnErr, OnSome, IfNone, IsErr, IsNone, IsTrue, All};
+ghost use Rattle.std.specs.Bool.{OnTrue, OnFalse};
+ghost use Rattle.lq_model.specs.Band.{Band, IsOccupied, MayBeFull, empty_band, joined, taken_by, resized};
+ghost use Rattle.lq_ring_core.specs.Ring.{IsBounded, IsFull, new_ring, entries_of, after_produce, after_consume, after_consumes, after_clear, with_before, after_unconsume, after_resize, dropped_of};
 ghost use Rattle.lq_ring_core.specs.Bands.{IsBand};
-ghost use Rattle.lq_ring_core.specs.Slots.{IsCleared};
 
+use crate::slots::{clear_down, copy_entries, copy_slots, distance, next_place, place_before, round};
 use lq_model::batch;
 use std::alloc::{AllocError, Global};
 use std::marker::Model;
+use std::mem;
 
 /// The ring refuses an entry: the slot at the producer index still has the entry `seen`.
 #[derive(Clone, Copy, Debug, PartialEq, Eq)]
@@ -102,6 +104,11 @@ impl Ring {
         ensures full { IsErr result ↔ IsFull self.old }
         ensures seen { IfErr result (λ full. slice_get (entries_of self.old) 0 ≡ Some full.seen) }
         ensures err { OnErr result (self.new ≡ self.old) }
+
+        // Where the ring is a band, this is the band's join, refused exactly where its slot is occupied.
+        ensures joins { (band : Band) → IsBand self.old band → OnOk result (IsBand self.new (joined band n)) }
+        ensures occupied { (band : Band) → IsBand self.old band → (IsErr result ↔ IsOccupied self.old.size band) }
+        ensures may_be_full { (band : Band) → IsBand self.old band → IfErr result (λ full. MayBeFull self.old.size band full.seen) }
     {
         let slot = self.slots[self.producer as usize];
         if slot != 0 {
@@ -126,6 +133,7 @@ impl Ring {
         ensures none { IsNone result ↔ (self.old.held ≡ []) }
         ensures taken { OnSome result (self.new ≡ after_consume self.old) }
         ensures unchanged { IfNone result (self.new ≡ self.old) }
+        ensures takes { (band : Band) → IsBand self.old band → OnSome result (IsBand self.new (taken_by band 1)) }
     {
         let n = self.peek()?;
         self.discard_one();
@@ -147,25 +155,101 @@ impl Ring {
         self.head = next_place(self.head, self.size);
         self.tail = self.head;
     }
-}
 
-/// The place behind another, round a ring of this size.
-fn next_place(place: u32, size: u32) -> u32
-    requires { place < size }
-    ensures { result ≡ next_place size place }
-{
-    if place + 1 == size { 0 } else { place + 1 }
-}
+    /// Takes the oldest entries to the front of `out`, until it is full or nothing is held, as
+    /// `__ptr_ring_consume_batched`. Answers how many.
+    pub fn consume_batched(&mut self, out: &mut [u32]) -> usize
+        ensures count { result ≡ min (length out.old) (length self.old.held) }
+        ensures out { out.new ≡ take result self.old.held ++ drop result out.old }
+        ensures held { self.new.held ≡ drop result self.old.held }
+        ensures taken { self.new ≡ after_consumes result self.old }
+        ensures takes { (band : Band) → IsBand self.old band → IsBand self.new (taken_by band result) }
+    {
+        let mut taken = 0;
+        while taken < out.len() {
+            let Some(n) = self.consume() else {
+                return taken;
+            };
+            out[taken] = n;
+            taken += 1;
+        }
+        taken
+    }
 
-/// Empties the slots before `end`, down to `start`.
-fn clear_down(slots: &mut [u32], start: usize, end: usize)
-    requires in_order { start ≤ end }
-    requires within { end ≤ length slots.old }
-    ensures { IsCleared slots.old slots.new start end }
-{
-    let mut place = end;
-    while place > start {
-        place -= 1;
-        slots[place] = 0;
+    /// Puts entries that were taken back before the held ones, as `ptr_ring_unconsume`: the last one first, so that
+    /// those which find no slot are at the front of `entries`. Answers how many these are; they are destroyed.
+    pub fn unconsume(&mut self, entries: &[u32]) -> usize
+        requires { All (λ n. n < 4294967295) entries.now }
+        ensures destroyed { result ≡ length entries.now + length self.old.held - self.old.size }
+        ensures state { self.new ≡ after_unconsume self.old entries.now }
+    {
+        self.clear_stale();
+        let mut left = entries.len();
+        while left > 0 && self.put_back(entries[left - 1]) {
+            left -= 1;
+        }
+        left
+    }
+
+    /// Empties the stale slots.
+    fn clear_stale(&mut self)
+        ensures cleared { self.new ≡ after_clear self.old }
+        ensures bounded { IsBounded self.new }
+    {
+        clear_down(&mut self.slots, self.tail as usize, self.head as usize);
+        self.tail = self.head;
+    }
+
+    /// Puts an entry before the held ones, unless the slot there isn't empty.
+    fn put_back(&mut self, n: u32) -> bool
+        requires entry { n < 4294967295 }
+        requires no_stale { self.old.stale ≡ [] }
+        ensures room { IsTrue result ↔ (length self.old.held < self.old.size) }
+        ensures put { OnTrue result (self.new ≡ with_before self.old (n ∷ [])) }
+        ensures unchanged { OnFalse result (self.new ≡ self.old) }
+    {
+        let place = place_before(self.head, self.size);
+        if self.slots[place as usize] != 0 {
+            return false;
+        }
+        self.slots[place as usize] = n + 1;
+        self.head = place;
+        self.tail = place;
+        true
+    }
+
+    /// Gives the ring another number of slots, as `ptr_ring_resize`. The first held entries are kept, so many as fit.
+    /// The others are destroyed: they stand in order at the front of `dropped`. Answers how many these are.
+    pub fn resize(&mut self, size: u32, dropped: &mut [u32]) -> u32
+        requires positive { 0 < size }
+        requires within_max { size ≤ self.old.max_size }
+        requires room { self.old.size ≤ length dropped.old }
+        ensures count { result ≡ length self.old.held - size }
+        ensures dropped { dropped.new ≡ dropped_of self.old size ++ drop result dropped.old }
+        ensures state { self.new ≡ after_resize self.old size }
+        ensures resizes { (band : Band) → IsBand self.old band → IsBand self.new (resized band size) }
+    {
+        let held = self.held();
+        let kept = held.min(size);
+        copy_slots(&self.slots, self.size, self.head, kept, &mut self.spare[..size as usize]);
+        copy_entries(&self.slots, self.size, self.head, kept, held, dropped);
+        mem::swap(&mut self.slots, &mut self.spare);
+        self.size = size;
+        self.producer = round(kept, size);
+        self.head = 0;
+        self.tail = 0;
+        held - kept
+    }
+
+    /// How many entries are held.
+    fn held(&self) -> u32
+        ensures { result ≡ length self.now.held }
+    {
+        let ahead = distance(self.head, self.producer, self.size);
+        if ahead == 0 && self.slots[self.head as usize] != 0 {
+            self.size
+        } else {
+            ahead
+        }
     }
 }

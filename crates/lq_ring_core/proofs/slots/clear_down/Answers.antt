@@ -1,6 +1,6 @@
 use Rattle.std.proofs.Common.{arith}
 use Rattle.lq_ring_core.proofs.Uses.{IsCleared-set}
-use Rattle.lq_ring_core.proofs.ring.clear_down.Goals as goal
+use Rattle.lq_ring_core.proofs.slots.clear_down.Goals as goal
 
 pub loop-place-preserved : goal.loop-place-preserved
 loop-place-preserved c = record {

@@ -1,6 +1,6 @@
 use Rattle.std.proofs.Common.{◌≤◌}
 use Rattle.lq_ring_core.specs.Slots.{IsCleared}
-use Rattle.lq_ring_core.proofs.ring.clear_down.Given as goal
+use Rattle.lq_ring_core.proofs.slots.clear_down.Given as goal
 
 -- the slots from the place on are empty
 abbrev pub invariant-loop-place : goal.invariant-loop-place
