@@ -76,3 +76,12 @@ set-taken [] out n x e h = absurd (some-none x n e)
 set-taken (y ∷ xs) [] n x e h = absurd (omega arith)
 set-taken (y ∷ xs) (z ∷ out) zero x e h = let same : x ≡ y = cc in rw same
 set-taken (y ∷ xs) (z ∷ out) (suc n) x e h = rw (suc-add-one n) (ap (λ ys. y ∷ ys) (set-taken xs out n x e (omega arith)))
+
+-- one more is written behind those that were written before
+pub set-behind : (ys out : List ℕ) (n x : ℕ) → length ys ≡ n → n < length out → set (ys ++ drop n out) n x ≡ (ys ++ x ∷ []) ++ drop (n + 1) out
+set-behind [] [] n x e h = absurd (omega arith)
+set-behind [] (z ∷ out) zero x e h = refl
+set-behind [] (z ∷ out) (suc n) x e h = absurd (omega arith)
+set-behind (y ∷ ys) [] n x e h = absurd (omega arith)
+set-behind (y ∷ ys) (z ∷ out) zero x e h = absurd (omega arith)
+set-behind (y ∷ ys) (z ∷ out) (suc n) x e h = rw (suc-add-one n) (ap (λ zs. y ∷ zs) (set-behind ys out n x (omega arith) (omega arith)))
