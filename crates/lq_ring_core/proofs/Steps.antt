@@ -1,13 +1,13 @@
 -- What each call makes of the slots and the ends.
-use Rattle.std.proofs.Common.{◌≡◌, ◌≢◌, ℕ, suc, ◌↔◌, Option, Some, None, ◌+◌, ◌-◌, ◌<◌, ◌≤◌, arith, List, [], ◌∷◌, ◌++◌, false, true, ◌||◌, leb, eqb, length, slice_index, get_or, set, get_or-set_same, get_or-set_other, length-set, ◌⊎◌, inl, inr, subst, sym, rules, add-zero, add_assoc, add-one, ◌∙◌, ap, refl}
+use Rattle.std.proofs.Common.{◌≡◌, ◌≢◌, ℕ, suc, ◌↔◌, Option, Some, None, ◌+◌, ◌-◌, ◌<◌, ◌≤◌, arith, min, List, [], ◌∷◌, ◌++◌, false, true, ◌||◌, leb, eqb, length, slice_index, get_or, set, get_or-set_same, get_or-set_other, length-set, ◌⊎◌, inl, inr, subst, sym, rules, add-zero, add_assoc, add-one, ◌∙◌, ap, refl}
 use Rattle.std.specs.List.{slice_get}
 use Rattle.std.specs.Option.{SomeIff}
 use Rattle.std.proofs.lemmas.Bool.{cases_lt, lt-leb, ne_eqb, le-leb, eq-eqb, or_left, or_right}
 use Rattle.lq_model.specs.Band.{batch}
-use Rattle.lq_ring_core.specs.Ring.{next_place, after_produce, after_consume, after_clear, with_before, place_before, entries_of, IsFull, IsBounded, RingState}
-use Rattle.lq_ring_core.specs.Slots.{round, slot_at, held_count, entries_from, IsUsed, IsCleared, IsInOrder, ring_of}
+use Rattle.lq_ring_core.specs.Ring.{next_place, after_produce, after_consume, after_clear, with_before, place_before, after_resize, entries_of, IsFull, IsBounded, RingState}
+use Rattle.lq_ring_core.specs.Slots.{round, slot_at, held_count, entries_from, IsUsed, IsCleared, IsCopied, IsInOrder, ring_of}
 use Rattle.lq_ring_core.proofs.Places.{round-below, round-above, round-within, round-apart, round-round, round-count, held_count-is, next_place-round, batch-positive, round-place_before, round-last, place_before-within}
-use Rattle.lq_ring_core.proofs.Entries.{entries_from-alike, entries_from-first, entries_from-append, length-entries_from}
+use Rattle.lq_ring_core.proofs.Entries.{entries_from-alike, entries_from-same, take-entries_from, drop-entries_from, entries_from-first, entries_from-append, length-entries_from}
 use Rattle.lq_ring_core.proofs.Uses.{IsUsed-set, IsUsed-cleared, slot_at-cleared, IsUsed-set_before, slot_at-set_before, slot_at-set_itself}
 
 -- the slots in use tell how many entries are held
@@ -433,3 +433,67 @@ pub room-before : (slots : List ℕ) (max_size size producer head tail : ℕ) (r
     → (slice_index slots (place_before size head 1) ≡ 0) ↔ (length ring.held < ring.size)
 room-before slots max_size size producer head tail ring o e =
     rw (← e, length-entries_from slots size head (held_count slots size head producer)) (slice_index-before slots size producer head o)
+
+-- RESIZE
+
+-- the slots of the held entries aren't empty
+pub slot_at-held : (slots : List ℕ) (size producer head tail i : ℕ) → IsInOrder slots size producer head tail → i < held_count slots size head producer
+    → 0 < slot_at slots size (head + i)
+slot_at-held slots size producer head tail i o h =
+    let e : tail + (head - tail + i) ≡ head + i = omega (arith, o.tail_before_head) in
+    rw e at (o.uses.used (head - tail + i) (omega arith))
+
+pub IsUsed-refilled : (slots new : List ℕ) (size producer head tail kept new_size : ℕ) → IsInOrder slots size producer head tail
+    → kept ≤ held_count slots size head producer → kept ≤ new_size → IsCopied slots size head new kept new_size → IsUsed new new_size 0 (0 + kept)
+IsUsed-refilled slots new size producer head tail kept new_size o few within filled =
+    let at : (i : ℕ) → i < new_size → slot_at new new_size (0 + i) ≡ slice_index new i =
+        λ i h. let e : 0 + i ≡ i = omega arith in rw (e, round-below new_size i h) in
+    record {
+      within = omega arith;
+      used = λ i h. rw (at i (omega arith), filled.copied i (omega arith)) (slot_at-held slots size producer head tail i o (omega arith));
+      empty = λ i h hi. rw (at i hi) (filled.empty i (omega arith) hi);
+    }
+
+pub IsInOrder-refilled : (slots new : List ℕ) (size producer head tail kept new_size : ℕ) → IsInOrder slots size producer head tail → 0 < new_size
+    → kept ≤ held_count slots size head producer → kept ≤ new_size → IsCopied slots size head new kept new_size → IsInOrder new new_size (round new_size kept) 0 0
+IsInOrder-refilled slots new size producer head tail kept new_size o positive few within filled =
+    let e : 0 + kept ≡ kept = omega arith in
+    IsInOrder-from new new_size (round new_size kept) 0 0 0 kept (add-zero 0) positive (batch-positive new_size) (rw e refl)
+      (IsUsed-refilled slots new size producer head tail kept new_size o few within filled)
+
+pub entries_from-refilled : (slots new : List ℕ) (size producer head tail kept new_size : ℕ) → IsInOrder slots size producer head tail → 0 < new_size
+    → kept ≤ held_count slots size head producer → kept ≤ new_size → IsCopied slots size head new kept new_size
+    → entries_from new new_size 0 (held_count new new_size 0 (round new_size kept)) ≡ entries_from slots size head kept
+entries_from-refilled slots new size producer head tail kept new_size o positive few within filled =
+    let e : 0 + kept ≡ kept = omega arith in
+    let count_is : held_count new new_size 0 (round new_size kept) ≡ kept =
+        held_count-used new new_size (round new_size kept) 0 0 0 kept (add-zero 0) positive (rw e refl) (IsUsed-refilled slots new size producer head tail kept new_size o few within filled) in
+    rw count_is
+      (entries_from-same new slots new_size size 0 head kept
+        (λ i h. let f : 0 + i ≡ i = omega arith in rw (f, round-below new_size i (omega arith)) (filled.copied i h)))
+
+-- the kept entries, and the others
+pub ring_of-refilled : (slots new : List ℕ) (max_size size producer head tail kept new_size : ℕ) → IsInOrder slots size producer head tail → 0 < new_size
+    → kept ≡ min (held_count slots size head producer) new_size → IsCopied slots size head new kept new_size
+    → ring_of new max_size new_size (round new_size kept) 0 0 ≡ after_resize (ring_of slots max_size size producer head tail) new_size
+ring_of-refilled slots new max_size size producer head tail kept new_size o positive least filled =
+    let none : 0 - 0 ≡ 0 = omega arith in
+    let held = entries_from-refilled slots new size producer head tail kept new_size o positive (omega arith) (omega arith) filled in
+    rw (none, held, take-entries_from slots size head (held_count slots size head producer) new_size kept least)
+
+-- what the view tells of the fields
+pub record IsSeen (slots : List ℕ) (max_size size producer head : ℕ) (ring : RingState) : Type 0 where
+  pub size_is : ring.size ≡ size
+  pub max_size_is : ring.max_size ≡ max_size
+  pub held_is : ring.held ≡ entries_from slots size head (held_count slots size head producer)
+  pub held_length : length ring.held ≡ held_count slots size head producer
+
+pub IsSeen-ring_of : (slots : List ℕ) (max_size size producer head tail : ℕ) (ring : RingState) → ring_of slots max_size size producer head tail ≡ ring
+    → IsSeen slots max_size size producer head ring
+IsSeen-ring_of slots max_size size producer head tail ring e =
+    record {
+      size_is = rw (← e) refl;
+      max_size_is = rw (← e) refl;
+      held_is = rw (← e) refl;
+      held_length = rw (← e) (length-entries_from slots size head (held_count slots size head producer));
+    }

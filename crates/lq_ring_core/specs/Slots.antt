@@ -56,7 +56,7 @@ pub record IsCleared (old new : List ℕ) (start end : ℕ) : Type 0 where
   pub below : (i : ℕ) → i < start → slice_index new i ≡ slice_index old i
   pub above : (i : ℕ) → end ≤ i → slice_index new i ≡ slice_index old i
 
--- so many slots from the head on, and then empty ones
-pub record IsCopied (slots : List ℕ) (size head kept : ℕ) (out : List ℕ) : Type 0 where
-  pub copied : (i : ℕ) → i < kept → i < length out → slice_index out i ≡ slot_at slots size (head + i)
-  pub empty : (i : ℕ) → kept ≤ i → slice_index out i ≡ 0
+-- the new slots are so many of the old ones, from the head on, and then empty ones
+pub record IsCopied (slots : List ℕ) (size head : ℕ) (new : List ℕ) (kept new_size : ℕ) : Type 0 where
+  pub copied : (i : ℕ) → i < kept → slice_index new i ≡ slot_at slots size (head + i)
+  pub empty : (i : ℕ) → kept ≤ i → i < new_size → slice_index new i ≡ 0

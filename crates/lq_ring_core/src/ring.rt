@@ -231,9 +231,9 @@ impl Ring {
     {
         let held = self.held();
         let kept = held.min(size);
-        copy_slots(&self.slots, self.size, self.head, kept, &mut self.spare[..size as usize]);
-        copy_entries(&self.slots, self.size, self.head, kept, held, dropped);
         mem::swap(&mut self.slots, &mut self.spare);
+        copy_slots(&self.spare, self.size, self.head, kept, &mut self.slots, size);
+        copy_entries(&self.spare, self.size, self.head, kept, held, dropped);
         self.size = size;
         self.producer = round(kept, size);
         self.head = 0;

@@ -50,19 +50,27 @@ pub(crate) fn round(place: u32, size: u32) -> u32
     if place < size { place } else { place - size }
 }
 
-/// Fills `out` with the first `kept` slots from the head on, and then with empty ones.
-pub(crate) fn copy_slots(slots: &[u32], size: u32, head: u32, kept: u32, out: &mut [u32])
+/// Fills the first `out_size` slots of `out`: with the first `kept` slots from the head on, and then with empty ones.
+pub(crate) fn copy_slots(
+    slots: &[u32],
+    size: u32,
+    head: u32,
+    kept: u32,
+    out: &mut [u32],
+    out_size: u32,
+)
     requires within { size ≤ length slots.now }
     requires size { size ≤ 65536 }
     requires head { head < size }
     requires kept { kept ≤ size }
-    requires out { length out.old ≤ 65536 }
+    requires kept_fit { kept ≤ out_size }
+    requires out { out_size ≤ length out.old }
     ensures len { length out.new ≡ length out.old }
-    ensures copied { IsCopied slots.now size head kept out.new }
+    ensures copied { IsCopied slots.now size head out.new kept out_size }
 {
-    for place in 0..out.len() {
-        out[place] = if place < kept as usize {
-            slots[round(head + place as u32, size) as usize]
+    for place in 0..out_size {
+        out[place as usize] = if place < kept {
+            slots[round(head + place, size) as usize]
         } else {
             0
         };
