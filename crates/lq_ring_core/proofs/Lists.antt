@@ -1,7 +1,9 @@
 -- Lists.
-use Rattle.std.proofs.Common.{◌≡◌, ◌↔◌, ℕ, arith, List, [], ◌∷◌, ◌++◌, length, take, drop, get_or, set, slice_index, ◌<◌, ◌≤◌, ◌-◌, ◌+◌, zero, suc, Some, slice_range, length-drop, Option, refl, sym, ap, ◌∙◌, add-one}
+use Rattle.std.proofs.Common.{◌≡◌, ◌↔◌, ℕ, arith, List, [], ◌∷◌, ◌++◌, length, take, drop, get_or, set, slice_index, ◌<◌, ◌≤◌, ◌-◌, ◌+◌, zero, suc, Some, slice_range, length-drop, Option, refl, sym, ap, ◌∙◌, add-one, append_assoc, append-nil}
+use Rattle.std.proofs.Math.Seq.{take-append_seam, drop-append_seam}
+use Rattle.std.proofs.Math.ListN.{drop_of_length-le}
 use Rattle.std.specs.List.{slice_get}
-use Rattle.std.proofs.lemmas.List.{get_or_default, drop-append-le, take-append-le, drop-drop, take-append-drop, length-take-le}
+use Rattle.std.proofs.lemmas.List.{get_or_default, drop-append-le, take-append-le, drop-drop, take-append-drop, length-take-le, take_all}
 use Rattle.std.specs.Option.{IsNone, is_some}
 use Rattle.std.proofs.lemmas.Bool.{false≢true}
 use Rattle.std.proofs.lemmas.Grind.{common_steps}
@@ -85,3 +87,33 @@ set-behind [] (z ∷ out) (suc n) x e h = absurd (omega arith)
 set-behind (y ∷ ys) [] n x e h = absurd (omega arith)
 set-behind (y ∷ ys) (z ∷ out) zero x e h = absurd (omega arith)
 set-behind (y ∷ ys) (z ∷ out) (suc n) x e h = rw (suc-add-one n) (ap (λ zs. y ∷ zs) (set-behind ys out n x (omega arith) (omega arith)))
+
+-- THREE PARTS, ONE BEHIND THE OTHER
+
+pub take-front : (xs ys : List ℕ) (n : ℕ) → length xs ≡ n → take n (xs ++ ys) ≡ xs
+take-front xs ys n e = ap (λ m. take m (xs ++ ys)) (sym e) ∙ take-append_seam xs ys
+
+pub drop-front : (xs ys : List ℕ) (n : ℕ) → length xs ≡ n → drop n (xs ++ ys) ≡ ys
+drop-front xs ys n e = ap (λ m. drop m (xs ++ ys)) (sym e) ∙ drop-append_seam xs ys
+
+pub drop-rest : (xs : List ℕ) (n : ℕ) → drop (length xs - n) (drop n xs) ≡ []
+drop-rest xs n = drop_of_length-le (drop n xs) {i = length xs - n} (omega (arith, length-drop n xs))
+
+-- what is written to a list from its start, from its place na, and from nb places behind that
+pub three-parts : (a b c out first second third : List ℕ) (na nb nc : ℕ) → length a ≡ na → length b ≡ nb → length c ≡ nc
+    → first ≡ a ++ drop na out → second ≡ b ++ drop nb (drop na first) → third ≡ c ++ drop nc (drop nb second)
+    → take na first ++ ((take nb second ++ (third ++ drop (length second - nb) (drop nb second))) ++ drop (length first - na) (drop na first))
+      ≡ ((a ++ b) ++ c) ++ drop (na + nb + nc) out
+three-parts a b c out first second third na nb nc la lb lc ea eb ec =
+    let behind_a : drop na first ≡ drop na out = rw ea (drop-front a (drop na out) na la) in
+    let front_a : take na first ≡ a = rw ea (take-front a (drop na out) na la) in
+    let second_is : second ≡ b ++ drop nb (drop na out) = rw behind_a at eb in
+    let behind_b : drop nb second ≡ drop nb (drop na out) = rw second_is (drop-front b (drop nb (drop na out)) nb lb) in
+    let front_b : take nb second ≡ b = rw second_is (take-front b (drop nb (drop na out)) nb lb) in
+    let third_is : third ≡ c ++ drop nc (drop nb (drop na out)) = rw behind_b at ec in
+    let rest : drop nc (drop nb (drop na out)) ≡ drop (na + nb + nc) out = ap (drop nc) (drop-drop nb na out) ∙ drop-drop nc (na + nb) out in
+    rw (front_a, front_b, drop-rest second nb, drop-rest first na, third_is, rest) (simp (append_assoc, append-nil))
+
+-- a part up to the end
+pub take-rest : (xs : List ℕ) (n : ℕ) → take (length xs - n) (drop n xs) ≡ drop n xs
+take-rest xs n = take_all (length xs - n) (drop n xs) (omega (arith, length-drop n xs))

@@ -5,5 +5,9 @@
 
 mod ring;
 mod slots;
+#[cfg(test)]
+mod tests;
+mod three;
 
 pub use ring::{Full, Ring, RingRefusal};
+pub use three::{Dropped, resize_three};

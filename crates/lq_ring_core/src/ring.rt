@@ -225,6 +225,7 @@ impl Ring {
         requires within_max { size ≤ self.old.max_size }
         requires room { self.old.size ≤ length dropped.old }
         ensures count { result ≡ length self.old.held - size }
+        ensures within { result ≤ self.old.size }
         ensures dropped { dropped.new ≡ dropped_of self.old size ++ drop result dropped.old }
         ensures state { self.new ≡ after_resize self.old size }
         ensures resizes { (band : Band) → IsBand self.old band → IsBand self.new (resized band size) }

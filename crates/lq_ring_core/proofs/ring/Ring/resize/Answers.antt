@@ -83,3 +83,9 @@ returns-clause-dropped c =
 
 pub returns-clause-resizes : goal.returns-clause-resizes
 returns-clause-resizes c = λ band b. rw (returns-clause-state c) (IsBand-resize c.args.self.now band c.args.size c.requires.positive b)
+
+pub returns-clause-within : goal.returns-clause-within
+returns-clause-within c =
+    let r = c.self.inside in
+    let seen = IsSeen-ring_of r.slots.items r.slots.len r.size r.producer r.head r.tail c.args.self.now c.self.view_is in
+    omega (arith, c.held-held.ensures, seen.held_length, seen.size_is, c.self.invariant.in_order.uses.within)
