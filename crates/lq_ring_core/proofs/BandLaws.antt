@@ -3,11 +3,11 @@ use Rattle.std.proofs.Common.{◌≡◌, ◌↔◌, ℕ, zero, suc, ◌+◌, ◌
 use Rattle.std.specs.List.{slice_get}
 use Rattle.std.proofs.Math.Nat.{suc-mod, mod_self, mod-eq_of_lt, mod-lt, mod-le}
 use Rattle.std.proofs.Common.{inl, inr}
-use Rattle.std.proofs.lemmas.Bool.{cases_lt, cases_eq, cases_Bool, or_cases, or_parts, leb-true, leb-false, eqb-true, eqb-false, or_left, or_right, eq-eqb, ne_eqb}
+use Rattle.std.proofs.lemmas.Bool.{cases_eq, or_right, eq-eqb, ne_eqb}
 use Rattle.std.proofs.lemmas.Bool.Decides.{nat_tests}
 use Rattle.std.proofs.lemmas.List.{drop-append-le, drop-drop}
 use Rattle.lq_model.specs.Band.{Band, batch, held_of, joined, taken_by, resized, stale_count, IsOccupied, MayBeFull}
-use Rattle.lq_ring_core.specs.Ring.{RingState, IsBounded, IsFull, entries_of, next_place, after_produce, after_consume, after_consumes, after_resize}
+use Rattle.lq_ring_core.specs.Ring.{RingState, IsFull, entries_of, next_place, after_produce, after_consume, after_consumes, after_resize}
 use Rattle.lq_ring_core.specs.Bands.{IsBand}
 use Rattle.lq_ring_core.proofs.Lists.{slice_range-append, slice_range-drop, slice_range-push, length-slice_range, slice_get-drop}
 use Rattle.lq_ring_core.proofs.Places.{batch-positive}
@@ -19,8 +19,8 @@ mod-next t m h =
     let e : t + 1 ≡ suc t = omega arith in
     let f : t % m + 1 ≡ suc (t % m) = omega arith in
     elim (cases_eq (t % m + 1) m) [
-      inl at_end ↦ rw (e, suc-mod t m, ← f, at_end, mod_self m) (grind (arith, nat_tests, at_end))
-    | inr before ↦ rw (e, suc-mod t m, ← f, mod-eq_of_lt {n = t % m + 1} {m = m} (omega (arith, mod-lt t {m = m} h, before))) (grind (arith, nat_tests, before))
+      | inl at_end ↦ rw (e, suc-mod t m, ← f, at_end, mod_self m) (grind (arith, nat_tests, at_end))
+      | inr before ↦ rw (e, suc-mod t m, ← f, mod-eq_of_lt {n = t % m + 1} {m = m} (omega (arith, mod-lt t {m = m} h, before))) (grind (arith, nat_tests, before))
     ]
 
 pub stale_count-le : (size t : ℕ) → 0 < size → stale_count size t ≤ t
@@ -46,13 +46,13 @@ entries-drop ring band b =
 pub length-stale : (ring : RingState) (band : Band) → IsBand ring band → length ring.stale ≡ stale_count ring.size band.taken
 length-stale ring band b =
     rw b.stale
-      (length-slice_range band.line (band.taken - stale_count ring.size band.taken) band.taken (omega arith) b.taken_within
-       ∙ (let t : stale_count ring.size band.taken ≤ band.taken = stale_count-le ring.size band.taken b.has_slots in omega (arith, t)))
+    (length-slice_range band.line (band.taken - stale_count ring.size band.taken) band.taken (omega arith) b.taken_within
+    ∙ (let t : stale_count ring.size band.taken ≤ band.taken = stale_count-le ring.size band.taken b.has_slots in omega (arith, t)))
 
 pub IsFull-occupied : (ring : RingState) (band : Band) → IsBand ring band → IsFull ring ↔ IsOccupied ring.size band
 IsFull-occupied ring band b =
     let total : length (entries_of ring) ≡ stale_count ring.size band.taken + length (held_of band) =
-        length-append ring.stale ring.held ∙ (rw (length-stale ring band b, b.held) refl) in
+    length-append ring.stale ring.held ∙ (rw (length-stale ring band b, b.held) refl) in
     (λ full. omega (arith, full, total), λ occupied. omega (arith, occupied, total))
 
 pub MayBeFull-since : (ring : RingState) (band : Band) (seen : ℕ) → IsBand ring band → IsFull ring → slice_get (entries_of ring) 0 ≡ Some seen
@@ -79,13 +79,13 @@ stale_count-next size t h =
     let stale : (place + 1) % batch size ≡ next_place (batch size) (place % batch size) = mod-next place (batch size) (batch-positive size) in
     let within : place % batch size < batch size = mod-lt place {m = batch size} (batch-positive size) in
     elim (cases_eq (place + 1) size) [
-      inl at_end ↦
-        let zero_place : next_place size place ≡ 0 = (grind (arith, nat_tests, at_end)) in
-        let test = or_right (leb (batch size) (place % batch size + 1)) (eqb (place + 1) size) (eq-eqb (place + 1) size at_end) in
-        rw (next, zero_place, test) (mod-eq_of_lt {n = 0} {m = batch size} (batch-positive size))
-    | inr before ↦
-        let behind : next_place size place ≡ place + 1 = (grind (arith, nat_tests, before)) in
-        rw (next, behind, stale, ne_eqb (place + 1) size before) (grind (arith, nat_tests, within))
+      | inl at_end ↦
+          let zero_place : next_place size place ≡ 0 = (grind (arith, nat_tests, at_end)) in
+          let test = or_right (leb (batch size) (place % batch size + 1)) (eqb (place + 1) size) (eq-eqb (place + 1) size at_end) in
+          rw (next, zero_place, test) (mod-eq_of_lt {n = 0} {m = batch size} (batch-positive size))
+      | inr before ↦
+          let behind : next_place size place ≡ place + 1 = (grind (arith, nat_tests, before)) in
+          rw (next, behind, stale, ne_eqb (place + 1) size before) (grind (arith, nat_tests, within))
     ]
 
 pub stale-next : (test : Bool) (line stale held : List ℕ) (t count : ℕ) → count ≤ t → stale ≡ slice_range line (t - count) t → held ≡ drop t line
@@ -104,20 +104,20 @@ IsBand-consume ring band some b =
       taken_within = omega (arith, rw b.held at some, length-drop band.taken band.line);
       held = rw b.held (drop-drop 1 band.taken band.line);
       stale =
-        rw (stale_count-next ring.size band.taken b.has_slots, length-stale ring band b, b.head)
+          rw (stale_count-next ring.size band.taken b.has_slots, length-stale ring band b, b.head)
           (stale-next (leb (batch ring.size) (count + 1) || eqb (band.taken % ring.size + 1) ring.size) band.line ring.stale ring.held band.taken count within b.stale b.held);
       head = rw (b.head) (sym (mod-next band.taken ring.size b.has_slots));
     }
 
 -- RESIZE
 
-pub IsBand-resize : (ring : RingState) (band : Band) (size : ℕ) → 0 < size → IsBand ring band → IsBand (after_resize ring size) (resized band size)
-IsBand-resize ring band size positive b =
+pub IsBand-resize : (ring : RingState) (band : Band) (size : ℕ) → 0 < size → ring.held ≡ held_of band → IsBand (after_resize ring size) (resized band size)
+IsBand-resize ring band size positive same =
     let none : 0 - (0 - stale_count size 0) ≡ 0 = omega arith in
     record {
       has_slots = positive;
       taken_within = omega arith;
-      held = rw b.held refl;
+      held = rw same refl;
       stale = rw none refl;
       head = sym (mod-eq_of_lt {n = 0} {m = size} positive);
     }

@@ -1,10 +1,10 @@
 -- The entries of a run of slots.
-use Rattle.std.proofs.Common.{◌≡◌, ◌≢◌, ℕ, zero, suc, ◌+◌, ◌-◌, ◌<◌, ◌≤◌, arith, min, take, drop, inl, inr, List, [], ◌∷◌, ◌++◌, length, Some, refl, ap, sym, ◌∙◌, add-zero, add-one, add-suc, add_assoc, append_assoc, append-nil, length-append}
+use Rattle.std.proofs.Common.{◌≡◌, ℕ, zero, suc, ◌+◌, ◌-◌, ◌<◌, arith, min, take, drop, inl, inr, List, [], ◌∷◌, ◌++◌, length, refl, ap, sym, ◌∙◌, add-zero, add-suc, add_assoc, append_assoc, append-nil, length-append}
 use Rattle.std.proofs.Math.Seq.{take-append_seam, drop-append_seam}
 use Rattle.std.proofs.Math.ListN.{drop_of_length-le}
 use Rattle.std.proofs.lemmas.List.{take_all}
 use Rattle.std.proofs.lemmas.Bool.{cases_lt}
-use Rattle.lq_ring_core.specs.Slots.{round, slot_at, entries_from}
+use Rattle.lq_ring_core.specs.Slots.{slot_at, entries_from}
 
 pub length-entries_from : (slots : List ℕ) (size place n : ℕ) → length (entries_from slots size place n) ≡ n
 length-entries_from slots size place zero = refl
@@ -40,26 +40,26 @@ entries_from-first slots size p count n e = rw (e, entries_from-append slots siz
 pub take-entries_from : (slots : List ℕ) (size p n k kept : ℕ) → kept ≡ min n k → take k (entries_from slots size p n) ≡ entries_from slots size p kept
 take-entries_from slots size p n k kept least =
     elim (cases_lt n k) [
-      inl all ↦ (let e : kept ≡ n = omega arith in rw e (take_all k (entries_from slots size p n) (omega (arith, length-entries_from slots size p n))))
-    | inr some ↦
-        let e : kept ≡ k = omega arith in
-        let parts : n ≡ k + (n - k) = omega arith in
-        let front : k ≡ length (entries_from slots size p k) = sym (length-entries_from slots size p k) in
-        let split : entries_from slots size p n ≡ entries_from slots size p k ++ entries_from slots size (p + k) (n - k) =
-            ap (λ m. entries_from slots size p m) parts ∙ entries_from-append slots size p k (n - k) in
-        rw (e, split) (ap (λ m. take m (entries_from slots size p k ++ entries_from slots size (p + k) (n - k))) front ∙ take-append_seam (entries_from slots size p k) (entries_from slots size (p + k) (n - k)))
+      | inl all ↦ (let e : kept ≡ n = omega arith in rw e (take_all k (entries_from slots size p n) (omega (arith, length-entries_from slots size p n))))
+      | inr some ↦
+          let e : kept ≡ k = omega arith in
+          let parts : n ≡ k + (n - k) = omega arith in
+          let front : k ≡ length (entries_from slots size p k) = sym (length-entries_from slots size p k) in
+          let split : entries_from slots size p n ≡ entries_from slots size p k ++ entries_from slots size (p + k) (n - k) =
+          ap (λ m. entries_from slots size p m) parts ∙ entries_from-append slots size p k (n - k) in
+          rw (e, split) (ap (λ m. take m (entries_from slots size p k ++ entries_from slots size (p + k) (n - k))) front ∙ take-append_seam (entries_from slots size p k) (entries_from slots size (p + k) (n - k)))
     ]
 
 -- and the others
 pub drop-entries_from : (slots : List ℕ) (size p n k kept : ℕ) → kept ≡ min n k → drop k (entries_from slots size p n) ≡ entries_from slots size (p + kept) (n - kept)
 drop-entries_from slots size p n k kept least =
     elim (cases_lt n k) [
-      inl all ↦ (let e : n - kept ≡ 0 = omega arith in rw e (drop_of_length-le (entries_from slots size p n) {i = k} (omega (arith, length-entries_from slots size p n))))
-    | inr some ↦
-        let e : kept ≡ k = omega arith in
-        let parts : n ≡ k + (n - k) = omega arith in
-        let front : k ≡ length (entries_from slots size p k) = sym (length-entries_from slots size p k) in
-        let split : entries_from slots size p n ≡ entries_from slots size p k ++ entries_from slots size (p + k) (n - k) =
-            ap (λ m. entries_from slots size p m) parts ∙ entries_from-append slots size p k (n - k) in
-        rw (e, split) (ap (λ m. drop m (entries_from slots size p k ++ entries_from slots size (p + k) (n - k))) front ∙ drop-append_seam (entries_from slots size p k) (entries_from slots size (p + k) (n - k)))
+      | inl all ↦ (let e : n - kept ≡ 0 = omega arith in rw e (drop_of_length-le (entries_from slots size p n) {i = k} (omega (arith, length-entries_from slots size p n))))
+      | inr some ↦
+          let e : kept ≡ k = omega arith in
+          let parts : n ≡ k + (n - k) = omega arith in
+          let front : k ≡ length (entries_from slots size p k) = sym (length-entries_from slots size p k) in
+          let split : entries_from slots size p n ≡ entries_from slots size p k ++ entries_from slots size (p + k) (n - k) =
+          ap (λ m. entries_from slots size p m) parts ∙ entries_from-append slots size p k (n - k) in
+          rw (e, split) (ap (λ m. drop m (entries_from slots size p k ++ entries_from slots size (p + k) (n - k))) front ∙ drop-append_seam (entries_from slots size p k) (entries_from slots size (p + k) (n - k)))
     ]

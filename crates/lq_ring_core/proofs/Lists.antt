@@ -103,7 +103,7 @@ drop-rest xs n = drop_of_length-le (drop n xs) {i = length xs - n} (omega (arith
 pub three-parts : (a b c out first second third : List ℕ) (na nb nc : ℕ) → length a ≡ na → length b ≡ nb → length c ≡ nc
     → first ≡ a ++ drop na out → second ≡ b ++ drop nb (drop na first) → third ≡ c ++ drop nc (drop nb second)
     → take na first ++ ((take nb second ++ (third ++ drop (length second - nb) (drop nb second))) ++ drop (length first - na) (drop na first))
-      ≡ ((a ++ b) ++ c) ++ drop (na + nb + nc) out
+    ≡ ((a ++ b) ++ c) ++ drop (na + nb + nc) out
 three-parts a b c out first second third na nb nc la lb lc ea eb ec =
     let behind_a : drop na first ≡ drop na out = rw ea (drop-front a (drop na out) na la) in
     let front_a : take na first ≡ a = rw ea (take-front a (drop na out) na la) in

@@ -3,7 +3,7 @@ use Rattle.std.proofs.Common.{◌≡◌, ◌≢◌, ℕ, ◌+◌, ◌-◌, ◌<�
 use Rattle.std.proofs.lemmas.Bool.Decides.{nat_tests}
 use Rattle.lq_model.specs.Band.{batch}
 use Rattle.lq_ring_core.specs.Ring.{next_place, place_before}
-use Rattle.lq_ring_core.specs.Slots.{round, slot_at, distance, held_count}
+use Rattle.lq_ring_core.specs.Slots.{round, distance, held_count}
 
 pub round-below : (size p : ℕ) → p < size → round size p ≡ p
 round-below size p h = grind (arith, nat_tests)

@@ -1,7 +1,6 @@
 -- Which slots are in use, after each change.
-use Rattle.std.proofs.Common.{◌≡◌, ◌≢◌, ℕ, ◌+◌, ◌-◌, ◌<◌, ◌≤◌, arith, List, length, slice_index, get_or, set, get_or-set_same, get_or-set_other, length-set, ◌⊎◌, inl, inr, refl, ap, add-zero, ◌∙◌}
+use Rattle.std.proofs.Common.{◌≡◌, ◌≢◌, ℕ, ◌+◌, ◌-◌, ◌<◌, ◌≤◌, arith, List, length, slice_index, get_or, set, get_or-set_same, get_or-set_other, length-set, inl, inr, refl, ap, add-zero, ◌∙◌}
 use Rattle.std.proofs.lemmas.Bool.{cases_eq, cases_lt}
-use Rattle.std.proofs.lemmas.Bool.Decides.{nat_tests}
 use Rattle.lq_ring_core.specs.Slots.{round, slot_at, IsUsed, IsCleared}
 use Rattle.lq_ring_core.proofs.Places.{round-below, round-above, round-within, round-apart, round-round, round-place_before, place_before-within}
 use Rattle.lq_ring_core.specs.Ring.{place_before}
@@ -13,13 +12,13 @@ IsUsed-set slots size tail count v long ht hc hv u =
     let place = round size (tail + count) in
     let in_slots : place < length slots = omega (arith, round-within size (tail + count) (omega arith)) in
     let other : (i : ℕ) → i < size → i ≢ count → get_or (set slots place v) (round size (tail + i)) 0 ≡ get_or slots (round size (tail + i)) 0 =
-        λ i hi e. get_or-set_other slots place (round size (tail + i)) v 0 (round-apart size tail i count ht hi hc e) in
+    λ i hi e. get_or-set_other slots place (round size (tail + i)) v 0 (round-apart size tail i count ht hi hc e) in
     record {
       within = omega arith;
       used = λ i h.
           elim (cases_eq i count) [
-            inl e ↦ rw (e, get_or-set_same slots place v 0 in_slots) hv
-          | inr e ↦ rw (other i (omega arith) e) (u.used i (omega arith))
+            | inl e ↦ rw (e, get_or-set_same slots place v 0 in_slots) hv
+            | inr e ↦ rw (other i (omega arith) e) (u.used i (omega arith))
           ];
       empty = λ i h hi. rw (other i hi (omega arith)) (u.empty i (omega arith) hi);
     }
@@ -30,17 +29,17 @@ pub slot_at-cleared : (old new : List ℕ) (size tail k i : ℕ) → tail + k �
 slot_at-cleared old new size tail k i hk cleared hi =
     let e : tail + k + i ≡ tail + (k + i) = omega arith in
     rw (round-round size (tail + k) i (omega arith), e)
-      (elim (cases_lt (tail + (k + i)) size) [
-        inl h ↦ rw (round-below size (tail + (k + i)) h) (cleared.above (tail + (k + i)) (omega arith))
+    (elim (cases_lt (tail + (k + i)) size) [
+      | inl h ↦ rw (round-below size (tail + (k + i)) h) (cleared.above (tail + (k + i)) (omega arith))
       | inr h ↦ rw (round-above size (tail + (k + i)) h) (cleared.below (tail + (k + i) - size) (omega arith))
-      ])
+    ])
 
 -- and they themselves are empty
 pub slot_at-cleared_itself : (old new : List ℕ) (size tail k i : ℕ) → tail + k ≤ size → IsCleared old new tail (tail + k) → size - k ≤ i → i < size
     → slot_at new size (round size (tail + k) + i) ≡ 0
 slot_at-cleared_itself old new size tail k i hk cleared hi hs =
     rw (round-round size (tail + k) i (omega arith), round-above size (tail + k + i) (omega arith))
-      (cleared.cleared (tail + k + i - size) (omega arith) (omega arith))
+    (cleared.cleared (tail + k + i - size) (omega arith) (omega arith))
 
 -- the first k, which lie before the last slot's end, are cleared
 pub IsUsed-cleared : (old new : List ℕ) (size tail k count : ℕ) → tail + k ≤ size → k ≤ count → IsCleared old new tail (tail + k) → IsUsed old size tail count
@@ -51,8 +50,8 @@ IsUsed-cleared old new size tail k count hk hc cleared u =
       used = λ i h. rw (slot_at-cleared old new size tail k i hk cleared (omega (arith, u.within))) (u.used (k + i) (omega arith));
       empty = λ i h hi.
           elim (cases_lt i (size - k)) [
-            inl before ↦ rw (slot_at-cleared old new size tail k i hk cleared before) (u.empty (k + i) (omega arith) (omega arith))
-          | inr behind ↦ slot_at-cleared_itself old new size tail k i hk cleared behind hi
+            | inl before ↦ rw (slot_at-cleared old new size tail k i hk cleared before) (u.empty (k + i) (omega arith) (omega arith))
+            | inr behind ↦ slot_at-cleared_itself old new size tail k i hk cleared behind hi
           ];
     }
 
@@ -65,8 +64,8 @@ IsCleared-set old new place end hp he hl cleared =
       same_length = length-set new (place - 1) 0 ∙ cleared.same_length;
       cleared = λ i h hi.
           elim (cases_eq i (place - 1)) [
-            inl e ↦ rw (e, get_or-set_same new (place - 1) 0 0 (omega (arith, cleared.same_length))) refl
-          | inr e ↦ rw (other i e) (cleared.cleared i (omega arith) hi)
+            | inl e ↦ rw (e, get_or-set_same new (place - 1) 0 0 (omega (arith, cleared.same_length))) refl
+            | inr e ↦ rw (other i e) (cleared.cleared i (omega arith) hi)
           ];
       below = λ i h. rw (other i (omega arith)) (cleared.below i (omega arith));
       above = λ i h. rw (other i (omega arith)) (cleared.above i h);
@@ -99,8 +98,8 @@ IsUsed-set_before slots size head count v long h hc hv u =
       within = omega arith;
       used = λ i hi.
           elim (cases_eq i 0) [
-            inl e ↦ rw (e, add-zero, slot_at-set_itself slots size head v long h) hv
-          | inr e ↦ let back : i ≡ i - 1 + 1 = omega arith in rw (back, slot_at-set_before slots size head v (i - 1) h (omega arith)) (u.used (i - 1) (omega arith))
+            | inl e ↦ rw (e, add-zero, slot_at-set_itself slots size head v long h) hv
+            | inr e ↦ let back : i ≡ i - 1 + 1 = omega arith in rw (back, slot_at-set_before slots size head v (i - 1) h (omega arith)) (u.used (i - 1) (omega arith))
           ];
       empty = λ i hi hs.
           let back : i ≡ i - 1 + 1 = omega arith in

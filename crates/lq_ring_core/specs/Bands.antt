@@ -1,5 +1,5 @@
 -- The ring is a band of a station.
-use Rattle.std.specs.Prelude.{◌≡◌, ℕ, ◌<◌, ◌-◌, ◌%◌, ◌≤◌, length, slice_range}
+use Rattle.std.specs.Prelude.{◌≡◌, ◌<◌, ◌-◌, ◌%◌, ◌≤◌, length, slice_range}
 use Rattle.lq_model.specs.Band.{Band, held_of, stale_count}
 use Rattle.lq_ring_core.specs.Ring.{RingState}
 

@@ -1,5 +1,5 @@
 -- What callers see of a `Ring`, and what is always so of its fields.
-use Rattle.std.specs.Prelude.{◌≡◌, ℕ, ◌<◌, ◌≤◌, vec_len}
+use Rattle.std.specs.Prelude.{◌≡◌, ◌<◌, ◌≤◌, vec_len}
 use Rattle.lq_ring_core.specs.Ring.{RingState}
 use Rattle.lq_ring_core.specs.Slots.{ring_of, IsInOrder}
 use Rattle.lq_ring_core.specs.declared.ring.Ring.TheInside.{Inside}

@@ -1,10 +1,12 @@
 ghost use Rattle.std.specs.Prelude.{◌≡◌, ℕ, ◌+◌, ◌-◌, ◌<◌, ◌≤◌, ◌↔◌, [], ◌∷◌, ◌++◌, length, take, drop, min, slice_get, Some, None, IfOk, IfErr, OnOk, OnErr, OnSome, IfNone, IsErr, IsNone, IsTrue, All};
 ghost use Rattle.std.specs.Bool.{OnTrue, OnFalse};
-ghost use Rattle.lq_model.specs.Band.{Band, IsOccupied, MayBeFull, empty_band, joined, taken_by, resized};
+ghost use Rattle.lq_model.specs.Band.{Band, IsOccupied, MayBeFull, empty_band, held_of, joined, taken_by, resized};
 ghost use Rattle.lq_ring_core.specs.Ring.{IsBounded, IsFull, new_ring, entries_of, after_produce, after_consume, after_consumes, after_clear, with_before, after_unconsume, after_resize, dropped_of};
 ghost use Rattle.lq_ring_core.specs.Bands.{IsBand};
 
-use crate::slots::{clear_down, copy_entries, copy_slots, distance, next_place, place_before, round};
+use crate::slots::{
+    clear_down, copy_entries, copy_slots, distance, next_place, place_before, round,
+};
 use lq_model::batch;
 use std::alloc::{AllocError, Global};
 use std::marker::Model;
@@ -228,12 +230,19 @@ impl Ring {
         ensures within { result ≤ self.old.size }
         ensures dropped { dropped.new ≡ dropped_of self.old size ++ drop result dropped.old }
         ensures state { self.new ≡ after_resize self.old size }
-        ensures resizes { (band : Band) → IsBand self.old band → IsBand self.new (resized band size) }
+        ensures resizes { (band : Band) → self.old.held ≡ held_of band → IsBand self.new (resized band size) }
     {
         let held = self.held();
         let kept = held.min(size);
         mem::swap(&mut self.slots, &mut self.spare);
-        copy_slots(&self.spare, self.size, self.head, kept, &mut self.slots, size);
+        copy_slots(
+            &self.spare,
+            self.size,
+            self.head,
+            kept,
+            &mut self.slots,
+            size,
+        );
         copy_entries(&self.spare, self.size, self.head, kept, held, dropped);
         self.size = size;
         self.producer = round(kept, size);

@@ -40,7 +40,11 @@ pub(crate) fn distance(head: u32, producer: u32, size: u32) -> u32
     requires size { size ≤ 65536 }
     ensures { result ≡ distance size head producer }
 {
-    if head <= producer { producer - head } else { producer + size - head }
+    if head <= producer {
+        producer - head
+    } else {
+        producer + size - head
+    }
 }
 
 /// The place that a place up to twice the ring's size stands for.
@@ -78,7 +82,14 @@ pub(crate) fn copy_slots(
 }
 
 /// Puts the held entries behind the first `kept` to the front of `out`.
-pub(crate) fn copy_entries(slots: &[u32], size: u32, head: u32, kept: u32, held: u32, out: &mut [u32])
+pub(crate) fn copy_entries(
+    slots: &[u32],
+    size: u32,
+    head: u32,
+    kept: u32,
+    held: u32,
+    out: &mut [u32],
+)
     requires within { size ≤ length slots.now }
     requires size { size ≤ 65536 }
     requires head { head < size }

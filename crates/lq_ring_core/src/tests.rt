@@ -83,7 +83,13 @@ fn three_rings_shrink(rt: HostRuntime) -> Result<(), Fail> {
     let mut dropped = [99; 24];
     let counts = resize_three(&mut a, &mut b, &mut c, 2, &mut dropped);
     assert_eq!(rt; counts, Dropped { a: 3, b: 0, c: 1 });
-    assert_eq!(rt; dropped[..5], [12, 13, 14, 32, 99][..]);
+    assert_eq!(rt;
+        dropped,
+        [
+            12, 13, 14, 32, 99, 99, 99, 99, 99, 99, 99, 99, 99, 99, 99, 99, 99, 99, 99, 99, 99, 99,
+            99, 99,
+        ],
+    );
     expect_next(&rt, &mut a, 10);
     expect_next(&rt, &mut a, 11);
     assert_eq!(rt; a.peek(), None);

@@ -31,11 +31,9 @@ pub fn resize_three(
     ensures a_count { result.a ≡ length a.old.held - size }
     ensures b_count { result.b ≡ length b.old.held - size }
     ensures c_count { result.c ≡ length c.old.held - size }
-    ensures dropped {
-        dropped.new
+    ensures dropped { dropped.new
         ≡ dropped_of a.old size ++ dropped_of b.old size ++ dropped_of c.old size
-            ++ drop (result.a + result.b + result.c) dropped.old
-    }
+        ++ drop (result.a + result.b + result.c) dropped.old }
 {
     let from_a = a.resize(size, dropped);
     let behind_a = &mut dropped[from_a as usize..];

@@ -1,4 +1,4 @@
-use Rattle.std.proofs.Common.{◌≡◌, ℕ, suc, ◌+◌, ◌-◌, ◌<◌, ◌++◌, ◌∷◌, [], arith, length, drop, set, slice_index, add-one}
+use Rattle.std.proofs.Common.{◌≡◌, suc, ◌+◌, ◌-◌, arith, add-one}
 use Rattle.lq_ring_core.specs.Slots.{entries_from, slot_at}
 use Rattle.lq_ring_core.proofs.Lists.{set-behind}
 use Rattle.lq_ring_core.proofs.Entries.{length-entries_from}

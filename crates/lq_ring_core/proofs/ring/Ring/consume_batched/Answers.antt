@@ -1,5 +1,4 @@
-use Rattle.std.proofs.Common.{◌≡◌, ◌<◌, ◌+◌, ◌∷◌, [], arith, List, ℕ, length, drop, refl, sym, ◌∙◌, ap, length-drop, add-one}
-use Rattle.lq_ring_core.specs.Ring.{after_consumes}
+use Rattle.std.proofs.Common.{◌≡◌, ◌<◌, arith, length, drop, refl, sym, ◌∙◌, length-drop, add-one}
 use Rattle.lq_ring_core.proofs.Lists.{length-first, set-taken, length-drop_none}
 use Rattle.lq_ring_core.proofs.BandLaws.{held-after_consumes, IsBand-consumes}
 use Rattle.lq_ring_core.proofs.ring.Ring.consume_batched.Goals as goal
@@ -21,7 +20,7 @@ returns-in_default-clause-takes c = λ band b.
 pub loop-taken-preserved : goal.loop-taken-preserved
 loop-taken-preserved c =
     let held : c.loop-taken.self.held ≡ drop c.loop-taken.taken c.args.self.now.held =
-        rw c.loop-taken.invariant.consumed (held-after_consumes c.loop-taken.taken c.args.self.now) in
+    rw c.loop-taken.invariant.consumed (held-after_consumes c.loop-taken.taken c.args.self.now) in
     let first = rw held at (c.in-Some.ensures.first) in
     let taken = rw c.loop-taken.invariant.consumed at (c.in-Some.ensures.taken) in
     let some = length-first (drop c.loop-taken.taken c.args.self.now.held) c.in-Some.n first in

@@ -1,4 +1,4 @@
-use Rattle.std.proofs.Common.{◌≡◌, ◌≢◌, ℕ, ◌-◌, ◌≤◌, length, slice_index, arith, sym, ◌∙◌, refl}
+use Rattle.std.proofs.Common.{◌-◌, arith, sym, ◌∙◌, refl}
 use Rattle.lq_ring_core.proofs.Lists.{read-slice_index}
 use Rattle.lq_ring_core.proofs.BandLaws.{IsFull-occupied, MayBeFull-since, IsBand-produce}
 use Rattle.lq_ring_core.proofs.Steps.{full-since, full-never, seen-first, IsInOrder-produce, ring_of-produce}
@@ -38,7 +38,7 @@ returns-clause-ok c =
     let o = c.self.invariant in
     let read = read-slice_index r.slots.items r.slots.len r.size r.producer c.index-slot.result.now r.slots.ok.0 o.within_max o.in_order.producer_within c.index-slot.ensures in
     rw (← c.self.view_is, c.next_place-self-inside.ensures)
-      (ring_of-produce r.slots.items r.slots.len r.size r.producer r.head r.tail c.args.n (omega (arith, r.slots.ok.0, o.within_max)) o.in_order (sym read ∙ c.if-slot-ne0.false))
+    (ring_of-produce r.slots.items r.slots.len r.size r.producer r.head r.tail c.args.n (omega (arith, r.slots.ok.0, o.within_max)) o.in_order (sym read ∙ c.if-slot-ne0.false))
 
 pub returns-clause-full : goal.returns-clause-full
 returns-clause-full c =

@@ -1,7 +1,6 @@
-use Rattle.std.proofs.Common.{◌≡◌, ◌↔◌, ◌<◌, ℕ, arith, length, slice_index, refl, sym, ◌∙◌}
+use Rattle.std.proofs.Common.{◌≡◌, arith, refl, sym, ◌∙◌}
 use Rattle.std.proofs.lemmas.Bool.{false≢true}
-use Rattle.lq_ring_core.specs.Ring.{RingState, place_before}
-use Rattle.lq_ring_core.specs.Slots.{held_count, IsInOrder, ring_of}
+use Rattle.lq_ring_core.specs.Slots.{ring_of}
 use Rattle.lq_ring_core.proofs.Lists.{read-slice_index}
 use Rattle.lq_ring_core.proofs.Places.{place_before-within}
 use Rattle.lq_ring_core.proofs.Steps.{ends-meet, slice_index-before, room-before, IsInOrder-before, ring_of-before}

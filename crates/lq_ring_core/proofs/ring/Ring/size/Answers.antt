@@ -1,4 +1,3 @@
-use Rattle.std.proofs.Common.{arith}
 use Rattle.lq_ring_core.proofs.Steps.{IsBounded-ring_of}
 use Rattle.lq_ring_core.proofs.ring.Ring.size.Goals as goal
 
