@@ -1,7 +1,7 @@
 -- The class of a frame: its priority and band, its source byte and its route byte.
-use Rattle.std.specs.Prelude.{ℕ, ◌+◌, ◌/◌, Bool, ◌&&◌, nat_le, ◌==◌, if◌then◌else◌, bit_and, List, [], ◌∷◌, length, slice_index, Option, Some, None}
+use Rattle.std.specs.Prelude.{ℕ, ◌+◌, ◌/◌, Bool, ◌&&◌, nat_le, ◌==◌, if◌then◌else◌, bit_and, List, [], ◌∷◌, length, slice_index, slice_range, Option, Some, None}
 use Rattle.std.specs.Option.{option_map_or}
-use Rattle.lq_model.specs.Capture.{high_first_2}
+use Rattle.std.specs.Int.{w16, from_be_bytes}
 
 -- TABLES
 
@@ -24,7 +24,7 @@ band_of priority = slice_index band_table (bit_and priority 15)
 
 -- whether the two bytes at this place are there, and are this EtherType
 abbrev pub has_type : List ℕ → ℕ → ℕ → Bool
-has_type frame place type = nat_le (place + 2) (length frame) && (high_first_2 frame place == type)
+has_type frame place type = nat_le (place + 2) (length frame) && (from_be_bytes w16 (slice_range frame place (place + 2)) == type)
 
 -- where an Ethernet frame's IPv4 header would begin: after the type of IPv4, or after one VLAN tag and that type
 abbrev pub ethernet_start : List ℕ → Option ℕ
