@@ -1,19 +1,19 @@
 -- The start of an IPv4 header, as the definition finds it and as the law says it: case by case of the tests.
 use Rattle.std.proofs.Common.{◌≡◌, ◌+◌, ◌/◌, ◌&&◌, ℕ, List, length, Option, Some, None, true, nat_eq, nat_le, subst, ap, ◌∙◌, arith}
-use Rattle.std.specs.Prelude.{slice_index}
+use Rattle.std.specs.Prelude.{slice_index, slice_range}
 use Rattle.std.proofs.lemmas.Bool.{cond_both, cond-true, cond-false, eqb-true, eq-eqb, ne_eqb, leb-true, le-leb, and_parts, and_from, false_from_ne_true}
-use Rattle.lq_model.specs.Capture.{high_first_2}
+use Rattle.std.specs.Int.{w16, from_be_bytes}
 use Rattle.lq_model.specs.Class.{has_type, ethernet_start, network_start, has_ipv4, if_ipv4}
 use Rattle.lq_class.specs.Laws.{HasType, Precedes, raw, untagged, tagged, IsIpv4At}
 
 HasType-from_test : (frame : List ℕ) (place ethertype : ℕ) → has_type frame place ethertype ≡ true → HasType ethertype frame place
 HasType-from_test frame place ethertype e =
-    let parts = and_parts (nat_le (place + 2) (length frame)) (nat_eq (high_first_2 frame place) ethertype) e in
-    record { present = leb-true (place + 2) (length frame) parts.0; value = eqb-true (high_first_2 frame place) ethertype parts.1 }
+    let parts = and_parts (nat_le (place + 2) (length frame)) (nat_eq (from_be_bytes w16 (slice_range frame place (place + 2))) ethertype) e in
+    record { present = leb-true (place + 2) (length frame) parts.0; value = eqb-true (from_be_bytes w16 (slice_range frame place (place + 2))) ethertype parts.1 }
 
 test-from_HasType : (frame : List ℕ) (place ethertype : ℕ) → HasType ethertype frame place → has_type frame place ethertype ≡ true
 test-from_HasType frame place ethertype h =
-    and_from (nat_le (place + 2) (length frame)) (nat_eq (high_first_2 frame place) ethertype) (le-leb (place + 2) (length frame) h.present) (eq-eqb (high_first_2 frame place) ethertype h.value)
+    and_from (nat_le (place + 2) (length frame)) (nat_eq (from_be_bytes w16 (slice_range frame place (place + 2))) ethertype) (le-leb (place + 2) (length frame) h.present) (eq-eqb (from_be_bytes w16 (slice_range frame place (place + 2))) ethertype h.value)
 
 -- the two types differ
 untagged≢tagged : (frame : List ℕ) → HasType 0x0800 frame 12 → HasType 0x8100 frame 12 → ⊥

@@ -1,6 +1,6 @@
 -- What the laws say of the classes.
-use Rattle.std.specs.Prelude.{◌≡◌, ℕ, ◌+◌, ◌/◌, ◌≤◌, Bool, ◌==◌, if◌then◌else◌, bit_and, List, length, slice_index}
-use Rattle.lq_model.specs.Capture.{high_first_2}
+use Rattle.std.specs.Prelude.{◌≡◌, ℕ, ◌+◌, ◌/◌, ◌≤◌, Bool, ◌==◌, if◌then◌else◌, bit_and, List, length, slice_index, slice_range}
+use Rattle.std.specs.Int.{w16, from_be_bytes}
 
 -- TYPES OF SERVICE
 
@@ -31,7 +31,7 @@ service_band tos = by_service tos 1 0 2 1
 -- the two bytes from this place on are there, and are this EtherType
 pub record HasType (ethertype : ℕ) (frame : List ℕ) (place : ℕ) : Type 0 where
   pub present : place + 2 ≤ length frame
-  pub value : high_first_2 frame place ≡ ethertype
+  pub value : from_be_bytes w16 (slice_range frame place (place + 2)) ≡ ethertype
 
 -- What stands before the header. Of raw IP nothing does; of Ethernet two addresses and the type of IPv4, or two
 -- addresses, one VLAN tag and the type of IPv4.
