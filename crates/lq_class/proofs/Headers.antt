@@ -6,6 +6,7 @@ use Rattle.std.specs.Int.{w16, from_be_bytes}
 use Rattle.lq_model.specs.Class.{has_type, ethernet_start, network_start, has_ipv4, if_ipv4}
 use Rattle.lq_class.specs.Laws.{HasType, Precedes, raw, untagged, tagged, IsIpv4At}
 
+-- the definition's test of a type, and the law's fact
 HasType-from_test : (frame : List ℕ) (place ethertype : ℕ) → has_type frame place ethertype ≡ true → HasType ethertype frame place
 HasType-from_test frame place ethertype e =
     let parts = and_parts (nat_le (place + 2) (length frame)) (nat_eq (from_be_bytes w16 (slice_range frame place (place + 2))) ethertype) e in
@@ -19,6 +20,7 @@ test-from_HasType frame place ethertype h =
 untagged≢tagged : (frame : List ℕ) → HasType 0x0800 frame 12 → HasType 0x8100 frame 12 → ⊥
 untagged≢tagged frame h k = omega (arith, h.value, k.value)
 
+-- where the definition puts the start, the law's cases allow it
 Precedes-from_ethernet : (link : ℕ) (frame : List ℕ) (start : ℕ) → link ≡ 1 → ethernet_start frame ≡ Some start → Precedes link frame start
 Precedes-from_ethernet link frame start on_ethernet =
     let Follows : Option ℕ → Type 0 = λ o. o ≡ Some start → Precedes link frame start in
@@ -39,6 +41,7 @@ Precedes-from_start link frame start =
     (λ t e. let same : 0 ≡ start = cc in subst (λ m. Precedes link frame m) same (raw (eqb-true link 101 t)))
     (λ _ e. absurd (cc)))
 
+-- in each of the law's cases the definition finds the start
 start-from_Precedes : (link : ℕ) (frame : List ℕ) (start : ℕ) → Precedes link frame start → network_start link frame ≡ Some start
 start-from_Precedes link frame _ (raw e) =
     cond-false (nat_eq link 1) _ _ (ne_eqb link 1 (λ f. omega arith)) ∙ cond-true (nat_eq link 101) _ _ (eq-eqb link 101 e)
@@ -50,6 +53,7 @@ start-from_Precedes link frame _ (tagged e h k) =
     ∙ cond-true (has_type frame 12 0x8100 && has_type frame 16 0x0800) _ _
     (and_from (has_type frame 12 0x8100) (has_type frame 16 0x0800) (test-from_HasType frame 12 0x8100 h) (test-from_HasType frame 16 0x0800 k)))
 
+-- both ways for the whole header
 pub IsIpv4At-from_start : (link : ℕ) (frame : List ℕ) (start : ℕ) (o : Option ℕ) → network_start link frame ≡ o → if_ipv4 frame o ≡ Some start → IsIpv4At link frame start
 IsIpv4At-from_start link frame start None e = λ f. absurd (cc)
 IsIpv4At-from_start link frame start (Some n) e =

@@ -1,4 +1,4 @@
-//! Laws of the classes, in the words of the fields that they are read from. Each is proved, and does nothing.
+//! Laws of the classes, in the words of a header's fields. Each function is its contract alone and does nothing.
 
 ghost use Rattle.std.specs.Prelude.{◌≡◌, ◌<◌, ◌*◌, ◌/◌, ◌↔◌, ℕ, List, Some};
 ghost use Rattle.lq_model.specs.Class.{tos_priority, band_of, ipv4_start};
@@ -14,5 +14,6 @@ pub fn type_of_service()
 
 /// A frame has its IPv4 header exactly where a whole one of version 4 stands behind the network's own header.
 pub fn ipv4_header()
-    ensures { (link : ℕ) (frame : List ℕ) (start : ℕ) → (ipv4_start link frame ≡ Some start) ↔ IsIpv4At link frame start }
+    ensures { (link : ℕ) (frame : List ℕ) (start : ℕ) →
+        (ipv4_start link frame ≡ Some start) ↔ IsIpv4At link frame start }
 {}

@@ -5,6 +5,7 @@ use Rattle.lq_model.specs.Class.{tos_priority, band_of}
 use Rattle.lq_class.specs.Laws.{service_priority, service_band}
 use Rattle.lq_class.proofs.laws.type_of_service.Goals as goal
 
+-- two functions that agree at each of 256 numbers, by computing
 each_byte : (f g : ℕ → ℕ) → agree_below (λ n. nat_eq (f n) (g n)) (λ _. true) 256 ≡ true → (n : ℕ) → n < 256 → f n ≡ g n
 each_byte f g alike n is_byte =
     eqb-true (f n) (g n) (agree_below_at (λ k. nat_eq (f k) (g k)) (λ _. true) 256 n alike is_byte)
