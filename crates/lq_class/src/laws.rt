@@ -12,7 +12,7 @@ pub fn type_of_service()
     ensures congestion { (tos : ℕ) → tos < 256 → tos_priority tos ≡ tos_priority (tos / 4 * 4) }
 {}
 
-/// A frame has its IPv4 header exactly where a whole one of version 4 stands behind the network's own header.
+/// A frame has its IPv4 header exactly where a whole one of version 4 stands behind the link's own header.
 pub fn ipv4_header()
     ensures { (link : ℕ) (frame : List ℕ) (start : ℕ) →
         (ipv4_start link frame ≡ Some start) ↔ IsIpv4At link frame start }

@@ -46,7 +46,7 @@ pub struct Class {
     pub route_byte: u8,
 }
 
-/// The priority, the source byte and the route byte of a frame of this network.
+/// The priority, the source byte and the route byte of a frame of this link type.
 #[tactic(auto, unfolding(lq_model::specs::Class::priority_of, lq_model::specs::Class::source_byte_of, lq_model::specs::Class::route_byte_of))]
 pub fn classify(link: u32, frame: &[u8]) -> Class
     ensures priority { result.priority ≡ priority_of link frame.now }
@@ -67,7 +67,7 @@ pub fn classify(link: u32, frame: &[u8]) -> Class
     }
 }
 
-/// The priority of a frame of this network, by its type of service.
+/// The priority of a frame of this link type, by its type of service.
 #[tactic(auto, unfolding(lq_model::specs::Class::priority_of))]
 pub fn priority(link: u32, frame: &[u8]) -> u8
     ensures { result ≡ priority_of link frame.now }
@@ -84,7 +84,7 @@ pub fn band(priority: u8) -> u32
     BANDS[usize::from(priority & MAX_PRIORITY)]
 }
 
-/// The last byte of the source address of a frame of this network.
+/// The last byte of the source address of a frame of this link type.
 #[tactic(auto, unfolding(lq_model::specs::Class::source_byte_of))]
 pub fn source_byte(link: u32, frame: &[u8]) -> u8
     ensures { result ≡ source_byte_of link frame.now }
@@ -92,7 +92,7 @@ pub fn source_byte(link: u32, frame: &[u8]) -> u8
     ipv4_start(link, frame).map_or(0, |start| frame[start + SOURCE_END])
 }
 
-/// The last byte of the destination address of a frame of this network.
+/// The last byte of the destination address of a frame of this link type.
 #[tactic(auto, unfolding(lq_model::specs::Class::route_byte_of))]
 pub fn route_byte(link: u32, frame: &[u8]) -> u8
     ensures { result ≡ route_byte_of link frame.now }

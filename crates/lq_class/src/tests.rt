@@ -68,7 +68,7 @@ fn other_frames_have_class_zero(rt: HostRuntime) {
     assert_eq!(rt; classify(ETHERNET, &arp), zero, "another EtherType");
     assert_eq!(rt; classify(ETHERNET, &frame[..13]), zero, "13 bytes");
     assert_eq!(rt; classify(ETHERNET, &frame[..0]), zero, "no bytes");
-    assert_eq!(rt; classify(113, &frame), zero, "another network");
+    assert_eq!(rt; classify(113, &frame), zero, "another link type");
     assert_eq!(rt; band(0), 1);
 }
 
