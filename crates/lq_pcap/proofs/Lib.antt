@@ -1,0 +1,10 @@
+-- the reader's places
+pub mod Chain
+-- what the walk along the records has found
+pub mod Walk
+-- which bytes are a capture
+pub mod Acceptance
+-- a capture that is written again
+pub mod Again
+-- the first fault of bytes that are none
+pub mod FirstFault
