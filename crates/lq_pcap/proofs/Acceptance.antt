@@ -1,12 +1,10 @@
 -- Bytes are a capture exactly where they are a file header and whole records; a refusal names the first fault.
-use Rattle.std.proofs.Common.{◌≡◌, ◌≢◌, ◌<◌, ◌≤◌, ◌+◌, ◌-◌, ℕ, zero, suc, List, length, Option, Some, None, Result, Ok, Err, refl, sym, ap, ◌∙◌, subst, arith, inl, inr, ◌⊎◌, Bool, true, false, cond, ltb, eqb, not, ◌||◌}
-use Rattle.std.proofs.lemmas.Bool.{cases_lt, ltb-true, ltb-false, lt-ltb, le-ltb, eqb-true, eqb-false, eq-eqb, not-false, not_from_true}
-use Rattle.lq_model.specs.Capture.{Capture, Refusal, capture_of, with_count, refused, place_of, end_of, captured_length, record_fault, count_from, is_little_endian, is_big_endian, major_version}
-use Rattle.lq_model.specs.declared.capture.CaptureReason.{CaptureReason}
-use Rattle.lq_model.specs.declared.capture.CaptureReason.TheVariants.{ShortHeader, Magic, Version, CutRecordHeader, LongRecord, CutData, TooMany, TooLong}
-use Rattle.lq_pcap.specs.Laws.{IsWhole, HasMagic, HasFileHeader, IsCapture, Reaches, HasFault}
-use Rattle.lq_pcap.proofs.Chain.{count_ends, count_goes_on, count_faults, count_full}
-use Rattle.lq_pcap.proofs.Walk.{whole_from_none, begins_before, counted, counts}
+use Rattle.std.proofs.Common.{◌≡◌, ◌<◌, ◌≤◌, ◌+◌, ℕ, zero, suc, List, length, Result, Ok, Err, refl, sym, ap, ◌∙◌, subst, arith, Bool, true, false, cond, ltb, eqb, not, ◌||◌}
+use Rattle.std.proofs.lemmas.Bool.{ltb-false, le-ltb, eqb-true, eq-eqb, not-false}
+use Rattle.lq_model.specs.Capture.{Capture, Refusal, capture_of, with_count, place_of, count_from, is_little_endian, is_big_endian, major_version}
+use Rattle.lq_model.specs.declared.capture.CaptureReason.TheVariants.{ShortHeader, Magic, Version}
+use Rattle.lq_pcap.specs.Laws.{IsWhole, IsCapture}
+use Rattle.lq_pcap.proofs.Walk.{counted, counts}
 
 -- three tests of which none refuses
 passes_all :
@@ -25,8 +23,8 @@ pub accepted_is : (bytes : List ℕ) (capture : Capture) → capture_of bytes �
 accepted_is bytes capture e =
     let magic = is_little_endian bytes || is_big_endian bytes in
     let tests =
-        passes_all (ltb (length bytes) 24) (not magic) (not (eqb (major_version bytes) 2)) (record { reason = ShortHeader; place = length bytes }) (record { reason = Magic; place = 0 })
-        (record { reason = Version; place = 4 }) bytes (count_from bytes 1000000 0) capture e
+    passes_all (ltb (length bytes) 24) (not magic) (not (eqb (major_version bytes) 2)) (record { reason = ShortHeader; place = length bytes }) (record { reason = Magic; place = 0 })
+    (record { reason = Version; place = 4 }) bytes (count_from bytes 1000000 0) capture e
     in
     let long : 24 ≤ length bytes = ltb-false (length bytes) 24 tests.0 in
     let walk = counted bytes 1000000 0 capture.count tests.3 in
@@ -53,7 +51,7 @@ is_accepted bytes capture c =
     let from_0 : 0 + n ≡ n = omega arith in
     let ends : length bytes ≤ place_of bytes n = (let at_end = c.ends in omega arith) in
     let walk : count_from bytes 1000000 0 ≡ Ok n =
-        counts bytes 1000000 0 n c.few (λ j low below. c.whole j (omega arith)) (subst (λ k. length bytes ≤ place_of bytes k) (sym from_0) ends) ∙ ap Ok from_0
+    counts bytes 1000000 0 n c.few (λ j low below. c.whole j (omega arith)) (subst (λ k. length bytes ≤ place_of bytes k) (sym from_0) ends) ∙ ap Ok from_0
     in
     rw (le-ltb (length bytes) 24 c.header.magic.long, c.header.magic.magic, eq-eqb (major_version bytes) 2 c.header.version, walk)
     (ap (λ (b : List ℕ). Ok (let it : Capture = record { bytes = b; count = n } in it)) (sym c.bytes_))

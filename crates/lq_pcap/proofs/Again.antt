@@ -1,8 +1,8 @@
 -- A capture that is written for records of another: it has just those records.
-use Rattle.std.proofs.Common.{◌≡◌, ◌<◌, ◌≤◌, ◌+◌, ◌-◌, ◌++◌, ◌∷◌, [], ℕ, zero, suc, List, length, take, drop, map, Result, Ok, refl, sym, ap, ◌∙◌, subst, arith, length-append, length-drop, append_assoc, Bool, true, false, cond, nat_eq, eqb, ◌||◌, IsOkAnd, inl, inr}
+use Rattle.std.proofs.Common.{◌≡◌, ◌<◌, ◌≤◌, ◌+◌, ◌-◌, ◌++◌, ◌∷◌, [], ℕ, suc, List, length, take, drop, map, Result, Ok, refl, sym, ap, ◌∙◌, subst, arith, length-append, length-drop, append_assoc, eqb, ◌||◌, IsOkAnd, inl, inr}
 use Rattle.std.specs.Int.{w32, from_le_bytes, from_be_bytes}
 use Rattle.std.proofs.lemmas.Bool.{cases_lt, eqb-true}
-use Rattle.std.specs.List.{All, AllByRecursion, IsDistinct, flat_map, list_any, slice_range}
+use Rattle.std.specs.List.{All, AllByRecursion, IsDistinct, flat_map, slice_range}
 use Rattle.std.proofs.lemmas.Map.Views.{Contains-from_any}
 use Rattle.std.proofs.lemmas.Map.Steps.{length-le_from_distinct_below}
 use Rattle.lq_pcap.proofs.Acceptance.{accepted_is, is_accepted}
@@ -10,8 +10,8 @@ use Rattle.std.proofs.lemmas.List.{take-append-le, drop-append-le, drop-take, ta
 use Rattle.std.proofs.lemmas.List.Elements.{All-contains, All-weaker, recursion_from_All}
 use Rattle.std.proofs.Math.Seq.{drop-append-add}
 use Rattle.lq_model.specs.Numbers.{first_numbers}
-use Rattle.lq_model.specs.Capture.{Capture, Refusal, capture_of, capture_text, number_at, short_number_at, is_magic, is_little_endian, is_big_endian, major_version, place_of, end_of, captured_length, header_of, record_of, records_of}
-use Rattle.lq_pcap.specs.Laws.{IsWhole, HasFileHeader, IsCapture}
+use Rattle.lq_model.specs.Capture.{Capture, Refusal, capture_of, capture_text, number_at, short_number_at, is_magic, is_little_endian, major_version, place_of, end_of, captured_length, header_of, record_of, records_of}
+use Rattle.lq_pcap.specs.Laws.{IsWhole, IsCapture}
 
 -- the capture of these bytes with n records
 abbrev again_of : List ℕ → ℕ → Capture
@@ -35,7 +35,7 @@ part_of_part front xs back q e a b order within inside =
     let left : length (drop a part) ≡ m - a = length-drop a part ∙ ap (λ n. n - a) part_len in
     let in_left : b - a ≤ length (drop a part) = omega arith in
     let dropped : drop a part ≡ take (m - a) (drop (q + a) xs) =
-        ap (λ n. drop a (take n (drop q xs))) rest ∙ drop-take a (m - a) (drop q xs) ∙ ap (take (m - a)) (drop-drop a q xs)
+    ap (λ n. drop a (take n (drop q xs))) rest ∙ drop-take a (m - a) (drop q xs) ∙ ap (take (m - a)) (drop-drop a q xs)
     in
     let outer : drop (length front + a) (front ++ (part ++ back)) ≡ drop a part ++ back = drop-append-add front (part ++ back) a ∙ drop-append-le a part back a_in in
     rw (len, len', outer, take-append-le (b - a) (drop a part) back in_left, dropped, take-take (b - a) (m - a) (drop (q + a) xs) (omega arith)) refl
@@ -70,12 +70,12 @@ written_again c text front back i order w is =
     let eight : f + 8 + 4 ≡ f + 12 = omega arith in
     let eight' : q + 8 + 4 ≡ q + 12 = omega arith in
     let field : slice_range text (f + 8) (f + 8 + 4) ≡ slice_range c.bytes (q + 8) (q + 8 + 4) =
-        rw (is, eight, eight') (part_of_part front c.bytes back q e 8 12 (omega arith) (omega arith) inside)
+    rw (is, eight, eight') (part_of_part front c.bytes back q e 8 12 (omega arith) (omega arith) inside)
     in
     let same_length : captured_length text f ≡ captured = same_number text c.bytes (f + 8) (q + 8) order field in
     let part_len : length (record_of c i) ≡ e - q = length-take-le (e - q) (drop q c.bytes) (omega (arith, length-drop q c.bytes)) in
     let text_len : length text ≡ f + (length (record_of c i) + length back) =
-        ap length is ∙ length-append front (record_of c i ++ back) ∙ ap (λ n. f + n) (length-append (record_of c i) back)
+    ap length is ∙ length-append front (record_of c i ++ back) ∙ ap (λ n. f + n) (length-append (record_of c i) back)
     in
     let ends : end_of text f ≡ f + (16 + captured) = omega arith in
     let from_0 : f + 0 ≡ f = omega arith in
@@ -115,7 +115,7 @@ all_written_again c text front (y ∷ ys) i order whole begins is =
     let behind : suc i + length ys ≡ i + suc (length ys) = omega arith in
     let here : IsWhole text (place_of text i) = subst (IsWhole text) (sym begins) one.whole in
     let this : slice_range text (place_of text i) (place_of text (suc i)) ≡ record_of c y =
-        subst (λ p. slice_range text p (end_of text p) ≡ record_of c y) (sym begins) one.same
+    subst (λ p. slice_range text p (end_of text p) ≡ record_of c y) (sym begins) one.same
     in
     record {
       ends = subst (λ k. place_of text k ≡ length text) behind rest.ends;
@@ -124,12 +124,12 @@ all_written_again c text front (y ∷ ys) i order whole begins is =
         | inr below ↦ (let same : i ≡ j = omega arith in subst (λ k. IsWhole text (place_of text k)) same here)
       ];
       same = λ n.
-        (let f = record_of (again_of text n) in
-        let last : map f (first_numbers i ++ i ∷ []) ≡ map f (first_numbers i) ++ record_of c y ∷ [] =
-            map-append f (first_numbers i) (i ∷ []) ∙ ap (λ (r : List ℕ). map f (first_numbers i) ++ r ∷ []) this
-        in
-        subst (λ k. map f (first_numbers k) ≡ map f (first_numbers i) ++ map (record_of c) (y ∷ ys)) behind
-        (rest.same n ∙ ap (λ (rs : List (List ℕ)). rs ++ map (record_of c) ys) last ∙ append_assoc (map f (first_numbers i)) (record_of c y ∷ []) (map (record_of c) ys)));
+          (let f = record_of (again_of text n) in
+          let last : map f (first_numbers i ++ i ∷ []) ≡ map f (first_numbers i) ++ record_of c y ∷ [] =
+          map-append f (first_numbers i) (i ∷ []) ∙ ap (λ (r : List ℕ). map f (first_numbers i) ++ r ∷ []) this
+          in
+          subst (λ k. map f (first_numbers k) ≡ map f (first_numbers i) ++ map (record_of c) (y ∷ ys)) behind
+          (rest.same n ∙ ap (λ (rs : List (List ℕ)). rs ++ map (record_of c) ys) last ∙ append_assoc (map f (first_numbers i)) (record_of c y ∷ []) (map (record_of c) ys)));
     }
 
 all_whole : (c : Capture) (packets : List ℕ) → IsCapture c.bytes c → All (λ i. i < c.count) packets → AllByRecursion (λ i. IsWhole c.bytes (place_of c.bytes i)) packets

@@ -1,10 +1,10 @@
 -- A refusal names the first fault of the bytes.
-use Rattle.std.proofs.Common.{◌≡◌, ◌≢◌, ◌<◌, ◌≤◌, ◌+◌, ℕ, zero, suc, List, length, Option, Some, None, Result, Ok, Err, refl, sym, ap, ◌∙◌, subst, arith, inl, inr, ◌⊎◌, Bool, true, false, cond, ltb, eqb, not, ◌||◌}
+use Rattle.std.proofs.Common.{◌≡◌, ◌<◌, ◌+◌, ℕ, zero, suc, List, length, Some, None, Result, Ok, Err, refl, sym, ◌∙◌, subst, arith, inl, inr, Bool, true, false, cond, ltb, eqb, not, ◌||◌}
 use Rattle.std.proofs.lemmas.Bool.{cases_lt, ltb-true, ltb-false, eqb-true, eqb-false, not-true, not-false}
-use Rattle.lq_model.specs.Capture.{Capture, Refusal, capture_of, with_count, refused, place_of, end_of, captured_length, record_fault, count_from, is_little_endian, is_big_endian, major_version}
+use Rattle.lq_model.specs.Capture.{Refusal, capture_of, with_count, refused, place_of, end_of, captured_length, record_fault, count_from, is_little_endian, is_big_endian, major_version}
 use Rattle.lq_model.specs.declared.capture.CaptureReason.{CaptureReason}
-use Rattle.lq_model.specs.declared.capture.CaptureReason.TheVariants.{ShortHeader, Magic, Version, CutRecordHeader, LongRecord, CutData, TooMany, TooLong}
-use Rattle.lq_pcap.specs.Laws.{IsWhole, HasMagic, HasFileHeader, Reaches, HasFault}
+use Rattle.lq_model.specs.declared.capture.CaptureReason.TheVariants.{ShortHeader, Magic, Version, CutRecordHeader, LongRecord, CutData, TooMany}
+use Rattle.lq_pcap.specs.Laws.{IsWhole, HasFileHeader, Reaches, HasFault}
 use Rattle.lq_pcap.proofs.Chain.{count_ends, count_goes_on, count_faults, count_full}
 use Rattle.lq_pcap.proofs.Walk.{option_cases, whole_from_none}
 
@@ -47,7 +47,7 @@ fault_of_record bytes i place reason few reached e =
       | first_test a is ↦ subst (λ r. HasFault bytes r place) is (i, few, reached, ltb-true len (place + 16) a)
       | second_test a b is ↦ subst (λ r. HasFault bytes r place) is (i, few, reached, ltb-false len (place + 16) a, ltb-true 262144 captured b)
       | third_test a b c is ↦ subst (λ r. HasFault bytes r place) is
-        (i, few, reached, ltb-false len (place + 16) a, ltb-false 262144 captured b, ltb-true len (end_of bytes place) c)
+          (i, few, reached, ltb-false len (place + 16) a, ltb-false 262144 captured b, ltb-true len (end_of bytes place) c)
       | no_test a b c never ↦ absurd never
     ]
 
@@ -97,8 +97,8 @@ first_fault bytes reason place e =
       | first_test a is ↦ at_refusal bytes short given is (ltb-true len 24 a, refl)
       | second_test a b is ↦ at_refusal bytes no_magic given is (ltb-false len 24 a, not-true magic b, refl)
       | third_test a b c is ↦ at_refusal bytes other_version given is
-        (record { long = ltb-false len 24 a; magic = not-false magic b }, eqb-false (major_version bytes) 2 (not-true version c), refl)
+          (record { long = ltb-false len 24 a; magic = not-false magic b }, eqb-false (major_version bytes) 2 (not-true version c), refl)
       | no_test a b c walk ↦ fault_of_walk bytes 1000000 0 reason place (omega arith)
-        (record { magic = record { long = ltb-false len 24 a; magic = not-false magic b }; version = eqb-true (major_version bytes) 2 (not-false version c) })
-        (λ j lt. absurd (omega arith)) walk
+          (record { magic = record { long = ltb-false len 24 a; magic = not-false magic b }; version = eqb-true (major_version bytes) 2 (not-false version c) })
+          (λ j lt. absurd (omega arith)) walk
     ]

@@ -8,3 +8,5 @@ pub mod Acceptance
 pub mod Again
 -- the first fault of bytes that are none
 pub mod FirstFault
+-- the generated capture, a record at a time
+pub mod GeneratorLemmas

@@ -1,9 +1,9 @@
 -- What the walk along the records has found, where it ends.
-use Rattle.std.proofs.Common.{◌≡◌, ◌<◌, ◌≤◌, ◌+◌, ℕ, zero, suc, List, length, Option, Some, None, Result, Ok, Err, refl, sym, ap, ◌∙◌, subst, arith, inl, inr, ◌⊎◌, Bool, true, false, cond, ltb}
-use Rattle.std.proofs.lemmas.Bool.{cases_lt, ltb-true, ltb-false, lt-ltb, le-ltb}
-use Rattle.lq_model.specs.Capture.{place_of, end_of, captured_length, record_fault, count_from, Refusal}
+use Rattle.std.proofs.Common.{◌≡◌, ◌<◌, ◌≤◌, ◌+◌, ℕ, zero, suc, List, length, Option, Some, None, Ok, refl, sym, ap, ◌∙◌, subst, arith, inl, inr, ◌⊎◌, Bool, true, false, cond, ltb}
+use Rattle.std.proofs.lemmas.Bool.{cases_lt, ltb-false, le-ltb}
+use Rattle.lq_model.specs.Capture.{place_of, end_of, captured_length, record_fault, count_from}
 use Rattle.lq_model.specs.declared.capture.CaptureReason.{CaptureReason}
-use Rattle.lq_model.specs.declared.capture.CaptureReason.TheVariants.{CutRecordHeader, LongRecord, CutData, TooMany}
+use Rattle.lq_model.specs.declared.capture.CaptureReason.TheVariants.{CutRecordHeader, LongRecord, CutData}
 use Rattle.lq_pcap.specs.Laws.{IsWhole}
 use Rattle.lq_pcap.proofs.Chain.{count_ends, count_goes_on, count_faults, count_full}
 

@@ -1,7 +1,7 @@
 -- What the definition of a capture comes to, and what follows from it.
-use Rattle.std.specs.Prelude.{◌≡◌, ◌≢◌, ◌↔◌, ℕ, ◌+◌, ◌<◌, ◌≤◌, Bool, true, false, ◌||◌, nat_eq, List, length, map, All, Result, Ok, IsOkAnd}
+use Rattle.std.specs.Prelude.{◌≡◌, ◌≢◌, ◌↔◌, ℕ, ◌+◌, ◌<◌, ◌≤◌, true, false, ◌||◌, nat_eq, List, length, map, All, Ok, IsOkAnd}
 use Rattle.std.specs.List.{IsDistinct}
-use Rattle.lq_model.specs.Capture.{Capture, Refusal, capture_of, capture_text, captured_length, end_of, header_of, is_big_endian, is_little_endian, major_version, place_of, record_of, records_of, refused}
+use Rattle.lq_model.specs.Capture.{Capture, capture_of, capture_text, captured_length, end_of, header_of, is_big_endian, is_little_endian, major_version, place_of, record_of, records_of, refused}
 use Rattle.lq_model.specs.declared.capture.CaptureReason.{CaptureReason}
 use Rattle.lq_model.specs.declared.capture.CaptureReason.TheVariants.{ShortHeader, Magic, Version, CutRecordHeader, LongRecord, CutData, TooMany, TooLong}
 

@@ -4,7 +4,7 @@
 //! [`read_capture`] answers exactly the definition `capture_of` of `lq_model`, for all bytes.
 #![tactic(auto)]
 
-//mod generator;
+mod generator;
 mod laws;
 mod numbers;
 mod reader;
@@ -12,13 +12,12 @@ mod records;
 mod refusal;
 mod writer;
 
-//pub use generator::gen_capture;
+pub use generator::gen_capture;
 pub use laws::{accepts_again, accepts_exactly, refuses_exactly};
 pub use lq_model::{CaptureReason, NoMemory};
 pub use reader::read_capture;
 pub use records::Capture;
 pub use refusal::CaptureRefusal;
 pub use writer::{push_header, push_record};
-
 
 //mod tests;

@@ -53,11 +53,7 @@ fn refused_at(reason: CaptureReason, place: usize) -> CaptureRefusal
 }
 
 // Where the records begin and the last one ends.
-fn places_of(
-    alloc: Global,
-    bytes: &[u8],
-    little_endian: bool,
-) -> Result<Vec<usize>, CaptureRefusal>
+fn places_of(alloc: Global, bytes: &[u8], little_endian: bool) -> Result<Vec<usize>, CaptureRefusal>
     requires header { 24 ≤ length bytes.now }
     requires order { little_endian ≡ is_little_endian bytes.now }
     ensures places { IfOk result (λ places. ArePlaces bytes.now places.items) }

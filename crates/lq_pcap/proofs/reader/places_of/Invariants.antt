@@ -1,4 +1,4 @@
-use Rattle.std.proofs.Common.{◌≡◌, ◌<◌, ◌≤◌, ◌-◌, length}
+use Rattle.std.proofs.Common.{◌-◌, length}
 use Rattle.lq_pcap.proofs.Chain.{Reaches}
 use Rattle.lq_pcap.proofs.reader.places_of.Given as goal
 
