@@ -20,4 +20,5 @@ pub use records::Capture;
 pub use refusal::CaptureRefusal;
 pub use writer::{push_header, push_record};
 
-//mod tests;
+#[cfg(test)]
+mod tests;
