@@ -4,7 +4,7 @@ use Rattle.std.proofs.lemmas.Bool.{cases_lt, ltb-true, ltb-false, eqb-true, eqb-
 use Rattle.lq_model.specs.Capture.{Refusal, capture_of, with_count, refused, place_of, end_of, captured_length, record_fault, count_from, is_little_endian, is_big_endian, major_version}
 use Rattle.lq_model.specs.declared.capture.CaptureReason.{CaptureReason}
 use Rattle.lq_model.specs.declared.capture.CaptureReason.TheVariants.{ShortHeader, Magic, Version, CutRecordHeader, LongRecord, CutData, TooMany}
-use Rattle.lq_pcap.specs.Laws.{IsWhole, HasFileHeader, Reaches, HasFault}
+use Rattle.lq_pcap.specs.Laws.{IsWhole, HasFileHeader, GoesOnAt, HasFault}
 use Rattle.lq_pcap.proofs.Chain.{count_ends, count_goes_on, count_faults, count_full}
 use Rattle.lq_pcap.proofs.Walk.{option_cases, whole_from_none}
 
@@ -39,7 +39,7 @@ same_refusal : (f g : Refusal) → ◌≡◌ {A = Result ℕ Refusal} (Err f) (E
 same_refusal f g e = cc
 
 -- the fault of a record
-fault_of_record : (bytes : List ℕ) (i place : ℕ) (reason : CaptureReason) → i < 1000000 → Reaches bytes i place → record_fault bytes place ≡ Some reason → HasFault bytes reason place
+fault_of_record : (bytes : List ℕ) (i place : ℕ) (reason : CaptureReason) → i < 1000000 → GoesOnAt bytes i place → record_fault bytes place ≡ Some reason → HasFault bytes reason place
 fault_of_record bytes i place reason few reached e =
     let len = length bytes in
     let captured = captured_length bytes place in
@@ -62,7 +62,7 @@ fault_of_walk bytes zero i reason place most header whole e =
           let given : Refusal = record { reason = reason; place = place } in
           let all : i ≡ 1000000 = omega arith in
           at_refusal bytes found given (same_refusal found given (sym (count_full bytes i below) ∙ e))
-          (subst (λ n. Reaches bytes n (place_of bytes i)) all (record { header = header; whole = whole; place_ = refl; more = below }))
+          (subst (λ n. GoesOnAt bytes n (place_of bytes i)) all (record { header = header; whole = whole; begins = refl; more = below }))
       | inr ends ↦ (let at_end = count_ends bytes zero i ends in cc)
     ]
 fault_of_walk bytes (suc more) i reason place most header whole e =
@@ -79,7 +79,7 @@ fault_of_walk bytes (suc more) i reason place most header whole e =
             let here : Refusal = record { reason = found; place = place_of bytes i } in
             let given : Refusal = record { reason = reason; place = place } in
             at_refusal bytes here given (same_refusal here given (sym (count_faults bytes more i found below some) ∙ e))
-            (fault_of_record bytes i (place_of bytes i) found (omega arith) (record { header = header; whole = whole; place_ = refl; more = below }) some)
+            (fault_of_record bytes i (place_of bytes i) found (omega arith) (record { header = header; whole = whole; begins = refl; more = below }) some)
       ]
       | inr ends ↦ (let at_end = count_ends bytes (suc more) i ends in cc)
     ]

@@ -1,7 +1,7 @@
 ghost use Rattle.std.specs.Prelude.{◌≡◌, ◌%◌, ◌≤◌, ◌<◌, ◌++◌, IfOk, OnOk};
 ghost use Rattle.lq_model.specs.Generated.{generated_capture, generated_destination, generated_frame, generated_header, generated_record, generated_source, generated_type_of_service, spread};
 
-use crate::reader::HEADER;
+use crate::layout::HEADER;
 use crate::writer::push_bytes;
 use lq_model::NoMemory;
 use std::alloc::Global;

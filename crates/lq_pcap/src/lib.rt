@@ -6,6 +6,7 @@
 
 mod generator;
 mod laws;
+mod layout;
 mod numbers;
 mod reader;
 mod records;
@@ -13,7 +14,7 @@ mod refusal;
 mod writer;
 
 pub use generator::gen_capture;
-pub use laws::{accepts_again, accepts_exactly, refuses_exactly};
+pub use laws::{accepts_again, accepts_exactly, generates_captures, refuses_exactly};
 pub use lq_model::{CaptureReason, NoMemory};
 pub use reader::read_capture;
 pub use records::Capture;
