@@ -41,7 +41,7 @@ abbrev pub HasFault : List ℕ → CaptureReason → ℕ → Type 0
 HasFault bytes ShortHeader place = (length bytes < 24) × (place ≡ length bytes)
 HasFault bytes Magic place = (24 ≤ length bytes) × ((is_little_endian bytes || is_big_endian bytes) ≡ false) × (place ≡ 0)
 HasFault bytes Version place = HasMagic bytes × (major_version bytes ≢ 2) × (place ≡ 4)
-HasFault bytes TooMany place = GoesOnAt bytes 1000000 place
+HasFault bytes TooMany place = (i : ℕ) × (i ≡ 1000000) × GoesOnAt bytes i place
 HasFault bytes CutRecordHeader place = (i : ℕ) × (i < 1000000) × GoesOnAt bytes i place × (length bytes < place + 16)
 HasFault bytes LongRecord place =
     (i : ℕ) × (i < 1000000) × GoesOnAt bytes i place × (place + 16 ≤ length bytes) × (262144 < captured_length bytes place)
@@ -53,9 +53,9 @@ HasFault bytes TooLong place = ⊥
 abbrev pub AcceptsExactly : Type 0
 AcceptsExactly = (bytes : List ℕ) (capture : Capture) → (capture_of bytes ≡ Ok capture) ↔ IsCapture bytes capture
 
--- a refusal names the first fault
+-- and they are refused exactly for the first fault that they have
 abbrev pub RefusesExactly : Type 0
-RefusesExactly = (bytes : List ℕ) (reason : CaptureReason) (place : ℕ) → capture_of bytes ≡ refused reason place → HasFault bytes reason place
+RefusesExactly = (bytes : List ℕ) (reason : CaptureReason) (place : ℕ) → (capture_of bytes ≡ refused reason place) ↔ HasFault bytes reason place
 
 -- the capture written for a list of records without repeats is a capture again, of just those records
 abbrev pub AcceptsAgain : Type 0

@@ -28,7 +28,12 @@ const SOURCE: usize = 45;
 
 const DESTINATION: usize = 49;
 
-/// A capture of `count` IPv4 packets in Ethernet frames, whose type of service and addresses vary with `number`.
+/// A capture of `count` IPv4 packets in Ethernet frames, one each millisecond. Their types of service and addresses
+/// vary with `number`.
+///
+/// # NoMemory
+///
+/// There was no room for its 24 + 50 * `count` bytes, which are reserved at once.
 #[tactic(auto, using(crate::proofs::GeneratorLemmas::generated_none, crate::proofs::GeneratorLemmas::generated_more))]
 pub fn gen_capture(alloc: Global, number: u32, count: u32) -> Result<Vec<u8>, NoMemory>
     requires { count ≤ 1000000 }

@@ -7,7 +7,7 @@ pub fn accepts_exactly()
     ensures { AcceptsExactly }
 {}
 
-/// A refusal names the first fault of the bytes, and where it stands.
+/// They are refused exactly for the first fault that they have, at the place where it stands.
 pub fn refuses_exactly()
     ensures { RefusesExactly }
 {}

@@ -1,7 +1,17 @@
 //! Captures in the classic libpcap file format 2.4, as `pcap-savefile(5)` describes it: reading one from bytes,
 //! writing its records again, and generating one.
 //!
-//! [`read_capture`] answers exactly the definition `capture_of` of `lq_model`, for all bytes.
+//! [`read_capture`] answers exactly the definition `capture_of` of `lq_model`, for all bytes. To write some of the
+//! records of a capture again, here the first one:
+//!
+//! ```text
+//! let capture = read_capture(alloc, bytes)?;
+//! let mut out = Vec::new(alloc);
+//! push_header(&mut out, &capture)?;
+//! if capture.len() > 0 {
+//!     push_record(&mut out, &capture, 0)?;
+//! }
+//! ```
 #![tactic(auto)]
 
 mod generator;

@@ -14,8 +14,14 @@ use std::alloc::Global;
 
 /// The capture that the bytes are. It keeps them, and the place of each record beside them.
 ///
-/// The tests come in the order of the format: `ShortHeader` at the length of the bytes, `Magic` at 0, `Version` at 4,
-/// and then for each record at the place where it begins `TooMany`, `CutRecordHeader`, `LongRecord`, `CutData`.
+/// # Refused
+///
+/// The first test that the bytes fail: `ShortHeader` at their length, `Magic` at 0, `Version` at 4, and then for each
+/// record, at the place where it begins, `TooMany`, `CutRecordHeader`, `LongRecord` and `CutData`.
+///
+/// # NoMemory
+///
+/// There was no room for the places of the records, 8 bytes each. The bytes are dropped.
 pub fn read_capture(alloc: Global, bytes: Vec<u8>) -> Result<Capture, CaptureRefusal>
     ensures { Gives (λ capture. capture) result (capture_of bytes.items) }
 {

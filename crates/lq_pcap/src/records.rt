@@ -5,7 +5,7 @@ use crate::layout::{HEADER, LINK, RECORD_HEADER};
 use crate::numbers::{begins_little_endian, number};
 use std::marker::Model;
 
-/// A capture that was read: the bytes of its file, and where each record begins.
+/// A capture that was read. Contracts see the bytes of its file and the number of its records.
 #[derive(Drop)]
 pub struct Capture {
     /// A file header and whole records, as they were read.
