@@ -11,12 +11,16 @@ ghost use Rattle.std.specs.Prelude.{◌≡◌, ◌⊎◌, [], ℕ, ◌<◌, ◌�
 ghost use Rattle.lq_host.specs.Host.{HostState, Opened, Output, Reads, Writes, IsReader, IsWriter, left, opened, filed, advanced, wrote, closed, HasCause};
 ghost use Rattle.std.specs.Io.KnownBytes.{ReadConsumes};
 
+mod calls;
+mod faults;
 mod file_host;
+mod files;
 mod mem_host;
-mod memory;
+mod slots;
 
+pub use calls::HostCall;
 pub use file_host::FileHost;
-pub use mem_host::{HostCall, MemHost, NoMemory};
+pub use mem_host::{MemHost, NoMemory};
 use std::alloc::{AllocError, AllocFailed};
 
 /// Why a call of a host was refused.
