@@ -1,4 +1,14 @@
+-- lists of numbers that several definitions use
+pub mod Numbers
 -- which bytes are a capture, and the capture written for a list of packets
 pub mod Capture
+-- the capture that a number and a count generate
+pub mod Generated
+-- the class of a frame
+pub mod Class
+-- a band's packets, and when it is full
+pub mod Band
 -- fates and counts as texts
 pub mod Texts
+-- the packets that a unit sent, in order of serial
+pub mod Sent

@@ -2,9 +2,11 @@
 //! crates cite. `docs/RULES.md` and `docs/FORMATS.md` say the same in words, in the same order.
 #![tactic(auto)]
 
+mod band;
 mod capture;
 mod fate;
 
+pub use band::batch;
 pub use capture::CaptureReason;
 pub use fate::{Cause, Fate, Info};
 
