@@ -17,6 +17,8 @@ mod file_host;
 mod files;
 mod mem_host;
 mod slots;
+#[cfg(test)]
+mod tests;
 
 pub use calls::HostCall;
 pub use file_host::FileHost;
