@@ -30,7 +30,7 @@ fn real_files_keep_what_was_written(rt: HostRuntime) -> Result<(), Fail> {
     let name = "lq_host_files/hundred";
     let bytes =
         b"0123456789abcdefghijklmnopqrstuvwxyzABCDEFGHIJKLMNOPQRSTUVWXYZ.,:;!?+-*/=<>()[]{}|~^_#@%&$ the end..";
-    let mut buf = [0u8; 128];
+    let mut buf = [0u8; 100];
     let mut host = FileHost::new(rt.clone()?);
 
     fs::create_dir_all(&rt, folder)?;
@@ -42,7 +42,7 @@ fn real_files_keep_what_was_written(rt: HostRuntime) -> Result<(), Fail> {
     assert_eq!(rt; bytes.len(), 100);
     assert_eq!(rt; written, Ok(()));
     assert_eq!(rt; count, Ok(100));
-    assert_eq!(rt; &buf[..100], bytes.as_slice());
+    assert_eq!(rt; buf.as_slice(), bytes.as_slice());
     assert_eq!(rt; host.faults(), 0);
     assert_eq!(rt; host.open_read(name), Err(HostError::Failed));
     assert_eq!(rt; host.faults(), 1);
