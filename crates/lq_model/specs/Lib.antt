@@ -12,3 +12,11 @@ pub mod Band
 pub mod Texts
 -- the packets that a unit sent, in order of serial
 pub mod Sent
+-- the machine of the run lock: words and bits, packets and seats
+pub mod Machine
+-- its steps and starts
+pub mod Steps
+-- the steps of control
+pub mod Control
+-- what holds at every moment, and the quiet machine
+pub mod Kept

@@ -5,10 +5,14 @@
 mod band;
 mod capture;
 mod fate;
+mod machine;
 
 pub use band::batch;
 pub use capture::CaptureReason;
 pub use fate::{Cause, Fate, Info};
+pub use machine::{
+    Answer, Attempt, Beginning, Blocked, Call, ControlStep, Packet, Phase, Position, Seat,
+};
 
 /// Want of memory.
 #[derive(Clone, Copy, Debug, PartialEq, Eq)]

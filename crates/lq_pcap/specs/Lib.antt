@@ -1,0 +1,6 @@
+-- what reading answers
+pub mod Reading
+-- what contracts see of a capture in memory
+pub mod View
+-- what the definition of a capture comes to
+pub mod Laws
