@@ -1,5 +1,5 @@
 -- The slots of a host, as its open handles.
-use Rattle.std.specs.Prelude.{ℕ, zero, suc, List, slice_get, Option, Some, None, string_bytes, option_and_then}
+use Rattle.std.specs.Prelude.{zero, suc, List, slice_get, Option, Some, None, string_bytes, option_and_then}
 use Rattle.lq_host.specs.Host.{Opened, Output, Reads, Writes, Handles}
 use Rattle.lq_host.specs.declared.slots.Slot.{Slot}
 use Rattle.lq_host.specs.declared.slots.Slot.TheVariants.{Closed, Reader, Writer}

@@ -82,8 +82,10 @@ pub trait Host {
     /// `Failed`: the host failed. After a refusal nothing is open that was not, and the file is as before or empty.
     fn create(&mut self, name: &str) -> Result<u32, HostError>
         ensures fresh { IfOk result (λ h. (state self.old).handles h ≡ None) }
-        ensures ok { IfOk result (λ h. state self.new ≡ opened (filed (state self.old) name.now []) h (Writes name.now)) }
-        ensures err { OnErr result ((state self.new ≡ state self.old) ⊎ (state self.new ≡ filed (state self.old) name.now [])) }
+        ensures ok { IfOk result (λ h. state self.new
+            ≡ opened (filed (state self.old) name.now []) h (Writes name.now)) }
+        ensures err { OnErr result ((state self.new ≡ state self.old)
+            ⊎ (state self.new ≡ filed (state self.old) name.now [])) }
         ensures cause { HasCause (fault_count self.old) (fault_count self.new) result };
 
     /// Fills a prefix of the buffer with the next bytes of the file, and answers how many they are, which is 0
@@ -105,7 +107,8 @@ pub trait Host {
     fn write(&mut self, h: u32, bytes: &[u8]) -> Result<(), HostError>
         requires { IsWriter ((state self.old).handles h) }
         ensures ok { OnOk result (state self.new ≡ wrote (state self.old) h bytes.now) }
-        ensures err { OnErr result ((n : ℕ) × (n ≤ length bytes.now) × (state self.new ≡ wrote (state self.old) h (take n bytes.now))) }
+        ensures err { OnErr result ((n : ℕ) × (n ≤ length bytes.now)
+            × (state self.new ≡ wrote (state self.old) h (take n bytes.now))) }
         ensures cause { HasCause (fault_count self.old) (fault_count self.new) result };
 
     /// Closes the handle, whatever it answers.

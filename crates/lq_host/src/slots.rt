@@ -67,8 +67,10 @@ pub(crate) fn writer_at(slots: &[Slot], h: u32) -> &str
 // A reading handle has read so many bytes more.
 pub(crate) fn advance(slots: &mut Vec<Slot>, h: u32, count: usize)
     requires reader { IsReader (handles_of slots.old.items h) }
-    requires fits { (name : List ℕ) (place : ℕ) → handles_of slots.old.items h ≡ Some (Reads name place) → place + count < 2 ^ 64 }
-    ensures { handles_of slots.new.items ≡ with_handle (handles_of slots.old.items) h (moved (handles_of slots.old.items h) count) }
+    requires fits { (name : List ℕ) (place : ℕ) →
+        handles_of slots.old.items h ≡ Some (Reads name place) → place + count < 2 ^ 64 }
+    ensures { handles_of slots.new.items
+        ≡ with_handle (handles_of slots.old.items) h (moved (handles_of slots.old.items h) count) }
 {
     let i = slot_at(slots, h);
     match &mut slots[i] {
