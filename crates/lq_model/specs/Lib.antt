@@ -2,3 +2,5 @@
 pub mod Capture
 -- fates and counts as texts
 pub mod Texts
+-- the packets that a unit sent, in order of serial
+pub mod Sent
