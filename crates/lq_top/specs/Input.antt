@@ -1,0 +1,13 @@
+-- What a file gave.
+use Rattle.std.specs.Prelude.{◌≡◌, ◌<◌, ◌≤◌, ℕ, List, length}
+use Rattle.lq_top.specs.declared.input.Input.{Input}
+use Rattle.lq_top.specs.declared.input.Input.TheVariants.{Whole, TooLong}
+
+-- what was read of these bytes under a limit: all of them, or it is known that there are more than the limit
+abbrev pub IsInput : ℕ → List ℕ → Input → Type 0
+IsInput limit bytes (Whole taken) = taken.items ≡ bytes
+IsInput limit bytes TooLong = limit < length bytes
+
+abbrev pub IsWithin : ℕ → Input → Type 0
+IsWithin limit (Whole taken) = length taken.items ≤ limit
+IsWithin limit TooLong = Unit {0}
