@@ -1,107 +1,133 @@
--- Captures, in the classic libpcap file format 2.4: which bytes are a capture, and what it has.
-use Rattle.std.specs.Prelude.{ℕ, zero, suc, ◌+◌, ◌*◌, Bool, ◌||◌, not, nat_lt, nat_le, ◌==◌, if◌then◌else◌, List, ◌++◌, length, take, drop, slice_index, slice_range, Option, Some, None, Result, Ok, Err}
+-- Captures: files in the classic libpcap format 2.4 (pcap-savefile). A capture is a file header of 24 bytes and then
+-- packet records to the end of the file. All numbers of a file have one byte order, which the magic number shows.
+use Rattle.std.specs.Prelude.{ℕ, zero, suc, ◌+◌, Bool, ◌||◌, not, nat_lt, nat_le, ◌==◌, if◌then◌else◌, List, ◌++◌, length, take, drop, map, slice_range, Option, Some, None, Result, Ok, Err}
+use Rattle.std.specs.Int.{w16, w32, from_le_bytes, from_be_bytes}
 use Rattle.std.specs.List.{flat_map}
+use Rattle.lq_model.specs.Numbers.{first_numbers}
 use Rattle.lq_model.specs.declared.capture.CaptureReason.{CaptureReason}
 use Rattle.lq_model.specs.declared.capture.CaptureReason.TheVariants.{ShortHeader, Magic, Version, CutRecordHeader, LongRecord, CutData, TooMany}
 
--- NUMBERS
+-- THE FILE HEADER
+--
+--   place  bytes  field
+--       0      4  magic number: 0xa1b2c3d4 (times in microseconds) or 0xa1b23c4d (in nanoseconds)
+--       4      2  major version, 2
+--       6      2  minor version, not tested
+--       8      4  time zone, not tested
+--      12      4  accuracy of the times, not tested
+--      16      4  snapshot length, not tested
+--      20      4  link type: 1 is Ethernet, 101 is raw IP; any number is accepted
 
--- the numbers of four and of two bytes at a place, the lowest byte first or the highest
-abbrev pub low_first_4 : List ℕ → ℕ → ℕ
-low_first_4 bytes p =
-    slice_index bytes p + 256 * (slice_index bytes (p + 1) + 256 * (slice_index bytes (p + 2) + 256 * slice_index bytes (p + 3)))
-
-abbrev pub high_first_4 : List ℕ → ℕ → ℕ
-high_first_4 bytes p =
-    slice_index bytes (p + 3) + 256 * (slice_index bytes (p + 2) + 256 * (slice_index bytes (p + 1) + 256 * slice_index bytes p))
-
-abbrev pub low_first_2 : List ℕ → ℕ → ℕ
-low_first_2 bytes p = slice_index bytes p + 256 * slice_index bytes (p + 1)
-
-abbrev pub high_first_2 : List ℕ → ℕ → ℕ
-high_first_2 bytes p = slice_index bytes (p + 1) + 256 * slice_index bytes p
-
--- of microseconds, of nanoseconds
 abbrev pub is_magic : ℕ → Bool
-is_magic n = (n == 2712847316) || (n == 2712812621)
+is_magic n = (n == 0xa1b2_c3d4) || (n == 0xa1b2_3c4d)
 
--- the first number is a magic number in the first order; else the order is the second
-abbrev pub is_low_first : List ℕ → Bool
-is_low_first bytes = is_magic (low_first_4 bytes 0)
+-- the byte order is the one in which the first four bytes are a magic number
+abbrev pub is_little_endian : List ℕ → Bool
+is_little_endian bytes = is_magic (from_le_bytes w32 (slice_range bytes 0 4))
 
-abbrev pub number_at : List ℕ → ℕ → ℕ
-number_at bytes p = if is_low_first bytes then low_first_4 bytes p else high_first_4 bytes p
+abbrev pub is_big_endian : List ℕ → Bool
+is_big_endian bytes = is_magic (from_be_bytes w32 (slice_range bytes 0 4))
 
-abbrev pub major_of : List ℕ → ℕ
-major_of bytes = if is_low_first bytes then low_first_2 bytes 4 else high_first_2 bytes 4
+-- the number of four bytes at a place, and of two
+unfoldable pub number_at : List ℕ → ℕ → ℕ
+number_at bytes place =
+    if is_little_endian bytes then from_le_bytes w32 (slice_range bytes place (place + 4)) else from_be_bytes w32 (slice_range bytes place (place + 4))
 
--- RECORDS
+unfoldable pub short_number_at : List ℕ → ℕ → ℕ
+short_number_at bytes place =
+    if is_little_endian bytes then from_le_bytes w16 (slice_range bytes place (place + 2)) else from_be_bytes w16 (slice_range bytes place (place + 2))
 
--- the captured length that a record at this place has
-unfoldable pub captured_at : List ℕ → ℕ → ℕ
-captured_at bytes p = number_at bytes (p + 8)
+abbrev pub major_version : List ℕ → ℕ
+major_version bytes = short_number_at bytes 4
 
--- where the record at this place ends
+-- A PACKET RECORD
+--
+--   place  bytes  field
+--       0      4  seconds, not interpreted
+--       4      4  microseconds or nanoseconds, not interpreted
+--       8      4  captured length, at most 262,144
+--      12      4  length on the wire, not interpreted
+--      16         the captured bytes of the packet
+
+-- the captured length of the record that begins at a place
+abbrev pub captured_length : List ℕ → ℕ → ℕ
+captured_length bytes place = number_at bytes (place + 8)
+
+-- where that record ends
 abbrev pub end_of : List ℕ → ℕ → ℕ
-end_of bytes p = p + 16 + captured_at bytes p
+end_of bytes place = place + 16 + captured_length bytes place
 
--- the chain of places: 24, and then where the record at each place ends
+-- where record i begins: the first behind the file header, each other where the one before it ends
 abbrev pub place_of : List ℕ → ℕ → ℕ
 place_of bytes zero = 24
 place_of bytes (suc i) = end_of bytes (place_of bytes i)
 
--- what is wrong with the record at this place
+-- what keeps the record at a place from being whole, by the first test that it fails
 abbrev pub record_fault : List ℕ → ℕ → Option CaptureReason
-record_fault bytes p =
-    if nat_lt (length bytes) (p + 16) then Some CutRecordHeader
-    else if nat_lt 262144 (captured_at bytes p) then Some LongRecord
-    else if nat_lt (length bytes) (end_of bytes p) then Some CutData else None
+record_fault bytes place =
+    if nat_lt (length bytes) (place + 16) then Some CutRecordHeader
+    else if nat_lt 262144 (captured_length bytes place) then Some LongRecord
+    else if nat_lt (length bytes) (end_of bytes place) then Some CutData else None
 
--- a reason and a place
+-- WHICH BYTES ARE A CAPTURE
+
+-- why bytes are no capture, and the place that shows it
 pub record Refusal : Type 0 where
   pub reason : CaptureReason
   pub place : ℕ
 
-abbrev pub unless_faulty : Option CaptureReason → ℕ → Result ℕ Refusal → Result ℕ Refusal
-unless_faulty None p rest = rest
-unless_faulty (Some reason) p rest = Err (record { reason = reason; place = p })
+abbrev pub refused : {T : Type 0} → CaptureReason → ℕ → Result T Refusal
+refused reason place = Err (record { reason = reason; place = place })
 
--- How many records there are, where i were read and at most n more may come; or the first fault.
+-- the answer where the record at this place has this fault, or else goes on
+abbrev pub refused_if : Option CaptureReason → ℕ → Result ℕ Refusal → Result ℕ Refusal
+refused_if None place rest = rest
+refused_if (Some reason) place rest = refused reason place
+
+-- How many whole records there are up to the end of the file, if the first i are whole and at most `more` may follow
+-- them; or else the first record that is not whole, or is one too many.
 unfoldable pub count_from : List ℕ → ℕ → ℕ → Result ℕ Refusal
-count_from bytes zero i = if nat_le (length bytes) (place_of bytes i) then Ok i else Err (record { reason = TooMany; place = place_of bytes i })
-count_from bytes (suc n) i =
+count_from bytes zero i = if nat_le (length bytes) (place_of bytes i) then Ok i else refused TooMany (place_of bytes i)
+count_from bytes (suc more) i =
     if nat_le (length bytes) (place_of bytes i) then Ok i
-    else unless_faulty (record_fault bytes (place_of bytes i)) (place_of bytes i) (count_from bytes n (suc i))
+    else refused_if (record_fault bytes (place_of bytes i)) (place_of bytes i) (count_from bytes more (suc i))
 
--- CAPTURES
-
--- a capture: its bytes, and how many records they have
+-- a capture: the bytes of its file, and how many records they have
 pub record Capture : Type 0 where
   pub bytes : List ℕ
   pub count : ℕ
 
 abbrev pub with_count : List ℕ → Result ℕ Refusal → Result Capture Refusal
-with_count bytes (Ok n) = Ok (record { bytes = bytes; count = n })
-with_count bytes (Err e) = Err e
+with_count bytes (Ok count) = Ok (record { bytes = bytes; count = count })
+with_count bytes (Err refusal) = Err refusal
 
--- the capture that the bytes are, or the first test that they fail and where
+-- the capture that the bytes are, or the first test that they fail; a capture has at most 1,000,000 records
 abbrev pub capture_of : List ℕ → Result Capture Refusal
 capture_of bytes =
-    if nat_lt (length bytes) 24 then Err (record { reason = ShortHeader; place = length bytes })
-    else if not (is_low_first bytes || is_magic (high_first_4 bytes 0)) then Err (record { reason = Magic; place = 0 })
-    else if not (major_of bytes == 2) then Err (record { reason = Version; place = 4 })
+    if nat_lt (length bytes) 24 then refused ShortHeader (length bytes)
+    else if not (is_little_endian bytes || is_big_endian bytes) then refused Magic 0
+    else if not (major_version bytes == 2) then refused Version 4
     else with_count bytes (count_from bytes 1000000 0)
 
--- its first 24 bytes; a record with its header, and without
+-- WHAT A CAPTURE HAS
+
 abbrev pub header_of : Capture → List ℕ
 header_of c = take 24 c.bytes
 
+abbrev pub link_of : Capture → ℕ
+link_of c = number_at c.bytes 20
+
+-- record i, with its header
 abbrev pub record_of : Capture → ℕ → List ℕ
 record_of c i = slice_range c.bytes (place_of c.bytes i) (place_of c.bytes (suc i))
 
+abbrev pub records_of : Capture → List (List ℕ)
+records_of c = map (record_of c) (first_numbers c.count)
+
+-- the packet that record i holds
 abbrev pub frame_of : Capture → ℕ → List ℕ
 frame_of c i = drop 16 (record_of c i)
 
--- the text of a capture with these records of another
+-- the capture with the same header and these records, in the order of the list
 abbrev pub capture_text : Capture → List ℕ → List ℕ
 capture_text c packets = header_of c ++ flat_map (record_of c) packets

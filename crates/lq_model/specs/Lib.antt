@@ -1,6 +1,22 @@
+-- lists of numbers that several definitions use
+pub mod Numbers
 -- which bytes are a capture, and the capture written for a list of packets
 pub mod Capture
+-- the capture that a number and a count generate
+pub mod Generated
+-- the class of a frame
+pub mod Class
+-- a band's packets, and when it is full
+pub mod Band
 -- fates and counts as texts
 pub mod Texts
 -- the packets that a unit sent, in order of serial
 pub mod Sent
+-- the machine of the run lock: words and bits, packets and seats
+pub mod Machine
+-- its steps and starts
+pub mod Steps
+-- the steps of control
+pub mod Control
+-- what holds at every moment, and the quiet machine
+pub mod Kept

@@ -1,6 +1,7 @@
 -- The packets that a unit sent, read off a list of fates in which packet n has the n-th.
 use Rattle.std.specs.Prelude.{ℕ, ◌+◌, Bool, false, ◌&&◌, ◌==◌, if◌then◌else◌, List, [], ◌∷◌, map, count_by}
-use Rattle.lq_model.specs.Texts.{first_numbers, is_sent_by}
+use Rattle.lq_model.specs.Numbers.{first_numbers}
+use Rattle.lq_model.specs.Texts.{is_sent_by}
 use Rattle.lq_model.specs.declared.fate.Fate.{Fate}
 use Rattle.lq_model.specs.declared.fate.Fate.TheVariants.{Sent, Full, Shrunk, Purged, Refused}
 

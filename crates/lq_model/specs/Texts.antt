@@ -1,16 +1,12 @@
 -- The lines that tell what became of the packets.
-use Rattle.std.specs.Prelude.{ℕ, zero, suc, ◌+◌, Bool, true, false, ◌&&◌, ◌==◌, List, [], ◌∷◌, ◌++◌, length, count_by, codes}
+use Rattle.std.specs.Prelude.{ℕ, ◌+◌, Bool, true, false, ◌&&◌, ◌==◌, List, [], ◌∷◌, ◌++◌, length, count_by, codes}
 use Rattle.std.specs.List.{flat_map, zip}
 use Rattle.std.specs.Fmt.{decimal}
+pub use Rattle.lq_model.specs.Numbers.{first_numbers}
 use Rattle.lq_model.specs.declared.fate.Info.{Info}
 use Rattle.lq_model.specs.declared.fate.Cause.TheVariants.{Event, Hung}
 use Rattle.lq_model.specs.declared.fate.Fate.{Fate}
 use Rattle.lq_model.specs.declared.fate.Fate.TheVariants.{Sent, Full, Shrunk, Purged, Refused}
-
--- the numbers below n
-abbrev pub first_numbers : ℕ → List ℕ
-first_numbers zero = []
-first_numbers (suc n) = first_numbers n ++ n ∷ []
 
 -- FATES
 

@@ -2,11 +2,17 @@
 //! crates cite. `docs/RULES.md` and `docs/FORMATS.md` say the same in words, in the same order.
 #![tactic(auto)]
 
+mod band;
 mod capture;
 mod fate;
+mod machine;
 
+pub use band::batch;
 pub use capture::CaptureReason;
 pub use fate::{Cause, Fate, Info};
+pub use machine::{
+    Answer, Attempt, Beginning, Blocked, Call, ControlStep, Packet, Phase, Position, Seat,
+};
 
 /// Want of memory.
 #[derive(Clone, Copy, Debug, PartialEq, Eq)]

@@ -1,0 +1,63 @@
+-- The capture that a number and a count generate: little-endian, with microseconds, and `count` records of an IPv4
+-- packet in an Ethernet frame of 34 bytes, whose type of service and addresses vary with the number.
+use Rattle.std.specs.Prelude.{ℕ, ◌+◌, ◌*◌, ◌/◌, ◌%◌, List, [], ◌∷◌, ◌++◌}
+use Rattle.std.specs.Int.{w16, w32, to_le_bytes, to_be_bytes}
+use Rattle.std.specs.List.{flat_map}
+use Rattle.lq_model.specs.Numbers.{first_numbers}
+
+-- the file header: microseconds, version 2.4, a snapshot length of 262,144, Ethernet
+abbrev pub generated_header : List ℕ
+generated_header =
+    to_le_bytes w32 0xa1b2_c3d4 ++ to_le_bytes w16 2 ++ to_le_bytes w16 4 ++ to_le_bytes w32 0 ++ to_le_bytes w32 0
+    ++ to_le_bytes w32 262144 ++ to_le_bytes w32 1
+
+-- what varies from packet to packet
+abbrev pub spread : ℕ → ℕ → ℕ
+spread number i = (number + 40503 * i) % 65536
+
+abbrev pub generated_type_of_service : ℕ → ℕ → ℕ
+generated_type_of_service number i = 2 * (spread number i % 16)
+
+-- the last bytes of the addresses
+abbrev pub generated_source : ℕ → ℕ → ℕ
+generated_source number i = (spread number i / 16) % 256
+
+abbrev pub generated_destination : ℕ → ℕ
+generated_destination i = i % 256
+
+--   place  bytes  field of the frame
+--       0      6  destination: 02:00:00:00:00:02
+--       6      6  source: 02:00:00:00:00:01
+--      12      2  EtherType: IPv4
+--      14      1  version 4, a header of five words
+--      15      1  type of service
+--      16      2  total length: 20
+--      18      2  identification: i
+--      20      2  flags and fragment offset: 0
+--      22      2  time to live 64, protocol 253 (experiments)
+--      24      2  checksum: none is made
+--      26      4  source: 10.0.0.s
+--      30      4  destination: 10.0.1.d
+abbrev pub generated_frame : ℕ → ℕ → List ℕ
+generated_frame number i =
+    (2 ∷ 0 ∷ 0 ∷ 0 ∷ 0 ∷ 2 ∷ [])
+    ++ (2 ∷ 0 ∷ 0 ∷ 0 ∷ 0 ∷ 1 ∷ [])
+    ++ (8 ∷ 0 ∷ [])
+    ++ (0x45 ∷ [])
+    ++ (generated_type_of_service number i ∷ [])
+    ++ (0 ∷ 20 ∷ [])
+    ++ to_be_bytes w16 (i % 65536)
+    ++ (0 ∷ 0 ∷ [])
+    ++ (64 ∷ 253 ∷ [])
+    ++ (0 ∷ 0 ∷ [])
+    ++ (10 ∷ 0 ∷ 0 ∷ generated_source number i ∷ [])
+    ++ (10 ∷ 0 ∷ 1 ∷ generated_destination i ∷ [])
+
+-- a packet each millisecond; the captured length and the length on the wire are those of the frame
+abbrev pub generated_record : ℕ → ℕ → List ℕ
+generated_record number i =
+    to_le_bytes w32 (i / 1000) ++ to_le_bytes w32 ((i % 1000) * 1000) ++ to_le_bytes w32 34 ++ to_le_bytes w32 34
+    ++ generated_frame number i
+
+unfoldable pub generated_capture : ℕ → ℕ → List ℕ
+generated_capture number count = generated_header ++ flat_map (generated_record number) (first_numbers count)
