@@ -1,12 +1,12 @@
 -- The chain of places of a capture's records.
-use Rattle.std.proofs.Common.{◌≡◌, ◌<◌, ◌≤◌, ◌+◌, ◌-◌, ◌++◌, ◌∷◌, [], ℕ, zero, suc, Bool, true, false, cond, List, length, Option, Some, None, Result, Ok, Err, refl, sym, ap, ◌∙◌, subst, length-append, add-one, arith, rules, inl, inr, nat_lt, nat_le, eqb, get_or, below_more}
+use Rattle.std.proofs.Common.{◌≡◌, ◌<◌, ◌≤◌, ◌+◌, ◌-◌, ◌++◌, ◌∷◌, [], ℕ, zero, suc, List, length, Some, None, Ok, Err, refl, sym, ap, ◌∙◌, subst, length-append, arith, inl, inr, get_or}
 use Rattle.std.proofs.lemmas.Bool.{le-leb, lt-leb}
 use Rattle.std.proofs.lemmas.Bool.{cases_eq}
 use Rattle.std.proofs.lemmas.List.{get_or_append_left, get_or_push}
-use Rattle.lq_model.specs.Capture.{place_of, end_of, captured_at, record_fault, count_from, Refusal, unless_faulty}
+use Rattle.lq_model.specs.Capture.{place_of, end_of, record_fault, count_from}
 use Rattle.lq_model.specs.declared.capture.CaptureReason.{CaptureReason}
 use Rattle.lq_model.specs.declared.capture.CaptureReason.TheVariants.{TooMany}
-use Rattle.lq_pcap.specs.Answers.{ArePlaces}
+use Rattle.lq_pcap.specs.Reading.{ArePlaces}
 
 -- at the end of the file the count is told
 pub count_ends : (bytes : List ℕ) (n i : ℕ) → length bytes ≤ place_of bytes i → count_from bytes n i ≡ Ok i
