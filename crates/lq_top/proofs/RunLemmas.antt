@@ -1,9 +1,11 @@
 -- What a run leaves, from what its calls leave.
 use Rattle.std.proofs.Common.{◌≡◌, ◌⊎◌, ◌<◌, ◌≤◌, ℕ, Bool, true, List, [], ◌∷◌, length, take, slice_get, Option, Some, None, Result, Ok, Err, IfSome, refl, sym, ap, ◌∙◌, subst, inl, inr, arith}
+use Rattle.std.specs.Option.{option_map}
 use Rattle.lq_model.specs.Capture.{Capture, Refusal, capture_text}
-use Rattle.lq_model.specs.Texts.{first_numbers, counts_text}
+use Rattle.lq_model.specs.Numbers.{first_numbers}
+use Rattle.lq_model.specs.Texts.{counts_text}
 use Rattle.lq_model.specs.Sent.{sent_of}
-use Rattle.lq_host.specs.Host.{HostState, Contents, filed, wrote, bytes_of}
+use Rattle.lq_host.specs.Host.{HostState, Contents, filed, wrote}
 use Rattle.lq_top.specs.Headline.{Run, plain_run, plain_infos, all_sent, capture_name, unit_file, texts_of, IsRun, HasRun}
 use Rattle.lq_top.specs.Written.{FileText, FileHasPrefix, OutputHasPrefix, written}
 use Rattle.lq_top.specs.Outcome.{Verdict, Runs, Stops, EndsOrStops, verdict_of_run, by_plan, by_capture, is_built_plan, limited_capture_of}
@@ -51,8 +53,7 @@ pub stopped_in_file :
     (out : List ℕ) (capture : Capture) (s new : HostState) (name text : List ℕ) → name ≡ capture_name out 0 → text ≡ capture_text capture (first_numbers capture.count)
     → (new ≡ s) ⊎ FileHasPrefix name text s new → Stops (Runs (plain_run out capture)) s new
 stopped_in_file out capture s new name text named texted cut =
-    let file = sent_file out capture in
-    (
+    let file = sent_file out capture in (
       all_sent capture.count,
       refl,
       elim cut [
@@ -69,8 +70,7 @@ pub stopped_in_counts :
     → Stops (Runs (plain_run out capture)) s new
 stopped_in_counts out capture s mid new name text counts named texted counted filed_is part =
     let file = sent_file out capture in
-    let mid_is : mid ≡ filed s file.name file.text = made s mid name text file.name file.text named (sent_text capture text texted) filed_is in
-    (
+    let mid_is : mid ≡ filed s file.name file.text = made s mid name text file.name file.text named (sent_text capture text texted) filed_is in (
       all_sent capture.count,
       refl,
       inr (inr (inr (subst (λ (t : List ℕ). OutputHasPrefix t (filed s file.name file.text) new) counted (subst (λ (m : HostState). OutputHasPrefix counts m new) mid_is part)))),
@@ -79,11 +79,11 @@ stopped_in_counts out capture s mid new name text counts named texted counted fi
 -- what was done as the run of a capture was decided so
 pub does_run :
     (told : Option Contents) (words : RunWords) (capture : Capture) (old new : HostState) (accepted : List (List ℕ)) (r : Result Status Stop) (built : Bool) (read : Result Capture Refusal) → built ≡ true
-    → read ≡ Ok capture → IfSome told (λ c. built ≡ is_built_plan (bytes_of c.files words.plan))
-    → IfSome told (λ c. read ≡ limited_capture_of (bytes_of c.files words.capture)) → EndsOrStops (Runs (plain_run words.out capture)) old new accepted r
+    → read ≡ Ok capture → IfSome told (λ c. option_map is_built_plan (c.files words.plan) ≡ Some built)
+    → IfSome told (λ c. option_map limited_capture_of (c.files words.capture) ≡ Some read) → EndsOrStops (Runs (plain_run words.out capture)) old new accepted r
     → IfSome told (λ c. EndsOrStops (verdict_of_run words c.files) old new accepted r)
 does_run None words capture old new accepted r built read is_built is_read plan form does = _
 does_run (Some c) words capture old new accepted r built read is_built is_read plan form does =
     let decided : verdict_of_run words c.files ≡ Runs (plain_run words.out capture) =
-    ap (λ b. by_plan b (by_capture words.out (limited_capture_of (bytes_of c.files words.capture)))) (sym plan ∙ is_built) ∙ ap (by_capture words.out) (sym form ∙ is_read) in
+    ap (λ b. by_plan b (by_capture words.out (option_map limited_capture_of (c.files words.capture)))) (plan ∙ ap Some is_built) ∙ ap (by_capture words.out) (form ∙ ap Some is_read) in
     subst (λ (v : Verdict). EndsOrStops v old new accepted r) (sym decided) does

@@ -6,7 +6,7 @@ use Rattle.lq_device.specs.declared.device.Params.{Params}
 use Rattle.lq_device.specs.declared.device.Tx.{Tx}
 use Rattle.lq_device.specs.declared.device.Tx.TheVariants.{Sent}
 use Rattle.lq_top.specs.Sending.{IsPlain, HasSent}
-use Rattle.lq_model.specs.Texts.{first_numbers}
+use Rattle.lq_model.specs.Numbers.{first_numbers}
 
 -- its answer is Sent
 plain_answer : (t : Telling) (n : ℕ) → IsPlain t.params → answer_of t n ≡ Sent

@@ -8,7 +8,8 @@ use Rattle.std.proofs.lemmas.Bool.{cases_lt, ne_eqb}
 use Rattle.std.specs.Fmt.{decimal}
 use Rattle.std.proofs.lemmas.Fmt.{decimal_digit}
 use Rattle.lq_model.specs.Capture.{Capture, capture_text, header_of, record_of}
-use Rattle.lq_model.specs.Texts.{first_numbers, counts_text, is_sent, is_sent_by, is_full, is_shrunk, is_purged, is_refused, unit_line, station_line, total_line, unsent_words, count_at}
+use Rattle.lq_model.specs.Numbers.{first_numbers}
+use Rattle.lq_model.specs.Texts.{counts_text, is_sent, is_sent_by, is_full, is_shrunk, is_purged, is_refused, unit_line, station_line, total_line, unsent_words, count_at}
 use Rattle.lq_model.specs.declared.fate.Fate.{Fate}
 use Rattle.lq_model.specs.declared.fate.Fate.TheVariants.{Sent}
 use Rattle.lq_model.specs.declared.fate.Info.{Info}
@@ -112,10 +113,10 @@ found_later test [] ys e = omega arith
 found_later test (x ∷ xs) ys e =
     let P : Bool → Type 0 = λ b. cond b 0 (first_passing test xs + 1) ≡ suc (length xs) → cond b 0 (first_passing test (xs ++ ys) + 1) ≡ suc (length xs) + first_passing test ys in
     let both : (b : Bool) → P b =
-        λ b. elim b as P [
-          | true ↦ (λ h. absurd (omega arith))
-          | false ↦ (λ h. (let none : first_passing test xs ≡ length xs = omega arith in let later : first_passing test (xs ++ ys) ≡ length xs + first_passing test ys = found_later test xs ys none in omega arith))
-        ]
+    λ b. elim b as P [
+      | true ↦ (λ h. absurd (omega arith))
+      | false ↦ (λ h. (let none : first_passing test xs ≡ length xs = omega arith in let later : first_passing test (xs ++ ys) ≡ length xs + first_passing test ys = found_later test xs ys none in omega arith))
+    ]
     in
     both (test x) e
 
@@ -146,7 +147,7 @@ first_is (suc n) k lt =
           let same : n ≡ k = omega arith in
           let last : first_passing test (Sent 0 n ∷ []) ≡ 0 = rw (eq-eqb n k same) refl in
           found_later test (all_sent n) (Sent 0 n ∷ []) (none_below n k above ∙ sym all) ∙ (omega arith)
-        )
+          )
     ]
 
 same_map : (f : ℕ → ℕ) (n : ℕ) → ((k : ℕ) → k < n → f k ≡ k) → map f (first_numbers n) ≡ first_numbers n

@@ -2,7 +2,8 @@
 use Rattle.std.specs.Prelude.{◌≡◌, ◌<◌, ℕ, List, ◌++◌, length, map, slice_get, Some, codes}
 use Rattle.std.specs.Fmt.{decimal}
 use Rattle.lq_model.specs.Capture.{Capture, capture_text}
-use Rattle.lq_model.specs.Texts.{first_numbers, counts_text}
+use Rattle.lq_model.specs.Numbers.{first_numbers}
+use Rattle.lq_model.specs.Texts.{counts_text}
 use Rattle.lq_model.specs.Sent.{sent_of}
 use Rattle.lq_model.specs.declared.fate.Fate.{Fate}
 use Rattle.lq_model.specs.declared.fate.Fate.TheVariants.{Sent}

@@ -1,10 +1,11 @@
 -- What a call decides from its words and files, what it answers and what it leaves.
 use Rattle.std.specs.Prelude.{◌≡◌, ◌⊎◌, ◌<◌, ℕ, Bool, true, false, nat_lt, if◌then◌else◌, List, [], ◌∷◌, ◌++◌, length, Option, Some, None, Result, Ok, Err, codes}
+use Rattle.std.specs.Option.{option_map}
 use Rattle.std.specs.Str.{bytes_eq}
 use Rattle.lq_model.specs.Capture.{Capture, Refusal, capture_of}
 use Rattle.lq_model.specs.declared.capture.CaptureReason.TheVariants.{TooLong}
 use Rattle.lq_model.specs.declared.fate.Fate.{Fate}
-use Rattle.lq_host.specs.Host.{Files, bytes_of, HostState, Rose}
+use Rattle.lq_host.specs.Host.{Files, HostState}
 use Rattle.lq_top.specs.Written.{output_only, written, IsCut}
 use Rattle.lq_top.specs.Headline.{Run, plain_run, IsSettled, texts_of, HasRun}
 use Rattle.lq_top.specs.Command.{RunWords, command_of}
@@ -15,9 +16,10 @@ use Rattle.lq_top.specs.declared.stop.Stop.{Stop}
 
 -- THE DECISION
 
--- what a call is to do: tell how it is called, refuse a plan or a capture, or run a capture
+-- what a call is to do: tell how it is called, give up where a file isn't there, refuse a plan or a capture, or run a capture
 pub data Verdict : Type 0 where
   TellsUsage : Verdict
+  LacksFile : Verdict
   RefusesPlan : Verdict
   RefusesCapture : Refusal → Verdict
   Runs : Run → Verdict
@@ -34,17 +36,19 @@ abbrev pub limited_capture_of : List ℕ → Result Capture Refusal
 limited_capture_of bytes = if nat_lt 67108864 (length bytes) then Err (record { reason = TooLong; place = 67108864 }) else capture_of bytes
 
 -- first the words are judged, then the plan, then the capture
-abbrev pub by_capture : List ℕ → Result Capture Refusal → Verdict
-by_capture out (Err refusal) = RefusesCapture refusal
-by_capture out (Ok capture) = Runs (plain_run out capture)
+abbrev pub by_capture : List ℕ → Option (Result Capture Refusal) → Verdict
+by_capture out None = LacksFile
+by_capture out (Some (Err refusal)) = RefusesCapture refusal
+by_capture out (Some (Ok capture)) = Runs (plain_run out capture)
 
-abbrev pub by_plan : Bool → Verdict → Verdict
-by_plan false verdict = RefusesPlan
-by_plan true verdict = verdict
+abbrev pub by_plan : Option Bool → Verdict → Verdict
+by_plan None verdict = LacksFile
+by_plan (Some false) verdict = RefusesPlan
+by_plan (Some true) verdict = verdict
 
 abbrev pub verdict_of_run : RunWords → Files → Verdict
 verdict_of_run words files =
-    by_plan (is_built_plan (bytes_of files words.plan)) (by_capture words.out (limited_capture_of (bytes_of files words.capture)))
+    by_plan (option_map is_built_plan (files words.plan)) (by_capture words.out (option_map limited_capture_of (files words.capture)))
 
 abbrev pub by_command : Option RunWords → Files → Verdict
 by_command None files = TellsUsage
@@ -61,9 +65,11 @@ usage_line = codes "usage: lqtx run PLAN CAPTURE OUT | lqtx gen NUMBER COUNT OUT
 abbrev pub plan_line : List ℕ
 plan_line = codes "not built: plan" ++ 10 ∷ []
 
--- what a call that came to its end answers and leaves: a refusal is a line on standard output and nothing else
+-- what a call that came to its end answers and leaves: a refusal is a line on standard output and nothing else; where a
+-- file isn't there no call comes to its end
 abbrev pub Ends : Verdict → HostState → HostState → List (List ℕ) → Status → Type 0
 Ends TellsUsage old new accepted answer = (answer ≡ status.Usage) × (new ≡ written (output_only usage_line) old)
+Ends LacksFile old new accepted answer = ⊥
 Ends RefusesPlan old new accepted answer = (answer ≡ status.NotBuilt) × (new ≡ written (output_only plan_line) old)
 Ends (RefusesCapture refusal) old new accepted answer =
     (answer ≡ status.Capture refusal.reason refusal.place) × (new ≡ written (output_only (capture_line refusal)) old)
@@ -72,6 +78,7 @@ Ends (Runs run) old new accepted answer = (answer ≡ status.Done) × HasRun run
 -- what a call leaves that was stopped by a fault or want of memory: a part of what it was to write
 abbrev pub Stops : Verdict → HostState → HostState → Type 0
 Stops TellsUsage old new = IsCut (output_only usage_line) old new
+Stops LacksFile old new = new ≡ old
 Stops RefusesPlan old new = IsCut (output_only plan_line) old new
 Stops (RefusesCapture refusal) old new = IsCut (output_only (capture_line refusal)) old new
 Stops (Runs run) old new = (fates : List Fate) × IsSettled run fates × IsCut (texts_of run fates) old new
@@ -92,17 +99,22 @@ EndsOrStops verdict old new accepted (Err stop) = Stops verdict old new
 
 -- THE CAUSES
 
+-- this answer comes, unless a fault or want of memory comes in its place
+abbrev pub ComesUnlessStopped : Status → Status → Type 0
+ComesUnlessStopped expected answer = (answer ≡ expected) ⊎ ((answer ≡ status.Fault) ⊎ (answer ≡ status.NoMemory))
+
 -- Usage comes exactly where the words are no command, unless a fault or want of memory comes in its place
 pub record TellsUsageFor (command : Option RunWords) (answer : Status) : Type 0 where
   pub only : answer ≡ status.Usage → command ≡ None
-  pub always : command ≡ None → (answer ≡ status.Usage) ⊎ ((answer ≡ status.Fault) ⊎ (answer ≡ status.NoMemory))
+  pub always : command ≡ None → ComesUnlessStopped status.Usage answer
 
--- a run whose words, plan and capture are accepted is done, unless a fault or want of memory comes in its place
-abbrev pub CompletesFor : Verdict → Status → Type 0
-CompletesFor (Runs run) answer = (answer ≡ status.Done) ⊎ ((answer ≡ status.Fault) ⊎ (answer ≡ status.NoMemory))
-CompletesFor TellsUsage answer = Unit {0}
-CompletesFor RefusesPlan answer = Unit {0}
-CompletesFor (RefusesCapture refusal) answer = Unit {0}
+-- the answer that a decision leads to
+abbrev pub IsAnswerOf : Verdict → Status → Type 0
+IsAnswerOf TellsUsage answer = ComesUnlessStopped status.Usage answer
+IsAnswerOf LacksFile answer = ComesUnlessStopped status.Fault answer
+IsAnswerOf RefusesPlan answer = ComesUnlessStopped status.NotBuilt answer
+IsAnswerOf (RefusesCapture refusal) answer = ComesUnlessStopped (status.Capture refusal.reason refusal.place) answer
+IsAnswerOf (Runs run) answer = ComesUnlessStopped status.Done answer
 
 -- a refusal
 abbrev pub refuses : Status → Bool

@@ -1,6 +1,6 @@
 //! The capture that a file is, or why it is refused.
-ghost use Rattle.std.specs.Prelude.{◌≡◌, ◌≢◌, ◌≤◌, Err, vec_len, IfOk, IfSome};
-ghost use Rattle.lq_host.specs.Host.{bytes_of};
+ghost use Rattle.std.specs.Prelude.{◌≡◌, ◌≢◌, ◌≤◌, Err, vec_len, IfOk, IfSome, Some};
+ghost use Rattle.std.specs.Option.{option_map};
 ghost use Rattle.lq_top.specs.Outcome.{limited_capture_of};
 ghost use Rattle.lq_top.specs.Refusal.{seen};
 ghost use Rattle.lq_top.specs.Stop.{StopsFor};
@@ -40,7 +40,7 @@ pub fn read_capture_file<H: Host>(
     host: &mut H,
     name: &str,
 ) -> Result<Result<Capture, Refusal>, Stop>
-    ensures capture { IfOk result (λ read. IfSome (H.state host.old).told (λ c. seen read ≡ limited_capture_of (bytes_of c.files name.now))) }
+    ensures capture { IfOk result (λ read. IfSome (H.state host.old).told (λ c. option_map limited_capture_of (c.files name.now) ≡ Some (seen read))) }
     ensures same { H.state host.new ≡ H.state host.old }
     ensures cause { StopsFor (H.fault_count host.old) (H.fault_count host.new) result }
 {

@@ -1,7 +1,7 @@
 //! A file, read to its end.
-ghost use Rattle.std.specs.Prelude.{◌≡◌, ◌<◌, length, vec_len, IfOk, OnOk, IfSome, IsSome};
-ghost use Rattle.lq_host.specs.Host.{IsReader, bytes_of, closed, left};
-ghost use Rattle.lq_top.specs.Input.{IsInput, IsWithin};
+ghost use Rattle.std.specs.Prelude.{◌≡◌, ◌<◌, length, vec_len, IfOk, IfSome};
+ghost use Rattle.lq_host.specs.Host.{IsReader, closed, left};
+ghost use Rattle.lq_top.specs.Input.{IsInput, IsInputOf, IsWithin};
 ghost use Rattle.lq_top.specs.Stop.{StopsFor};
 
 use crate::stop::Stop;
@@ -59,9 +59,8 @@ pub fn read_file<H: Host>(
     name: &str,
     limit: usize,
 ) -> Result<Input, Stop>
-    ensures input { IfOk result (λ input. IfSome (H.state host.old).told (λ c. IsInput limit (bytes_of c.files name.now) input)) }
+    ensures input { IfOk result (λ input. IfSome (H.state host.old).told (λ c. IsInputOf limit (c.files name.now) input)) }
     ensures within { IfOk result (IsWithin limit) }
-    ensures there { OnOk result (IfSome (H.state host.old).told (λ c. IsSome (c.files name.now))) }
     ensures same { H.state host.new ≡ H.state host.old }
     ensures cause { StopsFor (H.fault_count host.old) (H.fault_count host.new) result }
 {

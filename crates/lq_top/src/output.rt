@@ -29,6 +29,7 @@ fn write_text<H: Host>(host: &mut H, h: u32, text: &[u8]) -> Result<(), Stop>
 
 /// Makes a file of a text. Where it stops, the file is as before, or has a prefix of the text.
 pub fn write_file<H: Host>(host: &mut H, name: &str, text: &[u8]) -> Result<(), Stop>
+    ensures handles { (H.state host.new).handles ≡ (H.state host.old).handles }
     ensures ok { OnOk result (H.state host.new ≡ filed (H.state host.old) name.now text.now) }
     ensures err { OnErr result ((H.state host.new ≡ H.state host.old) ⊎ FileHasPrefix name.now text.now (H.state host.old) (H.state host.new)) }
     ensures cause { StopsFor (H.fault_count host.old) (H.fault_count host.new) result }
@@ -42,7 +43,8 @@ pub fn write_file<H: Host>(host: &mut H, name: &str, text: &[u8]) -> Result<(), 
 }
 
 /// Writes a text to standard output.
-pub fn say<H: Host>(host: &mut H, text: &[u8]) -> Result<(), Stop>
+pub fn write_output<H: Host>(host: &mut H, text: &[u8]) -> Result<(), Stop>
+    ensures handles { (H.state host.new).handles ≡ (H.state host.old).handles }
     ensures ok { OnOk result (H.state host.new ≡ wrote (H.state host.old) 0 text.now) }
     ensures err { OnErr result (OutputHasPrefix text.now (H.state host.old) (H.state host.new)) }
     ensures cause { StopsFor (H.fault_count host.old) (H.fault_count host.new) result }

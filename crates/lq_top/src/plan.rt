@@ -1,6 +1,6 @@
 //! The plan: one station, with every key left out.
-ghost use Rattle.std.specs.Prelude.{◌≡◌, IfOk, IfSome};
-ghost use Rattle.lq_host.specs.Host.{bytes_of};
+ghost use Rattle.std.specs.Prelude.{◌≡◌, IfOk, IfSome, Some};
+ghost use Rattle.std.specs.Option.{option_map};
 ghost use Rattle.lq_top.specs.Outcome.{is_built_plan};
 ghost use Rattle.lq_top.specs.Stop.{StopsFor};
 
@@ -22,7 +22,7 @@ fn is_plan(bytes: &[u8]) -> bool
 
 /// Whether a file is the one plan that is built. A longer file isn't.
 pub fn has_built_plan<H: Host>(alloc: Global, host: &mut H, name: &str) -> Result<bool, Stop>
-    ensures plan { IfOk result (λ built. IfSome (H.state host.old).told (λ c. built ≡ is_built_plan (bytes_of c.files name.now))) }
+    ensures plan { IfOk result (λ built. IfSome (H.state host.old).told (λ c. option_map is_built_plan (c.files name.now) ≡ Some built)) }
     ensures same { H.state host.new ≡ H.state host.old }
     ensures cause { StopsFor (H.fault_count host.old) (H.fault_count host.new) result }
 {

@@ -1,6 +1,6 @@
 //! Packets through a device.
 ghost use Rattle.std.specs.Prelude.{◌≡◌, ◌<◌, map, drop, slice_get, Some, IsSome, false, vec_len, OnOk};
-ghost use Rattle.lq_model.specs.Texts.{first_numbers};
+ghost use Rattle.lq_model.specs.Numbers.{first_numbers};
 ghost use Rattle.lq_top.specs.Sending.{IsReady};
 
 use crate::gate::Gate;

@@ -1,7 +1,8 @@
 //! The texts of a run, in which one unit sends all packets in ascending number, and the line of a refusal.
 ghost use Rattle.std.specs.Prelude.{◌≡◌, IfOk, string_bytes};
 ghost use Rattle.lq_model.specs.Capture.{capture_text};
-ghost use Rattle.lq_model.specs.Texts.{first_numbers, counts_text, unit_line, station_line, total_line};
+ghost use Rattle.lq_model.specs.Numbers.{first_numbers};
+ghost use Rattle.lq_model.specs.Texts.{counts_text, unit_line, station_line, total_line};
 ghost use Rattle.lq_top.specs.Headline.{capture_name, all_sent, plain_infos};
 ghost use Rattle.lq_top.specs.Refusal.{capture_line, reason_name, reason_number, refusal_of};
 

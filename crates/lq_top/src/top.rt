@@ -3,14 +3,14 @@ ghost use Rattle.std.specs.Prelude.{◌≡◌, ◌<◌, [], IfOk, OnOk, OnErr, I
 ghost use Rattle.lq_host.specs.Host.{Rose};
 ghost use Rattle.lq_top.specs.Command.{command_of, run_words, words_of};
 ghost use Rattle.lq_top.specs.Headline.{plain_run, HasRun};
-ghost use Rattle.lq_top.specs.Outcome.{CompletesFor, Ends, EndsOrStops, IsRunStatus, Outcome, RefusesCapture, Stops, TellsUsageFor, Runs, refuses, verdict_of, verdict_of_run};
+ghost use Rattle.lq_top.specs.Outcome.{EndsOrStops, IsAnswerOf, IsRunStatus, Outcome, RefusesCapture, Stops, TellsUsageFor, Runs, refuses, verdict_of, verdict_of_run};
 ghost use Rattle.lq_top.specs.Refusal.{refusal_of};
 ghost use Rattle.lq_top.specs.Stop.{StopsFor};
 
 use crate::capture::{Refusal, read_capture_file};
 use crate::command::{Run, read_words};
 use crate::gate::Gate;
-use crate::output::{say, write_file};
+use crate::output::{write_file, write_output};
 use crate::plan::has_built_plan;
 use crate::send::serve_first;
 use crate::status::Status;
@@ -44,6 +44,7 @@ fn run_capture<H: Host, G: Gate, D: TxDevice>(
     ensures err { OnErr result (Stops (Runs (plain_run out.now capture.now)) (H.state host.old) (H.state host.new)) }
     ensures others { drop 1 bench.new.items ≡ drop 1 bench.old.items }
     ensures len { vec_len bench.new ≡ vec_len bench.old }
+    ensures handles { (H.state host.new).handles ≡ (H.state host.old).handles }
     ensures cause { StopsFor (H.fault_count host.old) (H.fault_count host.new) result }
 {
     let count = capture.len() as u32;
@@ -52,17 +53,18 @@ fn run_capture<H: Host, G: Gate, D: TxDevice>(
     let text = text_of_sent(alloc, capture)?;
     let counts = text_of_counts(alloc, count)?;
     write_file(host, name.as_str(), &text)?;
-    say(host, counts.as_bytes())
+    write_output(host, counts.as_bytes())
 }
 
 /// Tells why a capture is refused.
 fn refuse_capture<H: Host>(alloc: Global, host: &mut H, refusal: Refusal) -> Result<Status, Stop>
     ensures does { EndsOrStops (RefusesCapture (refusal_of refusal)) (H.state host.old) (H.state host.new) [] result }
     ensures refused { IfOk result (λ answer. answer ≡ Status.Capture refusal.reason refusal.place) }
+    ensures handles { (H.state host.new).handles ≡ (H.state host.old).handles }
     ensures cause { StopsFor (H.fault_count host.old) (H.fault_count host.new) result }
 {
     let line = line_of_refusal(alloc, refusal)?;
-    say(host, line.as_bytes())?;
+    write_output(host, line.as_bytes())?;
     Ok(Status::Capture {
         reason: refusal.reason,
         place: refusal.place,
@@ -84,10 +86,11 @@ fn run_command<H: Host, G: Gate, D: TxDevice>(
     ensures others { drop 1 bench.new.items ≡ drop 1 bench.old.items }
     ensures len { vec_len bench.new ≡ vec_len bench.old }
     ensures refused { IfOk result (λ answer. refuses answer ≡ true → bench.new.items ≡ bench.old.items) }
+    ensures handles { (H.state host.new).handles ≡ (H.state host.old).handles }
     ensures cause { StopsFor (H.fault_count host.old) (H.fault_count host.new) result }
 {
     if !has_built_plan(alloc, host, words.plan)? {
-        say(host, PLAN_NOT_BUILT)?;
+        write_output(host, PLAN_NOT_BUILT)?;
         return Ok(Status::NotBuilt);
     }
     match read_capture_file(alloc, host, words.capture)? {
@@ -127,7 +130,10 @@ pub fn lqtx<R: Threads + Wait + Sync, H: Host, G: Gate, D: TxDevice>(
     // The causes.
     ensures usage { TellsUsageFor (command_of (words_of words.now)) result }
     ensures fault { result ≡ Status.Fault → Rose (H.fault_count host.old) (H.fault_count host.new) }
-    ensures complete { IfSome (H.state host.old).told (λ c. CompletesFor (verdict_of (words_of words.now) c.files) result) }
+    ensures complete { IfSome (H.state host.old).told (λ c. IsAnswerOf (verdict_of (words_of words.now) c.files) result) }
+
+    // No handle is left open, and none is closed.
+    ensures handles { (H.state host.new).handles ≡ (H.state host.old).handles }
 
     // The boxes of the bench.
     ensures len { vec_len bench.new ≡ vec_len bench.old }
@@ -135,7 +141,7 @@ pub fn lqtx<R: Threads + Wait + Sync, H: Host, G: Gate, D: TxDevice>(
     ensures refused { refuses result ≡ true → bench.new.items ≡ bench.old.items }
 {
     let Some(run) = read_words(words) else {
-        return match say(host, USAGE) {
+        return match write_output(host, USAGE) {
             Ok(()) => Status::Usage,
             Err(stop) => stop.status(),
         };

@@ -1,6 +1,6 @@
 use Rattle.std.proofs.Common.{◌≡◌}
 use Rattle.lq_model.specs.Capture.{capture_text}
-use Rattle.lq_model.specs.Texts.{first_numbers}
+use Rattle.lq_model.specs.Numbers.{first_numbers}
 use Rattle.lq_top.proofs.texts.text_of_sent.Given as goal
 
 -- the records so far were written
