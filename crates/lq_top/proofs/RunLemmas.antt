@@ -1,13 +1,13 @@
 -- What a run leaves, from what its calls leave.
-use Rattle.std.proofs.Common.{◌≡◌, ◌⊎◌, ◌<◌, ◌≤◌, ℕ, Bool, true, List, [], ◌∷◌, length, take, slice_get, Option, Some, None, Result, Ok, Err, IfSome, refl, sym, ap, ◌∙◌, subst, inl, inr, arith}
+use Rattle.std.proofs.Common.{◌≡◌, ◌⊎◌, ℕ, Bool, true, List, slice_get, Option, Some, None, Result, Ok, IfSome, refl, sym, ap, ◌∙◌, subst, inl, inr, arith}
 use Rattle.std.specs.Option.{option_map}
 use Rattle.lq_model.specs.Capture.{Capture, Refusal, capture_text}
 use Rattle.lq_model.specs.Numbers.{first_numbers}
 use Rattle.lq_model.specs.Texts.{counts_text}
 use Rattle.lq_model.specs.Sent.{sent_of}
 use Rattle.lq_host.specs.Host.{HostState, Contents, filed, wrote}
-use Rattle.lq_top.specs.Headline.{Run, plain_run, plain_infos, all_sent, capture_name, unit_file, texts_of, IsRun, HasRun}
-use Rattle.lq_top.specs.Written.{FileText, FileHasPrefix, OutputHasPrefix, written}
+use Rattle.lq_top.specs.Headline.{Run, plain_run, plain_infos, all_sent, capture_name, unit_file, IsRun, HasRun}
+use Rattle.lq_top.specs.Written.{FileText, FileHasPrefix, OutputHasPrefix}
 use Rattle.lq_top.specs.Outcome.{Verdict, Runs, Stops, EndsOrStops, verdict_of_run, by_plan, by_capture, is_built_plan, limited_capture_of}
 use Rattle.lq_top.specs.Command.{RunWords}
 use Rattle.lq_top.specs.declared.status.Status.{Status}

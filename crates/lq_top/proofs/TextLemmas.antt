@@ -1,5 +1,5 @@
 -- The texts of a run.
-use Rattle.std.proofs.Common.{◌≡◌, ◌<◌, ◌≤◌, ◌+◌, ◌-◌, ◌++◌, ◌∷◌, [], ℕ, zero, suc, Bool, true, false, cond, eqb, ◌&&◌, List, length, map, Option, Some, None, refl, sym, ap, ◌∙◌, subst, append_assoc, append-nil, length-append, add-one, arith, rules, codes, inl, inr, eq-eqb}
+use Rattle.std.proofs.Common.{◌≡◌, ◌<◌, ◌≤◌, ◌+◌, ◌++◌, ◌∷◌, [], ℕ, zero, suc, Bool, true, false, cond, eqb, ◌&&◌, List, length, map, refl, sym, ap, ◌∙◌, append_assoc, append-nil, length-append, add-one, arith, codes, inl, inr, eq-eqb}
 use Rattle.std.specs.Prelude.{count_by}
 use Rattle.std.specs.List.{flat_map, zip}
 use Rattle.std.proofs.lemmas.List.{map-append}
@@ -9,7 +9,7 @@ use Rattle.std.specs.Fmt.{decimal}
 use Rattle.std.proofs.lemmas.Fmt.{decimal_digit}
 use Rattle.lq_model.specs.Capture.{Capture, capture_text, header_of, record_of}
 use Rattle.lq_model.specs.Numbers.{first_numbers}
-use Rattle.lq_model.specs.Texts.{counts_text, is_sent, is_sent_by, is_full, is_shrunk, is_purged, is_refused, unit_line, station_line, total_line, unsent_words, count_at}
+use Rattle.lq_model.specs.Texts.{is_sent, is_sent_by, is_full, is_shrunk, is_purged, is_refused, unit_line, station_line, total_line, count_at}
 use Rattle.lq_model.specs.declared.fate.Fate.{Fate}
 use Rattle.lq_model.specs.declared.fate.Fate.TheVariants.{Sent}
 use Rattle.lq_model.specs.declared.fate.Info.{Info}

@@ -1,5 +1,5 @@
 -- The headline: what a run that is done leaves, told by one list of fates in which packet n has the n-th.
-use Rattle.std.specs.Prelude.{◌≡◌, ◌<◌, ℕ, List, ◌++◌, length, map, slice_get, Some, codes}
+use Rattle.std.specs.Prelude.{◌≡◌, ◌<◌, ℕ, List, ◌++◌, map, slice_get, Some, codes}
 use Rattle.std.specs.Fmt.{decimal}
 use Rattle.lq_model.specs.Capture.{Capture, capture_text}
 use Rattle.lq_model.specs.Numbers.{first_numbers}
