@@ -1,7 +1,7 @@
 //! The program: the top call over real files, standard output and the built-in bench.
 #![tactic(auto)]
 
-ghost use Rattle.std.specs.Prelude.{◌≡◌, ◌<◌, ◌≤◌, Some, OnOk, slice_get, vec_len};
+ghost use Rattle.std.specs.Prelude.{◌≡◌, ◌<◌, ◌≤◌, Some, IsSome, OnOk, slice_get, vec_len};
 
 use lq_device::{BenchDevice, TxDevice};
 use lq_host::FileHost;
@@ -35,10 +35,11 @@ fn words_of<R: Env + AllocGlobal>(rt: &R) -> Result<Vec<String>, u8> {
     }
 }
 
-/// Lays a device at a bench's end.
+/// Lays a device that tells its rule at a bench's end.
 fn add_device<D: TxDevice>(bench: &mut Vec<D>, device: D) -> Result<(), u8>
+    requires { IsSome (D.state device).told }
     ensures first { 0 < vec_len bench.old → slice_get bench.new.items 0 ≡ slice_get bench.old.items 0 }
-    ensures alone { OnOk result (vec_len bench.old ≡ 0 → slice_get bench.new.items 0 ≡ Some device) }
+    ensures tells { OnOk result (vec_len bench.old ≡ 0 → (d : D) → slice_get bench.new.items 0 ≡ Some d → IsSome (D.state d).told) }
     ensures more { OnOk result (0 < vec_len bench.new) }
     ensures kept { vec_len bench.old ≤ vec_len bench.new }
 {
