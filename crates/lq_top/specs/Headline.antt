@@ -8,6 +8,7 @@ use Rattle.lq_model.specs.Sent.{sent_of}
 use Rattle.lq_model.specs.declared.fate.Fate.{Fate}
 use Rattle.lq_model.specs.declared.fate.Fate.TheVariants.{Sent}
 use Rattle.lq_model.specs.declared.fate.Info.{Info}
+use Rattle.lq_device.specs.Device.{DeviceState}
 use Rattle.lq_host.specs.Host.{HostState}
 use Rattle.lq_top.specs.Written.{FileText, Texts, written}
 
@@ -56,6 +57,12 @@ texts_of run fates = record {
   files = map (unit_file run fates) (first_numbers run.units);
   output = counts_text fates run.infos run.stations run.units;
 }
+
+-- BOXES
+
+-- the packets that the device of each box accepted, where `state` is what is seen of a box
+abbrev pub accepted_by : {B : Type 0} → (B → DeviceState) → List B → List (List ℕ)
+accepted_by state boxes = map (λ box. (state box).accepted) boxes
 
 -- THE HEADLINE
 

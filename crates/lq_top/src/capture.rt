@@ -40,7 +40,8 @@ pub fn read_capture_file<H: Host>(
     host: &mut H,
     name: &str,
 ) -> Result<Result<Capture, Refusal>, Stop>
-    ensures capture { IfOk result (λ read. IfSome (H.state host.old).told (λ c. option_map limited_capture_of (c.files name.now) ≡ Some (seen read))) }
+    ensures capture { IfOk result (λ read. IfSome (H.state host.old).told (λ c.
+        option_map limited_capture_of (c.files name.now) ≡ Some (seen read))) }
     ensures same { H.state host.new ≡ H.state host.old }
     ensures cause { StopsFor (H.fault_count host.old) (H.fault_count host.new) result }
 {

@@ -35,7 +35,8 @@ fn read_rest<H: Host>(
 ) -> Result<Input, Stop>
     requires reader { IsReader ((H.state host.old).handles h) }
     requires room { 0 < length buffer.old }
-    ensures input { IfOk result (λ input. IfSome (left (H.state host.old) h) (λ bytes. IsInput limit bytes input)) }
+    ensures input { IfOk result (λ input.
+        IfSome (left (H.state host.old) h) (λ bytes. IsInput limit bytes input)) }
     ensures within { IfOk result (IsWithin limit) }
     ensures reader { IsReader ((H.state host.new).handles h) }
     ensures same { closed (H.state host.new) h ≡ closed (H.state host.old) h }
@@ -59,7 +60,8 @@ pub fn read_file<H: Host>(
     name: &str,
     limit: usize,
 ) -> Result<Input, Stop>
-    ensures input { IfOk result (λ input. IfSome (H.state host.old).told (λ c. IsInputOf limit (c.files name.now) input)) }
+    ensures input { IfOk result (λ input. IfSome (H.state host.old).told (λ c.
+        IsInputOf limit (c.files name.now) input)) }
     ensures within { IfOk result (IsWithin limit) }
     ensures same { H.state host.new ≡ H.state host.old }
     ensures cause { StopsFor (H.fault_count host.old) (H.fault_count host.new) result }

@@ -15,7 +15,8 @@ fn write_text<H: Host>(host: &mut H, h: u32, text: &[u8]) -> Result<(), Stop>
     requires { IsWriter ((H.state host.old).handles h) }
     ensures handles { (H.state host.new).handles ≡ (H.state host.old).handles }
     ensures ok { OnOk result (H.state host.new ≡ wrote (H.state host.old) h text.now) }
-    ensures err { OnErr result ((n : ℕ) × (n ≤ length text.now) × (H.state host.new ≡ wrote (H.state host.old) h (take n text.now))) }
+    ensures err { OnErr result ((n : ℕ) × (n ≤ length text.now)
+        × (H.state host.new ≡ wrote (H.state host.old) h (take n text.now))) }
     ensures cause { StopsFor (H.fault_count host.old) (H.fault_count host.new) result }
 {
     let mut at = 0;
@@ -31,7 +32,8 @@ fn write_text<H: Host>(host: &mut H, h: u32, text: &[u8]) -> Result<(), Stop>
 pub fn write_file<H: Host>(host: &mut H, name: &str, text: &[u8]) -> Result<(), Stop>
     ensures handles { (H.state host.new).handles ≡ (H.state host.old).handles }
     ensures ok { OnOk result (H.state host.new ≡ filed (H.state host.old) name.now text.now) }
-    ensures err { OnErr result ((H.state host.new ≡ H.state host.old) ⊎ FileHasPrefix name.now text.now (H.state host.old) (H.state host.new)) }
+    ensures err { OnErr result ((H.state host.new ≡ H.state host.old)
+        ⊎ FileHasPrefix name.now text.now (H.state host.old) (H.state host.new)) }
     ensures cause { StopsFor (H.fault_count host.old) (H.fault_count host.new) result }
 {
     let h = host.create(name)?;

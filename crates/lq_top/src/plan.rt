@@ -22,7 +22,8 @@ fn is_plan(bytes: &[u8]) -> bool
 
 /// Whether a file is the one plan that is built. A longer file isn't.
 pub fn has_built_plan<H: Host>(alloc: Global, host: &mut H, name: &str) -> Result<bool, Stop>
-    ensures plan { IfOk result (λ built. IfSome (H.state host.old).told (λ c. option_map is_built_plan (c.files name.now) ≡ Some built)) }
+    ensures plan { IfOk result (λ built. IfSome (H.state host.old).told (λ c.
+        option_map is_built_plan (c.files name.now) ≡ Some built)) }
     ensures same { H.state host.new ≡ H.state host.old }
     ensures cause { StopsFor (H.fault_count host.old) (H.fault_count host.new) result }
 {

@@ -1,6 +1,7 @@
 //! Packets through a device.
 ghost use Rattle.std.specs.Prelude.{◌≡◌, ◌<◌, map, drop, slice_get, Some, IsSome, false, vec_len, OnOk};
 ghost use Rattle.lq_model.specs.Numbers.{first_numbers};
+ghost use Rattle.lq_top.specs.Headline.{accepted_by};
 ghost use Rattle.lq_top.specs.Sending.{IsReady};
 
 use crate::gate::Gate;
@@ -46,7 +47,8 @@ pub fn serve_first<D: TxDevice, G: Gate>(
 ) -> Result<(), NoMemory>
     requires there { 0 < vec_len bench.old }
     requires tells { (d : D) → slice_get bench.old.items 0 ≡ Some d → IsSome (D.state d).told }
-    ensures accepted { OnOk result (slice_get (map (λ d. (D.state d).accepted) bench.new.items) 0 ≡ Some (first_numbers count)) }
+    ensures accepted { OnOk result (slice_get (accepted_by D.state bench.new.items) 0
+        ≡ Some (first_numbers count)) }
     ensures others { drop 1 bench.new.items ≡ drop 1 bench.old.items }
     ensures len { vec_len bench.new ≡ vec_len bench.old }
 {

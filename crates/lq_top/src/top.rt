@@ -2,7 +2,7 @@
 ghost use Rattle.std.specs.Prelude.{◌≡◌, ◌<◌, [], IfOk, OnOk, OnErr, IfSome, IsSome, Some, map, slice_get, drop, vec_len, true};
 ghost use Rattle.lq_host.specs.Host.{Rose};
 ghost use Rattle.lq_top.specs.Command.{command_of, run_words, words_of};
-ghost use Rattle.lq_top.specs.Headline.{plain_run, HasRun};
+ghost use Rattle.lq_top.specs.Headline.{accepted_by, plain_run, HasRun};
 ghost use Rattle.lq_top.specs.Outcome.{EndsOrStops, IsAnswerOf, IsRunStatus, Outcome, RefusesCapture, Stops, TellsUsageFor, Runs, refuses, verdict_of, verdict_of_run};
 ghost use Rattle.lq_top.specs.Refusal.{refusal_of};
 ghost use Rattle.lq_top.specs.Stop.{StopsFor};
@@ -40,8 +40,10 @@ fn run_capture<H: Host, G: Gate, D: TxDevice>(
 ) -> Result<(), Stop>
     requires there { 0 < vec_len bench.old }
     requires tells { (d : D) → slice_get bench.old.items 0 ≡ Some d → IsSome (D.state d).told }
-    ensures ok { OnOk result (HasRun (plain_run out.now capture.now) (H.state host.old) (H.state host.new) (map (λ d. (D.state d).accepted) bench.new.items)) }
-    ensures err { OnErr result (Stops (Runs (plain_run out.now capture.now)) (H.state host.old) (H.state host.new)) }
+    ensures ok { OnOk result (HasRun (plain_run out.now capture.now)
+        (H.state host.old) (H.state host.new) (accepted_by D.state bench.new.items)) }
+    ensures err { OnErr result (Stops (Runs (plain_run out.now capture.now))
+        (H.state host.old) (H.state host.new)) }
     ensures others { drop 1 bench.new.items ≡ drop 1 bench.old.items }
     ensures len { vec_len bench.new ≡ vec_len bench.old }
     ensures handles { (H.state host.new).handles ≡ (H.state host.old).handles }
@@ -58,7 +60,8 @@ fn run_capture<H: Host, G: Gate, D: TxDevice>(
 
 /// Tells why a capture is refused.
 fn refuse_capture<H: Host>(alloc: Global, host: &mut H, refusal: Refusal) -> Result<Status, Stop>
-    ensures does { EndsOrStops (RefusesCapture (refusal_of refusal)) (H.state host.old) (H.state host.new) [] result }
+    ensures does { EndsOrStops (RefusesCapture (refusal_of refusal))
+        (H.state host.old) (H.state host.new) [] result }
     ensures refused { IfOk result (λ answer. answer ≡ Status.Capture refusal.reason refusal.place) }
     ensures handles { (H.state host.new).handles ≡ (H.state host.old).handles }
     ensures cause { StopsFor (H.fault_count host.old) (H.fault_count host.new) result }
@@ -81,11 +84,14 @@ fn run_command<H: Host, G: Gate, D: TxDevice>(
 ) -> Result<Status, Stop>
     requires there { 0 < vec_len bench.old }
     requires tells { (d : D) → slice_get bench.old.items 0 ≡ Some d → IsSome (D.state d).told }
-    ensures does { IfSome (H.state host.old).told (λ c. EndsOrStops (verdict_of_run (run_words words.now) c.files) (H.state host.old) (H.state host.new) (map (λ d. (D.state d).accepted) bench.new.items) result) }
+    ensures does { IfSome (H.state host.old).told (λ c.
+        EndsOrStops (verdict_of_run (run_words words.now) c.files)
+        (H.state host.old) (H.state host.new) (accepted_by D.state bench.new.items) result) }
     ensures answer { IfOk result IsRunStatus }
     ensures others { drop 1 bench.new.items ≡ drop 1 bench.old.items }
     ensures len { vec_len bench.new ≡ vec_len bench.old }
-    ensures refused { IfOk result (λ answer. refuses answer ≡ true → bench.new.items ≡ bench.old.items) }
+    ensures refused { IfOk result (λ answer.
+        refuses answer ≡ true → bench.new.items ≡ bench.old.items) }
     ensures handles { (H.state host.new).handles ≡ (H.state host.old).handles }
     ensures cause { StopsFor (H.fault_count host.old) (H.fault_count host.new) result }
 {
@@ -125,12 +131,16 @@ pub fn lqtx<R: Threads + Wait + Sync, H: Host, G: Gate, D: TxDevice>(
 
     // What the words and the files decide is answered and left, the headline for a run that is done; after a fault or
     // want of memory, a part of what was to be written.
-    ensures outcome { IfSome (H.state host.old).told (λ c. Outcome (verdict_of (words_of words.now) c.files) (H.state host.old) (H.state host.new) (map (λ d. (D.state d).accepted) bench.new.items) result) }
+    ensures outcome { IfSome (H.state host.old).told (λ c.
+        Outcome (verdict_of (words_of words.now) c.files)
+        (H.state host.old) (H.state host.new) (accepted_by D.state bench.new.items) result) }
 
-    // The causes.
+    // The causes: Usage, also where the host tells nothing; Fault; and what comes where neither a fault nor want of memory
+    // does.
     ensures usage { TellsUsageFor (command_of (words_of words.now)) result }
     ensures fault { result ≡ Status.Fault → Rose (H.fault_count host.old) (H.fault_count host.new) }
-    ensures complete { IfSome (H.state host.old).told (λ c. IsAnswerOf (verdict_of (words_of words.now) c.files) result) }
+    ensures complete { IfSome (H.state host.old).told (λ c.
+        IsAnswerOf (verdict_of (words_of words.now) c.files) result) }
 
     // No handle is left open, and none is closed.
     ensures handles { (H.state host.new).handles ≡ (H.state host.old).handles }
