@@ -1,16 +1,16 @@
 -- Laws of the slots of a host: a slot added, moved or closed is a handle opened, moved or closed.
-use Rattle.std.proofs.Common.{◌≡◌, ◌<◌, ℕ, zero, suc, ◌+◌, Bool, true, false, cond, eqb, List, [], ◌∷◌, ◌++◌, length, get_or, Option, None, Some, refl, sym, ap, ◌∙◌, arith, string_bytes}
+use Rattle.std.proofs.Common.{◌≡◌, ◌<◌, ℕ, zero, suc, ◌+◌, Bool, true, false, cond, eqb, List, [], ◌∷◌, ◌++◌, length, get_or, Option, None, Some, refl, sym, ap, ◌∙◌, arith, string_bytes, String}
 use Rattle.std.proofs.Math.Path.{fun_ext}
 use Rattle.std.proofs.Math.Dec.{eqb-suc-suc, eqb-suc-zero, eqb-zero-suc}
 use Rattle.std.proofs.Math.ListN.{set}
+use Rattle.std.specs.declared.alloc.Global.{Global}
 use Rattle.std.specs.List.{slice_get}
 use Rattle.std.specs.Option.{option_and_then}
 use Rattle.std.proofs.lemmas.Option.{slice_get-get_or}
-use Rattle.lq_host.specs.declared.slots.Mode.{Mode}
-use Rattle.lq_host.specs.declared.slots.Mode.TheVariants.{Closed, Reading, Writing}
+use Rattle.lq_host.specs.declared.slots.Slot.TheVariants.{Closed, Reader}
 use Rattle.lq_host.specs.declared.slots.Slot.{Slot}
-use Rattle.lq_host.specs.Host.{Output, with_handle, moved}
-use Rattle.lq_host.specs.Slots.{by_mode, opened_of, handles_of}
+use Rattle.lq_host.specs.Host.{Output, Reads, with_handle, moved}
+use Rattle.lq_host.specs.Slots.{opened_of, handles_of}
 
 get_pushed : {X : Type 0} (xs : List X) (x : X) (k : ℕ) → slice_get (xs ++ x ∷ []) k ≡ cond (eqb k (length xs)) (Some x) (slice_get xs k)
 get_pushed [] x zero = refl
@@ -57,23 +57,16 @@ handle_is slots i h s lt at is =
     let e : h ≡ suc i = omega arith in
     rw e (ap (option_and_then opened_of) (slice_get-get_or slots i s lt ∙ ap Some (sym is)))
 
-moved_mode : (m : Mode) (name : List ℕ) (place n : ℕ) → by_mode m name (place + n) ≡ moved (by_mode m name place) n
-moved_mode Closed name place n = refl
-moved_mode Reading name place n = refl
-moved_mode Writing name place n = refl
-
 pub slot_moves :
-    (slots : List Slot) (i h n : ℕ) (s : Slot) → i < length slots → h ≡ i + 1 → s ≡ get_or slots i s
-    → handles_of (set slots i (record { mode = s.mode; name = s.name; place = s.place + n })) ≡ with_handle (handles_of slots) h (moved (handles_of slots h) n)
-slot_moves slots i h n s lt at is =
+    (slots : List Slot) (i h n : ℕ) (s : Slot) (name : String Global) (place : ℕ) → i < length slots → h ≡ i + 1 → s ≡ get_or slots i s → s ≡ Reader name place
+    → handles_of (set slots i (Reader name (place + n))) ≡ with_handle (handles_of slots) h (moved (handles_of slots h) n)
+slot_moves slots i h n s name place lt at is reader =
     let e : suc i ≡ h = omega arith in
-    handles-set slots i (record { mode = s.mode; name = s.name; place = s.place + n }) lt
-    ∙ ap (λ k. with_handle (handles_of slots) k (by_mode s.mode (string_bytes s.name) (s.place + n))) e
-    ∙ ap (with_handle (handles_of slots) h) (moved_mode s.mode (string_bytes s.name) s.place n ∙ ap (λ o. moved o n) (sym (handle_is slots i h s lt at is)))
+    handles-set slots i (Reader name (place + n)) lt
+    ∙ ap (λ k. with_handle (handles_of slots) k (Some (Reads (string_bytes name) (place + n)))) e
+    ∙ ap (λ o. with_handle (handles_of slots) h (moved o n)) (sym (handle_is slots i h s lt at is ∙ ap opened_of reader))
 
-pub slot_closes :
-    (slots : List Slot) (i h : ℕ) (s : Slot) → i < length slots → h ≡ i + 1
-    → handles_of (set slots i (record { mode = Closed; name = s.name; place = s.place })) ≡ with_handle (handles_of slots) h None
-slot_closes slots i h s lt at =
+pub slot_closes : (slots : List Slot) (i h : ℕ) → i < length slots → h ≡ i + 1 → handles_of (set slots i Closed) ≡ with_handle (handles_of slots) h None
+slot_closes slots i h lt at =
     let e : suc i ≡ h = omega arith in
-    handles-set slots i (record { mode = Closed; name = s.name; place = s.place }) lt ∙ ap (λ k. with_handle (handles_of slots) k None) e
+    handles-set slots i Closed lt ∙ ap (λ k. with_handle (handles_of slots) k None) e

@@ -7,10 +7,19 @@ use std::alloc::{AllocError, Global};
 /// A kind of call of a host, to name the calls that are to fail.
 #[derive(Clone, Copy, Debug, PartialEq, Eq)]
 pub enum HostCall {
+    /// [`Host::open_read`](crate::Host::open_read).
     OpenRead,
+
+    /// [`Host::create`](crate::Host::create).
     Create,
+
+    /// [`Host::read`](crate::Host::read).
     Read,
+
+    /// [`Host::write`](crate::Host::write).
     Write,
+
+    /// [`Host::finish`](crate::Host::finish).
     Finish,
 }
 

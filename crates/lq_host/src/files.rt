@@ -13,7 +13,8 @@ pub(crate) struct MemFile {
 
 // The place of the first file of this name.
 pub(crate) fn find_file(files: &[MemFile], name: &str) -> Option<usize>
-    ensures { MatchOption result (lookup files.now name.now ≡ None) (λ i. (i < length files.now) × IsFirstAt files.now i name.now × IsSome (lookup files.now name.now)) }
+    ensures { MatchOption result (lookup files.now name.now ≡ None)
+        (λ i. (i < length files.now) × IsFirstAt files.now i name.now × IsSome (lookup files.now name.now)) }
 {
     for (i, file) in files.iter().enumerate() {
         if name == file.name.as_str() {

@@ -5,20 +5,14 @@ ghost use Rattle.lq_host.specs.Slots.{handles_of, opened_of};
 
 use crate::HostError;
 
-// What a slot's handle is open for.
-#[derive(Clone, Copy, Debug, PartialEq, Eq)]
-pub(crate) enum Mode {
-    Closed,
-    Reading,
-    Writing,
-}
-
-// A handle that was given out: its file, and for a reader the place of the next byte.
+// A handle that was given out, and what it is open for.
 #[derive(Drop)]
-pub(crate) struct Slot {
-    pub(crate) mode: Mode,
-    pub(crate) name: String,
-    pub(crate) place: usize,
+pub(crate) enum Slot {
+    Closed,
+    // A file, and the place of the byte that is read next.
+    Reader { name: String, place: usize },
+    // A file, at whose end is written.
+    Writer { name: String },
 }
 
 // Opens a slot, and answers its handle.
@@ -52,8 +46,10 @@ pub(crate) fn reader_at(slots: &[Slot], h: u32) -> (&str, usize)
     requires { IsReader (handles_of slots.now h) }
     ensures { handles_of slots.now h ≡ Some (Reads result.0.now result.1) }
 {
-    let slot = &slots[slot_at(slots, h)];
-    (slot.name.as_str(), slot.place)
+    match &slots[slot_at(slots, h)] {
+        Slot::Reader { name, place } => (name.as_str(), *place),
+        _ => unreachable!(),
+    }
 }
 
 // The file that a handle writes.
@@ -62,19 +58,25 @@ pub(crate) fn writer_at(slots: &[Slot], h: u32) -> &str
     requires not_output { 0 < h }
     ensures { handles_of slots.now h ≡ Some (Writes result.now) }
 {
-    let slot = &slots[slot_at(slots, h)];
-    slot.name.as_str()
+    match &slots[slot_at(slots, h)] {
+        Slot::Writer { name } => name.as_str(),
+        _ => unreachable!(),
+    }
 }
 
 // A reading handle has read so many bytes more.
 pub(crate) fn advance(slots: &mut Vec<Slot>, h: u32, count: usize)
     requires reader { IsReader (handles_of slots.old.items h) }
-    requires fits { (name : List ℕ) (place : ℕ) → handles_of slots.old.items h ≡ Some (Reads name place) → place + count < 2 ^ 64 }
-    ensures { handles_of slots.new.items ≡ with_handle (handles_of slots.old.items) h (moved (handles_of slots.old.items h) count) }
+    requires fits { (name : List ℕ) (place : ℕ) →
+        handles_of slots.old.items h ≡ Some (Reads name place) → place + count < 2 ^ 64 }
+    ensures { handles_of slots.new.items
+        ≡ with_handle (handles_of slots.old.items) h (moved (handles_of slots.old.items h) count) }
 {
     let i = slot_at(slots, h);
-    let slot = &mut slots[i];
-    slot.place += count;
+    match &mut slots[i] {
+        Slot::Reader { place, .. } => *place += count,
+        _ => unreachable!(),
+    }
 }
 
 // A handle is closed.
@@ -84,6 +86,5 @@ pub(crate) fn close(slots: &mut Vec<Slot>, h: u32)
     ensures { handles_of slots.new.items ≡ with_handle (handles_of slots.old.items) h None }
 {
     let i = slot_at(slots, h);
-    let slot = &mut slots[i];
-    slot.mode = Mode::Closed;
+    slots[i] = Slot::Closed;
 }

@@ -29,7 +29,7 @@ accepted_is bytes capture e =
     let long : 24 ≤ length bytes = ltb-false (length bytes) 24 tests.0 in
     let walk = counted bytes 1000000 0 capture.count tests.3 in
     record {
-      bytes_ = tests.4;
+      same_bytes = tests.4;
       header = record {
         magic = record { long = long; magic = not-false magic tests.1 };
         version = eqb-true (major_version bytes) 2 (not-false (eqb (major_version bytes) 2) tests.2);
@@ -42,7 +42,7 @@ accepted_is bytes capture e =
     -- a place that is past no end, and where no byte is left, is the end
     ends_there : (bytes : List ℕ) (n : ℕ) → 24 ≤ length bytes → ((j : ℕ) → 0 ≤ j → j < n → IsWhole bytes (place_of bytes j)) → length bytes ≤ place_of bytes n → place_of bytes n ≡ length bytes
     ends_there bytes zero long whole ends = omega arith
-    ends_there bytes (suc n) long whole ends = let within = (whole n (omega arith) (omega arith)).data_ in omega arith
+    ends_there bytes (suc n) long whole ends = let within = (whole n (omega arith) (omega arith)).has_data in omega arith
 
 pub is_accepted : (bytes : List ℕ) (capture : Capture) → IsCapture bytes capture → capture_of bytes ≡ Ok capture
 is_accepted bytes capture c =
@@ -54,4 +54,4 @@ is_accepted bytes capture c =
     counts bytes 1000000 0 n c.few (λ j low below. c.whole j (omega arith)) (subst (λ k. length bytes ≤ place_of bytes k) (sym from_0) ends) ∙ ap Ok from_0
     in
     rw (le-ltb (length bytes) 24 c.header.magic.long, c.header.magic.magic, eq-eqb (major_version bytes) 2 c.header.version, walk)
-    (ap (λ (b : List ℕ). Ok (let it : Capture = record { bytes = b; count = n } in it)) (sym c.bytes_))
+    (ap (λ (b : List ℕ). Ok (let it : Capture = record { bytes = b; count = n } in it)) (sym c.same_bytes))

@@ -18,18 +18,18 @@ pub whole_from_none : (bytes : List ℕ) (place : ℕ) → record_fault bytes pl
 whole_from_none bytes place e =
     let tests = none_of (ltb (length bytes) (place + 16)) (ltb 262144 (captured_length bytes place)) (ltb (length bytes) (end_of bytes place)) CutRecordHeader LongRecord CutData e in
     record {
-      header = ltb-false (length bytes) (place + 16) tests.0;
-      short = ltb-false 262144 (captured_length bytes place) tests.1;
-      data_ = ltb-false (length bytes) (end_of bytes place) tests.2;
+      has_header = ltb-false (length bytes) (place + 16) tests.0;
+      is_short = ltb-false 262144 (captured_length bytes place) tests.1;
+      has_data = ltb-false (length bytes) (end_of bytes place) tests.2;
     }
 
 pub none_from_whole : (bytes : List ℕ) (place : ℕ) → IsWhole bytes place → record_fault bytes place ≡ None
 none_from_whole bytes place w =
-    rw (le-ltb (length bytes) (place + 16) w.header, le-ltb 262144 (captured_length bytes place) w.short, le-ltb (length bytes) (end_of bytes place) w.data_) refl
+    rw (le-ltb (length bytes) (place + 16) w.has_header, le-ltb 262144 (captured_length bytes place) w.is_short, le-ltb (length bytes) (end_of bytes place) w.has_data) refl
 
 -- a whole record begins before the end of the file
 pub begins_before : (bytes : List ℕ) (place : ℕ) → IsWhole bytes place → place < length bytes
-begins_before bytes place w = let header = w.header in omega arith
+begins_before bytes place w = let header = w.has_header in omega arith
 
 pub option_cases : {X : Type 0} (o : Option X) → (o ≡ None) ⊎ ((x : X) × (o ≡ Some x))
 option_cases None = inl refl

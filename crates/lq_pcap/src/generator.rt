@@ -1,7 +1,7 @@
 ghost use Rattle.std.specs.Prelude.{◌≡◌, ◌%◌, ◌≤◌, ◌<◌, ◌++◌, IfOk, OnOk};
 ghost use Rattle.lq_model.specs.Generated.{generated_capture, generated_destination, generated_frame, generated_header, generated_record, generated_source, generated_type_of_service, spread};
 
-use crate::reader::HEADER;
+use crate::layout::HEADER;
 use crate::writer::push_bytes;
 use lq_model::NoMemory;
 use std::alloc::Global;
@@ -28,7 +28,12 @@ const SOURCE: usize = 45;
 
 const DESTINATION: usize = 49;
 
-/// A capture of `count` IPv4 packets in Ethernet frames, whose type of service and addresses vary with `number`.
+/// A capture of `count` IPv4 packets in Ethernet frames, one each millisecond. Their types of service and addresses
+/// vary with `number`.
+///
+/// # NoMemory
+///
+/// There was no room for its 24 + 50 * `count` bytes, which are reserved at once.
 #[tactic(auto, using(crate::proofs::GeneratorLemmas::generated_none, crate::proofs::GeneratorLemmas::generated_more))]
 pub fn gen_capture(alloc: Global, number: u32, count: u32) -> Result<Vec<u8>, NoMemory>
     requires { count ≤ 1000000 }

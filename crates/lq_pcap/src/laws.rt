@@ -1,13 +1,13 @@
 //! Laws of the definitions, each the contract of a function that does nothing.
 
-ghost use Rattle.lq_pcap.specs.Laws.{AcceptsAgain, AcceptsExactly, RefusesExactly};
+ghost use Rattle.lq_pcap.specs.Laws.{AcceptsAgain, AcceptsExactly, GeneratesCaptures, RefusesExactly};
 
 /// Bytes are a capture exactly where they are a file header and whole records, at most 1,000,000 of them.
 pub fn accepts_exactly()
     ensures { AcceptsExactly }
 {}
 
-/// A refusal names the first fault of the bytes, and where it stands.
+/// They are refused exactly for the first fault that they have, at the place where it stands.
 pub fn refuses_exactly()
     ensures { RefusesExactly }
 {}
@@ -16,4 +16,9 @@ pub fn refuses_exactly()
 /// just those records, in that order, under the same file header.
 pub fn accepts_again()
     ensures { AcceptsAgain }
+{}
+
+/// What [`gen_capture`](crate::gen_capture) generates is a capture, of just the records that it generates.
+pub fn generates_captures()
+    ensures { GeneratesCaptures }
 {}

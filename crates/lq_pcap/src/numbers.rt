@@ -1,11 +1,8 @@
 ghost use Rattle.std.specs.Prelude.{◌≡◌, ◌+◌, ◌≤◌, length};
 ghost use Rattle.lq_model.specs.Capture.{is_big_endian, is_little_endian, is_magic, major_version, number_at};
 
+use crate::layout::{MICROSECONDS, NANOSECONDS, VERSION};
 use byteorder::{BigEndian, ByteOrder as _, LittleEndian};
-
-const MICROSECONDS: u32 = 0xa1b2_c3d4;
-
-const NANOSECONDS: u32 = 0xa1b2_3c4d;
 
 fn is_magic_number(number: u32) -> bool
     ensures { result ≡ is_magic number }
@@ -50,7 +47,7 @@ pub fn major(bytes: &[u8], little_endian: bool) -> u16
     requires order { little_endian ≡ is_little_endian bytes.now }
     ensures { result ≡ major_version bytes.now }
 {
-    let field = &bytes[4..6];
+    let field = &bytes[VERSION..VERSION + 2];
     if little_endian {
         LittleEndian::read_u16(field)
     } else {

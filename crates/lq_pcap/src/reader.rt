@@ -2,30 +2,26 @@ ghost use Rattle.std.specs.Prelude.{◌≡◌, ◌≤◌, ◌-◌, length, IfOk}
 ghost use Rattle.lq_model.specs.Capture.{capture_of, count_from, is_little_endian};
 ghost use Rattle.lq_pcap.specs.Reading.{ArePlaces, Gives, IsEnd};
 
+use crate::layout::{
+    CAPTURED_LENGTH, HEADER, MAJOR_VERSION, MAX_CAPTURED_LENGTH, MAX_RECORDS, RECORD_HEADER,
+    VERSION,
+};
 use crate::numbers::{begins_big_endian, begins_little_endian, major, number};
 use crate::records::Capture;
 use crate::refusal::CaptureRefusal;
 use lq_model::CaptureReason;
 use std::alloc::Global;
 
-/// How many bytes a file header has.
-pub const HEADER: usize = 24;
-
-/// How many bytes a record's header has.
-pub const RECORD_HEADER: usize = 16;
-
-const CAPTURED_LENGTH: usize = 8;
-
-const MAX_CAPTURED_LENGTH: u32 = 262_144;
-
-const MAX_RECORDS: usize = 1_000_000;
-
-const MAJOR_VERSION: u16 = 2;
-
 /// The capture that the bytes are. It keeps them, and the place of each record beside them.
 ///
-/// The tests come in the order of the format: `ShortHeader` at the length of the bytes, `Magic` at 0, `Version` at 4,
-/// and then for each record at the place where it begins `TooMany`, `CutRecordHeader`, `LongRecord`, `CutData`.
+/// # Refused
+///
+/// The first test that the bytes fail: `ShortHeader` at their length, `Magic` at 0, `Version` at 4, and then for each
+/// record, at the place where it begins, `TooMany`, `CutRecordHeader`, `LongRecord` and `CutData`.
+///
+/// # NoMemory
+///
+/// There was no room for the places of the records, 8 bytes each. The bytes are dropped.
 pub fn read_capture(alloc: Global, bytes: Vec<u8>) -> Result<Capture, CaptureRefusal>
     ensures { Gives (λ capture. capture) result (capture_of bytes.items) }
 {
@@ -37,7 +33,7 @@ pub fn read_capture(alloc: Global, bytes: Vec<u8>) -> Result<Capture, CaptureRef
         return Err(refused_at(CaptureReason::Magic, 0));
     }
     if major(&bytes, little_endian) != MAJOR_VERSION {
-        return Err(refused_at(CaptureReason::Version, 4));
+        return Err(refused_at(CaptureReason::Version, VERSION));
     }
     let places = places_of(alloc, &bytes, little_endian)?;
     Ok(Capture { bytes, places })

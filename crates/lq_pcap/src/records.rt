@@ -1,13 +1,11 @@
 ghost use Rattle.std.specs.Prelude.{◌≡◌, ◌<◌, ◌≤◌, length};
 ghost use Rattle.lq_model.specs.Capture.{frame_of, header_of, link_of, record_of};
 
+use crate::layout::{HEADER, LINK, RECORD_HEADER};
 use crate::numbers::{begins_little_endian, number};
-use crate::reader::{HEADER, RECORD_HEADER};
 use std::marker::Model;
 
-const LINK: usize = 20;
-
-/// A capture that was read: the bytes of its file, and where each record begins.
+/// A capture that was read. Contracts see the bytes of its file and the number of its records.
 #[derive(Drop)]
 pub struct Capture {
     /// A file header and whole records, as they were read.

@@ -5,6 +5,10 @@ use crate::records::Capture;
 use lq_model::NoMemory;
 
 /// Writes a capture's file header to the end of `out`.
+///
+/// # NoMemory
+///
+/// There was no room for it, and `out` is as before.
 pub fn push_header(out: &mut Vec<u8>, capture: &Capture) -> Result<(), NoMemory>
     ensures ok { OnOk result (out.new.items ≡ out.old.items ++ header_of capture.now) }
     ensures err { OnErr result (out.new.items ≡ out.old.items) }
@@ -12,7 +16,11 @@ pub fn push_header(out: &mut Vec<u8>, capture: &Capture) -> Result<(), NoMemory>
     push_bytes(out, capture.header())
 }
 
-/// Writes one of its records, with the record's header, to the end of `out`.
+/// Writes record `i` of a capture, with the record's header, to the end of `out`: the bytes that were read.
+///
+/// # NoMemory
+///
+/// There was no room for it, and `out` is as before.
 pub fn push_record(out: &mut Vec<u8>, capture: &Capture, i: usize) -> Result<(), NoMemory>
     requires { i < capture.now.count }
     ensures ok { OnOk result (out.new.items ≡ out.old.items ++ record_of capture.now i) }
