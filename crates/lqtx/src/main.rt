@@ -53,7 +53,11 @@ fn add_device<D: TxDevice>(bench: &mut Vec<D>, device: D) -> Result<(), u8>
 fn run<R: Runtime + AllocGlobal + Threads + Wait + Sync>(rt: &R) -> Result<u8, u8> {
     let alloc = rt.alloc();
     let texts = words_of(rt)?;
-    let Ok(words) = texts.iter().map(|text| text.as_str()).collect::<Vec<&str>>(alloc) else {
+    let Ok(words) = texts
+        .iter()
+        .map(|text| text.as_str())
+        .collect::<Vec<&str>>(alloc)
+    else {
         return Err(NO_MEMORY);
     };
     let mut bench: Vec<Box<dyn TxDevice>> = Vec::new(alloc);
