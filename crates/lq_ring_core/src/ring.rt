@@ -1,4 +1,4 @@
-ghost use Rattle.std.specs.Prelude.{◌≡◌, ℕ, ◌+◌, ◌-◌, ◌<◌, ◌≤◌, ◌↔◌, [], ◌∷◌, ◌++◌, length, take, drop, min, slice_get, Some, None, IfOk, IfErr, OnOk, OnErr, OnSome, IfNone, IsErr, IsNone, IsTrue, All};
+ghost use Rattle.std.specs.Prelude.{◌≡◌, ℕ, ◌+◌, ◌-◌, ◌<◌, ◌≤◌, ◌↔◌, [], ◌∷◌, ◌++◌, length, take, drop, min, slice_get, Some, None, IfOk, IfErr, OnOk, OnErr, OnSome, IfSome, IfNone, IsErr, IsNone, IsTrue, All};
 ghost use Rattle.std.specs.Bool.{OnTrue, OnFalse};
 ghost use Rattle.lq_model.specs.Band.{Band, IsOccupied, MayBeFull, empty_band, held_of, joined, taken_by, resized};
 ghost use Rattle.lq_ring_core.specs.Ring.{IsBounded, IsFull, new_ring, entries_of, after_produce, after_consume, after_consumes, after_clear, with_before, after_unconsume, after_resize, dropped_of};
@@ -125,6 +125,7 @@ impl Ring {
     pub fn peek(&self) -> Option<u32>
         ensures first { result ≡ slice_get self.now.held 0 }
         ensures none { IsNone result ↔ (self.now.held ≡ []) }
+        ensures entry { IfSome result (λ n. n < 4294967295) }
     {
         self.slots[self.head as usize].checked_sub(1)
     }
@@ -133,6 +134,7 @@ impl Ring {
     pub fn consume(&mut self) -> Option<u32>
         ensures first { result ≡ slice_get self.old.held 0 }
         ensures none { IsNone result ↔ (self.old.held ≡ []) }
+        ensures entry { IfSome result (λ n. n < 4294967295) }
         ensures taken { OnSome result (self.new ≡ after_consume self.old) }
         ensures unchanged { IfNone result (self.new ≡ self.old) }
         ensures takes { (band : Band) → IsBand self.old band → OnSome result (IsBand self.new (taken_by band 1)) }
@@ -163,6 +165,7 @@ impl Ring {
     pub fn consume_batched(&mut self, out: &mut [u32]) -> usize
         ensures count { result ≡ min (length out.old) (length self.old.held) }
         ensures out { out.new ≡ take result self.old.held ++ drop result out.old }
+        ensures entries { All (λ n. n < 4294967295) (take result out.new) }
         ensures held { self.new.held ≡ drop result self.old.held }
         ensures taken { self.new ≡ after_consumes result self.old }
         ensures takes { (band : Band) → IsBand self.old band → IsBand self.new (taken_by band result) }

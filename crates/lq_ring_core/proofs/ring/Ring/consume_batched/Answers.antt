@@ -1,4 +1,6 @@
-use Rattle.std.proofs.Common.{◌≡◌, ◌<◌, arith, length, drop, refl, sym, ◌∙◌, length-drop, add-one}
+use Rattle.std.proofs.Common.{◌≡◌, ◌<◌, arith, length, take, drop, refl, sym, ◌∙◌, length-drop, add-one}
+use Rattle.std.proofs.lemmas.List.{take_more_set}
+use Rattle.std.proofs.lemmas.List.Elements.{All-push}
 use Rattle.lq_ring_core.proofs.Lists.{length-first, set-taken, length-drop_none}
 use Rattle.lq_ring_core.proofs.BandLaws.{held-after_consumes, IsBand-consumes}
 use Rattle.lq_ring_core.proofs.ring.Ring.consume_batched.Goals as goal
@@ -30,6 +32,7 @@ loop-taken-preserved c =
       room = omega arith;
       consumed = rw add-one taken;
       out = rw c.loop-taken.invariant.out (set-taken c.args.self.now.held c.args.out.now c.loop-taken.taken c.in-Some.n first (omega arith));
+      entries = rw (take_more_set c.loop-taken.out c.loop-taken.taken c.in-Some.n (omega arith)) (All-push (λ n. n < 4294967295) (take c.loop-taken.taken c.loop-taken.out) c.in-Some.n c.loop-taken.invariant.entries c.in-Some.ensures.entry);
     }
 
 pub returns-clause-held : goal.returns-clause-held

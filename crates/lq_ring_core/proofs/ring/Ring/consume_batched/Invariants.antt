@@ -1,4 +1,4 @@
-use Rattle.std.proofs.Common.{◌≡◌, ◌-◌, ◌≤◌, ◌++◌, length, take, drop}
+use Rattle.std.proofs.Common.{◌≡◌, ◌-◌, ◌<◌, ◌≤◌, ◌++◌, length, take, drop, All}
 use Rattle.lq_ring_core.specs.Ring.{after_consumes}
 use Rattle.lq_ring_core.proofs.ring.Ring.consume_batched.Given as goal
 
@@ -8,6 +8,7 @@ invariant-loop-taken l = record {
   room : l.taken ≤ length l.fn.out;
   consumed : l.self ≡ after_consumes l.taken l.fn.self;
   out : l.out ≡ take l.taken l.fn.self.held ++ drop l.taken l.fn.out;
+  entries : All (λ n. n < 4294967295) (take l.taken l.out);
 }
 
 abbrev pub decreases-loop-taken : goal.decreases-loop-taken
