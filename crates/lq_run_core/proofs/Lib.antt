@@ -1,0 +1,3 @@
+pub mod Local
+pub mod LocalSteps
+pub mod Counts

@@ -1,0 +1,11 @@
+ghost use Rattle.std.specs.Prelude.{◌≡◌, ℕ};
+ghost use Rattle.lq_model.specs.Machine.{Machine};
+ghost use Rattle.lq_model.specs.Kept.{IsInductive, Moves, OneHolder, CallsInside, OneScheduled};
+
+/// The run lock, the calls inside and SCHED are counted right: a step of any seat keeps that.
+pub fn counts_are_kept()
+    ensures holder { (m n : Machine) → IsInductive m → Moves m n → OneHolder n }
+    ensures inside { (m n : Machine) → IsInductive m → Moves m n → CallsInside n }
+    ensures scheduled { (m n : Machine) → IsInductive m → Moves m n → OneScheduled n }
+{
+}
