@@ -4,9 +4,8 @@ use Rattle.std.specs.Prelude.{sum_by, slice_set, slice_index_or}
 use Rattle.std.proofs.Math.ListN.{set}
 use Rattle.std.proofs.lemmas.List.Sums.{sum_by-set, get_or-le-sum_by}
 use Rattle.lq_model.specs.declared.machine.Packet.{Packet}
-use Rattle.lq_run_core.proofs.Local.{Local, Dequeues, Gets, Sends, GivesUp, Puts, Ends}
-use Rattle.lq_run_core.proofs.Local.Local.{put_holding, try1_got}
-use Rattle.lq_run_core.proofs.Local.Dequeues.{at_stop_word, at_bands}
+use Rattle.lq_run_core.proofs.Local.{Local}
+use Rattle.lq_run_core.proofs.Local.Local.{unlock, leave, sched_sets_inside}
 use Rattle.lq_model.specs.declared.machine.Attempt.{Attempt}
 use Rattle.lq_model.specs.declared.machine.Attempt.TheVariants.{Queued, Direct, Interrupt}
 use Rattle.lq_model.specs.declared.machine.Position.{Position}
@@ -31,5 +30,19 @@ pub holder-local :
   {sole : Bool} {free : Packet → Type 0} {q : Qdisc} {s : Seat} {position : Position} {a : After} (rest : ℕ)
   → Local sole free q s position a
   → bit (holds_lock position) + rest ≡ bit q.locked → bit (holds_lock a.seat.position) + rest ≡ bit a.qdisc.locked
-holder-local rest (put_holding p after _ run puts (at_stop_word _)) h = grind arith
+holder-local rest unlock h = grind arith
 holder-local rest _ h = grind arith
+
+pub inside-local :
+  {sole : Bool} {free : Packet → Type 0} {q : Qdisc} {s : Seat} {position : Position} {a : After} (rest : ℕ)
+  → Local sole free q s position a
+  → bit (is_inside position) + rest ≡ q.inside → bit (is_inside a.seat.position) + rest ≡ a.qdisc.inside
+inside-local rest leave h = grind arith
+inside-local rest _ h = grind arith
+
+pub marks-local :
+  {sole : Bool} {free : Packet → Type 0} {q : Qdisc} {s : Seat} {position : Position} {a : After} (rest : ℕ)
+  → Local sole free q s position a
+  → (bit s.raised + bit (is_due position)) + rest ≡ bit q.sched → marks a.seat + rest ≡ bit a.qdisc.sched
+marks-local rest sched_sets_inside h = grind arith
+marks-local rest _ h = grind arith

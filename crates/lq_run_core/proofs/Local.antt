@@ -31,53 +31,55 @@ pub data Puts (p : Packet) (q : Qdisc) : Qdisc → Type 0 where
   put_joins : Puts p q (joined p q)
   put_refused : Puts p q (record q { full = one_more q.full })
 
--- what a free lock is got for
-pub data Gets (q : Qdisc) : Attempt → Position → Type 0 where
-  got_direct : (p : Packet) → Gets q (Direct p) (Recheck p)
-  got_queued : (p : Packet) (d : Position) → Dequeues q d → Gets q (Queued p) d
-  got_interrupt : (d : Position) → Dequeues q d → Gets q Interrupt d
-
--- after a no
-pub data GivesUp : Attempt → Position → Type 0 where
-  no_direct : (p : Packet) → GivesUp (Direct p) (Put p false)
-  no_queued : (p : Packet) → GivesUp (Queued p) Leave
-  no_interrupt : GivesUp Interrupt Leave
-
--- behind a transmit or a soft interrupt, or outside
-pub data Ends : Bool → Position → Type 0 where
-  ends_inside : Ends true Leave
-  ends_outside : Ends false Idle
-
 pub data Local (sole : Bool) (free : Packet → Type 0) (q : Qdisc) (s : Seat) : Position → After → Type 0 where
   enter_transmit : (p : Packet) → Local sole free q s (Enter (Transmit p)) (goes_to (record q { inside = q.inside + 1 }) s (Check p))
   enter_interrupt : Local sole free q s (Enter SoftInterrupt) (goes_to (record q { inside = q.inside + 1 }) s Soft)
   check_refused : (p : Packet) → q.deactivated ≡ true → Local sole free q s (Check p) (goes_to q s Leave)
   check_direct : (p : Packet) → q.deactivated ≡ false → Local sole free q s (Check p) (goes_to q s (Try1 (Direct p)))
   check_put : (p : Packet) → q.deactivated ≡ false → Local sole free q s (Check p) (goes_to q s (Put p false))
-  put_free : (p : Packet) (after : Qdisc) → Puts p q after → Local sole free q s (Put p false) (goes_to after s (Try1 (Queued p)))
-  put_holding : (p : Packet) (after : Qdisc) (d : Position) (run : ℕ) → Puts p q after → Dequeues q d
-    → Local sole free q s (Put p true) (record { qdisc = after; seat = record s { position = d; run = run } })
+  put_join : (p : Packet) → Local sole free q s (Put p false) (goes_to (joined p q) s (Try1 (Queued p)))
+  put_full : (p : Packet) → Local sole free q s (Put p false) (goes_to (record q { full = one_more q.full }) s (Try1 (Queued p)))
+  put_join_word : (p : Packet) (run : ℕ) → (is_shared q ≡ true → is_none q.slot ≡ false) → Local sole free q s (Put p true) (record { qdisc = (joined p q); seat = record s { position = Deq; run = run } })
+  put_join_bands : (p : Packet) (run : ℕ) → q.slot ≡ None → Local sole free q s (Put p true) (record { qdisc = (joined p q); seat = record s { position = (Scan 0 false); run = run } })
+  put_full_word : (p : Packet) (run : ℕ) → (is_shared q ≡ true → is_none q.slot ≡ false) → Local sole free q s (Put p true) (record { qdisc = (record q { full = one_more q.full }); seat = record s { position = Deq; run = run } })
+  put_full_bands : (p : Packet) (run : ℕ) → q.slot ≡ None → Local sole free q s (Put p true) (record { qdisc = (record q { full = one_more q.full }); seat = record s { position = (Scan 0 false); run = run } })
   try1_held : (attempt : Attempt) → q.locked ≡ true → Local sole free q s (Try1 attempt) (goes_to q s (Miss attempt))
-  try1_got : (attempt : Attempt) (d : Position) (run : ℕ) → q.locked ≡ false → Gets q attempt d
-    → Local sole free q s (Try1 attempt) (record { qdisc = record q { locked = true }; seat = record s { position = d; run = run } })
-  miss_set : (attempt : Attempt) (d : Position) → q.missed ≡ true → GivesUp attempt d → Local sole free q s (Miss attempt) (goes_to q s d)
+  try1_direct : (p : Packet) → q.locked ≡ false → Local sole free q s (Try1 (Direct p)) (goes_to (record q { locked = true }) s (Recheck p))
+  try1_queued_word : (p : Packet) (run : ℕ) → q.locked ≡ false → (is_shared q ≡ true → is_none q.slot ≡ false) → Local sole free q s (Try1 (Queued p)) (record { qdisc = record q { locked = true }; seat = record s { position = Deq; run = run } })
+  try1_queued_bands : (p : Packet) (run : ℕ) → q.locked ≡ false → q.slot ≡ None → Local sole free q s (Try1 (Queued p)) (record { qdisc = record q { locked = true }; seat = record s { position = (Scan 0 false); run = run } })
+  try1_interrupt_word : (run : ℕ) → q.locked ≡ false → (is_shared q ≡ true → is_none q.slot ≡ false) → Local sole free q s (Try1 Interrupt) (record { qdisc = record q { locked = true }; seat = record s { position = Deq; run = run } })
+  try1_interrupt_bands : (run : ℕ) → q.locked ≡ false → q.slot ≡ None → Local sole free q s (Try1 Interrupt) (record { qdisc = record q { locked = true }; seat = record s { position = (Scan 0 false); run = run } })
+  miss_set_direct : (p : Packet) → q.missed ≡ true → Local sole free q s (Miss (Direct p)) (goes_to q s (Put p false))
+  miss_set_queued : (p : Packet) → q.missed ≡ true → Local sole free q s (Miss (Queued p)) (goes_to q s Leave)
+  miss_set_interrupt : q.missed ≡ true → Local sole free q s (Miss Interrupt) (goes_to q s Leave)
   miss_sets : (attempt : Attempt) → q.missed ≡ false → Local sole free q s (Miss attempt) (goes_to (record q { missed = true }) s (Try2 attempt))
-  try2_held : (attempt : Attempt) (d : Position) → q.locked ≡ true → GivesUp attempt d → Local sole free q s (Try2 attempt) (goes_to q s d)
-  try2_got : (attempt : Attempt) (d : Position) (run : ℕ) → q.locked ≡ false → Gets q attempt d
-    → Local sole free q s (Try2 attempt) (record { qdisc = record q { locked = true }; seat = record s { position = d; run = run } })
+  try2_held_direct : (p : Packet) → q.locked ≡ true → Local sole free q s (Try2 (Direct p)) (goes_to q s (Put p false))
+  try2_held_queued : (p : Packet) → q.locked ≡ true → Local sole free q s (Try2 (Queued p)) (goes_to q s Leave)
+  try2_held_interrupt : q.locked ≡ true → Local sole free q s (Try2 Interrupt) (goes_to q s Leave)
+  try2_direct : (p : Packet) → q.locked ≡ false → Local sole free q s (Try2 (Direct p)) (goes_to (record q { locked = true }) s (Recheck p))
+  try2_queued_word : (p : Packet) (run : ℕ) → q.locked ≡ false → (is_shared q ≡ true → is_none q.slot ≡ false) → Local sole free q s (Try2 (Queued p)) (record { qdisc = record q { locked = true }; seat = record s { position = Deq; run = run } })
+  try2_queued_bands : (p : Packet) (run : ℕ) → q.locked ≡ false → q.slot ≡ None → Local sole free q s (Try2 (Queued p)) (record { qdisc = record q { locked = true }; seat = record s { position = (Scan 0 false); run = run } })
+  try2_interrupt_word : (run : ℕ) → q.locked ≡ false → (is_shared q ≡ true → is_none q.slot ≡ false) → Local sole free q s (Try2 Interrupt) (record { qdisc = record q { locked = true }; seat = record s { position = Deq; run = run } })
+  try2_interrupt_bands : (run : ℕ) → q.locked ≡ false → q.slot ≡ None → Local sole free q s (Try2 Interrupt) (record { qdisc = record q { locked = true }; seat = record s { position = (Scan 0 false); run = run } })
   recheck_non_empty : (p : Packet) → Local sole free q s (Recheck p) (goes_to q s (Put p true))
   recheck_clear : (p : Packet) → q.missed ≡ false → q.draining ≡ false → Local sole free q s (Recheck p) (goes_to q s (Gate p true))
   gate_open : (p : Packet) (direct : Bool) → is_open q p.queue ≡ true → Local sole free q s (Gate p direct) (goes_to q s (Xmit p direct))
   gate_closed : (p : Packet) (direct : Bool) → Local sole free q s (Gate p direct) (goes_to q s (BlockedClear (InHand p direct)))
-  xmit_sent : (p : Packet) (direct : Bool) (d : Position) → Sends q direct d → Local sole free q s (Xmit p direct) (goes_to (accepted q) (counted s) d)
+  xmit_sent_direct : (p : Packet) → Local sole free q s (Xmit p true) (goes_to (accepted q) (counted s) Post)
+  xmit_sent_quota : (p : Packet) → Local sole free q s (Xmit p false) (goes_to (accepted q) (counted s) Quota)
+  xmit_sent_word : (p : Packet) → (is_shared q ≡ true → is_none q.slot ≡ false) → Local sole free q s (Xmit p false) (goes_to (accepted q) (counted s) Deq)
+  xmit_sent_bands : (p : Packet) → q.slot ≡ None → Local sole free q s (Xmit p false) (goes_to (accepted q) (counted s) (Scan 0 false))
   xmit_stops : (p : Packet) (direct : Bool) (queue : ℕ) (hung : Bool)
     → Local sole free q s (Xmit p direct) (goes_to (accepted q) (counted s) (StoreXoff queue hung direct))
   xmit_busy : (p : Packet) (direct : Bool) → Local sole free q s (Xmit p direct) (goes_to (record q { slot = Some p }) s Again)
   stop_next : (queue : ℕ) (hung direct : Bool) (v : ℕ)
     → Local sole free q s (StoreXoff queue hung direct) (goes_to (record q { xoff = slice_set q.xoff queue v }) s (StoreXoff (queue + 1) hung direct))
-  stop_last : (queue : ℕ) (hung direct : Bool) (v : ℕ) (d : Position) → Sends q direct d
-    → Local sole free q s (StoreXoff queue hung direct) (goes_to (record q { xoff = slice_set q.xoff queue v }) s d)
-  post_non_empty : (d : Position) (run : ℕ) → Dequeues q d → Local sole free q s Post (record { qdisc = q; seat = record s { position = d; run = run } })
+  stop_last_direct : (queue : ℕ) (hung : Bool) (v : ℕ) → Local sole free q s (StoreXoff queue hung true) (goes_to (record q { xoff = slice_set q.xoff queue v }) s Post)
+  stop_last_quota : (queue : ℕ) (hung : Bool) (v : ℕ) → Local sole free q s (StoreXoff queue hung false) (goes_to (record q { xoff = slice_set q.xoff queue v }) s Quota)
+  stop_last_word : (queue : ℕ) (hung : Bool) (v : ℕ) → (is_shared q ≡ true → is_none q.slot ≡ false) → Local sole free q s (StoreXoff queue hung false) (goes_to (record q { xoff = slice_set q.xoff queue v }) s Deq)
+  stop_last_bands : (queue : ℕ) (hung : Bool) (v : ℕ) → q.slot ≡ None → Local sole free q s (StoreXoff queue hung false) (goes_to (record q { xoff = slice_set q.xoff queue v }) s (Scan 0 false))
+  post_word : (run : ℕ) → (is_shared q ≡ true → is_none q.slot ≡ false) → Local sole free q s Post (record { qdisc = q; seat = record s { position = Deq; run = run } })
+  post_bands : (run : ℕ) → q.slot ≡ None → Local sole free q s Post (record { qdisc = q; seat = record s { position = (Scan 0 false); run = run } })
   post_clear : q.missed ≡ false → q.draining ≡ false → Local sole free q s Post (goes_to q s Unlock)
   deq_slot : (p : Packet) → Local sole free q s Deq (goes_to (record q { slot = None }) s (Gate p false))
   deq_bands : q.slot ≡ None → Local sole free q s Deq (goes_to q s (Scan 0 false))
@@ -104,10 +106,12 @@ pub data Local (sole : Bool) (free : Packet → Type 0) (q : Qdisc) (s : Seat) :
   quota : Local sole free q s Quota (goes_to (record q { missed = true }) s Unlock)
   unlock : Local sole free q s Unlock (goes_to (record q { locked = false }) s (Tail true))
   tail_missed : (inside : Bool) → Local sole free q s (Tail inside) (goes_to q s (Sched inside))
-  tail_clear : (inside : Bool) (d : Position) → q.missed ≡ false → Ends inside d → Local sole free q s (Tail inside) (goes_to q s d)
-  sched_set : (inside : Bool) (d : Position) → q.sched ≡ true → Ends inside d → Local sole free q s (Sched inside) (goes_to q s d)
-  sched_sets : (inside : Bool) (d : Position) → q.sched ≡ false → Ends inside d
-    → Local sole free q s (Sched inside) (record { qdisc = record q { sched = true }; seat = record s { position = d; raised = true } })
+  tail_inside : q.missed ≡ false → Local sole free q s (Tail true) (goes_to q s Leave)
+  tail_outside : q.missed ≡ false → Local sole free q s (Tail false) (goes_to q s Idle)
+  sched_set_inside : q.sched ≡ true → Local sole free q s (Sched true) (goes_to q s Leave)
+  sched_set_outside : q.sched ≡ true → Local sole free q s (Sched false) (goes_to q s Idle)
+  sched_sets_inside : q.sched ≡ false → Local sole free q s (Sched true) (record { qdisc = record q { sched = true }; seat = record s { position = Leave; raised = true } })
+  sched_sets_outside : q.sched ≡ false → Local sole free q s (Sched false) (record { qdisc = record q { sched = true }; seat = record s { position = Idle; raised = true } })
   leave : Local sole free q s Leave (goes_to (record q { inside = q.inside - 1 }) s Idle)
   soft_deactivated : q.deactivated ≡ true → Local sole free q s Soft (goes_to q s (SoftClear true))
   soft_active : q.deactivated ≡ false → Local sole free q s Soft (goes_to q s (SoftClear false))

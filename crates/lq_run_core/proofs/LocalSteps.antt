@@ -21,9 +21,9 @@ use Rattle.lq_model.specs.Control.{control_at, may_control, control_of, is_contr
 use Rattle.lq_model.specs.Kept.{IsFree, Moves}
 use Rattle.lq_model.specs.Kept.Moves.{steps, begins, controls}
 use Rattle.lq_model.specs.Machine.{Purge, Qdisc, Machine, seat_at, is_non_empty, is_open, is_shared, band_at}
-use Rattle.lq_model.specs.Steps.{is_idle, may_begin, begun, start_of, step_of, with_seat, After, goes_to, step_at, may_answer, check, put_answered, dequeue_begins, behind_sent, call_ends, gives_up, queue_of_slot, queue_of_blocked, slot_taken, scan, counted, one_more, joined}
+use Rattle.lq_model.specs.Steps.{is_idle, may_begin, begun, start_of, step_of, with_seat, After, goes_to, step_at, may_answer, check, put_answered, dequeue_begins, behind_sent, call_ends, gives_up, queue_of_slot, queue_of_blocked, accepted, slot_taken, scan, counted, one_more, joined}
 use Rattle.lq_run_core.proofs.Local as local
-use Rattle.lq_run_core.proofs.Local.{Local, Dequeues, Sends, Puts, Gets, GivesUp, Ends}
+use Rattle.lq_run_core.proofs.Local.{Local, Dequeues, Sends, Puts}
 
 -- a choice of two values, with what it was made by
 pub if-cases : {A : Type 0} (P : A → Type 0) (b : Bool) (x y : A) → (b ≡ true → P x) → (b ≡ false → P y) → P (if b then x else y)
@@ -56,17 +56,87 @@ pub sends : (q : Qdisc) (s : Seat) (direct : Bool) → Sends q direct (behind_se
 sends q s true = local.sent_directly
 sends q s false = if-cases (Sends q false) (s.run == 64) _ _ (λ _. local.sent_quota) (λ _. local.sent_on (dequeue_begins q) (dequeues q))
 
-pub ends : (inside : Bool) → Ends inside (call_ends inside)
-ends true = local.ends_inside
-ends false = local.ends_outside
-
-pub gives-up : (attempt : Attempt) → GivesUp attempt (gives_up attempt)
-gives-up (Queued p) = local.no_queued p
-gives-up (Direct p) = local.no_direct p
-gives-up Interrupt = local.no_interrupt
-
 abbrev Leads : Bool → (Packet → Type 0) → Position → Qdisc → Seat → After → Type 0
 Leads sole free position q s after = Local sole free q s position after
+
+-- the outcomes of the choices inside a step
+put-free : (sole : Bool) (free : Packet → Type 0) (q : Qdisc) (s : Seat) (p : Packet) (after : Qdisc) → Puts p q after
+  → Leads sole free (Put p false) q s (goes_to after s (Try1 (Queued p)))
+put-free sole free q s p _ local.put_joins = local.put_join p
+put-free sole free q s p _ local.put_refused = local.put_full p
+
+put-holding : (sole : Bool) (free : Packet → Type 0) (q : Qdisc) (s : Seat) (p : Packet) (after : Qdisc) (d : Position) → Puts p q after → Dequeues q d
+  → Leads sole free (Put p true) q s (record { qdisc = after; seat = record s { position = d; run = 0 } })
+put-holding sole free q s p _ _ local.put_joins (local.at_stop_word h) = local.put_join_word p 0 h
+put-holding sole free q s p _ _ local.put_joins (local.at_bands h) = local.put_join_bands p 0 h
+put-holding sole free q s p _ _ local.put_refused (local.at_stop_word h) = local.put_full_word p 0 h
+put-holding sole free q s p _ _ local.put_refused (local.at_bands h) = local.put_full_bands p 0 h
+
+try1-queued : (sole : Bool) (free : Packet → Type 0) (q : Qdisc) (s : Seat) (p : Packet) (d : Position) → q.locked ≡ false → Dequeues q d
+  → Leads sole free (Try1 (Queued p)) q s (record { qdisc = record q { locked = true }; seat = record s { position = d; run = 0 } })
+try1-queued sole free q s p _ e (local.at_stop_word h) = local.try1_queued_word p 0 e h
+try1-queued sole free q s p _ e (local.at_bands h) = local.try1_queued_bands p 0 e h
+
+try1-interrupt : (sole : Bool) (free : Packet → Type 0) (q : Qdisc) (s : Seat) (d : Position) → q.locked ≡ false → Dequeues q d
+  → Leads sole free (Try1 Interrupt) q s (record { qdisc = record q { locked = true }; seat = record s { position = d; run = 0 } })
+try1-interrupt sole free q s _ e (local.at_stop_word h) = local.try1_interrupt_word 0 e h
+try1-interrupt sole free q s _ e (local.at_bands h) = local.try1_interrupt_bands 0 e h
+
+try2-queued : (sole : Bool) (free : Packet → Type 0) (q : Qdisc) (s : Seat) (p : Packet) (d : Position) → q.locked ≡ false → Dequeues q d
+  → Leads sole free (Try2 (Queued p)) q s (record { qdisc = record q { locked = true }; seat = record s { position = d; run = 0 } })
+try2-queued sole free q s p _ e (local.at_stop_word h) = local.try2_queued_word p 0 e h
+try2-queued sole free q s p _ e (local.at_bands h) = local.try2_queued_bands p 0 e h
+
+try2-interrupt : (sole : Bool) (free : Packet → Type 0) (q : Qdisc) (s : Seat) (d : Position) → q.locked ≡ false → Dequeues q d
+  → Leads sole free (Try2 Interrupt) q s (record { qdisc = record q { locked = true }; seat = record s { position = d; run = 0 } })
+try2-interrupt sole free q s _ e (local.at_stop_word h) = local.try2_interrupt_word 0 e h
+try2-interrupt sole free q s _ e (local.at_bands h) = local.try2_interrupt_bands 0 e h
+
+miss-set : (sole : Bool) (free : Packet → Type 0) (q : Qdisc) (s : Seat) (attempt : Attempt) → q.missed ≡ true
+  → Leads sole free (Miss attempt) q s (goes_to q s (gives_up attempt))
+miss-set sole free q s (Direct p) e = local.miss_set_direct p e
+miss-set sole free q s (Queued p) e = local.miss_set_queued p e
+miss-set sole free q s Interrupt e = local.miss_set_interrupt e
+
+try2-held : (sole : Bool) (free : Packet → Type 0) (q : Qdisc) (s : Seat) (attempt : Attempt) → q.locked ≡ true
+  → Leads sole free (Try2 attempt) q s (goes_to q s (gives_up attempt))
+try2-held sole free q s (Direct p) e = local.try2_held_direct p e
+try2-held sole free q s (Queued p) e = local.try2_held_queued p e
+try2-held sole free q s Interrupt e = local.try2_held_interrupt e
+
+xmit-sent : (sole : Bool) (free : Packet → Type 0) (q : Qdisc) (s : Seat) (p : Packet) (direct : Bool) (d : Position) → Sends q direct d
+  → Leads sole free (Xmit p direct) q s (goes_to (accepted q) (counted s) d)
+xmit-sent sole free q s p _ _ local.sent_directly = local.xmit_sent_direct p
+xmit-sent sole free q s p _ _ local.sent_quota = local.xmit_sent_quota p
+xmit-sent sole free q s p _ _ (local.sent_on _ (local.at_stop_word h)) = local.xmit_sent_word p h
+xmit-sent sole free q s p _ _ (local.sent_on _ (local.at_bands h)) = local.xmit_sent_bands p h
+
+stop-last : (sole : Bool) (free : Packet → Type 0) (q : Qdisc) (s : Seat) (queue : ℕ) (hung direct : Bool) (v : ℕ) (d : Position) → Sends q direct d
+  → Leads sole free (StoreXoff queue hung direct) q s (goes_to (record q { xoff = slice_set q.xoff queue v }) s d)
+stop-last sole free q s queue hung _ v _ local.sent_directly = local.stop_last_direct queue hung v
+stop-last sole free q s queue hung _ v _ local.sent_quota = local.stop_last_quota queue hung v
+stop-last sole free q s queue hung _ v _ (local.sent_on _ (local.at_stop_word h)) = local.stop_last_word queue hung v h
+stop-last sole free q s queue hung _ v _ (local.sent_on _ (local.at_bands h)) = local.stop_last_bands queue hung v h
+
+post-goes-on : (sole : Bool) (free : Packet → Type 0) (q : Qdisc) (s : Seat) (d : Position) → Dequeues q d
+  → Leads sole free Post q s (record { qdisc = q; seat = record s { position = d; run = 0 } })
+post-goes-on sole free q s _ (local.at_stop_word h) = local.post_word 0 h
+post-goes-on sole free q s _ (local.at_bands h) = local.post_bands 0 h
+
+tail-clear : (sole : Bool) (free : Packet → Type 0) (q : Qdisc) (s : Seat) (inside : Bool) → q.missed ≡ false
+  → Leads sole free (Tail inside) q s (goes_to q s (call_ends inside))
+tail-clear sole free q s true e = local.tail_inside e
+tail-clear sole free q s false e = local.tail_outside e
+
+sched-set : (sole : Bool) (free : Packet → Type 0) (q : Qdisc) (s : Seat) (inside : Bool) → q.sched ≡ true
+  → Leads sole free (Sched inside) q s (goes_to q s (call_ends inside))
+sched-set sole free q s true e = local.sched_set_inside e
+sched-set sole free q s false e = local.sched_set_outside e
+
+sched-sets : (sole : Bool) (free : Packet → Type 0) (q : Qdisc) (s : Seat) (inside : Bool) → q.sched ≡ false
+  → Leads sole free (Sched inside) q s (record { qdisc = record q { sched = true }; seat = record s { position = call_ends inside; raised = true } })
+sched-sets sole free q s true e = local.sched_sets_inside e
+sched-sets sole free q s false e = local.sched_sets_outside e
 
 check-leads : (sole : Bool) (free : Packet → Type 0) (p : Packet) (q : Qdisc) (s : Seat) → Leads sole free (Check p) q s (goes_to q s (check p q))
 check-leads sole free p q s =
@@ -77,10 +147,10 @@ check-leads sole free p q s =
 
 put-leads : (sole : Bool) (free : Packet → Type 0) (p : Packet) (holds : Bool) (answer : Answer) (q : Qdisc) (s : Seat)
   → may_answer (Put p holds) answer q ≡ true → Leads sole free (Put p holds) q s (step_at (Put p holds) answer q s)
-put-leads sole free p true Plain q s _ = local.put_holding p _ _ 0 local.put_joins (dequeues q)
-put-leads sole free p true FullSlot q s _ = local.put_holding p _ _ 0 local.put_refused (dequeues q)
-put-leads sole free p false Plain q s _ = local.put_free p _ local.put_joins
-put-leads sole free p false FullSlot q s _ = local.put_free p _ local.put_refused
+put-leads sole free p true Plain q s _ = put-holding sole free q s p _ _ local.put_joins (dequeues q)
+put-leads sole free p true FullSlot q s _ = put-holding sole free q s p _ _ local.put_refused (dequeues q)
+put-leads sole free p false Plain q s _ = put-free sole free q s p _ local.put_joins
+put-leads sole free p false FullSlot q s _ = put-free sole free q s p _ local.put_refused
 put-leads sole free p holds Stop q s e = cc
 put-leads sole free p holds Hang q s e = cc
 put-leads sole free p holds Busy q s e = cc
@@ -88,20 +158,20 @@ put-leads sole free p holds Busy q s e = cc
 try1-leads : (sole : Bool) (free : Packet → Type 0) (attempt : Attempt) (answer : Answer) (q : Qdisc) (s : Seat)
   → Leads sole free (Try1 attempt) q s (step_at (Try1 attempt) answer q s)
 try1-leads sole free (Direct p) answer q s =
-    if-cases (Leads sole free (Try1 (Direct p)) q s) q.locked _ _ (λ e. local.try1_held _ e) (λ e. local.try1_got _ _ _ e (local.got_direct p))
+    if-cases (Leads sole free (Try1 (Direct p)) q s) q.locked _ _ (λ e. local.try1_held _ e) (λ e. local.try1_direct p e)
 try1-leads sole free (Queued p) answer q s =
-    if-cases (Leads sole free (Try1 (Queued p)) q s) q.locked _ _ (λ e. local.try1_held _ e) (λ e. local.try1_got _ _ _ e (local.got_queued p _ (dequeues q)))
+    if-cases (Leads sole free (Try1 (Queued p)) q s) q.locked _ _ (λ e. local.try1_held _ e) (λ e. try1-queued sole free q s p _ e (dequeues q))
 try1-leads sole free Interrupt answer q s =
-    if-cases (Leads sole free (Try1 Interrupt) q s) q.locked _ _ (λ e. local.try1_held _ e) (λ e. local.try1_got _ _ _ e (local.got_interrupt _ (dequeues q)))
+    if-cases (Leads sole free (Try1 Interrupt) q s) q.locked _ _ (λ e. local.try1_held _ e) (λ e. try1-interrupt sole free q s _ e (dequeues q))
 
 try2-leads : (sole : Bool) (free : Packet → Type 0) (attempt : Attempt) (answer : Answer) (q : Qdisc) (s : Seat)
   → Leads sole free (Try2 attempt) q s (step_at (Try2 attempt) answer q s)
 try2-leads sole free (Direct p) answer q s =
-    if-cases (Leads sole free (Try2 (Direct p)) q s) q.locked _ _ (λ e. local.try2_held _ _ e (gives-up _)) (λ e. local.try2_got _ _ _ e (local.got_direct p))
+    if-cases (Leads sole free (Try2 (Direct p)) q s) q.locked _ _ (λ e. try2-held sole free q s _ e) (λ e. local.try2_direct p e)
 try2-leads sole free (Queued p) answer q s =
-    if-cases (Leads sole free (Try2 (Queued p)) q s) q.locked _ _ (λ e. local.try2_held _ _ e (gives-up _)) (λ e. local.try2_got _ _ _ e (local.got_queued p _ (dequeues q)))
+    if-cases (Leads sole free (Try2 (Queued p)) q s) q.locked _ _ (λ e. try2-held sole free q s _ e) (λ e. try2-queued sole free q s p _ e (dequeues q))
 try2-leads sole free Interrupt answer q s =
-    if-cases (Leads sole free (Try2 Interrupt) q s) q.locked _ _ (λ e. local.try2_held _ _ e (gives-up _)) (λ e. local.try2_got _ _ _ e (local.got_interrupt _ (dequeues q)))
+    if-cases (Leads sole free (Try2 Interrupt) q s) q.locked _ _ (λ e. try2-held sole free q s _ e) (λ e. try2-interrupt sole free q s _ e (dequeues q))
 
 slot-leads : (sole : Bool) (free : Packet → Type 0) (slot : Option Packet) (q : Qdisc) (s : Seat) → q.slot ≡ slot → Leads sole free Deq q s (slot_taken slot q s)
 slot-leads sole free (Some p) q s e = local.deq_slot p
@@ -117,7 +187,7 @@ scan-leads sole free [] band false q s e =
 
 xmit-leads : (sole : Bool) (free : Packet → Type 0) (p : Packet) (direct : Bool) (answer : Answer) (q : Qdisc) (s : Seat)
   → may_answer (Xmit p direct) answer q ≡ true → Leads sole free (Xmit p direct) q s (step_at (Xmit p direct) answer q s)
-xmit-leads sole free p direct Plain q s _ = local.xmit_sent p direct _ (sends q (counted s) direct)
+xmit-leads sole free p direct Plain q s _ = xmit-sent sole free q s p direct _ (sends q (counted s) direct)
 xmit-leads sole free p direct FullSlot q s e = cc
 xmit-leads sole free p direct Stop q s _ = local.xmit_stops p direct _ _
 xmit-leads sole free p direct Hang q s _ = local.xmit_stops p direct _ _
@@ -151,7 +221,7 @@ step-leads sole free (Check p) answer q s _ = check-leads sole free p q s
 step-leads sole free (Put p holds) answer q s e = put-leads sole free p holds answer q s e
 step-leads sole free (Try1 attempt) answer q s _ = try1-leads sole free attempt answer q s
 step-leads sole free (Miss attempt) answer q s _ =
-    if-cases (Leads sole free (Miss attempt) q s) q.missed _ _ (λ e. local.miss_set _ _ e (gives-up _)) (λ e. local.miss_sets _ e)
+    if-cases (Leads sole free (Miss attempt) q s) q.missed _ _ (λ e. miss-set sole free q s attempt e) (λ e. local.miss_sets _ e)
 step-leads sole free (Try2 attempt) answer q s _ = try2-leads sole free attempt answer q s
 step-leads sole free (Recheck p) answer q s _ =
     non-empty-leads (λ d. Leads sole free (Recheck p) q s (goes_to q s d)) q _ _ (local.recheck_non_empty p) (λ m d. local.recheck_clear p m d)
@@ -160,9 +230,9 @@ step-leads sole free (Gate p direct) answer q s _ =
 step-leads sole free (Xmit p direct) answer q s e = xmit-leads sole free p direct answer q s e
 step-leads sole free (StoreXoff queue hung direct) answer q s _ =
     if-cases (λ d. Leads sole free (StoreXoff queue hung direct) q s (goes_to (record q { xoff = slice_set q.xoff queue (if hung then 2 else 1) }) s d))
-      (hung && nat_lt (queue + 1) (length q.xoff)) _ _ (λ _. local.stop_next queue hung direct _) (λ _. local.stop_last queue hung direct _ _ (sends q s direct))
+      (hung && nat_lt (queue + 1) (length q.xoff)) _ _ (λ _. local.stop_next queue hung direct _) (λ _. stop-last sole free q s queue hung direct _ _ (sends q s direct))
 step-leads sole free Post answer q s _ =
-    non-empty-leads (Leads sole free Post q s) q _ _ (local.post_non_empty _ _ (dequeues q)) (λ m d. local.post_clear m d)
+    non-empty-leads (Leads sole free Post q s) q _ _ (post-goes-on sole free q s _ (dequeues q)) (λ m d. local.post_clear m d)
 step-leads sole free Deq answer q s _ =
     if-cases (Leads sole free Deq q s) (is_open q (queue_of_slot q.slot)) _ _ (λ _. slot-leads sole free q.slot q s refl) (λ _. local.deq_closed)
 step-leads sole free (Scan band second) answer q s _ = scan-leads sole free (band_at q band) band second q s refl
@@ -181,9 +251,9 @@ step-leads sole free Again answer q s _ = local.again
 step-leads sole free Quota answer q s _ = local.quota
 step-leads sole free Unlock answer q s _ = local.unlock
 step-leads sole free (Tail inside) answer q s _ =
-    if-cases (λ d. Leads sole free (Tail inside) q s (goes_to q s d)) q.missed _ _ (λ _. local.tail_missed inside) (λ e. local.tail_clear inside _ e (ends inside))
+    if-cases (λ d. Leads sole free (Tail inside) q s (goes_to q s d)) q.missed _ _ (λ _. local.tail_missed inside) (λ e. tail-clear sole free q s inside e)
 step-leads sole free (Sched inside) answer q s _ =
-    if-cases (Leads sole free (Sched inside) q s) q.sched _ _ (λ e. local.sched_set inside _ e (ends inside)) (λ e. local.sched_sets inside _ e (ends inside))
+    if-cases (Leads sole free (Sched inside) q s) q.sched _ _ (λ e. sched-set sole free q s inside e) (λ e. sched-sets sole free q s inside e)
 step-leads sole free Leave answer q s _ = local.leave
 step-leads sole free Soft answer q s _ =
     bool-cases (λ d. Leads sole free Soft q s (goes_to q s (SoftClear d))) q.deactivated (λ e. local.soft_deactivated e) (λ e. local.soft_active e)
