@@ -2,3 +2,5 @@
 #![tactic(auto)]
 
 mod laws_lock;
+mod qdisc;
+mod steps;
