@@ -288,7 +288,7 @@ idle-leads sole free Interrupts q s may f = local.interrupts (and-true _ _ may).
 idle-leads sole free (Wakes queue) q s may f = local.wakes queue
 idle-leads sole free Controls q s may f = local.controls
 
-start-leads : (sole : Bool) (free : Packet → Type 0) (b : Beginning) (q : Qdisc) (s : Seat)
+pub start-leads : (sole : Bool) (free : Packet → Type 0) (b : Beginning) (q : Qdisc) (s : Seat)
   → may_begin b s ≡ true → ((p : Packet) → b ≡ Transmits p → free p) → Local sole free q s s.position (record { qdisc = q; seat = begun b s })
 start-leads sole free b q s may f =
     subst (λ (d : Position). Local sole free q s d (record { qdisc = q; seat = begun b s }))

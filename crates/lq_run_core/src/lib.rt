@@ -2,5 +2,11 @@
 #![tactic(auto)]
 
 mod laws_lock;
+mod machine;
 mod qdisc;
+mod start;
 mod steps;
+
+pub use lq_model::{Answer, Position, Seat};
+pub use machine::Machine;
+pub use start::Start;
