@@ -2,3 +2,4 @@
 #![tactic(auto)]
 
 mod laws_lock;
+mod laws_exposed;
