@@ -1,8 +1,8 @@
 -- A seat that doesn't hold the run lock: it stays beside the holder, or takes the lock where it is free.
-use Rattle.std.proofs.Common.{◌≡◌, ℕ, Bool, true, false, ◌⊎◌, inl, inr, Option, Some, None, refl}
+use Rattle.std.proofs.Common.{◌≡◌, Bool, true, false, ◌⊎◌, inl, inr, Some, None, refl}
 use Rattle.lq_model.specs.declared.machine.Packet.{Packet}
 use Rattle.lq_model.specs.declared.machine.Position.{Position}
-use Rattle.lq_model.specs.declared.machine.Position.TheVariants.{Idle, Enter, Check, Put, Try1, Miss, Try2, Recheck, Gate, Xmit, StoreXoff, Post, Deq, Scan, Test, ClearMissed, ClearDraining, BlockedClear, BlockedLoad, BlockedMiss, BlockedDrain, Again, Quota, Unlock, Tail, Sched, Leave, Soft, SoftClear, Late, Wake, Control}
+use Rattle.lq_model.specs.declared.machine.Position.TheVariants.{Recheck, Deq, Scan, Control}
 use Rattle.lq_model.specs.declared.machine.Seat.{Seat}
 use Rattle.std.specs.Prelude.{is_none}
 use Rattle.lq_model.specs.Machine.{Qdisc, is_shared}
@@ -25,7 +25,7 @@ pub record IsTaking (q : Qdisc) (before after : Position) (q' : Qdisc) : Type 0 
   pub locks : q' ≡ record q { locked = true }
 
 pub aside : {sole : Bool} {free : Packet → Type 0} {q : Qdisc} {s : Seat} {before : Position} {after : After} → Local sole free q s before after
-  → holds_lock before ≡ false → (holds_lock after.seat.position ≡ false) ⊎ IsTaking q before after.seat.position after.qdisc
+    → holds_lock before ≡ false → (holds_lock after.seat.position ≡ false) ⊎ IsTaking q before after.seat.position after.qdisc
 aside (local.try1_direct p e) h = inr (record { free = e; takes = takes_direct p refl refl; locks = refl })
 aside (local.try1_queued_word p run e full) h = inr (record { free = e; takes = takes_word full; locks = refl })
 aside (local.try1_queued_bands p run e none) h = inr (record { free = e; takes = takes_bands none; locks = refl })

@@ -1,17 +1,16 @@
 -- What a step of a seat beside the holder of the run lock leaves alone.
-use Rattle.std.proofs.Common.{◌≡◌, ℕ, ◌<◌, Bool, true, false, ◌++◌, [], ◌∷◌, List, ◌⊎◌, inl, inr, ⊎_elim, length, Contains, Option, Some, None, refl, sym, ap, subst, get_or}
+use Rattle.std.proofs.Common.{◌≡◌, ℕ, Bool, true, false, ◌++◌, [], ◌∷◌, ◌⊎◌, inl, inr, length, Contains, Some, refl, sym, ap, subst, get_or}
 use Rattle.lq_model.specs.declared.machine.Packet.{Packet}
 use Rattle.lq_model.specs.declared.machine.Attempt.{Attempt}
 use Rattle.lq_model.specs.declared.machine.Attempt.TheVariants.{Queued, Direct, Interrupt}
 use Rattle.lq_model.specs.declared.machine.Position.{Position}
-use Rattle.lq_model.specs.declared.machine.Position.TheVariants.{Idle, Enter, Check, Put, Try1, Miss, Try2, Recheck, Gate, Xmit, StoreXoff, Post, Deq, Scan, Test, ClearMissed, ClearDraining, BlockedClear, BlockedLoad, BlockedMiss, BlockedDrain, Again, Quota, Unlock, Tail, Sched, Leave, Soft, SoftClear, Late, Wake, Control}
+use Rattle.lq_model.specs.declared.machine.Position.TheVariants.{Put, Try1, Miss}
 use Rattle.lq_model.specs.declared.machine.Seat.{Seat}
 use Rattle.lq_model.specs.Machine.{Qdisc, band_at}
 use Rattle.lq_model.specs.Steps.{After, joined}
 use Rattle.std.proofs.lemmas.List.{length-set}
 use Rattle.std.proofs.lemmas.List.Elements.{Contains-push_cases}
 use Rattle.lq_model.specs.Kept.{holds_lock, queued, own_packet}
-
 use Rattle.lq_run_core.proofs.Local.{Local}
 use Rattle.lq_run_core.proofs.Local as local
 use Rattle.lq_run_core.proofs.Bands.{set-holds}
@@ -28,7 +27,7 @@ pub record IsBeside (before : Position) (q : Qdisc) (after : Position) (q' : Qdi
 
 -- a step that changes nothing that a holder rests on
 alike : (before after : Position) (q q' : Qdisc) → q'.missed ≡ q.missed → q'.draining ≡ q.draining → q'.slot ≡ q.slot → q'.purge ≡ q.purge
-  → length q'.xoff ≡ length q.xoff → q'.bands ≡ q.bands → ((p : Packet) → queued before ≡ Some p → q'.missed ≡ false → queued after ≡ Some p) → IsBeside before q after q'
+    → length q'.xoff ≡ length q.xoff → q'.bands ≡ q.bands → ((p : Packet) → queued before ≡ Some p → q'.missed ≡ false → queued after ≡ Some p) → IsBeside before q after q'
 alike before after q q' missed draining slot purge queues bands hidden = record {
   missed = λ e. cc;
   draining = draining;
@@ -52,12 +51,12 @@ join-hides p q = record {
 }
   where
     joined_by : (k : ℕ) (r : Packet) → Contains (band_at q k) r ⊎ ((k ≡ p.band) × Contains (band_at q p.band ++ p ∷ []) r)
-      → Contains (band_at q k) r ⊎ ((Some p ≡ Some r) × (Some p ≡ Some r))
+        → Contains (band_at q k) r ⊎ ((Some p ≡ Some r) × (Some p ≡ Some r))
     joined_by k r (inl old) = inl old
     joined_by k r (inr at) = elim (Contains-push_cases (band_at q p.band) p r at.1) [
-        inl old ↦ inl (subst (λ n. Contains (band_at q n) r) (sym at.0) old)
+      | inl old ↦ inl (subst (λ n. Contains (band_at q n) r) (sym at.0) old)
       | inr own ↦ inr (ap Some own, ap Some own)
-      ]
+    ]
 
 -- between its tries a transmit's packet stays hidden
 missed-hides : (attempt : Attempt) (p : Packet) → queued (Try1 attempt) ≡ Some p → queued (Miss attempt) ≡ Some p
@@ -67,12 +66,12 @@ missed-hides Interrupt p e = cc
 
 -- a free lock may be taken; nobody but its holder releases it
 pub stays-locked : {sole : Bool} {free : Packet → Type 0} {q : Qdisc} {s : Seat} {before : Position} {after : After} → Local sole free q s before after
-  → holds_lock before ≡ false → q.locked ≡ true → after.qdisc.locked ≡ true
+    → holds_lock before ≡ false → q.locked ≡ true → after.qdisc.locked ≡ true
 stays-locked (local.enter_transmit p) h locked = locked
 stays-locked _ h locked = cc
 
 pub beside : {sole : Bool} {free : Packet → Type 0} {q : Qdisc} {s : Seat} {before : Position} {after : After} → Local sole free q s before after
-  → holds_lock before ≡ false → after.qdisc.locked ≡ q.locked → IsBeside before q after.seat.position after.qdisc
+    → holds_lock before ≡ false → after.qdisc.locked ≡ q.locked → IsBeside before q after.seat.position after.qdisc
 beside (local.put_join p) h same = join-hides p _
 beside (local.try1_held attempt e) h same = alike _ _ _ _ refl refl refl refl refl refl (λ p hidden c. missed-hides attempt p hidden)
 beside (local.miss_sets attempt e) h same = record {

@@ -1,19 +1,18 @@
 -- With several queues a dequeue begins at a stop word only where the requeue slot is full.
-use Rattle.std.proofs.Common.{◌≡◌, ◌≢◌, ℕ, ◌<◌, Bool, true, false, length, Option, Some, None, refl, sym, ap, ◌∙◌, subst}
+use Rattle.std.proofs.Common.{◌≡◌, ◌≢◌, ℕ, Bool, true, false, Option, Some, None, refl, sym, ap, ◌∙◌, subst}
 use Rattle.std.specs.Prelude.{is_some, is_none, nat_lt}
 use Rattle.std.proofs.lemmas.List.{length-set}
 use Rattle.lq_model.specs.declared.machine.Packet.{Packet}
 use Rattle.lq_model.specs.declared.machine.Position.{Position}
-use Rattle.lq_model.specs.declared.machine.Position.TheVariants.{Idle, Enter, Check, Put, Try1, Miss, Try2, Recheck, Gate, Xmit, StoreXoff, Post, Deq, Scan, Test, ClearMissed, ClearDraining, BlockedClear, BlockedLoad, BlockedMiss, BlockedDrain, Again, Quota, Unlock, Tail, Sched, Leave, Soft, SoftClear, Late, Wake, Control}
+use Rattle.lq_model.specs.declared.machine.Position.TheVariants.{Deq}
 use Rattle.lq_model.specs.declared.machine.Seat.{Seat}
 use Rattle.lq_model.specs.Machine.{Qdisc, Machine, is_shared, seat_at}
-use Rattle.lq_model.specs.Steps.{After, with_seat}
+use Rattle.lq_model.specs.Steps.{After}
 use Rattle.lq_model.specs.Kept.{IsInductive, Moves, DequeueWaits, holds_lock}
 use Rattle.lq_run_core.proofs.Local as local
 use Rattle.lq_run_core.proofs.Local.{Local}
 use Rattle.lq_run_core.proofs.LocalSteps.{Moved, moved}
 use Rattle.lq_run_core.proofs.Frames.{each-seat}
-use Rattle.lq_run_core.proofs.Beside.{IsBeside}
 use Rattle.lq_run_core.proofs.Rely.{rely}
 
 -- a slot that isn't empty is full
@@ -23,7 +22,7 @@ full None e = cc
 
 -- the moving seat's own
 mine : {sole : Bool} {free : Packet → Type 0} {q : Qdisc} {s : Seat} {before : Position} {after : After} → Local sole free q s before after
-  → after.seat.position ≡ Deq → is_shared after.qdisc ≡ true → is_some after.qdisc.slot ≡ true
+    → after.seat.position ≡ Deq → is_shared after.qdisc ≡ true → is_some after.qdisc.slot ≡ true
 mine (local.put_join_word p run waits) e shared = full _ (waits shared)
 mine (local.put_full_word p run waits) e shared = full _ (waits shared)
 mine (local.try1_queued_word p run free waits) e shared = full _ (waits shared)
@@ -40,6 +39,7 @@ dequeue-waits m n h moves = subst DequeueWaits (sym t.is) (each-seat m t.i t.aft
   where
     t : Moved m n
     t = moved m n moves
+
     others : (j : ℕ) → j ≢ t.i → (seat_at m j).position ≡ Deq → is_shared t.after.qdisc ≡ true → is_some t.after.qdisc.slot ≡ true
     others j other e shared =
         let leaves = rely m t.i j h.kept.one_holder t.leads other (ap holds_lock e) in

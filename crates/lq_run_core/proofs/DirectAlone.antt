@@ -1,15 +1,14 @@
 -- No packet goes past the bands while one of the same owner is held.
-use Rattle.std.proofs.Common.{◌≡◌, ◌≢◌, ℕ, ◌<◌, Bool, true, false, ◌⊎◌, inl, inr, length, Option, Some, None, refl, sym, ap, ◌∙◌, subst, Contains}
+use Rattle.std.proofs.Common.{◌≡◌, ◌≢◌, ℕ, ◌<◌, Bool, true, false, ◌⊎◌, inl, inr, Some, None, refl, sym, ap, ◌∙◌, subst, Contains}
 use Rattle.lq_model.specs.declared.machine.Packet.{Packet}
 use Rattle.lq_model.specs.declared.machine.Attempt.TheVariants.{Queued}
-use Rattle.lq_model.specs.declared.machine.Blocked.{Blocked}
-use Rattle.lq_model.specs.declared.machine.Blocked.TheVariants.{InHand, NoneTaken}
+use Rattle.lq_model.specs.declared.machine.Blocked.TheVariants.{InHand}
 use Rattle.lq_model.specs.declared.machine.Position.{Position}
-use Rattle.lq_model.specs.declared.machine.Position.TheVariants.{Idle, Enter, Check, Put, Try1, Miss, Try2, Recheck, Gate, Xmit, StoreXoff, Post, Deq, Scan, Test, ClearMissed, ClearDraining, BlockedClear, BlockedLoad, BlockedMiss, BlockedDrain, Again, Quota, Unlock, Tail, Sched, Leave, Soft, SoftClear, Late, Wake, Control}
+use Rattle.lq_model.specs.declared.machine.Position.TheVariants.{Try1, Miss, Recheck, Gate, BlockedClear, BlockedLoad, BlockedMiss, BlockedDrain}
 use Rattle.lq_model.specs.declared.machine.Seat.{Seat}
 use Rattle.lq_model.specs.Machine.{Qdisc, Machine, seat_at, band_at}
-use Rattle.lq_model.specs.Steps.{After, with_seat}
-use Rattle.lq_model.specs.Kept.{IsInductive, Moves, DirectAlone, OwnersDiffer, Holds, IsHidden, BitsClear, ClearBelow, holds_lock, queued, own_packet, direct_packet, looked_below}
+use Rattle.lq_model.specs.Steps.{After}
+use Rattle.lq_model.specs.Kept.{IsInductive, Moves, DirectAlone, OwnersDiffer, IsHidden, ClearBelow, holds_lock, queued, own_packet, direct_packet, looked_below}
 use Rattle.lq_run_core.proofs.Local as local
 use Rattle.lq_run_core.proofs.Local.{Local}
 use Rattle.lq_run_core.proofs.LocalSteps.{Moved, moved}
@@ -40,9 +39,9 @@ queued-own _ p e = cc
 
 -- the moving seat's own
 mine : {sole : Bool} {free : Packet → Type 0} {q : Qdisc} {s : Seat} {before : Position} {after : After} → Local sole free q s before after
-  → ((p r : Packet) → direct_packet before ≡ Some p → HoldsIn q r → r.owner ≢ p.owner)
-  → ((p r : Packet) → before ≡ Recheck p → q.missed ≡ false → q.draining ≡ false → HoldsIn q r → r.owner ≢ p.owner)
-  → (p r : Packet) → direct_packet after.seat.position ≡ Some p → HoldsIn after.qdisc r → r.owner ≢ p.owner
+    → ((p r : Packet) → direct_packet before ≡ Some p → HoldsIn q r → r.owner ≢ p.owner)
+    → ((p r : Packet) → before ≡ Recheck p → q.missed ≡ false → q.draining ≡ false → HoldsIn q r → r.owner ≢ p.owner)
+    → (p r : Packet) → direct_packet after.seat.position ≡ Some p → HoldsIn after.qdisc r → r.owner ≢ p.owner
 mine (local.recheck_clear own missed draining) alone clear p r e held = clear p r (cc) missed draining held
 mine (local.gate_open own direct open_queue) alone clear p r e held = alone p r e held
 mine (local.gate_closed own direct) alone clear p r e held = alone p r e held
@@ -67,15 +66,18 @@ direct-alone m n h moves = subst DirectAlone (sym t.is) (each-seat m t.i t.after
   where
     t : Moved m n
     t = moved m n moves
+
     rechecked : (p r : Packet) → (seat_at m t.i).position ≡ Recheck p → m.qdisc.missed ≡ false → m.qdisc.draining ≡ false → HoldsIn m.qdisc r → r.owner ≢ p.owner
     rechecked p r at missed draining held =
         clear-differs m t.i p r h.owners_differ (ap own_packet at) (ap queued at)
-          (h.kept.looked_clear t.i 3 (ap (looked_below m.qdisc.purge) at) (record { missed = missed; draining = draining })) held
+        (h.kept.looked_clear t.i 3 (ap (looked_below m.qdisc.purge) at) (record { missed = missed; draining = draining })) held
+
     joined : (j : ℕ) → j ≢ t.i → (p r : Packet) → direct_packet (seat_at m j).position ≡ Some p → IsBeside (seat_at m t.i).position m.qdisc t.after.seat.position t.after.qdisc → HoldsIn t.after.qdisc r → r.owner ≢ p.owner
     joined j other p r e leaves (inl slot) = h.direct_alone j p r e (inl (sym leaves.slot ∙ slot))
     joined j other p r e leaves (inr (k, (below, held))) = elim (leaves.bands k r held) [
-        inl old ↦ h.direct_alone j p r e (inr (k, (below, old)))
+      | inl old ↦ h.direct_alone j p r e (inr (k, (below, old)))
       | inr new ↦ h.owners_differ t.i j r p (λ same. other (sym same)) new.1 (direct-own _ p e)
-      ]
+    ]
+
     others : (j : ℕ) → j ≢ t.i → (p r : Packet) → direct_packet (seat_at m j).position ≡ Some p → HoldsIn t.after.qdisc r → r.owner ≢ p.owner
     others j other p r e held = joined j other p r e (rely m t.i j h.kept.one_holder t.leads other (direct-holds _ p e)) held

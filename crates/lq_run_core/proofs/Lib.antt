@@ -13,3 +13,4 @@ pub mod DequeueWaits
 pub mod OwnersDiffer
 pub mod DirectAlone
 pub mod LookedClear
+pub mod LockFreeClear

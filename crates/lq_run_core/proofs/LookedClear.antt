@@ -1,28 +1,27 @@
 -- What a holder has looked at stays clear while neither bit is set, and so does the machine at a free lock.
-use Rattle.std.proofs.Common.{◌≡◌, ◌≢◌, ℕ, ◌+◌, ◌<◌, ◌≤◌, Bool, true, false, List, [], ◌∷◌, ◌⊎◌, inl, inr, length, Option, Some, None, refl, sym, ap, ◌∙◌, subst, Contains, arith}
+use Rattle.std.proofs.Common.{◌≡◌, ◌≢◌, ℕ, ◌+◌, ◌<◌, ◌≤◌, Bool, true, false, List, [], ◌⊎◌, inl, inr, length, Option, Some, None, refl, sym, ap, ◌∙◌, subst, Contains, arith}
 use Rattle.std.specs.Prelude.{nat_lt}
 use Rattle.std.proofs.lemmas.Bool.{cases_lt, ltb-false}
 use Rattle.lq_model.specs.declared.machine.Packet.{Packet}
 use Rattle.lq_model.specs.declared.machine.Position.{Position}
-use Rattle.lq_model.specs.declared.machine.Position.TheVariants.{Idle, Enter, Check, Put, Try1, Miss, Try2, Recheck, Gate, Xmit, StoreXoff, Post, Deq, Scan, Test, ClearMissed, ClearDraining, BlockedClear, BlockedLoad, BlockedMiss, BlockedDrain, Again, Quota, Unlock, Tail, Sched, Leave, Soft, SoftClear, Late, Wake, Control}
+use Rattle.lq_model.specs.declared.machine.Position.TheVariants.{Gate, Control}
 use Rattle.lq_model.specs.declared.machine.Seat.{Seat}
 use Rattle.lq_model.specs.Machine.{Qdisc, Machine, Purge, seat_at, band_at}
 use Rattle.lq_model.specs.Steps.{After, with_seat}
-use Rattle.lq_model.specs.Kept.{IsInductive, Moves, LookedClear, LockFreeClear, IsHidden, BitsClear, ClearBelow, IsClear, holds_lock, queued, needs_slot, looked_below}
+use Rattle.lq_model.specs.Kept.{IsInductive, Moves, LookedClear, Purging, IsHidden, BitsClear, ClearBelow, IsClear, holds_lock, queued, needs_slot, looked_below}
 use Rattle.lq_run_core.proofs.Local as local
 use Rattle.lq_run_core.proofs.Local.{Local}
 use Rattle.lq_run_core.proofs.LocalSteps.{Moved, moved}
-use Rattle.lq_run_core.proofs.Frames.{each-seat, holder-locks}
+use Rattle.lq_run_core.proofs.Frames.{each-seat}
 use Rattle.lq_run_core.proofs.Bands.{cut-holds}
-use Rattle.lq_run_core.proofs.Beside.{IsBeside, beside, stays-locked}
 use Rattle.lq_run_core.proofs.Aside.{Takes, IsTaking, aside}
 use Rattle.lq_run_core.proofs.Aside.Takes.{takes_direct, takes_word, takes_bands, takes_control}
 use Rattle.lq_run_core.proofs.Rely.{rely, hidden-stays, clear-beside, bits-before}
 
 -- what the qdisc holds in the requeue slot, or below the band, is hidden in the machine
-record Below (m : Machine) (q : Qdisc) (band : ℕ) : Type 0 where
-  slot : q.slot ≡ None
-  bands : (k : ℕ) → k < band → (p : Packet) → Contains (band_at q k) p → IsHidden m p
+pub record Below (m : Machine) (q : Qdisc) (band : ℕ) : Type 0 where
+  pub slot : q.slot ≡ None
+  pub bands : (k : ℕ) → k < band → (p : Packet) → Contains (band_at q k) p → IsHidden m p
 
 -- with the slot empty, nothing is below the first band
 begins : (m : Machine) (q : Qdisc) (band : ℕ) → q.slot ≡ None → Some 0 ≡ Some band → Below m q band
@@ -36,9 +35,9 @@ next : (m : Machine) (q : Qdisc) (band more : ℕ) → Below m q band → band_a
 next m q band more clear empty least = record {
   slot = clear.slot;
   bands = λ k below p held. elim (cases_lt k band) [
-      inl lower ↦ clear.bands k lower p held
+    | inl lower ↦ clear.bands k lower p held
     | inr upper ↦ absurd (let same : k ≡ band = omega arith in empty-holds (band_at q k) p (ap (band_at q) same ∙ empty) held)
-    ];
+  ];
 }
 
 -- a band that is the last one
@@ -56,10 +55,10 @@ purging-looks None u band e looks = cc
 
 -- the holder's own step
 holder : {sole : Bool} {free : Packet → Type 0} {q : Qdisc} {s : Seat} {before : Position} {after : After} (m : Machine) → Local sole free q s before after → holds_lock before ≡ true
-  → (needs_slot before ≡ true → q.slot ≡ None)
-  → ((band : ℕ) → looked_below q.purge before ≡ Some band → q.missed ≡ false → q.draining ≡ false → Below m q band)
-  → ((u : Purge) → q.purge ≡ Some u → Below m q u.band)
-  → (band : ℕ) → looked_below after.qdisc.purge after.seat.position ≡ Some band → after.qdisc.missed ≡ false → after.qdisc.draining ≡ false → Below m after.qdisc band
+    → (needs_slot before ≡ true → q.slot ≡ None)
+    → ((band : ℕ) → looked_below q.purge before ≡ Some band → q.missed ≡ false → q.draining ≡ false → Below m q band)
+    → ((u : Purge) → q.purge ≡ Some u → Below m q u.band)
+    → (band : ℕ) → looked_below after.qdisc.purge after.seat.position ≡ Some band → after.qdisc.missed ≡ false → after.qdisc.draining ≡ false → Below m after.qdisc band
 holder m (local.put_join_bands p run none) h slot looked purge band e missed draining = begins m _ band none e
 holder m (local.put_full_bands p run none) h slot looked purge band e missed draining = begins m _ band none e
 holder m (local.xmit_sent_bands p none) h slot looked purge band e missed draining = begins m _ band none e
@@ -96,6 +95,66 @@ looks-holds purge (Control true) band e = refl
 looks-holds purge _ band e = cc
 
 -- a holder's packet isn't hidden
-holder-shows : (position : Position) (p : Packet) → holds_lock position ≡ true → queued position ≡ Some p → ⊥
+pub holder-shows : (position : Position) (p : Packet) → holds_lock position ≡ true → queued position ≡ Some p → ⊥
 holder-shows (Gate r direct) p holds e = cc
 holder-shows _ p holds e = cc
+
+-- what is hidden before is hidden afterwards, where the moving seat had no hidden packet
+pub below-now : (m : Machine) (i : ℕ) (a : After) (band : ℕ) → i < length m.seats → Below m a.qdisc band
+    → ((k : ℕ) → k < band → (p : Packet) → queued (seat_at m i).position ≡ Some p → ⊥) → ClearBelow (with_seat m i a) band
+below-now m i a band within clear shows = record {
+  slot = clear.slot;
+  bands = λ k below p held. hidden-stays m i a p within (clear.bands k below p held) (λ own. absurd (shows k below p own));
+}
+
+control-looks : (purge : Option Purge) (band : ℕ) → looked_below purge (Control true) ≡ Some band → 3 ≡ band
+control-looks None band e = cc
+control-looks (Some u) band e = cc
+
+-- at a free lock nothing was exposed, so nothing is where a seat has just taken it
+takes-below : {m : Machine} {before after : Position} (band : ℕ) → Takes m.qdisc before after → IsClear m → looked_below m.qdisc.purge after ≡ Some band
+    → Below m m.qdisc band × ((k : ℕ) → k < band → (p : Packet) → queued before ≡ Some p → ⊥)
+takes-below band (takes_direct p unqueued own) clear e =
+    (record { slot = clear.slot; bands = λ k below. clear.bands k (let is : 3 ≡ band = cc in omega arith) }, λ k below r hides. cc)
+takes-below band (takes_word full) clear e = absurd cc
+takes-below {m = m} band (takes_bands none) clear e = (begins m m.qdisc band none e, λ k below r hides. let first : 0 ≡ band = cc in absurd (omega arith))
+takes-below {m = m} band (takes_control unqueued) clear e =
+    (record { slot = clear.slot; bands = λ k below. clear.bands k (let is : 3 ≡ band = control-looks m.qdisc.purge band e in omega arith) }, λ k below r hides. cc)
+
+-- what the machine keeps of a seat's look, bit by bit
+pub looked-before : (m : Machine) (i : ℕ) → LookedClear m → (band : ℕ) → looked_below m.qdisc.purge (seat_at m i).position ≡ Some band → m.qdisc.missed ≡ false → m.qdisc.draining ≡ false → Below m m.qdisc band
+looked-before m i looked band looks missed draining = let c = looked i band looks (record { missed = missed; draining = draining }) in record { slot = c.slot; bands = c.bands }
+
+purged-before : (m : Machine) → Purging m → (u : Purge) → m.qdisc.purge ≡ Some u → Below m m.qdisc u.band
+purged-before m purging u under = let c = purging u under in record { slot = c.slot; bands = λ k below p held. absurd (c.bands k below p held) }
+
+pub looked-clear : (m n : Machine) → IsInductive m → Moves m n → LookedClear n
+looked-clear m n h moves = subst LookedClear (sym t.is) (each-seat m t.i t.after Looked t.inside (mine (holds_lock (seat_at m t.i).position) refl) others)
+  where
+    t : Moved m n
+    t = moved m n moves
+
+    Looked : Seat → Type 0
+    Looked s = (band : ℕ) → looked_below t.after.qdisc.purge s.position ≡ Some band → BitsClear t.after.qdisc → ClearBelow (with_seat m t.i t.after) band
+
+    taking : (holds_lock t.after.seat.position ≡ false) ⊎ IsTaking m.qdisc (seat_at m t.i).position t.after.seat.position t.after.qdisc → Looked t.after.seat
+    taking (inl out) band e bits = absurd (let holds = looks-holds _ _ band e in cc)
+    taking (inr k) band e bits =
+        let looks : looked_below m.qdisc.purge t.after.seat.position ≡ Some band = subst (λ (q : Qdisc). looked_below q.purge t.after.seat.position ≡ Some band) k.locks e in
+        let clear : BitsClear m.qdisc = let c : BitsClear (record m.qdisc { locked = true }) = subst BitsClear k.locks bits in record { missed = c.missed; draining = c.draining } in
+        let found = takes-below {m = m} band k.takes (h.kept.lock_free_clear k.free clear) looks in
+        let there : Below m (record m.qdisc { locked = true }) band = record { slot = found.0.slot; bands = found.0.bands } in
+        below-now m t.i t.after band t.inside (subst (λ (q : Qdisc). Below m q band) (sym k.locks) there) found.1
+
+    mine : (b : Bool) → holds_lock (seat_at m t.i).position ≡ b → Looked t.after.seat
+    mine true holds band e bits =
+        below-now m t.i t.after band t.inside
+        (holder m t.leads holds (h.kept.slot_free t.i) (looked-before m t.i h.kept.looked_clear) (purged-before m h.purging) band e bits.missed bits.draining)
+        (λ k below p own. holder-shows _ p holds own)
+    mine false out band e bits = taking (aside t.leads out) band e bits
+
+    others : (j : ℕ) → j ≢ t.i → Looked (seat_at m j)
+    others j other band e bits =
+        let leaves = rely m t.i j h.kept.one_holder t.leads other (looks-holds _ _ band e) in
+        let looks : looked_below m.qdisc.purge (seat_at m j).position ≡ Some band = ap (λ (u : Option Purge). looked_below u (seat_at m j).position) (sym leaves.purge) ∙ e in
+        clear-beside m t.i t.after band t.inside leaves bits (h.kept.looked_clear j band looks (bits-before leaves bits))

@@ -1,5 +1,5 @@
 //! The machine of the run lock and its bits.
 #![tactic(auto)]
 
-mod laws_lock;
 mod laws_exposed;
+mod laws_lock;
