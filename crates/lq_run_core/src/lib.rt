@@ -3,3 +3,5 @@
 
 mod laws_exposed;
 mod laws_lock;
+mod qdisc;
+mod steps;
