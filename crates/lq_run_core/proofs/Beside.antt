@@ -70,6 +70,7 @@ pub stays-locked : {sole : Bool} {free : Packet → Type 0} {q : Qdisc} {s : Sea
 stays-locked (local.enter_transmit p) h locked = locked
 stays-locked _ h locked = cc
 
+-- a seat that neither holds the lock nor takes it leaves alone what the holder rests on
 pub beside : {sole : Bool} {free : Packet → Type 0} {q : Qdisc} {s : Seat} {before : Position} {after : After} → Local sole free q s before after
     → holds_lock before ≡ false → after.qdisc.locked ≡ q.locked → IsBeside before q after.seat.position after.qdisc
 beside (local.put_join p) h same = join-hides p _

@@ -20,6 +20,7 @@ use Rattle.lq_run_core.proofs.Rely.{rely}
 abbrev HoldsIn : Qdisc → Packet → Type 0
 HoldsIn q p = (q.slot ≡ Some p) ⊎ ((k : ℕ) × ((k < 3) × Contains (band_at q k) p))
 
+-- only a holder takes a packet past the bands, and it is that of its own transmit
 direct-holds : (position : Position) (p : Packet) → direct_packet position ≡ Some p → holds_lock position ≡ true
 direct-holds (Gate r direct) p e = refl
 direct-holds _ p e = cc
@@ -32,6 +33,7 @@ direct-own (BlockedMiss (InHand r direct)) p e = e
 direct-own (BlockedDrain (InHand r direct)) p e = e
 direct-own _ p e = cc
 
+-- a hidden packet is that of its seat's transmit
 queued-own : (position : Position) (p : Packet) → queued position ≡ Some p → own_packet position ≡ Some p
 queued-own (Try1 (Queued r)) p e = e
 queued-own (Miss (Queued r)) p e = e

@@ -37,7 +37,7 @@ lock-free-clear m n h moves = subst LockFreeClear (sym t.is) (λ free bits. go (
     outside true locked out free bits = absurd (let still = stays-locked t.leads out locked in cc)
     outside false was out free bits =
         let leaves = beside t.leads out (free ∙ sym was) in
-        clear-beside m t.i t.after 3 t.inside leaves bits (h.kept.lock_free_clear was (bits-before leaves bits))
+        clear-beside m t.i t.after 3 t.inside leaves bits.missed (h.kept.lock_free_clear was (bits-before leaves bits))
 
     go : (b : Bool) → holds_lock (seat_at m t.i).position ≡ b → t.after.qdisc.locked ≡ false → BitsClear t.after.qdisc → IsClear (with_seat m t.i t.after)
     go true holds free bits =

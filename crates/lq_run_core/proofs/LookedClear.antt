@@ -1,6 +1,6 @@
 -- What a holder has looked at stays clear while neither bit is set, and so does the machine at a free lock.
 use Rattle.std.proofs.Common.{◌≡◌, ◌≢◌, ℕ, ◌+◌, ◌<◌, ◌≤◌, Bool, true, false, List, [], ◌⊎◌, inl, inr, length, Option, Some, None, refl, sym, ap, ◌∙◌, subst, Contains, arith}
-use Rattle.std.specs.Prelude.{nat_lt}
+use Rattle.std.specs.Prelude.{nat_lt, slice_index_or}
 use Rattle.std.proofs.lemmas.Bool.{cases_lt, ltb-false}
 use Rattle.lq_model.specs.declared.machine.Packet.{Packet}
 use Rattle.lq_model.specs.declared.machine.Position.{Position}
@@ -23,10 +23,18 @@ pub record Below (m : Machine) (q : Qdisc) (band : ℕ) : Type 0 where
   pub slot : q.slot ≡ None
   pub bands : (k : ℕ) → k < band → (p : Packet) → Contains (band_at q k) p → IsHidden m p
 
+-- the same list and slot hide as much
+unchanged : {m : Machine} {q q' : Qdisc} {band : ℕ} → Below m q band → q'.slot ≡ q.slot → q'.bands ≡ q.bands → Below m q' band
+unchanged clear slot bands = record {
+  slot = slot ∙ clear.slot;
+  bands = λ k below p held. clear.bands k below p (subst (λ (lists : List (List Packet)). Contains (slice_index_or lists k []) p) bands held);
+}
+
 -- with the slot empty, nothing is below the first band
 begins : (m : Machine) (q : Qdisc) (band : ℕ) → q.slot ≡ None → Some 0 ≡ Some band → Below m q band
 begins m q band slot e = record { slot = slot; bands = λ k below. absurd (let first : 0 ≡ band = cc in omega arith) }
 
+-- an empty list holds nothing
 empty-holds : (xs : List Packet) (p : Packet) → xs ≡ [] → Contains xs p → ⊥
 empty-holds xs p e (k, below, at) = let none : length xs ≡ 0 = ap length e in omega arith
 
@@ -68,24 +76,24 @@ holder m (local.deq_bands none) h slot looked purge band e missed draining = beg
 holder m local.clear_draining h slot looked purge band e missed draining = begins m _ band (slot refl) e
 holder m (local.recheck_clear p clear none) h slot looked purge band e missed draining = looked band e missed draining
 holder m (local.gate_open p direct open_queue) h slot looked purge band e missed draining = looked band e missed draining
-holder m (local.xmit_sent_direct p) h slot looked purge band e missed draining = let c = looked band e missed draining in record { slot = c.slot; bands = c.bands }
-holder m (local.xmit_stops p direct queue hung) h slot looked purge band e missed draining = let c = looked band e missed draining in record { slot = c.slot; bands = c.bands }
-holder m (local.stop_next queue hung direct v) h slot looked purge band e missed draining = let c = looked band e missed draining in record { slot = c.slot; bands = c.bands }
-holder m (local.stop_last_direct queue hung v) h slot looked purge band e missed draining = let c = looked band e missed draining in record { slot = c.slot; bands = c.bands }
+holder m (local.xmit_sent_direct p) h slot looked purge band e missed draining = unchanged (looked band e missed draining) refl refl
+holder m (local.xmit_stops p direct queue hung) h slot looked purge band e missed draining = unchanged (looked band e missed draining) refl refl
+holder m (local.stop_next queue hung direct v) h slot looked purge band e missed draining = unchanged (looked band e missed draining) refl refl
+holder m (local.stop_last_direct queue hung v) h slot looked purge band e missed draining = unchanged (looked band e missed draining) refl refl
 holder m (local.post_clear clear none) h slot looked purge band e missed draining = looked band e missed draining
 holder m (local.test_clear clear none) h slot looked purge band e missed draining = looked band e missed draining
 holder m (local.scan_next lower second empty) h slot looked purge band e missed draining = next m _ lower band (looked lower refl missed draining) empty (let is : lower + 1 ≡ band = cc in omega arith)
 holder m (local.scan_tests lower empty last) h slot looked purge band e missed draining = next m _ lower band (looked lower refl missed draining) empty (last-band lower band last e)
 holder m (local.scan_ends lower empty last) h slot looked purge band e missed draining = next m _ lower band (looked lower refl missed draining) empty (last-band lower band last e)
-holder m (local.deactivates holds active none) h slot looked purge band e missed draining = let c = looked band e missed draining in record { slot = c.slot; bands = c.bands }
-holder m (local.loads_inside holds) h slot looked purge band e missed draining = let c = looked band e missed draining in record { slot = c.slot; bands = c.bands }
+holder m (local.deactivates holds active none) h slot looked purge band e missed draining = unchanged (looked band e missed draining) refl refl
+holder m (local.loads_inside holds) h slot looked purge band e missed draining = unchanged (looked band e missed draining) refl refl
 holder m (local.purge_takes u p rest under more at) h slot looked purge band e missed draining = absurd (purging-looks _ u band under e)
-holder m (local.purge_missed_ends u under last other) h slot looked purge band e missed draining = let c = purged m _ u band (purge u under) last e in record { slot = c.slot; bands = c.bands }
-holder m (local.purge_draining_ends u under last other) h slot looked purge band e missed draining = let c = purged m _ u band (purge u under) last e in record { slot = c.slot; bands = c.bands }
+holder m (local.purge_missed_ends u under last other) h slot looked purge band e missed draining = unchanged (purged m _ u band (purge u under) last e) refl refl
+holder m (local.purge_draining_ends u under last other) h slot looked purge band e missed draining = unchanged (purged m _ u band (purge u under) last e) refl refl
 holder {q = q} m (local.resizes len none) h slot looked purge band e missed draining =
     let c = looked band e missed draining in record { slot = c.slot; bands = λ k below p held. c.bands k below p (cut-holds q.bands len k p held) }
-holder m (local.stores_open queue none was) h slot looked purge band e missed draining = let c = looked band e missed draining in record { slot = c.slot; bands = c.bands }
-holder m (local.opens queue none) h slot looked purge band e missed draining = let c = looked band e missed draining in record { slot = c.slot; bands = c.bands }
+holder m (local.stores_open queue none was) h slot looked purge band e missed draining = unchanged (looked band e missed draining) refl refl
+holder m (local.opens queue none) h slot looked purge band e missed draining = unchanged (looked band e missed draining) refl refl
 holder m _ h slot looked purge band e missed draining = absurd cc
 
 -- only a holder has looked
@@ -107,6 +115,7 @@ below-now m i a band within clear shows = record {
   bands = λ k below p held. hidden-stays m i a p within (clear.bands k below p held) (λ own. absurd (shows k below p own));
 }
 
+-- control has looked at all bands, if at any
 control-looks : (purge : Option Purge) (band : ℕ) → looked_below purge (Control true) ≡ Some band → 3 ≡ band
 control-looks None band e = cc
 control-looks (Some u) band e = cc
@@ -125,8 +134,11 @@ takes-below {m = m} band (takes_control unqueued) clear e =
 pub looked-before : (m : Machine) (i : ℕ) → LookedClear m → (band : ℕ) → looked_below m.qdisc.purge (seat_at m i).position ≡ Some band → m.qdisc.missed ≡ false → m.qdisc.draining ≡ false → Below m m.qdisc band
 looked-before m i looked band looks missed draining = let c = looked i band looks (record { missed = missed; draining = draining }) in record { slot = c.slot; bands = c.bands }
 
+-- what a purge half done has left
 purged-before : (m : Machine) → Purging m → (u : Purge) → m.qdisc.purge ≡ Some u → Below m m.qdisc u.band
 purged-before m purging u under = let c = purging u under in record { slot = c.slot; bands = λ k below p held. absurd (c.bands k below p held) }
+
+-- THE SENTENCE
 
 pub looked-clear : (m n : Machine) → IsInductive m → Moves m n → LookedClear n
 looked-clear m n h moves = subst LookedClear (sym t.is) (each-seat m t.i t.after Looked t.inside (mine (holds_lock (seat_at m t.i).position) refl) others)
@@ -157,4 +169,4 @@ looked-clear m n h moves = subst LookedClear (sym t.is) (each-seat m t.i t.after
     others j other band e bits =
         let leaves = rely m t.i j h.kept.one_holder t.leads other (looks-holds _ _ band e) in
         let looks : looked_below m.qdisc.purge (seat_at m j).position ≡ Some band = ap (λ (u : Option Purge). looked_below u (seat_at m j).position) (sym leaves.purge) ∙ e in
-        clear-beside m t.i t.after band t.inside leaves bits (h.kept.looked_clear j band looks (bits-before leaves bits))
+        clear-beside m t.i t.after band t.inside leaves bits.missed (h.kept.looked_clear j band looks (bits-before leaves bits))

@@ -34,13 +34,13 @@ hidden-stays m i a p within (j, hides) own = elim (cases_eq j i) [
   | inr other ↦ (j, ap (λ s. queued s.position) (seat-other m i j a other) ∙ hides)
 ]
 
--- beside a holder, or at a free lock, nothing is exposed as long as neither bit is set
+-- a step beside a holder, or at a free lock, exposes nothing unless MISSED is set afterwards
 pub clear-beside : (m : Machine) (i : ℕ) (a : After) (band : ℕ) → i < length m.seats → IsBeside (seat_at m i).position m.qdisc a.seat.position a.qdisc
-    → BitsClear a.qdisc → ClearBelow m band → ClearBelow (with_seat m i a) band
-clear-beside m i a band within leaves bits clear = record {
+    → a.qdisc.missed ≡ false → ClearBelow m band → ClearBelow (with_seat m i a) band
+clear-beside m i a band within leaves missed clear = record {
   slot = leaves.slot ∙ clear.slot;
   bands = λ k below p held. elim (leaves.bands k p held) [
-    | inl old ↦ hidden-stays m i a p within (clear.bands k below p old) (λ own. leaves.queued p own bits.missed)
+    | inl old ↦ hidden-stays m i a p within (clear.bands k below p old) (λ own. leaves.queued p own missed)
     | inr new ↦ (i, ap (λ s. queued s.position) (seat-moved m i a within) ∙ new.0)
   ];
 }
