@@ -3,3 +3,14 @@ pub mod LocalSteps
 pub mod Frames
 pub mod Counts
 pub mod Missed
+pub mod Bands
+pub mod Beside
+pub mod Aside
+pub mod Rely
+pub mod SlotFree
+pub mod SlotWaits
+pub mod DequeueWaits
+pub mod OwnersDiffer
+pub mod DirectAlone
+pub mod LookedClear
+pub mod LockFreeClear
