@@ -16,10 +16,10 @@ idle-of (suc n) zero = refl
 idle-of (suc n) (suc i) = idle-of n i
 
 no-band : (k : ℕ) (p : Packet) → Contains (get_or ([] ∷ [] ∷ [] ∷ []) k []) p → ⊥
-no-band zero p h = elim h [ ]
-no-band (suc zero) p h = elim h [ ]
-no-band (suc (suc zero)) p h = elim h [ ]
-no-band (suc (suc (suc k))) p h = elim h [ ]
+no-band zero p (x, below, e) = absurd (omega arith)
+no-band (suc zero) p (x, below, e) = absurd (omega arith)
+no-band (suc (suc zero)) p (x, below, e) = absurd (omega arith)
+no-band (suc (suc (suc k))) p (x, below, e) = absurd (omega arith)
 
 first-kept : (seats len : ℕ) (bypass : Bool) (queues : ℕ) → IsKept (first_machine seats len bypass queues)
 first-kept seats len bypass queues = record {

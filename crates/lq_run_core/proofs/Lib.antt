@@ -14,3 +14,6 @@ pub mod OwnersDiffer
 pub mod DirectAlone
 pub mod LookedClear
 pub mod LockFreeClear
+pub mod First
+pub mod Quiet
+pub mod OneQueue

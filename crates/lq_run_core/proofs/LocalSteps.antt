@@ -376,7 +376,7 @@ pub record Moved (m n : Machine) : Type 0 where
   pub leads : Local (is_sole m) (Free m i) m.qdisc (seat_at m i) (seat_at m i).position after
   pub is : n ≡ with_seat m i after
 
-if-some : {A : Type 0} (b : Bool) (x y : A) → (if b then Some x else None) ≡ Some y → (b ≡ true) × (y ≡ x)
+pub if-some : {A : Type 0} (b : Bool) (x y : A) → (if b then Some x else None) ≡ Some y → (b ≡ true) × (y ≡ x)
 if-some true x y e = (refl, cc)
 if-some false x y e = cc
 

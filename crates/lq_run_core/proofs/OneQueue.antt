@@ -26,7 +26,7 @@ one-blocking q one empty =
     ∙ ap (λ (b : Bool). if b then None else Some 0) (not-shared q one)
 
 pub one-open : (q : Qdisc) (queue : ℕ) → length q.xoff ≡ 1 → is_open q 0 ≡ true → is_open q queue ≡ true
-one-open q zero one open = open
-one-open q (suc queue) one open =
+one-open q zero one is = is
+one-open q (suc queue) one is =
     let beyond : length q.xoff ≤ suc queue = omega arith in
     ap (λ (n : ℕ). n == 0) (get_or-eq_default q.xoff 0 beyond)

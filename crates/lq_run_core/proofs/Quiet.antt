@@ -49,6 +49,6 @@ quiet-clear m kept quiet = elim (bool m.qdisc.missed) [
 
 pub quiet-holds-nothing : (m : Machine) → IsKept m → IsQuiet m → (p : Packet) → Holds m p → ⊥
 quiet-holds-nothing m kept quiet p (inl slot) = let clear = quiet-clear m kept quiet in let e = clear.slot in cc
-quiet-holds-nothing m kept quiet p (inr (k, below, there)) =
+quiet-holds-nothing m kept quiet p (inr (k, (below, there))) =
     let hidden = (quiet-clear m kept quiet).bands k below p there in
     let e : queued Idle ≡ Some p = sym (ap queued (idle-is (seat_at m hidden.0).position (quiet.all_idle hidden.0))) ∙ hidden.1 in cc

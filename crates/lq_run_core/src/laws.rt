@@ -7,12 +7,9 @@ ghost use Rattle.lq_model.specs.Machine.{Qdisc, Machine, first_machine, seat_at,
 ghost use Rattle.lq_model.specs.Steps.{goes_to, dequeue_begins, store_xoff, behind_sent};
 ghost use Rattle.lq_model.specs.Kept.{IsInductive, IsKept, IsQuiet, Holds, Moves, blocking};
 
-/// The invariant holds of the machine that begins, and every step of a seat, every start and every step of
-/// control keeps it; so its sentences hold at every moment.
-pub fn invariant_is_kept()
-    ensures first { (seats len : ℕ) (bypass : Bool) (queues : ℕ) → IsInductive (first_machine seats len bypass queues) }
-    ensures moves { (m n : Machine) → IsInductive m → Moves m n → IsInductive n }
-    ensures sentences { (m : Machine) → IsInductive m → IsKept m }
+/// The invariant holds of the machine that begins.
+pub fn invariant_holds_first()
+    ensures { (seats len : ℕ) (bypass : Bool) (queues : ℕ) → IsInductive (first_machine seats len bypass queues) }
 {
 }
 
@@ -37,6 +34,6 @@ pub fn one_queue_has_one_stop_word()
         → store_xoff 0 true direct q s ≡ goes_to (record q { xoff = slice_set q.xoff 0 2 }) s (behind_sent direct q s)
     }
     ensures blocking { (q : Qdisc) → length q.xoff ≡ 1 → q.slot ≡ None → blocking q ≡ Some 0 }
-    ensures open { (q : Qdisc) (queue : ℕ) → length q.xoff ≡ 1 → is_open q 0 ≡ true → is_open q queue ≡ true }
+    ensures all_open { (q : Qdisc) (queue : ℕ) → length q.xoff ≡ 1 → is_open q 0 ≡ true → is_open q queue ≡ true }
 {
 }

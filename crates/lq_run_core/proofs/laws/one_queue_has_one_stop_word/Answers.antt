@@ -10,5 +10,5 @@ returns-clause-hang c = one-hang
 pub returns-clause-blocking : goal.returns-clause-blocking
 returns-clause-blocking c = one-blocking
 
-pub returns-clause-open : goal.returns-clause-open
-returns-clause-open c = one-open
+pub returns-clause-all_open : goal.returns-clause-all_open
+returns-clause-all_open c = one-open
