@@ -14,3 +14,10 @@ pub mod OwnersDiffer
 pub mod DirectAlone
 pub mod LookedClear
 pub mod LockFreeClear
+pub mod Way
+pub mod SecondScan
+pub mod DeviceOpen
+pub mod Stuck
+pub mod LockFreeDraining
+pub mod EndingDraining
+pub mod BlockedDraining
