@@ -17,3 +17,10 @@ pub mod LockFreeClear
 pub mod First
 pub mod Quiet
 pub mod OneQueue
+pub mod Way
+pub mod SecondScan
+pub mod DeviceOpen
+pub mod Stuck
+pub mod LockFreeDraining
+pub mod EndingDraining
+pub mod BlockedDraining
