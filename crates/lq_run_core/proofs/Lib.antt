@@ -14,3 +14,8 @@ pub mod OwnersDiffer
 pub mod DirectAlone
 pub mod LookedClear
 pub mod LockFreeClear
+pub mod Deactivation
+pub mod QuietInside
+pub mod Undisturbed
+pub mod Purging
+pub mod PurgedHoldsNothing
