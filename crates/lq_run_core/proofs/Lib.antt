@@ -24,3 +24,10 @@ pub mod Stuck
 pub mod LockFreeDraining
 pub mod EndingDraining
 pub mod BlockedDraining
+pub mod Deactivation
+pub mod QuietInside
+pub mod Undisturbed
+pub mod Purging
+pub mod PurgedHoldsNothing
+pub mod Inductive
+pub mod Sound
