@@ -19,3 +19,5 @@ pub mod QuietInside
 pub mod Undisturbed
 pub mod Purging
 pub mod PurgedHoldsNothing
+pub mod Seats
+pub mod SeatsKept

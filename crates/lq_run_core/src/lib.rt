@@ -4,5 +4,6 @@
 mod laws_deactivation;
 mod laws_exposed;
 mod laws_lock;
+mod laws_seats;
 mod qdisc;
 mod steps;
