@@ -26,7 +26,7 @@ pub record IsBeside (before : Position) (q : Qdisc) (after : Position) (q' : Qdi
   pub queued : (p : Packet) → queued before ≡ Some p → q'.missed ≡ false → queued after ≡ Some p
 
 -- a step that changes nothing that a holder rests on
-alike : (before after : Position) (q q' : Qdisc) → q'.missed ≡ q.missed → q'.draining ≡ q.draining → q'.slot ≡ q.slot → q'.purge ≡ q.purge
+pub alike : (before after : Position) (q q' : Qdisc) → q'.missed ≡ q.missed → q'.draining ≡ q.draining → q'.slot ≡ q.slot → q'.purge ≡ q.purge
     → length q'.xoff ≡ length q.xoff → q'.bands ≡ q.bands → ((p : Packet) → queued before ≡ Some p → q'.missed ≡ false → queued after ≡ Some p) → IsBeside before q after q'
 alike before after q q' missed draining slot purge queues bands hidden = record {
   missed = λ e. cc;

@@ -21,3 +21,13 @@ pub mod Purging
 pub mod PurgedHoldsNothing
 pub mod Seats
 pub mod SeatsKept
+pub mod First
+pub mod Quiet
+pub mod OneQueue
+pub mod Way
+pub mod SecondScan
+pub mod DeviceOpen
+pub mod Stuck
+pub mod LockFreeDraining
+pub mod EndingDraining
+pub mod BlockedDraining
