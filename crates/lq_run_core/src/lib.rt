@@ -7,11 +7,6 @@
 #![tactic(auto)]
 
 pub mod laws;
-pub mod laws_deactivation;
-pub mod laws_draining;
-pub mod laws_exposed;
-pub mod laws_lock;
-pub mod laws_seats;
 mod machine;
 mod qdisc;
 mod start;

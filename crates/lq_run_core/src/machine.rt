@@ -1,10 +1,9 @@
 //! The machine: what the seats share, and the seats.
+use crate::qdisc::Qdisc;
+use crate::start::Start;
 use lq_model::{Answer, NoMemory, Position, Seat};
 use std::alloc::Global;
 use std::marker::Model;
-
-use crate::qdisc::Qdisc;
-use crate::start::Start;
 
 /// The machine of one station's run lock: any seat does its next step, in any order.
 #[derive(Drop)]
@@ -47,7 +46,13 @@ impl Machine {
     }
 
     /// The same with so many queues.
-    pub fn with_queues(alloc: Global, seats: u32, len: u32, bypass: bool, queues: u32) -> Result<Machine, NoMemory>
+    pub fn with_queues(
+        alloc: Global,
+        seats: u32,
+        len: u32,
+        bypass: bool,
+        queues: u32,
+    ) -> Result<Machine, NoMemory>
         requires seats { (1 ≤ seats) × (seats ≤ 8) }
         requires len { (1 ≤ len) × (len ≤ 4096) }
         requires queues { (1 ≤ queues) × (queues ≤ 8) }
@@ -57,7 +62,13 @@ impl Machine {
         Machine::make(alloc, seats, len, bypass, queues)
     }
 
-    fn make(alloc: Global, seats: u32, len: u32, bypass: bool, queues: u32) -> Result<Machine, NoMemory>
+    fn make(
+        alloc: Global,
+        seats: u32,
+        len: u32,
+        bypass: bool,
+        queues: u32,
+    ) -> Result<Machine, NoMemory>
         requires seats { seats ≤ 8 }
         requires len { len ≤ 4096 }
         requires queues { queues ≤ 8 }
@@ -72,7 +83,11 @@ impl Machine {
         let Ok(seats) = Vec::from_elem(alloc, idle, seats as usize) else {
             return Err(NoMemory);
         };
-        Ok(Machine { qdisc, seats, next: 0 })
+        Ok(Machine {
+            qdisc,
+            seats,
+            next: 0,
+        })
     }
 
     /// Begins a call of a seat. The answer is false exactly where the seat can't: where it isn't idle, or for

@@ -7,9 +7,8 @@ ghost use Rattle.lq_model.specs.declared.machine.Position.TheVariants.{Put, Gate
 ghost use Rattle.lq_model.specs.Machine.{band_at, is_non_empty, is_open};
 ghost use Rattle.lq_model.specs.Steps.{goes_to, step_at, counted, gives_up, behind_band, queue_of_blocked, queue_of_slot, call_ends, enter, dequeue_begins, run_begins, behind_sent, try_lock, miss, check, may_answer, behind_put, put_answered, xmit, store_xoff, deq, scan, requeues, schedule, wake};
 
-use lq_model::{Answer, Attempt, Blocked, Call, Packet, Position, Seat, batch};
-
 use crate::qdisc::{Qdisc, at};
+use lq_model::{Answer, Attempt, Blocked, Call, Packet, Position, Seat, batch};
 
 /// A run sends at most so many packets.
 const QUOTA: u32 = 64;
@@ -21,7 +20,11 @@ fn counted(seat: Seat) -> Seat
     Seat {
         position: seat.position,
         raised: seat.raised,
-        run: if seat.run < QUOTA - 1 { seat.run + 1 } else { QUOTA },
+        run: if seat.run < QUOTA - 1 {
+            seat.run + 1
+        } else {
+            QUOTA
+        },
     }
 }
 
@@ -30,7 +33,10 @@ fn gives_up(attempt: Attempt) -> Position
     ensures { result ≡ gives_up attempt }
 {
     match attempt {
-        Attempt::Direct(packet) => Position::Put { packet, holds: false },
+        Attempt::Direct(packet) => Position::Put {
+            packet,
+            holds: false,
+        },
         Attempt::Queued(_) => Position::Leave,
         Attempt::Interrupt => Position::Leave,
     }
@@ -40,7 +46,10 @@ fn behind_band(band: u32, second: bool) -> Position
     ensures { result ≡ behind_band band second }
 {
     if band < 2 {
-        Position::Scan { band: band + 1, second }
+        Position::Scan {
+            band: band + 1,
+            second,
+        }
     } else if second {
         Position::Unlock
     } else {
@@ -69,7 +78,11 @@ fn queue_of_slot(slot: Option<Packet>) -> u32
 fn call_ends(inside: bool) -> Position
     ensures { result ≡ call_ends inside }
 {
-    if inside { Position::Leave } else { Position::Idle }
+    if inside {
+        Position::Leave
+    } else {
+        Position::Idle
+    }
 }
 
 fn enter(call: Call) -> Position
@@ -87,7 +100,10 @@ impl Qdisc {
         ensures { result ≡ dequeue_begins self.now }
     {
         if self.is_shared() && self.slot.is_none() {
-            Position::Scan { band: 0, second: false }
+            Position::Scan {
+                band: 0,
+                second: false,
+            }
         } else {
             Position::Deq
         }
@@ -151,7 +167,10 @@ impl Qdisc {
         } else if self.bypass && !self.is_non_empty() {
             Position::Try1(Attempt::Direct(packet))
         } else {
-            Position::Put { packet, holds: false }
+            Position::Put {
+                packet,
+                holds: false,
+            }
         }
     }
 
@@ -185,11 +204,25 @@ impl Qdisc {
             Answer::FullSlot => at(seat, Position::Xmit { packet, direct }),
             Answer::Stop => {
                 self.count_sent();
-                at(counted(seat), Position::StoreXoff { queue: packet.queue, hung: false, direct })
+                at(
+                    counted(seat),
+                    Position::StoreXoff {
+                        queue: packet.queue,
+                        hung: false,
+                        direct,
+                    },
+                )
             }
             Answer::Hang => {
                 self.count_sent();
-                at(counted(seat), Position::StoreXoff { queue: 0, hung: true, direct })
+                at(
+                    counted(seat),
+                    Position::StoreXoff {
+                        queue: 0,
+                        hung: true,
+                        direct,
+                    },
+                )
             }
             Answer::Busy => {
                 self.slot = Some(packet);
@@ -205,7 +238,14 @@ impl Qdisc {
     {
         self.store_xoff(queue, if hung { 2 } else { 1 });
         if hung && self.has_queue_behind(queue) {
-            at(seat, Position::StoreXoff { queue: queue + 1, hung, direct })
+            at(
+                seat,
+                Position::StoreXoff {
+                    queue: queue + 1,
+                    hung,
+                    direct,
+                },
+            )
         } else {
             at(seat, self.behind_sent(direct, seat))
         }
@@ -222,9 +262,21 @@ impl Qdisc {
         match self.slot {
             Some(packet) => {
                 self.slot = None;
-                at(seat, Position::Gate { packet, direct: false })
+                at(
+                    seat,
+                    Position::Gate {
+                        packet,
+                        direct: false,
+                    },
+                )
             }
-            None => at(seat, Position::Scan { band: 0, second: false }),
+            None => at(
+                seat,
+                Position::Scan {
+                    band: 0,
+                    second: false,
+                },
+            ),
         }
     }
 
@@ -233,7 +285,13 @@ impl Qdisc {
         ensures seat { result ≡ (scan (band_at self.old band) band second self.old seat).seat }
     {
         match self.take_first(band) {
-            Some(packet) => at(seat, Position::Gate { packet, direct: false }),
+            Some(packet) => at(
+                seat,
+                Position::Gate {
+                    packet,
+                    direct: false,
+                },
+            ),
             None => at(seat, behind_band(band, second)),
         }
     }
@@ -284,7 +342,8 @@ impl Qdisc {
     {
         match (position, answer) {
             (Position::Idle | Position::Control { .. }, _) => false,
-            (Position::Put { packet, .. }, Answer::Plain) => self.band_len(packet.band) < self.len as usize,
+            (Position::Put { packet, .. }, Answer::Plain) => self.band_len(packet.band)
+                < self.len as usize,
             (Position::Put { packet, .. }, Answer::FullSlot) => self.may_be_full(packet.band),
             (Position::Xmit { .. }, Answer::Stop | Answer::Hang | Answer::Busy) => true,
             (_, Answer::Plain) => true,
@@ -303,9 +362,15 @@ impl Qdisc {
         ensures { result ≡ (if is_non_empty self.now then Put packet true else Gate packet true) }
     {
         if self.is_non_empty() {
-            Position::Put { packet, holds: true }
+            Position::Put {
+                packet,
+                holds: true,
+            }
         } else {
-            Position::Gate { packet, direct: true }
+            Position::Gate {
+                packet,
+                direct: true,
+            }
         }
     }
 
@@ -392,7 +457,11 @@ impl Qdisc {
             Position::Recheck(packet) => self.recheck(packet),
             Position::Gate { packet, direct } => self.gate(packet, direct),
             Position::Xmit { packet, direct } => return self.xmit(seat, packet, direct, answer),
-            Position::StoreXoff { queue, hung, direct } => return self.stop(seat, queue, hung, direct),
+            Position::StoreXoff {
+                queue,
+                hung,
+                direct,
+            } => return self.stop(seat, queue, hung, direct),
             Position::Post => return self.post(seat),
             Position::Deq => return self.deq(seat),
             Position::Scan { band, second } => return self.scan(seat, band, second),
@@ -403,7 +472,10 @@ impl Qdisc {
             }
             Position::ClearDraining => {
                 self.draining = false;
-                Position::Scan { band: 0, second: true }
+                Position::Scan {
+                    band: 0,
+                    second: true,
+                }
             }
             Position::BlockedClear(blocked) => {
                 self.missed = false;
@@ -432,7 +504,9 @@ impl Qdisc {
                 self.inside = self.inside.saturating_sub(1);
                 Position::Idle
             }
-            Position::Soft => Position::SoftClear { deactivated: self.deactivated },
+            Position::Soft => Position::SoftClear {
+                deactivated: self.deactivated,
+            },
             Position::SoftClear { deactivated } => {
                 self.sched = false;
                 Qdisc::late(deactivated, Position::Late)

@@ -1,6 +1,6 @@
 use Rattle.lq_run_core.proofs.LocalSteps.{moved}
 use Rattle.lq_run_core.proofs.Counts.{one-holder, calls-inside, one-scheduled}
-use Rattle.lq_run_core.proofs.laws_lock.counts_are_kept.Goals as goal
+use Rattle.lq_run_core.proofs.laws.lock.counts_are_kept.Goals as goal
 
 pub returns-clause-holder : goal.returns-clause-holder
 returns-clause-holder c m n ind move = one-holder m n ind (moved m n move)

@@ -1,6 +1,6 @@
 use Rattle.lq_run_core.proofs.Seats.{extends, idle-is}
 use Rattle.lq_run_core.proofs.SeatsKept.{joins, leaves}
-use Rattle.lq_run_core.proofs.laws_seats.seats_come_and_go.Goals as goal
+use Rattle.lq_run_core.proofs.laws.seats.seats_come_and_go.Goals as goal
 
 pub returns : goal.returns
 returns c = record {
