@@ -32,7 +32,7 @@ impl Machine {
     ghost use Rattle.std.specs.Prelude.{◌≡◌, ◌≤◌, ◌<◌, ◌+◌, ◌&&◌, IfOk, is_some, unwrap_or, length, if◌then◌else◌, slice_index};
     ghost use Rattle.lq_model.specs.Machine.{first_machine, seat_at, state_word, bit};
     ghost use Rattle.lq_model.specs.Steps.{step_of};
-    ghost use Rattle.lq_run_core.specs.Running.{IsSound, begun_by, is_send, greatest, held_count};
+    ghost use Rattle.lq_run_core.specs.Running.{IsInRange, IsSound, begun_by, is_send, greatest, held_count};
 
     /// A machine with one queue; all words are 0, all lists are empty, all seats are idle. The invariant holds of
     /// it, and `begin` and `step` keep it.
@@ -62,6 +62,7 @@ impl Machine {
         Machine::make(alloc, seats, len, bypass, queues)
     }
 
+    /// The machine, without what keeps it sound.
     fn make(
         alloc: Global,
         seats: u32,
@@ -94,6 +95,7 @@ impl Machine {
     /// a soft interrupt isn't raised. Then nothing changes.
     pub fn begin(&mut self, seat: u32, start: Start) -> bool
         requires seat { seat < length self.old.machine.seats }
+        requires in_range { IsInRange start self.old.machine }
         requires sends { self.old.next < 1000000 }
         ensures answers { result ≡ is_some (begun_by start seat self.old) }
         ensures machine { self.new.machine ≡ unwrap_or (begun_by start seat self.old) self.old.machine }
@@ -103,6 +105,7 @@ impl Machine {
         self.begin_call(seat, start)
     }
 
+    /// Begins the call, without what keeps the machine sound.
     fn begin_call(&mut self, seat: u32, start: Start) -> bool
         requires seat { seat < length self.old.machine.seats }
         requires sends { self.old.next < 1000000 }
@@ -132,6 +135,7 @@ impl Machine {
         self.do_step(seat, answer)
     }
 
+    /// Does the step, without what keeps the machine sound.
     fn do_step(&mut self, seat: u32, answer: Answer) -> bool
         requires { seat < length self.old.machine.seats }
         ensures answers { result ≡ is_some (step_of self.old.machine seat answer) }

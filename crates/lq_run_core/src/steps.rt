@@ -42,6 +42,7 @@ fn gives_up(attempt: Attempt) -> Position
     }
 }
 
+/// Behind the last band the state is looked at, or the second time the run ends.
 fn behind_band(band: u32, second: bool) -> Position
     ensures { result ≡ behind_band band second }
 {
@@ -57,6 +58,7 @@ fn behind_band(band: u32, second: bool) -> Position
     }
 }
 
+/// The queue that was found stopped.
 fn queue_of_blocked(blocked: Blocked) -> u32
     ensures { result ≡ queue_of_blocked blocked }
 {
@@ -66,6 +68,7 @@ fn queue_of_blocked(blocked: Blocked) -> u32
     }
 }
 
+/// The queue of the packet in the requeue slot; with an empty slot a dequeue looks at queue 0, the only one.
 fn queue_of_slot(slot: Option<Packet>) -> u32
     ensures { result ≡ queue_of_slot slot }
 {
@@ -75,6 +78,7 @@ fn queue_of_slot(slot: Option<Packet>) -> u32
     }
 }
 
+/// Behind a transmit or a soft interrupt, or outside.
 fn call_ends(inside: bool) -> Position
     ensures { result ≡ call_ends inside }
 {
@@ -85,6 +89,7 @@ fn call_ends(inside: bool) -> Position
     }
 }
 
+/// Behind the count of the calls inside.
 fn enter(call: Call) -> Position
     ensures { result ≡ enter call }
 {
@@ -109,6 +114,7 @@ impl Qdisc {
         }
     }
 
+    /// A run begins, with nothing sent (`__qdisc_run` of net/sched/sch_generic.c).
     fn run_begins(&self, seat: Seat) -> Seat
         ensures { result ≡ (run_begins self.now seat).seat }
     {
@@ -119,6 +125,7 @@ impl Qdisc {
         }
     }
 
+    /// Behind a packet that was sent: past the bands, at the end of its quota, or at the next dequeue.
     fn behind_sent(&self, direct: bool, seat: Seat) -> Position
         ensures { result ≡ behind_sent direct self.now seat }
     {
@@ -131,7 +138,8 @@ impl Qdisc {
         }
     }
 
-    /// Tries the run lock; where it is held, the seat goes to the other position.
+    /// Tries the run lock (`qdisc_run_begin` of include/net/sch_generic.h); where it is held, the seat goes to the
+    /// other position.
     fn try_lock(&mut self, seat: Seat, attempt: Attempt, otherwise: Position) -> Seat
         ensures qdisc { self.new ≡ (try_lock attempt otherwise self.old seat).qdisc }
         ensures seat { result ≡ (try_lock attempt otherwise self.old seat).seat }
@@ -159,6 +167,7 @@ impl Qdisc {
         at(seat, Position::Try2(attempt))
     }
 
+    /// The first load of a transmit (`__dev_xmit_skb` of net/core/dev.c).
     fn check(&self, packet: Packet) -> Position
         ensures { result ≡ check packet self.now }
     {
@@ -174,6 +183,7 @@ impl Qdisc {
         }
     }
 
+    /// Puts a packet into its band, or counts it as refused (`pfifo_fast_enqueue` of net/sched/sch_generic.c).
     fn put(&mut self, seat: Seat, packet: Packet, holds: bool, answer: Answer) -> Seat
         requires { IsTrue (may_answer (Put packet holds) answer self.old) }
         ensures qdisc { self.new ≡ (behind_put holds packet (put_answered answer packet self.old) seat).qdisc }
@@ -191,6 +201,7 @@ impl Qdisc {
         }
     }
 
+    /// Hands the packet to the device (`sch_direct_xmit` of net/sched/sch_generic.c).
     fn xmit(&mut self, seat: Seat, packet: Packet, direct: bool, answer: Answer) -> Seat
         ensures qdisc { self.new ≡ (xmit answer packet direct self.old seat).qdisc }
         ensures seat { result ≡ (xmit answer packet direct self.old seat).seat }
@@ -251,6 +262,7 @@ impl Qdisc {
         }
     }
 
+    /// Loads the stop word, and takes the packet in the requeue slot (`dequeue_skb` of net/sched/sch_generic.c).
     fn deq(&mut self, seat: Seat) -> Seat
         ensures qdisc { self.new ≡ (deq self.old seat).qdisc }
         ensures seat { result ≡ (deq self.old seat).seat }
@@ -280,6 +292,7 @@ impl Qdisc {
         }
     }
 
+    /// Looks at a band (`pfifo_fast_dequeue` of net/sched/sch_generic.c).
     fn scan(&mut self, seat: Seat, band: u32, second: bool) -> Seat
         ensures qdisc { self.new ≡ (scan (band_at self.old band) band second self.old seat).qdisc }
         ensures seat { result ≡ (scan (band_at self.old band) band second self.old seat).seat }
@@ -310,6 +323,7 @@ impl Qdisc {
         }
     }
 
+    /// Sets SCHED by test-and-set (`__netif_schedule` of net/core/dev.c).
     fn schedule(&mut self, seat: Seat, inside: bool) -> Seat
         ensures qdisc { self.new ≡ (schedule inside self.old seat).qdisc }
         ensures seat { result ≡ (schedule inside self.old seat).seat }
@@ -325,6 +339,7 @@ impl Qdisc {
         }
     }
 
+    /// Opens a stopped queue (`netif_tx_wake_queue` of net/core/dev.c).
     fn wake(&mut self, seat: Seat, queue: u32) -> Seat
         ensures qdisc { self.new ≡ (wake queue self.old seat).qdisc }
         ensures seat { result ≡ (wake queue self.old seat).seat }
@@ -358,6 +373,7 @@ impl Qdisc {
         self.len.saturating_sub(batch(self.len)) as usize <= self.band_len(band)
     }
 
+    /// Under the run lock: nothing may have been missed when a packet goes past the bands.
     fn recheck(&self, packet: Packet) -> Position
         ensures { result ≡ (if is_non_empty self.now then Put packet true else Gate packet true) }
     {
@@ -374,6 +390,7 @@ impl Qdisc {
         }
     }
 
+    /// Looks at the stop word of the packet in hand.
     fn gate(&self, packet: Packet, direct: bool) -> Position
         ensures { result ≡ (if is_open self.now packet.queue then Xmit packet direct else BlockedClear (InHand packet direct)) }
     {
@@ -384,6 +401,7 @@ impl Qdisc {
         }
     }
 
+    /// Behind a packet that went past the bands.
     fn post(&self, seat: Seat) -> Seat
         ensures { result ≡ (if is_non_empty self.now then run_begins self.now seat else goes_to self.now seat Unlock).seat }
     {
@@ -394,6 +412,7 @@ impl Qdisc {
         }
     }
 
+    /// Where all bands were found empty.
     fn test(&self) -> Position
         ensures { result ≡ (if is_non_empty self.now then ClearMissed else Unlock) }
     {
@@ -404,6 +423,7 @@ impl Qdisc {
         }
     }
 
+    /// The second look at a stopped queue (`qdisc_maybe_clear_missed` of net/sched/sch_generic.c).
     fn blocked_load(&self, blocked: Blocked) -> Position
         ensures { result ≡ (if is_open self.now (queue_of_blocked blocked) then BlockedMiss blocked else BlockedDrain blocked) }
     {
@@ -414,6 +434,7 @@ impl Qdisc {
         }
     }
 
+    /// Behind the release (`qdisc_run_end` of include/net/sch_generic.h).
     fn tail(&self, inside: bool) -> Position
         ensures { result ≡ (if self.now.missed then Sched inside else call_ends inside) }
     {

@@ -1,3 +1,4 @@
+//! Deactivation, with its purge, and activation.
 ghost use Rattle.lq_model.specs.Kept.{Deactivation, IsInductive, Moves, PurgedHoldsNothing, Purging, QuietInside};
 ghost use Rattle.lq_model.specs.Machine.{Machine};
 

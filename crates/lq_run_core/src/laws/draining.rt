@@ -1,3 +1,4 @@
+//! DRAINING, the stop words and the device.
 ghost use Rattle.lq_model.specs.Kept.{BlockedDraining, DeviceOpen, EndingDraining, IsInductive, LockFreeDraining, Moves, SecondScan};
 ghost use Rattle.lq_model.specs.Machine.{Machine};
 

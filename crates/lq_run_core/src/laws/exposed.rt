@@ -1,3 +1,4 @@
+//! What is held and exposed, the requeue slot, and packets that go past the bands.
 ghost use Rattle.lq_model.specs.Kept.{DequeueWaits, DirectAlone, IsInductive, LockFreeClear, LookedClear, Moves, OwnersDiffer, SlotFree, SlotWaits};
 ghost use Rattle.lq_model.specs.Machine.{Machine};
 

@@ -1,3 +1,4 @@
+//! Seats that join the others and leave them.
 ghost use Rattle.lq_model.specs.Control.{is_quiet};
 ghost use Rattle.lq_model.specs.Kept.{IsInductive};
 ghost use Rattle.lq_model.specs.Machine.{Qdisc};
