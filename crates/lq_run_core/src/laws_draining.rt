@@ -7,13 +7,11 @@ pub fn draining_is_kept()
     ensures free { (m n : Machine) → IsInductive m → Moves m n → LockFreeDraining n }
     ensures ending { (m n : Machine) → IsInductive m → Moves m n → EndingDraining n }
     ensures blocked { (m n : Machine) → IsInductive m → Moves m n → BlockedDraining n }
-{
-}
+{}
 
 /// The bands are looked at once more with DRAINING clear, and the device is called only for an open queue: a step
 /// of any seat keeps that.
 pub fn service_is_kept()
     ensures second_scan { (m n : Machine) → IsInductive m → Moves m n → SecondScan n }
     ensures device { (m n : Machine) → IsInductive m → Moves m n → DeviceOpen n }
-{
-}
+{}
