@@ -14,6 +14,9 @@ pub mod OwnersDiffer
 pub mod DirectAlone
 pub mod LookedClear
 pub mod LockFreeClear
+pub mod First
+pub mod Quiet
+pub mod OneQueue
 pub mod Way
 pub mod SecondScan
 pub mod DeviceOpen

@@ -15,7 +15,7 @@ use Rattle.lq_run_core.proofs.LocalSteps.{Moved, moved}
 use Rattle.lq_run_core.proofs.Frames.{seat-moved, seat-other}
 
 -- a seat has the packet of its transmit from its start on
-had : {sole : Bool} {free : Packet → Type 0} {q : Qdisc} {s : Seat} {before : Position} {after : After} → Local sole free q s before after
+pub had : {sole : Bool} {free : Packet → Type 0} {q : Qdisc} {s : Seat} {before : Position} {after : After} → Local sole free q s before after
     → (p : Packet) → own_packet after.seat.position ≡ Some p → (own_packet before ≡ Some p) ⊎ free p
 had {free = free} (local.transmits r f) p e = inr (let same : r ≡ p = cc in subst free same f)
 had (local.try1_held (Queued r) locked) p e = inl e
