@@ -24,3 +24,8 @@ pub mod Stuck
 pub mod LockFreeDraining
 pub mod EndingDraining
 pub mod BlockedDraining
+pub mod Deactivation
+pub mod QuietInside
+pub mod Undisturbed
+pub mod Purging
+pub mod PurgedHoldsNothing

@@ -2,6 +2,7 @@
 #![tactic(auto)]
 
 mod laws;
+mod laws_deactivation;
 mod laws_draining;
 mod laws_exposed;
 mod laws_lock;
