@@ -8,6 +8,7 @@ use Rattle.lq_model.specs.declared.machine.Position.{Position}
 use Rattle.lq_model.specs.declared.machine.Position.TheVariants.{Idle, Xmit, BlockedDrain, Deq}
 use Rattle.lq_model.specs.declared.machine.Seat.{Seat}
 use Rattle.lq_model.specs.Machine.{Machine, bit, idle_seat, seat_at, first_machine, band_at, is_shared}
+use Rattle.lq_run_core.specs.Running.{Running, IsSound}
 use Rattle.lq_model.specs.Kept.{IsKept, IsInductive, BitsClear, IsStuck, ClearBelow, IsHidden, Holds, holds_lock, is_inside, marks, looked_below, is_ending, is_second_scan, needs_slot, blocked, may_be_inside, own_packet, direct_packet}
 
 idle-of : (n i : ℕ) → get_or (replicate n idle_seat) i idle_seat ≡ idle_seat
@@ -64,3 +65,9 @@ first-inductive seats len bypass queues = record {
 pub first-owners : (seats len : ℕ) (bypass : Bool) (queues i : ℕ) (p : Packet) → own_packet (seat_at (first_machine seats len bypass queues) i).position ≡ Some p → p.owner ≡ i
 first-owners seats len bypass queues i p e =
     absurd (let d : None ≡ Some p = sym (ap (λ (s : Seat). own_packet s.position) (idle-of seats i)) ∙ e in cc)
+
+-- what is made to run is sound
+pub first-sound : (r : Running) (seats len : ℕ) (bypass : Bool) (queues : ℕ)
+  → r ≡ record { machine = first_machine seats len bypass queues; next = 0 } → IsSound r
+first-sound r seats len bypass queues is =
+    subst IsSound (sym is) (record { inductive = first-inductive seats len bypass queues; owners = first-owners seats len bypass queues })

@@ -14,6 +14,13 @@ pub mod OwnersDiffer
 pub mod DirectAlone
 pub mod LookedClear
 pub mod LockFreeClear
+pub mod Deactivation
+pub mod QuietInside
+pub mod Undisturbed
+pub mod Purging
+pub mod PurgedHoldsNothing
+pub mod Seats
+pub mod SeatsKept
 pub mod First
 pub mod Quiet
 pub mod OneQueue
@@ -24,8 +31,5 @@ pub mod Stuck
 pub mod LockFreeDraining
 pub mod EndingDraining
 pub mod BlockedDraining
-pub mod Deactivation
-pub mod QuietInside
-pub mod Undisturbed
-pub mod Purging
-pub mod PurgedHoldsNothing
+pub mod Inductive
+pub mod Sound

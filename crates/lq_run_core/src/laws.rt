@@ -7,9 +7,12 @@ ghost use Rattle.lq_model.specs.Machine.{Qdisc, Machine, first_machine, seat_at,
 ghost use Rattle.lq_model.specs.Steps.{goes_to, dequeue_begins, store_xoff, behind_sent};
 ghost use Rattle.lq_model.specs.Kept.{IsInductive, IsKept, IsQuiet, Holds, Moves, blocking};
 
-/// The invariant holds of the machine that begins.
-pub fn invariant_holds_first()
-    ensures { (seats len : ℕ) (bypass : Bool) (queues : ℕ) → IsInductive (first_machine seats len bypass queues) }
+/// The invariant holds of the machine that begins, and every step of a seat, every start and every step of
+/// control keeps it; so its sentences hold at every moment.
+pub fn invariant_is_kept()
+    ensures first { (seats len : ℕ) (bypass : Bool) (queues : ℕ) → IsInductive (first_machine seats len bypass queues) }
+    ensures moves { (m n : Machine) → IsInductive m → Moves m n → IsInductive n }
+    ensures sentences { (m : Machine) → IsInductive m → IsKept m }
 {
 }
 
