@@ -17,10 +17,8 @@ use Rattle.lq_model.specs.Kept.{IsInductive, Moves, BlockedDraining, holds_lock,
 use Rattle.lq_run_core.proofs.Local as local
 use Rattle.lq_run_core.proofs.Local.{Local}
 use Rattle.lq_run_core.proofs.LocalSteps.{Moved, moved}
-use Rattle.lq_run_core.proofs.Frames.{each-seat, only-holder, holder-locks}
-use Rattle.lq_run_core.proofs.Beside.{stays-locked}
-use Rattle.lq_run_core.proofs.Rely.{holder-within}
-use Rattle.lq_run_core.proofs.Way.{keeps-beside, way-stays, blocking-same}
+use Rattle.lq_run_core.proofs.Frames.{each-seat}
+use Rattle.lq_run_core.proofs.Way.{keeps-rely, way-stays, blocking-same}
 
 -- the seat comes there by its second look at the stop word
 record Looked (before : Position) (q : Qdisc) (b : Blocked) (q' : Qdisc) : Type 0 where
@@ -80,11 +78,9 @@ blocked-draining m n h moves = subst BlockedDraining (sym t.is)
         → (t.after.qdisc.missed || has_way_on (with_seat m t.i t.after) (blocking_at b t.after.qdisc)) ≡ true
     others j other b at =
         let holds : holds_lock (seat_at m j).position ≡ true = ap holds_lock at in
-        let out : holds_lock (seat_at m t.i).position ≡ false = only-holder m j t.i h.kept.one_holder (holder-within m j holds) holds (λ e. other (sym e)) in
-        let locked : m.qdisc.locked ≡ true = holder-locks m j h.kept.one_holder holds in
         let inside : may_be_inside (seat_at m j).position ≡ false = ap may_be_inside at in
         let active : is_purged m.qdisc.phase ≡ false
         = false_from_ne_true _ (λ purged. both_ways _ inside (h.kept.quiet_inside (purged-quiet m.qdisc.phase purged) j)) in
-        let keeps = keeps-beside t.leads out (stays-locked t.leads out locked ∙ sym locked) active in
+        let keeps = keeps-rely m t.i j h.kept.one_holder t.leads other holds active in
         subst (λ queue. (t.after.qdisc.missed || has_way_on (with_seat m t.i t.after) queue) ≡ true) (sym (blocking-at-same b m.qdisc t.after.qdisc keeps.slot keeps.queues))
         (way-stays m t.i t.after (blocking_at b m.qdisc) t.inside keeps (h.kept.blocked_draining j b at))

@@ -9,10 +9,9 @@ use Rattle.lq_model.specs.Steps.{with_seat}
 use Rattle.lq_model.specs.Control.{is_purged}
 use Rattle.lq_model.specs.Kept.{IsInductive, Moves, EndingDraining, holds_lock, is_ending}
 use Rattle.lq_run_core.proofs.LocalSteps.{Moved, moved}
-use Rattle.lq_run_core.proofs.Frames.{each-seat, only-holder, holder-locks}
-use Rattle.lq_run_core.proofs.Beside.{stays-locked}
-use Rattle.lq_run_core.proofs.Rely.{rely, holder-within}
-use Rattle.lq_run_core.proofs.Way.{keeps-beside}
+use Rattle.lq_run_core.proofs.Frames.{each-seat}
+use Rattle.lq_run_core.proofs.Rely.{rely}
+use Rattle.lq_run_core.proofs.Way.{keeps-rely}
 use Rattle.lq_run_core.proofs.Stuck.{Drains, drains-on, purged-clear, ends, ends-drains, takes}
 
 ends-holds : (purge : Option Purge) (p : Position) → is_ending purge p ≡ true → holds_lock p ≡ true
@@ -45,8 +44,6 @@ ending-draining m n h moves = subst EndingDraining (sym t.is)
     others j other ending = λ stuck.
         let holds : holds_lock (seat_at m j).position ≡ true = ends-holds t.after.qdisc.purge (seat_at m j).position ending in
         let leaves = rely m t.i j h.kept.one_holder t.leads other holds in
-        let out : holds_lock (seat_at m t.i).position ≡ false = only-holder m j t.i h.kept.one_holder (holder-within m j holds) holds (λ e. other (sym e)) in
-        let locked : m.qdisc.locked ≡ true = holder-locks m j h.kept.one_holder holds in
         let active : is_purged m.qdisc.phase ≡ false = false_from_ne_true _ (λ purged. both_ways _ (leaves.draining ∙ purged-clear m h purged) stuck.draining) in
         let before : is_ending m.qdisc.purge (seat_at m j).position ≡ true = subst (λ purge. is_ending purge (seat_at m j).position ≡ true) leaves.purge ending in
-        drains-on m t.i t.after t.inside (record { beside = leaves; way = keeps-beside t.leads out (stays-locked t.leads out locked ∙ sym locked) active }) (h.kept.ending_draining j before) stuck
+        drains-on m t.i t.after t.inside (record { beside = leaves; way = keeps-rely m t.i j h.kept.one_holder t.leads other holds active }) (h.kept.ending_draining j before) stuck

@@ -4,6 +4,7 @@ use Rattle.std.specs.Prelude.{◌||◌}
 use Rattle.std.proofs.lemmas.Bool.{or_right, or_from, both_ways, false_from_ne_true}
 use Rattle.lq_model.specs.declared.machine.Packet.{Packet}
 use Rattle.lq_model.specs.declared.machine.Blocked.TheVariants.{NoneTaken}
+use Rattle.lq_model.specs.declared.machine.Phase.{Phase}
 use Rattle.lq_model.specs.declared.machine.Position.{Position}
 use Rattle.lq_model.specs.declared.machine.Position.TheVariants.{BlockedDrain, Control}
 use Rattle.lq_model.specs.declared.machine.Seat.{Seat}
@@ -55,23 +56,20 @@ same-way : (before after : Position) (q q' : Qdisc) → q'.missed ≡ q.missed �
     → is_on_way after ≡ is_on_way before → KeepsWay before q after q'
 same-way before after q q' missed deactivated sched xoff slot comes = record { way = λ stopped rest way. cc; xoff = inl xoff; slot = slot; queues = ap length xoff }
 
--- a step that changes neither these nor what is held
-still : (before after : Position) (q q' : Qdisc) → KeepsWay before q after q' → q'.missed ≡ q.missed → q'.draining ≡ q.draining → q'.slot ≡ q.slot → q'.purge ≡ q.purge
-    → q'.bands ≡ q.bands → queued before ≡ None → KeepsDrains before q after q'
-still before after q q' way missed draining slot purge bands own = record {
-  beside = alike before after q q' missed draining slot purge way.queues bands (λ p hides c. absurd cc);
-  way = way;
+-- a step that changes at most the run lock and the phase
+still : (before after : Position) (q : Qdisc) (locked : Bool) (phase : Phase) → is_on_way after ≡ is_on_way before → queued before ≡ None
+    → KeepsDrains before q after (record q { locked = locked; phase = phase })
+still before after q locked phase comes own = record {
+  beside = alike before after q _ refl refl refl refl refl refl (λ p hides c. absurd cc);
+  way = same-way before after q _ refl refl refl refl refl comes;
 }
 
 -- it releases the run lock
 pub releases : {sole : Bool} {free : Packet → Type 0} {q : Qdisc} {s : Seat} {before : Position} {after : After} → Local sole free q s before after
     → holds_lock before ≡ true → q.locked ≡ true → after.qdisc.locked ≡ false → (is_ending q.purge before ≡ true) × KeepsDrains before q after.seat.position after.qdisc
-releases local.unlock holds locked unlocks =
-    (refl, still _ _ _ _ (same-way _ _ _ _ refl refl refl refl refl refl) refl refl refl refl refl refl)
-releases (local.run_end none) holds locked unlocks =
-    (cc, still _ _ _ _ (same-way _ _ _ _ refl refl refl refl refl refl) refl refl refl refl refl refl)
-releases (local.releases none closed) holds locked unlocks =
-    (cc, still _ _ _ _ (same-way _ _ _ _ refl refl refl refl refl refl) refl refl refl refl refl refl)
+releases local.unlock holds locked unlocks = (refl, still _ _ _ _ _ refl refl)
+releases (local.run_end none) holds locked unlocks = (cc, still _ _ _ _ _ refl refl)
+releases (local.releases none closed) holds locked unlocks = (cc, still _ _ _ _ _ refl refl)
 releases _ holds locked unlocks = absurd cc
 
 -- how the holder comes to a position from which it releases the run lock, with DRAINING set alone
@@ -105,8 +103,7 @@ ends (local.post_clear missed none) holds second purged purging ending clear set
 ends (local.test_clear missed none) holds second purged purging ending clear set active idle = absurd cc
 ends (local.scan_ends band empty last) holds second purged purging ending clear set active idle = absurd (both_ways _ (second refl) set)
 ends (local.drain_none queue) holds second purged purging ending clear set active idle = drained queue refl (same-way _ _ _ _ refl refl refl refl refl refl)
-ends (local.loads_inside true) holds second purged purging ending clear set active idle =
-    stays ending (still _ _ _ _ (same-way _ _ _ _ refl refl refl refl refl refl) refl refl refl refl refl refl)
+ends (local.loads_inside true) holds second purged purging ending clear set active idle = stays ending (still _ _ _ _ _ refl refl)
 ends {q = q} (local.resizes len none) holds second purged purging ending clear set active idle =
     stays ending (record { beside = cuts q len; way = same-way _ _ _ _ refl refl refl refl refl refl })
 ends (local.purge_takes u p rest under more at) holds second purged purging ending clear set active idle = absurd (purges _ u under ending)
@@ -118,8 +115,7 @@ ends _ holds second purged purging ending clear set active idle = absurd cc
 
 pub takes : {sole : Bool} {free : Packet → Type 0} {q : Qdisc} {s : Seat} {before : Position} {after : After} → Local sole free q s before after
     → holds_lock before ≡ false → is_ending after.qdisc.purge after.seat.position ≡ true → (q.locked ≡ false) × KeepsDrains before q after.seat.position after.qdisc
-takes (local.gets_lock unlocked) out ending =
-    (unlocked, still _ _ _ _ (same-way _ _ _ _ refl refl refl refl refl refl) refl refl refl refl refl refl)
+takes (local.gets_lock unlocked) out ending = (unlocked, still _ _ _ _ _ refl refl)
 takes (local.deactivates false active none) out ending = absurd cc
 takes (local.deactivates true active none) out ending = absurd cc
 takes (local.loads_inside false) out ending = absurd cc

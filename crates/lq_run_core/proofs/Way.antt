@@ -1,5 +1,5 @@
 -- A way on stays open: what a step may do to it.
-use Rattle.std.proofs.Common.{◌≡◌, ℕ, ◌<◌, Bool, true, false, ◌⊎◌, inl, inr, length, Option, Some, None, refl, sym, ap, ◌∙◌, subst, arith}
+use Rattle.std.proofs.Common.{◌≡◌, ◌≢◌, ℕ, ◌<◌, Bool, true, false, ◌⊎◌, inl, inr, length, Option, Some, None, refl, sym, ap, ◌∙◌, subst, arith}
 use Rattle.std.specs.Prelude.{◌||◌, nat_lt, is_some, if◌then◌else◌}
 use Rattle.std.proofs.lemmas.List.{length-set}
 use Rattle.lq_model.specs.declared.machine.Packet.{Packet}
@@ -8,10 +8,12 @@ use Rattle.lq_model.specs.declared.machine.Seat.{Seat}
 use Rattle.lq_model.specs.Machine.{Qdisc, Machine, seat_at}
 use Rattle.lq_model.specs.Steps.{After, with_seat, queue_of_slot}
 use Rattle.lq_model.specs.Control.{is_purged}
-use Rattle.lq_model.specs.Kept.{holds_lock, is_on_way, is_stopped, blocking, has_way_on}
+use Rattle.lq_model.specs.Kept.{OneHolder, holds_lock, is_on_way, is_stopped, blocking, has_way_on}
 use Rattle.lq_run_core.proofs.Local as local
 use Rattle.lq_run_core.proofs.Local.{Local}
-use Rattle.lq_run_core.proofs.Frames.{any-kept}
+use Rattle.lq_run_core.proofs.Frames.{any-kept, only-holder, holder-locks}
+use Rattle.lq_run_core.proofs.Beside.{stays-locked}
+use Rattle.lq_run_core.proofs.Rely.{holder-within}
 
 -- MISSED is set, or there is a way on: a stopped queue, or some seat that comes
 abbrev pub WayOn : Qdisc → Bool → Bool → Type 0
@@ -81,6 +83,14 @@ keeps-beside step out same active = record {
   slot = slot-beside step out;
   queues = queues-beside step out;
 }
+
+-- the same beside a holder
+pub keeps-rely : {sole : Bool} {free : Packet → Type 0} (m : Machine) (i j : ℕ) {after : After} → OneHolder m → Local sole free m.qdisc (seat_at m i) (seat_at m i).position after
+    → j ≢ i → holds_lock (seat_at m j).position ≡ true → is_purged m.qdisc.phase ≡ false → KeepsWay (seat_at m i).position m.qdisc after.seat.position after.qdisc
+keeps-rely m i j one step other holds active =
+    let out : holds_lock (seat_at m i).position ≡ false = only-holder m j i one (holder-within m j holds) holds (λ e. other (sym e)) in
+    let locked : m.qdisc.locked ≡ true = holder-locks m j one holds in
+    keeps-beside step out (stays-locked step out locked ∙ sym locked) active
 
 -- THE MACHINE
 
