@@ -1,0 +1,2 @@
+-- the pieces of a text, and its numbers
+pub mod Pieces

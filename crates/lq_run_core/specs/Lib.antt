@@ -1,0 +1,2 @@
+-- the lines and words of a schedule, and what each says
+pub mod Schedule

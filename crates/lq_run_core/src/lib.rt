@@ -1,0 +1,4 @@
+//! The machine of the run lock and its bits.
+#![tactic(auto)]
+
+mod schedule;
