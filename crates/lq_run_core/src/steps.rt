@@ -1,0 +1,277 @@
+//! What one atomic step does at each position.
+ghost use Rattle.std.specs.Prelude.{◌≡◌, IsTrue};
+ghost use Rattle.lq_model.specs.declared.machine.Position.TheVariants.{Put};
+ghost use Rattle.lq_model.specs.Machine.{band_at};
+ghost use Rattle.lq_model.specs.Steps.{counted, gives_up, behind_band, queue_of_blocked, queue_of_slot, call_ends, enter, dequeue_begins, run_begins, behind_sent, try_lock, miss, check, may_answer, behind_put, put_answered, xmit, store_xoff, deq, scan, requeues, schedule, wake};
+
+use lq_model::{Answer, Attempt, Blocked, Call, Packet, Position, Seat};
+
+use crate::qdisc::{Qdisc, at};
+
+/// A run sends at most so many packets.
+const QUOTA: u32 = 64;
+
+/// How many packets the run has sent with one more.
+fn counted(seat: Seat) -> Seat
+    ensures { result ≡ counted seat }
+{
+    Seat {
+        position: seat.position,
+        raised: seat.raised,
+        run: if seat.run < QUOTA - 1 { seat.run + 1 } else { QUOTA },
+    }
+}
+
+/// A packet that would go past the bands is put into its band where the lock isn't got.
+fn gives_up(attempt: Attempt) -> Position
+    ensures { result ≡ gives_up attempt }
+{
+    match attempt {
+        Attempt::Direct(packet) => Position::Put { packet, holds: false },
+        Attempt::Queued(_) => Position::Leave,
+        Attempt::Interrupt => Position::Leave,
+    }
+}
+
+fn behind_band(band: u32, second: bool) -> Position
+    ensures { result ≡ behind_band band second }
+{
+    if band < 2 {
+        Position::Scan { band: band + 1, second }
+    } else if second {
+        Position::Unlock
+    } else {
+        Position::Test
+    }
+}
+
+fn queue_of_blocked(blocked: Blocked) -> u32
+    ensures { result ≡ queue_of_blocked blocked }
+{
+    match blocked {
+        Blocked::InHand { packet, direct: _ } => packet.queue,
+        Blocked::NoneTaken { queue } => queue,
+    }
+}
+
+fn queue_of_slot(slot: Option<Packet>) -> u32
+    ensures { result ≡ queue_of_slot slot }
+{
+    match slot {
+        Some(packet) => packet.queue,
+        None => 0,
+    }
+}
+
+fn call_ends(inside: bool) -> Position
+    ensures { result ≡ call_ends inside }
+{
+    if inside { Position::Leave } else { Position::Idle }
+}
+
+fn enter(call: Call) -> Position
+    ensures { result ≡ enter call }
+{
+    match call {
+        Call::Transmit(packet) => Position::Check(packet),
+        Call::SoftInterrupt => Position::Soft,
+    }
+}
+
+impl Qdisc {
+    /// With one queue a dequeue begins at its stop word, with several at the requeue slot.
+    fn dequeue_begins(&self) -> Position
+        ensures { result ≡ dequeue_begins self.now }
+    {
+        if self.is_shared() && self.slot.is_none() {
+            Position::Scan { band: 0, second: false }
+        } else {
+            Position::Deq
+        }
+    }
+
+    fn run_begins(&self, seat: Seat) -> Seat
+        ensures { result ≡ (run_begins self.now seat).seat }
+    {
+        Seat {
+            position: self.dequeue_begins(),
+            raised: seat.raised,
+            run: 0,
+        }
+    }
+
+    fn behind_sent(&self, direct: bool, seat: Seat) -> Position
+        ensures { result ≡ behind_sent direct self.now seat }
+    {
+        if direct {
+            Position::Post
+        } else if seat.run == QUOTA {
+            Position::Quota
+        } else {
+            self.dequeue_begins()
+        }
+    }
+
+    /// Tries the run lock; where it is held, the seat goes to the other position.
+    fn try_lock(&mut self, seat: Seat, attempt: Attempt, otherwise: Position) -> Seat
+        ensures qdisc { self.new ≡ (try_lock attempt otherwise self.old seat).qdisc }
+        ensures seat { result ≡ (try_lock attempt otherwise self.old seat).seat }
+    {
+        if self.locked {
+            return at(seat, otherwise);
+        }
+        self.locked = true;
+        match attempt {
+            Attempt::Direct(packet) => at(seat, Position::Recheck(packet)),
+            Attempt::Queued(_) => self.run_begins(seat),
+            Attempt::Interrupt => self.run_begins(seat),
+        }
+    }
+
+    /// Sets MISSED by test-and-set.
+    fn miss(&mut self, seat: Seat, attempt: Attempt) -> Seat
+        ensures qdisc { self.new ≡ (miss attempt self.old seat).qdisc }
+        ensures seat { result ≡ (miss attempt self.old seat).seat }
+    {
+        if self.missed {
+            return at(seat, gives_up(attempt));
+        }
+        self.missed = true;
+        at(seat, Position::Try2(attempt))
+    }
+
+    fn check(&self, packet: Packet) -> Position
+        ensures { result ≡ check packet self.now }
+    {
+        if self.deactivated {
+            Position::Leave
+        } else if self.bypass && !self.is_non_empty() {
+            Position::Try1(Attempt::Direct(packet))
+        } else {
+            Position::Put { packet, holds: false }
+        }
+    }
+
+    fn put(&mut self, seat: Seat, packet: Packet, holds: bool, answer: Answer) -> Seat
+        requires { IsTrue (may_answer (Put packet holds) answer self.old) }
+        ensures qdisc { self.new ≡ (behind_put holds packet (put_answered answer packet self.old) seat).qdisc }
+        ensures seat { result ≡ (behind_put holds packet (put_answered answer packet self.old) seat).seat }
+    {
+        match answer {
+            Answer::Plain => self.join(packet),
+            Answer::FullSlot => self.count_full(),
+            Answer::Stop | Answer::Hang | Answer::Busy => {}
+        }
+        if holds {
+            self.run_begins(seat)
+        } else {
+            at(seat, Position::Try1(Attempt::Queued(packet)))
+        }
+    }
+
+    fn xmit(&mut self, seat: Seat, packet: Packet, direct: bool, answer: Answer) -> Seat
+        ensures qdisc { self.new ≡ (xmit answer packet direct self.old seat).qdisc }
+        ensures seat { result ≡ (xmit answer packet direct self.old seat).seat }
+    {
+        match answer {
+            Answer::Plain => {
+                self.count_sent();
+                let seat = counted(seat);
+                at(seat, self.behind_sent(direct, seat))
+            }
+            Answer::FullSlot => at(seat, Position::Xmit { packet, direct }),
+            Answer::Stop => {
+                self.count_sent();
+                at(counted(seat), Position::StoreXoff { queue: packet.queue, hung: false, direct })
+            }
+            Answer::Hang => {
+                self.count_sent();
+                at(counted(seat), Position::StoreXoff { queue: 0, hung: true, direct })
+            }
+            Answer::Busy => {
+                self.slot = Some(packet);
+                at(seat, Position::Again)
+            }
+        }
+    }
+
+    /// A hang stops every queue, one after another.
+    fn stop(&mut self, seat: Seat, queue: u32, hung: bool, direct: bool) -> Seat
+        ensures qdisc { self.new ≡ (store_xoff queue hung direct self.old seat).qdisc }
+        ensures seat { result ≡ (store_xoff queue hung direct self.old seat).seat }
+    {
+        self.store_xoff(queue, if hung { 2 } else { 1 });
+        if hung && self.has_queue_behind(queue) {
+            at(seat, Position::StoreXoff { queue: queue + 1, hung, direct })
+        } else {
+            at(seat, self.behind_sent(direct, seat))
+        }
+    }
+
+    fn deq(&mut self, seat: Seat) -> Seat
+        ensures qdisc { self.new ≡ (deq self.old seat).qdisc }
+        ensures seat { result ≡ (deq self.old seat).seat }
+    {
+        let queue = queue_of_slot(self.slot);
+        if !self.is_open(queue) {
+            return at(seat, Position::BlockedClear(Blocked::NoneTaken { queue }));
+        }
+        match self.slot {
+            Some(packet) => {
+                self.slot = None;
+                at(seat, Position::Gate { packet, direct: false })
+            }
+            None => at(seat, Position::Scan { band: 0, second: false }),
+        }
+    }
+
+    fn scan(&mut self, seat: Seat, band: u32, second: bool) -> Seat
+        ensures qdisc { self.new ≡ (scan (band_at self.old band) band second self.old seat).qdisc }
+        ensures seat { result ≡ (scan (band_at self.old band) band second self.old seat).seat }
+    {
+        match self.take_first(band) {
+            Some(packet) => at(seat, Position::Gate { packet, direct: false }),
+            None => at(seat, behind_band(band, second)),
+        }
+    }
+
+    /// A packet in hand goes to the requeue slot.
+    fn requeue(&mut self, seat: Seat, blocked: Blocked) -> Seat
+        ensures qdisc { self.new ≡ (requeues blocked self.old seat).qdisc }
+        ensures seat { result ≡ (requeues blocked self.old seat).seat }
+    {
+        match blocked {
+            Blocked::InHand { packet, direct: _ } => {
+                self.slot = Some(packet);
+                at(seat, Position::Again)
+            }
+            Blocked::NoneTaken { queue: _ } => at(seat, Position::Unlock),
+        }
+    }
+
+    fn schedule(&mut self, seat: Seat, inside: bool) -> Seat
+        ensures qdisc { self.new ≡ (schedule inside self.old seat).qdisc }
+        ensures seat { result ≡ (schedule inside self.old seat).seat }
+    {
+        if self.sched {
+            return at(seat, call_ends(inside));
+        }
+        self.sched = true;
+        Seat {
+            position: call_ends(inside),
+            raised: true,
+            run: seat.run,
+        }
+    }
+
+    fn wake(&mut self, seat: Seat, queue: u32) -> Seat
+        ensures qdisc { self.new ≡ (wake queue self.old seat).qdisc }
+        ensures seat { result ≡ (wake queue self.old seat).seat }
+    {
+        if self.stop_word(queue) != 1 {
+            return at(seat, Position::Idle);
+        }
+        self.store_xoff(queue, 0);
+        at(seat, Position::Sched { inside: false })
+    }
+}
