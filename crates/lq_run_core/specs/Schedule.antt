@@ -9,7 +9,8 @@ use Rattle.lq_model.specs.declared.machine.Answer.{Answer}
 use Rattle.lq_model.specs.declared.machine.Answer.TheVariants.{Plain, FullSlot, Stop, Hang, Busy}
 use Rattle.lq_run_core.specs.declared.schedule.Setup.{Setup}
 use Rattle.lq_run_core.specs.declared.schedule.Action.{Action}
-use Rattle.lq_run_core.specs.declared.schedule.Action.TheVariants.{Send, SoftInterrupt, Wake, Steps}
+use Rattle.lq_run_core.specs.declared.schedule.Action.TheVariants.{Begins, Steps}
+use Rattle.lq_run_core.specs.declared.start.Start.TheVariants.{Send, SoftIrq, Wake}
 use Rattle.lq_run_core.specs.declared.schedule.Command.{Command}
 
 -- LINES
@@ -98,14 +99,14 @@ answer_named word =
 -- `softirq`, `wake`, `full`, `stop`, `hang` or `busy`
 abbrev pub bare_action : List ℕ → Option Action
 bare_action word =
-    if bytes_eq word (codes "softirq") then Some SoftInterrupt
-    else if bytes_eq word (codes "wake") then Some Wake
+    if bytes_eq word (codes "softirq") then Some (Begins SoftIrq)
+    else if bytes_eq word (codes "wake") then Some (Begins Wake)
     else option_map (λ answer. Steps answer 1) (answer_named word)
 
 -- `send B` or `step K`
 abbrev pub numbered_action : List ℕ → List ℕ → Option Action
 numbered_action word number =
-    if bytes_eq word (codes "send") then option_map Send (number_in 0 2 number)
+    if bytes_eq word (codes "send") then option_map (λ band. Begins (Send band)) (number_in 0 2 number)
     else if bytes_eq word (codes "step") then option_map (Steps Plain) (number_in 1 1000 number)
     else None
 

@@ -1,10 +1,12 @@
-ghost use Rattle.std.specs.Prelude.{◌≡◌, ◌<◌, true, ◌==◌, [], ◌∷◌, MatchOption, option_map, position};
+ghost use Rattle.std.specs.Prelude.{◌≡◌, ◌<◌, ◌≤◌, IfSome, IfNone, length, true, ◌==◌, [], ◌∷◌, MatchOption, option_map, position};
 ghost use Rattle.std.specs.List.{slice_split, list_all};
 ghost use Rattle.std.specs.Char.{is_ascii_digit};
 ghost use Rattle.std.specs.Str.Parse.{digits_value};
 ghost use Rattle.lq_run_core.specs.Schedule.{pieces_left, is_number, number_of, number_in, bare_action, answer_named, numbered_action, action_of, labelled, setup_of, words, command_of, capped, capped_seat};
 
 use lq_model::Answer;
+
+use crate::start::Start;
 
 /// What the first line of a schedule says of the machine.
 #[derive(Clone, Copy, Debug, PartialEq, Eq)]
@@ -17,12 +19,8 @@ pub struct Setup {
 /// What a line of a schedule has a seat do.
 #[derive(Clone, Copy, Debug, PartialEq, Eq)]
 pub enum Action {
-    /// Begins a transmit of the next packet, of this band.
-    Send { band: u32 },
-    /// Begins a soft interrupt.
-    SoftInterrupt,
-    /// Begins a wake.
-    Wake,
+    /// Begins a call.
+    Begins(Start),
     /// Does so many steps, each with this answer.
     Steps { answer: Answer, count: u32 },
 }
@@ -46,7 +44,9 @@ fn end_of_piece(bytes: &[u8], end: u8) -> Option<usize>
 
 /// The first piece, and what is left behind the byte that ends it.
 pub(crate) fn cut(bytes: &[u8], end: u8) -> (&[u8], Rest<'_>)
-    ensures { slice_split (λ b. b == end) bytes.now ≡ result.0.now ∷ pieces_left end result.1 }
+    ensures pieces { slice_split (λ b. b == end) bytes.now ≡ result.0.now ∷ pieces_left end result.1 }
+    ensures whole { IfNone result.1 (result.0.now ≡ bytes.now) }
+    ensures shorter { IfSome result.1 (λ rest. length rest.now < length bytes.now) }
 {
     match end_of_piece(bytes, end) {
         None => (bytes, None),
@@ -96,7 +96,8 @@ fn number(word: &[u8]) -> Option<u32>
 /// The number that a word is, where it is from `low` to `high`.
 fn number_within(word: &[u8], low: u32, high: u32) -> Option<u32>
     requires { high < 4294967295 }
-    ensures { result ≡ number_in low high word.now }
+    ensures number { result ≡ number_in low high word.now }
+    ensures bounds { IfSome result (λ n. (low ≤ n) × (n ≤ high)) }
 {
     let found = number(word)?;
     if low <= found && found <= high { Some(found) } else { None }
@@ -126,10 +127,10 @@ fn bare_action(verb: &[u8]) -> Option<Action>
     ensures { result ≡ bare_action verb.now }
 {
     if verb == b"softirq".as_slice() {
-        return Some(Action::SoftInterrupt);
+        return Some(Action::Begins(Start::SoftIrq));
     }
     if verb == b"wake".as_slice() {
-        return Some(Action::Wake);
+        return Some(Action::Begins(Start::Wake));
     }
     let answer = answer_named(verb)?;
     Some(Action::Steps { answer, count: 1 })
@@ -141,7 +142,7 @@ fn numbered_action(verb: &[u8], number: &[u8]) -> Option<Action>
 {
     if verb == b"send".as_slice() {
         let band = number_within(number, 0, 2)?;
-        return Some(Action::Send { band });
+        return Some(Action::Begins(Start::Send { band }));
     }
     if verb == b"step".as_slice() {
         let count = number_within(number, 1, 1000)?;
@@ -175,7 +176,8 @@ pub(crate) fn read_command(line: &[u8]) -> Option<Command>
 /// A label and a number from `low` to `high` behind it, and what is left behind them.
 fn labelled<'a>(rest: Rest<'a>, label: &[u8], low: u32, high: u32) -> Option<(u32, Rest<'a>)>
     requires { high < 4294967295 }
-    ensures { option_map (λ p. (p.0, pieces_left 32 p.1)) result ≡ labelled label.now low high (pieces_left 32 rest.entry) }
+    ensures number { option_map (λ p. (p.0, pieces_left 32 p.1)) result ≡ labelled label.now low high (pieces_left 32 rest.entry) }
+    ensures bounds { IfSome result (λ p. (low ≤ p.0) × (p.0 ≤ high)) }
 {
     let (first, rest) = next_word(rest)?;
     let (second, rest) = next_word(rest)?;
@@ -188,7 +190,9 @@ fn labelled<'a>(rest: Rest<'a>, label: &[u8], low: u32, high: u32) -> Option<(u3
 
 /// What the first line of a schedule says; `None` where it isn't of that form.
 pub(crate) fn read_setup(line: &[u8]) -> Option<Setup>
-    ensures { result ≡ setup_of (words line.now) }
+    ensures setup { result ≡ setup_of (words line.now) }
+    ensures seats { IfSome result (λ s. (1 ≤ s.seats) × (s.seats ≤ 8)) }
+    ensures len { IfSome result (λ s. (1 ≤ s.len) × (s.len ≤ 4096)) }
 {
     let (seats, rest) = labelled(Some(line), b"seats", 1, 8)?;
     let (len, rest) = labelled(rest, b"len", 1, 4096)?;

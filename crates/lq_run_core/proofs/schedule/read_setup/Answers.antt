@@ -9,6 +9,6 @@ setup_long : (rest : Option (Bor (List ℕ))) (seats len bypass : ℕ) → true 
 setup_long None seats len bypass e = cc
 setup_long (Some rest) seats len bypass e = rw (split_cons (λ b. b == 32) rest.now).2 refl
 
-pub returns-then-is_some : goal.returns-then-is_some
-returns-then-is_some c =
-    rw (sym c.in_ok-seats.ensures, sym c.in_ok-len.ensures, sym c.in_ok-bypass.ensures) (setup_long c.in_ok-bypass.rest _ _ _ c.if-is_some.ensures)
+pub returns-then-is_some-clause-setup : goal.returns-then-is_some-clause-setup
+returns-then-is_some-clause-setup c =
+    rw (sym c.in_ok-seats.ensures.number, sym c.in_ok-len.ensures.number, sym c.in_ok-bypass.ensures.number) (setup_long c.in_ok-bypass.rest _ _ _ c.if-is_some.ensures)
