@@ -1,8 +1,9 @@
 -- How a step of one seat changes the counts over all seats.
-use Rattle.std.proofs.Common.{◌≡◌, ℕ, ◌+◌, ◌-◌, ◌<◌, ◌≤◌, Bool, true, false, cond, List, length, refl, ap, arith, Option, Some, None, get_or, sym, ◌∙◌}
+use Rattle.std.proofs.Common.{◌≡◌, ℕ, ◌+◌, ◌-◌, ◌<◌, ◌≤◌, Bool, true, false, cond, List, [], ◌∷◌, length, refl, ap, arith, Option, Some, None, get_or, sym, ◌∙◌, subst}
 use Rattle.std.specs.Prelude.{sum_by, slice_set, slice_index_or}
 use Rattle.std.proofs.Math.ListN.{set}
-use Rattle.std.proofs.lemmas.List.Sums.{sum_by-set, get_or-le-sum_by}
+use Rattle.std.proofs.lemmas.List.{get_or_default}
+use Rattle.std.proofs.lemmas.List.Sums.{sum_by-set, sum_by-cons, get_or-le-sum_by}
 use Rattle.lq_model.specs.declared.machine.Packet.{Packet}
 use Rattle.lq_run_core.proofs.Local.{Local}
 use Rattle.lq_run_core.proofs.Local.Local.{gets_lock, interrupts, leave, sched_set_inside, sched_set_outside, sched_sets_inside, sched_sets_outside, try1_direct, try1_held, try1_interrupt_bands, try1_interrupt_word, try1_queued_bands, try1_queued_word, try2_direct, try2_held_direct, try2_held_interrupt, try2_held_queued, try2_interrupt_bands, try2_interrupt_word, try2_queued_bands, try2_queued_word}
@@ -12,9 +13,11 @@ use Rattle.lq_model.specs.declared.machine.Position.{Position}
 use Rattle.lq_model.specs.declared.machine.Position.TheVariants.{Idle, Enter, Check, Put, Try1, Miss, Try2, Recheck, Gate, Xmit, StoreXoff, Post, Deq, Scan, Test, ClearMissed, ClearDraining, BlockedClear, BlockedLoad, BlockedMiss, BlockedDrain, Again, Quota, Unlock, Tail, Sched, Leave, Soft, SoftClear, Late, Wake, Control}
 use Rattle.lq_model.specs.declared.machine.Seat.{Seat}
 use Rattle.lq_model.specs.Machine.{Qdisc, Machine, bit, idle_seat, seat_at}
-use Rattle.lq_model.specs.Steps.{After, with_seat, step_at}
+use Rattle.lq_model.specs.Steps.{After, with_seat, step_at, may_answer, may_begin, begun}
 use Rattle.lq_model.specs.Kept.{holds_lock, is_inside, is_due, marks, IsInductive, OneHolder, CallsInside, OneScheduled}
-use Rattle.lq_run_core.proofs.LocalSteps.{Moved}
+use Rattle.lq_run_core.proofs.LocalSteps.{Moved, step-leads, start-leads}
+use Rattle.lq_model.specs.declared.machine.Beginning.{Beginning}
+use Rattle.lq_model.specs.declared.machine.Answer.{Answer}
 
 -- a count over all seats follows its word, if the moving seat's part does beside any rest
 pub sum-kept :
@@ -85,3 +88,44 @@ one-scheduled m n ind move =
     rw move.is
       (sum-kept marks m.seats move.i move.after.seat (bit m.qdisc.sched) (bit move.after.qdisc.sched) move.inside
         (λ rest h. marks-local rest move.leads h) ind.kept.one_scheduled)
+
+-- THE RUNNING MACHINE
+
+bit-below-two : (b : Bool) → bit b ≤ 1
+bit-below-two true = omega arith
+bit-below-two false = omega arith
+
+-- no more calls are inside than there are seats
+pub few-inside : (m : Machine) → CallsInside m → m.qdisc.inside ≤ length m.seats
+few-inside m kept = omega (arith, kept, few m.seats)
+  where
+    few : (seats : List Seat) → sum_by (λ s. bit (is_inside s.position)) seats ≤ length seats
+    few [] = omega arith
+    few (s ∷ seats) = omega (arith, sum_by-cons (λ (t : Seat). bit (is_inside t.position)) s seats, few seats, bit-below-two (is_inside s.position))
+
+pub step-inside :
+  (q after : Qdisc) (seats : List Seat) (i : ℕ) (s moved : Seat) (answer : Answer) → i < length seats → s ≡ get_or seats i s
+  → may_answer s.position answer q ≡ true → CallsInside (record { qdisc = q; seats = seats })
+  → after ≡ (step_at s.position answer q s).qdisc → moved ≡ (step_at s.position answer q s).seat
+  → CallsInside (record { qdisc = after; seats = set seats i moved })
+step-inside q after seats i s moved answer inside is may kept q-is s-is =
+    sum-kept (λ t. bit (is_inside t.position)) seats i moved q.inside after.inside inside
+      (λ rest h. rw (q-is, s-is) (inside-local rest (step-leads true (λ p. Unit {0}) s.position answer q s may) (there rest h))) kept
+  where
+    same : get_or seats i idle_seat ≡ s
+    same = get_or_default seats i idle_seat s inside ∙ sym is
+    there : (rest : ℕ) → bit (is_inside (get_or seats i idle_seat).position) + rest ≡ q.inside → bit (is_inside s.position) + rest ≡ q.inside
+    there rest h = subst (λ (t : Seat). bit (is_inside t.position) + rest ≡ q.inside) same h
+
+pub start-inside :
+  (q : Qdisc) (seats : List Seat) (i : ℕ) (s moved : Seat) (b : Beginning) → i < length seats → s ≡ get_or seats i s
+  → may_begin b s ≡ true → CallsInside (record { qdisc = q; seats = seats }) → moved ≡ begun b s
+  → CallsInside (record { qdisc = q; seats = set seats i moved })
+start-inside q seats i s moved b inside is may kept s-is =
+    sum-kept (λ t. bit (is_inside t.position)) seats i moved q.inside q.inside inside
+      (λ rest h. rw s-is (inside-local rest (start-leads true (λ p. Unit {0}) b q s may (λ p e. tt)) (there rest h))) kept
+  where
+    same : get_or seats i idle_seat ≡ s
+    same = get_or_default seats i idle_seat s inside ∙ sym is
+    there : (rest : ℕ) → bit (is_inside (get_or seats i idle_seat).position) + rest ≡ q.inside → bit (is_inside s.position) + rest ≡ q.inside
+    there rest h = subst (λ (t : Seat). bit (is_inside t.position) + rest ≡ q.inside) same h

@@ -288,7 +288,7 @@ idle-leads sole free Interrupts q s may f = local.interrupts (and-true _ _ may).
 idle-leads sole free (Wakes queue) q s may f = local.wakes queue
 idle-leads sole free Controls q s may f = local.controls
 
-start-leads : (sole : Bool) (free : Packet → Type 0) (b : Beginning) (q : Qdisc) (s : Seat)
+pub start-leads : (sole : Bool) (free : Packet → Type 0) (b : Beginning) (q : Qdisc) (s : Seat)
   → may_begin b s ≡ true → ((p : Packet) → b ≡ Transmits p → free p) → Local sole free q s s.position (record { qdisc = q; seat = begun b s })
 start-leads sole free b q s may f =
     subst (λ (d : Position). Local sole free q s d (record { qdisc = q; seat = begun b s }))
@@ -376,7 +376,7 @@ pub record Moved (m n : Machine) : Type 0 where
   pub leads : Local (is_sole m) (Free m i) m.qdisc (seat_at m i) (seat_at m i).position after
   pub is : n ≡ with_seat m i after
 
-if-some : {A : Type 0} (b : Bool) (x y : A) → (if b then Some x else None) ≡ Some y → (b ≡ true) × (y ≡ x)
+pub if-some : {A : Type 0} (b : Bool) (x y : A) → (if b then Some x else None) ≡ Some y → (b ≡ true) × (y ≡ x)
 if-some true x y e = (refl, cc)
 if-some false x y e = cc
 

@@ -64,14 +64,15 @@ going-local rest (activates h1 h2) held purged kept unlocked missed = grind arit
 going-local rest (stores_open queue h1 h2) held purged kept unlocked missed = grind arith
 going-local rest _ held purged kept unlocked missed = grind arith
 
+pub purged-is : (phase : Phase) → is_purged phase ≡ true → phase ≡ Purged
+purged-is Purged e = refl
+purged-is _ e = cc
+
 pub lock-free-missed : (m n : Machine) → IsInductive m → Moved m n → LockFreeMissed n
 lock-free-missed m n ind move =
     rw move.is
       (any-kept (λ s. is_going s.position) (HasEvidence m.qdisc) (HasEvidence move.after.qdisc) m.seats move.i move.after.seat move.inside
         (λ rest h. going-local rest move.leads (holder-locks m move.i ind.kept.one_holder) purged h) ind.kept.lock_free_missed)
   where
-    purged-is : (phase : Phase) → is_purged phase ≡ true → phase ≡ Purged
-    purged-is Purged e = refl
-    purged-is _ e = cc
     purged : is_purged m.qdisc.phase ≡ true → m.qdisc.missed ≡ false
     purged e = (ind.kept.purged_holds_nothing (purged-is m.qdisc.phase e)).0.missed

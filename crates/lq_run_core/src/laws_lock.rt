@@ -7,11 +7,9 @@ pub fn counts_are_kept()
     ensures holder { (m n : Machine) → IsInductive m → Moves m n → OneHolder n }
     ensures inside { (m n : Machine) → IsInductive m → Moves m n → CallsInside n }
     ensures scheduled { (m n : Machine) → IsInductive m → Moves m n → OneScheduled n }
-{
-}
+{}
 
 /// A free run lock with MISSED set isn't forgotten: a step of any seat keeps that.
 pub fn missed_is_kept()
     ensures { (m n : Machine) → IsInductive m → Moves m n → LockFreeMissed n }
-{
-}
+{}

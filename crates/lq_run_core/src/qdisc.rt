@@ -1,7 +1,9 @@
 //! What the seats share, and what a step of a seat does there.
-ghost use Rattle.std.specs.Prelude.{◌≡◌, ◌+◌, nat_lt, if◌then◌else◌};
+ghost use Rattle.std.specs.Prelude.{◌≡◌, ◌≤◌, ◌+◌, [], nat_lt, if◌then◌else◌, IfOk};
+ghost use Rattle.lq_run_core.specs.Room.{IsBand};
 
-use lq_model::{Packet, Phase, Position, Seat};
+use lq_model::{NoMemory, Packet, Phase, Position, Seat};
+use std::alloc::Global;
 use std::collections::VecDeque;
 use std::marker::Model;
 
@@ -30,7 +32,7 @@ pub(crate) struct Qdisc {
 
 impl Model for Qdisc {
     ghost use Rattle.std.specs.Prelude.{◌≤◌, ◌∷◌, [], None, vec_len};
-    ghost use Rattle.std.specs.VecDeque.{deque_capacity};
+    ghost use Rattle.lq_run_core.specs.Room.{IsBand};
     ghost use Rattle.lq_model.specs.Machine.{Qdisc as State};
 
     ghost Value = { State };
@@ -44,7 +46,7 @@ impl Model for Qdisc {
     };
 
     ghost invariant = {
-        λ s. (vec_len s.xoff ≤ 8) × (s.len ≤ deque_capacity s.first) × (s.len ≤ deque_capacity s.second) × (s.len ≤ deque_capacity s.third)
+        λ s. (vec_len s.xoff ≤ 8) × (s.len ≤ 4096) × IsBand s.len s.first × IsBand s.len s.second × IsBand s.len s.third
     };
 }
 
@@ -67,8 +69,9 @@ fn one_more(count: u64) -> u64
 }
 
 impl Qdisc {
-    ghost use Rattle.std.specs.Prelude.{◌≡◌, ◌<◌, ◌≤◌, ◌+◌, ◌∷◌, [], nat_lt, length, slice_set, slice_index, IfSome, IfNone, OnSome};
-    ghost use Rattle.lq_model.specs.Machine.{is_non_empty, is_open, is_shared, band_at};
+    ghost use Rattle.std.specs.Prelude.{◌≡◌, ◌<◌, ◌≤◌, ◌+◌, ◌∷◌, [], nat_lt, length, slice_set, slice_index, IfSome, IfNone, OnSome, IfOk};
+    ghost use Rattle.lq_model.specs.Machine.{is_non_empty, is_open, is_shared, band_at, first_qdisc, state_word};
+    ghost use Rattle.lq_run_core.specs.Running.{held_count};
     ghost use Rattle.lq_model.specs.Steps.{one_more, joined};
 
     /// MISSED or DRAINING is set.
@@ -171,5 +174,68 @@ impl Qdisc {
             2 => self.third.pop_front(),
             _ => None,
         }
+    }
+
+    /// All words 0, all lists empty.
+    pub(crate) fn new(alloc: Global, len: u32, bypass: bool, queues: u32) -> Result<Qdisc, NoMemory>
+        requires len { len ≤ 4096 }
+        requires queues { queues ≤ 8 }
+        ensures { IfOk result (λ q. q ≡ first_qdisc len bypass queues) }
+    {
+        let Ok(xoff) = Vec::from_elem(alloc, 0u64, queues as usize) else {
+            return Err(NoMemory);
+        };
+        let first = band(alloc, len)?;
+        let second = band(alloc, len)?;
+        let third = band(alloc, len)?;
+        Ok(Qdisc {
+            sched: false,
+            deactivated: false,
+            missed: false,
+            draining: false,
+            locked: false,
+            xoff,
+            inside: 0,
+            first,
+            second,
+            third,
+            len,
+            slot: None,
+            bypass,
+            sent: 0,
+            full: 0,
+            phase: Phase::Active,
+        })
+    }
+
+    /// The state word.
+    pub(crate) fn state(&self) -> u64
+        ensures { result ≡ state_word self.now }
+    {
+        bit(self.sched) + 2 * bit(self.deactivated) + 4 * bit(self.missed) + 8 * bit(self.draining)
+    }
+
+    /// How many packets the bands and the requeue slot hold.
+    pub(crate) fn held(&self) -> u64
+        ensures { result ≡ held_count self.now }
+    {
+        (self.first.len() + self.second.len() + self.third.len()) as u64 + bit(self.slot.is_some())
+    }
+}
+
+fn bit(set: bool) -> u64
+    ensures { result ≡ (if set then 1 else 0) }
+{
+    if set { 1 } else { 0 }
+}
+
+/// An empty list with room for so many packets.
+fn band(alloc: Global, len: u32) -> Result<VecDeque<Packet>, NoMemory>
+    ensures empty { IfOk result (λ q. q.items ≡ []) }
+    ensures room { IfOk result (λ q. IsBand len q) }
+{
+    match VecDeque::with_capacity(alloc, len as usize) {
+        Ok(list) => Ok(list),
+        Err(_) => Err(NoMemory),
     }
 }

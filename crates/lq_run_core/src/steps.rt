@@ -1,10 +1,13 @@
 //! What one atomic step does at each position.
-ghost use Rattle.std.specs.Prelude.{◌≡◌, IsTrue};
-ghost use Rattle.lq_model.specs.declared.machine.Position.TheVariants.{Put};
-ghost use Rattle.lq_model.specs.Machine.{band_at};
-ghost use Rattle.lq_model.specs.Steps.{counted, gives_up, behind_band, queue_of_blocked, queue_of_slot, call_ends, enter, dequeue_begins, run_begins, behind_sent, try_lock, miss, check, may_answer, behind_put, put_answered, xmit, store_xoff, deq, scan, requeues, schedule, wake};
+ghost use Rattle.std.specs.Prelude.{◌≡◌, ◌<◌, ◌-◌, true, nat_le, length, IsTrue, if◌then◌else◌};
+ghost use Rattle.lq_model.specs.Band.{batch};
+ghost use Rattle.lq_model.specs.declared.machine.Attempt.TheVariants.{Interrupt};
+ghost use Rattle.lq_model.specs.declared.machine.Blocked.TheVariants.{InHand};
+ghost use Rattle.lq_model.specs.declared.machine.Position.TheVariants.{Put, Gate, Xmit, Unlock, ClearMissed, BlockedClear, BlockedMiss, BlockedDrain, Sched, Try1};
+ghost use Rattle.lq_model.specs.Machine.{band_at, is_non_empty, is_open};
+ghost use Rattle.lq_model.specs.Steps.{goes_to, step_at, counted, gives_up, behind_band, queue_of_blocked, queue_of_slot, call_ends, enter, dequeue_begins, run_begins, behind_sent, try_lock, miss, check, may_answer, behind_put, put_answered, xmit, store_xoff, deq, scan, requeues, schedule, wake};
 
-use lq_model::{Answer, Attempt, Blocked, Call, Packet, Position, Seat};
+use lq_model::{Answer, Attempt, Blocked, Call, Packet, Position, Seat, batch};
 
 use crate::qdisc::{Qdisc, at};
 
@@ -273,5 +276,170 @@ impl Qdisc {
         }
         self.store_xoff(queue, 0);
         at(seat, Position::Sched { inside: false })
+    }
+
+    /// Whether a seat at this position can do its step with this answer.
+    pub(crate) fn may_answer(&self, position: Position, answer: Answer) -> bool
+        ensures { result ≡ may_answer position answer self.now }
+    {
+        match (position, answer) {
+            (Position::Idle | Position::Control { .. }, _) => false,
+            (Position::Put { packet, .. }, Answer::Plain) => self.band_len(packet.band) < self.len as usize,
+            (Position::Put { packet, .. }, Answer::FullSlot) => self.may_be_full(packet.band),
+            (Position::Xmit { .. }, Answer::Stop | Answer::Hang | Answer::Busy) => true,
+            (_, Answer::Plain) => true,
+            _ => false,
+        }
+    }
+
+    /// Whether all slots of a band's ring may hold packets, with those of them that were taken.
+    fn may_be_full(&self, band: u32) -> bool
+        ensures { result ≡ nat_le (self.now.len - batch self.now.len) (length (band_at self.now band)) }
+    {
+        self.len.saturating_sub(batch(self.len)) as usize <= self.band_len(band)
+    }
+
+    fn recheck(&self, packet: Packet) -> Position
+        ensures { result ≡ (if is_non_empty self.now then Put packet true else Gate packet true) }
+    {
+        if self.is_non_empty() {
+            Position::Put { packet, holds: true }
+        } else {
+            Position::Gate { packet, direct: true }
+        }
+    }
+
+    fn gate(&self, packet: Packet, direct: bool) -> Position
+        ensures { result ≡ (if is_open self.now packet.queue then Xmit packet direct else BlockedClear (InHand packet direct)) }
+    {
+        if self.is_open(packet.queue) {
+            Position::Xmit { packet, direct }
+        } else {
+            Position::BlockedClear(Blocked::InHand { packet, direct })
+        }
+    }
+
+    fn post(&self, seat: Seat) -> Seat
+        ensures { result ≡ (if is_non_empty self.now then run_begins self.now seat else goes_to self.now seat Unlock).seat }
+    {
+        if self.is_non_empty() {
+            self.run_begins(seat)
+        } else {
+            at(seat, Position::Unlock)
+        }
+    }
+
+    fn test(&self) -> Position
+        ensures { result ≡ (if is_non_empty self.now then ClearMissed else Unlock) }
+    {
+        if self.is_non_empty() {
+            Position::ClearMissed
+        } else {
+            Position::Unlock
+        }
+    }
+
+    fn blocked_load(&self, blocked: Blocked) -> Position
+        ensures { result ≡ (if is_open self.now (queue_of_blocked blocked) then BlockedMiss blocked else BlockedDrain blocked) }
+    {
+        if self.is_open(queue_of_blocked(blocked)) {
+            Position::BlockedMiss(blocked)
+        } else {
+            Position::BlockedDrain(blocked)
+        }
+    }
+
+    fn tail(&self, inside: bool) -> Position
+        ensures { result ≡ (if self.now.missed then Sched inside else call_ends inside) }
+    {
+        if self.missed {
+            Position::Sched { inside }
+        } else {
+            call_ends(inside)
+        }
+    }
+
+    /// Where a soft interrupt goes that found DEACTIVATED set or clear.
+    fn late(deactivated: bool, otherwise: Position) -> Position
+        ensures { result ≡ (if deactivated then otherwise else Try1 Interrupt) }
+    {
+        if deactivated {
+            otherwise
+        } else {
+            Position::Try1(Attempt::Interrupt)
+        }
+    }
+
+    /// The step of a seat at its position.
+    pub(crate) fn step(&mut self, seat: Seat, answer: Answer) -> Seat
+        requires may { IsTrue (may_answer seat.position answer self.old) }
+        requires few { self.old.inside < 18446744073709551615 }
+        ensures qdisc { self.new ≡ (step_at seat.position answer self.old seat).qdisc }
+        ensures seat { result ≡ (step_at seat.position answer self.old seat).seat }
+    {
+        let next = match seat.position {
+            Position::Idle => Position::Idle,
+            Position::Control { holds } => Position::Control { holds },
+            Position::Enter(call) => {
+                self.inside += 1;
+                enter(call)
+            }
+            Position::Check(packet) => self.check(packet),
+            Position::Put { packet, holds } => return self.put(seat, packet, holds, answer),
+            Position::Try1(attempt) => return self.try_lock(seat, attempt, Position::Miss(attempt)),
+            Position::Miss(attempt) => return self.miss(seat, attempt),
+            Position::Try2(attempt) => return self.try_lock(seat, attempt, gives_up(attempt)),
+            Position::Recheck(packet) => self.recheck(packet),
+            Position::Gate { packet, direct } => self.gate(packet, direct),
+            Position::Xmit { packet, direct } => return self.xmit(seat, packet, direct, answer),
+            Position::StoreXoff { queue, hung, direct } => return self.stop(seat, queue, hung, direct),
+            Position::Post => return self.post(seat),
+            Position::Deq => return self.deq(seat),
+            Position::Scan { band, second } => return self.scan(seat, band, second),
+            Position::Test => self.test(),
+            Position::ClearMissed => {
+                self.missed = false;
+                Position::ClearDraining
+            }
+            Position::ClearDraining => {
+                self.draining = false;
+                Position::Scan { band: 0, second: true }
+            }
+            Position::BlockedClear(blocked) => {
+                self.missed = false;
+                Position::BlockedLoad(blocked)
+            }
+            Position::BlockedLoad(blocked) => self.blocked_load(blocked),
+            Position::BlockedMiss(blocked) => {
+                self.missed = true;
+                return self.requeue(seat, blocked);
+            }
+            Position::BlockedDrain(blocked) => {
+                self.draining = true;
+                return self.requeue(seat, blocked);
+            }
+            Position::Again | Position::Quota => {
+                self.missed = true;
+                Position::Unlock
+            }
+            Position::Unlock => {
+                self.locked = false;
+                Position::Tail { inside: true }
+            }
+            Position::Tail { inside } => self.tail(inside),
+            Position::Sched { inside } => return self.schedule(seat, inside),
+            Position::Leave => {
+                self.inside = self.inside.saturating_sub(1);
+                Position::Idle
+            }
+            Position::Soft => Position::SoftClear { deactivated: self.deactivated },
+            Position::SoftClear { deactivated } => {
+                self.sched = false;
+                Qdisc::late(deactivated, Position::Late)
+            }
+            Position::Late => Qdisc::late(self.deactivated, Position::Leave),
+            Position::Wake { queue } => return self.wake(seat, queue),
+        };
+        at(seat, next)
     }
 }
