@@ -1,6 +1,6 @@
 -- The text of a schedule: its lines, its words, and what a line of words says.
-use Rattle.std.specs.Prelude.{ℕ, ◌+◌, Bool, ◌&&◌, ◌||◌, min, not, nat_lt, nat_le, ◌==◌, if◌then◌else◌, List, [], ◌∷◌, length, filter, slice_index, codes, Option, Some, None, option_map}
-use Rattle.std.specs.List.{slice_split, list_all, enumerate_from}
+use Rattle.std.specs.Prelude.{ℕ, Bool, ◌&&◌, ◌||◌, min, not, nat_lt, nat_le, ◌==◌, if◌then◌else◌, List, [], ◌∷◌, length, slice_index, codes, Option, Some, None, option_map}
+use Rattle.std.specs.List.{slice_split, list_all}
 use Rattle.std.specs.Str.{bytes_eq}
 use denote.Ref.{Bor}
 use Rattle.std.specs.Char.{is_ascii_digit}
@@ -28,10 +28,6 @@ lines text = lines_of_pieces (slice_split (λ b. b == 10) text)
 -- it is empty or begins with `#`
 abbrev pub is_passed_over : List ℕ → Bool
 is_passed_over line = slice_index line 0 == 35 || length line == 0
-
--- the lines that say something, each with its number, which counts every line
-abbrev pub said_from : ℕ → List ℕ → List (ℕ × List ℕ)
-said_from number text = filter (λ l. not (is_passed_over l.1)) (enumerate_from number (lines text))
 
 -- WORDS
 

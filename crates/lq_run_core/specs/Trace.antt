@@ -14,7 +14,7 @@ use Rattle.lq_run_core.specs.declared.trace_run.Progress.{Progress}
 use Rattle.lq_run_core.specs.declared.trace_run.TraceReason.TheVariants.{Syntax, NoSeat, SeatWaits}
 use Rattle.lq_run_core.specs.declared.trace_run.TraceRefusal.{TraceRefusal}
 use Rattle.lq_run_core.specs.declared.trace_run.TraceRefusal.TheVariants.{Refused, NoMemory}
-use Rattle.lq_run_core.specs.Schedule.{lines, said_from, words, setup_of, command_of}
+use Rattle.lq_run_core.specs.Schedule.{lines, is_passed_over, words, setup_of, command_of}
 
 -- WORKING A SCHEDULE
 
@@ -47,21 +47,23 @@ command_done p n c =
     if nat_lt c.seat (length p.running.machine.seats) then ok_or (action_done p c.seat c.action) (Refused SeatWaits n)
     else Err (Refused NoSeat n)
 
--- line n: the first sets the machine up, each other has a seat do something
-abbrev pub line_done : Option Progress → ℕ → List (List ℕ) → Result Progress TraceRefusal
-line_done None n line = ok_or (option_map set_up (setup_of line)) (Refused Syntax n)
-line_done (Some p) n line = ok_or (command_of line) (Refused Syntax n) >>= command_done p n
+-- line n: the first sets the machine up, each other tells a seat to do something
+abbrev pub told_line_done : Option Progress → ℕ → List (List ℕ) → Result Progress TraceRefusal
+told_line_done None n line = ok_or (option_map set_up (setup_of line)) (Refused Syntax n)
+told_line_done (Some p) n line = ok_or (command_of line) (Refused Syntax n) >>= command_done p n
 
--- the lines in order, up to the first that fails
-abbrev pub lines_done : Option Progress → List (ℕ × List ℕ) → Result (Option Progress) TraceRefusal
-lines_done p [] = Ok p
-lines_done p (line ∷ more) = line_done p line.0 (words line.1) >>= λ next. lines_done (Some next) more
+-- a line that is passed over changes nothing
+abbrev pub line_done : Option Progress → ℕ → List ℕ → Result (Option Progress) TraceRefusal
+line_done p n line = if is_passed_over line then Ok p else told_line_done p n (words line) >>= λ next. Ok (Some next)
 
--- THE WHOLE SCHEDULE
+-- the lines from number n on, in order, up to the first that fails
+abbrev pub lines_done : Option Progress → ℕ → List (List ℕ) → Result (Option Progress) TraceRefusal
+lines_done p n [] = Ok p
+lines_done p n (line ∷ more) = line_done p n line >>= λ next. lines_done next (n + 1) more
 
 -- what a schedule leaves, or the first line that fails; a first line that is missing is missed behind the last line
 unfoldable pub schedule_done : List ℕ → Result Progress TraceRefusal
-schedule_done text = lines_done None (said_from 1 text) >>= λ p. ok_or p (Refused Syntax (length (lines text) + 1))
+schedule_done text = lines_done None 1 (lines text) >>= λ p. ok_or p (Refused Syntax (length (lines text) + 1))
 
 -- what is told, as the second function sees it, is what is wanted; only memory may run out
 abbrev pub Tells : {A B : Type 0} → (A → B) → Result A TraceRefusal → Result B TraceRefusal → Type 0

@@ -3,7 +3,7 @@ ghost use Rattle.std.specs.Prelude.{◌≡◌, ◌+◌, ◌<◌, ◌≤◌, ◌^
 ghost use Rattle.lq_model.specs.Machine.{Machine as State};
 ghost use Rattle.lq_run_core.specs.Running.{Running};
 ghost use Rattle.lq_run_core.specs.Schedule.{lines, is_passed_over, words};
-ghost use Rattle.lq_run_core.specs.Trace.{steps_of, action_done, command_done, line_done, schedule_done, Tells, sends_so_far, steps_so_far};
+ghost use Rattle.lq_run_core.specs.Trace.{steps_of, action_done, command_done, told_line_done, line_done, schedule_done, Tells, sends_so_far, steps_so_far};
 ghost use Rattle.lq_run_core.specs.TraceText.{schedule_text};
 
 use lq_model::Answer;
@@ -107,6 +107,7 @@ fn do_command(mut progress: Progress, command: Command, number: u32) -> Result<P
     ensures done { Tells (λ p. p) result (command_done progress number command) }
     ensures sends { IfOk result (λ p. p.running.next ≤ progress.running.next + 1) }
     ensures steps { IfOk result (λ p. p.steps ≤ progress.steps + 2 ^ 32) }
+    ensures few { length progress.running.machine.seats < 2 ^ 32 }
 {
     if command.seat >= progress.running.seats() {
         return Err(refusal(TraceReason::NoSeat, number));
@@ -119,7 +120,7 @@ fn do_command(mut progress: Progress, command: Command, number: u32) -> Result<P
 
 /// The machine that the first line says, before any step.
 fn set_up(alloc: Global, line: &[u8], number: u32) -> Result<Progress, TraceRefusal>
-    ensures done { Tells (λ p. p) result (line_done None number (words line.now)) }
+    ensures done { Tells (λ p. p) result (told_line_done None number (words line.now)) }
     ensures first { IfOk result (λ p. (p.running.next ≡ 0) × (p.steps ≡ 0)) }
 {
     let Some(setup) = read_setup(line) else {
@@ -132,10 +133,10 @@ fn set_up(alloc: Global, line: &[u8], number: u32) -> Result<Progress, TraceRefu
 }
 
 /// The line with this number: the first sets the machine up, each other tells a seat to do something.
-fn do_line(alloc: Global, before: Option<Progress>, line: &[u8], number: u32) -> Result<Progress, TraceRefusal>
+fn do_told_line(alloc: Global, before: Option<Progress>, line: &[u8], number: u32) -> Result<Progress, TraceRefusal>
     requires sends { sends_so_far before < 1000000 }
     requires steps { steps_so_far before < 2 ^ 63 }
-    ensures done { Tells (λ p. p) result (line_done before number (words line.now)) }
+    ensures done { Tells (λ p. p) result (told_line_done before number (words line.now)) }
     ensures sends { IfOk result (λ p. p.running.next ≤ sends_so_far before + 1) }
     ensures steps { IfOk result (λ p. p.steps ≤ steps_so_far before + 2 ^ 32) }
 {
@@ -145,6 +146,23 @@ fn do_line(alloc: Global, before: Option<Progress>, line: &[u8], number: u32) ->
     match read_command(line) {
         Some(command) => do_command(progress, command, number),
         None => Err(refusal(TraceReason::Syntax, number)),
+    }
+}
+
+/// The line with this number, which may be passed over.
+fn do_line(alloc: Global, before: Option<Progress>, line: &[u8], number: u32) -> Result<Option<Progress>, TraceRefusal>
+    requires sends { sends_so_far before < 1000000 }
+    requires steps { steps_so_far before < 2 ^ 63 }
+    ensures done { Tells (λ p. p) result (line_done before number line.now) }
+    ensures sends { IfOk result (λ p. sends_so_far p ≤ sends_so_far before + 1) }
+    ensures steps { IfOk result (λ p. steps_so_far p ≤ steps_so_far before + 2 ^ 32) }
+{
+    if is_passed_over(line) {
+        return Ok(before);
+    }
+    match do_told_line(alloc, before, line, number) {
+        Ok(progress) => Ok(Some(progress)),
+        Err(refusal) => Err(refusal),
     }
 }
 
@@ -161,9 +179,7 @@ fn do_schedule(alloc: Global, text: &[u8]) -> Result<Progress, TraceRefusal>
         let (line, behind) = first_line(rest);
         rest = behind;
         number += 1;
-        if !is_passed_over(line) {
-            progress = Some(do_line(alloc, progress, line, number)?);
-        }
+        progress = do_line(alloc, progress, line, number)?;
     }
     match progress {
         Some(progress) => Ok(progress),

@@ -1,4 +1,4 @@
-use Rattle.lq_run_core.proofs.Schedules.{lines_cut, lines_last}
+use Rattle.lq_run_core.proofs.Schedules.{lines_cut}
 use Rattle.lq_run_core.proofs.trace_run.first_line.Goals as goal
 
 pub returns-in-Some-clause-lines : goal.returns-in-Some-clause-lines
