@@ -33,3 +33,6 @@ pub mod EndingDraining
 pub mod BlockedDraining
 pub mod Inductive
 pub mod Sound
+pub mod Pieces
+pub mod Schedules
+pub mod TraceTexts

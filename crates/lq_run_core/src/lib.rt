@@ -9,9 +9,13 @@
 pub mod laws;
 mod machine;
 mod qdisc;
+mod schedule;
 mod start;
 mod steps;
+mod trace_run;
+mod trace_text;
 
 pub use lq_model::{Answer, Position, Seat};
 pub use machine::Machine;
 pub use start::Start;
+pub use trace_run::{TraceReason, TraceRefusal, trace};
