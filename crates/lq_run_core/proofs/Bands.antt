@@ -1,5 +1,5 @@
 -- Which packets a band holds after a change.
-use Rattle.std.proofs.Common.{◌≡◌, ℕ, ◌<◌, ◌≤◌, List, [], ◌∷◌, ◌⊎◌, inl, inr, map, take, drop, length, Contains, sym, ap, ◌∙◌, subst, get_or, set, take-append-drop}
+use Rattle.std.proofs.Common.{◌≡◌, ℕ, ◌<◌, ◌≤◌, List, [], ◌∷◌, ◌⊎◌, inl, inr, map, take, drop, length, Contains, sym, ap, ◌∙◌, subst, get_or, set, take-append-drop, arith}
 use Rattle.std.proofs.Math.ListN.{get_or-map}
 use Rattle.std.proofs.Math.Seq.{take-nil}
 use Rattle.std.proofs.lemmas.Bool.{cases_lt, cases_eq}
@@ -30,3 +30,7 @@ pub cut-holds : (bands : List (List Packet)) (len k : ℕ) (p : Packet)
 cut-holds bands len k p held =
     let cut : Contains (take len (get_or bands k [])) p = subst (λ xs. Contains xs p) (get_or-map (λ band. take len band) bands k []) (subst (λ none. Contains (get_or (map (λ band. take len band) bands) k none) p) (sym (take-nil len)) held) in
     subst (λ xs. Contains xs p) (take-append-drop len (get_or bands k [])) (Contains-append_left (take len (get_or bands k [])) (drop len (get_or bands k [])) p cut)
+
+-- an empty band holds nothing
+pub empty-holds : (xs : List Packet) (p : Packet) → xs ≡ [] → Contains xs p → ⊥
+empty-holds xs p e (k, below, at) = let none : length xs ≡ 0 = ap length e in omega arith

@@ -1,26 +1,24 @@
 -- Where the holder is about to set DRAINING, MISSED is set or there is a way on.
-use Rattle.std.proofs.Common.{◌≡◌, ◌≢◌, ℕ, ◌<◌, Bool, true, false, Option, Some, None, length, refl, sym, ap, ◌∙◌, subst, arith}
-use Rattle.std.specs.Prelude.{◌||◌, not, is_some, if◌then◌else◌}
-use Rattle.std.proofs.lemmas.Bool.{both_ways, not_from_false, false_from_ne_true, or_right}
+use Rattle.std.proofs.Common.{◌≡◌, ◌≢◌, ℕ, Bool, true, false, Option, Some, None, length, refl, sym, ap, ◌∙◌, subst, arith}
+use Rattle.std.specs.Prelude.{◌||◌, is_some, if◌then◌else◌}
+use Rattle.std.proofs.lemmas.Bool.{both_ways, not_from_false, false_from_ne_true}
 use Rattle.lq_model.specs.declared.machine.Packet.{Packet}
 use Rattle.lq_model.specs.declared.machine.Blocked.{Blocked}
 use Rattle.lq_model.specs.declared.machine.Blocked.TheVariants.{InHand, NoneTaken}
 use Rattle.lq_model.specs.declared.machine.Phase.{Phase}
-use Rattle.lq_model.specs.declared.machine.Phase.TheVariants.{Active, Closing, Quiet, Purged}
+use Rattle.lq_model.specs.declared.machine.Phase.TheVariants.{Purged}
 use Rattle.lq_model.specs.declared.machine.Position.{Position}
-use Rattle.lq_model.specs.declared.machine.Position.TheVariants.{Idle, Enter, Check, Put, Try1, Miss, Try2, Recheck, Gate, Xmit, StoreXoff, Post, Deq, Scan, Test, ClearMissed, ClearDraining, BlockedClear, BlockedLoad, BlockedMiss, BlockedDrain, Again, Quota, Unlock, Tail, Sched, Leave, Soft, SoftClear, Late, Wake, Control}
+use Rattle.lq_model.specs.declared.machine.Position.TheVariants.{BlockedLoad, BlockedDrain}
 use Rattle.lq_model.specs.declared.machine.Seat.{Seat}
 use Rattle.lq_model.specs.Machine.{Qdisc, Machine, seat_at, is_open, is_shared}
 use Rattle.lq_model.specs.Steps.{After, with_seat, queue_of_slot, queue_of_blocked}
 use Rattle.lq_model.specs.Control.{is_purged, is_quiet}
-use Rattle.lq_model.specs.Kept.{IsInductive, Moves, BlockedDraining, holds_lock, may_be_inside, blocking, blocking_at, is_stopped, has_way_on, blocked}
+use Rattle.lq_model.specs.Kept.{IsInductive, Moves, BlockedDraining, holds_lock, may_be_inside, blocking_at, is_stopped, has_way_on, blocked}
 use Rattle.lq_run_core.proofs.Local as local
 use Rattle.lq_run_core.proofs.Local.{Local}
 use Rattle.lq_run_core.proofs.LocalSteps.{Moved, moved}
-use Rattle.lq_run_core.proofs.Frames.{each-seat, only-holder, holder-locks}
-use Rattle.lq_run_core.proofs.Beside.{stays-locked}
-use Rattle.lq_run_core.proofs.Rely.{holder-within}
-use Rattle.lq_run_core.proofs.Way.{KeepsWay, keeps-beside, way-stays, blocking-same}
+use Rattle.lq_run_core.proofs.Frames.{each-seat}
+use Rattle.lq_run_core.proofs.Way.{keeps-rely, way-stays, blocking-same}
 
 -- the seat comes there by its second look at the stop word
 record Looked (before : Position) (q : Qdisc) (b : Blocked) (q' : Qdisc) : Type 0 where
@@ -29,7 +27,7 @@ record Looked (before : Position) (q : Qdisc) (b : Blocked) (q' : Qdisc) : Type 
   same : q' ≡ q
 
 own : {sole : Bool} {free : Packet → Type 0} {q : Qdisc} {s : Seat} {before : Position} {after : After} (b : Blocked) → Local sole free q s before after
-  → after.seat.position ≡ BlockedDrain b → Looked before q b after.qdisc
+    → after.seat.position ≡ BlockedDrain b → Looked before q b after.qdisc
 own {q = q} b (local.blocked_closed r closed) at =
     let same : r ≡ b = cc in record { at = ap BlockedLoad same; closed = subst (λ d. is_open q (queue_of_blocked d) ≡ false) same closed; same = refl }
 own b _ at = absurd cc
@@ -39,13 +37,13 @@ waits-none e = cc
 
 -- a stopped queue that the requeue slot waits for is the one in the way
 waits-stopped : (q : Qdisc) (slot : Option Packet) (shared : Bool) (queue : ℕ) → queue ≡ queue_of_slot slot → (shared ≡ true → is_some slot ≡ true) → is_open q queue ≡ false
-  → is_stopped q (if is_some slot then Some (queue_of_slot slot) else if shared then None else Some 0) ≡ true
+    → is_stopped q (if is_some slot then Some (queue_of_slot slot) else if shared then None else Some 0) ≡ true
 waits-stopped q (Some p) shared queue e waits closed = not_from_false _ (subst (λ k. is_open q k ≡ false) e closed)
 waits-stopped q None true queue e waits closed = absurd (waits-none (waits refl))
 waits-stopped q None false queue e waits closed = not_from_false _ (subst (λ k. is_open q k ≡ false) e closed)
 
 blocked-stopped : (q : Qdisc) (b : Blocked) → is_open q (queue_of_blocked b) ≡ false
-  → ((queue : ℕ) → b ≡ NoneTaken queue → (queue ≡ queue_of_slot q.slot) × (is_shared q ≡ true → is_some q.slot ≡ true)) → is_stopped q (blocking_at b q) ≡ true
+    → ((queue : ℕ) → b ≡ NoneTaken queue → (queue ≡ queue_of_slot q.slot) × (is_shared q ≡ true → is_some q.slot ≡ true)) → is_stopped q (blocking_at b q) ≡ true
 blocked-stopped q (InHand p direct) closed waits = not_from_false _ closed
 blocked-stopped q (NoneTaken queue) closed waits = waits-stopped q q.slot (is_shared q) queue (waits queue refl).0 (waits queue refl).1 closed
 
@@ -67,22 +65,22 @@ blocked-draining m n h moves = subst BlockedDraining (sym t.is)
   where
     t : Moved m n
     t = moved m n moves
+
     mine : (b : Blocked) → t.after.seat.position ≡ BlockedDrain b → (t.after.qdisc.missed || has_way_on (with_seat m t.i t.after) (blocking_at b t.after.qdisc)) ≡ true
     mine b at =
         let looked = own b t.leads at in
         let stopped : is_stopped m.qdisc (blocking_at b m.qdisc) ≡ true
-          = blocked-stopped m.qdisc b looked.closed (λ queue is. h.kept.slot_waits t.i queue (ap blocked looked.at ∙ ap Some is)) in
+        = blocked-stopped m.qdisc b looked.closed (λ queue is. h.kept.slot_waits t.i queue (ap blocked looked.at ∙ ap Some is)) in
         let now : is_stopped t.after.qdisc (blocking_at b t.after.qdisc) ≡ true = subst (λ (q : Qdisc). is_stopped q (blocking_at b q) ≡ true) (sym looked.same) stopped in
         stopped-on t.after.qdisc.missed t.after.qdisc.deactivated t.after.qdisc.sched _ _ now
+
     others : (j : ℕ) → j ≢ t.i → (b : Blocked) → (seat_at m j).position ≡ BlockedDrain b
-      → (t.after.qdisc.missed || has_way_on (with_seat m t.i t.after) (blocking_at b t.after.qdisc)) ≡ true
+        → (t.after.qdisc.missed || has_way_on (with_seat m t.i t.after) (blocking_at b t.after.qdisc)) ≡ true
     others j other b at =
         let holds : holds_lock (seat_at m j).position ≡ true = ap holds_lock at in
-        let out : holds_lock (seat_at m t.i).position ≡ false = only-holder m j t.i h.kept.one_holder (holder-within m j holds) holds (λ e. other (sym e)) in
-        let locked : m.qdisc.locked ≡ true = holder-locks m j h.kept.one_holder holds in
         let inside : may_be_inside (seat_at m j).position ≡ false = ap may_be_inside at in
         let active : is_purged m.qdisc.phase ≡ false
-          = false_from_ne_true _ (λ purged. both_ways _ inside (h.kept.quiet_inside (purged-quiet m.qdisc.phase purged) j)) in
-        let keeps = keeps-beside t.leads out (stays-locked t.leads out locked ∙ sym locked) active in
+        = false_from_ne_true _ (λ purged. both_ways _ inside (h.kept.quiet_inside (purged-quiet m.qdisc.phase purged) j)) in
+        let keeps = keeps-rely m t.i j h.kept.one_holder t.leads other holds active in
         subst (λ queue. (t.after.qdisc.missed || has_way_on (with_seat m t.i t.after) queue) ≡ true) (sym (blocking-at-same b m.qdisc t.after.qdisc keeps.slot keeps.queues))
-          (way-stays m t.i t.after (blocking_at b m.qdisc) t.inside keeps (h.kept.blocked_draining j b at))
+        (way-stays m t.i t.after (blocking_at b m.qdisc) t.inside keeps (h.kept.blocked_draining j b at))

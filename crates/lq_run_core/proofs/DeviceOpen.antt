@@ -1,14 +1,14 @@
 -- The device is called only for an open queue.
-use Rattle.std.proofs.Common.{◌≡◌, ◌≢◌, ℕ, ◌<◌, ◌≤◌, Bool, true, false, List, ◌⊎◌, inl, inr, length, refl, sym, ap, ◌∙◌, subst, get_or, set}
+use Rattle.std.proofs.Common.{◌≡◌, ◌≢◌, ℕ, ◌<◌, ◌≤◌, Bool, true, false, List, ◌⊎◌, inl, inr, length, sym, ap, ◌∙◌, subst, get_or, set}
 use Rattle.std.specs.Prelude.{◌==◌}
 use Rattle.std.proofs.lemmas.Bool.{cases_lt, cases_eq}
 use Rattle.std.proofs.lemmas.List.{get_or-set_same, get_or-set_other, set_past}
 use Rattle.lq_model.specs.declared.machine.Packet.{Packet}
 use Rattle.lq_model.specs.declared.machine.Position.{Position}
-use Rattle.lq_model.specs.declared.machine.Position.TheVariants.{Idle, Enter, Check, Put, Try1, Miss, Try2, Recheck, Gate, Xmit, StoreXoff, Post, Deq, Scan, Test, ClearMissed, ClearDraining, BlockedClear, BlockedLoad, BlockedMiss, BlockedDrain, Again, Quota, Unlock, Tail, Sched, Leave, Soft, SoftClear, Late, Wake, Control}
+use Rattle.lq_model.specs.declared.machine.Position.TheVariants.{Xmit}
 use Rattle.lq_model.specs.declared.machine.Seat.{Seat}
 use Rattle.lq_model.specs.Machine.{Qdisc, Machine, seat_at, is_open}
-use Rattle.lq_model.specs.Steps.{After, with_seat}
+use Rattle.lq_model.specs.Steps.{After}
 use Rattle.lq_model.specs.Kept.{IsInductive, Moves, DeviceOpen, holds_lock}
 use Rattle.lq_run_core.proofs.Local as local
 use Rattle.lq_run_core.proofs.Local.{Local}
@@ -19,9 +19,9 @@ use Rattle.lq_run_core.proofs.Rely.{holder-within}
 -- a stop word that 0 is stored in opens its queue, and leaves each other queue as it was
 stays-open : (words : List ℕ) (stored queue : ℕ) → (get_or words queue 0 == 0) ≡ true → (get_or (set words stored 0) queue 0 == 0) ≡ true
 stays-open words stored queue open_queue = elim (cases_eq queue stored) [
-    inl same ↦ at_stored same (cases_lt stored (length words))
+  | inl same ↦ at_stored same (cases_lt stored (length words))
   | inr other ↦ ap (λ word. word == 0) (get_or-set_other words stored queue 0 0 other) ∙ open_queue
-  ]
+]
   where
     at_stored : queue ≡ stored → (stored < length words) ⊎ (length words ≤ stored) → (get_or (set words stored 0) queue 0 == 0) ≡ true
     at_stored same (inl within) = ap (λ word. word == 0) (ap (λ k. get_or (set words stored 0) k 0) same ∙ get_or-set_same words stored 0 0 within)
@@ -29,13 +29,13 @@ stays-open words stored queue open_queue = elim (cases_eq queue stored) [
 
 -- a step beside the holder stops no queue
 beside-open : {sole : Bool} {free : Packet → Type 0} {q : Qdisc} {s : Seat} {before : Position} {after : After} (queue : ℕ) → Local sole free q s before after
-  → holds_lock before ≡ false → is_open q queue ≡ true → is_open after.qdisc queue ≡ true
+    → holds_lock before ≡ false → is_open q queue ≡ true → is_open after.qdisc queue ≡ true
 beside-open {q = q} queue (local.wake_opens stored) out open_queue = stays-open q.xoff stored queue open_queue
 beside-open queue _ out open_queue = cc
 
 -- the seat's own step
 own : {sole : Bool} {free : Packet → Type 0} {q : Qdisc} {s : Seat} {before : Position} {after : After} (p : Packet) (direct : Bool) → Local sole free q s before after
-  → after.seat.position ≡ Xmit p direct → is_open after.qdisc p.queue ≡ true
+    → after.seat.position ≡ Xmit p direct → is_open after.qdisc p.queue ≡ true
 own {q = q} p direct (local.gate_open r past open_queue) at = let same : r ≡ p = cc in subst (λ (d : Packet). is_open q d.queue ≡ true) same open_queue
 own p direct _ at = cc
 
@@ -45,6 +45,7 @@ device-open m n h moves = subst DeviceOpen (sym t.is)
   where
     t : Moved m n
     t = moved m n moves
+
     others : (j : ℕ) → j ≢ t.i → (p : Packet) (direct : Bool) → (seat_at m j).position ≡ Xmit p direct → is_open t.after.qdisc p.queue ≡ true
     others j other p direct at =
         let holds : holds_lock (seat_at m j).position ≡ true = ap holds_lock at in

@@ -1,14 +1,13 @@
 -- The machine that begins.
-use Rattle.std.proofs.Common.{◌≡◌, ◌≢◌, ℕ, zero, suc, ◌+◌, ◌*◌, ◌<◌, Bool, true, false, List, [], ◌∷◌, length, refl, ap, arith, Option, Some, None, get_or, sym, ◌∙◌, subst}
-use Rattle.std.specs.Prelude.{sum_by, replicate, Contains}
+use Rattle.std.proofs.Common.{◌≡◌, ℕ, zero, suc, Bool, [], ◌∷◌, refl, ap, arith, Some, None, get_or, sym, ◌∙◌, subst}
+use Rattle.std.specs.Prelude.{replicate, Contains}
 use Rattle.std.proofs.lemmas.List.Folds.{sum_by-replicate}
 use Rattle.lq_model.specs.declared.machine.Packet.{Packet}
-use Rattle.lq_model.specs.declared.machine.Blocked.{Blocked}
-use Rattle.lq_model.specs.declared.machine.Position.{Position}
 use Rattle.lq_model.specs.declared.machine.Position.TheVariants.{Idle, Xmit, BlockedDrain, Deq}
 use Rattle.lq_model.specs.declared.machine.Seat.{Seat}
-use Rattle.lq_model.specs.Machine.{Machine, bit, idle_seat, seat_at, first_machine, band_at, is_shared}
-use Rattle.lq_model.specs.Kept.{IsKept, IsInductive, BitsClear, IsStuck, ClearBelow, IsHidden, Holds, holds_lock, is_inside, marks, looked_below, is_ending, is_second_scan, needs_slot, blocked, may_be_inside, own_packet, direct_packet}
+use Rattle.lq_model.specs.Machine.{Machine, bit, idle_seat, seat_at, first_machine}
+use Rattle.lq_run_core.specs.Running.{Running, IsSound}
+use Rattle.lq_model.specs.Kept.{IsKept, IsInductive, ClearBelow, holds_lock, is_inside, marks, looked_below, blocked, own_packet, direct_packet}
 
 idle-of : (n i : ℕ) → get_or (replicate n idle_seat) i idle_seat ≡ idle_seat
 idle-of zero i = refl
@@ -41,8 +40,10 @@ first-kept seats len bypass queues = record {
   where
     m : Machine
     m = first_machine seats len bypass queues
+
     at : (i : ℕ) → (seat_at (first_machine seats len bypass queues) i).position ≡ Idle
     at i = ap (λ (s : Seat). s.position) (idle-of seats i)
+
     empty : ClearBelow (first_machine seats len bypass queues) 3
     empty = record { slot = refl; bands = λ k below p h. absurd (no-band k p h) }
 
@@ -64,3 +65,9 @@ first-inductive seats len bypass queues = record {
 pub first-owners : (seats len : ℕ) (bypass : Bool) (queues i : ℕ) (p : Packet) → own_packet (seat_at (first_machine seats len bypass queues) i).position ≡ Some p → p.owner ≡ i
 first-owners seats len bypass queues i p e =
     absurd (let d : None ≡ Some p = sym (ap (λ (s : Seat). own_packet s.position) (idle-of seats i)) ∙ e in cc)
+
+-- what is made to run is sound
+pub first-sound : (r : Running) (seats len : ℕ) (bypass : Bool) (queues : ℕ)
+    → r ≡ record { machine = first_machine seats len bypass queues; next = 0 } → IsSound r
+first-sound r seats len bypass queues is =
+    subst IsSound (sym is) (record { inductive = first-inductive seats len bypass queues; owners = first-owners seats len bypass queues })

@@ -1,14 +1,12 @@
 -- What a step of one seat leaves of the others.
-use Rattle.std.proofs.Common.{◌≡◌, ◌≢◌, ℕ, zero, suc, ◌+◌, ◌-◌, ◌<◌, ◌≤◌, Bool, true, false, cond, ◌⊎◌, inl, inr, List, [], ◌∷◌, length, refl, ap, arith, Option, Some, None, get_or, sym, ◌∙◌, subst}
+use Rattle.std.proofs.Common.{◌≡◌, ◌≢◌, ℕ, zero, suc, ◌+◌, ◌<◌, ◌≤◌, Bool, true, false, ◌⊎◌, inl, inr, List, [], ◌∷◌, length, refl, ap, arith, get_or, sym, ◌∙◌, subst}
 use Rattle.std.specs.Prelude.{sum_by, ◌||◌}
 use Rattle.std.specs.List.{list_any}
 use Rattle.std.proofs.Math.ListN.{set}
 use Rattle.std.proofs.lemmas.List.{get_or-set_same, get_or-set_other, length-set}
 use Rattle.std.proofs.lemmas.List.Sums.{sum_by-set, get_or-le-sum_by}
-use Rattle.lq_model.specs.declared.machine.Position.{Position}
-use Rattle.lq_model.specs.declared.machine.Position.TheVariants.{Idle}
 use Rattle.lq_model.specs.declared.machine.Seat.{Seat}
-use Rattle.lq_model.specs.Machine.{Qdisc, Machine, bit, idle_seat, seat_at}
+use Rattle.lq_model.specs.Machine.{Machine, bit, idle_seat, seat_at}
 use Rattle.lq_model.specs.Steps.{After, with_seat}
 use Rattle.lq_model.specs.Kept.{holds_lock, OneHolder}
 
@@ -22,12 +20,13 @@ seat-other m i j a other = get_or-set_other m.seats i j a.seat idle_seat other
 
 -- what holds of the moved seat and of each other holds of each
 pub each-seat :
-  (m : Machine) (i : ℕ) (a : After) (P : Seat → Type 0) → i < length m.seats
-  → P a.seat → ((j : ℕ) → j ≢ i → P (seat_at m j)) → (j : ℕ) → P (seat_at (with_seat m i a) j)
+    (m : Machine) (i : ℕ) (a : After) (P : Seat → Type 0) → i < length m.seats
+    → P a.seat → ((j : ℕ) → j ≢ i → P (seat_at m j)) → (j : ℕ) → P (seat_at (with_seat m i a) j)
 each-seat m i a P inside here others j = pick (same j i)
   where
     same : (j i : ℕ) → (j ≡ i) ⊎ (j ≢ i)
     same j i = grind arith
+
     pick : (j ≡ i) ⊎ (j ≢ i) → P (seat_at (with_seat m i a) j)
     pick (inl e) = subst (λ (k : ℕ). P (seat_at (with_seat m i a) k)) (sym e) (subst P (sym (seat-moved m i a inside)) here)
     pick (inr other) = subst P (sym (seat-other m i j a other)) (others j other)
@@ -60,8 +59,8 @@ any-split f (x ∷ xs) (suc i) inside =
 
 -- a fact on such a test is kept where it is beside any rest
 pub any-kept :
-  (f : Seat → Bool) (P P' : Bool → Type 0) (seats : List Seat) (i : ℕ) (s : Seat) → i < length seats
-  → ((rest : Bool) → P (f (get_or seats i idle_seat) || rest) → P' (f s || rest)) → P (list_any f seats) → P' (list_any f (set seats i s))
+    (f : Seat → Bool) (P P' : Bool → Type 0) (seats : List Seat) (i : ℕ) (s : Seat) → i < length seats
+    → ((rest : Bool) → P (f (get_or seats i idle_seat) || rest) → P' (f s || rest)) → P (list_any f seats) → P' (list_any f (set seats i s))
 any-kept f P P' seats i s inside local kept =
     let split = any-split f seats i inside in
     subst P' (sym (split.after s)) (local split.rest (subst P split.before kept))
@@ -82,9 +81,11 @@ holder-locks m i one holds = pick (range i (length m.seats))
   where
     held : bit (holds_lock (seat_at m i).position) ≡ 1
     held = ap bit holds
+
     one-means : (b : Bool) → 1 ≤ bit b → b ≡ true
     one-means true h = refl
     one-means false h = absurd (omega arith)
+
     pick : (i < length m.seats) ⊎ (length m.seats ≤ i) → m.qdisc.locked ≡ true
     pick (inl inside) =
         let le = get_or-le-sum_by (λ (s : Seat). bit (holds_lock s.position)) m.seats i idle_seat inside in
@@ -93,22 +94,25 @@ holder-locks m i one holds = pick (range i (length m.seats))
 
 -- beside the holder no seat stands as one
 pub only-holder :
-  (m : Machine) (i j : ℕ) → OneHolder m → i < length m.seats → holds_lock (seat_at m i).position ≡ true → j ≢ i
-  → holds_lock (seat_at m j).position ≡ false
+    (m : Machine) (i j : ℕ) → OneHolder m → i < length m.seats → holds_lock (seat_at m i).position ≡ true → j ≢ i
+    → holds_lock (seat_at m j).position ≡ false
 only-holder m i j one inside holds other = pick (range j (length m.seats))
   where
     count : Seat → ℕ
     count s = bit (holds_lock s.position)
+
     zero-means : (b : Bool) → bit b ≤ 0 → b ≡ false
     zero-means true h = absurd (omega arith)
     zero-means false h = refl
+
     bit-le : (b : Bool) → bit b ≤ 1
     bit-le true = omega arith
     bit-le false = omega arith
+
     pick : (j < length m.seats) ⊎ (length m.seats ≤ j) → holds_lock (seat_at m j).position ≡ false
     pick (inl there) =
         let cleared : sum_by count (set m.seats i idle_seat) + count (get_or m.seats i idle_seat) ≡ sum_by count m.seats + count idle_seat
-          = sum_by-set count m.seats i idle_seat idle_seat inside in
+        = sum_by-set count m.seats i idle_seat idle_seat inside in
         let now : j < length (set m.seats i idle_seat) = rw length-set there in
         let le = get_or-le-sum_by count (set m.seats i idle_seat) j idle_seat now in
         let same : get_or (set m.seats i idle_seat) j idle_seat ≡ get_or m.seats j idle_seat = get_or-set_other m.seats i j idle_seat idle_seat other in

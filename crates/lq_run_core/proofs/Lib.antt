@@ -14,6 +14,13 @@ pub mod OwnersDiffer
 pub mod DirectAlone
 pub mod LookedClear
 pub mod LockFreeClear
+pub mod Deactivation
+pub mod QuietInside
+pub mod Undisturbed
+pub mod Purging
+pub mod PurgedHoldsNothing
+pub mod Seats
+pub mod SeatsKept
 pub mod First
 pub mod Quiet
 pub mod OneQueue
@@ -24,9 +31,8 @@ pub mod Stuck
 pub mod LockFreeDraining
 pub mod EndingDraining
 pub mod BlockedDraining
--- the pieces of a schedule's text, and its numbers
+pub mod Inductive
+pub mod Sound
 pub mod Pieces
--- a schedule worked line by line
 pub mod Schedules
--- the text of a machine
 pub mod TraceTexts

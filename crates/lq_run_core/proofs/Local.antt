@@ -1,6 +1,6 @@
 -- Every outcome of a step of one seat, of a start and of a step of control, each with what was found on the way.
-use Rattle.std.proofs.Common.{◌≡◌, ℕ, ◌+◌, ◌-◌, Bool, true, false, List, [], ◌∷◌, Option, Some, None}
-use Rattle.std.specs.Prelude.{if◌then◌else◌, ◌||◌, not, nat_lt, ◌==◌, map, take, length, slice_index, slice_set, is_none}
+use Rattle.std.proofs.Common.{◌≡◌, ℕ, ◌+◌, ◌-◌, Bool, true, false, List, [], ◌∷◌, Some, None}
+use Rattle.std.specs.Prelude.{◌||◌, nat_lt, map, take, slice_set, is_none}
 use Rattle.lq_model.specs.declared.machine.Packet.{Packet}
 use Rattle.lq_model.specs.declared.machine.Call.TheVariants.{Transmit, SoftInterrupt}
 use Rattle.lq_model.specs.declared.machine.Attempt.{Attempt}
@@ -11,7 +11,7 @@ use Rattle.lq_model.specs.declared.machine.Phase.TheVariants.{Active, Closing}
 use Rattle.lq_model.specs.declared.machine.Position.{Position}
 use Rattle.lq_model.specs.declared.machine.Position.TheVariants.{Idle, Enter, Check, Put, Try1, Miss, Try2, Recheck, Gate, Xmit, StoreXoff, Post, Deq, Scan, Test, ClearMissed, ClearDraining, BlockedClear, BlockedLoad, BlockedMiss, BlockedDrain, Again, Quota, Unlock, Tail, Sched, Leave, Soft, SoftClear, Late, Wake, Control}
 use Rattle.lq_model.specs.declared.machine.Seat.{Seat}
-use Rattle.lq_model.specs.Machine.{Qdisc, Purge, is_non_empty, is_open, is_shared, band_at}
+use Rattle.lq_model.specs.Machine.{Qdisc, Purge, is_open, is_shared, band_at}
 use Rattle.lq_model.specs.Steps.{After, goes_to, one_more, joined, accepted, counted, queue_of_slot, queue_of_blocked}
 use Rattle.lq_model.specs.Control.{is_quiet, is_purged, found_inside, behind_purge, opened}
 
@@ -70,10 +70,10 @@ pub data Local (sole : Bool) (free : Packet → Type 0) (q : Qdisc) (s : Seat) :
   xmit_sent_word : (p : Packet) → (is_shared q ≡ true → is_none q.slot ≡ false) → Local sole free q s (Xmit p false) (goes_to (accepted q) (counted s) Deq)
   xmit_sent_bands : (p : Packet) → q.slot ≡ None → Local sole free q s (Xmit p false) (goes_to (accepted q) (counted s) (Scan 0 false))
   xmit_stops : (p : Packet) (direct : Bool) (queue : ℕ) (hung : Bool)
-    → Local sole free q s (Xmit p direct) (goes_to (accepted q) (counted s) (StoreXoff queue hung direct))
+      → Local sole free q s (Xmit p direct) (goes_to (accepted q) (counted s) (StoreXoff queue hung direct))
   xmit_busy : (p : Packet) (direct : Bool) → Local sole free q s (Xmit p direct) (goes_to (record q { slot = Some p }) s Again)
   stop_next : (queue : ℕ) (hung direct : Bool) (v : ℕ)
-    → Local sole free q s (StoreXoff queue hung direct) (goes_to (record q { xoff = slice_set q.xoff queue v }) s (StoreXoff (queue + 1) hung direct))
+      → Local sole free q s (StoreXoff queue hung direct) (goes_to (record q { xoff = slice_set q.xoff queue v }) s (StoreXoff (queue + 1) hung direct))
   stop_last_direct : (queue : ℕ) (hung : Bool) (v : ℕ) → Local sole free q s (StoreXoff queue hung true) (goes_to (record q { xoff = slice_set q.xoff queue v }) s Post)
   stop_last_quota : (queue : ℕ) (hung : Bool) (v : ℕ) → Local sole free q s (StoreXoff queue hung false) (goes_to (record q { xoff = slice_set q.xoff queue v }) s Quota)
   stop_last_word : (queue : ℕ) (hung : Bool) (v : ℕ) → (is_shared q ≡ true → is_none q.slot ≡ false) → Local sole free q s (StoreXoff queue hung false) (goes_to (record q { xoff = slice_set q.xoff queue v }) s Deq)
@@ -85,7 +85,7 @@ pub data Local (sole : Bool) (free : Packet → Type 0) (q : Qdisc) (s : Seat) :
   deq_bands : q.slot ≡ None → Local sole free q s Deq (goes_to q s (Scan 0 false))
   deq_closed : Local sole free q s Deq (goes_to q s (BlockedClear (NoneTaken (queue_of_slot q.slot))))
   scan_takes : (band : ℕ) (second : Bool) (p : Packet) (rest : List Packet) → band_at q band ≡ p ∷ rest
-    → Local sole free q s (Scan band second) (goes_to (record q { bands = slice_set q.bands band rest }) s (Gate p false))
+      → Local sole free q s (Scan band second) (goes_to (record q { bands = slice_set q.bands band rest }) s (Gate p false))
   scan_next : (band : ℕ) (second : Bool) → band_at q band ≡ [] → Local sole free q s (Scan band second) (goes_to q s (Scan (band + 1) second))
   scan_tests : (band : ℕ) → band_at q band ≡ [] → nat_lt band 2 ≡ false → Local sole free q s (Scan band false) (goes_to q s Test)
   scan_ends : (band : ℕ) → band_at q band ≡ [] → nat_lt band 2 ≡ false → Local sole free q s (Scan band true) (goes_to q s Unlock)
@@ -97,10 +97,10 @@ pub data Local (sole : Bool) (free : Packet → Type 0) (q : Qdisc) (s : Seat) :
   blocked_open : (b : Blocked) → Local sole free q s (BlockedLoad b) (goes_to q s (BlockedMiss b))
   blocked_closed : (b : Blocked) → is_open q (queue_of_blocked b) ≡ false → Local sole free q s (BlockedLoad b) (goes_to q s (BlockedDrain b))
   miss_back : (p : Packet) (direct : Bool)
-    → Local sole free q s (BlockedMiss (InHand p direct)) (goes_to (record q { missed = true; slot = Some p }) s Again)
+      → Local sole free q s (BlockedMiss (InHand p direct)) (goes_to (record q { missed = true; slot = Some p }) s Again)
   miss_none : (queue : ℕ) → Local sole free q s (BlockedMiss (NoneTaken queue)) (goes_to (record q { missed = true }) s Unlock)
   drain_back : (p : Packet) (direct : Bool)
-    → Local sole free q s (BlockedDrain (InHand p direct)) (goes_to (record q { draining = true; slot = Some p }) s Again)
+      → Local sole free q s (BlockedDrain (InHand p direct)) (goes_to (record q { draining = true; slot = Some p }) s Again)
   drain_none : (queue : ℕ) → Local sole free q s (BlockedDrain (NoneTaken queue)) (goes_to (record q { draining = true }) s Unlock)
   again : Local sole free q s Again (goes_to (record q { missed = true }) s Unlock)
   quota : Local sole free q s Quota (goes_to (record q { missed = true }) s Unlock)
@@ -132,27 +132,27 @@ pub data Local (sole : Bool) (free : Packet → Type 0) (q : Qdisc) (s : Seat) :
   run_end : q.purge ≡ None → Local sole free q s (Control true) (goes_to (record q { locked = false }) s (Tail false))
   releases : q.purge ≡ None → q.deactivated ≡ true → Local sole free q s (Control true) (goes_to (record q { locked = false }) s (Control false))
   deactivates : (holds : Bool) → q.deactivated ≡ false → q.purge ≡ None
-    → Local sole free q s (Control holds) (goes_to (record q { deactivated = true; phase = Closing }) s (Control holds))
+      → Local sole free q s (Control holds) (goes_to (record q { deactivated = true; phase = Closing }) s (Control holds))
   activates : q.purge ≡ None → is_purged q.phase ≡ true
-    → Local sole free q s (Control false) (goes_to (record q { deactivated = false; phase = Active }) s (Control false))
+      → Local sole free q s (Control false) (goes_to (record q { deactivated = false; phase = Active }) s (Control false))
   loads_inside : (holds : Bool) → Local sole free q s (Control holds) (goes_to (record q { phase = found_inside q.inside q.phase }) s (Control holds))
   purge_begins : q.purge ≡ None → (is_quiet q.phase || sole) ≡ true
-    → Local sole free q s (Control true)
-        (goes_to (record q { slot = None; purge = Some (record { band = 0; missed = false; draining = false }) }) s (Control true))
+      → Local sole free q s (Control true)
+      (goes_to (record q { slot = None; purge = Some (record { band = 0; missed = false; draining = false }) }) s (Control true))
   purge_takes : (u : Purge) (p : Packet) (rest : List Packet) → q.purge ≡ Some u → nat_lt u.band 3 ≡ true → band_at q u.band ≡ p ∷ rest
-    → Local sole free q s (Control true) (goes_to (record q { bands = slice_set q.bands u.band rest }) s (Control true))
+      → Local sole free q s (Control true) (goes_to (record q { bands = slice_set q.bands u.band rest }) s (Control true))
   purge_next : (u : Purge) → q.purge ≡ Some u → nat_lt u.band 3 ≡ true → band_at q u.band ≡ []
-    → Local sole free q s (Control true) (goes_to (record q { purge = Some (record u { band = u.band + 1 }) }) s (Control true))
+      → Local sole free q s (Control true) (goes_to (record q { purge = Some (record u { band = u.band + 1 }) }) s (Control true))
   purge_missed : (u : Purge) → q.purge ≡ Some u → nat_lt u.band 3 ≡ false → u.draining ≡ false
-    → Local sole free q s (Control true) (goes_to (record q { missed = false; purge = Some (record u { missed = true }) }) s (Control true))
+      → Local sole free q s (Control true) (goes_to (record q { missed = false; purge = Some (record u { missed = true }) }) s (Control true))
   purge_draining : (u : Purge) → q.purge ≡ Some u → nat_lt u.band 3 ≡ false → u.missed ≡ false
-    → Local sole free q s (Control true) (goes_to (record q { draining = false; purge = Some (record u { draining = true }) }) s (Control true))
+      → Local sole free q s (Control true) (goes_to (record q { draining = false; purge = Some (record u { draining = true }) }) s (Control true))
   purge_missed_ends : (u : Purge) → q.purge ≡ Some u → nat_lt u.band 3 ≡ false → u.draining ≡ true
-    → Local sole free q s (Control true) (goes_to (record q { missed = false; purge = None; phase = behind_purge q.phase }) s (Control true))
+      → Local sole free q s (Control true) (goes_to (record q { missed = false; purge = None; phase = behind_purge q.phase }) s (Control true))
   purge_draining_ends : (u : Purge) → q.purge ≡ Some u → nat_lt u.band 3 ≡ false → u.missed ≡ true
-    → Local sole free q s (Control true) (goes_to (record q { draining = false; purge = None; phase = behind_purge q.phase }) s (Control true))
+      → Local sole free q s (Control true) (goes_to (record q { draining = false; purge = None; phase = behind_purge q.phase }) s (Control true))
   resizes : (len : ℕ) → q.purge ≡ None
-    → Local sole free q s (Control true) (goes_to (record q { bands = map (λ band. take len band) q.bands; len = len }) s (Control true))
+      → Local sole free q s (Control true) (goes_to (record q { bands = map (λ band. take len band) q.bands; len = len }) s (Control true))
   stores_open : (queue : ℕ) → q.purge ≡ None → is_purged q.phase ≡ true
-    → Local sole free q s (Control true) (goes_to (record q { xoff = slice_set q.xoff queue 0 }) s (Control true))
+      → Local sole free q s (Control true) (goes_to (record q { xoff = slice_set q.xoff queue 0 }) s (Control true))
   opens : (queue : ℕ) → q.purge ≡ None → Local sole free q s (Control true) (opened queue q s)

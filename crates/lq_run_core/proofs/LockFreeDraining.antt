@@ -1,21 +1,22 @@
 -- A free run lock with DRAINING alone: nothing is exposed, unless there is a way on.
-use Rattle.std.proofs.Common.{◌≡◌, ℕ, ◌<◌, Bool, true, false, length, refl, sym, ◌∙◌, subst}
-use Rattle.std.proofs.lemmas.Bool.{both_ways, false_from_ne_true, cases_Bool}
-use Rattle.lq_model.specs.Machine.{Qdisc, Machine, seat_at}
-use Rattle.lq_model.specs.Steps.{After, with_seat}
+use Rattle.std.proofs.Common.{◌≡◌, Bool, true, false, refl, sym, ◌∙◌, subst}
+use Rattle.std.proofs.lemmas.Bool.{both_ways, false_from_ne_true}
+use Rattle.lq_model.specs.Machine.{Machine, seat_at}
+use Rattle.lq_model.specs.Steps.{with_seat}
 use Rattle.lq_model.specs.Control.{is_purged}
-use Rattle.lq_model.specs.Kept.{IsInductive, Moves, LockFreeDraining, IsStuck, IsClear, holds_lock}
+use Rattle.lq_model.specs.Kept.{IsInductive, Moves, LockFreeDraining, holds_lock}
 use Rattle.lq_run_core.proofs.LocalSteps.{Moved, moved}
 use Rattle.lq_run_core.proofs.Frames.{holder-locks}
 use Rattle.lq_run_core.proofs.Beside.{beside, stays-locked}
 use Rattle.lq_run_core.proofs.Way.{keeps-beside}
-use Rattle.lq_run_core.proofs.Stuck.{Drains, KeepsDrains, drains-on, purged-clear, releases}
+use Rattle.lq_run_core.proofs.Stuck.{Drains, drains-on, purged-clear, releases}
 
 pub lock-free-draining : (m n : Machine) → IsInductive m → Moves m n → LockFreeDraining n
 lock-free-draining m n h moves = subst LockFreeDraining (sym t.is) (λ unlocked. step unlocked (holds_lock (seat_at m t.i).position) refl)
   where
     t : Moved m n
     t = moved m n moves
+
     step : t.after.qdisc.locked ≡ false → (b : Bool) → holds_lock (seat_at m t.i).position ≡ b → Drains (with_seat m t.i t.after)
     step unlocked true holds =
         let released = releases t.leads holds (holder-locks m t.i h.kept.one_holder holds) unlocked in

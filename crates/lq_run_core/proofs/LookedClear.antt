@@ -13,7 +13,7 @@ use Rattle.lq_run_core.proofs.Local as local
 use Rattle.lq_run_core.proofs.Local.{Local}
 use Rattle.lq_run_core.proofs.LocalSteps.{Moved, moved}
 use Rattle.lq_run_core.proofs.Frames.{each-seat}
-use Rattle.lq_run_core.proofs.Bands.{cut-holds}
+use Rattle.lq_run_core.proofs.Bands.{cut-holds, empty-holds}
 use Rattle.lq_run_core.proofs.Aside.{Takes, IsTaking, aside}
 use Rattle.lq_run_core.proofs.Aside.Takes.{takes_direct, takes_word, takes_bands, takes_control}
 use Rattle.lq_run_core.proofs.Rely.{rely, hidden-stays, clear-beside, bits-before}
@@ -33,10 +33,6 @@ unchanged clear slot bands = record {
 -- with the slot empty, nothing is below the first band
 begins : (m : Machine) (q : Qdisc) (band : ℕ) → q.slot ≡ None → Some 0 ≡ Some band → Below m q band
 begins m q band slot e = record { slot = slot; bands = λ k below. absurd (let first : 0 ≡ band = cc in omega arith) }
-
--- an empty list holds nothing
-empty-holds : (xs : List Packet) (p : Packet) → xs ≡ [] → Contains xs p → ⊥
-empty-holds xs p e (k, below, at) = let none : length xs ≡ 0 = ap length e in omega arith
 
 -- one more band was found empty
 next : (m : Machine) (q : Qdisc) (band more : ℕ) → Below m q band → band_at q band ≡ [] → more ≤ band + 1 → Below m q more

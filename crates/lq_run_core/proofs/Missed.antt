@@ -1,11 +1,11 @@
 -- A free lock with MISSED set is never forgotten.
-use Rattle.std.proofs.Common.{◌≡◌, ◌≢◌, ℕ, ◌+◌, ◌-◌, ◌<◌, ◌≤◌, Bool, true, false, cond, ◌⊎◌, List, length, refl, ap, arith, Option, Some, None, get_or, sym, ◌∙◌, subst}
+use Rattle.std.proofs.Common.{◌≡◌, Bool, true, false, refl, arith}
 use Rattle.std.specs.Prelude.{◌||◌}
 use Rattle.lq_model.specs.declared.machine.Packet.{Packet}
 use Rattle.lq_model.specs.declared.machine.Position.{Position}
 use Rattle.lq_model.specs.declared.machine.Seat.{Seat}
-use Rattle.lq_model.specs.Machine.{Qdisc, Machine, seat_at}
-use Rattle.lq_model.specs.Steps.{After, with_seat}
+use Rattle.lq_model.specs.Machine.{Qdisc, Machine}
+use Rattle.lq_model.specs.Steps.{After}
 use Rattle.lq_model.specs.Control.{is_purged}
 use Rattle.lq_model.specs.declared.machine.Phase.{Phase}
 use Rattle.lq_model.specs.declared.machine.Phase.TheVariants.{Purged}
@@ -20,9 +20,9 @@ abbrev pub HasEvidence : Qdisc → Bool → Type 0
 HasEvidence q g = q.locked ≡ false → q.missed ≡ true → (q.sched || q.deactivated || g) ≡ true
 
 pub going-local :
-  {sole : Bool} {free : Packet → Type 0} {q : Qdisc} {s : Seat} {position : Position} {a : After} (rest : Bool)
-  → Local sole free q s position a → (holds_lock position ≡ true → q.locked ≡ true) → (is_purged q.phase ≡ true → q.missed ≡ false)
-  → HasEvidence q (is_going position || rest) → HasEvidence a.qdisc (is_going a.seat.position || rest)
+    {sole : Bool} {free : Packet → Type 0} {q : Qdisc} {s : Seat} {position : Position} {a : After} (rest : Bool)
+    → Local sole free q s position a → (holds_lock position ≡ true → q.locked ≡ true) → (is_purged q.phase ≡ true → q.missed ≡ false)
+    → HasEvidence q (is_going position || rest) → HasEvidence a.qdisc (is_going a.seat.position || rest)
 going-local rest (check_refused p h1) held purged kept unlocked missed = grind arith
 going-local rest (check_direct p h1) held purged kept unlocked missed = grind arith
 going-local rest (check_put p h1) held purged kept unlocked missed = grind arith
@@ -71,8 +71,8 @@ purged-is _ e = cc
 pub lock-free-missed : (m n : Machine) → IsInductive m → Moved m n → LockFreeMissed n
 lock-free-missed m n ind move =
     rw move.is
-      (any-kept (λ s. is_going s.position) (HasEvidence m.qdisc) (HasEvidence move.after.qdisc) m.seats move.i move.after.seat move.inside
-        (λ rest h. going-local rest move.leads (holder-locks m move.i ind.kept.one_holder) purged h) ind.kept.lock_free_missed)
+    (any-kept (λ s. is_going s.position) (HasEvidence m.qdisc) (HasEvidence move.after.qdisc) m.seats move.i move.after.seat move.inside
+    (λ rest h. going-local rest move.leads (holder-locks m move.i ind.kept.one_holder) purged h) ind.kept.lock_free_missed)
   where
     purged : is_purged m.qdisc.phase ≡ true → m.qdisc.missed ≡ false
     purged e = (ind.kept.purged_holds_nothing (purged-is m.qdisc.phase e)).0.missed

@@ -1,8 +1,7 @@
 -- One queue: what the rules of several queues come to.
-use Rattle.std.proofs.Common.{◌≡◌, ℕ, zero, suc, ◌+◌, ◌<◌, ◌≤◌, Bool, true, false, List, [], ◌∷◌, length, refl, ap, arith, Option, Some, None, sym, ◌∙◌, subst}
-use Rattle.std.specs.Prelude.{◌&&◌, ◌||◌, nat_lt, ◌==◌, if◌then◌else◌, slice_index, slice_set, is_some, is_none}
+use Rattle.std.proofs.Common.{◌≡◌, ℕ, zero, suc, ◌≤◌, Bool, true, false, length, ap, arith, Option, Some, None, ◌∙◌}
+use Rattle.std.specs.Prelude.{◌&&◌, nat_lt, ◌==◌, if◌then◌else◌, slice_set, is_some, is_none}
 use Rattle.std.proofs.Math.ListN.{get_or-eq_default}
-use Rattle.lq_model.specs.declared.machine.Position.{Position}
 use Rattle.lq_model.specs.declared.machine.Position.TheVariants.{Deq, Scan, StoreXoff}
 use Rattle.lq_model.specs.declared.machine.Seat.{Seat}
 use Rattle.lq_model.specs.Machine.{Qdisc, is_open, is_shared}
@@ -16,7 +15,7 @@ pub one-dequeue : (q : Qdisc) → length q.xoff ≡ 1 → dequeue_begins q ≡ D
 one-dequeue q one = ap (λ (b : Bool). if b && is_none q.slot then Scan 0 false else Deq) (not-shared q one)
 
 pub one-hang : (q : Qdisc) (s : Seat) (direct : Bool) → length q.xoff ≡ 1
-  → store_xoff 0 true direct q s ≡ goes_to (record q { xoff = slice_set q.xoff 0 2 }) s (behind_sent direct q s)
+    → store_xoff 0 true direct q s ≡ goes_to (record q { xoff = slice_set q.xoff 0 2 }) s (behind_sent direct q s)
 one-hang q s direct one =
     ap (λ (n : ℕ). goes_to (record q { xoff = slice_set q.xoff 0 2 }) s (if nat_lt 1 n then StoreXoff 1 true direct else behind_sent direct q s)) one
 

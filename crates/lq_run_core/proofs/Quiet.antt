@@ -1,15 +1,13 @@
 -- A quiet machine holds nothing.
-use Rattle.std.proofs.Common.{◌≡◌, ℕ, zero, suc, ◌<◌, Bool, true, false, ◌⊎◌, inl, inr, List, [], ◌∷◌, length, refl, ap, arith, Option, Some, None, get_or, sym, ◌∙◌, subst}
-use Rattle.std.specs.Prelude.{◌||◌, Contains, is_some}
+use Rattle.std.proofs.Common.{◌≡◌, ℕ, suc, Bool, true, false, ◌⊎◌, inl, inr, List, [], ◌∷◌, refl, ap, arith, Option, Some, None, get_or, sym, ◌∙◌}
 use Rattle.std.specs.List.{list_any}
-use Rattle.std.proofs.lemmas.Bool.{cases_eq}
 use Rattle.lq_model.specs.declared.machine.Packet.{Packet}
 use Rattle.lq_model.specs.declared.machine.Position.{Position}
 use Rattle.lq_model.specs.declared.machine.Position.TheVariants.{Idle}
 use Rattle.lq_model.specs.declared.machine.Seat.{Seat}
 use Rattle.lq_model.specs.Machine.{Qdisc, Machine, idle_seat, seat_at, is_open}
 use Rattle.lq_model.specs.Steps.{is_idle}
-use Rattle.lq_model.specs.Kept.{IsKept, IsQuiet, IsStuck, IsClear, Holds, queued, is_going, is_on_way, some_seat, has_way_on, is_stopped, blocking}
+use Rattle.lq_model.specs.Kept.{IsKept, IsQuiet, IsClear, Holds, queued, is_going, is_on_way, some_seat, has_way_on, is_stopped, blocking}
 
 -- where a test holds of some seat it holds at some number
 none-anywhere : (f : Seat → Bool) (seats : List Seat) → ((i : ℕ) → f (get_or seats i idle_seat) ≡ false) → list_any f seats ≡ false

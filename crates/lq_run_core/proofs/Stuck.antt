@@ -1,19 +1,17 @@
 -- Only DRAINING is set and there is no way on: what a step leaves of that, and of what is exposed then.
-use Rattle.std.proofs.Common.{◌≡◌, ◌≢◌, ℕ, ◌<◌, Bool, true, false, ◌⊎◌, inl, inr, map, take, length, Option, Some, None, refl, sym, ap, ◌∙◌, subst, Contains}
+use Rattle.std.proofs.Common.{◌≡◌, ℕ, ◌<◌, Bool, true, false, inl, map, take, length, Option, Some, None, refl, sym, ap, ◌∙◌, subst}
 use Rattle.std.specs.Prelude.{◌||◌}
-use Rattle.std.proofs.lemmas.Bool.{or_right, or_parts, or_from, both_ways, false_from_ne_true}
+use Rattle.std.proofs.lemmas.Bool.{or_right, or_from, both_ways, false_from_ne_true}
 use Rattle.lq_model.specs.declared.machine.Packet.{Packet}
-use Rattle.lq_model.specs.declared.machine.Blocked.{Blocked}
-use Rattle.lq_model.specs.declared.machine.Blocked.TheVariants.{InHand, NoneTaken}
+use Rattle.lq_model.specs.declared.machine.Blocked.TheVariants.{NoneTaken}
 use Rattle.lq_model.specs.declared.machine.Phase.{Phase}
-use Rattle.lq_model.specs.declared.machine.Phase.TheVariants.{Active, Closing, Quiet, Purged}
 use Rattle.lq_model.specs.declared.machine.Position.{Position}
-use Rattle.lq_model.specs.declared.machine.Position.TheVariants.{Idle, Enter, Check, Put, Try1, Miss, Try2, Recheck, Gate, Xmit, StoreXoff, Post, Deq, Scan, Test, ClearMissed, ClearDraining, BlockedClear, BlockedLoad, BlockedMiss, BlockedDrain, Again, Quota, Unlock, Tail, Sched, Leave, Soft, SoftClear, Late, Wake, Control}
+use Rattle.lq_model.specs.declared.machine.Position.TheVariants.{BlockedDrain, Control}
 use Rattle.lq_model.specs.declared.machine.Seat.{Seat}
-use Rattle.lq_model.specs.Machine.{Qdisc, Machine, Purge, seat_at, band_at}
+use Rattle.lq_model.specs.Machine.{Qdisc, Machine, Purge, seat_at}
 use Rattle.lq_model.specs.Steps.{After, with_seat}
 use Rattle.lq_model.specs.Control.{is_purged}
-use Rattle.lq_model.specs.Kept.{IsInductive, IsHidden, IsStuck, IsClear, ClearBelow, holds_lock, queued, is_on_way, is_second_scan, is_ending, blocking, has_way_on}
+use Rattle.lq_model.specs.Kept.{IsInductive, IsStuck, IsClear, holds_lock, queued, is_on_way, is_second_scan, is_ending, blocking, has_way_on}
 use Rattle.lq_run_core.proofs.Local as local
 use Rattle.lq_run_core.proofs.Local.{Local}
 use Rattle.lq_run_core.proofs.Bands.{cut-holds}
@@ -33,7 +31,7 @@ pub record KeepsDrains (before : Position) (q : Qdisc) (after : Position) (q' : 
 
 -- no way on behind the step, for the queue that was in the way before it
 no-way-now : (m : Machine) (i : ℕ) (a : After) → KeepsWay (seat_at m i).position m.qdisc a.seat.position a.qdisc → IsStuck (with_seat m i a)
-  → (a.qdisc.missed || has_way_on (with_seat m i a) (blocking m.qdisc)) ≡ false
+    → (a.qdisc.missed || has_way_on (with_seat m i a) (blocking m.qdisc)) ≡ false
 no-way-now m i a keeps stuck =
     or_from _ _ stuck.missed (subst (λ queue. has_way_on (with_seat m i a) queue ≡ false) (blocking-same m.qdisc a.qdisc keeps.slot keeps.queues) stuck.no_way)
 
@@ -55,26 +53,23 @@ purged-clear m h purged = (h.kept.purged_holds_nothing (purged-is m.qdisc.phase 
 
 -- a step that changes nothing that the way on rests on
 same-way : (before after : Position) (q q' : Qdisc) → q'.missed ≡ q.missed → q'.deactivated ≡ q.deactivated → q'.sched ≡ q.sched → q'.xoff ≡ q.xoff → q'.slot ≡ q.slot
-  → is_on_way after ≡ is_on_way before → KeepsWay before q after q'
+    → is_on_way after ≡ is_on_way before → KeepsWay before q after q'
 same-way before after q q' missed deactivated sched xoff slot comes = record { way = λ stopped rest way. cc; xoff = inl xoff; slot = slot; queues = ap length xoff }
 
--- a step that changes neither these nor what is held
-still : (before after : Position) (q q' : Qdisc) → KeepsWay before q after q' → q'.missed ≡ q.missed → q'.draining ≡ q.draining → q'.slot ≡ q.slot → q'.purge ≡ q.purge
-  → q'.bands ≡ q.bands → queued before ≡ None → KeepsDrains before q after q'
-still before after q q' way missed draining slot purge bands own = record {
-  beside = alike before after q q' missed draining slot purge way.queues bands (λ p hides c. absurd cc);
-  way = way;
+-- a step that changes at most the run lock and the phase
+still : (before after : Position) (q : Qdisc) (locked : Bool) (phase : Phase) → is_on_way after ≡ is_on_way before → queued before ≡ None
+    → KeepsDrains before q after (record q { locked = locked; phase = phase })
+still before after q locked phase comes own = record {
+  beside = alike before after q _ refl refl refl refl refl refl (λ p hides c. absurd cc);
+  way = same-way before after q _ refl refl refl refl refl comes;
 }
 
 -- it releases the run lock
 pub releases : {sole : Bool} {free : Packet → Type 0} {q : Qdisc} {s : Seat} {before : Position} {after : After} → Local sole free q s before after
-  → holds_lock before ≡ true → q.locked ≡ true → after.qdisc.locked ≡ false → (is_ending q.purge before ≡ true) × KeepsDrains before q after.seat.position after.qdisc
-releases local.unlock holds locked unlocks =
-    (refl, still _ _ _ _ (same-way _ _ _ _ refl refl refl refl refl refl) refl refl refl refl refl refl)
-releases (local.run_end none) holds locked unlocks =
-    (cc, still _ _ _ _ (same-way _ _ _ _ refl refl refl refl refl refl) refl refl refl refl refl refl)
-releases (local.releases none closed) holds locked unlocks =
-    (cc, still _ _ _ _ (same-way _ _ _ _ refl refl refl refl refl refl) refl refl refl refl refl refl)
+    → holds_lock before ≡ true → q.locked ≡ true → after.qdisc.locked ≡ false → (is_ending q.purge before ≡ true) × KeepsDrains before q after.seat.position after.qdisc
+releases local.unlock holds locked unlocks = (refl, still _ _ _ _ _ refl refl)
+releases (local.run_end none) holds locked unlocks = (cc, still _ _ _ _ _ refl refl)
+releases (local.releases none closed) holds locked unlocks = (cc, still _ _ _ _ _ refl refl)
 releases _ holds locked unlocks = absurd cc
 
 -- how the holder comes to a position from which it releases the run lock, with DRAINING set alone
@@ -100,16 +95,15 @@ purges (Some v) u under ending = cc
 purges None u under ending = cc
 
 pub ends : {sole : Bool} {free : Packet → Type 0} {q : Qdisc} {s : Seat} {before : Position} {after : After} → Local sole free q s before after
-  → holds_lock before ≡ true → (is_second_scan before ≡ true → q.draining ≡ false) → (is_purged q.phase ≡ true → q.draining ≡ false)
-  → ((u : Purge) → q.purge ≡ Some u → u.draining ≡ true → q.draining ≡ false)
-  → is_ending after.qdisc.purge after.seat.position ≡ true → after.qdisc.missed ≡ false → after.qdisc.draining ≡ true
-  → after.qdisc.deactivated ≡ false → after.qdisc.sched ≡ false → Ends before q after.seat.position after.qdisc
+    → holds_lock before ≡ true → (is_second_scan before ≡ true → q.draining ≡ false) → (is_purged q.phase ≡ true → q.draining ≡ false)
+    → ((u : Purge) → q.purge ≡ Some u → u.draining ≡ true → q.draining ≡ false)
+    → is_ending after.qdisc.purge after.seat.position ≡ true → after.qdisc.missed ≡ false → after.qdisc.draining ≡ true
+    → after.qdisc.deactivated ≡ false → after.qdisc.sched ≡ false → Ends before q after.seat.position after.qdisc
 ends (local.post_clear missed none) holds second purged purging ending clear set active idle = absurd cc
 ends (local.test_clear missed none) holds second purged purging ending clear set active idle = absurd cc
 ends (local.scan_ends band empty last) holds second purged purging ending clear set active idle = absurd (both_ways _ (second refl) set)
 ends (local.drain_none queue) holds second purged purging ending clear set active idle = drained queue refl (same-way _ _ _ _ refl refl refl refl refl refl)
-ends (local.loads_inside true) holds second purged purging ending clear set active idle =
-    stays ending (still _ _ _ _ (same-way _ _ _ _ refl refl refl refl refl refl) refl refl refl refl refl refl)
+ends (local.loads_inside true) holds second purged purging ending clear set active idle = stays ending (still _ _ _ _ _ refl refl)
 ends {q = q} (local.resizes len none) holds second purged purging ending clear set active idle =
     stays ending (record { beside = cuts q len; way = same-way _ _ _ _ refl refl refl refl refl refl })
 ends (local.purge_takes u p rest under more at) holds second purged purging ending clear set active idle = absurd (purges _ u under ending)
@@ -120,9 +114,8 @@ ends _ holds second purged purging ending clear set active idle = absurd cc
 -- A SEAT THAT TAKES THE LOCK
 
 pub takes : {sole : Bool} {free : Packet → Type 0} {q : Qdisc} {s : Seat} {before : Position} {after : After} → Local sole free q s before after
-  → holds_lock before ≡ false → is_ending after.qdisc.purge after.seat.position ≡ true → (q.locked ≡ false) × KeepsDrains before q after.seat.position after.qdisc
-takes (local.gets_lock unlocked) out ending =
-    (unlocked, still _ _ _ _ (same-way _ _ _ _ refl refl refl refl refl refl) refl refl refl refl refl refl)
+    → holds_lock before ≡ false → is_ending after.qdisc.purge after.seat.position ≡ true → (q.locked ≡ false) × KeepsDrains before q after.seat.position after.qdisc
+takes (local.gets_lock unlocked) out ending = (unlocked, still _ _ _ _ _ refl refl)
 takes (local.deactivates false active none) out ending = absurd cc
 takes (local.deactivates true active none) out ending = absurd cc
 takes (local.loads_inside false) out ending = absurd cc

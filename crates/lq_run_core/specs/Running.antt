@@ -1,11 +1,11 @@
 -- A machine that is run by numbers: its sends take the packet numbers in order, each seat is an owner.
-use Rattle.std.specs.Prelude.{◌≡◌, ℕ, ◌+◌, Bool, true, false, ◌&&◌, ◌||◌, if◌then◌else◌, List, Option, Some, None, is_some, unwrap_or, max, fold, sum_by, length}
+use Rattle.std.specs.Prelude.{◌≡◌, ℕ, ◌+◌, ◌<◌, Bool, true, false, List, Option, Some, is_some, max, fold, sum_by, length}
 use Rattle.lq_model.specs.declared.machine.Packet.{Packet}
 use Rattle.lq_model.specs.declared.machine.Beginning.{Beginning}
 use Rattle.lq_model.specs.declared.machine.Beginning.TheVariants.{Transmits, Interrupts, Wakes}
 use Rattle.lq_model.specs.Machine.{Qdisc, Machine, bit, seat_at}
 use Rattle.lq_model.specs.Kept.{IsInductive, own_packet}
-use Rattle.lq_model.specs.Steps.{start_of, step_of}
+use Rattle.lq_model.specs.Steps.{start_of}
 use Rattle.lq_run_core.specs.declared.start.Start.{Start}
 use Rattle.lq_run_core.specs.declared.start.Start.TheVariants.{Send, SoftIrq, Wake, SendOn, WakeOn}
 
@@ -25,6 +25,14 @@ beginning_of SoftIrq seat r = Interrupts
 beginning_of Wake seat r = Wakes 0
 beginning_of (SendOn band queue) seat r = Transmits (packet_of r seat band queue)
 beginning_of (WakeOn queue) seat r = Wakes queue
+
+-- its band and its queue are the machine's
+abbrev pub IsInRange : Start → Machine → Type 0
+IsInRange (Send band) m = band < 3
+IsInRange SoftIrq m = Unit {0}
+IsInRange Wake m = Unit {0}
+IsInRange (SendOn band queue) m = (band < 3) × (queue < length m.qdisc.xoff)
+IsInRange (WakeOn queue) m = queue < length m.qdisc.xoff
 
 abbrev pub is_send : Start → Bool
 is_send (Send band) = true

@@ -1,10 +1,12 @@
-//! The machine of the run lock and its bits.
+//! The machine of the run lock and its bits, as include/net/sch_generic.h and net/sched/sch_generic.c of Linux
+//! have them: a try-lock and the bits SCHED, DEACTIVATED, MISSED and DRAINING decide who empties the bands.
+//!
+//! `Machine` runs it, one atomic step of one seat at a time, in any order. `laws` says that no order leaves a
+//! packet behind: the invariant (`IsKept` of lq_model) holds at every moment, and where it holds an active
+//! machine with no call inside, no run, none scheduled and no stopped queue holds no packet.
 #![tactic(auto)]
 
-mod laws;
-mod laws_draining;
-mod laws_exposed;
-mod laws_lock;
+pub mod laws;
 mod machine;
 mod qdisc;
 mod schedule;

@@ -37,17 +37,25 @@ impl Model for Qdisc {
 
     ghost Value = { State };
 
-    ghost view = {
-        λ s. record {
-          sched = s.sched; deactivated = s.deactivated; missed = s.missed; draining = s.draining; locked = s.locked;
-          xoff = s.xoff.items; inside = s.inside; bands = s.first.items ∷ s.second.items ∷ s.third.items ∷ [];
-          len = s.len; slot = s.slot; bypass = s.bypass; sent = s.sent; full = s.full; phase = s.phase; purge = None;
-        }
-    };
+    ghost view = { λ s. record {
+      sched = s.sched;
+      deactivated = s.deactivated;
+      missed = s.missed;
+      draining = s.draining;
+      locked = s.locked;
+      xoff = s.xoff.items;
+      inside = s.inside;
+      bands = s.first.items ∷ s.second.items ∷ s.third.items ∷ [];
+      len = s.len;
+      slot = s.slot;
+      bypass = s.bypass;
+      sent = s.sent;
+      full = s.full;
+      phase = s.phase;
+      purge = None;
+    } };
 
-    ghost invariant = {
-        λ s. (vec_len s.xoff ≤ 8) × (s.len ≤ 4096) × IsBand s.len s.first × IsBand s.len s.second × IsBand s.len s.third
-    };
+    ghost invariant = { λ s. (vec_len s.xoff ≤ 8) × (s.len ≤ 4096) × IsBand s.len s.first × IsBand s.len s.second × IsBand s.len s.third };
 }
 
 /// The seat at another position.

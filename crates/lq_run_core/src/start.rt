@@ -4,9 +4,8 @@ ghost use Rattle.lq_model.specs.Machine.{Machine as State};
 ghost use Rattle.lq_model.specs.Steps.{is_idle, may_begin, begun};
 ghost use Rattle.lq_run_core.specs.Running.{Running, beginning_of, is_send};
 
-use lq_model::{Call, Packet, Position, Seat};
-
 use crate::qdisc::at;
+use lq_model::{Call, Packet, Position, Seat};
 
 /// How a call of a seat begins.
 #[derive(Clone, Copy, Debug, PartialEq, Eq)]
@@ -24,7 +23,6 @@ pub enum Start {
 }
 
 impl Start {
-
     /// Whether it sends the next packet.
     pub(crate) fn is_send(&self) -> bool
         ensures { result ≡ is_send self.now }
@@ -41,7 +39,8 @@ impl Start {
     {
         match self {
             Start::SoftIrq => is_idle(old.position) && old.raised,
-            Start::Send { .. } | Start::SendOn { .. } | Start::Wake | Start::WakeOn { .. } => is_idle(old.position),
+            Start::Send { .. } | Start::SendOn { .. } | Start::Wake | Start::WakeOn { .. } =>
+                is_idle(old.position),
         }
     }
 
@@ -75,5 +74,13 @@ fn is_idle(position: Position) -> bool
 fn transmits(old: Seat, owner: u32, number: u32, band: u32, queue: u32) -> Seat
     ensures { result ≡ begun (Transmits (record { number = number; owner = owner; band = band; queue = queue })) old }
 {
-    at(old, Position::Enter(Call::Transmit(Packet { number, owner, band, queue })))
+    at(
+        old,
+        Position::Enter(Call::Transmit(Packet {
+            number,
+            owner,
+            band,
+            queue,
+        })),
+    )
 }

@@ -7,9 +7,8 @@ ghost use Rattle.lq_model.specs.declared.machine.Position.TheVariants.{Put, Gate
 ghost use Rattle.lq_model.specs.Machine.{band_at, is_non_empty, is_open};
 ghost use Rattle.lq_model.specs.Steps.{goes_to, step_at, counted, gives_up, behind_band, queue_of_blocked, queue_of_slot, call_ends, enter, dequeue_begins, run_begins, behind_sent, try_lock, miss, check, may_answer, behind_put, put_answered, xmit, store_xoff, deq, scan, requeues, schedule, wake};
 
-use lq_model::{Answer, Attempt, Blocked, Call, Packet, Position, Seat, batch};
-
 use crate::qdisc::{Qdisc, at};
+use lq_model::{Answer, Attempt, Blocked, Call, Packet, Position, Seat, batch};
 
 /// A run sends at most so many packets.
 const QUOTA: u32 = 64;
@@ -21,7 +20,11 @@ fn counted(seat: Seat) -> Seat
     Seat {
         position: seat.position,
         raised: seat.raised,
-        run: if seat.run < QUOTA - 1 { seat.run + 1 } else { QUOTA },
+        run: if seat.run < QUOTA - 1 {
+            seat.run + 1
+        } else {
+            QUOTA
+        },
     }
 }
 
@@ -30,17 +33,24 @@ fn gives_up(attempt: Attempt) -> Position
     ensures { result ≡ gives_up attempt }
 {
     match attempt {
-        Attempt::Direct(packet) => Position::Put { packet, holds: false },
+        Attempt::Direct(packet) => Position::Put {
+            packet,
+            holds: false,
+        },
         Attempt::Queued(_) => Position::Leave,
         Attempt::Interrupt => Position::Leave,
     }
 }
 
+/// Behind the last band the state is looked at, or the second time the run ends.
 fn behind_band(band: u32, second: bool) -> Position
     ensures { result ≡ behind_band band second }
 {
     if band < 2 {
-        Position::Scan { band: band + 1, second }
+        Position::Scan {
+            band: band + 1,
+            second,
+        }
     } else if second {
         Position::Unlock
     } else {
@@ -48,6 +58,7 @@ fn behind_band(band: u32, second: bool) -> Position
     }
 }
 
+/// The queue that was found stopped.
 fn queue_of_blocked(blocked: Blocked) -> u32
     ensures { result ≡ queue_of_blocked blocked }
 {
@@ -57,6 +68,7 @@ fn queue_of_blocked(blocked: Blocked) -> u32
     }
 }
 
+/// The queue of the packet in the requeue slot; with an empty slot a dequeue looks at queue 0, the only one.
 fn queue_of_slot(slot: Option<Packet>) -> u32
     ensures { result ≡ queue_of_slot slot }
 {
@@ -66,12 +78,18 @@ fn queue_of_slot(slot: Option<Packet>) -> u32
     }
 }
 
+/// Behind a transmit or a soft interrupt, or outside.
 fn call_ends(inside: bool) -> Position
     ensures { result ≡ call_ends inside }
 {
-    if inside { Position::Leave } else { Position::Idle }
+    if inside {
+        Position::Leave
+    } else {
+        Position::Idle
+    }
 }
 
+/// Behind the count of the calls inside.
 fn enter(call: Call) -> Position
     ensures { result ≡ enter call }
 {
@@ -87,12 +105,16 @@ impl Qdisc {
         ensures { result ≡ dequeue_begins self.now }
     {
         if self.is_shared() && self.slot.is_none() {
-            Position::Scan { band: 0, second: false }
+            Position::Scan {
+                band: 0,
+                second: false,
+            }
         } else {
             Position::Deq
         }
     }
 
+    /// A run begins, with nothing sent (`__qdisc_run` of net/sched/sch_generic.c).
     fn run_begins(&self, seat: Seat) -> Seat
         ensures { result ≡ (run_begins self.now seat).seat }
     {
@@ -103,6 +125,7 @@ impl Qdisc {
         }
     }
 
+    /// Behind a packet that was sent: past the bands, at the end of its quota, or at the next dequeue.
     fn behind_sent(&self, direct: bool, seat: Seat) -> Position
         ensures { result ≡ behind_sent direct self.now seat }
     {
@@ -115,7 +138,8 @@ impl Qdisc {
         }
     }
 
-    /// Tries the run lock; where it is held, the seat goes to the other position.
+    /// Tries the run lock (`qdisc_run_begin` of include/net/sch_generic.h); where it is held, the seat goes to the
+    /// other position.
     fn try_lock(&mut self, seat: Seat, attempt: Attempt, otherwise: Position) -> Seat
         ensures qdisc { self.new ≡ (try_lock attempt otherwise self.old seat).qdisc }
         ensures seat { result ≡ (try_lock attempt otherwise self.old seat).seat }
@@ -143,6 +167,7 @@ impl Qdisc {
         at(seat, Position::Try2(attempt))
     }
 
+    /// The first load of a transmit (`__dev_xmit_skb` of net/core/dev.c).
     fn check(&self, packet: Packet) -> Position
         ensures { result ≡ check packet self.now }
     {
@@ -151,10 +176,14 @@ impl Qdisc {
         } else if self.bypass && !self.is_non_empty() {
             Position::Try1(Attempt::Direct(packet))
         } else {
-            Position::Put { packet, holds: false }
+            Position::Put {
+                packet,
+                holds: false,
+            }
         }
     }
 
+    /// Puts a packet into its band, or counts it as refused (`pfifo_fast_enqueue` of net/sched/sch_generic.c).
     fn put(&mut self, seat: Seat, packet: Packet, holds: bool, answer: Answer) -> Seat
         requires { IsTrue (may_answer (Put packet holds) answer self.old) }
         ensures qdisc { self.new ≡ (behind_put holds packet (put_answered answer packet self.old) seat).qdisc }
@@ -172,6 +201,7 @@ impl Qdisc {
         }
     }
 
+    /// Hands the packet to the device (`sch_direct_xmit` of net/sched/sch_generic.c).
     fn xmit(&mut self, seat: Seat, packet: Packet, direct: bool, answer: Answer) -> Seat
         ensures qdisc { self.new ≡ (xmit answer packet direct self.old seat).qdisc }
         ensures seat { result ≡ (xmit answer packet direct self.old seat).seat }
@@ -185,11 +215,25 @@ impl Qdisc {
             Answer::FullSlot => at(seat, Position::Xmit { packet, direct }),
             Answer::Stop => {
                 self.count_sent();
-                at(counted(seat), Position::StoreXoff { queue: packet.queue, hung: false, direct })
+                at(
+                    counted(seat),
+                    Position::StoreXoff {
+                        queue: packet.queue,
+                        hung: false,
+                        direct,
+                    },
+                )
             }
             Answer::Hang => {
                 self.count_sent();
-                at(counted(seat), Position::StoreXoff { queue: 0, hung: true, direct })
+                at(
+                    counted(seat),
+                    Position::StoreXoff {
+                        queue: 0,
+                        hung: true,
+                        direct,
+                    },
+                )
             }
             Answer::Busy => {
                 self.slot = Some(packet);
@@ -205,12 +249,20 @@ impl Qdisc {
     {
         self.store_xoff(queue, if hung { 2 } else { 1 });
         if hung && self.has_queue_behind(queue) {
-            at(seat, Position::StoreXoff { queue: queue + 1, hung, direct })
+            at(
+                seat,
+                Position::StoreXoff {
+                    queue: queue + 1,
+                    hung,
+                    direct,
+                },
+            )
         } else {
             at(seat, self.behind_sent(direct, seat))
         }
     }
 
+    /// Loads the stop word, and takes the packet in the requeue slot (`dequeue_skb` of net/sched/sch_generic.c).
     fn deq(&mut self, seat: Seat) -> Seat
         ensures qdisc { self.new ≡ (deq self.old seat).qdisc }
         ensures seat { result ≡ (deq self.old seat).seat }
@@ -222,18 +274,37 @@ impl Qdisc {
         match self.slot {
             Some(packet) => {
                 self.slot = None;
-                at(seat, Position::Gate { packet, direct: false })
+                at(
+                    seat,
+                    Position::Gate {
+                        packet,
+                        direct: false,
+                    },
+                )
             }
-            None => at(seat, Position::Scan { band: 0, second: false }),
+            None => at(
+                seat,
+                Position::Scan {
+                    band: 0,
+                    second: false,
+                },
+            ),
         }
     }
 
+    /// Looks at a band (`pfifo_fast_dequeue` of net/sched/sch_generic.c).
     fn scan(&mut self, seat: Seat, band: u32, second: bool) -> Seat
         ensures qdisc { self.new ≡ (scan (band_at self.old band) band second self.old seat).qdisc }
         ensures seat { result ≡ (scan (band_at self.old band) band second self.old seat).seat }
     {
         match self.take_first(band) {
-            Some(packet) => at(seat, Position::Gate { packet, direct: false }),
+            Some(packet) => at(
+                seat,
+                Position::Gate {
+                    packet,
+                    direct: false,
+                },
+            ),
             None => at(seat, behind_band(band, second)),
         }
     }
@@ -252,6 +323,7 @@ impl Qdisc {
         }
     }
 
+    /// Sets SCHED by test-and-set (`__netif_schedule` of net/core/dev.c).
     fn schedule(&mut self, seat: Seat, inside: bool) -> Seat
         ensures qdisc { self.new ≡ (schedule inside self.old seat).qdisc }
         ensures seat { result ≡ (schedule inside self.old seat).seat }
@@ -267,6 +339,7 @@ impl Qdisc {
         }
     }
 
+    /// Opens a stopped queue (`netif_tx_wake_queue` of net/core/dev.c).
     fn wake(&mut self, seat: Seat, queue: u32) -> Seat
         ensures qdisc { self.new ≡ (wake queue self.old seat).qdisc }
         ensures seat { result ≡ (wake queue self.old seat).seat }
@@ -284,7 +357,8 @@ impl Qdisc {
     {
         match (position, answer) {
             (Position::Idle | Position::Control { .. }, _) => false,
-            (Position::Put { packet, .. }, Answer::Plain) => self.band_len(packet.band) < self.len as usize,
+            (Position::Put { packet, .. }, Answer::Plain) => self.band_len(packet.band)
+                < self.len as usize,
             (Position::Put { packet, .. }, Answer::FullSlot) => self.may_be_full(packet.band),
             (Position::Xmit { .. }, Answer::Stop | Answer::Hang | Answer::Busy) => true,
             (_, Answer::Plain) => true,
@@ -299,16 +373,24 @@ impl Qdisc {
         self.len.saturating_sub(batch(self.len)) as usize <= self.band_len(band)
     }
 
+    /// Under the run lock: nothing may have been missed when a packet goes past the bands.
     fn recheck(&self, packet: Packet) -> Position
         ensures { result ≡ (if is_non_empty self.now then Put packet true else Gate packet true) }
     {
         if self.is_non_empty() {
-            Position::Put { packet, holds: true }
+            Position::Put {
+                packet,
+                holds: true,
+            }
         } else {
-            Position::Gate { packet, direct: true }
+            Position::Gate {
+                packet,
+                direct: true,
+            }
         }
     }
 
+    /// Looks at the stop word of the packet in hand.
     fn gate(&self, packet: Packet, direct: bool) -> Position
         ensures { result ≡ (if is_open self.now packet.queue then Xmit packet direct else BlockedClear (InHand packet direct)) }
     {
@@ -319,6 +401,7 @@ impl Qdisc {
         }
     }
 
+    /// Behind a packet that went past the bands.
     fn post(&self, seat: Seat) -> Seat
         ensures { result ≡ (if is_non_empty self.now then run_begins self.now seat else goes_to self.now seat Unlock).seat }
     {
@@ -329,6 +412,7 @@ impl Qdisc {
         }
     }
 
+    /// Where all bands were found empty.
     fn test(&self) -> Position
         ensures { result ≡ (if is_non_empty self.now then ClearMissed else Unlock) }
     {
@@ -339,6 +423,7 @@ impl Qdisc {
         }
     }
 
+    /// The second look at a stopped queue (`qdisc_maybe_clear_missed` of net/sched/sch_generic.c).
     fn blocked_load(&self, blocked: Blocked) -> Position
         ensures { result ≡ (if is_open self.now (queue_of_blocked blocked) then BlockedMiss blocked else BlockedDrain blocked) }
     {
@@ -349,6 +434,7 @@ impl Qdisc {
         }
     }
 
+    /// Behind the release (`qdisc_run_end` of include/net/sch_generic.h).
     fn tail(&self, inside: bool) -> Position
         ensures { result ≡ (if self.now.missed then Sched inside else call_ends inside) }
     {
@@ -392,7 +478,11 @@ impl Qdisc {
             Position::Recheck(packet) => self.recheck(packet),
             Position::Gate { packet, direct } => self.gate(packet, direct),
             Position::Xmit { packet, direct } => return self.xmit(seat, packet, direct, answer),
-            Position::StoreXoff { queue, hung, direct } => return self.stop(seat, queue, hung, direct),
+            Position::StoreXoff {
+                queue,
+                hung,
+                direct,
+            } => return self.stop(seat, queue, hung, direct),
             Position::Post => return self.post(seat),
             Position::Deq => return self.deq(seat),
             Position::Scan { band, second } => return self.scan(seat, band, second),
@@ -403,7 +493,10 @@ impl Qdisc {
             }
             Position::ClearDraining => {
                 self.draining = false;
-                Position::Scan { band: 0, second: true }
+                Position::Scan {
+                    band: 0,
+                    second: true,
+                }
             }
             Position::BlockedClear(blocked) => {
                 self.missed = false;
@@ -432,7 +525,9 @@ impl Qdisc {
                 self.inside = self.inside.saturating_sub(1);
                 Position::Idle
             }
-            Position::Soft => Position::SoftClear { deactivated: self.deactivated },
+            Position::Soft => Position::SoftClear {
+                deactivated: self.deactivated,
+            },
             Position::SoftClear { deactivated } => {
                 self.sched = false;
                 Qdisc::late(deactivated, Position::Late)

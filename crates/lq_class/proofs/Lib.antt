@@ -1,0 +1,2 @@
+-- the start of an IPv4 header
+pub mod Headers

@@ -1,0 +1,28 @@
+// Where the fields of a capture file stand, and what they may be.
+
+/// How many bytes the file header has.
+pub const HEADER: usize = 24;
+
+/// The first field of the file header, of times in microseconds and in nanoseconds.
+pub const MICROSECONDS: u32 = 0xa1b2_c3d4;
+
+pub const NANOSECONDS: u32 = 0xa1b2_3c4d;
+
+/// The place of the version in the file header, and the one major version that is read.
+pub const VERSION: usize = 4;
+
+pub const MAJOR_VERSION: u16 = 2;
+
+/// The place of the link type in the file header.
+pub const LINK: usize = 20;
+
+/// How many bytes the header of a record has.
+pub const RECORD_HEADER: usize = 16;
+
+/// The place of the captured length in the header of a record, and its limit.
+pub const CAPTURED_LENGTH: usize = 8;
+
+pub const MAX_CAPTURED_LENGTH: u32 = 262_144;
+
+/// How many records a capture may have.
+pub const MAX_RECORDS: usize = 1_000_000;

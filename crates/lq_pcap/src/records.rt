@@ -1,0 +1,68 @@
+ghost use Rattle.std.specs.Prelude.{◌≡◌, ◌<◌, ◌≤◌, length};
+ghost use Rattle.lq_model.specs.Capture.{frame_of, header_of, link_of, record_of};
+
+use crate::layout::{HEADER, LINK, RECORD_HEADER};
+use crate::numbers::{begins_little_endian, number};
+use std::marker::Model;
+
+/// A capture that was read. Contracts see the bytes of its file and the number of its records.
+#[derive(Drop)]
+pub struct Capture {
+    /// A file header and whole records, as they were read.
+    pub(crate) bytes: Vec<u8>,
+    /// Where each record begins and, at the end, where the last one ends.
+    pub(crate) places: Vec<usize>,
+}
+
+impl Model for Capture {
+    ghost use Rattle.lq_model.specs.Capture.{Capture};
+    ghost use Rattle.lq_pcap.specs.View.{capture_view, capture_invariant};
+
+    ghost Value = { Capture };
+
+    ghost view = { capture_view };
+
+    ghost invariant = { capture_invariant };
+}
+
+impl Capture {
+    /// How many records the capture has.
+    pub fn len(&self) -> usize
+        ensures count { result ≡ self.now.count }
+        ensures few { result ≤ 1000000 }
+    {
+        self.places.len() - 1
+    }
+
+    /// The packet of record `i`.
+    pub fn frame(&self, i: usize) -> &[u8]
+        requires { i < self.now.count }
+        ensures { result.now ≡ frame_of self.now i }
+    {
+        &self.whole(i)[RECORD_HEADER..]
+    }
+
+    /// Record `i`, its header of 16 bytes and its packet.
+    pub fn whole(&self, i: usize) -> &[u8]
+        requires { i < self.now.count }
+        ensures record { result.now ≡ record_of self.now i }
+        ensures header { 16 ≤ length result.now }
+    {
+        &self.bytes[self.places[i]..self.places[i + 1]]
+    }
+
+    /// The 24 bytes of the file header.
+    pub fn header(&self) -> &[u8]
+        ensures bytes { result.now ≡ header_of self.now }
+        ensures len { length result.now ≡ 24 }
+    {
+        &self.bytes[..HEADER]
+    }
+
+    /// The link type: 1 is Ethernet, 101 is raw IP.
+    pub fn link(&self) -> u32
+        ensures { result ≡ link_of self.now }
+    {
+        number(&self.bytes, begins_little_endian(&self.bytes), LINK)
+    }
+}

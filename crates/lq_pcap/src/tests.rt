@@ -1,0 +1,122 @@
+use crate::{CaptureReason, CaptureRefusal, gen_capture, push_header, push_record, read_capture};
+use std::process::Abort;
+
+// Little-endian, microseconds, Ethernet.
+const HEADER: [u8; 24] = [
+    0xd4, 0xc3, 0xb2, 0xa1, 2, 0, 4, 0, 0, 0, 0, 0, 0, 0, 0, 0, 0, 0, 4, 0, 1, 0, 0, 0,
+];
+
+// Big-endian, nanoseconds, Ethernet, and a packet of 34 bytes at 5 seconds and 10 nanoseconds.
+const BIG_ENDIAN: [u8; 74] = [
+    0xa1, 0xb2, 0x3c, 0x4d, 0, 2, 0, 4, 0, 0, 0, 0, 0, 0, 0, 0, 0, 4, 0, 0, 0, 0, 0, 1, 0, 0, 0, 5,
+    0, 0, 0, 10, 0, 0, 0, 34, 0, 0, 0, 34, 2, 0, 0, 0, 0, 2, 2, 0, 0, 0, 0, 1, 8, 0, 0x45, 0, 0,
+    20, 0, 0, 0, 0, 64, 253, 0, 0, 10, 0, 0, 1, 10, 0, 1, 0,
+];
+
+// The first two records that the number 1 generates.
+const GENERATED: [u8; 100] = [
+    0, 0, 0, 0, 0, 0, 0, 0, 0x22, 0, 0, 0, 0x22, 0, 0, 0, 2, 0, 0, 0, 0, 2, 2, 0, 0, 0, 0, 1, 8, 0,
+    0x45, 2, 0, 0x14, 0, 0, 0, 0, 0x40, 0xfd, 0, 0, 0x0a, 0, 0, 0, 0x0a, 0, 1, 0, 0, 0, 0, 0, 0xe8,
+    3, 0, 0, 0x22, 0, 0, 0, 0x22, 0, 0, 0, 2, 0, 0, 0, 0, 2, 2, 0, 0, 0, 0, 1, 8, 0, 0x45, 0x10, 0,
+    0x14, 0, 1, 0, 0, 0x40, 0xfd, 0, 0, 0x0a, 0, 0, 0xe3, 0x0a, 0, 1, 1,
+];
+
+// A record at time 0 of an IPv4 packet with this type of service and these last bytes of its addresses.
+fn record(tos: u8, source: u8, to: u8) -> [u8; 50] {
+    [
+        0, 0, 0, 0, 0, 0, 0, 0, 34, 0, 0, 0, 34, 0, 0, 0, 2, 0, 0, 0, 0, 2, 2, 0, 0, 0, 0, 1, 8, 0,
+        0x45, tos, 0, 20, 0, 0, 0, 0, 64, 253, 0, 0, 10, 0, 0, source, 10, 0, 1, to,
+    ]
+}
+
+// Three packets, 174 bytes.
+fn three_packets(rt: &(impl Abort + AllocGlobal)) -> Vec<u8> {
+    let mut bytes = Vec::from_slice(rt.alloc(), &HEADER).expect(rt, "memory");
+    for part in [record(0, 1, 0), record(0x10, 2, 0), record(8, 3, 0)] {
+        bytes.extend_from_slice(&part).expect(rt, "memory");
+    }
+    bytes
+}
+
+// How many packets the bytes have, or why they are no capture.
+fn answer(rt: &(impl Abort + AllocGlobal), bytes: &[u8]) -> Result<usize, CaptureRefusal> {
+    let bytes = Vec::from_slice(rt.alloc(), bytes).expect(rt, "memory");
+    match read_capture(rt.alloc(), bytes) {
+        Ok(capture) => Ok(capture.len()),
+        Err(refusal) => Err(refusal),
+    }
+}
+
+fn refused(reason: CaptureReason, place: u64) -> Result<usize, CaptureRefusal> {
+    Err(CaptureRefusal::Refused { reason, place })
+}
+
+#[test]
+fn three_packets_cut_to_each_length(rt: HostRuntime) {
+    let bytes = three_packets(&rt);
+    assert_eq!(rt; bytes.len(), 174);
+    for len in 0..175usize {
+        let want = match len {
+            0..=23 => refused(CaptureReason::ShortHeader, len as u64),
+            24 => Ok(0),
+            25..=39 => refused(CaptureReason::CutRecordHeader, 24),
+            40..=73 => refused(CaptureReason::CutData, 24),
+            74 => Ok(1),
+            75..=89 => refused(CaptureReason::CutRecordHeader, 74),
+            90..=123 => refused(CaptureReason::CutData, 74),
+            124 => Ok(2),
+            125..=139 => refused(CaptureReason::CutRecordHeader, 124),
+            140..=173 => refused(CaptureReason::CutData, 124),
+            _ => Ok(3),
+        };
+        let front = bytes.get(..len).unwrap_or(&[]);
+        assert_eq!(rt; answer(&rt, front), want, "at {len}");
+    }
+}
+
+#[test]
+fn headers_and_lengths(rt: HostRuntime) {
+    let mut other_version = HEADER;
+    other_version[4] = 3;
+    assert_eq!(rt;
+        answer(&rt, &other_version),
+        refused(CaptureReason::Version, 4)
+    );
+    let mut gzip = other_version;
+    gzip[..4].copy_from_slice(&[0x1f, 0x8b, 8, 0]);
+    assert_eq!(rt; answer(&rt, &gzip), refused(CaptureReason::Magic, 0));
+
+    let mut long = Vec::from_slice(rt.alloc(), &HEADER).expect(&rt, "memory");
+    long.extend_from_slice(&[0, 0, 0, 0, 0, 0, 0, 0, 0, 0, 4, 0, 0, 0, 4, 0])
+        .expect(&rt, "memory");
+    long.resize(262_184, 7).expect(&rt, "memory");
+    assert_eq!(rt; answer(&rt, &long), Ok(1));
+    if let Some(byte) = long.get_mut(32) {
+        *byte = 1;
+    }
+    assert_eq!(rt; answer(&rt, &long), refused(CaptureReason::LongRecord, 24));
+}
+
+#[test]
+fn big_endian_written_again(rt: HostRuntime) {
+    let bytes = Vec::from_slice(rt.alloc(), &BIG_ENDIAN).expect(&rt, "memory");
+    let Ok(capture) = read_capture(rt.alloc(), bytes) else {
+        panic!(rt; "no capture");
+    };
+    assert_eq!(rt; (capture.len(), capture.link()), (1, 1));
+    assert_eq!(rt; capture.frame(0), &BIG_ENDIAN[40..]);
+    let mut out = Vec::new(rt.alloc());
+    assert_eq!(rt; push_header(&mut out, &capture), Ok(()));
+    assert_eq!(rt; push_record(&mut out, &capture, 0), Ok(()));
+    assert_eq!(rt; out.as_slice(), &BIG_ENDIAN[..]);
+}
+
+#[test]
+fn two_generated_packets(rt: HostRuntime) {
+    let Ok(text) = gen_capture(rt.alloc(), 1, 2) else {
+        panic!(rt; "no memory");
+    };
+    assert_eq!(rt; text.get(..24).unwrap_or(&[]), &HEADER[..]);
+    assert_eq!(rt; text.get(24..).unwrap_or(&[]), &GENERATED[..]);
+    assert_eq!(rt; answer(&rt, &text), Ok(2));
+}
