@@ -8,6 +8,8 @@ use Rattle.std.specs.Str.Parse.{digits_value}
 use Rattle.lq_model.specs.declared.machine.Answer.{Answer}
 use Rattle.lq_model.specs.declared.machine.Answer.TheVariants.{Plain, FullSlot, Stop, Hang, Busy}
 use Rattle.lq_run_core.specs.declared.schedule.Setup.{Setup}
+use Rattle.lq_model.specs.Machine.{Machine}
+use Rattle.lq_run_core.specs.Running.{IsInRange}
 use Rattle.lq_run_core.specs.declared.schedule.Action.{Action}
 use Rattle.lq_run_core.specs.declared.schedule.Action.TheVariants.{Begins, Steps}
 use Rattle.lq_run_core.specs.declared.start.Start.TheVariants.{Send, SoftIrq, Wake}
@@ -135,3 +137,10 @@ capped n = min n 4294967295
 
 abbrev pub capped_seat : Command → Command
 capped_seat c = record c { seat = capped c.seat }
+
+-- WHAT IS TOLD TO A MACHINE
+
+-- a start's band and queue are the machine's
+abbrev pub IsActionInRange : Action → Machine → Type 0
+IsActionInRange (Begins start) m = IsInRange start m
+IsActionInRange (Steps answer count) m = Unit {0}

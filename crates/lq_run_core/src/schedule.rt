@@ -2,7 +2,8 @@ ghost use Rattle.std.specs.Prelude.{◌≡◌, ◌<◌, ◌≤◌, IfSome, IfNon
 ghost use Rattle.std.specs.List.{slice_split, list_all};
 ghost use Rattle.std.specs.Char.{is_ascii_digit};
 ghost use Rattle.std.specs.Str.Parse.{digits_value};
-ghost use Rattle.lq_run_core.specs.Schedule.{pieces_left, is_number, number_of, number_in, bare_action, answer_named, numbered_action, action_of, labelled, setup_of, words, command_of, capped, capped_seat};
+ghost use Rattle.lq_model.specs.Machine.{Machine as State};
+ghost use Rattle.lq_run_core.specs.Schedule.{IsActionInRange, pieces_left, is_number, number_of, number_in, bare_action, answer_named, numbered_action, action_of, labelled, setup_of, words, command_of, capped, capped_seat};
 
 use lq_model::Answer;
 
@@ -124,7 +125,8 @@ fn answer_named(verb: &[u8]) -> Option<Answer>
 
 /// The action of a word that stands alone behind the seat.
 fn bare_action(verb: &[u8]) -> Option<Action>
-    ensures { result ≡ bare_action verb.now }
+    ensures action { result ≡ bare_action verb.now }
+    ensures range { IfSome result (λ a. (m : State) → IsActionInRange a m) }
 {
     if verb == b"softirq".as_slice() {
         return Some(Action::Begins(Start::SoftIrq));
@@ -138,7 +140,8 @@ fn bare_action(verb: &[u8]) -> Option<Action>
 
 /// The action of a word and a number behind it.
 fn numbered_action(verb: &[u8], number: &[u8]) -> Option<Action>
-    ensures { result ≡ numbered_action verb.now number.now }
+    ensures action { result ≡ numbered_action verb.now number.now }
+    ensures range { IfSome result (λ a. (m : State) → IsActionInRange a m) }
 {
     if verb == b"send".as_slice() {
         let band = number_within(number, 0, 2)?;
@@ -152,7 +155,8 @@ fn numbered_action(verb: &[u8], number: &[u8]) -> Option<Action>
 }
 
 fn read_action(rest: Rest<'_>) -> Option<Action>
-    ensures { result ≡ action_of (pieces_left 32 rest.entry) }
+    ensures action { result ≡ action_of (pieces_left 32 rest.entry) }
+    ensures range { IfSome result (λ a. (m : State) → IsActionInRange a m) }
 {
     let (verb, rest) = next_word(rest)?;
     match next_word(rest) {
@@ -165,7 +169,8 @@ fn read_action(rest: Rest<'_>) -> Option<Action>
 /// What a line tells a seat to do; `None` where the line isn't of any form. A seat's number that 32 bits don't hold
 /// is given as the greatest of them.
 pub(crate) fn read_command(line: &[u8]) -> Option<Command>
-    ensures { result ≡ option_map capped_seat (command_of (words line.now)) }
+    ensures command { result ≡ option_map capped_seat (command_of (words line.now)) }
+    ensures range { IfSome result (λ c. (m : State) → IsActionInRange c.action m) }
 {
     let (seat, rest) = cut(line, b' ');
     let seat = number(seat)?;

@@ -2,7 +2,7 @@
 ghost use Rattle.std.specs.Prelude.{◌≡◌, ◌+◌, ◌<◌, ◌≤◌, ◌^◌, ◌∷◌, length, MatchBool, IfOk, IfSome, Some, None};
 ghost use Rattle.lq_model.specs.Machine.{Machine as State};
 ghost use Rattle.lq_run_core.specs.Running.{Running};
-ghost use Rattle.lq_run_core.specs.Schedule.{lines, is_passed_over, words};
+ghost use Rattle.lq_run_core.specs.Schedule.{IsActionInRange, lines, is_passed_over, words};
 ghost use Rattle.lq_run_core.specs.Trace.{steps_of, action_done, command_done, told_line_done, line_done, schedule_done, Tells, sends_so_far, steps_so_far};
 ghost use Rattle.lq_run_core.specs.TraceText.{schedule_text};
 
@@ -85,6 +85,7 @@ fn do_steps(machine: &mut Machine, seat: u32, answer: Answer, count: u32) -> boo
 /// What a seat is told to do; false where it can't.
 fn do_action(progress: &mut Progress, seat: u32, action: Action) -> bool
     requires seat { seat < length progress.old.running.machine.seats }
+    requires in_range { IsActionInRange action progress.old.running.machine }
     requires sends { progress.old.running.next < 1000000 }
     requires steps { progress.old.steps < 2 ^ 63 }
     ensures done { MatchBool result (action_done progress.old seat action ≡ Some progress.new) (action_done progress.old seat action ≡ None) }
@@ -102,6 +103,7 @@ fn do_action(progress: &mut Progress, seat: u32, action: Action) -> bool
 
 /// What the line with this number tells a seat to do.
 fn do_command(mut progress: Progress, command: Command, number: u32) -> Result<Progress, TraceRefusal>
+    requires in_range { IsActionInRange command.action progress.running.machine }
     requires sends { progress.running.next < 1000000 }
     requires steps { progress.steps < 2 ^ 63 }
     ensures done { Tells (λ p. p) result (command_done progress number command) }
