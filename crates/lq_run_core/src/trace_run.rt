@@ -214,3 +214,6 @@ pub fn trace(alloc: Global, text: &[u8]) -> Result<Vec<u8>, TraceRefusal>
         Err(_) => Err(TraceRefusal::NoMemory),
     }
 }
+
+#[cfg(test)]
+mod tests;
