@@ -1,5 +1,5 @@
 -- A schedule worked line by line.
-use Rattle.std.proofs.Common.{◌≡◌, ℕ, suc, ◌+◌, ◌-◌, ◌<◌, ◌≤◌, ◌^◌, ◌⊎◌, inl, inr, min, ltb, Bool, true, false, cond, List, [], ◌∷◌, ◌++◌, length, Option, Some, None, Result, Ok, Err, refl, sym, ap, ◌∙◌, arith, eqb, add-zero}
+use Rattle.std.proofs.Common.{◌≡◌, ℕ, suc, ◌+◌, ◌-◌, ◌<◌, ◌≤◌, ◌^◌, ◌⊎◌, inl, inr, min, ltb, Bool, true, false, cond, List, [], ◌∷◌, length, Option, Some, None, Result, Ok, Err, refl, sym, ◌∙◌, arith, eqb, add-zero}
 use Rattle.std.specs.Prelude.{unwrap_or, is_some, option_map, option_and_then}
 use Rattle.std.specs.Option.{ok_or}
 use Rattle.std.specs.List.{slice_split}
@@ -7,7 +7,7 @@ use Rattle.std.proofs.lemmas.Bool.{cases_lt, le-ltb}
 use Rattle.std.proofs.lemmas.List.{length-set}
 use Rattle.lq_model.specs.declared.machine.Answer.{Answer}
 use Rattle.lq_model.specs.Machine.{Machine, seat_at}
-use Rattle.lq_model.specs.Steps.{step_of, step_at, with_seat, may_answer}
+use Rattle.lq_model.specs.Steps.{step_of, step_at, with_seat}
 use Rattle.lq_run_core.specs.Schedule.{lines, lines_of_pieces, command_of, capped_seat}
 use Rattle.lq_run_core.specs.declared.schedule.Command.{Command}
 use Rattle.lq_run_core.specs.declared.trace_run.Progress.{Progress}

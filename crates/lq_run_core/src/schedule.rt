@@ -5,9 +5,8 @@ ghost use Rattle.std.specs.Str.Parse.{digits_value};
 ghost use Rattle.lq_model.specs.Machine.{Machine as State};
 ghost use Rattle.lq_run_core.specs.Schedule.{IsActionInRange, pieces_left, is_number, number_of, number_in, bare_action, answer_named, numbered_action, action_of, labelled, setup_of, words, command_of, capped, capped_seat};
 
-use lq_model::Answer;
-
 use crate::start::Start;
+use lq_model::Answer;
 
 /// What the first line of a schedule says of the machine.
 #[derive(Clone, Copy, Debug, PartialEq, Eq)]
@@ -82,7 +81,9 @@ fn value(digits: &[u8]) -> u32
 {
     let mut value = 0u32;
     for digit in digits {
-        value = value.saturating_mul(10).saturating_add((*digit - b'0') as u32);
+        value = value
+            .saturating_mul(10)
+            .saturating_add((*digit - b'0') as u32);
     }
     value
 }
@@ -91,7 +92,11 @@ fn value(digits: &[u8]) -> u32
 fn number(word: &[u8]) -> Option<u32>
     ensures { result ≡ option_map capped (number_of word.now) }
 {
-    if is_number(word) { Some(value(word)) } else { None }
+    if is_number(word) {
+        Some(value(word))
+    } else {
+        None
+    }
 }
 
 /// The number that a word is, where it is from `low` to `high`.
@@ -101,7 +106,11 @@ fn number_within(word: &[u8], low: u32, high: u32) -> Option<u32>
     ensures bounds { IfSome result (λ n. (low ≤ n) × (n ≤ high)) }
 {
     let found = number(word)?;
-    if low <= found && found <= high { Some(found) } else { None }
+    if low <= found && found <= high {
+        Some(found)
+    } else {
+        None
+    }
 }
 
 /// The answer that a step may have beside the plain one.
@@ -149,7 +158,10 @@ fn numbered_action(verb: &[u8], number: &[u8]) -> Option<Action>
     }
     if verb == b"step".as_slice() {
         let count = number_within(number, 1, 1000)?;
-        return Some(Action::Steps { answer: Answer::Plain, count });
+        return Some(Action::Steps {
+            answer: Answer::Plain,
+            count,
+        });
     }
     None
 }

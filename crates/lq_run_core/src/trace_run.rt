@@ -6,12 +6,11 @@ ghost use Rattle.lq_run_core.specs.Schedule.{IsActionInRange, lines, is_passed_o
 ghost use Rattle.lq_run_core.specs.Trace.{steps_of, action_done, command_done, told_line_done, line_done, schedule_done, Tells, sends_so_far, steps_so_far};
 ghost use Rattle.lq_run_core.specs.TraceText.{schedule_text};
 
-use lq_model::Answer;
-use std::alloc::Global;
-
 use crate::machine::Machine;
 use crate::schedule::{Action, Command, cut, read_command, read_setup};
 use crate::trace_text::progress_text;
+use lq_model::Answer;
+use std::alloc::Global;
 
 /// Why a schedule is refused.
 #[derive(Clone, Copy, Debug, PartialEq, Eq)]
@@ -102,7 +101,11 @@ fn do_action(progress: &mut Progress, seat: u32, action: Action) -> bool
 }
 
 /// What the line with this number tells a seat to do.
-fn do_command(mut progress: Progress, command: Command, number: u32) -> Result<Progress, TraceRefusal>
+fn do_command(
+    mut progress: Progress,
+    command: Command,
+    number: u32,
+) -> Result<Progress, TraceRefusal>
     requires in_range { IsActionInRange command.action progress.running.machine }
     requires sends { progress.running.next < 1000000 }
     requires steps { progress.steps < 2 ^ 63 }
@@ -135,7 +138,12 @@ fn set_up(alloc: Global, line: &[u8], number: u32) -> Result<Progress, TraceRefu
 }
 
 /// The line with this number: the first sets the machine up, each other tells a seat to do something.
-fn do_told_line(alloc: Global, before: Option<Progress>, line: &[u8], number: u32) -> Result<Progress, TraceRefusal>
+fn do_told_line(
+    alloc: Global,
+    before: Option<Progress>,
+    line: &[u8],
+    number: u32,
+) -> Result<Progress, TraceRefusal>
     requires sends { sends_so_far before < 1000000 }
     requires steps { steps_so_far before < 2 ^ 63 }
     ensures done { Tells (λ p. p) result (told_line_done before number (words line.now)) }
@@ -152,7 +160,12 @@ fn do_told_line(alloc: Global, before: Option<Progress>, line: &[u8], number: u3
 }
 
 /// The line with this number, which may be passed over.
-fn do_line(alloc: Global, before: Option<Progress>, line: &[u8], number: u32) -> Result<Option<Progress>, TraceRefusal>
+fn do_line(
+    alloc: Global,
+    before: Option<Progress>,
+    line: &[u8],
+    number: u32,
+) -> Result<Option<Progress>, TraceRefusal>
     requires sends { sends_so_far before < 1000000 }
     requires steps { steps_so_far before < 2 ^ 63 }
     ensures done { Tells (λ p. p) result (line_done before number line.now) }

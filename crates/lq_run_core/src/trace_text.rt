@@ -3,11 +3,10 @@ ghost use Rattle.std.specs.Prelude.{◌≡◌, length, IfOk};
 ghost use Rattle.std.specs.String.{string_bytes};
 ghost use Rattle.lq_run_core.specs.TraceText.{step_name, pass_name, scan_name, raised_mark, seat_line, steps_line, state_line, held_line, seat_lines, progress_text};
 
-use lq_model::{Position, Seat};
-use std::alloc::{AllocError, Global};
-
 use crate::machine::Machine;
 use crate::trace_run::Progress;
+use lq_model::{Position, Seat};
+use std::alloc::{AllocError, Global};
 
 /// The step that a seat does next.
 fn step_name(position: Position) -> &'static str
@@ -75,7 +74,12 @@ fn seat_line(alloc: Global, index: u32, seat: Seat) -> Result<String, AllocError
     ensures { IfOk result (λ s. string_bytes s ≡ seat_line index seat) }
 {
     let scan = scan_name(alloc, seat.position)?;
-    format!(in alloc; "seat {index} {}{}{}\n", step_name(seat.position), scan.as_str(), raised_mark(seat.raised))
+    format!(in alloc;
+        "seat {index} {}{}{}\n",
+        step_name(seat.position),
+        scan.as_str(),
+        raised_mark(seat.raised)
+    )
 }
 
 fn steps_line(alloc: Global, steps: u64) -> Result<String, AllocError>
@@ -87,13 +91,24 @@ fn steps_line(alloc: Global, steps: u64) -> Result<String, AllocError>
 fn state_line(alloc: Global, machine: &Machine) -> Result<String, AllocError>
     ensures { IfOk result (λ s. string_bytes s ≡ state_line machine.now.machine.qdisc) }
 {
-    format!(in alloc; "state {} lock {} xoff {} inside {}\n", machine.state(), machine.lock(), machine.xoff(), machine.inside())
+    format!(in alloc;
+        "state {} lock {} xoff {} inside {}\n",
+        machine.state(),
+        machine.lock(),
+        machine.xoff(),
+        machine.inside()
+    )
 }
 
 fn held_line(alloc: Global, machine: &Machine) -> Result<String, AllocError>
     ensures { IfOk result (λ s. string_bytes s ≡ held_line machine.now.machine.qdisc) }
 {
-    format!(in alloc; "held {} sent {} full {}\n", machine.held(), machine.sent(), machine.full())
+    format!(in alloc;
+        "held {} sent {} full {}\n",
+        machine.held(),
+        machine.sent(),
+        machine.full()
+    )
 }
 
 fn seat_lines(alloc: Global, machine: &Machine) -> Result<String, AllocError>

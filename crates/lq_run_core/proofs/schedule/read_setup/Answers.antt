@@ -1,5 +1,5 @@
 -- A first line of seven words or more is of no form.
-use Rattle.std.proofs.Common.{ℕ, ◌==◌, ◌≡◌, List, Bool, true, Option, None, Some, refl, sym, Bor}
+use Rattle.std.proofs.Common.{ℕ, ◌==◌, ◌≡◌, List, true, Option, None, Some, refl, sym, Bor}
 use Rattle.std.specs.Option.{is_some}
 use Rattle.lq_run_core.specs.Schedule.{pieces_left, setup_by}
 use Rattle.lq_run_core.proofs.Pieces.{split_cons}
