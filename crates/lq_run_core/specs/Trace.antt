@@ -42,6 +42,7 @@ abbrev pub ◌>>=◌ : {A B E : Type 0} → Result A E → (A → Result B E) �
 (Err e) >>= f = Err e
 (Ok x) >>= f = f x
 
+-- the command of line n
 abbrev pub command_done : Progress → ℕ → Command → Result Progress TraceRefusal
 command_done p n c =
     if nat_lt c.seat (length p.running.machine.seats) then ok_or (action_done p c.seat c.action) (Refused SeatWaits n)
@@ -61,11 +62,11 @@ abbrev pub lines_done : Option Progress → ℕ → List (List ℕ) → Result (
 lines_done p n [] = Ok p
 lines_done p n (line ∷ more) = line_done p n line >>= λ next. lines_done next (n + 1) more
 
--- what a schedule leaves, or the first line that fails; a first line that is missing is missed behind the last line
+-- what a schedule leaves, or the first line that fails; where every line is passed over, the line behind the last
 unfoldable pub schedule_done : List ℕ → Result Progress TraceRefusal
 schedule_done text = lines_done None 1 (lines text) >>= λ p. ok_or p (Refused Syntax (length (lines text) + 1))
 
--- what is told, as the second function sees it, is what is wanted; only memory may run out
+-- the answer, seen by view, is what is wanted; want of memory is free
 abbrev pub Tells : {A B : Type 0} → (A → B) → Result A TraceRefusal → Result B TraceRefusal → Type 0
 Tells view (Ok x) wanted = wanted ≡ Ok (view x)
 Tells view (Err (Refused reason line)) wanted = wanted ≡ Err (Refused reason line)
@@ -73,7 +74,7 @@ Tells view (Err NoMemory) wanted = ⊤
 
 -- THE COUNTS THAT ARE LIMITED
 
--- how many packets a schedule has sent or tried to, and how many steps it did
+-- how many transmits were begun, and how many steps were done
 abbrev pub sends_so_far : Option Progress → ℕ
 sends_so_far None = 0
 sends_so_far (Some p) = p.running.next
