@@ -12,6 +12,8 @@ mod qdisc;
 mod schedule;
 mod start;
 mod steps;
+#[cfg(test)]
+mod tests;
 mod trace_run;
 mod trace_text;
 

@@ -73,11 +73,23 @@ fn text_of_what_a_schedule_leaves(rt: HostRuntime) {
 fn first_line_that_fails(rt: HostRuntime) {
     let rows = [
         ("seats 2 len 4 bypass 0\n2 send 1\n", TraceReason::NoSeat, 2),
-        ("seats 2 len 4 bypass 0\n0 step 1\n", TraceReason::SeatWaits, 2),
+        (
+            "seats 2 len 4 bypass 0\n0 step 1\n",
+            TraceReason::SeatWaits,
+            2,
+        ),
         ("seats 9 len 4 bypass 0\n2 send 1\n", TraceReason::Syntax, 1),
         ("# nothing\n\n", TraceReason::Syntax, 3),
-        ("seats 2 len 4 bypass 0\n\n0 softirq\n0 sand\n", TraceReason::SeatWaits, 3),
-        ("seats 2 len 4 bypass 0\n99999999999 wake", TraceReason::NoSeat, 2),
+        (
+            "seats 2 len 4 bypass 0\n\n0 softirq\n0 sand\n",
+            TraceReason::SeatWaits,
+            3,
+        ),
+        (
+            "seats 2 len 4 bypass 0\n99999999999 wake",
+            TraceReason::NoSeat,
+            2,
+        ),
         ("seats 2 len 4 bypass 0\r\n0 wake\n", TraceReason::Syntax, 1),
     ];
     for (schedule, reason, line) in rows {
