@@ -65,9 +65,9 @@ fn the_other_queue_stays_stopped(rt: HostRuntime) -> Result<(), Fail> {
 #[test]
 fn a_seat_in_a_call_begins_no_other(rt: HostRuntime) -> Result<(), Fail> {
     let mut machine = Machine::with_queues(rt.alloc(), 1, 4, false, 2)?;
-    let wake = Start::WakeOn { queue: 1 };
-    assert!(rt; machine.begin(0, wake));
-    assert!(rt; !machine.begin(0, wake));
-    assert_eq!(rt; machine.next(), 0);
+    let send = Start::SendOn { band: 1, queue: 1 };
+    assert!(rt; machine.begin(0, send));
+    assert!(rt; !machine.begin(0, send));
+    assert_eq!(rt; machine.next(), 1);
     Ok(())
 }

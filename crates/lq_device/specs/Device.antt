@@ -1,0 +1,80 @@
+-- What callers see of a device, and how it answers.
+use Rattle.std.specs.Prelude.{◌≡◌, ℕ, ◌+◌, ◌%◌, ◌<◌, ◌≤◌, Bool, true, false, ◌&&◌, nat_lt, ◌==◌, if◌then◌else◌, List, [], ◌∷◌, ◌++◌, length, Option, IfSome}
+use Rattle.std.specs.Option.{option_map}
+use Rattle.lq_device.specs.declared.device.Params.{Params}
+use Rattle.lq_device.specs.declared.device.Tx.{Tx}
+use Rattle.lq_device.specs.declared.device.Tx.TheVariants.{Sent, SentStop, SentHang, Busy}
+
+-- STATES
+
+-- what a device tells of its rule: its parameters, and how many answers were Busy since it was configured
+pub record Telling : Type 0 where
+  pub params : Params
+  pub busies : ℕ
+
+-- the packets accepted since it was configured; for how many more it has room; how many more answers may be Busy;
+-- whether it hangs; and what it tells, if it tells
+pub record DeviceState : Type 0 where
+  pub accepted : List ℕ
+  pub spare : ℕ
+  pub busy_left : ℕ
+  pub hung : Bool
+  pub told : Option Telling
+
+-- THE RULE OF A DEVICE THAT TELLS
+
+-- a multiple of a number that isn't 0
+abbrev pub is_multiple : ℕ → ℕ → Bool
+is_multiple n every = nat_lt 0 every && (n % every == 0)
+
+-- the answer to a call, where n packets were accepted before it; the other calls before it were answered Busy
+abbrev pub answer_of : Telling → ℕ → Tx
+answer_of t n =
+    if is_multiple (n + t.busies + 1) t.params.busy_every && nat_lt t.busies t.params.busy_limit then Busy
+    else if nat_lt 0 t.params.hang_after && (n + 1 == t.params.hang_after) then SentHang
+    else if is_multiple (n + 1) t.params.burst then SentStop else Sent
+
+-- ANSWERS
+
+-- the packets that an answer accepts: this one, or none
+abbrev pub taken : Tx → ℕ → List ℕ
+taken Sent packet = packet ∷ []
+taken SentStop packet = packet ∷ []
+taken SentHang packet = packet ∷ []
+taken Busy packet = []
+
+abbrev pub is_hang : Tx → Bool
+is_hang SentHang = true
+is_hang Sent = false
+is_hang SentStop = false
+is_hang Busy = false
+
+abbrev pub is_busy : Tx → Bool
+is_busy Busy = true
+is_busy Sent = false
+is_busy SentStop = false
+is_busy SentHang = false
+
+-- an answer Busy lowers how many more there may be, and no answer raises it
+abbrev pub LowersBusy : Tx → ℕ → ℕ → Type 0
+LowersBusy answer old new = (new ≤ old) × (is_busy answer ≡ true → new < old)
+
+abbrev pub told_after : Tx → Telling → Telling
+told_after answer t = record { params = t.params; busies = t.busies + (if is_busy answer then 1 else 0) }
+
+-- an answer to a packet: just what it accepts is behind what was accepted, and takes room
+pub record Answers (answer : Tx) (packet : ℕ) (old new : DeviceState) : Type 0 where
+  pub accepted : new.accepted ≡ old.accepted ++ taken answer packet
+  pub spare : new.spare + length (taken answer packet) ≡ old.spare
+  pub hung : new.hung ≡ is_hang answer
+  pub busy : LowersBusy answer old.busy_left new.busy_left
+  pub told : new.told ≡ option_map (told_after answer) old.told
+  pub rule : IfSome old.told (λ t. answer ≡ answer_of t (length old.accepted))
+
+-- a device that was just configured, with room for so many packets
+pub record IsConfigured (params : Params) (room : ℕ) (old new : DeviceState) : Type 0 where
+  pub accepted : new.accepted ≡ []
+  pub spare : room ≤ new.spare
+  pub busy_left : new.busy_left ≤ params.busy_limit
+  pub hung : new.hung ≡ false
+  pub told : new.told ≡ option_map (λ _. record { params = params; busies = 0 }) old.told

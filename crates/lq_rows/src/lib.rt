@@ -1,0 +1,12 @@
+//! Tests of the top call over a host in memory: the worked rows, and tables of odd inputs and failing calls.
+//! What a contract says is not tested again; these rows show that the contracts mean what they should.
+#![tactic(auto)]
+
+#[cfg(test)]
+mod faults;
+#[cfg(test)]
+mod fixture;
+#[cfg(test)]
+mod refusals;
+#[cfg(test)]
+mod rows;

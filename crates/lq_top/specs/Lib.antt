@@ -1,0 +1,18 @@
+-- what a run that is done leaves: the headline
+pub mod Headline
+-- what a call writes, and where it may stop
+pub mod Written
+-- the command line
+pub mod Command
+-- the lines of refused captures
+pub mod Refusal
+-- what a call decides from its words and files, answers and leaves
+pub mod Outcome
+-- the numbers of statuses
+pub mod Status
+-- why the calls inside stop
+pub mod Stop
+-- what a file gave
+pub mod Input
+-- a device on its way through a list of packets
+pub mod Sending

@@ -1,0 +1,20 @@
+//! The top call: a capture through the devices of a bench, and what became of its packets.
+//!
+//! All that is promised stands on `lqtx`, and `specs/Headline.antt` says it of a run that is done.
+#![tactic(auto)]
+
+mod capture;
+mod command;
+mod gate;
+mod input;
+mod output;
+mod plan;
+mod send;
+mod status;
+mod stop;
+mod texts;
+mod top;
+
+pub use gate::{Free, Gate};
+pub use status::Status;
+pub use top::lqtx;

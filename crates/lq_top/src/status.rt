@@ -1,0 +1,41 @@
+//! How a call ended.
+ghost use Rattle.std.specs.Prelude.{◌≡◌};
+ghost use Rattle.lq_top.specs.Status.{code_of};
+
+use lq_model::CaptureReason;
+
+/// How a call ended.
+#[derive(Clone, Copy, Debug, PartialEq, Eq)]
+pub enum Status {
+    /// Every input was read to its end, and everything was written and finished.
+    Done,
+    /// The words aren't a command.
+    Usage,
+    /// The capture's bytes are refused: the first test that they fail, and where.
+    Capture { reason: CaptureReason, place: u64 },
+    /// The host failed on the way. Each file that was created has a prefix of its text.
+    Fault,
+    /// Memory was wanting on the way. The outputs are as after a fault.
+    NoMemory,
+    /// The plan has a form that isn't built.
+    NotBuilt,
+}
+
+impl Status {
+    /// The exit status of the program.
+    pub fn code(&self) -> u8
+        ensures { result ≡ code_of self.now }
+    {
+        match self {
+            Status::Done => 0,
+            Status::Usage => 2,
+            Status::Capture {
+                reason: _,
+                place: _,
+            } => 4,
+            Status::Fault => 5,
+            Status::NoMemory => 6,
+            Status::NotBuilt => 8,
+        }
+    }
+}
