@@ -1,0 +1,8 @@
+use Rattle.lq_run_core.proofs.Deactivation.{deactivation}
+use Rattle.lq_run_core.proofs.QuietInside.{quiet-inside}
+use Rattle.lq_run_core.proofs.Purging.{purging}
+use Rattle.lq_run_core.proofs.PurgedHoldsNothing.{purged-holds-nothing}
+use Rattle.lq_run_core.proofs.laws.deactivation.deactivation_is_kept.Goals as goal
+
+pub returns : goal.returns
+returns c = record { phase = deactivation; inside = quiet-inside; purging = purging; purged = purged-holds-nothing }

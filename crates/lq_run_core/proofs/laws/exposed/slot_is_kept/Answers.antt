@@ -1,0 +1,7 @@
+use Rattle.lq_run_core.proofs.SlotFree.{slot-free}
+use Rattle.lq_run_core.proofs.SlotWaits.{slot-waits}
+use Rattle.lq_run_core.proofs.DequeueWaits.{dequeue-waits}
+use Rattle.lq_run_core.proofs.laws.exposed.slot_is_kept.Goals as goal
+
+pub returns : goal.returns
+returns c = record { free = slot-free; waits = slot-waits; dequeue = dequeue-waits }

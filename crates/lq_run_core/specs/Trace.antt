@@ -1,0 +1,84 @@
+-- What a schedule leaves of the machine, and the text that tells it.
+use Rattle.std.specs.Prelude.{ℕ, zero, suc, ◌+◌, nat_lt, if◌then◌else◌, List, [], ◌∷◌, length, Option, Some, None, option_map, option_and_then, Result, Ok, Err, ◌≡◌, ⊤}
+use Rattle.std.specs.Option.{ok_or}
+use Rattle.lq_model.specs.declared.machine.Answer.{Answer}
+use Rattle.lq_model.specs.Machine.{Machine, first_machine}
+use Rattle.lq_model.specs.Steps.{step_of}
+use Rattle.lq_run_core.specs.declared.start.Start.{Start}
+use Rattle.lq_run_core.specs.Running.{Running, begun_by, is_send}
+use Rattle.lq_run_core.specs.declared.schedule.Setup.{Setup}
+use Rattle.lq_run_core.specs.declared.schedule.Action.{Action}
+use Rattle.lq_run_core.specs.declared.schedule.Action.TheVariants.{Begins, Steps}
+use Rattle.lq_run_core.specs.declared.schedule.Command.{Command}
+use Rattle.lq_run_core.specs.declared.trace_run.Progress.{Progress}
+use Rattle.lq_run_core.specs.declared.trace_run.TraceReason.TheVariants.{Syntax, NoSeat, SeatWaits}
+use Rattle.lq_run_core.specs.declared.trace_run.TraceRefusal.{TraceRefusal}
+use Rattle.lq_run_core.specs.declared.trace_run.TraceRefusal.TheVariants.{Refused, NoMemory}
+use Rattle.lq_run_core.specs.Schedule.{lines, is_passed_over, words, setup_of, command_of}
+
+-- WORKING A SCHEDULE
+
+abbrev pub set_up : Setup → Progress
+set_up s = record { running = record { machine = first_machine s.seats s.len s.bypass 1; next = 0 }; steps = 0 }
+
+-- a call begins, which is no step
+abbrev pub started : Start → ℕ → Running → Option Running
+started start seat r =
+    option_map (λ m. record { machine = m; next = if is_send start then r.next + 1 else r.next }) (begun_by start seat r)
+
+-- so many steps of a seat, each with this answer; None where one of them can't be done
+abbrev pub steps_of : ℕ → ℕ → Answer → Machine → Option Machine
+steps_of zero seat answer m = Some m
+steps_of (suc count) seat answer m = option_and_then (steps_of count seat answer) (step_of m seat answer)
+
+abbrev pub action_done : Progress → ℕ → Action → Option Progress
+action_done p seat (Begins start) = option_map (λ r. record p { running = r }) (started start seat p.running)
+action_done p seat (Steps answer count) =
+    option_map (λ m. record { running = record p.running { machine = m }; steps = p.steps + count })
+    (steps_of count seat answer p.running.machine)
+
+infixl 10 ◌>>=◌
+abbrev pub ◌>>=◌ : {A B E : Type 0} → Result A E → (A → Result B E) → Result B E
+(Err e) >>= f = Err e
+(Ok x) >>= f = f x
+
+-- the command of line n
+abbrev pub command_done : Progress → ℕ → Command → Result Progress TraceRefusal
+command_done p n c =
+    if nat_lt c.seat (length p.running.machine.seats) then ok_or (action_done p c.seat c.action) (Refused SeatWaits n)
+    else Err (Refused NoSeat n)
+
+-- line n: the first sets the machine up, each other tells a seat to do something
+abbrev pub told_line_done : Option Progress → ℕ → List (List ℕ) → Result Progress TraceRefusal
+told_line_done None n line = ok_or (option_map set_up (setup_of line)) (Refused Syntax n)
+told_line_done (Some p) n line = ok_or (command_of line) (Refused Syntax n) >>= command_done p n
+
+-- a line that is passed over changes nothing
+abbrev pub line_done : Option Progress → ℕ → List ℕ → Result (Option Progress) TraceRefusal
+line_done p n line = if is_passed_over line then Ok p else told_line_done p n (words line) >>= λ next. Ok (Some next)
+
+-- the lines from number n on, in order, up to the first that fails
+abbrev pub lines_done : Option Progress → ℕ → List (List ℕ) → Result (Option Progress) TraceRefusal
+lines_done p n [] = Ok p
+lines_done p n (line ∷ more) = line_done p n line >>= λ next. lines_done next (n + 1) more
+
+-- what a schedule leaves, or the first line that fails; where every line is passed over, the line behind the last
+unfoldable pub schedule_done : List ℕ → Result Progress TraceRefusal
+schedule_done text = lines_done None 1 (lines text) >>= λ p. ok_or p (Refused Syntax (length (lines text) + 1))
+
+-- the answer, seen by view, is what is wanted; want of memory is free
+abbrev pub Tells : {A B : Type 0} → (A → B) → Result A TraceRefusal → Result B TraceRefusal → Type 0
+Tells view (Ok x) wanted = wanted ≡ Ok (view x)
+Tells view (Err (Refused reason line)) wanted = wanted ≡ Err (Refused reason line)
+Tells view (Err NoMemory) wanted = ⊤
+
+-- THE COUNTS THAT ARE LIMITED
+
+-- how many transmits were begun, and how many steps were done
+abbrev pub sends_so_far : Option Progress → ℕ
+sends_so_far None = 0
+sends_so_far (Some p) = p.running.next
+
+abbrev pub steps_so_far : Option Progress → ℕ
+steps_so_far None = 0
+steps_so_far (Some p) = p.steps

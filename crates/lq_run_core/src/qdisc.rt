@@ -1,0 +1,249 @@
+//! What the seats share, and what a step of a seat does there.
+ghost use Rattle.std.specs.Prelude.{◌≡◌, ◌≤◌, ◌+◌, [], nat_lt, if◌then◌else◌, IfOk};
+ghost use Rattle.lq_run_core.specs.Room.{IsBand};
+
+use lq_model::{NoMemory, Packet, Phase, Position, Seat};
+use std::alloc::Global;
+use std::collections::VecDeque;
+use std::marker::Model;
+
+/// The words, the lists of the bands and the requeue slot.
+#[derive(Drop)]
+pub(crate) struct Qdisc {
+    pub(crate) sched: bool,
+    pub(crate) deactivated: bool,
+    pub(crate) missed: bool,
+    pub(crate) draining: bool,
+    pub(crate) locked: bool,
+    /// The stop word of each queue, of which there are at most 8.
+    pub(crate) xoff: Vec<u64>,
+    pub(crate) inside: u64,
+    /// The lists of the bands 0, 1 and 2; each has room for `len` packets.
+    pub(crate) first: VecDeque<Packet>,
+    pub(crate) second: VecDeque<Packet>,
+    pub(crate) third: VecDeque<Packet>,
+    pub(crate) len: u32,
+    pub(crate) slot: Option<Packet>,
+    pub(crate) bypass: bool,
+    pub(crate) sent: u64,
+    pub(crate) full: u64,
+    pub(crate) phase: Phase,
+}
+
+impl Model for Qdisc {
+    ghost use Rattle.std.specs.Prelude.{◌≤◌, ◌∷◌, [], None, vec_len};
+    ghost use Rattle.lq_run_core.specs.Room.{IsBand};
+    ghost use Rattle.lq_model.specs.Machine.{Qdisc as State};
+
+    ghost Value = { State };
+
+    ghost view = { λ s. record {
+      sched = s.sched;
+      deactivated = s.deactivated;
+      missed = s.missed;
+      draining = s.draining;
+      locked = s.locked;
+      xoff = s.xoff.items;
+      inside = s.inside;
+      bands = s.first.items ∷ s.second.items ∷ s.third.items ∷ [];
+      len = s.len;
+      slot = s.slot;
+      bypass = s.bypass;
+      sent = s.sent;
+      full = s.full;
+      phase = s.phase;
+      purge = None;
+    } };
+
+    ghost invariant = { λ s. (vec_len s.xoff ≤ 8) × (s.len ≤ 4096) × IsBand s.len s.first × IsBand s.len s.second × IsBand s.len s.third };
+}
+
+/// The seat at another position.
+pub(crate) fn at(seat: Seat, position: Position) -> Seat
+    ensures { result ≡ record seat { position = position } }
+{
+    Seat {
+        position,
+        raised: seat.raised,
+        run: seat.run,
+    }
+}
+
+/// A count stands still at the last value of its type.
+fn one_more(count: u64) -> u64
+    ensures { result ≡ (if nat_lt count 18446744073709551615 then count + 1 else count) }
+{
+    if count < u64::MAX { count + 1 } else { count }
+}
+
+impl Qdisc {
+    ghost use Rattle.std.specs.Prelude.{◌≡◌, ◌<◌, ◌≤◌, ◌+◌, ◌∷◌, [], nat_lt, length, slice_set, slice_index, IfSome, IfNone, OnSome, IfOk};
+    ghost use Rattle.lq_model.specs.Machine.{is_non_empty, is_open, is_shared, band_at, first_qdisc, state_word};
+    ghost use Rattle.lq_run_core.specs.Running.{held_count};
+    ghost use Rattle.lq_model.specs.Steps.{one_more, joined};
+
+    /// MISSED or DRAINING is set.
+    pub(crate) fn is_non_empty(&self) -> bool
+        ensures { result ≡ is_non_empty self.now }
+    {
+        self.missed || self.draining
+    }
+
+    /// The stop word of this queue, and 0 where there is none.
+    pub(crate) fn stop_word(&self, queue: u32) -> u64
+        ensures { result ≡ slice_index self.now.xoff queue }
+    {
+        let queue = queue as usize;
+        if queue < self.xoff.len() {
+            self.xoff[queue]
+        } else {
+            0
+        }
+    }
+
+    pub(crate) fn is_open(&self, queue: u32) -> bool
+        ensures { result ≡ is_open self.now queue }
+    {
+        self.stop_word(queue) == 0
+    }
+
+    /// Several queues share the bands.
+    pub(crate) fn is_shared(&self) -> bool
+        ensures { result ≡ is_shared self.now }
+    {
+        self.xoff.len() > 1
+    }
+
+    /// Whether a queue has a higher number.
+    pub(crate) fn has_queue_behind(&self, queue: u32) -> bool
+        ensures behind { result ≡ nat_lt (queue + 1) (length self.now.xoff) }
+        ensures few { length self.now.xoff ≤ 8 }
+    {
+        (queue as usize) + 1 < self.xoff.len()
+    }
+
+    pub(crate) fn store_xoff(&mut self, queue: u32, word: u64)
+        ensures { self.new ≡ record self.old { xoff = slice_set self.old.xoff queue word } }
+    {
+        let queue = queue as usize;
+        if queue < self.xoff.len() {
+            self.xoff[queue] = word;
+        }
+    }
+
+    /// How many packets this band holds.
+    pub(crate) fn band_len(&self, band: u32) -> usize
+        ensures { result ≡ length (band_at self.now band) }
+    {
+        match band {
+            0 => self.first.len(),
+            1 => self.second.len(),
+            2 => self.third.len(),
+            _ => 0,
+        }
+    }
+
+    /// Puts a packet at the end of its band's list, which has room.
+    pub(crate) fn join(&mut self, packet: Packet)
+        requires { length (band_at self.old packet.band) < self.old.len }
+        ensures { self.new ≡ joined packet self.old }
+    {
+        match packet.band {
+            0 => self.first.push_back_reserved(packet),
+            1 => self.second.push_back_reserved(packet),
+            2 => self.third.push_back_reserved(packet),
+            _ => {}
+        }
+    }
+
+    /// Counts a packet as sent.
+    pub(crate) fn count_sent(&mut self)
+        ensures { self.new ≡ record self.old { sent = one_more self.old.sent } }
+    {
+        self.sent = one_more(self.sent);
+    }
+
+    /// Counts a packet as refused by its band's ring.
+    pub(crate) fn count_full(&mut self)
+        ensures { self.new ≡ record self.old { full = one_more self.old.full } }
+    {
+        self.full = one_more(self.full);
+    }
+
+    /// Takes the first packet of this band.
+    pub(crate) fn take_first(&mut self, band: u32) -> Option<Packet>
+        ensures some { IfSome result (λ p. band_at self.old band ≡ p ∷ band_at self.new band) }
+        ensures taken { OnSome result (self.new ≡ record self.old { bands = slice_set self.old.bands band (band_at self.new band) }) }
+        ensures none { IfNone result ((band_at self.old band ≡ []) × (self.new ≡ self.old)) }
+    {
+        match band {
+            0 => self.first.pop_front(),
+            1 => self.second.pop_front(),
+            2 => self.third.pop_front(),
+            _ => None,
+        }
+    }
+
+    /// All words 0, all lists empty.
+    pub(crate) fn new(alloc: Global, len: u32, bypass: bool, queues: u32) -> Result<Qdisc, NoMemory>
+        requires len { len ≤ 4096 }
+        requires queues { queues ≤ 8 }
+        ensures { IfOk result (λ q. q ≡ first_qdisc len bypass queues) }
+    {
+        let Ok(xoff) = Vec::from_elem(alloc, 0u64, queues as usize) else {
+            return Err(NoMemory);
+        };
+        let first = band(alloc, len)?;
+        let second = band(alloc, len)?;
+        let third = band(alloc, len)?;
+        Ok(Qdisc {
+            sched: false,
+            deactivated: false,
+            missed: false,
+            draining: false,
+            locked: false,
+            xoff,
+            inside: 0,
+            first,
+            second,
+            third,
+            len,
+            slot: None,
+            bypass,
+            sent: 0,
+            full: 0,
+            phase: Phase::Active,
+        })
+    }
+
+    /// The state word.
+    pub(crate) fn state(&self) -> u64
+        ensures { result ≡ state_word self.now }
+    {
+        bit(self.sched) + 2 * bit(self.deactivated) + 4 * bit(self.missed) + 8 * bit(self.draining)
+    }
+
+    /// How many packets the bands and the requeue slot hold.
+    pub(crate) fn held(&self) -> u64
+        ensures { result ≡ held_count self.now }
+    {
+        (self.first.len() + self.second.len() + self.third.len()) as u64 + bit(self.slot.is_some())
+    }
+}
+
+fn bit(set: bool) -> u64
+    ensures { result ≡ (if set then 1 else 0) }
+{
+    if set { 1 } else { 0 }
+}
+
+/// An empty list with room for so many packets.
+fn band(alloc: Global, len: u32) -> Result<VecDeque<Packet>, NoMemory>
+    ensures empty { IfOk result (λ q. q.items ≡ []) }
+    ensures room { IfOk result (λ q. IsBand len q) }
+{
+    match VecDeque::with_capacity(alloc, len as usize) {
+        Ok(list) => Ok(list),
+        Err(_) => Err(NoMemory),
+    }
+}
