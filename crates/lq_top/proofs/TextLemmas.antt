@@ -1,8 +1,11 @@
 -- The texts of a run.
-use Rattle.std.proofs.Common.{◌≡◌, ◌<◌, ◌≤◌, ◌+◌, ◌++◌, ◌∷◌, [], ℕ, zero, suc, Bool, true, false, cond, eqb, ◌&&◌, List, length, map, refl, sym, ap, ◌∙◌, append_assoc, append-nil, length-append, add-one, arith, codes, inl, inr, eq-eqb}
+use Rattle.std.proofs.Common.{◌≡◌, ◌<◌, ◌≤◌, ◌+◌, ◌++◌, ◌∷◌, [], ℕ, zero, suc, Bool, true, false, cond, eqb, ◌&&◌, List, length, map, refl, sym, ap, ◌∙◌, append_assoc, append-nil, length-append, add-one, arith, codes, inl, inr, eq-eqb, get_or, slice_get, Some}
 use Rattle.std.specs.Prelude.{count_by}
 use Rattle.std.specs.List.{flat_map, zip}
-use Rattle.std.proofs.lemmas.List.{map-append}
+use Rattle.std.proofs.lemmas.List.{map-append, get_or_push}
+use Rattle.std.proofs.Math.ListN.{get_or-append}
+use Rattle.std.proofs.lemmas.Option.{slice_get-map, slice_get_read}
+use Rattle.std.specs.Option.{option_map}
 use Rattle.std.proofs.lemmas.List.Sums.{sum_by-cons}
 use Rattle.std.proofs.lemmas.Bool.{cases_lt, ne_eqb}
 use Rattle.std.specs.Fmt.{decimal}
@@ -62,7 +65,7 @@ sent_are n = count_all is_sent (λ k. Sent 0 k) (λ k. refl) (first_numbers n) �
 sent_by_are : (n : ℕ) → count_by (is_sent_by 0) (all_sent n) ≡ n
 sent_by_are n = count_all (is_sent_by 0) (λ k. Sent 0 k) (λ k. refl) (first_numbers n) ∙ length-first_numbers n
 
-all_are : (n : ℕ) → length (all_sent n) ≡ n
+pub all_are : (n : ℕ) → length (all_sent n) ≡ n
 all_are n = length_map (λ k. Sent 0 k) (first_numbers n) ∙ length-first_numbers n
 
 none_are : (n : ℕ) (test : Fate → Bool) → ((k : ℕ) → test (Sent 0 k) ≡ false) → count_by test (all_sent n) ≡ 0
@@ -122,6 +125,22 @@ found_later test (x ∷ xs) ys e =
 
 sent_more : (n : ℕ) → all_sent (suc n) ≡ all_sent n ++ Sent 0 n ∷ []
 sent_more n = map-append (λ k. Sent 0 k) (first_numbers n) (n ∷ [])
+
+first_numbers-at : (n k : ℕ) → k < n → get_or (first_numbers n) k k ≡ k
+first_numbers-at zero k lt = absurd (omega arith)
+first_numbers-at (suc n) k lt =
+    let len : length (first_numbers n) ≡ n = length-first_numbers n in
+    elim (cases_lt k n) [
+      | inl below ↦ (get_or-append (first_numbers n) (n ∷ []) k k (omega arith) ∙ first_numbers-at n k below)
+      | inr above ↦ (let same : n ≡ k = omega arith in get_or_push (first_numbers n) n k k (len ∙ same) ∙ same)
+    ]
+
+-- the fate of packet k
+pub all_sent-at : (n k : ℕ) → k < n → slice_get (all_sent n) k ≡ Some (Sent 0 k)
+all_sent-at n k lt =
+    let len : length (first_numbers n) ≡ n = length-first_numbers n in
+    slice_get-map (λ (i : ℕ). Sent 0 i) (first_numbers n) k
+    ∙ ap (option_map (λ i. Sent 0 i)) (slice_get_read (first_numbers n) n k k (sym len) lt (sym (first_numbers-at n k lt)))
 
 -- none of the packets below n has a serial that isn't below n
 none_below : (n k : ℕ) → n ≤ k → first_passing (is_sent_as 0 k) (all_sent n) ≡ n

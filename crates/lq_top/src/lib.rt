@@ -7,6 +7,7 @@ mod capture;
 mod command;
 mod gate;
 mod input;
+pub mod laws;
 mod output;
 mod plan;
 mod send;
