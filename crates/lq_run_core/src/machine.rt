@@ -29,7 +29,7 @@ impl Model for Machine {
 }
 
 impl Machine {
-    ghost use Rattle.std.specs.Prelude.{◌≡◌, ◌≤◌, ◌<◌, ◌+◌, ◌&&◌, IfOk, is_some, unwrap_or, length, if◌then◌else◌, slice_index};
+    ghost use Rattle.std.specs.Prelude.{◌≡◌, ◌≤◌, ◌<◌, ◌+◌, ◌&&◌, true, IfOk, is_some, unwrap_or, length, if◌then◌else◌, slice_index};
     ghost use Rattle.lq_model.specs.Machine.{first_machine, seat_at, state_word, bit};
     ghost use Rattle.lq_model.specs.Steps.{step_of};
     ghost use Rattle.lq_run_core.specs.Running.{IsInRange, IsSound, begun_by, is_send, greatest, held_count};
@@ -92,11 +92,12 @@ impl Machine {
     }
 
     /// Begins a call of a seat. The answer is false exactly where the seat can't: where it isn't idle, or for
-    /// a soft interrupt isn't raised. Then nothing changes.
+    /// a soft interrupt isn't raised. Then nothing changes. At most 1,000,000 packets are sent; a wake and a soft
+    /// interrupt may begin behind the last.
     pub fn begin(&mut self, seat: u32, start: Start) -> bool
         requires seat { seat < length self.old.machine.seats }
         requires in_range { IsInRange start self.old.machine }
-        requires sends { self.old.next < 1000000 }
+        requires sends { is_send start ≡ true → self.old.next < 1000000 }
         ensures answers { result ≡ is_some (begun_by start seat self.old) }
         ensures machine { self.new.machine ≡ unwrap_or (begun_by start seat self.old) self.old.machine }
         ensures sound { IsSound self.old → IsSound self.new }
@@ -108,7 +109,7 @@ impl Machine {
     /// Begins the call, without what keeps the machine sound.
     fn begin_call(&mut self, seat: u32, start: Start) -> bool
         requires seat { seat < length self.old.machine.seats }
-        requires sends { self.old.next < 1000000 }
+        requires sends { is_send start ≡ true → self.old.next < 1000000 }
         ensures answers { result ≡ is_some (begun_by start seat self.old) }
         ensures machine { self.new.machine ≡ unwrap_or (begun_by start seat self.old) self.old.machine }
         ensures next { self.new.next ≡ (if result && is_send start then self.old.next + 1 else self.old.next) }
@@ -119,7 +120,7 @@ impl Machine {
             return false;
         }
         self.seats[at] = start.begun(old, seat, self.next);
-        self.next += if start.is_send() { 1 } else { 0 };
+        self.next = start.next_number(self.next);
         true
     }
 

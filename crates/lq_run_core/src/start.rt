@@ -1,4 +1,4 @@
-ghost use Rattle.std.specs.Prelude.{◌≡◌, ℕ};
+ghost use Rattle.std.specs.Prelude.{◌≡◌, ◌<◌, ◌+◌, ℕ, true, if◌then◌else◌};
 ghost use Rattle.lq_model.specs.declared.machine.Beginning.TheVariants.{Transmits};
 ghost use Rattle.lq_model.specs.Machine.{Machine as State};
 ghost use Rattle.lq_model.specs.Steps.{is_idle, may_begin, begun};
@@ -31,6 +31,14 @@ impl Start {
             Start::Send { .. } | Start::SendOn { .. } => true,
             Start::SoftIrq | Start::Wake | Start::WakeOn { .. } => false,
         }
+    }
+
+    /// The number of the packet behind it, where this is the number of the next one.
+    pub(crate) fn next_number(&self, next: u32) -> u32
+        requires { is_send self.now ≡ true → next < 1000000 }
+        ensures { result ≡ (if is_send self.now then next + 1 else next) }
+    {
+        if self.is_send() { next + 1 } else { next }
     }
 
     /// Whether a seat can begin this: it is idle, and for a soft interrupt raised.
