@@ -1,6 +1,6 @@
 -- What callers see of a device of the built-in bench.
 use Rattle.std.specs.Prelude.{◌-◌, false, [], Some, vec_len, vec_capacity}
-use Rattle.lq_device.specs.Device.{DeviceState}
+use Rattle.lq_model.specs.Device.{DeviceState}
 use Rattle.lq_device.specs.declared.bench.BenchDevice.{BenchDevice}
 
 abbrev pub bench_state : BenchDevice → DeviceState

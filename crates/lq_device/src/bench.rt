@@ -1,9 +1,9 @@
 //! The device of the built-in bench: it keeps the numbers of the packets that it accepted, and tells all.
 ghost use Rattle.std.specs.Prelude.{◌≡◌, ◌≤◌, ◌<◌, Some, [], false, OnOk, OnErr};
-ghost use Rattle.lq_device.specs.Device.{IsConfigured, Answers, is_multiple};
+ghost use Rattle.lq_model.specs.Device.{IsConfigured, Answers, is_multiple};
 
-use crate::device::{Params, Tx, TxDevice};
-use lq_model::NoMemory;
+use crate::device::TxDevice;
+use lq_model::{NoMemory, Params, Tx};
 use std::alloc::Global;
 
 /// A device that answers by its parameters alone, so that a run over it can be told in advance.

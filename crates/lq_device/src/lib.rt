@@ -8,5 +8,5 @@ mod bench;
 mod device;
 
 pub use bench::BenchDevice;
-pub use device::{Params, Tx, TxDevice};
-pub use lq_model::NoMemory;
+pub use device::TxDevice;
+pub use lq_model::{NoMemory, Params, StationPlan, Tx};

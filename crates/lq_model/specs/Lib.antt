@@ -6,12 +6,18 @@ pub mod Capture
 pub mod Generated
 -- the class of a frame
 pub mod Class
+-- what callers see of a device, and how it answers
+pub mod Device
+-- plans, and what each packet is to the rules
+pub mod Plan
 -- a band's packets, and when it is full
 pub mod Band
 -- fates and counts as texts
 pub mod Texts
 -- the packets that a unit sent, in order of serial
 pub mod Sent
+-- fates as words of a table
+pub mod Words
 -- the machine of the run lock: words and bits, packets and seats
 pub mod Machine
 -- its steps and starts

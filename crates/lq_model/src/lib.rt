@@ -4,15 +4,19 @@
 
 mod band;
 mod capture;
+mod device;
 mod fate;
 mod machine;
+mod plan;
 
 pub use band::batch;
 pub use capture::CaptureReason;
+pub use device::{Params, Tx};
 pub use fate::{Cause, Fate, Info};
 pub use machine::{
     Answer, Attempt, Beginning, Blocked, Call, ControlStep, Packet, Phase, Position, Seat,
 };
+pub use plan::{EventKind, EventPlan, PlanReason, Split, StationPlan};
 
 /// Want of memory.
 #[derive(Clone, Copy, Debug, PartialEq, Eq)]

@@ -1,9 +1,9 @@
 -- A device that tells and has no rule on sends each packet.
 use Rattle.std.proofs.Common.{◌≡◌, ◌<◌, ◌+◌, ◌++◌, ℕ, ◌∷◌, [], length, Option, Some, IfSome, refl, sym, ap, ◌∙◌, subst, arith, add-one}
 use Rattle.std.specs.Option.{option_map}
-use Rattle.lq_device.specs.Device.{DeviceState, Telling, Answers, answer_of, taken, is_hang, told_after}
-use Rattle.lq_device.specs.declared.device.Tx.{Tx}
-use Rattle.lq_device.specs.declared.device.Tx.TheVariants.{Sent}
+use Rattle.lq_model.specs.Device.{DeviceState, Telling, Answers, answer_of, taken, is_hang, told_after}
+use Rattle.lq_model.specs.declared.device.Tx.{Tx}
+use Rattle.lq_model.specs.declared.device.Tx.TheVariants.{Sent}
 use Rattle.lq_top.specs.Sending.{IsPlain, HasSent}
 use Rattle.lq_model.specs.Numbers.{first_numbers}
 

@@ -8,7 +8,7 @@ use Rattle.lq_model.specs.Sent.{sent_of}
 use Rattle.lq_model.specs.declared.fate.Fate.{Fate}
 use Rattle.lq_model.specs.declared.fate.Fate.TheVariants.{Sent}
 use Rattle.lq_model.specs.declared.fate.Info.{Info}
-use Rattle.lq_device.specs.Device.{DeviceState}
+use Rattle.lq_model.specs.Device.{DeviceState}
 use Rattle.lq_host.specs.Host.{HostState}
 use Rattle.lq_top.specs.Written.{FileText, Texts, written}
 

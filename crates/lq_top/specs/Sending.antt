@@ -1,8 +1,8 @@
 -- A device that tells and has no rule on, on its way through the packets below n.
 use Rattle.std.specs.Prelude.{◌≡◌, ◌≤◌, ◌+◌, ℕ, false, Some}
 use Rattle.lq_model.specs.Numbers.{first_numbers}
-use Rattle.lq_device.specs.Device.{DeviceState, Telling}
-use Rattle.lq_device.specs.declared.device.Params.{Params}
+use Rattle.lq_model.specs.Device.{DeviceState, Telling}
+use Rattle.lq_model.specs.declared.device.Params.{Params}
 
 -- no rule is on
 abbrev pub IsPlain : Params → Type 0

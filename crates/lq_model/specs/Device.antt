@@ -1,9 +1,9 @@
 -- What callers see of a device, and how it answers.
 use Rattle.std.specs.Prelude.{◌≡◌, ℕ, ◌+◌, ◌%◌, ◌<◌, ◌≤◌, Bool, true, false, ◌&&◌, nat_lt, ◌==◌, if◌then◌else◌, List, [], ◌∷◌, ◌++◌, length, Option, IfSome}
 use Rattle.std.specs.Option.{option_map}
-use Rattle.lq_device.specs.declared.device.Params.{Params}
-use Rattle.lq_device.specs.declared.device.Tx.{Tx}
-use Rattle.lq_device.specs.declared.device.Tx.TheVariants.{Sent, SentStop, SentHang, Busy}
+use Rattle.lq_model.specs.declared.device.Params.{Params}
+use Rattle.lq_model.specs.declared.device.Tx.{Tx}
+use Rattle.lq_model.specs.declared.device.Tx.TheVariants.{Sent, SentStop, SentHang, Busy}
 
 -- STATES
 

@@ -1,0 +1,92 @@
+-- Plans, and what each packet of a capture is to the rules.
+use Rattle.std.specs.Prelude.{ℕ, ◌+◌, ◌%◌, Bool, true, false, ◌&&◌, ◌==◌, List, length, take, map, count_by, slice_get, Option}
+use Rattle.std.specs.Option.{option_map_or}
+use Rattle.lq_model.specs.Numbers.{first_numbers}
+use Rattle.lq_model.specs.Capture.{Capture, link_of, frame_of}
+use Rattle.lq_model.specs.Class.{priority_of, band_of, source_byte_of, route_byte_of}
+use Rattle.lq_model.specs.declared.fate.Info.{Info}
+use Rattle.lq_model.specs.declared.plan.EventKind.{EventKind}
+use Rattle.lq_model.specs.declared.plan.EventKind.TheVariants.{Down, Up, Resize, TxQueueLen, Swap}
+use Rattle.lq_model.specs.declared.plan.EventPlan.{EventPlan}
+use Rattle.lq_model.specs.declared.plan.Split.{Split}
+use Rattle.lq_model.specs.declared.plan.Split.TheVariants.{Round, Source}
+use Rattle.lq_model.specs.declared.plan.StationPlan.{StationPlan}
+
+-- PLANS
+
+pub record Plan : Type 0 where
+  -- how many threads send, and how the packets are split among them
+  pub senders : ℕ
+  pub split : Split
+  -- after so many packets of a sender it wakes the stopped queues
+  pub irq_every : ℕ
+  pub stations : List StationPlan
+  -- what is done to stations on the way, each event numbered by its place
+  pub events : List EventPlan
+
+-- UNITS
+--
+-- A unit is a device of the bench. Station j begins with unit j, and each swap brings the next unit.
+
+abbrev pub is_swap_kind : EventKind → Bool
+is_swap_kind Down = false
+is_swap_kind Up = false
+is_swap_kind (Resize len) = false
+is_swap_kind (TxQueueLen len) = false
+is_swap_kind (Swap params) = true
+
+abbrev pub is_swap : EventPlan → Bool
+is_swap event = is_swap_kind event.kind
+
+abbrev pub unit_count : Plan → ℕ
+unit_count plan = length plan.stations + count_by is_swap plan.events
+
+-- the unit that an event brings, if it is a swap
+abbrev pub unit_of_swap : Plan → ℕ → ℕ
+unit_of_swap plan event = length plan.stations + count_by is_swap (take event plan.events)
+
+-- WHAT A PACKET IS TO THE RULES
+
+-- by what packet n is split: its number, or its source byte
+abbrev pub split_number : Split → Capture → ℕ → ℕ
+split_number Round capture n = n
+split_number Source capture n = source_byte_of (link_of capture) (frame_of capture n)
+
+abbrev pub owner_of : Plan → Capture → ℕ → ℕ
+owner_of plan capture n = split_number plan.split capture n % plan.senders
+
+abbrev pub station_of : Plan → Capture → ℕ → ℕ
+station_of plan capture n = route_byte_of (link_of capture) (frame_of capture n) % length plan.stations
+
+abbrev pub packet_band_of : Capture → ℕ → ℕ
+packet_band_of capture n = band_of (priority_of (link_of capture) (frame_of capture n))
+
+-- how many lower packets have the same owner and station
+abbrev pub rank_of : Plan → Capture → ℕ → ℕ
+rank_of plan capture n =
+    count_by (λ m. (owner_of plan capture m == owner_of plan capture n) && (station_of plan capture m == station_of plan capture n)) (first_numbers n)
+
+abbrev pub info_of : Plan → Capture → ℕ → Info
+info_of plan capture n = record {
+  owner = owner_of plan capture n;
+  station = station_of plan capture n;
+  band = packet_band_of capture n;
+  queue = 0;
+  rank = rank_of plan capture n;
+}
+
+abbrev pub infos_of : Plan → Capture → List Info
+infos_of plan capture = map (info_of plan capture) (first_numbers capture.count)
+
+-- the same, read off a list that has packet n at place n
+abbrev pub owner_in : List Info → ℕ → ℕ
+owner_in infos n = option_map_or (λ info. info.owner) (slice_get infos n) 0
+
+abbrev pub station_in : List Info → ℕ → ℕ
+station_in infos n = option_map_or (λ info. info.station) (slice_get infos n) 0
+
+abbrev pub band_in : List Info → ℕ → ℕ
+band_in infos n = option_map_or (λ info. info.band) (slice_get infos n) 0
+
+abbrev pub queue_in : List Info → ℕ → ℕ
+queue_in infos n = option_map_or (λ info. info.queue) (slice_get infos n) 0

@@ -1,0 +1,68 @@
+//! What a plan says of its stations and events, and why a text is refused as a plan.
+use crate::device::Params;
+
+/// How packets are split among the senders.
+#[derive(Clone, Copy, Debug, PartialEq, Eq)]
+pub enum Split {
+    /// By their number, in turn.
+    Round,
+    /// By the last byte of their source address.
+    Source,
+}
+
+/// A station: a queueing discipline with its queue and its first device.
+#[derive(Clone, Copy, Debug, PartialEq, Eq)]
+pub struct StationPlan {
+    /// How many packets each of its three rings has slots for, at first.
+    pub len: u32,
+    /// How many slots a resize may give them.
+    pub max_len: u32,
+    /// Whether a packet may go past the rings to the device, as with `TCQ_F_CAN_BYPASS`.
+    pub bypass: bool,
+    /// What its first device is configured with.
+    pub params: Params,
+}
+
+/// What an event does to its station.
+#[derive(Clone, Copy, Debug, PartialEq, Eq)]
+pub enum EventKind {
+    /// Deactivates it, as `dev_deactivate`.
+    Down,
+    /// Activates it, as `dev_activate`.
+    Up,
+    /// Changes the length of its rings while senders run.
+    Resize { len: u32 },
+    /// Changes it while the station is deactivated, as `dev_qdisc_change_tx_queue_len`.
+    TxQueueLen { len: u32 },
+    /// Exchanges its device for another one, configured with these parameters, while it is deactivated.
+    Swap { params: Params },
+}
+
+/// An event: what is done to which station, before which packet.
+#[derive(Clone, Copy, Debug, PartialEq, Eq)]
+pub struct EventPlan {
+    /// The number of that packet.
+    pub before: u32,
+    pub station: u32,
+    pub kind: EventKind,
+}
+
+/// Why a text is refused as a plan. The numbers are those that the refusal's line shows; where several apply it is the
+/// least.
+#[derive(Clone, Copy, Debug, PartialEq, Eq)]
+pub enum PlanReason {
+    /// It isn't a TOML document.
+    NotToml = 1,
+    /// A key that plans don't have.
+    UnknownKey,
+    /// A key that isn't there and has no default.
+    Missing,
+    /// A value of another kind than its key has.
+    Kind,
+    /// A value outside its range.
+    Range,
+    /// An event that stands before an earlier one, or finds its station active or deactivated where it can't be.
+    EventOrder,
+    /// More than 65,536 bytes, whatever they are.
+    TooLong = 8,
+}
