@@ -8,6 +8,7 @@ mod device;
 mod fate;
 mod machine;
 mod plan;
+pub mod runs;
 
 pub use band::batch;
 pub use capture::CaptureReason;
