@@ -14,6 +14,7 @@ use Rattle.lq_model.specs.declared.device.Tx.TheVariants.{Sent, SentStop, SentHa
 use Rattle.lq_model.specs.declared.fate.Cause.TheVariants.{Hung}
 use Rattle.lq_model.specs.declared.fate.Info.{Info}
 use Rattle.lq_account.specs.Progress.{IsAt, start_of}
+use Rattle.lq_account.proofs.Taken.{IsTurn, picks, takes_0, takes_1, takes_2, turn_of, slot_none}
 
 -- ONE MORE EVENT
 
@@ -66,9 +67,6 @@ brings {plan = plan} {infos = infos} {station = station} {n = n} {a = a} event h
 with_at-same : {X : Type 0} (n : ℕ) (x : X) (f : ℕ → X) → with_at n x f n ≡ x
 with_at-same n x f = ap (λ (b : Bool). if b then x else f n) (eq-eqb n n refl)
 
-some_is : {X : Type 0} {x y : X} → Some x ≡ Some y → x ≡ y
-some_is e = cc
-
 new : {plan : Plan} {infos : List Info} {station n : ℕ} {a : Account} → n < length infos → station_in infos n ≡ station → IsAt plan infos station n a → IsNew infos station a n
 new within at h = ?
 
@@ -109,50 +107,13 @@ at_full {n = n} seen within at full h = brings (Full n seen) h refl (record { ne
 contains-none : (xs : List ℕ) (m : ℕ) → xs ≡ [] → Contains xs m → ⊥
 contains-none xs m none in_it = let e : length xs ≡ 0 = ap length none in omega arith
 
-slot-none : (slot : Option ℕ) (rest : List ℕ) → option_to_list slot ++ rest ≡ [] → slot ≡ None
-slot-none None rest none = refl
-slot-none (Some m) rest none = cc
-
 pub at_direct : {plan : Plan} {infos : List Info} {station n : ℕ} {a : Account} → n < length infos → station_in infos n ≡ station
     → a.hand ≡ None → held a ≡ [] → IsAt plan infos station n a → IsAt plan infos station (n + 1) (after (Direct n) a)
 at_direct {n = n} {a = a} within at hand none h = brings (Direct n) h refl
-    (record { new = new within at h; hand_empty = hand; slot_empty = slot-none a.slot _ none; none_held = λ m in_it same. contains-none (held a) m none in_it })
+    (record { new = new within at h; hand_empty = hand; slot_empty = slot_none a.slot _ none; none_held = λ m in_it same. contains-none (held a) m none in_it })
     tt
 
 -- THE HOLDER WORKS
-
--- what comes into the hand next
-pub data IsTurn (a : Account) : Event → Type 0 where
-  picks : (n : ℕ) → a.slot ≡ Some n → IsTurn a Pick
-  takes_0 : a.slot ≡ None → 0 < length (held_in a 0) → IsTurn a (Take 0)
-  takes_1 : a.slot ≡ None → held_in a 0 ≡ [] → 0 < length (held_in a 1) → IsTurn a (Take 1)
-  takes_2 : a.slot ≡ None → held_in a 0 ≡ [] → held_in a 1 ≡ [] → 0 < length (held_in a 2) → IsTurn a (Take 2)
-
-no-length : (xs : List ℕ) → nat_lt 0 (length xs) ≡ false → xs ≡ []
-no-length [] e = refl
-no-length (x ∷ xs) e = absurd (true≢false (sym (lt-ltb 0 (length (x ∷ xs)) (omega arith)) ∙ e))
-
-pub turn_of : (a : Account) (event : Event) → next_taken a ≡ Some event → IsTurn a event
-turn_of a event next = by_slot a.slot refl next
-  where
-    by_band_2 : (b : Bool) → holds a 2 ≡ b → a.slot ≡ None → held_in a 0 ≡ [] → held_in a 1 ≡ [] → (if b then Some (Take 2) else None) ≡ Some event → IsTurn a event
-    by_band_2 true e none empty_0 empty_1 next = subst (IsTurn a) (some_is next) (takes_2 none empty_0 empty_1 (ltb-true _ _ e))
-    by_band_2 false e none empty_0 empty_1 next = cc
-
-    by_band_1 : (b : Bool) → holds a 1 ≡ b → a.slot ≡ None → held_in a 0 ≡ [] → (if b then Some (Take 1) else if holds a 2 then Some (Take 2) else None) ≡ Some event → IsTurn a event
-    by_band_1 true e none empty_0 next = subst (IsTurn a) (some_is next) (takes_1 none empty_0 (ltb-true _ _ e))
-    by_band_1 false e none empty_0 next = by_band_2 (holds a 2) refl none empty_0 (no-length _ e) next
-
-    by_band_0 : (b : Bool) → holds a 0 ≡ b → a.slot ≡ None
-        → (if b then Some (Take 0) else if holds a 1 then Some (Take 1) else if holds a 2 then Some (Take 2) else None) ≡ Some event → IsTurn a event
-    by_band_0 true e none next = subst (IsTurn a) (some_is next) (takes_0 none (ltb-true _ _ e))
-    by_band_0 false e none next = by_band_1 (holds a 1) refl none (no-length _ e) next
-
-    by_slot : (slot : Option ℕ) → a.slot ≡ slot
-        → (if is_some slot then Some Pick else if holds a 0 then Some (Take 0) else if holds a 1 then Some (Take 1) else if holds a 2 then Some (Take 2) else None) ≡ Some event
-        → IsTurn a event
-    by_slot (Some n) e next = subst (IsTurn a) (some_is next) (picks n e)
-    by_slot None e next = by_band_0 (holds a 0) refl e next
 
 -- a band is found empty, and nothing changes
 abbrev finds-empty : {plan : Plan} {infos : List Info} {station n : ℕ} {a : Account} (band : ℕ) (h : IsAt plan infos station n a)
