@@ -14,6 +14,7 @@ use Rattle.lq_model.specs.declared.device.Tx.TheVariants.{Sent, SentStop, SentHa
 use Rattle.lq_model.specs.declared.fate.Cause.TheVariants.{Hung}
 use Rattle.lq_model.specs.declared.fate.Info.{Info}
 use Rattle.lq_account.specs.Progress.{IsAt, start_of}
+use Rattle.lq_account.proofs.Answers.{with_at_same}
 use Rattle.lq_account.proofs.Taken.{IsTurn, picks, takes_0, takes_1, takes_2, turn_of, slot_none}
 
 -- ONE MORE EVENT
@@ -64,9 +65,6 @@ brings {plan = plan} {infos = infos} {station = station} {n = n} {a = a} event h
     }
 
 -- a packet that was not brought is new
-with_at-same : {X : Type 0} (n : ℕ) (x : X) (f : ℕ → X) → with_at n x f n ≡ x
-with_at-same n x f = ap (λ (b : Bool). if b then x else f n) (eq-eqb n n refl)
-
 new : {plan : Plan} {infos : List Info} {station n : ℕ} {a : Account} → n < length infos → station_in infos n ≡ station → IsAt plan infos station n a → IsNew infos station a n
 new within at h = ?
 
@@ -175,7 +173,7 @@ last-is xs m = ap (slice_get (xs ++ m ∷ [])) (omega (arith, length-append xs (
 -- the last that the unit sent is the packet that was in hand
 sent-last : (infos : List Info) (a : Account) (m : ℕ) → a.hand ≡ Some m → queue_in infos m ≡ 0 → IsQueueSentOn infos (after Send a) 0
 sent-last infos a m hand queue = subst (λ h. IsQueueSentOn infos (sent_from_hand h a) 0) (sym hand)
-    (m, subst (λ sent. slice_get sent (length sent - 1) ≡ Some m) (sym (with_at-same a.unit (a.sent a.unit ++ m ∷ []) a.sent)) (last-is (a.sent a.unit) m), queue)
+    (m, subst (λ sent. slice_get sent (length sent - 1) ≡ Some m) (sym (with_at_same a.unit (a.sent a.unit ++ m ∷ []) a.sent)) (last-is (a.sent a.unit) m), queue)
 
 -- the device answers to the packet in hand, with one queue that is open
 pub at_answer : {plan : Plan} {infos : List Info} {station n : ℕ} {a : Account} (answer : Tx) (m : ℕ)

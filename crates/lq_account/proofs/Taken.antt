@@ -118,8 +118,8 @@ pub first_of_some : (xs : List ℕ) → 0 < length xs → (m : ℕ) × (slice_ge
 first_of_some [] some = absurd (omega arith)
 first_of_some (x ∷ xs) some = (x, refl)
 
-held-length : (a : Account) → length (held a) ≡ length (option_to_list a.slot) + (length (held_in a 0) + (length (held_in a 1) + length (held_in a 2)))
-held-length a = simp length-append
+pub length_held : (a : Account) → length (held a) ≡ length (option_to_list a.slot) + (length (held_in a 0) + (length (held_in a 1) + length (held_in a 2)))
+length_held a = simp length-append
 
 taken-length : (b : Band) → 0 < length (held_of b) → length (held_of (taken_by b 1)) + 1 ≡ length (held_of b)
 taken-length b some = omega (arith, length-drop b.taken b.line, length-drop (b.taken + 1) b.line)
@@ -131,16 +131,16 @@ in_hand {a = a} (picks m slot) = record {
 }
   where
     fewer : length (held (after Pick a)) + 1 ≡ length (held a)
-    fewer = let one : length (option_to_list a.slot) ≡ 1 = ap (λ slot. length (option_to_list slot)) slot in omega (arith, held-length a, length-append (held_in a 0) (held_in a 1 ++ held_in a 2), length-append (held_in a 1) (held_in a 2))
+    fewer = let one : length (option_to_list a.slot) ≡ 1 = ap (λ slot. length (option_to_list slot)) slot in omega (arith, length_held a, length-append (held_in a 0) (held_in a 1 ++ held_in a 2), length-append (held_in a 1) (held_in a 2))
 in_hand {a = a} (takes_0 slot some) = record {
-  packet = (first_of_some _ some).0; hand = (first_of_some _ some).1; slot = slot; fewer = omega (arith, taken-length (a.bands 0) some, held-length a, held-length (after (Take 0) a));
+  packet = (first_of_some _ some).0; hand = (first_of_some _ some).1; slot = slot; fewer = omega (arith, taken-length (a.bands 0) some, length_held a, length_held (after (Take 0) a));
   len = refl; unit = refl; sent = refl; fates = refl; stops = refl; down = refl;
 }
 in_hand {a = a} (takes_1 slot empty_0 some) = record {
-  packet = (first_of_some _ some).0; hand = (first_of_some _ some).1; slot = slot; fewer = omega (arith, taken-length (a.bands 1) some, held-length a, held-length (after (Take 1) a));
+  packet = (first_of_some _ some).0; hand = (first_of_some _ some).1; slot = slot; fewer = omega (arith, taken-length (a.bands 1) some, length_held a, length_held (after (Take 1) a));
   len = refl; unit = refl; sent = refl; fates = refl; stops = refl; down = refl;
 }
 in_hand {a = a} (takes_2 slot empty_0 empty_1 some) = record {
-  packet = (first_of_some _ some).0; hand = (first_of_some _ some).1; slot = slot; fewer = omega (arith, taken-length (a.bands 2) some, held-length a, held-length (after (Take 2) a));
+  packet = (first_of_some _ some).0; hand = (first_of_some _ some).1; slot = slot; fewer = omega (arith, taken-length (a.bands 2) some, length_held a, length_held (after (Take 2) a));
   len = refl; unit = refl; sent = refl; fates = refl; stops = refl; down = refl;
 }
