@@ -10,22 +10,19 @@ use Rattle.lq_model.specs.declared.fate.Info.{Info}
 use Rattle.lq_model.specs.declared.plan.EventKind.{EventKind}
 use Rattle.lq_account.specs.Accounts.{HaveAllCome, IsClosed}
 use Rattle.lq_account.specs.Progress.{IsAt, start_of}
+use Rattle.lq_account.proofs.NoEvents.{no_event}
 
--- a plan without events asks for none
-no-event : (plan : Plan) (station event : ℕ) (kind : EventKind) → plan.events ≡ [] → IsEventAt plan station event kind → ⊥
-no-event plan station event kind none (e, at, of, is) = let empty : None ≡ Some e = sym (ap (λ events. slice_get events event) none) ∙ at in cc
-
--- and no device is exchanged
+-- no device is exchanged
 no-swap : (plan : Plan) (infos : List Info) (station : ℕ) (start : Account) (later before : List Event) (unit : ℕ)
     → plan.events ≡ [] → IsLegal plan infos station start (later ++ Swap unit ∷ before) → ⊥
-no-swap plan infos station start [] before unit none (legal, next) = no-event plan station _ _ none next.planned.2.1
+no-swap plan infos station start [] before unit none (legal, next) = no_event plan station _ _ none next.planned.2.1
 no-swap plan infos station start (event ∷ later) before unit none (legal, next) = no-swap plan infos station start later before unit none legal
 
 have-all-come : (plan : Plan) (station : ℕ) (past : List Event) → plan.events ≡ [] → HaveAllCome plan station past
 have-all-come plan station past none = record {
-  resizes = λ event len at. absurd (no-event plan station event _ none at);
-  queue_lengths = λ event len at. absurd (no-event plan station event _ none at);
-  swaps = λ event params at. absurd (no-event plan station event _ none at);
+  resizes = λ event len at. absurd (no_event plan station event _ none at);
+  queue_lengths = λ event len at. absurd (no_event plan station event _ none at);
+  swaps = λ event params at. absurd (no_event plan station event _ none at);
 }
 
 -- A list has just the account's fates of this station.

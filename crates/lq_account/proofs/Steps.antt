@@ -3,7 +3,6 @@ use Rattle.std.proofs.Common.{◌≡◌, ◌≢◌, ℕ, zero, suc, ◌+◌, ◌
 use Rattle.std.specs.Prelude.{slice_index, slice_set}
 use Rattle.std.specs.List.{cons_option}
 use Rattle.std.proofs.lemmas.Bool.{cases_lt, cases_eq, true≢false, lt-ltb, ltb-true, eq-eqb}
-use Rattle.std.proofs.lemmas.List.Elements.{Contains-append_left, Contains-append_right, Contains-append_cases}
 use Rattle.lq_model.specs.Band.{MayBeFull}
 use Rattle.lq_model.specs.Account.{Account, Event, Join, Full, Empty, Take, Pick, Direct, Send, Back, Stop, Wake, Purge, held, held_in, is_hung, after, after_all, sent_from_hand, with_at}
 use Rattle.lq_model.specs.Alone.{answered, next_taken, hung_up_to, holds}
@@ -15,6 +14,8 @@ use Rattle.lq_model.specs.declared.fate.Cause.TheVariants.{Hung}
 use Rattle.lq_model.specs.declared.fate.Info.{Info}
 use Rattle.lq_account.specs.Progress.{IsAt, start_of}
 use Rattle.lq_account.proofs.Answers.{with_at_same}
+use Rattle.lq_account.proofs.Brought.{only_brought}
+use Rattle.lq_account.proofs.Lists.{none-in, there-in, cons-in}
 use Rattle.lq_account.proofs.Taken.{IsTurn, picks, takes_0, takes_1, takes_2, turn_of, slot_none}
 
 -- ONE MORE EVENT
@@ -33,17 +34,13 @@ more {plan = plan} {infos = infos} {station = station} event h none next = recor
 -- the packet n is brought
 came-next : (xs : List ℕ) (n m : ℕ) → (m < n → Contains xs m) → m < n + 1 → Contains (n ∷ xs) m
 came-next xs n m old below = elim (cases_lt m n) [
-  | inl lower ↦ Contains-append_right (n ∷ []) xs m (old lower)
+  | inl lower ↦ there-in n xs m (old lower)
   | inr higher ↦ (0, omega arith, omega arith)
 ]
 
-only : (n m : ℕ) → Contains (n ∷ []) m → n ≡ m
-only n m (zero, below, is) = is
-only n m (suc k, below, is) = absurd (omega arith)
-
 below-next : (xs : List ℕ) (n m : ℕ) → (Contains xs m → m < n) → Contains (n ∷ xs) m → m < n + 1
-below-next xs n m old in_it = elim (Contains-append_cases (n ∷ []) xs m in_it) [
-  | inl first ↦ (let e : n ≡ m = only n m first in omega arith)
+below-next xs n m old in_it = elim (cons-in n xs m in_it) [
+  | inl first ↦ omega arith
   | inr rest ↦ (let l : m < n = old rest in omega arith)
 ]
 
@@ -66,7 +63,9 @@ brings {plan = plan} {infos = infos} {station = station} {n = n} {a = a} event h
 
 -- a packet that was not brought is new
 new : {plan : Plan} {infos : List Info} {station n : ℕ} {a : Account} → n < length infos → station_in infos n ≡ station → IsAt plan infos station n a → IsNew infos station a n
-new within at h = ?
+new {plan = plan} {infos = infos} {station = station} {n = n} {a = a} within at h =
+    let none = only_brought plan infos station h.past a h.legal h.account n (λ came. (let below : n < n = h.below n came in omega arith)) in
+    record { is_packet = within; of_station = at; no_fate = none.0; not_held = none.1.0; not_in_hand = none.1.1 }
 
 -- it begins before packet 0
 pub at_start : (plan : Plan) (infos : List Info) (station : ℕ) → IsAt plan infos station 0 (start_of plan station)
@@ -102,13 +101,10 @@ pub at_full : {plan : Plan} {infos : List Info} {station n : ℕ} {a : Account} 
     → MayBeFull a.len (a.bands (band_in infos n)) seen → IsAt plan infos station n a → IsAt plan infos station (n + 1) (after (Full n seen) a)
 at_full {n = n} seen within at full h = brings (Full n seen) h refl (record { new = new within at h; full = full }) tt
 
-contains-none : (xs : List ℕ) (m : ℕ) → xs ≡ [] → Contains xs m → ⊥
-contains-none xs m none in_it = let e : length xs ≡ 0 = ap length none in omega arith
-
 pub at_direct : {plan : Plan} {infos : List Info} {station n : ℕ} {a : Account} → n < length infos → station_in infos n ≡ station
     → a.hand ≡ None → held a ≡ [] → IsAt plan infos station n a → IsAt plan infos station (n + 1) (after (Direct n) a)
 at_direct {n = n} {a = a} within at hand none h = brings (Direct n) h refl
-    (record { new = new within at h; hand_empty = hand; slot_empty = slot_none a.slot _ none; none_held = λ m in_it same. contains-none (held a) m none in_it })
+    (record { new = new within at h; hand_empty = hand; slot_empty = slot_none a.slot _ none; none_held = λ m in_it same. none-in (held a) m none in_it })
     tt
 
 -- THE HOLDER WORKS
