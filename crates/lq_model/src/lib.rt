@@ -8,6 +8,7 @@ mod device;
 mod fate;
 mod machine;
 mod plan;
+mod words;
 
 pub use band::batch;
 pub use capture::CaptureReason;
@@ -17,6 +18,7 @@ pub use machine::{
     Answer, Attempt, Beginning, Blocked, Call, ControlStep, Packet, Phase, Position, Seat,
 };
 pub use plan::{EventKind, EventPlan, PlanReason, Split, StationPlan};
+pub use words::{fate_word, one_fate_a_word, word_fate};
 
 /// Want of memory.
 #[derive(Clone, Copy, Debug, PartialEq, Eq)]
