@@ -18,7 +18,7 @@ pub use machine::{
     Answer, Attempt, Beginning, Blocked, Call, ControlStep, Packet, Phase, Position, Seat,
 };
 pub use plan::{EventKind, EventPlan, PlanReason, Split, StationPlan};
-pub use words::{fate_word, one_fate_a_word, word_fate};
+pub use words::{fate_word, fate_written_again, one_fate_a_word, word_fate, word_read_again};
 
 /// Want of memory.
 #[derive(Clone, Copy, Debug, PartialEq, Eq)]

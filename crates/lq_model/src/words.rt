@@ -65,3 +65,21 @@ pub fn word_fate(word: u64) -> Option<Fate>
 pub fn one_fate_a_word()
     ensures { (f g : Fate) (word : ℕ) → IsWordOf f word → IsWordOf g word → f ≡ g }
 {}
+
+/// The word of a fate is read as that fate.
+pub fn word_read_again(fate: Fate) -> Option<Fate>
+    requires { HasWord fate }
+    ensures { result ≡ Some fate }
+{
+    word_fate(fate_word(fate))
+}
+
+/// The fate of a word is written as that word.
+pub fn fate_written_again(word: u64) -> Option<u64>
+    ensures { IfSome result (λ again. again ≡ word) }
+{
+    match word_fate(word) {
+        Some(fate) => Some(fate_word(fate)),
+        None => None,
+    }
+}
