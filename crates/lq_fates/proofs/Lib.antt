@@ -1,0 +1,2 @@
+-- the packets that a unit sent
+pub mod SentLemmas

@@ -1,0 +1,9 @@
+//! What became of the packets, as lists and texts.
+#![tactic(auto)]
+
+mod laws;
+mod sent;
+
+pub use laws::sent_is_that_list;
+pub use lq_model::{Fate, NoMemory};
+pub use sent::sent_of;
