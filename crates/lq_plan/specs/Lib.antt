@@ -2,3 +2,5 @@
 pub mod Limits
 -- what contracts see of a plan in memory
 pub mod View
+-- the limits of what is known of each packet
+pub mod Packets
