@@ -1,5 +1,5 @@
 -- Counts of packets by owner and station, along a capture.
-use Rattle.std.proofs.Common.{◌≡◌, ◌≢◌, ℕ, zero, suc, ◌+◌, ◌*◌, ◌<◌, ◌≤◌, ◌&&◌, Bool, true, false, cond, arith, List, [], ◌∷◌, ◌++◌, length, map, get_or, set, replicate, slice_index, nat_eq, count_by, refl, sym, ap, ◌∙◌, add-one, add-zero, zero-add}
+use Rattle.std.proofs.Common.{◌≡◌, ◌≢◌, ℕ, zero, suc, ◌+◌, ◌*◌, ◌<◌, ◌≤◌, ◌&&◌, Bool, true, false, cond, arith, List, [], ◌∷◌, length, set, replicate, slice_index, nat_eq, count_by, refl, sym, ap, ◌∙◌, add-one, add-zero, zero-add}
 use Rattle.std.proofs.lemmas.List.{get_or-set_other, get_or-replicate}
 use Rattle.std.proofs.lemmas.Grind.{get_or-set_at}
 use Rattle.std.proofs.Math.ListN.{length-set, length-append, length-replicate}
@@ -58,9 +58,9 @@ count-more own at n o s counts true e at_within s_within inside old =
     get_or-set_at counts (own n * 8 + at n) (o * 8 + s) (slice_index counts (own n * 8 + at n) + 1) 0 (sym here) inside ∙ ap (λ k. k + 1) read
 count-more own at n o s counts false e at_within s_within inside old =
     let elsewhere : o * 8 + s ≢ own n * 8 + at n = λ h.
-        let same_owner : own n ≡ o = omega arith in
-        let same_station : at n ≡ s = omega arith in
-        false≢true (sym e ∙ and_from (nat_eq (own n) o) (nat_eq (at n) s) (eq-eqb (own n) o same_owner) (eq-eqb (at n) s same_station)) in
+    let same_owner : own n ≡ o = omega arith in
+    let same_station : at n ≡ s = omega arith in
+    false≢true (sym e ∙ and_from (nat_eq (own n) o) (nat_eq (at n) s) (eq-eqb (own n) o same_owner) (eq-eqb (at n) s same_station)) in
     get_or-set_other counts (own n * 8 + at n) (o * 8 + s) (slice_index counts (own n * 8 + at n) + 1) 0 elsewhere ∙ (old ∙ sym (add-zero (counted own at o s n)))
 
 -- packet n is counted

@@ -1,5 +1,5 @@
 -- What is known of the first packets of a capture, and their counts.
-use Rattle.std.proofs.Common.{◌≡◌, ℕ, suc, ◌+◌, ◌*◌, ◌<◌, arith, List, [], ◌∷◌, ◌++◌, length, map, set, slice_index, refl, sym, ap, ◌∙◌, add-one, subst, All}
+use Rattle.std.proofs.Common.{◌≡◌, ℕ, ◌+◌, ◌*◌, ◌<◌, arith, List, [], ◌∷◌, ◌++◌, map, set, slice_index, sym, ap, ◌∙◌, add-one, subst, All}
 use Rattle.std.proofs.lemmas.List.{map-append}
 use Rattle.std.proofs.lemmas.List.Elements.{All-push}
 use Rattle.lq_model.specs.Capture.{Capture}
@@ -7,7 +7,7 @@ use Rattle.lq_model.specs.Numbers.{first_numbers}
 use Rattle.lq_model.specs.Plan.{Plan, owner_of, station_of, rank_of, info_of}
 use Rattle.lq_model.specs.declared.fate.Info.{Info}
 use Rattle.lq_plan.specs.Packets.{IsInfoWithin}
-use Rattle.lq_plan.proofs.Counts.{counted, AreCounts, AreCounts-more}
+use Rattle.lq_plan.proofs.Counts.{AreCounts, AreCounts-more}
 
 pub record AreKnown (plan : Plan) (capture : Capture) (n : ℕ) (infos : List Info) (counts : List ℕ) : Type 0 where
   pub infos_are : infos ≡ map (info_of plan capture) (first_numbers n)
@@ -37,7 +37,7 @@ AreKnown-more plan capture n rank infos counts info known is within few rank_is 
     let read : rank ≡ slice_index counts (owner_of plan capture n * 8 + station_of plan capture n) = rank_is ∙ ap (λ k. slice_index counts k) place_is in
     let ranked : rank ≡ rank_of plan capture n = read ∙ rank-from_counts plan capture n counts known.counts_are owner_within station_within in
     let whole : record info { rank = rank } ≡ info_of plan capture n =
-        ap (λ (i : Info). record i { rank = rank }) is ∙ ap (λ (k : ℕ). record (info_of plan capture n) { rank = k }) ranked in
+    ap (λ (i : Info). record i { rank = rank }) is ∙ ap (λ (k : ℕ). record (info_of plan capture n) { rank = k }) ranked in
     record {
       infos_are =
           ap (λ (xs : List Info). xs ++ record info { rank = rank } ∷ []) known.infos_are

@@ -85,3 +85,136 @@ fn next_rank(counts: &mut [u32], owner: u32, station: u32) -> u32
     *count += 1;
     rank
 }
+
+#[cfg(test)]
+mod tests {
+    use super::*;
+    use lq_model::{Params, StationPlan};
+    use lq_pcap::read_capture;
+    use std::test::Fail;
+
+    /// The header of a capture in microseconds, little-endian, of raw IP.
+    const HEADER: [u8; 24] = [
+        0xd4, 0xc3, 0xb2, 0xa1, 2, 0, 4, 0, 0, 0, 0, 0, 0, 0, 0, 0, 0, 0, 4, 0, 101, 0, 0, 0,
+    ];
+
+    /// A record of an IP header alone, with its version, type of service, and last address bytes.
+    fn record(version: u8, tos: u8, source: u8, route: u8) -> [u8; 36]
+        requires { version < 16 }
+    {
+        [
+            0,
+            0,
+            0,
+            0,
+            0,
+            0,
+            0,
+            0,
+            20,
+            0,
+            0,
+            0,
+            20,
+            0,
+            0,
+            0, //
+            16 * version + 5,
+            tos,
+            0,
+            20,
+            0,
+            0,
+            0,
+            0,
+            64,
+            17,
+            0,
+            0, //
+            10,
+            0,
+            0,
+            source,
+            10,
+            0,
+            1,
+            route,
+        ]
+    }
+
+    fn five_packets(alloc: Global) -> Result<Capture, Fail> {
+        let records = [
+            record(4, 0x00, 1, 0),
+            record(4, 0x10, 1, 1),
+            record(4, 0x08, 2, 3),
+            record(4, 0x00, 3, 2),
+            record(6, 0x10, 3, 3),
+        ];
+        let mut bytes = HEADER.to_vec(alloc)?;
+        for record in records {
+            bytes.extend_from_slice(&record)?;
+        }
+        Ok(read_capture(alloc, bytes)?)
+    }
+
+    fn two_by_two(alloc: Global, split: Split) -> Result<Plan, Fail> {
+        let params = Params {
+            burst: 0,
+            busy_every: 0,
+            busy_limit: 0,
+            hang_after: 0,
+        };
+        let station = StationPlan {
+            len: 2,
+            max_len: 2,
+            bypass: false,
+            params,
+        };
+        Ok(Plan {
+            senders: 2,
+            split,
+            irq_every: 1,
+            stations: vec![in alloc; station; 2]?,
+            events: Vec::new(alloc),
+        })
+    }
+
+    fn info(owner: u32, station: u32, band: u32, rank: u32) -> Info {
+        Info {
+            owner,
+            station,
+            band,
+            queue: 0,
+            rank,
+        }
+    }
+
+    #[test]
+    fn splits_by_number_and_by_source(rt: HostRuntime) -> Result<(), Fail> {
+        let capture = five_packets(rt.alloc())?;
+        let by_number = infos(rt.alloc(), &two_by_two(rt.alloc(), Split::Round)?, &capture)?;
+        let expected = [
+            info(0, 0, 1, 0),
+            info(1, 1, 0, 0),
+            info(0, 1, 2, 0),
+            info(1, 0, 1, 0),
+            info(0, 0, 1, 1),
+        ];
+        assert_eq!(rt; by_number.as_slice(), expected.as_slice());
+
+        let by_source = infos(
+            rt.alloc(),
+            &two_by_two(rt.alloc(), Split::Source)?,
+            &capture,
+        )?;
+        let expected = [
+            info(1, 0, 1, 0),
+            info(1, 1, 0, 0),
+            info(0, 1, 2, 0),
+            info(1, 0, 1, 1),
+            info(0, 0, 1, 0),
+        ];
+        assert_eq!(rt; by_source.as_slice(), expected.as_slice());
+        Ok(())
+    }
+}
