@@ -10,3 +10,5 @@ pub mod Faults
 pub mod Limits
 -- what contracts see of a plan in memory
 pub mod View
+-- the limits of what is known of each packet
+pub mod Packets

@@ -3,10 +3,12 @@
 
 mod faults;
 mod keys;
+mod packets;
 mod plan;
 mod refusal;
 mod values;
 
 pub use lq_model::{EventKind, EventPlan, Params, PlanReason, Split, StationPlan};
+pub use packets::infos;
 pub use plan::Plan;
 pub use refusal::PlanRefusal;
