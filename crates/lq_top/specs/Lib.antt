@@ -22,3 +22,5 @@ pub mod Sending
 pub mod Bands
 -- a station's queue, and the account that it stands for
 pub mod Queue
+-- the queues of all stations
+pub mod Stations

@@ -11,6 +11,7 @@ pub mod laws;
 mod output;
 mod plan;
 mod queue;
+mod run;
 mod send;
 mod status;
 mod stop;
