@@ -4,11 +4,13 @@ use Rattle.std.specs.Option.{option_map}
 use Rattle.lq_account.specs.Progress.{IsAt}
 use Rattle.lq_device.specs.Station.{StationState, new_station}
 use Rattle.lq_model.specs.Account.{Account, Event, held, held_in, after}
-use Rattle.lq_model.specs.Alone.{Running, answered, next_taken}
+use Rattle.lq_model.specs.Alone.{Running, answered, next_taken, served, served_turns, turns_of, brought_in, opened, finished}
 use Rattle.lq_model.specs.Device.{DeviceState, Telling, Answers, answer_of, is_busy, told_after}
-use Rattle.lq_model.specs.Plan.{Plan, station_in, queue_in}
+use Rattle.lq_model.specs.Plan.{Plan, station_in, band_in, queue_in}
 use Rattle.lq_model.specs.declared.device.Tx.{Tx}
 use Rattle.lq_model.specs.declared.device.Tx.TheVariants.{Sent, SentStop, SentHang, Busy}
+use Rattle.lq_model.specs.declared.fate.Cause.{Cause}
+use Rattle.lq_model.specs.declared.fate.Cause.TheVariants as cause
 use Rattle.lq_model.specs.declared.fate.Fate.{Fate}
 use Rattle.lq_model.specs.declared.fate.Fate.TheVariants as fate
 use Rattle.lq_model.specs.declared.fate.Info.{Info}
@@ -48,6 +50,15 @@ number_held q = length (option_to_list q.station.side) + held_by q.bands
 -- So many packets at most come into the hand from now on, where none is brought: each is sent, or is one more answer Busy.
 abbrev pub turns_left : QueueState → ℕ
 turns_left q = number_held q + (device_of q).busy_left
+
+-- the same, and one more where the queue isn't open
+abbrev pub is_closed_number : StopValue → ℕ
+is_closed_number Open = 0
+is_closed_number Stopped = 1
+is_closed_number Hung = 1
+
+abbrev pub work_left : QueueState → ℕ
+work_left q = turns_left q + is_closed_number q.stop
 
 abbrev pub new_queue : StationState → Bands → Bool → QueueState
 new_queue station bands bypass = record { station = station; bands = bands; stop = Open; clean = true; bypass = bypass }
@@ -107,11 +118,19 @@ pub record Matches (infos : List Info) (station rest : ℕ) (hand : Option ℕ) 
   pub sent : IsSentBy q.station a
   pub stops : a.stops ≡ stop_number q.stop ∷ []
   pub active : a.down ≡ None
-  pub fates : HasFates infos station fates a
+  pub fates_are : HasFates infos station fates a
   pub packets : ArePacketsOf infos station a
   pub hung : (device_of q).hung ≡ is_hung_value q.stop
   pub room : HasRoom rest hand q
   pub rule : MeetsRule (device_of q)
+
+-- some account is matched, with nothing in hand
+pub record MatchesSome (q : QueueState) (fates : List (Option Fate)) : Type 0 where
+  pub infos : List Info
+  pub station : ℕ
+  pub rest : ℕ
+  pub account : Account
+  pub matches : Matches infos station rest None q fates account
 
 -- A PACKET COMES INTO THE HAND
 
@@ -122,6 +141,14 @@ pub record IsTaken (infos : List Info) (station rest n : ℕ) (new : QueueState)
   pub matches : Matches infos station rest (Some n) new fates (after event a)
 
 -- OFFERS TO THE DEVICE
+
+-- the device has room for packet n and doesn't hang, the requeue slot is empty, and the list of fates has a place for it
+pub record MayOffer (n : ℕ) (q : QueueState) (fates : List (Option Fate)) : Type 0 where
+  pub room : 0 < (device_of q).spare
+  pub alive : (device_of q).hung ≡ false
+  pub countable : length (device_of q).accepted < 4294967295
+  pub slot_empty : q.station.side ≡ None
+  pub within : n < length fates
 
 -- what the answer to a packet leaves in the requeue slot, and the fate that it gives the packet
 abbrev pub laid_back : Tx → ℕ → Option ℕ
@@ -161,28 +188,26 @@ pub record Setting : Type 0 where
   pub infos : List Info
   pub station : ℕ
 
+-- no packet was purged
+abbrev pub NonePurged : Account → Type 0
+NonePurged a = (n : ℕ) (why : Cause) → a.fates n ≡ Some (fate.Purged why) → ⊥
+
 -- A legal list of events leaves the account, with the station's packets below n brought and nothing in hand; and the queue and the
 -- fates are as it has them.
 pub record IsUnderway (s : Setting) (n rest : ℕ) (q : QueueState) (fates : List (Option Fate)) (a : Account) : Type 0 where
   pub matches : Matches s.infos s.station rest None q fates a
   pub at : IsAt s.plan s.infos s.station n a
   pub one_queue : (m : ℕ) → queue_in s.infos m ≡ 0
+  pub none_purged : NonePurged a
 
 -- Between calls nothing is held where the next packet may go past the bands, as it may where the queue is open.
 pub record IsServed (q : QueueState) (a : Account) : Type 0 where
-  pub clean : q.clean ≡ true → held a ≡ []
-  pub open : q.stop ≡ Open → q.clean ≡ true
+  pub clean_is_empty : q.clean ≡ true → held a ≡ []
+  pub open_is_clean : q.stop ≡ Open → q.clean ≡ true
 
 pub record StandsFor (s : Setting) (n rest : ℕ) (q : QueueState) (fates : List (Option Fate)) (a : Account) : Type 0 where
   pub underway : IsUnderway s n rest q fates a
   pub served : IsServed q a
-
--- some account is underway, or stood for
-abbrev pub IsSomeUnderway : ℕ → QueueState → List (Option Fate) → Type 0
-IsSomeUnderway rest q fates = (s : Setting) × (n : ℕ) × (a : Account) × IsUnderway s n rest q fates a
-
-abbrev pub StandsForSome : ℕ → QueueState → List (Option Fate) → Type 0
-StandsForSome rest q fates = (s : Setting) × (n : ℕ) × (a : Account) × StandsFor s n rest q fates a
 
 -- the station of the run of one sender that a queue over a device that tells is
 abbrev pub running : Account → QueueState → Telling → Running
@@ -203,7 +228,82 @@ pub record Moves (step : Running → Running) (s : Setting) (n rest : ℕ) (old 
   pub elsewhere : SameElsewhere s.infos s.station fates fates'
   pub tells : (t : Telling) → (device_of old).told ≡ Some t → Does step t old new a account
 
--- the same, between calls
+-- packets were served one after the other, until the queue wasn't open or nothing was held
+pub record Runs (s : Setting) (n rest : ℕ) (old new : QueueState) (fates fates' : List (Option Fate)) (a : Account) : Type 0 where
+  pub moves : Moves (λ r. served_turns s.infos (turns_of r) r) s n rest old new fates fates' a
+  pub empty : new.stop ≡ Open → held moves.account ≡ []
+
+-- the station was served: only where its queue is open
+pub record Serves (s : Setting) (n rest : ℕ) (old new : QueueState) (fates fates' : List (Option Fate)) (a : Account) : Type 0 where
+  pub moves : Moves (served s.infos) s n rest old new fates fates' a
+  pub is_served : (old.stop ≢ Open → IsServed old a) → IsServed new moves.account
+
+-- packet n was brought to its station, and went past the bands or joined one of them; it may still be held
+pub record Brings (step : Running → Running) (s : Setting) (n rest : ℕ) (old new : QueueState) (fates fates' : List (Option Fate)) (a : Account) : Type 0 where
+  pub moves : Moves step s (n + 1) rest old new fates fates' a
+  pub is_served : new.stop ≢ Open → IsServed new moves.account
+
+-- what a call makes of a queue and the fates that stand for an account
 pub record Goes (step : Running → Running) (s : Setting) (n rest : ℕ) (old new : QueueState) (fates fates' : List (Option Fate)) (a : Account) : Type 0 where
   pub moves : Moves step s n rest old new fates fates' a
-  pub served : IsServed new moves.account
+  pub is_served : IsServed new moves.account
+
+-- The station was finished: nothing is held any more, and only the packets that a hung device left were purged.
+pub record Finishes (s : Setting) (n rest : ℕ) (old new : QueueState) (fates fates' : List (Option Fate)) (a : Account) : Type 0 where
+  pub account : Account
+  pub matches : Matches s.infos s.station rest None new fates' account
+  pub at : IsAt s.plan s.infos s.station n account
+  pub elsewhere : SameElsewhere s.infos s.station fates fates'
+  pub tells : (t : Telling) → (device_of old).told ≡ Some t → Does (finished s.infos) t old new a account
+  pub nothing_held : held account ≡ []
+  pub purged : (m : ℕ) (why : Cause) → account.fates m ≡ Some (fate.Purged why) → (new.stop ≡ Hung) × (why ≡ cause.Hung account.unit)
+
+-- what a transmit does, and a wake
+abbrev pub transmitted : List Info → Bool → ℕ → Running → Running
+transmitted infos bypass n r = served infos (brought_in infos bypass n r)
+
+abbrev pub woken : List Info → Running → Running
+woken infos r = served infos (opened r)
+
+abbrev pub value_opened : StopValue → StopValue
+value_opened Open = Open
+value_opened Stopped = Open
+value_opened Hung = Hung
+
+-- WHAT CALLS ASK
+
+-- some account is underway for the queue and the fates, or they stand for it
+pub record IsSomeUnderway (q : QueueState) (fates : List (Option Fate)) : Type 0 where
+  pub setting : Setting
+  pub n : ℕ
+  pub rest : ℕ
+  pub account : Account
+  pub underway : IsUnderway setting n rest q fates account
+
+pub record StandsForSome (q : QueueState) (fates : List (Option Fate)) : Type 0 where
+  pub setting : Setting
+  pub n : ℕ
+  pub rest : ℕ
+  pub account : Account
+  pub stands : StandsFor setting n rest q fates account
+
+-- packet n is of this band and of the station, whose packets below it were brought
+pub record IsNextPacket (s : Setting) (n band : ℕ) : Type 0 where
+  pub packet : IsPacketOf s.infos s.station n
+  pub band_is : band_in s.infos n ≡ band
+
+pub record MayTransmit (n band : ℕ) (q : QueueState) (fates : List (Option Fate)) : Type 0 where
+  pub setting : Setting
+  pub rest : ℕ
+  pub account : Account
+  pub stands : StandsFor setting n (rest + 1) q fates account
+  pub next : IsNextPacket setting n band
+
+-- A station begins: none of its packets has a fate, and its device, which was just configured, has room for all of them.
+pub record Begins (s : Setting) (rest : ℕ) (device : DeviceState) (fates : List (Option Fate)) : Type 0 where
+  pub one_queue : (m : ℕ) → queue_in s.infos m ≡ 0
+  pub one_each : length fates ≡ length s.infos
+  pub no_fate : (n : ℕ) → n < length s.infos → station_in s.infos n ≡ s.station → slice_get fates n ≡ Some None
+  pub room : rest ≤ device.spare
+  pub countable : rest ≤ 4294967295
+  pub no_busies : (t : Telling) → device.told ≡ Some t → t.busies ≡ 0
