@@ -9,6 +9,8 @@ use Rattle.lq_model.specs.Device.{DeviceState, Telling, Answers, answer_of, is_b
 use Rattle.lq_model.specs.Plan.{Plan, station_in, band_in, queue_in}
 use Rattle.lq_model.specs.declared.device.Tx.{Tx}
 use Rattle.lq_model.specs.declared.device.Tx.TheVariants.{Sent, SentStop, SentHang, Busy}
+use Rattle.lq_model.specs.declared.fate.Cause.{Cause}
+use Rattle.lq_model.specs.declared.fate.Cause.TheVariants as cause
 use Rattle.lq_model.specs.declared.fate.Fate.{Fate}
 use Rattle.lq_model.specs.declared.fate.Fate.TheVariants as fate
 use Rattle.lq_model.specs.declared.fate.Info.{Info}
@@ -186,12 +188,17 @@ pub record Setting : Type 0 where
   pub infos : List Info
   pub station : ℕ
 
+-- no packet was purged
+abbrev pub NonePurged : Account → Type 0
+NonePurged a = (n : ℕ) (why : Cause) → a.fates n ≡ Some (fate.Purged why) → ⊥
+
 -- A legal list of events leaves the account, with the station's packets below n brought and nothing in hand; and the queue and the
 -- fates are as it has them.
 pub record IsUnderway (s : Setting) (n rest : ℕ) (q : QueueState) (fates : List (Option Fate)) (a : Account) : Type 0 where
   pub matches : Matches s.infos s.station rest None q fates a
   pub at : IsAt s.plan s.infos s.station n a
   pub one_queue : (m : ℕ) → queue_in s.infos m ≡ 0
+  pub none_purged : NonePurged a
 
 -- Between calls nothing is held where the next packet may go past the bands, as it may where the queue is open.
 pub record IsServed (q : QueueState) (a : Account) : Type 0 where
@@ -241,10 +248,15 @@ pub record Goes (step : Running → Running) (s : Setting) (n rest : ℕ) (old n
   pub moves : Moves step s n rest old new fates fates' a
   pub is_served : IsServed new moves.account
 
--- the station was finished: nothing is held any more
+-- The station was finished: nothing is held any more, and only the packets that a hung device left were purged.
 pub record Finishes (s : Setting) (n rest : ℕ) (old new : QueueState) (fates fates' : List (Option Fate)) (a : Account) : Type 0 where
-  pub goes : Goes (finished s.infos) s n rest old new fates fates' a
-  pub nothing_held : held goes.moves.account ≡ []
+  pub account : Account
+  pub matches : Matches s.infos s.station rest None new fates' account
+  pub at : IsAt s.plan s.infos s.station n account
+  pub elsewhere : SameElsewhere s.infos s.station fates fates'
+  pub tells : (t : Telling) → (device_of old).told ≡ Some t → Does (finished s.infos) t old new a account
+  pub nothing_held : held account ≡ []
+  pub purged : (m : ℕ) (why : Cause) → account.fates m ≡ Some (fate.Purged why) → (new.stop ≡ Hung) × (why ≡ cause.Hung account.unit)
 
 -- what a transmit does, and a wake
 abbrev pub transmitted : List Info → Bool → ℕ → Running → Running
