@@ -45,6 +45,10 @@ pub first-in : {X : Type 0} (xs : List X) (x : X) → slice_get xs 0 ≡ Some x 
 first-in [] x e = cc
 first-in (y ∷ ys) x e = subst (λ z. Contains (y ∷ ys) z) (cc) (here-in y ys)
 
+pub first-taken : {X : Type 0} (xs : List X) (x : X) → slice_get xs 0 ≡ Some x → Contains (take 1 xs) x
+first-taken [] x e = cc
+first-taken (y ∷ ys) x e = subst (λ z. Contains (y ∷ []) z) (cc) (here-in y [])
+
 -- PAIRS IN ORDER
 
 pub pairs-drop : {X : Type 0} (R : X → X → Type 0) (n : ℕ) (xs : List X) → AllPairs R xs → AllPairs R (drop n xs)
