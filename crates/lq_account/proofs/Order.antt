@@ -1,5 +1,5 @@
 -- What waits in a station, in its bands, the requeue slot or the hand, stands in each owner's order.
-use Rattle.std.proofs.Common.{◌≡◌, ℕ, ◌+◌, ◌<◌, List, [], ◌∷◌, ◌⊎◌, inl, inr, drop, take, length, Contains, AllPairs, Option, Some, None, refl, sym, ap, ◌∙◌, subst, get_or, arith}
+use Rattle.std.proofs.Common.{◌≡◌, ℕ, ◌<◌, List, [], inl, inr, Contains, AllPairs, Option, Some, None, refl, sym, ◌∙◌, subst, get_or, arith}
 use Rattle.std.proofs.lemmas.List.{drop-drop}
 use Rattle.std.proofs.lemmas.List.Elements.{Contains-get_or}
 use Rattle.std.proofs.lemmas.List.Quantifiers.{all_pairs_push}
@@ -54,7 +54,7 @@ module _ (infos : List Info) (station : ℕ) (past : List Event) (a : Account) (
   lines-step (Join m band) turn b =
       at-cases (λ (x : Band). AllPairs (Precedes infos) x.line) band b (joined (a.bands band) m) a.bands
       (λ same. all_pairs_push (Precedes infos) (a.bands band).line m (h.lines band)
-          (λ k d below owner bands. above-before infos past (Join m band) (get_or (a.bands band).line k d) m turn refl (known.lines band (get_or (a.bands band).line k d) (Contains-get_or (a.bands band).line k d below)) owner))
+      (λ k d below owner bands. above-before infos past (Join m band) (get_or (a.bands band).line k d) m turn refl (known.lines band (get_or (a.bands band).line k d) (Contains-get_or (a.bands band).line k d below)) owner))
       (λ other. h.lines b)
   lines-step (Take band) turn b = at-cases (λ (x : Band). AllPairs (Precedes infos) x.line) band b (taken_by (a.bands band) 1) a.bands (λ same. h.lines band) (λ other. h.lines b)
   lines-step Send turn b = go a.hand
@@ -106,7 +106,7 @@ module _ (infos : List Info) (station : ℕ) (past : List Event) (a : Account) (
   new-hand e may n b m (taken k l first) below held =
       at-cases (λ (x : Band). Contains (held_of x) m → Precedes infos n m) k b (taken_by (a.bands k) 1) a.bands
       (λ same held. pairs-apart (Precedes infos) 1 (held_in a k) n m (held-pairs k) (first-taken (held_in a k) n first)
-          (subst (λ xs. Contains xs m) (sym (drop-drop 1 (a.bands k).taken (a.bands k).line)) held))
+      (subst (λ xs. Contains xs m) (sym (drop-drop 1 (a.bands k).taken (a.bands k).line)) held))
       (λ other held owner bands. absurd (other (sym (held-band b m held) ∙ (sym bands ∙ held-band k n (first-in (held_in a k) n first)))))
       held
   new-hand e may n b m (picked l slot) below held = h.slot_ahead n slot b m below held

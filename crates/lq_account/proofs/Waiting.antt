@@ -1,15 +1,14 @@
 -- What waits in a station has no fate, and a fate stays.
-use Rattle.std.proofs.Common.{◌≡◌, ℕ, ◌<◌, List, [], ◌∷◌, ◌++◌, ◌⊎◌, inl, inr, length, Contains, Option, Some, None, refl, sym, ap, ◌∙◌, subst, arith}
+use Rattle.std.proofs.Common.{◌≡◌, ℕ, ◌<◌, List, ◌++◌, ◌⊎◌, inl, inr, length, Contains, Option, Some, None, refl, sym, ap, ◌∙◌, subst, arith}
 use Rattle.std.proofs.lemmas.List.{drop_all}
 use Rattle.lq_model.specs.Account.{Account, Event, Join, Full, Refuse, Empty, Take, Pick, Direct, Send, Back, Stop, Wake, Resize, Down, Purge, Swap, Up, held, held_in, dropped_in, sent_from_hand, with_at, new_account, after}
 use Rattle.lq_model.specs.Legal.{brought, brought_by, IsNew, MayCome, IsInTurn}
-use Rattle.lq_model.specs.Plan.{band_in}
 use Rattle.lq_model.specs.declared.fate.Cause.{Cause}
 use Rattle.lq_model.specs.declared.fate.Fate.{Fate}
 use Rattle.lq_model.specs.declared.fate.Fate.TheVariants as fate
 use Rattle.lq_model.specs.declared.fate.Info.{Info}
 use Rattle.lq_account.proofs.Lists.{none-in, take-in, drop-in, first-in, pairs-apart, at-cases, fates-cases}
-use Rattle.lq_account.proofs.Changes.{Joins, ComesToHand, ComesToSlot, Gives, InBand, three-in, slot-held, band-held, held-cases, holds-cases, hand-cases, slot-cases, fate-cases}
+use Rattle.lq_account.proofs.Changes.{Joins, ComesToHand, ComesToSlot, Gives, three-in, slot-held, band-held, held-cases, holds-cases, hand-cases, slot-cases, fate-cases}
 use Rattle.lq_account.proofs.Changes.Joins.{joins}
 use Rattle.lq_account.proofs.Changes.ComesToHand.{taken, picked, direct}
 use Rattle.lq_account.proofs.Changes.ComesToSlot.{laid_back}
