@@ -1,6 +1,6 @@
 -- What an event changes of an account: which packets join a band, come into the hand or the requeue slot, stand in a
 -- sent list or get a fate. All else is as it was.
-use Rattle.std.proofs.Common.{◌≡◌, ℕ, ◌<◌, zero, suc, List, [], ◌++◌, ◌⊎◌, inl, inr, length, Contains, Option, Some, None, refl, sym, ap, ◌∙◌, subst, slice_get, option_to_list, arith}
+use Rattle.std.proofs.Common.{◌≡◌, ℕ, ◌<◌, zero, suc, List, [], ◌∷◌, ◌++◌, ◌⊎◌, inl, inr, length, Contains, Option, Some, None, refl, sym, ap, ◌∙◌, subst, slice_get, option_to_list, arith}
 use Rattle.std.proofs.lemmas.Option.{same_Some}
 use Rattle.std.proofs.lemmas.List.{drop-drop, drop_all}
 use Rattle.std.proofs.lemmas.List.Elements.{Contains-append_left, Contains-append_right, Contains-append_cases, Contains-push_cases}
@@ -9,7 +9,7 @@ use Rattle.lq_model.specs.Account.{Account, Event, Join, Full, Refuse, Empty, Ta
 use Rattle.lq_model.specs.declared.fate.Cause.{Cause}
 use Rattle.lq_model.specs.declared.fate.Fate.{Fate}
 use Rattle.lq_model.specs.declared.fate.Fate.TheVariants as fate
-use Rattle.lq_account.proofs.Lists.{none-in, one-in, here-in, take-in, drop-in, at-cases, fates-cases, drop-push-in}
+use Rattle.lq_account.proofs.Lists.{none-in, one-in, here-in, take-in, drop-in, at-cases, fates-cases, drop-push-in, get-push-cases, get-push-old, get-push-new}
 
 -- WHAT COMES WHERE
 
@@ -231,3 +231,132 @@ fate-cases (Wake queue) a n f = inl
 fate-cases (Down event) a n f = inl
 fate-cases (Swap unit) a n f = inl
 fate-cases Up a n f = inl
+
+-- a fate that is settled goes to the end of what the unit sent
+pub sent-cases : (e : Event) (a : Account) (u s n : ℕ) → slice_get ((after e a).sent u) s ≡ Some n → (slice_get (a.sent u) s ≡ Some n) ⊎ Sends a e u s n
+sent-cases Send a u s n = go a.hand refl
+  where
+    go : (o : Option ℕ) → a.hand ≡ o → slice_get ((sent_from_hand o a).sent u) s ≡ Some n → (slice_get (a.sent u) s ≡ Some n) ⊎ Sends a Send u s n
+    go None e = inl
+    go (Some m) e =
+        at-cases (λ (xs : List ℕ). slice_get xs s ≡ Some n → (slice_get (a.sent u) s ≡ Some n) ⊎ Sends a Send u s n) a.unit u (a.sent a.unit ++ m ∷ []) a.sent
+        (λ same h. elim (get-push-cases (a.sent a.unit) m n s h) [
+          | inl old ↦ inl (ap (λ k. slice_get (a.sent k) s) same ∙ old)
+          | inr new ↦ inr (sends n u s (e ∙ ap Some new.1) same new.0)
+        ])
+        (λ other h. inl h)
+sent-cases (Join m band) a u s n = inl
+sent-cases (Full m seen) a u s n = inl
+sent-cases (Refuse m event) a u s n = inl
+sent-cases (Empty band) a u s n = inl
+sent-cases (Take b) a u s n = inl
+sent-cases Pick a u s n = inl
+sent-cases (Direct m) a u s n = inl
+sent-cases Back a u s n = inl
+sent-cases (Stop queue value) a u s n = inl
+sent-cases (Wake queue) a u s n = inl
+sent-cases (Resize len event) a u s n = inl
+sent-cases (Down event) a u s n = inl
+sent-cases (Purge cause) a u s n = inl
+sent-cases (Swap unit) a u s n = inl
+sent-cases Up a u s n = inl
+
+pub sent-stays : (e : Event) (a : Account) (u s n : ℕ) → slice_get (a.sent u) s ≡ Some n → slice_get ((after e a).sent u) s ≡ Some n
+sent-stays Send a u s n was = go a.hand
+  where
+    go : (o : Option ℕ) → slice_get ((sent_from_hand o a).sent u) s ≡ Some n
+    go None = was
+    go (Some m) =
+        at-cases (λ (xs : List ℕ). slice_get xs s ≡ Some n) a.unit u (a.sent a.unit ++ m ∷ []) a.sent
+        (λ same. get-push-old (a.sent a.unit) (m ∷ []) n s (ap (λ k. slice_get (a.sent k) s) (sym same) ∙ was)) (λ other. was)
+sent-stays (Join m band) a u s n was = was
+sent-stays (Full m seen) a u s n was = was
+sent-stays (Refuse m event) a u s n was = was
+sent-stays (Empty band) a u s n was = was
+sent-stays (Take b) a u s n was = was
+sent-stays Pick a u s n was = was
+sent-stays (Direct m) a u s n was = was
+sent-stays Back a u s n was = was
+sent-stays (Stop queue value) a u s n was = was
+sent-stays (Wake queue) a u s n was = was
+sent-stays (Resize len event) a u s n was = was
+sent-stays (Down event) a u s n was = was
+sent-stays (Purge cause) a u s n was = was
+sent-stays (Swap unit) a u s n was = was
+sent-stays Up a u s n was = was
+
+-- the packet that is sent
+pub sent-is : (a : Account) (n : ℕ) → a.hand ≡ Some n
+    → (slice_get ((after Send a).sent a.unit) (length (a.sent a.unit)) ≡ Some n) × ((after Send a).fates n ≡ Some (fate.Sent a.unit (length (a.sent a.unit))))
+sent-is a n hand = subst (λ (o : Option ℕ). (slice_get ((sent_from_hand o a).sent a.unit) (length (a.sent a.unit)) ≡ Some n) × ((sent_from_hand o a).fates n ≡ Some (fate.Sent a.unit (length (a.sent a.unit))))) (sym hand) (
+  at-cases (λ (xs : List ℕ). slice_get xs (length (a.sent a.unit)) ≡ Some n) a.unit a.unit (a.sent a.unit ++ n ∷ []) a.sent (λ same. get-push-new (a.sent a.unit) n) (λ other. absurd (other refl)),
+  at-cases (λ (o : Option Fate). o ≡ Some (fate.Sent a.unit (length (a.sent a.unit)))) n n (Some (fate.Sent a.unit (length (a.sent a.unit)))) a.fates (λ same. refl) (λ other. absurd (other refl)),
+)
+
+-- UNIT AND DEACTIVATION
+
+pub unit-cases : (e : Event) (a : Account) → ((after e a).unit ≡ a.unit) ⊎ ((u : ℕ) × (e ≡ Swap u))
+unit-cases (Swap u) a = inr (u, refl)
+unit-cases Send a = inl (go a.hand)
+  where
+    go : (o : Option ℕ) → (sent_from_hand o a).unit ≡ a.unit
+    go None = refl
+    go (Some m) = refl
+unit-cases (Join m band) a = inl refl
+unit-cases (Full m seen) a = inl refl
+unit-cases (Refuse m event) a = inl refl
+unit-cases (Empty band) a = inl refl
+unit-cases (Take b) a = inl refl
+unit-cases Pick a = inl refl
+unit-cases (Direct m) a = inl refl
+unit-cases Back a = inl refl
+unit-cases (Stop queue value) a = inl refl
+unit-cases (Wake queue) a = inl refl
+unit-cases (Resize len event) a = inl refl
+unit-cases (Down event) a = inl refl
+unit-cases (Purge cause) a = inl refl
+unit-cases Up a = inl refl
+
+pub down-cases : (e : Event) (a : Account) (event : ℕ) → (after e a).down ≡ Some event → (a.down ≡ Some event) ⊎ (e ≡ Down event)
+down-cases (Down k) a event h = inr (ap Down (same_Some k event h))
+down-cases Up a event h = absurd cc
+down-cases Send a event h = inl (go a.hand h)
+  where
+    go : (o : Option ℕ) → (sent_from_hand o a).down ≡ Some event → a.down ≡ Some event
+    go None h = h
+    go (Some m) h = h
+down-cases (Join m band) a event h = inl h
+down-cases (Full m seen) a event h = inl h
+down-cases (Refuse m k) a event h = inl h
+down-cases (Empty band) a event h = inl h
+down-cases (Take b) a event h = inl h
+down-cases Pick a event h = inl h
+down-cases (Direct m) a event h = inl h
+down-cases Back a event h = inl h
+down-cases (Stop queue value) a event h = inl h
+down-cases (Wake queue) a event h = inl h
+down-cases (Resize len k) a event h = inl h
+down-cases (Purge cause) a event h = inl h
+down-cases (Swap unit) a event h = inl h
+
+pub len-cases : (e : Event) (a : Account) → ((after e a).len ≡ a.len) ⊎ ((len : ℕ) × (event : ℕ) × (e ≡ Resize len event))
+len-cases (Resize len event) a = inr (len, event, refl)
+len-cases Send a = inl (go a.hand)
+  where
+    go : (o : Option ℕ) → (sent_from_hand o a).len ≡ a.len
+    go None = refl
+    go (Some m) = refl
+len-cases (Join m band) a = inl refl
+len-cases (Full m seen) a = inl refl
+len-cases (Refuse m event) a = inl refl
+len-cases (Empty band) a = inl refl
+len-cases (Take b) a = inl refl
+len-cases Pick a = inl refl
+len-cases (Direct m) a = inl refl
+len-cases Back a = inl refl
+len-cases (Stop queue value) a = inl refl
+len-cases (Wake queue) a = inl refl
+len-cases (Down event) a = inl refl
+len-cases (Purge cause) a = inl refl
+len-cases (Swap unit) a = inl refl
+len-cases Up a = inl refl
