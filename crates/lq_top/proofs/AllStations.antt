@@ -1,16 +1,21 @@
 -- All stations of a run, when one of them moves.
-use Rattle.std.proofs.Common.{◌≡◌, ◌≢◌, ◌⊎◌, inl, inr, ℕ, zero, suc, ◌+◌, ◌<◌, ◌≤◌, Bool, true, false, List, [], ◌∷◌, length, refl, ap, arith, Option, Some, None, sym, ◌∙◌, subst}
-use Rattle.std.specs.Prelude.{slice_get, option_map, if◌then◌else◌, ◌==◌, nat_lt}
+use Rattle.std.proofs.Common.{◌≡◌, ◌≢◌, ◌⊎◌, inl, inr, ℕ, zero, suc, ◌+◌, ◌<◌, ◌≤◌, Bool, true, false, List, [], ◌∷◌, length, refl, ap, arith, Option, Some, None, sym, ◌∙◌, subst, map}
+use Rattle.std.specs.Prelude.{slice_get, option_map, if◌then◌else◌, ◌==◌, ◌%◌, nat_lt}
+use Rattle.std.proofs.lemmas.Option.{slice_get_within, slice_get-map}
+use Rattle.lq_account.proofs.Offers.{served_idle}
+use Rattle.lq_account.proofs.Turns.{served_left, left_stopped}
 use Rattle.lq_model.specs.Account.{Account, with_at}
-use Rattle.lq_model.specs.Alone.{Running, bypass_of, brought_in, served}
+use Rattle.lq_model.specs.Alone.{Running, bypass_of, brought_in, changed_at, finished, opened, served, with_turn, with_wakes, with_packet, with_events, events_before}
 use Rattle.lq_model.specs.Device.{DeviceState, Telling}
 use Rattle.lq_model.specs.Plan.{Plan, station_in}
 use Rattle.lq_model.specs.declared.fate.Fate.{Fate}
 use Rattle.lq_model.specs.declared.fate.Info.{Info}
-use Rattle.lq_top.proofs.StationLemmas.{station_beside}
+use Rattle.lq_top.proofs.StationLemmas.{changed_there, finished_aside, station_aside, station_beside}
 use Rattle.lq_top.specs.Fates.{AllTell}
-use Rattle.lq_top.specs.Queue.{QueueState, Setting, Goes, Moves, Does, StandsFor, SameElsewhere, HasFates, Matches, device_of, running, transmitted, woken}
-use Rattle.lq_top.specs.Stations.{AllStand, FirstFinished, StationStands, StationFinished, IsRunningAt, setting_at, still_to_come, with_change, packet_step, with_first_changed}
+use Rattle.lq_top.specs.Queue.{QueueState, Setting, Goes, Moves, Does, StandsFor, SameElsewhere, HasFates, Finishes, Matches, device_of, running, stop_number, transmitted, woken}
+use Rattle.lq_top.specs.Stations.{AllAt, AllStand, FirstFinished, AllFinished, IsFinishedBelow, StationStands, StationFinished, IsRunningAt, setting_at, still_to_come, with_change, packet_step, turn_step, with_first_changed}
+use Rattle.lq_top.specs.declared.queue.stop_value.StopValue.{StopValue}
+use Rattle.lq_top.specs.declared.queue.stop_value.StopValue.TheVariants as stop
 
 some-is : {X : Type 0} (a b : X) → Some a ≡ Some b → a ≡ b
 some-is a b e = cc
@@ -24,17 +29,7 @@ same-or-not (suc k) (suc i) = elim (same-or-not k i) [
   | inr other ↦ inr (λ e. other (omega arith))
 ]
 
-at-same : {X : Type 0} (i : ℕ) (x : X) (f : ℕ → X) → with_at i x f i ≡ x
-at-same i x f = grind arith
-
-at-other : {X : Type 0} (i k : ℕ) (x : X) (f : ℕ → X) → k ≢ i → with_at i x f k ≡ f k
-at-other i k x f other = grind arith
-
-changed-same : (i : ℕ) (step : Running → Running) (run_at : ℕ → Option Running) (run : Running) → run_at i ≡ Some run → with_change i step run_at i ≡ Some (step run)
-changed-same i step run_at run there = grind arith
-
-changed-other : (i k : ℕ) (step : Running → Running) (run_at : ℕ → Option Running) → k ≢ i → with_change i step run_at k ≡ run_at k
-changed-other i k step run_at other = grind arith
+-- ONE MOVES
 
 -- one queue of the list is another, and the others are as they were
 pub record OneChanged (i : ℕ) (old new : QueueState) (queues queues' : List QueueState) : Type 0 where
@@ -43,19 +38,68 @@ pub record OneChanged (i : ℕ) (old new : QueueState) (queues queues' : List Qu
   pub others : (k : ℕ) → k ≢ i → slice_get queues' k ≡ slice_get queues k
   pub same_length : length queues' ≡ length queues
 
+at-same : (i : ℕ) (x : Account) (f : ℕ → Account) → with_at i x f i ≡ x
+at-same i x f = grind arith
+
+at-other : (i k : ℕ) (x : Account) (f : ℕ → Account) → k ≢ i → with_at i x f k ≡ f k
+at-other i k x f other = grind arith
+
+changed-same : (i : ℕ) (step : Running → Running) (run_at : ℕ → Option Running) → with_change i step run_at i ≡ option_map step (run_at i)
+changed-same i step run_at = grind arith
+
+changed-other : (i k : ℕ) (step : Running → Running) (run_at : ℕ → Option Running) → k ≢ i → with_change i step run_at k ≡ run_at k
+changed-other i k step run_at other = grind arith
+
+pub one_moved :
+    (P Q : ℕ → QueueState → Account → Type 0) (plan : Plan) (before : List DeviceState) (i : ℕ) (step : Running → Running) (old new : QueueState) (queues queues' : List QueueState)
+    (run_at : ℕ → Option Running) (all : AllAt P plan before queues run_at) (account : Account)
+    → OneChanged i old new queues queues' → Q i new account
+    → ((k : ℕ) (q : QueueState) → k ≢ i → P k q (all.accounts k) → Q k q (all.accounts k))
+    → (IsRunningAt plan i (run_at i) old (all.accounts i) → IsRunningAt plan i (option_map step (run_at i)) new account)
+    → AllAt Q plan before queues' (with_change i step run_at)
+one_moved P Q plan before i step old new queues queues' run_at all account changed own others goes_on = record {
+  accounts = with_at i account all.accounts;
+  one_each = changed.same_length ∙ all.one_each;
+  each = each;
+  tells = tells;
+}
+  where
+    is-new : (station : ℕ) (q : QueueState) → slice_get queues' station ≡ Some q → station ≡ i → new ≡ q
+    is-new station q here same = some-is new q (sym changed.behind ∙ (ap (slice_get queues') (sym same) ∙ here))
+    is-old : (station : ℕ) (q : QueueState) → slice_get queues' station ≡ Some q → station ≢ i → slice_get queues station ≡ Some q
+    is-old station q here other = sym (changed.others station other) ∙ here
+    each : (station : ℕ) (q : QueueState) → slice_get queues' station ≡ Some q → Q station q (with_at i account all.accounts station)
+    each station q here = elim (same-or-not station i) [
+      | inl same ↦ subst (λ k. Q k q (with_at i account all.accounts k)) (sym same)
+          (subst (λ a. Q i q a) (sym (at-same i account all.accounts)) (subst (λ r. Q i r account) (is-new station q here same) own))
+      | inr other ↦ subst (λ a. Q station q a) (sym (at-other i station account all.accounts other))
+          (others station q other (all.each station q (is-old station q here other)))
+    ]
+    tells : AllTell (length plan.stations) before → (station : ℕ) (q : QueueState) → slice_get queues' station ≡ Some q
+        → IsRunningAt plan station (with_change i step run_at station) q (with_at i account all.accounts station)
+    tells tell station q here = elim (same-or-not station i) [
+      | inl same ↦ subst (λ k. IsRunningAt plan k (with_change i step run_at k) q (with_at i account all.accounts k)) (sym same)
+          (subst (λ a. IsRunningAt plan i (with_change i step run_at i) q a) (sym (at-same i account all.accounts))
+          (subst (λ run. IsRunningAt plan i run q account) (sym (changed-same i step run_at))
+          (subst (λ r. IsRunningAt plan i (option_map step (run_at i)) r account) (is-new station q here same) (goes_on (all.tells tell i old changed.before)))))
+      | inr other ↦ subst (λ a. IsRunningAt plan station (with_change i step run_at station) q a) (sym (at-other i station account all.accounts other))
+          (subst (λ run. IsRunningAt plan station run q (all.accounts station)) (sym (changed-other i station step run_at other))
+          (all.tells tell station q (is-old station q here other)))
+    ]
+
 -- where the station's device tells, the run went on by this step
-running-on : (plan : Plan) (infos : List Info) (i n rest : ℕ) (step : Running → Running) (old new : QueueState) (fates fates' : List (Option Fate)) (a : Account) (run : Option Running)
-    → (moves : Moves step (setting_at plan infos i) n rest old new fates fates' a) → IsRunningAt plan i run old a
-    → IsRunningAt plan i (option_map step run) new moves.account
-running-on plan infos i n rest step old new fates fates' a run moves runs = record {
+runs-on : (plan : Plan) (i : ℕ) (step : Running → Running) (old new : QueueState) (a b : Account) (run : Option Running)
+    → ((t : Telling) → (device_of old).told ≡ Some t → Does step t old new a b) → IsRunningAt plan i run old a
+    → IsRunningAt plan i (option_map step run) new b
+runs-on plan i step old new a b run moves runs = record {
   device = does.device;
   told = does.told;
   params = runs.params ∙ ap Some (sym does.params);
   run_is = ap (option_map step) runs.run_is ∙ ap Some (sym does.does);
 }
   where
-    does : Does step runs.device old new a moves.account
-    does = moves.tells runs.device runs.told
+    does : Does step runs.device old new a b
+    does = moves runs.device runs.told
 
 -- packet n was brought to its station
 pub brought_all :
@@ -65,47 +109,90 @@ pub brought_all :
     → Goes (transmitted infos old.bypass n) (setting_at plan infos (station_in infos n)) (n + 1) (still_to_come infos (station_in infos n) (n + 1)) old new fates fates' (all.accounts (station_in infos n))
     → new.bypass ≡ old.bypass
     → AllStand plan infos before (n + 1) queues' fates' (with_change (station_in infos n) (packet_step plan infos n) run_at)
-brought_all plan infos before n info old new queues queues' fates fates' run_at there all changed goes bypass = record {
-  accounts = accounts;
-  one_each = changed.same_length ∙ all.one_each;
-  each = each;
-  tells = tells;
-}
+brought_all plan infos before n info old new queues queues' fates fates' run_at there all changed goes bypass =
+    subst (λ step. AllStand plan infos before (n + 1) queues' fates' (with_change (station_in infos n) step run_at)) (ap (λ b. transmitted infos b n) known)
+    (one_moved (λ station q a. StationStands plan infos station n q fates a) (λ station q a. StationStands plan infos station (n + 1) q fates' a)
+        plan before (station_in infos n) (transmitted infos old.bypass n) old new queues queues' run_at all goes.moves.account changed
+        (record { stands = record { underway = goes.moves.underway; served = goes.is_served }; bypass = bypass ∙ known })
+        (λ k q other stands. station_beside plan infos k n info q fates fates' (all.accounts k) there (λ e. other (sym e)) goes.moves.elsewhere stands)
+        (runs-on plan (station_in infos n) (transmitted infos old.bypass n) old new (all.accounts (station_in infos n)) goes.moves.account (run_at (station_in infos n)) goes.moves.tells))
   where
-    i : ℕ
-    i = station_in infos n
-    accounts : ℕ → Account
-    accounts = with_at (station_in infos n) goes.moves.account all.accounts
     known : old.bypass ≡ bypass_of plan (station_in infos n)
     known = (all.each (station_in infos n) old changed.before).bypass
-    each : (station : ℕ) (q : QueueState) → slice_get queues' station ≡ Some q → StationStands plan infos station (n + 1) q fates' (accounts station)
-    each station q here = elim (same-or-not station (station_in infos n)) [
-      | inl same ↦ subst (λ k. StationStands plan infos k (n + 1) q fates' (accounts k)) (sym same)
-          (subst (λ a. StationStands plan infos (station_in infos n) (n + 1) q fates' a) (sym (at-same (station_in infos n) goes.moves.account all.accounts))
-          (subst (λ r. StationStands plan infos (station_in infos n) (n + 1) r fates' goes.moves.account)
-          (some-is new q (sym changed.behind ∙ (ap (slice_get queues') (sym same) ∙ here)))
-          (record { stands = record { underway = goes.moves.underway; served = goes.is_served }; bypass = bypass ∙ known })))
-      | inr other ↦ subst (λ a. StationStands plan infos station (n + 1) q fates' a) (sym (at-other (station_in infos n) station goes.moves.account all.accounts other))
-          (station_beside plan infos station n info q fates fates' (all.accounts station) there (λ e. other (sym e)) goes.moves.elsewhere
-          (all.each station q (sym (changed.others station other) ∙ here)))
-    ]
-    tells : AllTell (length plan.stations) before → (station : ℕ) (q : QueueState) → slice_get queues' station ≡ Some q
-        → IsRunningAt plan station (with_change (station_in infos n) (packet_step plan infos n) run_at station) q (accounts station)
-    tells tell station q here = elim (same-or-not station (station_in infos n)) [
-      | inl same ↦ subst (λ k. IsRunningAt plan k (with_change (station_in infos n) (packet_step plan infos n) run_at k) q (accounts k)) (sym same) (own q (sym changed.behind ∙ (ap (slice_get queues') (sym same) ∙ here)))
-      | inr other ↦ subst (λ a. IsRunningAt plan station (with_change (station_in infos n) (packet_step plan infos n) run_at station) q a) (sym (at-other (station_in infos n) station goes.moves.account all.accounts other))
-          (subst (λ run. IsRunningAt plan station run q (all.accounts station)) (sym (changed-other (station_in infos n) station (packet_step plan infos n) run_at other))
-          (all.tells tell station q (sym (changed.others station other) ∙ here)))
-    ]
-      where
-        step-is : transmitted infos old.bypass n ≡ packet_step plan infos n
-        step-is = ap (λ b. transmitted infos b n) known
-        moved : IsRunningAt plan (station_in infos n) (option_map (transmitted infos old.bypass n) (run_at (station_in infos n))) new goes.moves.account
-        moved = running-on plan infos (station_in infos n) (n + 1) (still_to_come infos (station_in infos n) (n + 1)) (transmitted infos old.bypass n) old new fates fates' (all.accounts (station_in infos n)) (run_at (station_in infos n)) goes.moves
-            (all.tells tell (station_in infos n) old changed.before)
-        at-own : with_change (station_in infos n) (packet_step plan infos n) run_at (station_in infos n) ≡ option_map (transmitted infos old.bypass n) (run_at (station_in infos n))
-        at-own = let e = step-is in grind arith
-        own : (q : QueueState) → Some new ≡ Some q → IsRunningAt plan (station_in infos n) (with_change (station_in infos n) (packet_step plan infos n) run_at (station_in infos n)) q (accounts (station_in infos n))
-        own q is = subst (λ a. IsRunningAt plan (station_in infos n) (with_change (station_in infos n) (packet_step plan infos n) run_at (station_in infos n)) q a) (sym (at-same (station_in infos n) goes.moves.account all.accounts))
-            (subst (λ r. IsRunningAt plan (station_in infos n) (with_change (station_in infos n) (packet_step plan infos n) run_at (station_in infos n)) r goes.moves.account) (some-is new q is)
-            (subst (λ run. IsRunningAt plan (station_in infos n) run new goes.moves.account) (sym at-own) moved))
+
+-- station i was woken
+pub woken_one :
+    (plan : Plan) (infos : List Info) (before : List DeviceState) (n i : ℕ) (old new : QueueState) (queues queues' : List QueueState) (fates fates' : List (Option Fate)) (run_at : ℕ → Option Running)
+    → (all : AllStand plan infos before n queues fates run_at) → OneChanged i old new queues queues'
+    → Goes (woken infos) (setting_at plan infos i) n (still_to_come infos i n) old new fates fates' (all.accounts i)
+    → new.bypass ≡ old.bypass
+    → AllStand plan infos before n queues' fates' (with_change i (woken infos) run_at)
+woken_one plan infos before n i old new queues queues' fates fates' run_at all changed goes bypass =
+    one_moved (λ station q a. StationStands plan infos station n q fates a) (λ station q a. StationStands plan infos station n q fates' a)
+        plan before i (woken infos) old new queues queues' run_at all goes.moves.account changed
+        (record { stands = record { underway = goes.moves.underway; served = goes.is_served }; bypass = bypass ∙ (all.each i old changed.before).bypass })
+        (λ k q other stands. station_aside plan infos k n i q fates fates' (all.accounts k) (λ e. other (sym e)) goes.moves.elsewhere stands)
+        (runs-on plan i (woken infos) old new (all.accounts i) goes.moves.account (run_at i) goes.moves.tells)
+
+-- station k was finished, after those below it
+pub finished_one :
+    (plan : Plan) (infos : List Info) (before : List DeviceState) (k : ℕ) (old new : QueueState) (queues queues' : List QueueState) (fates fates' : List (Option Fate)) (run_at : ℕ → Option Running)
+    → (all : FirstFinished k plan infos before queues fates run_at) → OneChanged k old new queues queues'
+    → Finishes (setting_at plan infos k) (length infos) (still_to_come infos k (length infos)) old new fates fates' (all.accounts k)
+    → FirstFinished (k + 1) plan infos before queues' fates' (with_change k (finished infos) run_at)
+finished_one plan infos before k old new queues queues' fates fates' run_at all changed ends =
+    one_moved (λ station q a. IsFinishedBelow k plan infos station q fates a) (λ station q a. IsFinishedBelow (k + 1) plan infos station q fates' a)
+        plan before k (finished infos) old new queues queues' run_at all ends.account changed
+        (record {
+          below = λ less. record { matches = ends.matches; at = ends.at; nothing_held = ends.nothing_held; purged = λ n why is. (ends.purged n why is).0 };
+          from_there = λ more. absurd (omega arith);
+        })
+        (λ j q other is. record {
+          below = λ less. finished_aside plan infos j k q fates fates' (all.accounts j) (λ e. other (sym e)) ends.elsewhere (is.below (omega arith));
+          from_there = λ more. station_aside plan infos j (length infos) k q fates fates' (all.accounts j) (λ e. other (sym e)) ends.elsewhere (is.from_there (omega arith));
+        })
+        (runs-on plan k (finished infos) old new (all.accounts k) ends.account (run_at k) ends.tells)
+
+-- THE RUN'S STATIONS
+
+-- runs that are the same at each station serve as well
+pub same_runs :
+    (P : ℕ → QueueState → Account → Type 0) (plan : Plan) (before : List DeviceState) (queues : List QueueState) (run_at run_at' : ℕ → Option Running)
+    → ((station : ℕ) → station < length queues → run_at station ≡ run_at' station) → AllAt P plan before queues run_at → AllAt P plan before queues run_at'
+same_runs P plan before queues run_at run_at' same all = record {
+  accounts = all.accounts;
+  one_each = all.one_each;
+  each = all.each;
+  tells = λ tell station q here. subst (λ run. IsRunningAt plan station run q (all.accounts station)) (same station (slice_get_within queues station q here)) (all.tells tell station q here);
+}
+
+pub none_changed : (step : Running → Running) (run_at : ℕ → Option Running) (station : ℕ) → run_at station ≡ with_first_changed 0 step run_at station
+none_changed step run_at station = grind arith
+
+pub one_more_changed : (step : Running → Running) (run_at : ℕ → Option Running) (k station : ℕ)
+    → with_change k step (with_first_changed k step run_at) station ≡ with_first_changed (k + 1) step run_at station
+one_more_changed step run_at k station = elim (same-or-not station k) [
+  | inl same ↦ grind arith
+  | inr other ↦ grind arith
+]
+
+pub all_changed : (step : Running → Running) (run_at : ℕ → Option Running) (k station : ℕ) → station < k → with_first_changed k step run_at station ≡ option_map step (run_at station)
+all_changed step run_at k station below = grind arith
+
+-- A QUEUE THAT IS SERVED ALREADY
+
+stop-cases : (value : StopValue) → (value ≡ stop.Open) ⊎ (stop_number value ≢ 0)
+stop-cases stop.Open = inl refl
+stop-cases stop.Stopped = inr (λ e. omega arith)
+stop-cases stop.Hung = inr (λ e. omega arith)
+
+pub served_stands : (s : Setting) (n rest : ℕ) (q : QueueState) (fates : List (Option Fate)) (a : Account) (t : Telling) → StandsFor s n rest q fates a
+    → served s.infos (running a q t) ≡ running a q t
+served_stands s n rest q fates a t stands = elim (stop-cases q.stop) [
+  | inl open_now ↦ served_idle s.infos (running a q t) matches.active (matches.stops ∙ ap (λ v. stop_number v ∷ []) open_now)
+      (stands.served.clean_is_empty (stands.served.open_is_clean open_now)) (stands.served.open_is_clean open_now)
+  | inr closed ↦ served_left s.infos (running a q t) (left_stopped a (stop_number q.stop) matches.stops closed)
+]
+  where
+    matches : Matches s.infos s.station rest None q fates a
+    matches = stands.underway.matches

@@ -12,7 +12,7 @@ use Rattle.lq_model.specs.Plan.{Plan, station_in}
 use Rattle.lq_model.specs.declared.fate.Fate.{Fate}
 use Rattle.lq_model.specs.declared.fate.Info.{Info}
 use Rattle.lq_top.specs.Queue.{QueueState, Setting, Matches, HasFates, SameElsewhere, StandsFor, IsUnderway}
-use Rattle.lq_top.specs.Stations.{still_to_come, setting_at, StationStands}
+use Rattle.lq_top.specs.Stations.{still_to_come, setting_at, StationStands, StationFinished}
 
 -- PACKETS THAT ARE STILL TO COME
 
@@ -43,13 +43,31 @@ as_many infos station n info there other = let is = station_is infos n info ther
 
 -- THE OTHER STATIONS
 
-fates-beside : (infos : List Info) (station n : ℕ) (fates fates' : List (Option Fate)) (a : Account) → station_in infos n ≢ station
-    → SameElsewhere infos (station_in infos n) fates fates' → HasFates infos station fates a → HasFates infos station fates' a
-fates-beside infos station n fates fates' a other same has = record {
+fates-beside : (infos : List Info) (station i : ℕ) (fates fates' : List (Option Fate)) (a : Account) → i ≢ station
+    → SameElsewhere infos i fates fates' → HasFates infos station fates a → HasFates infos station fates' a
+fates-beside infos station i fates fates' a other same has = record {
   one_each = same.same_length ∙ has.one_each;
   each = λ m within of. same.others m (λ equal. other (sym equal ∙ of)) ∙ has.each m within of;
 }
 
+-- the same with other fates and a later packet
+matches-beside : (infos : List Info) (station rest i : ℕ) (q : QueueState) (fates fates' : List (Option Fate)) (a : Account)
+    → i ≢ station → SameElsewhere infos i fates fates' → Matches infos station rest None q fates a → Matches infos station rest None q fates' a
+matches-beside infos station rest i q fates fates' a other same m = record {
+  bands = m.bands;
+  slot = m.slot;
+  hand_is = m.hand_is;
+  sent = m.sent;
+  stops = m.stops;
+  active = m.active;
+  fates_are = fates-beside infos station i fates fates' a other same m.fates_are;
+  packets = m.packets;
+  hung = m.hung;
+  room = m.room;
+  rule = m.rule;
+}
+
+-- packet n went to another station
 pub station_beside :
     (plan : Plan) (infos : List Info) (station n : ℕ) (info : Info) (q : QueueState) (fates fates' : List (Option Fate)) (a : Account)
     → slice_get infos n ≡ Some info → station_in infos n ≢ station → SameElsewhere infos (station_in infos n) fates fates'
@@ -58,9 +76,10 @@ station_beside plan infos station n info q fates fates' a there other same stand
   stands = record {
     underway = record {
       matches = subst (λ rest. Matches infos station rest None q fates' a) (as_many infos station n info there other)
-          (record old.matches { fates_are = fates-beside infos station n fates fates' a other same old.matches.fates_are });
+          (matches-beside infos station (still_to_come infos station n) (station_in infos n) q fates fates' a other same old.matches);
       at = at_other other old.at;
       one_queue = old.one_queue;
+      none_purged = old.none_purged;
     };
     served = stands.stands.served;
   };
@@ -70,15 +89,47 @@ station_beside plan infos station n info q fates fates' a there other same stand
     old : IsUnderway (setting_at plan infos station) n (still_to_come infos station n) q fates a
     old = stands.stands.underway
 
+-- another station moved
+pub station_aside :
+    (plan : Plan) (infos : List Info) (station n i : ℕ) (q : QueueState) (fates fates' : List (Option Fate)) (a : Account)
+    → i ≢ station → SameElsewhere infos i fates fates'
+    → StationStands plan infos station n q fates a → StationStands plan infos station n q fates' a
+station_aside plan infos station n i q fates fates' a other same stands = record {
+  stands = record {
+    underway = record {
+      matches = matches-beside infos station (still_to_come infos station n) i q fates fates' a other same old.matches;
+      at = old.at;
+      one_queue = old.one_queue;
+      none_purged = old.none_purged;
+    };
+    served = stands.stands.served;
+  };
+  bypass = stands.bypass;
+}
+  where
+    old : IsUnderway (setting_at plan infos station) n (still_to_come infos station n) q fates a
+    old = stands.stands.underway
+
+pub finished_aside :
+    (plan : Plan) (infos : List Info) (station i : ℕ) (q : QueueState) (fates fates' : List (Option Fate)) (a : Account)
+    → i ≢ station → SameElsewhere infos i fates fates'
+    → StationFinished plan infos station q fates a → StationFinished plan infos station q fates' a
+finished_aside plan infos station i q fates fates' a other same finished = record {
+  matches = matches-beside infos station (still_to_come infos station (length infos)) i q fates fates' a other same finished.matches;
+  at = finished.at;
+  nothing_held = finished.nothing_held;
+  purged = finished.purged;
+}
+
 -- THE SAME STATION IN A LIST OF STATIONS
 
 pub changed_there : {X : Type 0} (i : ℕ) (f : X → X) (xs : List X) (j : ℕ)
     → slice_get (changed_at i f xs) j ≡ (if j == i then option_map f (slice_get xs j) else slice_get xs j)
 changed_there i f [] j = grind arith
 changed_there zero f (x ∷ xs) zero = refl
-changed_there zero f (x ∷ xs) (suc j) = refl
-changed_there (suc i) f (x ∷ xs) zero = refl
-changed_there (suc i) f (x ∷ xs) (suc j) = changed_there i f xs j
+changed_there zero f (x ∷ xs) (suc j) = grind arith
+changed_there (suc i) f (x ∷ xs) zero = grind arith
+changed_there (suc i) f (x ∷ xs) (suc j) = let rest = changed_there i f xs j in grind arith
 
 -- A PLAN WITHOUT EVENTS
 
