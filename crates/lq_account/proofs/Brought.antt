@@ -1,7 +1,7 @@
 -- Only packets that were brought have a place or a fate, and they are packets of the station.
 use Rattle.std.proofs.Common.{◌≡◌, ℕ, ◌<◌, List, [], ◌∷◌, ◌⊎◌, inl, inr, length, Contains, Option, Some, None, refl, sym, subst, arith}
 use Rattle.std.proofs.lemmas.Option.{same_Some}
-use Rattle.lq_model.specs.Account.{Account, Event, Join, Full, Refuse, Empty, Take, Pick, Direct, Send, Back, Stop, Wake, Resize, Down, Purge, Swap, Up, held, held_in, new_account, after, after_all}
+use Rattle.lq_model.specs.Account.{Account, Event, Join, Full, Refuse, Direct, held, held_in, new_account, after, after_all}
 use Rattle.lq_model.specs.Legal.{brought, brought_by, IsNew, MayCome, IsInTurn, IsLegal}
 use Rattle.lq_model.specs.Plan.{Plan, owner_in, station_in}
 use Rattle.lq_model.specs.declared.fate.Fate.{Fate}
@@ -38,18 +38,7 @@ new-packet infos station past a (Join m band) n may now = subst (IsNew infos sta
 new-packet infos station past a (Full m seen) n may now = subst (IsNew infos station a) (same_Some m n now) may.new
 new-packet infos station past a (Refuse m event) n may now = subst (IsNew infos station a) (same_Some m n now) may.0
 new-packet infos station past a (Direct m) n may now = subst (IsNew infos station a) (same_Some m n now) may.new
-new-packet infos station past a (Empty band) n may now = absurd cc
-new-packet infos station past a (Take band) n may now = absurd cc
-new-packet infos station past a Pick n may now = absurd cc
-new-packet infos station past a Send n may now = absurd cc
-new-packet infos station past a Back n may now = absurd cc
-new-packet infos station past a (Stop queue value) n may now = absurd cc
-new-packet infos station past a (Wake queue) n may now = absurd cc
-new-packet infos station past a (Resize len event) n may now = absurd cc
-new-packet infos station past a (Down event) n may now = absurd cc
-new-packet infos station past a (Purge cause) n may now = absurd cc
-new-packet infos station past a (Swap unit) n may now = absurd cc
-new-packet infos station past a Up n may now = absurd cc
+new-packet infos station past a e n may now = absurd cc
 
 -- THE SENTENCE
 

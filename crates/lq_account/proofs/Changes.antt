@@ -5,7 +5,7 @@ use Rattle.std.proofs.lemmas.Option.{same_Some}
 use Rattle.std.proofs.lemmas.List.{drop-drop, drop_all}
 use Rattle.std.proofs.lemmas.List.Elements.{Contains-append_left, Contains-append_right, Contains-append_cases, Contains-push_cases}
 use Rattle.lq_model.specs.Band.{Band, held_of, taken_by, joined}
-use Rattle.lq_model.specs.Account.{Account, Event, Join, Full, Refuse, Empty, Take, Pick, Direct, Send, Back, Stop, Wake, Resize, Down, Purge, Swap, Up, held, held_in, dropped_in, sent_from_hand, with_at, after}
+use Rattle.lq_model.specs.Account.{Account, Event, Join, Full, Refuse, Take, Pick, Direct, Send, Back, Resize, Down, Purge, Swap, Up, held, held_in, dropped_in, sent_from_hand, with_at, after}
 use Rattle.lq_model.specs.declared.fate.Cause.{Cause}
 use Rattle.lq_model.specs.declared.fate.Fate.{Fate}
 use Rattle.lq_model.specs.declared.fate.Fate.TheVariants as fate
@@ -99,18 +99,7 @@ line-cases Send a b n = go a.hand
     go None h = inl h
     go (Some m) h = inl h
 line-cases (Resize len event) a b n = λ h. inl (drop-in (a.bands b).taken (a.bands b).line n (take-in len (held_in a b) n h))
-line-cases (Full m seen) a b n = inl
-line-cases (Refuse m event) a b n = inl
-line-cases (Empty band) a b n = inl
-line-cases Pick a b n = inl
-line-cases (Direct m) a b n = inl
-line-cases Back a b n = inl
-line-cases (Stop queue value) a b n = inl
-line-cases (Wake queue) a b n = inl
-line-cases (Down event) a b n = inl
-line-cases (Purge cause) a b n = inl
-line-cases (Swap unit) a b n = inl
-line-cases Up a b n = inl
+line-cases e a b n = inl
 
 -- what a band holds behind an event it held before, unless it joined
 pub holds-cases : (e : Event) (a : Account) (b n : ℕ) → Contains (held_in (after e a) b) n → Contains (held_in a b) n ⊎ Joins e b n
@@ -133,17 +122,7 @@ holds-cases Send a b n = go a.hand
     go (Some m) h = inl h
 holds-cases (Resize len event) a b n = λ h. inl (take-in len (held_in a b) n h)
 holds-cases (Purge cause) a b n = λ h. absurd (none-in _ n (drop_all (length (a.bands b).line) (a.bands b).line (omega arith)) h)
-holds-cases (Full m seen) a b n = inl
-holds-cases (Refuse m event) a b n = inl
-holds-cases (Empty band) a b n = inl
-holds-cases Pick a b n = inl
-holds-cases (Direct m) a b n = inl
-holds-cases Back a b n = inl
-holds-cases (Stop queue value) a b n = inl
-holds-cases (Wake queue) a b n = inl
-holds-cases (Down event) a b n = inl
-holds-cases (Swap unit) a b n = inl
-holds-cases Up a b n = inl
+holds-cases e a b n = inl
 
 -- HAND AND SLOT
 
@@ -157,17 +136,7 @@ hand-cases Send a n = go a.hand refl
     go None e h = inl h
     go (Some m) e h = absurd cc
 hand-cases Back a n = λ h. absurd cc
-hand-cases (Join m band) a n = inl
-hand-cases (Full m seen) a n = inl
-hand-cases (Refuse m event) a n = inl
-hand-cases (Empty band) a n = inl
-hand-cases (Stop queue value) a n = inl
-hand-cases (Wake queue) a n = inl
-hand-cases (Resize len event) a n = inl
-hand-cases (Down event) a n = inl
-hand-cases (Purge cause) a n = inl
-hand-cases (Swap unit) a n = inl
-hand-cases Up a n = inl
+hand-cases e a n = inl
 
 pub slot-cases : (e : Event) (a : Account) (n : ℕ) → (after e a).slot ≡ Some n → (a.slot ≡ Some n) ⊎ ComesToSlot a e n
 slot-cases Back a n = λ h. inr (laid_back n h)
@@ -178,18 +147,7 @@ slot-cases Send a n = go a.hand
     go : (o : Option ℕ) → (sent_from_hand o a).slot ≡ Some n → (a.slot ≡ Some n) ⊎ ComesToSlot a Send n
     go None h = inl h
     go (Some m) h = inl h
-slot-cases (Join m band) a n = inl
-slot-cases (Full m seen) a n = inl
-slot-cases (Refuse m event) a n = inl
-slot-cases (Empty band) a n = inl
-slot-cases (Take b) a n = inl
-slot-cases (Direct m) a n = inl
-slot-cases (Stop queue value) a n = inl
-slot-cases (Wake queue) a n = inl
-slot-cases (Resize len event) a n = inl
-slot-cases (Down event) a n = inl
-slot-cases (Swap unit) a n = inl
-slot-cases Up a n = inl
+slot-cases e a n = inl
 
 -- FATES AND SENT LISTS
 
@@ -220,17 +178,7 @@ fate-cases (Resize len event) a n f =
 fate-cases (Purge cause) a n f =
     fates-cases (λ (o : Option Fate). o ≡ Some f → (a.fates n ≡ Some f) ⊎ Gives a (Purge cause) n f) (held a) n (fate.Purged cause) a.fates
     (λ h e. inr (subst (λ w. Gives a (Purge cause) n w) (same_Some _ _ e) (gives_purged cause n h))) (λ out e. inl e)
-fate-cases (Join m band) a n f = inl
-fate-cases (Empty band) a n f = inl
-fate-cases (Take b) a n f = inl
-fate-cases Pick a n f = inl
-fate-cases (Direct m) a n f = inl
-fate-cases Back a n f = inl
-fate-cases (Stop queue value) a n f = inl
-fate-cases (Wake queue) a n f = inl
-fate-cases (Down event) a n f = inl
-fate-cases (Swap unit) a n f = inl
-fate-cases Up a n f = inl
+fate-cases e a n f = inl
 
 -- a fate that is settled goes to the end of what the unit sent
 pub sent-cases : (e : Event) (a : Account) (u s n : ℕ) → slice_get ((after e a).sent u) s ≡ Some n → (slice_get (a.sent u) s ≡ Some n) ⊎ Sends a e u s n
@@ -245,21 +193,7 @@ sent-cases Send a u s n = go a.hand refl
           | inr new ↦ inr (sends n u s (e ∙ ap Some new.1) same new.0)
         ])
         (λ other h. inl h)
-sent-cases (Join m band) a u s n = inl
-sent-cases (Full m seen) a u s n = inl
-sent-cases (Refuse m event) a u s n = inl
-sent-cases (Empty band) a u s n = inl
-sent-cases (Take b) a u s n = inl
-sent-cases Pick a u s n = inl
-sent-cases (Direct m) a u s n = inl
-sent-cases Back a u s n = inl
-sent-cases (Stop queue value) a u s n = inl
-sent-cases (Wake queue) a u s n = inl
-sent-cases (Resize len event) a u s n = inl
-sent-cases (Down event) a u s n = inl
-sent-cases (Purge cause) a u s n = inl
-sent-cases (Swap unit) a u s n = inl
-sent-cases Up a u s n = inl
+sent-cases e a u s n = inl
 
 pub sent-stays : (e : Event) (a : Account) (u s n : ℕ) → slice_get (a.sent u) s ≡ Some n → slice_get ((after e a).sent u) s ≡ Some n
 sent-stays Send a u s n was = go a.hand
@@ -269,21 +203,7 @@ sent-stays Send a u s n was = go a.hand
     go (Some m) =
         at-cases (λ (xs : List ℕ). slice_get xs s ≡ Some n) a.unit u (a.sent a.unit ++ m ∷ []) a.sent
         (λ same. get-push-old (a.sent a.unit) (m ∷ []) n s (ap (λ k. slice_get (a.sent k) s) (sym same) ∙ was)) (λ other. was)
-sent-stays (Join m band) a u s n was = was
-sent-stays (Full m seen) a u s n was = was
-sent-stays (Refuse m event) a u s n was = was
-sent-stays (Empty band) a u s n was = was
-sent-stays (Take b) a u s n was = was
-sent-stays Pick a u s n was = was
-sent-stays (Direct m) a u s n was = was
-sent-stays Back a u s n was = was
-sent-stays (Stop queue value) a u s n was = was
-sent-stays (Wake queue) a u s n was = was
-sent-stays (Resize len event) a u s n was = was
-sent-stays (Down event) a u s n was = was
-sent-stays (Purge cause) a u s n was = was
-sent-stays (Swap unit) a u s n was = was
-sent-stays Up a u s n was = was
+sent-stays e a u s n was = was
 
 -- the packet that is sent
 pub sent-is : (a : Account) (n : ℕ) → a.hand ≡ Some n
@@ -302,20 +222,7 @@ unit-cases Send a = inl (go a.hand)
     go : (o : Option ℕ) → (sent_from_hand o a).unit ≡ a.unit
     go None = refl
     go (Some m) = refl
-unit-cases (Join m band) a = inl refl
-unit-cases (Full m seen) a = inl refl
-unit-cases (Refuse m event) a = inl refl
-unit-cases (Empty band) a = inl refl
-unit-cases (Take b) a = inl refl
-unit-cases Pick a = inl refl
-unit-cases (Direct m) a = inl refl
-unit-cases Back a = inl refl
-unit-cases (Stop queue value) a = inl refl
-unit-cases (Wake queue) a = inl refl
-unit-cases (Resize len event) a = inl refl
-unit-cases (Down event) a = inl refl
-unit-cases (Purge cause) a = inl refl
-unit-cases Up a = inl refl
+unit-cases e a = inl refl
 
 pub down-cases : (e : Event) (a : Account) (event : ℕ) → (after e a).down ≡ Some event → (a.down ≡ Some event) ⊎ (e ≡ Down event)
 down-cases (Down k) a event h = inr (ap Down (same_Some k event h))
@@ -325,19 +232,7 @@ down-cases Send a event h = inl (go a.hand h)
     go : (o : Option ℕ) → (sent_from_hand o a).down ≡ Some event → a.down ≡ Some event
     go None h = h
     go (Some m) h = h
-down-cases (Join m band) a event h = inl h
-down-cases (Full m seen) a event h = inl h
-down-cases (Refuse m k) a event h = inl h
-down-cases (Empty band) a event h = inl h
-down-cases (Take b) a event h = inl h
-down-cases Pick a event h = inl h
-down-cases (Direct m) a event h = inl h
-down-cases Back a event h = inl h
-down-cases (Stop queue value) a event h = inl h
-down-cases (Wake queue) a event h = inl h
-down-cases (Resize len k) a event h = inl h
-down-cases (Purge cause) a event h = inl h
-down-cases (Swap unit) a event h = inl h
+down-cases e a event h = inl h
 
 pub len-cases : (e : Event) (a : Account) → ((after e a).len ≡ a.len) ⊎ ((len : ℕ) × (event : ℕ) × (e ≡ Resize len event))
 len-cases (Resize len event) a = inr (len, event, refl)
@@ -346,17 +241,4 @@ len-cases Send a = inl (go a.hand)
     go : (o : Option ℕ) → (sent_from_hand o a).len ≡ a.len
     go None = refl
     go (Some m) = refl
-len-cases (Join m band) a = inl refl
-len-cases (Full m seen) a = inl refl
-len-cases (Refuse m event) a = inl refl
-len-cases (Empty band) a = inl refl
-len-cases (Take b) a = inl refl
-len-cases Pick a = inl refl
-len-cases (Direct m) a = inl refl
-len-cases Back a = inl refl
-len-cases (Stop queue value) a = inl refl
-len-cases (Wake queue) a = inl refl
-len-cases (Down event) a = inl refl
-len-cases (Purge cause) a = inl refl
-len-cases (Swap unit) a = inl refl
-len-cases Up a = inl refl
+len-cases e a = inl refl

@@ -60,6 +60,13 @@ sound plan infos station [] inside legal = record {
 sound plan infos station (e ∷ past) inside legal =
     sound-step plan infos station past (after_all (start_of plan station) past) e inside (sound plan infos station past inside legal.0) legal.1
 
+-- what a unit sent are packets of the station, and the unit is one of the station
+pub sent_of_station : (plan : Plan) (infos : List Info) (station : ℕ) (past : List Event) (a : Account) → IsSound plan infos station past a
+    → (n unit serial : ℕ) → slice_get (a.sent unit) serial ≡ Some n → (n < length infos) × ((station_in infos n ≡ station) × IsUnitOf plan station unit)
+sent_of_station plan infos station past a h n unit serial there =
+    let packet = h.known.packets n (h.known.fates n (fate.Sent unit serial) (h.sent.has_fate n unit serial there)) in
+    (packet.0, (packet.1, (h.used.sent unit serial n there).1))
+
 module _ (plan : Plan) (infos : List Info) (fates : List Fate) (station : ℕ) (past : List Event) (a : Account) (inside : station < length plan.stations) (closed : IsClosed plan infos fates station past a) where
   whole : IsSound plan infos station past a
   whole = subst (IsSound plan infos station past) (sym closed.account) (sound plan infos station past inside closed.legal)
@@ -80,11 +87,6 @@ module _ (plan : Plan) (infos : List Info) (fates : List Fate) (station : ℕ) (
   fate-at n (fate.Purged (cause.Event event)) is = whole.caused.purged n event is
   fate-at n (fate.Purged (cause.Hung unit)) is = last-unit plan station past a whole.used whole.caused closed.events closed.no_swap_behind_hang n unit is
   fate-at n (fate.Refused event) is = whole.caused.refused n event is
-
-  of-station : (n unit serial : ℕ) → slice_get (a.sent unit) serial ≡ Some n → (n < length infos) × ((station_in infos n ≡ station) × IsUnitOf plan station unit)
-  of-station n unit serial there =
-      let packet = whole.known.packets n (whole.known.fates n (fate.Sent unit serial) (whole.sent.has_fate n unit serial there)) in
-      (packet.0, (packet.1, (whole.used.sent unit serial n there).1))
 
   places : (u s v t : ℕ) → IsEarlier u s v t ⊎ (((u ≡ v) × (s ≡ t)) ⊎ IsEarlier v t u s)
   places u s v t = elim (cases_order u v) [
@@ -113,7 +115,7 @@ module _ (plan : Plan) (infos : List Info) (fates : List Fate) (station : ℕ) (
       λ there. whole.sent.stands n unit serial (same-fate n (fate.Sent unit serial) below at there),
       λ there. listed-fate n (fate.Sent unit serial) below at (whole.sent.has_fate n unit serial there),
     );
-    of_station = of-station;
+    of_station = sent_of_station plan infos station past a whole;
     in_order = λ m n u v s t below within at_m at_n owner band first second.
         in-order m n u v s t below owner band
         (whole.sent.stands m u s (same-fate m (fate.Sent u s) (omega arith) at_m first))

@@ -4,7 +4,7 @@ use Rattle.std.proofs.lemmas.List.{drop-drop}
 use Rattle.std.proofs.lemmas.List.Elements.{Contains-get_or}
 use Rattle.std.proofs.lemmas.List.Quantifiers.{all_pairs_push}
 use Rattle.lq_model.specs.Band.{Band, held_of, taken_by, joined}
-use Rattle.lq_model.specs.Account.{Account, Event, Join, Full, Refuse, Empty, Take, Pick, Direct, Send, Back, Stop, Wake, Resize, Down, Purge, Swap, Up, held_in, sent_from_hand, new_account, after}
+use Rattle.lq_model.specs.Account.{Account, Event, Join, Take, Pick, Direct, Send, Back, Resize, Purge, held_in, sent_from_hand, new_account, after}
 use Rattle.lq_model.specs.Legal.{brought, brought_by, MayCome, IsInTurn}
 use Rattle.lq_model.specs.Plan.{owner_in, band_in}
 use Rattle.lq_model.specs.declared.fate.Info.{Info}
@@ -63,18 +63,7 @@ module _ (infos : List Info) (station : ℕ) (past : List Event) (a : Account) (
       go None = h.lines b
       go (Some m) = h.lines b
   lines-step (Resize len event) turn b = pairs-take (Precedes infos) len (held_in a b) (held-pairs b)
-  lines-step (Full m seen) turn b = h.lines b
-  lines-step (Refuse m event) turn b = h.lines b
-  lines-step (Empty band) turn b = h.lines b
-  lines-step Pick turn b = h.lines b
-  lines-step (Direct m) turn b = h.lines b
-  lines-step Back turn b = h.lines b
-  lines-step (Stop queue value) turn b = h.lines b
-  lines-step (Wake queue) turn b = h.lines b
-  lines-step (Down event) turn b = h.lines b
-  lines-step (Purge cause) turn b = h.lines b
-  lines-step (Swap unit) turn b = h.lines b
-  lines-step Up turn b = h.lines b
+  lines-step e turn b = h.lines b
 
   one-step : (e : Event) → MayCome infos station past a e → (m n : ℕ) → (after e a).hand ≡ Some m → (after e a).slot ≡ Some n → ⊥
   one-step (Take band) may m n hand slot = let empty : a.slot ≡ None = may.slot_empty in cc
@@ -87,16 +76,7 @@ module _ (infos : List Info) (station : ℕ) (past : List Event) (a : Account) (
       go (Some k) e hand slot = cc
   one-step Back may m n hand slot = cc
   one-step (Purge cause) may m n hand slot = cc
-  one-step (Join k band) may m n hand slot = h.one m n hand slot
-  one-step (Full k seen) may m n hand slot = h.one m n hand slot
-  one-step (Refuse k event) may m n hand slot = h.one m n hand slot
-  one-step (Empty band) may m n hand slot = h.one m n hand slot
-  one-step (Stop queue value) may m n hand slot = h.one m n hand slot
-  one-step (Wake queue) may m n hand slot = h.one m n hand slot
-  one-step (Resize len event) may m n hand slot = h.one m n hand slot
-  one-step (Down event) may m n hand slot = h.one m n hand slot
-  one-step (Swap unit) may m n hand slot = h.one m n hand slot
-  one-step Up may m n hand slot = h.one m n hand slot
+  one-step e may m n hand slot = h.one m n hand slot
 
   -- what was brought before a packet that joins
   before-join : (e : Event) → IsInTurn infos past (brought e) → (n b m : ℕ) → Contains (brought_by past) n → Joins e b m → Precedes infos n m

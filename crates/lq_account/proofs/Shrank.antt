@@ -4,7 +4,7 @@ use Rattle.std.specs.Prelude.{◌==◌}
 use Rattle.std.proofs.lemmas.Option.{same_Some}
 use Rattle.std.proofs.lemmas.List.{length_push}
 use Rattle.lq_model.specs.Band.{Band, held_of, joined, taken_by}
-use Rattle.lq_model.specs.Account.{Account, Event, Join, Full, Refuse, Empty, Take, Pick, Direct, Send, Back, Stop, Wake, Resize, Down, Purge, Swap, Up, held, held_in, dropped_in, sent_from_hand, new_account, after}
+use Rattle.lq_model.specs.Account.{Account, Event, Join, Take, Send, Resize, Purge, held, held_in, dropped_in, sent_from_hand, new_account, after}
 use Rattle.lq_model.specs.Legal.{resizing, MayCome, IsPlanned, IsEventAt}
 use Rattle.lq_model.specs.Plan.{Plan}
 use Rattle.lq_model.specs.Settled.{is_at, length_behind, length_after, LengthBefore, IsShrinking}
@@ -99,21 +99,7 @@ pub record AreShrunk (plan : Plan) (station : ℕ) (past : List Event) (a : Acco
 
 is-resize : (e : Event) (k : ℕ) → resizing e ≡ Some k → (len : ℕ) × (e ≡ Resize len k)
 is-resize (Resize len event) k h = (len, ap (Resize len) (same_Some event k h))
-is-resize (Join m band) k h = absurd cc
-is-resize (Full m seen) k h = absurd cc
-is-resize (Refuse m event) k h = absurd cc
-is-resize (Empty band) k h = absurd cc
-is-resize (Take b) k h = absurd cc
-is-resize Pick k h = absurd cc
-is-resize (Direct m) k h = absurd cc
-is-resize Send k h = absurd cc
-is-resize Back k h = absurd cc
-is-resize (Stop queue value) k h = absurd cc
-is-resize (Wake queue) k h = absurd cc
-is-resize (Down event) k h = absurd cc
-is-resize (Purge cause) k h = absurd cc
-is-resize (Swap unit) k h = absurd cc
-is-resize Up k h = absurd cc
+is-resize e k h = absurd cc
 
 -- an event that sets no length keeps it
 still : (plan : Plan) (station e : ℕ) (x : EventPlan) → slice_get plan.events e ≡ Some x → x.station ≡ station → ((len : ℕ) → SetsLength plan station e len → ⊥) → KeepsLength x.kind
@@ -149,17 +135,7 @@ module _ (plan : Plan) (infos : List Info) (station : ℕ) (past : List Event) (
       go (Some m) = h.holds b
   holds-step (Resize len event) may b = omega (arith, length-take len (held_in a b))
   holds-step (Purge cause) may b = omega (arith, length-drop (length (a.bands b).line) (a.bands b).line)
-  holds-step (Full m seen) may b = h.holds b
-  holds-step (Refuse m event) may b = h.holds b
-  holds-step (Empty band) may b = h.holds b
-  holds-step Pick may b = h.holds b
-  holds-step (Direct m) may b = h.holds b
-  holds-step Back may b = h.holds b
-  holds-step (Stop queue value) may b = h.holds b
-  holds-step (Wake queue) may b = h.holds b
-  holds-step (Down event) may b = h.holds b
-  holds-step (Swap unit) may b = h.holds b
-  holds-step Up may b = h.holds b
+  holds-step e may b = h.holds b
 
   -- what a planned resize is: its event, which sets that length, and those that came before it
   sets-length : (len event : ℕ) → IsPlanned plan station past a (Resize len event) → (x : EventPlan) × (slice_get plan.events event ≡ Some x) × (x.station ≡ station) × ((l : ℕ) → length_behind x.kind l ≡ len)
@@ -192,20 +168,7 @@ module _ (plan : Plan) (infos : List Info) (station : ℕ) (past : List Event) (
       go : (o : Option ℕ) → LengthBefore plan station event (sent_from_hand o a).len
       go None = h.len_is event below come
       go (Some m) = h.len_is event below come
-  len-is-step (Join m band) plans event below come = h.len_is event below come
-  len-is-step (Full m seen) plans event below come = h.len_is event below come
-  len-is-step (Refuse m k) plans event below come = h.len_is event below come
-  len-is-step (Empty band) plans event below come = h.len_is event below come
-  len-is-step (Take band) plans event below come = h.len_is event below come
-  len-is-step Pick plans event below come = h.len_is event below come
-  len-is-step (Direct m) plans event below come = h.len_is event below come
-  len-is-step Back plans event below come = h.len_is event below come
-  len-is-step (Stop queue value) plans event below come = h.len_is event below come
-  len-is-step (Wake queue) plans event below come = h.len_is event below come
-  len-is-step (Down k) plans event below come = h.len_is event below come
-  len-is-step (Purge cause) plans event below come = h.len_is event below come
-  len-is-step (Swap unit) plans event below come = h.len_is event below come
-  len-is-step Up plans event below come = h.len_is event below come
+  len-is-step e plans event below come = h.len_is event below come
 
   -- a resize that comes now is above those that have come
   above-now : (e : Event) → IsPlanned plan station past a e → (k event : ℕ) → resizing e ≡ Some k → Contains (resizes past) event → event < k

@@ -2,7 +2,7 @@
 use Rattle.std.proofs.Common.{◌≡◌, ℕ, ◌<◌, ◌≤◌, zero, suc, Bool, List, [], ◌∷◌, ◌⊎◌, inl, inr, take, length, count_by, filter_map, Contains, Some, None, refl, sym, ap, ◌∙◌, subst, slice_get, arith, cond}
 use Rattle.std.proofs.lemmas.Option.{same_Some}
 use Rattle.std.proofs.lemmas.List.Sums.{sum_by-cons}
-use Rattle.lq_model.specs.Account.{Account, Event, Join, Full, Refuse, Empty, Take, Pick, Direct, Send, Back, Stop, Wake, Resize, Down, Purge, Swap, Up, new_account, after}
+use Rattle.lq_model.specs.Account.{Account, Event, Down, Swap, new_account, after}
 use Rattle.lq_model.specs.Legal.{deactivating, MayCome, IsPlanned, IsPlannedDown}
 use Rattle.lq_model.specs.Plan.{Plan, is_swap, unit_of_swap}
 use Rattle.lq_model.specs.Settled.{IsUnitOf}
@@ -17,21 +17,7 @@ downs past = filter_map deactivating past
 
 is-down : (e : Event) (event : ℕ) → deactivating e ≡ Some event → e ≡ Down event
 is-down (Down k) event h = ap Down (same_Some k event h)
-is-down (Join m band) event h = absurd cc
-is-down (Full m seen) event h = absurd cc
-is-down (Refuse m k) event h = absurd cc
-is-down (Empty band) event h = absurd cc
-is-down (Take b) event h = absurd cc
-is-down Pick event h = absurd cc
-is-down (Direct m) event h = absurd cc
-is-down Send event h = absurd cc
-is-down Back event h = absurd cc
-is-down (Stop queue value) event h = absurd cc
-is-down (Wake queue) event h = absurd cc
-is-down (Resize len k) event h = absurd cc
-is-down (Purge cause) event h = absurd cc
-is-down (Swap unit) event h = absurd cc
-is-down Up event h = absurd cc
+is-down e event h = absurd cc
 
 -- a count over a longer prefix is no lower
 counts-rise : {X : Type 0} (test : X → Bool) (xs : List X) (i j : ℕ) → i ≤ j → count_by test (take i xs) ≤ count_by test (take j xs)

@@ -1,7 +1,7 @@
 -- What waits in a station has no fate, and a fate stays.
 use Rattle.std.proofs.Common.{◌≡◌, ℕ, ◌<◌, List, ◌++◌, ◌⊎◌, inl, inr, length, Contains, Option, Some, None, refl, sym, ap, ◌∙◌, subst, arith}
 use Rattle.std.proofs.lemmas.List.{drop_all}
-use Rattle.lq_model.specs.Account.{Account, Event, Join, Full, Refuse, Empty, Take, Pick, Direct, Send, Back, Stop, Wake, Resize, Down, Purge, Swap, Up, held, held_in, dropped_in, sent_from_hand, with_at, new_account, after}
+use Rattle.lq_model.specs.Account.{Account, Event, Full, Refuse, Send, Resize, Purge, held, held_in, dropped_in, sent_from_hand, with_at, new_account, after}
 use Rattle.lq_model.specs.Legal.{brought, brought_by, IsNew, MayCome, IsInTurn}
 use Rattle.lq_model.specs.declared.fate.Cause.{Cause}
 use Rattle.lq_model.specs.declared.fate.Fate.{Fate}
@@ -128,14 +128,4 @@ module _ (infos : List Info) (station : ℕ) (past : List Event) (a : Account) (
       (λ dropped. absurd (free n f (waits-dropped len a n dropped) was)) (λ out. was)
   fate-stays (Purge cause) may n f was =
       fates-cases (λ (o : Option Fate). o ≡ Some f) (held a) n (fate.Purged cause) a.fates (λ held. absurd (free n f (waits-held a n held) was)) (λ out. was)
-  fate-stays (Join m band) may n f was = was
-  fate-stays (Empty band) may n f was = was
-  fate-stays (Take b) may n f was = was
-  fate-stays Pick may n f was = was
-  fate-stays (Direct m) may n f was = was
-  fate-stays Back may n f was = was
-  fate-stays (Stop queue value) may n f was = was
-  fate-stays (Wake queue) may n f was = was
-  fate-stays (Down event) may n f was = was
-  fate-stays (Swap unit) may n f was = was
-  fate-stays Up may n f was = was
+  fate-stays e may n f was = was
