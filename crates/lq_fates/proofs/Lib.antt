@@ -1,0 +1,4 @@
+-- the packets that a unit sent
+pub mod SentLemmas
+-- the texts, a line at a time
+pub mod TextLemmas

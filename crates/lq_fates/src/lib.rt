@@ -1,0 +1,12 @@
+//! What became of the packets, as lists and texts.
+#![tactic(auto)]
+
+mod fates;
+mod laws;
+mod sent;
+mod text;
+
+pub use fates::fates_text;
+pub use laws::sent_is_that_list;
+pub use lq_model::{Fate, NoMemory};
+pub use sent::sent_of;
