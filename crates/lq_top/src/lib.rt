@@ -5,11 +5,13 @@
 
 mod capture;
 mod command;
+mod files;
 mod gate;
 mod input;
 pub mod laws;
 mod output;
 mod plan;
+mod refusal;
 mod send;
 mod status;
 mod stop;
