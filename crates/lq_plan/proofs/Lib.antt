@@ -1,0 +1,16 @@
+-- the elements of an array
+pub mod Elements
+-- tests of each element of a list
+pub mod Lists
+-- the tables among the elements of an array
+pub mod Tables
+-- the faults of a document
+pub mod Documents
+-- misplaced events
+pub mod Events
+-- a value within its range
+pub mod Ranges
+-- a plan within its limits
+pub mod Within
+-- texts that are documents
+pub mod Texts
