@@ -41,16 +41,16 @@ pub record IsClosed (plan : Plan) (infos : List Info) (fates : List Fate) (stati
 pub record IsSettledStation (plan : Plan) (infos : List Info) (fates : List Fate) (station : ℕ) (a : Account) : Type 0 where
   -- each fate is one that the station may give
   pub each : (n : ℕ) (fate : Fate) → n < length infos → station_in infos n ≡ station → slice_get fates n ≡ Some fate
-    → IsFateAt plan infos fates station n fate
+      → IsFateAt plan infos fates station n fate
   -- a packet of the station is sent by a unit with a serial exactly where it stands at that place of what the unit sent
   pub sent : (n unit serial : ℕ) → n < length infos → station_in infos n ≡ station
-    → (slice_get fates n ≡ Some (Sent unit serial)) ↔ (slice_get (a.sent unit) serial ≡ Some n)
+      → (slice_get fates n ≡ Some (Sent unit serial)) ↔ (slice_get (a.sent unit) serial ≡ Some n)
   -- what a unit sent are packets of the station, and the unit is one of the station
   pub of_station : (n unit serial : ℕ) → slice_get (a.sent unit) serial ≡ Some n → (n < length infos) × ((station_in infos n ≡ station) × IsUnitOf plan station unit)
   -- each owner's packets of one band were sent in ascending number
   pub in_order : (m n : ℕ) (u v s t : ℕ) → m < n → n < length infos → station_in infos m ≡ station → station_in infos n ≡ station
-    → owner_in infos m ≡ owner_in infos n → band_in infos m ≡ band_in infos n
-    → slice_get fates m ≡ Some (Sent u s) → slice_get fates n ≡ Some (Sent v t) → (u < v) ⊎ ((u ≡ v) × (s < t))
+      → owner_in infos m ≡ owner_in infos n → band_in infos m ≡ band_in infos n
+      → slice_get fates m ≡ Some (Sent u s) → slice_get fates n ≡ Some (Sent v t) → (u < v) ⊎ ((u ≡ v) × (s < t))
 
 -- each station of the plan, where each packet is of a station
 pub record AreSettledStations (plan : Plan) (infos : List Info) (fates : List Fate) (accounts : ℕ → Account) : Type 0 where

@@ -2,3 +2,5 @@
 //!
 //! Each law is the contract of a function that does nothing; `proofs/` has the lemmas that other crates cite.
 #![tactic(auto)]
+
+pub mod laws;

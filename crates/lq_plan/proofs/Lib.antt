@@ -14,3 +14,7 @@ pub mod Ranges
 pub mod Within
 -- texts that are documents
 pub mod Texts
+-- counts of packets by owner and station
+pub mod Counts
+-- what is known of the first packets
+pub mod Known

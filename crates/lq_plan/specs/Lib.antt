@@ -14,3 +14,5 @@ pub mod Limits
 pub mod Reading
 -- what contracts see of a plan in memory
 pub mod View
+-- the limits of what is known of each packet
+pub mod Packets

@@ -5,12 +5,14 @@ mod document;
 mod faults;
 mod keys;
 mod order;
+mod packets;
 mod plan;
 mod reader;
 mod refusal;
 mod values;
 
 pub use lq_model::{EventKind, EventPlan, Params, PlanReason, Split, StationPlan};
+pub use packets::infos;
 pub use plan::Plan;
 pub use reader::read_plan;
 pub use refusal::PlanRefusal;
