@@ -37,9 +37,9 @@ sent_below fates unit count serials le =
     let is_list : IsSentList fates unit sent = serials.1 in
     let below : All (λ n. n < count) sent =
     All-from_get_or (λ n. n < count) sent 0 (λ i lt. (
-      let there : slice_get sent i ≡ Some (get_or sent i 0) = slice_get-get_or sent i 0 lt in
-      let within : get_or sent i 0 < length fates = slice_get_within fates (get_or sent i 0) (Sent unit i) ((is_list (get_or sent i 0) i).1 there) in
-      omega arith
+    let there : slice_get sent i ≡ Some (get_or sent i 0) = slice_get-get_or sent i 0 lt in
+    let within : get_or sent i 0 < length fates = slice_get_within fates (get_or sent i 0) (Sent unit i) ((is_list (get_or sent i 0) i).1 there) in
+    omega arith
     ))
     in
     subst (λ (xs : List ℕ). All (λ n. n < count) xs) (sym (sent_is fates unit sent is_list)) below

@@ -6,7 +6,7 @@ use Rattle.lq_model.specs.Plan.{Plan, unit_count}
 use Rattle.lq_model.specs.declared.capture.CaptureReason.TheVariants as capture
 use Rattle.lq_model.specs.declared.plan.PlanReason.{PlanReason}
 use Rattle.lq_model.specs.declared.plan.PlanReason.TheVariants as plan
-use Rattle.lq_plan.specs.PlanOf.{plan_of}
+use Rattle.lq_plan.specs.Reading.{plan_of}
 use Rattle.lq_host.specs.Host.{Files}
 use Rattle.lq_top.specs.Command.{RunWords, command_of}
 use Rattle.lq_top.specs.Headline.{Run, run_of}

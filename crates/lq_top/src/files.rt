@@ -67,12 +67,7 @@ fn write_units<H: Host>(
 }
 
 /// Makes the file that tells each packet's fate.
-fn write_fates<H: Host>(
-    alloc: Global,
-    host: &mut H,
-    out: &str,
-    fates: &[Fate],
-) -> Result<(), Stop>
+fn write_fates<H: Host>(alloc: Global, host: &mut H, out: &str, fates: &[Fate]) -> Result<(), Stop>
     ensures handles { (H.state host.new).handles ≡ (H.state host.old).handles }
     ensures ok { OnOk result (H.state host.new
         ≡ file_written (H.state host.old) (fates_file out.now fates.now)) }

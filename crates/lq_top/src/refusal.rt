@@ -53,7 +53,9 @@ impl Refusal {
 fn line_of_usage(alloc: Global) -> Result<String, AllocError>
     ensures { IfOk result (λ line. string_bytes line ≡ usage_line) }
 {
-    format!(in alloc; "usage: lqtx run PLAN CAPTURE OUT | lqtx gen NUMBER COUNT OUT | lqtx trace FILE\n")
+    format!(in alloc;
+        "usage: lqtx run PLAN CAPTURE OUT | lqtx gen NUMBER COUNT OUT | lqtx trace FILE\n"
+    )
 }
 
 fn line_of_plan(alloc: Global, reason: PlanReason) -> Result<String, AllocError>

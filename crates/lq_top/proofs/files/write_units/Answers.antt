@@ -16,7 +16,7 @@ loop-unit-preserved g c =
     let old = g.H.Host.state c.args.host.now in
     record {
       whole = whole_more (unit_file c.args.out.now c.args.capture.now c.args.fates.now) c.loop-unit.unit old (g.H.Host.state c.loop-unit.host) (g.H.Host.state c.write_unit.new.host) c.loop-unit.invariant.whole c.in_ok-write_unit.ensures.ok
-      ∙ ap (λ n. files_written old (unit_files c.args.out.now c.args.capture.now c.args.fates.now n)) (sym (add-one c.loop-unit.unit));
+          ∙ ap (λ n. files_written old (unit_files c.args.out.now c.args.capture.now c.args.fates.now n)) (sym (add-one c.loop-unit.unit));
       handles = c.write_unit.ensures.handles ∙ c.loop-unit.invariant.handles;
       later = (let first = c.loop-unit.invariant.later in let second = c.write_unit.ensures.cause.later in omega arith);
     }

@@ -8,7 +8,7 @@ returns-clause-one_each c = λ run fates before behind are. are.settled.one_each
 
 pub returns-clause-there : goal.returns-clause-there
 returns-clause-there c = λ run fates before behind n are lt. (
-  let count = are.settled.one_each ∙ length-infos_of run.plan run.capture in
-  let within : n < length fates = subst (λ len. n < len) (sym count) lt in
-  elim (slice_get_cases fates n).1 [ inl there ↦ (there.0, there.2) | inr past ↦ absurd (omega arith) ]
-)
+    let count = are.settled.one_each ∙ length-infos_of run.plan run.capture in
+    let within : n < length fates = subst (λ len. n < len) (sym count) lt in
+    elim (slice_get_cases fates n).1 [ inl there ↦ (there.0, there.2) | inr past ↦ absurd (omega arith) ]
+    )
