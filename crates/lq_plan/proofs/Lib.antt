@@ -2,6 +2,18 @@
 pub mod Elements
 -- tests of each element of a list
 pub mod Lists
+-- the tables among the elements of an array
+pub mod Tables
+-- the faults of a document
+pub mod Documents
+-- misplaced events
+pub mod Events
+-- a value within its range
+pub mod Ranges
+-- a plan within its limits
+pub mod Within
+-- texts that are documents
+pub mod Texts
 -- counts of packets by owner and station
 pub mod Counts
 -- what is known of the first packets

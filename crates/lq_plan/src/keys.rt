@@ -2,7 +2,7 @@
 ghost use Rattle.std.specs.Prelude.{◌≡◌, map, ◌^◌, ◌<◌, length};
 ghost use Rattle.std.specs.Option.{option_and_then};
 ghost use Rattle.toml.specs.View.{table_view};
-ghost use Rattle.lq_plan.specs.Document.{tables_view};
+ghost use Rattle.lq_plan.specs.Tables.{tables_view};
 ghost use Rattle.lq_plan.specs.Keys.{event_keys, key, key_view, event_word_in, keys_view, len_in, len_presence, max_len_in, max_len_for, params_keys, params_presence, root_keys, station_keys, version_1, version_of};
 
 use crate::values::{EventWord, event_word_of, number_at, text_at};

@@ -6,9 +6,13 @@ pub mod Headline
 pub mod Written
 -- the command line
 pub mod Command
--- the lines of refused captures
+-- the command table as clap reads it
+pub mod Forms
+-- the statuses and the lines of refusals
 pub mod Refusal
--- what a call decides from its words and files, answers and leaves
+-- what a call decides from its words, its files and its bench
+pub mod Decision
+-- what it answers and leaves
 pub mod Outcome
 -- the numbers of statuses
 pub mod Status

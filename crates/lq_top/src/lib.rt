@@ -5,6 +5,7 @@
 
 mod capture;
 mod command;
+mod files;
 mod gate;
 mod input;
 pub mod laws;
@@ -12,6 +13,7 @@ mod output;
 mod plan;
 mod queue;
 mod run;
+mod refusal;
 mod send;
 mod status;
 mod stop;
