@@ -28,3 +28,5 @@ pub mod Bands
 pub mod Queue
 -- the queues of all stations
 pub mod Stations
+-- what is made before a run
+pub mod Setup

@@ -1,5 +1,5 @@
 -- The queues of all stations, in a run of one sender.
-use Rattle.std.specs.Prelude.{◌≡◌, ℕ, ◌+◌, ◌%◌, ◌<◌, ◌≤◌, nat_lt, ◌==◌, if◌then◌else◌, List, [], drop, length, count_by, slice_get, Option, Some, None, option_map}
+use Rattle.std.specs.Prelude.{◌≡◌, ℕ, ◌+◌, ◌%◌, ◌<◌, ◌≤◌, nat_lt, ◌==◌, if◌then◌else◌, List, [], drop, length, count_by, slice_get, Option, Some, None, option_map, All}
 use Rattle.std.specs.Option.{option_map_or}
 use Rattle.lq_account.specs.Progress.{IsAt}
 use Rattle.lq_model.specs.Account.{Account, held}
@@ -12,6 +12,7 @@ use Rattle.lq_model.specs.declared.fate.Fate.{Fate}
 use Rattle.lq_model.specs.declared.fate.Fate.TheVariants.{Purged}
 use Rattle.lq_model.specs.declared.fate.Info.{Info}
 use Rattle.lq_model.specs.declared.plan.StationPlan.{StationPlan}
+use Rattle.lq_plan.specs.Packets.{IsInfoWithin}
 use Rattle.lq_top.specs.Fates.{AllTell}
 use Rattle.lq_top.specs.Queue.{QueueState, Setting, Matches, StandsFor, device_of, running}
 use Rattle.lq_top.specs.declared.queue.stop_value.StopValue.TheVariants as stop
@@ -91,3 +92,20 @@ turn_step plan infos n = λ s. served infos (if (n + 1) % plan.irq_every == 0 th
 -- the first so many stations changed
 abbrev pub with_first_changed : ℕ → (Running → Running) → (ℕ → Option Running) → ℕ → Option Running
 with_first_changed k step run_at = λ station. if nat_lt station k then option_map step (run_at station) else run_at station
+
+-- WHAT THE LOOPS ASK
+
+-- the packets are those of a run that one sender makes of a plan without events
+pub record IsSentAlone (plan : Plan) (infos : List Info) : Type 0 where
+  pub no_events : plan.events ≡ []
+  pub few : length infos ≤ 1000000
+  pub within : All (IsInfoWithin plan) infos
+
+-- some plan's stations stand behind the first n packets
+pub record MayBring (infos : List Info) (n : ℕ) (queues : List QueueState) (fates : List (Option Fate)) : Type 0 where
+  pub plan : Plan
+  pub alone : IsSentAlone plan infos
+  pub stand : SomeStand plan infos n queues fates
+
+abbrev pub MayWake : List QueueState → List (Option Fate) → Type 0
+MayWake queues fates = (plan : Plan) × (infos : List Info) × (n : ℕ) × SomeStand plan infos n queues fates

@@ -13,6 +13,7 @@ mod output;
 mod plan;
 mod queue;
 mod run;
+mod setup;
 mod refusal;
 mod send;
 mod status;
