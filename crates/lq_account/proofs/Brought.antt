@@ -1,14 +1,13 @@
 -- Only packets that were brought have a place or a fate, and they are packets of the station.
-use Rattle.std.proofs.Common.{◌≡◌, ℕ, ◌<◌, List, [], ◌∷◌, ◌⊎◌, inl, inr, length, Contains, Option, Some, None, refl, sym, ap, subst, arith}
+use Rattle.std.proofs.Common.{◌≡◌, ℕ, ◌<◌, List, [], ◌∷◌, ◌⊎◌, inl, inr, length, Contains, Option, Some, None, refl, sym, subst, arith}
 use Rattle.std.proofs.lemmas.Option.{same_Some}
-use Rattle.std.specs.List.{cons_option}
-use Rattle.lq_model.specs.Account.{Account, Event, Join, Full, Refuse, Empty, Take, Pick, Direct, Send, Back, Stop, Wake, Resize, Down, Purge, Swap, Up, held, held_in, new_account, after, after_all}
+use Rattle.lq_model.specs.Account.{Account, Event, Join, Full, Refuse, Direct, held, held_in, new_account, after, after_all}
 use Rattle.lq_model.specs.Legal.{brought, brought_by, IsNew, MayCome, IsInTurn, IsLegal}
 use Rattle.lq_model.specs.Plan.{Plan, owner_in, station_in}
 use Rattle.lq_model.specs.declared.fate.Fate.{Fate}
 use Rattle.lq_model.specs.declared.fate.Info.{Info}
 use Rattle.lq_account.specs.Progress.{start_of}
-use Rattle.lq_account.proofs.Lists.{none-in, here-in, there-in, cons-in, drop-in, first-in}
+use Rattle.lq_account.proofs.Lists.{none-in, here-in, drop-in, first-in, mapped-before, mapped-now, mapped-cases}
 use Rattle.lq_account.proofs.Changes.{Joins, ComesToHand, ComesToSlot, Gives, InBand, held-cases, line-cases, hand-cases, slot-cases, fate-cases}
 use Rattle.lq_account.proofs.Changes.Joins.{joins}
 use Rattle.lq_account.proofs.Changes.ComesToHand.{taken, picked, direct}
@@ -18,21 +17,13 @@ use Rattle.lq_account.proofs.Changes.Gives.{gives_sent, gives_full, gives_refuse
 -- WHAT WAS BROUGHT
 
 pub brought-before : (e : Event) (past : List Event) (n : ℕ) → Contains (brought_by past) n → Contains (brought_by (e ∷ past)) n
-brought-before e past n h = go (brought e)
-  where
-    go : (o : Option ℕ) → Contains (cons_option o (brought_by past)) n
-    go None = h
-    go (Some m) = there-in m (brought_by past) n h
+brought-before e past n h = mapped-before brought e past n h
 
 pub brought-now : (e : Event) (past : List Event) (n : ℕ) → brought e ≡ Some n → Contains (brought_by (e ∷ past)) n
-brought-now e past n now = subst (λ (o : Option ℕ). Contains (cons_option o (brought_by past)) n) (sym now) (here-in n (brought_by past))
+brought-now e past n now = mapped-now brought e past n now
 
 pub brought-cases : (e : Event) (past : List Event) (n : ℕ) → Contains (brought_by (e ∷ past)) n → Contains (brought_by past) n ⊎ (brought e ≡ Some n)
-brought-cases e past n = go (brought e)
-  where
-    go : (o : Option ℕ) → Contains (cons_option o (brought_by past)) n → Contains (brought_by past) n ⊎ (o ≡ Some n)
-    go None h = inl h
-    go (Some m) h = elim (cons-in m (brought_by past) n h) [ inl same ↦ inr (ap Some same) | inr old ↦ inl old ]
+brought-cases e past n h = mapped-cases brought e past n h
 
 -- the packet that is brought now is above those of its owner that were brought before
 pub above-before : (infos : List Info) (past : List Event) (e : Event) (m n : ℕ) → IsInTurn infos past (brought e) → brought e ≡ Some n
@@ -47,18 +38,7 @@ new-packet infos station past a (Join m band) n may now = subst (IsNew infos sta
 new-packet infos station past a (Full m seen) n may now = subst (IsNew infos station a) (same_Some m n now) may.new
 new-packet infos station past a (Refuse m event) n may now = subst (IsNew infos station a) (same_Some m n now) may.0
 new-packet infos station past a (Direct m) n may now = subst (IsNew infos station a) (same_Some m n now) may.new
-new-packet infos station past a (Empty band) n may now = absurd cc
-new-packet infos station past a (Take band) n may now = absurd cc
-new-packet infos station past a Pick n may now = absurd cc
-new-packet infos station past a Send n may now = absurd cc
-new-packet infos station past a Back n may now = absurd cc
-new-packet infos station past a (Stop queue value) n may now = absurd cc
-new-packet infos station past a (Wake queue) n may now = absurd cc
-new-packet infos station past a (Resize len event) n may now = absurd cc
-new-packet infos station past a (Down event) n may now = absurd cc
-new-packet infos station past a (Purge cause) n may now = absurd cc
-new-packet infos station past a (Swap unit) n may now = absurd cc
-new-packet infos station past a Up n may now = absurd cc
+new-packet infos station past a e n may now = absurd cc
 
 -- THE SENTENCE
 

@@ -1,15 +1,15 @@
 -- What an event changes of an account: which packets join a band, come into the hand or the requeue slot, stand in a
 -- sent list or get a fate. All else is as it was.
-use Rattle.std.proofs.Common.{◌≡◌, ℕ, ◌<◌, zero, suc, List, [], ◌++◌, ◌⊎◌, inl, inr, length, Contains, Option, Some, None, refl, sym, ap, ◌∙◌, subst, slice_get, option_to_list, arith}
+use Rattle.std.proofs.Common.{◌≡◌, ℕ, ◌<◌, zero, suc, List, [], ◌∷◌, ◌++◌, ◌⊎◌, inl, inr, length, Contains, Option, Some, None, refl, sym, ap, ◌∙◌, subst, slice_get, option_to_list, arith}
 use Rattle.std.proofs.lemmas.Option.{same_Some}
 use Rattle.std.proofs.lemmas.List.{drop-drop, drop_all}
 use Rattle.std.proofs.lemmas.List.Elements.{Contains-append_left, Contains-append_right, Contains-append_cases, Contains-push_cases}
 use Rattle.lq_model.specs.Band.{Band, held_of, taken_by, joined}
-use Rattle.lq_model.specs.Account.{Account, Event, Join, Full, Refuse, Empty, Take, Pick, Direct, Send, Back, Stop, Wake, Resize, Down, Purge, Swap, Up, held, held_in, dropped_in, sent_from_hand, with_at, after}
+use Rattle.lq_model.specs.Account.{Account, Event, Join, Full, Refuse, Take, Pick, Direct, Send, Back, Resize, Down, Purge, Swap, Up, held, held_in, dropped_in, sent_from_hand, with_at, after}
 use Rattle.lq_model.specs.declared.fate.Cause.{Cause}
 use Rattle.lq_model.specs.declared.fate.Fate.{Fate}
 use Rattle.lq_model.specs.declared.fate.Fate.TheVariants as fate
-use Rattle.lq_account.proofs.Lists.{none-in, one-in, here-in, take-in, drop-in, at-cases, fates-cases, drop-push-in}
+use Rattle.lq_account.proofs.Lists.{none-in, one-in, here-in, take-in, drop-in, at-cases, fates-cases, drop-push-in, get-push-cases, get-push-old, get-push-new}
 
 -- WHAT COMES WHERE
 
@@ -99,18 +99,7 @@ line-cases Send a b n = go a.hand
     go None h = inl h
     go (Some m) h = inl h
 line-cases (Resize len event) a b n = λ h. inl (drop-in (a.bands b).taken (a.bands b).line n (take-in len (held_in a b) n h))
-line-cases (Full m seen) a b n = inl
-line-cases (Refuse m event) a b n = inl
-line-cases (Empty band) a b n = inl
-line-cases Pick a b n = inl
-line-cases (Direct m) a b n = inl
-line-cases Back a b n = inl
-line-cases (Stop queue value) a b n = inl
-line-cases (Wake queue) a b n = inl
-line-cases (Down event) a b n = inl
-line-cases (Purge cause) a b n = inl
-line-cases (Swap unit) a b n = inl
-line-cases Up a b n = inl
+line-cases e a b n = inl
 
 -- what a band holds behind an event it held before, unless it joined
 pub holds-cases : (e : Event) (a : Account) (b n : ℕ) → Contains (held_in (after e a) b) n → Contains (held_in a b) n ⊎ Joins e b n
@@ -133,17 +122,7 @@ holds-cases Send a b n = go a.hand
     go (Some m) h = inl h
 holds-cases (Resize len event) a b n = λ h. inl (take-in len (held_in a b) n h)
 holds-cases (Purge cause) a b n = λ h. absurd (none-in _ n (drop_all (length (a.bands b).line) (a.bands b).line (omega arith)) h)
-holds-cases (Full m seen) a b n = inl
-holds-cases (Refuse m event) a b n = inl
-holds-cases (Empty band) a b n = inl
-holds-cases Pick a b n = inl
-holds-cases (Direct m) a b n = inl
-holds-cases Back a b n = inl
-holds-cases (Stop queue value) a b n = inl
-holds-cases (Wake queue) a b n = inl
-holds-cases (Down event) a b n = inl
-holds-cases (Swap unit) a b n = inl
-holds-cases Up a b n = inl
+holds-cases e a b n = inl
 
 -- HAND AND SLOT
 
@@ -157,17 +136,7 @@ hand-cases Send a n = go a.hand refl
     go None e h = inl h
     go (Some m) e h = absurd cc
 hand-cases Back a n = λ h. absurd cc
-hand-cases (Join m band) a n = inl
-hand-cases (Full m seen) a n = inl
-hand-cases (Refuse m event) a n = inl
-hand-cases (Empty band) a n = inl
-hand-cases (Stop queue value) a n = inl
-hand-cases (Wake queue) a n = inl
-hand-cases (Resize len event) a n = inl
-hand-cases (Down event) a n = inl
-hand-cases (Purge cause) a n = inl
-hand-cases (Swap unit) a n = inl
-hand-cases Up a n = inl
+hand-cases e a n = inl
 
 pub slot-cases : (e : Event) (a : Account) (n : ℕ) → (after e a).slot ≡ Some n → (a.slot ≡ Some n) ⊎ ComesToSlot a e n
 slot-cases Back a n = λ h. inr (laid_back n h)
@@ -178,18 +147,7 @@ slot-cases Send a n = go a.hand
     go : (o : Option ℕ) → (sent_from_hand o a).slot ≡ Some n → (a.slot ≡ Some n) ⊎ ComesToSlot a Send n
     go None h = inl h
     go (Some m) h = inl h
-slot-cases (Join m band) a n = inl
-slot-cases (Full m seen) a n = inl
-slot-cases (Refuse m event) a n = inl
-slot-cases (Empty band) a n = inl
-slot-cases (Take b) a n = inl
-slot-cases (Direct m) a n = inl
-slot-cases (Stop queue value) a n = inl
-slot-cases (Wake queue) a n = inl
-slot-cases (Resize len event) a n = inl
-slot-cases (Down event) a n = inl
-slot-cases (Swap unit) a n = inl
-slot-cases Up a n = inl
+slot-cases e a n = inl
 
 -- FATES AND SENT LISTS
 
@@ -220,14 +178,67 @@ fate-cases (Resize len event) a n f =
 fate-cases (Purge cause) a n f =
     fates-cases (λ (o : Option Fate). o ≡ Some f → (a.fates n ≡ Some f) ⊎ Gives a (Purge cause) n f) (held a) n (fate.Purged cause) a.fates
     (λ h e. inr (subst (λ w. Gives a (Purge cause) n w) (same_Some _ _ e) (gives_purged cause n h))) (λ out e. inl e)
-fate-cases (Join m band) a n f = inl
-fate-cases (Empty band) a n f = inl
-fate-cases (Take b) a n f = inl
-fate-cases Pick a n f = inl
-fate-cases (Direct m) a n f = inl
-fate-cases Back a n f = inl
-fate-cases (Stop queue value) a n f = inl
-fate-cases (Wake queue) a n f = inl
-fate-cases (Down event) a n f = inl
-fate-cases (Swap unit) a n f = inl
-fate-cases Up a n f = inl
+fate-cases e a n f = inl
+
+-- a fate that is settled goes to the end of what the unit sent
+pub sent-cases : (e : Event) (a : Account) (u s n : ℕ) → slice_get ((after e a).sent u) s ≡ Some n → (slice_get (a.sent u) s ≡ Some n) ⊎ Sends a e u s n
+sent-cases Send a u s n = go a.hand refl
+  where
+    go : (o : Option ℕ) → a.hand ≡ o → slice_get ((sent_from_hand o a).sent u) s ≡ Some n → (slice_get (a.sent u) s ≡ Some n) ⊎ Sends a Send u s n
+    go None e = inl
+    go (Some m) e =
+        at-cases (λ (xs : List ℕ). slice_get xs s ≡ Some n → (slice_get (a.sent u) s ≡ Some n) ⊎ Sends a Send u s n) a.unit u (a.sent a.unit ++ m ∷ []) a.sent
+        (λ same h. elim (get-push-cases (a.sent a.unit) m n s h) [
+          | inl old ↦ inl (ap (λ k. slice_get (a.sent k) s) same ∙ old)
+          | inr new ↦ inr (sends n u s (e ∙ ap Some new.1) same new.0)
+        ])
+        (λ other h. inl h)
+sent-cases e a u s n = inl
+
+pub sent-stays : (e : Event) (a : Account) (u s n : ℕ) → slice_get (a.sent u) s ≡ Some n → slice_get ((after e a).sent u) s ≡ Some n
+sent-stays Send a u s n was = go a.hand
+  where
+    go : (o : Option ℕ) → slice_get ((sent_from_hand o a).sent u) s ≡ Some n
+    go None = was
+    go (Some m) =
+        at-cases (λ (xs : List ℕ). slice_get xs s ≡ Some n) a.unit u (a.sent a.unit ++ m ∷ []) a.sent
+        (λ same. get-push-old (a.sent a.unit) (m ∷ []) n s (ap (λ k. slice_get (a.sent k) s) (sym same) ∙ was)) (λ other. was)
+sent-stays e a u s n was = was
+
+-- the packet that is sent
+pub sent-is : (a : Account) (n : ℕ) → a.hand ≡ Some n
+    → (slice_get ((after Send a).sent a.unit) (length (a.sent a.unit)) ≡ Some n) × ((after Send a).fates n ≡ Some (fate.Sent a.unit (length (a.sent a.unit))))
+sent-is a n hand = subst (λ (o : Option ℕ). (slice_get ((sent_from_hand o a).sent a.unit) (length (a.sent a.unit)) ≡ Some n) × ((sent_from_hand o a).fates n ≡ Some (fate.Sent a.unit (length (a.sent a.unit))))) (sym hand) (
+  at-cases (λ (xs : List ℕ). slice_get xs (length (a.sent a.unit)) ≡ Some n) a.unit a.unit (a.sent a.unit ++ n ∷ []) a.sent (λ same. get-push-new (a.sent a.unit) n) (λ other. absurd (other refl)),
+  at-cases (λ (o : Option Fate). o ≡ Some (fate.Sent a.unit (length (a.sent a.unit)))) n n (Some (fate.Sent a.unit (length (a.sent a.unit)))) a.fates (λ same. refl) (λ other. absurd (other refl)),
+)
+
+-- UNIT AND DEACTIVATION
+
+pub unit-cases : (e : Event) (a : Account) → ((after e a).unit ≡ a.unit) ⊎ ((u : ℕ) × (e ≡ Swap u))
+unit-cases (Swap u) a = inr (u, refl)
+unit-cases Send a = inl (go a.hand)
+  where
+    go : (o : Option ℕ) → (sent_from_hand o a).unit ≡ a.unit
+    go None = refl
+    go (Some m) = refl
+unit-cases e a = inl refl
+
+pub down-cases : (e : Event) (a : Account) (event : ℕ) → (after e a).down ≡ Some event → (a.down ≡ Some event) ⊎ (e ≡ Down event)
+down-cases (Down k) a event h = inr (ap Down (same_Some k event h))
+down-cases Up a event h = absurd cc
+down-cases Send a event h = inl (go a.hand h)
+  where
+    go : (o : Option ℕ) → (sent_from_hand o a).down ≡ Some event → a.down ≡ Some event
+    go None h = h
+    go (Some m) h = h
+down-cases e a event h = inl h
+
+pub len-cases : (e : Event) (a : Account) → ((after e a).len ≡ a.len) ⊎ ((len : ℕ) × (event : ℕ) × (e ≡ Resize len event))
+len-cases (Resize len event) a = inr (len, event, refl)
+len-cases Send a = inl (go a.hand)
+  where
+    go : (o : Option ℕ) → (sent_from_hand o a).len ≡ a.len
+    go None = refl
+    go (Some m) = refl
+len-cases e a = inl refl

@@ -1,6 +1,8 @@
 -- What a list contains, and tables of which some places were changed.
-use Rattle.std.proofs.Common.{◌≡◌, ℕ, ◌+◌, ◌<◌, zero, suc, List, [], ◌∷◌, ◌++◌, ◌⊎◌, inl, inr, take, drop, length, Contains, AllPairs, Option, Some, refl, sym, ap, ◌∙◌, subst, get_or, take-append-drop, arith, eqb-true, slice_get, length-drop, get_or-drop}
+use Rattle.std.proofs.Common.{◌≡◌, ℕ, ◌+◌, ◌<◌, zero, suc, List, [], ◌∷◌, ◌++◌, ◌⊎◌, inl, inr, take, drop, length, Contains, AllPairs, Option, Some, None, refl, sym, ap, ◌∙◌, subst, get_or, take-append-drop, arith, eqb-true, slice_get, filter_map, length-drop, get_or-drop}
 use Rattle.std.specs.Prelude.{◌==◌}
+use Rattle.std.specs.List.{cons_option}
+use Rattle.std.proofs.lemmas.Option.{same_Some, slice_get_within, get_or_from_slice_get}
 use Rattle.std.proofs.lemmas.Bool.{cond_both, eqb-false}
 use Rattle.std.proofs.lemmas.List.{get_or-take, length-take, get_or_default}
 use Rattle.std.proofs.lemmas.List.Elements.{Contains-append_left, Contains-append_right, Contains-append_cases, Contains-push_cases}
@@ -44,6 +46,53 @@ drop-push-in (suc n) (z ∷ xs) y x h = drop-push-in n xs y x h
 pub first-in : {X : Type 0} (xs : List X) (x : X) → slice_get xs 0 ≡ Some x → Contains xs x
 first-in [] x e = cc
 first-in (y ∷ ys) x e = subst (λ z. Contains (y ∷ ys) z) (cc) (here-in y ys)
+
+pub first-taken : {X : Type 0} (xs : List X) (x : X) → slice_get xs 0 ≡ Some x → Contains (take 1 xs) x
+first-taken [] x e = cc
+first-taken (y ∷ ys) x e = subst (λ z. Contains (y ∷ []) z) (cc) (here-in y [])
+
+pub get-in : {X : Type 0} (xs : List X) (i : ℕ) (x : X) → slice_get xs i ≡ Some x → Contains xs x
+get-in xs i x e = (i, slice_get_within xs i x e, get_or_from_slice_get xs i x x e)
+
+-- what stands behind so many is one more
+pub drop-short : {X : Type 0} (n : ℕ) (xs : List X) (x : X) → Contains (drop n xs) x → n < length xs
+drop-short n xs x (k, below, at) = omega (arith, length-drop n xs)
+
+-- WHAT A FUNCTION GIVES OF A LIST
+
+pub mapped-before : {X Y : Type 0} (g : X → Option Y) (e : X) (es : List X) (y : Y) → Contains (filter_map g es) y → Contains (filter_map g (e ∷ es)) y
+mapped-before {Y = Y} g e es y h = go (g e)
+  where
+    go : (o : Option Y) → Contains (cons_option o (filter_map g es)) y
+    go None = h
+    go (Some z) = there-in z (filter_map g es) y h
+
+pub mapped-now : {X Y : Type 0} (g : X → Option Y) (e : X) (es : List X) (y : Y) → g e ≡ Some y → Contains (filter_map g (e ∷ es)) y
+mapped-now {Y = Y} g e es y now = subst (λ (o : Option Y). Contains (cons_option o (filter_map g es)) y) (sym now) (here-in y (filter_map g es))
+
+pub mapped-cases : {X Y : Type 0} (g : X → Option Y) (e : X) (es : List X) (y : Y) → Contains (filter_map g (e ∷ es)) y → Contains (filter_map g es) y ⊎ (g e ≡ Some y)
+mapped-cases {Y = Y} g e es y = go (g e)
+  where
+    go : (o : Option Y) → Contains (cons_option o (filter_map g es)) y → Contains (filter_map g es) y ⊎ (o ≡ Some y)
+    go None h = inl h
+    go (Some z) h = elim (cons-in z (filter_map g es) y h) [ inl same ↦ inr (ap Some same) | inr old ↦ inl old ]
+
+-- A LIST TO WHOSE END ONE IS PUT
+
+pub get-push-cases : {X : Type 0} (xs : List X) (y x : X) (i : ℕ) → slice_get (xs ++ y ∷ []) i ≡ Some x → (slice_get xs i ≡ Some x) ⊎ ((i ≡ length xs) × (y ≡ x))
+get-push-cases [] y x zero e = inr (refl, same_Some y x e)
+get-push-cases [] y x (suc i) e = absurd cc
+get-push-cases (z ∷ xs) y x zero e = inl e
+get-push-cases (z ∷ xs) y x (suc i) e = elim (get-push-cases xs y x i e) [ inl old ↦ inl old | inr new ↦ inr (ap suc new.0, new.1) ]
+
+pub get-push-old : {X : Type 0} (xs ys : List X) (x : X) (i : ℕ) → slice_get xs i ≡ Some x → slice_get (xs ++ ys) i ≡ Some x
+get-push-old [] ys x i e = absurd cc
+get-push-old (z ∷ xs) ys x zero e = e
+get-push-old (z ∷ xs) ys x (suc i) e = get-push-old xs ys x i e
+
+pub get-push-new : {X : Type 0} (xs : List X) (y : X) → slice_get (xs ++ y ∷ []) (length xs) ≡ Some y
+get-push-new [] y = refl
+get-push-new (z ∷ xs) y = get-push-new xs y
 
 -- PAIRS IN ORDER
 
