@@ -138,11 +138,18 @@ done-open a stops none = one_done a 0 stops ∙ ap (λ next. is_some a.down || i
 -- what a round leaves: less is held, or the station is done
 pub record IsRound (s t : Running) : Type 0 where
   pub one : HasOneQueue t
+  pub active : t.account.down ≡ None
   pub fewer : (length (held t.account) < length (held s.account)) ⊎ (is_done t.account ≡ true)
+
+-- an active station is done
+pub record IsEnded (s : Running) : Type 0 where
+  pub one : HasOneQueue s
+  pub active : s.account.down ≡ None
+  pub done : is_done s.account ≡ true
 
 module _ (infos : List Info) (queues : (m : ℕ) → queue_in infos m ≡ 0) where
   pub is_round : (s : Running) → HasOneQueue s → is_done s.account ≡ false → IsRound s (served infos (opened s))
-  is_round s one not_done = record { one = after_it.one; fewer = fewer (cases_lt 0 (length (held (opened s).account))) }
+  is_round s one not_done = record { one = after_it.one; active = after_it.active; fewer = fewer (cases_lt 0 (length (held (opened s).account))) }
     where
       woken : IsWoken s (opened s)
       woken = is_woken s one not_done
@@ -191,6 +198,24 @@ module _ (infos : List Info) (queues : (m : ℕ) → queue_in infos m ≡ 0) whe
   rounds-more : (more rounds : ℕ) (s : Running) → HasOneQueue s → length (held s.account) < rounds → finished_rounds infos (more + rounds) s ≡ finished_rounds infos rounds s
   rounds-more zero rounds s one enough = ap (λ n. finished_rounds infos n s) (zero-add rounds)
   rounds-more (suc more) rounds s one enough = ap (λ n. finished_rounds infos n s) (suc-add more rounds) ∙ rounds-enough (more + rounds) s one (omega arith) ∙ rounds-more more rounds s one enough
+
+  -- they leave the station done, and an active one active
+  pub rounds_end : (rounds : ℕ) (s : Running) → HasOneQueue s → s.account.down ≡ None → length (held s.account) < rounds → IsEnded (finished_rounds infos rounds s)
+  rounds_end zero s one active enough = absurd (omega arith)
+  rounds_end (suc rounds) s one active enough = by_done (λ fewer next still. rounds_end rounds (served infos (opened s)) next still (omega arith)) (cases_Bool (is_done s.account))
+    where
+      behind : (length (held (served infos (opened s)).account) < length (held s.account) → IsEnded (finished_rounds infos rounds (served infos (opened s))))
+          → IsRound s (served infos (opened s)) → (length (held (served infos (opened s)).account) < length (held s.account)) ⊎ (is_done (served infos (opened s)).account ≡ true)
+          → IsEnded (finished_rounds infos rounds (served infos (opened s)))
+      behind again round (inl fewer) = again fewer
+      behind again round (inr done) = subst IsEnded (sym (rounds-done rounds (served infos (opened s)) done)) (record { one = round.one; active = round.active; done = done })
+
+      by_done : (length (held (served infos (opened s)).account) < length (held s.account) → HasOneQueue (served infos (opened s)) → (served infos (opened s)).account.down ≡ None
+            → IsEnded (finished_rounds infos rounds (served infos (opened s))))
+          → (is_done s.account ≡ true) ⊎ (is_done s.account ≡ false) → IsEnded (finished_rounds infos (suc rounds) s)
+      by_done again (inl done) = subst IsEnded (sym (rounds-done (suc rounds) s done)) (record { one = one; active = active; done = done })
+      by_done again (inr not_done) = let round = is_round s one not_done in
+          subst IsEnded (sym (rounds-next rounds s not_done)) (behind (λ fewer. again fewer round.one round.active) round round.fewer)
 
   -- a station that is done is finished but for its purge
   pub finished_done : (s : Running) → is_done s.account ≡ true → finished infos s ≡ record s { account = purged_if_hung s.account }
