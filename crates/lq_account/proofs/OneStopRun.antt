@@ -1,7 +1,7 @@
 -- With one queue serving goes packet by packet, and the end round by round.
 use Rattle.std.proofs.Common.{◌≡◌, ◌≢◌, ℕ, zero, suc, ◌+◌, ◌<◌, ◌≤◌, ◌==◌, Bool, true, false, not, ◌&&◌, ◌||◌, List, [], ◌∷◌, ◌⊎◌, ◌↔◌, inl, inr, length, Option, Some, None, is_some, is_none, if◌then◌else◌, refl, sym, ap, subst, ◌∙◌, arith}
 use Rattle.std.specs.Prelude.{slice_index}
-use Rattle.std.proofs.lemmas.Bool.{and_parts, cases_Bool, cases_eq, cond-true, cond-false, eq-eqb, eqb-true, ne_eqb, or_cases, or_left, or_right, true≢false}
+use Rattle.std.proofs.lemmas.Bool.{and_from, and_parts, cases_Bool, cases_eq, cond-true, cond-false, eq-eqb, eqb-true, ne_eqb, or_cases, or_left, or_right, true≢false}
 use Rattle.lq_model.specs.Account.{Account, Event, Purge, Wake, held, is_open, is_shared, after}
 use Rattle.lq_model.specs.Alone.{Running, cleaned, finished, finished_rounds, is_clean, is_done, is_left, next_taken, opened, purged_if_hung, served, served_turns, turns_of}
 use Rattle.lq_model.specs.Plan.{queue_in}
@@ -89,6 +89,86 @@ served_by_turns infos s queues of_one = record {
     λ e. eqb-true _ 0 (sym (clean-is infos queues s one active at_0) ∙ e),
     λ e. clean-is infos queues s one active at_0 ∙ eq-eqb _ 0 e,
   );
+}
+  where
+    one : HasOneQueue s
+    one = has-one-queue s of_one
+
+-- THE END
+
+module _ (infos : List Info) (queues : AreOfOneQueue infos) (s : Running) (one : HasOneQueue s) where
+  stop-same : stop_of s.account ≡ one.stop
+  stop-same = stop-is s.account one.stop one.stops
+
+  done-now : is_done s.account ≡ (is_some s.account.down || ((stop_of s.account == 2) || ((stop_of s.account == 0) && is_none (next_taken s.account))))
+  done-now = one_done s.account one.stop one.stops ∙ ap (λ stop. is_some s.account.down || ((stop == 2) || ((stop == 0) && is_none (next_taken s.account)))) (sym stop-same)
+
+  some-event : (down : Option ℕ) → is_some down ≡ true → (event : ℕ) × (down ≡ Some event)
+  some-event None e = cc
+  some-event (Some event) e = (event, refl)
+
+  nothing-held : is_none (next_taken s.account) ≡ true → held s.account ≡ []
+  nothing-held e = held_none s.account (none-is (next_taken s.account) e)
+    where
+      none-is : (o : Option Event) → is_none o ≡ true → o ≡ None
+      none-is None e = refl
+      none-is (Some event) e = cc
+
+  done-to : is_done s.account ≡ true → ((event : ℕ) × (s.account.down ≡ Some event)) ⊎ ((stop_of s.account ≡ 2) ⊎ ((stop_of s.account ≡ 0) × (held s.account ≡ [])))
+  done-to done = elim (or_cases (is_some s.account.down) _ (sym done-now ∙ done)) [
+    | inl down ↦ inl (some-event s.account.down down)
+    | inr rest ↦ inr (elim (or_cases (stop_of s.account == 2) _ rest) [
+        | inl hung ↦ inl (eqb-true _ 2 hung)
+        | inr idle ↦ inr (let parts = and_parts (stop_of s.account == 0) _ idle in (eqb-true _ 0 parts.0, nothing-held parts.1))
+      ])
+  ]
+
+  done-from : ((event : ℕ) × (s.account.down ≡ Some event)) ⊎ ((stop_of s.account ≡ 2) ⊎ ((stop_of s.account ≡ 0) × (held s.account ≡ []))) → is_done s.account ≡ true
+  done-from (inl down) = done-now ∙ or_left (is_some s.account.down) _ (ap is_some down.1)
+  done-from (inr (inl hung)) = done-now ∙ or_right (is_some s.account.down) _ (or_left (stop_of s.account == 2) _ (eq-eqb _ 2 hung))
+  done-from (inr (inr idle)) = done-now ∙ or_right (is_some s.account.down) _ (or_right (stop_of s.account == 2) _
+      (and_from (stop_of s.account == 0) _ (eq-eqb _ 0 idle.0) (ap is_none (next_none s.account idle.1))))
+
+  wakes : opened s ≡ (if stop_of s.account == 1 then record s { account = after (Wake 0) s.account } else s)
+  wakes = one_opened s one.stop one.stops ∙ by_bool (one.stop == 1)
+      ∙ ap {A = ℕ} {B = Running} (λ stop. if stop == 1 then record s { account = after (Wake 0) s.account } else s) (sym stop-same)
+    where
+      by_bool : (b : Bool) → record s { account = if b then after (Wake 0) s.account else s.account } ≡ (if b then record s { account = after (Wake 0) s.account } else s)
+      by_bool true = refl
+      by_bool false = refl
+
+  purges : stop_of s.account ≡ 2 → purged_if_hung s.account ≡ after (Purge (Hung s.account.unit)) s.account
+  purges hung = one_purged s.account one.stop one.stops ∙ cond-true _ _ _ (eq-eqb one.stop 2 (sym stop-same ∙ hung))
+
+  keeps : stop_of s.account ≢ 2 → purged_if_hung s.account ≡ s.account
+  keeps other = one_purged s.account one.stop one.stops ∙ cond-false _ _ _ (ne_eqb one.stop 2 (λ hung. other (stop-same ∙ hung)))
+
+-- an active station that is done holds nothing behind its purge
+purged-holds-nothing : (infos : List Info) (queues : AreOfOneQueue infos) (s : Running) → IsEnded s → held (purged_if_hung s.account) ≡ []
+purged-holds-nothing infos queues s ended = by_done (done-to infos queues s ended.one ended.done) (cases_eq (stop_of s.account) 2)
+  where
+    empty : held s.account ≡ [] → stop_of s.account ≢ 2 → held (purged_if_hung s.account) ≡ []
+    empty none other = ap held (keeps infos queues s ended.one other) ∙ none
+
+    none-some : (o : Option ℕ) (n : ℕ) → o ≡ None → o ≡ Some n → ⊥
+    none-some o n none some = cc
+
+    by_done : ((event : ℕ) × (s.account.down ≡ Some event)) ⊎ ((stop_of s.account ≡ 2) ⊎ ((stop_of s.account ≡ 0) × (held s.account ≡ [])))
+        → (stop_of s.account ≡ 2) ⊎ (stop_of s.account ≢ 2) → held (purged_if_hung s.account) ≡ []
+    by_done why (inl hung) = ap held (purges infos queues s ended.one hung) ∙ purge_empties (Hung s.account.unit) s.account
+    by_done (inl down) (inr other) = (let active = ended.active in absurd (none-some s.account.down down.0 active down.1))
+    by_done (inr (inl hung)) (inr other) = absurd (other hung)
+    by_done (inr (inr idle)) (inr other) = empty idle.1 other
+
+pub finished_by_rounds : (infos : List Info) (s : Running) → AreOfOneQueue infos → IsOfOneQueue s → IsFinishedByRounds infos s
+finished_by_rounds infos s queues of_one = record {
+  done = (done-to infos queues s one, done-from infos queues s one);
+  wakes = wakes infos queues s one;
+  goes_on = finished_next infos queues s one;
+  hung = λ done hung. finished_done infos queues s done ∙ ap (λ account. record s { account = account }) (purges infos queues s one hung);
+  ends = λ done other. finished_done infos queues s done ∙ ap (λ account. record s { account = account }) (keeps infos queues s one other);
+  nothing_held = λ active. purged-holds-nothing infos queues (finished_rounds infos (length (held s.account) + 1) s)
+      (rounds_end infos queues (length (held s.account) + 1) s one active (omega arith));
 }
   where
     one : HasOneQueue s
