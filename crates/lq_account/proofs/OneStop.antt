@@ -1,11 +1,10 @@
 -- With one queue a station's events, its serving and its end are a matter of its one stop value.
-use Rattle.std.proofs.Common.{◌≡◌, ◌≢◌, ℕ, zero, suc, ◌+◌, ◌<◌, ◌≤◌, ◌==◌, Bool, true, false, not, ◌&&◌, ◌||◌, List, [], ◌∷◌, ◌⊎◌, ◌↔◌, inl, inr, length, filter, Option, Some, None, is_some, is_none, map, if◌then◌else◌, refl, sym, ap, subst, ◌∙◌, arith}
+use Rattle.std.proofs.Common.{◌≡◌, ℕ, zero, suc, ◌≤◌, true, List, [], ◌∷◌, ◌⊎◌, ◌↔◌, inl, inr, filter, map, refl, sym, ap, subst, ◌∙◌, arith}
 use Rattle.std.specs.Prelude.{slice_index, slice_set}
-use Rattle.std.proofs.lemmas.Bool.{cases_eq, eq-eqb, eqb-true}
-use Rattle.lq_model.specs.Account.{Account, Event, Join, Full, Refuse, Empty, Take, Pick, Direct, Send, Back, Stop, Wake, Resize, Down, Purge, Swap, Up, after, after_all, is_hung, is_open, sent_from_hand}
+use Rattle.std.proofs.lemmas.Bool.{eq-eqb, eqb-true}
+use Rattle.lq_model.specs.Account.{Account, Event, Join, Full, Refuse, Empty, Take, Pick, Direct, Send, Back, Stop, Wake, Resize, Down, Purge, Swap, Up, after, after_all, is_hung, sent_from_hand}
 use Rattle.lq_model.specs.Legal.{IsLegal, IsQueueSentOn, MayCome, begins_with_hang, begins_with_send, is_behind_send, is_hanging, is_holders}
 use Rattle.lq_model.specs.Plan.{Plan, queue_in}
-use Rattle.lq_model.specs.declared.fate.Cause.TheVariants.{Hung}
 use Rattle.lq_model.specs.declared.fate.Info.{Info}
 use Rattle.lq_account.specs.OneQueue.{AreOfOneQueue, MeetsOneStopValue, stop_of}
 use Rattle.lq_account.specs.Progress.{start_of}

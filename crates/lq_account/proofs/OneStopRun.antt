@@ -1,10 +1,9 @@
 -- With one queue serving goes packet by packet, and the end round by round.
-use Rattle.std.proofs.Common.{◌≡◌, ◌≢◌, ℕ, zero, suc, ◌+◌, ◌<◌, ◌≤◌, ◌==◌, Bool, true, false, not, ◌&&◌, ◌||◌, List, [], ◌∷◌, ◌⊎◌, ◌↔◌, inl, inr, length, Option, Some, None, is_some, is_none, if◌then◌else◌, refl, sym, ap, subst, ◌∙◌, arith}
+use Rattle.std.proofs.Common.{◌≡◌, ◌≢◌, ℕ, ◌+◌, ◌==◌, Bool, true, false, not, ◌&&◌, ◌||◌, List, [], ◌∷◌, ◌⊎◌, inl, inr, length, Option, Some, None, is_some, is_none, if◌then◌else◌, refl, sym, ap, ◌∙◌, arith}
 use Rattle.std.specs.Prelude.{slice_index}
-use Rattle.std.proofs.lemmas.Bool.{and_from, and_parts, cases_Bool, cases_eq, cond-true, cond-false, eq-eqb, eqb-true, ne_eqb, or_cases, or_left, or_right, true≢false}
+use Rattle.std.proofs.lemmas.Bool.{and_from, and_parts, cases_eq, cond-true, cond-false, eq-eqb, eqb-true, ne_eqb, or_cases, or_left, or_right, true≢false}
 use Rattle.lq_model.specs.Account.{Account, Event, Purge, Wake, held, is_open, is_shared, after}
-use Rattle.lq_model.specs.Alone.{Running, cleaned, finished, finished_rounds, is_clean, is_done, is_left, next_taken, opened, purged_if_hung, served, served_turns, turns_of}
-use Rattle.lq_model.specs.Plan.{queue_in}
+use Rattle.lq_model.specs.Alone.{Running, cleaned, finished_rounds, is_clean, is_done, is_left, next_taken, opened, purged_if_hung, served, served_turns, turns_of}
 use Rattle.lq_model.specs.declared.fate.Cause.TheVariants.{Hung}
 use Rattle.lq_model.specs.declared.fate.Info.{Info}
 use Rattle.lq_account.specs.OneQueue.{AreOfOneQueue, IsFinishedByRounds, IsOfOneQueue, IsServedByTurns, offered_next, stop_of}
@@ -12,7 +11,7 @@ use Rattle.lq_account.proofs.OneQueue.{one_clean, one_done, one_opened, one_purg
 use Rattle.lq_account.proofs.Purges.{purge_empties}
 use Rattle.lq_account.proofs.Rounds.{IsEnded, IsServed, finished_done, finished_next, is_served, rounds_end}
 use Rattle.lq_account.proofs.Taken.{held_none, next_none}
-use Rattle.lq_account.proofs.Turns.{HasOneQueue, IsTurned, is_turned, left_open, left_stopped, served_left, served_open, turn_served, turns_left, turns_none}
+use Rattle.lq_account.proofs.Turns.{HasOneQueue, is_turned, left_open, left_stopped, served_left, served_open, turn_served, turns_left, turns_none}
 
 one-of : (xs : List ℕ) → length xs ≡ 1 → xs ≡ slice_index xs 0 ∷ []
 one-of [] one = absurd (omega arith)
@@ -59,8 +58,8 @@ module _ (infos : List Info) (queues : AreOfOneQueue infos) (s : Running) (one :
       serves ∙ ap cleaned (turn_served infos queues s event one stops active next)
       ∙ ap cleaned (turns_left infos (turns_of (offered_next event s)) (offered_next event s) (left-closed infos queues (offered_next event s) turned.one closed))
       ∙ ap (λ clean. record (offered_next event s) { clean = clean })
-          (one_clean (offered_next event s).account turned.one.stop turned.one.stops
-          ∙ ne_eqb turned.one.stop 0 (λ zero. closed (stop-is (offered_next event s).account turned.one.stop turned.one.stops ∙ zero)))
+      (one_clean (offered_next event s).account turned.one.stop turned.one.stops
+      ∙ ne_eqb turned.one.stop 0 (λ zero. closed (stop-is (offered_next event s).account turned.one.stop turned.one.stops ∙ zero)))
 
   after-it : IsServed s (served infos s)
   after-it = is_served infos queues s one active stops
@@ -118,9 +117,9 @@ module _ (infos : List Info) (queues : AreOfOneQueue infos) (s : Running) (one :
   done-to done = elim (or_cases (is_some s.account.down) _ (sym done-now ∙ done)) [
     | inl down ↦ inl (some-event s.account.down down)
     | inr rest ↦ inr (elim (or_cases (stop_of s.account == 2) _ rest) [
-        | inl hung ↦ inl (eqb-true _ 2 hung)
-        | inr idle ↦ inr (let parts = and_parts (stop_of s.account == 0) _ idle in (eqb-true _ 0 parts.0, nothing-held parts.1))
-      ])
+      | inl hung ↦ inl (eqb-true _ 2 hung)
+      | inr idle ↦ inr (let parts = and_parts (stop_of s.account == 0) _ idle in (eqb-true _ 0 parts.0, nothing-held parts.1))
+    ])
   ]
 
   done-from : ((event : ℕ) × (s.account.down ≡ Some event)) ⊎ ((stop_of s.account ≡ 2) ⊎ ((stop_of s.account ≡ 0) × (held s.account ≡ []))) → is_done s.account ≡ true

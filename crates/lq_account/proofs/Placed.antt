@@ -1,5 +1,5 @@
 -- Each packet that was brought has a fate, is held or is in hand.
-use Rattle.std.proofs.Common.{◌≡◌, ℕ, zero, suc, ◌+◌, ◌<◌, ◌≤◌, List, [], ◌∷◌, ◌++◌, ◌⊎◌, inl, inr, length, take, drop, Option, Some, None, Contains, slice_get, refl, sym, ap, subst, ◌∙◌, arith, length-append, length-drop, drop-drop, take-append-drop}
+use Rattle.std.proofs.Common.{◌≡◌, ℕ, zero, suc, ◌<◌, ◌≤◌, List, [], ◌∷◌, ◌++◌, ◌⊎◌, inl, inr, length, take, drop, Option, Some, None, Contains, slice_get, refl, sym, ap, subst, ◌∙◌, arith, length-append, length-drop, drop-drop, take-append-drop}
 use Rattle.std.proofs.lemmas.Bool.{cases_eq}
 use Rattle.std.proofs.lemmas.List.Elements.{Contains-append_left, Contains-append_right, Contains-append_cases, Contains-push}
 use Rattle.std.proofs.lemmas.Option.{same_Some}
@@ -12,7 +12,7 @@ use Rattle.lq_model.specs.declared.fate.Info.{Info}
 use Rattle.lq_account.specs.Progress.{IsAt, start_of}
 use Rattle.lq_account.proofs.Answers.{with_at_same}
 use Rattle.lq_account.proofs.Brought.{brought-cases}
-use Rattle.lq_account.proofs.Changes.{InBand, slot-held, band-held, held-cases}
+use Rattle.lq_account.proofs.Changes.{slot-held, band-held, held-cases}
 use Rattle.lq_account.proofs.Lists.{none-in, cons-in, drop-in, at-cases, fates-cases}
 use Rattle.lq_account.proofs.Purges.{with_fates_in}
 
@@ -92,7 +92,7 @@ module _ (infos : List Info) (station : ℕ) (past : List Event) (a : Account) (
   joins n band (inr (inr hand)) = inr (inr hand)
   joins n band (inr (inl h)) = held-stays a (after (Join n band) a) m (λ slot. inr (inl (slot-held (after (Join n band) a) m slot)))
       (λ b below in_band. inr (inl (band-held (after (Join n band) a) b m below
-          (at-cases (λ x. Contains (held_of x) m) band b _ a.bands (λ same. drop-more (a.bands band).taken (a.bands band).line n m (subst (λ k. Contains (held_in a k) m) same in_band)) (λ other. in_band)))))
+      (at-cases (λ x. Contains (held_of x) m) band b _ a.bands (λ same. drop-more (a.bands band).taken (a.bands band).line n m (subst (λ k. Contains (held_in a k) m) same in_band)) (λ other. in_band)))))
       h
 
   taken : (band : ℕ) → a.hand ≡ None → a.slot ≡ None → IsPlaced a m → IsPlaced (after (Take band) a) m
@@ -133,9 +133,9 @@ module _ (infos : List Info) (station : ℕ) (past : List Event) (a : Account) (
       by_band : (b : ℕ) → b < 3 → Contains (held_in a b) m → IsPlaced (after (Resize len event) a) m
       by_band b below in_band = elim (Contains-append_cases (take len (held_in a b)) (drop len (held_in a b)) m
           (subst (λ xs. Contains xs m) (sym (take-append-drop len (held_in a b))) in_band)) [
-        | inl kept ↦ inr (inl (band-held (after (Resize len event) a) b m below kept))
-        | inr dropped ↦ inl (_, with_fates_in (dropped_in len a 0 ++ (dropped_in len a 1 ++ dropped_in len a 2)) m _ a.fates (in-three (dropped_in len a) b m below dropped))
-      ]
+            | inl kept ↦ inr (inl (band-held (after (Resize len event) a) b m below kept))
+            | inr dropped ↦ inl (_, with_fates_in (dropped_in len a 0 ++ (dropped_in len a 1 ++ dropped_in len a 2)) m _ a.fates (in-three (dropped_in len a) b m below dropped))
+          ]
 
   stays : (e : Event) → MayCome infos station past a e → IsPlaced a m → IsPlaced (after e a) m
   stays (Join n band) may h = joins n band h
@@ -165,8 +165,8 @@ module _ (infos : List Info) (station : ℕ) (past : List Event) (a : Account) (
   comes : (e : Event) → MayCome infos station past a e → ((b : ℕ) → IsWithin (a.bands b)) → ((n : ℕ) → band_in infos n < 3) → brought e ≡ Some m → IsPlaced (after e a) m
   comes (Join n band) may within three now = inr (inl (band-held (after (Join n band) a) band m (subst (λ b. b < 3) may.band_is (three n))
       (at-cases (λ x. Contains (held_of x) m) band band _ a.bands
-          (λ same. subst (λ k. Contains (drop (a.bands band).taken ((a.bands band).line ++ n ∷ [])) k) (same_Some n m now) (drop-last (a.bands band).taken (a.bands band).line n (within band)))
-          (λ other. absurd (other refl)))))
+      (λ same. subst (λ k. Contains (drop (a.bands band).taken ((a.bands band).line ++ n ∷ [])) k) (same_Some n m now) (drop-last (a.bands band).taken (a.bands band).line n (within band)))
+      (λ other. absurd (other refl)))))
   comes (Full n seen) may within three now = inl (subst (λ k. HasFate ((after (Full n seen) a).fates k)) (same_Some n m now) (_, with_at_same n _ a.fates))
   comes (Refuse n event) may within three now = inl (subst (λ k. HasFate ((after (Refuse n event) a).fates k)) (same_Some n m now) (_, with_at_same n _ a.fates))
   comes (Direct n) may within three now = inr (inr now)

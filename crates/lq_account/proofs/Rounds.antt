@@ -1,5 +1,5 @@
 -- The end of a station with one queue: it is woken and served until it is done.
-use Rattle.std.proofs.Common.{◌≡◌, ◌≢◌, ℕ, zero, suc, ◌+◌, ◌-◌, ◌<◌, ◌≤◌, ◌==◌, Bool, true, false, not, ◌&&◌, ◌||◌, List, [], ◌∷◌, ◌⊎◌, inl, inr, length, Option, Some, None, is_some, is_none, if◌then◌else◌, refl, sym, ap, subst, ◌∙◌, add-one, suc-add, zero-add, arith}
+use Rattle.std.proofs.Common.{◌≡◌, ◌≢◌, ℕ, zero, suc, ◌+◌, ◌-◌, ◌<◌, ◌≤◌, Bool, true, false, ◌||◌, List, [], ◌∷◌, ◌⊎◌, inl, inr, length, Option, Some, None, is_some, is_none, refl, sym, ap, subst, ◌∙◌, add-one, suc-add, zero-add, arith}
 use Rattle.std.specs.Prelude.{slice_set}
 use Rattle.std.proofs.lemmas.Bool.{cond-true, cond-false, cases_eq, cases_lt, cases_Bool, or_parts, true≢false}
 use Rattle.lq_model.specs.Account.{Account, Event, Wake, held, after}
@@ -8,7 +8,7 @@ use Rattle.lq_model.specs.Plan.{queue_in}
 use Rattle.lq_model.specs.declared.fate.Info.{Info}
 use Rattle.lq_account.proofs.OneQueue.{one_done, one_opened}
 use Rattle.lq_account.proofs.Taken.{held_none, next_none}
-use Rattle.lq_account.proofs.Turns.{HasOneQueue, IsTurned, after_turn, is_turned, left_open, left_stopped, served_left, served_open, turn_served, turns_left, turns_none}
+use Rattle.lq_account.proofs.Turns.{HasOneQueue, IsTurned, after_turn, is_turned, left_open, left_stopped, served_open, turn_served, turns_left, turns_none}
 
 -- WHAT SERVING LEAVES
 
@@ -87,7 +87,10 @@ module _ (infos : List Info) (queues : (m : ℕ) → queue_in infos m ≡ 0) whe
       cleaned-too : (t : Running) → IsServed s t → IsServed s (cleaned t)
       cleaned-too t h = record {
         one = record { stop = h.one.stop; stops = h.one.stops; known = h.one.known; hand = h.one.hand; busies = h.one.busies };
-        active = h.active; no_more = h.no_more; fewer = h.fewer; ends = h.ends;
+        active = h.active;
+        no_more = h.no_more;
+        fewer = h.fewer;
+        ends = h.ends;
       }
 
 -- ROUNDS
@@ -182,14 +185,14 @@ module _ (infos : List Info) (queues : (m : ℕ) → queue_in infos m ≡ 0) whe
       by_done (λ fewer next. rounds-enough rounds (served infos (opened s)) next (omega arith)) (cases_Bool (is_done s.account))
     where
       by_fewer : (length (held (served infos (opened s)).account) < length (held s.account)
-            → HasOneQueue (served infos (opened s)) → finished_rounds infos (suc rounds) (served infos (opened s)) ≡ finished_rounds infos rounds (served infos (opened s)))
+          → HasOneQueue (served infos (opened s)) → finished_rounds infos (suc rounds) (served infos (opened s)) ≡ finished_rounds infos rounds (served infos (opened s)))
           → (length (held (served infos (opened s)).account) < length (held s.account)) ⊎ (is_done (served infos (opened s)).account ≡ true)
           → HasOneQueue (served infos (opened s)) → finished_rounds infos (suc rounds) (served infos (opened s)) ≡ finished_rounds infos rounds (served infos (opened s))
       by_fewer again (inl fewer) next = again fewer next
       by_fewer again (inr done) next = rounds-done (suc rounds) _ done ∙ sym (rounds-done rounds _ done)
 
       by_done : (length (held (served infos (opened s)).account) < length (held s.account)
-            → HasOneQueue (served infos (opened s)) → finished_rounds infos (suc rounds) (served infos (opened s)) ≡ finished_rounds infos rounds (served infos (opened s)))
+          → HasOneQueue (served infos (opened s)) → finished_rounds infos (suc rounds) (served infos (opened s)) ≡ finished_rounds infos rounds (served infos (opened s)))
           → (is_done s.account ≡ true) ⊎ (is_done s.account ≡ false) → finished_rounds infos (suc (suc rounds)) s ≡ finished_rounds infos (suc rounds) s
       by_done again (inl done) = rounds-done (suc (suc rounds)) s done ∙ sym (rounds-done (suc rounds) s done)
       by_done again (inr not_done) = let round = is_round s one not_done in
@@ -211,7 +214,7 @@ module _ (infos : List Info) (queues : (m : ℕ) → queue_in infos m ≡ 0) whe
       behind again round (inr done) = subst IsEnded (sym (rounds-done rounds (served infos (opened s)) done)) (record { one = round.one; active = round.active; done = done })
 
       by_done : (length (held (served infos (opened s)).account) < length (held s.account) → HasOneQueue (served infos (opened s)) → (served infos (opened s)).account.down ≡ None
-            → IsEnded (finished_rounds infos rounds (served infos (opened s))))
+          → IsEnded (finished_rounds infos rounds (served infos (opened s))))
           → (is_done s.account ≡ true) ⊎ (is_done s.account ≡ false) → IsEnded (finished_rounds infos (suc rounds) s)
       by_done again (inl done) = subst IsEnded (sym (rounds-done (suc rounds) s done)) (record { one = one; active = active; done = done })
       by_done again (inr not_done) = let round = is_round s one not_done in

@@ -1,13 +1,13 @@
 -- A station on its way through the packets makes one more event, or several.
-use Rattle.std.proofs.Common.{◌≡◌, ◌≢◌, ℕ, zero, suc, ◌+◌, ◌-◌, ◌<◌, ◌≤◌, ◌==◌, Bool, true, false, List, [], ◌∷◌, ◌++◌, ◌⊎◌, inl, inr, length, Option, Some, None, is_some, nat_lt, if◌then◌else◌, Contains, option_to_list, slice_get, filter_map, refl, sym, ap, ap₂, subst, ◌∙◌, arith, length-append}
-use Rattle.std.specs.Prelude.{slice_index, slice_set}
+use Rattle.std.proofs.Common.{◌≡◌, ◌≢◌, ℕ, zero, suc, ◌+◌, ◌-◌, ◌<◌, true, List, [], ◌∷◌, ◌++◌, ◌⊎◌, inl, inr, length, Some, None, Contains, slice_get, refl, sym, ap, ap₂, subst, ◌∙◌, arith, length-append}
+use Rattle.std.specs.Prelude.{slice_index}
 use Rattle.std.specs.List.{cons_option}
-use Rattle.std.proofs.lemmas.Bool.{cases_lt, cases_eq, true≢false, lt-ltb, ltb-true, eq-eqb}
+use Rattle.std.proofs.lemmas.Bool.{cases_lt, cases_eq}
 use Rattle.lq_model.specs.Band.{MayBeFull}
-use Rattle.lq_model.specs.Account.{Account, Event, Join, Full, Empty, Take, Pick, Direct, Send, Back, Stop, Wake, Purge, held, held_in, is_hung, after, after_all, sent_from_hand, with_at}
-use Rattle.lq_model.specs.Alone.{answered, next_taken, hung_up_to, holds}
-use Rattle.lq_model.specs.Legal.{IsLegal, IsLegalNext, IsQueueSentOn, MayCome, IsPlanned, IsInTurn, IsNew, MayTake, brought, brought_by, was_empty}
-use Rattle.lq_model.specs.Plan.{Plan, owner_in, station_in, band_in, queue_in}
+use Rattle.lq_model.specs.Account.{Account, Event, Join, Full, Empty, Take, Pick, Direct, Send, Back, Stop, Wake, Purge, held, held_in, is_hung, after, sent_from_hand}
+use Rattle.lq_model.specs.Alone.{answered, next_taken, hung_up_to}
+use Rattle.lq_model.specs.Legal.{IsLegalNext, IsQueueSentOn, MayCome, IsPlanned, IsInTurn, IsNew, MayTake, brought, brought_by, was_empty}
+use Rattle.lq_model.specs.Plan.{Plan, station_in, band_in, queue_in}
 use Rattle.lq_model.specs.declared.device.Tx.{Tx}
 use Rattle.lq_model.specs.declared.device.Tx.TheVariants.{Sent, SentStop, SentHang, Busy}
 use Rattle.lq_model.specs.declared.fate.Cause.TheVariants.{Hung}

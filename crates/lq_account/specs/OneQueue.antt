@@ -1,5 +1,5 @@
 -- What events, serving and the end come to for a station with one queue: each is a matter of its one stop value.
-use Rattle.std.specs.Prelude.{◌≡◌, ◌≢◌, ◌⊎◌, ◌↔◌, ◌≤◌, ℕ, ◌==◌, true, false, if◌then◌else◌, List, [], ◌∷◌, length, slice_index, Option, Some, None}
+use Rattle.std.specs.Prelude.{◌≡◌, ◌≢◌, ◌⊎◌, ◌↔◌, ◌≤◌, ℕ, ◌==◌, true, false, if◌then◌else◌, List, [], ◌∷◌, length, slice_index, Some, None}
 use Rattle.lq_model.specs.Account.{Account, Event, Send, Stop, Wake, Purge, held, is_hung, is_open, after}
 use Rattle.lq_model.specs.Alone.{Running, finished, is_done, next_taken, offered, opened, served}
 use Rattle.lq_model.specs.Legal.{MayCome, is_behind_send, is_hanging}
