@@ -1,12 +1,11 @@
 -- What an answer of the device leaves of the account, with one queue that is open.
-use Rattle.std.proofs.Common.{◌≡◌, ◌≢◌, ℕ, zero, suc, ◌+◌, ◌-◌, ◌<◌, ◌==◌, Bool, true, false, List, [], ◌∷◌, ◌++◌, ◌⊎◌, inl, inr, length, Option, Some, None, if◌then◌else◌, option_to_list, refl, sym, ap, subst, ◌∙◌, append-nil, arith, length-append}
+use Rattle.std.proofs.Common.{◌≡◌, ◌≢◌, ℕ, true, false, [], ◌∷◌, ◌++◌, length, Option, Some, None, refl, sym, ap, subst, ◌∙◌, append-nil}
 use Rattle.std.proofs.lemmas.Bool.{eq-eqb, ne_eqb, cond-true, cond-false}
-use Rattle.lq_model.specs.Account.{Account, Send, Back, Stop, Fates, SentLists, held, after, sent_from_hand, with_at}
+use Rattle.lq_model.specs.Account.{Account, Send, Stop, after, sent_from_hand, with_at}
 use Rattle.lq_model.specs.Alone.{answered, hung_up_to}
 use Rattle.lq_model.specs.Device.{is_busy, taken}
 use Rattle.lq_model.specs.declared.device.Tx.{Tx}
 use Rattle.lq_model.specs.declared.device.Tx.TheVariants.{Sent, SentStop, SentHang, Busy}
-use Rattle.lq_model.specs.declared.fate.Fate.{Fate}
 use Rattle.lq_model.specs.declared.fate.Fate.TheVariants as fate
 
 -- the value at the changed number, and at the others
@@ -64,7 +63,11 @@ module _ (m : ℕ) (a : Account) (hand : a.hand ≡ Some m) (stops : a.stops ≡
   sent-behind : (answer : Tx) (stop : ℕ) → slot_behind answer m ≡ None → taken answer m ≡ m ∷ [] → is_busy answer ≡ false → stop_behind answer ≡ stop → a.slot ≡ None
       → IsAnswered answer m a (record (sent_from_hand (Some m) a) { stops = stop ∷ [] })
   sent-behind answer stop slot takes busy stop_is empty = record {
-    len = refl; bands = refl; hand = refl; unit = refl; down = refl;
+    len = refl;
+    bands = refl;
+    hand = refl;
+    unit = refl;
+    down = refl;
     slot = empty ∙ sym slot;
     sent = with_at_same a.unit _ a.sent ∙ ap (λ new. a.sent a.unit ++ new) (sym takes);
     sent_others = λ unit other. with_at_other a.unit unit _ a.sent other;
@@ -80,7 +83,12 @@ module _ (m : ℕ) (a : Account) (hand : a.hand ≡ Some m) (stops : a.stops ≡
   is_answered SentStop empty = subst (IsAnswered SentStop m a) (sym answered_stop) (sent-behind SentStop 1 refl refl refl refl empty)
   is_answered SentHang empty = subst (IsAnswered SentHang m a) (sym answered_hang) (sent-behind SentHang 2 refl refl refl refl empty)
   is_answered Busy empty = subst (IsAnswered Busy m a) (sym answered_busy) (record {
-    len = refl; bands = refl; slot = refl; hand = refl; unit = refl; down = refl;
+    len = refl;
+    bands = refl;
+    slot = refl;
+    hand = refl;
+    unit = refl;
+    down = refl;
     sent = sym (append-nil (a.sent a.unit));
     sent_others = λ unit other. refl;
     fate = λ e. cc;

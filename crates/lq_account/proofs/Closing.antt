@@ -1,13 +1,12 @@
 -- The account of a station is closed behind the last packet, where the plan has no events.
-use Rattle.std.proofs.Common.{◌≡◌, ℕ, ◌<◌, List, [], ◌∷◌, ◌++◌, length, Option, Some, None, Contains, slice_get, get_or, sym, ap, subst, ◌∙◌, arith}
+use Rattle.std.proofs.Common.{◌≡◌, ℕ, ◌<◌, List, [], ◌∷◌, ◌++◌, length, Some, None, slice_get, get_or, sym, subst, ◌∙◌, arith}
 use Rattle.std.proofs.lemmas.Option.{slice_get-get_or}
-use Rattle.lq_model.specs.Account.{Account, Event, Swap, held, after_all}
-use Rattle.lq_model.specs.Legal.{IsLegal, IsEventAt}
+use Rattle.lq_model.specs.Account.{Account, Event, Swap, held}
+use Rattle.lq_model.specs.Legal.{IsLegal}
 use Rattle.lq_model.specs.Plan.{Plan, station_in}
 use Rattle.lq_model.specs.declared.fate.Fate.{Fate}
 use Rattle.lq_model.specs.declared.fate.Fate.TheVariants.{Full}
 use Rattle.lq_model.specs.declared.fate.Info.{Info}
-use Rattle.lq_model.specs.declared.plan.EventKind.{EventKind}
 use Rattle.lq_account.specs.Accounts.{HaveAllCome, IsClosed}
 use Rattle.lq_account.specs.Progress.{IsAt, start_of}
 use Rattle.lq_account.proofs.NoEvents.{no_event}

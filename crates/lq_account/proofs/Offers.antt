@@ -1,5 +1,5 @@
 -- A packet is brought to a station with one queue.
-use Rattle.std.proofs.Common.{◌≡◌, ◌≢◌, ℕ, ◌+◌, ◌<◌, ◌==◌, Bool, true, false, not, ◌&&◌, ◌||◌, List, [], ◌∷◌, length, Option, Some, None, if◌then◌else◌, refl, sym, ap, ◌∙◌}
+use Rattle.std.proofs.Common.{◌≡◌, ◌≢◌, ℕ, ◌==◌, Bool, true, false, not, ◌&&◌, ◌||◌, List, [], ◌∷◌, None, if◌then◌else◌, refl, sym, ap, ◌∙◌}
 use Rattle.std.proofs.lemmas.Bool.{cond-true, cond-false, eq-eqb, ne_eqb, and_right}
 use Rattle.lq_model.specs.Band.{IsOccupied, MayBeFull}
 use Rattle.lq_model.specs.Account.{Account, Join, Full, Direct, Back, held, is_open, is_shared, after}
@@ -7,7 +7,7 @@ use Rattle.lq_model.specs.Alone.{Running, brought_in, cleaned, gone_direct, gone
 use Rattle.lq_model.specs.Device.{is_busy}
 use Rattle.lq_model.specs.Plan.{band_in, queue_in}
 use Rattle.lq_model.specs.declared.fate.Info.{Info}
-use Rattle.lq_account.proofs.OneQueue.{not_shared, one_clean, one_open, seen_is}
+use Rattle.lq_account.proofs.OneQueue.{one_clean, one_open, seen_is}
 use Rattle.lq_account.proofs.Turns.{left_open, served_open, turns_none}
 
 -- a station that holds nothing is as it was behind serving, where its queue is open and the next packet may go past the bands
@@ -35,7 +35,7 @@ brought_through infos bypass n s active through = ap (λ down. taken_in infos by
 direct-on : (infos : List Info) (n : ℕ) (s : Running) → queue_in infos n ≡ 0
     → gone_direct infos n s
     ≡ (if is_open s.account 0 then record (offered 0 (record s { account = after (Direct n) s.account })) { clean = not (is_busy (next_answer s)) }
-        else record s { account = after Back (after (Direct n) s.account); clean = false })
+    else record s { account = after Back (after (Direct n) s.account); clean = false })
 direct-on infos n s queue = ap {A = ℕ} {B = Running} (λ queue. if is_open s.account queue
     then record (offered queue (record s { account = after (Direct n) s.account })) { clean = not (is_busy (next_answer s)) }
     else record s { account = after Back (after (Direct n) s.account); clean = false }) queue

@@ -1,5 +1,5 @@
 -- The end of a station with one queue: it is woken and served until it is done.
-use Rattle.std.proofs.Common.{◌≡◌, ◌≢◌, ℕ, zero, suc, ◌+◌, ◌-◌, ◌<◌, ◌≤◌, ◌==◌, Bool, true, false, not, ◌&&◌, ◌||◌, List, [], ◌∷◌, ◌⊎◌, inl, inr, length, Option, Some, None, is_some, is_none, if◌then◌else◌, refl, sym, ap, subst, ◌∙◌, add-one, suc-add, zero-add, arith}
+use Rattle.std.proofs.Common.{◌≡◌, ◌≢◌, ℕ, zero, suc, ◌+◌, ◌-◌, ◌<◌, ◌≤◌, Bool, true, false, ◌||◌, List, [], ◌∷◌, ◌⊎◌, inl, inr, length, Option, Some, None, is_some, is_none, refl, sym, ap, subst, ◌∙◌, add-one, suc-add, zero-add, arith}
 use Rattle.std.specs.Prelude.{slice_set}
 use Rattle.std.proofs.lemmas.Bool.{cond-true, cond-false, cases_eq, cases_lt, cases_Bool, or_parts, true≢false}
 use Rattle.lq_model.specs.Account.{Account, Event, Wake, held, after}
@@ -8,7 +8,7 @@ use Rattle.lq_model.specs.Plan.{queue_in}
 use Rattle.lq_model.specs.declared.fate.Info.{Info}
 use Rattle.lq_account.proofs.OneQueue.{one_done, one_opened}
 use Rattle.lq_account.proofs.Taken.{held_none, next_none}
-use Rattle.lq_account.proofs.Turns.{HasOneQueue, IsTurned, after_turn, is_turned, left_open, left_stopped, served_left, served_open, turn_served, turns_left, turns_none}
+use Rattle.lq_account.proofs.Turns.{HasOneQueue, IsTurned, after_turn, is_turned, left_open, left_stopped, served_open, turn_served, turns_left, turns_none}
 
 -- WHAT SERVING LEAVES
 
@@ -59,6 +59,21 @@ no-element [] none = refl
 no-element (x ∷ xs) none = absurd (omega arith)
 
 module _ (infos : List Info) (queues : (m : ℕ) → queue_in infos m ≡ 0) where
+  -- what holds of a station that isn't served further, and where it holds of serving behind the next turn
+  pub by_turn : (P : Running → Type 0) (s : Running) → HasOneQueue s → s.account.down ≡ None → P s
+      → ((event : Event) → IsTurned s (after_turn event s) → s.account.stops ≡ 0 ∷ [] → next_taken s.account ≡ Some event
+          → P (served_turns infos (turns_of (after_turn event s)) (after_turn event s)))
+      → P (served_turns infos (turns_of s) s)
+  by_turn P s one active here on = by_stop (cases_eq one.stop 0)
+    where
+      by_next : (o : Option Event) → next_taken s.account ≡ o → s.account.stops ≡ 0 ∷ [] → P (served_turns infos (turns_of s) s)
+      by_next None next stops = subst P (sym (turns_none infos (turns_of s) s (held_none s.account next))) here
+      by_next (Some event) next stops = subst P (sym (turn_served infos queues s event one stops active next)) (on event (is_turned s event one stops next) stops next)
+
+      by_stop : (one.stop ≡ 0) ⊎ (one.stop ≢ 0) → P (served_turns infos (turns_of s) s)
+      by_stop (inl at_0) = by_next (next_taken s.account) refl (one.stops ∙ ap (λ stop. stop ∷ []) at_0)
+      by_stop (inr closed) = subst P (sym (turns_left infos (turns_of s) s (left_stopped s.account one.stop one.stops closed))) here
+
   by-turn : (s : Running) → HasOneQueue s → s.account.down ≡ None
       → ((event : Event) → IsTurned s (after_turn event s) → IsServed (after_turn event s) (served_turns infos (turns_of (after_turn event s)) (after_turn event s)))
       → IsServed s (served_turns infos (turns_of s) s)
@@ -87,7 +102,10 @@ module _ (infos : List Info) (queues : (m : ℕ) → queue_in infos m ≡ 0) whe
       cleaned-too : (t : Running) → IsServed s t → IsServed s (cleaned t)
       cleaned-too t h = record {
         one = record { stop = h.one.stop; stops = h.one.stops; known = h.one.known; hand = h.one.hand; busies = h.one.busies };
-        active = h.active; no_more = h.no_more; fewer = h.fewer; ends = h.ends;
+        active = h.active;
+        no_more = h.no_more;
+        fewer = h.fewer;
+        ends = h.ends;
       }
 
 -- ROUNDS
@@ -138,11 +156,18 @@ done-open a stops none = one_done a 0 stops ∙ ap (λ next. is_some a.down || i
 -- what a round leaves: less is held, or the station is done
 pub record IsRound (s t : Running) : Type 0 where
   pub one : HasOneQueue t
+  pub active : t.account.down ≡ None
   pub fewer : (length (held t.account) < length (held s.account)) ⊎ (is_done t.account ≡ true)
+
+-- an active station is done
+pub record IsEnded (s : Running) : Type 0 where
+  pub one : HasOneQueue s
+  pub active : s.account.down ≡ None
+  pub done : is_done s.account ≡ true
 
 module _ (infos : List Info) (queues : (m : ℕ) → queue_in infos m ≡ 0) where
   pub is_round : (s : Running) → HasOneQueue s → is_done s.account ≡ false → IsRound s (served infos (opened s))
-  is_round s one not_done = record { one = after_it.one; fewer = fewer (cases_lt 0 (length (held (opened s).account))) }
+  is_round s one not_done = record { one = after_it.one; active = after_it.active; fewer = fewer (cases_lt 0 (length (held (opened s).account))) }
     where
       woken : IsWoken s (opened s)
       woken = is_woken s one not_done
@@ -175,14 +200,14 @@ module _ (infos : List Info) (queues : (m : ℕ) → queue_in infos m ≡ 0) whe
       by_done (λ fewer next. rounds-enough rounds (served infos (opened s)) next (omega arith)) (cases_Bool (is_done s.account))
     where
       by_fewer : (length (held (served infos (opened s)).account) < length (held s.account)
-            → HasOneQueue (served infos (opened s)) → finished_rounds infos (suc rounds) (served infos (opened s)) ≡ finished_rounds infos rounds (served infos (opened s)))
+          → HasOneQueue (served infos (opened s)) → finished_rounds infos (suc rounds) (served infos (opened s)) ≡ finished_rounds infos rounds (served infos (opened s)))
           → (length (held (served infos (opened s)).account) < length (held s.account)) ⊎ (is_done (served infos (opened s)).account ≡ true)
           → HasOneQueue (served infos (opened s)) → finished_rounds infos (suc rounds) (served infos (opened s)) ≡ finished_rounds infos rounds (served infos (opened s))
       by_fewer again (inl fewer) next = again fewer next
       by_fewer again (inr done) next = rounds-done (suc rounds) _ done ∙ sym (rounds-done rounds _ done)
 
       by_done : (length (held (served infos (opened s)).account) < length (held s.account)
-            → HasOneQueue (served infos (opened s)) → finished_rounds infos (suc rounds) (served infos (opened s)) ≡ finished_rounds infos rounds (served infos (opened s)))
+          → HasOneQueue (served infos (opened s)) → finished_rounds infos (suc rounds) (served infos (opened s)) ≡ finished_rounds infos rounds (served infos (opened s)))
           → (is_done s.account ≡ true) ⊎ (is_done s.account ≡ false) → finished_rounds infos (suc (suc rounds)) s ≡ finished_rounds infos (suc rounds) s
       by_done again (inl done) = rounds-done (suc (suc rounds)) s done ∙ sym (rounds-done (suc rounds) s done)
       by_done again (inr not_done) = let round = is_round s one not_done in
@@ -191,6 +216,24 @@ module _ (infos : List Info) (queues : (m : ℕ) → queue_in infos m ≡ 0) whe
   rounds-more : (more rounds : ℕ) (s : Running) → HasOneQueue s → length (held s.account) < rounds → finished_rounds infos (more + rounds) s ≡ finished_rounds infos rounds s
   rounds-more zero rounds s one enough = ap (λ n. finished_rounds infos n s) (zero-add rounds)
   rounds-more (suc more) rounds s one enough = ap (λ n. finished_rounds infos n s) (suc-add more rounds) ∙ rounds-enough (more + rounds) s one (omega arith) ∙ rounds-more more rounds s one enough
+
+  -- they leave the station done, and an active one active
+  pub rounds_end : (rounds : ℕ) (s : Running) → HasOneQueue s → s.account.down ≡ None → length (held s.account) < rounds → IsEnded (finished_rounds infos rounds s)
+  rounds_end zero s one active enough = absurd (omega arith)
+  rounds_end (suc rounds) s one active enough = by_done (λ fewer next still. rounds_end rounds (served infos (opened s)) next still (omega arith)) (cases_Bool (is_done s.account))
+    where
+      behind : (length (held (served infos (opened s)).account) < length (held s.account) → IsEnded (finished_rounds infos rounds (served infos (opened s))))
+          → IsRound s (served infos (opened s)) → (length (held (served infos (opened s)).account) < length (held s.account)) ⊎ (is_done (served infos (opened s)).account ≡ true)
+          → IsEnded (finished_rounds infos rounds (served infos (opened s)))
+      behind again round (inl fewer) = again fewer
+      behind again round (inr done) = subst IsEnded (sym (rounds-done rounds (served infos (opened s)) done)) (record { one = round.one; active = round.active; done = done })
+
+      by_done : (length (held (served infos (opened s)).account) < length (held s.account) → HasOneQueue (served infos (opened s)) → (served infos (opened s)).account.down ≡ None
+          → IsEnded (finished_rounds infos rounds (served infos (opened s))))
+          → (is_done s.account ≡ true) ⊎ (is_done s.account ≡ false) → IsEnded (finished_rounds infos (suc rounds) s)
+      by_done again (inl done) = subst IsEnded (sym (rounds-done (suc rounds) s done)) (record { one = one; active = active; done = done })
+      by_done again (inr not_done) = let round = is_round s one not_done in
+          subst IsEnded (sym (rounds-next rounds s not_done)) (behind (λ fewer. again fewer round.one round.active) round round.fewer)
 
   -- a station that is done is finished but for its purge
   pub finished_done : (s : Running) → is_done s.account ≡ true → finished infos s ≡ record s { account = purged_if_hung s.account }

@@ -1,13 +1,13 @@
 -- A station on its way through the packets makes one more event, or several.
-use Rattle.std.proofs.Common.{◌≡◌, ◌≢◌, ℕ, zero, suc, ◌+◌, ◌-◌, ◌<◌, ◌≤◌, ◌==◌, Bool, true, false, List, [], ◌∷◌, ◌++◌, ◌⊎◌, inl, inr, length, Option, Some, None, is_some, nat_lt, if◌then◌else◌, Contains, option_to_list, slice_get, filter_map, refl, sym, ap, ap₂, subst, ◌∙◌, arith, length-append}
-use Rattle.std.specs.Prelude.{slice_index, slice_set}
+use Rattle.std.proofs.Common.{◌≡◌, ◌≢◌, ℕ, zero, suc, ◌+◌, ◌-◌, ◌<◌, true, List, [], ◌∷◌, ◌++◌, ◌⊎◌, inl, inr, length, Some, None, Contains, slice_get, refl, sym, ap, ap₂, subst, ◌∙◌, arith, length-append}
+use Rattle.std.specs.Prelude.{slice_index}
 use Rattle.std.specs.List.{cons_option}
-use Rattle.std.proofs.lemmas.Bool.{cases_lt, cases_eq, true≢false, lt-ltb, ltb-true, eq-eqb}
+use Rattle.std.proofs.lemmas.Bool.{cases_lt, cases_eq}
 use Rattle.lq_model.specs.Band.{MayBeFull}
-use Rattle.lq_model.specs.Account.{Account, Event, Join, Full, Empty, Take, Pick, Direct, Send, Back, Stop, Wake, Purge, held, held_in, is_hung, after, after_all, sent_from_hand, with_at}
-use Rattle.lq_model.specs.Alone.{answered, next_taken, hung_up_to, holds}
-use Rattle.lq_model.specs.Legal.{IsLegal, IsLegalNext, IsQueueSentOn, MayCome, IsPlanned, IsInTurn, IsNew, MayTake, brought, brought_by, was_empty}
-use Rattle.lq_model.specs.Plan.{Plan, owner_in, station_in, band_in, queue_in}
+use Rattle.lq_model.specs.Account.{Account, Event, Join, Full, Empty, Take, Pick, Direct, Send, Back, Stop, Wake, Purge, held, held_in, is_hung, after, sent_from_hand}
+use Rattle.lq_model.specs.Alone.{answered, next_taken, hung_up_to}
+use Rattle.lq_model.specs.Legal.{IsLegalNext, IsQueueSentOn, MayCome, IsPlanned, IsInTurn, IsNew, MayTake, brought, brought_by, was_empty}
+use Rattle.lq_model.specs.Plan.{Plan, station_in, band_in, queue_in}
 use Rattle.lq_model.specs.declared.device.Tx.{Tx}
 use Rattle.lq_model.specs.declared.device.Tx.TheVariants.{Sent, SentStop, SentHang, Busy}
 use Rattle.lq_model.specs.declared.fate.Cause.TheVariants.{Hung}
@@ -167,8 +167,8 @@ last-is : (xs : List ℕ) (m : ℕ) → slice_get (xs ++ m ∷ []) (length (xs +
 last-is xs m = ap (slice_get (xs ++ m ∷ [])) (omega (arith, length-append xs (m ∷ []))) ∙ at-end xs m
 
 -- the last that the unit sent is the packet that was in hand
-sent-last : (infos : List Info) (a : Account) (m : ℕ) → a.hand ≡ Some m → queue_in infos m ≡ 0 → IsQueueSentOn infos (after Send a) 0
-sent-last infos a m hand queue = subst (λ h. IsQueueSentOn infos (sent_from_hand h a) 0) (sym hand)
+pub sent_last : (infos : List Info) (a : Account) (m : ℕ) → a.hand ≡ Some m → queue_in infos m ≡ 0 → IsQueueSentOn infos (after Send a) 0
+sent_last infos a m hand queue = subst (λ h. IsQueueSentOn infos (sent_from_hand h a) 0) (sym hand)
     (m, subst (λ sent. slice_get sent (length sent - 1) ≡ Some m) (sym (with_at_same a.unit (a.sent a.unit ++ m ∷ []) a.sent)) (last-is (a.sent a.unit) m), queue)
 
 -- the device answers to the packet in hand, with one queue that is open
@@ -176,7 +176,7 @@ pub at_answer : {plan : Plan} {infos : List Info} {station n : ℕ} {a : Account
     → a.hand ≡ Some m → a.slot ≡ None → a.stops ≡ 0 ∷ [] → queue_in infos m ≡ 0 → IsAt plan infos station n a → IsAt plan infos station n (answered answer 0 a)
 at_answer Sent m hand slot stops queue h = sends m h hand stops queue
 at_answer {infos = infos} {a = a} SentStop m hand slot stops queue h = more (Stop 0 1) (sends m h hand stops queue) refl
-    (record { may_come = inl (refl, refl, sent-last infos a m hand queue); planned = tt; in_turn = tt })
+    (record { may_come = inl (refl, refl, sent_last infos a m hand queue); planned = tt; in_turn = tt })
 at_answer {plan = plan} {infos = infos} {station = station} {n = n} {a = a} SentHang m hand slot stops queue h =
     subst (λ queues. IsAt plan infos station n (hung_up_to queues (after Send a))) (sym (ap length stops))
     (more (Stop 0 2) (sends m h hand stops queue) refl (record { may_come = inr (refl, refl); planned = tt; in_turn = tt }))

@@ -1,6 +1,6 @@
 -- What the holder of the run lock takes next: the packet of the requeue slot, or else the first of the lowest band that
 -- holds something.
-use Rattle.std.proofs.Common.{◌≡◌, ℕ, zero, suc, ◌+◌, ◌-◌, ◌<◌, ◌≤◌, Bool, true, false, List, [], ◌∷◌, ◌++◌, ◌⊎◌, inl, inr, length, drop, Option, Some, None, is_some, nat_lt, if◌then◌else◌, option_to_list, slice_get, refl, sym, ap, subst, ◌∙◌, arith, length-append, length-drop}
+use Rattle.std.proofs.Common.{◌≡◌, ℕ, ◌+◌, ◌<◌, Bool, true, false, List, [], ◌∷◌, ◌++◌, length, Option, Some, None, is_some, nat_lt, if◌then◌else◌, option_to_list, slice_get, refl, sym, ap, subst, ◌∙◌, arith, length-append, length-drop}
 use Rattle.std.proofs.lemmas.Bool.{true≢false, lt-ltb, ltb-true, cond-true, cond-false}
 use Rattle.lq_model.specs.Band.{Band, held_of, taken_by}
 use Rattle.lq_model.specs.Account.{Account, Event, Take, Pick, held, held_in, after}
@@ -91,7 +91,7 @@ held_none a next = by_slot a.slot next
     by_band_0 [] ys zs next = by_band_1 ys zs next
     by_band_0 (x ∷ xs) ys zs next =
         cc (cond-true {A = Option Event} _ (Some (Take 0)) (if nat_lt 0 (length ys) then Some (Take 1) else if nat_lt 0 (length zs) then Some (Take 2) else None)
-            (lt-ltb 0 (length (x ∷ xs)) (omega arith)))
+        (lt-ltb 0 (length (x ∷ xs)) (omega arith)))
 
     by_slot : (slot : Option ℕ)
         → (if is_some slot then Some Pick else if holds a 0 then Some (Take 0) else if holds a 1 then Some (Take 1) else if holds a 2 then Some (Take 2) else None) ≡ None
@@ -126,21 +126,53 @@ taken-length b some = omega (arith, length-drop b.taken b.line, length-drop (b.t
 
 pub in_hand : {a : Account} {event : Event} → IsTurn a event → IsInHand a (after event a)
 in_hand {a = a} (picks m slot) = record {
-  packet = m; hand = slot; slot = refl; fewer = fewer;
-  len = refl; unit = refl; sent = refl; fates = refl; stops = refl; down = refl;
+  packet = m;
+  hand = slot;
+  slot = refl;
+  fewer = fewer;
+  len = refl;
+  unit = refl;
+  sent = refl;
+  fates = refl;
+  stops = refl;
+  down = refl;
 }
   where
     fewer : length (held (after Pick a)) + 1 ≡ length (held a)
     fewer = let one : length (option_to_list a.slot) ≡ 1 = ap (λ slot. length (option_to_list slot)) slot in omega (arith, length_held a, length-append (held_in a 0) (held_in a 1 ++ held_in a 2), length-append (held_in a 1) (held_in a 2))
 in_hand {a = a} (takes_0 slot some) = record {
-  packet = (first_of_some _ some).0; hand = (first_of_some _ some).1; slot = slot; fewer = omega (arith, taken-length (a.bands 0) some, length_held a, length_held (after (Take 0) a));
-  len = refl; unit = refl; sent = refl; fates = refl; stops = refl; down = refl;
+  packet = (first_of_some _ some).0;
+  hand = (first_of_some _ some).1;
+  slot = slot;
+  fewer = omega (arith, taken-length (a.bands 0) some, length_held a, length_held (after (Take 0) a));
+  len = refl;
+  unit = refl;
+  sent = refl;
+  fates = refl;
+  stops = refl;
+  down = refl;
 }
 in_hand {a = a} (takes_1 slot empty_0 some) = record {
-  packet = (first_of_some _ some).0; hand = (first_of_some _ some).1; slot = slot; fewer = omega (arith, taken-length (a.bands 1) some, length_held a, length_held (after (Take 1) a));
-  len = refl; unit = refl; sent = refl; fates = refl; stops = refl; down = refl;
+  packet = (first_of_some _ some).0;
+  hand = (first_of_some _ some).1;
+  slot = slot;
+  fewer = omega (arith, taken-length (a.bands 1) some, length_held a, length_held (after (Take 1) a));
+  len = refl;
+  unit = refl;
+  sent = refl;
+  fates = refl;
+  stops = refl;
+  down = refl;
 }
 in_hand {a = a} (takes_2 slot empty_0 empty_1 some) = record {
-  packet = (first_of_some _ some).0; hand = (first_of_some _ some).1; slot = slot; fewer = omega (arith, taken-length (a.bands 2) some, length_held a, length_held (after (Take 2) a));
-  len = refl; unit = refl; sent = refl; fates = refl; stops = refl; down = refl;
+  packet = (first_of_some _ some).0;
+  hand = (first_of_some _ some).1;
+  slot = slot;
+  fewer = omega (arith, taken-length (a.bands 2) some, length_held a, length_held (after (Take 2) a));
+  len = refl;
+  unit = refl;
+  sent = refl;
+  fates = refl;
+  stops = refl;
+  down = refl;
 }

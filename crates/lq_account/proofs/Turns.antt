@@ -1,8 +1,8 @@
 -- Serving a station with one queue, turn by turn.
-use Rattle.std.proofs.Common.{◌≡◌, ◌≢◌, ℕ, zero, suc, ◌+◌, ◌-◌, ◌<◌, ◌≤◌, ◌==◌, Bool, true, false, not, ◌&&◌, ◌||◌, List, [], ◌∷◌, ◌++◌, ◌⊎◌, inl, inr, length, Option, Some, None, is_some, is_none, nat_lt, if◌then◌else◌, option_to_list, refl, sym, ap, ap₂, subst, ◌∙◌, add-one, arith, length-append}
+use Rattle.std.proofs.Common.{◌≡◌, ◌≢◌, ℕ, zero, suc, ◌+◌, ◌<◌, ◌≤◌, ◌==◌, Bool, true, false, not, ◌&&◌, ◌||◌, List, [], ◌∷◌, ◌⊎◌, inl, inr, length, Some, None, is_some, nat_lt, if◌then◌else◌, option_to_list, refl, sym, ap, ap₂, ◌∙◌, add-one, arith}
 use Rattle.std.specs.Option.{option_map_or}
-use Rattle.std.proofs.lemmas.Bool.{cond-true, cond-false, cases_eq, and_parts, eq-eqb, ne_eqb, ltb-true, true≢false}
-use Rattle.lq_model.specs.Band.{Band, held_of}
+use Rattle.std.proofs.lemmas.Bool.{cond-true, cond-false, and_parts, ne_eqb, ltb-true}
+use Rattle.lq_model.specs.Band.{held_of}
 use Rattle.lq_model.specs.Account.{Account, Event, Back, held, is_open, after}
 use Rattle.lq_model.specs.Alone.{Running, answered, cleaned, is_left, next_answer, next_taken, offered, queue_in_hand, hand_served, taken_served, served, served_turns, turns_of}
 use Rattle.lq_model.specs.Device.{Telling, answer_of, is_busy, is_multiple, told_after}
@@ -10,9 +10,9 @@ use Rattle.lq_model.specs.Plan.{queue_in}
 use Rattle.lq_model.specs.declared.device.Tx.{Tx}
 use Rattle.lq_model.specs.declared.device.Tx.TheVariants.{Sent, SentStop, SentHang, Busy}
 use Rattle.lq_model.specs.declared.fate.Info.{Info}
-use Rattle.lq_account.proofs.Answers.{IsAnswered, is_answered, slot_behind, stop_behind}
+use Rattle.lq_account.proofs.Answers.{IsAnswered, is_answered, slot_behind}
 use Rattle.lq_account.proofs.OneQueue.{one_left, one_open}
-use Rattle.lq_account.proofs.Taken.{IsInHand, IsTurn, held_none, in_hand, length_held, next_is, next_none, turn_of}
+use Rattle.lq_account.proofs.Taken.{IsInHand, IsTurn, in_hand, length_held, next_none, turn_of}
 
 -- STATIONS WITH ONE QUEUE
 
@@ -44,7 +44,7 @@ after_turn event s = offered 0 (record s { account = after event s.account })
 busy-answer : (t : Telling) (n : ℕ) → is_busy (answer_of t n) ≡ true → t.busies < t.params.busy_limit
 busy-answer t n busy =
     by_test (is_multiple (n + t.busies + 1) t.params.busy_every && nat_lt t.busies t.params.busy_limit) (nat_lt 0 t.params.hang_after && (n + 1 == t.params.hang_after))
-        (is_multiple (n + 1) t.params.burst) refl busy
+    (is_multiple (n + 1) t.params.burst) refl busy
   where
     by_test : (b hang stop : Bool) → (is_multiple (n + t.busies + 1) t.params.busy_every && nat_lt t.busies t.params.busy_limit) ≡ b
         → is_busy (if b then Busy else if hang then SentHang else if stop then SentStop else Sent) ≡ true → t.busies < t.params.busy_limit
@@ -144,7 +144,7 @@ module _ (infos : List Info) (queues : (m : ℕ) → queue_in infos m ≡ 0) whe
       cond-false _ _ _ (left_open s.account active stops)
       ∙ ap (λ o. taken_served infos (served_turns infos turns) o s) next
       ∙ hand-offered infos (served_turns infos turns) (record s { account = after event s.account })
-          (ap (λ hand. option_map_or (queue_in infos) hand 0) h.hand ∙ queues h.packet) (one_open (after event s.account) 0 (h.stops ∙ stops))
+      (ap (λ hand. option_map_or (queue_in infos) hand 0) h.hand ∙ queues h.packet) (one_open (after event s.account) 0 (h.stops ∙ stops))
     where
       h : IsInHand s.account (after event s.account)
       h = in_hand (turn_of s.account event next)
