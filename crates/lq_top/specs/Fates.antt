@@ -1,5 +1,5 @@
 -- What the fates of a run are, and what its devices did.
-use Rattle.std.specs.Prelude.{◌≡◌, ◌<◌, ℕ, true, List, map, length, take, Some, slice_get, IsSome, All}
+use Rattle.std.specs.Prelude.{◌≡◌, ◌<◌, ℕ, true, List, map, length, take, Some, slice_get, Option, IsSome, All}
 use Rattle.lq_model.specs.Alone.{alone}
 use Rattle.lq_model.specs.Device.{DeviceState}
 use Rattle.lq_model.specs.Plan.{Plan, unit_count}
@@ -33,3 +33,7 @@ pub record AreFatesOf (plan : Plan) (infos : List Info) (fates : List Fate) (bef
   pub as_told : AllTell (unit_count plan) before → HangsAsTold plan fates
   -- where they tell and there is one sender, the fates are those of its run
   pub alone : AllTell (unit_count plan) before → plan.senders ≡ 1 → map (λ fate. Some fate) fates ≡ alone plan infos
+
+-- the same of a list of options, once each is a fate
+abbrev pub AreOptionsOf : Plan → List Info → List (Option Fate) → List DeviceState → List DeviceState → Type 0
+AreOptionsOf plan infos options before behind = (fates : List Fate) → map (λ fate. Some fate) fates ≡ options → AreFatesOf plan infos fates before behind

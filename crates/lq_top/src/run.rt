@@ -68,7 +68,7 @@ fn wake_behind<D: TxDevice>(
 }
 
 /// Sends all packets in ascending number.
-fn transmit_all<D: TxDevice, G: Gate>(
+pub fn transmit_all<D: TxDevice, G: Gate>(
     plan: &Plan,
     infos: &[Info],
     queues: &mut Vec<Queue<D>>,
@@ -92,7 +92,7 @@ fn transmit_all<D: TxDevice, G: Gate>(
 }
 
 /// Finishes every station.
-fn finish_all<D: TxDevice>(queues: &mut Vec<Queue<D>>, fates: &mut [Option<Fate>])
+pub fn finish_all<D: TxDevice>(queues: &mut Vec<Queue<D>>, fates: &mut [Option<Fate>])
     requires may { (plan : PlanRecord) × (infos : List Info) × SomeStand plan infos (length infos) queues.old.items fates.old }
     ensures { (plan : PlanRecord) (infos : List Info) (before : List DeviceState) (run_at : ℕ → Option Running)
         → AllStand plan infos before (length infos) queues.old.items fates.old run_at

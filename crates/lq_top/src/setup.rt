@@ -1,7 +1,7 @@
 //! What a run of one sender needs before its first packet, and what it leaves behind its last.
 //!
 //! All memory is taken before a device leaves the bench. The run itself then takes none, so that each device that left comes back.
-ghost use Rattle.std.specs.Prelude.{◌≡◌, ◌≤◌, ◌+◌, ◌++◌, ℕ, [], List, Option, None, All, IfOk, OnOk, IsSome, drop, length, map, replicate, slice_get, vec_len, vec_capacity};
+ghost use Rattle.std.specs.Prelude.{◌≡◌, ◌≤◌, ◌+◌, ◌++◌, ℕ, [], List, Option, None, All, IfOk, OnOk, IsSome, Some, drop, length, map, replicate, slice_get, vec_len, vec_capacity};
 ghost use Rattle.lq_model.specs.Alone.{new_stations};
 ghost use Rattle.lq_model.specs.Device.{DeviceState};
 ghost use Rattle.lq_model.specs.declared.fate.Info.{Info};
@@ -79,7 +79,7 @@ pub fn configure_units<D: TxDevice>(
 /// Takes the device of each station out of the bench, into a queue of its own over the station's bands. Takes no memory.
 pub fn open_stations<D: TxDevice>(
     plan: &Plan,
-    bands: Vec<Bands>,
+    mut bands: Vec<Bands>,
     bench: &mut Vec<D>,
     queues: &mut Vec<Queue<D>>,
 )
@@ -96,12 +96,11 @@ pub fn open_stations<D: TxDevice>(
     ensures len { length plan.now.stations + vec_len bench.new ≡ vec_len bench.old }
     ensures capacity { vec_capacity bench.new ≡ vec_capacity bench.old }
 {
-    let mut station = 0;
-    for bands in bands {
+    for station in 0..plan.stations() {
         let device = bench.remove(0);
+        let bands = bands.remove(0);
         let bypass = plan.station(station).bypass;
         queues.push_reserved(Queue::new(station, device, bands, bypass));
-        station += 1;
     }
 }
 
@@ -122,7 +121,7 @@ pub fn settle(fates: &[Option<Fate>], into: &mut Vec<Fate>)
     requires each { All (λ fate. IsSome fate) fates.now }
     requires none_yet { into.old.items ≡ [] }
     requires room { length fates.now ≤ vec_capacity into.old }
-    ensures { map (λ fate. Option.Some fate) into.new.items ≡ fates.now }
+    ensures { map (λ fate. Some fate) into.new.items ≡ fates.now }
 {
     for fate in fates {
         if let Some(fate) = fate {
