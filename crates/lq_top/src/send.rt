@@ -58,7 +58,6 @@ fn send_ready<D: TxDevice, G: Gate>(
     ensures fates { (before : List DeviceState) → IsReady plan.now infos.now before (map D.state bench.old.items) fates.old
         → AreOptionsOf plan.now infos.now fates.new before (map D.state bench.new.items) }
     ensures each { All (λ fate. IsSome fate) fates.new }
-    ensures one_each { length fates.new ≡ length fates.old }
     ensures others { drop (length plan.now.stations) bench.new.items ≡ drop (length plan.now.stations) bench.old.items }
     ensures len { vec_len bench.new ≡ vec_len bench.old }
 {
