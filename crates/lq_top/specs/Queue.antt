@@ -299,6 +299,15 @@ pub record MayTransmit (n band : ℕ) (q : QueueState) (fates : List (Option Fat
   pub stands : StandsFor setting n (rest + 1) q fates account
   pub next : IsNextPacket setting n band
 
+-- packet n may go past the bands, since nothing is held
+pub record MaySendDirect (n : ℕ) (q : QueueState) (fates : List (Option Fate)) : Type 0 where
+  pub setting : Setting
+  pub rest : ℕ
+  pub account : Account
+  pub stands : StandsFor setting n (rest + 1) q fates account
+  pub packet : IsPacketOf setting.infos setting.station n
+  pub clean : q.clean ≡ true
+
 -- A station begins: none of its packets has a fate, and its device, which was just configured, has room for all of them.
 pub record Begins (s : Setting) (rest : ℕ) (device : DeviceState) (fates : List (Option Fate)) : Type 0 where
   pub one_queue : (m : ℕ) → queue_in s.infos m ≡ 0
