@@ -1,6 +1,6 @@
 -- All stations of a run, when one of them moves.
 use Rattle.std.proofs.Common.{◌≡◌, ◌≢◌, ◌⊎◌, inl, inr, ℕ, zero, suc, ◌+◌, ◌<◌, ◌≤◌, Bool, true, false, List, [], ◌∷◌, length, refl, ap, arith, Option, Some, None, sym, ◌∙◌, subst, map}
-use Rattle.std.specs.Prelude.{slice_get, option_map, if◌then◌else◌, ◌==◌, ◌%◌, nat_lt}
+use Rattle.std.specs.Prelude.{slice_get, slice_set, option_map, if◌then◌else◌, ◌==◌, ◌%◌, nat_lt}
 use Rattle.std.proofs.lemmas.Option.{slice_get_within, slice_get-map}
 use Rattle.lq_account.proofs.Offers.{served_idle}
 use Rattle.lq_account.proofs.Turns.{served_left, left_stopped}
@@ -12,7 +12,7 @@ use Rattle.lq_model.specs.declared.fate.Fate.{Fate}
 use Rattle.lq_model.specs.declared.fate.Info.{Info}
 use Rattle.lq_top.proofs.StationLemmas.{changed_there, finished_aside, station_aside, station_beside}
 use Rattle.lq_top.specs.Fates.{AllTell}
-use Rattle.lq_top.specs.Queue.{QueueState, Setting, Goes, Moves, Does, StandsFor, SameElsewhere, HasFates, Finishes, Matches, device_of, running, stop_number, transmitted, woken}
+use Rattle.lq_top.specs.Queue.{QueueState, Setting, Goes, Moves, Does, StandsFor, StandsForSome, SameElsewhere, HasFates, Finishes, Matches, device_of, running, stop_number, transmitted, woken}
 use Rattle.lq_top.specs.Stations.{AllAt, AllStand, FirstFinished, AllFinished, IsFinishedBelow, StationStands, StationFinished, IsRunningAt, setting_at, still_to_come, with_change, packet_step, turn_step, with_first_changed}
 use Rattle.lq_top.specs.declared.queue.stop_value.StopValue.{StopValue}
 use Rattle.lq_top.specs.declared.queue.stop_value.StopValue.TheVariants as stop
@@ -196,3 +196,81 @@ served_stands s n rest q fates a t stands = elim (stop-cases q.stop) [
   where
     matches : Matches s.infos s.station rest None q fates a
     matches = stands.underway.matches
+
+-- THE LOOPS
+
+-- the first so many stations were woken
+pub record FirstWoken (k : ℕ) (queues queues' : List QueueState) (fates fates' : List (Option Fate)) : Type 0 where
+  pub same_length : length queues' ≡ length queues
+  pub stand : (plan : Plan) (infos : List Info) (before : List DeviceState) (n : ℕ) (run_at : ℕ → Option Running)
+    → AllStand plan infos before n queues fates run_at
+    → AllStand plan infos before n queues' fates' (with_first_changed k (woken infos) run_at)
+
+pub none_woken : (queues : List QueueState) (fates : List (Option Fate)) → FirstWoken 0 queues queues fates fates
+none_woken queues fates = record {
+  same_length = refl;
+  stand = λ plan infos before n run_at all.
+      same_runs (λ station q a. StationStands plan infos station n q fates a) plan before queues run_at (with_first_changed 0 (woken infos) run_at) (λ station below. none_changed (woken infos) run_at station) all;
+}
+
+-- station k is woken next
+pub one_more_woken :
+    (k : ℕ) (old new : QueueState) (start queues queues' : List QueueState) (fates₀ fates fates' : List (Option Fate))
+    → FirstWoken k start queues fates₀ fates → OneChanged k old new queues queues'
+    → ((s : Setting) (n rest : ℕ) (a : Account) → StandsFor s n rest old fates a → Goes (woken s.infos) s n rest old new fates fates' a)
+    → new.bypass ≡ old.bypass
+    → FirstWoken (k + 1) start queues' fates₀ fates'
+one_more_woken k old new start queues queues' fates₀ fates fates' first changed goes bypass = record {
+  same_length = changed.same_length ∙ first.same_length;
+  stand = λ plan infos before n run_at all.
+      let stands = first.stand plan infos before n run_at all in
+      same_runs (λ station q a. StationStands plan infos station n q fates' a) plan before queues'
+          (with_change k (woken infos) (with_first_changed k (woken infos) run_at)) (with_first_changed (k + 1) (woken infos) run_at)
+          (λ station below. one_more_changed (woken infos) run_at k station)
+          (woken_one plan infos before n k old new queues queues' fates fates' (with_first_changed k (woken infos) run_at) stands changed
+          (goes (setting_at plan infos k) n (still_to_come infos k n) (stands.accounts k) (stands.each k old changed.before).stands) bypass);
+}
+
+pub all_woken :
+    (k : ℕ) (start queues : List QueueState) (fates₀ fates : List (Option Fate)) → length start ≤ k → FirstWoken k start queues fates₀ fates
+    → (plan : Plan) (infos : List Info) (before : List DeviceState) (n : ℕ) (run_at : ℕ → Option Running)
+    → AllStand plan infos before n start fates₀ run_at → AllStand plan infos before n queues fates (λ station. option_map (woken infos) (run_at station))
+all_woken k start queues fates₀ fates enough first plan infos before n run_at all =
+    same_runs (λ station q a. StationStands plan infos station n q fates a) plan before queues (with_first_changed k (woken infos) run_at) (λ station. option_map (woken infos) (run_at station))
+        (λ station below. all_changed (woken infos) run_at k station (let e = first.same_length in omega arith)) (first.stand plan infos before n run_at all)
+
+-- the queue of a station that stands stands for some account
+pub stands_for_some : (plan : Plan) (infos : List Info) (before : List DeviceState) (n : ℕ) (queues : List QueueState) (fates : List (Option Fate)) (run_at : ℕ → Option Running)
+    → AllStand plan infos before n queues fates run_at → (station : ℕ) (q : QueueState) → slice_get queues station ≡ Some q → StandsForSome q fates
+stands_for_some plan infos before n queues fates run_at all station q here = record {
+  setting = setting_at plan infos station;
+  n = n;
+  rest = still_to_come infos station n;
+  account = all.accounts station;
+  stands = (all.each station q here).stands;
+}
+
+set-same : (xs : List QueueState) (k : ℕ) (x : QueueState) → k < length xs → slice_get (slice_set xs k x) k ≡ Some x
+set-same [] k x below = absurd (omega arith)
+set-same (y ∷ ys) zero x below = refl
+set-same (y ∷ ys) (suc k) x below = set-same ys k x (omega arith)
+
+set-other : (xs : List QueueState) (k j : ℕ) (x : QueueState) → j ≢ k → slice_get (slice_set xs k x) j ≡ slice_get xs j
+set-other [] k j x other = refl
+set-other (y ∷ ys) zero zero x other = absurd (other refl)
+set-other (y ∷ ys) zero (suc j) x other = refl
+set-other (y ∷ ys) (suc k) zero x other = refl
+set-other (y ∷ ys) (suc k) (suc j) x other = set-other ys k j x (λ e. other (ap suc e))
+
+set-length : (xs : List QueueState) (k : ℕ) (x : QueueState) → length (slice_set xs k x) ≡ length xs
+set-length [] k x = refl
+set-length (y ∷ ys) zero x = refl
+set-length (y ∷ ys) (suc k) x = ap suc (set-length ys k x)
+
+pub changed_by_set : (queues : List QueueState) (k : ℕ) (old new : QueueState) → slice_get queues k ≡ Some old → OneChanged k old new queues (slice_set queues k new)
+changed_by_set queues k old new there = record {
+  before = there;
+  behind = set-same queues k new (slice_get_within queues k old there);
+  others = λ j other. set-other queues k j new other;
+  same_length = set-length queues k new;
+}
