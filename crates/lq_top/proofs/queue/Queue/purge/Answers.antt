@@ -1,7 +1,6 @@
-use Rattle.std.proofs.Common.{List, Option, Some, None, slice_set, sym, ap, subst, ◌∙◌}
+use Rattle.std.proofs.Common.{Some, None, slice_set, sym, ap, subst, ◌∙◌}
 use Rattle.lq_model.specs.Account.{Purge, after}
 use Rattle.lq_model.specs.declared.fate.Cause.TheVariants as cause
-use Rattle.lq_model.specs.declared.fate.Fate.{Fate}
 use Rattle.lq_model.specs.declared.fate.Fate.TheVariants as fate
 use Rattle.lq_top.specs.Queue.{QueueState, Matches}
 use Rattle.lq_top.proofs.QueueEnds.{Purging, emptying_next, purge_within, purge_goes_on, purge_ends}
