@@ -1,5 +1,5 @@
 -- How a queue is purged, woken and finished.
-use Rattle.std.proofs.Common.{◌≡◌, ◌≢◌, ℕ, ◌+◌, ◌-◌, ◌<◌, ◌≤◌, true, false, ◌||◌, List, [], ◌∷◌, ◌++◌, inl, inr, length, drop, All, Option, Some, None, is_some, is_none, option_to_list, slice_get, refl, sym, ap, ap₂, subst, ◌∙◌, arith, drop_of_length-le, length-drop}
+use Rattle.std.proofs.Common.{◌≡◌, ◌≢◌, ℕ, ◌<◌, ◌≤◌, true, false, ◌||◌, List, [], ◌∷◌, ◌++◌, inl, inr, length, drop, All, Option, Some, None, is_some, is_none, option_to_list, slice_get, refl, sym, ap, ap₂, subst, ◌∙◌, arith, drop_of_length-le, length-drop}
 use Rattle.std.specs.List.{slice_set}
 use Rattle.std.proofs.lemmas.List.{drop-drop, length-set}
 use Rattle.std.proofs.lemmas.List.Elements.{All-nil}
@@ -49,7 +49,7 @@ settled-matches infos station rest n f q fates a m = record {
     one_each = length-set fates n (Some f) ∙ m.fates_are.one_each;
     each = λ k within at. elim (cases_eq k n) [
       | inl same ↦ subst (λ k. slice_get (slice_set fates n (Some f)) k ≡ Some (with_at n (Some f) a.fates k)) (sym same)
-        (set_here fates n (Some f) (let within = packet.within in let each = m.fates_are.one_each in omega arith) ∙ ap Some (sym (with_at_same n (Some f) a.fates)))
+          (set_here fates n (Some f) (let within = packet.within in let each = m.fates_are.one_each in omega arith) ∙ ap Some (sym (with_at_same n (Some f) a.fates)))
       | inr other ↦ set_apart fates n k (Some f) other ∙ m.fates_are.each k within at ∙ ap Some (sym (with_at_other n k (Some f) a.fates other))
     ];
   };
@@ -402,7 +402,7 @@ module _ (s : Setting) (n rest : ℕ) (old q : QueueState) (fates fates' : List 
           params = d.params ∙ l.params;
           same = ap (finished s.infos) d.does
               ∙ sym (finished_next s.infos p.stands.underway.one_queue (running p.account q l.device)
-                  (one-queue s n rest q fates' p.account p.stands.underway l.device l.told) (not-done s n rest q fates' p.account p.stands.underway stopped))
+              (one-queue s n rest q fates' p.account p.stands.underway l.device l.told) (not-done s n rest q fates' p.account p.stands.underway stopped))
               ∙ l.same;
         };
   }
