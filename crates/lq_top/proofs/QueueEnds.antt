@@ -1,24 +1,22 @@
--- How a queue begins, is woken, is purged, and is finished.
-use Rattle.std.proofs.Common.{◌≡◌, ◌≢◌, ◌↔◌, ℕ, zero, suc, ◌+◌, ◌-◌, ◌<◌, ◌≤◌, ◌==◌, Bool, true, false, ◌||◌, List, [], ◌∷◌, ◌++◌, ◌⊎◌, inl, inr, length, drop, All, Option, Some, None, is_some, is_none, IfNone, option_to_list, slice_get, refl, sym, ap, ap₂, subst, ◌∙◌, arith, drop_of_length-le, length-drop}
+-- How a queue is purged, woken and finished.
+use Rattle.std.proofs.Common.{◌≡◌, ◌≢◌, ℕ, ◌<◌, ◌≤◌, true, false, ◌||◌, List, [], ◌∷◌, ◌++◌, inl, inr, length, drop, All, Option, Some, None, is_some, is_none, option_to_list, slice_get, refl, sym, ap, ap₂, subst, ◌∙◌, arith, drop_of_length-le, length-drop}
 use Rattle.std.specs.List.{slice_set}
 use Rattle.std.proofs.lemmas.List.{drop-drop, length-set}
 use Rattle.std.proofs.lemmas.List.Elements.{All-nil}
-use Rattle.std.proofs.lemmas.Bool.{cases_eq, true≢false}
-use Rattle.lq_account.specs.Progress.{len_of, start_of}
+use Rattle.std.proofs.lemmas.Bool.{cases_eq}
 use Rattle.lq_account.proofs.Answers.{with_at_same, with_at_other}
 use Rattle.lq_account.proofs.Lists.{fates-cases}
 use Rattle.lq_account.proofs.OneQueue.{one_done, one_hung, one_opened, one_purged}
 use Rattle.lq_account.proofs.Purges.{purge_empties}
 use Rattle.lq_account.proofs.Rounds.{finished_done, finished_next}
 use Rattle.lq_account.proofs.Steps.{at_purge, at_wake}
-use Rattle.lq_account.proofs.Taken.{IsTurn, picks, takes_0, takes_1, takes_2, turn_of, held_none, next_none, slot_none}
+use Rattle.lq_account.proofs.Taken.{IsInHand, IsTurn, picks, takes_0, takes_1, takes_2, turn_of, in_hand, held_none, next_none, slot_none}
 use Rattle.lq_account.proofs.Turns.{HasOneQueue}
-use Rattle.lq_device.specs.Station.{new_station, with_side}
-use Rattle.lq_model.specs.Account.{Account, Event, Take, Pick, Purge, Wake, Fates, SentLists, after, emptied, held, held_in, with_at, with_fates}
-use Rattle.lq_model.specs.Alone.{Running, finished, is_done, next_taken, opened, served}
-use Rattle.lq_model.specs.Band.{Band, empty_band, held_of, taken_by}
-use Rattle.lq_model.specs.Device.{DeviceState, Telling}
-use Rattle.lq_model.specs.Plan.{station_in}
+use Rattle.lq_device.specs.Station.{with_side}
+use Rattle.lq_model.specs.Account.{Account, Event, Purge, Wake, Fates, SentLists, after, emptied, held, held_in, with_at, with_fates}
+use Rattle.lq_model.specs.Alone.{finished, is_done, next_taken, opened, served}
+use Rattle.lq_model.specs.Band.{Band, held_of, taken_by}
+use Rattle.lq_model.specs.Device.{Telling}
 use Rattle.lq_model.specs.declared.fate.Cause.{Cause}
 use Rattle.lq_model.specs.declared.fate.Cause.TheVariants as cause
 use Rattle.lq_model.specs.declared.fate.Fate.{Fate}
@@ -26,9 +24,7 @@ use Rattle.lq_model.specs.declared.fate.Fate.TheVariants as fate
 use Rattle.lq_model.specs.declared.fate.Info.{Info}
 use Rattle.lq_ring_core.specs.Bands.{IsBand}
 use Rattle.lq_ring_core.specs.Ring.{RingState}
-use Rattle.lq_top.specs.Bands.{AreBands, held_by}
-use Rattle.lq_top.specs.Queue.{QueueState, Setting, Matches, HasFates, HasRoom, IsPacketOf, IsSentBy, IsTaken, MeetsRule, MeetsParams, SameElsewhere, IsUnderway, IsServed, StandsFor, Begins, Serves, Goes, Does, Finishes, running, woken, new_queue, device_of, number_held, stop_number, is_hung_value, is_closed_number, work_left, value_opened}
-use Rattle.lq_top.specs.declared.queue.bands.Bands.{Bands}
+use Rattle.lq_top.specs.Queue.{QueueState, Setting, Matches, IsPacketOf, IsTaken, SameElsewhere, IsUnderway, IsServed, StandsFor, Serves, Goes, Finishes, running, woken, device_of, stop_number, is_hung_value, value_opened}
 use Rattle.lq_top.specs.declared.queue.stop_value.StopValue.{StopValue}
 use Rattle.lq_top.specs.declared.queue.stop_value.StopValue.TheVariants.{Open, Stopped, Hung}
 use Rattle.lq_top.proofs.FateLists.{set_here, set_apart, same_itself, same_both, same_set}
@@ -53,7 +49,7 @@ settled-matches infos station rest n f q fates a m = record {
     one_each = length-set fates n (Some f) ∙ m.fates_are.one_each;
     each = λ k within at. elim (cases_eq k n) [
       | inl same ↦ subst (λ k. slice_get (slice_set fates n (Some f)) k ≡ Some (with_at n (Some f) a.fates k)) (sym same)
-        (set_here fates n (Some f) (let within = packet.within in let each = m.fates_are.one_each in omega arith) ∙ ap Some (sym (with_at_same n (Some f) a.fates)))
+          (set_here fates n (Some f) (let within = packet.within in let each = m.fates_are.one_each in omega arith) ∙ ap Some (sym (with_at_same n (Some f) a.fates)))
       | inr other ↦ set_apart fates n k (Some f) other ∙ m.fates_are.each k within at ∙ ap Some (sym (with_at_other n k (Some f) a.fates other))
     ];
   };
@@ -102,38 +98,34 @@ pub record IsPurging (why : Cause) (a b : Account) : Type 0 where
   pub stops : b.stops ≡ a.stops
   pub down : b.down ≡ a.down
 
--- what a turn leaves as it was
-record IsBesideTurn (a b : Account) : Type 0 where
-  len : b.len ≡ a.len
-  lines : (band : ℕ) → (b.bands band).line ≡ (a.bands band).line
-  unit : b.unit ≡ a.unit
-  sent : b.sent ≡ a.sent
-  fates : b.fates ≡ a.fates
-  stops : b.stops ≡ a.stops
-  down : b.down ≡ a.down
-
+-- a packet that is taken stays in the line of its band
 same-line : (bands : ℕ → Band) (at band : ℕ) → (with_at at (taken_by (bands at) 1) bands band).line ≡ (bands band).line
 same-line bands at band = elim (cases_eq band at) [
   | inl same ↦ subst (λ k. (with_at at (taken_by (bands at) 1) bands k).line ≡ (bands k).line) (sym same) (ap (λ (b : Band). b.line) (with_at_same at (taken_by (bands at) 1) bands))
   | inr other ↦ ap (λ (b : Band). b.line) (with_at_other at band (taken_by (bands at) 1) bands other)
 ]
 
-beside-turn : {a : Account} {event : Event} → IsTurn a event → IsBesideTurn a (after event a)
-beside-turn {a = a} (picks m slot) = record { len = refl; lines = λ band. refl; unit = refl; sent = refl; fates = refl; stops = refl; down = refl }
-beside-turn {a = a} (takes_0 slot some) = record { len = refl; lines = same-line a.bands 0; unit = refl; sent = refl; fates = refl; stops = refl; down = refl }
-beside-turn {a = a} (takes_1 slot empty_0 some) = record { len = refl; lines = same-line a.bands 1; unit = refl; sent = refl; fates = refl; stops = refl; down = refl }
-beside-turn {a = a} (takes_2 slot empty_0 empty_1 some) = record { len = refl; lines = same-line a.bands 2; unit = refl; sent = refl; fates = refl; stops = refl; down = refl }
+same-lines : {a : Account} {event : Event} → IsTurn a event → (band : ℕ) → ((after event a).bands band).line ≡ (a.bands band).line
+same-lines {a = a} (picks m slot) = λ band. refl
+same-lines {a = a} (takes_0 slot some) = same-line a.bands 0
+same-lines {a = a} (takes_1 slot empty_0 some) = same-line a.bands 1
+same-lines {a = a} (takes_2 slot empty_0 empty_1 some) = same-line a.bands 2
 
-purging-next : (why : Cause) (n : ℕ) (a b c : Account) → IsPurging why a b → IsBesideTurn b c → held b ≡ n ∷ held c → IsPurging why a (settled (fate.Purged why) n c)
-purging-next why n a b c p h first = record {
+purging-next : (why : Cause) (n : ℕ) (a b : Account) (event : Event) → IsPurging why a b → IsTurn b event → (after event b).hand ≡ Some n
+    → IsPurging why a (settled (fate.Purged why) n (after event b))
+purging-next why n a b event p turn hand = record {
   len = h.len ∙ p.len;
-  lines = λ band. h.lines band ∙ p.lines band;
+  lines = λ band. same-lines turn band ∙ p.lines band;
   unit = h.unit ∙ p.unit;
   sent = h.sent ∙ p.sent;
-  fates = ap (λ fates. with_fates (held c) (fate.Purged why) (with_at n (Some (fate.Purged why)) fates)) h.fates ∙ ap (λ ns. with_fates ns (fate.Purged why) b.fates) (sym first) ∙ p.fates;
+  fates = ap (λ fates. with_fates (held (after event b)) (fate.Purged why) (with_at n (Some (fate.Purged why)) fates)) h.fates
+      ∙ ap (λ ns. with_fates ns (fate.Purged why) b.fates) (sym (in-turn n turn hand)) ∙ p.fates;
   stops = h.stops ∙ p.stops;
   down = h.down ∙ p.down;
 }
+  where
+    h : IsInHand b (after event b)
+    h = in_hand turn
 
 -- how far the purge of a queue has come, from this account
 pub record Purging (infos : List Info) (station rest : ℕ) (q : QueueState) (old fates : List (Option Fate)) (a : Account) : Type 0 where
@@ -157,13 +149,10 @@ module _ (infos : List Info) (station rest : ℕ) (q : QueueState) (old fates : 
   purge_goes_on n new p t = record {
     account = settled (fate.Purged (cause.Hung a.unit)) n (after t.event p.account);
     matches = settled-matches infos station rest n (fate.Purged (cause.Hung a.unit)) new fates (after t.event p.account) t.matches;
-    purging = purging-next (cause.Hung a.unit) n a p.account (after t.event p.account) p.purging (beside-turn turn) (in-turn n turn t.matches.hand_is);
+    purging = purging-next (cause.Hung a.unit) n a p.account t.event p.purging (turn_of p.account t.event t.next) t.matches.hand_is;
     elsewhere = same_both infos station old fates _ p.elsewhere
         (same_set infos station fates n _ (in_hand_is infos station rest n new fates (after t.event p.account) t.matches).of_station);
   }
-    where
-      turn : IsTurn p.account t.event
-      turn = turn_of p.account t.event t.next
 
 -- an empty band is one that was emptied
 is-emptied : (b c : Band) → b.taken ≤ length b.line → held_of b ≡ [] → b.line ≡ c.line → b ≡ emptied c
@@ -357,6 +346,11 @@ module _ (s : Setting) (n rest : ℕ) (old : QueueState) (fates : List (Option F
     left = λ t told. record { device = t; told = told; params = refl; same = refl };
   }
 
+pub open_else : (stop : StopValue) → stop ≢ Stopped → stop ≢ Hung → stop ≡ Open
+open_else Open not_stopped not_hung = refl
+open_else Stopped not_stopped not_hung = absurd (not_stopped refl)
+open_else Hung not_stopped not_hung = absurd (not_hung refl)
+
 known-stop : (stop : StopValue) → stop_number stop ≤ 2
 known-stop Open = omega arith
 known-stop Stopped = omega arith
@@ -408,7 +402,7 @@ module _ (s : Setting) (n rest : ℕ) (old q : QueueState) (fates fates' : List 
           params = d.params ∙ l.params;
           same = ap (finished s.infos) d.does
               ∙ sym (finished_next s.infos p.stands.underway.one_queue (running p.account q l.device)
-                  (one-queue s n rest q fates' p.account p.stands.underway l.device l.told) (not-done s n rest q fates' p.account p.stands.underway stopped))
+              (one-queue s n rest q fates' p.account p.stands.underway l.device l.told) (not-done s n rest q fates' p.account p.stands.underway stopped))
               ∙ l.same;
         };
   }

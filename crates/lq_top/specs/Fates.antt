@@ -1,5 +1,5 @@
 -- What the fates of a run are, and what its devices did.
-use Rattle.std.specs.Prelude.{◌≡◌, ◌<◌, ℕ, true, List, map, length, take, Some, slice_get, IsSome, All}
+use Rattle.std.specs.Prelude.{◌≡◌, ◌<◌, ℕ, true, List, map, Some, slice_get, IsSome}
 use Rattle.lq_model.specs.Alone.{alone}
 use Rattle.lq_model.specs.Device.{DeviceState}
 use Rattle.lq_model.specs.Plan.{Plan, unit_count}

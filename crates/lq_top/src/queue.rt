@@ -14,13 +14,12 @@ ghost use Rattle.lq_model.specs.declared.fate.Fate.{Fate};
 ghost use Rattle.lq_model.specs.declared.fate.Info.{Info};
 ghost use Rattle.lq_top.specs.Bands.{AreBands};
 ghost use Rattle.lq_top.specs.Queue.{QueueState, Setting, Matches, MatchesSome, IsPacketOf, IsNextPacket, IsTaken, MayOffer, Offers, SameElsewhere, IsUnderway, IsSomeUnderway, StandsForSome, StandsFor, MayTransmit, MaySendDirect, Begins, Runs, Serves, Brings, Goes, Finishes, transmitted, woken, new_queue, device_of, turns_left, work_left, value_opened};
-ghost use Rattle.lq_top.specs.declared.queue.stop_value.StopValue.TheVariants.{Open, Stopped};
+ghost use Rattle.lq_top.specs.declared.queue.stop_value.StopValue.TheVariants.{Open, Stopped, Hung};
 
 mod bands;
 mod stop_value;
 
 pub use bands::Bands;
-
 use lq_device::{Station, TxDevice};
 use lq_model::{Cause, Fate, Tx};
 use std::marker::Model;
@@ -114,10 +113,10 @@ impl<D: TxDevice> Queue<D> {
         ensures { (s : Setting) (n rest : ℕ) (a : Account) → StandsFor s n rest self.old fates.old a
             → Finishes s n rest self.old self.new fates.old fates.new a }
     {
-        while self.stop == StopValue::Stopped {
+        while self.is_stopped() {
             self.wake(fates);
         }
-        if self.stop == StopValue::Hung {
+        if self.is_hung() {
             self.purge(fates);
         }
     }
@@ -237,11 +236,23 @@ impl<D: TxDevice> Queue<D> {
         }
     }
 
+    fn is_stopped(&self) -> bool
+        ensures { IsTrue result ↔ (self.now.stop ≡ Stopped) }
+    {
+        self.stop == StopValue::Stopped
+    }
+
+    fn is_hung(&self) -> bool
+        ensures { IsTrue result ↔ (self.now.stop ≡ Hung) }
+    {
+        self.stop == StopValue::Hung
+    }
+
     /// Opens the queue if the device stopped it.
     fn open_stopped(&mut self)
         ensures { self.new ≡ record self.old { stop = value_opened self.old.stop } }
     {
-        if self.stop == StopValue::Stopped {
+        if self.is_stopped() {
             self.stop = StopValue::Open;
         }
     }
