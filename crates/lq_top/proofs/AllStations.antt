@@ -1,6 +1,6 @@
 -- All stations of a run, when one of them moves.
 use Rattle.std.proofs.Common.{◌≡◌, ◌≢◌, ◌⊎◌, inl, inr, ℕ, zero, suc, ◌+◌, ◌<◌, ◌≤◌, Bool, true, false, List, [], ◌∷◌, length, refl, ap, arith, Option, Some, None, sym, ◌∙◌, subst, map}
-use Rattle.std.specs.Prelude.{slice_get, option_map, if◌then◌else◌, ◌==◌, ◌%◌, nat_lt}
+use Rattle.std.specs.Prelude.{slice_get, slice_set, option_map, if◌then◌else◌, ◌==◌, ◌%◌, nat_lt}
 use Rattle.std.proofs.lemmas.Option.{slice_get_within, slice_get-map}
 use Rattle.lq_account.proofs.Offers.{served_idle}
 use Rattle.lq_account.proofs.Turns.{served_left, left_stopped}
@@ -10,10 +10,10 @@ use Rattle.lq_model.specs.Device.{DeviceState, Telling}
 use Rattle.lq_model.specs.Plan.{Plan, station_in}
 use Rattle.lq_model.specs.declared.fate.Fate.{Fate}
 use Rattle.lq_model.specs.declared.fate.Info.{Info}
-use Rattle.lq_top.proofs.StationLemmas.{changed_there, finished_aside, station_aside, station_beside}
+use Rattle.lq_top.proofs.StationLemmas.{changed_there, finished_aside, one_less, station_aside, station_beside}
 use Rattle.lq_top.specs.Fates.{AllTell}
-use Rattle.lq_top.specs.Queue.{QueueState, Setting, Goes, Moves, Does, StandsFor, SameElsewhere, HasFates, Finishes, Matches, device_of, running, stop_number, transmitted, woken}
-use Rattle.lq_top.specs.Stations.{AllAt, AllStand, FirstFinished, AllFinished, IsFinishedBelow, StationStands, StationFinished, IsRunningAt, setting_at, still_to_come, with_change, packet_step, turn_step, with_first_changed}
+use Rattle.lq_top.specs.Queue.{QueueState, Setting, Goes, Moves, Does, StandsFor, StandsForSome, IsNextPacket, MayTransmit, SameElsewhere, HasFates, Finishes, Matches, device_of, running, stop_number, transmitted, woken}
+use Rattle.lq_top.specs.Stations.{AllAt, AllStand, SomeStand, FirstFinished, AllFinished, IsFinishedBelow, StationStands, StationFinished, IsRunningAt, setting_at, still_to_come, with_change, packet_step, turn_step, with_first_changed}
 use Rattle.lq_top.specs.declared.queue.stop_value.StopValue.{StopValue}
 use Rattle.lq_top.specs.declared.queue.stop_value.StopValue.TheVariants as stop
 
@@ -196,3 +196,177 @@ served_stands s n rest q fates a t stands = elim (stop-cases q.stop) [
   where
     matches : Matches s.infos s.station rest None q fates a
     matches = stands.underway.matches
+
+-- THE LOOPS
+
+-- the first so many stations were woken
+pub record FirstWoken (k : ℕ) (queues queues' : List QueueState) (fates fates' : List (Option Fate)) : Type 0 where
+  pub same_length : length queues' ≡ length queues
+  pub stand : (plan : Plan) (infos : List Info) (before : List DeviceState) (n : ℕ) (run_at : ℕ → Option Running)
+    → AllStand plan infos before n queues fates run_at
+    → AllStand plan infos before n queues' fates' (with_first_changed k (woken infos) run_at)
+
+pub none_woken : (queues : List QueueState) (fates : List (Option Fate)) → FirstWoken 0 queues queues fates fates
+none_woken queues fates = record {
+  same_length = refl;
+  stand = λ plan infos before n run_at all.
+      same_runs (λ station q a. StationStands plan infos station n q fates a) plan before queues run_at (with_first_changed 0 (woken infos) run_at) (λ station below. none_changed (woken infos) run_at station) all;
+}
+
+-- station k is woken next
+pub one_more_woken :
+    (k : ℕ) (old new : QueueState) (start queues queues' : List QueueState) (fates₀ fates fates' : List (Option Fate))
+    → FirstWoken k start queues fates₀ fates → OneChanged k old new queues queues'
+    → ((s : Setting) (n rest : ℕ) (a : Account) → StandsFor s n rest old fates a → Goes (woken s.infos) s n rest old new fates fates' a)
+    → new.bypass ≡ old.bypass
+    → FirstWoken (k + 1) start queues' fates₀ fates'
+one_more_woken k old new start queues queues' fates₀ fates fates' first changed goes bypass = record {
+  same_length = changed.same_length ∙ first.same_length;
+  stand = λ plan infos before n run_at all.
+      let stands = first.stand plan infos before n run_at all in
+      same_runs (λ station q a. StationStands plan infos station n q fates' a) plan before queues'
+          (with_change k (woken infos) (with_first_changed k (woken infos) run_at)) (with_first_changed (k + 1) (woken infos) run_at)
+          (λ station below. one_more_changed (woken infos) run_at k station)
+          (woken_one plan infos before n k old new queues queues' fates fates' (with_first_changed k (woken infos) run_at) stands changed
+          (goes (setting_at plan infos k) n (still_to_come infos k n) (stands.accounts k) (stands.each k old changed.before).stands) bypass);
+}
+
+pub all_woken :
+    (k : ℕ) (start queues : List QueueState) (fates₀ fates : List (Option Fate)) → length start ≤ k → FirstWoken k start queues fates₀ fates
+    → (plan : Plan) (infos : List Info) (before : List DeviceState) (n : ℕ) (run_at : ℕ → Option Running)
+    → AllStand plan infos before n start fates₀ run_at → AllStand plan infos before n queues fates (λ station. option_map (woken infos) (run_at station))
+all_woken k start queues fates₀ fates enough first plan infos before n run_at all =
+    same_runs (λ station q a. StationStands plan infos station n q fates a) plan before queues (with_first_changed k (woken infos) run_at) (λ station. option_map (woken infos) (run_at station))
+        (λ station below. all_changed (woken infos) run_at k station (let e = first.same_length in omega arith)) (first.stand plan infos before n run_at all)
+
+-- the queue of a station that stands stands for some account
+pub stands_for_some : (plan : Plan) (infos : List Info) (before : List DeviceState) (n : ℕ) (queues : List QueueState) (fates : List (Option Fate)) (run_at : ℕ → Option Running)
+    → AllStand plan infos before n queues fates run_at → (station : ℕ) (q : QueueState) → slice_get queues station ≡ Some q → StandsForSome q fates
+stands_for_some plan infos before n queues fates run_at all station q here = record {
+  setting = setting_at plan infos station;
+  n = n;
+  rest = still_to_come infos station n;
+  account = all.accounts station;
+  stands = (all.each station q here).stands;
+}
+
+set-same : (xs : List QueueState) (k : ℕ) (x : QueueState) → k < length xs → slice_get (slice_set xs k x) k ≡ Some x
+set-same [] k x below = absurd (omega arith)
+set-same (y ∷ ys) zero x below = refl
+set-same (y ∷ ys) (suc k) x below = set-same ys k x (omega arith)
+
+set-other : (xs : List QueueState) (k j : ℕ) (x : QueueState) → j ≢ k → slice_get (slice_set xs k x) j ≡ slice_get xs j
+set-other [] k j x other = refl
+set-other (y ∷ ys) zero zero x other = absurd (other refl)
+set-other (y ∷ ys) zero (suc j) x other = refl
+set-other (y ∷ ys) (suc k) zero x other = refl
+set-other (y ∷ ys) (suc k) (suc j) x other = set-other ys k j x (λ e. other (ap suc e))
+
+set-length : (xs : List QueueState) (k : ℕ) (x : QueueState) → length (slice_set xs k x) ≡ length xs
+set-length [] k x = refl
+set-length (y ∷ ys) zero x = refl
+set-length (y ∷ ys) (suc k) x = ap suc (set-length ys k x)
+
+pub changed_by_set : (queues : List QueueState) (k : ℕ) (old new : QueueState) → slice_get queues k ≡ Some old → OneChanged k old new queues (slice_set queues k new)
+changed_by_set queues k old new there = record {
+  before = there;
+  behind = set-same queues k new (slice_get_within queues k old there);
+  others = λ j other. set-other queues k j new other;
+  same_length = set-length queues k new;
+}
+
+-- the first so many stations were finished, behind the last packet
+pub record FinishedSoFar (k : ℕ) (queues queues' : List QueueState) (fates fates' : List (Option Fate)) : Type 0 where
+  pub same_length : length queues' ≡ length queues
+  pub stand : (plan : Plan) (infos : List Info) (before : List DeviceState) (run_at : ℕ → Option Running)
+    → AllStand plan infos before (length infos) queues fates run_at
+    → FirstFinished k plan infos before queues' fates' (with_first_changed k (finished infos) run_at)
+
+pub none_finished : (queues : List QueueState) (fates : List (Option Fate)) → FinishedSoFar 0 queues queues fates fates
+none_finished queues fates = record {
+  same_length = refl;
+  stand = λ plan infos before run_at all. record {
+    accounts = all.accounts;
+    one_each = all.one_each;
+    each = λ station q here. record { below = λ less. absurd (omega arith); from_there = λ more. all.each station q here };
+    tells = λ tell station q here. subst (λ run. IsRunningAt plan station run q (all.accounts station)) (none_changed (finished infos) run_at station) (all.tells tell station q here);
+  };
+}
+
+-- station k is finished next
+pub one_more_finished :
+    (k : ℕ) (old new : QueueState) (start queues queues' : List QueueState) (fates₀ fates fates' : List (Option Fate))
+    → FinishedSoFar k start queues fates₀ fates → OneChanged k old new queues queues'
+    → ((s : Setting) (n rest : ℕ) (a : Account) → StandsFor s n rest old fates a → Finishes s n rest old new fates fates' a)
+    → FinishedSoFar (k + 1) start queues' fates₀ fates'
+one_more_finished k old new start queues queues' fates₀ fates fates' first changed ends = record {
+  same_length = changed.same_length ∙ first.same_length;
+  stand = λ plan infos before run_at all.
+      let some = first.stand plan infos before run_at all in
+      same_runs (λ station q a. IsFinishedBelow (k + 1) plan infos station q fates' a) plan before queues'
+          (with_change k (finished infos) (with_first_changed k (finished infos) run_at)) (with_first_changed (k + 1) (finished infos) run_at)
+          (λ station below. one_more_changed (finished infos) run_at k station)
+          (finished_one plan infos before k old new queues queues' fates fates' (with_first_changed k (finished infos) run_at) some changed
+          (ends (setting_at plan infos k) (length infos) (still_to_come infos k (length infos)) (some.accounts k) ((some.each k old changed.before).from_there (omega arith)).stands));
+}
+
+pub all_finished :
+    (k : ℕ) (start queues : List QueueState) (fates₀ fates : List (Option Fate)) → length start ≤ k → FinishedSoFar k start queues fates₀ fates
+    → (plan : Plan) (infos : List Info) (before : List DeviceState) (run_at : ℕ → Option Running)
+    → AllStand plan infos before (length infos) start fates₀ run_at → AllFinished plan infos before queues fates (λ station. option_map (finished infos) (run_at station))
+all_finished k start queues fates₀ fates enough first plan infos before run_at all = record {
+  accounts = some.accounts;
+  one_each = some.one_each;
+  each = λ station q here. (some.each station q here).below (below station q here);
+  tells = λ tell station q here. subst (λ run. IsRunningAt plan station run q (some.accounts station)) (all_changed (finished infos) run_at k station (below station q here)) (some.tells tell station q here);
+}
+  where
+    some : FirstFinished k plan infos before queues fates (with_first_changed k (finished infos) run_at)
+    some = first.stand plan infos before run_at all
+    below : (station : ℕ) (q : QueueState) → slice_get queues station ≡ Some q → station < k
+    below station q here = let within = slice_get_within queues station q here in let e = first.same_length in omega arith
+
+-- the next station stands for some account
+pub next_for_some : (k : ℕ) (start queues : List QueueState) (fates₀ fates : List (Option Fate)) → FinishedSoFar k start queues fates₀ fates
+    → (plan : Plan) (infos : List Info) → SomeStand plan infos (length infos) start fates₀ → (q : QueueState) → slice_get queues k ≡ Some q → StandsForSome q fates
+next_for_some k start queues fates₀ fates first plan infos may q here = record {
+  setting = setting_at plan infos k;
+  n = length infos;
+  rest = still_to_come infos k (length infos);
+  account = some.accounts k;
+  stands = ((some.each k q here).from_there (omega arith)).stands;
+}
+  where
+    some : FirstFinished k plan infos may.0 queues fates (with_first_changed k (finished infos) may.1)
+    some = first.stand plan infos may.0 may.1 may.2
+
+-- the queue of packet n's station stands for an account to which it comes next
+abbrev pub NextStands : Plan → List Info → ℕ → QueueState → List (Option Fate) → Account → Type 0
+NextStands plan infos n q fates a =
+    StandsFor (setting_at plan infos (station_in infos n)) n (still_to_come infos (station_in infos n) (n + 1) + 1) q fates a
+
+pub next_stands :
+    (plan : Plan) (infos : List Info) (before : List DeviceState) (n : ℕ) (info : Info) (queues : List QueueState) (fates : List (Option Fate)) (run_at : ℕ → Option Running)
+    → slice_get infos n ≡ Some info → (all : AllStand plan infos before n queues fates run_at) → (q : QueueState) → slice_get queues (station_in infos n) ≡ Some q
+    → NextStands plan infos n q fates (all.accounts (station_in infos n))
+next_stands plan infos before n info queues fates run_at there all q here =
+    subst (λ rest. StandsFor (setting_at plan infos (station_in infos n)) n rest q fates (all.accounts (station_in infos n))) (one_less infos n info there)
+        (all.each (station_in infos n) q here).stands
+
+pub next_packet : (plan : Plan) (infos : List Info) (n : ℕ) (info : Info) → slice_get infos n ≡ Some info → IsNextPacket (setting_at plan infos (station_in infos n)) n info.band
+next_packet plan infos n info there = record {
+  packet = record { within = slice_get_within infos n info there; of_station = refl };
+  band_is = let e = there in cc;
+}
+
+pub may_transmit :
+    (plan : Plan) (infos : List Info) (n : ℕ) (info : Info) (queues : List QueueState) (fates : List (Option Fate))
+    → slice_get infos n ≡ Some info → SomeStand plan infos n queues fates → (q : QueueState) → slice_get queues (station_in infos n) ≡ Some q
+    → MayTransmit n info.band q fates
+may_transmit plan infos n info queues fates there may q here = record {
+  setting = setting_at plan infos (station_in infos n);
+  rest = still_to_come infos (station_in infos n) (n + 1);
+  account = may.2.accounts (station_in infos n);
+  stands = next_stands plan infos may.0 n info queues fates may.1 there may.2 q here;
+  next = next_packet plan infos n info there;
+}

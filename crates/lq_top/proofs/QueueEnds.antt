@@ -1,16 +1,22 @@
--- How a queue begins, is woken, is purged, and is finished.
-use Rattle.std.proofs.Common.{◌≡◌, ◌≢◌, ◌↔◌, ℕ, zero, suc, ◌+◌, ◌-◌, ◌<◌, ◌≤◌, ◌==◌, Bool, true, false, ◌||◌, List, [], ◌∷◌, ◌++◌, ◌⊎◌, inl, inr, length, drop, All, Option, Some, None, is_some, is_none, IfNone, option_to_list, slice_get, refl, sym, ap, ap₂, subst, ◌∙◌, arith, drop_of_length-le, length-drop}
+-- How a queue is purged, woken and finished.
+use Rattle.std.proofs.Common.{◌≡◌, ◌≢◌, ℕ, ◌<◌, ◌≤◌, true, false, ◌||◌, List, [], ◌∷◌, ◌++◌, inl, inr, length, drop, All, Option, Some, None, is_some, is_none, option_to_list, slice_get, refl, sym, ap, ap₂, subst, ◌∙◌, arith, drop_of_length-le, length-drop}
 use Rattle.std.specs.List.{slice_set}
 use Rattle.std.proofs.lemmas.List.{drop-drop, length-set}
 use Rattle.std.proofs.lemmas.List.Elements.{All-nil}
-use Rattle.std.proofs.lemmas.Bool.{cases_eq, true≢false}
+use Rattle.std.proofs.lemmas.Bool.{cases_eq}
 use Rattle.lq_account.proofs.Answers.{with_at_same, with_at_other}
-use Rattle.lq_account.proofs.Taken.{IsTurn, picks, takes_0, takes_1, takes_2, turn_of, held_none, slot_none}
+use Rattle.lq_account.proofs.Lists.{fates-cases}
+use Rattle.lq_account.proofs.OneQueue.{one_done, one_hung, one_opened, one_purged}
+use Rattle.lq_account.proofs.Purges.{purge_empties}
+use Rattle.lq_account.proofs.Rounds.{finished_done, finished_next}
+use Rattle.lq_account.proofs.Steps.{at_purge, at_wake}
+use Rattle.lq_account.proofs.Taken.{IsInHand, IsTurn, picks, takes_0, takes_1, takes_2, turn_of, in_hand, held_none, next_none, slot_none}
+use Rattle.lq_account.proofs.Turns.{HasOneQueue}
 use Rattle.lq_device.specs.Station.{with_side}
-use Rattle.lq_model.specs.Account.{Account, Event, Take, Pick, Purge, Fates, SentLists, after, emptied, held, held_in, with_at, with_fates}
-use Rattle.lq_model.specs.Alone.{next_taken}
+use Rattle.lq_model.specs.Account.{Account, Event, Purge, Wake, Fates, SentLists, after, emptied, held, held_in, with_at, with_fates}
+use Rattle.lq_model.specs.Alone.{finished, is_done, next_taken, opened, served}
 use Rattle.lq_model.specs.Band.{Band, held_of, taken_by}
-use Rattle.lq_model.specs.Plan.{station_in}
+use Rattle.lq_model.specs.Device.{Telling}
 use Rattle.lq_model.specs.declared.fate.Cause.{Cause}
 use Rattle.lq_model.specs.declared.fate.Cause.TheVariants as cause
 use Rattle.lq_model.specs.declared.fate.Fate.{Fate}
@@ -18,8 +24,9 @@ use Rattle.lq_model.specs.declared.fate.Fate.TheVariants as fate
 use Rattle.lq_model.specs.declared.fate.Info.{Info}
 use Rattle.lq_ring_core.specs.Bands.{IsBand}
 use Rattle.lq_ring_core.specs.Ring.{RingState}
-use Rattle.lq_top.specs.Bands.{AreBands, held_by}
-use Rattle.lq_top.specs.Queue.{QueueState, HasFates, HasRoom, IsPacketOf, IsSentBy, IsTaken, Matches, SameElsewhere, number_held}
+use Rattle.lq_top.specs.Queue.{QueueState, Setting, Matches, IsPacketOf, IsTaken, SameElsewhere, IsUnderway, IsServed, StandsFor, Serves, Goes, Finishes, running, woken, device_of, stop_number, is_hung_value, value_opened}
+use Rattle.lq_top.specs.declared.queue.stop_value.StopValue.{StopValue}
+use Rattle.lq_top.specs.declared.queue.stop_value.StopValue.TheVariants.{Open, Stopped, Hung}
 use Rattle.lq_top.proofs.FateLists.{set_here, set_apart, same_itself, same_both, same_set}
 use Rattle.lq_top.proofs.QueueLemmas.{in_hand_is}
 
@@ -42,7 +49,7 @@ settled-matches infos station rest n f q fates a m = record {
     one_each = length-set fates n (Some f) ∙ m.fates_are.one_each;
     each = λ k within at. elim (cases_eq k n) [
       | inl same ↦ subst (λ k. slice_get (slice_set fates n (Some f)) k ≡ Some (with_at n (Some f) a.fates k)) (sym same)
-        (set_here fates n (Some f) (let within = packet.within in let each = m.fates_are.one_each in omega arith) ∙ ap Some (sym (with_at_same n (Some f) a.fates)))
+          (set_here fates n (Some f) (let within = packet.within in let each = m.fates_are.one_each in omega arith) ∙ ap Some (sym (with_at_same n (Some f) a.fates)))
       | inr other ↦ set_apart fates n k (Some f) other ∙ m.fates_are.each k within at ∙ ap Some (sym (with_at_other n k (Some f) a.fates other))
     ];
   };
@@ -91,38 +98,34 @@ pub record IsPurging (why : Cause) (a b : Account) : Type 0 where
   pub stops : b.stops ≡ a.stops
   pub down : b.down ≡ a.down
 
--- what a turn leaves as it was
-record IsBesideTurn (a b : Account) : Type 0 where
-  len : b.len ≡ a.len
-  lines : (band : ℕ) → (b.bands band).line ≡ (a.bands band).line
-  unit : b.unit ≡ a.unit
-  sent : b.sent ≡ a.sent
-  fates : b.fates ≡ a.fates
-  stops : b.stops ≡ a.stops
-  down : b.down ≡ a.down
-
+-- a packet that is taken stays in the line of its band
 same-line : (bands : ℕ → Band) (at band : ℕ) → (with_at at (taken_by (bands at) 1) bands band).line ≡ (bands band).line
 same-line bands at band = elim (cases_eq band at) [
   | inl same ↦ subst (λ k. (with_at at (taken_by (bands at) 1) bands k).line ≡ (bands k).line) (sym same) (ap (λ (b : Band). b.line) (with_at_same at (taken_by (bands at) 1) bands))
   | inr other ↦ ap (λ (b : Band). b.line) (with_at_other at band (taken_by (bands at) 1) bands other)
 ]
 
-beside-turn : {a : Account} {event : Event} → IsTurn a event → IsBesideTurn a (after event a)
-beside-turn {a = a} (picks m slot) = record { len = refl; lines = λ band. refl; unit = refl; sent = refl; fates = refl; stops = refl; down = refl }
-beside-turn {a = a} (takes_0 slot some) = record { len = refl; lines = same-line a.bands 0; unit = refl; sent = refl; fates = refl; stops = refl; down = refl }
-beside-turn {a = a} (takes_1 slot empty_0 some) = record { len = refl; lines = same-line a.bands 1; unit = refl; sent = refl; fates = refl; stops = refl; down = refl }
-beside-turn {a = a} (takes_2 slot empty_0 empty_1 some) = record { len = refl; lines = same-line a.bands 2; unit = refl; sent = refl; fates = refl; stops = refl; down = refl }
+same-lines : {a : Account} {event : Event} → IsTurn a event → (band : ℕ) → ((after event a).bands band).line ≡ (a.bands band).line
+same-lines {a = a} (picks m slot) = λ band. refl
+same-lines {a = a} (takes_0 slot some) = same-line a.bands 0
+same-lines {a = a} (takes_1 slot empty_0 some) = same-line a.bands 1
+same-lines {a = a} (takes_2 slot empty_0 empty_1 some) = same-line a.bands 2
 
-purging-next : (why : Cause) (n : ℕ) (a b c : Account) → IsPurging why a b → IsBesideTurn b c → held b ≡ n ∷ held c → IsPurging why a (settled (fate.Purged why) n c)
-purging-next why n a b c p h first = record {
+purging-next : (why : Cause) (n : ℕ) (a b : Account) (event : Event) → IsPurging why a b → IsTurn b event → (after event b).hand ≡ Some n
+    → IsPurging why a (settled (fate.Purged why) n (after event b))
+purging-next why n a b event p turn hand = record {
   len = h.len ∙ p.len;
-  lines = λ band. h.lines band ∙ p.lines band;
+  lines = λ band. same-lines turn band ∙ p.lines band;
   unit = h.unit ∙ p.unit;
   sent = h.sent ∙ p.sent;
-  fates = ap (λ fates. with_fates (held c) (fate.Purged why) (with_at n (Some (fate.Purged why)) fates)) h.fates ∙ ap (λ ns. with_fates ns (fate.Purged why) b.fates) (sym first) ∙ p.fates;
+  fates = ap (λ fates. with_fates (held (after event b)) (fate.Purged why) (with_at n (Some (fate.Purged why)) fates)) h.fates
+      ∙ ap (λ ns. with_fates ns (fate.Purged why) b.fates) (sym (in-turn n turn hand)) ∙ p.fates;
   stops = h.stops ∙ p.stops;
   down = h.down ∙ p.down;
 }
+  where
+    h : IsInHand b (after event b)
+    h = in_hand turn
 
 -- how far the purge of a queue has come, from this account
 pub record Purging (infos : List Info) (station rest : ℕ) (q : QueueState) (old fates : List (Option Fate)) (a : Account) : Type 0 where
@@ -146,13 +149,10 @@ module _ (infos : List Info) (station rest : ℕ) (q : QueueState) (old fates : 
   purge_goes_on n new p t = record {
     account = settled (fate.Purged (cause.Hung a.unit)) n (after t.event p.account);
     matches = settled-matches infos station rest n (fate.Purged (cause.Hung a.unit)) new fates (after t.event p.account) t.matches;
-    purging = purging-next (cause.Hung a.unit) n a p.account (after t.event p.account) p.purging (beside-turn turn) (in-turn n turn t.matches.hand_is);
+    purging = purging-next (cause.Hung a.unit) n a p.account t.event p.purging (turn_of p.account t.event t.next) t.matches.hand_is;
     elsewhere = same_both infos station old fates _ p.elsewhere
         (same_set infos station fates n _ (in_hand_is infos station rest n new fates (after t.event p.account) t.matches).of_station);
   }
-    where
-      turn : IsTurn p.account t.event
-      turn = turn_of p.account t.event t.next
 
 -- an empty band is one that was emptied
 is-emptied : (b c : Band) → b.taken ≤ length b.line → held_of b ≡ [] → b.line ≡ c.line → b ≡ emptied c
@@ -241,3 +241,217 @@ emptying_next old q new h is = record {
   clean = ap (λ (q : QueueState). q.clean) is ∙ h.clean;
   bypass = ap (λ (q : QueueState). q.bypass) is ∙ h.bypass;
 }
+
+-- A QUEUE IS WOKEN
+
+-- an account whose queue has this stop value, behind a wake
+abbrev pub woken_account : StopValue → Account → Account
+woken_account Open a = a
+woken_account Stopped a = after (Wake 0) a
+woken_account Hung a = a
+
+with-stop : (infos : List Info) (station rest : ℕ) (q : QueueState) (fates : List (Option Fate)) (a : Account) (stop : StopValue) (stops : List ℕ)
+    → stops ≡ stop_number stop ∷ [] → (device_of q).hung ≡ is_hung_value stop → Matches infos station rest None q fates a
+    → Matches infos station rest None (record q { stop = stop }) fates (record a { stops = stops })
+with-stop infos station rest q fates a stop stops is hung m = record {
+  bands = m.bands;
+  slot = m.slot;
+  hand_is = m.hand_is;
+  sent = record { unit = m.sent.unit; sent = m.sent.sent; others = m.sent.others };
+  stops = is;
+  active = m.active;
+  fates_are = record { one_each = m.fates_are.one_each; each = m.fates_are.each };
+  packets = record { in_slot = m.packets.in_slot; in_hand = m.packets.in_hand; in_bands = m.packets.in_bands };
+  hung = hung;
+  room = record { room = m.room.room; countable = m.room.countable };
+  rule = m.rule;
+}
+
+module _ (s : Setting) (n rest : ℕ) (q : QueueState) (fates : List (Option Fate)) (a : Account) (h : IsUnderway s n rest q fates a) where
+  woken-underway : (stop : StopValue) → q.stop ≡ stop → IsUnderway s n rest (record q { stop = value_opened stop }) fates (woken_account stop a)
+  woken-underway Open is = record {
+    matches = with-stop s.infos s.station rest q fates a Open a.stops (h.matches.stops ∙ ap (λ stop. stop_number stop ∷ []) is) (h.matches.hung ∙ ap is_hung_value is) h.matches;
+    at = h.at;
+    one_queue = h.one_queue;
+    none_purged = h.none_purged;
+  }
+  woken-underway Stopped is =
+      let stops : a.stops ≡ 1 ∷ [] = h.matches.stops ∙ ap (λ stop. stop_number stop ∷ []) is in
+      record {
+        matches = with-stop s.infos s.station rest q fates a Open (slice_set a.stops 0 0) (ap (λ stops. slice_set stops 0 0) stops) (h.matches.hung ∙ ap is_hung_value is) h.matches;
+        at = at_wake stops h.at;
+        one_queue = h.one_queue;
+        none_purged = h.none_purged;
+      }
+  woken-underway Hung is = record {
+    matches = with-stop s.infos s.station rest q fates a Hung a.stops (h.matches.stops ∙ ap (λ stop. stop_number stop ∷ []) is) (h.matches.hung ∙ ap is_hung_value is) h.matches;
+    at = h.at;
+    one_queue = h.one_queue;
+    none_purged = h.none_purged;
+  }
+
+  -- what is served behind a wake
+  pub wake_opens : (q' : QueueState) → q' ≡ record q { stop = value_opened q.stop } → IsUnderway s n rest q' fates (woken_account q.stop a)
+  wake_opens q' is = subst (λ (q' : QueueState). IsUnderway s n rest q' fates (woken_account q.stop a)) (sym is) (woken-underway q.stop refl)
+
+  woken-is : (t : Telling) (stop : StopValue) → q.stop ≡ stop → opened (running a q t) ≡ running (woken_account stop a) (record q { stop = value_opened stop }) t
+  woken-is t Open is = one_opened (running a q t) 0 (h.matches.stops ∙ ap (λ stop. stop_number stop ∷ []) is)
+  woken-is t Stopped is = one_opened (running a q t) 1 (h.matches.stops ∙ ap (λ stop. stop_number stop ∷ []) is)
+  woken-is t Hung is = one_opened (running a q t) 2 (h.matches.stops ∙ ap (λ stop. stop_number stop ∷ []) is)
+
+  served-closed : (stop : StopValue) → q.stop ≡ stop → IsServed q a → value_opened stop ≢ Open → IsServed (record q { stop = value_opened stop }) (woken_account stop a)
+  served-closed Open is was closed = absurd (closed refl)
+  served-closed Stopped is was closed = absurd (closed refl)
+  served-closed Hung is was closed = record { clean_is_empty = was.clean_is_empty; open_is_clean = λ opens. absurd (closed opens) }
+
+  goes-behind : (new : QueueState) (fates' : List (Option Fate)) → IsServed q a
+      → Serves s n rest (record q { stop = value_opened q.stop }) new fates fates' (woken_account q.stop a) → Goes (woken s.infos) s n rest q new fates fates' a
+  goes-behind new fates' was v = record {
+    moves = record {
+      account = v.moves.account;
+      underway = v.moves.underway;
+      elsewhere = v.moves.elsewhere;
+      tells = λ t told. let d = v.moves.tells t told in
+          record { device = d.device; told = d.told; params = d.params; does = d.does ∙ ap (served s.infos) (sym (woken-is t q.stop refl)) };
+    };
+    is_served = v.is_served (served-closed q.stop refl was);
+  }
+
+  pub wake_goes : (q' new : QueueState) (fates' : List (Option Fate)) → q' ≡ record q { stop = value_opened q.stop } → IsServed q a
+      → Serves s n rest q' new fates fates' (woken_account q.stop a) → Goes (woken s.infos) s n rest q new fates fates' a
+  wake_goes q' new fates' is was v = goes-behind new fates' was (subst (λ (q' : QueueState). Serves s n rest q' new fates fates' (woken_account q.stop a)) is v)
+
+-- A QUEUE IS FINISHED
+
+-- where the device tells, what is left to do is the same
+pub record IsLeftToDo (infos : List Info) (t : Telling) (old q : QueueState) (a b : Account) : Type 0 where
+  pub device : Telling
+  pub told : (device_of q).told ≡ Some device
+  pub params : device.params ≡ t.params
+  pub same : finished infos (running b q device) ≡ finished infos (running a old t)
+
+-- how far the last wakes of a queue have come, from this account
+pub record Finishing (s : Setting) (n rest : ℕ) (old q : QueueState) (fates fates' : List (Option Fate)) (a : Account) : Type 0 where
+  pub account : Account
+  pub stands : StandsFor s n rest q fates' account
+  pub elsewhere : SameElsewhere s.infos s.station fates fates'
+  pub left : (t : Telling) → (device_of old).told ≡ Some t → IsLeftToDo s.infos t old q a account
+
+module _ (s : Setting) (n rest : ℕ) (old : QueueState) (fates : List (Option Fate)) (a : Account) where
+  pub finish_begins : StandsFor s n rest old fates a → Finishing s n rest old old fates fates a
+  finish_begins h = record {
+    account = a;
+    stands = h;
+    elsewhere = same_itself s.infos s.station fates;
+    left = λ t told. record { device = t; told = told; params = refl; same = refl };
+  }
+
+pub open_else : (stop : StopValue) → stop ≢ Stopped → stop ≢ Hung → stop ≡ Open
+open_else Open not_stopped not_hung = refl
+open_else Stopped not_stopped not_hung = absurd (not_stopped refl)
+open_else Hung not_stopped not_hung = absurd (not_hung refl)
+
+known-stop : (stop : StopValue) → stop_number stop ≤ 2
+known-stop Open = omega arith
+known-stop Stopped = omega arith
+known-stop Hung = omega arith
+
+module _ (s : Setting) (n rest : ℕ) (q : QueueState) (fates : List (Option Fate)) (b : Account) (h : IsUnderway s n rest q fates b) where
+  one-queue : (t : Telling) → (device_of q).told ≡ Some t → HasOneQueue (running b q t)
+  one-queue t told = record {
+    stop = stop_number q.stop;
+    stops = h.matches.stops;
+    known = known-stop q.stop;
+    hand = h.matches.hand_is;
+    busies = (h.matches.rule t told).busies;
+  }
+
+  stops-at : (stop : StopValue) → q.stop ≡ stop → b.stops ≡ stop_number stop ∷ []
+  stops-at stop is = h.matches.stops ∙ ap (λ stop. stop_number stop ∷ []) is
+
+  not-done : q.stop ≡ Stopped → is_done b ≡ false
+  not-done is = one_done b 1 (stops-at Stopped is) ∙ ap (λ down. is_some down || false) h.matches.active
+
+  done-open : q.stop ≡ Open → held b ≡ [] → is_done b ≡ true
+  done-open is none = one_done b 0 (stops-at Open is) ∙ ap₂ (λ down next. is_some down || is_none next) h.matches.active (next_none b none)
+
+  done-hung : q.stop ≡ Hung → is_done b ≡ true
+  done-hung is = one_done b 2 (stops-at Hung is) ∙ ap (λ down. is_some down || true) h.matches.active
+
+  -- behind these there is nothing more to do
+  finished-open : (t : Telling) → q.stop ≡ Open → held b ≡ [] → finished s.infos (running b q t) ≡ running b q t
+  finished-open t is none = finished_done s.infos h.one_queue (running b q t) (done-open is none) ∙ ap (λ a. running a q t) (one_purged b 0 (stops-at Open is))
+
+  finished-hung : (t : Telling) → q.stop ≡ Hung → finished s.infos (running b q t) ≡ running (after (Purge (cause.Hung b.unit)) b) q t
+  finished-hung t is = finished_done s.infos h.one_queue (running b q t) (done-hung is) ∙ ap (λ a. running a q t) (one_purged b 2 (stops-at Hung is))
+
+module _ (s : Setting) (n rest : ℕ) (old q : QueueState) (fates fates' : List (Option Fate)) (a : Account) (p : Finishing s n rest old q fates fates' a) where
+  -- a wake of a queue that was stopped
+  pub finish_goes_on : (new : QueueState) (fates'' : List (Option Fate)) → q.stop ≡ Stopped → Goes (woken s.infos) s n rest q new fates' fates'' p.account
+      → Finishing s n rest old new fates fates'' a
+  finish_goes_on new fates'' stopped g = record {
+    account = g.moves.account;
+    stands = record { underway = g.moves.underway; served = g.is_served };
+    elsewhere = same_both s.infos s.station fates fates' fates'' p.elsewhere g.moves.elsewhere;
+    left = λ t told.
+        let l = p.left t told in
+        let d = g.moves.tells l.device l.told in
+        record {
+          device = d.device;
+          told = d.told;
+          params = d.params ∙ l.params;
+          same = ap (finished s.infos) d.does
+              ∙ sym (finished_next s.infos p.stands.underway.one_queue (running p.account q l.device)
+              (one-queue s n rest q fates' p.account p.stands.underway l.device l.told) (not-done s n rest q fates' p.account p.stands.underway stopped))
+              ∙ l.same;
+        };
+  }
+
+  -- it stays open
+  pub finish_open : q.stop ≡ Open → Finishes s n rest old q fates fates' a
+  finish_open is =
+      let none : held p.account ≡ [] = p.stands.served.clean_is_empty (p.stands.served.open_is_clean is) in
+      record {
+        account = p.account;
+        matches = p.stands.underway.matches;
+        at = p.stands.underway.at;
+        elsewhere = p.elsewhere;
+        tells = λ t told. let l = p.left t told in
+            record { device = l.device; told = l.told; params = l.params; does = sym (finished-open s n rest q fates' p.account p.stands.underway l.device is none) ∙ l.same };
+        nothing_held = none;
+        purged = λ m why purged. absurd (p.stands.underway.none_purged m why purged);
+      }
+
+  -- or its device hangs, and what is held is purged
+  pub finish_hung : (new : QueueState) (fates'' : List (Option Fate)) → q.stop ≡ Hung
+      → Matches s.infos s.station rest None new fates'' (after (Purge (cause.Hung p.account.unit)) p.account) → SameElsewhere s.infos s.station fates' fates''
+      → new ≡ record q { station = with_side q.station None; bands = new.bands } → Finishes s n rest old new fates fates'' a
+  finish_hung new fates'' is m elsewhere same = record {
+    account = after (Purge (cause.Hung b.unit)) b;
+    matches = m;
+    at = at_purge h.matches.hand_is (one_hung b 2 (stops-at s n rest q fates' b h Hung is)) h.at;
+    elsewhere = same_both s.infos s.station fates fates' fates'' p.elsewhere elsewhere;
+    tells = λ t told. let l = p.left t told in
+        record {
+          device = l.device;
+          told = ap (λ (q : QueueState). (device_of q).told) same ∙ l.told;
+          params = l.params;
+          does = ap (λ (q : QueueState). running (after (Purge (cause.Hung b.unit)) b) q l.device) same
+              ∙ sym (finished-hung s n rest q fates' b h l.device is) ∙ l.same;
+        };
+    nothing_held = purge_empties (cause.Hung b.unit) b;
+    purged = λ m why purged. (ap (λ (q : QueueState). q.stop) same ∙ is, only-hung m why purged);
+  }
+    where
+      b : Account
+      b = p.account
+
+      h : IsUnderway s n rest q fates' b
+      h = p.stands.underway
+
+      cause-is : (x y : Cause) → Some (fate.Purged x) ≡ Some (fate.Purged y) → y ≡ x
+      cause-is x y e = cc
+
+      only-hung : (m : ℕ) (why : Cause) → with_fates (held b) (fate.Purged (cause.Hung b.unit)) b.fates m ≡ Some (fate.Purged why) → why ≡ cause.Hung b.unit
+      only-hung m why = fates-cases (λ given. given ≡ Some (fate.Purged why) → why ≡ cause.Hung b.unit) (held b) m (fate.Purged (cause.Hung b.unit)) b.fates
+          (λ is_held e. cause-is (cause.Hung b.unit) why e) (λ is_not e. absurd (h.none_purged m why e))

@@ -2,29 +2,28 @@
 //!
 //! The device is changed through its trait alone. What becomes of a packet is written into a list of fates that the
 //! caller lends, with the fate of packet n at place n. All memory is taken where the bands and the device are made.
-ghost use Rattle.std.specs.Prelude.{◌≡◌, ℕ, ◌+◌, ◌<◌, ◌≤◌, [], List, Option, None, OnSome, IfSome, IfNone, true, false, length};
+ghost use Rattle.std.specs.Prelude.{◌≡◌, ℕ, ◌+◌, ◌<◌, ◌≤◌, ◌&&◌, [], List, Option, None, OnSome, IfSome, IfNone, IsTrue, ◌↔◌, true, false, length};
 ghost use Rattle.lq_account.specs.Progress.{len_of, start_of};
 ghost use Rattle.lq_device.specs.Station.{new_station, with_side};
 ghost use Rattle.lq_model.specs.Account.{Account, Purge, after};
-ghost use Rattle.lq_model.specs.Alone.{next_taken, gone_direct, gone_through, queued};
+ghost use Rattle.lq_model.specs.Alone.{next_taken, gone_direct, gone_through, brought_in, queued};
 ghost use Rattle.lq_model.specs.Band.{empty_band};
 ghost use Rattle.lq_model.specs.Plan.{station_in};
 ghost use Rattle.lq_model.specs.declared.fate.Cause.TheVariants as cause;
 ghost use Rattle.lq_model.specs.declared.fate.Fate.{Fate};
 ghost use Rattle.lq_model.specs.declared.fate.Info.{Info};
 ghost use Rattle.lq_top.specs.Bands.{AreBands};
-ghost use Rattle.lq_top.specs.Queue.{QueueState, Setting, Matches, MatchesSome, IsPacketOf, IsNextPacket, IsTaken, MayOffer, Offers, SameElsewhere, IsUnderway, IsSomeUnderway, StandsForSome, StandsFor, MayTransmit, Begins, Runs, Serves, Brings, Goes, Finishes, transmitted, woken, new_queue, device_of, turns_left, work_left, value_opened};
-ghost use Rattle.lq_top.specs.declared.queue.stop_value.StopValue.TheVariants.{Open, Stopped};
+ghost use Rattle.lq_top.specs.Queue.{QueueState, Setting, Matches, MatchesSome, IsPacketOf, IsNextPacket, IsTaken, MayOffer, Offers, SameElsewhere, IsUnderway, IsSomeUnderway, StandsForSome, StandsFor, MayTransmit, MaySendDirect, Begins, Runs, Serves, Brings, Goes, Finishes, transmitted, woken, new_queue, device_of, turns_left, work_left, value_opened};
+ghost use Rattle.lq_top.specs.declared.queue.stop_value.StopValue.TheVariants.{Open, Stopped, Hung};
 
 mod bands;
 mod stop_value;
 
 pub use bands::Bands;
-
 use lq_device::{Station, TxDevice};
 use lq_model::{Cause, Fate, Tx};
 use std::marker::Model;
-use stop_value::{StopValue, stop_after};
+use stop_value::{StopValue, is_accepted, stop_after};
 
 /// The device's one queue.
 const QUEUE: u32 = 0;
@@ -92,11 +91,7 @@ impl<D: TxDevice> Queue<D> {
             → Goes (transmitted s.infos self.old.bypass n) s (n + 1) rest self.old self.new fates.old fates.new a }
         ensures bypass { self.new.bypass ≡ self.old.bypass }
     {
-        if self.bypass && self.clean {
-            self.send_direct(n, fates);
-        } else {
-            self.send_through(n, band, fates);
-        }
+        self.bring(n, band, fates);
         self.serve(fates);
     }
 
@@ -118,10 +113,10 @@ impl<D: TxDevice> Queue<D> {
         ensures { (s : Setting) (n rest : ℕ) (a : Account) → StandsFor s n rest self.old fates.old a
             → Finishes s n rest self.old self.new fates.old fates.new a }
     {
-        while self.stop == StopValue::Stopped {
+        while self.is_stopped() {
             self.wake(fates);
         }
-        if self.stop == StopValue::Hung {
+        if self.is_hung() {
             self.purge(fates);
         }
     }
@@ -135,9 +130,9 @@ impl<D: TxDevice> Queue<D> {
         ensures less { self.old.stop ≡ Open → work_left self.new ≤ work_left self.old }
         ensures bypass { self.new.bypass ≡ self.old.bypass }
     {
-        if self.stop == StopValue::Open {
+        if self.is_open() {
             self.run(fates);
-            self.clean = self.stop == StopValue::Open;
+            self.clean = self.is_open();
         }
     }
 
@@ -151,7 +146,7 @@ impl<D: TxDevice> Queue<D> {
         ensures clean { self.new.clean ≡ self.old.clean }
         ensures bypass { self.new.bypass ≡ self.old.bypass }
     {
-        while self.stop == StopValue::Open {
+        while self.is_open() {
             let Some(n) = self.dequeue() else {
                 return;
             };
@@ -159,19 +154,47 @@ impl<D: TxDevice> Queue<D> {
         }
     }
 
+    fn is_open(&self) -> bool
+        ensures { IsTrue result ↔ (self.now.stop ≡ Open) }
+    {
+        self.stop == StopValue::Open
+    }
+
+    /// Whether the next packet may go past the bands.
+    fn may_pass(&self) -> bool
+        ensures { result ≡ (self.now.bypass && self.now.clean) }
+    {
+        self.bypass && self.clean
+    }
+
+    /// Sends packet `n` past the bands, or through its band.
+    fn bring(&mut self, n: u32, band: u32, fates: &mut [Option<Fate>])
+        requires number { n < 4294967295 }
+        requires one_of_three { band < 3 }
+        requires may { MayTransmit n band self.old fates.old }
+        ensures goes { (s : Setting) (rest : ℕ) (a : Account) → StandsFor s n (rest + 1) self.old fates.old a → IsNextPacket s n band
+            → Brings (brought_in s.infos self.old.bypass n) s n rest self.old self.new fates.old fates.new a }
+        ensures bypass { self.new.bypass ≡ self.old.bypass }
+    {
+        if self.may_pass() {
+            self.send_direct(n, fates);
+        } else {
+            self.send_through(n, band, fates);
+        }
+    }
+
     /// Sends packet `n` past the bands, while nothing is held. It comes into the requeue slot if the queue isn't open or the
     /// device is busy, and no packet goes past the bands then.
     fn send_direct(&mut self, n: u32, fates: &mut [Option<Fate>])
-        requires may { (band : ℕ) × MayTransmit n band self.old fates.old }
-        requires clean { self.old.clean ≡ true }
+        requires may { MaySendDirect n self.old fates.old }
         ensures goes { (s : Setting) (rest : ℕ) (a : Account) → StandsFor s n (rest + 1) self.old fates.old a
-            → IsPacketOf s.infos s.station n
+            → IsPacketOf s.infos s.station n → self.old.clean ≡ true
             → Brings (gone_direct s.infos n) s n rest self.old self.new fates.old fates.new a }
         ensures bypass { self.new.bypass ≡ self.old.bypass }
     {
-        if self.stop == StopValue::Open {
+        if self.is_open() {
             let answer = self.xmit(n, fates);
-            self.clean = answer != Tx::Busy;
+            self.clean = is_accepted(answer);
         } else {
             self.station.set_side(n);
             self.clean = false;
@@ -190,7 +213,9 @@ impl<D: TxDevice> Queue<D> {
     {
         self.enqueue(n, band, fates);
         self.serve(fates);
-        self.clean = self.clean && self.stop == StopValue::Open;
+        if !self.is_open() {
+            self.clean = false;
+        }
     }
 
     /// Puts packet `n` into its band, or drops it as full.
@@ -205,16 +230,29 @@ impl<D: TxDevice> Queue<D> {
             → SameElsewhere infos station fates.old fates.new }
         ensures rest { self.new ≡ record self.old { bands = self.new.bands } }
     {
-        if let Err(full) = self.bands.enqueue(band, n) {
-            fates[n as usize] = Some(Fate::Full { seen: full.seen });
+        match self.bands.enqueue(band, n) {
+            Ok(()) => {}
+            Err(full) => fates[n as usize] = Some(Fate::Full { seen: full.seen }),
         }
+    }
+
+    fn is_stopped(&self) -> bool
+        ensures { IsTrue result ↔ (self.now.stop ≡ Stopped) }
+    {
+        self.stop == StopValue::Stopped
+    }
+
+    fn is_hung(&self) -> bool
+        ensures { IsTrue result ↔ (self.now.stop ≡ Hung) }
+    {
+        self.stop == StopValue::Hung
     }
 
     /// Opens the queue if the device stopped it.
     fn open_stopped(&mut self)
         ensures { self.new ≡ record self.old { stop = value_opened self.old.stop } }
     {
-        if self.stop == StopValue::Stopped {
+        if self.is_stopped() {
             self.stop = StopValue::Open;
         }
     }

@@ -1,8 +1,8 @@
 //! The three bands of a station.
-ghost use Rattle.std.specs.Prelude.{◌≡◌, ℕ, ◌+◌, ◌<◌, ◌≤◌, ◌↔◌, IfOk, IfErr, OnOk, OnErr, OnSome, IfSome, IfNone, IsErr};
+ghost use Rattle.std.specs.Prelude.{◌≡◌, ℕ, ◌+◌, ◌<◌, ◌≤◌, ◌↔◌, IfOk, IfErr, OnOk, OnErr, OnSome, IfSome, IfNone, IsErr, length};
 ghost use Rattle.lq_model.specs.Account.{with_at};
 ghost use Rattle.lq_ring_core.specs.Bands.{IsBand};
-ghost use Rattle.lq_model.specs.Band.{Band, IsOccupied, MayBeFull, empty_band, joined};
+ghost use Rattle.lq_model.specs.Band.{Band, IsOccupied, MayBeFull, empty_band, held_of, joined};
 ghost use Rattle.lq_top.specs.Bands.{AreBands, HoldNothing, IsFirstTaken, held_by};
 
 use lq_model::NoMemory;
@@ -60,6 +60,8 @@ impl Bands {
             → (IsErr result ↔ IsOccupied len (bands band)) }
         ensures may_be_full { (len : ℕ) (bands : ℕ → Band) → AreBands self.old len bands
             → IfErr result (λ full. MayBeFull len (bands band) full.seen) }
+        ensures room { (len : ℕ) (bands : ℕ → Band) → AreBands self.old len bands
+            → OnOk result (length (held_of (bands band)) < len) }
         ensures err { OnErr result (self.new ≡ self.old) }
     {
         match band {

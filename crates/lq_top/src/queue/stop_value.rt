@@ -1,5 +1,6 @@
 //! Whether a queue takes packets.
-ghost use Rattle.std.specs.Prelude.{◌≡◌};
+ghost use Rattle.std.specs.Prelude.{◌≡◌, not};
+ghost use Rattle.lq_model.specs.Device.{is_busy};
 ghost use Rattle.lq_top.specs.Queue.{value_behind};
 
 use lq_model::Tx;
@@ -23,5 +24,15 @@ pub fn stop_after(answer: Tx) -> StopValue
         Tx::Sent | Tx::Busy => StopValue::Open,
         Tx::SentStop => StopValue::Stopped,
         Tx::SentHang => StopValue::Hung,
+    }
+}
+
+/// Whether the device accepted the packet.
+pub fn is_accepted(answer: Tx) -> bool
+    ensures { result ≡ not (is_busy answer) }
+{
+    match answer {
+        Tx::Sent | Tx::SentStop | Tx::SentHang => true,
+        Tx::Busy => false,
     }
 }

@@ -1,4 +1,4 @@
-use Rattle.std.proofs.Common.{ℕ, List, None, Option}
+use Rattle.std.proofs.Common.{ℕ, List, None}
 use Rattle.lq_model.specs.Account.{Account}
 use Rattle.lq_model.specs.declared.fate.Info.{Info}
 use Rattle.lq_top.specs.Queue.{Matches, turns_left}
