@@ -13,8 +13,8 @@ pub loop-self-preserved : goal.loop-self-preserved
 loop-self-preserved g c = λ s n rest a h.
     let p = c.loop-self.invariant s n rest a h in
     finish_goes_on s n rest c.args.self.now c.loop-self.self c.args.fates.now c.loop-self.fates a p c.wake.new.self c.wake.new.fates
-        (c.is_stopped.ensures.0 c.loop-self-test.true)
-        (c.wake.ensures.goes s n rest p.account p.stands)
+    (c.is_stopped.ensures.0 c.loop-self-test.true)
+    (c.wake.ensures.goes s n rest p.account p.stands)
 
 pub purge-requires-clause-matches : goal.purge-requires-clause-matches
 purge-requires-clause-matches g c κs within =
@@ -27,11 +27,11 @@ returns-then-is_hung g c = λ s n rest a h.
     let p = c.loop-self.invariant s n rest a h in
     let m = c.purge.ensures.purges s.infos s.station rest p.account p.stands.underway.matches in
     finish_hung s n rest c.args.self.now c.loop-self.self c.args.fates.now c.loop-self.fates a p c.purge.new.self c.purge.new.fates
-        (c.is_hung.ensures.0 c.if-is_hung.true)
-        m.0 m.1 c.purge.ensures.rest
+    (c.is_hung.ensures.0 c.if-is_hung.true)
+    m.0 m.1 c.purge.ensures.rest
 
 pub returns-else-is_hung : goal.returns-else-is_hung
 returns-else-is_hung g c = λ s n rest a h.
     let p = c.loop-self.invariant s n rest a h in
     finish_open s n rest c.args.self.now c.loop-self.self c.args.fates.now c.loop-self.fates a p
-        (open_else c.loop-self.self.stop (λ e. true≢false (sym (c.is_stopped.ensures.1 e) ∙ c.loop-self-test.false)) (λ e. true≢false (sym (c.is_hung.ensures.1 e) ∙ c.if-is_hung.false)))
+    (open_else c.loop-self.self.stop (λ e. true≢false (sym (c.is_stopped.ensures.1 e) ∙ c.loop-self-test.false)) (λ e. true≢false (sym (c.is_hung.ensures.1 e) ∙ c.if-is_hung.false)))

@@ -16,4 +16,4 @@ pub returns-clause-goes : goal.returns-clause-goes
 returns-clause-goes g c = λ s n rest a h.
     let opens = wake_opens s n rest c.args.self.now c.args.fates.now a h.underway c.open_stopped.new.self c.open_stopped.ensures in
     wake_goes s n rest c.args.self.now c.args.fates.now a h.underway c.open_stopped.new.self c.serve.new.self c.serve.new.fates c.open_stopped.ensures h.served
-        (c.serve.ensures.serves s n rest (woken_account c.args.self.now.stop a) opens)
+    (c.serve.ensures.serves s n rest (woken_account c.args.self.now.stop a) opens)
