@@ -1,5 +1,5 @@
 -- How a queue is purged, woken and finished.
-use Rattle.std.proofs.Common.{◌≡◌, ◌≢◌, ℕ, ◌+◌, ◌-◌, ◌<◌, ◌≤◌, true, false, ◌||◌, List, [], ◌∷◌, ◌++◌, inl, inr, length, drop, All, Option, Some, None, is_some, is_none, option_to_list, slice_get, refl, sym, ap, ap₂, subst, ◌∙◌, arith, drop_of_length-le, length-drop}
+use Rattle.std.proofs.Common.{◌≡◌, ◌≢◌, ℕ, ◌<◌, ◌≤◌, true, false, ◌||◌, List, [], ◌∷◌, ◌++◌, inl, inr, length, drop, All, Option, Some, None, is_some, is_none, option_to_list, slice_get, refl, sym, ap, ap₂, subst, ◌∙◌, arith, drop_of_length-le, length-drop}
 use Rattle.std.specs.List.{slice_set}
 use Rattle.std.proofs.lemmas.List.{drop-drop, length-set}
 use Rattle.std.proofs.lemmas.List.Elements.{All-nil}
@@ -28,7 +28,7 @@ use Rattle.lq_ring_core.specs.Ring.{RingState}
 use Rattle.lq_top.specs.Queue.{QueueState, Setting, Matches, IsPacketOf, IsTaken, SameElsewhere, IsUnderway, IsServed, StandsFor, Serves, Goes, Finishes, running, woken, device_of, stop_number, is_hung_value, value_opened}
 use Rattle.lq_top.specs.declared.queue.stop_value.StopValue.{StopValue}
 use Rattle.lq_top.specs.declared.queue.stop_value.StopValue.TheVariants.{Open, Stopped, Hung}
-use Rattle.lq_top.proofs.FateLists.{set_here, set_apart, same_itself, same_both, same_set}
+use Rattle.lq_top.proofs.FateLists.{set_here, set_apart, same_both, same_set}
 use Rattle.lq_top.proofs.QueueLemmas.{in_hand_is}
 
 -- A PURGE, PACKET BY PACKET
