@@ -1,14 +1,13 @@
 -- The three bands of a station, and what is taken from them.
-use Rattle.std.proofs.Common.{◌≡◌, ◌≢◌, ℕ, zero, suc, ◌+◌, ◌<◌, List, [], ◌∷◌, ◌++◌, ◌⊎◌, inl, inr, length, drop, All, Option, Some, None, option_to_list, slice_get, refl, sym, ap, subst, ◌∙◌, arith}
-use Rattle.std.proofs.lemmas.List.{drop-drop, drop-append-le}
-use Rattle.std.proofs.lemmas.List.Elements.{All-nil, All-cons, All-head, All-drop, All-push}
+use Rattle.std.proofs.Common.{◌≡◌, ℕ, zero, suc, ◌<◌, List, [], ◌∷◌, inl, inr, All, Some, None, option_to_list, slice_get, arith}
+use Rattle.std.proofs.lemmas.List.{drop-drop}
+use Rattle.std.proofs.lemmas.List.Elements.{All-nil, All-cons, All-head, All-drop}
 use Rattle.std.proofs.lemmas.Bool.{cases_eq}
 use Rattle.lq_account.proofs.Answers.{with_at_same, with_at_other}
-use Rattle.lq_account.proofs.Taken.{IsTurn, takes_0, takes_1, takes_2, next_is}
-use Rattle.lq_model.specs.Account.{Account, Take, held_in, with_at}
-use Rattle.lq_model.specs.Alone.{next_taken}
-use Rattle.lq_model.specs.Band.{Band, held_of, joined, taken_by}
-use Rattle.lq_top.specs.Bands.{HoldNothing, IsLowest}
+use Rattle.lq_account.proofs.Taken.{IsTurn, takes_0, takes_1, takes_2}
+use Rattle.lq_model.specs.Account.{Account, Take, with_at}
+use Rattle.lq_model.specs.Band.{Band, held_of, taken_by}
+use Rattle.lq_top.specs.Bands.{IsLowest}
 
 -- the lowest band that holds a packet is the one that is taken from
 pub lowest_turn : (a : Account) (band : ℕ) → a.slot ≡ None → IsLowest a.bands band → IsTurn a (Take band)

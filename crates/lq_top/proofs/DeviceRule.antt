@@ -1,5 +1,5 @@
 -- A device that tells keeps to its parameters.
-use Rattle.std.proofs.Common.{◌≡◌, ◌≢◌, ◌↔◌, ℕ, ◌+◌, ◌<◌, ◌≤◌, ◌==◌, Bool, true, false, ◌&&◌, nat_lt, if◌then◌else◌, List, [], ◌∷◌, ◌++◌, ◌⊎◌, inl, inr, length, Option, Some, None, IfSome, refl, sym, ap, ap₂, subst, ◌∙◌, arith, length-append}
+use Rattle.std.proofs.Common.{◌≡◌, ℕ, ◌+◌, ◌<◌, ◌≤◌, ◌==◌, Bool, true, false, ◌&&◌, nat_lt, if◌then◌else◌, inl, inr, length, Option, Some, None, IfSome, refl, sym, ap, ap₂, subst, ◌∙◌, arith, length-append}
 use Rattle.std.specs.Option.{option_map}
 use Rattle.std.proofs.lemmas.Bool.{cases_eq, true≢false, ltb-true, lt-ltb, eqb-true, eq-eqb, and_parts}
 use Rattle.lq_model.specs.Device.{Telling, DeviceState, Answers, answer_of, is_hang, is_multiple, taken, told_after}
@@ -80,7 +80,7 @@ rule_kept answer n old new alive an m t' e = by_told old.told refl
         let count : length new.accepted ≡ length old.accepted + length (taken answer n) = ap length an.accepted ∙ length-append old.accepted (taken answer n) in
         let before : MeetsParams t (length old.accepted) false = subst (λ (hung : Bool). MeetsParams t (length old.accepted) hung) alive (m t is) in
         let kept : MeetsParams (told_after answer t) (length old.accepted + length (taken answer n)) (is_hang answer)
-          = params_kept t n (length old.accepted) before answer (answer_is answer n t old new an is) in
+        = params_kept t n (length old.accepted) before answer (answer_is answer n t old new an is) in
         subst (λ (t : Telling). MeetsParams t (length new.accepted) new.hung) same
         (subst (λ (count : ℕ). MeetsParams (told_after answer t) count new.hung) (sym count)
         (subst (λ (hung : Bool). MeetsParams (told_after answer t) (length old.accepted + length (taken answer n)) hung) (sym an.hung) kept))

@@ -1,33 +1,31 @@
 -- A packet is brought to its station, and the station is served.
-use Rattle.std.proofs.Common.{◌≡◌, ◌≢◌, ◌↔◌, ℕ, zero, suc, ◌+◌, ◌<◌, ◌≤◌, ◌==◌, Bool, true, false, not, ◌&&◌, List, [], ◌∷◌, ◌++◌, inl, inr, length, drop, All, Option, Some, None, option_to_list, slice_get, refl, sym, ap, ap₂, subst, ◌∙◌, arith, length-append}
+use Rattle.std.proofs.Common.{◌≡◌, ◌≢◌, ℕ, zero, suc, ◌+◌, ◌<◌, Bool, true, false, not, List, [], ◌∷◌, ◌++◌, inl, inr, length, drop, All, Option, Some, None, option_to_list, slice_get, refl, sym, ap, ap₂, subst, ◌∙◌, arith}
 use Rattle.std.specs.List.{slice_set}
 use Rattle.std.proofs.lemmas.List.{length-set}
-use Rattle.std.proofs.lemmas.List.Elements.{All-nil, All-cons, All-drop, All-push}
+use Rattle.std.proofs.lemmas.List.Elements.{All-nil, All-push}
 use Rattle.std.proofs.lemmas.Bool.{cases_eq, true≢false}
 use Rattle.lq_account.proofs.Answers.{IsAnswered, is_answered, slot_behind, with_at_same, with_at_other}
-use Rattle.lq_account.proofs.Offers.{brought_direct, brought_through, direct_closed, direct_open, queued_full, queued_join, served_behind, through_closed, through_open}
+use Rattle.lq_account.proofs.Offers.{direct_closed, direct_open, queued_full, queued_join, served_behind, through_closed, through_open}
 use Rattle.lq_account.proofs.Steps.{at_answer, at_back, at_direct, at_full, at_join}
 use Rattle.lq_account.proofs.Taken.{slot_none}
 use Rattle.lq_account.specs.Progress.{IsAt}
 use Rattle.lq_device.specs.Station.{with_side}
-use Rattle.lq_model.specs.Account.{Account, Back, Direct, Full, Join, after, held, held_in, with_at}
-use Rattle.lq_model.specs.Alone.{Running, answered, brought_in, gone_direct, gone_through, queued, served}
+use Rattle.lq_model.specs.Account.{Account, Back, Direct, Full, Join, after, held, with_at}
+use Rattle.lq_model.specs.Alone.{Running, answered, gone_direct, gone_through, queued, served}
 use Rattle.lq_model.specs.Band.{Band, IsOccupied, MayBeFull, held_of, joined}
 use Rattle.lq_model.specs.Device.{Telling, answer_of, is_busy, told_after}
-use Rattle.lq_model.specs.Plan.{band_in, queue_in, station_in}
+use Rattle.lq_model.specs.Plan.{band_in}
 use Rattle.lq_model.specs.declared.device.Tx.{Tx}
 use Rattle.lq_model.specs.declared.device.Tx.TheVariants.{Sent, SentStop, SentHang, Busy}
 use Rattle.lq_model.specs.declared.fate.Fate.{Fate}
 use Rattle.lq_model.specs.declared.fate.Fate.TheVariants as fate
-use Rattle.lq_model.specs.declared.fate.Info.{Info}
 use Rattle.lq_top.specs.Bands.{AreBands, held_by}
-use Rattle.lq_top.specs.Queue.{Brings, Does, Goes, IsNextPacket, IsPacketOf, IsServed, IsUnderway, Matches, MayOffer, Moves, Offers, QueueState, SameElsewhere, Serves, Setting, StandsFor, device_of, number_held, running, stop_number}
+use Rattle.lq_top.specs.Queue.{Brings, Goes, IsNextPacket, IsPacketOf, IsUnderway, Matches, MayOffer, Offers, QueueState, SameElsewhere, Serves, Setting, StandsFor, device_of, running, stop_number}
 use Rattle.lq_top.specs.declared.queue.bands.Bands.{Bands}
-use Rattle.lq_top.specs.declared.queue.stop_value.StopValue.{StopValue}
-use Rattle.lq_top.specs.declared.queue.stop_value.StopValue.TheVariants.{Open, Stopped, Hung}
+use Rattle.lq_top.specs.declared.queue.stop_value.StopValue.TheVariants.{Open}
 use Rattle.lq_top.proofs.BandsLemmas.{bands_have}
 use Rattle.lq_top.proofs.DeviceRule.{answer_is, told_now}
-use Rattle.lq_top.proofs.FateLists.{set_here, set_apart, same_itself, same_both, same_set}
+use Rattle.lq_top.proofs.FateLists.{set_here, set_apart, same_itself, same_both}
 use Rattle.lq_top.proofs.QueueLemmas.{answered_elsewhere, answered_matches, back_matches, direct_matches, may_offer}
 use Rattle.lq_top.proofs.QueueRuns.{answered_purges_none, closed_number, underway_with_clean, with_clean}
 
@@ -41,7 +39,6 @@ drop-push P (suc k) (y ∷ ys) x here h = drop-push P k ys x here h
 
 module _ (s : Setting) (n rest band : ℕ) (q : QueueState) (bands : Bands) (fates : List (Option Fate)) (a : Account)
     (u : IsUnderway s n (rest + 1) q fates a) (next : IsNextPacket s n band) where
-
   -- packet n joined its band
   pub joined_underway : band < 3 → AreBands bands a.len (with_at band (joined (a.bands band) n) a.bands) → held_by bands ≡ held_by q.bands + 1
       → (IsOccupied a.len (a.bands band) → ⊥) → length (held_of (a.bands band)) < a.len
@@ -92,10 +89,10 @@ module _ (s : Setting) (n rest band : ℕ) (q : QueueState) (bands : Bands) (fat
             one_each = length-set fates n _ ∙ u.matches.fates_are.one_each;
             each = λ k within at. elim (cases_eq k n) [
               | inl e ↦ ap (λ k. slice_get (slice_set fates n (Some (fate.Full seen))) k) e
-                ∙ set_here fates n _ (let each = u.matches.fates_are.one_each in let inside = next.packet.within in omega arith)
-                ∙ ap Some (sym (ap (with_at n (Some (fate.Full seen)) a.fates) e ∙ with_at_same n (Some (fate.Full seen)) a.fates))
+                  ∙ set_here fates n _ (let each = u.matches.fates_are.one_each in let inside = next.packet.within in omega arith)
+                  ∙ ap Some (sym (ap (with_at n (Some (fate.Full seen)) a.fates) e ∙ with_at_same n (Some (fate.Full seen)) a.fates))
               | inr other ↦ set_apart fates n k _ other ∙ u.matches.fates_are.each k within at
-                ∙ ap Some (sym (with_at_other n k (Some (fate.Full seen)) a.fates other))
+                  ∙ ap Some (sym (with_at_other n k (Some (fate.Full seen)) a.fates other))
             ];
           };
           packets = record { in_slot = u.matches.packets.in_slot; in_hand = u.matches.packets.in_hand; in_bands = u.matches.packets.in_bands };
@@ -128,7 +125,6 @@ slot-none Busy n e = absurd (true≢false e)
 
 module _ (s : Setting) (n rest : ℕ) (old : QueueState) (fates : List (Option Fate)) (a : Account)
     (st : StandsFor s n (rest + 1) old fates a) (packet : IsPacketOf s.infos s.station n) (clean : old.clean ≡ true) where
-
   none-held : held a ≡ []
   none-held = st.served.clean_is_empty clean
 
@@ -161,14 +157,14 @@ module _ (s : Setting) (n rest : ℕ) (old : QueueState) (fates : List (Option F
     held-now : is_busy answer ≡ false → held (answered answer 0 (after (Direct n) a)) ≡ []
     held-now busy =
         ap₂ (λ slot (bands : ℕ → Band). option_to_list slot ++ (held_of (bands 0) ++ (held_of (bands 1) ++ held_of (bands 2))))
-          (answered-now.slot ∙ slot-none answer n busy ∙ sym slot-empty) answered-now.bands
+        (answered-now.slot ∙ slot-none answer n busy ∙ sym slot-empty) answered-now.bands
         ∙ none-held
 
     does-direct : (t : Telling) → (device_of old).told ≡ Some t
         → running (answered answer 0 (after (Direct n) a)) (record new { clean = not (is_busy answer) }) (told_after answer t) ≡ gone_direct s.infos n (running a old t)
     does-direct t e =
         let is : answer ≡ answer_of t (length (a.sent a.unit))
-          = answer_is answer n t (device_of old) (device_of new) o.answers e ∙ ap (λ xs. answer_of t (length xs)) (sym st.underway.matches.sent.sent) in
+        = answer_is answer n t (device_of old) (device_of new) o.answers e ∙ ap (λ xs. answer_of t (length xs)) (sym st.underway.matches.sent.sent) in
         ap {A = Tx} {B = Running} (λ x. record { account = answered x 0 (after (Direct n) a); clean = not (is_busy x); device = told_after x t }) is
         ∙ sym (direct_open s.infos n (running a old t) (st.underway.one_queue n) stops-open)
 
@@ -220,7 +216,6 @@ module _ (s : Setting) (n rest : ℕ) (old : QueueState) (fates : List (Option F
 module _ (s : Setting) (n rest band : ℕ) (old mid new : QueueState) (fates fates' fates'' : List (Option Fate)) (a : Account)
     (next : IsNextPacket s n band) (frame : mid ≡ record old { bands = mid.bands }) (elsewhere : SameElsewhere s.infos s.station fates fates')
     (v : Serves s (n + 1) rest mid new fates' fates'' (queued n band a)) where
-
   -- what serving did, where the device tells
   mid-told : (t : Telling) → (device_of old).told ≡ Some t → (device_of mid).told ≡ Some t
   mid-told t e = ap (λ (q : QueueState). (device_of q).told) frame ∙ e
@@ -230,7 +225,7 @@ module _ (s : Setting) (n rest band : ℕ) (old mid new : QueueState) (fates fat
   served-is t e =
       (v.moves.tells t (mid-told t e)).does
       ∙ ap₂ {A = ℕ} {B = Bool} {C = Running} (λ band clean. served s.infos (record { account = queued n band a; clean = clean; device = t }))
-          (sym next.band_is) (ap (λ (q : QueueState). q.clean) frame)
+      (sym next.band_is) (ap (λ (q : QueueState). q.clean) frame)
 
   stops-are : (t : Telling) (e : (device_of old).told ≡ Some t) → (served_behind s.infos n (running a old t)).account.stops ≡ stop_number new.stop ∷ []
   stops-are t e = ap (λ r. r.account.stops) (sym (served-is t e)) ∙ v.moves.underway.matches.stops
@@ -264,8 +259,8 @@ module _ (s : Setting) (n rest band : ℕ) (old mid new : QueueState) (fates fat
         told = d.told;
         params = d.params;
         does =
-          ap {A = Running} {B = Running} (λ r. record r { clean = false }) (served-is t e)
-          ∙ sym (through_closed s.infos n (running a old t) (stop_number new.stop) (stops-are t e) (closed_number new.stop closed));
+            ap {A = Running} {B = Running} (λ r. record r { clean = false }) (served-is t e)
+            ∙ sym (through_closed s.infos n (running a old t) (stop_number new.stop) (stops-are t e) (closed_number new.stop closed));
       };
     };
     is_served = λ _. record { clean_is_empty = λ e. absurd (true≢false (sym e)); open_is_clean = λ opens. absurd (closed opens) };

@@ -1,12 +1,12 @@
 -- A queue and the list of fates match an account, through each step.
-use Rattle.std.proofs.Common.{◌≡◌, ◌≢◌, ℕ, ◌+◌, ◌<◌, ◌≤◌, true, false, List, [], ◌∷◌, ◌++◌, inl, inr, length, All, Option, Some, None, IfSome, IfNone, OnSome, option_to_list, slice_get, refl, sym, ap, ap₂, subst, ◌∙◌, arith, length-append}
+use Rattle.std.proofs.Common.{◌≡◌, ℕ, ◌+◌, ◌<◌, ◌≤◌, true, false, List, [], ◌∷◌, ◌++◌, inl, inr, length, All, Option, Some, None, IfSome, IfNone, OnSome, option_to_list, slice_get, refl, sym, ap, ap₂, subst, ◌∙◌, arith, length-append}
 use Rattle.std.specs.List.{slice_set}
 use Rattle.std.proofs.lemmas.List.{length-set}
 use Rattle.std.proofs.lemmas.List.Elements.{All-nil, All-cons, All-head}
 use Rattle.std.proofs.lemmas.Bool.{cases_eq}
 use Rattle.lq_account.proofs.Answers.{IsAnswered, slot_behind, stop_behind}
 use Rattle.lq_account.proofs.Taken.{picks, next_is, next_none}
-use Rattle.lq_device.specs.Station.{StationState, with_side}
+use Rattle.lq_device.specs.Station.{with_side}
 use Rattle.lq_model.specs.Account.{Account, Take, Pick, Direct, Back, Fates, after, held, held_in}
 use Rattle.lq_model.specs.Alone.{next_taken}
 use Rattle.lq_model.specs.Band.{Band, held_of}
@@ -96,6 +96,7 @@ module _ (infos : List Info) (station rest : ℕ) (q : QueueState) (fates : List
       → IfNone result (HoldNothing a.bands) → IfNone result (next_taken a ≡ None)
   none_taken (Some k) m e nothing = tt
   none_taken None m e nothing = next_none a (nothing_held (sym m.slot ∙ e) nothing)
+
 -- OFFERS
 
 module _ (infos : List Info) (station rest n : ℕ) (q : QueueState) (fates : List (Option Fate)) (a : Account) where
@@ -133,7 +134,6 @@ hung-same Busy = refl
 module _ (infos : List Info) (station rest n : ℕ) (answer : Tx) (old new : QueueState) (fates fates' : List (Option Fate)) (a b : Account)
     (m : Matches infos station rest (Some n) old fates a) (slot : a.slot ≡ None) (opens : old.stop ≡ Open)
     (o : Offers answer n old new fates fates') (h : IsAnswered answer n a b) where
-
   packet : IsPacketOf infos station n
   packet = in_hand_is infos station rest n old fates a m
 
@@ -143,13 +143,13 @@ module _ (infos : List Info) (station rest n : ℕ) (answer : Tx) (old new : Que
     one_each = ap length is ∙ length-set fates n _ ∙ m.fates_are.one_each;
     each = λ k within at. elim (cases_eq k n) [
       | inl same ↦
-        ap (λ k. slice_get fates' k) same ∙ ap (λ (fates : List (Option Fate)). slice_get fates n) is
-        ∙ set_here fates n _ (may_offer infos station rest n old fates a m slot opens).within
-        ∙ ap₂ (λ unit serial. Some (Some (fate.Sent unit serial))) m.sent.unit (ap length (sym m.sent.sent))
-        ∙ ap Some (sym (h.fate busy)) ∙ ap (λ k. Some (b.fates k)) (sym same)
+          ap (λ k. slice_get fates' k) same ∙ ap (λ (fates : List (Option Fate)). slice_get fates n) is
+          ∙ set_here fates n _ (may_offer infos station rest n old fates a m slot opens).within
+          ∙ ap₂ (λ unit serial. Some (Some (fate.Sent unit serial))) m.sent.unit (ap length (sym m.sent.sent))
+          ∙ ap Some (sym (h.fate busy)) ∙ ap (λ k. Some (b.fates k)) (sym same)
       | inr other ↦
-        ap (λ (fates : List (Option Fate)). slice_get fates k) is ∙ set_apart fates n k _ other ∙ m.fates_are.each k within at
-        ∙ ap Some (sym (h.fate_others k other))
+          ap (λ (fates : List (Option Fate)). slice_get fates k) is ∙ set_apart fates n k _ other ∙ m.fates_are.each k within at
+          ∙ ap Some (sym (h.fate_others k other))
     ];
   }
 
@@ -187,7 +187,7 @@ module _ (infos : List Info) (station rest n : ℕ) (answer : Tx) (old new : Que
       let none : length (option_to_list old.station.side) ≡ 0 = ap (λ side. length (option_to_list side)) (m.slot ∙ slot) in
       let spare = o.answers.spare in
       let count : length (device_of new).accepted ≡ length (device_of old).accepted + length (taken answer n)
-        = ap length o.answers.accepted ∙ length-append (device_of old).accepted (taken answer n) in
+      = ap length o.answers.accepted ∙ length-append (device_of old).accepted (taken answer n) in
       let room : rest + (1 + number_held old) ≤ (device_of old).spare = m.room.room in
       let countable : length (device_of old).accepted + (rest + (1 + number_held old)) ≤ 4294967295 = m.room.countable in
       record { room = omega arith; countable = omega arith }
@@ -261,7 +261,7 @@ module _ (infos : List Info) (station rest n : ℕ) (q : QueueState) (fates : Li
     packets = record { in_slot = m.packets.in_hand; in_hand = All-nil (IsPacketOf infos station); in_bands = m.packets.in_bands };
     hung = m.hung;
     room = (
-      let none : length (option_to_list q.station.side) ≡ 0 = ap (λ side. length (option_to_list side)) (m.slot ∙ slot) in
-      record { room = (let room = m.room.room in omega arith); countable = (let countable = m.room.countable in omega arith) });
+        let none : length (option_to_list q.station.side) ≡ 0 = ap (λ side. length (option_to_list side)) (m.slot ∙ slot) in
+        record { room = (let room = m.room.room in omega arith); countable = (let countable = m.room.countable in omega arith) });
     rule = m.rule;
   }

@@ -1,24 +1,22 @@
 -- A station is served, turn by turn.
-use Rattle.std.proofs.Common.{◌≡◌, ◌≢◌, ◌↔◌, ℕ, zero, suc, ◌+◌, ◌<◌, ◌≤◌, ◌==◌, Bool, true, false, List, [], ◌∷◌, inl, inr, length, Option, Some, None, IfSome, refl, sym, ap, ap₂, subst, ◌∙◌, arith}
+use Rattle.std.proofs.Common.{◌≡◌, ◌≢◌, ◌↔◌, ℕ, ◌+◌, ◌≤◌, ◌==◌, Bool, true, false, List, [], ◌∷◌, inl, inr, length, Option, Some, None, refl, sym, ap, ap₂, subst, ◌∙◌, arith}
 use Rattle.std.proofs.lemmas.Bool.{cases_eq}
-use Rattle.lq_account.proofs.Answers.{IsAnswered, is_answered, answered_busy}
+use Rattle.lq_account.proofs.Answers.{IsAnswered, is_answered}
 use Rattle.lq_account.proofs.OneQueue.{one_clean}
 use Rattle.lq_account.proofs.Steps.{at_taken, at_answer}
 use Rattle.lq_account.proofs.Taken.{IsInHand, in_hand, turn_of, held_none}
 use Rattle.lq_account.proofs.Turns.{HasOneQueue, after_turn, left_open, left_stopped, served_left, served_open, turn_served, turns_none}
 use Rattle.lq_account.proofs.Turns as turns
 use Rattle.lq_device.specs.Station.{with_side}
-use Rattle.lq_model.specs.Account.{Account, Event, after, held}
-use Rattle.lq_model.specs.Alone.{Running, answered, cleaned, next_taken, served, served_turns, turns_of}
+use Rattle.lq_model.specs.Account.{Account, after, held}
+use Rattle.lq_model.specs.Alone.{Running, answered, cleaned, next_taken, served_turns, turns_of}
 use Rattle.lq_model.specs.Device.{Telling, answer_of, is_busy, told_after}
-use Rattle.lq_model.specs.Plan.{queue_in}
 use Rattle.lq_model.specs.declared.device.Tx.{Tx}
 use Rattle.lq_model.specs.declared.device.Tx.TheVariants.{Sent, SentStop, SentHang, Busy}
 use Rattle.lq_model.specs.declared.fate.Fate.{Fate}
 use Rattle.lq_model.specs.declared.fate.Fate.TheVariants as fate
 use Rattle.lq_model.specs.declared.fate.Info.{Info}
-use Rattle.lq_top.specs.Queue.{Does, IsServed, IsTaken, IsUnderway, Matches, MayOffer, Moves, NonePurged, Offers, QueueState, Runs, SameElsewhere, Serves, Setting, device_of, is_closed_number, running, stop_number, turns_left, work_left}
-use Rattle.lq_top.specs.declared.queue.bands.Bands.{Bands}
+use Rattle.lq_top.specs.Queue.{IsTaken, IsUnderway, Matches, MayOffer, NonePurged, Offers, QueueState, Runs, SameElsewhere, Serves, Setting, device_of, is_closed_number, running, stop_number, turns_left, work_left}
 use Rattle.lq_top.specs.declared.queue.stop_value.StopValue.{StopValue}
 use Rattle.lq_top.specs.declared.queue.stop_value.StopValue.TheVariants.{Open, Stopped, Hung}
 use Rattle.lq_top.proofs.DeviceRule.{answer_is, told_now}
@@ -108,7 +106,6 @@ answered_purges_none answer n a b h none = λ k why e. elim (cases_eq k n) [
 module _ (s : Setting) (n rest m : ℕ) (answer : Tx) (old now mid new : QueueState) (fates fates' fates'' : List (Option Fate)) (a : Account)
     (r : RunsOn s n rest old now fates fates' a) (opens : now.stop ≡ Open) (taken : IsTaken s.infos s.station rest m mid fates' r.account)
     (frame : mid ≡ record now { station = with_side now.station None; bands = mid.bands }) where
-
   in_hand_now : IsInHand r.account (after taken.event r.account)
   in_hand_now = in_hand (turn_of r.account taken.event taken.next)
 
@@ -133,7 +130,7 @@ module _ (s : Setting) (n rest m : ℕ) (answer : Tx) (old now mid new : QueueSt
     does-turn t t' e =
         let mid_told : (device_of mid).told ≡ Some t' = ap (λ d. d.told) same-device ∙ e in
         let is : answer ≡ answer_of t' (length ((after taken.event r.account).sent (after taken.event r.account).unit))
-          = answer_is answer m t' (device_of mid) (device_of new) o.answers mid_told ∙ ap (λ xs. answer_of t' (length xs)) (sym taken.matches.sent.sent) in
+        = answer_is answer m t' (device_of mid) (device_of new) o.answers mid_told ∙ ap (λ xs. answer_of t' (length xs)) (sym taken.matches.sent.sent) in
         ap₂ {A = Tx} {B = Bool} {C = Running} (λ x clean. record { account = answered x 0 (after taken.event r.account); clean = clean; device = told_after x t' }) is (o.clean ∙ ap (λ (q : QueueState). q.clean) frame)
 
     does-on : (t : Telling) → DoesOn s.infos t old now a r.account → DoesOn s.infos t old new a (answered answer 0 (after taken.event r.account))
@@ -142,11 +139,11 @@ module _ (s : Setting) (n rest m : ℕ) (answer : Tx) (old now mid new : QueueSt
       told = told_now answer m d.device (device_of mid) (device_of new) o.answers (ap (λ d. d.told) same-device ∙ d.told);
       params = d.params;
       does =
-        ap (λ r. served_turns s.infos (turns_of r) r) (does-turn t d.device d.told)
-        ∙ sym (turn_served s.infos r.underway.one_queue (running r.account now d.device) taken.event
-            (one_queue_of s.infos s.station rest now fates' r.account d.device r.underway.matches d.told)
-            (r.underway.matches.stops ∙ ap (λ stop. stop_number stop ∷ []) opens) r.underway.matches.active taken.next)
-        ∙ d.does;
+          ap (λ r. served_turns s.infos (turns_of r) r) (does-turn t d.device d.told)
+          ∙ sym (turn_served s.infos r.underway.one_queue (running r.account now d.device) taken.event
+          (one_queue_of s.infos s.station rest now fates' r.account d.device r.underway.matches d.told)
+          (r.underway.matches.stops ∙ ap (λ stop. stop_number stop ∷ []) opens) r.underway.matches.active taken.next)
+          ∙ d.does;
     }
 
     pub run_turns : RunsOn s n rest old new fates fates'' a
@@ -182,7 +179,7 @@ module _ (s : Setting) (n rest : ℕ) (old now : QueueState) (fates fates' : Lis
   pub run_ends_closed : now.stop ≢ Open → Runs s n rest old now fates fates' a
   run_ends_closed closed =
       ends (λ t. turns.turns_left s.infos _ (running r.account now t) (left_stopped r.account (stop_number now.stop) r.underway.matches.stops (closed_number now.stop closed)))
-        (λ opens. absurd (closed opens))
+      (λ opens. absurd (closed opens))
 
   -- nothing is held any more
   pub run_ends_empty : next_taken r.account ≡ None → Runs s n rest old now fates fates' a
@@ -195,8 +192,17 @@ module _ (s : Setting) (n rest : ℕ) (old now : QueueState) (fates fates' : Lis
 pub with_clean : (infos : List Info) (station rest : ℕ) (hand : Option ℕ) (q : QueueState) (fates : List (Option Fate)) (a : Account) (clean : Bool)
     → Matches infos station rest hand q fates a → Matches infos station rest hand (record q { clean = clean }) fates a
 with_clean infos station rest hand q fates a clean m = record {
-  bands = m.bands; slot = m.slot; hand_is = m.hand_is; sent = m.sent; stops = m.stops; active = m.active; fates_are = m.fates_are;
-  packets = m.packets; hung = m.hung; room = record { room = m.room.room; countable = m.room.countable }; rule = m.rule;
+  bands = m.bands;
+  slot = m.slot;
+  hand_is = m.hand_is;
+  sent = m.sent;
+  stops = m.stops;
+  active = m.active;
+  fates_are = m.fates_are;
+  packets = m.packets;
+  hung = m.hung;
+  room = record { room = m.room.room; countable = m.room.countable };
+  rule = m.rule;
 }
 
 pub underway_with_clean : (s : Setting) (n rest : ℕ) (q : QueueState) (fates : List (Option Fate)) (a : Account) (clean : Bool)
@@ -217,10 +223,10 @@ serves_open s n rest old mid clean fates fates' a u opens iff r = record {
       told = d.told;
       params = d.params;
       does =
-        ap {A = Bool} {B = Running} (λ clean. record { account = r.moves.account; clean = clean; device = d.device })
+          ap {A = Bool} {B = Running} (λ clean. record { account = r.moves.account; clean = clean; device = d.device })
           (open_number mid.stop clean iff ∙ sym (one_clean r.moves.account (stop_number mid.stop) r.moves.underway.matches.stops))
-        ∙ ap cleaned d.does
-        ∙ sym (served_open s.infos (running a old t) (left_open a u.matches.active (u.matches.stops ∙ ap (λ stop. stop_number stop ∷ []) opens)));
+          ∙ ap cleaned d.does
+          ∙ sym (served_open s.infos (running a old t) (left_open a u.matches.active (u.matches.stops ∙ ap (λ stop. stop_number stop ∷ []) opens)));
     };
   };
   is_served = λ _. record { clean_is_empty = λ clean. r.empty (iff.0 clean); open_is_clean = iff.1 };

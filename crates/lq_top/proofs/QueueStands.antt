@@ -1,5 +1,5 @@
 -- A queue stands for its account while other stations' packets are brought.
-use Rattle.std.proofs.Common.{◌≡◌, ◌≢◌, ℕ, ◌+◌, ◌<◌, List, [], ◌∷◌, length, Option, Some, None, slice_get, refl, sym, ap, ◌∙◌}
+use Rattle.std.proofs.Common.{◌≡◌, ◌≢◌, ℕ, ◌+◌, List, [], ◌∷◌, Option, refl, sym, ap, ◌∙◌}
 use Rattle.lq_account.proofs.Offers.{served_idle}
 use Rattle.lq_account.proofs.Steps.{at_other}
 use Rattle.lq_account.proofs.Turns.{left_stopped, served_left}
@@ -8,7 +8,7 @@ use Rattle.lq_model.specs.Alone.{served}
 use Rattle.lq_model.specs.Device.{Telling}
 use Rattle.lq_model.specs.Plan.{station_in}
 use Rattle.lq_model.specs.declared.fate.Fate.{Fate}
-use Rattle.lq_top.specs.Queue.{IsUnderway, QueueState, SameElsewhere, Setting, StandsFor, running, stop_number}
+use Rattle.lq_top.specs.Queue.{QueueState, SameElsewhere, Setting, StandsFor, running, stop_number}
 use Rattle.lq_top.specs.declared.queue.stop_value.StopValue.{StopValue}
 use Rattle.lq_top.specs.declared.queue.stop_value.StopValue.TheVariants.{Open, Stopped, Hung}
 use Rattle.lq_top.proofs.QueueRuns.{closed_number}
@@ -28,12 +28,20 @@ module _ (s : Setting) (n rest : ℕ) (q : QueueState) (fates : List (Option Fat
       record {
         underway = record {
           matches = record {
-            bands = m.bands; slot = m.slot; hand_is = m.hand_is; sent = m.sent; stops = m.stops; active = m.active;
+            bands = m.bands;
+            slot = m.slot;
+            hand_is = m.hand_is;
+            sent = m.sent;
+            stops = m.stops;
+            active = m.active;
             fates_are = record {
               one_each = same.same_length ∙ m.fates_are.one_each;
               each = λ k within at. same.others k (λ e. apart (sym e ∙ at)) ∙ m.fates_are.each k within at;
             };
-            packets = m.packets; hung = m.hung; room = m.room; rule = m.rule;
+            packets = m.packets;
+            hung = m.hung;
+            room = m.room;
+            rule = m.rule;
           };
           at = st.underway.at;
           one_queue = st.underway.one_queue;
@@ -58,6 +66,6 @@ module _ (s : Setting) (n rest : ℕ) (q : QueueState) (fates : List (Option Fat
       by_stop : (stop : StopValue) → q.stop ≡ stop → served s.infos (running a q t) ≡ running a q t
       by_stop Open e =
           served_idle s.infos (running a q t) st.underway.matches.active (st.underway.matches.stops ∙ ap (λ stop. stop_number stop ∷ []) e)
-            (st.served.clean_is_empty (st.served.open_is_clean e)) (st.served.open_is_clean e)
+          (st.served.clean_is_empty (st.served.open_is_clean e)) (st.served.open_is_clean e)
       by_stop Stopped e = left (λ opens. absurd (stopped_open (sym e ∙ opens)))
       by_stop Hung e = left (λ opens. absurd (hung_open (sym e ∙ opens)))

@@ -1,11 +1,10 @@
 -- A station's queue with the list of fates, and the account that they stand for.
-use Rattle.std.specs.Prelude.{◌≡◌, ◌≢◌, ◌↔◌, ℕ, ◌+◌, ◌<◌, ◌≤◌, Bool, true, false, List, [], ◌∷◌, ◌++◌, All, length, slice_get, slice_set, Option, Some, None, IfSome, option_to_list}
-use Rattle.std.specs.Option.{option_map}
+use Rattle.std.specs.Prelude.{◌≡◌, ◌≢◌, ◌↔◌, ℕ, ◌+◌, ◌<◌, ◌≤◌, Bool, true, false, List, [], ◌∷◌, All, length, slice_get, slice_set, Option, Some, None, option_to_list}
 use Rattle.lq_account.specs.Progress.{IsAt}
-use Rattle.lq_device.specs.Station.{StationState, new_station}
+use Rattle.lq_device.specs.Station.{StationState}
 use Rattle.lq_model.specs.Account.{Account, Event, held, held_in, after}
-use Rattle.lq_model.specs.Alone.{Running, answered, next_taken, served, served_turns, turns_of, brought_in, opened, finished}
-use Rattle.lq_model.specs.Device.{DeviceState, Telling, Answers, answer_of, is_busy, told_after}
+use Rattle.lq_model.specs.Alone.{Running, next_taken, served, served_turns, turns_of, brought_in, opened, finished}
+use Rattle.lq_model.specs.Device.{DeviceState, Telling, Answers}
 use Rattle.lq_model.specs.Plan.{Plan, station_in, band_in, queue_in}
 use Rattle.lq_model.specs.declared.device.Tx.{Tx}
 use Rattle.lq_model.specs.declared.device.Tx.TheVariants.{Sent, SentStop, SentHang, Busy}

@@ -20,7 +20,6 @@ mod bands;
 mod stop_value;
 
 pub use bands::Bands;
-
 use lq_device::{Station, TxDevice};
 use lq_model::{Cause, Fate, Tx};
 use std::marker::Model;

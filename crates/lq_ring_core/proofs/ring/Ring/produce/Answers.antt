@@ -1,7 +1,7 @@
-use Rattle.std.proofs.Common.{◌≡◌, ◌≢◌, ◌-◌, arith, sym, ◌∙◌, refl}
+use Rattle.std.proofs.Common.{◌≢◌, ◌-◌, arith, sym, ◌∙◌, refl}
 use Rattle.lq_ring_core.proofs.Lists.{read-slice_index}
 use Rattle.lq_ring_core.proofs.BandLaws.{IsFull-occupied, MayBeFull-since, IsBand-produce}
-use Rattle.std.proofs.Common.{◌+◌, ◌<◌, ◌≤◌, length, length-append}
+use Rattle.std.proofs.Common.{length, length-append}
 use Rattle.std.proofs.lemmas.Bool.{true≢false}
 use Rattle.lq_ring_core.specs.Ring.{IsBounded, entries_of}
 use Rattle.lq_ring_core.proofs.Steps.{IsBounded-ring_of, full-since, full-never, seen-first, IsInOrder-produce, ring_of-produce}

@@ -10,14 +10,14 @@ pub returns-then-may_pass-clause-goes : goal.returns-then-may_pass-clause-goes
 returns-then-may_pass-clause-goes g c = λ s rest a st next.
     let past : (c.args.self.now.bypass && c.args.self.now.clean) ≡ true = sym c.may_pass.ensures ∙ c.if-may_pass.true in
     brings_as (gone_direct s.infos c.args.n) (brought_in s.infos c.args.self.now.bypass c.args.n) s c.args.n rest c.args.self.now c.send_direct.new.self
-        c.args.fates.now c.send_direct.new.fates a
-        (λ t. sym (brought_direct s.infos c.args.self.now.bypass c.args.n (running a c.args.self.now t) st.underway.matches.active past))
-        (c.send_direct.ensures.goes s rest a st next.packet (and_parts _ _ past).1)
+    c.args.fates.now c.send_direct.new.fates a
+    (λ t. sym (brought_direct s.infos c.args.self.now.bypass c.args.n (running a c.args.self.now t) st.underway.matches.active past))
+    (c.send_direct.ensures.goes s rest a st next.packet (and_parts _ _ past).1)
 
 pub returns-else-may_pass-clause-goes : goal.returns-else-may_pass-clause-goes
 returns-else-may_pass-clause-goes g c = λ s rest a st next.
     let through : (c.args.self.now.bypass && c.args.self.now.clean) ≡ false = sym c.may_pass.ensures ∙ c.if-may_pass.false in
     brings_as (gone_through s.infos c.args.n) (brought_in s.infos c.args.self.now.bypass c.args.n) s c.args.n rest c.args.self.now c.send_through.new.self
-        c.args.fates.now c.send_through.new.fates a
-        (λ t. sym (brought_through s.infos c.args.self.now.bypass c.args.n (running a c.args.self.now t) st.underway.matches.active through))
-        (c.send_through.ensures.goes s rest a st next)
+    c.args.fates.now c.send_through.new.fates a
+    (λ t. sym (brought_through s.infos c.args.self.now.bypass c.args.n (running a c.args.self.now t) st.underway.matches.active through))
+    (c.send_through.ensures.goes s rest a st next)

@@ -1,4 +1,4 @@
-use Rattle.std.proofs.Common.{◌≡◌, ◌≢◌, sym, ◌∙◌, subst}
+use Rattle.std.proofs.Common.{◌≢◌, sym, ◌∙◌, subst}
 use Rattle.std.proofs.lemmas.Bool.{true≢false}
 use Rattle.lq_top.specs.Queue.{QueueState, Serves}
 use Rattle.lq_top.specs.declared.queue.stop_value.StopValue.TheVariants.{Open}
@@ -9,7 +9,7 @@ pub returns-then-is_open-clause-serves : goal.returns-then-is_open-clause-serves
 returns-then-is_open-clause-serves g c = λ s n rest a u.
     subst (λ (q : QueueState). Serves s n rest c.args.self.now (record q { clean = c.is_open-self-inside.result }) c.args.fates.now c.run.new.fates a) (sym c.self.view_is)
     (serves_open s n rest c.args.self.now c.run.new.self c.is_open-self-inside.result c.args.fates.now c.run.new.fates a u
-        (c.is_open.ensures.0 c.if-is_open.true) c.is_open-self-inside.ensures (c.run.ensures.runs s n rest a u))
+    (c.is_open.ensures.0 c.if-is_open.true) c.is_open-self-inside.ensures (c.run.ensures.runs s n rest a u))
 
 pub returns-else-is_open-clause-serves : goal.returns-else-is_open-clause-serves
 returns-else-is_open-clause-serves g c = λ s n rest a u.

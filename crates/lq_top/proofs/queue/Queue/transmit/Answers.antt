@@ -13,4 +13,4 @@ pub returns-clause-goes : goal.returns-clause-goes
 returns-clause-goes g c = λ s rest a st next.
     let b = c.bring.ensures.goes s rest a st next in
     goes_served (brought_in s.infos c.args.self.now.bypass c.args.n) s c.args.n rest c.args.self.now c.bring.new.self c.serve.new.self
-        c.args.fates.now c.bring.new.fates c.serve.new.fates a b (c.serve.ensures.serves s (c.args.n + 1) rest b.moves.account b.moves.underway)
+    c.args.fates.now c.bring.new.fates c.serve.new.fates a b (c.serve.ensures.serves s (c.args.n + 1) rest b.moves.account b.moves.underway)
