@@ -11,7 +11,7 @@ bounds-fates-n g c =
     let some = c.requires.matches in
     let p = c.loop-n.invariant.purging some.infos some.station some.rest some.account some.matches in
     purge_within some.infos some.station some.rest c.in-Some.n c.dequeue.new.self c.loop-n.fates p.account
-        (c.in-Some.ensures.taken some.infos some.station some.rest c.loop-n.fates p.account p.matches)
+    (c.in-Some.ensures.taken some.infos some.station some.rest c.loop-n.fates p.account p.matches)
 
 pub loop-n-preserved : goal.loop-n-preserved
 loop-n-preserved g c = record {
