@@ -118,6 +118,14 @@ configured_at plan infos before devices station s d configured planned there = e
   | inr (past, nothing) ↦ absurd (let within = slice_get_within devices station d there in let len = configured.same_length in omega arith)
 ]
 
+-- the first device that is left has accepted nothing and doesn't hang
+pub fresh_first : {X : Type 0} (state : X → DeviceState) (plan : Plan) (infos : List Info) (before : List DeviceState) (k : ℕ) (all left : List X) (s : StationPlan) (device : X)
+    → AreConfigured plan infos (length plan.stations) before (map state all) → slice_get plan.stations k ≡ Some s
+    → left ≡ drop k all → 0 < length left → device ≡ slice_index_or left 0 device → ((state device).accepted ≡ []) × ((state device).hung ≡ false)
+fresh_first state plan infos before k all left s device configured planned rest some is =
+    let known = configured_at plan infos before (map state all) k s (state device) configured planned (mapped_at state all k device (first_left k all left device rest some is)) in
+    (known.2.accepted, known.2.hung)
+
 -- one more device is configured
 pub configured_more : {X : Type 0} (state : X → DeviceState) (plan : Plan) (infos : List Info) (k : ℕ) (first mid : List X) (s : StationPlan) (old new : X)
     → AreConfigured plan infos k (map state first) (map state mid) → drop k mid ≡ drop k first → slice_get plan.stations k ≡ Some s → slice_get mid k ≡ Some old

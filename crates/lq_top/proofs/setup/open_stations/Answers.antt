@@ -1,30 +1,22 @@
 use Rattle.std.proofs.Common.{◌≡◌, ◌∷◌, ◌++◌, [], ℕ, ◌+◌, ◌<◌, List, length, Some, false, sym, ap, ◌∙◌, subst, arith, drop, drop-drop, map, slice_get}
 use Rattle.lq_model.specs.Device.{DeviceState}
-use Rattle.lq_top.proofs.SetupLemmas.{Each, IsOpenedAt, all_stand, configured_at, each_more, first_left, mapped_at}
+use Rattle.lq_top.proofs.SetupLemmas.{Each, IsOpenedAt, all_stand, each_more, first_left, fresh_first, mapped_at}
 use Rattle.lq_top.specs.Queue.{QueueState}
 use Rattle.lq_top.proofs.setup.open_stations.Goals as goal
 
 pub new-requires-clause-fresh : goal.new-requires-clause-fresh
 new-requires-clause-fresh g c κs within =
-    let state = g.D.TxDevice.state in
-    let k = c.loop-station.station in
     let own = c.loop-station.invariant in
-    let device = c.remove-device.result in
     let some : 0 < length c.loop-station.bench.items = let test = c.loop-station-test.true in let e = c.stations-station-end.ensures.stations in let len = own.len in let ok = c.loop-station.bench.ok.0 in let units = c.requires.units in omega arith in
-    let there = mapped_at state c.args.bench.now.items k device (first_left k c.args.bench.now.items c.loop-station.bench.items device own.rest some c.remove-device.ensures.value) in
-    (configured_at c.args.plan.now c.requires.configured.0 c.requires.configured.1 (map state c.args.bench.now.items) k c.station-bypass.result (state device)
-        c.requires.configured.2 c.station-bypass.ensures.station there).2.accepted
+    (fresh_first g.D.TxDevice.state c.args.plan.now c.requires.configured.0 c.requires.configured.1 c.loop-station.station c.args.bench.now.items c.loop-station.bench.items
+        c.station-bypass.result c.remove-device.result c.requires.configured.2 c.station-bypass.ensures.station own.rest some c.remove-device.ensures.value).0
 
 pub new-requires-clause-alive : goal.new-requires-clause-alive
 new-requires-clause-alive g c κs within =
-    let state = g.D.TxDevice.state in
-    let k = c.loop-station.station in
     let own = c.loop-station.invariant in
-    let device = c.remove-device.result in
     let some : 0 < length c.loop-station.bench.items = let test = c.loop-station-test.true in let e = c.stations-station-end.ensures.stations in let len = own.len in let ok = c.loop-station.bench.ok.0 in let units = c.requires.units in omega arith in
-    let there = mapped_at state c.args.bench.now.items k device (first_left k c.args.bench.now.items c.loop-station.bench.items device own.rest some c.remove-device.ensures.value) in
-    (configured_at c.args.plan.now c.requires.configured.0 c.requires.configured.1 (map state c.args.bench.now.items) k c.station-bypass.result (state device)
-        c.requires.configured.2 c.station-bypass.ensures.station there).2.hung
+    (fresh_first g.D.TxDevice.state c.args.plan.now c.requires.configured.0 c.requires.configured.1 c.loop-station.station c.args.bench.now.items c.loop-station.bench.items
+        c.station-bypass.result c.remove-device.result c.requires.configured.2 c.station-bypass.ensures.station own.rest some c.remove-device.ensures.value).1
 
 pub loop-station-preserved : goal.loop-station-preserved
 loop-station-preserved g c =
