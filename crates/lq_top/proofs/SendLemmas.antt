@@ -1,8 +1,7 @@
 -- What a run of one sender leaves, where its stations are finished and its devices are in the bench again.
-use Rattle.std.proofs.Common.{◌≡◌, ◌⊎◌, inl, inr, ℕ, zero, suc, ◌+◌, ◌<◌, ◌≤◌, true, false, List, [], ◌∷◌, ◌++◌, length, refl, ap, arith, Option, Some, None, sym, ◌∙◌, subst, map, drop, take, slice_get, All}
+use Rattle.std.proofs.Common.{◌≡◌, inl, inr, ℕ, zero, suc, ◌<◌, List, [], ◌∷◌, ◌++◌, length, refl, ap, arith, Option, Some, None, sym, ◌∙◌, subst, map, take, slice_get, All}
 use Rattle.std.specs.Prelude.{IsSome, option_map}
 use Rattle.std.specs.Option.{option_map_or}
-use Rattle.std.proofs.lemmas.List.{length-map}
 use Rattle.std.proofs.lemmas.List.Elements.{All-nil, All-cons, All-get_or}
 use Rattle.std.proofs.lemmas.Option.{slice_get_within, slice_get_cases, get_or_from_slice_get}
 use Rattle.lq_account.proofs.Placed.{decided}
@@ -73,7 +72,6 @@ end_of plan infos = λ station. option_map (finished infos) (slice_get (after_pa
 
 module _ (plan : Plan) (infos : List Info) (before : List DeviceState) (queues : List QueueState) (options : List (Option Fate)) (alone : IsSentAlone plan infos)
     (all : AllFinished plan infos before queues options (end_of plan infos)) (one_each : length options ≡ length infos) where
-
   has-fate : (n : ℕ) (option : Option Fate) → slice_get options n ≡ Some option → IsSome option
   has-fate n option there = elim ((slice_get_cases queues (station_in infos n)).1) [
     | inl (q, inside, here, same) ↦

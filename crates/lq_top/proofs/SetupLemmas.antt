@@ -1,6 +1,6 @@
 -- What is made before a run of one sender, element by element.
-use Rattle.std.proofs.Common.{◌≡◌, ◌≢◌, ◌⊎◌, inl, inr, ℕ, zero, suc, ◌+◌, ◌-◌, ◌<◌, ◌≤◌, true, false, List, [], ◌∷◌, ◌++◌, length, refl, ap, arith, Option, Some, None, Result, Ok, Err, sym, ◌∙◌, subst, map, take, drop, replicate, slice_get, slice_index_or, drop-drop}
-use Rattle.std.specs.Prelude.{IsSome, option_map, slice_set, ◌==◌, count_by}
+use Rattle.std.proofs.Common.{◌≡◌, inl, inr, ℕ, zero, suc, ◌+◌, ◌-◌, ◌<◌, ◌≤◌, true, false, List, [], ◌∷◌, ◌++◌, length, refl, ap, arith, Option, Some, None, Result, Ok, Err, sym, ◌∙◌, subst, map, take, drop, replicate, slice_get, slice_index_or, drop-drop}
+use Rattle.std.specs.Prelude.{IsSome, option_map, slice_set, ◌==◌}
 use Rattle.std.specs.Option.{option_map_or}
 use Rattle.std.specs.Result.{IsOk, is_ok}
 use Rattle.std.specs.Bool.{if◌then◌else◌}
@@ -11,7 +11,7 @@ use Rattle.std.proofs.lemmas.Option.{same_Some, slice_get_within, slice_get-map,
 use Rattle.lq_account.specs.Progress.{len_of, start_of}
 use Rattle.lq_device.specs.Station.{new_station}
 use Rattle.lq_model.specs.Account.{new_account}
-use Rattle.lq_model.specs.Alone.{Running, new_device, new_stations, new_station as first_run}
+use Rattle.lq_model.specs.Alone.{new_device, new_stations, new_station as first_run}
 use Rattle.lq_model.specs.Band.{empty_band}
 use Rattle.lq_model.specs.Device.{DeviceState, IsConfigured, Telling}
 use Rattle.lq_model.specs.Plan.{Plan}
@@ -105,7 +105,7 @@ pub record IsOpenedAt (plan : Plan) (bands : List Bands) (devices : List DeviceS
   pub own_device : slice_get devices station ≡ Some d
   pub state : q ≡ new_queue (new_station station d) b s.bypass
   pub stands : (setting : Setting) (rest : ℕ) (fates : List (Option Fate)) → AreBands b (len_of setting.plan setting.station) (λ _. empty_band) → setting.station ≡ station
-    → Begins setting rest d fates → StandsFor setting 0 rest q fates (start_of setting.plan setting.station)
+      → Begins setting rest d fates → StandsFor setting 0 rest q fates (start_of setting.plan setting.station)
 
 -- DEVICES
 
@@ -137,9 +137,9 @@ configured_more state plan infos k first mid s old new configured rest planned t
     | inl same ↦
         let known_s : s ≡ t = same_Some s t (sym planned ∙ (ap (slice_get plan.stations) (sym same) ∙ planned')) in
         let known_a : state old ≡ a = same_Some _ _ (sym (mapped_at state first k old (sym (get_drop first k) ∙ (ap (λ xs. slice_get xs 0) (sym rest) ∙ (get_drop mid k ∙ there))))
-            ∙ (ap (slice_get (map state first)) (sym same) ∙ was)) in
+        ∙ (ap (slice_get (map state first)) (sym same) ∙ was)) in
         let known_b : state new ≡ b = same_Some _ _ (sym (mapped_at state (slice_set mid k new) k new (set_here mid k new (slice_get_within mid k old there)))
-            ∙ (ap (slice_get (map state (slice_set mid k new))) (sym same) ∙ is)) in
+        ∙ (ap (slice_get (map state (slice_set mid k new))) (sym same) ∙ is)) in
         subst (λ j. IsConfigured t.params (still_to_come infos j 0) a b) (sym same)
         (subst (λ u. IsConfigured u.params (still_to_come infos k 0) a b) known_s
         (subst (λ x. IsConfigured s.params (still_to_come infos k 0) x b) known_a
@@ -168,7 +168,6 @@ stations_at number (suc k) (t ∷ stations) s there = stations_at (number + 1) k
 module _ (plan : Plan) (infos : List Info) (before devices : List DeviceState) (fates : List (Option Fate)) (bands : List Bands) (queues : List QueueState)
     (ready : IsReady plan infos before devices fates) (empty : AreEmptyBands plan bands) (so_many : length queues ≡ length plan.stations)
     (opened : Each (IsOpenedAt plan bands devices) queues) where
-
   -- a station's device was configured
   own-device : (station : ℕ) (q : QueueState) (here : slice_get queues station ≡ Some q)
       → (old : DeviceState) × (slice_get before station ≡ Some old) × IsConfigured (opened station q here).s.params (still_to_come infos station 0) old (opened station q here).d
@@ -202,13 +201,13 @@ module _ (plan : Plan) (infos : List Info) (before devices : List DeviceState) (
     device = new_device (opened station q here).s.params;
     told = ap (λ (r : QueueState). r.station.device.told) (opened station q here).state
         ∙ telling (own-device station q here).0.told (opened station q here).d.told (opened station q here).s.params (own-device station q here).2.told
-            (tell station (own-device station q here).0 (slice_get_within plan.stations station (opened station q here).s (opened station q here).planned) (own-device station q here).1);
+        (tell station (own-device station q here).0 (slice_get_within plan.stations station (opened station q here).s (opened station q here).planned) (own-device station q here).1);
     params = ap (option_map (λ s. s.params)) (opened station q here).planned;
     run_is = stations_at 0 station plan.stations (opened station q here).s (opened station q here).planned
         ∙ (ap (λ n. Some (first_run n (opened station q here).s)) (let none : 0 + station ≡ station = omega arith in none)
         ∙ (ap (λ len. Some (record { account = new_account len station 1; clean = true; device = new_device (opened station q here).s.params })) (len-is station q here)
         ∙ ap (λ clean. Some (record { account = start_of plan station; clean = clean; device = new_device (opened station q here).s.params }))
-            (sym (ap (λ (r : QueueState). r.clean) (opened station q here).state))));
+        (sym (ap (λ (r : QueueState). r.clean) (opened station q here).state))));
   }
 
   -- each queue stands for the account that its station begins with

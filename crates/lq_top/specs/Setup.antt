@@ -14,13 +14,13 @@ use Rattle.lq_top.specs.declared.queue.bands.Bands.{Bands}
 pub record AreEmptyBands (plan : Plan) (bands : List Bands) : Type 0 where
   pub one_each : length bands ≡ length plan.stations
   pub each : (station : ℕ) (s : StationPlan) (b : Bands) → slice_get plan.stations station ≡ Some s → slice_get bands station ≡ Some b
-    → AreBands b s.len (λ _. empty_band)
+      → AreBands b s.len (λ _. empty_band)
 
--- the first so many devices were configured, each as its station says and with room for the station's packets, and the others are as before
+-- the first so many devices were configured, each as its station says and with room for the station's packets
 pub record AreConfigured (plan : Plan) (infos : List Info) (count : ℕ) (before behind : List DeviceState) : Type 0 where
   pub same_length : length behind ≡ length before
   pub configured : (station : ℕ) (s : StationPlan) (old new : DeviceState) → station < count → slice_get plan.stations station ≡ Some s
-    → slice_get before station ≡ Some old → slice_get behind station ≡ Some new → IsConfigured s.params (still_to_come infos station 0) old new
+      → slice_get before station ≡ Some old → slice_get behind station ≡ Some new → IsConfigured s.params (still_to_come infos station 0) old new
 
 -- No packet has a fate, the packets are of one queue, and the stations' devices were configured for them.
 pub record IsReady (plan : Plan) (infos : List Info) (before devices : List DeviceState) (fates : List (Option Fate)) : Type 0 where

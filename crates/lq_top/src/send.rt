@@ -12,7 +12,9 @@ ghost use Rattle.lq_top.specs.Stations.{AllFinished, AllStand, IsSentAlone};
 use crate::gate::Gate;
 use crate::queue::{Bands, Queue};
 use crate::run::{finish_all, transmit_all};
-use crate::setup::{bands_of, close_stations, configure_units, no_fates, open_stations, room_for, settle};
+use crate::setup::{
+    bands_of, close_stations, configure_units, no_fates, open_stations, room_for, settle,
+};
 use lq_device::TxDevice;
 use lq_model::{Fate, Info, NoMemory};
 use lq_plan::Plan;
@@ -32,7 +34,7 @@ fn run_stations<D: TxDevice, G: Gate>(
     ensures { (before : List DeviceState)
         → AllStand plan.now infos.now before 0 queues.old.items fates.old (slice_get (new_stations 0 plan.now.stations))
         → AllFinished plan.now infos.now before queues.new.items fates.new (λ station. option_map (finished infos.now)
-            (slice_get (after_packets plan.now infos.now (new_stations 0 plan.now.stations) (length infos.now)) station)) }
+        (slice_get (after_packets plan.now infos.now (new_stations 0 plan.now.stations) (length infos.now)) station)) }
 {
     transmit_all(plan, infos, queues, fates, gate);
     finish_all(queues, fates);

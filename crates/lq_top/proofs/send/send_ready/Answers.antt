@@ -1,6 +1,5 @@
-use Rattle.std.proofs.Common.{◌≡◌, ◌+◌, ◌++◌, List, Option, None, length, map, drop, sym, ap, ◌∙◌, subst, arith}
+use Rattle.std.proofs.Common.{◌≡◌, None, length, map, drop, sym, ap, ◌∙◌, arith}
 use Rattle.std.proofs.lemmas.List.{length-replicate}
-use Rattle.lq_model.specs.Device.{DeviceState}
 use Rattle.lq_top.proofs.SendLemmas.{each_has_fate, end_of, options_of_run}
 use Rattle.lq_top.specs.Stations.{AllFinished}
 use Rattle.lq_top.proofs.send.send_ready.Goals as goal
@@ -23,10 +22,10 @@ returns-clause-fates g c before ready =
     let queues = c.run_stations.new.queues.items in
     let fates = c.run_stations.new.fates in
     let all : AllFinished plan infos before queues fates (end_of plan infos) =
-        c.run_stations.ensures before (c.open_stations.ensures.stand infos before c.args.fates.now ready) in
+    c.run_stations.ensures before (c.open_stations.ensures.stand infos before c.args.fates.now ready) in
     let one_each : length fates ≡ length infos = let kept = c.run_stations.auto.fates in let old = ap length ready.no_fates ∙ length-replicate (length infos) None in omega arith in
     options_of_run plan infos before queues fates c.requires.alone all one_each
-        (map g.D.TxDevice.state c.close_stations.new.bench.items) (map g.D.TxDevice.state c.open_stations.new.bench.items) c.close_stations.ensures.states
+    (map g.D.TxDevice.state c.close_stations.new.bench.items) (map g.D.TxDevice.state c.open_stations.new.bench.items) c.close_stations.ensures.states
 
 pub returns-clause-each : goal.returns-clause-each
 returns-clause-each g c =
@@ -37,7 +36,7 @@ returns-clause-each g c =
     let queues = c.run_stations.new.queues.items in
     let fates = c.run_stations.new.fates in
     let all : AllFinished plan infos before queues fates (end_of plan infos) =
-        c.run_stations.ensures before (c.open_stations.ensures.stand infos before c.args.fates.now ready) in
+    c.run_stations.ensures before (c.open_stations.ensures.stand infos before c.args.fates.now ready) in
     let one_each : length fates ≡ length infos = let kept = c.run_stations.auto.fates in let old = ap length ready.no_fates ∙ length-replicate (length infos) None in omega arith in
     each_has_fate plan infos before queues fates c.requires.alone all one_each
 

@@ -1,4 +1,4 @@
-use Rattle.std.proofs.Common.{◌≡◌, ◌∷◌, ◌++◌, [], ℕ, List, Option, Some, sym, ap, ◌∙◌, subst, arith, slice_get}
+use Rattle.std.proofs.Common.{◌≡◌, ◌∷◌, ◌++◌, [], ℕ, Some, sym, ◌∙◌, subst, arith, slice_get}
 use Rattle.std.proofs.lemmas.Option.{same_Some}
 use Rattle.lq_model.specs.Band.{empty_band}
 use Rattle.lq_model.specs.declared.plan.StationPlan.{StationPlan}
@@ -20,8 +20,8 @@ loop-station-preserved c =
       room = let same = c.push_reserved.ensures.capacity in let old = own.room in omega arith;
       each = let P : ℕ → Bands → Type 0 = λ station b. (s : StationPlan) → slice_get stations station ≡ Some s → AreBands b s.len (λ _. empty_band) in
           subst (Each P) pushed (each_more P c.loop-station.bands.items new own.each
-              (subst (λ k. P k new) (sym own.so_many)
-              (λ s there. subst (λ (t : StationPlan). AreBands new t.len (λ _. empty_band)) (same_Some _ _ (sym c.station-station.ensures.station ∙ there)) c.in_ok-new.ensures)));
+          (subst (λ k. P k new) (sym own.so_many)
+          (λ s there. subst (λ (t : StationPlan). AreBands new t.len (λ _. empty_band)) (same_Some _ _ (sym c.station-station.ensures.station ∙ there)) c.in_ok-new.ensures)));
     }
 
 pub returns : goal.returns

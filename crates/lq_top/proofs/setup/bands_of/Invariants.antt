@@ -1,8 +1,7 @@
-use Rattle.std.proofs.Common.{◌≡◌, ◌≤◌, ℕ, length, slice_get, Some}
+use Rattle.std.proofs.Common.{◌≡◌, ◌≤◌, length, slice_get, Some}
 use Rattle.lq_model.specs.Band.{empty_band}
 use Rattle.lq_model.specs.declared.plan.StationPlan.{StationPlan}
 use Rattle.lq_top.specs.Bands.{AreBands}
-use Rattle.lq_top.specs.declared.queue.bands.Bands.{Bands}
 use Rattle.lq_top.proofs.SetupLemmas.{Each}
 use Rattle.lq_top.proofs.setup.bands_of.Given as goal
 

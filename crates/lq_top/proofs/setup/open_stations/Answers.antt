@@ -1,7 +1,5 @@
-use Rattle.std.proofs.Common.{◌≡◌, ◌∷◌, ◌++◌, [], ℕ, ◌+◌, ◌<◌, List, length, Some, false, sym, ap, ◌∙◌, subst, arith, drop, drop-drop, map, slice_get}
-use Rattle.lq_model.specs.Device.{DeviceState}
+use Rattle.std.proofs.Common.{◌≡◌, ◌<◌, length, sym, ap, ◌∙◌, subst, arith, drop, drop-drop, map}
 use Rattle.lq_top.proofs.SetupLemmas.{Each, IsOpenedAt, all_stand, each_more, first_left, fresh_first, mapped_at}
-use Rattle.lq_top.specs.Queue.{QueueState}
 use Rattle.lq_top.proofs.setup.open_stations.Goals as goal
 
 pub new-requires-clause-fresh : goal.new-requires-clause-fresh
@@ -9,14 +7,14 @@ new-requires-clause-fresh g c κs within =
     let own = c.loop-station.invariant in
     let some : 0 < length c.loop-station.bench.items = let test = c.loop-station-test.true in let e = c.stations-station-end.ensures.stations in let len = own.len in let ok = c.loop-station.bench.ok.0 in let units = c.requires.units in omega arith in
     (fresh_first g.D.TxDevice.state c.args.plan.now c.requires.configured.0 c.requires.configured.1 c.loop-station.station c.args.bench.now.items c.loop-station.bench.items
-        c.station-bypass.result c.remove-device.result c.requires.configured.2 c.station-bypass.ensures.station own.rest some c.remove-device.ensures.value).0
+    c.station-bypass.result c.remove-device.result c.requires.configured.2 c.station-bypass.ensures.station own.rest some c.remove-device.ensures.value).0
 
 pub new-requires-clause-alive : goal.new-requires-clause-alive
 new-requires-clause-alive g c κs within =
     let own = c.loop-station.invariant in
     let some : 0 < length c.loop-station.bench.items = let test = c.loop-station-test.true in let e = c.stations-station-end.ensures.stations in let len = own.len in let ok = c.loop-station.bench.ok.0 in let units = c.requires.units in omega arith in
     (fresh_first g.D.TxDevice.state c.args.plan.now c.requires.configured.0 c.requires.configured.1 c.loop-station.station c.args.bench.now.items c.loop-station.bench.items
-        c.station-bypass.result c.remove-device.result c.requires.configured.2 c.station-bypass.ensures.station own.rest some c.remove-device.ensures.value).1
+    c.station-bypass.result c.remove-device.result c.requires.configured.2 c.station-bypass.ensures.station own.rest some c.remove-device.ensures.value).1
 
 pub loop-station-preserved : goal.loop-station-preserved
 loop-station-preserved g c =

@@ -1,4 +1,4 @@
-use Rattle.std.proofs.Common.{◌≡◌, ◌≤◌, length, map, take, Option, Some}
+use Rattle.std.proofs.Common.{◌≡◌, ◌≤◌, length, map, take, Some}
 use Rattle.lq_top.proofs.setup.settle.Given as goal
 
 -- the first fates are laid out
