@@ -62,7 +62,7 @@ module _ (infos : List Info) (queues : (m : ℕ) → queue_in infos m ≡ 0) whe
   -- what holds of a station that isn't served further, and where it holds of serving behind the next turn
   pub by_turn : (P : Running → Type 0) (s : Running) → HasOneQueue s → s.account.down ≡ None → P s
       → ((event : Event) → IsTurned s (after_turn event s) → s.account.stops ≡ 0 ∷ [] → next_taken s.account ≡ Some event
-          → P (served_turns infos (turns_of (after_turn event s)) (after_turn event s)))
+      → P (served_turns infos (turns_of (after_turn event s)) (after_turn event s)))
       → P (served_turns infos (turns_of s) s)
   by_turn P s one active here on = by_stop (cases_eq one.stop 0)
     where

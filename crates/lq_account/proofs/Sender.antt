@@ -1,15 +1,15 @@
 -- The run of one sender makes legal events: serving, wakes, offers and the end lead from account to account by them.
-use Rattle.std.proofs.Common.{◌≡◌, ◌≢◌, ℕ, zero, suc, ◌+◌, ◌-◌, ◌%◌, ◌<◌, ◌≤◌, ◌==◌, nat_le, Bool, true, false, not, ◌&&◌, List, [], ◌∷◌, ◌++◌, ◌⊎◌, inl, inr, length, drop, Option, Some, None, option_to_list, slice_get, refl, sym, ap, ap₂, subst, ◌∙◌, arith, length-append, length-drop, mod-lt, mod-eq_of_lt}
+use Rattle.std.proofs.Common.{◌≡◌, ◌≢◌, ℕ, zero, suc, ◌+◌, ◌-◌, ◌%◌, ◌<◌, ◌≤◌, nat_le, Bool, true, false, not, ◌&&◌, List, [], ◌∷◌, ◌++◌, ◌⊎◌, inl, inr, length, drop, Some, None, option_to_list, slice_get, refl, sym, ap, ap₂, subst, ◌∙◌, arith, length-append, length-drop, mod-lt, mod-eq_of_lt}
 use Rattle.std.specs.Option.{option_map_or}
 use Rattle.std.specs.Prelude.{slice_set}
 use Rattle.std.proofs.Math.Nat.{mod-le, mod_self, suc-mod}
 use Rattle.std.proofs.lemmas.Bool.{cond-false, cond-true, cond_both, eq-eqb, ne_eqb, cases_Bool, cases_eq, and_parts, true≢false}
 use Rattle.std.proofs.lemmas.Option.{slice_get-get_or}
-use Rattle.lq_model.specs.Account.{Account, Event, Back, Direct, Full, Join, Pick, Purge, Take, Wake, held, held_in, is_hung, new_account, emptied, after}
-use Rattle.lq_model.specs.Alone.{Running, answered, brought_in, cleaned, finished, finished_rounds, is_occupied, purged_if_hung, gone_direct, gone_through, is_done, is_left, new_station, next_answer, next_taken, offered, opened, queued, seen_in, served, served_turns, turns_of}
+use Rattle.lq_model.specs.Account.{Account, Event, Direct, held, is_hung, new_account, emptied, after}
+use Rattle.lq_model.specs.Alone.{Running, answered, brought_in, finished, finished_rounds, is_occupied, purged_if_hung, gone_direct, gone_through, is_done, is_left, new_station, next_answer, next_taken, opened, queued, seen_in, served, served_turns, turns_of}
 use Rattle.lq_model.specs.Band.{Band, IsOccupied, MayBeFull, batch, held_of, joined, stale_count, taken_by}
 use Rattle.lq_model.specs.Device.{Telling, is_busy, told_after}
-use Rattle.lq_model.specs.Plan.{Plan, band_in, queue_in, station_in}
+use Rattle.lq_model.specs.Plan.{Plan, band_in, station_in}
 use Rattle.lq_model.specs.declared.device.Tx.{Tx}
 use Rattle.lq_model.specs.declared.device.Tx.TheVariants.{Sent, SentStop, SentHang, Busy}
 use Rattle.lq_model.specs.declared.fate.Cause.TheVariants.{Hung}
@@ -27,7 +27,7 @@ use Rattle.lq_account.proofs.Purges.{purge_empties}
 use Rattle.lq_account.proofs.Rounds.{IsServed, by_turn, is_served}
 use Rattle.lq_account.proofs.Steps.{at_answer, at_back, at_direct, at_full, at_join, at_other, at_purge, at_start, at_taken, at_wake}
 use Rattle.lq_account.proofs.Taken.{IsInHand, IsTurn, picks, takes_0, takes_1, takes_2, in_hand, slot_none, turn_of}
-use Rattle.lq_account.proofs.Turns.{HasOneQueue, IsTurned, after_turn, busy_answer, is_turned, left_open, left_stopped, served_left, served_open}
+use Rattle.lq_account.proofs.Turns.{HasOneQueue, after_turn, busy_answer, left_open, left_stopped, served_left, served_open}
 
 -- BANDS
 
@@ -139,7 +139,7 @@ module _ (plan : Plan) (infos : List Info) (station n : ℕ) (queues : AreOfOneQ
   at-work-offer event s one stops next h =
       let now : IsInHand s.account (after event s.account) = in_hand (turn_of s.account event next) in
       at-work-answer (next_answer (record s { account = after event s.account })) now.packet (after event s.account) now.hand now.slot (now.stops ∙ stops)
-          (at-work-turn event s.account one.hand next h)
+      (at-work-turn event s.account one.hand next h)
 
   -- serving
   at-work-turns : (turns : ℕ) (s : Running) → turns ≡ turns_of s → HasOneQueue s → s.account.down ≡ None → IsAtWork plan infos station n s.account
@@ -148,7 +148,6 @@ module _ (plan : Plan) (infos : List Info) (station n : ℕ) (queues : AreOfOneQ
       (λ event turned stops next. absurd (let more = turned.turns in omega arith))
   at-work-turns (suc turns) s e one active h = by_turn infos queues (λ t. IsAtWork plan infos station n t.account) s one active h (λ event turned stops next.
       at-work-turns turns (after_turn event s) (let more = turned.turns in omega arith) turned.one (turned.down ∙ active) (at-work-offer event s one stops next h))
-
 
   -- what serving leaves: nothing is held where the queue is open
   at-work-served : (s : Running) → HasOneQueue s → IsAtWork plan infos station n s.account → IsServedWell plan infos station n (served infos s)
@@ -254,7 +253,7 @@ module _ (plan : Plan) (infos : List Info) (station : ℕ) (queues : AreOfOneQue
       by_stop (inl at_1) = subst (IsInRun plan infos station n) (sym (wakes infos queues s one ∙ cond-true _ _ _ (eq-eqb (stop_of s.account) 1 at_1)))
           (let stops : s.account.stops ≡ 1 ∷ [] = one.stops ∙ ap (λ stop. stop ∷ []) (sym (stop_is s.account one.stop one.stops) ∙ at_1) in
           in-run (record { stop = 0; stops = ap (λ stops. slice_set stops 0 0) stops; known = omega arith; hand = one.hand; busies = one.busies })
-              (record { at = at_wake stops h.at; active = h.active; has_slots = h.has_slots; bands = h.bands }) h.clean)
+          (record { at = at_wake stops h.at; active = h.active; has_slots = h.has_slots; bands = h.bands }) h.clean)
 
   -- OFFERS
 
@@ -269,16 +268,16 @@ module _ (plan : Plan) (infos : List Info) (station : ℕ) (queues : AreOfOneQue
       by_room (inl occupied) =
           let full = may-be-full a.len (a.bands (band_in infos n)) h.has_slots (h.bands (band_in infos n)) occupied in
           subst (IsAtWork plan infos station (n + 1)) (sym (queued_full n (band_in infos n) _ a occupied full))
-              (record { at = at_full _ within at full h.at; active = h.active; has_slots = h.has_slots; bands = h.bands })
+          (record { at = at_full _ within at full h.at; active = h.active; has_slots = h.has_slots; bands = h.bands })
       by_room (inr room) =
           let fits = h.bands (band_in infos n) in
           subst (IsAtWork plan infos station (n + 1)) (sym (queued_join n (band_in infos n) a room))
-              (record {
-                at = at_join within at (let slots = fits.slots in omega (arith, room)) h.at;
-                active = h.active;
-                has_slots = h.has_slots;
-                bands = λ b. at-cases (FitsRing a.len) (band_in infos n) b _ a.bands (λ same. fits-joined a.len n (a.bands (band_in infos n)) room fits) (λ other. h.bands b);
-              })
+          (record {
+            at = at_join within at (let slots = fits.slots in omega (arith, room)) h.at;
+            active = h.active;
+            has_slots = h.has_slots;
+            bands = λ b. at-cases (FitsRing a.len) (band_in infos n) b _ a.bands (λ same. fits-joined a.len n (a.bands (band_in infos n)) room fits) (λ other. h.bands b);
+          })
 
   through-in-run : (n : ℕ) (s : Running) → n < length infos → station_in infos n ≡ station → IsInRun plan infos station n s → IsInRun plan infos station (n + 1) (gone_through infos n s)
   through-in-run n s within at h = by_stop (cases_eq well.one.stop 0)
@@ -288,7 +287,9 @@ module _ (plan : Plan) (infos : List Info) (station : ℕ) (queues : AreOfOneQue
 
       one_queued : HasOneQueue (record s { account = queued n (band_in infos n) s.account })
       one_queued = record {
-        stop = one.stop; known = one.known; busies = one.busies;
+        stop = one.stop;
+        known = one.known;
+        busies = one.busies;
         stops = queued-stops n (band_in infos n) s.account ∙ one.stops;
         hand = queued-hand n (band_in infos n) s.account ∙ one.hand;
       }
@@ -322,8 +323,8 @@ module _ (plan : Plan) (infos : List Info) (station : ℕ) (queues : AreOfOneQue
       answered_in_run answer stops limit =
           let now : IsAnswered answer n (after (Direct n) s.account) (answered answer 0 (after (Direct n) s.account)) = is_answered n (after (Direct n) s.account) refl stops answer slot in
           in-run (answer-one answer n _ _ (not (is_busy answer)) s.device now one.busies limit)
-              (at-work-answer plan infos station (n + 1) queues answer n (after (Direct n) s.account) refl slot stops work)
-              (λ passes. answer-holds answer n _ _ slot now passes ∙ none)
+          (at-work-answer plan infos station (n + 1) queues answer n (after (Direct n) s.account) refl slot stops work)
+          (λ passes. answer-holds answer n _ _ slot now passes ∙ none)
 
       by_stop : (one.stop ≡ 0) ⊎ (one.stop ≢ 0) → IsInRun plan infos station (n + 1) (gone_direct infos n s)
       by_stop (inl at_0) =
@@ -331,7 +332,7 @@ module _ (plan : Plan) (infos : List Info) (station : ℕ) (queues : AreOfOneQue
           subst (IsInRun plan infos station (n + 1)) (sym (direct_open infos n s (queues n) stops)) (answered_in_run (next_answer s) stops (busy_answer s.device _))
       by_stop (inr closed) = subst (IsInRun plan infos station (n + 1)) (sym (direct_closed infos n s one.stop (queues n) one.stops closed))
           (in-run (record { stop = one.stop; stops = one.stops; known = one.known; hand = refl; busies = one.busies })
-              (record { at = at_back n refl slot work.at; active = h.active; has_slots = h.has_slots; bands = h.bands }) (λ clean. absurd (true≢false (sym clean))))
+          (record { at = at_back n refl slot work.at; active = h.active; has_slots = h.has_slots; bands = h.bands }) (λ clean. absurd (true≢false (sym clean))))
 
   pub brought_in_run : (bypass : Bool) (n : ℕ) (s : Running) → n < length infos → station_in infos n ≡ station → IsInRun plan infos station n s
       → IsInRun plan infos station (n + 1) (brought_in infos bypass n s)
@@ -347,7 +348,7 @@ module _ (plan : Plan) (infos : List Info) (station : ℕ) (queues : AreOfOneQue
   rounds-in-run zero n s h = h
   rounds-in-run (suc rounds) n s h =
       cond_both (is_done s.account) s (finished_rounds infos rounds (served infos (opened s))) (IsInRun plan infos station n) (λ done. h)
-          (λ not_done. rounds-in-run rounds n (served infos (opened s)) (served_in_run n (opened s) (opened_in_run n s h)))
+      (λ not_done. rounds-in-run rounds n (served infos (opened s)) (served_in_run n (opened s) (opened_in_run n s h)))
 
   purged-in-run : (n : ℕ) (s : Running) → IsInRun plan infos station n s → IsInRun plan infos station n (record s { account = purged_if_hung s.account })
   purged-in-run n s h = by_stop (cases_eq (stop_of s.account) 2)
@@ -359,13 +360,13 @@ module _ (plan : Plan) (infos : List Info) (station : ℕ) (queues : AreOfOneQue
       by_stop (inr other) = subst (λ account. IsInRun plan infos station n (record s { account = account })) (sym (keeps infos queues s one other)) h
       by_stop (inl hung) = subst (λ account. IsInRun plan infos station n (record s { account = account })) (sym (purges infos queues s one hung))
           (in-run (record { stop = one.stop; stops = one.stops; known = one.known; hand = one.hand; busies = one.busies })
-              (record {
-                at = at_purge one.hand ((meets_hung hung)) h.at;
-                active = h.active;
-                has_slots = h.has_slots;
-                bands = λ band. fits-emptied s.account.len (s.account.bands band) h.has_slots;
-              })
-              (λ clean. purge_empties (Hung s.account.unit) s.account))
+          (record {
+            at = at_purge one.hand ((meets_hung hung)) h.at;
+            active = h.active;
+            has_slots = h.has_slots;
+            bands = λ band. fits-emptied s.account.len (s.account.bands band) h.has_slots;
+          })
+          (λ clean. purge_empties (Hung s.account.unit) s.account))
         where
           meets_hung : stop_of s.account ≡ 2 → is_hung s.account ≡ true
           meets_hung hung = one_hung s.account one.stop one.stops ∙ eq-eqb one.stop 2 (sym (stop_is s.account one.stop one.stops) ∙ hung)
