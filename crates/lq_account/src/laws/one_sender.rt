@@ -6,7 +6,7 @@ ghost use Rattle.lq_model.specs.Plan.{Plan, station_in};
 ghost use Rattle.lq_model.specs.declared.fate.Info.{Info};
 ghost use Rattle.lq_model.specs.declared.plan.StationPlan.{StationPlan};
 ghost use Rattle.lq_account.specs.OneQueue.{AreOfOneQueue};
-ghost use Rattle.lq_account.specs.Sender.{IsInRun};
+ghost use Rattle.lq_account.specs.Sender.{AreAloneSettled, IsInRun, IsPlain};
 
 /// In the run of one sender a station with one queue makes legal events alone. It begins before packet 0; a packet of its
 /// own is brought to it and one of another station passes it by; and serving, wakes and its end bring no packet. At its end
@@ -27,4 +27,10 @@ pub fn one_sender_makes_legal_events()
         → IsInRun plan infos station n s → IsInRun plan infos station n (finished infos s) }
     ensures nothing_held { (plan : Plan) (infos : List Info) (station n : ℕ) (s : Running) → AreOfOneQueue infos
         → IsInRun plan infos station n s → held (finished infos s).account ≡ [] }
+{}
+
+/// Where the plan has no events the run of one sender gives each packet one fate, the fates are settled, and each owner's
+/// packets of one station and band were sent in ascending number.
+pub fn one_sender_settles_all()
+    ensures { (plan : Plan) (infos : List Info) → IsPlain plan infos → AreAloneSettled plan infos }
 {}
