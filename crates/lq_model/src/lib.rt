@@ -8,6 +8,7 @@ mod device;
 mod fate;
 mod machine;
 mod plan;
+pub mod runs;
 mod words;
 
 pub use band::batch;
