@@ -87,21 +87,21 @@ with_fates (n ∷ ns) f fates = with_fates ns f (with_at n (Some f) fates)
 -- the packet in hand to the device or lays it back, and stops queues; queues are woken; and control resizes the bands,
 -- deactivates, purges, exchanges the device and activates.
 pub data Event : Type 0 where
-  Join : ℕ → ℕ → Event              -- a packet and its band
-  Full : ℕ → ℕ → Event              -- a packet, and the one in its slot
-  Refuse : ℕ → ℕ → Event            -- a packet, and the event that deactivated the station
-  Empty : ℕ → Event                 -- a band
-  Take : ℕ → Event                  -- a band
+  Join : ℕ → ℕ → Event  -- a packet and its band
+  Full : ℕ → ℕ → Event  -- a packet, and the one in its slot
+  Refuse : ℕ → ℕ → Event  -- a packet, and the event that deactivated the station
+  Empty : ℕ → Event  -- a band
+  Take : ℕ → Event  -- a band
   Pick : Event
-  Direct : ℕ → Event                -- a packet
+  Direct : ℕ → Event  -- a packet
   Send : Event
   Back : Event
-  Stop : ℕ → ℕ → Event              -- a queue and its stop value
-  Wake : ℕ → Event                  -- a queue
-  Resize : ℕ → ℕ → Event            -- a length, and the plan's event
-  Down : ℕ → Event                  -- the plan's event
+  Stop : ℕ → ℕ → Event  -- a queue and its stop value
+  Wake : ℕ → Event  -- a queue
+  Resize : ℕ → ℕ → Event  -- a length, and the plan's event
+  Down : ℕ → Event  -- the plan's event
   Purge : Cause → Event
-  Swap : ℕ → Event                  -- the new unit
+  Swap : ℕ → Event  -- the new unit
   Up : Event
 
 -- the packet in hand is sent: it stands behind what the unit sent

@@ -32,3 +32,7 @@ pub mod Account
 pub mod Legal
 -- what the fates of a run are
 pub mod Settled
+-- the run of one sender
+pub mod Alone
+-- small runs of one sender
+pub mod Runs

@@ -118,7 +118,7 @@ IsConfiguredWith plan unit params =
 pub record HangsAsTold (plan : Plan) (fates : List Fate) : Type 0 where
   pub at_most : (unit : ℕ) (params : Params) → IsConfiguredWith plan unit params → 0 < params.hang_after → count_by (is_sent_by unit) fates ≤ params.hang_after
   pub purged : (n unit : ℕ) (params : Params) → slice_get fates n ≡ Some (Purged (Hung unit)) → IsConfiguredWith plan unit params
-    → (0 < params.hang_after) × (count_by (is_sent_by unit) fates ≡ params.hang_after)
+      → (0 < params.hang_after) × (count_by (is_sent_by unit) fates ≡ params.hang_after)
 
 -- THE FIRST SENDER AND THE EVENTS
 --
@@ -145,7 +145,7 @@ IsBehind plan n event = (e : EventPlan) × (slice_get plan.events event ≡ Some
 pub record MeetsEvents (plan : Plan) (infos : List Info) (fates : List Fate) : Type 0 where
   -- a packet of the first sender is refused exactly where an event before it leaves its station deactivated, and then by that one
   pub refused : (n event : ℕ) → n < length infos → owner_in infos n ≡ 0
-    → (slice_get fates n ≡ Some (Refused event)) ↔ (down_before (station_in infos n) n plan.events 0 None ≡ Some event)
+      → (slice_get fates n ≡ Some (Refused event)) ↔ (down_before (station_in infos n) n plan.events 0 None ≡ Some event)
   -- what drops it from its band stands behind it
   pub shrunk : (n event : ℕ) → owner_in infos n ≡ 0 → slice_get fates n ≡ Some (Shrunk event) → IsBehind plan n event
   pub purged : (n event : ℕ) → owner_in infos n ≡ 0 → slice_get fates n ≡ Some (Purged (Event event)) → IsBehind plan n event
