@@ -14,3 +14,5 @@ pub mod Ranges
 pub mod Within
 -- texts that are documents
 pub mod Texts
+-- what text is accepted
+pub mod Acceptance

@@ -153,7 +153,7 @@ pub record Facts (root : Members) (d : Document) : Type 0 where
   pub stations : AreStationsWithin d.stations
   pub events : (e : ℕ) (t : Members) → slice_get d.events e ≡ Some t → has_value_out_of_range (event_keys d.stations t) t ≡ false
 
-root_facts : (root : Members) → None ≡ first_fault (document_of root) → Facts root (document_of root)
+pub root_facts : (root : Members) → None ≡ first_fault (document_of root) → Facts root (document_of root)
 unfolding root_keys
 root_facts root h =
     let d = document_of root in

@@ -14,3 +14,5 @@ pub mod Limits
 pub mod Reading
 -- what contracts see of a plan in memory
 pub mod View
+-- what follows from the definition of a plan
+pub mod Laws

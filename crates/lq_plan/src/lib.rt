@@ -13,12 +13,14 @@
 mod document;
 mod faults;
 mod keys;
+mod laws;
 mod order;
 mod plan;
 mod reader;
 mod refusal;
 mod values;
 
+pub use laws::accepts_within_limits;
 pub use lq_model::{EventKind, EventPlan, Params, PlanReason, Split, StationPlan};
 pub use plan::Plan;
 pub use reader::read_plan;
