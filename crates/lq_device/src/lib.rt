@@ -6,7 +6,9 @@
 
 mod bench;
 mod device;
+mod station;
 
 pub use bench::BenchDevice;
 pub use device::TxDevice;
 pub use lq_model::{NoMemory, Params, StationPlan, Tx};
+pub use station::Station;

@@ -26,3 +26,13 @@ pub mod Steps
 pub mod Control
 -- what holds at every moment, and the quiet machine
 pub mod Kept
+-- the account of a station, and its events
+pub mod Account
+-- when an event may come
+pub mod Legal
+-- what the fates of a run are
+pub mod Settled
+-- the run of one sender
+pub mod Alone
+-- small runs of one sender
+pub mod Runs

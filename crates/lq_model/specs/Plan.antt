@@ -1,5 +1,5 @@
 -- Plans, and what each packet of a capture is to the rules.
-use Rattle.std.specs.Prelude.{ℕ, ◌+◌, ◌%◌, Bool, true, false, ◌&&◌, ◌==◌, List, length, take, map, count_by, slice_get, Option}
+use Rattle.std.specs.Prelude.{ℕ, ◌+◌, ◌%◌, Bool, true, false, ◌&&◌, ◌==◌, List, length, take, map, count_by, slice_get}
 use Rattle.std.specs.Option.{option_map_or}
 use Rattle.lq_model.specs.Numbers.{first_numbers}
 use Rattle.lq_model.specs.Capture.{Capture, link_of, frame_of}

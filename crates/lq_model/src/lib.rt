@@ -8,6 +8,8 @@ mod device;
 mod fate;
 mod machine;
 mod plan;
+pub mod runs;
+mod words;
 
 pub use band::batch;
 pub use capture::CaptureReason;
@@ -17,6 +19,7 @@ pub use machine::{
     Answer, Attempt, Beginning, Blocked, Call, ControlStep, Packet, Phase, Position, Seat,
 };
 pub use plan::{EventKind, EventPlan, PlanReason, Split, StationPlan};
+pub use words::{fate_word, fate_written_again, one_fate_a_word, word_fate, word_read_again};
 
 /// Want of memory.
 #[derive(Clone, Copy, Debug, PartialEq, Eq)]

@@ -1,3 +1,5 @@
+-- what the fates of a run are, and what its devices did
+pub mod Fates
 -- what a run that is done leaves: the headline
 pub mod Headline
 -- what a call writes, and where it may stop

@@ -1,0 +1,59 @@
+-- What the laws of accounts ask, and what they give.
+use Rattle.std.specs.Prelude.{◌≡◌, ◌⊎◌, ◌↔◌, ◌<◌, ℕ, List, [], ◌∷◌, ◌++◌, length, Some, None, slice_get, Contains, filter_map}
+use Rattle.lq_model.specs.Account.{Account, Event, Purge, Swap, held, after_all}
+use Rattle.lq_model.specs.Legal.{IsLegal, IsEventAt, resizing}
+use Rattle.lq_model.specs.Plan.{Plan, unit_of_swap, owner_in, station_in, band_in}
+use Rattle.lq_model.specs.Settled.{IsFateAt, IsUnitOf}
+use Rattle.lq_model.specs.declared.device.Params.{Params}
+use Rattle.lq_model.specs.declared.fate.Cause.TheVariants.{Hung}
+use Rattle.lq_model.specs.declared.fate.Fate.{Fate}
+use Rattle.lq_model.specs.declared.fate.Fate.TheVariants.{Sent}
+use Rattle.lq_model.specs.declared.fate.Info.{Info}
+use Rattle.lq_model.specs.declared.plan.EventKind.TheVariants as kind
+use Rattle.lq_account.specs.Progress.{start_of}
+
+-- THE PLAN'S EVENTS
+
+-- each event that the plan has for the station has come, with its resize or its swap
+pub record HaveAllCome (plan : Plan) (station : ℕ) (past : List Event) : Type 0 where
+  pub resizes : (event len : ℕ) → IsEventAt plan station event (kind.Resize len) → Contains (filter_map resizing past) event
+  pub queue_lengths : (event len : ℕ) → IsEventAt plan station event (kind.TxQueueLen len) → Contains (filter_map resizing past) event
+  pub swaps : (event : ℕ) (params : Params) → IsEventAt plan station event (kind.Swap params) → Contains past (Swap (unit_of_swap plan event))
+
+-- no device is exchanged behind a purge of a hung one
+abbrev pub NoSwapBehindHang : List Event → Type 0
+NoSwapBehindHang past = (later : List Event) (before : List Event) (old new : ℕ) → past ≡ later ++ Swap new ∷ before → Contains before (Purge (Hung old)) → ⊥
+
+-- A station's account is closed: a legal list of events leaves nothing held and nothing in hand, all events of the plan have
+-- come, and each packet of the station has just the fate that the list of fates has for it.
+pub record IsClosed (plan : Plan) (infos : List Info) (fates : List Fate) (station : ℕ) (past : List Event) (a : Account) : Type 0 where
+  pub legal : IsLegal plan infos station (start_of plan station) past
+  pub account : a ≡ after_all (start_of plan station) past
+  pub nothing_held : held a ≡ []
+  pub hand_empty : a.hand ≡ None
+  pub events : HaveAllCome plan station past
+  pub no_swap_behind_hang : NoSwapBehindHang past
+  pub decided : (n : ℕ) → n < length infos → station_in infos n ≡ station → (fate : Fate) × (slice_get fates n ≡ Some fate) × (a.fates n ≡ Some fate)
+
+-- WHAT FOLLOWS
+
+-- of one station, whose account has what each unit sent
+pub record IsSettledStation (plan : Plan) (infos : List Info) (fates : List Fate) (station : ℕ) (a : Account) : Type 0 where
+  -- each fate is one that the station may give
+  pub each : (n : ℕ) (fate : Fate) → n < length infos → station_in infos n ≡ station → slice_get fates n ≡ Some fate
+      → IsFateAt plan infos fates station n fate
+  -- a packet of the station is sent by a unit with a serial exactly where it stands at that place of what the unit sent
+  pub sent : (n unit serial : ℕ) → n < length infos → station_in infos n ≡ station
+      → (slice_get fates n ≡ Some (Sent unit serial)) ↔ (slice_get (a.sent unit) serial ≡ Some n)
+  -- what a unit sent are packets of the station, and the unit is one of the station
+  pub of_station : (n unit serial : ℕ) → slice_get (a.sent unit) serial ≡ Some n → (n < length infos) × ((station_in infos n ≡ station) × IsUnitOf plan station unit)
+  -- each owner's packets of one band were sent in ascending number
+  pub in_order : (m n : ℕ) (u v s t : ℕ) → m < n → n < length infos → station_in infos m ≡ station → station_in infos n ≡ station
+      → owner_in infos m ≡ owner_in infos n → band_in infos m ≡ band_in infos n
+      → slice_get fates m ≡ Some (Sent u s) → slice_get fates n ≡ Some (Sent v t) → (u < v) ⊎ ((u ≡ v) × (s < t))
+
+-- each station of the plan, where each packet is of a station
+pub record AreSettledStations (plan : Plan) (infos : List Info) (fates : List Fate) (accounts : ℕ → Account) : Type 0 where
+  pub one_each : length fates ≡ length infos
+  pub of_plan : (n : ℕ) → n < length infos → station_in infos n < length plan.stations
+  pub each : (station : ℕ) → station < length plan.stations → IsSettledStation plan infos fates station (accounts station)

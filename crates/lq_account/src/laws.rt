@@ -1,0 +1,27 @@
+//! The laws of accounts, each the contract of a function that does nothing.
+ghost use Rattle.std.specs.Prelude.{◌≡◌, ℕ, List, [], ◌<◌, length};
+ghost use Rattle.lq_model.specs.Account.{Account};
+ghost use Rattle.lq_model.specs.Plan.{Plan};
+ghost use Rattle.lq_model.specs.Settled.{IsInSenderOrder, IsSentList, IsSettled, IsUnitOf, MeetsEvents};
+ghost use Rattle.lq_model.specs.declared.fate.Fate.{Fate};
+ghost use Rattle.lq_model.specs.declared.fate.Info.{Info};
+ghost use Rattle.lq_account.specs.Accounts.{AreSettledStations};
+
+/// The stations of a plan together: each packet has one fate, each unit's serials are 0 up to the number that it sent,
+/// and each owner's packets of one station and band were sent in ascending number. What the account of a unit's station has
+/// of the unit is the list of its packets, in order of serial.
+pub fn settled_stations_settle_all()
+    ensures settled { (plan : Plan) (infos : List Info) (fates : List Fate) (accounts : ℕ → Account)
+        → AreSettledStations plan infos fates accounts → IsSettled plan infos fates }
+    ensures in_order { (plan : Plan) (infos : List Info) (fates : List Fate) (accounts : ℕ → Account)
+        → AreSettledStations plan infos fates accounts → IsInSenderOrder infos fates }
+    ensures sent { (plan : Plan) (infos : List Info) (fates : List Fate) (accounts : ℕ → Account)
+        → AreSettledStations plan infos fates accounts → (station unit : ℕ) → station < length plan.stations
+        → IsUnitOf plan station unit → IsSentList fates unit ((accounts station).sent unit) }
+{}
+
+/// Where the plan has no events, settled fates meet them: no packet is refused, shrunk or purged by one.
+pub fn fates_meet_no_events()
+    ensures { (plan : Plan) (infos : List Info) (fates : List Fate) → plan.events ≡ [] → IsSettled plan infos fates
+        → MeetsEvents plan infos fates }
+{}

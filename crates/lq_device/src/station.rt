@@ -1,0 +1,206 @@
+//! A station's device, with what the holder of its run lock keeps beside it.
+ghost use Rattle.std.specs.Prelude.{◌≡◌, ◌<◌, ◌≤◌, false, [], length, slice_get, slice_index, Some, None, IsNone, ◌↔◌};
+ghost use Rattle.lq_device.specs.Station.{StationState, Transmits, AreEnds, sent_list, new_station, with_side, with_ends};
+
+use crate::device::TxDevice;
+use lq_model::Tx;
+use std::marker::Model;
+
+/// A unit's device, the requeue slot, and the consumer ends of the three bands' rings: what the kernel keeps in a
+/// `Qdisc` and its driver for the holder of the run lock (include/net/sch_generic.h).
+#[derive(Drop)]
+pub struct Station<D: TxDevice> {
+    device: D,
+    /// The number of the device among the bench's.
+    unit: u32,
+    /// How many packets the device has accepted.
+    sent: u32,
+    /// The packet in the requeue slot.
+    side: Option<u32>,
+    /// For each band the slot that is consumed next.
+    heads: [u32; 3],
+    /// For each band the first slot that isn't emptied yet: not past the head.
+    tails: [u32; 3],
+    last: Option<Tx>,
+}
+
+impl<D: TxDevice> Model for Station<D> {
+    ghost Value = { StationState };
+
+    ghost view = { λ s. record { device = D.state s.device; unit = s.unit; side = s.side; heads = s.heads; tails = s.tails; last = s.last } };
+
+    ghost invariant = { λ s. (s.sent ≡ length (D.state s.device).accepted) × AreEnds s.heads s.tails };
+}
+
+impl<D: TxDevice> Station<D> {
+    /// A station of this unit with nothing sent, an empty requeue slot, and every head and tail 0. The device must
+    /// have accepted nothing, and not hang.
+    pub fn new(unit: u32, device: D) -> Station<D>
+        requires fresh { (D.state device).accepted ≡ [] }
+        requires alive { (D.state device).hung ≡ false }
+        ensures { result ≡ new_station unit (D.state device) }
+    {
+        Station {
+            device,
+            unit,
+            sent: 0,
+            side: None,
+            heads: [0; 3],
+            tails: [0; 3],
+            last: None,
+        }
+    }
+
+    /// The number of its device.
+    pub fn unit(&self) -> u32
+        ensures { result ≡ self.now.unit }
+    {
+        self.unit
+    }
+
+    /// How many packets its device has accepted: the serial number of the next one.
+    pub fn sent(&self) -> u32
+        ensures { result ≡ length (sent_list self.now) }
+    {
+        self.sent
+    }
+
+    /// Whether its device hangs.
+    pub fn hung(&self) -> bool
+        ensures { result ≡ self.now.device.hung }
+    {
+        self.device.hung()
+    }
+
+    /// The packet in the requeue slot, `gso_skb` and `skb_bad_txq` of a `Qdisc`: `None` exactly where it is empty.
+    pub fn side(&self) -> Option<u32>
+        ensures { result ≡ self.now.side }
+    {
+        self.side
+    }
+
+    /// Puts a packet into the requeue slot, which must be empty, as `dev_requeue_skb` of net/sched/sch_generic.c does
+    /// with one that the device didn't accept.
+    pub fn set_side(&mut self, n: u32)
+        requires { self.old.side ≡ None }
+        ensures { self.new ≡ with_side self.old (Some n) }
+    {
+        self.side = Some(n);
+    }
+
+    /// Takes the packet from the requeue slot: `None` exactly where it is empty.
+    pub fn take_side(&mut self) -> Option<u32>
+        ensures taken { result ≡ self.old.side }
+        ensures empty { self.new ≡ with_side self.old None }
+    {
+        self.side.take()
+    }
+
+    /// The slot of a band's ring that is consumed next, `consumer_head` of a `ptr_ring` (include/linux/ptr_ring.h).
+    pub fn head(&self, band: u32) -> u32
+        requires { band < 3 }
+        ensures { slice_get self.now.heads band ≡ Some result }
+    {
+        self.heads[band as usize]
+    }
+
+    /// The first slot of a band's ring that isn't emptied yet, `consumer_tail` of a `ptr_ring`. It isn't past the
+    /// head.
+    pub fn tail(&self, band: u32) -> u32
+        requires { band < 3 }
+        ensures tail { slice_get self.now.tails band ≡ Some result }
+        ensures within { result ≤ slice_index self.now.heads band }
+    {
+        self.tails[band as usize]
+    }
+
+    /// Sets a band's head and tail; the tail must not be past the head.
+    pub fn set_ends(&mut self, band: u32, head: u32, tail: u32)
+        requires band { band < 3 }
+        requires order { tail ≤ head }
+        ensures { self.new ≡ with_ends self.old band head tail }
+    {
+        self.heads[band as usize] = head;
+        self.tails[band as usize] = tail;
+    }
+
+    /// What the device answered last: `None` until it has answered.
+    pub fn last(&self) -> Option<Tx>
+        ensures { result ≡ self.now.last }
+    {
+        self.last
+    }
+
+    /// Offers the device a packet, on one of its queues. The caller owes that the device has room and doesn't hang,
+    /// and that the count of what is sent can still rise.
+    pub fn xmit(&mut self, queue: u32, n: u32) -> Tx
+        requires room { 0 < self.old.device.spare }
+        requires alive { self.old.device.hung ≡ false }
+        requires countable { length (sent_list self.old) < 4294967295 }
+        ensures { Transmits result n self.old self.new }
+    {
+        let answer = self.device.xmit(queue, n);
+        self.last = Some(answer);
+        match answer {
+            Tx::Sent | Tx::SentStop | Tx::SentHang => self.sent += 1,
+            Tx::Busy => {}
+        }
+        answer
+    }
+
+    /// Hands out the device as it is.
+    pub fn into_device(self) -> D
+        ensures { D.state result ≡ self.device }
+    {
+        let Station {
+            device,
+            unit: _,
+            sent: _,
+            side: _,
+            heads: _,
+            tails: _,
+            last: _,
+        } = self;
+        device
+    }
+}
+
+#[cfg(test)]
+mod tests {
+    use super::*;
+    use crate::bench::BenchDevice;
+    use lq_model::Params;
+    use std::test::Fail;
+
+    #[test]
+    fn keeps_what_lies_beside_the_device(rt: HostRuntime) -> Result<(), Fail> {
+        let params = Params {
+            burst: 2,
+            busy_every: 3,
+            busy_limit: 1,
+            hang_after: 3,
+        };
+        let mut device = BenchDevice::new(rt.alloc());
+        device.configure(&params, 8).ok().ok_or("no memory")?;
+        let mut station = Station::new(5, device);
+        assert_eq!(rt; station.last(), None);
+
+        assert_eq!(rt; station.xmit(0, 40), Tx::Sent);
+        assert_eq!(rt; station.xmit(0, 41), Tx::SentStop);
+        station.set_side(42);
+        assert_eq!(rt; station.xmit(0, 42), Tx::Busy);
+        assert_eq!(rt; station.sent(), 2);
+        assert_eq!(rt; station.take_side(), Some(42));
+        assert_eq!(rt; station.side(), None);
+        station.set_ends(2, 7, 4);
+        assert_eq!(rt; station.xmit(0, 42), Tx::SentHang);
+
+        assert_eq!(rt; station.last(), Some(Tx::SentHang));
+        assert!(rt; station.hung());
+        assert_eq!(rt; (station.unit(), station.sent()), (5, 3));
+        assert_eq!(rt; (station.head(1), station.tail(1)), (0, 0));
+        assert_eq!(rt; (station.head(2), station.tail(2)), (7, 4));
+        assert!(rt; station.into_device().hung());
+        Ok(())
+    }
+}

@@ -1,0 +1,2 @@
+-- counts of fates
+pub mod Counts

@@ -1,0 +1,15 @@
+//! What became of the packets, as lists and texts.
+#![tactic(auto)]
+
+mod count_lines;
+mod counts;
+mod fates;
+mod laws;
+mod sent;
+mod text;
+
+pub use count_lines::counts_text;
+pub use fates::fates_text;
+pub use laws::sent_is_that_list;
+pub use lq_model::{Fate, NoMemory};
+pub use sent::sent_of;

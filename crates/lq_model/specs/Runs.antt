@@ -1,0 +1,53 @@
+-- Small runs of one sender, and their fates.
+use Rattle.std.specs.Prelude.{◌≡◌, ℕ, Bool, true, List, [], ◌∷◌, map, Some}
+use Rattle.lq_model.specs.Account.{new_account}
+use Rattle.lq_model.specs.Alone.{alone, fates_from, new_device}
+use Rattle.lq_model.specs.Plan.{Plan}
+use Rattle.lq_model.specs.declared.device.Params.{Params}
+use Rattle.lq_model.specs.declared.fate.Fate.{Fate}
+use Rattle.lq_model.specs.declared.fate.Info.{Info}
+use Rattle.lq_model.specs.declared.plan.EventKind.{EventKind}
+use Rattle.lq_model.specs.declared.plan.EventPlan.{EventPlan}
+use Rattle.lq_model.specs.declared.plan.Split.TheVariants.{Round}
+
+-- packets of one station, by their bands; and by their queues and bands
+abbrev pub packet_of : ℕ → ℕ → Info
+packet_of queue band = record { owner = 0; station = 0; band = band; queue = queue; rank = 0 }
+
+abbrev pub packets_of : List ℕ → List Info
+packets_of bands = map (packet_of 0) bands
+
+abbrev pub packets_on : List (ℕ × ℕ) → List Info
+packets_on packets = map (λ p. packet_of p.0 p.1) packets
+
+-- packets of band 1, by their stations
+abbrev pub packets_to : List ℕ → List Info
+packets_to stations = map (λ station. record { owner = 0; station = station; band = 1; queue = 0; rank = 0 }) stations
+
+-- a plan of one station
+abbrev pub one_station : ℕ → ℕ → Bool → Params → List EventPlan → Plan
+one_station irq_every len bypass params events = record {
+  senders = 1;
+  split = Round;
+  irq_every = irq_every;
+  stations = record { len = len; max_len = len; bypass = bypass; params = params } ∷ [];
+  events = events;
+}
+
+abbrev pub with_burst : ℕ → Params
+with_burst burst = record { burst = burst; busy_every = 0; busy_limit = 0; hang_after = 0 }
+
+abbrev pub event_at : ℕ → EventKind → EventPlan
+event_at before kind = record { before = before; station = 0; kind = kind }
+
+abbrev pub no_rules : Params
+no_rules = with_burst 0
+
+-- two queues share the bands of the station
+abbrev pub HaveFatesOnTwoQueues : Plan → List Info → ℕ → Params → List Fate → Type 0
+HaveFatesOnTwoQueues plan infos len params fates =
+    fates_from plan infos (record { account = new_account len 0 2; clean = true; device = new_device params } ∷ []) ≡ map (λ fate. Some fate) fates
+
+-- the plan and the packets have just these fates
+abbrev pub HaveFates : Plan → List Info → List Fate → Type 0
+HaveFates plan infos fates = alone plan infos ≡ map (λ fate. Some fate) fates

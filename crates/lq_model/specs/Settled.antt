@@ -1,0 +1,160 @@
+-- What the fates of a run are, read off a list that has the fate of packet n at place n.
+use Rattle.std.specs.Prelude.{◌≡◌, ◌≢◌, ◌⊎◌, ◌↔◌, ◌<◌, ◌≤◌, ℕ, ◌+◌, ◌-◌, Bool, true, not, ◌&&◌, ◌||◌, nat_le, ◌==◌, if◌then◌else◌, List, [], ◌∷◌, length, take, count_by, filter, slice_get, Option, Some, None}
+use Rattle.std.specs.List.{zip}
+use Rattle.lq_model.specs.Band.{batch}
+use Rattle.lq_model.specs.Legal.{IsEventAt, IsPlannedDown}
+use Rattle.lq_model.specs.Plan.{Plan, unit_of_swap, owner_in, station_in, band_in}
+use Rattle.lq_model.specs.Texts.{is_full, is_refused, is_sent_by}
+use Rattle.lq_model.specs.declared.device.Params.{Params}
+use Rattle.lq_model.specs.declared.fate.Cause.TheVariants.{Event, Hung}
+use Rattle.lq_model.specs.declared.fate.Fate.{Fate}
+use Rattle.lq_model.specs.declared.fate.Fate.TheVariants.{Sent, Full, Shrunk, Purged, Refused}
+use Rattle.lq_model.specs.declared.fate.Info.{Info}
+use Rattle.lq_model.specs.declared.plan.EventKind.{EventKind}
+use Rattle.lq_model.specs.declared.plan.EventKind.TheVariants as kind
+use Rattle.lq_model.specs.declared.plan.EventPlan.{EventPlan}
+use Rattle.lq_model.specs.declared.plan.StationPlan.{StationPlan}
+
+-- SERIALS
+
+-- the list of packets is what the unit sent, in order of serial
+abbrev pub IsSentList : List Fate → ℕ → List ℕ → Type 0
+IsSentList fates unit sent = (n serial : ℕ) → (slice_get fates n ≡ Some (Sent unit serial)) ↔ (slice_get sent serial ≡ Some n)
+
+-- a unit's serials are 0 up to the number that it sent, each once
+abbrev pub AreSerials : List Fate → ℕ → Type 0
+AreSerials fates unit = (sent : List ℕ) × IsSentList fates unit sent
+
+-- WHAT THE PLAN GIVES A STATION
+
+abbrev pub is_at : ℕ → EventPlan → Bool
+is_at station event = event.station == station
+
+-- the lengths of a station's rings: that of its table, and those of its events
+abbrev pub GivesLength : Plan → ℕ → ℕ → Type 0
+GivesLength plan station len =
+    ((s : StationPlan) × (slice_get plan.stations station ≡ Some s) × (s.len ≡ len))
+    ⊎ ((event : ℕ) × (IsEventAt plan station event (kind.Resize len) ⊎ IsEventAt plan station event (kind.TxQueueLen len)))
+
+-- the length behind an event of the station, where there is one before it
+abbrev pub length_behind : EventKind → ℕ → ℕ
+length_behind kind.Down len = len
+length_behind kind.Up len = len
+length_behind (kind.Resize new) len = new
+length_behind (kind.TxQueueLen new) len = new
+length_behind (kind.Swap params) len = len
+
+abbrev pub length_after : List EventPlan → ℕ → ℕ
+length_after [] len = len
+length_after (event ∷ events) len = length_after events (length_behind event.kind len)
+
+-- the length of a station's rings before an event of the plan
+abbrev pub LengthBefore : Plan → ℕ → ℕ → ℕ → Type 0
+LengthBefore plan station event len =
+    (s : StationPlan) × (slice_get plan.stations station ≡ Some s) × (len ≡ length_after (filter (is_at station) (take event plan.events)) s.len)
+
+-- the units of a station: its first, and those that its swaps bring
+abbrev pub IsUnitOf : Plan → ℕ → ℕ → Type 0
+IsUnitOf plan station unit =
+    (unit ≡ station) ⊎ ((event : ℕ) × (params : Params) × IsEventAt plan station event (kind.Swap params) × (unit ≡ unit_of_swap plan event))
+
+-- the last of them: no swap of the station comes behind
+pub record IsLastUnit (plan : Plan) (station unit : ℕ) : Type 0 where
+  pub used : IsUnitOf plan station unit
+  pub last : (u : ℕ) → IsUnitOf plan station u → u ≤ unit
+
+-- STATIONS
+
+-- whether a packet was let into the band: neither dropped as full nor refused
+abbrev pub is_let_in : Fate → Bool
+is_let_in fate = not (is_full fate || is_refused fate)
+
+-- how many packets of a station and band were let in
+abbrev pub let_in : List Fate → List Info → ℕ → ℕ → ℕ
+let_in fates infos station band = count_by (λ p. is_let_in p.0 && ((p.1.station == station) && (p.1.band == band))) (zip fates infos)
+
+-- a packet n of this station and band may be dropped as full where it saw that one: another packet of the station and band
+-- that was let in, as were enough of them to fill a ring but for a batch
+pub record IsFullFate (plan : Plan) (infos : List Info) (fates : List Fate) (station n seen : ℕ) : Type 0 where
+  pub another : seen ≢ n
+  pub same_station : station_in infos seen ≡ station
+  pub same_band : band_in infos seen ≡ band_in infos n
+  pub seen_let_in : (fate : Fate) × (slice_get fates seen ≡ Some fate) × (is_let_in fate ≡ true)
+  pub enough : (len : ℕ) × GivesLength plan station len × (len - batch len ≤ let_in fates infos station (band_in infos n))
+
+-- a resize to a shorter length than before
+abbrev pub IsShrinking : Plan → ℕ → ℕ → Type 0
+IsShrinking plan station event =
+    (len : ℕ) × (before : ℕ) × IsEventAt plan station event (kind.Resize len) × LengthBefore plan station event before × (len < before)
+
+-- what the fate of a packet n of a station may be
+abbrev pub IsFateAt : Plan → List Info → List Fate → ℕ → ℕ → Fate → Type 0
+IsFateAt plan infos fates station n (Sent unit serial) = IsUnitOf plan station unit
+IsFateAt plan infos fates station n (Full seen) = IsFullFate plan infos fates station n seen
+IsFateAt plan infos fates station n (Shrunk event) = IsShrinking plan station event
+IsFateAt plan infos fates station n (Purged (Event event)) = IsPlannedDown plan station event
+IsFateAt plan infos fates station n (Purged (Hung unit)) = IsLastUnit plan station unit
+IsFateAt plan infos fates station n (Refused event) = IsPlannedDown plan station event
+
+-- SETTLED FATES
+
+pub record IsSettled (plan : Plan) (infos : List Info) (fates : List Fate) : Type 0 where
+  -- each packet has one fate
+  pub one_each : length fates ≡ length infos
+  -- the serials of each unit are 0 up to the number that it sent, each once
+  pub serials : (unit : ℕ) → AreSerials fates unit
+  -- each fate is one that its station may give
+  pub each : (n : ℕ) (fate : Fate) → slice_get fates n ≡ Some fate → IsFateAt plan infos fates (station_in infos n) n fate
+
+-- DEVICES THAT TELL
+
+-- what a unit is configured with
+abbrev pub IsConfiguredWith : Plan → ℕ → Params → Type 0
+IsConfiguredWith plan unit params =
+    ((s : StationPlan) × (slice_get plan.stations unit ≡ Some s) × (s.params ≡ params))
+    ⊎ ((station : ℕ) × (event : ℕ) × IsEventAt plan station event (kind.Swap params) × (unit ≡ unit_of_swap plan event))
+
+-- A unit that hangs after so many packets has sent no more, and packets are purged as hung only where it sent so many.
+pub record HangsAsTold (plan : Plan) (fates : List Fate) : Type 0 where
+  pub at_most : (unit : ℕ) (params : Params) → IsConfiguredWith plan unit params → 0 < params.hang_after → count_by (is_sent_by unit) fates ≤ params.hang_after
+  pub purged : (n unit : ℕ) (params : Params) → slice_get fates n ≡ Some (Purged (Hung unit)) → IsConfiguredWith plan unit params
+      → (0 < params.hang_after) × (count_by (is_sent_by unit) fates ≡ params.hang_after)
+
+-- THE FIRST SENDER AND THE EVENTS
+--
+-- The first sender does the plan's events, each before its packets with that number or a higher one.
+
+-- the event that keeps a station deactivated behind an event of it, where `down` did before
+abbrev pub down_behind : EventKind → ℕ → Option ℕ → Option ℕ
+down_behind kind.Down event down = Some event
+down_behind kind.Up event down = None
+down_behind (kind.Resize len) event down = down
+down_behind (kind.TxQueueLen len) event down = down
+down_behind (kind.Swap params) event down = down
+
+-- the same behind the events from number e on that stand before packet n
+abbrev pub down_before : ℕ → ℕ → List EventPlan → ℕ → Option ℕ → Option ℕ
+down_before station n [] e down = down
+down_before station n (event ∷ events) e down =
+    down_before station n events (e + 1) (if nat_le event.before n && is_at station event then down_behind event.kind e down else down)
+
+-- the event stands behind the packet
+abbrev pub IsBehind : Plan → ℕ → ℕ → Type 0
+IsBehind plan n event = (e : EventPlan) × (slice_get plan.events event ≡ Some e) × (n < e.before)
+
+pub record MeetsEvents (plan : Plan) (infos : List Info) (fates : List Fate) : Type 0 where
+  -- a packet of the first sender is refused exactly where an event before it leaves its station deactivated, and then by that one
+  pub refused : (n event : ℕ) → n < length infos → owner_in infos n ≡ 0
+      → (slice_get fates n ≡ Some (Refused event)) ↔ (down_before (station_in infos n) n plan.events 0 None ≡ Some event)
+  -- what drops it from its band stands behind it
+  pub shrunk : (n event : ℕ) → owner_in infos n ≡ 0 → slice_get fates n ≡ Some (Shrunk event) → IsBehind plan n event
+  pub purged : (n event : ℕ) → owner_in infos n ≡ 0 → slice_get fates n ≡ Some (Purged (Event event)) → IsBehind plan n event
+
+-- SENDER'S ORDER
+
+-- Of two sent packets with the same owner, station and band, the lower number has the lower unit, or the same unit
+-- and the lower serial.
+abbrev pub IsInSenderOrder : List Info → List Fate → Type 0
+IsInSenderOrder infos fates =
+    (m n : ℕ) (u v s t : ℕ) → m < n → owner_in infos m ≡ owner_in infos n → station_in infos m ≡ station_in infos n → band_in infos m ≡ band_in infos n
+    → slice_get fates m ≡ Some (Sent u s) → slice_get fates n ≡ Some (Sent v t) → (u < v) ⊎ ((u ≡ v) × (s < t))

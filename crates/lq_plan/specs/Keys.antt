@@ -1,0 +1,107 @@
+-- The keys of a plan: whether each may or has to be there, and what its value may be. As a table of docs/FORMATS.md.
+use Rattle.std.specs.Prelude.{ℕ, ◌-◌, codes, List, [], ◌∷◌, length, map, Option, Some, None, slice_get}
+use Rattle.std.specs.Option.{option_map_or, option_and_then}
+use Rattle.toml.specs.Data.{Members}
+use Rattle.lq_plan.specs.Values.{number_at, text_at, event_word_of}
+use Rattle.lq_plan.specs.declared.keys.Key.{Key as CodeKey}
+use Rattle.lq_plan.specs.declared.keys.Presence.{Presence}
+use Rattle.lq_plan.specs.declared.keys.Presence.TheVariants.{Required, Optional, Unknown}
+use Rattle.lq_plan.specs.declared.keys.Rule.{Rule}
+use Rattle.lq_plan.specs.declared.keys.Rule.TheVariants.{Number, Flag, SplitText, EventText, Tables}
+use Rattle.lq_plan.specs.declared.keys.Version.{Version}
+use Rattle.lq_plan.specs.declared.values.EventWord.{EventWord}
+use Rattle.lq_plan.specs.declared.values.EventWord.TheVariants.{Down, Up, Resize, TxQueueLen, Swap}
+
+pub record Key : Type 0 where
+  pub name : List ℕ
+  pub presence : Presence
+  pub rule : Rule
+
+abbrev pub key : List ℕ → Presence → Rule → Key
+key name presence rule = record { name = name; presence = presence; rule = rule }
+
+-- the keys that a table of the code has
+abbrev pub key_view : CodeKey → Key
+key_view k = key k.name.now k.presence k.rule
+
+abbrev pub keys_view : List CodeKey → List Key
+keys_view = map key_view
+
+-- VERSIONS
+
+abbrev pub version_1 : Version
+version_1 = record { max_senders = 8; max_len = 4096 }
+
+-- the version that the document at this root has; there is one version today
+abbrev pub version_of : Members → Version
+version_of root = version_1
+
+-- THE ROOT
+
+unfoldable pub root_keys : Version → List Key
+root_keys version =
+    key (codes "version") Optional (Number 1 1)
+    ∷ key (codes "senders") Optional (Number 1 version.max_senders)
+    ∷ key (codes "split") Optional SplitText
+    ∷ key (codes "irq_every") Optional (Number 1 1000)
+    ∷ key (codes "station") Required (Tables 1 8)
+    ∷ key (codes "event") Optional (Tables 0 64)
+    ∷ []
+
+-- STATIONS
+
+-- how a device answers
+abbrev pub params_keys : Presence → List Key
+params_keys presence =
+    key (codes "burst") presence (Number 0 1000000)
+    ∷ key (codes "busy_every") presence (Number 0 1000000)
+    ∷ key (codes "busy_limit") presence (Number 0 1000000)
+    ∷ key (codes "hang_after") presence (Number 0 1000000)
+    ∷ []
+
+abbrev pub len_in : Members → ℕ
+len_in station = number_at (codes "len") 1000 station
+
+abbrev pub max_len_in : Members → ℕ
+max_len_in station = number_at (codes "max_len") (len_in station) station
+
+unfoldable pub station_keys : Version → Members → List Key
+station_keys version station =
+    key (codes "len") Optional (Number 1 version.max_len)
+    ∷ key (codes "max_len") Optional (Number (len_in station) version.max_len)
+    ∷ key (codes "bypass") Optional Flag
+    ∷ params_keys Optional
+
+-- EVENTS
+
+-- what an event does; None where that is none of the five
+abbrev pub event_word_in : Members → Option EventWord
+event_word_in event = option_and_then event_word_of (text_at (codes "kind") event)
+
+abbrev pub len_presence : Option EventWord → Presence
+len_presence None = Optional
+len_presence (Some Down) = Unknown
+len_presence (Some Up) = Unknown
+len_presence (Some Resize) = Required
+len_presence (Some TxQueueLen) = Required
+len_presence (Some Swap) = Unknown
+
+abbrev pub params_presence : Option EventWord → Presence
+params_presence None = Optional
+params_presence (Some Down) = Unknown
+params_presence (Some Up) = Unknown
+params_presence (Some Resize) = Unknown
+params_presence (Some TxQueueLen) = Unknown
+params_presence (Some Swap) = Optional
+
+-- the greatest length of an event's station; 0 where there is no such station
+abbrev pub max_len_for : List Members → Members → ℕ
+max_len_for stations event = option_map_or max_len_in (slice_get stations (number_at (codes "station") 0 event)) 0
+
+unfoldable pub event_keys : List Members → Members → List Key
+event_keys stations event =
+    key (codes "before") Required (Number 0 1000000)
+    ∷ key (codes "kind") Required EventText
+    ∷ key (codes "station") Required (Number 0 (length stations - 1))
+    ∷ key (codes "len") (len_presence (event_word_in event)) (Number 1 (max_len_for stations event))
+    ∷ params_keys (params_presence (event_word_in event))

@@ -1,0 +1,82 @@
+-- The limits of a plan's numbers, and the order of its events.
+use Rattle.std.specs.Prelude.{◌≡◌, ℕ, ◌<◌, ◌≤◌, Bool, true, false, ◌||◌, nat_lt, ◌==◌, List, [], ◌∷◌, length, map, filter, Some, slice_get}
+use Rattle.std.specs.List.{list_any}
+use Rattle.std.specs.Option.{option_map_or}
+use Rattle.lq_model.specs.Numbers.{first_numbers}
+use Rattle.lq_model.specs.Plan.{Plan}
+use Rattle.lq_model.specs.declared.device.Params.{Params}
+use Rattle.lq_model.specs.declared.plan.EventKind.{EventKind}
+use Rattle.lq_model.specs.declared.plan.EventKind.TheVariants.{Down, Up, Resize, TxQueueLen, Swap}
+use Rattle.lq_model.specs.declared.plan.EventPlan.{EventPlan}
+use Rattle.lq_model.specs.declared.plan.StationPlan.{StationPlan}
+
+-- THE ORDER OF EVENTS
+
+-- an event stands before an earlier packet than the event in front of it, or the first before an earlier one than this
+abbrev pub falls_below : ℕ → List EventPlan → Bool
+falls_below last [] = false
+falls_below last (event ∷ events) = nat_lt event.before last || falls_below event.before events
+
+-- These are done to a station in turn, which is active at first or not: one of them finds it active or deactivated where
+-- it can't be.
+abbrev pub is_misplaced : Bool → List EventKind → Bool
+is_misplaced active [] = false
+is_misplaced true (Up ∷ kinds) = true
+is_misplaced true (Down ∷ kinds) = is_misplaced false kinds
+is_misplaced true (Resize len ∷ kinds) = is_misplaced true kinds
+is_misplaced true (TxQueueLen len ∷ kinds) = is_misplaced true kinds
+is_misplaced true (Swap params ∷ kinds) = is_misplaced true kinds
+is_misplaced false (Up ∷ kinds) = is_misplaced true kinds
+is_misplaced false (Down ∷ kinds) = true
+is_misplaced false (Resize len ∷ kinds) = true
+is_misplaced false (TxQueueLen len ∷ kinds) = true
+is_misplaced false (Swap params ∷ kinds) = true
+
+-- what is done to a station
+abbrev pub kinds_at : ℕ → List EventPlan → List EventKind
+kinds_at station events = map (λ event. event.kind) (filter (λ event. event.station == station) events)
+
+abbrev pub is_out_of_order : Plan → Bool
+is_out_of_order plan = falls_below 0 plan.events || list_any (λ station. is_misplaced true (kinds_at station plan.events)) (first_numbers (length plan.stations))
+
+-- LIMITS
+
+pub record AreParamsWithin (params : Params) : Type 0 where
+  pub burst : params.burst ≤ 1000000
+  pub busy_every : params.busy_every ≤ 1000000
+  pub busy_limit : params.busy_limit ≤ 1000000
+  pub hang_after : params.hang_after ≤ 1000000
+
+pub record IsStationWithin (station : StationPlan) : Type 0 where
+  pub some : 0 < station.len
+  pub len : station.len ≤ station.max_len
+  pub max_len : station.max_len ≤ 4096
+  pub params : AreParamsWithin station.params
+
+-- the length to which a station may be resized; 0 of no station
+abbrev pub max_len_at : List StationPlan → ℕ → ℕ
+max_len_at stations station = option_map_or (λ s. s.max_len) (slice_get stations station) 0
+
+abbrev pub IsKindWithin : ℕ → EventKind → Type 0
+IsKindWithin max_len Down = Unit {0}
+IsKindWithin max_len Up = Unit {0}
+IsKindWithin max_len (Resize len) = (0 < len) × (len ≤ max_len)
+IsKindWithin max_len (TxQueueLen len) = (0 < len) × (len ≤ max_len)
+IsKindWithin max_len (Swap params) = AreParamsWithin params
+
+pub record IsEventWithin (stations : List StationPlan) (event : EventPlan) : Type 0 where
+  pub before : event.before ≤ 1000000
+  pub station : event.station < length stations
+  pub kind : IsKindWithin (max_len_at stations event.station) event.kind
+
+pub record IsWithinLimits (plan : Plan) : Type 0 where
+  pub has_sender : 0 < plan.senders
+  pub senders : plan.senders ≤ 8
+  pub has_irq_every : 0 < plan.irq_every
+  pub irq_every : plan.irq_every ≤ 1000
+  pub has_station : 0 < length plan.stations
+  pub stations : length plan.stations ≤ 8
+  pub events : length plan.events ≤ 64
+  pub each_station : (j : ℕ) (station : StationPlan) → slice_get plan.stations j ≡ Some station → IsStationWithin station
+  pub each_event : (e : ℕ) (event : EventPlan) → slice_get plan.events e ≡ Some event → IsEventWithin plan.stations event
+  pub order : is_out_of_order plan ≡ false

@@ -1,0 +1,71 @@
+-- What a table of a document has at a key, or else the key's default.
+use Rattle.std.specs.Prelude.{ℕ, pos, negsuc, Bool, if◌then◌else◌, codes, List, [], ◌∷◌, Option, Some, None, option_map, option_and_then, unwrap_or}
+use Rattle.std.specs.List.{filter_map}
+use Rattle.std.specs.Str.{bytes_eq}
+use Rattle.toml.specs.Data.{Data, string, integer, float, boolean, datetime, array, table, Items, no_items, item, Members, get_member, as_array, as_str, as_table}
+use Rattle.lq_model.specs.declared.plan.Split.{Split}
+use Rattle.lq_model.specs.declared.plan.Split.TheVariants.{Round, Source}
+use Rattle.lq_plan.specs.declared.values.EventWord.{EventWord}
+use Rattle.lq_plan.specs.declared.values.EventWord.TheVariants.{Down, Up, Resize, TxQueueLen, Swap}
+
+-- NUMBERS AND TRUTH VALUES
+
+abbrev pub number_or : ℕ → Option Data → ℕ
+number_or default None = default
+number_or default (Some (integer (pos n))) = n
+number_or default (Some (integer (negsuc n))) = default
+number_or default (Some (string text)) = default
+number_or default (Some (float x)) = default
+number_or default (Some (boolean b)) = default
+number_or default (Some (datetime time)) = default
+number_or default (Some (array items)) = default
+number_or default (Some (table inside)) = default
+
+-- the number at a key that isn't negative
+abbrev pub number_at : List ℕ → ℕ → Members → ℕ
+number_at name default members = number_or default (get_member name members)
+
+abbrev pub flag_or : Bool → Option Data → Bool
+flag_or default None = default
+flag_or default (Some (boolean b)) = b
+flag_or default (Some (integer z)) = default
+flag_or default (Some (string text)) = default
+flag_or default (Some (float x)) = default
+flag_or default (Some (datetime time)) = default
+flag_or default (Some (array items)) = default
+flag_or default (Some (table inside)) = default
+
+abbrev pub flag_at : List ℕ → Bool → Members → Bool
+flag_at name default members = flag_or default (get_member name members)
+
+-- TEXTS
+
+-- how the packets are split
+abbrev pub split_of : List ℕ → Option Split
+split_of text = if bytes_eq text (codes "round") then Some Round else if bytes_eq text (codes "source") then Some Source else None
+
+-- what is done to a station
+abbrev pub event_word_of : List ℕ → Option EventWord
+event_word_of text =
+    if bytes_eq text (codes "down") then Some Down
+    else if bytes_eq text (codes "up") then Some Up
+    else if bytes_eq text (codes "resize") then Some Resize
+    else if bytes_eq text (codes "tx_queue_len") then Some TxQueueLen
+    else if bytes_eq text (codes "swap") then Some Swap else None
+
+abbrev pub text_at : List ℕ → Members → Option (List ℕ)
+text_at name members = option_and_then as_str (get_member name members)
+
+-- ARRAYS
+
+abbrev pub elements_of : Items → List Data
+elements_of no_items = []
+elements_of (item value items) = value ∷ elements_of items
+
+-- the elements of an array
+abbrev pub elements_in : Data → Option (List Data)
+elements_in value = option_map elements_of (as_array value)
+
+-- the tables that are elements of the array at a key; none where there is no array
+abbrev pub tables_at : List ℕ → Members → List Members
+tables_at name members = filter_map as_table (unwrap_or (option_and_then elements_in (get_member name members)) [])

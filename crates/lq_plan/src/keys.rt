@@ -1,0 +1,203 @@
+// The keys of a plan, as docs/FORMATS.md has them in a table.
+ghost use Rattle.std.specs.Prelude.{◌≡◌, map, ◌^◌, ◌<◌, length};
+ghost use Rattle.std.specs.Option.{option_and_then};
+ghost use Rattle.toml.specs.View.{table_view};
+ghost use Rattle.lq_plan.specs.Document.{tables_view};
+ghost use Rattle.lq_plan.specs.Keys.{event_keys, key, key_view, event_word_in, keys_view, len_in, len_presence, max_len_in, max_len_for, params_keys, params_presence, root_keys, station_keys, version_1, version_of};
+
+use crate::values::{EventWord, event_word_of, number_at, text_at};
+use toml::Table;
+
+/// Whether a key may be in its table.
+#[derive(Clone, Copy, Debug, PartialEq, Eq)]
+pub enum Presence {
+    Required,
+    Optional,
+    /// The table doesn't have it.
+    Unknown,
+}
+
+/// What the value at a key may be.
+#[derive(Clone, Copy, Debug, PartialEq, Eq)]
+pub enum Rule {
+    /// A whole number from `low` to `high`.
+    Number { low: u64, high: u64 },
+    /// True or false.
+    Flag,
+    /// How packets are split, as a text.
+    SplitText,
+    /// What an event does, as a text.
+    EventText,
+    /// An array of so many tables.
+    Tables { low: u64, high: u64 },
+}
+
+/// A key of a table.
+#[derive(Clone, Copy)]
+pub struct Key {
+    pub name: &'static str,
+    pub presence: Presence,
+    pub rule: Rule,
+}
+
+/// The limits that a version of the format has.
+#[derive(Clone, Copy, Debug, PartialEq, Eq)]
+pub struct Version {
+    pub max_senders: u64,
+    pub max_len: u64,
+}
+
+const VERSION_1: Version = Version {
+    max_senders: 8,
+    max_len: 4096,
+};
+
+/// The version of the document at this root.
+pub fn version_of(_root: &Table) -> Version
+    ensures { result ≡ version_of (table_view _root.now) }
+{
+    VERSION_1
+}
+
+/// The keys of a document's root.
+#[tactic(auto, unfolding(crate::specs::Keys::root_keys))]
+pub fn root_keys(version: Version) -> [Key; 6]
+    ensures { keys_view result ≡ root_keys version }
+{
+    [
+        optional("version", number(1, 1)),
+        optional("senders", number(1, version.max_senders)),
+        optional("split", Rule::SplitText),
+        optional("irq_every", number(1, 1000)),
+        required("station", Rule::Tables { low: 1, high: 8 }),
+        optional("event", Rule::Tables { low: 0, high: 64 }),
+    ]
+}
+
+/// The length of a station's rings, and the one to which a resize may bring them.
+pub fn len_of(station: &Table) -> u64
+    ensures { result ≡ len_in (table_view station.now) }
+{
+    number_at(station, "len", 1000)
+}
+
+pub fn max_len_of(station: &Table) -> u64
+    ensures { result ≡ max_len_in (table_view station.now) }
+{
+    number_at(station, "max_len", len_of(station))
+}
+
+/// The keys of a station.
+#[tactic(auto, unfolding(crate::specs::Keys::station_keys))]
+pub fn station_keys(version: Version, station: &Table) -> [Key; 7]
+    ensures { keys_view result ≡ station_keys version (table_view station.now) }
+{
+    let presence = Presence::Optional;
+    [
+        optional("len", number(1, version.max_len)),
+        optional("max_len", number(len_of(station), version.max_len)),
+        optional("bypass", Rule::Flag),
+        param("burst", presence),
+        param("busy_every", presence),
+        param("busy_limit", presence),
+        param("hang_after", presence),
+    ]
+}
+
+/// What an event does; None where its `kind` isn't one of the five texts.
+pub fn event_word(event: &Table) -> Option<EventWord>
+    ensures { result ≡ event_word_in (table_view event.now) }
+{
+    match text_at(event, "kind") {
+        Some(text) => event_word_of(text),
+        None => None,
+    }
+}
+
+fn len_presence(word: Option<EventWord>) -> Presence
+    ensures { result ≡ len_presence word }
+{
+    match word {
+        None => Presence::Optional,
+        Some(EventWord::Resize | EventWord::TxQueueLen) => Presence::Required,
+        Some(EventWord::Down | EventWord::Up | EventWord::Swap) => Presence::Unknown,
+    }
+}
+
+fn params_presence(word: Option<EventWord>) -> Presence
+    ensures { result ≡ params_presence word }
+{
+    match word {
+        None | Some(EventWord::Swap) => Presence::Optional,
+        Some(_) => Presence::Unknown,
+    }
+}
+
+// The greatest length of an event's station, or 0 where there is no such station.
+fn max_len_for(stations: &[&Table], event: &Table) -> u64
+    ensures { result ≡ max_len_for (tables_view stations.now) (table_view event.now) }
+{
+    match stations.get(number_at(event, "station", 0) as usize) {
+        Some(station) => max_len_of(station),
+        None => 0,
+    }
+}
+
+/// The keys of an event, beside these stations.
+#[tactic(auto, unfolding(crate::specs::Keys::event_keys))]
+pub fn event_keys(stations: &[&Table], event: &Table) -> [Key; 8]
+    ensures { keys_view result ≡ event_keys (tables_view stations.now) (table_view event.now) }
+{
+    let word = event_word(event);
+    let last_station = (stations.len() as u64).saturating_sub(1);
+    let presence = params_presence(word);
+    [
+        required("before", number(0, 1_000_000)),
+        required("kind", Rule::EventText),
+        required("station", number(0, last_station)),
+        key_of(
+            "len",
+            len_presence(word),
+            number(1, max_len_for(stations, event)),
+        ),
+        param("burst", presence),
+        param("busy_every", presence),
+        param("busy_limit", presence),
+        param("hang_after", presence),
+    ]
+}
+
+fn number(low: u64, high: u64) -> Rule
+    ensures { result ≡ Rule.Number low high }
+{
+    Rule::Number { low, high }
+}
+
+fn key_of(name: &'static str, presence: Presence, rule: Rule) -> Key
+    ensures { key_view result ≡ key name.now presence rule }
+{
+    Key {
+        name,
+        presence,
+        rule,
+    }
+}
+
+fn optional(name: &'static str, rule: Rule) -> Key
+    ensures { key_view result ≡ key name.now Presence.Optional rule }
+{
+    key_of(name, Presence::Optional, rule)
+}
+
+fn required(name: &'static str, rule: Rule) -> Key
+    ensures { key_view result ≡ key name.now Presence.Required rule }
+{
+    key_of(name, Presence::Required, rule)
+}
+
+// One of the numbers by which a device answers.
+fn param(name: &'static str, presence: Presence) -> Key
+    ensures { key_view result ≡ key name.now presence (Rule.Number 0 1000000) }
+{
+    key_of(name, presence, number(0, 1_000_000))
+}

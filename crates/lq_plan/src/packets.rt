@@ -1,0 +1,220 @@
+//! What each packet of a capture is to the rules.
+ghost use Rattle.std.specs.Prelude.{◌≡◌, ◌+◌, ◌*◌, ◌<◌, All, IfOk, length, replicate, slice_index, slice_set, vec_len};
+ghost use Rattle.lq_model.specs.Capture.{link_of};
+ghost use Rattle.lq_model.specs.Plan.{info_of, infos_of};
+ghost use Rattle.lq_plan.specs.Packets.{IsInfoWithin};
+
+use crate::plan::Plan;
+use lq_class::{band, classify};
+use lq_model::{Info, NoMemory, Split};
+use lq_pcap::Capture;
+use std::alloc::{AllocError, Global};
+
+/// A plan has no more stations than this.
+const MAX_STATIONS: usize = 8;
+
+/// Of each packet, in the capture's order, its owner, station, band, queue and rank.
+///
+/// The owner is the packet's number modulo the senders, or its source byte modulo the senders, as the plan splits
+/// them. The station is its route byte modulo the stations. Its band is that of its priority, as `pfifo_fast_enqueue`
+/// of net/sched/sch_generic.c chooses it, and its queue is 0. Its rank is how many lower packets have the same owner
+/// and station.
+///
+/// # NoMemory
+///
+/// There was no room for an `Info` of each packet, and a count of each sender and station.
+pub fn infos(alloc: Global, plan: &Plan, capture: &Capture) -> Result<Vec<Info>, NoMemory>
+    ensures infos { IfOk result (λ infos. infos.items ≡ infos_of plan.now capture.now) }
+    ensures count { IfOk result (λ infos. vec_len infos ≡ capture.now.count) }
+    ensures within { IfOk result (λ infos. All (IsInfoWithin plan.now) infos.items) }
+{
+    let Ok(mut infos) = Vec::with_capacity(alloc, capture.len()) else {
+        return Err(NoMemory);
+    };
+    let Ok(mut counts) = no_packets(alloc, plan.senders()) else {
+        return Err(NoMemory);
+    };
+    let counts: &mut [u32] = &mut counts;
+    let link = capture.link();
+    for n in 0..capture.len() as u32 {
+        let mut info = unranked(plan, capture, link, n);
+        info.rank = next_rank(counts, info.owner, info.station);
+        infos.push_reserved(info);
+    }
+    Ok(infos)
+}
+
+// For each owner a row of counts, with one for each station.
+fn no_packets(alloc: Global, senders: u32) -> Result<Vec<u32>, AllocError>
+    ensures { IfOk result (λ counts. counts.items ≡ replicate (senders * 8) 0) }
+{
+    vec![in alloc; 0; senders as usize * MAX_STATIONS]
+}
+
+// What packet n is to the rules, but for its rank.
+fn unranked(plan: &Plan, capture: &Capture, link: u32, n: u32) -> Info
+    requires number { n < capture.now.count }
+    requires link { link ≡ link_of capture.now }
+    ensures info { result ≡ record (info_of plan.now capture.now n) { rank = 0 } }
+    ensures within { IsInfoWithin plan.now result }
+    ensures few_stations { result.station < 8 }
+{
+    let class = classify(link, capture.frame(n as usize));
+    let split_number = match plan.split() {
+        Split::Round => n,
+        Split::Source => u32::from(class.source_byte),
+    };
+    Info {
+        owner: split_number % plan.senders(),
+        station: u32::from(class.route_byte) % plan.stations(),
+        band: band(class.priority),
+        queue: 0,
+        rank: 0,
+    }
+}
+
+// The rank of the next packet of this owner and station, which is counted then.
+fn next_rank(counts: &mut [u32], owner: u32, station: u32) -> u32
+    requires place { owner * 8 + station < length counts.old }
+    requires countable { slice_index counts.old (owner * 8 + station) < 1000000 }
+    ensures rank { result ≡ slice_index counts.old (owner * 8 + station) }
+    ensures counted { counts.new ≡ slice_set counts.old (owner * 8 + station) (result + 1) }
+{
+    let count = &mut counts[owner as usize * MAX_STATIONS + station as usize];
+    let rank = *count;
+    *count += 1;
+    rank
+}
+
+#[cfg(test)]
+mod tests {
+    use super::*;
+    use lq_model::{Params, StationPlan};
+    use lq_pcap::read_capture;
+    use std::test::Fail;
+
+    /// The header of a capture in microseconds, little-endian, of raw IP.
+    const HEADER: [u8; 24] = [
+        0xd4, 0xc3, 0xb2, 0xa1, 2, 0, 4, 0, 0, 0, 0, 0, 0, 0, 0, 0, 0, 0, 4, 0, 101, 0, 0, 0,
+    ];
+
+    /// A record of an IP header alone, with its version, type of service, and last address bytes.
+    fn record(version: u8, tos: u8, source: u8, route: u8) -> [u8; 36]
+        requires { version < 16 }
+    {
+        [
+            0,
+            0,
+            0,
+            0,
+            0,
+            0,
+            0,
+            0,
+            20,
+            0,
+            0,
+            0,
+            20,
+            0,
+            0,
+            0, //
+            16 * version + 5,
+            tos,
+            0,
+            20,
+            0,
+            0,
+            0,
+            0,
+            64,
+            17,
+            0,
+            0, //
+            10,
+            0,
+            0,
+            source,
+            10,
+            0,
+            1,
+            route,
+        ]
+    }
+
+    fn five_packets(alloc: Global) -> Result<Capture, Fail> {
+        let records = [
+            record(4, 0x00, 1, 0),
+            record(4, 0x10, 1, 1),
+            record(4, 0x08, 2, 3),
+            record(4, 0x00, 3, 2),
+            record(6, 0x10, 3, 3),
+        ];
+        let mut bytes = HEADER.to_vec(alloc)?;
+        for record in records {
+            bytes.extend_from_slice(&record)?;
+        }
+        Ok(read_capture(alloc, bytes)?)
+    }
+
+    fn two_by_two(alloc: Global, split: Split) -> Result<Plan, Fail> {
+        let params = Params {
+            burst: 0,
+            busy_every: 0,
+            busy_limit: 0,
+            hang_after: 0,
+        };
+        let station = StationPlan {
+            len: 2,
+            max_len: 2,
+            bypass: false,
+            params,
+        };
+        Ok(Plan {
+            senders: 2,
+            split,
+            irq_every: 1,
+            stations: vec![in alloc; station; 2]?,
+            events: Vec::new(alloc),
+        })
+    }
+
+    fn info(owner: u32, station: u32, band: u32, rank: u32) -> Info {
+        Info {
+            owner,
+            station,
+            band,
+            queue: 0,
+            rank,
+        }
+    }
+
+    #[test]
+    fn splits_by_number_and_by_source(rt: HostRuntime) -> Result<(), Fail> {
+        let capture = five_packets(rt.alloc())?;
+        let by_number = infos(rt.alloc(), &two_by_two(rt.alloc(), Split::Round)?, &capture)?;
+        let expected = [
+            info(0, 0, 1, 0),
+            info(1, 1, 0, 0),
+            info(0, 1, 2, 0),
+            info(1, 0, 1, 0),
+            info(0, 0, 1, 1),
+        ];
+        assert_eq!(rt; by_number.as_slice(), expected.as_slice());
+
+        let by_source = infos(
+            rt.alloc(),
+            &two_by_two(rt.alloc(), Split::Source)?,
+            &capture,
+        )?;
+        let expected = [
+            info(1, 0, 1, 0),
+            info(1, 1, 0, 0),
+            info(0, 1, 2, 0),
+            info(1, 0, 1, 1),
+            info(0, 0, 1, 0),
+        ];
+        assert_eq!(rt; by_source.as_slice(), expected.as_slice());
+        Ok(())
+    }
+}

@@ -1,0 +1,114 @@
+ghost use Rattle.std.specs.Prelude.{◌≡◌, ◌<◌, ◌≤◌, Some, length, slice_get};
+ghost use Rattle.lq_model.specs.Plan.{is_swap, unit_count};
+ghost use Rattle.lq_plan.specs.Limits.{IsWithinLimits, IsStationWithin, IsEventWithin};
+
+use lq_model::{EventKind, EventPlan, Split, StationPlan};
+use std::marker::Model;
+
+/// A plan that was read. Contracts see the record `Plan` of `lq_model`.
+#[derive(Drop)]
+pub struct Plan {
+    pub(crate) senders: u32,
+    pub(crate) split: Split,
+    pub(crate) irq_every: u32,
+    pub(crate) stations: Vec<StationPlan>,
+    pub(crate) events: Vec<EventPlan>,
+}
+
+impl Model for Plan {
+    ghost use Rattle.lq_model.specs.Plan.{Plan};
+    ghost use Rattle.lq_plan.specs.View.{plan_view, plan_invariant};
+
+    ghost Value = { Plan };
+
+    ghost view = { plan_view };
+
+    ghost invariant = { plan_invariant };
+}
+
+impl Plan {
+    /// How many threads send.
+    pub fn senders(&self) -> u32
+        ensures senders { result ≡ self.now.senders }
+        ensures some { 0 < result }
+        ensures few { result ≤ 8 }
+    {
+        self.senders
+    }
+
+    /// How the packets are split among them.
+    pub fn split(&self) -> Split
+        ensures { result ≡ self.now.split }
+    {
+        self.split
+    }
+
+    /// After how many packets of a sender it wakes the stopped queues.
+    pub fn irq_every(&self) -> u32
+        ensures irq_every { result ≡ self.now.irq_every }
+        ensures some { 0 < result }
+        ensures few { result ≤ 1000 }
+    {
+        self.irq_every
+    }
+
+    /// How many stations there are.
+    pub fn stations(&self) -> u32
+        ensures stations { result ≡ length self.now.stations }
+        ensures some { 0 < result }
+        ensures few { result ≤ 8 }
+    {
+        self.stations.len() as u32
+    }
+
+    /// Station `j`.
+    pub fn station(&self, j: u32) -> StationPlan
+        requires { j < length self.now.stations }
+        ensures station { slice_get self.now.stations j ≡ Some result }
+        ensures within { IsStationWithin result }
+    {
+        self.stations[j as usize]
+    }
+
+    /// How many events there are.
+    pub fn events(&self) -> u32
+        ensures events { result ≡ length self.now.events }
+        ensures few { result ≤ 64 }
+    {
+        self.events.len() as u32
+    }
+
+    /// Event `e`, in the order of the document.
+    pub fn event(&self, e: u32) -> EventPlan
+        requires { e < length self.now.events }
+        ensures event { slice_get self.now.events e ≡ Some result }
+        ensures within { IsEventWithin self.now.stations result }
+    {
+        self.events[e as usize]
+    }
+
+    /// How many devices the plan needs: one for each station, and one more for each swap.
+    pub fn units(&self) -> u32
+        ensures units { result ≡ unit_count self.now }
+        ensures some { 0 < result }
+        ensures few { result ≤ 72 }
+        ensures no_swap { length self.now.events ≡ 0 → result ≡ length self.now.stations }
+    {
+        let swaps = self.events.iter().filter(|event| is_swap(event)).count();
+        (self.stations.len() + swaps) as u32
+    }
+
+    /// Every number of a plan is within its limits, and its events come in an order that its stations allow.
+    pub fn stays_within_limits(&self)
+        ensures { IsWithinLimits self.now }
+    {
+        let _ = &self.senders;
+    }
+}
+
+// Whether an event exchanges a device.
+fn is_swap(event: &EventPlan) -> bool
+    ensures { result ≡ is_swap event.now }
+{
+    matches!(event.kind, EventKind::Swap { .. })
+}

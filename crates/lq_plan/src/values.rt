@@ -1,0 +1,100 @@
+// The values of a table.
+ghost use Rattle.std.specs.Prelude.{◌≡◌, map, option_map, option_and_then, unwrap_or, [], string_bytes};
+ghost use Rattle.toml.specs.Data.{get_member, string};
+ghost use Rattle.toml.specs.View.{table_view, view};
+ghost use Rattle.lq_plan.specs.Values.{elements_in, event_word_of, flag_at, number_at, split_of, tables_at, text_at};
+
+use lq_model::Split;
+use toml::{Table, Value};
+
+/// What an event does to its station, as its `kind` says.
+#[derive(Clone, Copy, Debug, PartialEq, Eq)]
+pub enum EventWord {
+    Down,
+    Up,
+    Resize,
+    TxQueueLen,
+    Swap,
+}
+
+/// The value at a key.
+pub fn value_at<'a>(table: &'a Table, name: &str) -> Option<&'a Value>
+    ensures { option_map (λ v. view v.now) result ≡ get_member name.now (table_view table.now) }
+{
+    table.get(name)
+}
+
+/// The number at a key, or its default where there is none that isn't negative.
+pub fn number_at(table: &Table, name: &str, default: u64) -> u64
+    ensures { result ≡ number_at name.now default (table_view table.now) }
+{
+    match value_at(table, name) {
+        Some(Value::Integer(number)) if *number >= 0 => *number as u64,
+        _ => default,
+    }
+}
+
+/// The truth value at a key, or its default where there is none.
+pub fn flag_at(table: &Table, name: &str, default: bool) -> bool
+    ensures { result ≡ flag_at name.now default (table_view table.now) }
+{
+    match value_at(table, name) {
+        Some(Value::Boolean(flag)) => *flag,
+        _ => default,
+    }
+}
+
+/// The text at a key.
+pub fn text_at<'a>(table: &'a Table, name: &str) -> Option<&'a str>
+    ensures { option_map (λ text. text.now) result ≡ text_at name.now (table_view table.now) }
+{
+    match value_at(table, name) {
+        Some(Value::String(text)) => Some(text.as_str()),
+        _ => None,
+    }
+}
+
+/// The elements of an array.
+pub fn elements_in(value: &Value) -> Option<&[Value]>
+    ensures { option_map (λ elements. map view elements.now) result ≡ elements_in (view value.now) }
+{
+    match value {
+        Value::Array(elements) => Some(elements),
+        _ => None,
+    }
+}
+
+/// The elements of the array at a key, or none.
+pub fn elements_at<'a>(table: &'a Table, name: &str) -> &'a [Value]
+    ensures { map view result.now ≡ unwrap_or (option_and_then elements_in (get_member name.now (table_view table.now))) [] }
+{
+    match value_at(table, name) {
+        Some(value) => elements_in(value).unwrap_or(&[]),
+        None => &[],
+    }
+}
+
+/// How packets are split, by its text.
+pub fn split_of(text: &str) -> Option<Split>
+    ensures { result ≡ split_of text.now }
+{
+    match text {
+        "round" => Some(Split::Round),
+        "source" => Some(Split::Source),
+        _ => None,
+    }
+}
+
+/// What an event does, by its text.
+pub fn event_word_of(text: &str) -> Option<EventWord>
+    ensures { result ≡ event_word_of text.now }
+{
+    match text {
+        "down" => Some(EventWord::Down),
+        "up" => Some(EventWord::Up),
+        "resize" => Some(EventWord::Resize),
+        "tx_queue_len" => Some(EventWord::TxQueueLen),
+        "swap" => Some(EventWord::Swap),
+        _ => None,
+    }
+}
