@@ -6,3 +6,17 @@ pub mod Lists
 pub mod Counts
 -- what is known of the first packets
 pub mod Known
+-- the tables among the elements of an array
+pub mod Tables
+-- the faults of a document
+pub mod Documents
+-- misplaced events
+pub mod Events
+-- a value within its range
+pub mod Ranges
+-- a plan within its limits
+pub mod Within
+-- texts that are documents
+pub mod Texts
+-- what text is accepted
+pub mod Acceptance

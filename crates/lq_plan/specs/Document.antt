@@ -1,13 +1,29 @@
 -- A document that was read: its root, and the tables of its two arrays.
-use Rattle.std.specs.Prelude.{List, map}
-use Rattle.std.specs.Borrow.{Bor}
-use Rattle.std.specs.BTreeMap.{BTreeMap}
-use Rattle.std.specs.Prelude.{String}
-use Rattle.std.specs.declared.alloc.Global.{Global}
+use Rattle.std.specs.Prelude.{Bool, ◌||◌, List, codes}
+use Rattle.std.specs.List.{list_any}
 use Rattle.toml.specs.Data.{Members}
 use Rattle.toml.specs.View.{table_view}
-use Rattle.toml.specs.declared.value.Value.{Value}
+use Rattle.lq_plan.specs.Faults.{has_fault}
+use Rattle.lq_plan.specs.Keys.{event_keys, root_keys, station_keys, version_of}
+use Rattle.lq_plan.specs.Tables.{tables_view}
+use Rattle.lq_plan.specs.Values.{tables_at}
+use Rattle.lq_plan.specs.declared.document.Document.{Document as CodeDocument}
+use Rattle.lq_plan.specs.declared.faults.Fault.{Fault}
 
--- the tables that are lent
-abbrev pub tables_view : List (Bor (BTreeMap (String Global) Value)) → List Members
-tables_view = map (λ table. table_view table.now)
+pub record Document : Type 0 where
+  pub root : Members
+  pub stations : List Members
+  pub events : List Members
+
+abbrev pub document_of : Members → Document
+document_of root = record { root = root; stations = tables_at (codes "station") root; events = tables_at (codes "event") root }
+
+abbrev pub document_view : CodeDocument → Document
+document_view d = record { root = table_view d.root.now; stations = tables_view d.stations.items; events = tables_view d.events.items }
+
+-- a table of the document has this fault
+abbrev pub has_fault_in : Fault → Document → Bool
+has_fault_in fault d =
+    has_fault fault (root_keys (version_of d.root)) d.root
+    || (list_any (λ station. has_fault fault (station_keys (version_of d.root) station) station) d.stations
+    || list_any (λ event. has_fault fault (event_keys d.stations event) event) d.events)

@@ -1,8 +1,7 @@
 -- The limits of a plan's numbers, and the order of its events.
-use Rattle.std.specs.Prelude.{◌≡◌, ℕ, ◌<◌, ◌≤◌, Bool, true, false, ◌||◌, nat_lt, ◌==◌, List, [], ◌∷◌, length, map, filter, Some, slice_get}
+use Rattle.std.specs.Prelude.{◌≡◌, ℕ, ◌<◌, ◌≤◌, Bool, true, false, ◌||◌, nat_lt, ◌==◌, List, [], ◌∷◌, length, map, filter, Option, None, Some, slice_get}
 use Rattle.std.specs.List.{list_any}
 use Rattle.std.specs.Option.{option_map_or}
-use Rattle.lq_model.specs.Numbers.{first_numbers}
 use Rattle.lq_model.specs.Plan.{Plan}
 use Rattle.lq_model.specs.declared.device.Params.{Params}
 use Rattle.lq_model.specs.declared.plan.EventKind.{EventKind}
@@ -17,27 +16,34 @@ abbrev pub falls_below : ℕ → List EventPlan → Bool
 falls_below last [] = false
 falls_below last (event ∷ events) = nat_lt event.before last || falls_below event.before events
 
--- These are done to a station in turn, which is active at first or not: one of them finds it active or deactivated where
--- it can't be.
-abbrev pub is_misplaced : Bool → List EventKind → Bool
-is_misplaced active [] = false
-is_misplaced true (Up ∷ kinds) = true
-is_misplaced true (Down ∷ kinds) = is_misplaced false kinds
-is_misplaced true (Resize len ∷ kinds) = is_misplaced true kinds
-is_misplaced true (TxQueueLen len ∷ kinds) = is_misplaced true kinds
-is_misplaced true (Swap params ∷ kinds) = is_misplaced true kinds
-is_misplaced false (Up ∷ kinds) = is_misplaced true kinds
-is_misplaced false (Down ∷ kinds) = true
-is_misplaced false (Resize len ∷ kinds) = true
-is_misplaced false (TxQueueLen len ∷ kinds) = true
-is_misplaced false (Swap params ∷ kinds) = true
+-- whether a station is active after this is done to it; None where it is done to an active station and may only be done to a
+-- deactivated one, or the other way round
+abbrev pub active_after : Bool → EventKind → Option Bool
+active_after true Down = Some false
+active_after true Up = None
+active_after true (Resize len) = Some true
+active_after true (TxQueueLen len) = Some true
+active_after true (Swap params) = Some true
+active_after false Down = None
+active_after false Up = Some true
+active_after false (Resize len) = None
+active_after false (TxQueueLen len) = None
+active_after false (Swap params) = None
+
+-- the same of several that are done to it in turn
+abbrev pub is_misplaced : Option Bool → List EventKind → Bool
+is_misplaced None [] = true
+is_misplaced None (kind ∷ kinds) = true
+is_misplaced (Some active) [] = false
+is_misplaced (Some active) (kind ∷ kinds) = is_misplaced (active_after active kind) kinds
 
 -- what is done to a station
 abbrev pub kinds_at : ℕ → List EventPlan → List EventKind
 kinds_at station events = map (λ event. event.kind) (filter (λ event. event.station == station) events)
 
-abbrev pub is_out_of_order : Plan → Bool
-is_out_of_order plan = falls_below 0 plan.events || list_any (λ station. is_misplaced true (kinds_at station plan.events)) (first_numbers (length plan.stations))
+-- each station is active at first
+abbrev pub is_out_of_order : List EventPlan → Bool
+is_out_of_order events = falls_below 0 events || list_any (λ event. is_misplaced (Some true) (kinds_at event.station events)) events
 
 -- LIMITS
 
@@ -79,4 +85,4 @@ pub record IsWithinLimits (plan : Plan) : Type 0 where
   pub events : length plan.events ≤ 64
   pub each_station : (j : ℕ) (station : StationPlan) → slice_get plan.stations j ≡ Some station → IsStationWithin station
   pub each_event : (e : ℕ) (event : EventPlan) → slice_get plan.events e ≡ Some event → IsEventWithin plan.stations event
-  pub order : is_out_of_order plan ≡ false
+  pub order : is_out_of_order plan.events ≡ false

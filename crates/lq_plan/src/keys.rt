@@ -2,7 +2,7 @@
 ghost use Rattle.std.specs.Prelude.{◌≡◌, map, ◌^◌, ◌<◌, length};
 ghost use Rattle.std.specs.Option.{option_and_then};
 ghost use Rattle.toml.specs.View.{table_view};
-ghost use Rattle.lq_plan.specs.Document.{tables_view};
+ghost use Rattle.lq_plan.specs.Tables.{tables_view};
 ghost use Rattle.lq_plan.specs.Keys.{event_keys, key, key_view, event_word_in, keys_view, len_in, len_presence, max_len_in, max_len_for, params_keys, params_presence, root_keys, station_keys, version_1, version_of};
 
 use crate::values::{EventWord, event_word_of, number_at, text_at};
@@ -47,6 +47,8 @@ pub struct Version {
     pub max_len: u64,
 }
 
+const LATEST_VERSION: u64 = 1;
+
 const VERSION_1: Version = Version {
     max_senders: 8,
     max_len: 4096,
@@ -65,7 +67,7 @@ pub fn root_keys(version: Version) -> [Key; 6]
     ensures { keys_view result ≡ root_keys version }
 {
     [
-        optional("version", number(1, 1)),
+        optional("version", number(1, LATEST_VERSION)),
         optional("senders", number(1, version.max_senders)),
         optional("split", Rule::SplitText),
         optional("irq_every", number(1, 1000)),

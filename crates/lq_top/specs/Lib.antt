@@ -6,6 +6,8 @@ pub mod Headline
 pub mod Written
 -- the command line
 pub mod Command
+-- the command table as clap reads it
+pub mod Forms
 -- the lines of refused captures
 pub mod Refusal
 -- what a call decides from its words and files, answers and leaves

@@ -18,6 +18,7 @@ use crate::stop::Stop;
 use crate::texts::{line_of_refusal, name_of_capture, text_of_counts, text_of_sent};
 use lq_device::TxDevice;
 use lq_host::Host;
+use lq_model::NoMemory;
 use lq_pcap::Capture;
 use std::alloc::Global;
 use std::marker::Sync;
@@ -150,11 +151,15 @@ pub fn lqtx<R: Threads + Wait + Sync, H: Host, G: Gate, D: TxDevice>(
     ensures others { drop 1 bench.new.items ≡ drop 1 bench.old.items }
     ensures refused { refuses result ≡ true → bench.new.items ≡ bench.old.items }
 {
-    let Some(run) = read_words(words) else {
-        return match write_output(host, USAGE) {
-            Ok(()) => Status::Usage,
-            Err(stop) => stop.status(),
-        };
+    let run = match read_words(alloc, words) {
+        Ok(Some(run)) => run,
+        Ok(None) => {
+            return match write_output(host, USAGE) {
+                Ok(()) => Status::Usage,
+                Err(stop) => stop.status(),
+            };
+        }
+        Err(NoMemory) => return Status::NoMemory,
     };
     match run_command(alloc, host, bench, gate, &run) {
         Ok(status) => status,

@@ -1,0 +1,206 @@
+-- A plan that is read from a document without faults is within its limits.
+use Rattle.std.proofs.Common.{◌≡◌, ℕ, ◌-◌, ◌<◌, ◌≤◌, Bool, true, false, ◌||◌, if◌then◌else◌, codes, List, length, map, get_or, Option, Some, None, option_map, slice_get, refl, ap, ◌∙◌, sym, arith}
+use Rattle.std.proofs.lemmas.Bool.{or_parts}
+use Rattle.std.proofs.lemmas.List.{length-map}
+use Rattle.std.proofs.lemmas.Option.{slice_get-map, slice_get-get_or}
+use Rattle.std.specs.List.{list_any}
+use Rattle.std.specs.Option.{option_map_or}
+use Rattle.toml.specs.Data.{Members, no_members, get_member}
+use Rattle.lq_model.specs.Plan.{Plan}
+use Rattle.lq_model.specs.declared.plan.StationPlan.{StationPlan}
+use Rattle.lq_plan.specs.Document.{Document, document_of, has_fault_in}
+use Rattle.lq_plan.specs.Faults.{has_fault, has_value_out_of_range, is_missing, is_of_wrong_kind, is_out_of_range}
+use Rattle.lq_plan.specs.Keys.{key, event_keys, event_word_in, len_in, len_presence, max_len_for, max_len_in, params_presence, root_keys, station_keys, version_1, version_of}
+use Rattle.lq_plan.specs.Limits.{AreParamsWithin, IsEventWithin, IsKindWithin, IsStationWithin, IsWithinLimits, is_out_of_order, max_len_at}
+use Rattle.lq_plan.specs.Reading.{IsEventSmall, event_in, first_fault, kind_as, params_in, station_in}
+use Rattle.lq_plan.specs.Values.{number_at}
+use Rattle.lq_plan.specs.declared.faults.Fault.{Fault}
+use Rattle.lq_plan.specs.declared.faults.Fault.TheVariants.{UnknownKey, MissingKey, WrongKind, OutOfRange}
+use Rattle.lq_plan.specs.declared.keys.Presence.TheVariants.{Required, Optional}
+use Rattle.lq_plan.specs.declared.keys.Rule.TheVariants.{Tables}
+use Rattle.lq_plan.specs.declared.values.EventWord.{EventWord}
+use Rattle.lq_plan.specs.declared.values.EventWord.TheVariants as word
+use Rattle.lq_plan.proofs.Ranges.{at_false, in_range, tables_few, tables_some}
+
+-- A STATION
+
+pub station_within : (t : Members) → has_value_out_of_range (station_keys version_1 t) t ≡ false → IsStationWithin (station_in t)
+unfolding station_keys
+station_within t h =
+    let keys = station_keys version_1 t in
+    let len = in_range t keys 0 (codes "len") Optional 1 4096 1000 h refl (omega arith) (omega arith) in
+    let max_len = in_range t keys 1 (codes "max_len") Optional (len_in t) 4096 (len_in t) h refl (omega arith) len.1 in
+    let burst = in_range t keys 3 (codes "burst") Optional 0 1000000 0 h refl (omega arith) (omega arith) in
+    let busy_every = in_range t keys 4 (codes "busy_every") Optional 0 1000000 0 h refl (omega arith) (omega arith) in
+    let busy_limit = in_range t keys 5 (codes "busy_limit") Optional 0 1000000 0 h refl (omega arith) (omega arith) in
+    let hang_after = in_range t keys 6 (codes "hang_after") Optional 0 1000000 0 h refl (omega arith) (omega arith) in
+    record {
+      some = len.0;
+      len = max_len.0;
+      max_len = max_len.1;
+      params = record { burst = burst.1; busy_every = busy_every.1; busy_limit = busy_limit.1; hang_after = hang_after.1 };
+    }
+
+-- AN EVENT
+
+kind_within : (found : Option EventWord) (t : Members) (max_len : ℕ) → (0 < number_at (codes "len") 1 t) × (number_at (codes "len") 1 t ≤ max_len) → AreParamsWithin (params_in t)
+    → IsKindWithin max_len (kind_as found t)
+kind_within None t max_len len params = tt
+kind_within (Some word.Down) t max_len len params = tt
+kind_within (Some word.Up) t max_len len params = tt
+kind_within (Some word.Resize) t max_len len params = len
+kind_within (Some word.TxQueueLen) t max_len len params = len
+kind_within (Some word.Swap) t max_len len params = params
+
+record EventFacts (stations : List Members) (t : Members) : Type 0 where
+  before : number_at (codes "before") 0 t ≤ 1000000
+  station : number_at (codes "station") 0 t ≤ length stations - 1
+  len : (1 ≤ max_len_for stations t) → (1 ≤ number_at (codes "len") 1 t) × (number_at (codes "len") 1 t ≤ max_len_for stations t)
+  params : AreParamsWithin (params_in t)
+
+event_facts : (stations : List Members) (t : Members) → has_value_out_of_range (event_keys stations t) t ≡ false → EventFacts stations t
+unfolding event_keys
+event_facts stations t h =
+    let keys = event_keys stations t in
+    let presence = params_presence (event_word_in t) in
+    let burst = in_range t keys 4 (codes "burst") presence 0 1000000 0 h refl (omega arith) (omega arith) in
+    let busy_every = in_range t keys 5 (codes "busy_every") presence 0 1000000 0 h refl (omega arith) (omega arith) in
+    let busy_limit = in_range t keys 6 (codes "busy_limit") presence 0 1000000 0 h refl (omega arith) (omega arith) in
+    let hang_after = in_range t keys 7 (codes "hang_after") presence 0 1000000 0 h refl (omega arith) (omega arith) in
+    record {
+      before = (in_range t keys 0 (codes "before") Required 0 1000000 0 h refl (omega arith) (omega arith)).1;
+      station = (in_range t keys 2 (codes "station") Required 0 (length stations - 1) 0 h refl (omega arith) (omega arith)).1;
+      len = λ some. in_range t keys 3 (codes "len") (len_presence (event_word_in t)) 1 (max_len_for stations t) 1 h refl (omega arith) some;
+      params = record { burst = burst.1; busy_every = busy_every.1; busy_limit = busy_limit.1; hang_after = hang_after.1 };
+    }
+
+abbrev pub AreStationsWithin : List Members → Type 0
+AreStationsWithin stations = (j : ℕ) (t : Members) → slice_get stations j ≡ Some t → IsStationWithin (station_in t)
+
+greatest_same : (o : Option Members) → option_map_or (λ (s : StationPlan). s.max_len) (option_map station_in o) 0 ≡ option_map_or max_len_in o 0
+greatest_same None = refl
+greatest_same (Some s) = refl
+
+max_len_same : (stations : List Members) (t : Members) → max_len_at (map station_in stations) (number_at (codes "station") 0 t) ≡ max_len_for stations t
+max_len_same stations t =
+    let j = number_at (codes "station") 0 t in
+    ap (λ o. option_map_or (λ (s : StationPlan). s.max_len) o 0) (slice_get-map station_in stations j) ∙ greatest_same (slice_get stations j)
+
+-- the station of an event, if there is one
+max_len_bounds : (stations : List Members) (t : Members) → AreStationsWithin stations → number_at (codes "station") 0 t < length stations
+    → (1 ≤ max_len_for stations t) × (max_len_for stations t ≤ 4096)
+max_len_bounds stations t within there =
+    let j = number_at (codes "station") 0 t in
+    let at = slice_get-get_or stations j no_members there in
+    let ok = within j (get_or stations j no_members) at in
+    let same : max_len_for stations t ≡ max_len_in (get_or stations j no_members) = ap (λ o. option_map_or max_len_in o 0) at in
+    (omega arith, omega arith)
+
+pub event_within : (stations : List Members) (t : Members) → AreStationsWithin stations → 0 < length stations → has_value_out_of_range (event_keys stations t) t ≡ false
+    → IsEventWithin (map station_in stations) (event_in t)
+event_within stations t within some h =
+    let facts = event_facts stations t h in
+    let there : number_at (codes "station") 0 t < length stations = omega (arith, facts.station) in
+    let bounds = max_len_bounds stations t within there in
+    record {
+      before = facts.before;
+      station = omega (arith, length-map stations station_in);
+      kind = rw (max_len_same stations t) (kind_within (event_word_in t) t (max_len_for stations t) (facts.len bounds.0) facts.params);
+    }
+
+pub event_small : (stations : List Members) (t : Members) → AreStationsWithin stations → 0 < length stations → length stations ≤ 8
+    → has_value_out_of_range (event_keys stations t) t ≡ false → IsEventSmall (event_in t)
+event_small stations t within some few h =
+    let facts = event_facts stations t h in
+    let there : number_at (codes "station") 0 t < length stations = omega (arith, facts.station) in
+    let bounds = max_len_bounds stations t within there in
+    let len = facts.len bounds.0 in
+    record {
+      before = facts.before;
+      station = omega arith;
+      kind = kind_within (event_word_in t) t 4096 (len.0, omega arith) facts.params;
+    }
+
+-- A DOCUMENT WITHOUT FAULTS
+
+first_of_four : {X : Type 0} (a b c d : Bool) (w x y z : X) → None ≡ (if a then Some w else if b then Some x else if c then Some y else if d then Some z else None)
+    → (a ≡ false) × (b ≡ false) × (c ≡ false) × (d ≡ false)
+first_of_four true b c d w x y z h = cc
+first_of_four false true c d w x y z h = cc
+first_of_four false false true d w x y z h = cc
+first_of_four false false false true w x y z h = cc
+first_of_four false false false false w x y z h = (refl, refl, refl, refl)
+
+record NoFault (fault : Fault) (d : Document) : Type 0 where
+  root : has_fault fault (root_keys (version_of d.root)) d.root ≡ false
+  stations : list_any (λ s. has_fault fault (station_keys (version_of d.root) s) s) d.stations ≡ false
+  events : list_any (λ e. has_fault fault (event_keys d.stations e) e) d.events ≡ false
+
+no_fault : (fault : Fault) (d : Document) → has_fault_in fault d ≡ false → NoFault fault d
+no_fault fault d h =
+    let stations_fault = list_any (λ s. has_fault fault (station_keys (version_of d.root) s) s) d.stations in
+    let events_fault = list_any (λ e. has_fault fault (event_keys d.stations e) e) d.events in
+    let parts = or_parts (has_fault fault (root_keys (version_of d.root)) d.root) (stations_fault || events_fault) h in
+    let more = or_parts stations_fault events_fault parts.1 in
+    record { root = parts.0; stations = more.0; events = more.1 }
+
+pub record Facts (root : Members) (d : Document) : Type 0 where
+  pub senders : (1 ≤ number_at (codes "senders") 1 root) × (number_at (codes "senders") 1 root ≤ 8)
+  pub irq_every : (1 ≤ number_at (codes "irq_every") 1 root) × (number_at (codes "irq_every") 1 root ≤ 1000)
+  pub has_station : 0 < length d.stations
+  pub few_stations : length d.stations ≤ 8
+  pub few_events : length d.events ≤ 64
+  pub stations : AreStationsWithin d.stations
+  pub events : (e : ℕ) (t : Members) → slice_get d.events e ≡ Some t → has_value_out_of_range (event_keys d.stations t) t ≡ false
+
+pub root_facts : (root : Members) → None ≡ first_fault (document_of root) → Facts root (document_of root)
+unfolding root_keys
+root_facts root h =
+    let d = document_of root in
+    let none = first_of_four (has_fault_in UnknownKey d) (has_fault_in MissingKey d) (has_fault_in WrongKind d) (has_fault_in OutOfRange d) _ _ _ _ h in
+    let missing = no_fault MissingKey d none.1 in
+    let kinds = no_fault WrongKind d none.2 in
+    let ranges = no_fault OutOfRange d none.3 in
+    let keys = root_keys version_1 in
+    let station = key (codes "station") Required (Tables 1 8) in
+    let event = key (codes "event") Optional (Tables 0 64) in
+    record {
+      senders = in_range root keys 1 (codes "senders") Optional 1 8 1 ranges.root refl (omega arith) (omega arith);
+      irq_every = in_range root keys 3 (codes "irq_every") Optional 1 1000 1 ranges.root refl (omega arith) (omega arith);
+      has_station = tables_some 1 8 (get_member (codes "station") root) (at_false (is_missing root) keys 4 station missing.root refl) (at_false (is_of_wrong_kind root) keys 4 station kinds.root refl) (at_false (is_out_of_range root) keys 4 station ranges.root refl);
+      few_stations = tables_few 1 8 (get_member (codes "station") root) (at_false (is_out_of_range root) keys 4 station ranges.root refl);
+      few_events = tables_few 0 64 (get_member (codes "event") root) (at_false (is_out_of_range root) keys 5 event ranges.root refl);
+      stations = λ j t at. station_within t (at_false (λ s. has_fault OutOfRange (station_keys version_1 s) s) d.stations j t ranges.stations at);
+      events = λ e t at. at_false (λ x. has_fault OutOfRange (event_keys d.stations x) x) d.events e t ranges.events at;
+    }
+
+pub facts : (root : Members) (d : Document) → d ≡ document_of root → None ≡ first_fault d → Facts root d
+facts root d same h = rw same (root_facts root (h ∙ ap first_fault same))
+
+-- THE PLAN
+
+seen_through : {X Y : Type 0} (f : X → Y) (o : Option X) (y : Y) → option_map f o ≡ Some y → (x : X) × (o ≡ Some x) × (y ≡ f x)
+seen_through f None y h = cc
+seen_through f (Some x) y h = (x, refl, cc)
+
+mapped : {X Y : Type 0} (f : X → Y) (xs : List X) (j : ℕ) (y : Y) → slice_get (map f xs) j ≡ Some y → (x : X) × (slice_get xs j ≡ Some x) × (y ≡ f x)
+mapped f xs j y at = seen_through f (slice_get xs j) y (sym (slice_get-map f xs j) ∙ at)
+
+pub within_limits : (root : Members) (d : Document) (p : Plan) → Facts root d → is_out_of_order (map event_in d.events) ≡ false → p.senders ≡ number_at (codes "senders") 1 root
+    → p.irq_every ≡ number_at (codes "irq_every") 1 root → p.stations ≡ map station_in d.stations → p.events ≡ map event_in d.events → IsWithinLimits p
+within_limits root d p all in_order senders irq_every stations events = record {
+  has_sender = omega (arith, all.senders.0);
+  senders = omega (arith, all.senders.1);
+  has_irq_every = omega (arith, all.irq_every.0);
+  irq_every = omega (arith, all.irq_every.1);
+  has_station = rw stations (omega (arith, length-map d.stations station_in, all.has_station));
+  stations = rw stations (omega (arith, length-map d.stations station_in, all.few_stations));
+  events = rw events (omega (arith, length-map d.events event_in, all.few_events));
+  each_station = λ j station at.
+      let found = mapped station_in d.stations j station (ap (λ ss. slice_get ss j) (sym stations) ∙ at) in
+      rw found.2 (all.stations j found.0 found.1);
+  each_event = λ e event at.
+      let found = mapped event_in d.events e event (ap (λ es. slice_get es e) (sym events) ∙ at) in
+      rw (stations, found.2) (event_within d.stations found.0 all.stations all.has_station (all.events e found.0 found.1));
+  order = rw events in_order;
+}

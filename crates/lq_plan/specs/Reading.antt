@@ -1,0 +1,111 @@
+-- The plan that a text is, or why it is none.
+use Rattle.std.specs.Prelude.{◌≡◌, ℕ, ◌<◌, ◌≤◌, true, if◌then◌else◌, codes, List, map, Option, Some, None, Result, Ok, Err, option_and_then, unwrap_or}
+use Rattle.std.specs.Option.{option_map_or}
+use Rattle.std.specs.Str.{is_utf8}
+use Rattle.toml.specs.Data.{Members}
+use Rattle.toml.specs.Parse.{parse_document}
+use Rattle.lq_model.specs.Plan.{Plan}
+use Rattle.lq_model.specs.declared.device.Params.{Params}
+use Rattle.lq_model.specs.declared.plan.EventKind.{EventKind}
+use Rattle.lq_model.specs.declared.plan.EventKind.TheVariants.{Down, Up, Resize, TxQueueLen, Swap}
+use Rattle.lq_model.specs.declared.plan.EventPlan.{EventPlan}
+use Rattle.lq_model.specs.declared.plan.PlanReason.{PlanReason}
+use Rattle.lq_model.specs.declared.plan.PlanReason.TheVariants as reason
+use Rattle.lq_model.specs.declared.plan.Split.{Split}
+use Rattle.lq_model.specs.declared.plan.Split.TheVariants.{Round}
+use Rattle.lq_model.specs.declared.plan.StationPlan.{StationPlan}
+use Rattle.lq_plan.specs.Document.{Document, document_of, has_fault_in}
+use Rattle.lq_plan.specs.Keys.{event_word_in, len_in, max_len_in}
+use Rattle.lq_plan.specs.Limits.{IsKindWithin, is_out_of_order}
+use Rattle.lq_plan.specs.Values.{flag_at, number_at, split_of, text_at}
+use Rattle.lq_plan.specs.declared.faults.Fault.TheVariants.{UnknownKey, MissingKey, WrongKind, OutOfRange}
+use Rattle.lq_plan.specs.declared.refusal.PlanRefusal.{PlanRefusal}
+use Rattle.lq_plan.specs.declared.refusal.PlanRefusal.TheVariants.{Refused, NoMemory}
+use Rattle.lq_plan.specs.declared.values.EventWord.{EventWord}
+use Rattle.lq_plan.specs.declared.values.EventWord.TheVariants as word
+
+-- WHAT A DOCUMENT SAYS, WITH THE DEFAULTS OF WHAT IT LEAVES OUT
+
+abbrev pub params_in : Members → Params
+params_in table = record {
+  burst = number_at (codes "burst") 0 table;
+  busy_every = number_at (codes "busy_every") 0 table;
+  busy_limit = number_at (codes "busy_limit") 0 table;
+  hang_after = number_at (codes "hang_after") 0 table;
+}
+
+abbrev pub station_in : Members → StationPlan
+station_in station = record {
+  len = len_in station;
+  max_len = max_len_in station;
+  bypass = flag_at (codes "bypass") true station;
+  params = params_in station;
+}
+
+-- of an event that has these keys; a required key has no default, so those that stand here for one are never read
+abbrev pub kind_as : Option EventWord → Members → EventKind
+kind_as None event = Down
+kind_as (Some word.Down) event = Down
+kind_as (Some word.Up) event = Up
+kind_as (Some word.Resize) event = Resize (number_at (codes "len") 1 event)
+kind_as (Some word.TxQueueLen) event = TxQueueLen (number_at (codes "len") 1 event)
+kind_as (Some word.Swap) event = Swap (params_in event)
+
+abbrev pub event_in : Members → EventPlan
+event_in event = record {
+  before = number_at (codes "before") 0 event;
+  station = number_at (codes "station") 0 event;
+  kind = kind_as (event_word_in event) event;
+}
+
+abbrev pub split_in : Members → Split
+split_in root = unwrap_or (option_and_then split_of (text_at (codes "split") root)) Round
+
+abbrev pub plan_in : Document → Plan
+plan_in d = record {
+  senders = number_at (codes "senders") 1 d.root;
+  split = split_in d.root;
+  irq_every = number_at (codes "irq_every") 1 d.root;
+  stations = map station_in d.stations;
+  events = map event_in d.events;
+}
+
+-- WHY IT IS NO PLAN
+--
+-- The reason with the least number of those that apply.
+
+-- of the reasons 2 to 5
+abbrev pub first_fault : Document → Option PlanReason
+first_fault d =
+    if has_fault_in UnknownKey d then Some reason.UnknownKey
+    else if has_fault_in MissingKey d then Some reason.Missing
+    else if has_fault_in WrongKind d then Some reason.Kind
+    else if has_fault_in OutOfRange d then Some reason.Range else None
+
+-- the plan that a document is, if it has none of these faults
+abbrev pub plan_unless : Option PlanReason → Document → Result Plan PlanReason
+plan_unless (Some cause) d = Err cause
+plan_unless None d = if is_out_of_order (plan_in d).events then Err reason.EventOrder else Ok (plan_in d)
+
+abbrev pub plan_from : Members → Result Plan PlanReason
+plan_from root = plan_unless (first_fault (document_of root)) (document_of root)
+
+-- the root of the document that a text is
+abbrev pub root_of : List ℕ → Option Members
+root_of bytes = if is_utf8 bytes then parse_document bytes else None
+
+unfoldable pub plan_of : List ℕ → Result Plan PlanReason
+plan_of bytes = option_map_or plan_from (root_of bytes) (Err reason.NotToml)
+
+-- WHAT READING ANSWERS
+
+-- a refusal is that of the definition, or want of memory
+abbrev pub IsRefusalOf : {T : Type 0} → Result T PlanReason → PlanRefusal → Type 0
+IsRefusalOf answer NoMemory = Unit {0}
+IsRefusalOf answer (Refused cause) = answer ≡ Err cause
+
+-- an event of a plan with at most 8 stations, each with rings of at most 4096
+pub record IsEventSmall (event : EventPlan) : Type 0 where
+  pub before : event.before ≤ 1000000
+  pub station : event.station < 8
+  pub kind : IsKindWithin 4096 event.kind

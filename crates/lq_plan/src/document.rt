@@ -1,0 +1,93 @@
+// A document and its faults.
+ghost use Rattle.std.specs.Prelude.{◌≡◌, map, IfOk};
+ghost use Rattle.std.specs.List.{list_any};
+ghost use Rattle.toml.specs.View.{table_view};
+ghost use Rattle.lq_plan.specs.Document.{document_of, document_view, has_fault_in};
+ghost use Rattle.lq_plan.specs.Faults.{has_fault};
+ghost use Rattle.lq_plan.specs.Keys.{event_keys, station_keys};
+ghost use Rattle.lq_plan.specs.Reading.{first_fault};
+ghost use Rattle.lq_plan.specs.Tables.{tables_view};
+ghost use Rattle.lq_plan.specs.Values.{tables_at};
+
+use crate::faults::{Fault, has_fault};
+use crate::keys::{Version, event_keys, root_keys, station_keys, version_of};
+use crate::values::elements_at;
+use lq_model::PlanReason;
+use std::alloc::{AllocError, Global};
+use toml::{Table, Value};
+
+/// The root of a document, and the tables of its two arrays.
+#[derive(Drop)]
+pub struct Document<'a> {
+    pub root: &'a Table,
+    pub stations: Vec<&'a Table>,
+    pub events: Vec<&'a Table>,
+}
+
+impl<'a> Document<'a> {
+    /// Finds the tables; what else stands in the arrays is left out.
+    pub fn new(alloc: Global, root: &'a Table) -> Result<Self, AllocError>
+        ensures { IfOk result (λ document. document_view document ≡ document_of (table_view root.now)) }
+    {
+        let stations = tables_at(alloc, root, "station")?;
+        let events = tables_at(alloc, root, "event")?;
+        Ok(Document {
+            root,
+            stations,
+            events,
+        })
+    }
+
+    /// Whether one of the tables has a fault.
+    pub fn has_fault(&self, fault: Fault) -> bool
+        ensures { result ≡ has_fault_in fault (document_view self.now) }
+    {
+        let version = version_of(self.root);
+        has_fault(fault, &root_keys(version), self.root)
+            || a_station_has_fault(fault, version, &self.stations)
+            || an_event_has_fault(fault, &self.stations, &self.events)
+    }
+
+    /// Why the document is no plan, by the keys and values of its tables.
+    pub fn first_fault(&self) -> Option<PlanReason>
+        ensures { result ≡ first_fault (document_view self.now) }
+    {
+        if self.has_fault(Fault::UnknownKey) {
+            Some(PlanReason::UnknownKey)
+        } else if self.has_fault(Fault::MissingKey) {
+            Some(PlanReason::Missing)
+        } else if self.has_fault(Fault::WrongKind) {
+            Some(PlanReason::Kind)
+        } else if self.has_fault(Fault::OutOfRange) {
+            Some(PlanReason::Range)
+        } else {
+            None
+        }
+    }
+}
+
+// The tables that are elements of the array at a key.
+fn tables_at<'a>(alloc: Global, table: &'a Table, name: &str) -> Result<Vec<&'a Table>, AllocError>
+    ensures { IfOk result (λ tables. tables_view tables.items ≡ tables_at name.now (table_view table.now)) }
+{
+    let elements = elements_at(table, name);
+    let mut tables = Vec::with_capacity(alloc, elements.len())?;
+    for element in elements {
+        if let Some(table) = element.as_table() {
+            tables.push(table)?;
+        }
+    }
+    Ok(tables)
+}
+
+fn a_station_has_fault(fault: Fault, version: Version, stations: &[&Table]) -> bool
+    ensures { result ≡ list_any (λ station. has_fault fault (station_keys version (table_view station.now)) (table_view station.now)) stations.now }
+{
+    stations.iter().any(|station| has_fault(fault, &station_keys(version, station), station))
+}
+
+fn an_event_has_fault(fault: Fault, stations: &[&Table], events: &[&Table]) -> bool
+    ensures { result ≡ list_any (λ event. has_fault fault (event_keys (tables_view stations.now) (table_view event.now)) (table_view event.now)) events.now }
+{
+    events.iter().any(|event| has_fault(fault, &event_keys(stations, event), event))
+}

@@ -1,0 +1,156 @@
+// Reading a text as a plan.
+ghost use Rattle.std.specs.Prelude.{◌≡◌, ℕ, map, IfOk, IfErr, Ok, Some, slice_get};
+ghost use Rattle.toml.specs.Data.{Members};
+ghost use Rattle.toml.specs.View.{table_view};
+ghost use Rattle.lq_plan.specs.Limits.{AreParamsWithin, IsStationWithin};
+ghost use Rattle.lq_plan.specs.Keys.{event_word_in};
+ghost use Rattle.lq_plan.specs.Reading.{IsEventSmall, IsRefusalOf, event_in, kind_as, params_in, plan_from, plan_of, split_in, station_in};
+ghost use Rattle.lq_plan.specs.Tables.{tables_view};
+
+use crate::document::Document;
+use crate::keys::{event_word, len_of, max_len_of};
+use crate::order::is_out_of_order;
+use crate::plan::Plan;
+use crate::refusal::PlanRefusal;
+use crate::values::{EventWord, flag_at, number_at, split_of, text_at};
+use lq_model::{EventKind, EventPlan, Params, PlanReason, Split, StationPlan};
+use std::alloc::{AllocError, Global};
+use toml::Table;
+
+/// The plan that the text is, a TOML document of the keys in docs/FORMATS.md.
+///
+/// # Refused
+///
+/// With the least reason of those that apply to the whole text.
+///
+/// # NoMemory
+///
+/// There was no room for the document, which is as large as the text, or for the plan.
+pub fn read_plan(alloc: Global, text: &[u8]) -> Result<Plan, PlanRefusal>
+    ensures plan { IfOk result (λ plan. plan_of text.now ≡ Ok plan) }
+    ensures refusal { IfErr result (IsRefusalOf (plan_of text.now)) }
+{
+    match toml::table_from_slice(alloc, text) {
+        Ok(root) => read_root(alloc, &root),
+        Err(error) => {
+            if error.is_memory() {
+                Err(PlanRefusal::NoMemory)
+            } else {
+                Err(refused(PlanReason::NotToml))
+            }
+        }
+    }
+}
+
+fn refused(reason: PlanReason) -> PlanRefusal
+    ensures { result ≡ PlanRefusal.Refused reason }
+{
+    PlanRefusal::Refused { reason }
+}
+
+fn read_root(alloc: Global, root: &Table) -> Result<Plan, PlanRefusal>
+    ensures plan { IfOk result (λ plan. plan_from (table_view root.now) ≡ Ok plan) }
+    ensures refusal { IfErr result (IsRefusalOf (plan_from (table_view root.now))) }
+{
+    let document = Document::new(alloc, root)?;
+    if let Some(reason) = document.first_fault() {
+        return Err(refused(reason));
+    }
+    let stations = read_stations(alloc, &document.stations)?;
+    let events = read_events(alloc, &document.events)?;
+    if is_out_of_order(&events) {
+        return Err(refused(PlanReason::EventOrder));
+    }
+    Ok(Plan {
+        senders: number_at(root, "senders", 1) as u32,
+        split: read_split(root),
+        irq_every: number_at(root, "irq_every", 1) as u32,
+        stations,
+        events,
+    })
+}
+
+fn read_split(root: &Table) -> Split
+    ensures { result ≡ split_in (table_view root.now) }
+{
+    match text_at(root, "split") {
+        Some(text) => split_of(text).unwrap_or(Split::Round),
+        None => Split::Round,
+    }
+}
+
+fn read_stations(alloc: Global, stations: &[&Table]) -> Result<Vec<StationPlan>, AllocError>
+    requires { (j : ℕ) (station : Members) → slice_get (tables_view stations.now) j ≡ Some station → IsStationWithin (station_in station) }
+    ensures { IfOk result (λ plans. plans.items ≡ map station_in (tables_view stations.now)) }
+{
+    let mut plans = Vec::with_capacity(alloc, stations.len())?;
+    for station in stations {
+        plans.push(read_station(station))?;
+    }
+    Ok(plans)
+}
+
+fn read_station(station: &Table) -> StationPlan
+    requires { IsStationWithin (station_in (table_view station.now)) }
+    ensures { result ≡ station_in (table_view station.now) }
+{
+    StationPlan {
+        len: len_of(station) as u32,
+        max_len: max_len_of(station) as u32,
+        bypass: flag_at(station, "bypass", true),
+        params: read_params(station),
+    }
+}
+
+fn read_params(table: &Table) -> Params
+    requires { AreParamsWithin (params_in (table_view table.now)) }
+    ensures { result ≡ params_in (table_view table.now) }
+{
+    Params {
+        burst: number_at(table, "burst", 0) as u32,
+        busy_every: number_at(table, "busy_every", 0) as u32,
+        busy_limit: number_at(table, "busy_limit", 0) as u32,
+        hang_after: number_at(table, "hang_after", 0) as u32,
+    }
+}
+
+fn read_events(alloc: Global, events: &[&Table]) -> Result<Vec<EventPlan>, AllocError>
+    requires { (j : ℕ) (event : Members) → slice_get (tables_view events.now) j ≡ Some event → IsEventSmall (event_in event) }
+    ensures { IfOk result (λ plans. plans.items ≡ map event_in (tables_view events.now)) }
+{
+    let mut plans = Vec::with_capacity(alloc, events.len())?;
+    for event in events {
+        plans.push(read_event(event))?;
+    }
+    Ok(plans)
+}
+
+fn read_event(event: &Table) -> EventPlan
+    requires { IsEventSmall (event_in (table_view event.now)) }
+    ensures { result ≡ event_in (table_view event.now) }
+{
+    EventPlan {
+        before: number_at(event, "before", 0) as u32,
+        station: number_at(event, "station", 0) as u32,
+        kind: read_kind(event),
+    }
+}
+
+fn read_kind(event: &Table) -> EventKind
+    requires { IsEventSmall (event_in (table_view event.now)) }
+    ensures { result ≡ kind_as (event_word_in (table_view event.now)) (table_view event.now) }
+{
+    match event_word(event) {
+        Some(EventWord::Up) => EventKind::Up,
+        Some(EventWord::Resize) => EventKind::Resize {
+            len: number_at(event, "len", 1) as u32,
+        },
+        Some(EventWord::TxQueueLen) => EventKind::TxQueueLen {
+            len: number_at(event, "len", 1) as u32,
+        },
+        Some(EventWord::Swap) => EventKind::Swap {
+            params: read_params(event),
+        },
+        Some(EventWord::Down) | None => EventKind::Down,
+    }
+}
