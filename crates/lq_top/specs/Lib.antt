@@ -20,3 +20,7 @@ pub mod Stop
 pub mod Input
 -- a device on its way through a list of packets
 pub mod Sending
+-- the three bands of a station
+pub mod Bands
+-- a station's queue, and the account that it stands for
+pub mod Queue

@@ -10,6 +10,7 @@ mod input;
 pub mod laws;
 mod output;
 mod plan;
+mod queue;
 mod send;
 mod status;
 mod stop;
