@@ -152,7 +152,7 @@ pub fn lqtx<R: Threads + Wait + Sync, H: Host, G: Gate, D: TxDevice>(
             Err(stop) => stop.status(),
         },
         Ok(None) => match refuse(alloc, host, Refusal::Usage) {
-            Ok(status) => status,
+            Ok(answer) => answer,
             Err(stop) => stop.status(),
         },
         Err(NoMemory) => Status::NoMemory,
