@@ -9,7 +9,7 @@ const USAGE: &[u8] =
     b"usage: lqtx run PLAN CAPTURE OUT | lqtx gen NUMBER COUNT OUT | lqtx trace FILE\n";
 
 /// Command lines that aren't of the table, with the program's own name in front.
-const COMMANDS: [&str; 13] = [
+const COMMANDS: [&str; 23] = [
     "lqtx",
     "lqtx run",
     "lqtx run p c",
@@ -18,9 +18,19 @@ const COMMANDS: [&str; 13] = [
     "lqtx run p -c o",
     "lqtx run - c o",
     "lqtx Run p c o",
+    "lqtx p run c o",
     "lqtx -- run p c o",
+    "lqtx run -- p c o",
+    "lqtx run p c --",
+    "lqtx run p c -",
+    "lqtx run p c o --",
+    "lqtx --",
     "lqtx --help",
+    "lqtx -h",
+    "lqtx --version",
+    "lqtx run --help",
     "lqtx help",
+    "lqtx help run",
     "lqtx gen 1 2 g",
     "lqtx trace t",
 ];
@@ -36,6 +46,21 @@ fn tells_how_it_is_called(rt: HostRuntime) -> Result<(), Fail> {
         assert_eq!(rt; status.code(), 2, "{command}");
         assert_eq!(rt; host.output(), USAGE);
         assert!(rt; host.file("o.0.pcap").is_none());
+    }
+    Ok(())
+}
+
+/// `help` and `version` are names of files like any other.
+#[test]
+fn takes_help_and_version_as_names(rt: HostRuntime) -> Result<(), Fail> {
+    let alloc = rt.alloc();
+    let capture = three_frames(alloc)?;
+    for name in ["help", "version"] {
+        let mut host = host_with(alloc, &capture)?;
+        host.put_file(name, PLAN)?;
+        let status = call(&rt, alloc, &["run", name, "c", "o"], &mut host, &Free)?;
+        assert_eq!(rt; status, Status::Done, "{name}");
+        assert_eq!(rt; host.file("o.0.pcap").ok_or("no file")?, &capture[..]);
     }
     Ok(())
 }
