@@ -48,6 +48,7 @@ fn writes_each_capture_as_it_was_read(rt: HostRuntime) -> Result<(), Fail> {
 }
 
 /// A run over one device.
+#[derive(Clone, Copy)]
 struct Row {
     plan: &'static str,
     /// The types of service of its frames.

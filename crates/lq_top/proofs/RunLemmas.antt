@@ -14,7 +14,7 @@ use Rattle.lq_top.specs.Fates.{AreFatesOf}
 use Rattle.lq_top.specs.Headline.{Run, run_of, unit_files, fates_file, texts_of, HasRun}
 use Rattle.lq_top.specs.Outcome.{Ends, EndsOrStops, IsAnswerOf, IsRunStatus, Stops}
 use Rattle.lq_top.specs.Refusal.{status_of}
-use Rattle.lq_top.specs.Written.{FileText, FileIsCut, FilesAreCut, OutputHasPrefix, IsCut, file_written, files_written, written}
+use Rattle.lq_top.specs.Written.{FileIsCut, FilesAreCut, OutputHasPrefix, IsCut, file_written, files_written, written}
 use Rattle.lq_top.specs.declared.refusal.Refusal.{Refusal}
 use Rattle.lq_top.specs.declared.refusal.Refusal.TheVariants as refusal
 use Rattle.lq_top.specs.declared.status.Status.{Status}
