@@ -2,3 +2,5 @@
 pub mod Progress
 -- what the laws of accounts ask, and what they give
 pub mod Accounts
+-- what events, serving and the end come to with one queue
+pub mod OneQueue

@@ -1,11 +1,13 @@
 //! The laws of accounts, each the contract of a function that does nothing.
 ghost use Rattle.std.specs.Prelude.{◌≡◌, ℕ, List, [], ◌<◌, length};
-ghost use Rattle.lq_model.specs.Account.{Account};
+ghost use Rattle.lq_model.specs.Account.{Account, Event};
 ghost use Rattle.lq_model.specs.Plan.{Plan};
 ghost use Rattle.lq_model.specs.Settled.{IsInSenderOrder, IsSentList, IsSettled, IsUnitOf, MeetsEvents};
 ghost use Rattle.lq_model.specs.declared.fate.Fate.{Fate};
 ghost use Rattle.lq_model.specs.declared.fate.Info.{Info};
-ghost use Rattle.lq_account.specs.Accounts.{AreSettledStations};
+ghost use Rattle.lq_account.specs.Accounts.{AreSettledStations, IsClosed, IsSettledStation};
+
+pub mod one_queue;
 
 /// The stations of a plan together: each packet has one fate, each unit's serials are 0 up to the number that it sent,
 /// and each owner's packets of one station and band were sent in ascending number. What the account of a unit's station has
@@ -24,4 +26,12 @@ pub fn settled_stations_settle_all()
 pub fn fates_meet_no_events()
     ensures { (plan : Plan) (infos : List Info) (fates : List Fate) → plan.events ≡ [] → IsSettled plan infos fates
         → MeetsEvents plan infos fates }
+{}
+
+/// The law of accounts: a legal list of events of a station of the plan that leaves nothing held and nothing in hand, in
+/// which all of the plan's events for the station have come, settles the fates of the station's packets, and each owner's
+/// packets of one band were sent in ascending number.
+pub fn law_of_accounts()
+    ensures { (plan : Plan) (infos : List Info) (fates : List Fate) (station : ℕ) (past : List Event) (a : Account)
+        → station < length plan.stations → IsClosed plan infos fates station past a → IsSettledStation plan infos fates station a }
 {}
