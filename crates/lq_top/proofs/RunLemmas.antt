@@ -1,89 +1,159 @@
 -- What a run leaves, from what its calls leave.
-use Rattle.std.proofs.Common.{◌≡◌, ◌⊎◌, ℕ, Bool, true, List, slice_get, Option, Some, None, Result, Ok, IfSome, refl, sym, ap, ◌∙◌, subst, inl, inr, arith}
+use Rattle.std.proofs.Common.{◌≡◌, ◌≢◌, ◌⊎◌, ◌∷◌, [], ℕ, List, length, Option, Some, None, Result, Ok, Err, IfOk, OnOk, OnErr, IfSome, refl, sym, ap, ◌∙◌, subst, inl, inr, ◌≤◌, ◌+◌, ◌-◌, drop, arith}
 use Rattle.std.specs.Option.{option_map}
-use Rattle.lq_model.specs.Capture.{Capture, Refusal, capture_text}
-use Rattle.lq_model.specs.Numbers.{first_numbers}
+use Rattle.std.proofs.lemmas.List.{drop-drop}
+use Rattle.lq_model.specs.Capture.{Capture}
+use Rattle.lq_model.specs.Device.{DeviceState}
+use Rattle.lq_model.specs.Plan.{Plan, infos_of, unit_count}
 use Rattle.lq_model.specs.Texts.{counts_text}
-use Rattle.lq_model.specs.Sent.{sent_of}
-use Rattle.lq_host.specs.Host.{HostState, Contents, filed, wrote}
-use Rattle.lq_top.specs.Headline.{Run, plain_run, plain_infos, all_sent, capture_name, unit_file, IsRun, HasRun}
-use Rattle.lq_top.specs.Written.{FileText, FileHasPrefix, OutputHasPrefix}
-use Rattle.lq_top.specs.Outcome.{Verdict, Runs, Stops, EndsOrStops, verdict_of_run, by_plan, by_capture, is_built_plan, limited_capture_of}
+use Rattle.lq_model.specs.declared.fate.Fate.{Fate}
+use Rattle.lq_model.specs.declared.fate.Info.{Info}
+use Rattle.lq_host.specs.Host.{HostState, Contents, wrote}
 use Rattle.lq_top.specs.Command.{RunWords}
+use Rattle.lq_top.specs.Decision.{Verdict, IsRunnable, max_units, LacksFile, Refuses, Runs, by_capture, by_plan, limited_capture_of, plan_for, verdict_of_run}
+use Rattle.lq_top.specs.Fates.{AreFatesOf}
+use Rattle.lq_top.specs.Headline.{Run, run_of, unit_files, fates_file, texts_of, HasRun}
+use Rattle.lq_top.specs.Outcome.{Ends, EndsOrStops, IsAnswerOf, IsRunStatus, Stops}
+use Rattle.lq_top.specs.Refusal.{status_of}
+use Rattle.lq_top.specs.Written.{FileIsCut, FilesAreCut, OutputHasPrefix, IsCut, file_written, files_written, written}
+use Rattle.lq_top.specs.declared.refusal.Refusal.{Refusal}
+use Rattle.lq_top.specs.declared.refusal.Refusal.TheVariants as refusal
 use Rattle.lq_top.specs.declared.status.Status.{Status}
+use Rattle.lq_top.specs.declared.status.Status.TheVariants as status
 use Rattle.lq_top.specs.declared.stop.Stop.{Stop}
-use Rattle.lq_top.proofs.TextLemmas.{sent-all_sent}
+use Rattle.lq_top.proofs.FileLemmas.{cut_before, cut_next, cut_whole, whole_next}
 
--- the one file of a plain run, and its counts
-abbrev sent_file : List ℕ → Capture → FileText
-sent_file out capture = unit_file (plain_run out capture) (all_sent capture.count) 0
+-- WRITING
 
-abbrev sent_counts : Capture → List ℕ
-sent_counts capture = counts_text (all_sent capture.count) (plain_infos capture.count) 1 1
+abbrev counts_of : Run → List Fate → List ℕ
+counts_of run fates = counts_text fates (infos_of run.plan run.capture) (length run.plan.stations) (unit_count run.plan)
 
-sent_text : (capture : Capture) (text : List ℕ) → text ≡ capture_text capture (first_numbers capture.count) → text ≡ capture_text capture (sent_of (all_sent capture.count) 0)
-sent_text capture text texted = texted ∙ ap (capture_text capture) (sym (sent-all_sent capture.count))
+abbrev counts_by : Run → List Fate → List Info → List ℕ
+counts_by run fates infos = counts_text fates infos (length run.plan.stations) (unit_count run.plan)
 
-made : (s mid : HostState) (name text name' text' : List ℕ) → name ≡ name' → text ≡ text' → mid ≡ filed s name text → mid ≡ filed s name' text'
-made s mid name text name' text' named texted filed_is = filed_is ∙ ap (λ n. filed s n text) named ∙ ap (filed s name') texted
+-- it was stopped in the units' files
+pub stopped_in_units :
+    (run : Run) (fates : List Fate) (units : ℕ) (old new : HostState) → units ≡ unit_count run.plan → FilesAreCut (unit_files run.out run.capture fates units) old new
+    → IsCut (texts_of run fates) old new
+stopped_in_units run fates units old new counted cut =
+    let all = unit_files run.out run.capture fates in
+    inl (cut_before (all (unit_count run.plan)) (fates_file run.out fates ∷ []) old new (subst (λ n. FilesAreCut (all n) old new) counted cut))
 
--- the capture and the counts were written, and the device accepted the packets
-pub has_run :
-    (out : List ℕ) (capture : Capture) (s mid new : HostState) (name text counts : List ℕ) (accepted : List (List ℕ)) → name ≡ capture_name out 0
-    → text ≡ capture_text capture (first_numbers capture.count) → counts ≡ sent_counts capture → mid ≡ filed s name text → new ≡ wrote mid 0 counts
-    → slice_get accepted 0 ≡ Some (first_numbers capture.count) → HasRun (plain_run out capture) s new accepted
-has_run out capture s mid new name text counts accepted named texted counted filed_is wrote_is took =
-    let fates = all_sent capture.count in
-    let run : Run = plain_run out capture in
-    let file = sent_file out capture in
-    let sent = sent-all_sent capture.count in
-    let mid_is : mid ≡ filed s file.name file.text = made s mid name text file.name file.text named (sent_text capture text texted) filed_is in
-    let P : ℕ → Type 0 = λ unit. slice_get accepted unit ≡ Some (sent_of fates unit) in
-    let of_first : P 0 = took ∙ ap Some (sym sent) in
-    let is_run : IsRun run fates s new accepted = record {
-      settled = refl;
-      in_order = sent;
-      devices = λ unit lt. (let first : 0 ≡ unit = omega arith in subst P first of_first);
-      host = wrote_is ∙ ap (λ (m : HostState). wrote m 0 counts) mid_is ∙ ap (wrote (filed s file.name file.text) 0) counted;
-    } in
-    (fates, is_run)
+whole_units :
+    (run : Run) (fates : List Fate) (units : ℕ) (old mid : HostState) → units ≡ unit_count run.plan
+    → mid ≡ files_written old (unit_files run.out run.capture fates units) → mid ≡ files_written old (unit_files run.out run.capture fates (unit_count run.plan))
+whole_units run fates units old mid counted whole = whole ∙ ap (λ n. files_written old (unit_files run.out run.capture fates n)) counted
 
--- it was stopped in the file, or before it
-pub stopped_in_file :
-    (out : List ℕ) (capture : Capture) (s new : HostState) (name text : List ℕ) → name ≡ capture_name out 0 → text ≡ capture_text capture (first_numbers capture.count)
-    → (new ≡ s) ⊎ FileHasPrefix name text s new → Stops (Runs (plain_run out capture)) s new
-stopped_in_file out capture s new name text named texted cut =
-    let file = sent_file out capture in (
-      all_sent capture.count,
-      refl,
-      elim cut [
-        | inl same ↦ inl same
-        | inr part ↦
-            inr (inr (inl (subst (λ (t : List ℕ). FileHasPrefix file.name t s new) (sent_text capture text texted) (subst (λ (n : List ℕ). FileHasPrefix n text s new) named part))))
-      ],
-    )
+-- it was stopped in the file of the fates
+pub stopped_in_fates :
+    (run : Run) (fates : List Fate) (units : ℕ) (old mid new : HostState) → units ≡ unit_count run.plan
+    → mid ≡ files_written old (unit_files run.out run.capture fates units) → FileIsCut (fates_file run.out fates) mid new → IsCut (texts_of run fates) old new
+stopped_in_fates run fates units old mid new counted whole cut =
+    inl (cut_next (unit_files run.out run.capture fates (unit_count run.plan)) (fates_file run.out fates) old mid new (whole_units run fates units old mid counted whole) cut)
 
--- it was stopped in the counts
+-- all files are whole
+whole_files :
+    (run : Run) (fates : List Fate) (units : ℕ) (old mid all : HostState) → units ≡ unit_count run.plan
+    → mid ≡ files_written old (unit_files run.out run.capture fates units) → all ≡ file_written mid (fates_file run.out fates)
+    → all ≡ files_written old (texts_of run fates).files
+whole_files run fates units old mid all counted whole made =
+    whole_next (unit_files run.out run.capture fates (unit_count run.plan)) (fates_file run.out fates) old mid all (whole_units run fates units old mid counted whole) made
+
+-- it was stopped in the counts, or before them
 pub stopped_in_counts :
-    (out : List ℕ) (capture : Capture) (s mid new : HostState) (name text counts : List ℕ) → name ≡ capture_name out 0
-    → text ≡ capture_text capture (first_numbers capture.count) → counts ≡ sent_counts capture → mid ≡ filed s name text → OutputHasPrefix counts mid new
-    → Stops (Runs (plain_run out capture)) s new
-stopped_in_counts out capture s mid new name text counts named texted counted filed_is part =
-    let file = sent_file out capture in
-    let mid_is : mid ≡ filed s file.name file.text = made s mid name text file.name file.text named (sent_text capture text texted) filed_is in (
-      all_sent capture.count,
-      refl,
-      inr (inr (inr (subst (λ (t : List ℕ). OutputHasPrefix t (filed s file.name file.text) new) counted (subst (λ (m : HostState). OutputHasPrefix counts m new) mid_is part)))),
+    (run : Run) (fates : List Fate) (infos : List Info) (units : ℕ) (old mid all new : HostState) → infos ≡ infos_of run.plan run.capture → units ≡ unit_count run.plan
+    → mid ≡ files_written old (unit_files run.out run.capture fates units) → all ≡ file_written mid (fates_file run.out fates)
+    → (new ≡ all) ⊎ OutputHasPrefix (counts_by run fates infos) all new → IsCut (texts_of run fates) old new
+stopped_in_counts run fates infos units old mid all new known counted whole made cut =
+    let files = (texts_of run fates).files in
+    let all_is : all ≡ files_written old files = whole_files run fates units old mid all counted whole made in
+    elim cut [
+      | inl same ↦ inl (cut_whole files old new (same ∙ all_is))
+      | inr part ↦
+          inr (subst (λ (is : List Info). OutputHasPrefix (counts_by run fates is) (files_written old files) new) known (subst (λ (s : HostState). OutputHasPrefix (counts_by run fates infos) s new) all_is part))
+    ]
+
+-- all is written
+pub all_written :
+    (run : Run) (fates : List Fate) (infos : List Info) (units : ℕ) (old mid all new : HostState) → infos ≡ infos_of run.plan run.capture → units ≡ unit_count run.plan
+    → mid ≡ files_written old (unit_files run.out run.capture fates units) → all ≡ file_written mid (fates_file run.out fates)
+    → new ≡ wrote all 0 (counts_by run fates infos) → new ≡ written (texts_of run fates) old
+all_written run fates infos units old mid all new known counted whole made done =
+    done ∙ ap (λ (s : HostState). wrote s 0 (counts_by run fates infos)) (whole_files run fates units old mid all counted whole made)
+    ∙ ap (λ (is : List Info). wrote (files_written old (texts_of run fates).files) 0 (counts_by run fates is)) known
+
+-- RUNS
+
+-- a run that is done: `given` are the fates as they were lent
+pub has_run :
+    (run : Run) (infos : List Info) (fates given : List Fate) (old new : HostState) (before behind : List DeviceState) → infos ≡ infos_of run.plan run.capture → given ≡ fates
+    → AreFatesOf run.plan infos fates before behind → new ≡ written (texts_of run given) old → HasRun run old new before behind
+has_run run infos fates given old new before behind known same are done =
+    (fates, subst (λ (is : List Info). AreFatesOf run.plan is fates before behind) known are, done ∙ ap (λ (fs : List Fate). written (texts_of run fs) old) same)
+
+-- a run that was stopped while it wrote
+pub run_stops :
+    (run : Run) (infos : List Info) (fates given : List Fate) (old new : HostState) (before behind : List DeviceState) → infos ≡ infos_of run.plan run.capture → given ≡ fates
+    → AreFatesOf run.plan infos fates before behind → IsCut (texts_of run given) old new → Stops (Runs run) old new before behind
+run_stops run infos fates given old new before behind known same are cut =
+    inr (
+      fates,
+      subst (λ (is : List Info). AreFatesOf run.plan is fates before behind) known are,
+      subst (λ (fs : List Fate). IsCut (texts_of run fs) old new) same cut,
     )
+
+-- what a run answers and leaves, by whether it was stopped
+pub run_does :
+    (run : Run) (old new : HostState) (before behind : List DeviceState) (r : Result Status Stop) → IfOk r (λ answer. answer ≡ status.Done) → OnOk r (HasRun run old new before behind)
+    → OnErr r (Stops (Runs run) old new before behind) → EndsOrStops (Runs run) old new before behind r
+run_does run old new before behind (Ok answer) is done stopped = (is, done)
+run_does run old new before behind (Err stop) is done stopped = stopped
+
+-- DECISIONS
 
 -- what was done as the run of a capture was decided so
 pub does_run :
-    (told : Option Contents) (words : RunWords) (capture : Capture) (old new : HostState) (accepted : List (List ℕ)) (r : Result Status Stop) (built : Bool) (read : Result Capture Refusal) → built ≡ true
-    → read ≡ Ok capture → IfSome told (λ c. option_map is_built_plan (c.files words.plan) ≡ Some built)
-    → IfSome told (λ c. option_map limited_capture_of (c.files words.capture) ≡ Some read) → EndsOrStops (Runs (plain_run words.out capture)) old new accepted r
-    → IfSome told (λ c. EndsOrStops (verdict_of_run words c.files) old new accepted r)
-does_run None words capture old new accepted r built read is_built is_read plan form does = _
-does_run (Some c) words capture old new accepted r built read is_built is_read plan form does =
-    let decided : verdict_of_run words c.files ≡ Runs (plain_run words.out capture) =
-    ap (λ b. by_plan b (by_capture words.out (option_map limited_capture_of (c.files words.capture)))) (plan ∙ ap Some is_built) ∙ ap (by_capture words.out) (form ∙ ap Some is_read) in
-    subst (λ (v : Verdict). EndsOrStops v old new accepted r) (sym decided) does
+    (told : Option Contents) (words : RunWords) (have : ℕ) (plan : Plan) (capture : Capture) (read : Result Plan Refusal) (seen : Result Capture Refusal) (P : Verdict → Type 0)
+    → read ≡ Ok plan → seen ≡ Ok capture → IfSome told (λ c. option_map (plan_for have) (c.files words.plan) ≡ Some read)
+    → IfSome told (λ c. option_map limited_capture_of (c.files words.capture) ≡ Some seen) → P (Runs (run_of words.out plan capture))
+    → IfSome told (λ c. P (verdict_of_run words c.files have))
+does_run None words have plan capture read seen P is_read is_seen first second does = _
+does_run (Some c) words have plan capture read seen P is_read is_seen first second does =
+    let next : Plan → Verdict = λ p. by_capture words.out p (option_map limited_capture_of (c.files words.capture)) in
+    let decided : verdict_of_run words c.files have ≡ Runs (run_of words.out plan capture) =
+    ap (λ (r : Option (Result Plan Refusal)). by_plan r next) (first ∙ ap Some is_read) ∙ ap (by_capture words.out plan) (second ∙ ap Some is_seen) in
+    subst P (sym decided) does
+
+-- a refusal of a file is no Usage
+pub run_status : (r : Refusal) → r ≢ refusal.Usage → IsRunStatus (status_of r)
+run_status refusal.Usage other = absurd (other refl)
+run_status (refusal.Plan reason) other = _
+run_status (refusal.Bench need have) other = _
+run_status refusal.NotBuilt other = _
+run_status (refusal.Capture reason place) other = _
+
+-- what is as it was from place m on is so from any later place on
+drop_later : {X : Type 0} (m n : ℕ) (old new : List X) → m ≤ n → drop m new ≡ drop m old → drop n new ≡ drop n old
+drop_later m n old new le same =
+    let rest : m + (n - m) ≡ n = omega arith in
+    ap (λ k. drop k new) (sym rest) ∙ sym (drop-drop (n - m) m new) ∙ ap (drop (n - m)) same ∙ drop-drop (n - m) m old ∙ ap (λ k. drop k old) rest
+
+-- the devices beyond those that a plan may need are as they were
+pub beyond_units :
+    {X : Type 0} (have : ℕ) (plan : Plan) (read : Result Plan Refusal) (old new : List X) → read ≡ Ok plan → IfOk read (IsRunnable have)
+    → drop (unit_count plan) new ≡ drop (unit_count plan) old → drop max_units new ≡ drop max_units old
+beyond_units have plan read old new is_read runnable same =
+    let is : IsRunnable have plan = subst (λ (r : Result Plan Refusal). IfOk r (IsRunnable have)) is_read runnable in
+    drop_later (unit_count plan) max_units old new is.few same
+
+-- what came to its end answers what was decided
+answered : (v : Verdict) (old new : HostState) (before behind : List DeviceState) (answer : Status) → Ends v old new before behind answer → IsAnswerOf v answer
+answered LacksFile old new before behind answer ends = absurd ends
+answered (Refuses r) old new before behind answer ends = inl ends.0
+answered (Runs run) old new before behind answer ends = inl ends.0
+
+pub all_answered :
+    (told : Option Contents) (v : Contents → Verdict) (old new : HostState) (before behind : List DeviceState) (answer : Status)
+    → IfSome told (λ c. Ends (v c) old new before behind answer) → IfSome told (λ c. IsAnswerOf (v c) answer)
+all_answered None v old new before behind answer ends = _
+all_answered (Some c) v old new before behind answer ends = answered (v c) old new before behind answer ends

@@ -8,9 +8,11 @@ pub mod Written
 pub mod Command
 -- the command table as clap reads it
 pub mod Forms
--- the lines of refused captures
+-- the statuses and the lines of refusals
 pub mod Refusal
--- what a call decides from its words and files, answers and leaves
+-- what a call decides from its words, its files and its bench
+pub mod Decision
+-- what it answers and leaves
 pub mod Outcome
 -- the numbers of statuses
 pub mod Status

@@ -1,42 +1,92 @@
--- Refused captures, and their lines.
-use Rattle.std.specs.Prelude.{ℕ, List, [], ◌∷◌, ◌++◌, Result, Ok, Err, codes}
+-- Refusals: their statuses and their lines.
+use Rattle.std.specs.Prelude.{ℕ, List, [], ◌∷◌, ◌++◌, codes}
 use Rattle.std.specs.Fmt.{decimal}
-use Rattle.lq_model.specs.Capture.{Capture, Refusal}
 use Rattle.lq_model.specs.declared.capture.CaptureReason.{CaptureReason}
-use Rattle.lq_model.specs.declared.capture.CaptureReason.TheVariants.{ShortHeader, Magic, Version, CutRecordHeader, LongRecord, CutData, TooMany, TooLong}
-use Rattle.lq_top.specs.declared.capture.Refusal.{Refusal as Refused}
+use Rattle.lq_model.specs.declared.capture.CaptureReason.TheVariants as capture
+use Rattle.lq_model.specs.declared.plan.PlanReason.{PlanReason}
+use Rattle.lq_model.specs.declared.plan.PlanReason.TheVariants as plan
+use Rattle.lq_top.specs.declared.refusal.Refusal.{Refusal}
+use Rattle.lq_top.specs.declared.refusal.Refusal.TheVariants.{Usage, Plan, Bench, NotBuilt, Capture}
+use Rattle.lq_top.specs.declared.status.Status.{Status}
+use Rattle.lq_top.specs.declared.status.Status.TheVariants as status
 
-abbrev pub reason_number : CaptureReason → ℕ
-reason_number ShortHeader = 1
-reason_number Magic = 2
-reason_number Version = 3
-reason_number CutRecordHeader = 4
-reason_number LongRecord = 5
-reason_number CutData = 6
-reason_number TooMany = 7
-reason_number TooLong = 9
+-- REASONS
 
-abbrev pub reason_name : CaptureReason → List ℕ
-reason_name ShortHeader = codes "ShortHeader"
-reason_name Magic = codes "Magic"
-reason_name Version = codes "Version"
-reason_name CutRecordHeader = codes "CutRecordHeader"
-reason_name LongRecord = codes "LongRecord"
-reason_name CutData = codes "CutData"
-reason_name TooMany = codes "TooMany"
-reason_name TooLong = codes "TooLong"
+abbrev pub plan_reason_number : PlanReason → ℕ
+plan_reason_number plan.NotToml = 1
+plan_reason_number plan.UnknownKey = 2
+plan_reason_number plan.Missing = 3
+plan_reason_number plan.Kind = 4
+plan_reason_number plan.Range = 5
+plan_reason_number plan.EventOrder = 6
+plan_reason_number plan.TooLong = 8
+
+abbrev pub plan_reason_name : PlanReason → List ℕ
+plan_reason_name plan.NotToml = codes "NotToml"
+plan_reason_name plan.UnknownKey = codes "UnknownKey"
+plan_reason_name plan.Missing = codes "Missing"
+plan_reason_name plan.Kind = codes "Kind"
+plan_reason_name plan.Range = codes "Range"
+plan_reason_name plan.EventOrder = codes "EventOrder"
+plan_reason_name plan.TooLong = codes "TooLong"
+
+abbrev pub capture_reason_number : CaptureReason → ℕ
+capture_reason_number capture.ShortHeader = 1
+capture_reason_number capture.Magic = 2
+capture_reason_number capture.Version = 3
+capture_reason_number capture.CutRecordHeader = 4
+capture_reason_number capture.LongRecord = 5
+capture_reason_number capture.CutData = 6
+capture_reason_number capture.TooMany = 7
+capture_reason_number capture.TooLong = 9
+
+abbrev pub capture_reason_name : CaptureReason → List ℕ
+capture_reason_name capture.ShortHeader = codes "ShortHeader"
+capture_reason_name capture.Magic = codes "Magic"
+capture_reason_name capture.Version = codes "Version"
+capture_reason_name capture.CutRecordHeader = codes "CutRecordHeader"
+capture_reason_name capture.LongRecord = codes "LongRecord"
+capture_reason_name capture.CutData = codes "CutData"
+capture_reason_name capture.TooMany = codes "TooMany"
+capture_reason_name capture.TooLong = codes "TooLong"
+
+-- LINES
+
+-- usage: lqtx run PLAN CAPTURE OUT | ..
+abbrev pub usage_line : List ℕ
+usage_line = codes "usage: lqtx run PLAN CAPTURE OUT | lqtx gen NUMBER COUNT OUT | lqtx trace FILE" ++ 10 ∷ []
+
+-- plan refused: NUMBER NAME
+abbrev pub plan_line : PlanReason → List ℕ
+plan_line reason = codes "plan refused: " ++ (decimal (plan_reason_number reason) ++ (codes " " ++ (plan_reason_name reason ++ 10 ∷ [])))
+
+-- bench refused: needs NEED units, has HAVE
+abbrev pub bench_line : ℕ → ℕ → List ℕ
+bench_line need have = codes "bench refused: needs " ++ (decimal need ++ (codes " units, has " ++ (decimal have ++ 10 ∷ [])))
+
+-- not built: plan
+abbrev pub not_built_line : List ℕ
+not_built_line = codes "not built: plan" ++ 10 ∷ []
 
 -- capture refused: NUMBER NAME at PLACE
-abbrev pub capture_line : Refusal → List ℕ
-capture_line refusal =
+abbrev pub capture_line : CaptureReason → ℕ → List ℕ
+capture_line reason place =
     codes "capture refused: "
-    ++ (decimal (reason_number refusal.reason) ++ (codes " " ++ (reason_name refusal.reason ++ (codes " at " ++ (decimal refusal.place ++ 10 ∷ [])))))
+    ++ (decimal (capture_reason_number reason) ++ (codes " " ++ (capture_reason_name reason ++ (codes " at " ++ (decimal place ++ 10 ∷ [])))))
 
--- a refusal as the definitions have it
-abbrev pub refusal_of : Refused → Refusal
-refusal_of refused = record { reason = refused.reason; place = refused.place }
+-- the line on standard output that tells a refusal
+abbrev pub line_of : Refusal → List ℕ
+line_of Usage = usage_line
+line_of (Plan reason) = plan_line reason
+line_of (Bench need have) = bench_line need have
+line_of NotBuilt = not_built_line
+line_of (Capture reason place) = capture_line reason place
 
--- what was read, as the definitions have it
-abbrev pub seen : Result Capture Refused → Result Capture Refusal
-seen (Ok capture) = Ok capture
-seen (Err refused) = Err (refusal_of refused)
+-- STATUSES
+
+abbrev pub status_of : Refusal → Status
+status_of Usage = status.Usage
+status_of (Plan reason) = status.Plan reason
+status_of (Bench need have) = status.Bench need have
+status_of NotBuilt = status.NotBuilt
+status_of (Capture reason place) = status.Capture reason place

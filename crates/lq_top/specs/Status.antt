@@ -1,12 +1,14 @@
 -- The numbers of statuses.
 use Rattle.std.specs.Prelude.{ℕ}
 use Rattle.lq_top.specs.declared.status.Status.{Status}
-use Rattle.lq_top.specs.declared.status.Status.TheVariants.{Done, Usage, Capture, Fault, NoMemory, NotBuilt}
+use Rattle.lq_top.specs.declared.status.Status.TheVariants.{Done, Usage, Plan, Bench, Capture, Fault, NoMemory, NotBuilt}
 
 -- the exit status of the program
 abbrev pub code_of : Status → ℕ
 code_of Done = 0
 code_of Usage = 2
+code_of (Plan reason) = 3
+code_of (Bench need have) = 3
 code_of (Capture reason place) = 4
 code_of Fault = 5
 code_of NoMemory = 6

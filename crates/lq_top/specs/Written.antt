@@ -18,14 +18,18 @@ output_only text = record { files = []; output = text }
 
 -- WHOLE
 
--- the host where each of these files has its text, and all else is as it was
-abbrev pub filed_all : List FileText → HostState → HostState
-filed_all [] host = host
-filed_all (file ∷ files) host = filed_all files (filed host file.name file.text)
+-- the host where a file has its text, and all else is as it was
+abbrev pub file_written : HostState → FileText → HostState
+file_written host file = filed host file.name file.text
+
+-- the same of each of these files
+abbrev pub files_written : HostState → List FileText → HostState
+files_written host [] = host
+files_written host (file ∷ files) = files_written (file_written host file) files
 
 -- the host where all was written, and all else is as it was
 abbrev pub written : Texts → HostState → HostState
-written texts host = wrote (filed_all texts.files host) 0 texts.output
+written texts host = wrote (files_written host texts.files) 0 texts.output
 
 -- CUT
 
@@ -37,13 +41,17 @@ FileHasPrefix name text old new = (n : ℕ) × (n ≤ length text) × (new ≡ f
 abbrev pub OutputHasPrefix : List ℕ → HostState → HostState → Type 0
 OutputHasPrefix text old new = (n : ℕ) × (n ≤ length text) × (new ≡ wrote old 0 (take n text))
 
--- Some of these files are whole; the next one is as before or has a prefix of its text, and those behind it are as before.
--- Where all files are whole, standard output got a prefix of its text. All else is as it was.
-abbrev pub IsCutIn : List FileText → List ℕ → HostState → HostState → Type 0
-IsCutIn [] output old new = OutputHasPrefix output old new
-IsCutIn (file ∷ files) output old new =
-    (new ≡ old) ⊎ (FileHasPrefix file.name file.text old new ⊎ IsCutIn files output (filed old file.name file.text) new)
+-- the file is as before, or has a prefix of its text; all else is as it was
+abbrev pub FileIsCut : FileText → HostState → HostState → Type 0
+FileIsCut file old new = (new ≡ old) ⊎ FileHasPrefix file.name file.text old new
 
--- the host where writing was stopped before it began or on its way
+-- Some of these files are whole; the next one, if there is one, is as before or has a prefix of its text, and those
+-- behind it are as before, as is all else.
+abbrev pub FilesAreCut : List FileText → HostState → HostState → Type 0
+FilesAreCut [] old new = new ≡ old
+FilesAreCut (file ∷ files) old new = FileIsCut file old new ⊎ FilesAreCut files (file_written old file) new
+
+-- The host where writing was stopped: on its way through the files or before it; or all of them are whole, and standard
+-- output got a prefix of its text.
 abbrev pub IsCut : Texts → HostState → HostState → Type 0
-IsCut texts old new = (new ≡ old) ⊎ IsCutIn texts.files texts.output old new
+IsCut texts old new = FilesAreCut texts.files old new ⊎ OutputHasPrefix texts.output (files_written old texts.files) new

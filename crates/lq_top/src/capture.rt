@@ -1,11 +1,11 @@
 //! The capture that a file is, or why it is refused.
-ghost use Rattle.std.specs.Prelude.{◌≡◌, ◌≢◌, ◌≤◌, Err, vec_len, IfOk, IfSome, Some};
+ghost use Rattle.std.specs.Prelude.{◌≡◌, ◌≢◌, ◌≤◌, Err, vec_len, IfErr, IfOk, IfSome, Some};
 ghost use Rattle.std.specs.Option.{option_map};
-ghost use Rattle.lq_top.specs.Outcome.{limited_capture_of};
-ghost use Rattle.lq_top.specs.Refusal.{seen};
+ghost use Rattle.lq_top.specs.Decision.{limited_capture_of};
 ghost use Rattle.lq_top.specs.Stop.{StopsFor};
 
 use crate::input::{Input, read_file};
+use crate::refusal::Refusal;
 use crate::stop::Stop;
 use lq_host::Host;
 use lq_pcap::{Capture, CaptureReason, CaptureRefusal, read_capture};
@@ -14,22 +14,18 @@ use std::alloc::Global;
 /// Bytes of a capture.
 const MAX_CAPTURE: usize = 67_108_864;
 
-/// The first test that bytes fail, and where.
-#[derive(Clone, Copy, Debug, PartialEq, Eq)]
-pub struct Refusal {
-    pub reason: CaptureReason,
-    pub place: u64,
-}
-
 /// The capture that bytes are, or why they aren't one.
 fn capture_in(alloc: Global, bytes: Vec<u8>) -> Result<Result<Capture, Refusal>, Stop>
     requires { vec_len bytes ≤ 67108864 }
-    ensures capture { IfOk result (λ read. seen read ≡ limited_capture_of bytes.items) }
+    ensures capture { IfOk result (λ read. read ≡ limited_capture_of bytes.items) }
+    ensures not_usage { IfOk result (λ read. IfErr read (λ refusal. refusal ≢ Refusal.Usage)) }
     ensures no_fault { result ≢ Err Stop.Fault }
 {
     match read_capture(alloc, bytes) {
         Ok(capture) => Ok(Ok(capture)),
-        Err(CaptureRefusal::Refused { reason, place }) => Ok(Err(Refusal { reason, place })),
+        Err(CaptureRefusal::Refused { reason, place }) => {
+            Ok(Err(Refusal::Capture { reason, place }))
+        }
         Err(CaptureRefusal::NoMemory) => Err(Stop::NoMemory),
     }
 }
@@ -41,13 +37,14 @@ pub fn read_capture_file<H: Host>(
     name: &str,
 ) -> Result<Result<Capture, Refusal>, Stop>
     ensures capture { IfOk result (λ read. IfSome (H.state host.old).told (λ c.
-        option_map limited_capture_of (c.files name.now) ≡ Some (seen read))) }
+        option_map limited_capture_of (c.files name.now) ≡ Some read)) }
+    ensures not_usage { IfOk result (λ read. IfErr read (λ refusal. refusal ≢ Refusal.Usage)) }
     ensures same { H.state host.new ≡ H.state host.old }
     ensures cause { StopsFor (H.fault_count host.old) (H.fault_count host.new) result }
 {
     match read_file(alloc, host, name, MAX_CAPTURE)? {
         Input::Whole(bytes) => capture_in(alloc, bytes),
-        Input::TooLong => Ok(Err(Refusal {
+        Input::TooLong => Ok(Err(Refusal::Capture {
             reason: CaptureReason::TooLong,
             place: MAX_CAPTURE as u64,
         })),

@@ -5,12 +5,14 @@
 
 mod capture;
 mod command;
+mod files;
 mod gate;
 mod input;
 pub mod laws;
 mod output;
 mod plan;
 mod queue;
+mod refusal;
 mod send;
 mod status;
 mod stop;

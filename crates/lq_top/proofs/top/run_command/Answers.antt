@@ -1,19 +1,28 @@
-use Rattle.std.proofs.Common.{◌≡◌, ◌∙◌, ap, subst, Err, IfSome, Some, map, rules}
+use Rattle.std.proofs.Common.{◌≡◌, ◌∙◌, IfSome, Some, map, subst, vec_len}
 use Rattle.std.specs.Option.{option_map}
 use Rattle.lq_host.specs.Host.{HostState}
 use Rattle.lq_top.specs.Command.{run_words}
-use Rattle.lq_top.specs.Headline.{plain_run}
-use Rattle.lq_top.specs.Outcome.{Runs, Stops, limited_capture_of}
-use Rattle.lq_top.specs.Refusal.{seen}
-use Rattle.lq_top.proofs.RunLemmas.{does_run}
+use Rattle.lq_top.specs.Decision.{Runs, limited_capture_of, plan_for}
+use Rattle.lq_top.specs.Headline.{run_of}
+use Rattle.lq_top.specs.Outcome.{EndsOrStops}
+use Rattle.lq_top.proofs.RunLemmas.{beyond_units, does_run, run_does}
 use Rattle.lq_top.proofs.top.run_command.Goals as goal
 
-pub returns-in-Ok-clause-does : goal.returns-in-Ok-clause-does
-returns-in-Ok-clause-does g c =
+pub returns-in-Ok-2-clause-does : goal.returns-in-Ok-2-clause-does
+returns-in-Ok-2-clause-does g c =
     let old : HostState = g.H.Host.state c.args.host.now in
-    let first : g.H.Host.state c.has_built_plan.new.host ≡ old = c.in_ok-has_built_plan.ensures.same in
-    does_run old.told (run_words c.args.words.now) c.in-Ok.capture old (g.H.Host.state c.run_capture.new.host) (map (λ d. (g.D.TxDevice.state d).accepted) c.run_capture.new.bench.items) (Err c.in-Err-run_capture.stop)
-    c.in_ok-has_built_plan.field-0 (seen c.in_ok-capture.field-0) (search rules) (ap seen c.in-Ok.is) c.in_ok-has_built_plan.ensures.plan
-    (subst (λ (s : HostState). IfSome s.told (λ d. option_map limited_capture_of (d.files c.args.words.now.capture.now) ≡ Some (seen c.in_ok-capture.field-0))) first c.in_ok-capture.ensures.capture)
-    (subst (λ (s : HostState). Stops (Runs (plain_run c.args.words.now.out.now c.in-Ok.capture)) s (g.H.Host.state c.run_capture.new.host)) (c.in_ok-capture.ensures.same ∙ first)
-    c.in-Err-run_capture.ensures.err)
+    let new : HostState = g.H.Host.state c.run_capture.new.host in
+    let run = run_of c.args.words.now.out.now c.in-Ok.plan c.in-Ok-2.capture in
+    let before = map g.D.TxDevice.state c.args.bench.now.items in
+    let behind = map g.D.TxDevice.state c.run_capture.new.bench.items in
+    let first : g.H.Host.state c.read_plan_file.new.host ≡ old = c.in_ok-plan.ensures.same in
+    does_run old.told (run_words c.args.words.now) (vec_len c.args.bench.now) c.in-Ok.plan c.in-Ok-2.capture c.in_ok-plan.field-0 c.in_ok-capture.field-0
+    (λ v. EndsOrStops v old new before behind c.run_capture.result) c.in-Ok.is c.in-Ok-2.is
+    (subst (λ n. IfSome old.told (λ d. option_map (plan_for n) (d.files c.args.words.now.plan.now) ≡ Some c.in_ok-plan.field-0)) c.len.ensures c.in_ok-plan.ensures.plan)
+    (subst (λ (s : HostState). IfSome s.told (λ d. option_map limited_capture_of (d.files c.args.words.now.capture.now) ≡ Some c.in_ok-capture.field-0)) first c.in_ok-capture.ensures.capture)
+    (subst (λ (s : HostState). EndsOrStops (Runs run) s new before behind c.run_capture.result) (c.in_ok-capture.ensures.same ∙ first)
+    (run_does run (g.H.Host.state c.read_capture_file.new.host) new before behind c.run_capture.result c.run_capture.ensures.answer c.run_capture.ensures.ok c.run_capture.ensures.err))
+
+pub returns-in-Ok-2-clause-beyond : goal.returns-in-Ok-2-clause-beyond
+returns-in-Ok-2-clause-beyond g c =
+    beyond_units c.len.result c.in-Ok.plan c.in_ok-plan.field-0 c.args.bench.now.items c.run_capture.new.bench.items c.in-Ok.is c.in_ok-plan.ensures.runnable c.run_capture.ensures.others

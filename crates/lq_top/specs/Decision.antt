@@ -1,0 +1,97 @@
+-- What a call decides from its words, its files and the number of devices on its bench.
+use Rattle.std.specs.Prelude.{◌≡◌, ◌≤◌, ℕ, Bool, nat_lt, ◌==◌, ◌&&◌, if◌then◌else◌, List, [], length, Option, Some, None, Result, Ok, Err}
+use Rattle.std.specs.Option.{option_map}
+use Rattle.lq_model.specs.Capture.{Capture, Refusal as CaptureRefusal, capture_of}
+use Rattle.lq_model.specs.Plan.{Plan, unit_count}
+use Rattle.lq_model.specs.declared.capture.CaptureReason.TheVariants as capture
+use Rattle.lq_model.specs.declared.plan.PlanReason.{PlanReason}
+use Rattle.lq_model.specs.declared.plan.PlanReason.TheVariants as plan
+use Rattle.lq_plan.specs.Reading.{plan_of}
+use Rattle.lq_host.specs.Host.{Files}
+use Rattle.lq_top.specs.Command.{RunWords, command_of}
+use Rattle.lq_top.specs.Headline.{Run, run_of}
+use Rattle.lq_top.specs.declared.refusal.Refusal.{Refusal}
+use Rattle.lq_top.specs.declared.refusal.Refusal.TheVariants as refusal
+
+-- PLANS
+
+-- the plan that bytes are; more than 65,536 bytes are none, whatever they are
+abbrev pub limited_plan_of : List ℕ → Result Plan PlanReason
+limited_plan_of bytes = if nat_lt 65536 (length bytes) then Err plan.TooLong else plan_of bytes
+
+-- one sender, and no events
+abbrev pub is_built : Plan → Bool
+is_built p = p.senders == 1 && length p.events == 0
+
+-- an accepted plan on a bench of so many devices: it may need more of them, and not every plan is built
+abbrev pub placed_on : ℕ → Plan → Result Plan Refusal
+placed_on have p = if nat_lt have (unit_count p) then Err (refusal.Bench (unit_count p) have) else if is_built p then Ok p else Err refusal.NotBuilt
+
+abbrev pub placed_if_read : ℕ → Result Plan PlanReason → Result Plan Refusal
+placed_if_read have (Err reason) = Err (refusal.Plan reason)
+placed_if_read have (Ok p) = placed_on have p
+
+-- the plan that is run on a bench of so many devices, or the refusal
+abbrev pub plan_for : ℕ → List ℕ → Result Plan Refusal
+plan_for have bytes = placed_if_read have (limited_plan_of bytes)
+
+-- no plan needs more devices: it has at most 8 stations and 64 swaps
+abbrev pub max_units : ℕ
+max_units = 72
+
+-- what is known of a plan that is run
+pub record IsRunnable (have : ℕ) (p : Plan) : Type 0 where
+  pub one_sender : p.senders ≡ 1
+  pub no_events : p.events ≡ []
+  pub units : unit_count p ≤ have
+  pub few : unit_count p ≤ max_units
+
+-- CAPTURES
+
+abbrev pub too_long_a_capture : Refusal
+too_long_a_capture = refusal.Capture capture.TooLong 67108864
+
+abbrev pub with_refusal : Result Capture CaptureRefusal → Result Capture Refusal
+with_refusal (Ok c) = Ok c
+with_refusal (Err r) = Err (refusal.Capture r.reason r.place)
+
+-- the capture that bytes are, or the refusal; more than 67,108,864 bytes are none, whatever they are
+abbrev pub limited_capture_of : List ℕ → Result Capture Refusal
+limited_capture_of bytes = if nat_lt 67108864 (length bytes) then Err too_long_a_capture else with_refusal (capture_of bytes)
+
+-- THE DECISION
+
+-- what a call is to do: give up where a file isn't there, tell a refusal, or run a capture under a plan
+pub data Verdict : Type 0 where
+  LacksFile : Verdict
+  Refuses : Refusal → Verdict
+  Runs : Run → Verdict
+
+-- first the words are judged, then the plan and the bench, then the capture
+abbrev pub by_capture : List ℕ → Plan → Option (Result Capture Refusal) → Verdict
+by_capture out p None = LacksFile
+by_capture out p (Some (Err r)) = Refuses r
+by_capture out p (Some (Ok c)) = Runs (run_of out p c)
+
+abbrev pub by_plan : Option (Result Plan Refusal) → (Plan → Verdict) → Verdict
+by_plan None next = LacksFile
+by_plan (Some (Err r)) next = Refuses r
+by_plan (Some (Ok p)) next = next p
+
+abbrev pub verdict_of_run : RunWords → Files → ℕ → Verdict
+verdict_of_run words files have =
+    by_plan (option_map (plan_for have) (files words.plan)) (λ p. by_capture words.out p (option_map limited_capture_of (files words.capture)))
+
+abbrev pub by_command : Option RunWords → Files → ℕ → Verdict
+by_command None files have = Refuses refusal.Usage
+by_command (Some words) files have = verdict_of_run words files have
+
+-- `have` is the number of devices on the bench
+abbrev pub verdict_of : List (List ℕ) → Files → ℕ → Verdict
+verdict_of words files have = by_command (command_of words) files have
+
+-- how many devices it may change, the first ones of the bench
+abbrev pub units_of : Verdict → ℕ
+units_of LacksFile = 0
+units_of (Refuses r) = 0
+units_of (Runs run) = unit_count run.plan

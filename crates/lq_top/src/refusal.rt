@@ -1,0 +1,128 @@
+//! Why a call is refused before anything is sent, and the line that tells it.
+ghost use Rattle.std.specs.Prelude.{◌≡◌, IfOk, string_bytes};
+ghost use Rattle.lq_top.specs.Refusal.{bench_line, capture_line, capture_reason_name, capture_reason_number, line_of, not_built_line, plan_line, plan_reason_name, plan_reason_number, status_of, usage_line};
+
+use crate::status::Status;
+use lq_model::{CaptureReason, PlanReason};
+use std::alloc::{AllocError, Global};
+
+/// Why a call is refused: the first cause, in the order in which it judges its words, its plan, its bench and its
+/// capture.
+#[derive(Clone, Copy, Debug, PartialEq, Eq)]
+pub enum Refusal {
+    /// The words aren't a command.
+    Usage,
+    /// The plan's bytes are refused.
+    Plan(PlanReason),
+    /// The plan needs more units than the bench has.
+    Bench { need: u32, have: u32 },
+    /// The plan has a form that isn't built.
+    NotBuilt,
+    /// The capture's bytes are refused: the first test that they fail, and where.
+    Capture { reason: CaptureReason, place: u64 },
+}
+
+impl Refusal {
+    /// The status with which the call ends.
+    pub fn status(self) -> Status
+        ensures { result ≡ status_of self }
+    {
+        match self {
+            Refusal::Usage => Status::Usage,
+            Refusal::Plan(reason) => Status::Plan(reason),
+            Refusal::Bench { need, have } => Status::Bench { need, have },
+            Refusal::NotBuilt => Status::NotBuilt,
+            Refusal::Capture { reason, place } => Status::Capture { reason, place },
+        }
+    }
+
+    /// The line that tells it on standard output.
+    pub fn line(self, alloc: Global) -> Result<String, AllocError>
+        ensures { IfOk result (λ line. string_bytes line ≡ line_of self) }
+    {
+        match self {
+            Refusal::Usage => line_of_usage(alloc),
+            Refusal::Plan(reason) => line_of_plan(alloc, reason),
+            Refusal::Bench { need, have } => line_of_bench(alloc, need, have),
+            Refusal::NotBuilt => line_of_not_built(alloc),
+            Refusal::Capture { reason, place } => line_of_capture(alloc, reason, place),
+        }
+    }
+}
+
+fn line_of_usage(alloc: Global) -> Result<String, AllocError>
+    ensures { IfOk result (λ line. string_bytes line ≡ usage_line) }
+{
+    format!(in alloc;
+        "usage: lqtx run PLAN CAPTURE OUT | lqtx gen NUMBER COUNT OUT | lqtx trace FILE\n"
+    )
+}
+
+fn line_of_plan(alloc: Global, reason: PlanReason) -> Result<String, AllocError>
+    ensures { IfOk result (λ line. string_bytes line ≡ plan_line reason) }
+{
+    let number = number_of_plan_reason(reason);
+    let name = name_of_plan_reason(reason);
+    format!(in alloc; "plan refused: {number} {name}\n")
+}
+
+fn line_of_bench(alloc: Global, need: u32, have: u32) -> Result<String, AllocError>
+    ensures { IfOk result (λ line. string_bytes line ≡ bench_line need have) }
+{
+    format!(in alloc; "bench refused: needs {need} units, has {have}\n")
+}
+
+fn line_of_not_built(alloc: Global) -> Result<String, AllocError>
+    ensures { IfOk result (λ line. string_bytes line ≡ not_built_line) }
+{
+    format!(in alloc; "not built: plan\n")
+}
+
+fn line_of_capture(alloc: Global, reason: CaptureReason, place: u64) -> Result<String, AllocError>
+    ensures { IfOk result (λ line. string_bytes line ≡ capture_line reason place) }
+{
+    let number = number_of_capture_reason(reason);
+    let name = name_of_capture_reason(reason);
+    format!(in alloc; "capture refused: {number} {name} at {place}\n")
+}
+
+fn name_of_plan_reason(reason: PlanReason) -> &'static str
+    ensures { result.now ≡ plan_reason_name reason }
+{
+    match reason {
+        PlanReason::NotToml => "NotToml",
+        PlanReason::UnknownKey => "UnknownKey",
+        PlanReason::Missing => "Missing",
+        PlanReason::Kind => "Kind",
+        PlanReason::Range => "Range",
+        PlanReason::EventOrder => "EventOrder",
+        PlanReason::TooLong => "TooLong",
+    }
+}
+
+fn number_of_plan_reason(reason: PlanReason) -> u8
+    ensures { result ≡ plan_reason_number reason }
+{
+    reason as u8
+}
+
+fn name_of_capture_reason(reason: CaptureReason) -> &'static str
+    ensures { result.now ≡ capture_reason_name reason }
+{
+    match reason {
+        CaptureReason::ShortHeader => "ShortHeader",
+        CaptureReason::Magic => "Magic",
+        CaptureReason::Version => "Version",
+        CaptureReason::CutRecordHeader => "CutRecordHeader",
+        CaptureReason::LongRecord => "LongRecord",
+        CaptureReason::CutData => "CutData",
+        CaptureReason::TooMany => "TooMany",
+        CaptureReason::TooLong => "TooLong",
+    }
+}
+
+fn number_of_capture_reason(reason: CaptureReason) -> u8
+    ensures { result ≡ capture_reason_number reason }
+{
+    reason as u8
+}
