@@ -26,3 +26,7 @@ pub mod Sending
 pub mod Bands
 -- a station's queue, and the account that it stands for
 pub mod Queue
+-- the queues of all stations
+pub mod Stations
+-- what is made before a run
+pub mod Setup

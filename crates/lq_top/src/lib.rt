@@ -12,6 +12,8 @@ pub mod laws;
 mod output;
 mod plan;
 mod queue;
+mod run;
+mod setup;
 mod refusal;
 mod send;
 mod status;
