@@ -20,8 +20,6 @@ pub mod Status
 pub mod Stop
 -- what a file gave
 pub mod Input
--- a device on its way through a list of packets
-pub mod Sending
 -- the three bands of a station
 pub mod Bands
 -- a station's queue, and the account that it stands for
