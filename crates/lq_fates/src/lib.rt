@@ -11,5 +11,8 @@ mod text;
 pub use count_lines::counts_text;
 pub use fates::fates_text;
 pub use laws::sent_is_that_list;
-pub use lq_model::{Fate, NoMemory};
+pub use lq_model::{Cause, Fate, Info, NoMemory};
 pub use sent::sent_of;
+
+#[cfg(test)]
+mod tests;

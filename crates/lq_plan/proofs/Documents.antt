@@ -1,5 +1,5 @@
 -- The faults of a document, by those of its root, its stations and its events.
-use Rattle.std.proofs.Common.{◌≡◌, Bool, true, false, ◌||◌, List, String, BTreeMap, Global, Bor, refl, ap, ◌∙◌}
+use Rattle.std.proofs.Common.{◌≡◌, Bool, true, false, List, String, BTreeMap, Global, Bor, refl, ap, ◌∙◌}
 use Rattle.std.specs.List.{list_any}
 use Rattle.toml.specs.Data.{Members}
 use Rattle.toml.specs.View.{table_view}

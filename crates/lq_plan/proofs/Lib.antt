@@ -2,6 +2,10 @@
 pub mod Elements
 -- tests of each element of a list
 pub mod Lists
+-- counts of packets by owner and station
+pub mod Counts
+-- what is known of the first packets
+pub mod Known
 -- the tables among the elements of an array
 pub mod Tables
 -- the faults of a document
@@ -14,7 +18,5 @@ pub mod Ranges
 pub mod Within
 -- texts that are documents
 pub mod Texts
--- counts of packets by owner and station
-pub mod Counts
--- what is known of the first packets
-pub mod Known
+-- what text is accepted
+pub mod Acceptance

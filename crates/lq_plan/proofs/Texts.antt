@@ -1,5 +1,5 @@
 -- Which text is the document at a root, and which is none.
-use Rattle.std.proofs.Common.{◌≡◌, true, false, List, ℕ, Some, None, Err, refl, ap, ◌∙◌, inl, inr}
+use Rattle.std.proofs.Common.{◌≡◌, List, ℕ, Some, None, Err, refl, inl, inr}
 use Rattle.std.proofs.lemmas.Bool.{cases_Bool}
 use Rattle.std.proofs.lemmas.Str.{IsUtf8-from_is_utf8, is_utf8-from_IsUtf8}
 use Rattle.std.specs.Str.{IsUtf8, is_utf8}

@@ -1,5 +1,5 @@
 -- A plan that is read from a document without faults is within its limits.
-use Rattle.std.proofs.Common.{◌≡◌, ℕ, ◌+◌, ◌-◌, ◌<◌, ◌≤◌, Bool, true, false, ◌||◌, not, if◌then◌else◌, codes, List, [], ◌∷◌, length, map, get_or, Option, Some, None, option_map, slice_get, refl, ap, ◌∙◌, sym, arith}
+use Rattle.std.proofs.Common.{◌≡◌, ℕ, ◌-◌, ◌<◌, ◌≤◌, Bool, true, false, ◌||◌, if◌then◌else◌, codes, List, length, map, get_or, Option, Some, None, option_map, slice_get, refl, ap, ◌∙◌, sym, arith}
 use Rattle.std.proofs.lemmas.Bool.{or_parts}
 use Rattle.std.proofs.lemmas.List.{length-map}
 use Rattle.std.proofs.lemmas.Option.{slice_get-map, slice_get-get_or}
@@ -7,22 +7,17 @@ use Rattle.std.specs.List.{list_any}
 use Rattle.std.specs.Option.{option_map_or}
 use Rattle.toml.specs.Data.{Members, no_members, get_member}
 use Rattle.lq_model.specs.Plan.{Plan}
-use Rattle.lq_model.specs.declared.plan.EventKind.{EventKind}
-use Rattle.lq_model.specs.declared.plan.EventKind.TheVariants.{Down, Up, Resize, TxQueueLen, Swap}
-use Rattle.lq_model.specs.declared.plan.EventPlan.{EventPlan}
-use Rattle.lq_model.specs.declared.plan.PlanReason.{PlanReason}
 use Rattle.lq_model.specs.declared.plan.StationPlan.{StationPlan}
 use Rattle.lq_plan.specs.Document.{Document, document_of, has_fault_in}
 use Rattle.lq_plan.specs.Faults.{has_fault, has_value_out_of_range, is_missing, is_of_wrong_kind, is_out_of_range}
 use Rattle.lq_plan.specs.Keys.{key, event_keys, event_word_in, len_in, len_presence, max_len_for, max_len_in, params_presence, root_keys, station_keys, version_1, version_of}
 use Rattle.lq_plan.specs.Limits.{AreParamsWithin, IsEventWithin, IsKindWithin, IsStationWithin, IsWithinLimits, is_out_of_order, max_len_at}
-use Rattle.lq_plan.specs.Reading.{IsEventSmall, event_in, first_fault, kind_as, params_in, plan_in, station_in}
+use Rattle.lq_plan.specs.Reading.{IsEventSmall, event_in, first_fault, kind_as, params_in, station_in}
 use Rattle.lq_plan.specs.Values.{number_at}
 use Rattle.lq_plan.specs.declared.faults.Fault.{Fault}
 use Rattle.lq_plan.specs.declared.faults.Fault.TheVariants.{UnknownKey, MissingKey, WrongKind, OutOfRange}
-use Rattle.lq_plan.specs.declared.keys.Presence.{Presence}
 use Rattle.lq_plan.specs.declared.keys.Presence.TheVariants.{Required, Optional}
-use Rattle.lq_plan.specs.declared.keys.Rule.TheVariants.{Number, Tables}
+use Rattle.lq_plan.specs.declared.keys.Rule.TheVariants.{Tables}
 use Rattle.lq_plan.specs.declared.values.EventWord.{EventWord}
 use Rattle.lq_plan.specs.declared.values.EventWord.TheVariants as word
 use Rattle.lq_plan.proofs.Ranges.{at_false, in_range, tables_few, tables_some}
@@ -158,7 +153,7 @@ pub record Facts (root : Members) (d : Document) : Type 0 where
   pub stations : AreStationsWithin d.stations
   pub events : (e : ℕ) (t : Members) → slice_get d.events e ≡ Some t → has_value_out_of_range (event_keys d.stations t) t ≡ false
 
-root_facts : (root : Members) → None ≡ first_fault (document_of root) → Facts root (document_of root)
+pub root_facts : (root : Members) → None ≡ first_fault (document_of root) → Facts root (document_of root)
 unfolding root_keys
 root_facts root h =
     let d = document_of root in

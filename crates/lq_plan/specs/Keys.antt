@@ -29,6 +29,9 @@ keys_view = map key_view
 
 -- VERSIONS
 
+abbrev pub latest_version : ℕ
+latest_version = 1
+
 abbrev pub version_1 : Version
 version_1 = record { max_senders = 8; max_len = 4096 }
 
@@ -40,7 +43,7 @@ version_of root = version_1
 
 unfoldable pub root_keys : Version → List Key
 root_keys version =
-    key (codes "version") Optional (Number 1 1)
+    key (codes "version") Optional (Number 1 latest_version)
     ∷ key (codes "senders") Optional (Number 1 version.max_senders)
     ∷ key (codes "split") Optional SplitText
     ∷ key (codes "irq_every") Optional (Number 1 1000)

@@ -16,3 +16,5 @@ pub mod Reading
 pub mod View
 -- the limits of what is known of each packet
 pub mod Packets
+-- what follows from the definition of a plan
+pub mod Laws

@@ -47,6 +47,8 @@ pub struct Version {
     pub max_len: u64,
 }
 
+const LATEST_VERSION: u64 = 1;
+
 const VERSION_1: Version = Version {
     max_senders: 8,
     max_len: 4096,
@@ -65,7 +67,7 @@ pub fn root_keys(version: Version) -> [Key; 6]
     ensures { keys_view result ≡ root_keys version }
 {
     [
-        optional("version", number(1, 1)),
+        optional("version", number(1, LATEST_VERSION)),
         optional("senders", number(1, version.max_senders)),
         optional("split", Rule::SplitText),
         optional("irq_every", number(1, 1000)),

@@ -1,18 +1,32 @@
 //! Plans: what a run does with its senders, stations and events, read from a TOML document.
+//!
+//! [`read_plan`] answers exactly the definition `plan_of` of `specs/Reading.antt`, for all bytes: the plan, or the least
+//! of the reasons for which the text is none. The keys with their ranges stand in a table, `specs/Keys.antt`, and
+//! `specs/Faults.antt` has the four tests of a table's keys and values.
+//!
+//! ```text
+//! let plan = read_plan(alloc, b"senders = 2\n[[station]]\nlen = 8\n")?;
+//! assert_eq!(plan.station(0).len, 8);
+//! ```
 #![tactic(auto)]
 
 mod document;
 mod faults;
 mod keys;
-mod order;
 mod packets;
+mod laws;
+mod order;
 mod plan;
 mod reader;
 mod refusal;
 mod values;
 
+pub use laws::accepts_within_limits;
 pub use lq_model::{EventKind, EventPlan, Params, PlanReason, Split, StationPlan};
 pub use packets::infos;
 pub use plan::Plan;
 pub use reader::read_plan;
 pub use refusal::PlanRefusal;
+
+#[cfg(test)]
+mod tests;

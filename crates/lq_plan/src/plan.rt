@@ -92,6 +92,7 @@ impl Plan {
         ensures units { result ≡ unit_count self.now }
         ensures some { 0 < result }
         ensures few { result ≤ 72 }
+        ensures stations { length self.now.stations ≤ result }
         ensures no_swap { length self.now.events ≡ 0 → result ≡ length self.now.stations }
     {
         let swaps = self.events.iter().filter(|event| is_swap(event)).count();

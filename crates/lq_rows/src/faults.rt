@@ -3,19 +3,21 @@ use crate::fixture::{RUN, call, host_with, three_frames};
 use lq_host::{HostCall, MemHost};
 use lq_pcap::gen_capture;
 use lq_top::{Free, Status};
+use std::alloc::Global;
 use std::process::Abort;
 use std::test::Fail;
 
 const COUNTS: &[u8] =
     b"unit 0 sent 3\nstation 0 full 0 shrunk 0 purged 0 refused 0\ntotal 3 sent 3 full 0 shrunk 0 purged 0 refused 0\n";
 
-/// Each output has a prefix of its text.
-fn assert_prefixes(rt: &impl Abort, host: &MemHost, capture: &[u8], counts: &[u8]) {
-    match host.file("o.0.pcap") {
-        Some(bytes) => assert!(rt; capture.starts_with(bytes)),
+const FATES: &[u8] = b"0 sent 0 0\n1 sent 0 1\n2 sent 0 2\n";
+
+/// A file isn't there, or has a prefix of its text.
+fn assert_prefix(rt: &impl Abort, file: Option<&[u8]>, text: &[u8]) {
+    match file {
+        Some(bytes) => assert!(rt; text.starts_with(bytes)),
         None => (),
     }
-    assert!(rt; counts.starts_with(host.output()));
 }
 
 /// Each call of each kind fails once, and then none: a run of three frames makes so many calls of each kind.
@@ -26,9 +28,9 @@ fn each_call_fails_in_turn(rt: HostRuntime) -> Result<(), Fail> {
     let kinds = [
         (HostCall::OpenRead, 2),
         (HostCall::Read, 4),
-        (HostCall::Create, 1),
-        (HostCall::Write, 2),
-        (HostCall::Finish, 3),
+        (HostCall::Create, 2),
+        (HostCall::Write, 3),
+        (HostCall::Finish, 4),
     ];
     for (kind, calls) in kinds {
         for k in 1..calls + 2 {
@@ -41,25 +43,54 @@ fn each_call_fails_in_turn(rt: HostRuntime) -> Result<(), Fail> {
                 Status::Done
             };
             assert_eq!(rt; status, expected, "call {k} of {kind:?}");
-            assert_prefixes(&rt, &host, &capture, COUNTS);
+            assert_prefix(&rt, host.file("o.0.pcap"), &capture);
+            assert_prefix(&rt, host.file("o.fates"), FATES);
+            assert!(rt; COUNTS.starts_with(host.output()));
         }
     }
     Ok(())
 }
 
-/// The file of 500,024 bytes is written in eight pieces; the ninth write is that of the counts.
+/// The fates of packets that are sent by one unit in ascending number.
+fn fates_in_order(alloc: Global, count: u32) -> Result<Vec<u8>, Fail> {
+    let mut text = Vec::new(alloc);
+    for n in 0..count {
+        text.extend_from_slice(format!(in alloc; "{n} sent 0 {n}\n")?.as_bytes())?;
+    }
+    Ok(text)
+}
+
+/// The capture of 500,024 bytes is written in eight pieces, the fates' 167,780 in three; the twelfth write is that of the
+/// counts.
 #[test]
 fn a_write_fails_between_pieces(rt: HostRuntime) -> Result<(), Fail> {
     let alloc = rt.alloc();
     let capture = gen_capture(alloc, 1, 10_000)?;
-    for (k, written) in [(1, 0), (2, 65_536), (8, 458_752), (9, 500_024)] {
+    let fates = fates_in_order(alloc, 10_000)?;
+    let rows = [
+        (1, 0, None),
+        (2, 65_536, None),
+        (8, 458_752, None),
+        (9, 500_024, Some(0)),
+        (10, 500_024, Some(65_536)),
+        (11, 500_024, Some(131_072)),
+        (12, 500_024, Some(167_780)),
+    ];
+    for (k, captured, told) in rows {
         let mut host = host_with(alloc, &capture)?;
         host.fail_at(HostCall::Write, k)?;
         let status = call(&rt, alloc, &RUN, &mut host, &Free)?;
         assert_eq!(rt; status, Status::Fault, "write {k}");
         assert_eq!(rt; status.code(), 5);
-        let prefix = capture.get(..written).ok_or("short")?;
+        let prefix = capture.get(..captured).ok_or("short")?;
         assert_eq!(rt; host.file("o.0.pcap").ok_or("no file")?, prefix);
+        match told {
+            Some(len) => {
+                let prefix = fates.get(..len).ok_or("short")?;
+                assert_eq!(rt; host.file("o.fates").ok_or("no file")?, prefix);
+            }
+            None => assert!(rt; host.file("o.fates").is_none()),
+        }
         assert_eq!(rt; host.output().len(), 0);
     }
     Ok(())
@@ -84,6 +115,7 @@ fn a_fault_leaves_no_file(rt: HostRuntime) -> Result<(), Fail> {
         assert_eq!(rt; status, Status::Fault, "{words:?}");
         assert_eq!(rt; host.output().len(), 0);
         assert!(rt; host.file("o.0.pcap").is_none());
+        assert!(rt; host.file("o.fates").is_none());
     }
     Ok(())
 }

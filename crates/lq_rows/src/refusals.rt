@@ -1,5 +1,5 @@
 //! Words, plans and captures that are refused: the status, the line, and no file made.
-use crate::fixture::{HEADER, PLAN, RUN, call, host_with, three_frames};
+use crate::fixture::{HEADER, PLAN, RUN, call, call_on, host_of, host_with, three_frames};
 use lq_host::MemHost;
 use lq_pcap::CaptureReason;
 use lq_top::{Free, Status};
@@ -9,7 +9,7 @@ const USAGE: &[u8] =
     b"usage: lqtx run PLAN CAPTURE OUT | lqtx gen NUMBER COUNT OUT | lqtx trace FILE\n";
 
 /// Command lines that aren't of the table, with the program's own name in front.
-const COMMANDS: [&str; 13] = [
+const COMMANDS: [&str; 23] = [
     "lqtx",
     "lqtx run",
     "lqtx run p c",
@@ -18,9 +18,19 @@ const COMMANDS: [&str; 13] = [
     "lqtx run p -c o",
     "lqtx run - c o",
     "lqtx Run p c o",
+    "lqtx p run c o",
     "lqtx -- run p c o",
+    "lqtx run -- p c o",
+    "lqtx run p c --",
+    "lqtx run p c -",
+    "lqtx run p c o --",
+    "lqtx --",
     "lqtx --help",
+    "lqtx -h",
+    "lqtx --version",
+    "lqtx run --help",
     "lqtx help",
+    "lqtx help run",
     "lqtx gen 1 2 g",
     "lqtx trace t",
 ];
@@ -40,24 +50,87 @@ fn tells_how_it_is_called(rt: HostRuntime) -> Result<(), Fail> {
     Ok(())
 }
 
+/// `help` and `version` are names of files like any other.
 #[test]
-fn refuses_plans_that_are_not_built(rt: HostRuntime) -> Result<(), Fail> {
+fn takes_help_and_version_as_names(rt: HostRuntime) -> Result<(), Fail> {
+    let alloc = rt.alloc();
+    let capture = three_frames(alloc)?;
+    for name in ["help", "version"] {
+        let mut host = host_with(alloc, &capture)?;
+        host.put_file(name, PLAN)?;
+        let status = call(&rt, alloc, &["run", name, "c", "o"], &mut host, &Free)?;
+        assert_eq!(rt; status, Status::Done, "{name}");
+        assert_eq!(rt; host.file("o.0.pcap").ok_or("no file")?, &capture[..]);
+    }
+    Ok(())
+}
+
+/// Plans, and the line that refuses each.
+const PLANS: [(&[u8], &str); 10] = [
+    (b"len = = 3", "plan refused: 1 NotToml\n"),
+    (b"[[station]]\nlenght = 5\n", "plan refused: 2 UnknownKey\n"),
+    // a key of the document, but under the head of a station
+    (
+        b"[[station]]\nlen = 2\nburst = 1\nbypass = false\nirq_every = 1000\n",
+        "plan refused: 2 UnknownKey\n",
+    ),
+    (b"senders = 2\n", "plan refused: 3 Missing\n"),
+    (b"", "plan refused: 3 Missing\n"),
+    (b"[[station]]\nlen = \"a\"\n", "plan refused: 4 Kind\n"),
+    (b"[[station]]\nlen = 4097\n", "plan refused: 5 Range\n"),
+    (
+        b"[[station]]\n[[event]]\nbefore = 0\nkind = \"up\"\nstation = 0\n",
+        "plan refused: 6 EventOrder\n",
+    ),
+    // no line of TOML, but too long
+    (&[b'='; 65_537], "plan refused: 8 TooLong\n"),
+    (&[0xff; 65_537], "plan refused: 8 TooLong\n"),
+];
+
+#[test]
+fn refuses_plans_with_the_least_reason(rt: HostRuntime) -> Result<(), Fail> {
+    let alloc = rt.alloc();
+    for (plan, line) in PLANS {
+        let mut host = host_of(alloc, plan, b"no capture")?;
+        let status = call(&rt, alloc, &RUN, &mut host, &Free)?;
+        assert_eq!(rt; status.code(), 3, "{line}");
+        assert_eq!(rt; host.output(), line.as_bytes());
+        assert!(rt; host.file("o.0.pcap").is_none());
+        assert!(rt; host.file("o.fates").is_none());
+    }
+    Ok(())
+}
+
+/// Eight stations, and eight with a swap.
+const STATIONS: &[u8] =
+    b"[[station]]\n[[station]]\n[[station]]\n[[station]]\n[[station]]\n[[station]]\n[[station]]\n[[station]]\n";
+
+const SWAPPED: &[u8] =
+    b"[[station]]\n[[station]]\n[[station]]\n[[station]]\n[[station]]\n[[station]]\n[[station]]\n[[station]]\n[[event]]\nbefore = 0\nkind = \"swap\"\nstation = 0\n";
+
+/// Plans that need more units than the bench has, and plans that aren't built. The capture isn't opened: it isn't there.
+#[test]
+fn refuses_plans_that_it_cannot_run(rt: HostRuntime) -> Result<(), Fail> {
     let alloc = rt.alloc();
     let rows = [
-        b"".as_slice(),
-        b"[[station]]".as_slice(),
-        b"[[station]]\n\n".as_slice(),
-        b" [[station]]\n".as_slice(),
-        b"[[station]]\nlen = 4\n".as_slice(),
-        [b'#'; 65_537].as_slice(),
+        (STATIONS, 7, 3, "bench refused: needs 8 units, has 7\n"),
+        (SWAPPED, 8, 3, "bench refused: needs 9 units, has 8\n"),
+        (PLAN, 0, 3, "bench refused: needs 1 units, has 0\n"),
+        (SWAPPED, 9, 8, "not built: plan\n"),
+        (b"senders = 2\n[[station]]\n", 1, 8, "not built: plan\n"),
+        (
+            b"[[station]]\n[[event]]\nbefore = 0\nkind = \"down\"\nstation = 0\n",
+            1,
+            8,
+            "not built: plan\n",
+        ),
     ];
-    for plan in rows {
-        let mut host = host_with(alloc, b"no capture")?;
+    for (plan, devices, code, line) in rows {
+        let mut host = MemHost::new(alloc);
         host.put_file("p", plan)?;
-        let status = call(&rt, alloc, &RUN, &mut host, &Free)?;
-        assert_eq!(rt; status, Status::NotBuilt);
-        assert_eq!(rt; status.code(), 8);
-        assert_eq!(rt; host.output(), b"not built: plan\n".as_slice());
+        let status = call_on(&rt, alloc, &RUN, &mut host, devices, &Free)?;
+        assert_eq!(rt; status.code(), code, "{line}");
+        assert_eq!(rt; host.output(), line.as_bytes());
         assert!(rt; host.file("o.0.pcap").is_none());
     }
     Ok(())

@@ -1,5 +1,7 @@
-//! Captures that are accepted: the file and the output of each run.
-use crate::fixture::{HEADER, PLAN, RUN, call, capture_of, host_with, three_frames};
+//! Runs that are done: the files and the output of each.
+use crate::fixture::{
+    HEADER, PLAN, RUN, call, call_on, capture_of, host_of, host_with, records_of, three_frames,
+};
 use lq_host::MemHost;
 use lq_pcap::gen_capture;
 use lq_top::{Free, Gate, Status};
@@ -23,12 +25,11 @@ fn longest_record(rt: &HostRuntime) -> Result<Vec<u8>, Fail> {
     Ok(bytes)
 }
 
+/// Captures of other forms than those of the table below: each is written again as it is.
 #[test]
-fn sends_each_packet_and_counts_it(rt: HostRuntime) -> Result<(), Fail> {
+fn writes_each_capture_as_it_was_read(rt: HostRuntime) -> Result<(), Fail> {
     let alloc = rt.alloc();
     let rows = vec![in alloc;
-        (three_frames(alloc)?, 3),
-        (capture_of(alloc, &[])?, 0),
         (NANOSECONDS.to_vec(alloc)?, 1),
         (longest_record(&rt)?, 1),
         (gen_capture(alloc, 1, 10_000)?, 10_000),
@@ -43,6 +44,124 @@ fn sends_each_packet_and_counts_it(rt: HostRuntime) -> Result<(), Fail> {
         )?;
         assert_eq!(rt; host.output(), output.as_bytes());
     }
+    Ok(())
+}
+
+/// A run over one device.
+#[derive(Clone, Copy)]
+struct Row {
+    plan: &'static str,
+    /// The types of service of its frames.
+    tos: &'static [u8],
+    fates: &'static str,
+    /// The packets sent, in their order.
+    sent: &'static [usize],
+    output: &'static str,
+}
+
+const ROWS: [Row; 7] = [
+    // every packet goes past the rings
+    Row {
+        plan: "[[station]]\n",
+        tos: &[0, 0x10, 8],
+        fates: "0 sent 0 0\n1 sent 0 1\n2 sent 0 2\n",
+        sent: &[0, 1, 2],
+        output: "unit 0 sent 3\nstation 0 full 0 shrunk 0 purged 0 refused 0\ntotal 3 sent 3 full 0 shrunk 0 purged 0 refused 0\n",
+    },
+    Row {
+        plan: "[[station]]\n",
+        tos: &[],
+        fates: "",
+        sent: &[],
+        output: "unit 0 sent 0\nstation 0 full 0 shrunk 0 purged 0 refused 0\ntotal 0 sent 0 full 0 shrunk 0 purged 0 refused 0\n",
+    },
+    // a stopped queue requeues
+    Row {
+        plan: "irq_every = 4\n[[station]]\nburst = 1\n",
+        tos: &[0, 8, 0, 0x10],
+        fates: "0 sent 0 0\n1 sent 0 1\n2 sent 0 3\n3 sent 0 2\n",
+        sent: &[0, 1, 3, 2],
+        output: "unit 0 sent 4\nstation 0 full 0 shrunk 0 purged 0 refused 0\ntotal 4 sent 4 full 0 shrunk 0 purged 0 refused 0\n",
+    },
+    // without the bypass nothing does
+    Row {
+        plan: "irq_every = 4\n[[station]]\nburst = 1\nbypass = false\n",
+        tos: &[0, 8, 0, 0x10],
+        fates: "0 sent 0 0\n1 sent 0 3\n2 sent 0 2\n3 sent 0 1\n",
+        sent: &[0, 3, 2, 1],
+        output: "unit 0 sent 4\nstation 0 full 0 shrunk 0 purged 0 refused 0\ntotal 4 sent 4 full 0 shrunk 0 purged 0 refused 0\n",
+    },
+    // a busy device is offered the packet again
+    Row {
+        plan: "[[station]]\nbusy_every = 2\nbusy_limit = 3\n",
+        tos: &[0, 0, 0, 0, 0],
+        fates: "0 sent 0 0\n1 sent 0 1\n2 sent 0 2\n3 sent 0 3\n4 sent 0 4\n",
+        sent: &[0, 1, 2, 3, 4],
+        output: "unit 0 sent 5\nstation 0 full 0 shrunk 0 purged 0 refused 0\ntotal 5 sent 5 full 0 shrunk 0 purged 0 refused 0\n",
+    },
+    // what a device that hangs leaves is purged
+    Row {
+        plan: "[[station]]\nhang_after = 2\n",
+        tos: &[0, 0, 0, 0, 0],
+        fates: "0 sent 0 0\n1 sent 0 1\n2 purged hung\n3 purged hung\n4 purged hung\n",
+        sent: &[0, 1],
+        output: "unit 0 sent 2\nstation 0 full 0 shrunk 0 purged 3 refused 0\ntotal 5 sent 2 full 0 shrunk 0 purged 3 refused 0\n",
+    },
+    // the packet that a full ring names is the one in its slot
+    Row {
+        plan: "irq_every = 1000\n[[station]]\nlen = 1\nburst = 1\n",
+        tos: &[0, 0, 0, 0],
+        fates: "0 sent 0 0\n1 sent 0 1\n2 sent 0 2\n3 full 2\n",
+        sent: &[0, 1, 2],
+        output: "unit 0 sent 3\nstation 0 full 1 shrunk 0 purged 0 refused 0\ntotal 4 sent 3 full 1 shrunk 0 purged 0 refused 0\n",
+    },
+];
+
+#[test]
+fn tells_the_fate_of_each_packet(rt: HostRuntime) -> Result<(), Fail> {
+    let alloc = rt.alloc();
+    for row in ROWS {
+        let frames = row
+            .tos
+            .iter()
+            .map(|tos| (*tos, 1, 0))
+            .collect::<Vec<(u8, u8, u8)>>(alloc)?;
+        let capture = capture_of(alloc, &frames)?;
+        let mut host = host_of(alloc, row.plan.as_bytes(), &capture)?;
+        let status = call(&rt, alloc, &RUN, &mut host, &Free)?;
+        assert_eq!(rt; status, Status::Done, "{:?}", row.plan);
+        assert_eq!(rt;
+            host.file("o.fates").ok_or("no fates")?,
+            row.fates.as_bytes()
+        );
+        let sent = records_of(alloc, &capture, row.sent)?;
+        assert_eq!(rt; host.file("o.0.pcap").ok_or("no capture")?, sent.as_slice());
+        assert_eq!(rt; host.output(), row.output.as_bytes());
+    }
+    Ok(())
+}
+
+/// Two stations, each with a device of its own: the destination byte chooses.
+#[test]
+fn splits_a_capture_among_stations(rt: HostRuntime) -> Result<(), Fail> {
+    let alloc = rt.alloc();
+    let capture = gen_capture(alloc, 1, 3)?;
+    let mut host = host_of(alloc, b"[[station]]\n[[station]]\n", &capture)?;
+    let status = call_on(&rt, alloc, &RUN, &mut host, 3, &Free)?;
+    assert_eq!(rt; status, Status::Done);
+    assert_eq!(rt;
+        host.file("o.fates").ok_or("no fates")?,
+        b"0 sent 0 0\n1 sent 1 0\n2 sent 0 1\n".as_slice()
+    );
+    for (name, packets) in [("o.0.pcap", [0, 2].as_slice()), ("o.1.pcap", &[1])] {
+        let sent = records_of(alloc, &capture, packets)?;
+        assert_eq!(rt; host.file(name).ok_or("no capture")?, sent.as_slice());
+    }
+    assert!(rt; host.file("o.2.pcap").is_none());
+    assert_eq!(rt;
+        host.output(),
+        b"unit 0 sent 2\nunit 1 sent 1\nstation 0 full 0 shrunk 0 purged 0 refused 0\nstation 1 full 0 shrunk 0 purged 0 refused 0\ntotal 3 sent 3 full 0 shrunk 0 purged 0 refused 0\n".as_slice()
+    );
     Ok(())
 }
 

@@ -1,6 +1,7 @@
 -- What a run leaves, from what its calls leave.
-use Rattle.std.proofs.Common.{◌≡◌, ◌≢◌, ◌⊎◌, ◌∷◌, [], ℕ, List, length, Option, Some, None, Result, Ok, Err, IfOk, OnOk, OnErr, IfSome, refl, sym, ap, ◌∙◌, subst, inl, inr}
+use Rattle.std.proofs.Common.{◌≡◌, ◌≢◌, ◌⊎◌, ◌∷◌, [], ℕ, List, length, Option, Some, None, Result, Ok, Err, IfOk, OnOk, OnErr, IfSome, refl, sym, ap, ◌∙◌, subst, inl, inr, ◌≤◌, ◌+◌, ◌-◌, drop, arith}
 use Rattle.std.specs.Option.{option_map}
+use Rattle.std.proofs.lemmas.List.{drop-drop}
 use Rattle.lq_model.specs.Capture.{Capture}
 use Rattle.lq_model.specs.Device.{DeviceState}
 use Rattle.lq_model.specs.Plan.{Plan, infos_of, unit_count}
@@ -9,12 +10,12 @@ use Rattle.lq_model.specs.declared.fate.Fate.{Fate}
 use Rattle.lq_model.specs.declared.fate.Info.{Info}
 use Rattle.lq_host.specs.Host.{HostState, Contents, wrote}
 use Rattle.lq_top.specs.Command.{RunWords}
-use Rattle.lq_top.specs.Decision.{Verdict, LacksFile, Refuses, Runs, by_capture, by_plan, limited_capture_of, plan_for, verdict_of_run}
+use Rattle.lq_top.specs.Decision.{Verdict, IsRunnable, max_units, LacksFile, Refuses, Runs, by_capture, by_plan, limited_capture_of, plan_for, verdict_of_run}
 use Rattle.lq_top.specs.Fates.{AreFatesOf}
 use Rattle.lq_top.specs.Headline.{Run, run_of, unit_files, fates_file, texts_of, HasRun}
 use Rattle.lq_top.specs.Outcome.{Ends, EndsOrStops, IsAnswerOf, IsRunStatus, Stops}
 use Rattle.lq_top.specs.Refusal.{status_of}
-use Rattle.lq_top.specs.Written.{FileText, FileIsCut, FilesAreCut, OutputHasPrefix, IsCut, file_written, files_written, written}
+use Rattle.lq_top.specs.Written.{FileIsCut, FilesAreCut, OutputHasPrefix, IsCut, file_written, files_written, written}
 use Rattle.lq_top.specs.declared.refusal.Refusal.{Refusal}
 use Rattle.lq_top.specs.declared.refusal.Refusal.TheVariants as refusal
 use Rattle.lq_top.specs.declared.status.Status.{Status}
@@ -130,6 +131,20 @@ run_status (refusal.Plan reason) other = _
 run_status (refusal.Bench need have) other = _
 run_status refusal.NotBuilt other = _
 run_status (refusal.Capture reason place) other = _
+
+-- what is as it was from place m on is so from any later place on
+drop_later : {X : Type 0} (m n : ℕ) (old new : List X) → m ≤ n → drop m new ≡ drop m old → drop n new ≡ drop n old
+drop_later m n old new le same =
+    let rest : m + (n - m) ≡ n = omega arith in
+    ap (λ k. drop k new) (sym rest) ∙ sym (drop-drop (n - m) m new) ∙ ap (drop (n - m)) same ∙ drop-drop (n - m) m old ∙ ap (λ k. drop k old) rest
+
+-- the devices beyond those that a plan may need are as they were
+pub beyond_units :
+    {X : Type 0} (have : ℕ) (plan : Plan) (read : Result Plan Refusal) (old new : List X) → read ≡ Ok plan → IfOk read (IsRunnable have)
+    → drop (unit_count plan) new ≡ drop (unit_count plan) old → drop max_units new ≡ drop max_units old
+beyond_units have plan read old new is_read runnable same =
+    let is : IsRunnable have plan = subst (λ (r : Result Plan Refusal). IfOk r (IsRunnable have)) is_read runnable in
+    drop_later (unit_count plan) max_units old new is.few same
 
 -- what came to its end answers what was decided
 answered : (v : Verdict) (old new : HostState) (before behind : List DeviceState) (answer : Status) → Ends v old new before behind answer → IsAnswerOf v answer

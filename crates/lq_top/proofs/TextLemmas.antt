@@ -1,5 +1,5 @@
 -- The text of some packets of a capture, and the packets that a unit sent.
-use Rattle.std.proofs.Common.{◌≡◌, ◌<◌, ◌≤◌, ◌++◌, ◌∷◌, [], ℕ, zero, suc, ◌+◌, List, All, length, map, refl, sym, ap, ◌∙◌, subst, append_assoc, append-nil, length-append, arith, get_or, slice_get, Some}
+use Rattle.std.proofs.Common.{◌≡◌, ◌<◌, ◌≤◌, ◌++◌, ◌∷◌, [], ℕ, zero, suc, List, All, length, refl, sym, ap, ◌∙◌, subst, append_assoc, append-nil, length-append, arith, get_or, slice_get, Some}
 use Rattle.std.specs.List.{flat_map}
 use Rattle.std.proofs.lemmas.List.{length-map}
 use Rattle.std.proofs.lemmas.List.Elements.{All-from_get_or}

@@ -35,11 +35,16 @@ placed_if_read have (Ok p) = placed_on have p
 abbrev pub plan_for : ℕ → List ℕ → Result Plan Refusal
 plan_for have bytes = placed_if_read have (limited_plan_of bytes)
 
+-- no plan needs more devices: it has at most 8 stations and 64 swaps
+abbrev pub max_units : ℕ
+max_units = 72
+
 -- what is known of a plan that is run
 pub record IsRunnable (have : ℕ) (p : Plan) : Type 0 where
   pub one_sender : p.senders ≡ 1
   pub no_events : p.events ≡ []
   pub units : unit_count p ≤ have
+  pub few : unit_count p ≤ max_units
 
 -- CAPTURES
 

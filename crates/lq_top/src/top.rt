@@ -3,7 +3,7 @@ ghost use Rattle.std.specs.Prelude.{◌≡◌, IfOk, OnOk, OnErr, IfSome, map, d
 ghost use Rattle.lq_host.specs.Host.{Rose};
 ghost use Rattle.lq_model.specs.Plan.{unit_count};
 ghost use Rattle.lq_top.specs.Command.{command_of, run_words, words_of};
-ghost use Rattle.lq_top.specs.Decision.{IsRunnable, Refuses, Runs, units_of, verdict_of, verdict_of_run};
+ghost use Rattle.lq_top.specs.Decision.{IsRunnable, Refuses, Runs, max_units, units_of, verdict_of, verdict_of_run};
 ghost use Rattle.lq_top.specs.Headline.{HasRun, run_of};
 ghost use Rattle.lq_top.specs.Outcome.{Ends, EndsOrStops, IsAnswerOf, IsRunStatus, Outcome, Stops, TellsUsageFor, refuses};
 ghost use Rattle.lq_top.specs.Refusal.{line_of, status_of};
@@ -87,6 +87,7 @@ fn run_command<H: Host, G: Gate, D: TxDevice>(
     ensures others { IfSome (H.state host.old).told (λ c.
         let units = units_of (verdict_of_run (run_words words.now) c.files (vec_len bench.old)) in
         drop units bench.new.items ≡ drop units bench.old.items) }
+    ensures beyond { drop max_units bench.new.items ≡ drop max_units bench.old.items }
     ensures refused { IfOk result (λ answer.
         refuses answer ≡ true → bench.new.items ≡ bench.old.items) }
     ensures len { vec_len bench.new ≡ vec_len bench.old }
@@ -139,11 +140,12 @@ pub fn lqtx<R: Threads + Wait + Sync, H: Host, G: Gate, D: TxDevice>(
     ensures handles { (H.state host.new).handles ≡ (H.state host.old).handles }
 
     // The boxes of the bench: none gets lost, and those that aren't units of a plan that is run are as before, as are all
-    // of them at each refusal.
+    // of them at each refusal; also where the host tells nothing, those beyond the units that a plan may have.
     ensures len { vec_len bench.new ≡ vec_len bench.old }
     ensures others { IfSome (H.state host.old).told (λ c.
         let units = units_of (verdict_of (words_of words.now) c.files (vec_len bench.old)) in
         drop units bench.new.items ≡ drop units bench.old.items) }
+    ensures beyond { drop max_units bench.new.items ≡ drop max_units bench.old.items }
     ensures refused { refuses result ≡ true → bench.new.items ≡ bench.old.items }
 {
     match read_words(alloc, words) {
@@ -152,7 +154,7 @@ pub fn lqtx<R: Threads + Wait + Sync, H: Host, G: Gate, D: TxDevice>(
             Err(stop) => stop.status(),
         },
         Ok(None) => match refuse(alloc, host, Refusal::Usage) {
-            Ok(status) => status,
+            Ok(answer) => answer,
             Err(stop) => stop.status(),
         },
         Err(NoMemory) => Status::NoMemory,

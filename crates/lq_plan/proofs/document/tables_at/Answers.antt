@@ -1,4 +1,3 @@
-use Rattle.std.proofs.Common.{◌≡◌}
 use Rattle.lq_plan.proofs.Tables.{table_more, other_more}
 use Rattle.lq_plan.proofs.document.tables_at.Goals as goal
 use Rattle.lq_plan.proofs.document.tables_at.Goals.{in-Some+in_ok-push, in_default}

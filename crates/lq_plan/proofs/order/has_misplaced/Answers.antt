@@ -1,4 +1,4 @@
-use Rattle.std.proofs.Common.{◌≡◌, ◌∙◌}
+use Rattle.std.proofs.Common.{◌∙◌}
 use Rattle.lq_plan.proofs.Events.{misplaced_here}
 use Rattle.lq_plan.proofs.order.has_misplaced.Goals as goal
 

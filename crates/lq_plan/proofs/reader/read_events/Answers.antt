@@ -1,4 +1,3 @@
-use Rattle.std.proofs.Common.{◌≡◌}
 use Rattle.lq_plan.specs.Reading.{event_in}
 use Rattle.lq_plan.proofs.Tables.{read_more, table_at}
 use Rattle.lq_plan.proofs.reader.read_events.Goals as goal

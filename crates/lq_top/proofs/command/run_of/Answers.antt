@@ -1,6 +1,6 @@
 use Rattle.std.proofs.Common.{refl, Some, None, codes}
 use Rattle.clap.specs.Words.{found_of}
-use Rattle.lq_top.proofs.CommandLemmas.{text_read}
+use Rattle.lq_top.proofs.ParseLemmas.{text_read}
 use Rattle.lq_top.proofs.command.run_of.Goals.{in_default-via-in-Some+in-Some+in_default, in_default-via-in-Some+in_default, in_default-via-in_default}
 use Rattle.lq_top.proofs.command.run_of.Goals as goal
 

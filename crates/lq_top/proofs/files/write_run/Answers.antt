@@ -1,5 +1,5 @@
 use Rattle.std.proofs.lemmas.Result.{on_ok_weaker, on_err_weaker}
-use Rattle.lq_top.specs.Headline.{Run, run_of}
+use Rattle.lq_top.specs.Headline.{run_of}
 use Rattle.lq_top.proofs.MoveLemmas.{on_err_any}
 use Rattle.lq_top.proofs.RunLemmas.{stopped_in_units, stopped_in_fates, stopped_in_counts, all_written}
 use Rattle.lq_top.proofs.files.write_run.Goals as goal

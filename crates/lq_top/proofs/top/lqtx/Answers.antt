@@ -1,7 +1,6 @@
-use Rattle.std.proofs.Common.{◌≡◌, ◌∙◌, ap, sym, subst, IfSome, Option, Some, map, vec_len}
+use Rattle.std.proofs.Common.{◌∙◌, ap, sym, subst, IfSome, Option, map, vec_len}
 use Rattle.std.specs.Option.{option_map}
-use Rattle.lq_host.specs.Host.{HostState}
-use Rattle.lq_top.specs.Command.{RunWords, run_words, words_of}
+use Rattle.lq_top.specs.Command.{RunWords, run_words}
 use Rattle.lq_top.specs.Decision.{by_command, verdict_of_run}
 use Rattle.lq_top.specs.Outcome.{IsAnswerOf}
 use Rattle.lq_top.proofs.RunLemmas.{all_answered}

@@ -5,7 +5,7 @@ use Rattle.lq_top.specs.Command.{run_words}
 use Rattle.lq_top.specs.Decision.{Runs, limited_capture_of, plan_for}
 use Rattle.lq_top.specs.Headline.{run_of}
 use Rattle.lq_top.specs.Outcome.{EndsOrStops}
-use Rattle.lq_top.proofs.RunLemmas.{does_run, run_does}
+use Rattle.lq_top.proofs.RunLemmas.{beyond_units, does_run, run_does}
 use Rattle.lq_top.proofs.top.run_command.Goals as goal
 
 pub returns-in-Ok-2-clause-does : goal.returns-in-Ok-2-clause-does
@@ -22,3 +22,7 @@ returns-in-Ok-2-clause-does g c =
     (subst (λ (s : HostState). IfSome s.told (λ d. option_map limited_capture_of (d.files c.args.words.now.capture.now) ≡ Some c.in_ok-capture.field-0)) first c.in_ok-capture.ensures.capture)
     (subst (λ (s : HostState). EndsOrStops (Runs run) s new before behind c.run_capture.result) (c.in_ok-capture.ensures.same ∙ first)
     (run_does run (g.H.Host.state c.read_capture_file.new.host) new before behind c.run_capture.result c.run_capture.ensures.answer c.run_capture.ensures.ok c.run_capture.ensures.err))
+
+pub returns-in-Ok-2-clause-beyond : goal.returns-in-Ok-2-clause-beyond
+returns-in-Ok-2-clause-beyond g c =
+    beyond_units c.len.result c.in-Ok.plan c.in_ok-plan.field-0 c.args.bench.now.items c.run_capture.new.bench.items c.in-Ok.is c.in_ok-plan.ensures.runnable c.run_capture.ensures.others

@@ -1,0 +1,67 @@
+use crate::{Cause, Fate, Info, counts_text, fates_text, sent_of};
+
+// Each kind of fate; unit 1 sent packet 7 before packet 0.
+const FATES: [Fate; 9] = [
+    Fate::Sent { unit: 1, serial: 1 },
+    Fate::Full { seen: 0 },
+    Fate::Sent { unit: 0, serial: 0 },
+    Fate::Shrunk { event: 4 },
+    Fate::Purged {
+        cause: Cause::Event(12),
+    },
+    Fate::Purged {
+        cause: Cause::Hung(1),
+    },
+    Fate::Refused { event: 3 },
+    Fate::Sent { unit: 1, serial: 0 },
+    Fate::Sent { unit: 0, serial: 1 },
+];
+
+fn at(station: u32) -> Info {
+    Info {
+        owner: 0,
+        station,
+        band: 1,
+        queue: 0,
+        rank: 0,
+    }
+}
+
+#[test]
+fn each_fate_has_a_line(rt: HostRuntime) {
+    let text = fates_text(rt.alloc(), &FATES).expect(&rt, "memory");
+    let want =
+        "0 sent 1 1\n1 full 0\n2 sent 0 0\n3 shrunk 4\n4 purged 12\n5 purged hung\n6 refused 3\n7 sent 1 0\n8 sent 0 1\n";
+    assert_eq!(rt; text.as_slice(), want.as_bytes());
+}
+
+#[test]
+fn units_stations_and_all_have_counts(rt: HostRuntime) {
+    let infos = [
+        at(1),
+        at(0),
+        at(0),
+        at(1),
+        at(0),
+        at(1),
+        at(1),
+        at(1),
+        at(0),
+    ];
+    let text = counts_text(rt.alloc(), &FATES, &infos, 2, 3).expect(&rt, "memory");
+    let want =
+        "unit 0 sent 2\nunit 1 sent 2\nunit 2 sent 0\nstation 0 full 1 shrunk 0 purged 1 refused 0\nstation 1 full 0 shrunk 1 purged 1 refused 1\ntotal 9 sent 4 full 1 shrunk 1 purged 2 refused 1\n";
+    assert_eq!(rt; text.as_slice(), want.as_bytes());
+}
+
+#[test]
+fn sent_packets_stand_in_order_of_serial(rt: HostRuntime) {
+    let fates = [
+        Fate::Sent { unit: 1, serial: 1 },
+        Fate::Full { seen: 0 },
+        Fate::Sent { unit: 0, serial: 0 },
+        Fate::Sent { unit: 1, serial: 0 },
+    ];
+    let sent = sent_of(rt.alloc(), &fates, 1).expect(&rt, "memory");
+    assert_eq!(rt; sent.as_slice(), [3, 0].as_slice());
+}

@@ -1,0 +1,176 @@
+use crate::{EventKind, EventPlan, Params, PlanReason, PlanRefusal, Split, StationPlan, read_plan};
+
+#[test]
+fn least_reason_of_each_text(rt: HostRuntime) {
+    let rows: [(&[u8], PlanReason); 17] = [
+        (b"len = = 3", PlanReason::NotToml),
+        (b"\xff", PlanReason::NotToml),
+        (b"[[station]]\nlenght = 5\n", PlanReason::UnknownKey),
+        (
+            b"[[station]]\nlen = \"a\"\nfoo = 1\n",
+            PlanReason::UnknownKey,
+        ),
+        (
+            b"[[station]]\n[[event]]\nbefore = 0\nkind = \"down\"\nstation = 0\nlen = 3\n",
+            PlanReason::UnknownKey,
+        ),
+        (b"senders = 2\n", PlanReason::Missing),
+        (b"[[event]]\nbefore = 0\n", PlanReason::Missing),
+        (b"[[station]]\nlen = \"a\"\n", PlanReason::Kind),
+        (b"station = 5\n", PlanReason::Kind),
+        (b"[[station]]\nlen = 4097\n", PlanReason::Range),
+        (b"station = []\n", PlanReason::Range),
+        (b"version = 4\n[[station]]\n", PlanReason::Range),
+        (b"[[station]]\nmax_len = 10\n", PlanReason::Range),
+        (b"senders = 4294967297\n[[station]]\n", PlanReason::Range),
+        (
+            b"[[station]]\n[[event]]\nbefore = 0\nkind = \"sway\"\nstation = 0\nlen = 1\n",
+            PlanReason::Range,
+        ),
+        (
+            b"[[station]]\n[[event]]\nbefore = 0\nkind = \"up\"\nstation = 0\n",
+            PlanReason::EventOrder,
+        ),
+        (
+            b"[[station]]\n[[event]]\nbefore = 2\nkind = \"down\"\nstation = 0\n[[event]]\nbefore = 1\nkind = \"up\"\nstation = 0\n",
+            PlanReason::EventOrder,
+        ),
+    ];
+    for (text, reason) in rows {
+        let refusal = read_plan(rt.alloc(), text).err();
+        assert_eq!(rt;
+            refusal,
+            Some(PlanRefusal::Refused { reason }),
+            "{reason:?}"
+        );
+    }
+}
+
+const NO_RULES: Params = Params {
+    burst: 0,
+    busy_every: 0,
+    busy_limit: 0,
+    hang_after: 0,
+};
+
+#[test]
+fn keys_left_out(rt: HostRuntime) {
+    let Ok(plan) = read_plan(rt.alloc(), b"[[station]]\n") else {
+        panic!(rt; "no plan");
+    };
+    assert_eq!(rt;
+        (
+            plan.senders(),
+            plan.irq_every(),
+            plan.stations(),
+            plan.events(),
+            plan.units()
+        ),
+        (1, 1, 1, 0, 1)
+    );
+    assert_eq!(rt; plan.split(), Split::Round);
+    assert_eq!(rt;
+        plan.station(0),
+        StationPlan {
+            len: 1000,
+            max_len: 1000,
+            bypass: true,
+            params: NO_RULES,
+        }
+    );
+}
+
+const ALL_KEYS: &[u8] = b"version = 1
+senders = 8
+split = \"source\"
+irq_every = 1000
+station = [{ len = 3, max_len = 7, bypass = false, burst = 1, busy_every = 2, busy_limit = 3, hang_after = 1000000 }, { len = 4096 }]
+[[event]]
+before = 0
+kind = \"resize\"
+station = 0
+len = 7
+[[event]]
+before = 0
+kind = \"tx_queue_len\"
+station = 1
+len = 4096
+[[event]]
+before = 5
+kind = \"swap\"
+station = 1
+busy_every = 9
+[[event]]
+before = 5
+kind = \"down\"
+station = 0
+[[event]]
+before = 1000000
+kind = \"up\"
+station = 0
+";
+
+#[test]
+fn all_keys(rt: HostRuntime) {
+    let Ok(plan) = read_plan(rt.alloc(), ALL_KEYS) else {
+        panic!(rt; "no plan");
+    };
+    assert_eq!(rt;
+        (
+            plan.senders(),
+            plan.irq_every(),
+            plan.stations(),
+            plan.events(),
+            plan.units()
+        ),
+        (8, 1000, 2, 5, 3)
+    );
+    assert_eq!(rt; plan.split(), Split::Source);
+    let stations = [
+        StationPlan {
+            len: 3,
+            max_len: 7,
+            bypass: false,
+            params: Params {
+                burst: 1,
+                busy_every: 2,
+                busy_limit: 3,
+                hang_after: 1_000_000,
+            },
+        },
+        StationPlan {
+            len: 4096,
+            max_len: 4096,
+            bypass: true,
+            params: NO_RULES,
+        },
+    ];
+    for j in 0..plan.stations() {
+        assert_eq!(rt;
+            Some(&plan.station(j)),
+            stations.get(j as usize),
+            "station {j}"
+        );
+    }
+    let swapped = Params {
+        busy_every: 9,
+        ..NO_RULES
+    };
+    let events = [
+        (0, 0, EventKind::Resize { len: 7 }),
+        (0, 1, EventKind::TxQueueLen { len: 4096 }),
+        (5, 1, EventKind::Swap { params: swapped }),
+        (5, 0, EventKind::Down),
+        (1_000_000, 0, EventKind::Up),
+    ];
+    for (e, (before, station, kind)) in events.iter().enumerate() {
+        let want = EventPlan {
+            before: *before,
+            station: *station,
+            kind: *kind,
+        };
+        if (e as u32) < plan.events() {
+            assert_eq!(rt; plan.event(e as u32), want, "event {e}");
+        }
+    }
+}
