@@ -59,6 +59,21 @@ no-element [] none = refl
 no-element (x ∷ xs) none = absurd (omega arith)
 
 module _ (infos : List Info) (queues : (m : ℕ) → queue_in infos m ≡ 0) where
+  -- what holds of a station that isn't served further, and where it holds of serving behind the next turn
+  pub by_turn : (P : Running → Type 0) (s : Running) → HasOneQueue s → s.account.down ≡ None → P s
+      → ((event : Event) → IsTurned s (after_turn event s) → s.account.stops ≡ 0 ∷ [] → next_taken s.account ≡ Some event
+          → P (served_turns infos (turns_of (after_turn event s)) (after_turn event s)))
+      → P (served_turns infos (turns_of s) s)
+  by_turn P s one active here on = by_stop (cases_eq one.stop 0)
+    where
+      by_next : (o : Option Event) → next_taken s.account ≡ o → s.account.stops ≡ 0 ∷ [] → P (served_turns infos (turns_of s) s)
+      by_next None next stops = subst P (sym (turns_none infos (turns_of s) s (held_none s.account next))) here
+      by_next (Some event) next stops = subst P (sym (turn_served infos queues s event one stops active next)) (on event (is_turned s event one stops next) stops next)
+
+      by_stop : (one.stop ≡ 0) ⊎ (one.stop ≢ 0) → P (served_turns infos (turns_of s) s)
+      by_stop (inl at_0) = by_next (next_taken s.account) refl (one.stops ∙ ap (λ stop. stop ∷ []) at_0)
+      by_stop (inr closed) = subst P (sym (turns_left infos (turns_of s) s (left_stopped s.account one.stop one.stops closed))) here
+
   by-turn : (s : Running) → HasOneQueue s → s.account.down ≡ None
       → ((event : Event) → IsTurned s (after_turn event s) → IsServed (after_turn event s) (served_turns infos (turns_of (after_turn event s)) (after_turn event s)))
       → IsServed s (served_turns infos (turns_of s) s)

@@ -4,3 +4,5 @@ pub mod Progress
 pub mod Accounts
 -- what events, serving and the end come to with one queue
 pub mod OneQueue
+-- a station in the run of one sender
+pub mod Sender

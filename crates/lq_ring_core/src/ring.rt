@@ -106,6 +106,7 @@ impl Ring {
         ensures full { IsErr result ↔ IsFull self.old }
         ensures seen { IfErr result (λ full. slice_get (entries_of self.old) 0 ≡ Some full.seen) }
         ensures err { OnErr result (self.new ≡ self.old) }
+        ensures room { OnOk result (length self.old.held < self.old.size) }
 
         // Where the ring is a band, this is the band's join, refused exactly where its slot is occupied.
         ensures joins { (band : Band) → IsBand self.old band → OnOk result (IsBand self.new (joined band n)) }

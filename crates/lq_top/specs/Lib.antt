@@ -20,3 +20,11 @@ pub mod Status
 pub mod Stop
 -- what a file gave
 pub mod Input
+-- the three bands of a station
+pub mod Bands
+-- a station's queue, and the account that it stands for
+pub mod Queue
+-- the queues of all stations
+pub mod Stations
+-- what is made before a run
+pub mod Setup

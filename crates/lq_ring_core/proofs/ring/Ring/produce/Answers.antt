@@ -1,7 +1,10 @@
-use Rattle.std.proofs.Common.{◌-◌, arith, sym, ◌∙◌, refl}
+use Rattle.std.proofs.Common.{◌≢◌, ◌-◌, arith, sym, ◌∙◌, refl}
 use Rattle.lq_ring_core.proofs.Lists.{read-slice_index}
 use Rattle.lq_ring_core.proofs.BandLaws.{IsFull-occupied, MayBeFull-since, IsBand-produce}
-use Rattle.lq_ring_core.proofs.Steps.{full-since, full-never, seen-first, IsInOrder-produce, ring_of-produce}
+use Rattle.std.proofs.Common.{length, length-append}
+use Rattle.std.proofs.lemmas.Bool.{true≢false}
+use Rattle.lq_ring_core.specs.Ring.{IsBounded, entries_of}
+use Rattle.lq_ring_core.proofs.Steps.{IsBounded-ring_of, full-since, full-never, seen-first, IsInOrder-produce, ring_of-produce}
 use Rattle.lq_ring_core.proofs.ring.Ring.produce.Goals as goal
 
 pub returns-then-slot-ne0-clause-full : goal.returns-then-slot-ne0-clause-full
@@ -62,3 +65,12 @@ returns-clause-joins c = λ band b. rw (returns-clause-ok c) (IsBand-produce c.a
 pub returns-clause-occupied : goal.returns-clause-occupied
 returns-clause-occupied c = λ band b.
     (λ e. absurd (cc), λ occupied. (returns-clause-full c).1 ((IsFull-occupied c.args.self.now band b).1 occupied))
+
+pub returns-clause-room : goal.returns-clause-room
+returns-clause-room c =
+    let r = c.self.inside in
+    let o = c.self.invariant in
+    let bounded : IsBounded c.args.self.now = rw (← c.self.view_is) (IsBounded-ring_of r.slots.items r.slots.len r.size r.producer r.head r.tail o.in_order o.not_empty o.within_max o.max_within) in
+    let within = bounded.slots_within in
+    let apart : length (entries_of c.args.self.now) ≢ c.args.self.now.size = λ full. true≢false (sym ((returns-clause-full c).1 full)) in
+    omega (arith, apart, length-append c.args.self.now.stale c.args.self.now.held)

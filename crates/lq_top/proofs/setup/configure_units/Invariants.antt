@@ -1,0 +1,13 @@
+use Rattle.std.proofs.Common.{◌≡◌, drop, map}
+use Rattle.lq_top.specs.Setup.{AreConfigured}
+use Rattle.lq_top.proofs.setup.configure_units.Given as goal
+
+-- the devices of the first stations are configured
+abbrev pub invariant-loop-station : goal.invariant-loop-station
+invariant-loop-station g l =
+    let states = map g.D.TxDevice.state in
+    record {
+      len : l.bench.len ≡ l.fn.bench.len;
+      configured : AreConfigured l.plan l.infos l.station (states l.fn.bench.items) (states l.bench.items);
+      rest : drop l.station l.bench.items ≡ drop l.station l.fn.bench.items;
+    }
