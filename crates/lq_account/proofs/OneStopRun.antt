@@ -18,23 +18,23 @@ one-of [] one = absurd (omega arith)
 one-of (x ∷ []) one = refl
 one-of (x ∷ y ∷ xs) one = absurd (omega arith)
 
-has-one-queue : (s : Running) → IsOfOneQueue s → HasOneQueue s
-has-one-queue s h = record { stop = stop_of s.account; stops = one-of s.account.stops h.queues; known = h.known; hand = h.hand; busies = h.busies }
+pub has_one_queue : (s : Running) → IsOfOneQueue s → HasOneQueue s
+has_one_queue s h = record { stop = stop_of s.account; stops = one-of s.account.stops h.queues; known = h.known; hand = h.hand; busies = h.busies }
 
-stop-is : (a : Account) (stop : ℕ) → a.stops ≡ stop ∷ [] → stop_of a ≡ stop
-stop-is a stop stops = ap (λ stops. slice_index stops 0) stops
+pub stop_is : (a : Account) (stop : ℕ) → a.stops ≡ stop ∷ [] → stop_of a ≡ stop
+stop_is a stop stops = ap (λ stops. slice_index stops 0) stops
 
 -- SERVING
 
 module _ (infos : List Info) (queues : AreOfOneQueue infos) (s : Running) (one : HasOneQueue s) where
   open-stops : stop_of s.account ≡ 0 → s.account.stops ≡ 0 ∷ []
-  open-stops at_0 = one.stops ∙ ap (λ stop. stop ∷ []) (sym (stop-is s.account one.stop one.stops) ∙ at_0)
+  open-stops at_0 = one.stops ∙ ap (λ stop. stop ∷ []) (sym (stop_is s.account one.stop one.stops) ∙ at_0)
 
   left-down : (event : ℕ) → s.account.down ≡ Some event → is_left s.account ≡ true
   left-down event down = ap (λ down. is_some down || (not (is_shared s.account) && not (is_open s.account 0))) down
 
   left-closed : stop_of s.account ≢ 0 → is_left s.account ≡ true
-  left-closed closed = left_stopped s.account one.stop one.stops (λ at_0. closed (stop-is s.account one.stop one.stops ∙ at_0))
+  left-closed closed = left_stopped s.account one.stop one.stops (λ at_0. closed (stop_is s.account one.stop one.stops ∙ at_0))
 
 module _ (infos : List Info) (queues : AreOfOneQueue infos) (s : Running) (one : HasOneQueue s) (active : s.account.down ≡ None) (at_0 : stop_of s.account ≡ 0) where
   stops : s.account.stops ≡ 0 ∷ []
@@ -59,7 +59,7 @@ module _ (infos : List Info) (queues : AreOfOneQueue infos) (s : Running) (one :
       ∙ ap cleaned (turns_left infos (turns_of (offered_next event s)) (offered_next event s) (left-closed infos queues (offered_next event s) turned.one closed))
       ∙ ap (λ clean. record (offered_next event s) { clean = clean })
       (one_clean (offered_next event s).account turned.one.stop turned.one.stops
-      ∙ ne_eqb turned.one.stop 0 (λ zero. closed (stop-is (offered_next event s).account turned.one.stop turned.one.stops ∙ zero)))
+      ∙ ne_eqb turned.one.stop 0 (λ zero. closed (stop_is (offered_next event s).account turned.one.stop turned.one.stops ∙ zero)))
 
   after-it : IsServed s (served infos s)
   after-it = is_served infos queues s one active stops
@@ -74,7 +74,7 @@ module _ (infos : List Info) (queues : AreOfOneQueue infos) (s : Running) (one :
   clean-is : (served infos s).clean ≡ (stop_of (served infos s).account == 0)
   clean-is =
       ap (λ (t : Running). t.clean) serves ∙ sym (ap (λ (t : Running). is_clean t.account) serves)
-      ∙ one_clean (served infos s).account after-it.one.stop after-it.one.stops ∙ ap (λ stop. stop == 0) (sym (stop-is (served infos s).account after-it.one.stop after-it.one.stops))
+      ∙ one_clean (served infos s).account after-it.one.stop after-it.one.stops ∙ ap (λ stop. stop == 0) (sym (stop_is (served infos s).account after-it.one.stop after-it.one.stops))
 
 pub served_by_turns : (infos : List Info) (s : Running) → AreOfOneQueue infos → IsOfOneQueue s → IsServedByTurns infos s
 served_by_turns infos s queues of_one = record {
@@ -91,13 +91,13 @@ served_by_turns infos s queues of_one = record {
 }
   where
     one : HasOneQueue s
-    one = has-one-queue s of_one
+    one = has_one_queue s of_one
 
 -- THE END
 
 module _ (infos : List Info) (queues : AreOfOneQueue infos) (s : Running) (one : HasOneQueue s) where
   stop-same : stop_of s.account ≡ one.stop
-  stop-same = stop-is s.account one.stop one.stops
+  stop-same = stop_is s.account one.stop one.stops
 
   done-now : is_done s.account ≡ (is_some s.account.down || ((stop_of s.account == 2) || ((stop_of s.account == 0) && is_none (next_taken s.account))))
   done-now = one_done s.account one.stop one.stops ∙ ap (λ stop. is_some s.account.down || ((stop == 2) || ((stop == 0) && is_none (next_taken s.account)))) (sym stop-same)
@@ -128,7 +128,7 @@ module _ (infos : List Info) (queues : AreOfOneQueue infos) (s : Running) (one :
   done-from (inr (inr idle)) = done-now ∙ or_right (is_some s.account.down) _ (or_right (stop_of s.account == 2) _
       (and_from (stop_of s.account == 0) _ (eq-eqb _ 0 idle.0) (ap is_none (next_none s.account idle.1))))
 
-  wakes : opened s ≡ (if stop_of s.account == 1 then record s { account = after (Wake 0) s.account } else s)
+  pub wakes : opened s ≡ (if stop_of s.account == 1 then record s { account = after (Wake 0) s.account } else s)
   wakes = one_opened s one.stop one.stops ∙ by_bool (one.stop == 1)
       ∙ ap {A = ℕ} {B = Running} (λ stop. if stop == 1 then record s { account = after (Wake 0) s.account } else s) (sym stop-same)
     where
@@ -136,10 +136,10 @@ module _ (infos : List Info) (queues : AreOfOneQueue infos) (s : Running) (one :
       by_bool true = refl
       by_bool false = refl
 
-  purges : stop_of s.account ≡ 2 → purged_if_hung s.account ≡ after (Purge (Hung s.account.unit)) s.account
+  pub purges : stop_of s.account ≡ 2 → purged_if_hung s.account ≡ after (Purge (Hung s.account.unit)) s.account
   purges hung = one_purged s.account one.stop one.stops ∙ cond-true _ _ _ (eq-eqb one.stop 2 (sym stop-same ∙ hung))
 
-  keeps : stop_of s.account ≢ 2 → purged_if_hung s.account ≡ s.account
+  pub keeps : stop_of s.account ≢ 2 → purged_if_hung s.account ≡ s.account
   keeps other = one_purged s.account one.stop one.stops ∙ cond-false _ _ _ (ne_eqb one.stop 2 (λ hung. other (stop-same ∙ hung)))
 
 -- an active station that is done holds nothing behind its purge
@@ -171,4 +171,4 @@ finished_by_rounds infos s queues of_one = record {
 }
   where
     one : HasOneQueue s
-    one = has-one-queue s of_one
+    one = has_one_queue s of_one

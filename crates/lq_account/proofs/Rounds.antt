@@ -62,7 +62,7 @@ module _ (infos : List Info) (queues : (m : ℕ) → queue_in infos m ≡ 0) whe
   -- what holds of a station that isn't served further, and where it holds of serving behind the next turn
   pub by_turn : (P : Running → Type 0) (s : Running) → HasOneQueue s → s.account.down ≡ None → P s
       → ((event : Event) → IsTurned s (after_turn event s) → s.account.stops ≡ 0 ∷ [] → next_taken s.account ≡ Some event
-          → P (served_turns infos (turns_of (after_turn event s)) (after_turn event s)))
+      → P (served_turns infos (turns_of (after_turn event s)) (after_turn event s)))
       → P (served_turns infos (turns_of s) s)
   by_turn P s one active here on = by_stop (cases_eq one.stop 0)
     where
@@ -74,10 +74,10 @@ module _ (infos : List Info) (queues : (m : ℕ) → queue_in infos m ≡ 0) whe
       by_stop (inl at_0) = by_next (next_taken s.account) refl (one.stops ∙ ap (λ stop. stop ∷ []) at_0)
       by_stop (inr closed) = subst P (sym (turns_left infos (turns_of s) s (left_stopped s.account one.stop one.stops closed))) here
 
-  by-turn : (s : Running) → HasOneQueue s → s.account.down ≡ None
+  serves-by-turn : (s : Running) → HasOneQueue s → s.account.down ≡ None
       → ((event : Event) → IsTurned s (after_turn event s) → IsServed (after_turn event s) (served_turns infos (turns_of (after_turn event s)) (after_turn event s)))
       → IsServed s (served_turns infos (turns_of s) s)
-  by-turn s one active on = by_stop (cases_eq one.stop 0)
+  serves-by-turn s one active on = by_stop (cases_eq one.stop 0)
     where
       by_next : (o : Option Event) → next_taken s.account ≡ o → s.account.stops ≡ 0 ∷ [] → IsServed s (served_turns infos (turns_of s) s)
       by_next None next stops = let none = held_none s.account next in
@@ -91,8 +91,8 @@ module _ (infos : List Info) (queues : (m : ℕ) → queue_in infos m ≡ 0) whe
           is-served s _ one active (turns_left infos (turns_of s) s left) (λ stops some. closed (same-stop _ _ _ one.stops stops)) (inl left)
 
   turns-serve : (turns : ℕ) (s : Running) → turns ≡ turns_of s → HasOneQueue s → s.account.down ≡ None → IsServed s (served_turns infos (turns_of s) s)
-  turns-serve zero s e one active = by-turn s one active (λ event turned. absurd (let more = turned.turns in omega arith))
-  turns-serve (suc turns) s e one active = by-turn s one active (λ event turned.
+  turns-serve zero s e one active = serves-by-turn s one active (λ event turned. absurd (let more = turned.turns in omega arith))
+  turns-serve (suc turns) s e one active = serves-by-turn s one active (λ event turned.
       turns-serve turns (after_turn event s) (let more = turned.turns in omega arith) turned.one (turned.down ∙ active))
 
   pub is_served : (s : Running) → HasOneQueue s → s.account.down ≡ None → s.account.stops ≡ 0 ∷ [] → IsServed s (served infos s)

@@ -41,8 +41,8 @@ left_open a active stops = one_left a 0 stops ∙ ap (λ down. is_some down || f
 abbrev pub after_turn : Event → Running → Running
 after_turn event s = offered 0 (record s { account = after event s.account })
 
-busy-answer : (t : Telling) (n : ℕ) → is_busy (answer_of t n) ≡ true → t.busies < t.params.busy_limit
-busy-answer t n busy =
+pub busy_answer : (t : Telling) (n : ℕ) → is_busy (answer_of t n) ≡ true → t.busies < t.params.busy_limit
+busy_answer t n busy =
     by_test (is_multiple (n + t.busies + 1) t.params.busy_every && nat_lt t.busies t.params.busy_limit) (nat_lt 0 t.params.hang_after && (n + 1 == t.params.hang_after))
     (is_multiple (n + 1) t.params.burst) refl busy
   where
@@ -108,7 +108,7 @@ turned s event answer one stops turn limit =
     turned-parts answer h.packet s _ _ one h h2 (held-behind answer h.packet _ _ h.slot h2) limit
 
 pub is_turned : (s : Running) (event : Event) → HasOneQueue s → s.account.stops ≡ 0 ∷ [] → next_taken s.account ≡ Some event → IsTurned s (after_turn event s)
-is_turned s event one stops next = turned s event (next_answer (record s { account = after event s.account })) one stops (turn_of s.account event next) (busy-answer s.device _)
+is_turned s event one stops next = turned s event (next_answer (record s { account = after event s.account })) one stops (turn_of s.account event next) (busy_answer s.device _)
 
 -- SERVING
 

@@ -1,11 +1,14 @@
--- A station in the run of one sender, between two offers.
-use Rattle.std.specs.Prelude.{◌≡◌, ℕ, ◌+◌, ◌<◌, ◌≤◌, true, List, [], length, None}
+-- The run of one sender: a station between two offers, and the fates of all packets.
+use Rattle.std.specs.Prelude.{◌≡◌, ℕ, ◌+◌, ◌<◌, ◌≤◌, true, List, [], length, map, slice_get, Some, None}
 use Rattle.lq_model.specs.Account.{held}
-use Rattle.lq_model.specs.Alone.{Running}
+use Rattle.lq_model.specs.Alone.{Running, alone}
 use Rattle.lq_model.specs.Band.{Band, held_of, stale_count}
-use Rattle.lq_model.specs.Plan.{Plan}
+use Rattle.lq_model.specs.Plan.{Plan, station_in, band_in}
+use Rattle.lq_model.specs.Settled.{IsInSenderOrder, IsSettled}
+use Rattle.lq_model.specs.declared.fate.Fate.{Fate}
 use Rattle.lq_model.specs.declared.fate.Info.{Info}
-use Rattle.lq_account.specs.OneQueue.{IsOfOneQueue}
+use Rattle.lq_model.specs.declared.plan.StationPlan.{StationPlan}
+use Rattle.lq_account.specs.OneQueue.{AreOfOneQueue, IsOfOneQueue}
 use Rattle.lq_account.specs.Progress.{IsAt}
 
 -- a ring of this length has a slot for each packet that the band holds, beside the slots that aren't empty yet
@@ -23,3 +26,19 @@ pub record IsInRun (plan : Plan) (infos : List Info) (station n : ℕ) (s : Runn
   pub bands : (band : ℕ) → FitsRing s.account.len (s.account.bands band)
   -- where the next packet may go past the bands nothing is held
   pub clean : s.clean ≡ true → held s.account ≡ []
+
+-- a plan without events, whose stations have rings, and packets of its stations, of bands below 3 and of queue 0
+pub record IsPlain (plan : Plan) (infos : List Info) : Type 0 where
+  pub no_events : plan.events ≡ []
+  pub have_slots : (station : ℕ) (s : StationPlan) → slice_get plan.stations station ≡ Some s → 0 < s.len
+  pub stations : (n : ℕ) → n < length infos → station_in infos n < length plan.stations
+  pub bands : (n : ℕ) → band_in infos n < 3
+  pub queues : AreOfOneQueue infos
+
+-- the fates of the run of one sender: each packet has one, they are settled, and each owner's packets of a band were sent in
+-- ascending number
+pub record AreAloneSettled (plan : Plan) (infos : List Info) : Type 0 where
+  pub fates : List Fate
+  pub are : alone plan infos ≡ map Some fates
+  pub settled : IsSettled plan infos fates
+  pub in_order : IsInSenderOrder infos fates

@@ -8,6 +8,7 @@ ghost use Rattle.lq_model.specs.declared.fate.Info.{Info};
 ghost use Rattle.lq_account.specs.Accounts.{AreSettledStations, IsClosed, IsSettledStation};
 
 pub mod one_queue;
+pub mod one_sender;
 
 /// The stations of a plan together: each packet has one fate, each unit's serials are 0 up to the number that it sent,
 /// and each owner's packets of one station and band were sent in ascending number. What the account of a unit's station has

@@ -1,0 +1,217 @@
+-- The run of one sender over all stations of a plan without events: its fates are settled.
+use Rattle.std.proofs.Common.{◌≡◌, ◌≢◌, ℕ, zero, suc, ◌+◌, ◌%◌, ◌<◌, ◌≤◌, ◌==◌, List, [], ◌∷◌, ◌++◌, ◌⊎◌, inl, inr, length, map, filter, Option, Some, None, nat_le, slice_get, refl, sym, ap, ap₂, subst, ◌∙◌, arith, length-append}
+use Rattle.std.specs.Option.{option_and_then, option_map, option_map_or, unwrap_or}
+use Rattle.std.proofs.lemmas.Bool.{cases_lt, cond_both}
+use Rattle.std.proofs.lemmas.List.{length-map, map-append}
+use Rattle.std.proofs.lemmas.Option.{same_Some, slice_get_cases, slice_get-map}
+use Rattle.lq_model.specs.Account.{Account, held}
+use Rattle.lq_model.specs.Alone.{Running, after_packets, after_run, alone, before_of, brought_in, bypass_of, changed_at, events_before, events_behind, fate_in, fates_from, finished, new_station, new_stations, opened, served, with_events, with_packet, with_turn, with_wakes}
+use Rattle.lq_model.specs.Numbers.{first_numbers}
+use Rattle.lq_model.specs.Plan.{Plan, station_in}
+use Rattle.lq_model.specs.declared.fate.Fate.{Fate}
+use Rattle.lq_model.specs.declared.fate.Fate.TheVariants.{Full}
+use Rattle.lq_model.specs.declared.fate.Info.{Info}
+use Rattle.lq_model.specs.declared.plan.StationPlan.{StationPlan}
+use Rattle.lq_account.specs.Accounts.{AreSettledStations, IsSettledStation}
+use Rattle.lq_account.specs.Progress.{start_of}
+use Rattle.lq_account.specs.Sender.{AreAloneSettled, IsInRun, IsPlain}
+use Rattle.lq_account.proofs.Closing.{is_closed}
+use Rattle.lq_account.proofs.Law.{law_of_accounts}
+use Rattle.lq_account.proofs.OneStopRun.{finished_by_rounds}
+use Rattle.lq_account.proofs.Placed.{decided}
+use Rattle.lq_account.proofs.Sender.{begins_in_run, brought_in_run, finished_in_run, opened_in_run, passes_in_run, served_in_run}
+use Rattle.lq_account.proofs.Settle.{accounts_are_in_order, accounts_settle}
+
+-- LISTS
+
+map-some : {X Y : Type 0} (f : X → Y) (xs : List X) (j : ℕ) (y : Y) → slice_get (map f xs) j ≡ Some y → (x : X) × (slice_get xs j ≡ Some x) × (f x ≡ y)
+map-some f [] j y e = cc
+map-some f (x ∷ xs) zero y e = (x, refl, same_Some (f x) y e)
+map-some f (x ∷ xs) (suc j) y e = map-some f xs j y e
+
+changed-some : {X : Type 0} (i : ℕ) (f : X → X) (xs : List X) (j : ℕ) (y : X) → slice_get (changed_at i f xs) j ≡ Some y
+    → ((j ≡ i) × ((x : X) × (slice_get xs j ≡ Some x) × (f x ≡ y))) ⊎ ((j ≢ i) × (slice_get xs j ≡ Some y))
+changed-some zero f [] j y e = cc
+changed-some (suc i) f [] j y e = cc
+changed-some zero f (x ∷ xs) zero y e = inl (refl, (x, refl, same_Some (f x) y e))
+changed-some zero f (x ∷ xs) (suc j) y e = inr ((λ same. omega arith), e)
+changed-some (suc i) f (x ∷ xs) zero y e = inr ((λ same. omega arith), e)
+changed-some (suc i) f (x ∷ xs) (suc j) y e = elim (changed-some i f xs j y e) [
+  | inl at ↦ inl (ap suc at.0, at.1)
+  | inr other ↦ inr ((λ same. other.0 (omega arith)), other.1)
+]
+
+length-changed : {X : Type 0} (i : ℕ) (f : X → X) (xs : List X) → length (changed_at i f xs) ≡ length xs
+length-changed zero f [] = refl
+length-changed (suc i) f [] = refl
+length-changed zero f (x ∷ xs) = refl
+length-changed (suc i) f (x ∷ xs) = ap suc (length-changed i f xs)
+
+new-some : (k : ℕ) (ss : List StationPlan) (j : ℕ) (y : Running) → slice_get (new_stations k ss) j ≡ Some y → (s : StationPlan) × (slice_get ss j ≡ Some s) × (new_station (k + j) s ≡ y)
+new-some k [] j y e = cc
+new-some k (s ∷ ss) zero y e = (s, refl, ap (λ n. new_station n s) (omega arith) ∙ same_Some _ y e)
+new-some k (s ∷ ss) (suc j) y e = let rest = new-some (k + 1) ss j y e in (rest.0, rest.1, ap (λ n. new_station n rest.0) (omega arith) ∙ rest.2)
+
+length-new : (k : ℕ) (ss : List StationPlan) → length (new_stations k ss) ≡ length ss
+length-new k [] = refl
+length-new k (s ∷ ss) = ap suc (length-new (k + 1) ss)
+
+get-left : (xs ys : List ℕ) (n x : ℕ) → slice_get xs n ≡ Some x → slice_get (xs ++ ys) n ≡ Some x
+get-left [] ys n x e = cc
+get-left (y ∷ xs) ys zero x e = e
+get-left (y ∷ xs) ys (suc n) x e = get-left xs ys n x e
+
+get-end : (xs : List ℕ) (x : ℕ) → slice_get (xs ++ x ∷ []) (length xs) ≡ Some x
+get-end [] x = refl
+get-end (y ∷ xs) x = get-end xs x
+
+length-first : (n : ℕ) → length (first_numbers n) ≡ n
+length-first zero = refl
+length-first (suc n) = (let before = length-first n in omega (arith, length-append (first_numbers n) (n ∷ [])))
+
+first-at : (count n : ℕ) → n < count → slice_get (first_numbers count) n ≡ Some n
+first-at zero n below = absurd (omega arith)
+first-at (suc count) n below = by_place (λ lower. first-at count n lower) (cases_lt n count)
+  where
+    by_place : (n < count → slice_get (first_numbers count) n ≡ Some n) → (n < count) ⊎ (count ≤ n) → slice_get (first_numbers count ++ count ∷ []) n ≡ Some n
+    by_place before (inl lower) = get-left (first_numbers count) (count ∷ []) n n (before lower)
+    by_place before (inr last) =
+        let same : count ≡ n = omega arith in
+        ap (slice_get (first_numbers count ++ count ∷ [])) (sym same ∙ sym (length-first count)) ∙ get-end (first_numbers count) count ∙ ap Some same
+
+-- each of the first numbers has a value
+all-some : (f : ℕ → Option Fate) (count : ℕ) → ((n : ℕ) → n < count → f n ≡ Some (unwrap_or (f n) (Full 0)))
+    → map f (first_numbers count) ≡ map Some (map (λ n. unwrap_or (f n) (Full 0)) (first_numbers count))
+all-some f zero some = refl
+all-some f (suc count) some =
+    map-append f (first_numbers count) (count ∷ []) ∙ ap₂ (λ xs x. xs ++ x ∷ []) (all-some f count (λ n below. some n (omega arith))) (some count (omega arith))
+    ∙ sym (map-append Some (map (λ n. unwrap_or (f n) (Full 0)) (first_numbers count)) (unwrap_or (f count) (Full 0) ∷ []))
+    ∙ ap (map Some) (sym (map-append (λ n. unwrap_or (f n) (Full 0)) (first_numbers count) (count ∷ [])))
+
+-- ALL STATIONS
+
+record AreInRun (plan : Plan) (infos : List Info) (n : ℕ) (stations : List Running) : Type 0 where
+  one_each : length stations ≡ length plan.stations
+  each : (j : ℕ) (s : Running) → slice_get stations j ≡ Some s → IsInRun plan infos j n s
+
+module _ (plan : Plan) (infos : List Info) (plain : IsPlain plan infos) where
+  all-begin : AreInRun plan infos 0 (new_stations 0 plan.stations)
+  all-begin = record {
+    one_each = length-new 0 plan.stations;
+    each = λ j s at. (let new = new-some 0 plan.stations j s at in
+        subst (IsInRun plan infos j 0) (ap (λ k. new_station k new.0) (omega arith) ∙ new.2) (begins_in_run plan infos j new.0 new.1 (plain.have_slots j new.0 new.1)));
+  }
+
+  all-mapped : (f : Running → Running) (n : ℕ) (stations : List Running) → ((j : ℕ) (s : Running) → IsInRun plan infos j n s → IsInRun plan infos j n (f s))
+      → AreInRun plan infos n stations → AreInRun plan infos n (map f stations)
+  all-mapped f n stations keeps all = record {
+    one_each = length-map stations f ∙ all.one_each;
+    each = λ j s at. (let old = map-some f stations j s at in subst (IsInRun plan infos j n) old.2 (keeps j old.0 (all.each j old.0 old.1)));
+  }
+
+  all-brought : (n : ℕ) (stations : List Running) → n < length infos → AreInRun plan infos n stations → AreInRun plan infos (n + 1) (with_packet plan infos n stations)
+  all-brought n stations within all = record {
+    one_each = length-changed (station_in infos n) _ stations ∙ all.one_each;
+    each = λ j s at. elim (changed-some (station_in infos n) (λ s. served infos (brought_in infos (bypass_of plan (station_in infos n)) n s)) stations j s at) [
+      | inl own ↦ subst (IsInRun plan infos j (n + 1)) own.1.2 (served_in_run plan infos j plain.queues (n + 1) _
+          (brought_in_run plan infos j plain.queues (bypass_of plan (station_in infos n)) n own.1.0 within (sym own.0) (all.each j own.1.0 own.1.1)))
+      | inr other ↦ passes_in_run (λ same. other.0 (sym same)) (all.each j s other.1)
+    ];
+  }
+
+  all-woken : (n m : ℕ) (stations : List Running) → AreInRun plan infos m stations → AreInRun plan infos m (with_wakes plan n stations)
+  all-woken n m stations all = cond_both ((n + 1) % plan.irq_every == 0) (map opened stations) stations (AreInRun plan infos m)
+      (λ wakes. all-mapped opened m stations (λ j s h. opened_in_run plan infos j plain.queues m s h) all) (λ none. all)
+
+  none-before : (n : ℕ) → events_before plan n ≡ []
+  none-before n = ap (λ count. filter (λ event. before_of plan event == n) (first_numbers count)) (ap length plain.no_events)
+
+  none-behind : (n : ℕ) → events_behind plan n ≡ []
+  none-behind n = ap (λ count. filter (λ event. nat_le n (before_of plan event)) (first_numbers count)) (ap length plain.no_events)
+
+  all-turn : (n : ℕ) (stations : List Running) → n < length infos → AreInRun plan infos n stations → AreInRun plan infos (n + 1) (with_turn plan infos n stations)
+  all-turn n stations within all =
+      all-mapped (served infos) (n + 1) _ (λ j s h. served_in_run plan infos j plain.queues (n + 1) s h)
+      (all-woken n (n + 1) _ (all-brought n _ within
+      (subst (λ events. AreInRun plan infos n (with_events plan infos events stations)) (sym (none-before n)) all)))
+
+  all-packets : (n : ℕ) → n ≤ length infos → AreInRun plan infos n (after_packets plan infos (new_stations 0 plan.stations) n)
+  all-packets zero within = all-begin
+  all-packets (suc n) within = subst (λ k. AreInRun plan infos k (with_turn plan infos n (after_packets plan infos (new_stations 0 plan.stations) n))) (omega arith)
+      (all-turn n _ (omega arith) (all-packets n (omega arith)))
+
+  -- the stations behind the run
+  abbrev ended : List Running
+  ended = after_run plan infos (new_stations 0 plan.stations)
+
+  all-behind : AreInRun plan infos (length infos) (with_events plan infos (events_behind plan (length infos)) (after_packets plan infos (new_stations 0 plan.stations) (length infos)))
+  all-behind = subst (λ events. AreInRun plan infos (length infos) (with_events plan infos events (after_packets plan infos (new_stations 0 plan.stations) (length infos))))
+      (sym (none-behind (length infos))) (all-packets (length infos) (omega arith))
+
+  all-ended : AreInRun plan infos (length infos) ended
+  all-ended = all-mapped (finished infos) (length infos) _ (λ j s h. finished_in_run plan infos j plain.queues (length infos) s h) all-behind
+
+  none-held : (j : ℕ) (s : Running) → slice_get ended j ≡ Some s → held s.account ≡ []
+  none-held j s at =
+      let old = map-some (finished infos) (with_events plan infos (events_behind plan (length infos)) (after_packets plan infos (new_stations 0 plan.stations) (length infos))) j s at in
+      let h = all-behind.each j old.0 old.1 in
+      subst (λ (t : Running). held t.account ≡ []) old.2 ((finished_by_rounds infos old.0 plain.queues h.one_queue).nothing_held h.active)
+
+  -- THE FATES
+
+  station-at : (j : ℕ) → j < length plan.stations → (s : Running) × (slice_get ended j ≡ Some s)
+  station-at j below = elim (slice_get_cases ended j).1 [
+    | inl here ↦ (here.0, here.2)
+    | inr past ↦ absurd (let beyond = past.0 in let same = all-ended.one_each in omega arith)
+  ]
+
+  fate-is : (n j : ℕ) (s : Running) → station_in infos n ≡ j → slice_get ended j ≡ Some s → fate_in ended infos n ≡ s.account.fates n
+  fate-is n j s of at = ap (λ o. option_and_then (λ (s : Running). s.account.fates n) o) (ap (slice_get ended) of ∙ at)
+
+  decided-at : (n j : ℕ) (s : Running) → n < length infos → station_in infos n ≡ j → slice_get ended j ≡ Some s → fate_in ended infos n ≡ Some (unwrap_or (fate_in ended infos n) (Full 0))
+  decided-at n j s within of at =
+      let fate = decided plain.bands (all-ended.each j s at).at (none-held j s at) (all-ended.each j s at).one_queue.hand n within of in
+      some-unwraps (fate_in ended infos n) fate.0 (fate-is n j s of at ∙ fate.1)
+    where
+      some-unwraps : (o : Option Fate) (f : Fate) → o ≡ Some f → o ≡ Some (unwrap_or o (Full 0))
+      some-unwraps None f e = cc
+      some-unwraps (Some g) f e = refl
+
+  abbrev fates : List Fate
+  fates = map (λ n. unwrap_or (fate_in ended infos n) (Full 0)) (first_numbers (length infos))
+
+  fates-are : (n : ℕ) → n < length infos → slice_get fates n ≡ Some (unwrap_or (fate_in ended infos n) (Full 0))
+  fates-are n within = slice_get-map _ (first_numbers (length infos)) n ∙ ap (option_map (λ n. unwrap_or (fate_in ended infos n) (Full 0))) (first-at (length infos) n within)
+
+  one-fate-each : length fates ≡ length infos
+  one-fate-each = length-map (first_numbers (length infos)) _ ∙ length-first (length infos)
+
+  settled-station : (j : ℕ) (s : Running) → j < length plan.stations → slice_get ended j ≡ Some s → IsSettledStation plan infos fates j s.account
+  settled-station j s below at =
+      let h = all-ended.each j s at in
+      law_of_accounts plan infos fates j h.at.past s.account below
+      (is_closed fates plain.no_events h.at (none-held j s at) h.one_queue.hand one-fate-each
+      (λ n within of. fates-are n within ∙ sym (decided-at n j s within of at) ∙ fate-is n j s of at))
+
+  abbrev account-of : ℕ → Account
+  account-of j = option_map_or (λ (s : Running). s.account) (slice_get ended j) (start_of plan j)
+
+  all-settled : AreSettledStations plan infos fates account-of
+  all-settled = record {
+    one_each = one-fate-each;
+    of_plan = plain.stations;
+    each = λ j below. (let here = station-at j below in
+        subst (IsSettledStation plan infos fates j) (sym (ap (λ o. option_map_or (λ (s : Running). s.account) o (start_of plan j)) here.1)) (settled-station j here.0 below here.1));
+  }
+
+  alone-fates : alone plan infos ≡ map Some fates
+  unfolding fates_from
+  alone-fates = all-some (fate_in ended infos) (length infos) (λ n within. (let here = station-at (station_in infos n) (plain.stations n within) in decided-at n (station_in infos n) here.0 within refl here.1))
+
+pub alone_settles : (plan : Plan) (infos : List Info) → IsPlain plan infos → AreAloneSettled plan infos
+alone_settles plan infos plain = record {
+  fates = fates plan infos plain;
+  are = alone-fates plan infos plain;
+  settled = accounts_settle plan infos _ _ (all-settled plan infos plain);
+  in_order = accounts_are_in_order plan infos _ _ (all-settled plan infos plain);
+}
