@@ -64,7 +64,7 @@ fn run_capture<H: Host, G: Gate, D: TxDevice>(
     ensures handles { (H.state host.new).handles ≡ (H.state host.old).handles }
     ensures cause { StopsFor (H.fault_count host.old) (H.fault_count host.new) result }
 {
-    // that the packets are no more than a capture may have
+    // The proof learns from it that there are at most 1,000,000 packets.
     let _count = capture.len();
     let infos = infos(alloc, plan, capture)?;
     let fates = send_packets(alloc, plan, &infos, bench, gate)?;
