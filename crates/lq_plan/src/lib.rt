@@ -13,9 +13,9 @@
 mod document;
 mod faults;
 mod keys;
-mod packets;
 mod laws;
 mod order;
+mod packets;
 mod plan;
 mod reader;
 mod refusal;
