@@ -66,8 +66,10 @@ one_moved P Q plan before i step old new queues queues' run_at all account chang
   where
     is-new : (station : ℕ) (q : QueueState) → slice_get queues' station ≡ Some q → station ≡ i → new ≡ q
     is-new station q here same = some-is new q (sym changed.behind ∙ (ap (slice_get queues') (sym same) ∙ here))
+
     is-old : (station : ℕ) (q : QueueState) → slice_get queues' station ≡ Some q → station ≢ i → slice_get queues station ≡ Some q
     is-old station q here other = sym (changed.others station other) ∙ here
+
     each : (station : ℕ) (q : QueueState) → slice_get queues' station ≡ Some q → Q station q (with_at i account all.accounts station)
     each station q here = elim (same-or-not station i) [
       | inl same ↦ subst (λ k. Q k q (with_at i account all.accounts k)) (sym same)
@@ -75,6 +77,7 @@ one_moved P Q plan before i step old new queues queues' run_at all account chang
       | inr other ↦ subst (λ a. Q station q a) (sym (at-other i station account all.accounts other))
           (others station q other (all.each station q (is-old station q here other)))
     ]
+
     tells : AllTell (length plan.stations) before → (station : ℕ) (q : QueueState) → slice_get queues' station ≡ Some q
         → IsRunningAt plan station (with_change i step run_at station) q (with_at i account all.accounts station)
     tells tell station q here = elim (same-or-not station i) [
@@ -112,10 +115,10 @@ pub brought_all :
 brought_all plan infos before n info old new queues queues' fates fates' run_at there all changed goes bypass =
     subst (λ step. AllStand plan infos before (n + 1) queues' fates' (with_change (station_in infos n) step run_at)) (ap (λ b. transmitted infos b n) known)
     (one_moved (λ station q a. StationStands plan infos station n q fates a) (λ station q a. StationStands plan infos station (n + 1) q fates' a)
-        plan before (station_in infos n) (transmitted infos old.bypass n) old new queues queues' run_at all goes.moves.account changed
-        (record { stands = record { underway = goes.moves.underway; served = goes.is_served }; bypass = bypass ∙ known })
-        (λ k q other stands. station_beside plan infos k n info q fates fates' (all.accounts k) there (λ e. other (sym e)) goes.moves.elsewhere stands)
-        (runs-on plan (station_in infos n) (transmitted infos old.bypass n) old new (all.accounts (station_in infos n)) goes.moves.account (run_at (station_in infos n)) goes.moves.tells))
+    plan before (station_in infos n) (transmitted infos old.bypass n) old new queues queues' run_at all goes.moves.account changed
+    (record { stands = record { underway = goes.moves.underway; served = goes.is_served }; bypass = bypass ∙ known })
+    (λ k q other stands. station_beside plan infos k n info q fates fates' (all.accounts k) there (λ e. other (sym e)) goes.moves.elsewhere stands)
+    (runs-on plan (station_in infos n) (transmitted infos old.bypass n) old new (all.accounts (station_in infos n)) goes.moves.account (run_at (station_in infos n)) goes.moves.tells))
   where
     known : old.bypass ≡ bypass_of plan (station_in infos n)
     known = (all.each (station_in infos n) old changed.before).bypass
@@ -129,10 +132,10 @@ pub woken_one :
     → AllStand plan infos before n queues' fates' (with_change i (woken infos) run_at)
 woken_one plan infos before n i old new queues queues' fates fates' run_at all changed goes bypass =
     one_moved (λ station q a. StationStands plan infos station n q fates a) (λ station q a. StationStands plan infos station n q fates' a)
-        plan before i (woken infos) old new queues queues' run_at all goes.moves.account changed
-        (record { stands = record { underway = goes.moves.underway; served = goes.is_served }; bypass = bypass ∙ (all.each i old changed.before).bypass })
-        (λ k q other stands. station_aside plan infos k n i q fates fates' (all.accounts k) (λ e. other (sym e)) goes.moves.elsewhere stands)
-        (runs-on plan i (woken infos) old new (all.accounts i) goes.moves.account (run_at i) goes.moves.tells)
+    plan before i (woken infos) old new queues queues' run_at all goes.moves.account changed
+    (record { stands = record { underway = goes.moves.underway; served = goes.is_served }; bypass = bypass ∙ (all.each i old changed.before).bypass })
+    (λ k q other stands. station_aside plan infos k n i q fates fates' (all.accounts k) (λ e. other (sym e)) goes.moves.elsewhere stands)
+    (runs-on plan i (woken infos) old new (all.accounts i) goes.moves.account (run_at i) goes.moves.tells)
 
 -- station k was finished, after those below it
 pub finished_one :
@@ -142,16 +145,16 @@ pub finished_one :
     → FirstFinished (k + 1) plan infos before queues' fates' (with_change k (finished infos) run_at)
 finished_one plan infos before k old new queues queues' fates fates' run_at all changed ends =
     one_moved (λ station q a. IsFinishedBelow k plan infos station q fates a) (λ station q a. IsFinishedBelow (k + 1) plan infos station q fates' a)
-        plan before k (finished infos) old new queues queues' run_at all ends.account changed
-        (record {
-          below = λ less. record { matches = ends.matches; at = ends.at; nothing_held = ends.nothing_held; purged = λ n why is. (ends.purged n why is).0 };
-          from_there = λ more. absurd (omega arith);
-        })
-        (λ j q other is. record {
-          below = λ less. finished_aside plan infos j k q fates fates' (all.accounts j) (λ e. other (sym e)) ends.elsewhere (is.below (omega arith));
-          from_there = λ more. station_aside plan infos j (length infos) k q fates fates' (all.accounts j) (λ e. other (sym e)) ends.elsewhere (is.from_there (omega arith));
-        })
-        (runs-on plan k (finished infos) old new (all.accounts k) ends.account (run_at k) ends.tells)
+    plan before k (finished infos) old new queues queues' run_at all ends.account changed
+    (record {
+      below = λ less. record { matches = ends.matches; at = ends.at; nothing_held = ends.nothing_held; purged = λ n why is. (ends.purged n why is).0 };
+      from_there = λ more. absurd (omega arith);
+    })
+    (λ j q other is. record {
+      below = λ less. finished_aside plan infos j k q fates fates' (all.accounts j) (λ e. other (sym e)) ends.elsewhere (is.below (omega arith));
+      from_there = λ more. station_aside plan infos j (length infos) k q fates fates' (all.accounts j) (λ e. other (sym e)) ends.elsewhere (is.from_there (omega arith));
+    })
+    (runs-on plan k (finished infos) old new (all.accounts k) ends.account (run_at k) ends.tells)
 
 -- THE RUN'S STATIONS
 
@@ -203,8 +206,8 @@ served_stands s n rest q fates a t stands = elim (stop-cases q.stop) [
 pub record FirstWoken (k : ℕ) (queues queues' : List QueueState) (fates fates' : List (Option Fate)) : Type 0 where
   pub same_length : length queues' ≡ length queues
   pub stand : (plan : Plan) (infos : List Info) (before : List DeviceState) (n : ℕ) (run_at : ℕ → Option Running)
-    → AllStand plan infos before n queues fates run_at
-    → AllStand plan infos before n queues' fates' (with_first_changed k (woken infos) run_at)
+      → AllStand plan infos before n queues fates run_at
+      → AllStand plan infos before n queues' fates' (with_first_changed k (woken infos) run_at)
 
 pub none_woken : (queues : List QueueState) (fates : List (Option Fate)) → FirstWoken 0 queues queues fates fates
 none_woken queues fates = record {
@@ -225,10 +228,10 @@ one_more_woken k old new start queues queues' fates₀ fates fates' first change
   stand = λ plan infos before n run_at all.
       let stands = first.stand plan infos before n run_at all in
       same_runs (λ station q a. StationStands plan infos station n q fates' a) plan before queues'
-          (with_change k (woken infos) (with_first_changed k (woken infos) run_at)) (with_first_changed (k + 1) (woken infos) run_at)
-          (λ station below. one_more_changed (woken infos) run_at k station)
-          (woken_one plan infos before n k old new queues queues' fates fates' (with_first_changed k (woken infos) run_at) stands changed
-          (goes (setting_at plan infos k) n (still_to_come infos k n) (stands.accounts k) (stands.each k old changed.before).stands) bypass);
+      (with_change k (woken infos) (with_first_changed k (woken infos) run_at)) (with_first_changed (k + 1) (woken infos) run_at)
+      (λ station below. one_more_changed (woken infos) run_at k station)
+      (woken_one plan infos before n k old new queues queues' fates fates' (with_first_changed k (woken infos) run_at) stands changed
+      (goes (setting_at plan infos k) n (still_to_come infos k n) (stands.accounts k) (stands.each k old changed.before).stands) bypass);
 }
 
 pub all_woken :
@@ -237,7 +240,7 @@ pub all_woken :
     → AllStand plan infos before n start fates₀ run_at → AllStand plan infos before n queues fates (λ station. option_map (woken infos) (run_at station))
 all_woken k start queues fates₀ fates enough first plan infos before n run_at all =
     same_runs (λ station q a. StationStands plan infos station n q fates a) plan before queues (with_first_changed k (woken infos) run_at) (λ station. option_map (woken infos) (run_at station))
-        (λ station below. all_changed (woken infos) run_at k station (let e = first.same_length in omega arith)) (first.stand plan infos before n run_at all)
+    (λ station below. all_changed (woken infos) run_at k station (let e = first.same_length in omega arith)) (first.stand plan infos before n run_at all)
 
 -- the queue of a station that stands stands for some account
 pub stands_for_some : (plan : Plan) (infos : List Info) (before : List DeviceState) (n : ℕ) (queues : List QueueState) (fates : List (Option Fate)) (run_at : ℕ → Option Running)
@@ -279,8 +282,8 @@ changed_by_set queues k old new there = record {
 pub record FinishedSoFar (k : ℕ) (queues queues' : List QueueState) (fates fates' : List (Option Fate)) : Type 0 where
   pub same_length : length queues' ≡ length queues
   pub stand : (plan : Plan) (infos : List Info) (before : List DeviceState) (run_at : ℕ → Option Running)
-    → AllStand plan infos before (length infos) queues fates run_at
-    → FirstFinished k plan infos before queues' fates' (with_first_changed k (finished infos) run_at)
+      → AllStand plan infos before (length infos) queues fates run_at
+      → FirstFinished k plan infos before queues' fates' (with_first_changed k (finished infos) run_at)
 
 pub none_finished : (queues : List QueueState) (fates : List (Option Fate)) → FinishedSoFar 0 queues queues fates fates
 none_finished queues fates = record {
@@ -304,10 +307,10 @@ one_more_finished k old new start queues queues' fates₀ fates fates' first cha
   stand = λ plan infos before run_at all.
       let some = first.stand plan infos before run_at all in
       same_runs (λ station q a. IsFinishedBelow (k + 1) plan infos station q fates' a) plan before queues'
-          (with_change k (finished infos) (with_first_changed k (finished infos) run_at)) (with_first_changed (k + 1) (finished infos) run_at)
-          (λ station below. one_more_changed (finished infos) run_at k station)
-          (finished_one plan infos before k old new queues queues' fates fates' (with_first_changed k (finished infos) run_at) some changed
-          (ends (setting_at plan infos k) (length infos) (still_to_come infos k (length infos)) (some.accounts k) ((some.each k old changed.before).from_there (omega arith)).stands));
+      (with_change k (finished infos) (with_first_changed k (finished infos) run_at)) (with_first_changed (k + 1) (finished infos) run_at)
+      (λ station below. one_more_changed (finished infos) run_at k station)
+      (finished_one plan infos before k old new queues queues' fates fates' (with_first_changed k (finished infos) run_at) some changed
+      (ends (setting_at plan infos k) (length infos) (still_to_come infos k (length infos)) (some.accounts k) ((some.each k old changed.before).from_there (omega arith)).stands));
 }
 
 pub all_finished :
@@ -323,6 +326,7 @@ all_finished k start queues fates₀ fates enough first plan infos before run_at
   where
     some : FirstFinished k plan infos before queues fates (with_first_changed k (finished infos) run_at)
     some = first.stand plan infos before run_at all
+
     below : (station : ℕ) (q : QueueState) → slice_get queues station ≡ Some q → station < k
     below station q here = let within = slice_get_within queues station q here in let e = first.same_length in omega arith
 
@@ -351,7 +355,7 @@ pub next_stands :
     → NextStands plan infos n q fates (all.accounts (station_in infos n))
 next_stands plan infos before n info queues fates run_at there all q here =
     subst (λ rest. StandsFor (setting_at plan infos (station_in infos n)) n rest q fates (all.accounts (station_in infos n))) (one_less infos n info there)
-        (all.each (station_in infos n) q here).stands
+    (all.each (station_in infos n) q here).stands
 
 pub next_packet : (plan : Plan) (infos : List Info) (n : ℕ) (info : Info) → slice_get infos n ≡ Some info → IsNextPacket (setting_at plan infos (station_in infos n)) n info.band
 next_packet plan infos n info there = record {

@@ -40,14 +40,13 @@ pub record RunEnds (plan : Plan) (infos : List Info) (before behind : List Devic
   pub settled : map (λ fate. Some fate) fates ≡ options
   pub devices : (station : ℕ) (q : QueueState) → slice_get queues station ≡ Some q → slice_get behind station ≡ Some (device_of q)
   pub runs : (station : ℕ) → station < length plan.stations
-    → run_at station ≡ option_map (finished infos) (slice_get (after_packets plan infos (new_stations 0 plan.stations) (length infos)) station)
+      → run_at station ≡ option_map (finished infos) (slice_get (after_packets plan infos (new_stations 0 plan.stations) (length infos)) station)
 
 some-is : {X : Type 0} (a b : X) → Some a ≡ Some b → a ≡ b
 some-is a b e = cc
 
 module _ (plan : Plan) (infos : List Info) (before behind : List DeviceState) (queues : List QueueState) (options : List (Option Fate)) (fates : List Fate)
     (run_at : ℕ → Option Running) (ends : RunEnds plan infos before behind queues options fates run_at) where
-
   accounts : ℕ → Account
   accounts = ends.all.accounts
 
@@ -74,6 +73,7 @@ module _ (plan : Plan) (infos : List Info) (before behind : List DeviceState) (q
     where
       listed : option_map (λ (fate : Fate). Some fate) (slice_get fates n) ≡ Some ((ends.all.accounts station).fates n)
       listed = sym (slice_get-map (λ fate. Some fate) fates n) ∙ (ap (λ list. slice_get list n) ends.settled ∙ (own station below).matches.fates_are.each n inside of)
+
       both : (fate : Option Fate) → slice_get fates n ≡ fate → slice_get fates n ≡ (ends.all.accounts station).fates n
       both None is = absurd (let e = listed in cc)
       both (Some f) is = let e = listed in cc
@@ -97,7 +97,7 @@ module _ (plan : Plan) (infos : List Info) (before behind : List DeviceState) (q
       let at = unit_is plan infos station (length infos) (ends.all.accounts station) ends.none (own station below).at in
       let sent = (own station below).matches.sent.sent in
       subst (IsSentList fates station) (ap (λ u. (ends.all.accounts station).sent u) (sym at) ∙ sent)
-          (sent_list_of plan infos fates ends.all.accounts settled-stations station station below (inl refl))
+      (sent_list_of plan infos fates ends.all.accounts settled-stations station station below (inl refl))
 
   -- without events a station's unit has its number
   unit-of : (station unit : ℕ) → IsUnitOf plan station unit → unit ≡ station
@@ -121,7 +121,7 @@ module _ (plan : Plan) (infos : List Info) (before behind : List DeviceState) (q
       let below = ends.of_plan n inside in
       let same = unit-of (station_in infos n) unit (is-settled.each n (Purged (Hung unit)) there).used in
       subst (λ u. (under : u < length plan.stations) × ((queue-at u under).0.stop ≡ stop.Hung)) (sym same)
-          (below, (own (station_in infos n) below).purged n (Hung unit) (sym (agree (station_in infos n) below n inside refl) ∙ there))
+      (below, (own (station_in infos n) below).purged n (Hung unit) (sym (agree (station_in infos n) below n inside refl) ∙ there))
 
   hung-is : (n unit : ℕ) (device : DeviceState) → slice_get fates n ≡ Some (Purged (Hung unit)) → slice_get behind unit ≡ Some device → device.hung ≡ true
   hung-is n unit device there here =
@@ -164,12 +164,14 @@ module _ (plan : Plan) (infos : List Info) (before behind : List DeviceState) (q
     where
       below : station_in infos n < length plan.stations
       below = ends.of_plan n inside
+
       runs : IsRunningAt plan (station_in infos n) (run_at (station_in infos n)) (queue-at (station_in infos n) below).0 (ends.all.accounts (station_in infos n))
       runs = ends.all.tells tell (station_in infos n) (queue-at (station_in infos n) below).0 (queue-at (station_in infos n) below).1
+
       behind-run : slice_get (after_run plan infos (new_stations 0 plan.stations)) (station_in infos n) ≡ run_at (station_in infos n)
       behind-run =
           ap (λ stations. slice_get (map (finished infos) stations) (station_in infos n))
-              (no_events_behind plan infos (length infos) (after_packets plan infos (new_stations 0 plan.stations) (length infos)) ends.none)
+          (no_events_behind plan infos (length infos) (after_packets plan infos (new_stations 0 plan.stations) (length infos)) ends.none)
           ∙ (slice_get-map (finished infos) (after_packets plan infos (new_stations 0 plan.stations) (length infos)) (station_in infos n)
           ∙ sym (ends.runs (station_in infos n) below))
 
@@ -177,8 +179,8 @@ module _ (plan : Plan) (infos : List Info) (before behind : List DeviceState) (q
   unfolding fates_from
   is-alone tell = ends.settled ∙ list_for_each (fate_in (after_run plan infos (new_stations 0 plan.stations)) infos) options (length infos) ends.one_each
       (λ n d inside. let below = ends.of_plan n inside in
-          get_or_from_slice_get options n ((ends.all.accounts (station_in infos n)).fates n) d ((own (station_in infos n) below).matches.fates_are.each n inside refl)
-          ∙ sym (fate-alone tell n inside))
+      get_or_from_slice_get options n ((ends.all.accounts (station_in infos n)).fates n) d ((own (station_in infos n) below).matches.fates_are.each n inside refl)
+      ∙ sym (fate-alone tell n inside))
 
   pub fates_of_run : AreFatesOf plan infos fates before behind
   fates_of_run = record {

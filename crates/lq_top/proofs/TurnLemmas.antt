@@ -76,26 +76,29 @@ turn_waits plan infos n run wakes = sym (ap (λ b. option_map (λ s. served info
 pub record SentBelow (plan : Plan) (infos : List Info) (n : ℕ) (queues queues' : List QueueState) (fates fates' : List (Option Fate)) : Type 0 where
   pub some : SomeStand plan infos n queues' fates'
   pub stand : (before : List DeviceState) → AllStand plan infos before 0 queues fates (slice_get (new_stations 0 plan.stations))
-    → AllStand plan infos before n queues' fates' (slice_get (after_packets plan infos (new_stations 0 plan.stations) n))
+      → AllStand plan infos before n queues' fates' (slice_get (after_packets plan infos (new_stations 0 plan.stations) n))
 
 -- a turn: packet n was brought, and stations were woken behind it
 pub one_more_sent :
     (plan : Plan) (infos : List Info) (n : ℕ) (start queues brought woken : List QueueState) (fates₀ fates fates₁ fates₂ : List (Option Fate))
     → plan.events ≡ [] → SentBelow plan infos n start queues fates₀ fates
     → ((before : List DeviceState) (run_at : ℕ → Option Running) → AllStand plan infos before n queues fates run_at
-      → AllStand plan infos before (n + 1) brought fates₁ (with_change (station_in infos n) (packet_step plan infos n) run_at))
+    → AllStand plan infos before (n + 1) brought fates₁ (with_change (station_in infos n) (packet_step plan infos n) run_at))
     → ((before : List DeviceState) (run_at : ℕ → Option Running) → AllStand plan infos before (n + 1) brought fates₁ run_at
-      → AllStand plan infos before (n + 1) woken fates₂ (λ station. option_map (turn_step plan infos n) (run_at station)))
+    → AllStand plan infos before (n + 1) woken fates₂ (λ station. option_map (turn_step plan infos n) (run_at station)))
     → SentBelow plan infos (n + 1) start woken fates₀ fates₂
 one_more_sent plan infos n start queues brought woken fates₀ fates fates₁ fates₂ none sent bring wake = record {
-  some = (sent.some.0, (λ station. option_map (turn_step plan infos n) (with_change (station_in infos n) (packet_step plan infos n) sent.some.1 station)),
-      wake sent.some.0 (with_change (station_in infos n) (packet_step plan infos n) sent.some.1) (bring sent.some.0 sent.some.1 sent.some.2));
+  some = (
+    sent.some.0,
+    (λ station. option_map (turn_step plan infos n) (with_change (station_in infos n) (packet_step plan infos n) sent.some.1 station)),
+    wake sent.some.0 (with_change (station_in infos n) (packet_step plan infos n) sent.some.1) (bring sent.some.0 sent.some.1 sent.some.2),
+  );
   stand = λ before all.
       same_runs (λ station q a. StationStands plan infos station (n + 1) q fates₂ a) plan before woken
-          (λ station. option_map (turn_step plan infos n) (with_change (station_in infos n) (packet_step plan infos n) (slice_get (stations n)) station))
-          (slice_get (stations (n + 1)))
-          (λ station below. turn_is plan infos n (stations n) station none ∙ ap (λ k. slice_get (stations k) station) (sym (add-one n)))
-          (wake before (with_change (station_in infos n) (packet_step plan infos n) (slice_get (stations n))) (bring before (slice_get (stations n)) (sent.stand before all)));
+      (λ station. option_map (turn_step plan infos n) (with_change (station_in infos n) (packet_step plan infos n) (slice_get (stations n)) station))
+      (slice_get (stations (n + 1)))
+      (λ station below. turn_is plan infos n (stations n) station none ∙ ap (λ k. slice_get (stations k) station) (sym (add-one n)))
+      (wake before (with_change (station_in infos n) (packet_step plan infos n) (slice_get (stations n))) (bring before (slice_get (stations n)) (sent.stand before all)));
 }
   where
     stations : ℕ → List Running

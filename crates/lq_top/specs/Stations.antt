@@ -54,7 +54,7 @@ pub record AllAt (P : ℕ → QueueState → Account → Type 0) (plan : Plan) (
   pub one_each : length queues ≡ length plan.stations
   pub each : (station : ℕ) (q : QueueState) → slice_get queues station ≡ Some q → P station q (accounts station)
   pub tells : AllTell (length plan.stations) before → (station : ℕ) (q : QueueState) → slice_get queues station ≡ Some q
-    → IsRunningAt plan station (run_at station) q (accounts station)
+      → IsRunningAt plan station (run_at station) q (accounts station)
 
 -- each stands for its account behind the first n packets
 abbrev pub AllStand : Plan → List Info → List DeviceState → ℕ → List QueueState → List (Option Fate) → (ℕ → Option Running) → Type 0

@@ -28,7 +28,7 @@ fn bring<D: TxDevice>(
     ensures { (plan : PlanRecord) (before : List DeviceState) (run_at : ℕ → Option Running)
         → AllStand plan infos.now before n queues.old.items fates.old run_at
         → AllStand plan infos.now before (n + 1) queues.new.items fates.new
-            (with_change (station_in infos.now n) (packet_step plan infos.now n) run_at) }
+        (with_change (station_in infos.now n) (packet_step plan infos.now n) run_at) }
 {
     let info = infos[n as usize];
     let queue = &mut queues[info.station as usize];
@@ -60,7 +60,7 @@ fn wake_behind<D: TxDevice>(
     ensures { (infos : List Info) (before : List DeviceState) (run_at : ℕ → Option Running)
         → AllStand plan.now infos before (n + 1) queues.old.items fates.old run_at
         → AllStand plan.now infos before (n + 1) queues.new.items fates.new
-            (λ station. option_map (turn_step plan.now infos n) (run_at station)) }
+        (λ station. option_map (turn_step plan.now infos n) (run_at station)) }
 {
     if (n + 1) % plan.irq_every() == 0 {
         wake_all(queues, fates);
@@ -80,7 +80,7 @@ pub fn transmit_all<D: TxDevice, G: Gate>(
     ensures { (before : List DeviceState)
         → AllStand plan.now infos.now before 0 queues.old.items fates.old (slice_get (new_stations 0 plan.now.stations))
         → AllStand plan.now infos.now before (length infos.now) queues.new.items fates.new
-            (slice_get (after_packets plan.now infos.now (new_stations 0 plan.now.stations) (length infos.now))) }
+        (slice_get (after_packets plan.now infos.now (new_stations 0 plan.now.stations) (length infos.now))) }
 {
     let count = infos.len() as u32;
     for n in 0..count {

@@ -33,8 +33,8 @@ returns g c plan before run_at all =
     let each = c.requires.may.stand.2.one_each in
     let found = ap (slice_get queues) is ∙ slice_get_read queues (length queues) (get_or infos n no_info).station old refl (omega arith) c.index_mut-queue.ensures.value in
     let goes = c.transmit.ensures.goes (setting_at plan infos (station_in infos n)) (still_to_come infos (station_in infos n) (n + 1)) (all.accounts (station_in infos n))
-        (next_stands plan infos before n (get_or infos n no_info) queues c.args.fates.now run_at there all old found)
-        (next_packet plan infos n (get_or infos n no_info) there) in
+    (next_stands plan infos before n (get_or infos n no_info) queues c.args.fates.now run_at there all old found)
+    (next_packet plan infos n (get_or infos n no_info) there) in
     subst (λ k. AllStand plan infos before (n + 1) (slice_set queues k new) c.transmit.new.fates (with_change (station_in infos n) (packet_step plan infos n) run_at)) is
-        (brought_all plan infos before n (get_or infos n no_info) old new queues (slice_set queues (station_in infos n) new) c.args.fates.now c.transmit.new.fates run_at there all
-        (changed_by_set queues (station_in infos n) old new found) goes c.transmit.ensures.bypass)
+    (brought_all plan infos before n (get_or infos n no_info) old new queues (slice_set queues (station_in infos n) new) c.args.fates.now c.transmit.new.fates run_at there all
+    (changed_by_set queues (station_in infos n) old new found) goes c.transmit.ensures.bypass)

@@ -18,7 +18,7 @@ loop-station-preserved g c =
     let k = c.loop-station.station in let queues = c.loop-station.queues in
     let there = slice_get_read queues.items (length queues.items) k c.index_mut-queue.result.now refl (omega arith) c.index_mut-queue.ensures.value in
     one_more_finished k c.index_mut-queue.result.now c.finish.new.self c.args.queues.now.items queues.items _ c.args.fates.now c.loop-station.fates c.finish.new.fates
-        c.loop-station.invariant (changed_by_set queues.items k c.index_mut-queue.result.now c.finish.new.self there) c.finish.ensures
+    c.loop-station.invariant (changed_by_set queues.items k c.index_mut-queue.result.now c.finish.new.self there) c.finish.ensures
 
 pub returns : goal.returns
 returns g c =

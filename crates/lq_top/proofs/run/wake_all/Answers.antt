@@ -12,14 +12,14 @@ wake-requires-clause-stands g c κs within =
     let may = c.requires.may in let k = c.loop-station.station in let queues = c.loop-station.queues in
     let there = slice_get_read queues.items (length queues.items) k c.index_mut-queue.result.now refl (omega arith) c.index_mut-queue.ensures.value in
     stands_for_some may.0 may.1 may.3.0 may.2 queues.items c.loop-station.fates _
-        (c.loop-station.invariant.stand may.0 may.1 may.3.0 may.2 may.3.1 may.3.2) k c.index_mut-queue.result.now there
+    (c.loop-station.invariant.stand may.0 may.1 may.3.0 may.2 may.3.1 may.3.2) k c.index_mut-queue.result.now there
 
 pub loop-station-preserved : goal.loop-station-preserved
 loop-station-preserved g c =
     let k = c.loop-station.station in let queues = c.loop-station.queues in
     let there = slice_get_read queues.items (length queues.items) k c.index_mut-queue.result.now refl (omega arith) c.index_mut-queue.ensures.value in
     one_more_woken k c.index_mut-queue.result.now c.wake.new.self c.args.queues.now.items queues.items _ c.args.fates.now c.loop-station.fates c.wake.new.fates
-        c.loop-station.invariant (changed_by_set queues.items k c.index_mut-queue.result.now c.wake.new.self there) c.wake.ensures.goes c.wake.ensures.bypass
+    c.loop-station.invariant (changed_by_set queues.items k c.index_mut-queue.result.now c.wake.new.self there) c.wake.ensures.goes c.wake.ensures.bypass
 
 pub returns : goal.returns
 returns g c =
