@@ -4,6 +4,7 @@ use Rattle.std.specs.List.{slice_set}
 use Rattle.std.proofs.lemmas.List.{drop-drop, length-set}
 use Rattle.std.proofs.lemmas.List.Elements.{All-nil}
 use Rattle.std.proofs.lemmas.Bool.{cases_eq}
+use Rattle.lq_account.specs.Progress.{IsAt}
 use Rattle.lq_account.proofs.Answers.{with_at_same, with_at_other}
 use Rattle.lq_account.proofs.Lists.{fates-cases}
 use Rattle.lq_account.proofs.OneQueue.{one_done, one_hung, one_opened, one_purged}
@@ -27,7 +28,7 @@ use Rattle.lq_ring_core.specs.Ring.{RingState}
 use Rattle.lq_top.specs.Queue.{QueueState, Setting, Matches, IsPacketOf, IsTaken, SameElsewhere, IsUnderway, IsServed, StandsFor, Serves, Goes, Finishes, running, woken, device_of, stop_number, is_hung_value, value_opened}
 use Rattle.lq_top.specs.declared.queue.stop_value.StopValue.{StopValue}
 use Rattle.lq_top.specs.declared.queue.stop_value.StopValue.TheVariants.{Open, Stopped, Hung}
-use Rattle.lq_top.proofs.FateLists.{set_here, set_apart, same_itself, same_both, same_set}
+use Rattle.lq_top.proofs.FateLists.{set_here, set_apart, same_both, same_set}
 use Rattle.lq_top.proofs.QueueLemmas.{in_hand_is}
 
 -- A PURGE, PACKET BY PACKET
@@ -135,14 +136,6 @@ pub record Purging (infos : List Info) (station rest : ℕ) (q : QueueState) (ol
   pub elsewhere : SameElsewhere infos station old fates
 
 module _ (infos : List Info) (station rest : ℕ) (q : QueueState) (old fates : List (Option Fate)) (a : Account) where
-  pub purge_begins : Matches infos station rest None q fates a → Purging infos station rest q fates fates a
-  purge_begins m = record {
-    account = a;
-    matches = m;
-    purging = record { len = refl; lines = λ band. refl; unit = refl; sent = refl; fates = refl; stops = refl; down = refl };
-    elsewhere = same_itself infos station fates;
-  }
-
   -- the next packet was taken and got the fate
   pub purge_goes_on : (n : ℕ) (new : QueueState) (p : Purging infos station rest q old fates a) → IsTaken infos station rest n new fates p.account
       → Purging infos station rest new old (slice_set fates n (Some (fate.Purged (cause.Hung a.unit)))) a
@@ -219,12 +212,11 @@ module _ (infos : List Info) (station rest : ℕ) (q : QueueState) (old fates : 
       all_fates : b.fates ≡ with_fates (held a) (fate.Purged (cause.Hung a.unit)) a.fates
       all_fates = ap (λ ns. with_fates ns (fate.Purged (cause.Hung a.unit)) b.fates) (sym none) ∙ p.purging.fates
 
-module _ (infos : List Info) (station rest : ℕ) (q : QueueState) (old fates : List (Option Fate)) (a : Account) where
-  -- the packet that is taken next has a place in the list of fates
-  pub purge_within : (n : ℕ) (new : QueueState) (b : Account) → IsTaken infos station rest n new fates b → n < length fates
-  purge_within n new b t =
-      let packet = in_hand_is infos station rest n new fates (after t.event b) t.matches in
-      let within = packet.within in let each = t.matches.fates_are.one_each in omega arith
+-- the packet that is taken next has a place in the list of fates
+pub purge_within : (infos : List Info) (station rest n : ℕ) (new : QueueState) (fates : List (Option Fate)) (b : Account) → IsTaken infos station rest n new fates b → n < length fates
+purge_within infos station rest n new fates b t =
+    let packet = in_hand_is infos station rest n new fates (after t.event b) t.matches in
+    let within = packet.within in let each = t.matches.fates_are.one_each in omega arith
 
 -- a queue from which packets were taken
 pub record IsEmptying (old q : QueueState) : Type 0 where
@@ -268,36 +260,32 @@ with-stop infos station rest q fates a stop stops is hung m = record {
 }
 
 module _ (s : Setting) (n rest : ℕ) (q : QueueState) (fates : List (Option Fate)) (a : Account) (h : IsUnderway s n rest q fates a) where
+  -- the queue has another stop value
+  with-stops : (stop : StopValue) (stops : List ℕ) → stops ≡ stop_number stop ∷ [] → (device_of q).hung ≡ is_hung_value stop
+      → IsAt s.plan s.infos s.station n (record a { stops = stops }) → IsUnderway s n rest (record q { stop = stop }) fates (record a { stops = stops })
+  with-stops stop stops is hung at = record {
+    matches = with-stop s.infos s.station rest q fates a stop stops is hung h.matches;
+    at = at;
+    one_queue = h.one_queue;
+    none_purged = h.none_purged;
+  }
+
+  stops-at : (stop : StopValue) → q.stop ≡ stop → a.stops ≡ stop_number stop ∷ []
+  stops-at stop is = h.matches.stops ∙ ap (λ stop. stop_number stop ∷ []) is
+
   woken-underway : (stop : StopValue) → q.stop ≡ stop → IsUnderway s n rest (record q { stop = value_opened stop }) fates (woken_account stop a)
-  woken-underway Open is = record {
-    matches = with-stop s.infos s.station rest q fates a Open a.stops (h.matches.stops ∙ ap (λ stop. stop_number stop ∷ []) is) (h.matches.hung ∙ ap is_hung_value is) h.matches;
-    at = h.at;
-    one_queue = h.one_queue;
-    none_purged = h.none_purged;
-  }
-  woken-underway Stopped is =
-      let stops : a.stops ≡ 1 ∷ [] = h.matches.stops ∙ ap (λ stop. stop_number stop ∷ []) is in
-      record {
-        matches = with-stop s.infos s.station rest q fates a Open (slice_set a.stops 0 0) (ap (λ stops. slice_set stops 0 0) stops) (h.matches.hung ∙ ap is_hung_value is) h.matches;
-        at = at_wake stops h.at;
-        one_queue = h.one_queue;
-        none_purged = h.none_purged;
-      }
-  woken-underway Hung is = record {
-    matches = with-stop s.infos s.station rest q fates a Hung a.stops (h.matches.stops ∙ ap (λ stop. stop_number stop ∷ []) is) (h.matches.hung ∙ ap is_hung_value is) h.matches;
-    at = h.at;
-    one_queue = h.one_queue;
-    none_purged = h.none_purged;
-  }
+  woken-underway Open is = with-stops Open a.stops (stops-at Open is) (h.matches.hung ∙ ap is_hung_value is) h.at
+  woken-underway Stopped is = with-stops Open (slice_set a.stops 0 0) (ap (λ stops. slice_set stops 0 0) (stops-at Stopped is)) (h.matches.hung ∙ ap is_hung_value is) (at_wake (stops-at Stopped is) h.at)
+  woken-underway Hung is = with-stops Hung a.stops (stops-at Hung is) (h.matches.hung ∙ ap is_hung_value is) h.at
 
   -- what is served behind a wake
   pub wake_opens : (q' : QueueState) → q' ≡ record q { stop = value_opened q.stop } → IsUnderway s n rest q' fates (woken_account q.stop a)
   wake_opens q' is = subst (λ (q' : QueueState). IsUnderway s n rest q' fates (woken_account q.stop a)) (sym is) (woken-underway q.stop refl)
 
   woken-is : (t : Telling) (stop : StopValue) → q.stop ≡ stop → opened (running a q t) ≡ running (woken_account stop a) (record q { stop = value_opened stop }) t
-  woken-is t Open is = one_opened (running a q t) 0 (h.matches.stops ∙ ap (λ stop. stop_number stop ∷ []) is)
-  woken-is t Stopped is = one_opened (running a q t) 1 (h.matches.stops ∙ ap (λ stop. stop_number stop ∷ []) is)
-  woken-is t Hung is = one_opened (running a q t) 2 (h.matches.stops ∙ ap (λ stop. stop_number stop ∷ []) is)
+  woken-is t Open is = one_opened (running a q t) 0 (stops-at Open is)
+  woken-is t Stopped is = one_opened (running a q t) 1 (stops-at Stopped is)
+  woken-is t Hung is = one_opened (running a q t) 2 (stops-at Hung is)
 
   served-closed : (stop : StopValue) → q.stop ≡ stop → IsServed q a → value_opened stop ≢ Open → IsServed (record q { stop = value_opened stop }) (woken_account stop a)
   served-closed Open is was closed = absurd (closed refl)
@@ -337,15 +325,6 @@ pub record Finishing (s : Setting) (n rest : ℕ) (old q : QueueState) (fates fa
   pub elsewhere : SameElsewhere s.infos s.station fates fates'
   pub left : (t : Telling) → (device_of old).told ≡ Some t → IsLeftToDo s.infos t old q a account
 
-module _ (s : Setting) (n rest : ℕ) (old : QueueState) (fates : List (Option Fate)) (a : Account) where
-  pub finish_begins : StandsFor s n rest old fates a → Finishing s n rest old old fates fates a
-  finish_begins h = record {
-    account = a;
-    stands = h;
-    elsewhere = same_itself s.infos s.station fates;
-    left = λ t told. record { device = t; told = told; params = refl; same = refl };
-  }
-
 pub open_else : (stop : StopValue) → stop ≢ Stopped → stop ≢ Hung → stop ≡ Open
 open_else Open not_stopped not_hung = refl
 open_else Stopped not_stopped not_hung = absurd (not_stopped refl)
@@ -366,24 +345,21 @@ module _ (s : Setting) (n rest : ℕ) (q : QueueState) (fates : List (Option Fat
     busies = (h.matches.rule t told).busies;
   }
 
-  stops-at : (stop : StopValue) → q.stop ≡ stop → b.stops ≡ stop_number stop ∷ []
-  stops-at stop is = h.matches.stops ∙ ap (λ stop. stop_number stop ∷ []) is
-
   not-done : q.stop ≡ Stopped → is_done b ≡ false
-  not-done is = one_done b 1 (stops-at Stopped is) ∙ ap (λ down. is_some down || false) h.matches.active
+  not-done is = one_done b 1 (stops-at s n rest q fates b h Stopped is) ∙ ap (λ down. is_some down || false) h.matches.active
 
   done-open : q.stop ≡ Open → held b ≡ [] → is_done b ≡ true
-  done-open is none = one_done b 0 (stops-at Open is) ∙ ap₂ (λ down next. is_some down || is_none next) h.matches.active (next_none b none)
+  done-open is none = one_done b 0 (stops-at s n rest q fates b h Open is) ∙ ap₂ (λ down next. is_some down || is_none next) h.matches.active (next_none b none)
 
   done-hung : q.stop ≡ Hung → is_done b ≡ true
-  done-hung is = one_done b 2 (stops-at Hung is) ∙ ap (λ down. is_some down || true) h.matches.active
+  done-hung is = one_done b 2 (stops-at s n rest q fates b h Hung is) ∙ ap (λ down. is_some down || true) h.matches.active
 
   -- behind these there is nothing more to do
   finished-open : (t : Telling) → q.stop ≡ Open → held b ≡ [] → finished s.infos (running b q t) ≡ running b q t
-  finished-open t is none = finished_done s.infos h.one_queue (running b q t) (done-open is none) ∙ ap (λ a. running a q t) (one_purged b 0 (stops-at Open is))
+  finished-open t is none = finished_done s.infos h.one_queue (running b q t) (done-open is none) ∙ ap (λ a. running a q t) (one_purged b 0 (stops-at s n rest q fates b h Open is))
 
   finished-hung : (t : Telling) → q.stop ≡ Hung → finished s.infos (running b q t) ≡ running (after (Purge (cause.Hung b.unit)) b) q t
-  finished-hung t is = finished_done s.infos h.one_queue (running b q t) (done-hung is) ∙ ap (λ a. running a q t) (one_purged b 2 (stops-at Hung is))
+  finished-hung t is = finished_done s.infos h.one_queue (running b q t) (done-hung is) ∙ ap (λ a. running a q t) (one_purged b 2 (stops-at s n rest q fates b h Hung is))
 
 module _ (s : Setting) (n rest : ℕ) (old q : QueueState) (fates fates' : List (Option Fate)) (a : Account) (p : Finishing s n rest old q fates fates' a) where
   -- a wake of a queue that was stopped

@@ -10,7 +10,7 @@ pub bounds-fates-n : goal.bounds-fates-n
 bounds-fates-n g c =
     let some = c.requires.matches in
     let p = c.loop-n.invariant.purging some.infos some.station some.rest some.account some.matches in
-    purge_within some.infos some.station some.rest c.loop-n.self c.args.fates.now c.loop-n.fates some.account c.in-Some.n c.dequeue.new.self p.account
+    purge_within some.infos some.station some.rest c.in-Some.n c.dequeue.new.self c.loop-n.fates p.account
     (c.in-Some.ensures.taken some.infos some.station some.rest c.loop-n.fates p.account p.matches)
 
 pub loop-n-preserved : goal.loop-n-preserved
