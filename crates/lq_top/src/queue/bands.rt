@@ -89,3 +89,23 @@ impl Bands {
         self.third.consume()
     }
 }
+
+#[cfg(test)]
+mod tests {
+    use super::*;
+    use std::test::Fail;
+
+    #[test]
+    fn lowest_band_comes_first(rt: HostRuntime) -> Result<(), Fail> {
+        let mut bands = Bands::new(rt.alloc(), 1, 4).ok().ok_or("no memory")?;
+        assert_eq!(rt; bands.enqueue(2, 10), Ok(()));
+        assert_eq!(rt; bands.enqueue(0, 11), Ok(()));
+        assert_eq!(rt; bands.enqueue(1, 12), Ok(()));
+        assert_eq!(rt; bands.enqueue(1, 13), Err(Full { seen: 12 }));
+        assert_eq!(rt; bands.dequeue(), Some(11));
+        assert_eq!(rt; bands.dequeue(), Some(12));
+        assert_eq!(rt; bands.dequeue(), Some(10));
+        assert_eq!(rt; bands.dequeue(), None);
+        Ok(())
+    }
+}
