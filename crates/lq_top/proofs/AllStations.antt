@@ -1,19 +1,19 @@
 -- All stations of a run, when one of them moves.
-use Rattle.std.proofs.Common.{◌≡◌, ◌≢◌, ◌⊎◌, inl, inr, ℕ, zero, suc, ◌+◌, ◌<◌, ◌≤◌, Bool, true, false, List, [], ◌∷◌, length, refl, ap, arith, Option, Some, None, sym, ◌∙◌, subst, map}
-use Rattle.std.specs.Prelude.{slice_get, slice_set, option_map, if◌then◌else◌, ◌==◌, ◌%◌, nat_lt}
-use Rattle.std.proofs.lemmas.Option.{slice_get_within, slice_get-map}
+use Rattle.std.proofs.Common.{◌≡◌, ◌≢◌, ◌⊎◌, inl, inr, ℕ, zero, suc, ◌+◌, ◌<◌, ◌≤◌, List, [], ◌∷◌, length, refl, ap, arith, Option, Some, None, sym, ◌∙◌, subst}
+use Rattle.std.specs.Prelude.{slice_get, slice_set, option_map}
+use Rattle.std.proofs.lemmas.Option.{slice_get_within}
 use Rattle.lq_account.proofs.Offers.{served_idle}
 use Rattle.lq_account.proofs.Turns.{served_left, left_stopped}
 use Rattle.lq_model.specs.Account.{Account, with_at}
-use Rattle.lq_model.specs.Alone.{Running, bypass_of, brought_in, changed_at, finished, opened, served, with_turn, with_wakes, with_packet, with_events, events_before}
+use Rattle.lq_model.specs.Alone.{Running, bypass_of, finished, served}
 use Rattle.lq_model.specs.Device.{DeviceState, Telling}
 use Rattle.lq_model.specs.Plan.{Plan, station_in}
 use Rattle.lq_model.specs.declared.fate.Fate.{Fate}
 use Rattle.lq_model.specs.declared.fate.Info.{Info}
-use Rattle.lq_top.proofs.StationLemmas.{changed_there, finished_aside, one_less, station_aside, station_beside}
+use Rattle.lq_top.proofs.StationLemmas.{finished_aside, one_less, station_aside, station_beside}
 use Rattle.lq_top.specs.Fates.{AllTell}
-use Rattle.lq_top.specs.Queue.{QueueState, Setting, Goes, Moves, Does, StandsFor, StandsForSome, IsNextPacket, MayTransmit, SameElsewhere, HasFates, Finishes, Matches, device_of, running, stop_number, transmitted, woken}
-use Rattle.lq_top.specs.Stations.{AllAt, AllStand, SomeStand, FirstFinished, AllFinished, IsFinishedBelow, StationStands, StationFinished, IsRunningAt, setting_at, still_to_come, with_change, packet_step, turn_step, with_first_changed}
+use Rattle.lq_top.specs.Queue.{QueueState, Setting, Goes, Does, StandsFor, StandsForSome, IsNextPacket, MayTransmit, Finishes, Matches, device_of, running, stop_number, transmitted, woken}
+use Rattle.lq_top.specs.Stations.{AllAt, AllStand, SomeStand, FirstFinished, AllFinished, IsFinishedBelow, StationStands, IsRunningAt, setting_at, still_to_come, with_change, packet_step, with_first_changed}
 use Rattle.lq_top.specs.declared.queue.stop_value.StopValue.{StopValue}
 use Rattle.lq_top.specs.declared.queue.stop_value.StopValue.TheVariants as stop
 

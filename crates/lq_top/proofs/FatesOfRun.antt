@@ -1,33 +1,31 @@
 -- The fates that finished stations leave.
-use Rattle.std.proofs.Common.{◌≡◌, ◌≢◌, ◌⊎◌, inl, inr, ℕ, zero, suc, ◌+◌, ◌<◌, ◌≤◌, Bool, true, false, List, [], ◌∷◌, length, refl, ap, arith, Option, Some, None, sym, ◌∙◌, subst, map, get_or}
+use Rattle.std.proofs.Common.{◌≡◌, inl, inr, ℕ, suc, ◌+◌, ◌<◌, ◌≤◌, true, List, [], ◌∷◌, length, refl, ap, arith, Option, Some, None, sym, ◌∙◌, subst, map}
 use Rattle.std.specs.Prelude.{slice_get, option_map, option_and_then, count_by}
 use Rattle.std.proofs.lemmas.Option.{slice_get_within, slice_get-map, slice_get_cases, get_or_from_slice_get}
 use Rattle.lq_account.proofs.Closing.{is_closed}
 use Rattle.lq_account.proofs.Law.{law_of_accounts}
 use Rattle.lq_account.proofs.NoEvents.{meets_no_events, no_event}
 use Rattle.lq_account.proofs.Settle.{accounts_are_in_order, accounts_settle, sent_list_of}
-use Rattle.lq_account.specs.Accounts.{AreSettledStations, IsSettledStation, IsClosed}
+use Rattle.lq_account.specs.Accounts.{AreSettledStations, IsClosed}
 use Rattle.lq_fates.proofs.CountLemmas.{list_for_each}
 use Rattle.lq_fates.proofs.SentLemmas.{count_is, sent_is}
 use Rattle.lq_model.specs.Account.{Account}
 use Rattle.lq_model.specs.Alone.{Running, alone, after_packets, after_run, fate_in, fates_from, finished, new_stations}
 use Rattle.lq_model.specs.Device.{DeviceState, Telling}
-use Rattle.lq_model.specs.Numbers.{first_numbers}
-use Rattle.lq_model.specs.Plan.{Plan, is_swap, station_in, band_in, unit_count}
+use Rattle.lq_model.specs.Plan.{Plan, is_swap, station_in, unit_count}
 use Rattle.lq_model.specs.Sent.{sent_of}
-use Rattle.lq_model.specs.Settled.{IsSettled, IsInSenderOrder, IsSentList, IsUnitOf, HangsAsTold, IsConfiguredWith}
+use Rattle.lq_model.specs.Settled.{IsSettled, IsSentList, IsUnitOf, HangsAsTold, IsConfiguredWith}
 use Rattle.lq_model.specs.Texts.{is_sent_by}
 use Rattle.lq_model.specs.declared.device.Params.{Params}
 use Rattle.lq_model.specs.declared.fate.Cause.TheVariants.{Hung}
 use Rattle.lq_model.specs.declared.fate.Fate.{Fate}
 use Rattle.lq_model.specs.declared.fate.Fate.TheVariants.{Purged}
 use Rattle.lq_model.specs.declared.fate.Info.{Info}
-use Rattle.lq_model.specs.declared.plan.StationPlan.{StationPlan}
 use Rattle.lq_top.proofs.StationLemmas.{unit_is}
 use Rattle.lq_top.proofs.TurnLemmas.{no_events_behind}
 use Rattle.lq_top.specs.Fates.{AllTell, AreFatesOf, accepted_of}
-use Rattle.lq_top.specs.Queue.{QueueState, MeetsParams, device_of, is_hung_value, running}
-use Rattle.lq_top.specs.Stations.{AllFinished, AllAt, IsRunningAt, StationFinished}
+use Rattle.lq_top.specs.Queue.{QueueState, MeetsParams, device_of, is_hung_value}
+use Rattle.lq_top.specs.Stations.{AllFinished, IsRunningAt, StationFinished}
 use Rattle.lq_top.specs.declared.queue.stop_value.StopValue.TheVariants as stop
 
 -- the run came to its end

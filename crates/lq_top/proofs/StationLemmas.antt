@@ -1,17 +1,17 @@
 -- One station of a run beside the others.
-use Rattle.std.proofs.Common.{◌≡◌, ◌≢◌, ℕ, zero, suc, ◌+◌, ◌<◌, ◌≤◌, Bool, true, false, List, [], ◌∷◌, length, refl, ap, arith, Option, Some, None, sym, ◌∙◌, subst, cond, drop}
-use Rattle.std.specs.Prelude.{slice_get, count_by, option_map, if◌then◌else◌, ◌==◌, map}
+use Rattle.std.proofs.Common.{◌≡◌, ◌≢◌, ℕ, zero, suc, ◌+◌, List, [], ◌∷◌, length, refl, ap, arith, Option, Some, None, sym, ◌∙◌, subst, cond, drop}
+use Rattle.std.specs.Prelude.{slice_get, count_by, option_map, if◌then◌else◌, ◌==◌}
 use Rattle.std.proofs.lemmas.List.Sums.{sum_by-cons}
 use Rattle.lq_account.proofs.NoEvents.{no_event}
 use Rattle.lq_account.proofs.Steps.{at_other}
 use Rattle.lq_account.specs.Progress.{IsAt, start_of}
 use Rattle.lq_model.specs.Account.{Account, Event, Join, Full, Refuse, Empty, Take, Pick, Direct, Send, Back, Stop, Wake, Resize, Down, Purge, Swap, Up, after_all, sent_from_hand}
-use Rattle.lq_model.specs.Alone.{Running, changed_at}
+use Rattle.lq_model.specs.Alone.{changed_at}
 use Rattle.lq_model.specs.Legal.{IsLegal}
 use Rattle.lq_model.specs.Plan.{Plan, station_in}
 use Rattle.lq_model.specs.declared.fate.Fate.{Fate}
 use Rattle.lq_model.specs.declared.fate.Info.{Info}
-use Rattle.lq_top.specs.Queue.{QueueState, Setting, Matches, HasFates, SameElsewhere, StandsFor, IsUnderway}
+use Rattle.lq_top.specs.Queue.{QueueState, Matches, HasFates, SameElsewhere, IsUnderway}
 use Rattle.lq_top.specs.Stations.{still_to_come, setting_at, StationStands, StationFinished}
 
 -- PACKETS THAT ARE STILL TO COME

@@ -1,9 +1,8 @@
 -- One turn of the run: a packet, the wakes behind it, and serving.
-use Rattle.std.proofs.Common.{add-one, ◌≡◌, ℕ, ◌+◌, ◌<◌, Bool, true, false, List, [], ◌∷◌, length, refl, ap, Option, Some, None, sym, ◌∙◌, subst, map}
+use Rattle.std.proofs.Common.{add-one, ◌≡◌, ℕ, ◌+◌, Bool, true, false, List, [], length, refl, ap, Option, Some, None, sym, ◌∙◌, map}
 use Rattle.std.specs.Prelude.{slice_get, option_map, if◌then◌else◌, ◌==◌, ◌%◌, nat_le, filter}
 use Rattle.std.proofs.lemmas.Option.{slice_get-map}
-use Rattle.lq_model.specs.Account.{Account}
-use Rattle.lq_model.specs.Alone.{Running, before_of, changed_at, events_before, events_behind, opened, served, with_events, with_packet, with_turn, with_wakes, after_run, after_packets, finished, new_stations}
+use Rattle.lq_model.specs.Alone.{Running, before_of, events_before, events_behind, opened, served, with_events, with_packet, with_turn, with_wakes, after_packets, new_stations}
 use Rattle.lq_model.specs.Device.{DeviceState}
 use Rattle.lq_model.specs.Numbers.{first_numbers}
 use Rattle.lq_model.specs.Plan.{Plan, station_in}
@@ -11,8 +10,8 @@ use Rattle.lq_model.specs.declared.fate.Fate.{Fate}
 use Rattle.lq_model.specs.declared.fate.Info.{Info}
 use Rattle.lq_top.proofs.AllStations.{same_runs, served_stands}
 use Rattle.lq_top.proofs.StationLemmas.{changed_there}
-use Rattle.lq_top.specs.Queue.{QueueState, running}
-use Rattle.lq_top.specs.Stations.{AllStand, AllAt, SomeStand, IsRunningAt, StationStands, packet_step, setting_at, still_to_come, turn_step, with_change}
+use Rattle.lq_top.specs.Queue.{QueueState}
+use Rattle.lq_top.specs.Stations.{AllStand, SomeStand, IsRunningAt, StationStands, packet_step, setting_at, still_to_come, turn_step, with_change}
 
 both-maps : (f g : Running → Running) (run : Option Running) → option_map f (option_map g run) ≡ option_map (λ s. f (g s)) run
 both-maps f g None = refl

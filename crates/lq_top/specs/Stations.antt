@@ -1,17 +1,14 @@
 -- The queues of all stations, in a run of one sender.
 use Rattle.std.specs.Prelude.{◌≡◌, ℕ, ◌+◌, ◌%◌, ◌<◌, ◌≤◌, nat_lt, ◌==◌, if◌then◌else◌, List, [], drop, length, count_by, slice_get, Option, Some, None, option_map, All}
-use Rattle.std.specs.Option.{option_map_or}
 use Rattle.lq_account.specs.Progress.{IsAt}
 use Rattle.lq_model.specs.Account.{Account, held}
 use Rattle.lq_model.specs.Alone.{Running, bypass_of, brought_in, opened, served}
 use Rattle.lq_model.specs.Device.{DeviceState, Telling}
 use Rattle.lq_model.specs.Plan.{Plan, station_in}
-use Rattle.lq_model.specs.declared.device.Params.{Params}
 use Rattle.lq_model.specs.declared.fate.Cause.{Cause}
 use Rattle.lq_model.specs.declared.fate.Fate.{Fate}
 use Rattle.lq_model.specs.declared.fate.Fate.TheVariants.{Purged}
 use Rattle.lq_model.specs.declared.fate.Info.{Info}
-use Rattle.lq_model.specs.declared.plan.StationPlan.{StationPlan}
 use Rattle.lq_plan.specs.Packets.{IsInfoWithin}
 use Rattle.lq_top.specs.Fates.{AllTell}
 use Rattle.lq_top.specs.Queue.{QueueState, Setting, Matches, StandsFor, device_of, running}

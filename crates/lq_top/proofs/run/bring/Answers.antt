@@ -1,4 +1,4 @@
-use Rattle.std.proofs.Common.{◌≡◌, ◌<◌, ◌+◌, length, refl, arith, ap, sym, ◌∙◌, subst, Some, get_or}
+use Rattle.std.proofs.Common.{◌+◌, length, refl, arith, ap, ◌∙◌, subst, get_or}
 use Rattle.std.specs.Prelude.{slice_get, slice_set}
 use Rattle.std.proofs.lemmas.Option.{slice_get_read, slice_get-get_or}
 use Rattle.lq_model.specs.Plan.{station_in}

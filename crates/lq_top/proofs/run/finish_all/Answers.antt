@@ -1,5 +1,4 @@
-use Rattle.std.proofs.Common.{◌≡◌, ◌<◌, length, refl, arith, Some}
-use Rattle.std.specs.Prelude.{slice_get}
+use Rattle.std.proofs.Common.{length, refl, arith}
 use Rattle.std.proofs.lemmas.Option.{slice_get_read}
 use Rattle.lq_top.proofs.AllStations.{all_finished, changed_by_set, next_for_some, none_finished, one_more_finished}
 use Rattle.lq_top.proofs.run.finish_all.Goals as goal

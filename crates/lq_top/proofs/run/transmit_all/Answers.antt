@@ -1,4 +1,4 @@
-use Rattle.std.proofs.Common.{◌+◌, List}
+use Rattle.std.proofs.Common.{◌+◌}
 use Rattle.lq_model.specs.Plan.{station_in}
 use Rattle.lq_top.proofs.TurnLemmas.{one_more_sent}
 use Rattle.lq_top.specs.Stations.{packet_step, with_change}

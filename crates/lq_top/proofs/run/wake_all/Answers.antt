@@ -1,5 +1,4 @@
-use Rattle.std.proofs.Common.{◌≡◌, ◌<◌, length, refl, arith, Some}
-use Rattle.std.specs.Prelude.{slice_get}
+use Rattle.std.proofs.Common.{length, refl, arith}
 use Rattle.std.proofs.lemmas.Option.{slice_get_read}
 use Rattle.lq_top.proofs.AllStations.{all_woken, changed_by_set, none_woken, one_more_woken, stands_for_some}
 use Rattle.lq_top.proofs.run.wake_all.Goals as goal

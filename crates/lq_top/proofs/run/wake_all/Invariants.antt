@@ -1,8 +1,3 @@
-use Rattle.std.proofs.Common.{◌≡◌, ℕ, length, Option}
-use Rattle.lq_model.specs.Alone.{Running}
-use Rattle.lq_model.specs.Device.{DeviceState}
-use Rattle.lq_model.specs.Plan.{Plan}
-use Rattle.lq_model.specs.declared.fate.Info.{Info}
 use Rattle.lq_top.proofs.AllStations.{FirstWoken}
 use Rattle.lq_top.proofs.run.wake_all.Given as goal
 

@@ -1,4 +1,4 @@
-use Rattle.std.proofs.Common.{◌≡◌, ◌+◌, ◌%◌, Bool, true, false, nat_eq, arith}
+use Rattle.std.proofs.Common.{◌+◌, arith}
 use Rattle.lq_top.proofs.AllStations.{same_runs}
 use Rattle.lq_top.proofs.TurnLemmas.{served_again, turn_waits, turn_wakes}
 use Rattle.lq_top.specs.Stations.{StationStands}
