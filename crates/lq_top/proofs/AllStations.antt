@@ -2,6 +2,7 @@
 use Rattle.std.proofs.Common.{◌≡◌, ◌≢◌, ◌⊎◌, inl, inr, ℕ, zero, suc, ◌+◌, ◌<◌, ◌≤◌, List, [], ◌∷◌, length, refl, ap, arith, Option, Some, None, sym, ◌∙◌, subst}
 use Rattle.std.specs.Prelude.{slice_get, slice_set, option_map}
 use Rattle.std.proofs.lemmas.Option.{slice_get_within}
+use Rattle.std.proofs.lemmas.List.{length-set}
 use Rattle.lq_account.proofs.Offers.{served_idle}
 use Rattle.lq_account.proofs.Turns.{served_left, left_stopped}
 use Rattle.lq_model.specs.Account.{Account, with_at}
@@ -10,15 +11,13 @@ use Rattle.lq_model.specs.Device.{DeviceState, Telling}
 use Rattle.lq_model.specs.Plan.{Plan, station_in}
 use Rattle.lq_model.specs.declared.fate.Fate.{Fate}
 use Rattle.lq_model.specs.declared.fate.Info.{Info}
+use Rattle.lq_top.proofs.FateLists.{set_apart, set_here, some_is}
 use Rattle.lq_top.proofs.StationLemmas.{finished_aside, one_less, station_aside, station_beside}
 use Rattle.lq_top.specs.Fates.{AllTell}
 use Rattle.lq_top.specs.Queue.{QueueState, Setting, Goes, Does, StandsFor, StandsForSome, IsNextPacket, MayTransmit, Finishes, Matches, device_of, running, stop_number, transmitted, woken}
 use Rattle.lq_top.specs.Stations.{AllAt, AllStand, SomeStand, FirstFinished, AllFinished, IsFinishedBelow, StationStands, IsRunningAt, setting_at, still_to_come, with_change, packet_step, with_first_changed}
 use Rattle.lq_top.specs.declared.queue.stop_value.StopValue.{StopValue}
 use Rattle.lq_top.specs.declared.queue.stop_value.StopValue.TheVariants as stop
-
-some-is : {X : Type 0} (a b : X) → Some a ≡ Some b → a ≡ b
-some-is a b e = cc
 
 same-or-not : (k i : ℕ) → (k ≡ i) ⊎ (k ≢ i)
 same-or-not zero zero = inl refl
@@ -65,7 +64,7 @@ one_moved P Q plan before i step old new queues queues' run_at all account chang
 }
   where
     is-new : (station : ℕ) (q : QueueState) → slice_get queues' station ≡ Some q → station ≡ i → new ≡ q
-    is-new station q here same = some-is new q (sym changed.behind ∙ (ap (slice_get queues') (sym same) ∙ here))
+    is-new station q here same = some_is (sym changed.behind ∙ (ap (slice_get queues') (sym same) ∙ here))
 
     is-old : (station : ℕ) (q : QueueState) → slice_get queues' station ≡ Some q → station ≢ i → slice_get queues station ≡ Some q
     is-old station q here other = sym (changed.others station other) ∙ here
@@ -253,29 +252,12 @@ stands_for_some plan infos before n queues fates run_at all station q here = rec
   stands = (all.each station q here).stands;
 }
 
-set-same : (xs : List QueueState) (k : ℕ) (x : QueueState) → k < length xs → slice_get (slice_set xs k x) k ≡ Some x
-set-same [] k x below = absurd (omega arith)
-set-same (y ∷ ys) zero x below = refl
-set-same (y ∷ ys) (suc k) x below = set-same ys k x (omega arith)
-
-set-other : (xs : List QueueState) (k j : ℕ) (x : QueueState) → j ≢ k → slice_get (slice_set xs k x) j ≡ slice_get xs j
-set-other [] k j x other = refl
-set-other (y ∷ ys) zero zero x other = absurd (other refl)
-set-other (y ∷ ys) zero (suc j) x other = refl
-set-other (y ∷ ys) (suc k) zero x other = refl
-set-other (y ∷ ys) (suc k) (suc j) x other = set-other ys k j x (λ e. other (ap suc e))
-
-set-length : (xs : List QueueState) (k : ℕ) (x : QueueState) → length (slice_set xs k x) ≡ length xs
-set-length [] k x = refl
-set-length (y ∷ ys) zero x = refl
-set-length (y ∷ ys) (suc k) x = ap suc (set-length ys k x)
-
 pub changed_by_set : (queues : List QueueState) (k : ℕ) (old new : QueueState) → slice_get queues k ≡ Some old → OneChanged k old new queues (slice_set queues k new)
 changed_by_set queues k old new there = record {
   before = there;
-  behind = set-same queues k new (slice_get_within queues k old there);
-  others = λ j other. set-other queues k j new other;
-  same_length = set-length queues k new;
+  behind = set_here queues k new (slice_get_within queues k old there);
+  others = λ j other. set_apart queues k j new other;
+  same_length = length-set queues k new;
 }
 
 -- the first so many stations were finished, behind the last packet

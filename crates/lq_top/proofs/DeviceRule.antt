@@ -5,6 +5,7 @@ use Rattle.std.proofs.lemmas.Bool.{cases_eq, true≢false, ltb-true, lt-ltb, eqb
 use Rattle.lq_model.specs.Device.{Telling, DeviceState, Answers, answer_of, is_hang, is_multiple, taken, told_after}
 use Rattle.lq_model.specs.declared.device.Tx.{Tx}
 use Rattle.lq_model.specs.declared.device.Tx.TheVariants.{Sent, SentStop, SentHang, Busy}
+use Rattle.lq_top.proofs.FateLists.{some_is}
 use Rattle.lq_top.specs.Queue.{MeetsParams, MeetsRule}
 
 -- it answered by its rule, and didn't hang before
@@ -56,9 +57,6 @@ module _ (t : Telling) (n sent : ℕ) (m : MeetsParams t sent false) where
   pub params_kept : (answer : Tx) → answer ≡ answer_of t sent → MeetsParams (told_after answer t) (sent + length (taken answer n)) (is_hang answer)
   params_kept answer is = params-kept (is_multiple (sent + t.busies + 1) t.params.busy_every && nat_lt t.busies t.params.busy_limit)
       (nat_lt 0 t.params.hang_after && (sent + 1 == t.params.hang_after)) (is_multiple (sent + 1) t.params.burst) refl refl answer is
-
-some_is : {X : Type 0} {x y : X} → Some x ≡ Some y → x ≡ y
-some_is e = cc
 
 none_some : {X : Type 0} {x : X} → None ≡ Some x → ⊥
 none_some e = cc

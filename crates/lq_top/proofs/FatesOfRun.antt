@@ -21,6 +21,7 @@ use Rattle.lq_model.specs.declared.fate.Cause.TheVariants.{Hung}
 use Rattle.lq_model.specs.declared.fate.Fate.{Fate}
 use Rattle.lq_model.specs.declared.fate.Fate.TheVariants.{Purged}
 use Rattle.lq_model.specs.declared.fate.Info.{Info}
+use Rattle.lq_top.proofs.FateLists.{some_is}
 use Rattle.lq_top.proofs.StationLemmas.{unit_is}
 use Rattle.lq_top.proofs.TurnLemmas.{no_events_behind}
 use Rattle.lq_top.specs.Fates.{AllTell, AreFatesOf, accepted_of}
@@ -39,9 +40,6 @@ pub record RunEnds (plan : Plan) (infos : List Info) (before behind : List Devic
   pub devices : (station : ℕ) (q : QueueState) → slice_get queues station ≡ Some q → slice_get behind station ≡ Some (device_of q)
   pub runs : (station : ℕ) → station < length plan.stations
       → run_at station ≡ option_map (finished infos) (slice_get (after_packets plan infos (new_stations 0 plan.stations) (length infos)) station)
-
-some-is : {X : Type 0} (a b : X) → Some a ≡ Some b → a ≡ b
-some-is a b e = cc
 
 module _ (plan : Plan) (infos : List Info) (before behind : List DeviceState) (queues : List QueueState) (options : List (Option Fate)) (fates : List Fate)
     (run_at : ℕ → Option Running) (ends : RunEnds plan infos before behind queues options fates run_at) where
@@ -125,7 +123,7 @@ module _ (plan : Plan) (infos : List Info) (before behind : List DeviceState) (q
   hung-is n unit device there here =
       let found = purged-by n unit there in
       let q = (queue-at unit found.0).0 in
-      let same : device_of (queue-at unit found.0).0 ≡ device = some-is _ _ (sym (ends.devices unit (queue-at unit found.0).0 (queue-at unit found.0).1) ∙ here) in
+      let same : device_of (queue-at unit found.0).0 ≡ device = some_is (sym (ends.devices unit (queue-at unit found.0).0 (queue-at unit found.0).1) ∙ here) in
       ap (λ d. d.hung) (sym same) ∙ ((own unit found.0).matches.hung ∙ ap is_hung_value found.1)
 
   -- a station's device that tells
@@ -134,7 +132,7 @@ module _ (plan : Plan) (infos : List Info) (before behind : List DeviceState) (q
   rule-of tell station below params (inl (s, there, is)) =
       let runs = ends.all.tells tell station (queue-at station below).0 (queue-at station below).1 in
       let known : Some s.params ≡ Some runs.device.params = sym (ap (option_map (λ p. p.params)) there) ∙ runs.params in
-      (runs.device, sym (some-is _ _ known) ∙ is, (own station below).matches.rule runs.device runs.told)
+      (runs.device, sym (some_is known) ∙ is, (own station below).matches.rule runs.device runs.told)
   rule-of tell station below params (inr (other, event, at, brings)) = absurd (no_event plan other event _ ends.none at)
 
   configured-within : (unit : ℕ) (params : Params) → IsConfiguredWith plan unit params → unit < length plan.stations

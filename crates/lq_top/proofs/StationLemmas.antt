@@ -11,17 +11,15 @@ use Rattle.lq_model.specs.Legal.{IsLegal}
 use Rattle.lq_model.specs.Plan.{Plan, station_in}
 use Rattle.lq_model.specs.declared.fate.Fate.{Fate}
 use Rattle.lq_model.specs.declared.fate.Info.{Info}
+use Rattle.lq_top.proofs.FateLists.{some_is}
 use Rattle.lq_top.specs.Queue.{QueueState, Matches, HasFates, SameElsewhere, IsUnderway}
 use Rattle.lq_top.specs.Stations.{still_to_come, setting_at, StationStands, StationFinished}
 
 -- PACKETS THAT ARE STILL TO COME
 
-some-is : {X : Type 0} (a b : X) → Some a ≡ Some b → a ≡ b
-some-is a b e = cc
-
 drop-next : {X : Type 0} (xs : List X) (n : ℕ) (x : X) → slice_get xs n ≡ Some x → drop n xs ≡ x ∷ drop (suc n) xs
 drop-next [] n x there = cc
-drop-next (y ∷ ys) zero x there = ap (λ z. z ∷ ys) (some-is y x there)
+drop-next (y ∷ ys) zero x there = ap (λ z. z ∷ ys) (some_is there)
 drop-next (y ∷ ys) (suc n) x there = drop-next ys n x there
 
 counted : (infos : List Info) (station n : ℕ) (info : Info) → slice_get infos n ≡ Some info
