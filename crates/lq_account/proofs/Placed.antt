@@ -54,7 +54,7 @@ none-some o x none some = cc
 abbrev IsWithin : Band → Type 0
 IsWithin band = band.taken ≤ length band.line
 
-within-step : (infos : List Info) (station : ℕ) (past : List Event) (a : Account) (e : Event) → MayCome infos station past a e → ((b : ℕ) → IsWithin (a.bands b)) → (b : ℕ) → IsWithin ((after e a).bands b)
+pub within-step : (infos : List Info) (station : ℕ) (past : List Event) (a : Account) (e : Event) → MayCome infos station past a e → ((b : ℕ) → IsWithin (a.bands b)) → (b : ℕ) → IsWithin ((after e a).bands b)
 within-step infos station past a (Join n band) may h b =
     at-cases IsWithin band b _ a.bands (λ same. (let old = h band in omega (arith, length-append (a.bands band).line (n ∷ [])))) (λ other. h b)
 within-step infos station past a (Full n seen) may h b = h b
@@ -137,7 +137,7 @@ module _ (infos : List Info) (station : ℕ) (past : List Event) (a : Account) (
             | inr dropped ↦ inl (_, with_fates_in (dropped_in len a 0 ++ (dropped_in len a 1 ++ dropped_in len a 2)) m _ a.fates (in-three (dropped_in len a) b m below dropped))
           ]
 
-  stays : (e : Event) → MayCome infos station past a e → IsPlaced a m → IsPlaced (after e a) m
+  pub stays : (e : Event) → MayCome infos station past a e → IsPlaced a m → IsPlaced (after e a) m
   stays (Join n band) may h = joins n band h
   stays (Full n seen) may (inl fate) = inl (set-keeps n m _ a.fates fate)
   stays (Full n seen) may (inr place) = inr place
@@ -162,7 +162,7 @@ module _ (infos : List Info) (station : ℕ) (past : List Event) (a : Account) (
   stays Up may h = h
 
   -- a packet that is brought now
-  comes : (e : Event) → MayCome infos station past a e → ((b : ℕ) → IsWithin (a.bands b)) → ((n : ℕ) → band_in infos n < 3) → brought e ≡ Some m → IsPlaced (after e a) m
+  pub comes : (e : Event) → MayCome infos station past a e → ((b : ℕ) → IsWithin (a.bands b)) → ((n : ℕ) → band_in infos n < 3) → brought e ≡ Some m → IsPlaced (after e a) m
   comes (Join n band) may within three now = inr (inl (band-held (after (Join n band) a) band m (subst (λ b. b < 3) may.band_is (three n))
       (at-cases (λ x. Contains (held_of x) m) band band _ a.bands
       (λ same. subst (λ k. Contains (drop (a.bands band).taken ((a.bands band).line ++ n ∷ [])) k) (same_Some n m now) (drop-last (a.bands band).taken (a.bands band).line n (within band)))
