@@ -74,8 +74,8 @@ const LOOK_AT_THE_STOP_WORD_AGAIN: &str = "seats 2 len 4 bypass 0
 0 step 22
 ";
 
-/// `wake-behind-the-second-look.schedule`
-const WAKE_BEHIND_THE_SECOND_LOOK: &str = "seats 2 len 4 bypass 0
+/// `wake-after-the-second-look.schedule`
+const WAKE_AFTER_THE_SECOND_LOOK: &str = "seats 2 len 4 bypass 0
 0 send 1
 0 step 8
 0 stop
@@ -131,7 +131,7 @@ fn nothing_is_left_behind(rt: HostRuntime) -> Result<(), Fail> {
         (RELEASE_THEN_LOOK, 47, 2),
         (CLEAR_THEN_LOOK, 53, 2),
         (LOOK_AT_THE_STOP_WORD_AGAIN, 55, 2),
-        (WAKE_BEHIND_THE_SECOND_LOOK, 48, 2),
+        (WAKE_AFTER_THE_SECOND_LOOK, 48, 2),
         (SOFT_INTERRUPT_CLEARS_FIRST, 53, 2),
         (BYPASS_LOOKS_UNDER_THE_LOCK, 49, 2),
     ];
