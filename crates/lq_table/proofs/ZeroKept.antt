@@ -14,6 +14,9 @@ use Rattle.lq_table.specs.Rule.{words_of, slot_word, account, holders, bands_now
 use Rattle.lq_table.specs.Told.{Sat}
 use Rattle.lq_table.specs.Rings.{emptying, slot_emptied}
 use Rattle.lq_table.proofs.ByName.{set_slot}
+use Rattle.lq_table.proofs.SettledKept.{settled_same}
+use Rattle.lq_table.proofs.GivenKept.{given_same}
+use Rattle.lq_table.proofs.TrailsKept.{trails_same}
 use Rattle.lq_table.proofs.Frames.{shares_same, packets_same, fates_same, turns_same, locks_here, rings_step, sole_step, rule_after, stays, lends_held}
 
 module _ (k : Setup) where
@@ -55,6 +58,10 @@ module _ (k : Setup) where
           account = p.account;
           firsts = mach.firsts;
           sole = sole_step k s.views id v w here q q g g' p.shares p.sole some_share refl refl (λ e1 e2. (e1, λ j. record (e2 j) { ends = put b (emptied_on (size_is j) (at b (e2 j).ends)) (e2 j).ends }));
+          settled = settled_same s.views id v w here W.fates p.settled refl;
+          given = given_same k s.views id v w here W.turns p.given refl refl refl;
+          device = p.device;
+          trails = trails_same k.infos s.views id v w here p.trails refl refl refl refl;
         },
         refl,
       )
