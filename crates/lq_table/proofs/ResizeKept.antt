@@ -45,6 +45,9 @@ use Rattle.lq_table.proofs.HeldOnce.{no_fate, held_once}
 use Rattle.lq_table.proofs.Middle.{middle, controls_in}
 use Rattle.lq_table.proofs.Quiet.{beside}
 use Rattle.lq_table.proofs.TurnKept.{turn_rule, turn_known}
+use Rattle.lq_table.proofs.SettledKept.{settled_same}
+use Rattle.lq_table.proofs.GivenKept.{given_same}
+use Rattle.lq_table.proofs.TrailsKept.{trails_same, trails_own}
 use Rattle.lq_table.proofs.Frames.{at_map, none_some, none_left, shares_same, hands_same, packets_same, turns_same, turns_past, locks_here, locks_same, locks_after, firsts_same, sole_step, account_step, rule_after, opened, closed, stays, lends_held}
 
 -- a line in each owner's order has no packet twice
@@ -93,6 +96,7 @@ module _ (k : Setup) where
         home = r1.home;
         qdisc = r1.qdisc;
         state = record r1.state { left = None };
+        setup = r1.setup;
         wide = r1.wide;
         deep = r1.deep;
         parts = subst (λ (o : Option Left). Parts k (words_of k s.words) r1.home s.views r1.qdisc (record r1.state { left = o }) (account k r1.state)) (r1.parts.leaves.none_left free) r1.parts;
@@ -160,10 +164,14 @@ module _ (k : Setup) where
                   (λ j u apart at_j _ b h also. absurd (lock_alone (locks_at b s.views) id j (at b v.locks) (at b u.locks) (locks_here k s.views id v w here b) (at_map (λ (y : View). at b y.locks) s.views j u at_j) apart (run.ring b h).one (locked b h).0 also));
             };
           };
-          account = account_step k g.past e p.account may tt;
+          account = account_step k g.past e p.account may tt tt;
           firsts = firsts_same k s.views id v w here q.phase q.phase q.purge q.purge p.firsts live refl refl refl refl (λ h. h);
           sole = sole_step k s.views id v w here q q' g g' p.shares p.sole some_share refl refl
               (λ e1 e2. (ap (λ (z : Qdisc). record z { bands = map (λ (band : List Packet). take len band) z.bands; len = len }) e1, ap (λ (z : State). record z { past = e ∷ z.past; turn = Some t }) e2));
+          settled = settled_same s.views id v w here W.fates p.settled refl;
+          given = given_same k s.views id v w here W.turns p.given refl refl refl;
+          device = p.device;
+          trails = trails_own k.infos s.views id v w here e refl p.trails p.firsts.one first refl refl refl;
         },
         (
           held,
@@ -261,6 +269,10 @@ module _ (k : Setup) where
           account = p.account;
           firsts = mach.firsts;
           sole = sole_step k s.views id v w here q q g g' p.shares p.sole some_share refl refl (λ e1 e2. (e1, ap (λ (z : State). record z { ends = ends'; turn = None }) e2));
+          settled = settled_same s.views id v w here W.fates p.settled refl;
+          given = given_same k s.views id v w here W.turns p.given refl refl refl;
+          device = p.device;
+          trails = trails_same k.infos s.views id v w here p.trails refl refl refl refl;
         },
         refl,
       )

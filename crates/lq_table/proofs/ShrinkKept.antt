@@ -29,6 +29,7 @@ use Rattle.lq_table.specs.Settled.{MaySettle, MayShrink, shrinking, fate_stored}
 use Rattle.lq_table.proofs.ByName.{set_fate}
 use Rattle.lq_table.proofs.PayKept.{pays}
 use Rattle.lq_table.proofs.SendKept as sent
+use Rattle.lq_table.proofs.SettledKept.{settled_stored}
 use Rattle.lq_table.proofs.TurnKept.{waiting_put, waiting_at, turn_rule, turn_known, works_on}
 
 -- how often a purge has still to take a packet of one band
@@ -44,11 +45,11 @@ held_there (Some l) a b n h none_taken c = let x = times_in n (held_of (at b l.b
 
 module _ (k : Setup) where
   pub settles_shrunk : (slots id : ℕ) (st : StationState) (m : Sat) (b n event : ℕ) → b < 3 → 0 < m.0.share.shares → MayShrink b n event m.0
-      → Allows (Rule k) slots id m (fates_from k + n) (λ _. word_of (fate.Shrunk event)) (λ _. fate_stored st b (fate.Shrunk event) (step slots (fates_from k + n) (word_of (fate.Shrunk event)) 0 none) m (word_of (fate.Shrunk event)))
+      → Allows (Rule k) slots id m (fates_from k + n) (λ _. word_of (fate.Shrunk event)) (λ _. fate_stored st b n (fate.Shrunk event) (step slots (fates_from k + n) (word_of (fate.Shrunk event)) 0 none) m (word_of (fate.Shrunk event)))
   settles_shrunk slots id st m b n event below some_share may s r1 deep here small =
       let v : View = m.0 in let t : Turn = may.turn in let r = turn_rule k s r1 (Some t) (turn_known k s r1 id v (Some t) here some_share may.holds may.turning) in
       let p = r.parts in let g = r.state in let a = account k g in let W = words_of k s.words in let res = p.rings.resizing t refl in
-      let old : Work = at b t.works in let x : Work = settled_work old in let t' : Turn = with_work b x t in let w : View = turned (Some t') v in let x_waits : x.waiting ≡ may.waiting = ap (drop 1) may.first in let x_hand : x.hand ≡ may.hand = ap (drop 1) may.in_hand in
+      let old : Work = at b t.works in let x : Work = settled_work old in let t' : Turn = with_work b x t in let w : View = record (turned (Some t') v) { settled = (n, fate.Shrunk event) ∷ v.settled } in let x_waits : x.waiting ≡ may.waiting = ap (drop 1) may.first in let x_hand : x.hand ≡ may.hand = ap (drop 1) may.in_hand in
       let here_once : times n old.waiting ≡ times n may.waiting + 1 = ap (times n) may.first ∙ times_same n n may.waiting refl in
       let at_b = waiting_at n b t.works in
       let is : a.fates n ≡ Some (fate.Shrunk event) = p.fates.shrunk t refl n (omega arith) ∙ ap (λ (z : ℕ). Some (fate.Shrunk z)) may.event_is in
@@ -61,12 +62,12 @@ module _ (k : Setup) where
       (Contains-append_cases now.line may.waiting n h) in
       let new = subst (λ (z : List ℕ × List ℕ). IsTurning (at b W.slots) (at b W.producers) (locks_at b s.views) now z.0 old.slots z.1) (λ j. (sym x_waits j, sym x_hand j)) (shrinks _ _ _ _ _ _ _ n turning out) in
       let waits = λ (l : ℕ). waiting_put l b x t.works in
-      let is_view : w ≡ shrinking b v = λ j. turned (option_map (λ (z : Turn). with_work b (settled_work (at b z.works)) z) (sym may.turning j)) v in
+      let is_view : w ≡ shrinking b n event v = λ j. record (turned (option_map (λ (z : Turn). with_work b (settled_work (at b z.works)) z) (sym may.turning j)) v) { settled = (n, fate.Shrunk event) ∷ v.settled } in
       let f : ℕ = word_of (fate.Shrunk event) in (
         w,
         keeps,
         tt,
-        works_on k s r (fates_from k + n) f id b v t x (at b W.slots) (set W.fates n f) here some_share may.holds may.turning below
+        works_on k s r (fates_from k + n) f id b v t x (at b W.slots) (set W.fates n f) ((n, fate.Shrunk event) ∷ v.settled) here some_share may.holds may.turning below
             (set_fate k s.words f n inside ∙ (λ j. record W { slots = sym (put_at b W.slots) j; fates = set W.fates n f })) refl new record {
               stored = settles (length k.infos) W.fates (unstored s.views (Some t) g.left) a.fates p.fates.stored (unstored (set s.views id w) (Some t') g.left) n (fate.Shrunk event) inside is
                   (let z = total_same (λ u. owes n u.packets.owed) s.views id v w here refl in let y = waits n in let e = ap (times n) x_waits in omega arith)
@@ -74,14 +75,15 @@ module _ (k : Setup) where
               shrunk = λ u e l h. p.fates.shrunk t refl l (let y = waits l in let c = ap (times l) x_waits in let h' : 0 < waiting_of l t'.works = subst (λ (y : Turn). 0 < waiting_of l y.works) (sym (same_Some t' u e)) h in let q : times l old.waiting ≡ times l (n ∷ may.waiting) = ap (times l) may.first in omega arith)
                   ∙ ap (λ (y : Turn). Some (fate.Shrunk y.event)) (same_Some t' u e);
               purged = p.fates.purged;
-            },
+            }
+            (settled_stored s.views id v w here W.fates n (fate.Shrunk event) (p.fates.stored.zero n (omega arith)) (let long = p.fates.stored.long in omega arith) p.settled refl),
         ap (λ (y : View). (y, m.1)) is_view,
       )
 
   pub settles_fate : (slots id : ℕ) (st : StationState) (m : Sat) (b n : ℕ) (f : Fate) → n < length k.infos → 0 < m.0.share.shares → MaySettle b n f st m.0
-      → Allows (Rule k) slots id m (fates_from k + n) (λ _. word_of f) (λ _. fate_stored st b f (step slots (fates_from k + n) (word_of f) 0 none) m (word_of f))
+      → Allows (Rule k) slots id m (fates_from k + n) (λ _. word_of f) (λ _. fate_stored st b n f (step slots (fates_from k + n) (word_of f) 0 none) m (word_of f))
   settles_fate slots id st m b n (fate.Sent unit serial) within some_share may =
-      subst (λ (f : Fate). Allows (Rule k) slots id m (fates_from k + n) (λ _. word_of f) (λ _. fate_stored st b (fate.Sent unit serial) (step slots (fates_from k + n) (word_of f) 0 none) m (word_of f))) (sym may.fate_is)
+      subst (λ (f : Fate). Allows (Rule k) slots id m (fates_from k + n) (λ _. word_of f) (λ _. fate_stored st b n (fate.Sent unit serial) (step slots (fates_from k + n) (word_of f) 0 none) m (word_of f))) (sym may.fate_is)
       (sent.settles k slots id n st m may.packet may.direct may.answer may.position may.in_hand may.called may.accepted some_share within)
   settles_fate slots id st m b n (fate.Full seen) within some_share may = pays k slots id n (fate.Full seen) m may within some_share
   settles_fate slots id st m b n (fate.Refused event) within some_share may = pays k slots id n (fate.Refused event) m may within some_share

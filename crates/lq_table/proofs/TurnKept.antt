@@ -13,6 +13,7 @@ use Rattle.lq_account.proofs.Lists.{none-in, here-in, there-in, cons-in}
 use Rattle.lq_model.specs.Account.{Account}
 use Rattle.lq_model.specs.Kept.{holds_lock}
 use Rattle.lq_model.specs.Machine.{Purge}
+use Rattle.lq_model.specs.declared.fate.Fate.{Fate}
 use Rattle.lq_model.specs.declared.fate.Fate.TheVariants as fate
 use Rattle.lq_band.specs.Three.{Three, at, put}
 use Rattle.lq_band.specs.Ring.{Lock}
@@ -24,10 +25,13 @@ use Rattle.lq_band.proofs.Times.{times_in}
 use Rattle.lq_band.proofs.StoredKept.{stored_as}
 use Rattle.lq_band.proofs.TurningKept.{clears, clears_other, fills}
 use Rattle.lq_table.specs.Views.{View, Setup, State, HolderPart, Turn, Work, Left}
-use Rattle.lq_table.specs.Rule.{words_of, slot_word, account, holders, owes, waiting_of, unstored, Fates, bands_now, Leaves, IsResizing, locks_at, Parts, Rule}
+use Rattle.lq_table.specs.Rule.{words_of, slot_word, account, holders, owes, waiting_of, unstored, Fates, bands_now, Leaves, IsResizing, locks_at, Settled, Parts, Rule}
 use Rattle.lq_table.specs.Told.{Sat}
 use Rattle.lq_table.specs.Resizes.{is_word, is_member, hand_with, out_of, into, with_work, turned, slot_cleared, slot_filled}
 use Rattle.lq_table.proofs.ByName.{slots_long, set_slot, slot_of}
+use Rattle.lq_table.proofs.SettledKept.{settled_same}
+use Rattle.lq_table.proofs.GivenKept.{given_same}
+use Rattle.lq_table.proofs.TrailsKept.{trails_same}
 use Rattle.lq_table.proofs.Frames.{none_some, shares_same, packets_same, turns_same, locks_same, control_same, sole_step, rule_after, stays, lends_held}
 
 -- WORDS OF PACKETS
@@ -70,6 +74,7 @@ turn_rule k s r o is = record {
   home = r.home;
   qdisc = r.qdisc;
   state = record r.state { turn = o };
+  setup = r.setup;
   wide = r.wide;
   deep = r.deep;
   parts = subst (λ (z : Option Turn). Parts k (words_of k s.words) r.home s.views r.qdisc (record r.state { turn = z }) (account k r.state)) is r.parts;
@@ -86,14 +91,15 @@ line_now (Some l) purge a x b h = (x.lines l refl b h).0
 
 module _ (k : Setup) where
   -- control of a resize that is half done changes what stands of a band
-  pub works_on : (s : table.State (Option StationState) View) (r1 : Rule k s) (i x id b : ℕ) (v : View) (t : Turn) (y : Work) (sb fs : List ℕ) → get_elem? s.views id ≡ some v → 0 < v.share.shares → holds_lock v.place.position ≡ true → v.holder.turn ≡ Some t → b < 3
+  pub works_on : (s : table.State (Option StationState) View) (r1 : Rule k s) (i x id b : ℕ) (v : View) (t : Turn) (y : Work) (sb fs : List ℕ) (more : List (ℕ × Fate)) → get_elem? s.views id ≡ some v → 0 < v.share.shares → holds_lock v.place.position ≡ true → v.holder.turn ≡ Some t → b < 3
       → words_of k (set s.words i x) ≡ record (words_of k s.words) { slots = put b sb (words_of k s.words).slots; fates = fs } → y.kept ≡ (at b t.works).kept
       → IsTurning sb (at b (words_of k s.words).producers) (locks_at b s.views) (bands_now r1.state.left (account k r1.state).bands b) y.waiting y.slots y.hand
-      → Fates k.infos fs (set s.views id (turned (Some (with_work b y t)) v)) (account k r1.state) (Some (with_work b y t)) r1.state.left
-      → Rule k record { words = set s.words i x; homes = s.homes; views = set s.views id (turned (Some (with_work b y t)) v) }
-  works_on s r1 i x id b v t y sb fs here some_share holds turning below is kept_same new stored =
+      → Fates k.infos fs (set s.views id (record (turned (Some (with_work b y t)) v) { settled = more })) (account k r1.state) (Some (with_work b y t)) r1.state.left
+      → Settled fs (set s.views id (record (turned (Some (with_work b y t)) v) { settled = more }))
+      → Rule k record { words = set s.words i x; homes = s.homes; views = set s.views id (record (turned (Some (with_work b y t)) v) { settled = more }) }
+  works_on s r1 i x id b v t y sb fs more here some_share holds turning below is kept_same new stored settled_are =
       let r = turn_rule k s r1 (Some t) (turn_known k s r1 id v (Some t) here some_share holds turning) in let live = lt-ltb 0 v.share.shares some_share in
-      let p = r.parts in let g = r.state in let a = account k g in let q = r.qdisc in let W = words_of k s.words in let t' : Turn = with_work b y t in let w : View = turned (Some t') v in
+      let p = r.parts in let g = r.state in let a = account k g in let q = r.qdisc in let W = words_of k s.words in let t' : Turn = with_work b y t in let w : View = record (turned (Some t') v) { settled = more } in
       let g' : State = record g { turn = Some t' } in let D' : HolderPart = holders g' a W.size in let res = p.rings.resizing t refl in let at_ = p.lends.knows id v here live holds in let mach = stays k s r id v w here live refl refl refl in
       let same : (c : ℕ) → locks_at c (set s.views id w) ≡ locks_at c s.views = λ c. locks_same k s.views id v w here c refl in
       rule_after k s r i x id s.homes r.home w (record W { slots = put b sb W.slots; fates = fs }) q g' a r.deep is refl record {
@@ -139,6 +145,10 @@ module _ (k : Setup) where
         account = p.account;
         firsts = mach.firsts;
         sole = sole_step k s.views id v w here q q g g' p.shares p.sole some_share refl refl (λ e1 e2. (e1, ap (λ (z : State). record z { turn = Some t' }) e2));
+        settled = settled_are;
+        given = given_same k s.views id v w here W.turns p.given refl refl refl;
+        device = p.device;
+        trails = trails_same k.infos s.views id v w here p.trails refl refl refl refl;
       }
 
   -- where the same packets wait, the fates stand as they are
@@ -183,7 +193,8 @@ module _ (k : Setup) where
           turned (Some (with_work b (out_of i x) t)) v,
           keeps,
           tt,
-          works_on s r word 0 id b v t (out_of i x) (set (at b W.slots) i 0) W.fates here some_share holds turning below (set_slot k s.words 0 b i below inside) refl both.0 (fates_turned s.views id v W.fates a b t (out_of i x) g.left here refl p.fates),
+          works_on s r word 0 id b v t (out_of i x) (set (at b W.slots) i 0) W.fates v.settled here some_share holds turning below (set_slot k s.words 0 b i below inside) refl both.0 (fates_turned s.views id v W.fates a b t (out_of i x) g.left here refl p.fates)
+              (settled_same s.views id v (turned (Some (with_work b (out_of i x) t)) v) here W.fates p.settled refl),
           (found, refl, λ yes_. let y = both.1 (sym (ap (λ (z : ℕ). is_member z x) found) ∙ yes_) in let e : get_or s.words word 0 ≡ f = found in omega arith),
         )
 
@@ -197,6 +208,7 @@ module _ (k : Setup) where
           turned (Some (with_work b (into i n hand y) t)) v,
           keeps,
           tt,
-          works_on s r word (n + 1) id b v t (into i n hand y) (set (at b W.slots) i (n + 1)) W.fates here some_share holds turning below (set_slot k s.words (n + 1) b i below inside) refl new (fates_turned s.views id v W.fates a b t (into i n hand y) g.left here refl p.fates),
+          works_on s r word (n + 1) id b v t (into i n hand y) (set (at b W.slots) i (n + 1)) W.fates v.settled here some_share holds turning below (set_slot k s.words (n + 1) b i below inside) refl new (fates_turned s.views id v W.fates a b t (into i n hand y) g.left here refl p.fates)
+              (settled_same s.views id v (turned (Some (with_work b (into i n hand y) t)) v) here W.fates p.settled refl),
           refl,
         )

@@ -63,6 +63,7 @@ beginning t v = record v {
     qdisc = record v.whole.qdisc { bands = map (λ band. take t.len band) v.whole.qdisc.bands; len = t.len };
     state = record v.whole.state { past = Resize t.len t.event ∷ v.whole.state.past; turn = Some t };
   };
+  trail = Resize t.len t.event ∷ v.trail;
 }
 
 -- control knows what each band held, and the slots, in which the held packets stand from the head on

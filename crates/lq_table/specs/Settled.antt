@@ -45,16 +45,17 @@ MaySettle b n (fate.Refused event) st v = v.packets.owed ≡ Some (n, fate.Refus
 MaySettle b n (fate.Purged cause) st v = v.packets.owed ≡ Some (n, fate.Purged cause)
 MaySettle b n (fate.Shrunk event) st v = (b < 3) × MayShrink b n event v
 
-abbrev pub shrinking : ℕ → View → View
-shrinking b v = turned (option_map (λ (t : Turn). with_work b (settled_work (at b t.works)) t) v.holder.turn) v
+-- the packet n, which the resize of the event dropped from the band b, is settled
+abbrev pub shrinking : ℕ → ℕ → ℕ → View → View
+shrinking b n event v = record (turned (option_map (λ (t : Turn). with_work b (settled_work (at b t.works)) t) v.holder.turn) v) { settled = (n, fate.Shrunk event) ∷ v.settled }
 
--- the fate of a packet of the band b was stored, where the station is as st says
-abbrev pub fated : StationState → ℕ → Fate → View → View
-fated st b (fate.Sent unit serial) v = settling st v
-fated st b (fate.Full seen) v = paying v
-fated st b (fate.Refused event) v = paying v
-fated st b (fate.Purged cause) v = paying v
-fated st b (fate.Shrunk event) v = shrinking b v
+-- the fate of the packet n of the band b was stored, where the station is as st says
+abbrev pub fated : StationState → ℕ → ℕ → Fate → View → View
+fated st b n (fate.Sent unit serial) v = settling st v
+fated st b n (fate.Full seen) v = paying v
+fated st b n (fate.Refused event) v = paying v
+fated st b n (fate.Purged cause) v = paying v
+fated st b n (fate.Shrunk event) v = shrinking b n event v
 
-abbrev pub fate_stored : StationState → ℕ → Fate → Step (Option StationState) → Sat → ℕ → Sat → Type 0
-fate_stored st b f _ m found m' = m' ≡ (fated st b f m.0, m.1)
+abbrev pub fate_stored : StationState → ℕ → ℕ → Fate → Step (Option StationState) → Sat → ℕ → Sat → Type 0
+fate_stored st b n f _ m found m' = m' ≡ (fated st b n f m.0, m.1)
