@@ -7,7 +7,8 @@ use Rattle.std.proofs.lemmas.Option.{same_Some}
 use mathlib.Core.Option.{none}
 use Rattle.atomic_table.specs.Table.{step, Allows, keeps}
 use Rattle.lq_account.proofs.Brought.{held-brought}
-use Rattle.lq_account.proofs.Order.{Precedes, never-itself, held-band}
+use Rattle.lq_account.proofs.Order.{never-itself, held-band}
+use Rattle.lq_account.specs.Places.{Precedes}
 use Rattle.lq_account.proofs.Purges.{with_fates_in, with_fates_out}
 use Rattle.lq_account.proofs.Waiting.{fate-stays, waits-dropped}
 use Rattle.lq_model.specs.Account.{Account, Event, Resize, after, held_in, dropped_in}
@@ -169,7 +170,7 @@ module _ (k : Setup) where
           sole = sole_step k s.views id v w here q q' g g' p.shares p.sole some_share refl refl
               (λ e1 e2. (ap (λ (z : Qdisc). record z { bands = map (λ (band : List Packet). take len band) z.bands; len = len }) e1, ap (λ (z : State). record z { past = e ∷ z.past; turn = Some t }) e2));
           settled = settled_same s.views id v w here W.fates p.settled refl;
-          given = given_same k s.views id v w here W.turns p.given refl refl refl;
+          given = given_same k s.views id v w here W.turns p.given refl refl refl refl refl;
           device = p.device;
           trails = trails_own k.infos s.views id v w here e refl p.trails p.firsts.one first refl refl refl;
         },
@@ -270,7 +271,7 @@ module _ (k : Setup) where
           firsts = mach.firsts;
           sole = sole_step k s.views id v w here q q g g' p.shares p.sole some_share refl refl (λ e1 e2. (e1, ap (λ (z : State). record z { ends = ends'; turn = None }) e2));
           settled = settled_same s.views id v w here W.fates p.settled refl;
-          given = given_same k s.views id v w here W.turns p.given refl refl refl;
+          given = given_same k s.views id v w here W.turns p.given refl refl refl refl refl;
           device = p.device;
           trails = trails_same k.infos s.views id v w here p.trails refl refl refl refl;
         },
