@@ -1,4 +1,5 @@
 -- A resize begins: in the machine and in the account it is done; and it ends, as the new length is stored.
+use Rattle.lq_account.specs.Places.{Precedes}
 use Rattle.std.proofs.Common.{◌≡◌, ◌≢◌, ℕ, zero, suc, ◌+◌, ◌*◌, ◌<◌, ◌≤◌, true, false, List, [], ◌∷◌, ◌++◌, length, map, take, drop, set, refl, sym, ap, ◌∙◌, subst, arith, ⊎_elim, Option, Some, None, get_or}
 use Rattle.std.specs.Prelude.{is_none}
 use Rattle.std.specs.List.{AllPairs}
@@ -8,7 +9,6 @@ use mathlib.Core.Option.{none}
 use Rattle.atomic_table.specs.Table.{step, Allows, keeps}
 use Rattle.lq_account.proofs.Brought.{held-brought}
 use Rattle.lq_account.proofs.Order.{never-itself, held-band}
-use Rattle.lq_account.specs.Places.{Precedes}
 use Rattle.lq_account.proofs.Purges.{with_fates_in, with_fates_out}
 use Rattle.lq_account.proofs.Waiting.{fate-stays, waits-dropped}
 use Rattle.lq_model.specs.Account.{Account, Event, Resize, after, held_in, dropped_in}
