@@ -1,10 +1,11 @@
 -- How often a packet stands in a list.
+use Rattle.lq_account.specs.Places.{Precedes}
 use Rattle.std.proofs.Common.{◌≡◌, ◌≢◌, ℕ, zero, suc, ◌+◌, ◌<◌, ◌≤◌, Bool, eqb, List, [], ◌∷◌, ◌++◌, drop, refl, sym, ap, ◌∙◌, subst, ⊎_elim, arith, Some, Contains, AllPairs, slice_get, eq-eqb, ne_eqb}
 use Rattle.std.specs.Prelude.{if◌then◌else◌}
 use Rattle.std.proofs.lemmas.Bool.{cases_eq}
 use Rattle.lq_model.specs.declared.fate.Info.{Info}
 use Rattle.lq_account.proofs.Lists.{here-in, there-in, cons-in}
-use Rattle.lq_account.proofs.Order.{Precedes, never-itself}
+use Rattle.lq_account.proofs.Order.{never-itself}
 use Rattle.lq_band.specs.Times.{times}
 
 abbrev one_where : Bool → ℕ

@@ -58,7 +58,7 @@ module _ (k : Setup) where
         firsts = let knows = p.firsts.knows id v here first in firsts_now s.views id v w here q.phase q.phase q.purge q.purge p.firsts first refl knows.0 knows.1 refl;
         sole = sole_step k s.views id v w here q q g g p.shares p.sole some_share refl refl (λ e1 e2. (e1, e2));
         settled = settled_same s.views id v w here W.fates p.settled refl;
-        given = given_same k s.views id v w here W.turns p.given refl refl refl;
+        given = given_same k s.views id v w here W.turns p.given refl refl refl refl refl;
         device = p.device;
         trails = trails_same k.infos s.views id v w here p.trails refl refl refl refl;
       }
