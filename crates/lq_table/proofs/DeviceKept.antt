@@ -1,5 +1,5 @@
 -- The device's room, and when it hangs.
-use Rattle.std.proofs.Common.{◌≡◌, ◌≢◌, ℕ, zero, suc, ◌+◌, ◌*◌, ◌<◌, ◌≤◌, Bool, true, false, true≢false, ◌&&◌, eqb, List, [], ◌∷◌, ◌++◌, set, sym, ap, ap₂, ◌∙◌, subst, arith, refl, Option, Some, None, length, slice_index, get_or, length-set, get_or-set_same, get_or-set_other, eq-eqb, if◌then◌else◌}
+use Rattle.std.proofs.Common.{◌≡◌, ℕ, ◌+◌, Bool, true, false, true≢false, ◌&&◌, List, set, sym, ap, ap₂, ◌∙◌, subst, arith, refl, Option, Some, None, length, slice_index, get_or, length-set, get_or-set_same, get_or-set_other, eq-eqb, if◌then◌else◌}
 use Rattle.std.specs.Prelude.{nat_lt, ◌==◌, IfSome}
 use Rattle.std.specs.Option.{option_map}
 use Rattle.std.proofs.lemmas.Bool.{lt-ltb}
@@ -11,7 +11,7 @@ use native.Mathlib.Decide.{ℕ_discrete, dec_lt}
 use lib.ListN.{get_elem?}
 use Rattle.atomic_table.specs.Table as table
 use Rattle.lq_device.specs.Station.{StationState}
-use Rattle.lq_model.specs.Device.{DeviceState, Telling, Answers, answer_of, taken, is_hang, is_busy, told_after, is_multiple}
+use Rattle.lq_model.specs.Device.{DeviceState, Telling, Answers, answer_of, taken, is_hang, is_busy, told_after}
 use Rattle.lq_model.specs.declared.device.Params.{Params}
 use Rattle.lq_model.specs.declared.device.Tx.{Tx}
 use Rattle.lq_model.specs.declared.device.Tx.TheVariants.{Sent, SentStop, SentHang, Busy}
@@ -22,7 +22,7 @@ use Rattle.lq_model.specs.Machine.{is_open}
 use Rattle.lq_model.specs.Kept.{holds_lock}
 use Rattle.lq_model.specs.Plan.{queue_in}
 use Rattle.lq_table.specs.Views.{View, Setup, HolderPart, packet_of}
-use Rattle.lq_table.specs.Rule.{words_of, is_live, account, holders, bands_now, AreHung, Holder, HangsWhere, IsDevice, Rule}
+use Rattle.lq_table.specs.Rule.{words_of, is_live, account, holders, bands_now, Holder, HangsWhere, IsDevice, Rule}
 use Rattle.lq_table.proofs.ByName.{xoff_long}
 use Rattle.lq_table.proofs.Frames.{none_some}
 use Rattle.lq_table.proofs.Facts.{device_open}

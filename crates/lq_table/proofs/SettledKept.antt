@@ -1,5 +1,5 @@
 -- The settled fates stand in their fate words.
-use Rattle.std.proofs.Common.{◌≡◌, ◌≢◌, ◌⊎◌, inl, inr, ⊎_elim, zero, suc, length, ◌<◌, ℕ, ◌+◌, ◌*◌, List, ◌∷◌, ◌++◌, set, sym, ap, ◌∙◌, subst, arith, refl, Option, Some, None, Contains, get_or, slice_index, get_or-set_same, get_or-set_other}
+use Rattle.std.proofs.Common.{◌≡◌, ◌≢◌, ◌⊎◌, inl, inr, ⊎_elim, zero, suc, length, ◌<◌, ℕ, List, ◌∷◌, set, sym, ap, ◌∙◌, subst, arith, Contains, slice_index, get_or-set_same, get_or-set_other}
 use mathlib.Core.Logic.{dite}
 use mathlib.Core.Option.{some}
 use native.Mathlib.Decide.{ℕ_discrete}

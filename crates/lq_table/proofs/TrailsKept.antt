@@ -1,5 +1,5 @@
 -- The first seat's trail.
-use Rattle.std.proofs.Common.{◌≡◌, ◌≢◌, ℕ, ◌+◌, ◌<◌, ◌≤◌, Bool, true, false, true≢false, List, ◌∷◌, set, sym, ap, ◌∙◌, subst, arith, refl, Some, eqb, ne_eqb, cond}
+use Rattle.std.proofs.Common.{◌≡◌, ℕ, ◌<◌, Bool, true, false, List, ◌∷◌, set, sym, ap, ◌∙◌, subst, arith, eqb, ne_eqb, cond}
 use mathlib.Core.Option.{some}
 use lib.ListN.{get_elem?}
 use Rattle.lq_model.specs.Account.{Event}

@@ -1,5 +1,5 @@
 -- The trail of control and the first sender: of a station's events those of control, and those that bring packets of owner 0.
-use Rattle.std.specs.Prelude.{ℕ, Bool, true, false, ◌==◌, List, filter}
+use Rattle.std.specs.Prelude.{Bool, true, false, ◌==◌, List, filter}
 use Rattle.lq_model.specs.Account.{Event, Join, Full, Refuse, Direct, Resize, Down, Purge, Swap, Up}
 use Rattle.lq_model.specs.Plan.{owner_in}
 use Rattle.lq_model.specs.declared.fate.Info.{Info}

@@ -1,6 +1,6 @@
 use Rattle.std.proofs.Common.{arith}
-use Rattle.lq_table.proofs.QuietKept.{looks}
+use Rattle.lq_table.proofs.QuietKept.{looks_all}
 use Rattle.lq_table.proofs.shared.Shared.load_state.Goals as goal
 
 pub load-requires : goal.load-requires
-load-requires g c = (c.requires.seat.0, (let wide = c.args.self.now.sized.0 in omega arith), looks _ _ _ _ c.requires.at c.requires.seat.1)
+load-requires g c = (c.requires.seat.0, (let wide = c.args.self.now.sized.0 in omega arith), looks_all _ _ _ _ c.requires.at c.requires.seat.1)
