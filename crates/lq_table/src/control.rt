@@ -8,7 +8,10 @@ ghost use Rattle.lq_table.specs.Sees.{view, position, carried, IsSeatOf, IsElseS
 ghost use Rattle.lq_table.specs.Told.{at_rest};
 ghost use Rattle.lq_table.specs.Controls.{beginning_control, returning, closing, finding, opening, resetting_missed, resetting_draining, IsExchange, swapping};
 
-use crate::plays::{BeginControl, Close, Event, Find, Open, ResetDraining, ResetMissed, Return, Same, Standing, Swap};
+use crate::plays::{
+    BeginControl, Close, Event, Find, Open, ResetDraining, ResetMissed, Return, Same, Standing,
+    Swap,
+};
 use crate::shared::{Cpu, Shared};
 use lq_device::TxDevice;
 use std::marker::Brand;
