@@ -18,8 +18,8 @@ use Rattle.lq_band.proofs.TurningKept.{turning_sized}
 use Rattle.lq_band.proofs.Kept.{locks, sizes_if, gives}
 use Rattle.lq_table.specs.Views.{View, Setup, HolderPart}
 use Rattle.lq_table.specs.Rule.{words_of, account, holders, bands_now, locks_at, Rule}
-use Rattle.lq_table.specs.Told.{Sat, with_lock_at}
-use Rattle.lq_table.specs.Rings.{got_producer, producer_given, sized, size_loaded, unchanged}
+use Rattle.lq_table.specs.Told.{Sat}
+use Rattle.lq_table.specs.Rings.{with_lock_at, got_producer, producer_given, sized, size_loaded, unchanged}
 use Rattle.lq_table.proofs.ByName.{set_producer, set_back, producer_of}
 use Rattle.lq_table.proofs.Quiet.{beside}
 use Rattle.lq_table.proofs.Frames.{locks_here, locks_after, control_same, calm_even, calm_here, rings_step, rule_same}

@@ -1,5 +1,5 @@
 -- The steps on a turn word keep the rule.
-use Rattle.std.proofs.Common.{◌≡◌, ◌≢◌, ℕ, suc, ◌+◌, ◌*◌, ◌<◌, ◌≤◌, Bool, true, List, eqb, length, set, refl, sym, ap, ◌∙◌, subst, arith, ⊎_elim, Option, Some, None, eq-eqb, ne_eqb, get_or, slice_index, length-set, get_or-set_same, get_or-set_other, Contains}
+use Rattle.std.proofs.Common.{◌≡◌, ◌≢◌, ℕ, ◌+◌, ◌*◌, ◌<◌, Bool, true, List, eqb, length, set, refl, sym, ap, ◌∙◌, subst, arith, ⊎_elim, Option, Some, None, eq-eqb, ne_eqb, get_or, length-set, get_or-set_same, get_or-set_other, Contains}
 use Rattle.std.specs.Prelude.{if◌then◌else◌, nat_lt}
 use Rattle.lq_model.specs.Kept.{holds_lock}
 use Rattle.lq_model.specs.declared.machine.Seat.{Seat}
@@ -22,7 +22,7 @@ use Rattle.lq_table.specs.Views.{View, Setup, SharePart, HolderPart}
 use Rattle.lq_table.specs.Comes.{IsFresh}
 use Rattle.lq_table.specs.Rule.{words_of, times, is_live, account, holders, bands_now, Holder, KnowsPackets, KnowsTurn, KnowsWords, has_turn, Given, Turns, Rule}
 use Rattle.lq_table.specs.Told.{Sat, bringing, turn_taken, giving_turn, turn_given, turn_seen}
-use Rattle.lq_table.proofs.ByName.{set_turn, turn_of_word, set_back}
+use Rattle.lq_table.proofs.ByName.{set_turn, turn_of_word}
 use Rattle.lq_table.proofs.Accounts.{owners_apart}
 use Rattle.lq_table.proofs.SettledKept.{settled_same}
 use Rattle.lq_table.proofs.TrailsKept.{trails_same}

@@ -12,7 +12,7 @@ ghost use Rattle.lq_band.specs.Turning.{IsUnturned, IsRefilled};
 ghost use Rattle.lq_table.specs.Views.{Turn};
 ghost use Rattle.lq_table.specs.Rule.{IsResting};
 ghost use Rattle.lq_table.specs.Sees.{view, position, lock_at, ends_at, IsSeatOf, IsElseSame};
-ghost use Rattle.lq_table.specs.Told.{with_lock_at};
+ghost use Rattle.lq_table.specs.Rings.{with_lock_at};
 ghost use Rattle.lq_table.specs.Resizes.{turn_of, beginning, turned, with_work, out_of, into, is_member, restarted, resize_begun, slot_cleared, slot_filled, producer_set, size_stored};
 
 use crate::shared::{Cpu, Shared};
