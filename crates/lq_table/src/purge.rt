@@ -113,9 +113,7 @@ impl<'a, D: TxDevice> Shared<'a, D> {
             + self.senders as usize
             + band as usize * self.max_len as usize
             + head as usize;
-        self.table
-            .shared
-            .load::<SeePurged<K>>(&mut cpu.seat, word)
+        self.table.shared.load::<SeePurged<K>>(&mut cpu.seat, word)
     }
 
     /// What stands in the slot at the head of the band that the purge has come to. Where it isn't 0 its packet is taken,

@@ -135,7 +135,9 @@ impl<'a, D: TxDevice> Shared<'a, D> {
             × ((b : ℕ) → b < 3 → IsUnturned (view cpu.old).holder.size K.limit (at b slots) (held b) (ends_at b cpu.old))
             × ((b n : ℕ) → b < 3 → Contains (held b) n → (band_in K.infos n ≡ b) × (n < length K.infos)) }
     {
-        self.table.shared.load::<BeginResize<K>>(&mut cpu.seat, SIZE);
+        self.table
+            .shared
+            .load::<BeginResize<K>>(&mut cpu.seat, SIZE);
     }
 
     /// The resize to `len` begins, for the plan's event `event`. In the account it is done with this step: each band has
@@ -218,9 +220,11 @@ impl<'a, D: TxDevice> Shared<'a, D> {
         ensures same { IsElseSame cpu.old cpu.new }
         ensures set { view cpu.new ≡ with_lock_at band (locked_at index) (view cpu.old) }
     {
-        self.table
-            .shared
-            .store::<SetProducer<K>>(&mut cpu.seat, PRODUCERS + band as usize, 2 * index as u64 + 1);
+        self.table.shared.store::<SetProducer<K>>(
+            &mut cpu.seat,
+            PRODUCERS + band as usize,
+            2 * index as u64 + 1,
+        );
     }
 
     /// Sets the index of the band's producer, whose lock control keeps. A store into the producer word, by control of a
