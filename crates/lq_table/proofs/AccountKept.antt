@@ -1,6 +1,6 @@
 -- What an event keeps of the fates of sent packets, and of the event by which the station is deactivated.
 use Rattle.lq_account.specs.Places.{AreBrought, IsInOrder, Undecided}
-use Rattle.std.proofs.Common.{◌≡◌, ℕ, ◌<◌, List, inl, inr, Option, Some, None, sym, subst, slice_get, length}
+use Rattle.std.proofs.Common.{◌≡◌, ℕ, ◌<◌, List, inl, inr, Option, Some, None, sym, subst}
 use Rattle.std.proofs.lemmas.Option.{same_Some}
 use Rattle.lq_model.specs.Account.{Account, Event, Send, Down, Up, sent_from_hand, after}
 use Rattle.lq_model.specs.Legal.{MayCome}

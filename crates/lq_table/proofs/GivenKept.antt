@@ -1,5 +1,5 @@
 -- Turns that were taken and given back.
-use Rattle.std.proofs.Common.{true, ◌≡◌, ◌≢◌, ℕ, ◌+◌, ◌*◌, ◌<◌, ◌≤◌, List, ◌∷◌, set, sym, ap, ◌∙◌, subst, arith, refl, Option, Some, None, Contains}
+use Rattle.std.proofs.Common.{true, ◌≡◌, ℕ, ◌+◌, ◌*◌, List, ◌∷◌, set, sym, ap, ◌∙◌, subst, arith, Some, None, Contains}
 use Rattle.std.proofs.lemmas.Option.{same_Some}
 use Rattle.std.specs.Prelude.{nat_lt}
 use mathlib.Core.Option.{some}

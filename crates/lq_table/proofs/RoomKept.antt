@@ -1,6 +1,6 @@
 -- The device has room for the packet in hand: what it accepted are distinct packets of the station, and this is one more.
 use Rattle.lq_account.specs.Places.Waits.{in_hand}
-use Rattle.std.proofs.Common.{◌≡◌, ◌≢◌, ℕ, zero, suc, ◌+◌, ◌<◌, ◌≤◌, Bool, true, false, true≢false, List, [], ◌∷◌, length, take, Contains, refl, sym, ap, ◌∙◌, subst, arith, ⊎_elim, inl, inr, ◌⊎◌, Option, Some, None, eqb, eq-eqb, count_by, slice_get, get_or}
+use Rattle.std.proofs.Common.{◌≡◌, ◌≢◌, ℕ, zero, suc, ◌+◌, ◌<◌, ◌≤◌, Bool, true, false, true≢false, List, [], ◌∷◌, length, take, refl, sym, ap, ◌∙◌, subst, arith, ⊎_elim, inl, inr, ◌⊎◌, Option, Some, None, eq-eqb, count_by, slice_get, get_or}
 use Rattle.std.specs.Prelude.{if◌then◌else◌, nat_lt, ◌==◌}
 use Rattle.std.specs.Option.{option_map_or}
 use Rattle.std.proofs.lemmas.Bool.{cases_eq, lt-ltb, ltb-true}
@@ -11,7 +11,6 @@ use mathlib.Core.Logic.{dite}
 use native.Mathlib.Decide.{dec_lt}
 use Rattle.atomic_table.specs.Table as table
 use Rattle.lq_device.specs.Station.{StationState}
-use Rattle.lq_model.specs.Account.{Account}
 use Rattle.lq_model.specs.Plan.{station_in}
 use Rattle.lq_model.specs.declared.fate.Fate.{Fate}
 use Rattle.lq_model.specs.declared.fate.Fate.TheVariants.{Sent}
@@ -19,7 +18,7 @@ use Rattle.lq_model.specs.declared.fate.Info.{Info}
 use Rattle.lq_band.specs.Times.{times}
 use Rattle.lq_band.proofs.Times.{in_times, times_in, times_none, times_same, times_other}
 use Rattle.lq_table.specs.Views.{View, Setup}
-use Rattle.lq_table.specs.Rule.{account, count_at, Accounted, Rule}
+use Rattle.lq_table.specs.Rule.{account, count_at, Rule}
 
 abbrev one_where : Bool → ℕ
 one_where b = if b then 1 else 0

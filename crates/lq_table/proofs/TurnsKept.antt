@@ -1,5 +1,5 @@
 -- The steps on a turn word keep the rule.
-use Rattle.std.proofs.Common.{◌≡◌, ◌≢◌, ℕ, suc, ◌+◌, ◌*◌, ◌<◌, ◌≤◌, Bool, true, List, eqb, length, set, refl, sym, ap, ◌∙◌, subst, arith, ⊎_elim, Option, Some, None, eq-eqb, ne_eqb, get_or, slice_index, length-set, get_or-set_same, get_or-set_other, Contains}
+use Rattle.std.proofs.Common.{◌≡◌, ◌≢◌, ℕ, ◌+◌, ◌*◌, ◌<◌, Bool, true, List, eqb, length, set, refl, sym, ap, ◌∙◌, subst, arith, ⊎_elim, Option, Some, None, eq-eqb, ne_eqb, get_or, length-set, get_or-set_same, get_or-set_other, Contains}
 use Rattle.std.specs.Prelude.{if◌then◌else◌, nat_lt}
 use Rattle.lq_model.specs.Kept.{holds_lock}
 use Rattle.lq_model.specs.declared.machine.Seat.{Seat}
@@ -22,7 +22,7 @@ use Rattle.lq_table.specs.Views.{View, Setup, SharePart, HolderPart}
 use Rattle.lq_table.specs.Comes.{IsFresh}
 use Rattle.lq_table.specs.Rule.{words_of, times, is_live, account, holders, bands_now, Holder, KnowsPackets, KnowsTurn, KnowsWords, has_turn, Given, Turns, Rule}
 use Rattle.lq_table.specs.Told.{Sat, bringing, turn_taken, giving_turn, turn_given, turn_seen}
-use Rattle.lq_table.proofs.ByName.{set_turn, turn_of_word, set_back}
+use Rattle.lq_table.proofs.ByName.{set_turn, turn_of_word}
 use Rattle.lq_table.proofs.Accounts.{owners_apart}
 use Rattle.lq_table.proofs.SettledKept.{settled_same}
 use Rattle.lq_table.proofs.TrailsKept.{trails_same}
@@ -133,8 +133,11 @@ module _ (k : Setup) where
             }
             record {
               turn = λ y l. let z = gv.turn y l in let now = mine_now y in ⊎_elim
-                  (λ (e : y ≡ o). (rank, (let a = ap (λ (y : ℕ). get_or (set W.turns o x) y 0) e ∙ here_new in let b : total (λ u. has_turn k.infos y u.packets.busy) s.views ≡ 0 = ap (λ (y : ℕ). total (λ u. has_turn k.infos y u.packets.busy) s.views) e ∙ nobody in
-                  let c = has_mine k.infos n y (sym e) in omega arith)))
+                  (λ (e : y ≡ o). (
+                    rank,
+                    (let a = ap (λ (y : ℕ). get_or (set W.turns o x) y 0) e ∙ here_new in let b : total (λ u. has_turn k.infos y u.packets.busy) s.views ≡ 0 = ap (λ (y : ℕ). total (λ u. has_turn k.infos y u.packets.busy) s.views) e ∙ nobody in
+                        let c = has_mine k.infos n y (sym e) in omega arith),
+                  ))
                   (λ (e : y ≢ o). (z.0, (let a = else_new y e in let b = z.1 in let c = has_other k.infos n y (λ s. e (sym s)) in omega arith)))
                   (cases_eq y o);
               one = λ y l. let z = gv.one y l in let now = mine_now y in ⊎_elim

@@ -1,14 +1,17 @@
 //! The steps of control, which the first seat alone does.
-ghost use Rattle.std.specs.Prelude.{◌≡◌, ◌<◌, ℕ, Bool, true, false, not, nat_lt, Some, None};
+ghost use Rattle.std.specs.Prelude.{◌≡◌, ◌<◌, ℕ, Bool, true, false, not, nat_lt, Some, None, is_some};
 ghost use Rattle.lq_model.specs.Machine.{Purge};
 ghost use Rattle.lq_model.specs.declared.machine.Phase.TheVariants.{Active, Purged};
 ghost use Rattle.lq_model.specs.declared.machine.Position.TheVariants.{Idle as AtIdle, Control as AtControl};
 ghost use Rattle.lq_table.specs.Views.{Left};
-ghost use Rattle.lq_table.specs.Sees.{view, position, IsSeatOf, IsElseSame};
+ghost use Rattle.lq_table.specs.Sees.{view, position, carried, IsSeatOf, IsElseSame};
 ghost use Rattle.lq_table.specs.Told.{at_rest};
-ghost use Rattle.lq_table.specs.Controls.{beginning_control, returning, closing, finding, opening, resetting_missed, resetting_draining};
+ghost use Rattle.lq_table.specs.Controls.{beginning_control, returning, closing, finding, opening, resetting_missed, resetting_draining, IsExchange, swapping};
 
-use crate::plays::{BeginControl, Close, Event, Find, Open, ResetDraining, ResetMissed, Return, Same};
+use crate::plays::{
+    BeginControl, Close, Event, Find, Open, ResetDraining, ResetMissed, Return, Same, Standing,
+    Swap,
+};
 use crate::shared::{Cpu, Shared};
 use lq_device::TxDevice;
 use std::marker::Brand;
@@ -18,6 +21,8 @@ const BASE: usize = 0;
 const STATE: usize = 1;
 
 const LOCK: usize = 2;
+
+const XOFF: usize = 3;
 
 const INSIDE: usize = 4;
 
@@ -132,5 +137,33 @@ impl<'a, D: TxDevice> Shared<'a, D> {
         self.table
             .shared
             .fetch_and::<ResetDraining>(&mut cpu.seat, STATE, ALL_BUT_DRAINING);
+    }
+
+    fn open_xoff_of<K: Standing>(&self, cpu: &mut Cpu<D>)
+        requires named { cpu.old.station ≡ Some K.station }
+        requires queues { self.now.queues ≡ 1 }
+        requires seat { IsSeatOf self.now cpu.old }
+        requires at { position cpu.old ≡ AtControl true }
+        requires purged { ((view cpu.old).control.phase ≡ Purged) × ((view cpu.old).control.purge ≡ None) }
+        requires station { IsExchange (view cpu.old).share.about.infos (view cpu.old).share.about.station (view cpu.old).holder.units K.station }
+        ensures same { IsElseSame cpu.old cpu.new }
+        ensures view { view cpu.new ≡ swapping K.station (view cpu.old) }
+    {
+        self.table.shared.store::<Swap<K>>(&mut cpu.seat, XOFF, 0);
+    }
+
+    /// Stores 0 in the stop word of a station with one queue whose device was exchanged, as a driver's open does with
+    /// `netif_tx_start_queue` of include/linux/netdevice.h. The station that the seat carries has the new device, whose
+    /// unit is none of those before.
+    pub fn open_xoff(&self, cpu: &mut Cpu<D>)
+        requires queues { self.now.queues ≡ 1 }
+        requires seat { IsSeatOf self.now cpu.old }
+        requires at { position cpu.old ≡ AtControl true }
+        requires purged { ((view cpu.old).control.phase ≡ Purged) × ((view cpu.old).control.purge ≡ None) }
+        requires station { (is_some cpu.old.station ≡ true) × IsExchange (view cpu.old).share.about.infos (view cpu.old).share.about.station (view cpu.old).holder.units (carried cpu.old) }
+        ensures same { IsElseSame cpu.old cpu.new }
+        ensures view { view cpu.new ≡ swapping (carried cpu.old) (view cpu.old) }
+    {
+        self.open_xoff_of::<Brand>(cpu);
     }
 }

@@ -9,7 +9,7 @@ use Rattle.lq_table.specs.Views.{packet_of}
 use Rattle.lq_table.specs.Rule.{Rule, slot_word}
 use Rattle.lq_table.specs.Keyed.{setup_of}
 use Rattle.lq_table.proofs.ByName.{slot_within}
-use Rattle.lq_table.specs.Told.{slot_seen}
+use Rattle.lq_table.specs.Rings.{slot_seen}
 use Rattle.lq_table.proofs.FullKept.{sees_slot}
 use Rattle.lq_table.proofs.shared.Shared.producer_slot_of.Goals as goal
 
