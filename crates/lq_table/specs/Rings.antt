@@ -46,10 +46,6 @@ slot_seen b n _ m found m' =
 abbrev pub slot_stored : ℕ → ℕ → Step (Option StationState) → Sat → ℕ → Sat → Type 0
 slot_stored b n _ m found m' = m' ≡ (joining b n m.0, m.1)
 
--- nothing was learned
-abbrev pub unchanged : Step (Option StationState) → Sat → ℕ → Sat → Type 0
-unchanged _ m found m' = m' ≡ m
-
 -- THE CONSUMER
 
 -- the band was found empty

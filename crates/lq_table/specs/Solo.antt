@@ -1,13 +1,13 @@
 -- What a seat knows that has the table alone, without its place, and what the steps make of that.
-use Rattle.std.specs.Prelude.{◌≡◌, ℕ, Bool, true, false, not, ◌||◌, List, Option, ◌∷◌, filter, is_some, slice_index, if◌then◌else◌}
+use Rattle.std.specs.Prelude.{◌≡◌, ℕ, ◌&&◌, ◌==◌, Some, None, Bool, true, false, not, ◌||◌, List, Option, ◌∷◌, filter, is_some, slice_index, if◌then◌else◌}
 use Rattle.lq_device.specs.Station.{StationState}
-use Rattle.lq_model.specs.Account.{Account, Event, Empty, Back}
+use Rattle.lq_model.specs.Account.{Account, Event, Empty, Pick, Back}
 use Rattle.lq_model.specs.Device.{DeviceState}
 use Rattle.lq_model.specs.Machine.{bit}
 use Rattle.lq_model.specs.Kept.{holds_lock, in_hand}
-use Rattle.lq_table.specs.Views.{View, HolderPart}
+use Rattle.lq_table.specs.Views.{View}
 use Rattle.lq_table.specs.Rule.{account, holders}
-use Rattle.lq_table.specs.Told.{Sat, is_set, looked, checked, rechecked, missed_now, scheduled_now, stop_loaded, woken}
+use Rattle.lq_table.specs.Told.{Sat, is_dequeue, is_set, looked, checked, rechecked, missed_now, scheduled_now, stop_loaded, woken, tried}
 use Rattle.atomic_table.specs.Table.{Step}
 
 -- the events that made the station's account, the latest first, the bits of its state word, whether the run lock is taken,
@@ -79,6 +79,25 @@ heard event v = record v { whole = record v.whole { past = event ∷ v.whole.pas
 abbrev pub laid : View → Solo → Solo
 laid v w = if is_some (in_hand v.place.position) then heard Back w else w
 
+-- the raised mark is taken down as a soft interrupt begins
+abbrev pub lowered : Solo → Solo
+lowered v = record v { raised = false }
+
+abbrev pub entered_as : Bool → Solo → Solo
+entered_as brings v = if brings then v else lowered v
+
+-- the device is in this state
+abbrev pub device_to : DeviceState → Solo → Solo
+device_to d v = record v { whole = record v.whole { device = d } }
+
+-- where a dequeue begins and its queue is open the packet in the requeue slot, if there is one, is picked
+abbrev pub picks : Option ℕ → Solo → Solo
+picks None v = v
+picks (Some n) v = heard Pick v
+
+abbrev pub stop_found : ℕ → View → Solo → Solo
+stop_found x v w = if is_dequeue v.place.position && (x == 0) then picks v.holder.slot w else w
+
 -- WHAT A STEP TELLS A SOLE SEAT
 
 -- the state word
@@ -107,9 +126,16 @@ missed_all s m found m' = missed_now s m found m' × (IsSole m.0 → SeesState m
 abbrev pub scheduled_all : Step (Option StationState) → Sat → ℕ → Sat → Type 0
 scheduled_all s m found m' = scheduled_now s m found m' × (IsSole m.0 → SeesState m.0 found)
 
+-- a stop word; and what a holder has is the account's
+abbrev pub SeesStop : ℕ → View → ℕ → Type 0
+SeesStop queue v found = (IsSole v → found ≡ slice_index (account_of v).stops queue) × (IsSole v → holds_lock v.place.position ≡ true → IsAccounts v)
+
 abbrev pub stop_loaded_all : ℕ → Step (Option StationState) → Sat → ℕ → Sat → Type 0
-stop_loaded_all queue s m found m' =
-    stop_loaded s m found m' × (IsSole m.0 → found ≡ slice_index (account_of m.0).stops queue) × (IsSole m.0 → holds_lock m.0.place.position ≡ true → IsAccounts m.0)
+stop_loaded_all queue s m found m' = stop_loaded s m found m' × SeesStop queue m.0 found
 
 abbrev pub woken_all : ℕ → Step (Option StationState) → Sat → ℕ → Sat → Type 0
 woken_all queue s m found m' = woken queue s m found m' × (IsSole m.0 → found ≡ slice_index (account_of m.0).stops queue)
+
+-- the lock was held or free as its words say, and behind a try it is held; what the holder has is the account's
+abbrev pub tried_all : Step (Option StationState) → Sat → ℕ → Sat → Type 0
+tried_all s m found m' = tried s m found m' × (IsSole m.0 → found ≡ bit m.0.whole.qdisc.locked)

@@ -3,6 +3,7 @@ ghost use Rattle.std.specs.Prelude.{◌≡◌, ◌⊎◌, true, is_some};
 ghost use Rattle.lq_model.specs.declared.machine.Position.TheVariants.{Leave as AtLeave};
 ghost use Rattle.lq_table.specs.Sees.{view, position, IsSeatOf, IsElseSame};
 ghost use Rattle.lq_table.specs.Told.{at_rest, bringing_packet, entering, passing};
+ghost use Rattle.lq_table.specs.Solo.{solo, entered_as};
 
 use crate::plays::{Enter, Pass};
 use crate::shared::{Cpu, Shared};
@@ -20,6 +21,7 @@ impl<'a, D: TxDevice> Shared<'a, D> {
         requires call { (is_some (bringing_packet (view cpu.old)) ≡ true) ⊎ ((view cpu.old).place.raised ≡ true) }
         ensures same { IsElseSame cpu.old cpu.new }
         ensures view { view cpu.new ≡ entering (view cpu.old) }
+        ensures step { solo (view cpu.new) ≡ entered_as (is_some (bringing_packet (view cpu.old))) (solo (view cpu.old)) }
     {
         self.table
             .shared
@@ -32,6 +34,7 @@ impl<'a, D: TxDevice> Shared<'a, D> {
         requires at { position cpu.old ≡ AtLeave }
         ensures same { IsElseSame cpu.old cpu.new }
         ensures view { view cpu.new ≡ passing (view cpu.old) }
+        ensures step { solo (view cpu.new) ≡ solo (view cpu.old) }
     {
         self.table
             .shared

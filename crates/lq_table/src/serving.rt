@@ -1,7 +1,8 @@
 //! The sets and clears of MISSED and DRAINING by the holder of the run lock.
-ghost use Rattle.std.specs.Prelude.{◌≡◌, true};
+ghost use Rattle.std.specs.Prelude.{◌≡◌, true, false};
 ghost use Rattle.lq_table.specs.Sees.{view, position, IsSeatOf, IsElseSame};
 ghost use Rattle.lq_table.specs.Told.{clears_missed, clears_draining, sets_missed, sets_draining, passing, setting};
+ghost use Rattle.lq_table.specs.Solo.{solo, missed_to, draining_to, laid};
 
 use crate::plays::{Pass, Set};
 use crate::shared::{Cpu, Shared};
@@ -25,6 +26,7 @@ impl<'a, D: TxDevice> Shared<'a, D> {
         requires at { clears_missed (position cpu.old) ≡ true }
         ensures same { IsElseSame cpu.old cpu.new }
         ensures view { view cpu.new ≡ passing (view cpu.old) }
+        ensures step { solo (view cpu.new) ≡ missed_to false (solo (view cpu.old)) }
     {
         self.table
             .shared
@@ -37,6 +39,7 @@ impl<'a, D: TxDevice> Shared<'a, D> {
         requires at { clears_draining (position cpu.old) ≡ true }
         ensures same { IsElseSame cpu.old cpu.new }
         ensures view { view cpu.new ≡ passing (view cpu.old) }
+        ensures step { solo (view cpu.new) ≡ draining_to false (solo (view cpu.old)) }
     {
         self.table
             .shared
@@ -50,6 +53,7 @@ impl<'a, D: TxDevice> Shared<'a, D> {
         requires at { sets_missed (position cpu.old) ≡ true }
         ensures same { IsElseSame cpu.old cpu.new }
         ensures view { view cpu.new ≡ setting (view cpu.old) }
+        ensures step { solo (view cpu.new) ≡ laid (view cpu.old) (missed_to true (solo (view cpu.old))) }
     {
         self.table
             .shared
@@ -63,6 +67,7 @@ impl<'a, D: TxDevice> Shared<'a, D> {
         requires at { sets_draining (position cpu.old) ≡ true }
         ensures same { IsElseSame cpu.old cpu.new }
         ensures view { view cpu.new ≡ setting (view cpu.old) }
+        ensures step { solo (view cpu.new) ≡ laid (view cpu.old) (draining_to true (solo (view cpu.old))) }
     {
         self.table
             .shared

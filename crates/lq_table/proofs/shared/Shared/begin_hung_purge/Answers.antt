@@ -1,4 +1,4 @@
-use Rattle.std.proofs.Common.{◌+◌, ◌<◌, arith}
+use Rattle.std.proofs.Common.{arith}
 use Rattle.lq_table.specs.Keyed.{setup_of}
 use Rattle.lq_table.proofs.PurgeKept.{purges_hung}
 use Rattle.lq_table.proofs.shared.Shared.begin_hung_purge.Goals as goal

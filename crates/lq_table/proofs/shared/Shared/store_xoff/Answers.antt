@@ -1,9 +1,12 @@
-use Rattle.std.proofs.Common.{◌≡◌, ℕ, ◌<◌, arith, sym, ap, subst}
+use Rattle.std.proofs.Common.{◌≡◌, ℕ, ◌<◌, arith, sym, ap, ◌∙◌, subst}
 use mathlib.Core.Option.{none}
 use Rattle.atomic_table.specs.Table.{step, Allows}
 use Rattle.lq_table.specs.Rule.{Rule}
 use Rattle.lq_table.specs.Keyed.{setup_of}
+use Rattle.lq_model.specs.Account.{Stop}
 use Rattle.lq_table.specs.Told.{stored_stop}
+use Rattle.lq_table.specs.Solo.{solo, heard}
+use Rattle.lq_table.proofs.SoloSteps.{stores_solo}
 use Rattle.lq_table.proofs.ByName.{xoff_in}
 use Rattle.lq_table.proofs.HolderKept.{stores_xoff}
 use Rattle.lq_table.proofs.shared.Shared.store_xoff.Goals as goal
@@ -17,3 +20,6 @@ store-requires g c =
       subst (λ (z : ℕ × ℕ). Allows (Rule k) slots seat.id seat.me z.0 (λ _. z.1) (stored_stop (step slots z.0 z.1 0 none) seat.me)) (λ j. (sym c.stop_word-word.ensures j, sym at.3 j))
           (stores_xoff k slots seat.id c.args.queue seat.me at.0 at.1 below at.2 at.4 c.requires.seat.1),
     )
+
+pub returns-clause-step : goal.returns-clause-step
+returns-clause-step g c = let at = c.requires.at in ap (λ m. solo m.0) c.store.ensures.2 ∙ (stores_solo c.args.cpu.now.seat.me.0 c.args.queue at.0 at.1 at.2 ∙ ap (λ (x : ℕ). heard (Stop c.args.queue x) (solo c.args.cpu.now.seat.me.0)) (sym at.3))
