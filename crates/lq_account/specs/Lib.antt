@@ -1,5 +1,7 @@
 -- a station on its way through the packets
 pub mod Progress
+-- where packets stand, and in which order they wait
+pub mod Places
 -- what the laws of accounts ask, and what they give
 pub mod Accounts
 -- what events, serving and the end come to with one queue
