@@ -9,6 +9,7 @@ ghost use Rattle.lq_account.specs.Accounts.{AreSettledStations, IsClosed, IsSett
 
 pub mod one_queue;
 pub mod one_sender;
+pub mod trails;
 
 /// The stations of a plan together: each packet has one fate, each unit's serials are 0 up to the number that it sent,
 /// and each owner's packets of one station and band were sent in ascending number. What the account of a unit's station has

@@ -299,6 +299,25 @@ own_packet (BlockedMiss (InHand p direct)) = if direct then Some p else None
 own_packet (BlockedDrain (InHand p direct)) = if direct then Some p else None
 own_packet _ = None
 
+-- the packet that a holder has in hand: from the step that takes it on, to the one that sends it or lays it back
+abbrev pub in_hand_of : Blocked → Option Packet
+in_hand_of (InHand p direct) = Some p
+in_hand_of (NoneTaken queue) = None
+
+abbrev pub in_hand : Position → Option Packet
+in_hand (Gate p direct) = Some p
+in_hand (Xmit p direct) = Some p
+in_hand (BlockedClear b) = in_hand_of b
+in_hand (BlockedLoad b) = in_hand_of b
+in_hand (BlockedMiss b) = in_hand_of b
+in_hand (BlockedDrain b) = in_hand_of b
+in_hand _ = None
+
+-- its device hung in this call, and the stop words aren't all stored yet
+abbrev pub is_hanging : Position → Bool
+is_hanging (StoreXoff queue hung direct) = hung
+is_hanging _ = false
+
 -- the packet that a holder takes past the bands
 abbrev pub direct_packet : Position → Option Packet
 direct_packet (Gate p direct) = if direct then Some p else None

@@ -32,6 +32,7 @@ pub mod LockFreeDraining
 pub mod EndingDraining
 pub mod BlockedDraining
 pub mod Inductive
+pub mod Among
 pub mod Sound
 pub mod Pieces
 pub mod Schedules

@@ -1,3 +1,5 @@
+-- one seat among the others
+pub mod Among
 -- a machine that runs, with the packets that it numbers
 pub mod Running
 -- the room that the list of a band has
