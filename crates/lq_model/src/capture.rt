@@ -1,3 +1,5 @@
+//! Why bytes are no capture, as a type.
+
 /// Why bytes are refused as a capture. The numbers are those that the refusal's line shows.
 #[derive(Clone, Copy, Debug, PartialEq, Eq)]
 pub enum CaptureReason {
