@@ -1,0 +1,8 @@
+-- the order of a section, and blocks at places
+pub mod Places
+-- what a block is that has no fault
+pub mod Fits
+-- the reader's walk along the blocks
+pub mod Walk
+-- the section header block and the interfaces, written piece by piece
+pub mod WrittenSection

@@ -1,0 +1,4 @@
+-- what a packet block is that is whole, and what reading answers
+pub mod Reading
+-- what contracts see of a capture in memory
+pub mod View
