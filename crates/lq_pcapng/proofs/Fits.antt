@@ -6,7 +6,7 @@ use Rattle.lq_model.specs.Capture.{Refusal}
 use Rattle.lq_model.specs.Pcapng.{at_place, block_fault, block_in, block_type, body_fault, captured_length, data_place, fault_at, interface_at, interface_number, is_enhanced, is_interface, is_packet, is_section, is_simple, length_fault, number_in, or_else, packet_fault, padded, total_length}
 use Rattle.lq_model.specs.declared.capture.CaptureReason.{CaptureReason}
 use Rattle.lq_model.specs.declared.capture.CaptureReason.TheVariants.{LongRecord, TooMany, CutBlock, NoInterface, BlockBody, SecondSection}
-use Rattle.lq_pcapng.specs.Reading.{IsInterface, IsPacket}
+use Rattle.lq_pcapng.specs.Reading.{Fits, IsPacket}
 use Rattle.lq_pcapng.proofs.Places.{slice_range-take}
 
 -- a block is of one type
@@ -74,13 +74,6 @@ is_packet_behind_more little_endian interfaces more block p =
       short = subst (λ n. n ≤ 262144) (sym same) p.short;
       whole = subst (λ n. data_place little_endian block + 4 + padded n ≤ length block) (sym same) p.whole;
     }
-
--- a block that has no fault behind interfaces and so many packets, by its type
-pub record Fits (little_endian : Bool) (interfaces : List (List ℕ)) (packets : ℕ) (block : List ℕ) : Type 0 where
-  pub no_section : is_section little_endian block ≡ false
-  pub as_interface : is_interface little_endian block ≡ true → IsInterface little_endian block
-  pub few : is_packet little_endian block ≡ true → packets < 1000000
-  pub as_packet : is_packet little_endian block ≡ true → IsPacket little_endian interfaces block
 
 record Passes (a b c : Bool) (packets len : ℕ) (rest : Option CaptureReason) : Type 0 where
   no_section : a ≡ false

@@ -6,3 +6,5 @@ pub mod Fits
 pub mod Walk
 -- the section header block and the interfaces, written piece by piece
 pub mod WrittenSection
+-- which bytes are a capture
+pub mod Acceptance

@@ -11,7 +11,7 @@ use Rattle.lq_pcap.specs.declared.refusal.CaptureRefusal.{CaptureRefusal}
 use Rattle.lq_pcap.specs.declared.refusal.CaptureRefusal.TheVariants.{Refused, NoMemory}
 use Rattle.lq_pcapng.specs.Reading.{AreInterfaces, ArePackets, IsFault, IsInterface, IsPacket, IsWholeAt, IsWholeLength, block_at, blocks_at}
 use Rattle.lq_pcapng.specs.View.{IsRead, capture_at}
-use Rattle.lq_pcapng.proofs.Fits.{Fits, is_packet_behind_more, number_in-take, whole_from_none}
+use Rattle.lq_pcapng.proofs.Fits.{is_packet_behind_more, number_in-take, whole_from_none}
 
 -- one step of the walk
 pub blocks_end : (little_endian : Bool) (more place : ℕ) (before : List (List ℕ)) (rest : List ℕ) → length rest ≡ 0 → blocks_from little_endian more place before rest ≡ Ok before

@@ -2,3 +2,5 @@
 pub mod Reading
 -- what contracts see of a capture in memory
 pub mod View
+-- what the definition of a capture comes to
+pub mod Laws

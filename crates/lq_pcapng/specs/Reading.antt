@@ -1,7 +1,7 @@
 -- What reading a capture answers, and what it finds on the way.
-use Rattle.std.specs.Prelude.{◌≡◌, ℕ, ◌+◌, ◌≤◌, ◌<◌, Bool, true, List, length, map, drop, slice_index, Option, None, Some, Result, Ok, Err}
+use Rattle.std.specs.Prelude.{◌≡◌, ℕ, ◌+◌, ◌≤◌, ◌<◌, Bool, true, false, List, length, map, drop, slice_index, Option, None, Some, Result, Ok, Err}
 use Rattle.lq_model.specs.Capture.{Refusal}
-use Rattle.lq_model.specs.Pcapng.{block_fault, block_in, captured_length, data_place, interface_number, is_interface, is_little_endian, is_packet, length_fault, padded, section_fault, total_length}
+use Rattle.lq_model.specs.Pcapng.{block_fault, block_in, captured_length, data_place, interface_number, is_interface, is_little_endian, is_packet, is_section, length_fault, padded, section_fault, total_length}
 use Rattle.lq_model.specs.declared.capture.CaptureReason.{CaptureReason}
 use Rattle.lq_pcap.specs.declared.refusal.CaptureRefusal.{CaptureRefusal}
 use Rattle.lq_pcap.specs.declared.refusal.CaptureRefusal.TheVariants.{Refused, NoMemory}
@@ -67,6 +67,14 @@ pub record IsPacket (little_endian : Bool) (interfaces : List (List ℕ)) (block
   pub described : interface_number little_endian block < length interfaces
   pub short : captured_length little_endian interfaces block ≤ 262144
   pub whole : data_place little_endian block + 4 + padded (captured_length little_endian interfaces block) ≤ length block
+
+-- a block fits behind interfaces and so many packets by its type: it is no second section header block, and an interface
+-- description block or a packet block with all that it needs, or else of another type
+pub record Fits (little_endian : Bool) (interfaces : List (List ℕ)) (packets : ℕ) (block : List ℕ) : Type 0 where
+  pub no_section : is_section little_endian block ≡ false
+  pub as_interface : is_interface little_endian block ≡ true → IsInterface little_endian block
+  pub few : is_packet little_endian block ≡ true → packets < 1000000
+  pub as_packet : is_packet little_endian block ≡ true → IsPacket little_endian interfaces block
 
 -- blocks of interfaces stand at these places
 pub record AreInterfaces (little_endian : Bool) (bytes places : List ℕ) : Type 0 where

@@ -16,6 +16,7 @@
 
 mod blocks;
 mod capture;
+mod laws;
 mod layout;
 mod numbers;
 mod packets;
@@ -24,6 +25,7 @@ mod section;
 mod writer;
 
 pub use capture::NgCapture;
+pub use laws::accepts_exactly;
 pub use lq_model::{CaptureReason, NoMemory};
 pub use lq_pcap::CaptureRefusal;
 pub use reader::read_pcapng;

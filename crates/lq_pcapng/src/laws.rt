@@ -1,0 +1,9 @@
+//! Laws of the definitions, each the contract of a function that does nothing.
+
+ghost use Rattle.lq_pcapng.specs.Laws.{AcceptsExactly};
+
+/// Bytes are a capture exactly where they are a section header block and other blocks, each of which fits behind those
+/// before it; and the capture has the interfaces and the packets among these blocks.
+pub fn accepts_exactly()
+    ensures { AcceptsExactly }
+{}
