@@ -8,3 +8,5 @@ pub mod Walk
 pub mod WrittenSection
 -- which bytes are a capture
 pub mod Acceptance
+-- a capture that is written again
+pub mod Again

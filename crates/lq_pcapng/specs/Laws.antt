@@ -1,7 +1,7 @@
 -- What the definition of a capture comes to, and what follows from it.
 use Rattle.std.specs.Prelude.{◌≡◌, ◌≢◌, ◌↔◌, ℕ, ◌+◌, ◌-◌, ◌%◌, ◌<◌, ◌≤◌, ◌⊎◌, Bool, true, false, ◌||◌, nat_eq, List, [], ◌∷◌, ◌++◌, length, map, All, Ok}
 use Rattle.std.specs.List.{IsDistinct, concat}
-use Rattle.lq_model.specs.Pcapng.{NgCapture, frame_in, interfaces_in, is_big_endian, is_little_endian, link_in, major_version, number_in, order_of, packet_block, packets_in, pcapng_of, pcapng_text, total_length, without_length}
+use Rattle.lq_model.specs.Pcapng.{NgCapture, frame_in, frame_of, interfaces_in, is_big_endian, is_little_endian, link_in, link_of, major_version, number_in, order_of, packet_block, packets_in, pcapng_of, pcapng_text, total_length, without_length}
 use Rattle.lq_pcapng.specs.Reading.{Fits}
 
 -- the bytes are one block: both its lengths tell how many they are
@@ -40,21 +40,20 @@ pub record IsPcapng (bytes : List ℕ) (c : NgCapture) : Type 0 where
 abbrev pub AcceptsExactly : Type 0
 AcceptsExactly = (bytes : List ℕ) (c : NgCapture) → (pcapng_of bytes ≡ Ok c) ↔ IsPcapng bytes c
 
--- the link types and the frames of packet blocks
-abbrev pub links_in : NgCapture → List ℕ
-links_in c = map (link_in (order_of c) c.interfaces) c.packets
-
+-- the captured bytes of a capture's packets, and the link types of their interfaces
 abbrev pub frames_in : NgCapture → List (List ℕ)
 frames_in c = map (frame_in (order_of c) c.interfaces) c.packets
 
--- The capture written for a list of packets without repeats is a capture again: of the same interfaces, and of just the
--- packet blocks of the list. So their frames and link types are those of the packets.
+abbrev pub links_in : NgCapture → List ℕ
+links_in c = map (link_in (order_of c) c.interfaces) c.packets
+
+-- the capture with the same interfaces and these packets
+abbrev pub with_packets : NgCapture → List ℕ → NgCapture
+with_packets c packets = record { section = without_length c.section; interfaces = c.interfaces; packets = map (packet_block c) packets }
+
+-- The capture written for a list of packets without repeats is a capture again, with the interfaces as they were and just
+-- the packet blocks of the list, which hold the same packets.
 abbrev pub AcceptsAgain : Type 0
 AcceptsAgain =
     (bytes : List ℕ) (c : NgCapture) (packets : List ℕ) → pcapng_of bytes ≡ Ok c → All (λ i. i < length c.packets) packets → IsDistinct nat_eq packets
-    → pcapng_of (pcapng_text c packets) ≡ Ok (record { section = without_length c.section; interfaces = c.interfaces; packets = map (packet_block c) packets })
-
--- and of a capture with that section header block frames and link types are read as before
-abbrev pub ReadsAsBefore : Type 0
-ReadsAsBefore =
-    (bytes : List ℕ) (c : NgCapture) → pcapng_of bytes ≡ Ok c → is_little_endian (without_length c.section) ≡ order_of c
+    → (pcapng_of (pcapng_text c packets) ≡ Ok (with_packets c packets)) × (frames_in (with_packets c packets) ≡ map (frame_of c) packets) × (links_in (with_packets c packets) ≡ map (link_of c) packets)

@@ -25,7 +25,7 @@ mod section;
 mod writer;
 
 pub use capture::NgCapture;
-pub use laws::accepts_exactly;
+pub use laws::{accepts_again, accepts_exactly};
 pub use lq_model::{CaptureReason, NoMemory};
 pub use lq_pcap::CaptureRefusal;
 pub use reader::read_pcapng;
