@@ -8,7 +8,7 @@ use Rattle.std.proofs.Math.Seq.{take-append_seam, drop-append_seam}
 use Rattle.lq_model.specs.Capture.{Refusal}
 use Rattle.lq_model.specs.Pcapng.{NgCapture, block_fault, block_in, blocks_behind, blocks_from, capture_of_blocks, header_fault, interfaces_in, is_big_endian, is_little_endian, length_fault, major_version, number_in, or_else, order_of, packets_in, pcapng_of, section_fault, short_number_in, total_length, unless, with_section}
 use Rattle.lq_model.specs.declared.capture.CaptureReason.TheVariants.{Version, CutBlock, BlockLength, ByteOrder, BlockBody}
-use Rattle.lq_pcapng.specs.Laws.{AllFit, IsBlock, IsPcapng, IsSection}
+use Rattle.lq_pcapng.specs.Laws.{AllFit, HasLengths, IsBlock, IsPcapng, IsSection}
 use Rattle.lq_pcapng.specs.Reading.{Fits}
 use Rattle.lq_pcapng.proofs.Fits.{none_from_whole, number_in-take, whole_from_none}
 use Rattle.lq_pcapng.proofs.Places.{same_order, slice_range-take}
@@ -27,13 +27,6 @@ neither : (a b : Bool) → (a || b) ≡ false → (a ≡ false) × (b ≡ false)
 neither true b e = cc
 neither false true e = cc
 neither false false e = (refl, refl)
-
--- the lengths of the block that the rest begins with
-pub record HasLengths (o : Bool) (rest : List ℕ) : Type 0 where
-  pub long : 12 ≤ total_length o rest
-  pub aligned : total_length o rest % 4 ≡ 0
-  pub within : total_length o rest ≤ length rest
-  pub again : number_in o rest (total_length o rest - 4) ≡ total_length o rest
 
 pub lengths_from_none : (o : Bool) (place : ℕ) (rest : List ℕ) → length_fault o place rest ≡ None → HasLengths o rest
 unfolding length_fault
@@ -101,7 +94,7 @@ begins o block rest b =
 
 -- THE WALK
 
-option_cases : {X : Type 0} (o : Option X) → (o ≡ None) ⊎ ((x : X) × (o ≡ Some x))
+pub option_cases : {X : Type 0} (o : Option X) → (o ≡ None) ⊎ ((x : X) × (o ≡ Some x))
 option_cases None = inl refl
 option_cases (Some x) = inr (x, refl)
 
@@ -249,16 +242,17 @@ section_begins o section rest s =
     sym (same_order (section ++ rest) (length section) (omega arith)) ∙ ap is_little_endian front ∙ sym s.order in
     let b = begins o section rest s.is_block in
     let len = length-append section rest in
-    let total = b.total in
-    (order,
-    record {
-      long = omega arith;
-      shown = sym (same_shown (section ++ rest) (length section) (omega arith)) ∙ ap (λ (xs : List ℕ). is_little_endian xs || is_big_endian xs) front ∙ s.shown;
-      lengths = subst (λ k. HasLengths k (section ++ rest)) (sym order) b.lengths;
-      fields = subst (λ k. 28 ≤ total_length k (section ++ rest)) (sym order) (omega arith);
-      version = subst (λ k. major_version k (section ++ rest) ≡ 1) (sym order)
-          (sym (short_number_in-take o (section ++ rest) (length section) 12 (omega arith)) ∙ ap (λ (xs : List ℕ). short_number_in o xs 12) front ∙ s.version);
-    })
+    let total = b.total in (
+      order,
+      record {
+        long = omega arith;
+        shown = sym (same_shown (section ++ rest) (length section) (omega arith)) ∙ ap (λ (xs : List ℕ). is_little_endian xs || is_big_endian xs) front ∙ s.shown;
+        lengths = subst (λ k. HasLengths k (section ++ rest)) (sym order) b.lengths;
+        fields = subst (λ k. 28 ≤ total_length k (section ++ rest)) (sym order) (omega arith);
+        version = subst (λ k. major_version k (section ++ rest) ≡ 1) (sym order)
+            (sym (short_number_in-take o (section ++ rest) (length section) 12 (omega arith)) ∙ ap (λ (xs : List ℕ). short_number_in o xs 12) front ∙ s.version);
+      },
+    )
 
 -- WHICH BYTES ARE A CAPTURE
 

@@ -1,5 +1,5 @@
 -- What is written for packets of a capture is a capture of just these packets.
-use Rattle.std.proofs.Common.{◌≡◌, ◌<◌, ◌≤◌, ◌+◌, ◌-◌, ◌%◌, ◌++◌, ◌∷◌, [], ℕ, zero, suc, List, length, take, drop, map, filter, replicate, Result, Ok, refl, sym, ap, ◌∙◌, subst, arith, Bool, true, false, eqb, ◌||◌, append_assoc, length-drop, get_or}
+use Rattle.std.proofs.Common.{◌≡◌, ◌<◌, ◌≤◌, ◌+◌, ◌-◌, ◌%◌, ◌++◌, ◌∷◌, [], ℕ, zero, suc, List, length, take, drop, map, filter, replicate, Ok, refl, sym, ap, ◌∙◌, subst, arith, Bool, true, false, eqb, ◌||◌, append_assoc, length-drop, get_or}
 use Rattle.std.specs.Int.{w32, from_le_bytes, from_be_bytes}
 use Rattle.std.specs.List.{All, AllByRecursion, IsDistinct, concat, flat_map, slice_range}
 use Rattle.std.proofs.lemmas.Bool.{eqb-true}
@@ -11,11 +11,11 @@ use Rattle.std.proofs.lemmas.Map.Steps.{length-le_from_distinct_below}
 use Rattle.std.proofs.lemmas.Map.Views.{Contains-from_any}
 use Rattle.std.proofs.lemmas.Simd.{map-map}
 use Rattle.std.proofs.Math.Seq.{take-append_seam, drop-append_seam}
-use Rattle.lq_model.specs.Pcapng.{NgCapture, block_type, frame_in, frame_of, interfaces_in, is_big_endian, is_interface, is_little_endian, is_packet, is_section, link_in, link_of, major_version, number_in, order_of, packet_block, packets_in, pcapng_of, pcapng_text, short_number_in, total_length, without_length}
+use Rattle.lq_model.specs.Pcapng.{NgCapture, frame_in, frame_of, interfaces_in, is_interface, is_little_endian, is_packet, link_in, link_of, major_version, number_in, order_of, packet_block, packets_in, pcapng_of, pcapng_text, short_number_in, without_length}
 use Rattle.lq_pcapng.specs.Laws.{AllFit, IsBlock, IsPcapng, IsSection, frames_in, links_in, with_packets}
-use Rattle.lq_pcapng.specs.Reading.{Fits, IsInterface, IsPacket}
+use Rattle.lq_pcapng.specs.Reading.{IsInterface, IsPacket}
 use Rattle.lq_pcapng.proofs.Acceptance.{accepted_is, is_accepted}
-use Rattle.lq_pcapng.proofs.Fits.{is_packet_behind_more, not_interface, not_packet}
+use Rattle.lq_pcapng.proofs.Fits.{is_packet_behind_more, no_section_of_interface, no_section_of_packet, not_interface, not_packet}
 use Rattle.lq_pcapng.proofs.Places.{slice_range-take}
 
 -- LISTS
@@ -62,14 +62,15 @@ among : (o : Bool) (before blocks : List (List ℕ)) → AllFit o before blocks 
 among o before [] fit = tt
 among o before (block ∷ blocks) fit =
     let all = filter-append (is_interface o) before (block ∷ blocks) in
-    let next = append_assoc before (block ∷ []) blocks in
-    (record {
-      is_block = fit.0;
-      as_interface = fit.1.as_interface;
-      as_packet = λ is. subst (λ (js : List (List ℕ)). IsPacket o js block) (sym all)
-          (is_packet_behind_more o (interfaces_in o before) (interfaces_in o (block ∷ blocks)) block (fit.1.as_packet is));
-    },
-    subst (λ (bs : List (List ℕ)). AllByRecursion (IsAmong o (interfaces_in o bs)) blocks) next (among o (before ++ block ∷ []) blocks fit.2))
+    let next = append_assoc before (block ∷ []) blocks in (
+      record {
+        is_block = fit.0;
+        as_interface = fit.1.as_interface;
+        as_packet = λ is. subst (λ (js : List (List ℕ)). IsPacket o js block) (sym all)
+            (is_packet_behind_more o (interfaces_in o before) (interfaces_in o (block ∷ blocks)) block (fit.1.as_packet is));
+      },
+      subst (λ (bs : List (List ℕ)). AllByRecursion (IsAmong o (interfaces_in o bs)) blocks) next (among o (before ++ block ∷ []) blocks fit.2),
+    )
 
 few_packets : (o : Bool) (before blocks : List (List ℕ)) → AllFit o before blocks → length (packets_in o before) ≤ 1000000 → length (packets_in o (before ++ blocks)) ≤ 1000000
 few_packets o before [] fit few = subst (λ (bs : List (List ℕ)). length (packets_in o bs) ≤ 1000000) (sym (append-nil before)) few
@@ -100,33 +101,20 @@ record IsPacketBlock (o : Bool) (interfaces : List (List ℕ)) (block : List ℕ
   is_block : IsBlock o block
   is : IsPacket o interfaces block
 
--- a block of such a type is no section header block
-no_section_of_interface : (o : Bool) (block : List ℕ) → is_interface o block ≡ true → is_section o block ≡ false
-no_section_of_interface o block e = ap (λ n. eqb n 0x0a0d_0d0a) (eqb-true (block_type o block) 1 e)
-
-no_section_of_packet : (o : Bool) (block : List ℕ) → is_packet o block ≡ true → is_section o block ≡ false
-no_section_of_packet o block e = by_test (is_section o block) refl
-  where
-    by_test : (b : Bool) → is_section o block ≡ b → b ≡ false
-    by_test false is = refl
-    by_test true is =
-        let type : block_type o block ≡ 0x0a0d_0d0a = eqb-true (block_type o block) 0x0a0d_0d0a is in
-        let never : is_packet o block ≡ false = ap (λ n. eqb n 6 || eqb n 3) type in
-        cc
-
 interfaces_fit :
     (o : Bool) (before interfaces rest : List (List ℕ)) → AllByRecursion (IsInterfaceBlock o) interfaces → AllFit o (before ++ interfaces) rest → AllFit o before (interfaces ++ rest)
 interfaces_fit o before [] rest all fit = subst (λ (bs : List (List ℕ)). AllFit o bs rest) (append-nil before) fit
 interfaces_fit o before (block ∷ blocks) rest all fit =
-    let other : is_packet o block ≡ false = not_packet o block all.0.is.kind in
-    (all.0.is_block,
-    record {
-      no_section = no_section_of_interface o block all.0.is.kind;
-      as_interface = λ is. all.0.is;
-      few = λ is. cc;
-      as_packet = λ is. cc;
-    },
-    interfaces_fit o (before ++ block ∷ []) blocks rest all.1 (subst (λ (bs : List (List ℕ)). AllFit o bs rest) (sym (append_assoc before (block ∷ []) blocks)) fit))
+    let other : is_packet o block ≡ false = not_packet o block all.0.is.kind in (
+      all.0.is_block,
+      record {
+        no_section = no_section_of_interface o block all.0.is.kind;
+        as_interface = λ is. all.0.is;
+        few = λ is. cc;
+        as_packet = λ is. cc;
+      },
+      interfaces_fit o (before ++ block ∷ []) blocks rest all.1 (subst (λ (bs : List (List ℕ)). AllFit o bs rest) (sym (append_assoc before (block ∷ []) blocks)) fit),
+    )
 
 packets_fit :
     (o : Bool) (interfaces before packets : List (List ℕ)) → interfaces_in o before ≡ interfaces → AllByRecursion (IsPacketBlock o interfaces) packets
@@ -138,16 +126,17 @@ packets_fit o interfaces before (block ∷ blocks) are all few =
     let no_more : filter (is_interface o) (block ∷ []) ≡ [] = rw other refl in
     let one : filter (is_packet o) (block ∷ []) ≡ block ∷ [] = rw kind refl in
     let len : length (packets_in o (before ++ block ∷ [])) ≡ length (packets_in o before) + 1 =
-    ap length (filter-append (is_packet o) before (block ∷ []) ∙ ap (λ (bs : List (List ℕ)). packets_in o before ++ bs) one) ∙ length-append (packets_in o before) (block ∷ []) in
-    (all.0.is_block,
-    record {
-      no_section = no_section_of_packet o block kind;
-      as_interface = λ is. cc;
-      few = λ is. omega arith;
-      as_packet = λ is. subst (λ (js : List (List ℕ)). IsPacket o js block) (sym are) all.0.is;
-    },
-    packets_fit o interfaces (before ++ block ∷ []) blocks
-    (filter-append (is_interface o) before (block ∷ []) ∙ ap (λ (bs : List (List ℕ)). interfaces_in o before ++ bs) no_more ∙ append-nil (interfaces_in o before) ∙ are) all.1 (omega arith))
+    ap length (filter-append (is_packet o) before (block ∷ []) ∙ ap (λ (bs : List (List ℕ)). packets_in o before ++ bs) one) ∙ length-append (packets_in o before) (block ∷ []) in (
+      all.0.is_block,
+      record {
+        no_section = no_section_of_packet o block kind;
+        as_interface = λ is. cc;
+        few = λ is. omega arith;
+        as_packet = λ is. subst (λ (js : List (List ℕ)). IsPacket o js block) (sym are) all.0.is;
+      },
+      packets_fit o interfaces (before ++ block ∷ []) blocks
+          (filter-append (is_interface o) before (block ∷ []) ∙ ap (λ (bs : List (List ℕ)). interfaces_in o before ++ bs) no_more ∙ append-nil (interfaces_in o before) ∙ are) all.1 (omega arith),
+    )
 
 -- THE SECTION HEADER BLOCK WITHOUT ITS SECTION'S LENGTH
 
@@ -269,7 +258,8 @@ pub accepted_again :
     → (pcapng_of (pcapng_text c packets) ≡ Ok (with_packets c packets)) × (frames_in (with_packets c packets) ≡ map (frame_of c) packets) × (links_in (with_packets c packets) ≡ map (link_of c) packets)
 accepted_again bytes c packets accepted below distinct =
     let k = accepted_is bytes c accepted in
-    let order : order_of (with_packets c packets) ≡ order_of c = same_order c.section k.section.long in
-    (is_accepted (pcapng_text c packets) (with_packets c packets) (written_is bytes c packets k below distinct),
-    ap (λ o. map (frame_in o c.interfaces) (map (packet_block c) packets)) order ∙ map-map (frame_in (order_of c) c.interfaces) (packet_block c) packets,
-    ap (λ o. map (link_in o c.interfaces) (map (packet_block c) packets)) order ∙ map-map (link_in (order_of c) c.interfaces) (packet_block c) packets)
+    let order : order_of (with_packets c packets) ≡ order_of c = same_order c.section k.section.long in (
+      is_accepted (pcapng_text c packets) (with_packets c packets) (written_is bytes c packets k below distinct),
+      ap (λ o. map (frame_in o c.interfaces) (map (packet_block c) packets)) order ∙ map-map (frame_in (order_of c) c.interfaces) (packet_block c) packets,
+      ap (λ o. map (link_in o c.interfaces) (map (packet_block c) packets)) order ∙ map-map (link_in (order_of c) c.interfaces) (packet_block c) packets,
+    )

@@ -1,9 +1,9 @@
 -- What a block is that has no fault.
-use Rattle.std.proofs.Common.{◌≡◌, ◌<◌, ◌≤◌, ◌+◌, ◌++◌, ℕ, List, length, Option, Some, None, refl, sym, ap, ◌∙◌, subst, arith, Bool, true, false, cond, ltb, leb, eqb, not, ◌||◌, get_or, [], take}
+use Rattle.std.proofs.Common.{◌≡◌, ◌<◌, ◌≤◌, ◌+◌, ◌++◌, ℕ, List, length, Option, Some, None, refl, sym, ap, subst, arith, Bool, true, false, cond, ltb, leb, eqb, ◌||◌, [], take}
 use Rattle.std.proofs.lemmas.Bool.{ltb-false, le-ltb, leb-false, lt-leb, eqb-true}
 use Rattle.std.proofs.lemmas.List.{get_or_append_left, length-append}
 use Rattle.lq_model.specs.Capture.{Refusal}
-use Rattle.lq_model.specs.Pcapng.{at_place, block_fault, block_in, block_type, body_fault, captured_length, data_place, fault_at, interface_at, interface_number, is_enhanced, is_interface, is_packet, is_section, is_simple, length_fault, number_in, or_else, packet_fault, padded, total_length}
+use Rattle.lq_model.specs.Pcapng.{at_place, block_fault, block_in, block_type, body_fault, captured_length, data_place, interface_at, interface_number, is_interface, is_packet, is_section, length_fault, number_in, or_else, packet_fault, padded}
 use Rattle.lq_model.specs.declared.capture.CaptureReason.{CaptureReason}
 use Rattle.lq_model.specs.declared.capture.CaptureReason.TheVariants.{LongRecord, TooMany, CutBlock, NoInterface, BlockBody, SecondSection}
 use Rattle.lq_pcapng.specs.Reading.{Fits, IsPacket}
@@ -21,6 +21,20 @@ not_interface little_endian block e = by_test (is_interface little_endian block)
     by_test : (b : Bool) → is_interface little_endian block ≡ b → b ≡ false
     by_test false is = refl
     by_test true is = let never = not_packet little_endian block is in cc
+
+-- a block of such a type is no section header block
+pub no_section_of_interface : (o : Bool) (block : List ℕ) → is_interface o block ≡ true → is_section o block ≡ false
+no_section_of_interface o block e = ap (λ n. eqb n 0x0a0d_0d0a) (eqb-true (block_type o block) 1 e)
+
+pub no_section_of_packet : (o : Bool) (block : List ℕ) → is_packet o block ≡ true → is_section o block ≡ false
+no_section_of_packet o block e = by_test (is_section o block) refl
+  where
+    by_test : (b : Bool) → is_section o block ≡ b → b ≡ false
+    by_test false is = refl
+    by_test true is =
+        let type : block_type o block ≡ 0x0a0d_0d0a = eqb-true (block_type o block) 0x0a0d_0d0a is in
+        let never : is_packet o block ≡ false = ap (λ n. eqb n 6 || eqb n 3) type in
+        cc
 
 -- with no fault none of four tests fails
 none_of_four :

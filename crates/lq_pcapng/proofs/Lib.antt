@@ -10,3 +10,5 @@ pub mod WrittenSection
 pub mod Acceptance
 -- a capture that is written again
 pub mod Again
+-- the first fault of bytes that are none
+pub mod FirstFault

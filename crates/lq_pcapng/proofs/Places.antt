@@ -1,5 +1,5 @@
 -- Blocks at places of a file, and the byte order that the first of them shows.
-use Rattle.std.proofs.Common.{◌≡◌, ◌<◌, ◌≤◌, ◌+◌, ◌-◌, ◌++◌, ◌∷◌, [], ℕ, List, length, take, drop, map, refl, sym, ap, ◌∙◌, subst, arith, get_or, Bool}
+use Rattle.std.proofs.Common.{◌≡◌, ◌<◌, ◌≤◌, ◌+◌, ◌-◌, [], ℕ, List, length, take, drop, sym, ap, ◌∙◌, subst, arith, get_or, Bool}
 use Rattle.std.specs.Int.{w32, from_le_bytes}
 use Rattle.std.specs.Prelude.{◌==◌}
 use Rattle.std.specs.List.{slice_range}
@@ -46,9 +46,10 @@ pub interfaces_seen :
     (bytes interfaces packets : List ℕ) (c : NgCapture) (little_endian : Bool) → IsSeen bytes interfaces packets c little_endian
     → (AreInterfaces little_endian bytes interfaces) × (blocks_at little_endian bytes interfaces ≡ c.interfaces)
 interfaces_seen bytes interfaces packets c little_endian s =
-    let order = order_seen bytes interfaces packets c little_endian s in
-    (subst (λ o. AreInterfaces o bytes interfaces) (sym order) s.read.interfaces_are,
-    ap (λ o. blocks_at o bytes interfaces) order ∙ ap (λ (k : NgCapture). k.interfaces) s.view)
+    let order = order_seen bytes interfaces packets c little_endian s in (
+      subst (λ o. AreInterfaces o bytes interfaces) (sym order) s.read.interfaces_are,
+      ap (λ o. blocks_at o bytes interfaces) order ∙ ap (λ (k : NgCapture). k.interfaces) s.view,
+    )
 
 pub packet_seen :
     (bytes interfaces packets : List ℕ) (c : NgCapture) (little_endian : Bool) (i place : ℕ) → IsSeen bytes interfaces packets c little_endian → i < length c.packets → place ≡ get_or packets i place
@@ -58,12 +59,13 @@ packet_seen bytes interfaces packets c little_endian i place s below is =
     let within : i < length packets = (let same = seen_packets bytes interfaces packets c little_endian s in omega arith) in
     let here : get_or packets i 0 ≡ place = sym (is ∙ get_or_default packets i place 0 within) in
     let block : block_at (is_little_endian bytes) bytes (get_or packets i 0) ≡ block_at little_endian bytes place =
-    ap (block_at (is_little_endian bytes) bytes) here ∙ ap (λ o. block_at o bytes place) (sym order) in
-    (subst (λ o. IsWholeAt o bytes place) (sym order) (subst (IsWholeAt (is_little_endian bytes) bytes) here (s.read.packets_are.whole i within)),
-    sym block ∙ sym (get_or-blocks_at (is_little_endian bytes) bytes packets i within) ∙ ap (λ (k : NgCapture). packet_block k i) s.view,
-    subst (IsPacket little_endian c.interfaces) block
-    (subst (λ (is : List (List ℕ)). IsPacket little_endian is (block_at (is_little_endian bytes) bytes (get_or packets i 0))) (ap (λ (k : NgCapture). k.interfaces) s.view)
-    (subst (λ o. IsPacket o (blocks_at (is_little_endian bytes) bytes interfaces) (block_at (is_little_endian bytes) bytes (get_or packets i 0))) (sym order) (s.read.packets_are.each i within))))
+    ap (block_at (is_little_endian bytes) bytes) here ∙ ap (λ o. block_at o bytes place) (sym order) in (
+      subst (λ o. IsWholeAt o bytes place) (sym order) (subst (IsWholeAt (is_little_endian bytes) bytes) here (s.read.packets_are.whole i within)),
+      sym block ∙ sym (get_or-blocks_at (is_little_endian bytes) bytes packets i within) ∙ ap (λ (k : NgCapture). packet_block k i) s.view,
+      subst (IsPacket little_endian c.interfaces) block
+          (subst (λ (is : List (List ℕ)). IsPacket little_endian is (block_at (is_little_endian bytes) bytes (get_or packets i 0))) (ap (λ (k : NgCapture). k.interfaces) s.view)
+          (subst (λ o. IsPacket o (blocks_at (is_little_endian bytes) bytes interfaces) (block_at (is_little_endian bytes) bytes (get_or packets i 0))) (sym order) (s.read.packets_are.each i within))),
+    )
 
 pub section_seen :
     (bytes interfaces packets : List ℕ) (c : NgCapture) (little_endian : Bool) → IsSeen bytes interfaces packets c little_endian
@@ -90,7 +92,8 @@ frame_seen bytes interfaces packets c little_endian i place len block s block_is
     let same_len : len ≡ captured_length (order_of c) c.interfaces block =
     len_is ∙ ap (λ (is : List (List ℕ)). captured_length little_endian is block) (interfaces_seen bytes interfaces packets c little_endian s).1 ∙ ap (λ o. captured_length o c.interfaces block) s.order in
     let whole : place + 4 + padded len ≤ length block = subst (λ m. m + 4 + padded len ≤ length block) (sym same_place) (subst (λ m. data_place (order_of c) block + 4 + padded m ≤ length block) (sym same_len) p.whole) in
-    let filled = le-padded len in
-    (omega arith,
-    ap (λ m. slice_range block m (m + len)) same_place ∙ ap (λ m. slice_range block (data_place (order_of c) block) (data_place (order_of c) block + m)) same_len
-    ∙ ap (λ (b : List ℕ). frame_in (order_of c) c.interfaces b) block_is)
+    let filled = le-padded len in (
+      omega arith,
+      ap (λ m. slice_range block m (m + len)) same_place ∙ ap (λ m. slice_range block (data_place (order_of c) block) (data_place (order_of c) block + m)) same_len
+          ∙ ap (λ (b : List ℕ). frame_in (order_of c) c.interfaces b) block_is,
+    )

@@ -1,11 +1,11 @@
 -- The reader's walk along the blocks.
-use Rattle.std.proofs.Common.{◌≡◌, ◌<◌, ◌≤◌, ◌+◌, ◌-◌, ◌++◌, ◌∷◌, [], ℕ, zero, suc, List, length, take, drop, map, filter, Option, Some, None, Result, Ok, Err, refl, sym, ap, ◌∙◌, subst, arith, Bool, true, false, cond, eqb, not, ◌||◌, get_or, inl, inr, length-drop, IsErrAnd}
+use Rattle.std.proofs.Common.{◌≡◌, ◌<◌, ◌≤◌, ◌+◌, ◌-◌, ◌++◌, ◌∷◌, [], ℕ, zero, suc, List, length, take, drop, map, filter, Option, Some, None, Result, Ok, Err, refl, sym, ap, ◌∙◌, subst, arith, Bool, true, false, cond, eqb, ◌||◌, get_or, inl, inr, length-drop, IsErrAnd}
 use Rattle.std.proofs.lemmas.Bool.{cases_eq, ne_eqb}
-use Rattle.std.proofs.lemmas.List.{drop-drop, length-map, length-append, length-take-le, map-append, append-nil, get_or_append_left, get_or_push}
+use Rattle.std.proofs.lemmas.List.{drop-drop, length-map, length-append, map-append, append-nil, get_or_append_left, get_or_push}
 use Rattle.std.proofs.lemmas.List.Elements.{filter-append}
 use Rattle.std.proofs.Math.Seq.{take-length}
 use Rattle.lq_model.specs.Capture.{Refusal}
-use Rattle.lq_model.specs.Pcapng.{NgCapture, block_fault, block_in, blocks_behind, blocks_from, capture_of_blocks, interfaces_in, is_interface, is_little_endian, is_packet, number_in, packets_in, pcapng_of, section_fault, total_length, unless, with_section}
+use Rattle.lq_model.specs.Pcapng.{NgCapture, block_fault, block_in, blocks_behind, blocks_from, interfaces_in, is_interface, is_little_endian, is_packet, number_in, packets_in, pcapng_of, section_fault, total_length}
 use Rattle.lq_pcap.specs.Reading.{Gives, IsRefusalOf}
 use Rattle.lq_pcap.specs.declared.refusal.CaptureRefusal.{CaptureRefusal}
 use Rattle.lq_pcap.specs.declared.refusal.CaptureRefusal.TheVariants.{Refused, NoMemory}

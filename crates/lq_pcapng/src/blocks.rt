@@ -17,7 +17,12 @@ pub fn block(bytes: &[u8], little_endian: bool, place: usize) -> &[u8]
 }
 
 /// Interface description block `i`.
-pub fn interface<'a>(bytes: &'a [u8], little_endian: bool, interfaces: &[usize], i: usize) -> &'a [u8]
+pub fn interface<'a>(
+    bytes: &'a [u8],
+    little_endian: bool,
+    interfaces: &[usize],
+    i: usize,
+) -> &'a [u8]
     requires number { i < length interfaces.now }
     requires interfaces { AreInterfaces little_endian bytes.now interfaces.now }
     ensures block { result.now ≡ interface_at (blocks_at little_endian bytes.now interfaces.now) i }

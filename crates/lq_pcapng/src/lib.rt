@@ -25,8 +25,11 @@ mod section;
 mod writer;
 
 pub use capture::NgCapture;
-pub use laws::{accepts_again, accepts_exactly};
+pub use laws::{accepts_again, accepts_exactly, refuses_exactly};
 pub use lq_model::{CaptureReason, NoMemory};
 pub use lq_pcap::CaptureRefusal;
 pub use reader::read_pcapng;
 pub use writer::{push_block, push_section};
+
+#[cfg(test)]
+mod tests;

@@ -46,7 +46,11 @@ pub fn interface_number(block: &[u8], little_endian: bool) -> usize
 fn cut(limit: u32, len: u32) -> u32
     ensures { result ≡ cut_to limit len }
 {
-    if limit != 0 && limit < len { limit } else { len }
+    if limit != 0 && limit < len {
+        limit
+    } else {
+        len
+    }
 }
 
 /// How many bytes of the packet a packet block holds. A simple one doesn't say it: it is cut to the snapshot length of
@@ -74,7 +78,12 @@ fn padded(len: u32) -> usize
 
 /// What keeps a packet block from being whole.
 #[tactic(auto, unfolding(lq_model::specs::Pcapng::packet_fault))]
-pub fn check_packet(bytes: &[u8], little_endian: bool, interfaces: &[usize], block: &[u8]) -> Result<(), CaptureReason>
+pub fn check_packet(
+    bytes: &[u8],
+    little_endian: bool,
+    interfaces: &[usize],
+    block: &[u8],
+) -> Result<(), CaptureReason>
     requires long { 12 ≤ length block.now }
     requires interfaces { AreInterfaces little_endian bytes.now interfaces.now }
     ensures { IsTested (packet_fault little_endian (blocks_at little_endian bytes.now interfaces.now) block.now) result }

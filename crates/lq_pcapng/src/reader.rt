@@ -50,7 +50,12 @@ pub fn read_pcapng(alloc: Global, bytes: Vec<u8>) -> Result<NgCapture, CaptureRe
 }
 
 // The places of the interfaces and packets behind the section header block.
-fn places_of(alloc: Global, bytes: &[u8], little_endian: bool, first: usize) -> Result<Places, CaptureRefusal>
+fn places_of(
+    alloc: Global,
+    bytes: &[u8],
+    little_endian: bool,
+    first: usize,
+) -> Result<Places, CaptureRefusal>
     requires order { little_endian ≡ is_little_endian bytes.now }
     requires section { section_fault bytes.now ≡ None }
     requires len { first ≡ total_length little_endian bytes.now }
@@ -75,7 +80,12 @@ fn places_of(alloc: Global, bytes: &[u8], little_endian: bool, first: usize) -> 
 
 // How long the block at a place is, or what keeps it from being whole.
 #[tactic(auto, unfolding(lq_model::specs::Pcapng::block_fault))]
-fn whole_len(bytes: &[u8], little_endian: bool, places: &Places, place: usize) -> Result<usize, CaptureRefusal>
+fn whole_len(
+    bytes: &[u8],
+    little_endian: bool,
+    places: &Places,
+    place: usize,
+) -> Result<usize, CaptureRefusal>
     requires within { place ≤ length bytes.now }
     requires interfaces { AreInterfaces little_endian bytes.now places.now.interfaces.items }
     ensures { IsWholeLength little_endian place (blocks_at little_endian bytes.now places.now.interfaces.items) (length places.now.packets.items) (drop place bytes.now) result }
@@ -93,7 +103,12 @@ fn whole_len(bytes: &[u8], little_endian: bool, places: &Places, place: usize) -
 
 // What keeps a block from being whole behind these, by its type.
 #[tactic(auto, unfolding(lq_model::specs::Pcapng::body_fault))]
-fn check_body(bytes: &[u8], little_endian: bool, places: &Places, block: &[u8]) -> Result<(), CaptureReason>
+fn check_body(
+    bytes: &[u8],
+    little_endian: bool,
+    places: &Places,
+    block: &[u8],
+) -> Result<(), CaptureReason>
     requires long { 12 ≤ length block.now }
     requires interfaces { AreInterfaces little_endian bytes.now places.now.interfaces.items }
     ensures { IsTested (body_fault little_endian (blocks_at little_endian bytes.now places.now.interfaces.items) (length places.now.packets.items) block.now) result }

@@ -1,4 +1,4 @@
-use Rattle.std.proofs.Common.{◌≡◌, ◌<◌, ◌≤◌, ◌+◌, List, ℕ, length, rules, sym, subst, ap, ◌∙◌, [], ◌∷◌, ◌++◌, cond, eqb}
+use Rattle.std.proofs.Common.{◌≡◌, ◌+◌, List, ℕ, sym, subst, ap, ◌∙◌, [], ◌∷◌, ◌++◌, cond, eqb}
 use Rattle.lq_model.specs.Pcapng.{number_in, pcapng_of, total_length}
 use Rattle.lq_pcapng.specs.View.{capture_at}
 use Rattle.lq_pcapng.specs.declared.reader.Places.{Places}

@@ -1,4 +1,4 @@
-use Rattle.std.proofs.Common.{◌≡◌, List, ℕ, subst}
+use Rattle.std.proofs.Common.{List, ℕ, subst}
 use Rattle.lq_model.specs.Pcapng.{NgCapture, pcapng_of}
 use Rattle.lq_pcap.specs.Reading.{IsRefusalOf}
 use Rattle.lq_pcapng.proofs.Walk.{first_refused, handed_on}

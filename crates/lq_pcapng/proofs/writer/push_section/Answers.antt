@@ -1,4 +1,4 @@
-use Rattle.std.proofs.Common.{◌≡◌, ◌<◌, ◌≤◌, ◌++◌, length, List, ℕ, sym, ap, ◌∙◌, arith, replicate, take, drop, ◌-◌, subst, []}
+use Rattle.std.proofs.Common.{◌<◌, ◌++◌, length, List, ℕ, ap, ◌∙◌, subst, []}
 use Rattle.lq_model.specs.Pcapng.{without_length}
 use Rattle.lq_pcapng.proofs.WrittenSection.{interface_written, section_written}
 use Rattle.lq_pcapng.proofs.writer.push_section.Goals as goal

@@ -1,4 +1,4 @@
-use Rattle.std.proofs.Common.{◌≡◌, List, ℕ, sym, subst, ◌∙◌, ap, arith}
+use Rattle.std.proofs.Common.{List, ℕ, sym, subst, ◌∙◌, ap}
 use Rattle.lq_pcapng.specs.Reading.{IsPacket, IsWholeAt, block_at}
 use Rattle.lq_pcapng.proofs.Places.{packet_seen}
 use Rattle.lq_pcapng.proofs.capture.NgCapture.block.Goals as goal

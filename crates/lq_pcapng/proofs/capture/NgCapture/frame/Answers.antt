@@ -1,4 +1,4 @@
-use Rattle.std.proofs.Common.{◌≡◌, ◌≤◌, ◌+◌, length, List, ℕ, sym, subst, ◌∙◌, ap, rules}
+use Rattle.std.proofs.Common.{◌≤◌, ◌+◌, length, List, ℕ, sym, subst, ◌∙◌, ap, rules}
 use Rattle.lq_model.specs.Pcapng.{captured_length}
 use Rattle.lq_pcapng.specs.Reading.{AreInterfaces, blocks_at}
 use Rattle.lq_pcapng.proofs.Places.{frame_seen, interfaces_seen}

@@ -1,4 +1,4 @@
-use Rattle.std.proofs.Common.{◌≡◌, ◌≤◌, length, List, ℕ, sym, subst, ◌∙◌, ap}
+use Rattle.std.proofs.Common.{◌≤◌, length, List, ℕ, sym, subst, ◌∙◌, ap}
 use Rattle.lq_pcapng.specs.Reading.{IsWholeAt, block_at}
 use Rattle.lq_pcapng.proofs.Places.{section_seen}
 use Rattle.lq_pcapng.proofs.capture.NgCapture.section.Goals as goal
