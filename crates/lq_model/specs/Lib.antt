@@ -34,6 +34,8 @@ pub mod Account
 pub mod Legal
 -- what the fates of a run are
 pub mod Settled
+-- completeness of fates: where each packet is sent
+pub mod Complete
 -- the run of one sender
 pub mod Alone
 -- small runs of one sender

@@ -1,5 +1,5 @@
 -- Plans, and what each packet of a capture is to the rules.
-use Rattle.std.specs.Prelude.{ℕ, ◌+◌, ◌%◌, Bool, true, false, ◌&&◌, ◌==◌, List, length, take, map, count_by, slice_get}
+use Rattle.std.specs.Prelude.{◌≡◌, ◌<◌, ℕ, ◌+◌, ◌%◌, Bool, true, false, ◌&&◌, ◌==◌, List, length, take, map, count_by, slice_get}
 use Rattle.std.specs.Option.{option_map_or}
 use Rattle.lq_model.specs.Numbers.{first_numbers}
 use Rattle.lq_model.specs.Capture.{Capture, link_of, frame_of}
@@ -90,3 +90,10 @@ band_in infos n = option_map_or (λ info. info.band) (slice_get infos n) 0
 
 abbrev pub queue_in : List Info → ℕ → ℕ
 queue_in infos n = option_map_or (λ info. info.queue) (slice_get infos n) 0
+
+abbrev pub rank_in : List Info → ℕ → ℕ
+rank_in infos n = option_map_or (λ info. info.rank) (slice_get infos n) 0
+
+-- ranks count: of one owner and station the packet of lower rank is the lower one
+abbrev pub AreRanked : List Info → Type 0
+AreRanked infos = (m n : ℕ) → owner_in infos m ≡ owner_in infos n → station_in infos m ≡ station_in infos n → rank_in infos m < rank_in infos n → m < n

@@ -9,7 +9,7 @@ use Rattle.lq_account.proofs.Offers.{direct_closed, direct_open, queued_full, qu
 use Rattle.lq_account.proofs.Steps.{at_answer, at_back, at_direct, at_full, at_join}
 use Rattle.lq_account.proofs.Taken.{slot_none}
 use Rattle.lq_account.specs.Progress.{IsAt}
-use Rattle.lq_device.specs.Station.{with_side}
+use Rattle.lq_device.specs.Station.{with_slot}
 use Rattle.lq_model.specs.Account.{Account, Back, Direct, Full, Join, after, held, with_at}
 use Rattle.lq_model.specs.Alone.{Running, answered, gone_direct, gone_through, queued, served}
 use Rattle.lq_model.specs.Band.{Band, IsOccupied, MayBeFull, held_of, joined}
@@ -131,8 +131,8 @@ module _ (s : Setting) (n rest : ℕ) (old : QueueState) (fates : List (Option F
   slot-empty : a.slot ≡ None
   slot-empty = slot_none a.slot _ none-held
 
-  pub side_empty : old.station.side ≡ None
-  side_empty = st.underway.matches.slot ∙ slot-empty
+  pub slot_is_empty : old.station.slot ≡ None
+  slot_is_empty = st.underway.matches.slot ∙ slot-empty
 
   direct-matches : Matches s.infos s.station rest (Some n) old fates (after (Direct n) a)
   direct-matches = direct_matches s.infos s.station rest n old fates a packet st.underway.matches
@@ -190,7 +190,7 @@ module _ (s : Setting) (n rest : ℕ) (old : QueueState) (fates : List (Option F
     }
 
   -- the queue isn't open
-  pub direct_back : old.stop ≢ Open → Brings (gone_direct s.infos n) s n rest old (record old { station = with_side old.station (Some n); clean = false }) fates fates a
+  pub direct_back : old.stop ≢ Open → Brings (gone_direct s.infos n) s n rest old (record old { station = with_slot old.station (Some n); clean = false }) fates fates a
   direct_back closed = record {
     moves = record {
       account = after Back (after (Direct n) a);

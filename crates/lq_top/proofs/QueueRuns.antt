@@ -7,7 +7,7 @@ use Rattle.lq_account.proofs.Steps.{at_taken, at_answer}
 use Rattle.lq_account.proofs.Taken.{IsInHand, in_hand, turn_of, held_none}
 use Rattle.lq_account.proofs.Turns.{HasOneQueue, after_turn, left_open, left_stopped, served_left, served_open, turn_served, turns_none}
 use Rattle.lq_account.proofs.Turns as turns
-use Rattle.lq_device.specs.Station.{with_side}
+use Rattle.lq_device.specs.Station.{with_slot}
 use Rattle.lq_model.specs.Account.{Account, after, held}
 use Rattle.lq_model.specs.Alone.{Running, answered, cleaned, next_taken, served_turns, turns_of}
 use Rattle.lq_model.specs.Device.{Telling, answer_of, is_busy, told_after}
@@ -105,7 +105,7 @@ answered_purges_none answer n a b h none = λ k why e. elim (cases_eq k n) [
 -- Packet m came into the hand, so that now is mid; and the device answered to it, so that mid is new.
 module _ (s : Setting) (n rest m : ℕ) (answer : Tx) (old now mid new : QueueState) (fates fates' fates'' : List (Option Fate)) (a : Account)
     (r : RunsOn s n rest old now fates fates' a) (opens : now.stop ≡ Open) (taken : IsTaken s.infos s.station rest m mid fates' r.account)
-    (frame : mid ≡ record now { station = with_side now.station None; bands = mid.bands }) where
+    (frame : mid ≡ record now { station = with_slot now.station None; bands = mid.bands }) where
   in_hand_now : IsInHand r.account (after taken.event r.account)
   in_hand_now = in_hand (turn_of r.account taken.event taken.next)
 

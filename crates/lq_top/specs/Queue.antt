@@ -44,7 +44,7 @@ is_hung_value Hung = true
 
 -- how many packets the requeue slot and the bands hold
 abbrev pub number_held : QueueState → ℕ
-number_held q = length (option_to_list q.station.side) + held_by q.bands
+number_held q = length (option_to_list q.station.slot) + held_by q.bands
 
 -- So many packets at most come into the hand from now on, where none is brought: each is sent, or is one more answer Busy.
 abbrev pub turns_left : QueueState → ℕ
@@ -112,7 +112,7 @@ MeetsRule d = (t : Telling) → d.told ≡ Some t → MeetsParams t (length d.ac
 -- still to come.
 pub record Matches (infos : List Info) (station rest : ℕ) (hand : Option ℕ) (q : QueueState) (fates : List (Option Fate)) (a : Account) : Type 0 where
   pub bands : AreBands q.bands a.len a.bands
-  pub slot : q.station.side ≡ a.slot
+  pub slot : q.station.slot ≡ a.slot
   pub hand_is : a.hand ≡ hand
   pub sent : IsSentBy q.station a
   pub stops : a.stops ≡ stop_number q.stop ∷ []
@@ -146,7 +146,7 @@ pub record MayOffer (n : ℕ) (q : QueueState) (fates : List (Option Fate)) : Ty
   pub room : 0 < (device_of q).spare
   pub alive : (device_of q).hung ≡ false
   pub countable : length (device_of q).accepted < 4294967295
-  pub slot_empty : q.station.side ≡ None
+  pub slot_empty : q.station.slot ≡ None
   pub within : n < length fates
 
 -- what the answer to a packet leaves in the requeue slot, and the fate that it gives the packet
@@ -170,9 +170,9 @@ fates_behind Busy n station fates = fates
 
 -- the device answered to packet n, and what follows was done
 pub record Offers (answer : Tx) (n : ℕ) (old new : QueueState) (fates fates' : List (Option Fate)) : Type 0 where
-  pub answers : Answers answer n (device_of old) (device_of new)
+  pub answers : Answers answer 0 n (device_of old) (device_of new)
   pub unit : new.station.unit ≡ old.station.unit
-  pub slot : new.station.side ≡ laid_back answer n
+  pub slot : new.station.slot ≡ laid_back answer n
   pub bands : new.bands ≡ old.bands
   pub stop : new.stop ≡ value_behind answer
   pub clean : new.clean ≡ old.clean

@@ -4,7 +4,7 @@
 //! caller lends, with the fate of packet n at place n. All memory is taken where the bands and the device are made.
 ghost use Rattle.std.specs.Prelude.{◌≡◌, ℕ, ◌+◌, ◌<◌, ◌≤◌, ◌&&◌, [], List, Option, None, OnSome, IfSome, IfNone, IsTrue, ◌↔◌, true, false, length};
 ghost use Rattle.lq_account.specs.Progress.{len_of, start_of};
-ghost use Rattle.lq_device.specs.Station.{new_station, with_side};
+ghost use Rattle.lq_device.specs.Station.{new_station, with_slot};
 ghost use Rattle.lq_model.specs.Account.{Account, Purge, after};
 ghost use Rattle.lq_model.specs.Alone.{next_taken, gone_direct, gone_through, brought_in, queued};
 ghost use Rattle.lq_model.specs.Band.{empty_band};
@@ -137,7 +137,7 @@ impl<D: TxDevice> Queue<D> {
     }
 
     /// Takes and offers packets as long as the queue is open and something is held: `__qdisc_run` of
-    /// net/sched/sch_generic.c without its quota, which no sender that is alone comes to.
+    /// net/sched/sch_generic.c without its quota, after which a run of one sender would go on with nothing between.
     fn run(&mut self, fates: &mut [Option<Fate>])
         requires underway { IsSomeUnderway self.old fates.old }
         ensures runs { (s : Setting) (n rest : ℕ) (a : Account) → IsUnderway s n rest self.old fates.old a
@@ -196,7 +196,7 @@ impl<D: TxDevice> Queue<D> {
             let answer = self.xmit(n, fates);
             self.clean = is_accepted(answer);
         } else {
-            self.station.set_side(n);
+            self.station.set_slot(n);
             self.clean = false;
         }
     }
@@ -263,7 +263,7 @@ impl<D: TxDevice> Queue<D> {
         ensures purges { (infos : List Info) (station rest : ℕ) (a : Account) → Matches infos station rest None self.old fates.old a
             → Matches infos station rest None self.new fates.new (after (Purge (cause.Hung a.unit)) a)
             × SameElsewhere infos station fates.old fates.new }
-        ensures rest { self.new ≡ record self.old { station = with_side self.old.station None; bands = self.new.bands } }
+        ensures rest { self.new ≡ record self.old { station = with_slot self.old.station None; bands = self.new.bands } }
     {
         let unit = self.station.unit();
         let cause = Cause::Hung(unit);
@@ -282,9 +282,9 @@ impl<D: TxDevice> Queue<D> {
             → Matches infos station rest None self.old fates a → IfNone result (next_taken a ≡ None) }
         ensures less { OnSome result (turns_left self.new + 1 ≡ turns_left self.old) }
         ensures unchanged { IfNone result (self.new ≡ self.old) }
-        ensures rest { self.new ≡ record self.old { station = with_side self.old.station None; bands = self.new.bands } }
+        ensures rest { self.new ≡ record self.old { station = with_slot self.old.station None; bands = self.new.bands } }
     {
-        if let Some(n) = self.station.take_side() {
+        if let Some(n) = self.station.take_slot() {
             return Some(n);
         }
         self.bands.dequeue()
@@ -301,7 +301,7 @@ impl<D: TxDevice> Queue<D> {
         let answer = self.station.xmit(QUEUE, n);
         self.stop = stop_after(answer);
         match answer {
-            Tx::Busy => self.station.set_side(n),
+            Tx::Busy => self.station.set_slot(n),
             Tx::Sent | Tx::SentStop | Tx::SentHang => {
                 let unit = self.station.unit();
                 fates[n as usize] = Some(Fate::Sent { unit, serial });
