@@ -4,7 +4,7 @@
 use Rattle.std.specs.Prelude.{ℕ, zero, suc, ◌+◌, ◌-◌, ◌*◌, ◌/◌, ◌%◌, Bool, ◌||◌, not, nat_lt, nat_le, ◌==◌, if◌then◌else◌, List, [], ◌∷◌, ◌++◌, length, take, drop, map, filter, replicate, slice_range, slice_index_or, Option, Some, None, Result, Ok, Err}
 use Rattle.std.specs.Int.{w16, w32, from_le_bytes, from_be_bytes}
 use Rattle.std.specs.List.{concat, flat_map}
-use Rattle.lq_model.specs.Capture.{Refusal}
+use Rattle.lq_model.specs.Capture.{Packets, Refusal}
 use Rattle.lq_model.specs.declared.capture.CaptureReason.{CaptureReason}
 use Rattle.lq_model.specs.declared.capture.CaptureReason.TheVariants.{Version, LongRecord, TooMany, CutBlock, BlockLength, ByteOrder, NoInterface, BlockBody, SecondSection}
 
@@ -245,6 +245,9 @@ frame_of c i = frame_in (order_of c) c.interfaces (packet_block c i)
 
 abbrev pub link_of : NgCapture → ℕ → ℕ
 link_of c i = link_in (order_of c) c.interfaces (packet_block c i)
+
+abbrev pub packets_of : NgCapture → Packets
+packets_of c = record { count = length c.packets; link = link_of c; frame = frame_of c }
 
 -- the section header block that says nothing of its section's length
 abbrev pub without_length : List ℕ → List ℕ

@@ -4,3 +4,5 @@ pub mod Reading
 pub mod View
 -- what the definition of a capture comes to
 pub mod Laws
+-- a capture in either format
+pub mod File

@@ -6,6 +6,7 @@ use crate::blocks::{block, interface};
 use crate::layout::LINK;
 use crate::numbers::{begins_little_endian, short_number};
 use crate::packets::{captured_length, data_place, interface_number};
+use lq_pcap::Frames;
 use std::marker::Model;
 
 /// A capture that was read. Contracts see its section header block, its interface description blocks and its packet
@@ -100,5 +101,23 @@ impl NgCapture {
         ensures { result ≡ order_of self.now }
     {
         begins_little_endian(&self.bytes)
+    }
+}
+
+impl Frames for NgCapture {
+    ghost use Rattle.lq_model.specs.Pcapng.{packets_of};
+
+    ghost packets = { packets_of };
+
+    fn len(&self) -> usize {
+        NgCapture::len(self)
+    }
+
+    fn frame(&self, i: usize) -> &[u8] {
+        NgCapture::frame(self, i)
+    }
+
+    fn link_of(&self, i: usize) -> u32 {
+        NgCapture::link_of(self, i)
     }
 }

@@ -16,6 +16,7 @@
 
 mod blocks;
 mod capture;
+mod file;
 mod laws;
 mod layout;
 mod numbers;
@@ -25,6 +26,7 @@ mod section;
 mod writer;
 
 pub use capture::NgCapture;
+pub use file::{CaptureFile, read_capture_file};
 pub use laws::{accepts_again, accepts_exactly, refuses_exactly};
 pub use lq_model::{CaptureReason, NoMemory};
 pub use lq_pcap::CaptureRefusal;
