@@ -38,7 +38,7 @@ fn begins_pcapng(bytes: &[u8]) -> bool
 /// # NoMemory
 ///
 /// There was no room for the places of the packets. The bytes are dropped.
-pub fn read_capture_file(alloc: Global, bytes: Vec<u8>) -> Result<CaptureFile, CaptureRefusal>
+pub fn read_either(alloc: Global, bytes: Vec<u8>) -> Result<CaptureFile, CaptureRefusal>
     ensures { Gives (λ capture. capture) result (capture_file_of bytes.items) }
 {
     if begins_pcapng(&bytes) {
@@ -80,6 +80,14 @@ impl Frames for CaptureFile {
 }
 
 impl CaptureFile {
+    /// How many bytes stand before the packets, or a few more.
+    pub fn start_len(&self) -> usize {
+        match self {
+            CaptureFile::Classic(capture) => capture.header().len(),
+            CaptureFile::Pcapng(capture) => capture.start_len(),
+        }
+    }
+
     /// How many bytes a written packet `i` takes.
     pub fn piece_len(&self, i: usize) -> usize
         requires { i < (packets_of self.now).count }

@@ -26,7 +26,7 @@ mod section;
 mod writer;
 
 pub use capture::NgCapture;
-pub use file::{CaptureFile, read_capture_file};
+pub use file::{CaptureFile, read_either};
 pub use laws::{accepts_again, accepts_exactly, refuses_exactly};
 pub use lq_model::{CaptureReason, NoMemory};
 pub use lq_pcap::CaptureRefusal;

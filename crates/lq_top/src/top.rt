@@ -23,7 +23,8 @@ use crate::stop::Stop;
 use lq_device::TxDevice;
 use lq_host::Host;
 use lq_model::NoMemory;
-use lq_pcap::Capture;
+use lq_pcap::Frames as _;
+use lq_pcapng::CaptureFile;
 use lq_plan::{Plan, infos};
 use std::alloc::Global;
 use std::marker::Sync;
@@ -51,7 +52,7 @@ fn run_capture<H: Host, G: Gate, D: TxDevice>(
     gate: &G,
     out: &str,
     plan: &Plan,
-    capture: &Capture,
+    capture: &CaptureFile,
 ) -> Result<Status, Stop>
     requires runnable { IsRunnable (vec_len bench.old) plan.now }
     ensures answer { IfOk result (λ answer. answer ≡ Status.Done) }
