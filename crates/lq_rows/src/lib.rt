@@ -7,6 +7,8 @@ mod faults;
 #[cfg(test)]
 mod fixture;
 #[cfg(test)]
+mod pcapng;
+#[cfg(test)]
 mod refusals;
 #[cfg(test)]
 mod rows;
