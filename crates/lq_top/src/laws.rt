@@ -6,15 +6,16 @@ ghost use Rattle.lq_model.specs.Legal.{MayTake};
 ghost use Rattle.lq_model.specs.Plan.{infos_of, station_in};
 ghost use Rattle.lq_model.specs.declared.fate.Fate.{Fate};
 ghost use Rattle.lq_model.specs.declared.fate.Fate.TheVariants.{Full};
+ghost use Rattle.lq_pcapng.specs.File.{packets_of};
 ghost use Rattle.lq_top.specs.Headline.{AreFatesIn, Run};
 ghost use Rattle.lq_top.specs.Laws.{SawItsSlot, account_behind};
 
 /// The fates of a run: as many as the capture has packets, so that each packet has exactly one.
 pub fn each_packet_has_one_fate()
     ensures one_each { (run : Run) (fates : List Fate) (before behind : List DeviceState)
-        → AreFatesIn run fates before behind → length fates ≡ run.capture.count }
+        → AreFatesIn run fates before behind → length fates ≡ (packets_of run.capture).count }
     ensures there { (run : Run) (fates : List Fate) (before behind : List DeviceState) (n : ℕ)
-        → AreFatesIn run fates before behind → n < run.capture.count
+        → AreFatesIn run fates before behind → n < (packets_of run.capture).count
         → (fate : Fate) × (slice_get fates n ≡ Some fate) }
 {}
 
@@ -23,9 +24,9 @@ pub fn each_packet_has_one_fate()
 /// lower band had been found empty: the requeue slot comes first, and then the bands in their order.
 pub fn stations_keep_their_order()
     ensures full { (run : Run) (fates : List Fate) (before behind : List DeviceState) (station n seen : ℕ)
-        → AreFatesIn run fates before behind → station < length run.plan.stations → n < run.capture.count
-        → station_in (infos_of run.plan run.capture) n ≡ station → slice_get fates n ≡ Some (Full seen)
-        → SawItsSlot run.plan (infos_of run.plan run.capture) station n seen }
+        → AreFatesIn run fates before behind → station < length run.plan.stations → n < (packets_of run.capture).count
+        → station_in (infos_of run.plan (packets_of run.capture)) n ≡ station → slice_get fates n ≡ Some (Full seen)
+        → SawItsSlot run.plan (infos_of run.plan (packets_of run.capture)) station n seen }
     ensures order { (run : Run) (fates : List Fate) (before behind : List DeviceState)
         → (are : AreFatesIn run fates before behind) (station : ℕ) (below : station < length run.plan.stations)
         → (later earlier : List Event) (band : ℕ) → (are.accounts station below).0 ≡ later ++ Take band ∷ earlier

@@ -141,7 +141,7 @@ impl<D: TxDevice> Queue<D> {
     }
 
     /// Takes and offers packets as long as the queue is open and something is held: `__qdisc_run` of
-    /// net/sched/sch_generic.c without its quota, which no sender that is alone comes to.
+    /// net/sched/sch_generic.c without its quota, after which a run of one sender would go on with nothing between.
     fn run(&mut self, fates: &mut [Option<Fate>])
         requires underway { IsSomeUnderway self.old fates.old }
         ensures runs { (s : Setting) (n rest : ℕ) (a : Account) → IsUnderway s n rest self.old fates.old a
