@@ -10,7 +10,7 @@ use Rattle.lq_account.proofs.Changes.{band-held}
 use Rattle.lq_account.proofs.Waiting.{waits-held}
 use Rattle.lq_model.specs.Account.{Account, held}
 use Rattle.lq_model.specs.Band.{held_of}
-use Rattle.lq_model.specs.Words.{word_of}
+use Rattle.lq_model.specs.Words.{word_of, HasWord}
 use Rattle.lq_model.specs.declared.fate.Fate.{Fate}
 use Rattle.lq_model.specs.declared.fate.Fate.TheVariants as fate
 use Rattle.lq_band.specs.Three.{at}
@@ -44,9 +44,9 @@ held_there None a b n h none_taken c = inl (band-held a b n h (subst (λ (z : �
 held_there (Some l) a b n h none_taken c = let x = times_in n (held_of (at b l.bands)) (subst (λ (z : ℕ). Contains (drop z (at b l.bands).line) n) (sym none_taken) c) in let y = waits_at n b l in inr (omega arith)
 
 module _ (k : Setup) where
-  pub settles_shrunk : (slots id : ℕ) (st : StationState) (m : Sat) (b n event : ℕ) → b < 3 → 0 < m.0.share.shares → MayShrink b n event m.0
+  pub settles_shrunk : (slots id : ℕ) (st : StationState) (m : Sat) (b n event : ℕ) → b < 3 → HasWord (fate.Shrunk event) → 0 < m.0.share.shares → MayShrink b n event m.0
       → Allows (Rule k) slots id m (fates_from k + n) (λ _. word_of (fate.Shrunk event)) (λ _. fate_stored st b n (fate.Shrunk event) (step slots (fates_from k + n) (word_of (fate.Shrunk event)) 0 none) m (word_of (fate.Shrunk event)))
-  settles_shrunk slots id st m b n event below some_share may s r1 deep here small =
+  settles_shrunk slots id st m b n event below has_word some_share may s r1 deep here small =
       let v : View = m.0 in let t : Turn = may.turn in let r = turn_rule k s r1 (Some t) (turn_known k s r1 id v (Some t) here some_share may.holds may.turning) in
       let p = r.parts in let g = r.state in let a = account k g in let W = words_of k s.words in let res = p.rings.resizing t refl in
       let old : Work = at b t.works in let x : Work = settled_work old in let t' : Turn = with_work b x t in let w : View = record (turned (Some t') v) { settled = (n, fate.Shrunk event) ∷ v.settled } in let x_waits : x.waiting ≡ may.waiting = ap (drop 1) may.first in let x_hand : x.hand ≡ may.hand = ap (drop 1) may.in_hand in
@@ -76,16 +76,16 @@ module _ (k : Setup) where
                   ∙ ap (λ (y : Turn). Some (fate.Shrunk y.event)) (same_Some t' u e);
               purged = p.fates.purged;
             }
-            (settled_stored s.views id v w here W.fates n (fate.Shrunk event) (p.fates.stored.zero n (omega arith)) (let long = p.fates.stored.long in omega arith) p.settled refl),
+            (settled_stored s.views id v w here W.fates n (fate.Shrunk event) has_word (p.fates.stored.zero n (omega arith)) (let long = p.fates.stored.long in omega arith) p.settled refl),
         ap (λ (y : View). (y, m.1)) is_view,
       )
 
-  pub settles_fate : (slots id : ℕ) (st : StationState) (m : Sat) (b n : ℕ) (f : Fate) → n < length k.infos → 0 < m.0.share.shares → MaySettle b n f st m.0
+  pub settles_fate : (slots id : ℕ) (st : StationState) (m : Sat) (b n : ℕ) (f : Fate) → n < length k.infos → HasWord f → 0 < m.0.share.shares → MaySettle b n f st m.0
       → Allows (Rule k) slots id m (fates_from k + n) (λ _. word_of f) (λ _. fate_stored st b n f (step slots (fates_from k + n) (word_of f) 0 none) m (word_of f))
-  settles_fate slots id st m b n (fate.Sent unit serial) within some_share may =
+  settles_fate slots id st m b n (fate.Sent unit serial) within has_word some_share may =
       subst (λ (f : Fate). Allows (Rule k) slots id m (fates_from k + n) (λ _. word_of f) (λ _. fate_stored st b n (fate.Sent unit serial) (step slots (fates_from k + n) (word_of f) 0 none) m (word_of f))) (sym may.fate_is)
-      (sent.settles k slots id n st m may.packet may.direct may.answer may.position may.in_hand may.called may.accepted some_share within)
-  settles_fate slots id st m b n (fate.Full seen) within some_share may = pays k slots id n (fate.Full seen) m may within some_share
-  settles_fate slots id st m b n (fate.Refused event) within some_share may = pays k slots id n (fate.Refused event) m may within some_share
-  settles_fate slots id st m b n (fate.Purged cause) within some_share may = pays k slots id n (fate.Purged cause) m may within some_share
-  settles_fate slots id st m b n (fate.Shrunk event) within some_share may = settles_shrunk slots id st m b n event may.0 some_share may.1
+      (sent.settles k slots id n st m may.packet may.direct may.answer may.position may.in_hand may.called may.accepted (subst HasWord may.fate_is has_word) some_share within)
+  settles_fate slots id st m b n (fate.Full seen) within has_word some_share may = pays k slots id n (fate.Full seen) m may within has_word some_share
+  settles_fate slots id st m b n (fate.Refused event) within has_word some_share may = pays k slots id n (fate.Refused event) m may within has_word some_share
+  settles_fate slots id st m b n (fate.Purged cause) within has_word some_share may = pays k slots id n (fate.Purged cause) m may within has_word some_share
+  settles_fate slots id st m b n (fate.Shrunk event) within has_word some_share may = settles_shrunk slots id st m b n event may.0 has_word some_share may.1
