@@ -72,8 +72,7 @@ hangs_on t tx n d d' a alive rule w true e = let z = none_taken tx n e in
     (a.hung ∙ (z.1 ∙ (sym alive ∙ (w.0 ∙ ap (λ (l : ℕ). nat_lt 0 t.params.hang_after && (l == t.params.hang_after)) (sym same)))), λ some_. let m = w.1 some_ in omega arith)
 hangs_on t tx n d d' a alive rule w false e =
     let more : length d'.accepted ≡ length d.accepted + 1 = ap length a.accepted ∙ (length-append d.accepted (taken tx n) ∙ (let y = one_taken tx n e in omega arith)) in
-    let said : is_hang tx ≡ (nat_lt 0 t.params.hang_after && (length d.accepted + 1 == t.params.hang_after)) = hang_said _ _ _ tx rule e in
-    (
+    let said : is_hang tx ≡ (nat_lt 0 t.params.hang_after && (length d.accepted + 1 == t.params.hang_after)) = hang_said _ _ _ tx rule e in (
       a.hung ∙ (said ∙ ap (λ (l : ℕ). nat_lt 0 t.params.hang_after && (l == t.params.hang_after)) (sym more)),
       λ some_. dite (ℕ_discrete (length d.accepted) t.params.hang_after)
           (λ reached. absurd (true≢false (sym (ap₂ (λ (x y : Bool). x && y) (lt-ltb 0 t.params.hang_after some_) (eq-eqb (length d.accepted) t.params.hang_after reached)) ∙ (sym w.0 ∙ alive))))

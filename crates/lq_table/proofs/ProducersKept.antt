@@ -18,8 +18,8 @@ use Rattle.lq_band.proofs.TurningKept.{turning_sized}
 use Rattle.lq_band.proofs.Kept.{locks, sizes_if, gives}
 use Rattle.lq_table.specs.Views.{View, Setup, HolderPart}
 use Rattle.lq_table.specs.Rule.{words_of, account, holders, bands_now, locks_at, Rule}
-use Rattle.lq_table.specs.Told.{Sat, with_lock_at}
-use Rattle.lq_table.specs.Rings.{got_producer, producer_given, sized, size_loaded, unchanged}
+use Rattle.lq_table.specs.Told.{Sat}
+use Rattle.lq_table.specs.Rings.{with_lock_at, got_producer, producer_given, sized, size_loaded}
 use Rattle.lq_table.proofs.ByName.{set_producer, set_back, producer_of}
 use Rattle.lq_table.proofs.Quiet.{beside}
 use Rattle.lq_table.proofs.Frames.{locks_here, locks_after, control_same, calm_even, calm_here, rings_step, rule_same}
@@ -32,13 +32,9 @@ module _ (k : Setup) where
   producer_step s r id b x v l calm below here some_share ring =
       let p = r.parts in let g = r.state in let a = account k g in let W = words_of k s.words in let w : View = with_lock_at b l v in
       beside k s r (6 + b) x id v (put b l v.locks) (put b x W.producers) W.slots here (lt-ltb 0 v.share.shares some_share) some_share (set_producer k s.words x b below (let wide = r.wide in omega arith))
-          (rings_step k s.views id v w here k.max_len W.size W.producers (put b x W.producers) W.slots W.slots a.len (bands_now g.left a.bands) (bands_now g.left a.bands) g.ends g.ends g.turn b p.rings calm
-          (subst (λ (z : ℕ × Lock). IsRing W.size (at b W.slots) z.0 (set (locks_at b s.views) id z.1) (bands_now g.left a.bands b) (at b g.ends)) (λ i. (sym (at_put_same b x W.producers) i, sym (at_put_same b l v.locks) i)) ring)
-          (λ c h n. (refl, at_put_other b c x W.producers below h n, at_put_other b c l v.locks below h n, refl, refl)))
-
-  -- a load that tells nothing
-  pub looks : (slots id i : ℕ) (m : Sat) → Allows (Rule k) slots id m i (λ x. x) (unchanged (step slots i 0 0 none) m)
-  looks slots id i m s r deep here small = (m.0, keeps, tt, rule_same k s r i id m.0 here, refl)
+      (rings_step k s.views id v w here k.max_len W.size W.producers (put b x W.producers) W.slots W.slots a.len (bands_now g.left a.bands) (bands_now g.left a.bands) g.ends g.ends g.turn b p.rings calm
+      (subst (λ (z : ℕ × Lock). IsRing W.size (at b W.slots) z.0 (set (locks_at b s.views) id z.1) (bands_now g.left a.bands b) (at b g.ends)) (λ i. (sym (at_put_same b x W.producers) i, sym (at_put_same b l v.locks) i)) ring)
+      (λ c h n. (refl, at_put_other b c x W.producers below h n, at_put_other b c l v.locks below h n, refl, refl)))
 
   pub gets_producer : (slots id : ℕ) (m : Sat) (b i : ℕ) → b < 3 → (at b m.0.locks).holds ≡ false → 0 < m.0.share.shares
       → Allows (Rule k) slots id m (6 + b) (λ n. either (eqb n (2 * i)) (2 * i + 1) n) (got_producer b i k.max_len (step slots (6 + b) (2 * i) (2 * i + 1) none) m)

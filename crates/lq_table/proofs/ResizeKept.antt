@@ -37,7 +37,8 @@ use Rattle.lq_band.proofs.Times.{in_times, times_append, times_drop}
 use Rattle.lq_band.proofs.TurningKept.{begins, unturned, reindexes, restarts, just_got}
 use Rattle.lq_table.specs.Views.{View, Setup, State, HolderPart, Turn, Work, Left, packet_of}
 use Rattle.lq_table.specs.Rule.{words_of, account, holders, owes, waiting_of, unstored, bands_of, bands_now, Holder, IsLocker, IsResizing, IsResting, locks_at, KnowsPackets, Parts, Rule}
-use Rattle.lq_table.specs.Told.{Sat, with_lock_at}
+use Rattle.lq_table.specs.Told.{Sat}
+use Rattle.lq_table.specs.Rings.{with_lock_at}
 use Rattle.lq_table.specs.Resizes.{each_band, turn_of, beginning, resize_begun, producer_set, restarted, size_stored}
 use Rattle.lq_table.proofs.Accounts.{quiet_after}
 use Rattle.lq_table.proofs.ByName.{slots_long, set_back, set_producer, set_size}

@@ -21,7 +21,7 @@ module _ (views : List View) (id : ℕ) (v w : View) (here : get_elem? views id 
     written = x.written;
   }
 
-word_positive : (f : Fate) → word_of f ≢ 0
+pub word_positive : (f : Fate) → word_of f ≢ 0
 word_positive (fate.Sent unit serial) e = omega arith
 word_positive (fate.Full seen) e = omega arith
 word_positive (fate.Shrunk event) e = omega arith

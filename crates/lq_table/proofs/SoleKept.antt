@@ -24,7 +24,8 @@ use Rattle.lq_model.specs.Machine.{bit}
 use Rattle.std.specs.Prelude.{slice_index}
 use Rattle.lq_table.specs.Views.{View, Setup, HolderPart, packet_of}
 use Rattle.lq_table.specs.Rule.{words_of, slot_word, account, xoff_word, Rule}
-use Rattle.lq_table.specs.Told.{Sat, loads_state, misses, schedules, tries_lock, loads_stop, stop_queue, looked, checked, rechecked, missed_now, scheduled_now, stop_loaded, woken, tried, head_seen}
+use Rattle.lq_table.specs.Told.{Sat, loads_state, misses, schedules, tries_lock, loads_stop, stop_queue, looked, checked, rechecked, missed_now, scheduled_now, stop_loaded, woken, tried}
+use Rattle.lq_table.specs.Rings.{head_seen}
 use Rattle.lq_table.specs.Solo.{IsSole, SeesState, SeesStop, account_of, looked_all, checked_all, rechecked_all, missed_all, scheduled_all, stop_loaded_all, woken_all, tried_all, SeesHead, head_seen_all}
 use Rattle.lq_table.proofs.Loads.{also}
 use Rattle.lq_table.proofs.SoleFacts.{knows_account, sees_state, sees_lock, sees_stop, holds_accounts}

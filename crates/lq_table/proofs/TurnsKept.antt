@@ -133,8 +133,11 @@ module _ (k : Setup) where
             }
             record {
               turn = λ y l. let z = gv.turn y l in let now = mine_now y in ⊎_elim
-                  (λ (e : y ≡ o). (rank, (let a = ap (λ (y : ℕ). get_or (set W.turns o x) y 0) e ∙ here_new in let b : total (λ u. has_turn k.infos y u.packets.busy) s.views ≡ 0 = ap (λ (y : ℕ). total (λ u. has_turn k.infos y u.packets.busy) s.views) e ∙ nobody in
-                  let c = has_mine k.infos n y (sym e) in omega arith)))
+                  (λ (e : y ≡ o). (
+                    rank,
+                    (let a = ap (λ (y : ℕ). get_or (set W.turns o x) y 0) e ∙ here_new in let b : total (λ u. has_turn k.infos y u.packets.busy) s.views ≡ 0 = ap (λ (y : ℕ). total (λ u. has_turn k.infos y u.packets.busy) s.views) e ∙ nobody in
+                        let c = has_mine k.infos n y (sym e) in omega arith),
+                  ))
                   (λ (e : y ≢ o). (z.0, (let a = else_new y e in let b = z.1 in let c = has_other k.infos n y (λ s. e (sym s)) in omega arith)))
                   (cases_eq y o);
               one = λ y l. let z = gv.one y l in let now = mine_now y in ⊎_elim

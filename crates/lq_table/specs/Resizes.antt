@@ -9,7 +9,8 @@ use Rattle.lq_band.specs.Three.{Three, at, put, all_three}
 use Rattle.lq_band.specs.Ring.{at_start, locked_at}
 use Rattle.lq_band.specs.Turning.{IsUnturned}
 use Rattle.lq_table.specs.Views.{View, Turn, Work}
-use Rattle.lq_table.specs.Told.{Sat, with_lock_at}
+use Rattle.lq_table.specs.Told.{Sat}
+use Rattle.lq_table.specs.Rings.{with_lock_at}
 use Rattle.atomic_table.specs.Table.{Step}
 
 -- THE WORK ON A BAND

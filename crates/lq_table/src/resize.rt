@@ -12,7 +12,7 @@ ghost use Rattle.lq_band.specs.Turning.{IsUnturned, IsRefilled};
 ghost use Rattle.lq_table.specs.Views.{Turn};
 ghost use Rattle.lq_table.specs.Rule.{IsResting};
 ghost use Rattle.lq_table.specs.Sees.{view, position, lock_at, ends_at, IsSeatOf, IsElseSame};
-ghost use Rattle.lq_table.specs.Told.{with_lock_at};
+ghost use Rattle.lq_table.specs.Rings.{with_lock_at};
 ghost use Rattle.lq_table.specs.Resizes.{turn_of, beginning, turned, with_work, out_of, into, is_member, restarted, resize_begun, slot_cleared, slot_filled, producer_set, size_stored};
 
 use crate::shared::{Cpu, Shared};
@@ -135,7 +135,9 @@ impl<'a, D: TxDevice> Shared<'a, D> {
             × ((b : ℕ) → b < 3 → IsUnturned (view cpu.old).holder.size K.limit (at b slots) (held b) (ends_at b cpu.old))
             × ((b n : ℕ) → b < 3 → Contains (held b) n → (band_in K.infos n ≡ b) × (n < length K.infos)) }
     {
-        self.table.shared.load::<BeginResize<K>>(&mut cpu.seat, SIZE);
+        self.table
+            .shared
+            .load::<BeginResize<K>>(&mut cpu.seat, SIZE);
     }
 
     /// The resize to `len` begins, for the plan's event `event`. In the account it is done with this step: each band has
@@ -218,9 +220,11 @@ impl<'a, D: TxDevice> Shared<'a, D> {
         ensures same { IsElseSame cpu.old cpu.new }
         ensures set { view cpu.new ≡ with_lock_at band (locked_at index) (view cpu.old) }
     {
-        self.table
-            .shared
-            .store::<SetProducer<K>>(&mut cpu.seat, PRODUCERS + band as usize, 2 * index as u64 + 1);
+        self.table.shared.store::<SetProducer<K>>(
+            &mut cpu.seat,
+            PRODUCERS + band as usize,
+            2 * index as u64 + 1,
+        );
     }
 
     /// Sets the index of the band's producer, whose lock control keeps. A store into the producer word, by control of a

@@ -25,12 +25,9 @@ impl<'a, D: TxDevice> Shared<'a, D> {
         ensures other { result ≢ 2 * K.rank → view cpu.new ≡ view cpu.old }
     {
         let free = 2 * rank as u64;
-        self.table.shared.compare_exchange::<TakeTurn<K>>(
-            &mut cpu.seat,
-            TURNS + owner as usize,
-            free,
-            free + 1,
-        )
+        self.table
+            .shared
+            .compare_exchange::<TakeTurn<K>>(&mut cpu.seat, TURNS + owner as usize, free, free + 1)
     }
 
     /// Takes the turn of packet `n`, which the seat then brings. Only a seat that has the packet's owner, and brings no

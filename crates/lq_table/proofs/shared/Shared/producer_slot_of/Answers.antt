@@ -9,8 +9,8 @@ use Rattle.lq_table.specs.Views.{packet_of}
 use Rattle.lq_table.specs.Rule.{Rule, slot_word}
 use Rattle.lq_table.specs.Keyed.{setup_of}
 use Rattle.lq_table.proofs.ByName.{slot_within}
-use Rattle.lq_table.specs.Told.{slot_seen}
-use Rattle.lq_table.proofs.FullKept.{sees_slot}
+use Rattle.lq_table.specs.SolePut.{slot_seen_all}
+use Rattle.lq_table.proofs.PutSole.{sees_slot_sole}
 use Rattle.lq_table.proofs.shared.Shared.producer_slot_of.Goals as goal
 
 pub load-requires : goal.load-requires
@@ -26,6 +26,6 @@ load-requires g c =
     let where_ = c.requires.at in let position : seat.me.0.place.position ≡ Put (packet_of k.infos g.K.Producing.packet) where_.0 = where_.1 ∙ ap (λ (xs : List Info). Put (packet_of xs g.K.Producing.packet) where_.0) (sym t.same.0) in (
       c.requires.seat.0,
       word,
-      subst (λ (z : ℕ × ℕ). Allows (Rule k) slots seat.id seat.me z.0 (λ x. x) (slot_seen z.1 g.K.Producing.packet (step slots z.0 0 0 none) seat.me)) (λ j. (place j, c.requires.named j))
-          (sees_slot k slots seat.id seat.me b i g.K.Producing.packet where_.0 c.requires.band inside position lock.0.0 lock.1 is c.requires.packet.0.0 c.requires.packet.1 of_band c.requires.seat.1 few lock.0.3),
+      subst (λ (z : ℕ × ℕ). Allows (Rule k) slots seat.id seat.me z.0 (λ x. x) (slot_seen_all z.1 g.K.Producing.packet (step slots z.0 0 0 none) seat.me)) (λ j. (place j, c.requires.named j))
+          (sees_slot_sole k slots seat.id seat.me b i g.K.Producing.packet where_.0 c.requires.band inside position lock.0.0 lock.1 is c.requires.packet.0.0 c.requires.packet.1 of_band c.requires.seat.1 few lock.0.3),
     )
