@@ -6,7 +6,7 @@ use Rattle.std.proofs.lemmas.List.Quantifiers.{all_pairs_push}
 use Rattle.lq_model.specs.Band.{Band, held_of, taken_by, joined}
 use Rattle.lq_model.specs.Account.{Account, Event, Join, Take, Pick, Direct, Send, Back, Resize, Purge, held_in, sent_from_hand, new_account, after}
 use Rattle.lq_model.specs.Legal.{brought, brought_by, MayCome, IsInTurn}
-use Rattle.lq_model.specs.Plan.{owner_in, band_in}
+use Rattle.lq_model.specs.Plan.{band_in}
 use Rattle.lq_model.specs.declared.fate.Info.{Info}
 use Rattle.lq_account.specs.Places.{AreBrought, IsInOrder, Precedes}
 use Rattle.lq_account.proofs.Lists.{none-in, drop-in, first-in, first-taken, pairs-drop, pairs-take, pairs-apart, at-cases}

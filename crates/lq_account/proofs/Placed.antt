@@ -3,7 +3,7 @@ use Rattle.std.proofs.Common.{◌≡◌, ℕ, zero, suc, ◌<◌, ◌≤◌, Lis
 use Rattle.std.proofs.lemmas.Bool.{cases_eq}
 use Rattle.std.proofs.lemmas.List.Elements.{Contains-append_left, Contains-append_right, Contains-append_cases, Contains-push}
 use Rattle.std.proofs.lemmas.Option.{same_Some}
-use Rattle.lq_model.specs.Band.{Band, held_of}
+use Rattle.lq_model.specs.Band.{held_of}
 use Rattle.lq_model.specs.Account.{Account, Event, Fates, Join, Full, Refuse, Empty, Take, Pick, Direct, Send, Back, Stop, Wake, Resize, Down, Purge, Swap, Up, held, held_in, dropped_in, after, after_all, sent_from_hand, with_at, with_fates}
 use Rattle.lq_model.specs.Legal.{IsLegal, MayCome, brought, brought_by}
 use Rattle.lq_model.specs.Plan.{Plan, station_in, band_in}

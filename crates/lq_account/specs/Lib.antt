@@ -4,6 +4,8 @@ pub mod Progress
 pub mod Places
 -- what the laws of accounts ask, and what they give
 pub mod Accounts
+-- lists of events of many senders, and what the first sender's seat knows of them
+pub mod Trail
 -- what events, serving and the end come to with one queue
 pub mod OneQueue
 -- a station in the run of one sender

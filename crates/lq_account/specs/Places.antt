@@ -1,5 +1,5 @@
 -- Where the packets of a station stand: what was brought has one place or a fate, and what waits stands in each owner's order.
-use Rattle.std.specs.Prelude.{◌≡◌, ◌⊎◌, ◌<◌, ◌≤◌, ℕ, List, length, AllPairs, Contains, Option, Some}
+use Rattle.std.specs.Prelude.{◌≡◌, ◌⊎◌, ◌<◌, ◌≤◌, ℕ, List, length, AllPairs, Contains, Some}
 use Rattle.lq_model.specs.Account.{Account, Event, held, held_in}
 use Rattle.lq_model.specs.Band.{Band}
 use Rattle.lq_model.specs.Legal.{brought_by}

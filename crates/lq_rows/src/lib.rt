@@ -5,7 +5,13 @@
 #[cfg(test)]
 mod faults;
 #[cfg(test)]
+mod files;
+#[cfg(test)]
 mod fixture;
+#[cfg(test)]
+mod gate;
+#[cfg(test)]
+mod pcapng;
 #[cfg(test)]
 mod refusals;
 #[cfg(test)]

@@ -9,3 +9,5 @@ pub mod Schedule
 -- what a schedule leaves of the machine, and the text that tells it
 pub mod Trace
 pub mod TraceText
+-- steps with a mistake, and what they leave behind
+pub mod Mistakes

@@ -13,6 +13,8 @@ pub mod deactivation;
 pub mod draining;
 pub mod exposed;
 pub mod lock;
+pub mod mistakes;
+pub mod reached;
 pub mod seats;
 
 /// The invariant holds of the machine that begins, and every step of a seat, every start and every step of

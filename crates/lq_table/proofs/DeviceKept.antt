@@ -66,11 +66,11 @@ none_taken SentStop n e = absurd (true≢false (sym e))
 none_taken SentHang n e = absurd (true≢false (sym e))
 
 -- a device that doesn't hang answers as it told
-hangs_on : (t : Telling) (tx : Tx) (n : ℕ) (d d' : DeviceState) → Answers tx n d d' → d.hung ≡ false → tx ≡ answer_of t (length d.accepted) → HangsWhere t.params d → (busy : Bool) → is_busy tx ≡ busy → HangsWhere t.params d'
-hangs_on t tx n d d' a alive rule w true e = let z = none_taken tx n e in
+hangs_on : (t : Telling) (tx : Tx) (queue n : ℕ) (d d' : DeviceState) → Answers tx queue n d d' → d.hung ≡ false → tx ≡ answer_of t (length d.accepted) → HangsWhere t.params d → (busy : Bool) → is_busy tx ≡ busy → HangsWhere t.params d'
+hangs_on t tx queue n d d' a alive rule w true e = let z = none_taken tx n e in
     let same : length d'.accepted ≡ length d.accepted = ap length a.accepted ∙ (length-append d.accepted (taken tx n) ∙ (let y = z.0 in omega arith)) in
     (a.hung ∙ (z.1 ∙ (sym alive ∙ (w.0 ∙ ap (λ (l : ℕ). nat_lt 0 t.params.hang_after && (l == t.params.hang_after)) (sym same)))), λ some_. let m = w.1 some_ in omega arith)
-hangs_on t tx n d d' a alive rule w false e =
+hangs_on t tx queue n d d' a alive rule w false e =
     let more : length d'.accepted ≡ length d.accepted + 1 = ap length a.accepted ∙ (length-append d.accepted (taken tx n) ∙ (let y = one_taken tx n e in omega arith)) in
     let said : is_hang tx ≡ (nat_lt 0 t.params.hang_after && (length d.accepted + 1 == t.params.hang_after)) = hang_said _ _ _ tx rule e in (
       a.hung ∙ (said ∙ ap (λ (l : ℕ). nat_lt 0 t.params.hang_after && (l == t.params.hang_after)) (sym more)),
@@ -79,8 +79,8 @@ hangs_on t tx n d d' a alive rule w false e =
           (λ other. let m = w.1 some_ in omega arith),
     )
 
-pub answers_kept : (infos : List Info) (station : ℕ) (xoff : List ℕ) (d d' : DeviceState) (tx : Tx) (n : ℕ) → Answers tx n d d' → IsDevice infos station xoff d → d.hung ≡ false → IsDevice infos station xoff d'
-answers_kept infos station xoff d d' tx n a i alive = record {
+pub answers_kept : (infos : List Info) (station : ℕ) (xoff : List ℕ) (d d' : DeviceState) (tx : Tx) (queue n : ℕ) → Answers tx queue n d d' → IsDevice infos station xoff d → d.hung ≡ false → IsDevice infos station xoff d'
+answers_kept infos station xoff d d' tx queue n a i alive = record {
   room = let l = ap length a.accepted ∙ length-append d.accepted (taken tx n) in let s = a.spare in let m = i.room in omega arith;
   hung = λ c is. absurd (true≢false (sym (i.hung c is) ∙ alive));
   told = go d.told refl a.told a.rule;
@@ -88,7 +88,7 @@ answers_kept infos station xoff d d' tx n a i alive = record {
   where
     go : (o : Option Telling) → d.told ≡ o → d'.told ≡ option_map (told_after tx) o → IfSome o (λ t. tx ≡ answer_of t (length d.accepted)) → (t : Telling) → d'.told ≡ Some t → HangsWhere t.params d'
     go None is is' rule t now = absurd (none_some (sym is' ∙ now))
-    go (Some t) is is' rule t' now = subst (λ (p : Params). HangsWhere p d') (ap (λ (z : Telling). z.params) (same_Some _ _ (sym is' ∙ now))) (hangs_on t tx n d d' a alive rule (i.told t is) (is_busy tx) refl)
+    go (Some t) is is' rule t' now = subst (λ (p : Params). HangsWhere p d') (ap (λ (z : Telling). z.params) (same_Some _ _ (sym is' ∙ now))) (hangs_on t tx queue n d d' a alive rule (i.told t is) (is_busy tx) refl)
 
 -- WHERE A PACKET IS TO GO TO THE DEVICE
 

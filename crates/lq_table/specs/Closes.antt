@@ -25,7 +25,7 @@ pub record AreQuiet (w : Words) : Type 0 where
 -- Nothing is left: the requeue slot is empty, each band's producer index is at the consumer's head, and each packet of the station
 -- whose turn was taken has a fate.
 pub record IsEmptied (k : Setup) (w : Words) (st : StationState) : Type 0 where
-  pub slot_empty : st.side ≡ None
+  pub slot_empty : st.slot ≡ None
   pub rings_empty : (b : ℕ) → b < 3 → at b w.producers ≡ 2 * round w.size (slice_index st.heads b)
   pub decided : (n : ℕ) → n < length k.infos → station_in k.infos n ≡ k.station → 2 * rank_in k.infos n + 1 ≤ slice_index w.turns (owner_in k.infos n) → (f : Fate) × IsWordOf f (slice_index w.fates n)
 

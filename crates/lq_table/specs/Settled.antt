@@ -22,7 +22,7 @@ pub record MaySend (n : ℕ) (fate : Fate) (st : StationState) (v : View) : Type
   pub answer : Tx
   pub position : v.place.position ≡ Xmit packet direct
   pub in_hand : v.holder.hand ≡ Some n
-  pub called : Transmits answer n (shown v.holder) st
+  pub called : Transmits answer packet.queue n (shown v.holder) st
   pub accepted : is_busy answer ≡ false
   pub fate_is : fate ≡ fate_sent v.holder.station
 

@@ -2,31 +2,34 @@
 use Rattle.std.proofs.Common.{◌≡◌, ◌≢◌, ◌⊎◌, ◌∷◌, [], ℕ, List, length, Option, Some, None, Result, Ok, Err, IfOk, OnOk, OnErr, IfSome, refl, sym, ap, ◌∙◌, subst, inl, inr, ◌≤◌, ◌+◌, ◌-◌, drop, arith}
 use Rattle.std.specs.Option.{option_map}
 use Rattle.std.proofs.lemmas.List.{drop-drop}
-use Rattle.lq_model.specs.Capture.{Capture}
 use Rattle.lq_model.specs.Device.{DeviceState}
 use Rattle.lq_model.specs.Plan.{Plan, infos_of, unit_count}
 use Rattle.lq_model.specs.Texts.{counts_text}
 use Rattle.lq_model.specs.declared.fate.Fate.{Fate}
 use Rattle.lq_model.specs.declared.fate.Info.{Info}
 use Rattle.lq_host.specs.Host.{HostState, Contents, wrote}
+use Rattle.lq_pcapng.specs.File.{packets_of}
+use Rattle.lq_pcapng.specs.declared.file.CaptureFile.{CaptureFile}
 use Rattle.lq_top.specs.Command.{RunWords}
-use Rattle.lq_top.specs.Decision.{Verdict, IsRunnable, max_units, LacksFile, Refuses, Runs, by_capture, by_plan, limited_capture_of, plan_for, verdict_of_run}
+use Rattle.lq_top.specs.Decision.{Verdict, IsRunnable, max_units, LacksFile, Refuses, Runs, by_bytes, by_capture, by_plan, limited_capture_of, plan_for, verdict_of_run}
 use Rattle.lq_top.specs.Fates.{AreFatesOf}
 use Rattle.lq_top.specs.Headline.{Run, run_of, unit_files, fates_file, texts_of, HasRun}
-use Rattle.lq_top.specs.Outcome.{Ends, EndsOrStops, IsAnswerOf, IsRunStatus, Stops}
-use Rattle.lq_top.specs.Refusal.{status_of}
-use Rattle.lq_top.specs.Written.{FileIsCut, FilesAreCut, OutputHasPrefix, IsCut, file_written, files_written, written}
+use Rattle.lq_top.specs.Outcome.{Ends, EndsOrStops, IsAnswerOf, IsRunStatus, Outcome, Stops}
+use Rattle.lq_top.specs.Refusal.{line_of, status_of}
+use Rattle.lq_top.specs.Stop.{status_of_stop}
+use Rattle.lq_top.specs.Written.{FileIsCut, FilesAreCut, OutputHasPrefix, IsCut, file_written, files_written, output_only, written}
 use Rattle.lq_top.specs.declared.refusal.Refusal.{Refusal}
 use Rattle.lq_top.specs.declared.refusal.Refusal.TheVariants as refusal
 use Rattle.lq_top.specs.declared.status.Status.{Status}
 use Rattle.lq_top.specs.declared.status.Status.TheVariants as status
 use Rattle.lq_top.specs.declared.stop.Stop.{Stop}
+use Rattle.lq_top.specs.declared.stop.Stop.TheVariants as stops
 use Rattle.lq_top.proofs.FileLemmas.{cut_before, cut_next, cut_whole, whole_next}
 
 -- WRITING
 
 abbrev counts_of : Run → List Fate → List ℕ
-counts_of run fates = counts_text fates (infos_of run.plan run.capture) (length run.plan.stations) (unit_count run.plan)
+counts_of run fates = counts_text fates (infos_of run.plan (packets_of run.capture)) (length run.plan.stations) (unit_count run.plan)
 
 abbrev counts_by : Run → List Fate → List Info → List ℕ
 counts_by run fates infos = counts_text fates infos (length run.plan.stations) (unit_count run.plan)
@@ -61,7 +64,7 @@ whole_files run fates units old mid all counted whole made =
 
 -- it was stopped in the counts, or before them
 pub stopped_in_counts :
-    (run : Run) (fates : List Fate) (infos : List Info) (units : ℕ) (old mid all new : HostState) → infos ≡ infos_of run.plan run.capture → units ≡ unit_count run.plan
+    (run : Run) (fates : List Fate) (infos : List Info) (units : ℕ) (old mid all new : HostState) → infos ≡ infos_of run.plan (packets_of run.capture) → units ≡ unit_count run.plan
     → mid ≡ files_written old (unit_files run.out run.capture fates units) → all ≡ file_written mid (fates_file run.out fates)
     → (new ≡ all) ⊎ OutputHasPrefix (counts_by run fates infos) all new → IsCut (texts_of run fates) old new
 stopped_in_counts run fates infos units old mid all new known counted whole made cut =
@@ -75,7 +78,7 @@ stopped_in_counts run fates infos units old mid all new known counted whole made
 
 -- all is written
 pub all_written :
-    (run : Run) (fates : List Fate) (infos : List Info) (units : ℕ) (old mid all new : HostState) → infos ≡ infos_of run.plan run.capture → units ≡ unit_count run.plan
+    (run : Run) (fates : List Fate) (infos : List Info) (units : ℕ) (old mid all new : HostState) → infos ≡ infos_of run.plan (packets_of run.capture) → units ≡ unit_count run.plan
     → mid ≡ files_written old (unit_files run.out run.capture fates units) → all ≡ file_written mid (fates_file run.out fates)
     → new ≡ wrote all 0 (counts_by run fates infos) → new ≡ written (texts_of run fates) old
 all_written run fates infos units old mid all new known counted whole made done =
@@ -86,14 +89,14 @@ all_written run fates infos units old mid all new known counted whole made done 
 
 -- a run that is done: `given` are the fates as they were lent
 pub has_run :
-    (run : Run) (infos : List Info) (fates given : List Fate) (old new : HostState) (before behind : List DeviceState) → infos ≡ infos_of run.plan run.capture → given ≡ fates
+    (run : Run) (infos : List Info) (fates given : List Fate) (old new : HostState) (before behind : List DeviceState) → infos ≡ infos_of run.plan (packets_of run.capture) → given ≡ fates
     → AreFatesOf run.plan infos fates before behind → new ≡ written (texts_of run given) old → HasRun run old new before behind
 has_run run infos fates given old new before behind known same are done =
     (fates, subst (λ (is : List Info). AreFatesOf run.plan is fates before behind) known are, done ∙ ap (λ (fs : List Fate). written (texts_of run fs) old) same)
 
 -- a run that was stopped while it wrote
 pub run_stops :
-    (run : Run) (infos : List Info) (fates given : List Fate) (old new : HostState) (before behind : List DeviceState) → infos ≡ infos_of run.plan run.capture → given ≡ fates
+    (run : Run) (infos : List Info) (fates given : List Fate) (old new : HostState) (before behind : List DeviceState) → infos ≡ infos_of run.plan (packets_of run.capture) → given ≡ fates
     → AreFatesOf run.plan infos fates before behind → IsCut (texts_of run given) old new → Stops (Runs run) old new before behind
 run_stops run infos fates given old new before behind known same are cut =
     inr (
@@ -113,7 +116,7 @@ run_does run old new before behind (Err stop) is done stopped = stopped
 
 -- what was done as the run of a capture was decided so
 pub does_run :
-    (told : Option Contents) (words : RunWords) (have : ℕ) (plan : Plan) (capture : Capture) (read : Result Plan Refusal) (seen : Result Capture Refusal) (P : Verdict → Type 0)
+    (told : Option Contents) (words : RunWords) (have : ℕ) (plan : Plan) (capture : CaptureFile) (read : Result Plan Refusal) (seen : Result CaptureFile Refusal) (P : Verdict → Type 0)
     → read ≡ Ok plan → seen ≡ Ok capture → IfSome told (λ c. option_map (plan_for have) (c.files words.plan) ≡ Some read)
     → IfSome told (λ c. option_map limited_capture_of (c.files words.capture) ≡ Some seen) → P (Runs (run_of words.out plan capture))
     → IfSome told (λ c. P (verdict_of_run words c.files have))
@@ -123,6 +126,69 @@ does_run (Some c) words have plan capture read seen P is_read is_seen first seco
     let decided : verdict_of_run words c.files have ≡ Runs (run_of words.out plan capture) =
     ap (λ (r : Option (Result Plan Refusal)). by_plan r next) (first ∙ ap Some is_read) ∙ ap (by_capture words.out plan) (second ∙ ap Some is_seen) in
     subst P (sym decided) does
+
+-- ANY HOST
+
+-- what was done as the run of some capture was decided so by its bytes and the plan's
+pub does_run_on :
+    (words : RunWords) (have : ℕ) (plan : Plan) (capture : Capture) (plan_bytes capture_bytes : List ℕ) (P : Verdict → Type 0) → plan_for have plan_bytes ≡ Ok plan
+    → limited_capture_of capture_bytes ≡ Ok capture → P (Runs (run_of words.out plan capture)) → P (by_bytes (Some words) have plan_bytes capture_bytes)
+does_run_on words have plan capture plan_bytes capture_bytes P is_read is_seen does =
+    let next : Plan → Verdict = λ p. by_capture words.out p (Some (limited_capture_of capture_bytes)) in
+    let decided : by_bytes (Some words) have plan_bytes capture_bytes ≡ Runs (run_of words.out plan capture) =
+    ap (λ (r : Result Plan Refusal). by_plan (Some r) next) is_read ∙ ap (λ (r : Result Capture Refusal). by_capture words.out plan (Some r)) is_seen in
+    subst P (sym decided) does
+
+-- a refusal of a plan was decided by its bytes
+pub refuses_plan_on :
+    (words : RunWords) (have : ℕ) (r : Refusal) (plan_bytes capture_bytes : List ℕ) (P : Verdict → Type 0) → plan_for have plan_bytes ≡ Err r → P (Refuses r)
+    → P (by_bytes (Some words) have plan_bytes capture_bytes)
+refuses_plan_on words have r plan_bytes capture_bytes P is_read does =
+    let next : Plan → Verdict = λ p. by_capture words.out p (Some (limited_capture_of capture_bytes)) in
+    subst P (sym (ap (λ (read : Result Plan Refusal). by_plan (Some read) next) is_read)) does
+
+-- and a refusal of a capture by its bytes and the plan's
+pub refuses_capture_on :
+    (words : RunWords) (have : ℕ) (plan : Plan) (r : Refusal) (plan_bytes capture_bytes : List ℕ) (P : Verdict → Type 0) → plan_for have plan_bytes ≡ Ok plan
+    → limited_capture_of capture_bytes ≡ Err r → P (Refuses r) → P (by_bytes (Some words) have plan_bytes capture_bytes)
+refuses_capture_on words have plan r plan_bytes capture_bytes P is_read is_seen does =
+    let next : Plan → Verdict = λ p. by_capture words.out p (Some (limited_capture_of capture_bytes)) in
+    let decided : by_bytes (Some words) have plan_bytes capture_bytes ≡ Refuses r =
+    ap (λ (read : Result Plan Refusal). by_plan (Some read) next) is_read ∙ ap (λ (seen : Result Capture Refusal). by_capture words.out plan (Some seen)) is_seen in
+    subst P (sym decided) does
+
+-- a host that is as before was stopped before anything was written
+stops_before : (v : Verdict) (old new : HostState) (before behind : List DeviceState) → new ≡ old → Stops v old new before behind
+stops_before LacksFile old new before behind same = same
+stops_before (Refuses r) old new before behind same = inl same
+stops_before (Runs run) old new before behind same = inl same
+
+-- a refusal that was told, or that was stopped on the way
+pub refuse_does :
+    (r : Refusal) (old new : HostState) (before behind : List DeviceState) (result : Result Status Stop) → IfOk result (λ answer. answer ≡ status_of r)
+    → OnOk result (new ≡ written (output_only (line_of r)) old) → OnErr result (IsCut (output_only (line_of r)) old new)
+    → EndsOrStops (Refuses r) old new before behind result
+refuse_does r old new before behind (Ok answer) is whole cut = (is, whole)
+refuse_does r old new before behind (Err stop) is whole cut = cut
+
+-- what came to its end, of a command inside, is the outcome
+pub ends_outcome :
+    (v : Verdict) (old new : HostState) (before behind : List DeviceState) (answer : Status) → IsRunStatus answer → Ends v old new before behind answer
+    → Outcome v old new before behind answer
+ends_outcome v old new before behind status.Done is ends = ends
+ends_outcome v old new before behind (status.Plan reason) is ends = ends
+ends_outcome v old new before behind (status.Bench need have) is ends = ends
+ends_outcome v old new before behind (status.Capture reason place) is ends = ends
+ends_outcome v old new before behind status.NotBuilt is ends = ends
+ends_outcome v old new before behind status.Usage is ends = absurd is
+ends_outcome v old new before behind status.Fault is ends = absurd is
+ends_outcome v old new before behind status.NoMemory is ends = absurd is
+
+-- and so is what was stopped
+pub stops_outcome :
+    (v : Verdict) (old new : HostState) (before behind : List DeviceState) (stop : Stop) → Stops v old new before behind → Outcome v old new before behind (status_of_stop stop)
+stops_outcome v old new before behind stops.Fault left = left
+stops_outcome v old new before behind stops.NoMemory left = left
 
 -- a refusal of a file is no Usage
 pub run_status : (r : Refusal) → r ≢ refusal.Usage → IsRunStatus (status_of r)

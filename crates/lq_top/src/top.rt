@@ -1,11 +1,13 @@
 //! The top call.
-ghost use Rattle.std.specs.Prelude.{◌≡◌, IfOk, OnOk, OnErr, IfSome, map, drop, vec_len, true};
+ghost use Rattle.std.specs.Prelude.{◌≡◌, ◌≢◌, Some, IfOk, OnOk, OnErr, IfSome, map, drop, vec_len, true};
 ghost use Rattle.lq_host.specs.Host.{Rose};
 ghost use Rattle.lq_model.specs.Plan.{unit_count};
 ghost use Rattle.lq_top.specs.Command.{command_of, run_words, words_of};
 ghost use Rattle.lq_top.specs.Decision.{IsRunnable, Refuses, Runs, max_units, units_of, verdict_of, verdict_of_run};
+ghost use Rattle.lq_top.specs.Fates.{identities_of};
 ghost use Rattle.lq_top.specs.Headline.{HasRun, run_of};
-ghost use Rattle.lq_top.specs.Outcome.{Ends, EndsOrStops, IsAnswerOf, IsRunStatus, Outcome, Stops, TellsUsageFor, refuses};
+ghost use Rattle.lq_top.specs.Names.{MayDo, MayRun, MayWrite};
+ghost use Rattle.lq_top.specs.Outcome.{Ends, EndsOrStops, EndsOrStopsOfSome, OutcomeOfSome, IsAnswerOf, IsRunStatus, Outcome, Stops, TellsUsageFor, refuses};
 ghost use Rattle.lq_top.specs.Refusal.{line_of, status_of};
 ghost use Rattle.lq_top.specs.Stop.{StopsFor};
 ghost use Rattle.lq_top.specs.Written.{IsCut, output_only, written};
@@ -23,7 +25,8 @@ use crate::stop::Stop;
 use lq_device::TxDevice;
 use lq_host::Host;
 use lq_model::NoMemory;
-use lq_pcap::Capture;
+use lq_pcap::Frames as _;
+use lq_pcapng::CaptureFile;
 use lq_plan::{Plan, infos};
 use std::alloc::Global;
 use std::marker::Sync;
@@ -51,8 +54,9 @@ fn run_capture<H: Host, G: Gate, D: TxDevice>(
     gate: &G,
     out: &str,
     plan: &Plan,
-    capture: &Capture,
+    capture: &CaptureFile,
 ) -> Result<Status, Stop>
+    requires may { MayWrite H.may_create out.now max_units }
     requires runnable { IsRunnable (vec_len bench.old) plan.now }
     ensures answer { IfOk result (λ answer. answer ≡ Status.Done) }
     ensures ok { OnOk result (HasRun (run_of out.now plan.now capture.now)
@@ -61,6 +65,7 @@ fn run_capture<H: Host, G: Gate, D: TxDevice>(
         (H.state host.old) (H.state host.new) (map D.state bench.old.items) (map D.state bench.new.items)) }
     ensures others { drop (unit_count plan.now) bench.new.items ≡ drop (unit_count plan.now) bench.old.items }
     ensures len { vec_len bench.new ≡ vec_len bench.old }
+    ensures boxes { identities_of (map D.state bench.new.items) ≡ identities_of (map D.state bench.old.items) }
     ensures handles { (H.state host.new).handles ≡ (H.state host.old).handles }
     ensures cause { StopsFor (H.fault_count host.old) (H.fault_count host.new) result }
 {
@@ -80,9 +85,12 @@ fn run_command<H: Host, G: Gate, D: TxDevice>(
     gate: &G,
     words: &Run<'_>,
 ) -> Result<Status, Stop>
+    requires { MayRun H.may_open H.may_create (run_words words.now) }
     ensures does { IfSome (H.state host.old).told (λ c.
         EndsOrStops (verdict_of_run (run_words words.now) c.files (vec_len bench.old))
         (H.state host.old) (H.state host.new) (map D.state bench.old.items) (map D.state bench.new.items) result) }
+    ensures some { EndsOrStopsOfSome (Some (run_words words.now)) (vec_len bench.old)
+        (H.state host.old) (H.state host.new) (map D.state bench.old.items) (map D.state bench.new.items) result }
     ensures answer { IfOk result IsRunStatus }
     ensures others { IfSome (H.state host.old).told (λ c.
         let units = units_of (verdict_of_run (run_words words.now) c.files (vec_len bench.old)) in
@@ -91,6 +99,7 @@ fn run_command<H: Host, G: Gate, D: TxDevice>(
     ensures refused { IfOk result (λ answer.
         refuses answer ≡ true → bench.new.items ≡ bench.old.items) }
     ensures len { vec_len bench.new ≡ vec_len bench.old }
+    ensures boxes { identities_of (map D.state bench.new.items) ≡ identities_of (map D.state bench.old.items) }
     ensures handles { (H.state host.new).handles ≡ (H.state host.old).handles }
     ensures cause { StopsFor (H.fault_count host.old) (H.fault_count host.new) result }
 {
@@ -123,25 +132,34 @@ pub fn lqtx<R: Threads + Wait + Sync, H: Host, G: Gate, D: TxDevice>(
     bench: &mut Vec<D>,
     gate: &G,
 ) -> Status
+    // Only the files that the words name are opened, and only the outputs are created.
+    requires { MayDo H.may_open H.may_create (command_of (words_of words.now)) }
+
     // What the words, the files and the bench decide is answered and left, the headline for a run that is done; after a
-    // fault or want of memory, a part of what was to be written.
+    // fault or want of memory, a part of what was to be written. Where the host doesn't tell what its files hold, that is
+    // so of some bytes of theirs.
     ensures outcome { IfSome (H.state host.old).told (λ c.
         Outcome (verdict_of (words_of words.now) c.files (vec_len bench.old))
         (H.state host.old) (H.state host.new) (map D.state bench.old.items) (map D.state bench.new.items) result) }
 
-    // The causes: Usage, also where the host tells nothing; Fault; and what comes where neither a fault nor want of memory
-    // does.
+    ensures some { OutcomeOfSome (command_of (words_of words.now)) (vec_len bench.old)
+        (H.state host.old) (H.state host.new) (map D.state bench.old.items) (map D.state bench.new.items) result }
+
+    // The causes: Usage, also where the host tells nothing; Fault exactly where a call of the host failed; and what comes
+    // where neither a fault nor want of memory does.
     ensures usage { TellsUsageFor (command_of (words_of words.now)) result }
     ensures fault { result ≡ Status.Fault → Rose (H.fault_count host.old) (H.fault_count host.new) }
+    ensures calm { result ≢ Status.Fault → H.fault_count host.new ≡ H.fault_count host.old }
     ensures complete { IfSome (H.state host.old).told (λ c.
         IsAnswerOf (verdict_of (words_of words.now) c.files (vec_len bench.old)) result) }
 
     // No handle is left open, and none is closed.
     ensures handles { (H.state host.new).handles ≡ (H.state host.old).handles }
 
-    // The boxes of the bench: none gets lost, and those that aren't units of a plan that is run are as before, as are all
+    // The boxes of the bench: none gets lost, each is in its place, and those that aren't units of a plan that is run are as before, as are all
     // of them at each refusal; also where the host tells nothing, those beyond the units that a plan may have.
     ensures len { vec_len bench.new ≡ vec_len bench.old }
+    ensures boxes { identities_of (map D.state bench.new.items) ≡ identities_of (map D.state bench.old.items) }
     ensures others { IfSome (H.state host.old).told (λ c.
         let units = units_of (verdict_of (words_of words.now) c.files (vec_len bench.old)) in
         drop units bench.new.items ≡ drop units bench.old.items) }

@@ -1,3 +1,4 @@
+//! Texts that schedules leave, and the first line of each that fails.
 use crate::{TraceReason, TraceRefusal, trace};
 
 /// The wake comes between the holder's look at the stop word and its setting of DRAINING.
