@@ -62,10 +62,12 @@ fn is_passed_while_the_packet_is_still_to_come(rt: HostRuntime) -> Result<(), Fa
         accepted: &accepted,
         wrong: AtomicU64::new(0),
     };
-    let mut bench = vec![in alloc; Counted {
-        device: BenchDevice::new(alloc),
-        accepted: &accepted,
-    }]?;
+    let mut bench = vec![in alloc;
+        Counted {
+            device: BenchDevice::new(alloc),
+            accepted: &accepted,
+        },
+    ]?;
     let status = lqtx(&rt, alloc, &RUN, &mut host, &mut bench, &gate);
     assert_eq!(rt; status, Status::Done);
     assert_eq!(rt; accepted.load(Ordering::SeqCst), 3);
