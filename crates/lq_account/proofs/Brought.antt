@@ -6,13 +6,15 @@ use Rattle.lq_model.specs.Legal.{brought, brought_by, IsNew, MayCome, IsInTurn, 
 use Rattle.lq_model.specs.Plan.{Plan, owner_in, station_in}
 use Rattle.lq_model.specs.declared.fate.Fate.{Fate}
 use Rattle.lq_model.specs.declared.fate.Info.{Info}
+use Rattle.lq_account.specs.Places.{InBand, AreBrought}
 use Rattle.lq_account.specs.Progress.{start_of}
 use Rattle.lq_account.proofs.Lists.{none-in, here-in, drop-in, first-in, mapped-before, mapped-now, mapped-cases}
-use Rattle.lq_account.proofs.Changes.{Joins, ComesToHand, ComesToSlot, Gives, InBand, held-cases, line-cases, hand-cases, slot-cases, fate-cases}
+use Rattle.lq_account.proofs.Changes.{Joins, ComesToHand, ComesToSlot, Gives, held-cases, line-cases, hand-cases, slot-cases, fate-cases}
 use Rattle.lq_account.proofs.Changes.Joins.{joins}
 use Rattle.lq_account.proofs.Changes.ComesToHand.{taken, picked, direct}
 use Rattle.lq_account.proofs.Changes.ComesToSlot.{laid_back}
 use Rattle.lq_account.proofs.Changes.Gives.{gives_sent, gives_full, gives_refused, gives_shrunk, gives_purged}
+use Rattle.lq_account.proofs.Legal.{legal-before}
 
 -- WHAT WAS BROUGHT
 
@@ -41,14 +43,6 @@ new-packet infos station past a (Direct m) n may now = subst (IsNew infos statio
 new-packet infos station past a e n may now = absurd cc
 
 -- THE SENTENCE
-
--- what has a place or a fate was brought, and what was brought is of the station
-pub record AreBrought (infos : List Info) (station : ℕ) (past : List Event) (a : Account) : Type 0 where
-  pub packets : (n : ℕ) → Contains (brought_by past) n → (n < length infos) × (station_in infos n ≡ station)
-  pub lines : (b n : ℕ) → Contains (a.bands b).line n → Contains (brought_by past) n
-  pub slot : (n : ℕ) → a.slot ≡ Some n → Contains (brought_by past) n
-  pub hand : (n : ℕ) → a.hand ≡ Some n → Contains (brought_by past) n
-  pub fates : (n : ℕ) (f : Fate) → a.fates n ≡ Some f → Contains (brought_by past) n
 
 pub held-brought : {infos : List Info} {station : ℕ} {past : List Event} {a : Account} → AreBrought infos station past a → (b n : ℕ) → Contains (held_in a b) n → Contains (brought_by past) n
 held-brought {a = a} h b n held = h.lines b n (drop-in (a.bands b).taken (a.bands b).line n held)
@@ -96,7 +90,7 @@ pub are-brought : (plan : Plan) (infos : List Info) (station : ℕ) (past : List
     → AreBrought infos station past (after_all (start_of plan station) past)
 are-brought plan infos station [] legal = brought-start infos station _ station 1
 are-brought plan infos station (e ∷ past) legal =
-    brought-step infos station past (after_all (start_of plan station) past) (are-brought plan infos station past legal.0) e legal.1.may_come
+    brought-step infos station past (after_all (start_of plan station) past) (are-brought plan infos station past (legal-before legal)) e legal.comes.1.0
 
 -- a packet that was not brought has no fate and no place
 pub only_brought : (plan : Plan) (infos : List Info) (station : ℕ) (past : List Event) (a : Account) → IsLegal plan infos station (start_of plan station) past

@@ -10,6 +10,7 @@ use Rattle.lq_model.specs.declared.fate.Cause.{Cause}
 use Rattle.lq_model.specs.declared.fate.Fate.{Fate}
 use Rattle.lq_model.specs.declared.fate.Fate.TheVariants as fate
 use Rattle.lq_account.proofs.Lists.{none-in, one-in, here-in, take-in, drop-in, at-cases, fates-cases, drop-push-in, get-push-cases, get-push-old, get-push-new}
+use Rattle.lq_account.specs.Places.{InBand}
 
 -- WHAT COMES WHERE
 
@@ -58,12 +59,6 @@ band-held a b n below h = Contains-append_right (option_to_list a.slot) _ n (thr
     (λ h. Contains-append_left (held_in a 0) _ n h)
     (λ h. Contains-append_right (held_in a 0) _ n (Contains-append_left (held_in a 1) _ n h))
     (λ h. Contains-append_right (held_in a 0) _ n (Contains-append_right (held_in a 1) _ n h)) h)
-
--- the packet stands in one of the three bands
-pub record InBand (a : Account) (n : ℕ) : Type 0 where
-  pub band : ℕ
-  pub below : band < 3
-  pub holds : Contains (held_in a band) n
 
 pub three-in : (x y z : List ℕ) (n : ℕ) → Contains (x ++ (y ++ z)) n → Contains x n ⊎ (Contains y n ⊎ Contains z n)
 three-in x y z n h = elim (Contains-append_cases x (y ++ z) n h) [ inl p ↦ inl p | inr rest ↦ inr (Contains-append_cases y z n rest) ]

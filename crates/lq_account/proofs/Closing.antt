@@ -2,7 +2,7 @@
 use Rattle.std.proofs.Common.{◌≡◌, ℕ, ◌<◌, List, [], ◌∷◌, ◌++◌, length, Some, None, slice_get, get_or, sym, subst, ◌∙◌, arith}
 use Rattle.std.proofs.lemmas.Option.{slice_get-get_or}
 use Rattle.lq_model.specs.Account.{Account, Event, Swap, held}
-use Rattle.lq_model.specs.Legal.{IsLegal}
+use Rattle.lq_model.specs.Legal.{ArePlanned}
 use Rattle.lq_model.specs.Plan.{Plan, station_in}
 use Rattle.lq_model.specs.declared.fate.Fate.{Fate}
 use Rattle.lq_model.specs.declared.fate.Fate.TheVariants.{Full}
@@ -12,10 +12,10 @@ use Rattle.lq_account.specs.Progress.{IsAt, start_of}
 use Rattle.lq_account.proofs.NoEvents.{no_event}
 
 -- no device is exchanged
-no-swap : (plan : Plan) (infos : List Info) (station : ℕ) (start : Account) (later before : List Event) (unit : ℕ)
-    → plan.events ≡ [] → IsLegal plan infos station start (later ++ Swap unit ∷ before) → ⊥
-no-swap plan infos station start [] before unit none (legal, next) = no_event plan station _ _ none next.planned.2.1
-no-swap plan infos station start (event ∷ later) before unit none (legal, next) = no-swap plan infos station start later before unit none legal
+no-swap : (plan : Plan) (station : ℕ) (start : Account) (later before : List Event) (unit : ℕ)
+    → plan.events ≡ [] → ArePlanned plan station start (later ++ Swap unit ∷ before) → ⊥
+no-swap plan station start [] before unit none (planned, next) = no_event plan station _ _ none next.2.1
+no-swap plan station start (event ∷ later) before unit none (planned, next) = no-swap plan station start later before unit none planned
 
 have-all-come : (plan : Plan) (station : ℕ) (past : List Event) → plan.events ≡ [] → HaveAllCome plan station past
 have-all-come plan station past none = record {
@@ -35,7 +35,7 @@ is_closed {plan = plan} {infos = infos} {station = station} {a = a} fates none h
   nothing_held = nothing;
   hand_empty = hand;
   events = have-all-come plan station h.past none;
-  no_swap_behind_hang = λ later before old new is in_it. no-swap plan infos station _ later before new none (subst (IsLegal plan infos station (start_of plan station)) is h.legal);
+  no_swap_behind_hang = λ later before old new is in_it. no-swap plan station _ later before new none (subst (ArePlanned plan station (start_of plan station)) is h.legal.planned);
   decided = decided;
 }
   where

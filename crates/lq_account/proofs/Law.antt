@@ -3,23 +3,25 @@ use Rattle.std.proofs.Common.{◌≡◌, ℕ, ◌<◌, List, [], ◌∷◌, ◌�
 use Rattle.std.proofs.lemmas.Bool.{cases_order}
 use Rattle.std.proofs.lemmas.Option.{same_Some}
 use Rattle.lq_model.specs.Account.{Account, Event, after, after_all}
-use Rattle.lq_model.specs.Legal.{IsLegal, IsLegalNext}
+use Rattle.lq_model.specs.Legal.{IsLegal}
 use Rattle.lq_model.specs.Plan.{Plan, owner_in, station_in, band_in}
 use Rattle.lq_model.specs.Settled.{IsFateAt, IsUnitOf}
 use Rattle.lq_model.specs.declared.fate.Cause.TheVariants as cause
 use Rattle.lq_model.specs.declared.fate.Fate.{Fate}
 use Rattle.lq_model.specs.declared.fate.Fate.TheVariants as fate
 use Rattle.lq_model.specs.declared.fate.Info.{Info}
+use Rattle.lq_account.specs.Places.{AreBrought, IsInOrder, Undecided}
 use Rattle.lq_account.specs.Accounts.{IsClosed, IsSettledStation}
 use Rattle.lq_account.specs.Progress.{start_of, len_of}
-use Rattle.lq_account.proofs.Brought.{AreBrought, brought-start, brought-step}
-use Rattle.lq_account.proofs.Order.{IsInOrder, order-start, order-step}
-use Rattle.lq_account.proofs.Waiting.{Undecided, undecided-start, undecided-step}
+use Rattle.lq_account.proofs.Brought.{brought-start, brought-step}
+use Rattle.lq_account.proofs.Order.{order-start, order-step}
+use Rattle.lq_account.proofs.Waiting.{undecided-start, undecided-step}
 use Rattle.lq_account.proofs.Used.{AreUsed, used-start, used-step}
 use Rattle.lq_account.proofs.SentBy.{AreSent, IsEarlier, sent-start, sent-step}
 use Rattle.lq_account.proofs.Saw.{AreSeen, seen-start, seen-step, full-fate}
 use Rattle.lq_account.proofs.Shrank.{AreShrunk, shrunk-start, shrunk-step, shrinking}
 use Rattle.lq_account.proofs.Causes.{AreCaused, caused-start, caused-step, last-unit}
+use Rattle.lq_account.proofs.Legal.{IsLegalNext, legal-before, legal-next}
 
 -- what holds of an account that a legal list of events leaves
 pub record IsSound (plan : Plan) (infos : List Info) (station : ℕ) (past : List Event) (a : Account) : Type 0 where
@@ -58,7 +60,7 @@ sound plan infos station [] inside legal = record {
   caused = caused-start plan station (len_of plan station) station 1;
 }
 sound plan infos station (e ∷ past) inside legal =
-    sound-step plan infos station past (after_all (start_of plan station) past) e inside (sound plan infos station past inside legal.0) legal.1
+    sound-step plan infos station past (after_all (start_of plan station) past) e inside (sound plan infos station past inside (legal-before legal)) (legal-next legal)
 
 -- what a unit sent are packets of the station, and the unit is one of the station
 pub sent_of_station : (plan : Plan) (infos : List Info) (station : ℕ) (past : List Event) (a : Account) → IsSound plan infos station past a

@@ -10,6 +10,7 @@ use Rattle.lq_account.specs.OneQueue.{AreOfOneQueue, MeetsOneStopValue, stop_of}
 use Rattle.lq_account.specs.Progress.{start_of}
 use Rattle.lq_account.proofs.OneQueue.{one_hung, one_open}
 use Rattle.lq_account.proofs.Steps.{sent_last}
+use Rattle.lq_account.proofs.Legal.{legal-before}
 
 -- THE ONE STOP VALUE
 
@@ -49,7 +50,7 @@ module _ (infos : List Info) (station : ℕ) (past : List Event) (a : Account) (
 has-one-stop : (plan : Plan) (infos : List Info) (station : ℕ) (past : List Event) → IsLegal plan infos station (start_of plan station) past → HasOneStop (after_all (start_of plan station) past)
 has-one-stop plan infos station [] legal = record { stop = 0; stops = refl; known = omega arith }
 has-one-stop plan infos station (e ∷ past) legal =
-    one-stop-step infos station past (after_all (start_of plan station) past) (has-one-stop plan infos station past legal.0) e legal.1.may_come
+    one-stop-step infos station past (after_all (start_of plan station) past) (has-one-stop plan infos station past (legal-before legal)) e legal.comes.1.0
 
 -- BEHIND A SEND
 
@@ -57,13 +58,13 @@ has-one-stop plan infos station (e ∷ past) legal =
 queue-sent-on : (plan : Plan) (infos : List Info) (station : ℕ) (start : Account) (past : List Event) → AreOfOneQueue infos → IsLegal plan infos station start past
     → is_behind_send past ≡ true → IsQueueSentOn infos (after_all start past) 0
 queue-sent-on plan infos station start [] one legal behind = cc
-queue-sent-on plan infos station start (Send ∷ past) one legal behind = sent_last infos (after_all start past) legal.1.may_come.0 legal.1.may_come.1 (one legal.1.may_come.0)
-queue-sent-on plan infos station start (Join n band ∷ past) one legal behind = queue-sent-on plan infos station start past one legal.0 behind
-queue-sent-on plan infos station start (Full n seen ∷ past) one legal behind = queue-sent-on plan infos station start past one legal.0 behind
-queue-sent-on plan infos station start (Refuse n event ∷ past) one legal behind = queue-sent-on plan infos station start past one legal.0 behind
-queue-sent-on plan infos station start (Wake queue ∷ past) one legal behind = queue-sent-on plan infos station start past one legal.0 behind
-queue-sent-on plan infos station start (Down event ∷ past) one legal behind = queue-sent-on plan infos station start past one legal.0 behind
-queue-sent-on plan infos station start (Up ∷ past) one legal behind = queue-sent-on plan infos station start past one legal.0 behind
+queue-sent-on plan infos station start (Send ∷ past) one legal behind = sent_last infos (after_all start past) legal.comes.1.0.0 legal.comes.1.0.1 (one legal.comes.1.0.0)
+queue-sent-on plan infos station start (Join n band ∷ past) one legal behind = queue-sent-on plan infos station start past one (legal-before legal) behind
+queue-sent-on plan infos station start (Full n seen ∷ past) one legal behind = queue-sent-on plan infos station start past one (legal-before legal) behind
+queue-sent-on plan infos station start (Refuse n event ∷ past) one legal behind = queue-sent-on plan infos station start past one (legal-before legal) behind
+queue-sent-on plan infos station start (Wake queue ∷ past) one legal behind = queue-sent-on plan infos station start past one (legal-before legal) behind
+queue-sent-on plan infos station start (Down event ∷ past) one legal behind = queue-sent-on plan infos station start past one (legal-before legal) behind
+queue-sent-on plan infos station start (Up ∷ past) one legal behind = queue-sent-on plan infos station start past one (legal-before legal) behind
 queue-sent-on plan infos station start (Empty band ∷ past) one legal behind = cc
 queue-sent-on plan infos station start (Take band ∷ past) one legal behind = cc
 queue-sent-on plan infos station start (Pick ∷ past) one legal behind = cc

@@ -6,30 +6,18 @@ use Rattle.std.proofs.lemmas.List.Quantifiers.{all_pairs_push}
 use Rattle.lq_model.specs.Band.{Band, held_of, taken_by, joined}
 use Rattle.lq_model.specs.Account.{Account, Event, Join, Take, Pick, Direct, Send, Back, Resize, Purge, held_in, sent_from_hand, new_account, after}
 use Rattle.lq_model.specs.Legal.{brought, brought_by, MayCome, IsInTurn}
-use Rattle.lq_model.specs.Plan.{owner_in, band_in}
+use Rattle.lq_model.specs.Plan.{band_in}
 use Rattle.lq_model.specs.declared.fate.Info.{Info}
+use Rattle.lq_account.specs.Places.{AreBrought, IsInOrder, Precedes}
 use Rattle.lq_account.proofs.Lists.{none-in, drop-in, first-in, first-taken, pairs-drop, pairs-take, pairs-apart, at-cases}
 use Rattle.lq_account.proofs.Changes.{Joins, ComesToHand, ComesToSlot, band-held, line-cases, holds-cases, hand-cases, slot-cases}
 use Rattle.lq_account.proofs.Changes.Joins.{joins}
 use Rattle.lq_account.proofs.Changes.ComesToHand.{taken, picked, direct}
 use Rattle.lq_account.proofs.Changes.ComesToSlot.{laid_back}
-use Rattle.lq_account.proofs.Brought.{AreBrought, above-before}
-
--- of one owner and band the first packet is the lower one
-abbrev pub Precedes : List Info → ℕ → ℕ → Type 0
-Precedes infos m n = owner_in infos m ≡ owner_in infos n → band_in infos m ≡ band_in infos n → m < n
+use Rattle.lq_account.proofs.Brought.{above-before}
 
 pub never-itself : (infos : List Info) (n : ℕ) → Precedes infos n n → ⊥
 never-itself infos n h = let below : n < n = h refl refl in omega arith
-
-pub record IsInOrder (infos : List Info) (a : Account) : Type 0 where
-  -- a line has packets of its band alone, in each owner's order
-  pub bands : (b n : ℕ) → Contains (a.bands b).line n → band_in infos n ≡ b
-  pub lines : (b : ℕ) → AllPairs (Precedes infos) (a.bands b).line
-  -- one of the hand and the requeue slot is empty, and what is there came before what the bands hold
-  pub one : (m n : ℕ) → a.hand ≡ Some m → a.slot ≡ Some n → ⊥
-  pub hand_ahead : (n : ℕ) → a.hand ≡ Some n → (b m : ℕ) → b < 3 → Contains (held_in a b) m → Precedes infos n m
-  pub slot_ahead : (n : ℕ) → a.slot ≡ Some n → (b m : ℕ) → b < 3 → Contains (held_in a b) m → Precedes infos n m
 
 pub order-start : (infos : List Info) (len unit queues : ℕ) → IsInOrder infos (new_account len unit queues)
 order-start infos len unit queues = record {

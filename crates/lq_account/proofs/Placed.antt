@@ -3,7 +3,7 @@ use Rattle.std.proofs.Common.{◌≡◌, ℕ, zero, suc, ◌<◌, ◌≤◌, Lis
 use Rattle.std.proofs.lemmas.Bool.{cases_eq}
 use Rattle.std.proofs.lemmas.List.Elements.{Contains-append_left, Contains-append_right, Contains-append_cases, Contains-push}
 use Rattle.std.proofs.lemmas.Option.{same_Some}
-use Rattle.lq_model.specs.Band.{Band, held_of}
+use Rattle.lq_model.specs.Band.{held_of}
 use Rattle.lq_model.specs.Account.{Account, Event, Fates, Join, Full, Refuse, Empty, Take, Pick, Direct, Send, Back, Stop, Wake, Resize, Down, Purge, Swap, Up, held, held_in, dropped_in, after, after_all, sent_from_hand, with_at, with_fates}
 use Rattle.lq_model.specs.Legal.{IsLegal, MayCome, brought, brought_by}
 use Rattle.lq_model.specs.Plan.{Plan, station_in, band_in}
@@ -15,10 +15,8 @@ use Rattle.lq_account.proofs.Brought.{brought-cases}
 use Rattle.lq_account.proofs.Changes.{slot-held, band-held, held-cases}
 use Rattle.lq_account.proofs.Lists.{none-in, cons-in, drop-in, at-cases, fates-cases}
 use Rattle.lq_account.proofs.Purges.{with_fates_in}
-
--- the packet has a fate, is held or is in hand
-abbrev pub IsPlaced : Account → ℕ → Type 0
-IsPlaced a m = ((fate : Fate) × (a.fates m ≡ Some fate)) ⊎ (Contains (held a) m ⊎ (a.hand ≡ Some m))
+use Rattle.lq_account.specs.Places.{IsPlaced, IsWithin}
+use Rattle.lq_account.proofs.Legal.{legal-before}
 
 -- FATES AND LISTS
 
@@ -49,10 +47,6 @@ none-some : {X : Type 0} (o : Option X) (x : X) → o ≡ None → o ≡ Some x 
 none-some o x none some = cc
 
 -- BANDS
-
--- no more was taken of a band than joined it
-abbrev IsWithin : Band → Type 0
-IsWithin band = band.taken ≤ length band.line
 
 pub within-step : (infos : List Info) (station : ℕ) (past : List Event) (a : Account) (e : Event) → MayCome infos station past a e → ((b : ℕ) → IsWithin (a.bands b)) → (b : ℕ) → IsWithin ((after e a).bands b)
 within-step infos station past a (Join n band) may h b =
@@ -189,14 +183,14 @@ all-within : (plan : Plan) (infos : List Info) (station : ℕ) (past : List Even
     → (b : ℕ) → IsWithin ((after_all (start_of plan station) past).bands b)
 all-within plan infos station [] legal b = omega arith
 all-within plan infos station (e ∷ past) legal b =
-    within-step infos station past (after_all (start_of plan station) past) e legal.1.may_come (all-within plan infos station past legal.0) b
+    within-step infos station past (after_all (start_of plan station) past) e legal.comes.1.0 (all-within plan infos station past (legal-before legal)) b
 
 all-placed : (plan : Plan) (infos : List Info) (station : ℕ) (past : List Event) → ((n : ℕ) → band_in infos n < 3) → IsLegal plan infos station (start_of plan station) past
     → (m : ℕ) → Contains (brought_by past) m → IsPlaced (after_all (start_of plan station) past) m
 all-placed plan infos station [] three legal m came = absurd (none-in [] m refl came)
 all-placed plan infos station (e ∷ past) three legal m came = elim (brought-cases e past m came) [
-  | inl before ↦ stays infos station past (after_all (start_of plan station) past) m e legal.1.may_come (all-placed plan infos station past three legal.0 m before)
-  | inr now ↦ comes infos station past (after_all (start_of plan station) past) m e legal.1.may_come (all-within plan infos station past legal.0) three now
+  | inl before ↦ stays infos station past (after_all (start_of plan station) past) m e legal.comes.1.0 (all-placed plan infos station past three (legal-before legal) m before)
+  | inr now ↦ comes infos station past (after_all (start_of plan station) past) m e legal.comes.1.0 (all-within plan infos station past (legal-before legal)) three now
 ]
 
 -- each packet of the station below n has a fate, is held or is in hand

@@ -11,13 +11,14 @@ use Rattle.lq_model.specs.declared.fate.Fate.{Fate}
 use Rattle.lq_model.specs.declared.fate.Fate.TheVariants as fate
 use Rattle.lq_model.specs.declared.fate.Info.{Info}
 use Rattle.lq_model.specs.declared.plan.StationPlan.{StationPlan}
+use Rattle.lq_account.specs.Places.{AreBrought, IsInOrder, Precedes}
 use Rattle.lq_account.specs.Progress.{len_of}
 use Rattle.lq_account.proofs.Lists.{none-in, here-in, drop-in, get-in}
 use Rattle.lq_account.proofs.Changes.{Joins, Gives, line-cases, fate-cases, len-cases}
 use Rattle.lq_account.proofs.Changes.Joins.{joins}
 use Rattle.lq_account.proofs.Changes.Gives.{gives_sent, gives_full, gives_refused, gives_shrunk, gives_purged}
-use Rattle.lq_account.proofs.Brought.{AreBrought, brought-before, not-before}
-use Rattle.lq_account.proofs.Order.{Precedes, IsInOrder, never-itself, held-pairs}
+use Rattle.lq_account.proofs.Brought.{brought-before, not-before}
+use Rattle.lq_account.proofs.Order.{never-itself, held-pairs}
 use Rattle.lq_account.proofs.Counted.{WasLetIn, no-fewer}
 
 -- the packet was brought, and is neither dropped as full nor refused

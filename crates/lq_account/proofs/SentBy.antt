@@ -6,13 +6,13 @@ use Rattle.lq_model.specs.Legal.{brought, MayCome, IsInTurn}
 use Rattle.lq_model.specs.Plan.{Plan}
 use Rattle.lq_model.specs.declared.fate.Fate.TheVariants.{Sent}
 use Rattle.lq_model.specs.declared.fate.Info.{Info}
+use Rattle.lq_account.specs.Places.{AreBrought, IsInOrder, Precedes, Undecided, Waits}
 use Rattle.lq_account.proofs.Changes.{Sends, Gives, fate-cases, sent-cases, sent-stays, sent-is}
 use Rattle.lq_account.proofs.Changes.Sends.{sends}
 use Rattle.lq_account.proofs.Changes.Gives.{gives_sent}
-use Rattle.lq_account.proofs.Brought.{AreBrought, above-before}
-use Rattle.lq_account.proofs.Order.{Precedes, IsInOrder}
-use Rattle.lq_account.proofs.Waiting.{Waits, Undecided, waits-cases, fate-stays}
-use Rattle.lq_account.proofs.Waiting.Waits.{in_hand, in_slot, in_band}
+use Rattle.lq_account.proofs.Brought.{above-before}
+use Rattle.lq_account.proofs.Waiting.{waits-cases, fate-stays}
+use Rattle.lq_account.specs.Places.Waits.{in_hand, in_slot, in_band}
 use Rattle.lq_account.proofs.Used.{AreUsed}
 
 -- by an earlier unit, or by the same with a lower serial

@@ -6,7 +6,7 @@ use Rattle.std.proofs.lemmas.Bool.{cases_lt, cases_eq}
 use Rattle.lq_model.specs.Band.{MayBeFull}
 use Rattle.lq_model.specs.Account.{Account, Event, Join, Full, Empty, Take, Pick, Direct, Send, Back, Stop, Wake, Purge, held, held_in, is_hung, after, sent_from_hand}
 use Rattle.lq_model.specs.Alone.{answered, next_taken, hung_up_to}
-use Rattle.lq_model.specs.Legal.{IsLegalNext, IsQueueSentOn, MayCome, IsPlanned, IsInTurn, IsNew, MayTake, brought, brought_by, was_empty}
+use Rattle.lq_model.specs.Legal.{IsQueueSentOn, MayCome, IsPlanned, IsInTurn, IsNew, MayTake, brought, brought_by, was_empty}
 use Rattle.lq_model.specs.Plan.{Plan, station_in, band_in, queue_in}
 use Rattle.lq_model.specs.declared.device.Tx.{Tx}
 use Rattle.lq_model.specs.declared.device.Tx.TheVariants.{Sent, SentStop, SentHang, Busy}
@@ -17,6 +17,7 @@ use Rattle.lq_account.proofs.Answers.{with_at_same}
 use Rattle.lq_account.proofs.Brought.{only_brought}
 use Rattle.lq_account.proofs.Lists.{none-in, there-in, cons-in}
 use Rattle.lq_account.proofs.Taken.{IsTurn, picks, takes_0, takes_1, takes_2, turn_of, slot_none}
+use Rattle.lq_account.proofs.Legal.{IsLegalNext, legal-more}
 
 -- ONE MORE EVENT
 
@@ -25,7 +26,7 @@ abbrev more : {plan : Plan} {infos : List Info} {station n : ℕ} {a : Account} 
     → brought event ≡ None → IsLegalNext plan infos station h.past a event → IsAt plan infos station n (after event a)
 more {plan = plan} {infos = infos} {station = station} event h none next = record {
   past = event ∷ h.past;
-  legal = (h.legal, subst (λ b. IsLegalNext plan infos station h.past b event) h.account next);
+  legal = legal-more h.legal (subst (λ b. IsLegalNext plan infos station h.past b event) h.account next);
   account = ap (after event) h.account;
   came = λ m below at. subst (λ o. Contains (cons_option o (brought_by h.past)) m) (sym none) (h.came m below at);
   below = λ m in_it. h.below m (subst (λ o. Contains (cons_option o (brought_by h.past)) m) none in_it);
@@ -48,7 +49,7 @@ abbrev brings : {plan : Plan} {infos : List Info} {station n : ℕ} {a : Account
     → brought event ≡ Some n → MayCome infos station h.past a event → IsPlanned plan station h.past a event → IsAt plan infos station (n + 1) (after event a)
 brings {plan = plan} {infos = infos} {station = station} {n = n} {a = a} event h some may planned = record {
   past = event ∷ h.past;
-  legal = (h.legal, subst (λ b. IsLegalNext plan infos station h.past b event) h.account next);
+  legal = legal-more h.legal (subst (λ b. IsLegalNext plan infos station h.past b event) h.account next);
   account = ap (after event) h.account;
   came = λ m below at. subst (λ o. Contains (cons_option o (brought_by h.past)) m) (sym some) (came-next (brought_by h.past) n m (λ lower. h.came m lower at) below);
   below = λ m in_it. below-next (brought_by h.past) n m (h.below m) (subst (λ o. Contains (cons_option o (brought_by h.past)) m) some in_it);
@@ -71,7 +72,7 @@ new {plan = plan} {infos = infos} {station = station} {n = n} {a = a} within at 
 pub at_start : (plan : Plan) (infos : List Info) (station : ℕ) → IsAt plan infos station 0 (start_of plan station)
 at_start plan infos station = record {
   past = [];
-  legal = tt;
+  legal = record { comes = tt; planned = tt };
   account = refl;
   came = λ m below at. absurd (omega arith);
   below = λ m in_it. absurd (omega arith);

@@ -7,20 +7,16 @@ use Rattle.lq_model.specs.declared.fate.Cause.{Cause}
 use Rattle.lq_model.specs.declared.fate.Fate.{Fate}
 use Rattle.lq_model.specs.declared.fate.Fate.TheVariants as fate
 use Rattle.lq_model.specs.declared.fate.Info.{Info}
+use Rattle.lq_account.specs.Places.{AreBrought, IsInOrder, Precedes, Undecided, Waits}
 use Rattle.lq_account.proofs.Lists.{none-in, take-in, drop-in, first-in, pairs-apart, at-cases, fates-cases}
 use Rattle.lq_account.proofs.Changes.{Joins, ComesToHand, ComesToSlot, Gives, three-in, slot-held, band-held, held-cases, holds-cases, hand-cases, slot-cases, fate-cases}
 use Rattle.lq_account.proofs.Changes.Joins.{joins}
 use Rattle.lq_account.proofs.Changes.ComesToHand.{taken, picked, direct}
 use Rattle.lq_account.proofs.Changes.ComesToSlot.{laid_back}
 use Rattle.lq_account.proofs.Changes.Gives.{gives_sent, gives_full, gives_refused, gives_shrunk, gives_purged}
-use Rattle.lq_account.proofs.Brought.{AreBrought, not-before, held-brought}
-use Rattle.lq_account.proofs.Order.{Precedes, IsInOrder, never-itself, held-band, held-pairs}
-
--- the packet has a place
-pub data Waits (a : Account) (n : ℕ) : Type 0 where
-  in_hand : a.hand ≡ Some n → Waits a n
-  in_slot : a.slot ≡ Some n → Waits a n
-  in_band : (b : ℕ) → b < 3 → Contains (held_in a b) n → Waits a n
+use Rattle.lq_account.proofs.Brought.{not-before, held-brought}
+use Rattle.lq_account.proofs.Order.{never-itself, held-band, held-pairs}
+use Rattle.lq_account.specs.Places.Waits.{in_band, in_hand, in_slot}
 
 pub waits-held : (a : Account) (n : ℕ) → Contains (held a) n → Waits a n
 waits-held a n held = elim (held-cases a n held) [ inl slot ↦ in_slot slot | inr place ↦ in_band place.band place.below place.holds ]
@@ -61,9 +57,6 @@ module _ (infos : List Info) (station : ℕ) (past : List Event) (a : Account) (
   waits-cases n (in_band b below held) = elim (holds-cases e a b n held) [ inl old ↦ inl (in_band b below old) | inr new ↦ inr (joins-brings e b n new) ]
 
 -- NO FATE
-
-abbrev pub Undecided : Account → Type 0
-Undecided a = (n : ℕ) (f : Fate) → Waits a n → a.fates n ≡ Some f → ⊥
 
 pub undecided-start : (len unit queues : ℕ) → Undecided (new_account len unit queues)
 undecided-start len unit queues n f waits fate = cc

@@ -1,7 +1,9 @@
 //! The laws of accounts, each the contract of a function that does nothing.
-ghost use Rattle.std.specs.Prelude.{◌≡◌, ℕ, List, [], ◌<◌, length};
-ghost use Rattle.lq_model.specs.Account.{Account, Event};
-ghost use Rattle.lq_model.specs.Plan.{Plan};
+ghost use Rattle.std.specs.Prelude.{◌≡◌, ℕ, List, [], ◌∷◌, ◌<◌, Contains, filter_map, length};
+ghost use Rattle.lq_model.specs.Account.{Account, Down, Event, Resize, Swap};
+ghost use Rattle.lq_model.specs.Legal.{IsLegal, deactivating, resizing};
+ghost use Rattle.lq_model.specs.Complete.{IsComplete};
+ghost use Rattle.lq_model.specs.Plan.{Plan, station_in};
 ghost use Rattle.lq_model.specs.Settled.{IsInSenderOrder, IsSentList, IsSettled, IsUnitOf, MeetsEvents};
 ghost use Rattle.lq_model.specs.declared.fate.Fate.{Fate};
 ghost use Rattle.lq_model.specs.declared.fate.Info.{Info};
@@ -9,6 +11,7 @@ ghost use Rattle.lq_account.specs.Accounts.{AreSettledStations, IsClosed, IsSett
 
 pub mod one_queue;
 pub mod one_sender;
+pub mod trails;
 
 /// The stations of a plan together: each packet has one fate, each unit's serials are 0 up to the number that it sent,
 /// and each owner's packets of one station and band were sent in ascending number. What the account of a unit's station has
@@ -35,4 +38,23 @@ pub fn fates_meet_no_events()
 pub fn law_of_accounts()
     ensures { (plan : Plan) (infos : List Info) (fates : List Fate) (station : ℕ) (past : List Event) (a : Account)
         → station < length plan.stations → IsClosed plan infos fates station past a → IsSettledStation plan infos fates station a }
+{}
+
+/// Settled fates of packets of the plan's stations are complete: without a deactivation none is refused; where no unit
+/// hangs either none is purged; without a resize to a shorter length none is shrunk; a band that is offered too few packets
+/// to fill its ring drops none as full; and where all of this holds each packet is sent.
+pub fn complete_fates()
+    ensures { (plan : Plan) (infos : List Info) (fates : List Fate) → ((n : ℕ) → n < length infos → station_in infos n < length plan.stations)
+        → IsSettled plan infos fates → IsComplete plan infos fates }
+{}
+
+/// In a legal list each event of the plan comes once: the one that resizes, the one that deactivates, and the exchange of
+/// the device.
+pub fn planned_events_come_once()
+    ensures resizes { (plan : Plan) (infos : List Info) (station : ℕ) (start : Account) (past : List Event) (len event : ℕ)
+        → IsLegal plan infos station start (Resize len event ∷ past) → Contains (filter_map resizing past) event → ⊥ }
+    ensures downs { (plan : Plan) (infos : List Info) (station : ℕ) (start : Account) (past : List Event) (event : ℕ)
+        → IsLegal plan infos station start (Down event ∷ past) → Contains (filter_map deactivating past) event → ⊥ }
+    ensures swaps { (plan : Plan) (infos : List Info) (station : ℕ) (start : Account) (past : List Event) (unit : ℕ)
+        → IsLegal plan infos station start (Swap unit ∷ past) → Contains past (Swap unit) → ⊥ }
 {}

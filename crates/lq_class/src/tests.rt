@@ -1,3 +1,4 @@
+//! Frames of each form, and their classes.
 use super::*;
 
 const ETHERNET: u32 = 1;

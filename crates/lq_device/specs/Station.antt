@@ -9,7 +9,7 @@ pub record StationState : Type 0 where
   -- which of the bench's devices it is
   pub unit : ℕ
   -- the packet in the requeue slot
-  pub side : Option ℕ
+  pub slot : Option ℕ
   -- of each band's ring the slot that is consumed next, and the first slot that isn't emptied yet
   pub heads : List ℕ
   pub tails : List ℕ
@@ -30,20 +30,24 @@ abbrev pub new_station : ℕ → DeviceState → StationState
 new_station unit device = record {
   device = device;
   unit = unit;
-  side = None;
+  slot = None;
   heads = 0 ∷ 0 ∷ 0 ∷ [];
   tails = 0 ∷ 0 ∷ 0 ∷ [];
   last = None;
 }
 
-abbrev pub with_side : StationState → Option ℕ → StationState
-with_side station side = record station { side = side }
+abbrev pub with_slot : StationState → Option ℕ → StationState
+with_slot station slot = record station { slot = slot }
 
 abbrev pub with_ends : StationState → ℕ → ℕ → ℕ → StationState
 with_ends station band head tail =
     record station { heads = slice_set station.heads band head; tails = slice_set station.tails band tail }
 
--- The device answered a packet; all else is as it was.
-pub record Transmits (answer : Tx) (packet : ℕ) (old new : StationState) : Type 0 where
-  pub answers : Answers answer packet old.device new.device
+-- another device in the old one's place, which hasn't answered yet; the requeue slot and the ends stay
+abbrev pub with_device : StationState → ℕ → DeviceState → StationState
+with_device station unit device = record station { device = device; unit = unit; last = None }
+
+-- The device answered a packet that was offered on a queue; all else is as it was.
+pub record Transmits (answer : Tx) (queue packet : ℕ) (old new : StationState) : Type 0 where
+  pub answers : Answers answer queue packet old.device new.device
   pub rest : new ≡ record old { device = new.device; last = Some answer }

@@ -2,6 +2,7 @@
 ghost use Rattle.std.specs.Prelude.{◌≡◌, ◌≤◌, ◌<◌, Some, [], false, OnOk, OnErr};
 ghost use Rattle.lq_model.specs.Device.{IsConfigured, Answers, is_multiple};
 
+use crate::asked::Asked;
 use crate::device::TxDevice;
 use lq_model::{NoMemory, Params, Tx};
 use std::alloc::Global;
@@ -16,6 +17,8 @@ pub struct BenchDevice {
     alloc: Global,
     /// The packets accepted since `configure`, in the order of the calls; its capacity is the room.
     accepted: Vec<u32>,
+    /// The calls of `xmit` since `configure`, for contracts alone.
+    asked: Asked,
     params: Params,
     /// How many answers since `configure` were Busy: at most `params.busy_limit`.
     busies: u32,
@@ -47,6 +50,7 @@ impl BenchDevice {
         BenchDevice {
             alloc,
             accepted: Vec::new(alloc),
+            asked: Asked::nothing(),
             params: PLAIN,
             busies: 0,
             hung: false,
@@ -70,6 +74,7 @@ impl TxDevice for BenchDevice {
         *self = BenchDevice {
             alloc: self.alloc,
             accepted,
+            asked: Asked::nothing(),
             params: *params,
             busies: 0,
             hung: false,
@@ -77,7 +82,8 @@ impl TxDevice for BenchDevice {
         Ok(())
     }
 
-    fn xmit(&mut self, _queue: u32, packet: u32) -> Tx {
+    fn xmit(&mut self, queue: u32, packet: u32) -> Tx {
+        self.asked.push(queue, packet);
         let before = self.accepted.len() as u64;
         let call = before + self.busies as u64 + 1;
         if is_multiple_of(call, self.params.busy_every) && self.busies < self.params.busy_limit {

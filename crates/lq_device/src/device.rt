@@ -7,10 +7,10 @@ use std::marker::Send;
 
 /// A device with one queue, which is handed packets by their numbers.
 pub trait TxDevice: Send + Drop {
-    /// The packets that it has accepted, and what else callers see of it.
+    /// What contracts see of it: which device it is, what it was asked, what it accepted, and more. No code reads it.
     ghost state: { Self → DeviceState };
 
-    /// Begins anew with these parameters: nothing is accepted, and there is room for at least `room` packets.
+    /// Begins anew with these parameters: nothing is asked or accepted, and there is room for at least `room` packets.
     ///
     /// Want of memory is the one refusal, and leaves the device as it was.
     fn configure(&mut self, params: &Params, room: usize) -> Result<(), NoMemory>
@@ -23,7 +23,7 @@ pub trait TxDevice: Send + Drop {
     fn xmit(&mut self, queue: u32, packet: u32) -> Tx
         requires room { 0 < (state self.old).spare }
         requires alive { (state self.old).hung ≡ false }
-        ensures { Answers result packet (state self.old) (state self.new) };
+        ensures { Answers result queue packet (state self.old) (state self.new) };
 
     /// Whether it hangs, as a driver whose transmit timed out does.
     fn hung(&self) -> bool

@@ -4,10 +4,12 @@
 //! `TxDevice::xmit`: the list of accepted packets grows by exactly the packets that were answered as sent.
 #![tactic(auto)]
 
+mod asked;
 mod bench;
 mod device;
 mod station;
 
+pub use asked::Asked;
 pub use bench::BenchDevice;
 pub use device::TxDevice;
 pub use lq_model::{NoMemory, Params, StationPlan, Tx};

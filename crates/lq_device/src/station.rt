@@ -1,10 +1,11 @@
 //! A station's device, with what the holder of its run lock keeps beside it.
 ghost use Rattle.std.specs.Prelude.{◌≡◌, ◌<◌, ◌≤◌, false, [], length, slice_get, slice_index, Some, None, IsNone, ◌↔◌};
-ghost use Rattle.lq_device.specs.Station.{StationState, Transmits, AreEnds, sent_list, new_station, with_side, with_ends};
+ghost use Rattle.lq_device.specs.Station.{StationState, Transmits, AreEnds, sent_list, new_station, with_slot, with_device, with_ends};
 
 use crate::device::TxDevice;
 use lq_model::Tx;
 use std::marker::Model;
+use std::mem::replace;
 
 /// A unit's device, the requeue slot, and the consumer ends of the three bands' rings: what the kernel keeps in a
 /// `Qdisc` and its driver for the holder of the run lock (include/net/sch_generic.h).
@@ -16,7 +17,7 @@ pub struct Station<D: TxDevice> {
     /// How many packets the device has accepted.
     sent: u32,
     /// The packet in the requeue slot.
-    side: Option<u32>,
+    slot: Option<u32>,
     /// For each band the slot that is consumed next.
     heads: [u32; 3],
     /// For each band the first slot that isn't emptied yet: not past the head.
@@ -27,7 +28,7 @@ pub struct Station<D: TxDevice> {
 impl<D: TxDevice> Model for Station<D> {
     ghost Value = { StationState };
 
-    ghost view = { λ s. record { device = D.state s.device; unit = s.unit; side = s.side; heads = s.heads; tails = s.tails; last = s.last } };
+    ghost view = { λ s. record { device = D.state s.device; unit = s.unit; slot = s.slot; heads = s.heads; tails = s.tails; last = s.last } };
 
     ghost invariant = { λ s. (s.sent ≡ length (D.state s.device).accepted) × AreEnds s.heads s.tails };
 }
@@ -44,7 +45,7 @@ impl<D: TxDevice> Station<D> {
             device,
             unit,
             sent: 0,
-            side: None,
+            slot: None,
             heads: [0; 3],
             tails: [0; 3],
             last: None,
@@ -73,27 +74,27 @@ impl<D: TxDevice> Station<D> {
     }
 
     /// The packet in the requeue slot, `gso_skb` and `skb_bad_txq` of a `Qdisc`: `None` exactly where it is empty.
-    pub fn side(&self) -> Option<u32>
-        ensures { result ≡ self.now.side }
+    pub fn slot(&self) -> Option<u32>
+        ensures { result ≡ self.now.slot }
     {
-        self.side
+        self.slot
     }
 
     /// Puts a packet into the requeue slot, which must be empty, as `dev_requeue_skb` of net/sched/sch_generic.c does
     /// with one that the device didn't accept.
-    pub fn set_side(&mut self, n: u32)
-        requires { self.old.side ≡ None }
-        ensures { self.new ≡ with_side self.old (Some n) }
+    pub fn set_slot(&mut self, n: u32)
+        requires { self.old.slot ≡ None }
+        ensures { self.new ≡ with_slot self.old (Some n) }
     {
-        self.side = Some(n);
+        self.slot = Some(n);
     }
 
     /// Takes the packet from the requeue slot: `None` exactly where it is empty.
-    pub fn take_side(&mut self) -> Option<u32>
-        ensures taken { result ≡ self.old.side }
-        ensures empty { self.new ≡ with_side self.old None }
+    pub fn take_slot(&mut self) -> Option<u32>
+        ensures taken { result ≡ self.old.slot }
+        ensures empty { self.new ≡ with_slot self.old None }
     {
-        self.side.take()
+        self.slot.take()
     }
 
     /// The slot of a band's ring that is consumed next, `consumer_head` of a `ptr_ring` (include/linux/ptr_ring.h).
@@ -131,13 +132,13 @@ impl<D: TxDevice> Station<D> {
         self.last
     }
 
-    /// Offers the device a packet, on one of its queues. The caller owes that the device has room and doesn't hang,
+    /// Offers the device a packet, on this one of its queues. The caller owes that the device has room and doesn't hang,
     /// and that the count of what is sent can still rise.
     pub fn xmit(&mut self, queue: u32, n: u32) -> Tx
         requires room { 0 < self.old.device.spare }
         requires alive { self.old.device.hung ≡ false }
         requires countable { length (sent_list self.old) < 4294967295 }
-        ensures { Transmits result n self.old self.new }
+        ensures { Transmits result queue n self.old self.new }
     {
         let answer = self.device.xmit(queue, n);
         self.last = Some(answer);
@@ -148,6 +149,20 @@ impl<D: TxDevice> Station<D> {
         answer
     }
 
+    /// Takes over another unit's device and hands out the old one as it is. The new one must have accepted nothing, and not
+    /// hang. Nothing is sent of it yet and it hasn't answered; the requeue slot and the ends stay.
+    pub fn change(&mut self, unit: u32, device: D) -> D
+        requires fresh { (D.state device).accepted ≡ [] }
+        requires alive { (D.state device).hung ≡ false }
+        ensures old { D.state result ≡ self.old.device }
+        ensures new { self.new ≡ with_device self.old unit (D.state device) }
+    {
+        self.unit = unit;
+        self.sent = 0;
+        self.last = None;
+        replace(&mut self.device, device)
+    }
+
     /// Hands out the device as it is.
     pub fn into_device(self) -> D
         ensures { D.state result ≡ self.device }
@@ -156,7 +171,7 @@ impl<D: TxDevice> Station<D> {
             device,
             unit: _,
             sent: _,
-            side: _,
+            slot: _,
             heads: _,
             tails: _,
             last: _,
@@ -187,11 +202,11 @@ mod tests {
 
         assert_eq!(rt; station.xmit(0, 40), Tx::Sent);
         assert_eq!(rt; station.xmit(0, 41), Tx::SentStop);
-        station.set_side(42);
+        station.set_slot(42);
         assert_eq!(rt; station.xmit(0, 42), Tx::Busy);
         assert_eq!(rt; station.sent(), 2);
-        assert_eq!(rt; station.take_side(), Some(42));
-        assert_eq!(rt; station.side(), None);
+        assert_eq!(rt; station.take_slot(), Some(42));
+        assert_eq!(rt; station.slot(), None);
         station.set_ends(2, 7, 4);
         assert_eq!(rt; station.xmit(0, 42), Tx::SentHang);
 
@@ -200,7 +215,17 @@ mod tests {
         assert_eq!(rt; (station.unit(), station.sent()), (5, 3));
         assert_eq!(rt; (station.head(1), station.tail(1)), (0, 0));
         assert_eq!(rt; (station.head(2), station.tail(2)), (7, 4));
-        assert!(rt; station.into_device().hung());
+
+        let mut other = BenchDevice::new(rt.alloc());
+        other.configure(&params, 8).ok().ok_or("no memory")?;
+        station.set_slot(43);
+        assert!(rt; station.change(6, other).hung());
+        assert!(rt; !station.hung());
+        assert_eq!(rt; (station.unit(), station.sent()), (6, 0));
+        assert_eq!(rt; (station.last(), station.slot()), (None, Some(43)));
+        assert_eq!(rt; (station.head(2), station.tail(2)), (7, 4));
+        assert_eq!(rt; station.xmit(0, 44), Tx::Sent);
+        assert!(rt; !station.into_device().hung());
         Ok(())
     }
 }

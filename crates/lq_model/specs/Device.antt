@@ -12,9 +12,16 @@ pub record Telling : Type 0 where
   pub params : Params
   pub busies : ℕ
 
--- the packets accepted since it was configured; for how many more it has room; how many more answers may be Busy;
--- whether it hangs; and what it tells, if it tells
+-- what a device is asked: a packet, offered on one of its queues
+pub record DeviceCall : Type 0 where
+  pub queue : ℕ
+  pub packet : ℕ
+
+-- which device it is; the calls that it was asked since it was configured, and the packets that it accepted of them; for how many
+-- more it has room; how many more answers may be Busy; whether it hangs; and what it tells, if it tells
 pub record DeviceState : Type 0 where
+  pub identity : ℕ
+  pub asked : List DeviceCall
   pub accepted : List ℕ
   pub spare : ℕ
   pub busy_left : ℕ
@@ -62,8 +69,14 @@ LowersBusy answer old new = (new ≤ old) × (is_busy answer ≡ true → new < 
 abbrev pub told_after : Tx → Telling → Telling
 told_after answer t = record { params = t.params; busies = t.busies + (if is_busy answer then 1 else 0) }
 
--- an answer to a packet: just what it accepts is behind what was accepted, and takes room
-pub record Answers (answer : Tx) (packet : ℕ) (old new : DeviceState) : Type 0 where
+abbrev pub device_call : ℕ → ℕ → DeviceCall
+device_call queue packet = record { queue = queue; packet = packet }
+
+-- an answer to a packet that was offered on a queue: it is the same device, asked just this call more; just what it accepts is
+-- behind what was accepted, and takes room
+pub record Answers (answer : Tx) (queue packet : ℕ) (old new : DeviceState) : Type 0 where
+  pub identity : new.identity ≡ old.identity
+  pub asked : new.asked ≡ old.asked ++ device_call queue packet ∷ []
   pub accepted : new.accepted ≡ old.accepted ++ taken answer packet
   pub spare : new.spare + length (taken answer packet) ≡ old.spare
   pub hung : new.hung ≡ is_hang answer
@@ -71,8 +84,10 @@ pub record Answers (answer : Tx) (packet : ℕ) (old new : DeviceState) : Type 0
   pub told : new.told ≡ option_map (told_after answer) old.told
   pub rule : IfSome old.told (λ t. answer ≡ answer_of t (length old.accepted))
 
--- a device that was just configured, with room for so many packets
+-- a device that was just configured, with room for so many packets: the same one, asked nothing
 pub record IsConfigured (params : Params) (room : ℕ) (old new : DeviceState) : Type 0 where
+  pub identity : new.identity ≡ old.identity
+  pub asked : new.asked ≡ []
   pub accepted : new.accepted ≡ []
   pub spare : room ≤ new.spare
   pub busy_left : new.busy_left ≤ params.busy_limit

@@ -151,6 +151,10 @@ abbrev pub is_in_hand : Blocked → Bool
 is_in_hand (InHand p direct) = true
 is_in_hand (NoneTaken queue) = false
 
+abbrev pub in_hand_of : Blocked → Option Packet
+in_hand_of (InHand p direct) = Some p
+in_hand_of (NoneTaken queue) = None
+
 -- a holder that has a packet in hand, or goes on from an empty requeue slot
 abbrev pub needs_slot : Position → Bool
 needs_slot (Gate p direct) = true
@@ -299,6 +303,21 @@ own_packet (BlockedMiss (InHand p direct)) = if direct then Some p else None
 own_packet (BlockedDrain (InHand p direct)) = if direct then Some p else None
 own_packet _ = None
 
+-- the packet that a holder has in hand: from the step that takes it until it is sent or laid back
+abbrev pub in_hand : Position → Option Packet
+in_hand (Gate p direct) = Some p
+in_hand (Xmit p direct) = Some p
+in_hand (BlockedClear b) = in_hand_of b
+in_hand (BlockedLoad b) = in_hand_of b
+in_hand (BlockedMiss b) = in_hand_of b
+in_hand (BlockedDrain b) = in_hand_of b
+in_hand _ = None
+
+-- its device hung in this call, and the stop words aren't all stored yet
+abbrev pub is_hanging : Position → Bool
+is_hanging (StoreXoff queue hung direct) = hung
+is_hanging _ = false
+
 -- the packet that a holder takes past the bands
 abbrev pub direct_packet : Position → Option Packet
 direct_packet (Gate p direct) = if direct then Some p else None
@@ -363,6 +382,11 @@ pub data Moves (m m' : Machine) : Type 0 where
   steps : (i : ℕ) (answer : Answer) → Steps m i answer m' → Moves m m'
   begins : (i : ℕ) (b : Beginning) → IsFree b i m → Begins m i b m' → Moves m m'
   controls : (i : ℕ) (step : ControlStep) → ControlsTo m i step m' → Moves m m'
+
+-- what moves lead to, one after the other
+pub data Reaches (m : Machine) : Machine → Type 0 where
+  no_move : Reaches m m
+  one_more_move : (n n' : Machine) → Reaches m n → Moves n n' → Reaches m n'
 
 -- QUIET
 

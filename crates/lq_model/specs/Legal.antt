@@ -170,16 +170,17 @@ IsPlannedDown plan station event =
     IsEventAt plan station event kind.Down
     ⊎ (((len : ℕ) × IsEventAt plan station event (kind.TxQueueLen len)) ⊎ ((params : Params) × IsEventAt plan station event (kind.Swap params)))
 
--- the exchange that keeps the station deactivated brings its own unit
-abbrev pub IsPlannedSwap : Plan → ℕ → Account → ℕ → Type 0
-IsPlannedSwap plan station a unit =
+-- the exchange that keeps the station deactivated brings its own unit, once
+abbrev pub IsPlannedSwap : Plan → ℕ → List Event → Account → ℕ → Type 0
+IsPlannedSwap plan station past a unit =
     (event : ℕ) × (a.down ≡ Some event) × ((params : Params) × IsEventAt plan station event (kind.Swap params)) × (unit ≡ unit_of_swap plan event)
+    × (Contains past (Swap unit) → ⊥)
 
 -- The plan's events come at most once each, in the plan's order, as the plan has them.
 abbrev pub IsPlanned : Plan → ℕ → List Event → Account → Event → Type 0
 IsPlanned plan station past a (Resize len event) = IsPlannedResize plan station past a len event
 IsPlanned plan station past a (Down event) = IsNext past event × IsPlannedDown plan station event
-IsPlanned plan station past a (Swap unit) = IsPlannedSwap plan station a unit
+IsPlanned plan station past a (Swap unit) = IsPlannedSwap plan station past a unit
 IsPlanned plan station past a event = Unit {0}
 
 -- The packets of one owner come in ascending number.
@@ -187,18 +188,22 @@ abbrev pub IsInTurn : List Info → List Event → Option ℕ → Type 0
 IsInTurn infos past None = Unit {0}
 IsInTurn infos past (Some n) = (m : ℕ) → Contains (brought_by past) m → owner_in infos m ≡ owner_in infos n → m < n
 
--- LEGAL LISTS
+-- LISTS OF EVENTS
 
-pub record IsLegalNext (plan : Plan) (infos : List Info) (station : ℕ) (past : List Event) (a : Account) (event : Event) : Type 0 where
-  pub may_come : MayCome infos station past a event
-  pub planned : IsPlanned plan station past a event
-  pub in_turn : IsInTurn infos past (brought event)
+-- the latest first: each may come in the account that those before it leave
+abbrev pub Comes : List Info → ℕ → Account → List Event → Type 0
+Comes infos station start [] = Unit {0}
+Comes infos station start (event ∷ past) =
+    Comes infos station start past × (MayCome infos station past (after_all start past) event × IsInTurn infos past (brought event))
 
--- a list of events, the latest first, in which each may come in the account that those before it leave
-abbrev pub IsLegal : Plan → List Info → ℕ → Account → List Event → Type 0
-IsLegal plan infos station start [] = Unit {0}
-IsLegal plan infos station start (event ∷ past) =
-    IsLegal plan infos station start past × IsLegalNext plan infos station past (after_all start past) event
+-- each is as the plan asks
+abbrev pub ArePlanned : Plan → ℕ → Account → List Event → Type 0
+ArePlanned plan station start [] = Unit {0}
+ArePlanned plan station start (event ∷ past) = ArePlanned plan station start past × IsPlanned plan station past (after_all start past) event
+
+pub record IsLegal (plan : Plan) (infos : List Info) (station : ℕ) (start : Account) (past : List Event) : Type 0 where
+  pub comes : Comes infos station start past
+  pub planned : ArePlanned plan station start past
 
 -- some legal list of events leaves this account
 abbrev pub IsReached : Plan → List Info → ℕ → Account → Account → Type 0

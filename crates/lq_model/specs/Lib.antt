@@ -4,6 +4,8 @@ pub mod Numbers
 pub mod Capture
 -- the capture that a number and a count generate
 pub mod Generated
+-- which bytes are a capture in the pcapng format, and the one written for a list of packets
+pub mod Pcapng
 -- the class of a frame
 pub mod Class
 -- what callers see of a device, and how it answers
@@ -32,6 +34,8 @@ pub mod Account
 pub mod Legal
 -- what the fates of a run are
 pub mod Settled
+-- completeness of fates: where each packet is sent
+pub mod Complete
 -- the run of one sender
 pub mod Alone
 -- small runs of one sender

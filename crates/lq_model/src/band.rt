@@ -1,3 +1,4 @@
+//! How many slots of a band's ring are emptied at once.
 ghost use Rattle.std.specs.Prelude.{◌≡◌};
 ghost use Rattle.lq_model.specs.Band.{batch};
 

@@ -1,3 +1,5 @@
+//! Fates, and what a packet is to the rules.
+
 /// What a packet is to the rules.
 #[derive(Clone, Copy, Debug, PartialEq, Eq)]
 pub struct Info {

@@ -1,3 +1,5 @@
+//! The types of the machine of the run lock.
+
 /// A packet as the machine of the run lock sees it.
 #[derive(Clone, Copy, Debug, PartialEq, Eq)]
 pub struct Packet {

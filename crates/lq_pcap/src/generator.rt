@@ -1,3 +1,4 @@
+//! Captures generated of a number and a count.
 ghost use Rattle.std.specs.Prelude.{◌≡◌, ◌%◌, ◌≤◌, ◌<◌, ◌++◌, IfOk, OnOk};
 ghost use Rattle.lq_model.specs.Generated.{generated_capture, generated_destination, generated_frame, generated_header, generated_record, generated_source, generated_type_of_service, spread};
 

@@ -1,3 +1,4 @@
+//! Numbers of a capture file, in the file's byte order.
 ghost use Rattle.std.specs.Prelude.{◌≡◌, ◌+◌, ◌≤◌, length};
 ghost use Rattle.lq_model.specs.Capture.{is_big_endian, is_little_endian, is_magic, major_version, number_at};
 

@@ -1,3 +1,4 @@
+//! Reading bytes as a capture.
 ghost use Rattle.std.specs.Prelude.{◌≡◌, ◌≤◌, ◌-◌, length, IfOk};
 ghost use Rattle.lq_model.specs.Capture.{capture_of, count_from, is_little_endian};
 ghost use Rattle.lq_pcap.specs.Reading.{ArePlaces, Gives, IsEnd};

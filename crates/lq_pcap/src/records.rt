@@ -1,3 +1,4 @@
+//! A capture that was read: its header, its records and their frames.
 ghost use Rattle.std.specs.Prelude.{◌≡◌, ◌<◌, ◌≤◌, length};
 ghost use Rattle.lq_model.specs.Capture.{frame_of, header_of, link_of, record_of};
 

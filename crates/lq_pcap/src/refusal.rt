@@ -1,3 +1,4 @@
+//! Why bytes are no capture.
 ghost use Rattle.std.specs.Prelude.{◌≡◌};
 
 use lq_model::CaptureReason;

@@ -1,3 +1,4 @@
+//! Captures cut at each length, in both byte orders, and generated.
 use crate::{CaptureReason, CaptureRefusal, gen_capture, push_header, push_record, read_capture};
 use std::process::Abort;
 

@@ -1,3 +1,4 @@
+//! Writing a file header and records.
 ghost use Rattle.std.specs.Prelude.{◌≡◌, ◌<◌, ◌++◌, OnOk, OnErr};
 ghost use Rattle.lq_model.specs.Capture.{header_of, record_of};
 

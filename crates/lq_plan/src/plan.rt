@@ -1,3 +1,4 @@
+//! A plan that was read.
 ghost use Rattle.std.specs.Prelude.{◌≡◌, ◌<◌, ◌≤◌, Some, length, slice_get};
 ghost use Rattle.lq_model.specs.Plan.{is_swap, unit_count};
 ghost use Rattle.lq_plan.specs.Limits.{IsWithinLimits, IsStationWithin, IsEventWithin};

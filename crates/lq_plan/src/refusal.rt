@@ -1,3 +1,4 @@
+//! Why a text is no plan.
 ghost use Rattle.std.specs.Prelude.{◌≡◌};
 
 use lq_model::PlanReason;

@@ -1,3 +1,4 @@
+//! Texts of plans: the least reason of each, and what keys that are left out or written come to.
 use crate::{EventKind, EventPlan, Params, PlanReason, PlanRefusal, Split, StationPlan, read_plan};
 
 #[test]

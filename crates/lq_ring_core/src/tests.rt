@@ -1,3 +1,4 @@
+//! Batches of stale slots, unconsume and resize, slot by slot.
 ghost use Rattle.std.specs.Prelude.{◌≡◌, ◌+◌, ◌<◌, IfOk};
 
 use crate::{Dropped, Full, Ring, RingRefusal, resize_three};

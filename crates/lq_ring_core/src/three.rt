@@ -1,3 +1,4 @@
+//! The three rings of a station's bands, resized together.
 ghost use Rattle.std.specs.Prelude.{◌≡◌, ◌+◌, ◌-◌, ◌<◌, ◌≤◌, ◌++◌, length, drop};
 ghost use Rattle.lq_ring_core.specs.Ring.{after_resize, dropped_of};
 

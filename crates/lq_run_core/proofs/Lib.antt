@@ -32,6 +32,10 @@ pub mod LockFreeDraining
 pub mod EndingDraining
 pub mod BlockedDraining
 pub mod Inductive
+pub mod Among
+pub mod Reached
+pub mod Exposed
+pub mod Mistakes
 pub mod Sound
 pub mod Pieces
 pub mod Schedules

@@ -9,7 +9,7 @@ use Rattle.lq_model.specs.declared.machine.Position.TheVariants.{Idle, Xmit, Deq
 use Rattle.lq_model.specs.declared.machine.Seat.{Seat}
 use Rattle.lq_model.specs.Machine.{Qdisc, Machine, Purge, idle_seat, is_open, is_shared}
 use Rattle.lq_model.specs.Steps.{queue_of_slot}
-use Rattle.lq_model.specs.Control.{is_quiet}
+use Rattle.lq_model.specs.Control.{holds_as_control, is_quiet}
 use Rattle.lq_model.specs.Kept.{IsInductive, IsKept, IsPurging, IsHidden, IsStuck, BitsClear, ClearBelow, IsClear, OwnersDiffer, queued, blocked, blocking, blocking_at, is_stopped, has_way_on, is_on_way, is_going, is_ending, is_second_scan, looked_below, needs_slot, may_be_inside, own_packet, direct_packet, Holds}
 use Rattle.lq_run_core.proofs.Seats.{Extends}
 
@@ -107,6 +107,19 @@ joins q {old = old} {now = now} more safe h = record {
   owners_differ = owners-up q more h.owners_differ;
   direct_alone = lift more (λ (s : Position). (p r : Packet) → direct_packet s ≡ Some p → Holds (over q old) r → r.owner ≢ p.owner) (λ p r e. absurd cc) h.direct_alone;
 }
+
+-- beside a seat that isn't control with the run lock, a purge half done is one of a deactivation
+pub calm-beside : (q : Qdisc) (seats : List Seat) (i : ℕ) → i < length seats → holds_as_control (get_or seats i idle_seat).position ≡ false → IsInductive (over q seats)
+    → (q.purge ≡ None) ⊎ (is_quiet q.phase ≡ true)
+calm-beside q seats i within away h = go q.purge refl
+  where
+    quiet : (is_quiet q.phase ≡ true) ⊎ ((k : ℕ) → k < length seats → (get_or seats k idle_seat).position ≡ Control true) → is_quiet q.phase ≡ true
+    quiet (inl still) = still
+    quiet (inr all) = absurd (let holds : holds_as_control (get_or seats i idle_seat).position ≡ true = ap holds_as_control (all i within) in cc)
+
+    go : (o : Option Purge) → q.purge ≡ o → (q.purge ≡ None) ⊎ (is_quiet q.phase ≡ true)
+    go None e = inl e
+    go (Some u) e = inr (quiet (h.purging u e).alone)
 
 -- WITH ONE SEAT LESS
 

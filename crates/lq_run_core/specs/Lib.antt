@@ -1,3 +1,5 @@
+-- one seat among the others
+pub mod Among
 -- a machine that runs, with the packets that it numbers
 pub mod Running
 -- the room that the list of a band has
@@ -7,3 +9,5 @@ pub mod Schedule
 -- what a schedule leaves of the machine, and the text that tells it
 pub mod Trace
 pub mod TraceText
+-- steps with a mistake, and what they leave behind
+pub mod Mistakes

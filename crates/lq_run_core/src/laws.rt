@@ -8,10 +8,13 @@ ghost use Rattle.lq_model.specs.Machine.{Qdisc, Machine, first_machine, seat_at,
 ghost use Rattle.lq_model.specs.Steps.{goes_to, dequeue_begins, store_xoff, behind_sent};
 ghost use Rattle.lq_model.specs.Kept.{IsInductive, IsKept, IsQuiet, Holds, Moves, blocking};
 
+pub mod among;
 pub mod deactivation;
 pub mod draining;
 pub mod exposed;
 pub mod lock;
+pub mod mistakes;
+pub mod reached;
 pub mod seats;
 
 /// The invariant holds of the machine that begins, and every step of a seat, every start and every step of

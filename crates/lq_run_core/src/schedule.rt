@@ -1,3 +1,4 @@
+//! The lines of a schedule.
 ghost use Rattle.std.specs.Prelude.{◌≡◌, ◌<◌, ◌≤◌, IfSome, IfNone, length, true, ◌==◌, [], ◌∷◌, MatchOption, option_map, position};
 ghost use Rattle.std.specs.List.{slice_split, list_all};
 ghost use Rattle.std.specs.Char.{is_ascii_digit};

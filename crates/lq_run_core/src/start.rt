@@ -1,3 +1,4 @@
+//! How the calls of a seat begin.
 ghost use Rattle.std.specs.Prelude.{◌≡◌, ◌<◌, ◌+◌, ℕ, true, if◌then◌else◌};
 ghost use Rattle.lq_model.specs.declared.machine.Beginning.TheVariants.{Transmits};
 ghost use Rattle.lq_model.specs.Machine.{Machine as State};

@@ -1,3 +1,4 @@
+//! The machine with two queues, and a seat that begins a call while it is in one.
 ghost use Rattle.lq_run_core.specs.Running.{IsInRange};
 
 use crate::{Answer, Machine, Position, Seat, Start};

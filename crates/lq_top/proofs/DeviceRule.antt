@@ -62,13 +62,13 @@ none_some : {X : Type 0} {x : X} → None ≡ Some x → ⊥
 none_some e = cc
 
 -- what a device tells behind an answer
-pub told_now : (answer : Tx) (n : ℕ) (t : Telling) (old new : DeviceState) → Answers answer n old new → old.told ≡ Some t → new.told ≡ Some (told_after answer t)
+pub told_now : (answer : Tx) (n : ℕ) (t : Telling) (old new : DeviceState) → Answers answer 0 n old new → old.told ≡ Some t → new.told ≡ Some (told_after answer t)
 told_now answer n t old new an e = an.told ∙ ap (λ o. option_map (told_after answer) o) e
 
-pub answer_is : (answer : Tx) (n : ℕ) (t : Telling) (old new : DeviceState) → Answers answer n old new → old.told ≡ Some t → answer ≡ answer_of t (length old.accepted)
+pub answer_is : (answer : Tx) (n : ℕ) (t : Telling) (old new : DeviceState) → Answers answer 0 n old new → old.told ≡ Some t → answer ≡ answer_of t (length old.accepted)
 answer_is answer n t old new an e = subst (λ (o : Option Telling). IfSome o (λ t. answer ≡ answer_of t (length old.accepted))) e an.rule
 
-pub rule_kept : (answer : Tx) (n : ℕ) (old new : DeviceState) → old.hung ≡ false → Answers answer n old new → MeetsRule old → MeetsRule new
+pub rule_kept : (answer : Tx) (n : ℕ) (old new : DeviceState) → old.hung ≡ false → Answers answer 0 n old new → MeetsRule old → MeetsRule new
 rule_kept answer n old new alive an m t' e = by_told old.told refl
   where
     by_told : (o : Option Telling) → old.told ≡ o → MeetsParams t' (length new.accepted) new.hung

@@ -9,7 +9,7 @@ use Rattle.lq_account.proofs.Offers.{direct_closed, direct_open, queued_full, qu
 use Rattle.lq_account.proofs.Steps.{at_answer, at_back, at_direct, at_full, at_join}
 use Rattle.lq_account.proofs.Taken.{slot_none}
 use Rattle.lq_account.specs.Progress.{IsAt}
-use Rattle.lq_device.specs.Station.{with_side}
+use Rattle.lq_device.specs.Station.{with_slot}
 use Rattle.lq_model.specs.Account.{Account, Back, Direct, Full, Join, after, held, with_at}
 use Rattle.lq_model.specs.Alone.{Running, answered, gone_direct, gone_through, queued, served}
 use Rattle.lq_model.specs.Band.{Band, IsOccupied, MayBeFull, held_of, joined}
@@ -62,6 +62,7 @@ module _ (s : Setting) (n rest band : ℕ) (q : QueueState) (bands : Bands) (fat
           hung = u.matches.hung;
           room = record { room = (let room = u.matches.room.room in omega arith); countable = (let countable = u.matches.room.countable in omega arith) };
           rule = u.matches.rule;
+          asked = u.matches.asked;
         };
         at = at-band next.band_is room;
         one_queue = u.one_queue;
@@ -99,6 +100,7 @@ module _ (s : Setting) (n rest band : ℕ) (q : QueueState) (bands : Bands) (fat
           hung = u.matches.hung;
           room = record { room = (let room = u.matches.room.room in omega arith); countable = (let countable = u.matches.room.countable in omega arith) };
           rule = u.matches.rule;
+          asked = u.matches.asked;
         };
         at = at_full seen next.packet.within next.packet.of_station (subst (λ band. MayBeFull a.len (a.bands band) seen) (sym next.band_is) full) u.at;
         one_queue = u.one_queue;
@@ -131,8 +133,8 @@ module _ (s : Setting) (n rest : ℕ) (old : QueueState) (fates : List (Option F
   slot-empty : a.slot ≡ None
   slot-empty = slot_none a.slot _ none-held
 
-  pub side_empty : old.station.side ≡ None
-  side_empty = st.underway.matches.slot ∙ slot-empty
+  pub slot_is_empty : old.station.slot ≡ None
+  slot_is_empty = st.underway.matches.slot ∙ slot-empty
 
   direct-matches : Matches s.infos s.station rest (Some n) old fates (after (Direct n) a)
   direct-matches = direct_matches s.infos s.station rest n old fates a packet st.underway.matches
@@ -152,7 +154,7 @@ module _ (s : Setting) (n rest : ℕ) (old : QueueState) (fates : List (Option F
     answered-now = is_answered n (after (Direct n) a) refl stops-open answer slot-empty
 
     matches-now : Matches s.infos s.station rest None new fates' (answered answer 0 (after (Direct n) a))
-    matches-now = answered_matches s.infos s.station rest n answer old new fates fates' (after (Direct n) a) _ direct-matches slot-empty opens o answered-now
+    matches-now = answered_matches s.infos s.station rest n answer old new fates fates' (after (Direct n) a) _ direct-matches slot-empty opens o answered-now (st.underway.one_queue n)
 
     held-now : is_busy answer ≡ false → held (answered answer 0 (after (Direct n) a)) ≡ []
     held-now busy =
@@ -178,7 +180,7 @@ module _ (s : Setting) (n rest : ℕ) (old : QueueState) (fates : List (Option F
           one_queue = st.underway.one_queue;
           none_purged = answered_purges_none answer n (after (Direct n) a) _ answered-now st.underway.none_purged;
         };
-        elsewhere = answered_elsewhere s.infos s.station rest n answer old new fates fates' (after (Direct n) a) _ direct-matches slot-empty opens o answered-now;
+        elsewhere = answered_elsewhere s.infos s.station rest n answer old new fates fates' (after (Direct n) a) _ direct-matches slot-empty opens o answered-now (st.underway.one_queue n);
         tells = λ t e. record {
           device = told_after answer t;
           told = told_now answer n t (device_of old) (device_of new) o.answers e;
@@ -190,7 +192,7 @@ module _ (s : Setting) (n rest : ℕ) (old : QueueState) (fates : List (Option F
     }
 
   -- the queue isn't open
-  pub direct_back : old.stop ≢ Open → Brings (gone_direct s.infos n) s n rest old (record old { station = with_side old.station (Some n); clean = false }) fates fates a
+  pub direct_back : old.stop ≢ Open → Brings (gone_direct s.infos n) s n rest old (record old { station = with_slot old.station (Some n); clean = false }) fates fates a
   direct_back closed = record {
     moves = record {
       account = after Back (after (Direct n) a);

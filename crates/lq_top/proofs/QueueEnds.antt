@@ -13,7 +13,7 @@ use Rattle.lq_account.proofs.Rounds.{finished_done, finished_next}
 use Rattle.lq_account.proofs.Steps.{at_purge, at_wake}
 use Rattle.lq_account.proofs.Taken.{IsInHand, IsTurn, picks, takes_0, takes_1, takes_2, turn_of, in_hand, held_none, next_none, slot_none}
 use Rattle.lq_account.proofs.Turns.{HasOneQueue}
-use Rattle.lq_device.specs.Station.{with_side}
+use Rattle.lq_device.specs.Station.{with_slot}
 use Rattle.lq_model.specs.Account.{Account, Event, Purge, Wake, Fates, SentLists, after, emptied, held, held_in, with_at, with_fates}
 use Rattle.lq_model.specs.Alone.{finished, is_done, next_taken, opened, served}
 use Rattle.lq_model.specs.Band.{Band, held_of, taken_by}
@@ -58,6 +58,7 @@ settled-matches infos station rest n f q fates a m = record {
   hung = m.hung;
   room = record { room = (let room = m.room.room in omega arith); countable = (let countable = m.room.countable in omega arith) };
   rule = m.rule;
+  asked = m.asked;
 }
   where
     packet : IsPacketOf infos station n
@@ -195,6 +196,7 @@ module _ (infos : List Info) (station rest : ℕ) (q : QueueState) (old fates : 
     hung = p.matches.hung;
     room = record { room = p.matches.room.room; countable = p.matches.room.countable };
     rule = p.matches.rule;
+    asked = p.matches.asked;
   }
     where
       b : Account
@@ -220,15 +222,15 @@ purge_within infos station rest n new fates b t =
 
 -- a queue from which packets were taken
 pub record IsEmptying (old q : QueueState) : Type 0 where
-  pub station : with_side q.station None ≡ with_side old.station None
+  pub station : with_slot q.station None ≡ with_slot old.station None
   pub stop : q.stop ≡ old.stop
   pub clean : q.clean ≡ old.clean
   pub bypass : q.bypass ≡ old.bypass
 
 -- one more packet was taken
-pub emptying_next : (old q new : QueueState) → IsEmptying old q → new ≡ record q { station = with_side q.station None; bands = new.bands } → IsEmptying old new
+pub emptying_next : (old q new : QueueState) → IsEmptying old q → new ≡ record q { station = with_slot q.station None; bands = new.bands } → IsEmptying old new
 emptying_next old q new h is = record {
-  station = ap (λ (q : QueueState). with_side q.station None) is ∙ h.station;
+  station = ap (λ (q : QueueState). with_slot q.station None) is ∙ h.station;
   stop = ap (λ (q : QueueState). q.stop) is ∙ h.stop;
   clean = ap (λ (q : QueueState). q.clean) is ∙ h.clean;
   bypass = ap (λ (q : QueueState). q.bypass) is ∙ h.bypass;
@@ -257,6 +259,7 @@ with-stop infos station rest q fates a stop stops is hung m = record {
   hung = hung;
   room = record { room = m.room.room; countable = m.room.countable };
   rule = m.rule;
+  asked = m.asked;
 }
 
 module _ (s : Setting) (n rest : ℕ) (q : QueueState) (fates : List (Option Fate)) (a : Account) (h : IsUnderway s n rest q fates a) where
@@ -401,7 +404,7 @@ module _ (s : Setting) (n rest : ℕ) (old q : QueueState) (fates fates' : List 
   -- or its device hangs, and what is held is purged
   pub finish_hung : (new : QueueState) (fates'' : List (Option Fate)) → q.stop ≡ Hung
       → Matches s.infos s.station rest None new fates'' (after (Purge (cause.Hung p.account.unit)) p.account) → SameElsewhere s.infos s.station fates' fates''
-      → new ≡ record q { station = with_side q.station None; bands = new.bands } → Finishes s n rest old new fates fates'' a
+      → new ≡ record q { station = with_slot q.station None; bands = new.bands } → Finishes s n rest old new fates fates'' a
   finish_hung new fates'' is m elsewhere same = record {
     account = after (Purge (cause.Hung b.unit)) b;
     matches = m;

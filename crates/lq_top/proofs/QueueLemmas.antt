@@ -2,22 +2,23 @@
 use Rattle.std.proofs.Common.{◌≡◌, ℕ, ◌+◌, ◌<◌, ◌≤◌, true, false, List, [], ◌∷◌, ◌++◌, inl, inr, length, All, Option, Some, None, IfSome, IfNone, OnSome, option_to_list, slice_get, refl, sym, ap, ap₂, subst, ◌∙◌, arith, length-append}
 use Rattle.std.specs.List.{slice_set}
 use Rattle.std.proofs.lemmas.List.{length-set}
-use Rattle.std.proofs.lemmas.List.Elements.{All-nil, All-cons, All-head}
+use Rattle.std.proofs.lemmas.List.Elements.{All-nil, All-cons, All-head, All-push}
 use Rattle.std.proofs.lemmas.Bool.{cases_eq}
 use Rattle.lq_account.proofs.Answers.{IsAnswered, slot_behind, stop_behind}
 use Rattle.lq_account.proofs.Taken.{picks, next_is, next_none}
-use Rattle.lq_device.specs.Station.{with_side}
+use Rattle.lq_device.specs.Station.{with_slot}
 use Rattle.lq_model.specs.Account.{Account, Take, Pick, Direct, Back, Fates, after, held, held_in}
 use Rattle.lq_model.specs.Alone.{next_taken}
 use Rattle.lq_model.specs.Band.{Band, held_of}
-use Rattle.lq_model.specs.Device.{is_busy, is_hang, taken}
+use Rattle.lq_model.specs.Device.{device_call, is_busy, is_hang, taken}
+use Rattle.lq_model.specs.Plan.{queue_in}
 use Rattle.lq_model.specs.declared.device.Tx.{Tx}
 use Rattle.lq_model.specs.declared.device.Tx.TheVariants.{Sent, SentStop, SentHang, Busy}
 use Rattle.lq_model.specs.declared.fate.Fate.{Fate}
 use Rattle.lq_model.specs.declared.fate.Fate.TheVariants as fate
 use Rattle.lq_model.specs.declared.fate.Info.{Info}
 use Rattle.lq_top.specs.Bands.{HoldNothing, IsFirstTaken, held_by}
-use Rattle.lq_top.specs.Queue.{QueueState, HasFates, HasRoom, IsPacketOf, IsTaken, Matches, MayOffer, Offers, SameElsewhere, device_of, fates_behind, is_hung_value, laid_back, number_held, stop_number, value_behind}
+use Rattle.lq_top.specs.Queue.{QueueState, HasFates, HasRoom, IsCallOf, IsPacketOf, IsTaken, Matches, MayOffer, Offers, SameElsewhere, device_of, fates_behind, is_hung_value, laid_back, number_held, stop_number, value_behind}
 use Rattle.lq_top.specs.declared.queue.bands.Bands.{Bands}
 use Rattle.lq_top.specs.declared.queue.stop_value.StopValue.TheVariants.{Open}
 use Rattle.lq_top.proofs.BandsLemmas.{lowest_turn, first_has, taken_has, bands_have}
@@ -28,11 +29,11 @@ use Rattle.lq_top.proofs.FateLists.{set_here, set_apart, same_itself, same_set}
 
 module _ (infos : List Info) (station rest n : ℕ) (q : QueueState) (fates : List (Option Fate)) (a : Account) where
   -- that of the requeue slot
-  pub picked : Matches infos station rest None q fates a → q.station.side ≡ Some n
-      → IsTaken infos station rest n (record q { station = with_side q.station None }) fates a
+  pub picked : Matches infos station rest None q fates a → q.station.slot ≡ Some n
+      → IsTaken infos station rest n (record q { station = with_slot q.station None }) fates a
   picked m e =
       let slot : a.slot ≡ Some n = sym m.slot ∙ e in
-      let one : length (option_to_list q.station.side) ≡ 1 = ap (λ side. length (option_to_list side)) e in
+      let one : length (option_to_list q.station.slot) ≡ 1 = ap (λ slot. length (option_to_list slot)) e in
       record {
         event = Pick;
         next = next_is {a = a} (picks n slot);
@@ -48,16 +49,17 @@ module _ (infos : List Info) (station rest n : ℕ) (q : QueueState) (fates : Li
           hung = m.hung;
           room = record { room = (let room = m.room.room in omega arith); countable = (let countable = m.room.countable in omega arith) };
           rule = m.rule;
+          asked = m.asked;
         };
       }
 
   -- the first of the lowest band that holds something
-  pub took : (bands : Bands) → Matches infos station rest None q fates a → q.station.side ≡ None
+  pub took : (bands : Bands) → Matches infos station rest None q fates a → q.station.slot ≡ None
       → IsFirstTaken a.len a.bands n bands → held_by bands + 1 ≡ held_by q.bands
-      → IsTaken infos station rest n (record q { station = with_side q.station None; bands = bands }) fates a
+      → IsTaken infos station rest n (record q { station = with_slot q.station None; bands = bands }) fates a
   took bands m e f less =
       let slot : a.slot ≡ None = sym m.slot ∙ e in
-      let none : length (option_to_list q.station.side) ≡ 0 = ap (λ side. length (option_to_list side)) e in
+      let none : length (option_to_list q.station.slot) ≡ 0 = ap (λ slot. length (option_to_list slot)) e in
       let was : All (IsPacketOf infos station) (held_in a f.band) = m.packets.in_bands f.band f.lowest.one_of_three in
       record {
         event = Take f.band;
@@ -78,6 +80,7 @@ module _ (infos : List Info) (station rest n : ℕ) (q : QueueState) (fates : Li
           hung = m.hung;
           room = record { room = (let room = m.room.room in omega arith); countable = (let countable = m.room.countable in omega arith) };
           rule = m.rule;
+          asked = m.asked;
         };
       }
 
@@ -86,13 +89,13 @@ module _ (infos : List Info) (station rest : ℕ) (q : QueueState) (fates : List
   nothing_held slot h = ap₂ (λ xs ys. xs ++ ys) (ap option_to_list slot) (ap₂ (λ xs ys. xs ++ ys) h.first (ap₂ (λ xs ys. xs ++ ys) h.second h.third))
 
   -- the same of what was taken from the bands, if anything was
-  pub took_any : (bands : Bands) (result : Option ℕ) → Matches infos station rest None q fates a → q.station.side ≡ None
+  pub took_any : (bands : Bands) (result : Option ℕ) → Matches infos station rest None q fates a → q.station.slot ≡ None
       → IfSome result (λ n. IsFirstTaken a.len a.bands n bands) → OnSome result (held_by bands + 1 ≡ held_by q.bands)
-      → IfSome result (λ n. IsTaken infos station rest n (record q { station = with_side q.station None; bands = bands }) fates a)
+      → IfSome result (λ n. IsTaken infos station rest n (record q { station = with_slot q.station None; bands = bands }) fates a)
   took_any bands None m e f less = tt
   took_any bands (Some k) m e f less = took infos station rest k q fates a bands m e f less
 
-  pub none_taken : (result : Option ℕ) → Matches infos station rest None q fates a → q.station.side ≡ None
+  pub none_taken : (result : Option ℕ) → Matches infos station rest None q fates a → q.station.slot ≡ None
       → IfNone result (HoldNothing a.bands) → IfNone result (next_taken a ≡ None)
   none_taken (Some k) m e nothing = tt
   none_taken None m e nothing = next_none a (nothing_held (sym m.slot ∙ e) nothing)
@@ -133,7 +136,7 @@ hung-same Busy = refl
 -- the device answered to packet n, which was in hand
 module _ (infos : List Info) (station rest n : ℕ) (answer : Tx) (old new : QueueState) (fates fates' : List (Option Fate)) (a b : Account)
     (m : Matches infos station rest (Some n) old fates a) (slot : a.slot ≡ None) (opens : old.stop ≡ Open)
-    (o : Offers answer n old new fates fates') (h : IsAnswered answer n a b) where
+    (o : Offers answer n old new fates fates') (h : IsAnswered answer n a b) (first : queue_in infos n ≡ 0) where
   packet : IsPacketOf infos station n
   packet = in_hand_is infos station rest n old fates a m
 
@@ -182,9 +185,9 @@ module _ (infos : List Info) (station rest n : ℕ) (answer : Tx) (old new : Que
   room-kept : HasRoom rest None new
   room-kept =
       let one = one-of-two answer in
-      let side : length (option_to_list new.station.side) ≡ length (option_to_list (laid_back answer n)) = ap (λ side. length (option_to_list side)) o.slot in
+      let laid : length (option_to_list new.station.slot) ≡ length (option_to_list (laid_back answer n)) = ap (λ slot. length (option_to_list slot)) o.slot in
       let held : held_by new.bands ≡ held_by old.bands = ap held_by o.bands in
-      let none : length (option_to_list old.station.side) ≡ 0 = ap (λ side. length (option_to_list side)) (m.slot ∙ slot) in
+      let none : length (option_to_list old.station.slot) ≡ 0 = ap (λ slot. length (option_to_list slot)) (m.slot ∙ slot) in
       let spare = o.answers.spare in
       let count : length (device_of new).accepted ≡ length (device_of old).accepted + length (taken answer n)
       = ap length o.answers.accepted ∙ length-append (device_of old).accepted (taken answer n) in
@@ -213,6 +216,8 @@ module _ (infos : List Info) (station rest n : ℕ) (answer : Tx) (old new : Que
     hung = o.answers.hung ∙ hung-same answer ∙ ap is_hung_value (sym o.stop);
     room = room-kept;
     rule = rule_kept answer n (device_of old) (device_of new) (m.hung ∙ ap is_hung_value opens) o.answers m.rule;
+    asked = subst (All (IsCallOf infos station)) (sym o.answers.asked)
+        (All-push (IsCallOf infos station) (device_of old).asked (device_call 0 n) m.asked (record { packet = packet; own_queue = sym first }));
   }
 
   elsewhere-by : (x : Tx) → SameElsewhere infos station fates (fates_behind x n old.station fates)
@@ -245,11 +250,12 @@ module _ (infos : List Info) (station rest n : ℕ) (q : QueueState) (fates : Li
     hung = m.hung;
     room = record { room = (let room = m.room.room in omega arith); countable = (let countable = m.room.countable in omega arith) };
     rule = m.rule;
+    asked = m.asked;
   }
 
   -- packet n, which is in hand, is laid into the requeue slot
   pub back_matches : a.slot ≡ None → Matches infos station rest (Some n) q fates a
-      → Matches infos station rest None (record q { station = with_side q.station (Some n); clean = false }) fates (after Back a)
+      → Matches infos station rest None (record q { station = with_slot q.station (Some n); clean = false }) fates (after Back a)
   back_matches slot m = record {
     bands = m.bands;
     slot = sym m.hand_is;
@@ -261,7 +267,8 @@ module _ (infos : List Info) (station rest n : ℕ) (q : QueueState) (fates : Li
     packets = record { in_slot = m.packets.in_hand; in_hand = All-nil (IsPacketOf infos station); in_bands = m.packets.in_bands };
     hung = m.hung;
     room = (
-        let none : length (option_to_list q.station.side) ≡ 0 = ap (λ side. length (option_to_list side)) (m.slot ∙ slot) in
+        let none : length (option_to_list q.station.slot) ≡ 0 = ap (λ slot. length (option_to_list slot)) (m.slot ∙ slot) in
         record { room = (let room = m.room.room in omega arith); countable = (let countable = m.room.countable in omega arith) });
     rule = m.rule;
+    asked = m.asked;
   }

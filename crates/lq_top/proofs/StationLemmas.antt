@@ -7,7 +7,7 @@ use Rattle.lq_account.proofs.Steps.{at_other}
 use Rattle.lq_account.specs.Progress.{IsAt, start_of}
 use Rattle.lq_model.specs.Account.{Account, Event, Join, Full, Refuse, Empty, Take, Pick, Direct, Send, Back, Stop, Wake, Resize, Down, Purge, Swap, Up, after_all, sent_from_hand}
 use Rattle.lq_model.specs.Alone.{changed_at}
-use Rattle.lq_model.specs.Legal.{IsLegal}
+use Rattle.lq_model.specs.Legal.{ArePlanned}
 use Rattle.lq_model.specs.Plan.{Plan, station_in}
 use Rattle.lq_model.specs.declared.fate.Fate.{Fate}
 use Rattle.lq_model.specs.declared.fate.Info.{Info}
@@ -63,6 +63,7 @@ matches-beside infos station rest i q fates fates' a other same m = record {
   hung = m.hung;
   room = m.room;
   rule = m.rule;
+  asked = m.asked;
 }
 
 -- packet n went to another station
@@ -132,29 +133,29 @@ changed_there (suc i) f (x ∷ xs) (suc j) = let rest = changed_there i f xs j i
 -- A PLAN WITHOUT EVENTS
 
 -- the account's unit stays the station's first
-unit-stays : (plan : Plan) (infos : List Info) (station : ℕ) → plan.events ≡ [] → (past : List Event) → IsLegal plan infos station (start_of plan station) past
+unit-stays : (plan : Plan) (station : ℕ) → plan.events ≡ [] → (past : List Event) → ArePlanned plan station (start_of plan station) past
     → (after_all (start_of plan station) past).unit ≡ station
-unit-stays plan infos station none [] legal = refl
-unit-stays plan infos station none (Join n band ∷ past) (legal, next) = unit-stays plan infos station none past legal
-unit-stays plan infos station none (Full n seen ∷ past) (legal, next) = unit-stays plan infos station none past legal
-unit-stays plan infos station none (Refuse n event ∷ past) (legal, next) = unit-stays plan infos station none past legal
-unit-stays plan infos station none (Empty band ∷ past) (legal, next) = unit-stays plan infos station none past legal
-unit-stays plan infos station none (Take band ∷ past) (legal, next) = unit-stays plan infos station none past legal
-unit-stays plan infos station none (Pick ∷ past) (legal, next) = unit-stays plan infos station none past legal
-unit-stays plan infos station none (Direct n ∷ past) (legal, next) = unit-stays plan infos station none past legal
-unit-stays plan infos station none (Send ∷ past) (legal, next) = kept (after_all (start_of plan station) past).hand ∙ unit-stays plan infos station none past legal
+unit-stays plan station none [] planned = refl
+unit-stays plan station none (Join n band ∷ past) (planned, next) = unit-stays plan station none past planned
+unit-stays plan station none (Full n seen ∷ past) (planned, next) = unit-stays plan station none past planned
+unit-stays plan station none (Refuse n event ∷ past) (planned, next) = unit-stays plan station none past planned
+unit-stays plan station none (Empty band ∷ past) (planned, next) = unit-stays plan station none past planned
+unit-stays plan station none (Take band ∷ past) (planned, next) = unit-stays plan station none past planned
+unit-stays plan station none (Pick ∷ past) (planned, next) = unit-stays plan station none past planned
+unit-stays plan station none (Direct n ∷ past) (planned, next) = unit-stays plan station none past planned
+unit-stays plan station none (Send ∷ past) (planned, next) = kept (after_all (start_of plan station) past).hand ∙ unit-stays plan station none past planned
   where
     kept : (hand : Option ℕ) → (sent_from_hand hand (after_all (start_of plan station) past)).unit ≡ (after_all (start_of plan station) past).unit
     kept None = refl
     kept (Some n) = refl
-unit-stays plan infos station none (Back ∷ past) (legal, next) = unit-stays plan infos station none past legal
-unit-stays plan infos station none (Stop queue value ∷ past) (legal, next) = unit-stays plan infos station none past legal
-unit-stays plan infos station none (Wake queue ∷ past) (legal, next) = unit-stays plan infos station none past legal
-unit-stays plan infos station none (Resize len event ∷ past) (legal, next) = unit-stays plan infos station none past legal
-unit-stays plan infos station none (Down event ∷ past) (legal, next) = unit-stays plan infos station none past legal
-unit-stays plan infos station none (Purge cause ∷ past) (legal, next) = unit-stays plan infos station none past legal
-unit-stays plan infos station none (Swap unit ∷ past) (legal, next) = absurd (no_event plan station _ _ none next.planned.2.1)
-unit-stays plan infos station none (Up ∷ past) (legal, next) = unit-stays plan infos station none past legal
+unit-stays plan station none (Back ∷ past) (planned, next) = unit-stays plan station none past planned
+unit-stays plan station none (Stop queue value ∷ past) (planned, next) = unit-stays plan station none past planned
+unit-stays plan station none (Wake queue ∷ past) (planned, next) = unit-stays plan station none past planned
+unit-stays plan station none (Resize len event ∷ past) (planned, next) = unit-stays plan station none past planned
+unit-stays plan station none (Down event ∷ past) (planned, next) = unit-stays plan station none past planned
+unit-stays plan station none (Purge cause ∷ past) (planned, next) = unit-stays plan station none past planned
+unit-stays plan station none (Swap unit ∷ past) (planned, next) = absurd (no_event plan station _ _ none next.2.1)
+unit-stays plan station none (Up ∷ past) (planned, next) = unit-stays plan station none past planned
 
 pub unit_is : (plan : Plan) (infos : List Info) (station n : ℕ) (a : Account) → plan.events ≡ [] → IsAt plan infos station n a → a.unit ≡ station
-unit_is plan infos station n a none at = ap (λ b. b.unit) at.account ∙ unit-stays plan infos station none at.past at.legal
+unit_is plan infos station n a none at = ap (λ b. b.unit) at.account ∙ unit-stays plan station none at.past at.legal.planned

@@ -1,13 +1,15 @@
 -- What a call decides from its words, its files and the number of devices on its bench.
 use Rattle.std.specs.Prelude.{◌≡◌, ◌≤◌, ℕ, Bool, nat_lt, ◌==◌, ◌&&◌, if◌then◌else◌, List, [], length, Option, Some, None, Result, Ok, Err}
 use Rattle.std.specs.Option.{option_map}
-use Rattle.lq_model.specs.Capture.{Capture, Refusal as CaptureRefusal, capture_of}
+use Rattle.lq_model.specs.Capture.{Refusal as CaptureRefusal}
 use Rattle.lq_model.specs.Plan.{Plan, unit_count}
 use Rattle.lq_model.specs.declared.capture.CaptureReason.TheVariants as capture
 use Rattle.lq_model.specs.declared.plan.PlanReason.{PlanReason}
 use Rattle.lq_model.specs.declared.plan.PlanReason.TheVariants as plan
 use Rattle.lq_plan.specs.Reading.{plan_of}
 use Rattle.lq_host.specs.Host.{Files}
+use Rattle.lq_pcapng.specs.File.{capture_file_of}
+use Rattle.lq_pcapng.specs.declared.file.CaptureFile.{CaptureFile}
 use Rattle.lq_top.specs.Command.{RunWords, command_of}
 use Rattle.lq_top.specs.Headline.{Run, run_of}
 use Rattle.lq_top.specs.declared.refusal.Refusal.{Refusal}
@@ -51,13 +53,13 @@ pub record IsRunnable (have : ℕ) (p : Plan) : Type 0 where
 abbrev pub too_long_a_capture : Refusal
 too_long_a_capture = refusal.Capture capture.TooLong 67108864
 
-abbrev pub with_refusal : Result Capture CaptureRefusal → Result Capture Refusal
+abbrev pub with_refusal : Result CaptureFile CaptureRefusal → Result CaptureFile Refusal
 with_refusal (Ok c) = Ok c
 with_refusal (Err r) = Err (refusal.Capture r.reason r.place)
 
--- the capture that bytes are, or the refusal; more than 67,108,864 bytes are none, whatever they are
-abbrev pub limited_capture_of : List ℕ → Result Capture Refusal
-limited_capture_of bytes = if nat_lt 67108864 (length bytes) then Err too_long_a_capture else with_refusal (capture_of bytes)
+-- the capture that bytes are, in either format, or the refusal; more than 67,108,864 bytes are none, whatever they are
+abbrev pub limited_capture_of : List ℕ → Result CaptureFile Refusal
+limited_capture_of bytes = if nat_lt 67108864 (length bytes) then Err too_long_a_capture else with_refusal (capture_file_of bytes)
 
 -- THE DECISION
 
@@ -68,7 +70,7 @@ pub data Verdict : Type 0 where
   Runs : Run → Verdict
 
 -- first the words are judged, then the plan and the bench, then the capture
-abbrev pub by_capture : List ℕ → Plan → Option (Result Capture Refusal) → Verdict
+abbrev pub by_capture : List ℕ → Plan → Option (Result CaptureFile Refusal) → Verdict
 by_capture out p None = LacksFile
 by_capture out p (Some (Err r)) = Refuses r
 by_capture out p (Some (Ok c)) = Runs (run_of out p c)

@@ -4,7 +4,7 @@ use Rattle.lq_account.specs.Progress.{IsAt}
 use Rattle.lq_device.specs.Station.{StationState}
 use Rattle.lq_model.specs.Account.{Account, Event, held, held_in, after}
 use Rattle.lq_model.specs.Alone.{Running, next_taken, served, served_turns, turns_of, brought_in, opened, finished}
-use Rattle.lq_model.specs.Device.{DeviceState, Telling, Answers}
+use Rattle.lq_model.specs.Device.{DeviceCall, DeviceState, Telling, Answers}
 use Rattle.lq_model.specs.Plan.{Plan, station_in, band_in, queue_in}
 use Rattle.lq_model.specs.declared.device.Tx.{Tx}
 use Rattle.lq_model.specs.declared.device.Tx.TheVariants.{Sent, SentStop, SentHang, Busy}
@@ -32,6 +32,10 @@ pub record QueueState : Type 0 where
 abbrev pub device_of : QueueState → DeviceState
 device_of q = q.station.device
 
+-- which device it is
+abbrev pub identity_of : QueueState → ℕ
+identity_of q = (device_of q).identity
+
 abbrev pub stop_number : StopValue → ℕ
 stop_number Open = 0
 stop_number Stopped = 1
@@ -44,7 +48,7 @@ is_hung_value Hung = true
 
 -- how many packets the requeue slot and the bands hold
 abbrev pub number_held : QueueState → ℕ
-number_held q = length (option_to_list q.station.side) + held_by q.bands
+number_held q = length (option_to_list q.station.slot) + held_by q.bands
 
 -- So many packets at most come into the hand from now on, where none is brought: each is sent, or is one more answer Busy.
 abbrev pub turns_left : QueueState → ℕ
@@ -86,6 +90,11 @@ pub record IsPacketOf (infos : List Info) (station n : ℕ) : Type 0 where
   pub within : n < length infos
   pub of_station : station_in infos n ≡ station
 
+-- its device was asked to send a packet of the station, on that packet's own queue
+pub record IsCallOf (infos : List Info) (station : ℕ) (call : DeviceCall) : Type 0 where
+  pub packet : IsPacketOf infos station call.packet
+  pub own_queue : call.queue ≡ queue_in infos call.packet
+
 -- what is held and in hand are packets of the station
 pub record ArePacketsOf (infos : List Info) (station : ℕ) (a : Account) : Type 0 where
   pub in_slot : All (IsPacketOf infos station) (option_to_list a.slot)
@@ -112,7 +121,7 @@ MeetsRule d = (t : Telling) → d.told ≡ Some t → MeetsParams t (length d.ac
 -- still to come.
 pub record Matches (infos : List Info) (station rest : ℕ) (hand : Option ℕ) (q : QueueState) (fates : List (Option Fate)) (a : Account) : Type 0 where
   pub bands : AreBands q.bands a.len a.bands
-  pub slot : q.station.side ≡ a.slot
+  pub slot : q.station.slot ≡ a.slot
   pub hand_is : a.hand ≡ hand
   pub sent : IsSentBy q.station a
   pub stops : a.stops ≡ stop_number q.stop ∷ []
@@ -122,6 +131,7 @@ pub record Matches (infos : List Info) (station rest : ℕ) (hand : Option ℕ) 
   pub hung : (device_of q).hung ≡ is_hung_value q.stop
   pub room : HasRoom rest hand q
   pub rule : MeetsRule (device_of q)
+  pub asked : All (IsCallOf infos station) (device_of q).asked
 
 -- some account is matched, with nothing in hand
 pub record MatchesSome (q : QueueState) (fates : List (Option Fate)) : Type 0 where
@@ -146,7 +156,7 @@ pub record MayOffer (n : ℕ) (q : QueueState) (fates : List (Option Fate)) : Ty
   pub room : 0 < (device_of q).spare
   pub alive : (device_of q).hung ≡ false
   pub countable : length (device_of q).accepted < 4294967295
-  pub slot_empty : q.station.side ≡ None
+  pub slot_empty : q.station.slot ≡ None
   pub within : n < length fates
 
 -- what the answer to a packet leaves in the requeue slot, and the fate that it gives the packet
@@ -170,9 +180,9 @@ fates_behind Busy n station fates = fates
 
 -- the device answered to packet n, and what follows was done
 pub record Offers (answer : Tx) (n : ℕ) (old new : QueueState) (fates fates' : List (Option Fate)) : Type 0 where
-  pub answers : Answers answer n (device_of old) (device_of new)
+  pub answers : Answers answer 0 n (device_of old) (device_of new)
   pub unit : new.station.unit ≡ old.station.unit
-  pub slot : new.station.side ≡ laid_back answer n
+  pub slot : new.station.slot ≡ laid_back answer n
   pub bands : new.bands ≡ old.bands
   pub stop : new.stop ≡ value_behind answer
   pub clean : new.clean ≡ old.clean
@@ -314,4 +324,5 @@ pub record Begins (s : Setting) (rest : ℕ) (device : DeviceState) (fates : Lis
   pub no_fate : (n : ℕ) → n < length s.infos → station_in s.infos n ≡ s.station → slice_get fates n ≡ Some None
   pub room : rest ≤ device.spare
   pub countable : rest ≤ 4294967295
+  pub nothing_asked : device.asked ≡ []
   pub no_busies : (t : Telling) → device.told ≡ Some t → t.busies ≡ 0

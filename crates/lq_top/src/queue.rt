@@ -4,7 +4,7 @@
 //! caller lends, with the fate of packet n at place n. All memory is taken where the bands and the device are made.
 ghost use Rattle.std.specs.Prelude.{◌≡◌, ℕ, ◌+◌, ◌<◌, ◌≤◌, ◌&&◌, [], List, Option, None, OnSome, IfSome, IfNone, IsTrue, ◌↔◌, true, false, length};
 ghost use Rattle.lq_account.specs.Progress.{len_of, start_of};
-ghost use Rattle.lq_device.specs.Station.{new_station, with_side};
+ghost use Rattle.lq_device.specs.Station.{new_station, with_slot};
 ghost use Rattle.lq_model.specs.Account.{Account, Purge, after};
 ghost use Rattle.lq_model.specs.Alone.{next_taken, gone_direct, gone_through, brought_in, queued};
 ghost use Rattle.lq_model.specs.Band.{empty_band};
@@ -13,7 +13,7 @@ ghost use Rattle.lq_model.specs.declared.fate.Cause.TheVariants as cause;
 ghost use Rattle.lq_model.specs.declared.fate.Fate.{Fate};
 ghost use Rattle.lq_model.specs.declared.fate.Info.{Info};
 ghost use Rattle.lq_top.specs.Bands.{AreBands};
-ghost use Rattle.lq_top.specs.Queue.{QueueState, Setting, Matches, MatchesSome, IsPacketOf, IsNextPacket, IsTaken, MayOffer, Offers, SameElsewhere, IsUnderway, IsSomeUnderway, StandsForSome, StandsFor, MayTransmit, MaySendDirect, Begins, Runs, Serves, Brings, Goes, Finishes, transmitted, woken, new_queue, device_of, turns_left, work_left, value_opened};
+ghost use Rattle.lq_top.specs.Queue.{QueueState, Setting, Matches, MatchesSome, IsPacketOf, IsNextPacket, IsTaken, MayOffer, Offers, SameElsewhere, IsUnderway, IsSomeUnderway, StandsForSome, StandsFor, MayTransmit, MaySendDirect, Begins, Runs, Serves, Brings, Goes, Finishes, transmitted, woken, new_queue, device_of, identity_of, turns_left, work_left, value_opened};
 ghost use Rattle.lq_top.specs.declared.queue.stop_value.StopValue.TheVariants.{Open, Stopped, Hung};
 
 mod bands;
@@ -90,6 +90,7 @@ impl<D: TxDevice> Queue<D> {
         ensures goes { (s : Setting) (rest : ℕ) (a : Account) → StandsFor s n (rest + 1) self.old fates.old a → IsNextPacket s n band
             → Goes (transmitted s.infos self.old.bypass n) s (n + 1) rest self.old self.new fates.old fates.new a }
         ensures bypass { self.new.bypass ≡ self.old.bypass }
+        ensures identity { identity_of self.new ≡ identity_of self.old }
     {
         self.bring(n, band, fates);
         self.serve(fates);
@@ -102,6 +103,7 @@ impl<D: TxDevice> Queue<D> {
             → Goes (woken s.infos) s n rest self.old self.new fates.old fates.new a }
         ensures less { self.old.stop ≡ Stopped → work_left self.new < work_left self.old }
         ensures bypass { self.new.bypass ≡ self.old.bypass }
+        ensures identity { identity_of self.new ≡ identity_of self.old }
     {
         self.open_stopped();
         self.serve(fates);
@@ -110,8 +112,9 @@ impl<D: TxDevice> Queue<D> {
     /// Wakes the queue until it stays open or its device hangs. What is held then for a hung device is purged.
     pub fn finish(&mut self, fates: &mut [Option<Fate>])
         requires stands { StandsForSome self.old fates.old }
-        ensures { (s : Setting) (n rest : ℕ) (a : Account) → StandsFor s n rest self.old fates.old a
+        ensures finishes { (s : Setting) (n rest : ℕ) (a : Account) → StandsFor s n rest self.old fates.old a
             → Finishes s n rest self.old self.new fates.old fates.new a }
+        ensures identity { identity_of self.new ≡ identity_of self.old }
     {
         while self.is_stopped() {
             self.wake(fates);
@@ -129,6 +132,7 @@ impl<D: TxDevice> Queue<D> {
             → Serves s n rest self.old self.new fates.old fates.new a }
         ensures less { self.old.stop ≡ Open → work_left self.new ≤ work_left self.old }
         ensures bypass { self.new.bypass ≡ self.old.bypass }
+        ensures identity { identity_of self.new ≡ identity_of self.old }
     {
         if self.is_open() {
             self.run(fates);
@@ -137,7 +141,7 @@ impl<D: TxDevice> Queue<D> {
     }
 
     /// Takes and offers packets as long as the queue is open and something is held: `__qdisc_run` of
-    /// net/sched/sch_generic.c without its quota, which no sender that is alone comes to.
+    /// net/sched/sch_generic.c without its quota, after which a run of one sender would go on with nothing between.
     fn run(&mut self, fates: &mut [Option<Fate>])
         requires underway { IsSomeUnderway self.old fates.old }
         ensures runs { (s : Setting) (n rest : ℕ) (a : Account) → IsUnderway s n rest self.old fates.old a
@@ -145,6 +149,7 @@ impl<D: TxDevice> Queue<D> {
         ensures less { self.old.stop ≡ Open → work_left self.new ≤ work_left self.old }
         ensures clean { self.new.clean ≡ self.old.clean }
         ensures bypass { self.new.bypass ≡ self.old.bypass }
+        ensures identity { identity_of self.new ≡ identity_of self.old }
     {
         while self.is_open() {
             let Some(n) = self.dequeue() else {
@@ -175,6 +180,7 @@ impl<D: TxDevice> Queue<D> {
         ensures goes { (s : Setting) (rest : ℕ) (a : Account) → StandsFor s n (rest + 1) self.old fates.old a → IsNextPacket s n band
             → Brings (brought_in s.infos self.old.bypass n) s n rest self.old self.new fates.old fates.new a }
         ensures bypass { self.new.bypass ≡ self.old.bypass }
+        ensures identity { identity_of self.new ≡ identity_of self.old }
     {
         if self.may_pass() {
             self.send_direct(n, fates);
@@ -191,12 +197,13 @@ impl<D: TxDevice> Queue<D> {
             → IsPacketOf s.infos s.station n → self.old.clean ≡ true
             → Brings (gone_direct s.infos n) s n rest self.old self.new fates.old fates.new a }
         ensures bypass { self.new.bypass ≡ self.old.bypass }
+        ensures identity { identity_of self.new ≡ identity_of self.old }
     {
         if self.is_open() {
             let answer = self.xmit(n, fates);
             self.clean = is_accepted(answer);
         } else {
-            self.station.set_side(n);
+            self.station.set_slot(n);
             self.clean = false;
         }
     }
@@ -210,6 +217,7 @@ impl<D: TxDevice> Queue<D> {
             → IsNextPacket s n band
             → Brings (gone_through s.infos n) s n rest self.old self.new fates.old fates.new a }
         ensures bypass { self.new.bypass ≡ self.old.bypass }
+        ensures identity { identity_of self.new ≡ identity_of self.old }
     {
         self.enqueue(n, band, fates);
         self.serve(fates);
@@ -263,7 +271,7 @@ impl<D: TxDevice> Queue<D> {
         ensures purges { (infos : List Info) (station rest : ℕ) (a : Account) → Matches infos station rest None self.old fates.old a
             → Matches infos station rest None self.new fates.new (after (Purge (cause.Hung a.unit)) a)
             × SameElsewhere infos station fates.old fates.new }
-        ensures rest { self.new ≡ record self.old { station = with_side self.old.station None; bands = self.new.bands } }
+        ensures rest { self.new ≡ record self.old { station = with_slot self.old.station None; bands = self.new.bands } }
     {
         let unit = self.station.unit();
         let cause = Cause::Hung(unit);
@@ -282,9 +290,9 @@ impl<D: TxDevice> Queue<D> {
             → Matches infos station rest None self.old fates a → IfNone result (next_taken a ≡ None) }
         ensures less { OnSome result (turns_left self.new + 1 ≡ turns_left self.old) }
         ensures unchanged { IfNone result (self.new ≡ self.old) }
-        ensures rest { self.new ≡ record self.old { station = with_side self.old.station None; bands = self.new.bands } }
+        ensures rest { self.new ≡ record self.old { station = with_slot self.old.station None; bands = self.new.bands } }
     {
-        if let Some(n) = self.station.take_side() {
+        if let Some(n) = self.station.take_slot() {
             return Some(n);
         }
         self.bands.dequeue()
@@ -301,7 +309,7 @@ impl<D: TxDevice> Queue<D> {
         let answer = self.station.xmit(QUEUE, n);
         self.stop = stop_after(answer);
         match answer {
-            Tx::Busy => self.station.set_side(n),
+            Tx::Busy => self.station.set_slot(n),
             Tx::Sent | Tx::SentStop | Tx::SentHang => {
                 let unit = self.station.unit();
                 fates[n as usize] = Some(Fate::Sent { unit, serial });

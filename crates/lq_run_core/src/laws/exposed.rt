@@ -1,6 +1,13 @@
 //! What is held and exposed, the requeue slot, and packets that go past the bands.
-ghost use Rattle.lq_model.specs.Kept.{DequeueWaits, DirectAlone, IsInductive, LockFreeClear, LookedClear, Moves, OwnersDiffer, SlotFree, SlotWaits};
+ghost use Rattle.lq_model.specs.Kept.{DequeueWaits, DirectAlone, Exposes, IsClear, IsInductive, LockFreeClear, LookedClear, Moves, OwnersDiffer, SlotFree, SlotWaits};
 ghost use Rattle.lq_model.specs.Machine.{Machine};
+ghost use Rattle.lq_model.specs.declared.machine.Packet.{Packet};
+ghost use Rattle.std.specs.Prelude.{◌↔◌};
+
+/// Nothing is exposed exactly where the requeue slot is empty and each packet in a band is hidden.
+pub fn clear_is_nothing_exposed()
+    ensures { (m : Machine) → ((p : Packet) → Exposes m p → ⊥) ↔ IsClear m }
+{}
 
 /// While neither MISSED nor DRAINING is set nothing is exposed at a free run lock, nor what its holder has looked at.
 pub fn exposed_is_kept()

@@ -1,17 +1,5 @@
+//! Texts that schedules leave, and the first line of each that fails.
 use crate::{TraceReason, TraceRefusal, trace};
-
-/// The second try for the lock succeeds, after the holder cleared the MISSED that the first try had set.
-const SECOND_TRY: &str = "seats 2 len 4 bypass 0
-0 send 1
-0 step 4
-1 send 1
-1 step 7
-1 send 1
-1 step 4
-0 step 26
-1 step 15
-0 step 2
-";
 
 /// The wake comes between the holder's look at the stop word and its setting of DRAINING.
 const WAKE_WHILE_STOPPING: &str = "seats 2 len 4 bypass 0
@@ -27,36 +15,12 @@ const WAKE_WHILE_STOPPING: &str = "seats 2 len 4 bypass 0
 0 step 4
 ";
 
-/// The same, and then the soft interrupt that the wake scheduled.
-const SOFT_INTERRUPT_DRAINS: &str = "seats 2 len 4 bypass 0
-0 send 1
-0 step 8
-0 stop
-0 step 1
-1 send 1
-1 step 7
-0 step 3
-1 wake
-1 step 2
-0 step 4
-1 softirq
-1 step 22
-";
-
 #[test]
 fn text_of_what_a_schedule_leaves(rt: HostRuntime) {
     let rows = [
         (
-            SECOND_TRY,
-            "steps 58\nstate 0 lock 0 xoff 0 inside 0\nheld 0 sent 3 full 0\nseat 0 idle\nseat 1 idle\n",
-        ),
-        (
             WAKE_WHILE_STOPPING,
             "steps 26\nstate 9 lock 0 xoff 0 inside 0\nheld 1 sent 1 full 0\nseat 0 idle\nseat 1 idle raised\n",
-        ),
-        (
-            SOFT_INTERRUPT_DRAINS,
-            "steps 48\nstate 0 lock 0 xoff 0 inside 0\nheld 0 sent 2 full 0\nseat 0 idle\nseat 1 idle\n",
         ),
         (
             "seats 1 len 1 bypass 0\n\n# one packet\n0 send 0\n0 step 5",

@@ -1,0 +1,15 @@
+use Rattle.std.proofs.Common.{refl}
+use Rattle.lq_account.specs.Progress.{start_of}
+use Rattle.lq_account.proofs.Trails.{are-planned, have-all-come, no-swap-behind-hang}
+use Rattle.lq_account.proofs.laws.trails.orderly_events_close.Goals as goal
+
+pub returns : goal.returns
+returns c plan infos fates station past a orderly is trail come nothing hand decided = record {
+  legal = record { comes = orderly.comes; planned = are-planned plan infos station (start_of plan station) refl past orderly.find_nothing trail };
+  account = is;
+  nothing_held = nothing;
+  hand_empty = hand;
+  events = have-all-come plan infos station past come;
+  no_swap_behind_hang = no-swap-behind-hang plan infos station past trail;
+  decided = decided;
+}

@@ -1,0 +1,99 @@
+-- Lists of events that many senders make, and what of them the first sender's seat knows while others send.
+use Rattle.std.specs.Prelude.{◌≡◌, ◌<◌, ℕ, Bool, true, false, ◌==◌, List, [], ◌∷◌, Option, Some, None, Contains, filter, filter_map}
+use Rattle.lq_model.specs.Account.{Account, Event, Join, Full, Refuse, Direct, Resize, Down, Purge, Swap, Up, new_account, held, after_all}
+use Rattle.lq_model.specs.Legal.{IsPlanned, IsEventAt, brought_by, resizing, Comes}
+use Rattle.lq_model.specs.Plan.{Plan, owner_in, unit_of_swap}
+use Rattle.lq_model.specs.Settled.{IsBehind, down_before}
+use Rattle.lq_model.specs.declared.device.Params.{Params}
+use Rattle.lq_model.specs.declared.fate.Cause.TheVariants as cause
+use Rattle.lq_model.specs.declared.fate.Info.{Info}
+use Rattle.lq_model.specs.declared.plan.EventKind.TheVariants as kind
+
+-- EVENTS THAT COME IN ORDER
+
+-- a resize of a deactivated station finds nothing held
+abbrev pub FindsNothing : Account → Event → Type 0
+FindsNothing a (Resize len event) = (e : ℕ) → a.down ≡ Some e → held a ≡ []
+FindsNothing a event = Unit {0}
+
+abbrev pub FindNothing : Account → List Event → Type 0
+FindNothing start [] = Unit {0}
+FindNothing start (event ∷ past) = FindNothing start past × FindsNothing (after_all start past) event
+
+-- the latest first: each event may come where it stands, whatever the plan says
+pub record IsOrderly (infos : List Info) (station : ℕ) (start : Account) (past : List Event) : Type 0 where
+  pub comes : Comes infos station start past
+  pub find_nothing : FindNothing start past
+
+-- THE TRAIL
+--
+-- What control did at a station, and how the first sender's packets came there, the latest first.
+
+-- control's events, and those that bring packets of the first sender
+abbrev pub is_own : List Info → Event → Bool
+is_own infos (Join n band) = owner_in infos n == 0
+is_own infos (Full n seen) = owner_in infos n == 0
+is_own infos (Refuse n event) = owner_in infos n == 0
+is_own infos (Direct n) = owner_in infos n == 0
+is_own infos (Resize len event) = true
+is_own infos (Down event) = true
+is_own infos (Purge cause) = true
+is_own infos (Swap unit) = true
+is_own infos Up = true
+is_own infos event = false
+
+abbrev pub trail_of : List Info → List Event → List Event
+trail_of infos past = filter (is_own infos) past
+
+-- the event by which the station is deactivated
+abbrev pub down_of : List Event → Option ℕ
+down_of [] = None
+down_of (Down event ∷ trail) = Some event
+down_of (Up ∷ trail) = None
+down_of (event ∷ trail) = down_of trail
+
+-- WHAT THE PLAN ASKS OF A TRAIL
+
+-- an account that holds nothing, deactivated by this
+abbrev pub bare : Option ℕ → Account
+bare down = record (new_account 0 0 0) { down = down }
+
+-- what drops packets stands behind those of the first sender that came before it
+abbrev pub IsAhead : Plan → List Event → Event → Type 0
+IsAhead plan trail (Resize len event) = (m : ℕ) → Contains (brought_by trail) m → IsBehind plan m event
+IsAhead plan trail (Purge (cause.Event event)) = (m : ℕ) → Contains (brought_by trail) m → IsBehind plan m event
+IsAhead plan trail event = Unit {0}
+
+-- the event of the plan that leaves the station deactivated for packet n
+abbrev pub down_at : Plan → ℕ → ℕ → Option ℕ
+down_at plan station n = down_before station n plan.events 0 None
+
+-- a packet is refused exactly where the plan has its station deactivated, and by that event
+abbrev pub MeetsDown : Plan → ℕ → Event → Type 0
+MeetsDown plan station (Join n band) = down_at plan station n ≡ None
+MeetsDown plan station (Full n seen) = down_at plan station n ≡ None
+MeetsDown plan station (Direct n) = down_at plan station n ≡ None
+MeetsDown plan station (Refuse n event) = down_at plan station n ≡ Some event
+MeetsDown plan station event = Unit {0}
+
+-- no device is exchanged behind a purge of a hung one
+abbrev pub FindsNoHang : List Event → Event → Type 0
+FindsNoHang trail (Swap unit) = (old : ℕ) → Contains trail (Purge (cause.Hung old)) → ⊥
+FindsNoHang trail event = Unit {0}
+
+pub record IsTrailNext (plan : Plan) (station : ℕ) (trail : List Event) (event : Event) : Type 0 where
+  pub planned : IsPlanned plan station trail (bare (down_of trail)) event
+  pub ahead : IsAhead plan trail event
+  pub meets_down : MeetsDown plan station event
+  pub no_hang : FindsNoHang trail event
+
+-- a trail as the plan asks, the latest first
+abbrev pub IsTrail : Plan → ℕ → List Event → Type 0
+IsTrail plan station [] = Unit {0}
+IsTrail plan station (event ∷ trail) = IsTrail plan station trail × IsTrailNext plan station trail event
+
+-- each of the first so many events of the plan that resizes the station or exchanges its device has come
+pub record HaveCome (plan : Plan) (station : ℕ) (count : ℕ) (trail : List Event) : Type 0 where
+  pub resizes : (event len : ℕ) → event < count → IsEventAt plan station event (kind.Resize len) → Contains (filter_map resizing trail) event
+  pub queue_lengths : (event len : ℕ) → event < count → IsEventAt plan station event (kind.TxQueueLen len) → Contains (filter_map resizing trail) event
+  pub swaps : (event : ℕ) (params : Params) → event < count → IsEventAt plan station event (kind.Swap params) → Contains trail (Swap (unit_of_swap plan event))
