@@ -2,8 +2,14 @@
 use Rattle.std.proofs.Common.{◌≡◌, ℕ, ◌-◌, ◌⊎◌, inl, inr, ⊎_elim, Bool, true, false, true≢false, refl, sym, ap, ◌∙◌, subst, Option, Some, None}
 use Rattle.std.specs.Prelude.{if◌then◌else◌, not, ◌||◌, ◌&&◌, ◌==◌, is_some}
 use Rattle.std.specs.Option.{option_map}
-use Rattle.lq_model.specs.Account.{Back, Refuse, Direct as DirectEvent, Pick, Stop}
+use Rattle.lq_model.specs.Account.{Back, Send, Refuse, Direct as DirectEvent, Pick, Stop}
+use Rattle.lq_model.specs.declared.machine.Answer.{Answer}
 use Rattle.lq_model.specs.declared.machine.Answer.TheVariants.{Plain}
+use Rattle.lq_model.specs.declared.machine.Answer.TheVariants as answer
+use Rattle.lq_device.specs.Station.{StationState}
+use Rattle.lq_model.specs.declared.fate.Fate.{Fate}
+use Rattle.lq_model.specs.declared.fate.Fate.TheVariants as fate
+use Rattle.lq_table.specs.Settled.{MaySettle, fated}
 use Rattle.lq_model.specs.declared.machine.Attempt.{Attempt}
 use Rattle.lq_model.specs.declared.machine.Attempt.TheVariants.{Queued, Direct, Interrupt}
 use Rattle.lq_model.specs.declared.machine.Blocked.TheVariants.{InHand, NoneTaken}
@@ -16,8 +22,8 @@ use Rattle.lq_model.specs.Control.{is_control}
 use Rattle.lq_model.specs.Kept.{in_hand}
 use Rattle.lq_model.specs.Steps.{After, step_at, begun, run_begins, goes_to, gives_up, lock_got, try_lock, call_ends}
 use Rattle.lq_table.specs.Views.{View, HolderPart, packet_of}
-use Rattle.lq_table.specs.Told.{seen_by, seen_state, loads_state, misses, schedules, clears_missed, clears_draining, clears_sched, sets_missed, sets_draining, looking, missing, scheduling, backing, passing, setting, stepped, refusing, going, entering, bringing_packet, call_of, unlocks_at, unlocking, unlocking_control, unlocking_call, seen_lock, loading, picking, behind_stop, is_dequeue, storing, storing_from, stop_value, tries_lock, got, got_in_control, got_in_call, held}
-use Rattle.lq_table.specs.Solo.{Solo, solo, missed_to, draining_to, sched_set, sched_cleared, laid, heard, entered_as, locked_to, picks, stop_found}
+use Rattle.lq_table.specs.Told.{seen_by, seen_state, loads_state, misses, schedules, clears_missed, clears_draining, clears_sched, sets_missed, sets_draining, looking, missing, scheduling, backing, passing, setting, stepped, refusing, going, entering, bringing_packet, call_of, unlocks_at, unlocking, unlocking_control, unlocking_call, seen_lock, loading, picking, behind_stop, is_dequeue, storing, storing_from, stop_value, settling, answer_of, tries_lock, got, got_in_control, got_in_call, held}
+use Rattle.lq_table.specs.Solo.{Solo, solo, missed_to, draining_to, sched_set, sched_cleared, laid, heard, entered_as, locked_to, picks, stop_found, device_to, fated_as}
 
 either_raised : (b : Bool) (x y : After) (c : Bool) → x.seat.raised ≡ c → y.seat.raised ≡ c → (if b then x else y).seat.raised ≡ c
 either_raised true x y c e e' = e
@@ -253,3 +259,32 @@ module _ (v : View) (at_try : tries_lock v.place.position ≡ true) where
           control_solo (at.Control holds) is = inl (solo_step v (seen_lock (seen_by v) true) (λ q. q) (subst (λ (y : Position). Leaves y (λ q. q)) (sym is) record { raised = λ seen s. refl; words = λ q s. refl }) ∙ (λ j. locked_to (locked j) (solo v)))
           control_solo y is = inr (ap is_control is ∙ cc)
       by false e = solo_step v (seen_lock (seen_by v) true) (λ q. record q { locked = true }) (tries_leaves v.place.position at_try e)
+
+-- the device answered
+abbrev at_device : View → StationState → Position → Answer → Solo
+at_device v st y answer = record (device_to st.device (heard Send (solo v))) {
+  raised = (step_at y answer (seen_by v) v.place).seat.raised;
+  whole = record (device_to st.device (heard Send (solo v))).whole {
+    missed = (step_at y answer v.whole.qdisc v.place).qdisc.missed;
+    draining = (step_at y answer v.whole.qdisc v.place).qdisc.draining;
+    scheduled = (step_at y answer v.whole.qdisc v.place).qdisc.sched;
+    locked = (step_at y answer v.whole.qdisc v.place).qdisc.locked;
+  };
+}
+
+pub settles_solo : (v : View) (st : StationState) (p : Packet) (direct : Bool) → v.place.position ≡ at.Xmit p direct → solo (settling st v) ≡ device_to st.device (heard Send (solo v))
+settles_solo v st p direct is = ap (λ (y : Position). at_device v st y (answer_of st.last)) is ∙ by (answer_of st.last)
+  where
+    by : (answer : Answer) → at_device v st (at.Xmit p direct) answer ≡ device_to st.device (heard Send (solo v))
+    by answer.Plain = refl
+    by answer.FullSlot = refl
+    by answer.Stop = refl
+    by answer.Hang = refl
+    by answer.Busy = refl
+
+pub fates_solo : (v : View) (st : StationState) (b n : ℕ) (f : Fate) → MaySettle b n f st v → solo (fated st b n f v) ≡ fated_as st f (solo v)
+fates_solo v st b n (fate.Sent unit serial) may = settles_solo v st may.packet may.direct may.position
+fates_solo v st b n (fate.Full seen) may = refl
+fates_solo v st b n (fate.Refused event) may = refl
+fates_solo v st b n (fate.Purged cause) may = refl
+fates_solo v st b n (fate.Shrunk event) may = refl

@@ -1,7 +1,9 @@
 -- What a seat knows that has the table alone, without its place, and what the steps make of that.
 use Rattle.std.specs.Prelude.{◌≡◌, ℕ, ◌-◌, slice_get, ◌&&◌, ◌==◌, Some, None, Bool, true, false, not, ◌||◌, List, Option, ◌∷◌, filter, is_some, slice_index, if◌then◌else◌}
 use Rattle.lq_device.specs.Station.{StationState}
-use Rattle.lq_model.specs.Account.{Account, Event, held_in, Empty, Pick, Back}
+use Rattle.lq_model.specs.Account.{Account, Event, held_in, Empty, Send, Pick, Back}
+use Rattle.lq_model.specs.declared.fate.Fate.{Fate}
+use Rattle.lq_model.specs.declared.fate.Fate.TheVariants as fate
 use Rattle.lq_model.specs.Device.{DeviceState}
 use Rattle.lq_model.specs.Machine.{bit}
 use Rattle.lq_model.specs.Kept.{holds_lock, in_hand}
@@ -90,6 +92,14 @@ entered_as brings v = if brings then v else lowered v
 -- the device is in this state
 abbrev pub device_to : DeviceState → Solo → Solo
 device_to d v = record v { whole = record v.whole { device = d } }
+
+-- a packet's fate was stored: where the device accepted it that is an event, and the device is as the station says
+abbrev pub fated_as : StationState → Fate → Solo → Solo
+fated_as st (fate.Sent unit serial) v = device_to st.device (heard Send v)
+fated_as st (fate.Full seen) v = v
+fated_as st (fate.Shrunk event) v = v
+fated_as st (fate.Purged cause) v = v
+fated_as st (fate.Refused event) v = v
 
 -- where a dequeue begins and its queue is open the packet in the requeue slot, if there is one, is picked
 abbrev pub picks : Option ℕ → Solo → Solo

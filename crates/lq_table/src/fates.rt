@@ -4,6 +4,7 @@ ghost use Rattle.lq_model.specs.Plan.{band_in};
 ghost use Rattle.lq_model.specs.Words.{HasWord};
 ghost use Rattle.lq_table.specs.Sees.{view, carried, IsSeatOf, IsElseSame};
 ghost use Rattle.lq_table.specs.Settled.{MaySettle, fated, fate_stored};
+ghost use Rattle.lq_table.specs.Solo.{solo, fated_as};
 
 use crate::shared::{Cpu, Shared};
 use crate::view::Knowledge;
@@ -56,6 +57,7 @@ impl<'a, D: TxDevice> Shared<'a, D> {
         requires may { MaySettle K.band n fate K.station (view cpu.old) }
         ensures same { IsElseSame cpu.old cpu.new }
         ensures settled { view cpu.new ≡ fated K.station K.band n fate (view cpu.old) }
+        ensures step { solo (view cpu.new) ≡ fated_as K.station fate (solo (view cpu.old)) }
     {
         let word = 9 + self.senders as usize + 3 * self.max_len as usize + n as usize;
         self.table
@@ -73,6 +75,7 @@ impl<'a, D: TxDevice> Shared<'a, D> {
         requires may { MaySettle (band_in self.now.infos.now n) n fate (carried cpu.old) (view cpu.old) }
         ensures same { IsElseSame cpu.old cpu.new }
         ensures settled { view cpu.new ≡ fated (carried cpu.old) (band_in self.now.infos.now n) n fate (view cpu.old) }
+        ensures step { solo (view cpu.new) ≡ fated_as (carried cpu.old) fate (solo (view cpu.old)) }
     {
         self.settle_of::<Brand>(cpu, n, fate);
     }
