@@ -73,14 +73,14 @@ fn no_call_behind_the_last_fails(rt: HostRuntime) -> Result<(), Fail> {
     let alloc = rt.alloc();
     let capture = three_frames(alloc)?;
     let mut host = host_with(alloc, &capture)?;
-    for (kind, calls) in [
-        (HostCall::OpenRead, 2),
-        (HostCall::Read, 4),
-        (HostCall::Create, 2),
-        (HostCall::Write, 3),
-        (HostCall::Finish, 4),
+    for (kind, behind_last) in [
+        (HostCall::OpenRead, 3),
+        (HostCall::Read, 5),
+        (HostCall::Create, 3),
+        (HostCall::Write, 4),
+        (HostCall::Finish, 5),
     ] {
-        host.fail_at(kind, calls + 1)?;
+        host.fail_at(kind, behind_last)?;
     }
     let status = call(&rt, alloc, &RUN, &mut host, &Free)?;
     assert_eq!(rt; status, Status::Done);

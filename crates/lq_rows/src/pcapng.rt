@@ -78,7 +78,7 @@ fn reads_two_interfaces(rt: HostRuntime) -> Result<(), Fail> {
     assert_eq!(rt; host.file("o.1.pcap").ok_or("no file")?, second.as_slice());
     assert_eq!(rt;
         host.file("o.fates").ok_or("no file")?,
-        b"0 sent 0 0\n1 sent 1 0\n"
+        &b"0 sent 0 0\n1 sent 1 0\n"[..]
     );
     Ok(())
 }
