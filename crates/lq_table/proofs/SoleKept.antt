@@ -62,12 +62,12 @@ module _ (k : Setup) (slots id : ℕ) (m : Sat) where
       → Allows (Rule k) slots id m (xoff_word k queue) (λ x. x) (stop_loaded_all queue (step slots (xoff_word k queue) 0 0 none) m)
   loads_stop_sole queue at of_queue below few some_share = also k slots id m (xoff_word k queue) (λ x. x) (stop_loaded (step slots (xoff_word k queue) 0 0 none) m)
       (SeesStop queue m.0)
-      (λ s r here. ((λ sole. sees_stop k s r id m.0 here some_share sole queue), λ sole. holds_accounts k s r id m.0 here some_share sole))
+      (λ s r here. ((λ sole no_shut. sees_stop k s r id m.0 here some_share sole no_shut queue), λ sole. holds_accounts k s r id m.0 here some_share sole))
       (loads_stop_word k slots id queue m at of_queue below few some_share)
 
   pub wakes_sole : (queue : ℕ) → queue < k.queues → m.0.place.position ≡ Idle → 0 < m.0.share.shares → Allows (Rule k) slots id m (xoff_word k queue) (λ n. either (eqb n 1) 0 n) (woken_all queue (step slots (xoff_word k queue) 1 0 none) m)
-  wakes_sole queue below at some_share = also k slots id m (xoff_word k queue) (λ n. either (eqb n 1) 0 n) (woken queue (step slots (xoff_word k queue) 1 0 none) m) (λ x. IsSole m.0 → x ≡ slice_index (account_of m.0).stops queue)
-      (λ s r here sole. sees_stop k s r id m.0 here some_share sole queue) (wakes k slots id queue m below at some_share)
+  wakes_sole queue below at some_share = also k slots id m (xoff_word k queue) (λ n. either (eqb n 1) 0 n) (woken queue (step slots (xoff_word k queue) 1 0 none) m) (λ x. IsSole m.0 → m.0.whole.state.shut ≡ None → x ≡ slice_index (account_of m.0).stops queue)
+      (λ s r here sole no_shut. sees_stop k s r id m.0 here some_share sole no_shut queue) (wakes k slots id queue m below at some_share)
 
   -- what stands in the slot at the head of a band whose consumer rests
   sees_first : (b i : ℕ) (second : Bool) → b < 3 → i < k.max_len → m.0.place.position ≡ Scan b second → m.0.holder.turn ≡ None → is_emptying m.0.holder.size (at b m.0.holder.ends) ≡ false → i ≡ (at b m.0.holder.ends).head → 0 < m.0.share.shares

@@ -139,13 +139,13 @@ scheduled_all s m found m' = scheduled_now s m found m' × (IsSole m.0 → SeesS
 
 -- a stop word; and what a holder has is the account's
 abbrev pub SeesStop : ℕ → View → ℕ → Type 0
-SeesStop queue v found = (IsSole v → found ≡ slice_index (account_of v).stops queue) × (IsSole v → holds_lock v.place.position ≡ true → IsAccounts v)
+SeesStop queue v found = (IsSole v → v.whole.state.shut ≡ None → found ≡ slice_index (account_of v).stops queue) × (IsSole v → holds_lock v.place.position ≡ true → IsAccounts v)
 
 abbrev pub stop_loaded_all : ℕ → Step (Option StationState) → Sat → ℕ → Sat → Type 0
 stop_loaded_all queue s m found m' = stop_loaded s m found m' × SeesStop queue m.0 found
 
 abbrev pub woken_all : ℕ → Step (Option StationState) → Sat → ℕ → Sat → Type 0
-woken_all queue s m found m' = woken queue s m found m' × (IsSole m.0 → found ≡ slice_index (account_of m.0).stops queue)
+woken_all queue s m found m' = woken queue s m found m' × (IsSole m.0 → m.0.whole.state.shut ≡ None → found ≡ slice_index (account_of m.0).stops queue)
 
 -- the lock was held or free as its words say, and behind a try it is held; what the holder has is the account's
 abbrev pub tried_all : Step (Option StationState) → Sat → ℕ → Sat → Type 0
