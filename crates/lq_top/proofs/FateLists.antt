@@ -1,5 +1,5 @@
 -- A list in which one element was set, and lists of fates.
-use Rattle.std.proofs.Common.{◌≡◌, ◌≢◌, ℕ, zero, suc, ◌<◌, List, [], ◌∷◌, length, Option, Some, slice_get, refl, ap, ◌∙◌, arith}
+use Rattle.std.proofs.Common.{◌≡◌, ◌≢◌, ℕ, zero, suc, ◌<◌, List, [], ◌∷◌, length, Option, Some, slice_get, map, refl, sym, ap, ◌∙◌, arith}
 use Rattle.std.specs.List.{slice_set}
 use Rattle.std.proofs.lemmas.List.{length-set}
 use Rattle.lq_model.specs.Plan.{station_in}
@@ -21,6 +21,12 @@ set_apart (y ∷ ys) zero zero x other = absurd (other refl)
 set_apart (y ∷ ys) zero (suc k) x other = refl
 set_apart (y ∷ ys) (suc i) zero x other = refl
 set_apart (y ∷ ys) (suc i) (suc k) x other = set_apart ys i k x (λ e. other (ap suc e))
+
+-- an element was replaced by one that f can't tell from it
+pub map_set_same : {X Y : Type 0} (f : X → Y) (xs : List X) (i : ℕ) (old new : X) → slice_get xs i ≡ Some old → f new ≡ f old → map f (slice_set xs i new) ≡ map f xs
+map_set_same f [] i old new there same = cc
+map_set_same f (x ∷ xs) zero old new there same = ap (λ y. y ∷ map f xs) (same ∙ ap f (sym (some_is there)))
+map_set_same f (x ∷ xs) (suc i) old new there same = ap (λ ys. f x ∷ ys) (map_set_same f xs i old new there same)
 
 module _ (infos : List Info) (station : ℕ) where
   pub same_itself : (fates : List (Option Fate)) → SameElsewhere infos station fates fates

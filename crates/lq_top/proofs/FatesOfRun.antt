@@ -1,5 +1,6 @@
 -- The fates that finished stations leave.
-use Rattle.std.proofs.Common.{◌≡◌, inl, inr, ℕ, suc, ◌+◌, ◌<◌, ◌≤◌, true, List, [], ◌∷◌, length, refl, ap, arith, Option, Some, None, sym, ◌∙◌, subst, map}
+use Rattle.std.proofs.Common.{◌≡◌, inl, inr, ℕ, suc, ◌+◌, ◌<◌, ◌≤◌, true, List, [], ◌∷◌, length, refl, ap, arith, Option, Some, None, sym, ◌∙◌, subst, map, All}
+use Rattle.std.proofs.lemmas.List.Elements.{All-weaker}
 use Rattle.std.specs.Prelude.{slice_get, option_map, option_and_then, count_by}
 use Rattle.std.proofs.lemmas.Option.{slice_get_within, slice_get-map, slice_get_cases, get_or_from_slice_get}
 use Rattle.lq_account.proofs.Closing.{is_closed}
@@ -12,7 +13,7 @@ use Rattle.lq_fates.proofs.SentLemmas.{count_is, sent_is}
 use Rattle.lq_model.specs.Account.{Account}
 use Rattle.lq_model.specs.Alone.{Running, alone, after_packets, after_run, fate_in, fates_from, finished, new_stations}
 use Rattle.lq_model.specs.Device.{DeviceState, Telling}
-use Rattle.lq_model.specs.Plan.{Plan, is_swap, station_in, unit_count}
+use Rattle.lq_model.specs.Plan.{Plan, is_swap, queue_in, station_in, unit_count}
 use Rattle.lq_model.specs.Sent.{sent_of}
 use Rattle.lq_model.specs.Settled.{IsSettled, IsSentList, IsUnitOf, HangsAsTold, IsConfiguredWith}
 use Rattle.lq_model.specs.Texts.{is_sent_by}
@@ -24,8 +25,8 @@ use Rattle.lq_model.specs.declared.fate.Info.{Info}
 use Rattle.lq_top.proofs.FateLists.{some_is}
 use Rattle.lq_top.proofs.StationLemmas.{unit_is}
 use Rattle.lq_top.proofs.TurnLemmas.{no_events_behind}
-use Rattle.lq_top.specs.Fates.{AllTell, AreFatesOf, accepted_of}
-use Rattle.lq_top.specs.Queue.{QueueState, MeetsParams, device_of, is_hung_value}
+use Rattle.lq_top.specs.Fates.{AllTell, AreFatesOf, IsCallOfUnit, accepted_of}
+use Rattle.lq_top.specs.Queue.{IsCallOf, QueueState, MeetsParams, device_of, is_hung_value}
 use Rattle.lq_top.specs.Stations.{AllFinished, IsRunningAt, StationFinished}
 use Rattle.lq_top.specs.declared.queue.stop_value.StopValue.TheVariants as stop
 
@@ -35,6 +36,7 @@ pub record RunEnds (plan : Plan) (infos : List Info) (before behind : List Devic
   pub none : plan.events ≡ []
   pub all : AllFinished plan infos before queues options run_at
   pub of_plan : (n : ℕ) → n < length infos → station_in infos n < length plan.stations
+  pub first_queue : (n : ℕ) → queue_in infos n ≡ 0
   pub one_each : length options ≡ length infos
   pub settled : map (λ fate. Some fate) fates ≡ options
   pub devices : (station : ℕ) (q : QueueState) → slice_get queues station ≡ Some q → slice_get behind station ≡ Some (device_of q)
@@ -178,12 +180,27 @@ module _ (plan : Plan) (infos : List Info) (before behind : List DeviceState) (q
       get_or_from_slice_get options n ((ends.all.accounts (station_in infos n)).fates n) d ((own (station_in infos n) below).matches.fates_are.each n inside refl)
       ∙ sym (fate-alone tell n inside))
 
+  asked-are : (unit : ℕ) (device : DeviceState) → unit < unit_count plan → slice_get behind unit ≡ Some device → All (IsCallOfUnit plan infos unit) device.asked
+  asked-are unit device below here =
+      let inside : unit < length plan.stations = subst (λ k. unit < k) units-are below in
+      let q = queue-at unit inside in
+      let same : device_of q.0 ≡ device = some_is (sym (ends.devices unit q.0 q.1) ∙ here) in
+      subst (λ (d : DeviceState). All (IsCallOfUnit plan infos unit) d.asked) same
+      (All-weaker (IsCallOf infos unit) (IsCallOfUnit plan infos unit) (λ call is. record {
+        packet = is.packet.within;
+        of_station = inl (sym is.packet.of_station);
+        own_queue = is.own_queue;
+        one_of_its = subst (λ queue. queue < 1) (sym (is.own_queue ∙ ends.first_queue call.packet)) (omega arith);
+      }) (device_of q.0).asked (own unit inside).matches.asked)
+
   pub fates_of_run : AreFatesOf plan infos fates before behind
   fates_of_run = record {
     settled = is-settled;
     in_order = accounts_are_in_order plan infos fates ends.all.accounts settled-stations;
+    accounts = λ station below. ((own station below).at.past, ends.all.accounts station, closed station below);
     events = meets_no_events plan infos fates ends.none is-settled;
     devices = devices-are;
+    asked = asked-are;
     hung = hung-is;
     as_told = λ tell. as-told (subst (λ units. AllTell units before) units-are tell);
     alone = λ tell one. is-alone (subst (λ units. AllTell units before) units-are tell);

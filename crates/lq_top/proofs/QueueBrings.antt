@@ -62,6 +62,7 @@ module _ (s : Setting) (n rest band : ℕ) (q : QueueState) (bands : Bands) (fat
           hung = u.matches.hung;
           room = record { room = (let room = u.matches.room.room in omega arith); countable = (let countable = u.matches.room.countable in omega arith) };
           rule = u.matches.rule;
+          asked = u.matches.asked;
         };
         at = at-band next.band_is room;
         one_queue = u.one_queue;
@@ -99,6 +100,7 @@ module _ (s : Setting) (n rest band : ℕ) (q : QueueState) (bands : Bands) (fat
           hung = u.matches.hung;
           room = record { room = (let room = u.matches.room.room in omega arith); countable = (let countable = u.matches.room.countable in omega arith) };
           rule = u.matches.rule;
+          asked = u.matches.asked;
         };
         at = at_full seen next.packet.within next.packet.of_station (subst (λ band. MayBeFull a.len (a.bands band) seen) (sym next.band_is) full) u.at;
         one_queue = u.one_queue;
@@ -152,7 +154,7 @@ module _ (s : Setting) (n rest : ℕ) (old : QueueState) (fates : List (Option F
     answered-now = is_answered n (after (Direct n) a) refl stops-open answer slot-empty
 
     matches-now : Matches s.infos s.station rest None new fates' (answered answer 0 (after (Direct n) a))
-    matches-now = answered_matches s.infos s.station rest n answer old new fates fates' (after (Direct n) a) _ direct-matches slot-empty opens o answered-now
+    matches-now = answered_matches s.infos s.station rest n answer old new fates fates' (after (Direct n) a) _ direct-matches slot-empty opens o answered-now (st.underway.one_queue n)
 
     held-now : is_busy answer ≡ false → held (answered answer 0 (after (Direct n) a)) ≡ []
     held-now busy =
@@ -178,7 +180,7 @@ module _ (s : Setting) (n rest : ℕ) (old : QueueState) (fates : List (Option F
           one_queue = st.underway.one_queue;
           none_purged = answered_purges_none answer n (after (Direct n) a) _ answered-now st.underway.none_purged;
         };
-        elsewhere = answered_elsewhere s.infos s.station rest n answer old new fates fates' (after (Direct n) a) _ direct-matches slot-empty opens o answered-now;
+        elsewhere = answered_elsewhere s.infos s.station rest n answer old new fates fates' (after (Direct n) a) _ direct-matches slot-empty opens o answered-now (st.underway.one_queue n);
         tells = λ t e. record {
           device = told_after answer t;
           told = told_now answer n t (device_of old) (device_of new) o.answers e;

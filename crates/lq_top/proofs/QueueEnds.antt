@@ -58,6 +58,7 @@ settled-matches infos station rest n f q fates a m = record {
   hung = m.hung;
   room = record { room = (let room = m.room.room in omega arith); countable = (let countable = m.room.countable in omega arith) };
   rule = m.rule;
+  asked = m.asked;
 }
   where
     packet : IsPacketOf infos station n
@@ -195,6 +196,7 @@ module _ (infos : List Info) (station rest : ℕ) (q : QueueState) (old fates : 
     hung = p.matches.hung;
     room = record { room = p.matches.room.room; countable = p.matches.room.countable };
     rule = p.matches.rule;
+    asked = p.matches.asked;
   }
     where
       b : Account
@@ -257,6 +259,7 @@ with-stop infos station rest q fates a stop stops is hung m = record {
   hung = hung;
   room = record { room = m.room.room; countable = m.room.countable };
   rule = m.rule;
+  asked = m.asked;
 }
 
 module _ (s : Setting) (n rest : ℕ) (q : QueueState) (fates : List (Option Fate)) (a : Account) (h : IsUnderway s n rest q fates a) where

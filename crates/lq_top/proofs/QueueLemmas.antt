@@ -2,7 +2,7 @@
 use Rattle.std.proofs.Common.{◌≡◌, ℕ, ◌+◌, ◌<◌, ◌≤◌, true, false, List, [], ◌∷◌, ◌++◌, inl, inr, length, All, Option, Some, None, IfSome, IfNone, OnSome, option_to_list, slice_get, refl, sym, ap, ap₂, subst, ◌∙◌, arith, length-append}
 use Rattle.std.specs.List.{slice_set}
 use Rattle.std.proofs.lemmas.List.{length-set}
-use Rattle.std.proofs.lemmas.List.Elements.{All-nil, All-cons, All-head}
+use Rattle.std.proofs.lemmas.List.Elements.{All-nil, All-cons, All-head, All-push}
 use Rattle.std.proofs.lemmas.Bool.{cases_eq}
 use Rattle.lq_account.proofs.Answers.{IsAnswered, slot_behind, stop_behind}
 use Rattle.lq_account.proofs.Taken.{picks, next_is, next_none}
@@ -10,14 +10,15 @@ use Rattle.lq_device.specs.Station.{with_slot}
 use Rattle.lq_model.specs.Account.{Account, Take, Pick, Direct, Back, Fates, after, held, held_in}
 use Rattle.lq_model.specs.Alone.{next_taken}
 use Rattle.lq_model.specs.Band.{Band, held_of}
-use Rattle.lq_model.specs.Device.{is_busy, is_hang, taken}
+use Rattle.lq_model.specs.Device.{device_call, is_busy, is_hang, taken}
+use Rattle.lq_model.specs.Plan.{queue_in}
 use Rattle.lq_model.specs.declared.device.Tx.{Tx}
 use Rattle.lq_model.specs.declared.device.Tx.TheVariants.{Sent, SentStop, SentHang, Busy}
 use Rattle.lq_model.specs.declared.fate.Fate.{Fate}
 use Rattle.lq_model.specs.declared.fate.Fate.TheVariants as fate
 use Rattle.lq_model.specs.declared.fate.Info.{Info}
 use Rattle.lq_top.specs.Bands.{HoldNothing, IsFirstTaken, held_by}
-use Rattle.lq_top.specs.Queue.{QueueState, HasFates, HasRoom, IsPacketOf, IsTaken, Matches, MayOffer, Offers, SameElsewhere, device_of, fates_behind, is_hung_value, laid_back, number_held, stop_number, value_behind}
+use Rattle.lq_top.specs.Queue.{QueueState, HasFates, HasRoom, IsCallOf, IsPacketOf, IsTaken, Matches, MayOffer, Offers, SameElsewhere, device_of, fates_behind, is_hung_value, laid_back, number_held, stop_number, value_behind}
 use Rattle.lq_top.specs.declared.queue.bands.Bands.{Bands}
 use Rattle.lq_top.specs.declared.queue.stop_value.StopValue.TheVariants.{Open}
 use Rattle.lq_top.proofs.BandsLemmas.{lowest_turn, first_has, taken_has, bands_have}
@@ -48,6 +49,7 @@ module _ (infos : List Info) (station rest n : ℕ) (q : QueueState) (fates : Li
           hung = m.hung;
           room = record { room = (let room = m.room.room in omega arith); countable = (let countable = m.room.countable in omega arith) };
           rule = m.rule;
+          asked = m.asked;
         };
       }
 
@@ -78,6 +80,7 @@ module _ (infos : List Info) (station rest n : ℕ) (q : QueueState) (fates : Li
           hung = m.hung;
           room = record { room = (let room = m.room.room in omega arith); countable = (let countable = m.room.countable in omega arith) };
           rule = m.rule;
+          asked = m.asked;
         };
       }
 
@@ -133,7 +136,7 @@ hung-same Busy = refl
 -- the device answered to packet n, which was in hand
 module _ (infos : List Info) (station rest n : ℕ) (answer : Tx) (old new : QueueState) (fates fates' : List (Option Fate)) (a b : Account)
     (m : Matches infos station rest (Some n) old fates a) (slot : a.slot ≡ None) (opens : old.stop ≡ Open)
-    (o : Offers answer n old new fates fates') (h : IsAnswered answer n a b) where
+    (o : Offers answer n old new fates fates') (h : IsAnswered answer n a b) (first : queue_in infos n ≡ 0) where
   packet : IsPacketOf infos station n
   packet = in_hand_is infos station rest n old fates a m
 
@@ -213,6 +216,8 @@ module _ (infos : List Info) (station rest n : ℕ) (answer : Tx) (old new : Que
     hung = o.answers.hung ∙ hung-same answer ∙ ap is_hung_value (sym o.stop);
     room = room-kept;
     rule = rule_kept answer n (device_of old) (device_of new) (m.hung ∙ ap is_hung_value opens) o.answers m.rule;
+    asked = subst (All (IsCallOf infos station)) (sym o.answers.asked)
+        (All-push (IsCallOf infos station) (device_of old).asked (device_call 0 n) m.asked (record { packet = packet; own_queue = sym first }));
   }
 
   elsewhere-by : (x : Tx) → SameElsewhere infos station fates (fates_behind x n old.station fates)
@@ -245,6 +250,7 @@ module _ (infos : List Info) (station rest n : ℕ) (q : QueueState) (fates : Li
     hung = m.hung;
     room = record { room = (let room = m.room.room in omega arith); countable = (let countable = m.room.countable in omega arith) };
     rule = m.rule;
+    asked = m.asked;
   }
 
   -- packet n, which is in hand, is laid into the requeue slot
@@ -264,4 +270,5 @@ module _ (infos : List Info) (station rest n : ℕ) (q : QueueState) (fates : Li
         let none : length (option_to_list q.station.slot) ≡ 0 = ap (λ slot. length (option_to_list slot)) (m.slot ∙ slot) in
         record { room = (let room = m.room.room in omega arith); countable = (let countable = m.room.countable in omega arith) });
     rule = m.rule;
+    asked = m.asked;
   }

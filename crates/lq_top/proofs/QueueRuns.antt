@@ -150,13 +150,13 @@ module _ (s : Setting) (n rest m : ℕ) (answer : Tx) (old now mid new : QueueSt
     run_turns = record {
       account = answered answer 0 (after taken.event r.account);
       underway = record {
-        matches = answered_matches s.infos s.station rest m answer mid new fates' fates'' (after taken.event r.account) _ taken.matches in_hand_now.slot still-open o answered-now;
+        matches = answered_matches s.infos s.station rest m answer mid new fates' fates'' (after taken.event r.account) _ taken.matches in_hand_now.slot still-open o answered-now (r.underway.one_queue m);
         at = at_answer answer m taken.matches.hand_is in_hand_now.slot stops-now (r.underway.one_queue m) (at_taken taken.event r.underway.matches.hand_is taken.next r.underway.at);
         one_queue = r.underway.one_queue;
         none_purged = answered_purges_none answer m (after taken.event r.account) _ answered-now (subst (λ fates. (k : ℕ) (why : _) → fates k ≡ Some (fate.Purged why) → ⊥) (sym in_hand_now.fates) r.underway.none_purged);
       };
       elsewhere = same_both s.infos s.station fates fates' fates'' r.elsewhere
-          (answered_elsewhere s.infos s.station rest m answer mid new fates' fates'' (after taken.event r.account) _ taken.matches in_hand_now.slot still-open o answered-now);
+          (answered_elsewhere s.infos s.station rest m answer mid new fates' fates'' (after taken.event r.account) _ taken.matches in_hand_now.slot still-open o answered-now (r.underway.one_queue m));
       tells = λ t e. does-on t (r.tells t e);
     }
 
@@ -203,6 +203,7 @@ with_clean infos station rest hand q fates a clean m = record {
   hung = m.hung;
   room = record { room = m.room.room; countable = m.room.countable };
   rule = m.rule;
+  asked = m.asked;
 }
 
 pub underway_with_clean : (s : Setting) (n rest : ℕ) (q : QueueState) (fates : List (Option Fate)) (a : Account) (clean : Bool)

@@ -2,6 +2,7 @@
 use Rattle.std.proofs.Common.{◌≡◌, inl, inr, ℕ, zero, suc, ◌<◌, List, [], ◌∷◌, ◌++◌, length, refl, ap, arith, Option, Some, None, sym, ◌∙◌, subst, map, take, slice_get, All}
 use Rattle.std.specs.Prelude.{IsSome, option_map}
 use Rattle.std.specs.Option.{option_map_or}
+use Rattle.std.proofs.lemmas.List.{map-append}
 use Rattle.std.proofs.lemmas.List.Elements.{All-nil, All-cons, All-get_or}
 use Rattle.std.proofs.lemmas.Option.{slice_get_within, slice_get_cases, get_or_from_slice_get}
 use Rattle.lq_account.proofs.Placed.{decided}
@@ -13,8 +14,8 @@ use Rattle.lq_model.specs.declared.fate.Info.{Info}
 use Rattle.lq_plan.specs.Packets.{IsInfoWithin}
 use Rattle.lq_top.proofs.FatesOfRun.{fates_of_run}
 use Rattle.lq_top.proofs.SetupLemmas.{mapped_at}
-use Rattle.lq_top.specs.Fates.{AreOptionsOf}
-use Rattle.lq_top.specs.Queue.{QueueState, device_of}
+use Rattle.lq_top.specs.Fates.{AreOptionsOf, identities_of}
+use Rattle.lq_top.specs.Queue.{QueueState, device_of, identity_of}
 use Rattle.lq_top.specs.Stations.{AllFinished, IsSentAlone, StationFinished}
 
 -- LISTS
@@ -38,6 +39,16 @@ lent_back (suc n) (x ∷ xs) rest len = ap (λ ys. x ∷ ys) (lent_back n xs res
 some-is : {X : Type 0} (o : Option X) (x : X) → o ≡ Some x → IsSome o
 some-is None x is = absurd cc
 some-is (Some y) x is = refl
+
+-- devices that were laid back before others stand in their order
+pub laid_back_in_order : {X : Type 0} (state : X → DeviceState) (queues : List QueueState) (bench behind : List X)
+    → map state behind ≡ map device_of queues ++ map state bench → identities_of (map state behind) ≡ map identity_of queues ++ identities_of (map state bench)
+laid_back_in_order state queues bench behind is =
+    ap identities_of is ∙ (map-append (λ device. device.identity) (map device_of queues) (map state bench) ∙ ap (λ ids. ids ++ identities_of (map state bench)) (of_queues queues))
+  where
+    of_queues : (queues : List QueueState) → identities_of (map device_of queues) ≡ map identity_of queues
+    of_queues [] = refl
+    of_queues (q ∷ queues) = ap (λ ids. identity_of q ∷ ids) (of_queues queues)
 
 -- PACKETS
 
@@ -94,6 +105,7 @@ module _ (plan : Plan) (infos : List Info) (before : List DeviceState) (queues :
     none = alone.no_events;
     all = all;
     of_plan = of_plan plan infos alone.within;
+    first_queue = first_queue plan infos alone.within;
     one_each = one_each;
     settled = settled;
     devices = λ station q here. ap (λ devices. slice_get devices station) is ∙ in_front (map device_of queues) rest station (device_of q) (mapped_at device_of queues station q here);

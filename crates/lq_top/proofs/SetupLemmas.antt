@@ -1,5 +1,5 @@
 -- What is made before a run of one sender, element by element.
-use Rattle.std.proofs.Common.{◌≡◌, inl, inr, ℕ, zero, suc, ◌+◌, ◌-◌, ◌<◌, ◌≤◌, true, false, List, [], ◌∷◌, ◌++◌, length, refl, ap, arith, Option, Some, None, Result, Ok, Err, sym, ◌∙◌, subst, map, take, drop, replicate, slice_get, slice_index_or, drop-drop}
+use Rattle.std.proofs.Common.{◌≡◌, inl, inr, ℕ, zero, suc, ◌+◌, ◌-◌, ◌<◌, ◌≤◌, true, false, List, [], ◌∷◌, ◌++◌, length, refl, ap, ap₂, arith, Option, Some, None, Result, Ok, Err, sym, ◌∙◌, subst, map, take, drop, replicate, slice_get, slice_index_or, drop-drop}
 use Rattle.std.specs.Prelude.{IsSome, option_map, slice_set, ◌==◌}
 use Rattle.std.specs.Option.{option_map_or}
 use Rattle.std.specs.Result.{IsOk, is_ok}
@@ -21,8 +21,8 @@ use Rattle.lq_model.specs.declared.fate.Info.{Info}
 use Rattle.lq_model.specs.declared.plan.StationPlan.{StationPlan}
 use Rattle.lq_top.proofs.FateLists.{set_here, set_apart}
 use Rattle.lq_top.specs.Bands.{AreBands}
-use Rattle.lq_top.specs.Fates.{AllTell}
-use Rattle.lq_top.specs.Queue.{QueueState, Setting, Begins, StandsFor, device_of, new_queue}
+use Rattle.lq_top.specs.Fates.{AllTell, identities_of}
+use Rattle.lq_top.specs.Queue.{QueueState, Setting, Begins, StandsFor, device_of, identity_of, new_queue}
 use Rattle.lq_top.specs.Setup.{AreConfigured, AreEmptyBands, IsReady}
 use Rattle.lq_top.specs.Stations.{AllStand, IsRunningAt, StationStands, setting_at, still_to_come}
 use Rattle.lq_top.specs.declared.queue.bands.Bands.{Bands}
@@ -126,6 +126,23 @@ fresh_first state plan infos before k all left s device configured planned rest 
     let known = configured_at plan infos before (map state all) k s (state device) configured planned (mapped_at state all k device (first_left k all left device rest some is)) in
     (known.2.accepted, known.2.hung)
 
+-- a device of the bench was changed and is the same one
+pub kept_its_identity : {X : Type 0} (state : X → DeviceState) (bench : List X) (k : ℕ) (old new : X) → slice_get bench k ≡ Some old
+    → (state new).identity ≡ (state old).identity → identities_of (map state (slice_set bench k new)) ≡ identities_of (map state bench)
+kept_its_identity state [] k old new there same = cc
+kept_its_identity state (x ∷ bench) zero old new there same = ap (λ i. i ∷ identities_of (map state bench)) (same ∙ ap (λ y. (state y).identity) (sym (same_Some x old there)))
+kept_its_identity state (x ∷ bench) (suc k) old new there same = ap (λ ids. (state x).identity ∷ ids) (kept_its_identity state bench k old new there same)
+
+-- a device that was first on the bench is the last of those in queues
+pub moved_to_the_queues : {X : Type 0} (state : X → DeviceState) (queues : List QueueState) (q : QueueState) (bench left : List X) (device : X)
+    → 0 < length bench → device ≡ slice_index_or bench 0 device → left ≡ drop 1 bench → identity_of q ≡ (state device).identity
+    → map identity_of (queues ++ q ∷ []) ++ identities_of (map state left) ≡ map identity_of queues ++ identities_of (map state bench)
+moved_to_the_queues state [] q [] left device some is rest same = absurd (omega arith)
+moved_to_the_queues state [] q (x ∷ bench) left device some is rest same =
+    ap₂ (λ i ids. i ∷ ids) (same ∙ ap (λ d. (state d).identity) is) (ap (λ xs. identities_of (map state xs)) rest)
+moved_to_the_queues state (p ∷ queues) q bench left device some is rest same =
+    ap (λ ids. identity_of p ∷ ids) (moved_to_the_queues state queues q bench left device some is rest same)
+
 -- one more device is configured
 pub configured_more : {X : Type 0} (state : X → DeviceState) (plan : Plan) (infos : List Info) (k : ℕ) (first mid : List X) (s : StationPlan) (old new : X)
     → AreConfigured plan infos k (map state first) (map state mid) → drop k mid ≡ drop k first → slice_get plan.stations k ≡ Some s → slice_get mid k ≡ Some old
@@ -183,6 +200,7 @@ module _ (plan : Plan) (infos : List Info) (before devices : List DeviceState) (
     no_fate = λ n within of. ap (λ list. slice_get list n) ready.no_fates ∙ replicated (length infos) None n within;
     room = (own-device station q here).2.spare;
     countable = let few = ready.few in let most = count_by-le-length (λ info. info.station == station) infos in omega arith;
+    nothing_asked = (own-device station q here).2.asked;
     no_busies = no_busies (own-device station q here).0.told (opened station q here).d.told (opened station q here).s.params (own-device station q here).2.told;
   }
 

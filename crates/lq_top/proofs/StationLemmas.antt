@@ -63,6 +63,7 @@ matches-beside infos station rest i q fates fates' a other same m = record {
   hung = m.hung;
   room = m.room;
   rule = m.rule;
+  asked = m.asked;
 }
 
 -- packet n went to another station

@@ -4,7 +4,7 @@ use Rattle.lq_account.specs.Progress.{IsAt}
 use Rattle.lq_device.specs.Station.{StationState}
 use Rattle.lq_model.specs.Account.{Account, Event, held, held_in, after}
 use Rattle.lq_model.specs.Alone.{Running, next_taken, served, served_turns, turns_of, brought_in, opened, finished}
-use Rattle.lq_model.specs.Device.{DeviceState, Telling, Answers}
+use Rattle.lq_model.specs.Device.{DeviceCall, DeviceState, Telling, Answers}
 use Rattle.lq_model.specs.Plan.{Plan, station_in, band_in, queue_in}
 use Rattle.lq_model.specs.declared.device.Tx.{Tx}
 use Rattle.lq_model.specs.declared.device.Tx.TheVariants.{Sent, SentStop, SentHang, Busy}
@@ -31,6 +31,10 @@ pub record QueueState : Type 0 where
 
 abbrev pub device_of : QueueState → DeviceState
 device_of q = q.station.device
+
+-- which device it is
+abbrev pub identity_of : QueueState → ℕ
+identity_of q = (device_of q).identity
 
 abbrev pub stop_number : StopValue → ℕ
 stop_number Open = 0
@@ -86,6 +90,11 @@ pub record IsPacketOf (infos : List Info) (station n : ℕ) : Type 0 where
   pub within : n < length infos
   pub of_station : station_in infos n ≡ station
 
+-- its device was asked to send a packet of the station, on that packet's own queue
+pub record IsCallOf (infos : List Info) (station : ℕ) (call : DeviceCall) : Type 0 where
+  pub packet : IsPacketOf infos station call.packet
+  pub own_queue : call.queue ≡ queue_in infos call.packet
+
 -- what is held and in hand are packets of the station
 pub record ArePacketsOf (infos : List Info) (station : ℕ) (a : Account) : Type 0 where
   pub in_slot : All (IsPacketOf infos station) (option_to_list a.slot)
@@ -122,6 +131,7 @@ pub record Matches (infos : List Info) (station rest : ℕ) (hand : Option ℕ) 
   pub hung : (device_of q).hung ≡ is_hung_value q.stop
   pub room : HasRoom rest hand q
   pub rule : MeetsRule (device_of q)
+  pub asked : All (IsCallOf infos station) (device_of q).asked
 
 -- some account is matched, with nothing in hand
 pub record MatchesSome (q : QueueState) (fates : List (Option Fate)) : Type 0 where
@@ -314,4 +324,5 @@ pub record Begins (s : Setting) (rest : ℕ) (device : DeviceState) (fates : Lis
   pub no_fate : (n : ℕ) → n < length s.infos → station_in s.infos n ≡ s.station → slice_get fates n ≡ Some None
   pub room : rest ≤ device.spare
   pub countable : rest ≤ 4294967295
+  pub nothing_asked : device.asked ≡ []
   pub no_busies : (t : Telling) → device.told ≡ Some t → t.busies ≡ 0

@@ -13,7 +13,7 @@ ghost use Rattle.lq_model.specs.declared.fate.Cause.TheVariants as cause;
 ghost use Rattle.lq_model.specs.declared.fate.Fate.{Fate};
 ghost use Rattle.lq_model.specs.declared.fate.Info.{Info};
 ghost use Rattle.lq_top.specs.Bands.{AreBands};
-ghost use Rattle.lq_top.specs.Queue.{QueueState, Setting, Matches, MatchesSome, IsPacketOf, IsNextPacket, IsTaken, MayOffer, Offers, SameElsewhere, IsUnderway, IsSomeUnderway, StandsForSome, StandsFor, MayTransmit, MaySendDirect, Begins, Runs, Serves, Brings, Goes, Finishes, transmitted, woken, new_queue, device_of, turns_left, work_left, value_opened};
+ghost use Rattle.lq_top.specs.Queue.{QueueState, Setting, Matches, MatchesSome, IsPacketOf, IsNextPacket, IsTaken, MayOffer, Offers, SameElsewhere, IsUnderway, IsSomeUnderway, StandsForSome, StandsFor, MayTransmit, MaySendDirect, Begins, Runs, Serves, Brings, Goes, Finishes, transmitted, woken, new_queue, device_of, identity_of, turns_left, work_left, value_opened};
 ghost use Rattle.lq_top.specs.declared.queue.stop_value.StopValue.TheVariants.{Open, Stopped, Hung};
 
 mod bands;
@@ -90,6 +90,7 @@ impl<D: TxDevice> Queue<D> {
         ensures goes { (s : Setting) (rest : ℕ) (a : Account) → StandsFor s n (rest + 1) self.old fates.old a → IsNextPacket s n band
             → Goes (transmitted s.infos self.old.bypass n) s (n + 1) rest self.old self.new fates.old fates.new a }
         ensures bypass { self.new.bypass ≡ self.old.bypass }
+        ensures identity { identity_of self.new ≡ identity_of self.old }
     {
         self.bring(n, band, fates);
         self.serve(fates);
@@ -102,6 +103,7 @@ impl<D: TxDevice> Queue<D> {
             → Goes (woken s.infos) s n rest self.old self.new fates.old fates.new a }
         ensures less { self.old.stop ≡ Stopped → work_left self.new < work_left self.old }
         ensures bypass { self.new.bypass ≡ self.old.bypass }
+        ensures identity { identity_of self.new ≡ identity_of self.old }
     {
         self.open_stopped();
         self.serve(fates);
@@ -110,8 +112,9 @@ impl<D: TxDevice> Queue<D> {
     /// Wakes the queue until it stays open or its device hangs. What is held then for a hung device is purged.
     pub fn finish(&mut self, fates: &mut [Option<Fate>])
         requires stands { StandsForSome self.old fates.old }
-        ensures { (s : Setting) (n rest : ℕ) (a : Account) → StandsFor s n rest self.old fates.old a
+        ensures finishes { (s : Setting) (n rest : ℕ) (a : Account) → StandsFor s n rest self.old fates.old a
             → Finishes s n rest self.old self.new fates.old fates.new a }
+        ensures identity { identity_of self.new ≡ identity_of self.old }
     {
         while self.is_stopped() {
             self.wake(fates);
@@ -129,6 +132,7 @@ impl<D: TxDevice> Queue<D> {
             → Serves s n rest self.old self.new fates.old fates.new a }
         ensures less { self.old.stop ≡ Open → work_left self.new ≤ work_left self.old }
         ensures bypass { self.new.bypass ≡ self.old.bypass }
+        ensures identity { identity_of self.new ≡ identity_of self.old }
     {
         if self.is_open() {
             self.run(fates);
@@ -145,6 +149,7 @@ impl<D: TxDevice> Queue<D> {
         ensures less { self.old.stop ≡ Open → work_left self.new ≤ work_left self.old }
         ensures clean { self.new.clean ≡ self.old.clean }
         ensures bypass { self.new.bypass ≡ self.old.bypass }
+        ensures identity { identity_of self.new ≡ identity_of self.old }
     {
         while self.is_open() {
             let Some(n) = self.dequeue() else {
@@ -175,6 +180,7 @@ impl<D: TxDevice> Queue<D> {
         ensures goes { (s : Setting) (rest : ℕ) (a : Account) → StandsFor s n (rest + 1) self.old fates.old a → IsNextPacket s n band
             → Brings (brought_in s.infos self.old.bypass n) s n rest self.old self.new fates.old fates.new a }
         ensures bypass { self.new.bypass ≡ self.old.bypass }
+        ensures identity { identity_of self.new ≡ identity_of self.old }
     {
         if self.may_pass() {
             self.send_direct(n, fates);
@@ -191,6 +197,7 @@ impl<D: TxDevice> Queue<D> {
             → IsPacketOf s.infos s.station n → self.old.clean ≡ true
             → Brings (gone_direct s.infos n) s n rest self.old self.new fates.old fates.new a }
         ensures bypass { self.new.bypass ≡ self.old.bypass }
+        ensures identity { identity_of self.new ≡ identity_of self.old }
     {
         if self.is_open() {
             let answer = self.xmit(n, fates);
@@ -210,6 +217,7 @@ impl<D: TxDevice> Queue<D> {
             → IsNextPacket s n band
             → Brings (gone_through s.infos n) s n rest self.old self.new fates.old fates.new a }
         ensures bypass { self.new.bypass ≡ self.old.bypass }
+        ensures identity { identity_of self.new ≡ identity_of self.old }
     {
         self.enqueue(n, band, fates);
         self.serve(fates);

@@ -5,7 +5,8 @@ ghost use Rattle.lq_model.specs.Device.{DeviceState};
 ghost use Rattle.lq_model.specs.Plan.{unit_count};
 ghost use Rattle.lq_model.specs.declared.fate.Fate.{Fate};
 ghost use Rattle.lq_plan.specs.Packets.{IsInfoWithin};
-ghost use Rattle.lq_top.specs.Fates.{AreFatesOf, AreOptionsOf};
+ghost use Rattle.lq_top.specs.Fates.{AreFatesOf, AreOptionsOf, identities_of};
+ghost use Rattle.lq_top.specs.Queue.{identity_of};
 ghost use Rattle.lq_top.specs.Setup.{AreEmptyBands, IsReady};
 ghost use Rattle.lq_top.specs.Stations.{AllFinished, AllStand, IsSentAlone};
 
@@ -31,10 +32,11 @@ fn run_stations<D: TxDevice, G: Gate>(
     requires alone { IsSentAlone plan.now infos.now }
     requires stand { (before : List DeviceState)
         × AllStand plan.now infos.now before 0 queues.old.items fates.old (slice_get (new_stations 0 plan.now.stations)) }
-    ensures { (before : List DeviceState)
+    ensures finished { (before : List DeviceState)
         → AllStand plan.now infos.now before 0 queues.old.items fates.old (slice_get (new_stations 0 plan.now.stations))
         → AllFinished plan.now infos.now before queues.new.items fates.new (λ station. option_map (finished infos.now)
         (slice_get (after_packets plan.now infos.now (new_stations 0 plan.now.stations) (length infos.now)) station)) }
+    ensures boxes { map identity_of queues.new.items ≡ map identity_of queues.old.items }
 {
     transmit_all(plan, infos, queues, fates, gate);
     finish_all(queues, fates);
@@ -62,6 +64,7 @@ fn send_ready<D: TxDevice, G: Gate>(
     ensures each { All (λ fate. IsSome fate) fates.new }
     ensures others { drop (length plan.now.stations) bench.new.items ≡ drop (length plan.now.stations) bench.old.items }
     ensures len { vec_len bench.new ≡ vec_len bench.old }
+    ensures boxes { identities_of (map D.state bench.new.items) ≡ identities_of (map D.state bench.old.items) }
 {
     open_stations(plan, bands, bench, &mut queues);
     run_stations(plan, infos, &mut queues, fates, gate);
@@ -90,6 +93,7 @@ pub fn send_packets<D: TxDevice, G: Gate>(
         (map D.state bench.old.items) (map D.state bench.new.items)) }
     ensures others { drop (unit_count plan.now) bench.new.items ≡ drop (unit_count plan.now) bench.old.items }
     ensures len { vec_len bench.new ≡ vec_len bench.old }
+    ensures boxes { identities_of (map D.state bench.new.items) ≡ identities_of (map D.state bench.old.items) }
 {
     let mut list = no_fates(alloc, infos.len())?;
     let mut fates = room_for(alloc, infos.len())?;

@@ -5,7 +5,8 @@ ghost use Rattle.std.specs.Prelude.{◌≡◌, ◌≤◌, ◌+◌, ◌++◌, ℕ
 ghost use Rattle.lq_model.specs.Alone.{new_stations};
 ghost use Rattle.lq_model.specs.Device.{DeviceState};
 ghost use Rattle.lq_model.specs.declared.fate.Info.{Info};
-ghost use Rattle.lq_top.specs.Queue.{device_of};
+ghost use Rattle.lq_top.specs.Fates.{identities_of};
+ghost use Rattle.lq_top.specs.Queue.{device_of, identity_of};
 ghost use Rattle.lq_top.specs.Setup.{AreConfigured, AreEmptyBands, IsReady};
 ghost use Rattle.lq_top.specs.Stations.{AllStand, still_to_come};
 
@@ -67,6 +68,7 @@ pub fn configure_units<D: TxDevice>(
         (map D.state bench.old.items) (map D.state bench.new.items)) }
     ensures others { drop (length plan.now.stations) bench.new.items ≡ drop (length plan.now.stations) bench.old.items }
     ensures len { vec_len bench.new ≡ vec_len bench.old }
+    ensures boxes { identities_of (map D.state bench.new.items) ≡ identities_of (map D.state bench.old.items) }
 {
     for station in 0..plan.stations() {
         let room = packets_of(infos, station);
@@ -95,6 +97,7 @@ pub fn open_stations<D: TxDevice>(
     ensures rest { bench.new.items ≡ drop (length plan.now.stations) bench.old.items }
     ensures len { length plan.now.stations + vec_len bench.new ≡ vec_len bench.old }
     ensures capacity { vec_capacity bench.new ≡ vec_capacity bench.old }
+    ensures boxes { map identity_of queues.new.items ++ identities_of (map D.state bench.new.items) ≡ identities_of (map D.state bench.old.items) }
 {
     for station in 0..plan.stations() {
         let device = bench.remove(0);

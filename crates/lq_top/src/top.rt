@@ -4,6 +4,7 @@ ghost use Rattle.lq_host.specs.Host.{Rose};
 ghost use Rattle.lq_model.specs.Plan.{unit_count};
 ghost use Rattle.lq_top.specs.Command.{command_of, run_words, words_of};
 ghost use Rattle.lq_top.specs.Decision.{IsRunnable, Refuses, Runs, max_units, units_of, verdict_of, verdict_of_run};
+ghost use Rattle.lq_top.specs.Fates.{identities_of};
 ghost use Rattle.lq_top.specs.Headline.{HasRun, run_of};
 ghost use Rattle.lq_top.specs.Outcome.{Ends, EndsOrStops, IsAnswerOf, IsRunStatus, Outcome, Stops, TellsUsageFor, refuses};
 ghost use Rattle.lq_top.specs.Refusal.{line_of, status_of};
@@ -61,6 +62,7 @@ fn run_capture<H: Host, G: Gate, D: TxDevice>(
         (H.state host.old) (H.state host.new) (map D.state bench.old.items) (map D.state bench.new.items)) }
     ensures others { drop (unit_count plan.now) bench.new.items ≡ drop (unit_count plan.now) bench.old.items }
     ensures len { vec_len bench.new ≡ vec_len bench.old }
+    ensures boxes { identities_of (map D.state bench.new.items) ≡ identities_of (map D.state bench.old.items) }
     ensures handles { (H.state host.new).handles ≡ (H.state host.old).handles }
     ensures cause { StopsFor (H.fault_count host.old) (H.fault_count host.new) result }
 {
@@ -91,6 +93,7 @@ fn run_command<H: Host, G: Gate, D: TxDevice>(
     ensures refused { IfOk result (λ answer.
         refuses answer ≡ true → bench.new.items ≡ bench.old.items) }
     ensures len { vec_len bench.new ≡ vec_len bench.old }
+    ensures boxes { identities_of (map D.state bench.new.items) ≡ identities_of (map D.state bench.old.items) }
     ensures handles { (H.state host.new).handles ≡ (H.state host.old).handles }
     ensures cause { StopsFor (H.fault_count host.old) (H.fault_count host.new) result }
 {
@@ -139,9 +142,10 @@ pub fn lqtx<R: Threads + Wait + Sync, H: Host, G: Gate, D: TxDevice>(
     // No handle is left open, and none is closed.
     ensures handles { (H.state host.new).handles ≡ (H.state host.old).handles }
 
-    // The boxes of the bench: none gets lost, and those that aren't units of a plan that is run are as before, as are all
+    // The boxes of the bench: none gets lost, each is in its place, and those that aren't units of a plan that is run are as before, as are all
     // of them at each refusal; also where the host tells nothing, those beyond the units that a plan may have.
     ensures len { vec_len bench.new ≡ vec_len bench.old }
+    ensures boxes { identities_of (map D.state bench.new.items) ≡ identities_of (map D.state bench.old.items) }
     ensures others { IfSome (H.state host.old).told (λ c.
         let units = units_of (verdict_of (words_of words.now) c.files (vec_len bench.old)) in
         drop units bench.new.items ≡ drop units bench.old.items) }

@@ -1,5 +1,10 @@
+use Rattle.std.proofs.Common.{◌≡◌, map}
 use Rattle.lq_top.proofs.AllStations.{FirstWoken}
+use Rattle.lq_top.specs.Queue.{identity_of}
 use Rattle.lq_top.proofs.run.wake_all.Given as goal
 
 abbrev pub invariant-loop-station : goal.invariant-loop-station
-invariant-loop-station g l = FirstWoken l.station l.fn.queues.items l.queues.items l.fn.fates l.fates
+invariant-loop-station g l = record {
+  so_far : FirstWoken l.station l.fn.queues.items l.queues.items l.fn.fates l.fates;
+  boxes : map identity_of l.queues.items ≡ map identity_of l.fn.queues.items;
+}

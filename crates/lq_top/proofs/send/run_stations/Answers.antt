@@ -7,4 +7,4 @@ finish_all-requires g c =
     let plan = c.args.plan.now in
     let infos = c.args.infos.now in
     let run_at = slice_get (after_packets plan infos (new_stations 0 plan.stations) (length infos)) in
-    (c.type_bounds.send-D, (plan, infos, (c.requires.stand.0, run_at, c.transmit_all.ensures c.requires.stand.0 c.requires.stand.1)))
+    (c.type_bounds.send-D, (plan, infos, (c.requires.stand.0, run_at, c.transmit_all.ensures.stand c.requires.stand.0 c.requires.stand.1)))

@@ -1,5 +1,7 @@
-use Rattle.std.proofs.Common.{◌≡◌, ◌<◌, length, sym, ap, ◌∙◌, subst, arith, drop, drop-drop, map}
-use Rattle.lq_top.proofs.SetupLemmas.{Each, IsOpenedAt, all_stand, each_more, first_left, fresh_first, mapped_at}
+use Rattle.std.proofs.Common.{◌≡◌, ◌++◌, ◌<◌, length, sym, ap, ◌∙◌, subst, arith, drop, drop-drop, map}
+use Rattle.lq_top.proofs.SetupLemmas.{Each, IsOpenedAt, all_stand, each_more, first_left, fresh_first, mapped_at, moved_to_the_queues}
+use Rattle.lq_top.specs.Fates.{identities_of}
+use Rattle.lq_top.specs.Queue.{identity_of}
 use Rattle.lq_top.proofs.setup.open_stations.Goals as goal
 
 pub new-requires-clause-fresh : goal.new-requires-clause-fresh
@@ -37,6 +39,9 @@ loop-station-preserved g c =
       capacity = c.remove-device.ensures.capacity ∙ own.capacity;
       so_many = let e = own.so_many in let len = c.push_reserved.ensures.len in omega arith;
       room = let room = own.room in let same = c.push_reserved.ensures.capacity in omega arith;
+      boxes = ap (λ qs. map identity_of qs ++ identities_of (map state c.remove-device.new.self.items)) c.push_reserved.ensures.items
+          ∙ (moved_to_the_queues state c.loop-station.queues.items c.new.result c.loop-station.bench.items c.remove-device.new.self.items device some c.remove-device.ensures.value c.remove-device.ensures.items
+          (ap identity_of c.new.ensures.state) ∙ own.boxes);
       opened = subst (Each P) (sym c.push_reserved.ensures.items) (each_more P c.loop-station.queues.items c.new.result own.opened
           (subst (λ n. P n c.new.result) (sym so_many) (record {
             s = c.station-bypass.result;

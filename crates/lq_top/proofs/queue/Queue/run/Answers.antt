@@ -1,7 +1,7 @@
 use Rattle.std.proofs.Common.{◌≢◌, sym, ap, ◌∙◌, subst}
 use Rattle.std.proofs.lemmas.Bool.{true≢false}
 use Rattle.lq_model.specs.declared.device.Tx.TheVariants.{Sent}
-use Rattle.lq_top.specs.Queue.{QueueState, Runs}
+use Rattle.lq_top.specs.Queue.{QueueState, Runs, identity_of}
 use Rattle.lq_top.specs.declared.queue.stop_value.StopValue.TheVariants.{Open}
 use Rattle.lq_top.proofs.QueueRuns.{run_ends_closed, run_ends_empty, run_turns, turn_may, work_kept}
 use Rattle.lq_top.proofs.queue.Queue.run.Goals as goal
@@ -32,6 +32,7 @@ loop-self-preserved g c = record {
   less = λ e. work_kept c.loop-self.self c.dequeue.new.self c.xmit.new.self _ c.in-Some.ensures.less c.xmit.ensures.less (c.loop-self.invariant.less e);
   clean = c.xmit.ensures.offers.clean ∙ ap (λ (q : QueueState). q.clean) c.in-Some.ensures.rest ∙ c.loop-self.invariant.clean;
   bypass = c.xmit.ensures.offers.bypass ∙ ap (λ (q : QueueState). q.bypass) c.in-Some.ensures.rest ∙ c.loop-self.invariant.bypass;
+  identity = c.xmit.ensures.offers.answers.identity ∙ ap identity_of c.in-Some.ensures.rest ∙ c.loop-self.invariant.identity;
 }
 
 -- the queue isn't open any more

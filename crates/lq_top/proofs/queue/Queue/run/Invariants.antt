@@ -1,6 +1,6 @@
 use Rattle.std.proofs.Common.{◌≡◌, ◌≤◌, ℕ}
 use Rattle.lq_model.specs.Account.{Account}
-use Rattle.lq_top.specs.Queue.{Setting, IsUnderway, turns_left, work_left}
+use Rattle.lq_top.specs.Queue.{Setting, IsUnderway, identity_of, turns_left, work_left}
 use Rattle.lq_top.specs.declared.queue.stop_value.StopValue.TheVariants.{Open}
 use Rattle.lq_top.proofs.QueueRuns.{RunsOn}
 use Rattle.lq_top.proofs.queue.Queue.run.Given as goal
@@ -11,6 +11,7 @@ invariant-loop-self g l = record {
   less : l.fn.self.stop ≡ Open → work_left l.self ≤ work_left l.fn.self;
   clean : l.self.clean ≡ l.fn.self.clean;
   bypass : l.self.bypass ≡ l.fn.self.bypass;
+  identity : identity_of l.self ≡ identity_of l.fn.self;
 }
 
 abbrev pub decreases-loop-self : goal.decreases-loop-self
