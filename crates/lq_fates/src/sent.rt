@@ -1,5 +1,5 @@
 //! The packets that a unit sent.
-ghost use Rattle.std.specs.Prelude.{◌≡◌, IfOk, MatchOption, false, count_by};
+ghost use Rattle.std.specs.Prelude.{◌≡◌, ◌≤◌, ◌^◌, IfOk, OnErr, MatchOption, false, count_by};
 ghost use Rattle.lq_model.specs.Sent.{sent_of};
 ghost use Rattle.lq_model.specs.Settled.{AreSerials};
 ghost use Rattle.lq_model.specs.Texts.{is_sent_by};
@@ -26,8 +26,10 @@ fn count_of_sent(fates: &[Fate], unit: u32) -> usize
         .count()
 }
 
+// A packet's number in 32 bits.
 fn number_of(n: usize) -> Result<u32, NoMemory>
-    ensures { IfOk result (λ number. number ≡ n) }
+    ensures ok { IfOk result (λ number. number ≡ n) }
+    ensures beyond { OnErr result (2 ^ 32 ≤ n) }
 {
     u32::try_from(n).map_err(|_| NoMemory)
 }

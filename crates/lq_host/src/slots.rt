@@ -1,5 +1,5 @@
 // The handles of a host. Handle 0 is standard output, and handle k + 1 is slot k, which is never given out again.
-ghost use Rattle.std.specs.Prelude.{◌≡◌, ◌<◌, ◌+◌, ◌^◌, ◌≢◌, List, ℕ, Err, None, Some, length, IfOk, OnErr, IsSome, vec_len, is_ok, if◌then◌else◌};
+ghost use Rattle.std.specs.Prelude.{◌≡◌, ◌<◌, ◌≤◌, ◌+◌, ◌-◌, ◌^◌, ◌≢◌, ◌⊎◌, List, ℕ, Err, None, Some, length, IfOk, OnErr, IsSome, vec_len, vec_capacity, is_ok, if◌then◌else◌};
 ghost use Rattle.lq_host.specs.Host.{with_handle, Reads, Writes, IsReader, IsWriter, moved};
 ghost use Rattle.lq_host.specs.Slots.{handles_of, opened_of};
 
@@ -15,12 +15,13 @@ pub(crate) enum Slot {
     Writer { name: String },
 }
 
-// Opens a slot, and answers its handle.
+// Opens a slot, and answers its handle. There is no room only where each handle was given out, or the list has to grow.
 pub(crate) fn push_slot(slots: &mut Vec<Slot>, slot: Slot) -> Result<u32, HostError>
     ensures fresh { IfOk result (λ h. handles_of slots.old.items h ≡ None) }
     ensures ok { IfOk result (λ h. handles_of slots.new.items ≡ with_handle (handles_of slots.old.items) h (opened_of slot)) }
     ensures err { OnErr result (slots.new.items ≡ slots.old.items) }
     ensures memory { result ≢ Err HostError.Failed }
+    ensures no_room { OnErr result ((2 ^ 32 - 1 ≤ vec_len slots.old) ⊎ (vec_capacity slots.old ≤ vec_len slots.old)) }
     ensures len { vec_len slots.new ≡ (if is_ok result then vec_len slots.old + 1 else vec_len slots.old) }
 {
     let count = slots.len();

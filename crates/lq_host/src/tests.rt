@@ -1,12 +1,16 @@
 // What no clause says: that the calls succeed, and what real files hold.
 ghost use Rattle.std.specs.Prelude.{◌<◌, ◌≤◌, length, IfOk};
 
+use crate::file_host::read_some;
 use crate::{FileHost, Host, HostCall, HostError, MemHost};
 use std::fs;
+use std::io::{Error, ErrorKind, Read, Result as IoResult};
 use std::test::Fail;
 
 // Makes a file of these bytes.
-fn write_file<H: Host>(host: &mut H, name: &str, bytes: &[u8]) -> Result<(), HostError> {
+fn write_file<H: Host>(host: &mut H, name: &str, bytes: &[u8]) -> Result<(), HostError>
+    requires { H.may_create name.now }
+{
     let h = host.create(name)?;
     host.write(h, bytes)?;
     host.finish(h)?;
@@ -15,7 +19,8 @@ fn write_file<H: Host>(host: &mut H, name: &str, bytes: &[u8]) -> Result<(), Hos
 
 // Fills the front of a buffer with the first bytes of a file, and tells how many they are.
 fn read_file<H: Host>(host: &mut H, name: &str, buf: &mut [u8]) -> Result<usize, HostError>
-    requires { 0 < length buf.old }
+    requires may { H.may_open name.now }
+    requires room { 0 < length buf.old }
     ensures { IfOk result (λ n. n ≤ length buf.new) }
 {
     let h = host.open_read(name)?;
@@ -46,6 +51,105 @@ fn real_files_keep_what_was_written(rt: HostRuntime) -> Result<(), Fail> {
     assert_eq!(rt; host.faults(), 0);
     assert_eq!(rt; host.open_read(name), Err(HostError::Failed));
     assert_eq!(rt; host.faults(), 1);
+    Ok(())
+}
+
+#[test]
+fn a_file_that_is_created_anew_loses_its_bytes(rt: HostRuntime) -> Result<(), Fail> {
+    let folder = "lq_host_shorter";
+    let name = "lq_host_shorter/file";
+    let mut buf = [0u8; 10];
+    let mut host = FileHost::new(rt.clone()?);
+
+    fs::create_dir_all(&rt, folder)?;
+    let long = write_file(&mut host, name, b"0123456789");
+    let short = write_file(&mut host, name, b"abc");
+    let count = read_file(&mut host, name, &mut buf);
+    fs::remove_file(&rt, name)?;
+    fs::remove_dir(&rt, folder)?;
+
+    assert_eq!(rt; long, Ok(()));
+    assert_eq!(rt; short, Ok(()));
+    assert_eq!(rt; count, Ok(3));
+    assert_eq!(rt; &buf[..3], b"abc".as_slice());
+    assert_eq!(rt; host.faults(), 0);
+    Ok(())
+}
+
+/// A folder can be opened, and its bytes can't be read.
+#[test]
+fn a_folder_is_a_fault(rt: HostRuntime) -> Result<(), Fail> {
+    let folder = "lq_host_folder";
+    let mut buf = [0u8; 10];
+    let mut host = FileHost::new(rt.clone()?);
+
+    fs::create_dir_all(&rt, folder)?;
+    let read = read_file(&mut host, folder, &mut buf);
+    let created = write_file(&mut host, folder, b"abc");
+    fs::remove_dir(&rt, folder)?;
+
+    assert_eq!(rt; read, Err(HostError::Failed));
+    assert_eq!(rt; created, Err(HostError::Failed));
+    assert_eq!(rt; host.faults(), 2);
+    Ok(())
+}
+
+/// A device that takes no bytes.
+#[test]
+fn a_full_device_is_a_fault(rt: HostRuntime) -> Result<(), Fail> {
+    let mut host = FileHost::new(rt.clone()?);
+    let written = write_file(&mut host, "/dev/full", b"abc");
+    assert_eq!(rt; written, Err(HostError::Failed));
+    assert_eq!(rt; host.faults(), 1);
+    Ok(())
+}
+
+/// Were the files kept open, some file had the number of the last one by then.
+#[test]
+fn a_finished_file_is_closed(rt: HostRuntime) -> Result<(), Fail> {
+    let mut buf = [0u8; 1];
+    let mut host = FileHost::new(rt.clone()?);
+    for _ in 0..100 {
+        assert_eq!(rt; read_file(&mut host, "/dev/null", &mut buf), Ok(0));
+    }
+    assert_eq!(rt; host.open_read("/proc/self/fd/90"), Err(HostError::Failed));
+    Ok(())
+}
+
+/// A reader that is interrupted so many times, and then gives one byte, or fails.
+#[derive(Drop)]
+struct Interrupted {
+    times: u32,
+    fails: bool,
+}
+
+impl Read for Interrupted {
+    fn read(&mut self, buf: &mut [u8]) -> IoResult<usize> {
+        if self.times > 0 {
+            self.times -= 1;
+            return Err(Error::from(ErrorKind::Interrupted));
+        }
+        if self.fails || buf.is_empty() {
+            return Err(Error::from(ErrorKind::BrokenPipe));
+        }
+        buf[0] = b'a';
+        Ok(1)
+    }
+}
+
+#[test]
+fn an_interrupted_reading_goes_on(rt: HostRuntime) -> Result<(), Fail> {
+    let mut buf = [0u8; 2];
+    for times in 0..3 {
+        let mut reader = Interrupted {
+            times,
+            fails: false,
+        };
+        assert_eq!(rt; read_some(&mut reader, &mut buf)?, 1);
+        assert_eq!(rt; buf[0], b'a');
+        let mut broken = Interrupted { times, fails: true };
+        assert!(rt; read_some(&mut broken, &mut buf).is_err());
+    }
     Ok(())
 }
 

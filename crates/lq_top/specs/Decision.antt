@@ -90,6 +90,11 @@ by_command (Some words) files have = verdict_of_run words files have
 abbrev pub verdict_of : List (List ℕ) → Files → ℕ → Verdict
 verdict_of words files have = by_command (command_of words) files have
 
+-- the same where the plan's file and the capture's have these bytes
+abbrev pub by_bytes : Option RunWords → ℕ → List ℕ → List ℕ → Verdict
+by_bytes None have plan capture = Refuses refusal.Usage
+by_bytes (Some words) have plan capture = by_plan (Some (plan_for have plan)) (λ p. by_capture words.out p (Some (limited_capture_of capture)))
+
 -- how many devices it may change, the first ones of the bench
 abbrev pub units_of : Verdict → ℕ
 units_of LacksFile = 0

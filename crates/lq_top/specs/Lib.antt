@@ -12,8 +12,12 @@ pub mod Forms
 pub mod Refusal
 -- what a call decides from its words, its files and its bench
 pub mod Decision
+-- the names of the files that it opens and creates
+pub mod Names
 -- what it answers and leaves
 pub mod Outcome
+-- the exit status of the program
+pub mod Program
 -- the numbers of statuses
 pub mod Status
 -- why the calls inside stop

@@ -1,10 +1,10 @@
 -- What a call answers and leaves, once it has decided.
-use Rattle.std.specs.Prelude.{◌≡◌, ◌⊎◌, Bool, true, false, List, Option, None, Result, Ok, Err}
+use Rattle.std.specs.Prelude.{◌≡◌, ◌⊎◌, ℕ, Bool, true, false, List, Option, None, Result, Ok, Err}
 use Rattle.lq_model.specs.Device.{DeviceState}
 use Rattle.lq_model.specs.declared.fate.Fate.{Fate}
 use Rattle.lq_host.specs.Host.{HostState}
 use Rattle.lq_top.specs.Command.{RunWords}
-use Rattle.lq_top.specs.Decision.{Verdict, LacksFile, Refuses, Runs}
+use Rattle.lq_top.specs.Decision.{Verdict, LacksFile, Refuses, Runs, by_bytes}
 use Rattle.lq_top.specs.Headline.{AreFatesIn, HasRun, texts_of}
 use Rattle.lq_top.specs.Refusal.{line_of, status_of}
 use Rattle.lq_top.specs.Written.{output_only, written, IsCut}
@@ -39,10 +39,17 @@ Outcome verdict old new before behind (status.Bench need have) = Ends verdict ol
 Outcome verdict old new before behind (status.Capture reason place) = Ends verdict old new before behind (status.Capture reason place)
 Outcome verdict old new before behind status.NotBuilt = Ends verdict old new before behind status.NotBuilt
 
+-- The outcome for every host, also one that doesn't tell what its files hold: that of some bytes of a plan and of a capture.
+abbrev pub OutcomeOfSome : Option RunWords → ℕ → HostState → HostState → List DeviceState → List DeviceState → Status → Type 0
+OutcomeOfSome command have old new before behind answer = (plan capture : List ℕ) × Outcome (by_bytes command have plan capture) old new before behind answer
+
 -- the same of a command inside
 abbrev pub EndsOrStops : Verdict → HostState → HostState → List DeviceState → List DeviceState → Result Status Stop → Type 0
 EndsOrStops verdict old new before behind (Ok answer) = Ends verdict old new before behind answer
 EndsOrStops verdict old new before behind (Err stop) = Stops verdict old new before behind
+
+abbrev pub EndsOrStopsOfSome : Option RunWords → ℕ → HostState → HostState → List DeviceState → List DeviceState → Result Status Stop → Type 0
+EndsOrStopsOfSome command have old new before behind result = (plan capture : List ℕ) × EndsOrStops (by_bytes command have plan capture) old new before behind result
 
 -- THE CAUSES
 

@@ -1,5 +1,5 @@
 //! The capture that a file is, or why it is refused.
-ghost use Rattle.std.specs.Prelude.{◌≡◌, ◌≢◌, ◌≤◌, Err, vec_len, IfErr, IfOk, IfSome, Some};
+ghost use Rattle.std.specs.Prelude.{◌≡◌, ◌≢◌, ◌≤◌, ℕ, List, Err, vec_len, IfErr, IfOk, IfSome, Some};
 ghost use Rattle.std.specs.Option.{option_map};
 ghost use Rattle.lq_top.specs.Decision.{limited_capture_of};
 ghost use Rattle.lq_top.specs.Stop.{StopsFor};
@@ -36,9 +36,11 @@ pub fn read_capture_file<H: Host>(
     host: &mut H,
     name: &str,
 ) -> Result<Result<Capture, Refusal>, Stop>
+    requires { H.may_open name.now }
     ensures capture { IfOk result (λ read. IfSome (H.state host.old).told (λ c.
         option_map limited_capture_of (c.files name.now) ≡ Some read)) }
     ensures not_usage { IfOk result (λ read. IfErr read (λ refusal. refusal ≢ Refusal.Usage)) }
+    ensures some { IfOk result (λ read. (bytes : List ℕ) × (limited_capture_of bytes ≡ read)) }
     ensures same { H.state host.new ≡ H.state host.old }
     ensures cause { StopsFor (H.fault_count host.old) (H.fault_count host.new) result }
 {

@@ -1,10 +1,11 @@
 //! What a run writes: the capture of each unit, each packet's fate, and the counts.
-ghost use Rattle.std.specs.Prelude.{◌≡◌, ◌⊎◌, ◌≤◌, ℕ, OnOk, OnErr, length};
+ghost use Rattle.std.specs.Prelude.{◌≡◌, ◌⊎◌, ◌≤◌, ◌<◌, ℕ, OnOk, OnErr, length};
 ghost use Rattle.lq_host.specs.Host.{wrote};
 ghost use Rattle.lq_model.specs.Plan.{infos_of, unit_count};
 ghost use Rattle.lq_model.specs.Settled.{AreSerials, IsSettled};
 ghost use Rattle.lq_model.specs.Texts.{counts_text};
-ghost use Rattle.lq_top.specs.Headline.{fates_file, run_of, texts_of, unit_file, unit_files};
+ghost use Rattle.lq_top.specs.Headline.{capture_name, fates_file, fates_name, run_of, texts_of, unit_file, unit_files};
+ghost use Rattle.lq_top.specs.Names.{MayWrite};
 ghost use Rattle.lq_top.specs.Stop.{StopsFor};
 ghost use Rattle.lq_top.specs.Written.{FileIsCut, FilesAreCut, IsCut, OutputHasPrefix, file_written, files_written, written};
 
@@ -27,6 +28,7 @@ fn write_unit<H: Host>(
     fates: &[Fate],
     unit: u32,
 ) -> Result<(), Stop>
+    requires may { H.may_create (capture_name out.now unit) }
     requires serials { AreSerials fates.now unit }
     requires known { length fates.now ≤ capture.now.count }
     ensures handles { (H.state host.new).handles ≡ (H.state host.old).handles }
@@ -51,6 +53,7 @@ fn write_units<H: Host>(
     fates: &[Fate],
     units: u32,
 ) -> Result<(), Stop>
+    requires may { (unit : ℕ) → unit < units → H.may_create (capture_name out.now unit) }
     requires serials { (unit : ℕ) → AreSerials fates.now unit }
     requires known { length fates.now ≤ capture.now.count }
     ensures handles { (H.state host.new).handles ≡ (H.state host.old).handles }
@@ -68,6 +71,7 @@ fn write_units<H: Host>(
 
 /// Makes the file that tells each packet's fate.
 fn write_fates<H: Host>(alloc: Global, host: &mut H, out: &str, fates: &[Fate]) -> Result<(), Stop>
+    requires { H.may_create (fates_name out.now) }
     ensures handles { (H.state host.new).handles ≡ (H.state host.old).handles }
     ensures ok { OnOk result (H.state host.new
         ≡ file_written (H.state host.old) (fates_file out.now fates.now)) }
@@ -111,6 +115,7 @@ pub fn write_run<H: Host>(
     infos: &[Info],
     fates: &[Fate],
 ) -> Result<(), Stop>
+    requires may { MayWrite H.may_create out.now (unit_count plan.now) }
     requires infos { infos.now ≡ infos_of plan.now capture.now }
     requires count { length infos.now ≡ capture.now.count }
     requires settled { IsSettled plan.now infos.now fates.now }

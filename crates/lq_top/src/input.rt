@@ -1,10 +1,10 @@
 //! A file, read to its end.
-ghost use Rattle.std.specs.Prelude.{◌≡◌, ◌<◌, length, vec_len, IfOk, IfSome};
+ghost use Rattle.std.specs.Prelude.{◌≡◌, ◌<◌, ℕ, List, length, vec_len, IfOk, IfSome};
 ghost use Rattle.lq_host.specs.Host.{IsReader, closed, left};
 ghost use Rattle.lq_top.specs.Input.{IsInput, IsInputOf, IsWithin};
 ghost use Rattle.lq_top.specs.Stop.{StopsFor};
 
-use crate::stop::Stop;
+use crate::stop::{Stop, and_finished};
 use lq_host::Host;
 use std::alloc::{AllocError, Global};
 
@@ -37,6 +37,7 @@ fn read_rest<H: Host>(
     requires room { 0 < length buffer.old }
     ensures input { IfOk result (λ input.
         IfSome (left (H.state host.old) h) (λ bytes. IsInput limit bytes input)) }
+    ensures some { IfOk result (λ input. (bytes : List ℕ) × IsInput limit bytes input) }
     ensures within { IfOk result (IsWithin limit) }
     ensures reader { IsReader ((H.state host.new).handles h) }
     ensures same { closed (H.state host.new) h ≡ closed (H.state host.old) h }
@@ -60,8 +61,10 @@ pub fn read_file<H: Host>(
     name: &str,
     limit: usize,
 ) -> Result<Input, Stop>
+    requires { H.may_open name.now }
     ensures input { IfOk result (λ input. IfSome (H.state host.old).told (λ c.
         IsInputOf limit (c.files name.now) input)) }
+    ensures some { IfOk result (λ input. (bytes : List ℕ) × IsInput limit bytes input) }
     ensures within { IfOk result (IsWithin limit) }
     ensures same { H.state host.new ≡ H.state host.old }
     ensures cause { StopsFor (H.fault_count host.old) (H.fault_count host.new) result }
@@ -70,7 +73,6 @@ pub fn read_file<H: Host>(
     let h = host.open_read(name)?;
     let input = read_rest(alloc, host, h, limit, &mut buffer);
     let end = host.finish(h);
-    let input = input?;
-    end?;
+    let input = and_finished(input, end)?;
     Ok(input)
 }

@@ -11,6 +11,7 @@ mod input;
 pub mod laws;
 mod output;
 mod plan;
+mod program;
 mod queue;
 mod refusal;
 mod run;
@@ -22,5 +23,6 @@ mod texts;
 mod top;
 
 pub use gate::{Free, Gate};
+pub use program::run_program;
 pub use status::Status;
 pub use top::lqtx;

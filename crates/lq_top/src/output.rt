@@ -4,7 +4,7 @@ ghost use Rattle.lq_host.specs.Host.{IsWriter, wrote, filed};
 ghost use Rattle.lq_top.specs.Stop.{StopsFor};
 ghost use Rattle.lq_top.specs.Written.{FileHasPrefix, OutputHasPrefix};
 
-use crate::stop::Stop;
+use crate::stop::{Stop, and_finished};
 use lq_host::Host;
 
 /// Bytes that are written at once.
@@ -30,6 +30,7 @@ fn write_text<H: Host>(host: &mut H, h: u32, text: &[u8]) -> Result<(), Stop>
 
 /// Makes a file of a text. Where it stops, the file is as before, or has a prefix of the text.
 pub fn write_file<H: Host>(host: &mut H, name: &str, text: &[u8]) -> Result<(), Stop>
+    requires { H.may_create name.now }
     ensures handles { (H.state host.new).handles ≡ (H.state host.old).handles }
     ensures ok { OnOk result (H.state host.new ≡ filed (H.state host.old) name.now text.now) }
     ensures err { OnErr result ((H.state host.new ≡ H.state host.old)
@@ -39,8 +40,7 @@ pub fn write_file<H: Host>(host: &mut H, name: &str, text: &[u8]) -> Result<(), 
     let h = host.create(name)?;
     let written = write_text(host, h, text);
     let end = host.finish(h);
-    written?;
-    end?;
+    and_finished(written, end)?;
     Ok(())
 }
 

@@ -1,5 +1,5 @@
 //! The plan that a file is, and whether a bench can run it.
-ghost use Rattle.std.specs.Prelude.{◌≡◌, ◌≢◌, ◌≤◌, Err, length, vec_len, IfErr, IfOk, IfSome, Some};
+ghost use Rattle.std.specs.Prelude.{◌≡◌, ◌≢◌, ◌≤◌, ℕ, List, Err, length, vec_len, IfErr, IfOk, IfSome, Some};
 ghost use Rattle.std.specs.Option.{option_map};
 ghost use Rattle.lq_top.specs.Decision.{IsRunnable, is_built, limited_plan_of, placed_on, plan_for};
 ghost use Rattle.lq_top.specs.Stop.{StopsFor};
@@ -62,8 +62,10 @@ pub fn read_plan_file<H: Host>(
     name: &str,
     have: usize,
 ) -> Result<Result<Plan, Refusal>, Stop>
+    requires { H.may_open name.now }
     ensures plan { IfOk result (λ read. IfSome (H.state host.old).told (λ c.
         option_map (plan_for have) (c.files name.now) ≡ Some read)) }
+    ensures some { IfOk result (λ read. (bytes : List ℕ) × (plan_for have bytes ≡ read)) }
     ensures runnable { IfOk result (λ read. IfOk read (IsRunnable have)) }
     ensures not_usage { IfOk result (λ read. IfErr read (λ refusal. refusal ≢ Refusal.Usage)) }
     ensures same { H.state host.new ≡ H.state host.old }

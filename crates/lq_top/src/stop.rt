@@ -1,5 +1,6 @@
 //! Why a call gives up on the way.
-ghost use Rattle.std.specs.Prelude.{◌≡◌};
+ghost use Rattle.std.specs.Prelude.{◌≡◌, Ok, IfOk};
+ghost use Rattle.lq_top.specs.Stop.{with_end};
 
 use crate::status::Status;
 use lq_host::HostError;
@@ -23,6 +24,21 @@ impl Stop {
             Stop::Fault => Status::Fault,
             Stop::NoMemory => Status::NoMemory,
         }
+    }
+}
+
+/// What work on a file came to, behind which the file was finished. A fault goes before want of memory.
+pub fn and_finished<T: Drop>(work: Result<T, Stop>, end: Result<(), HostError>) -> Result<T, Stop>
+    ensures stop { result ≡ with_end work end }
+    ensures value { IfOk result (λ value. work ≡ Ok value) }
+{
+    match end {
+        Ok(()) => work,
+        Err(HostError::Failed) => Err(Stop::Fault),
+        Err(HostError::NoMemory) => match work {
+            Ok(_) => Err(Stop::NoMemory),
+            Err(stop) => Err(stop),
+        },
     }
 }
 

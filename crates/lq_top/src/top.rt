@@ -1,12 +1,13 @@
 //! The top call.
-ghost use Rattle.std.specs.Prelude.{◌≡◌, IfOk, OnOk, OnErr, IfSome, map, drop, vec_len, true};
+ghost use Rattle.std.specs.Prelude.{◌≡◌, ◌≢◌, Some, IfOk, OnOk, OnErr, IfSome, map, drop, vec_len, true};
 ghost use Rattle.lq_host.specs.Host.{Rose};
 ghost use Rattle.lq_model.specs.Plan.{unit_count};
 ghost use Rattle.lq_top.specs.Command.{command_of, run_words, words_of};
 ghost use Rattle.lq_top.specs.Decision.{IsRunnable, Refuses, Runs, max_units, units_of, verdict_of, verdict_of_run};
 ghost use Rattle.lq_top.specs.Fates.{identities_of};
 ghost use Rattle.lq_top.specs.Headline.{HasRun, run_of};
-ghost use Rattle.lq_top.specs.Outcome.{Ends, EndsOrStops, IsAnswerOf, IsRunStatus, Outcome, Stops, TellsUsageFor, refuses};
+ghost use Rattle.lq_top.specs.Names.{MayDo, MayRun, MayWrite};
+ghost use Rattle.lq_top.specs.Outcome.{Ends, EndsOrStops, EndsOrStopsOfSome, OutcomeOfSome, IsAnswerOf, IsRunStatus, Outcome, Stops, TellsUsageFor, refuses};
 ghost use Rattle.lq_top.specs.Refusal.{line_of, status_of};
 ghost use Rattle.lq_top.specs.Stop.{StopsFor};
 ghost use Rattle.lq_top.specs.Written.{IsCut, output_only, written};
@@ -54,6 +55,7 @@ fn run_capture<H: Host, G: Gate, D: TxDevice>(
     plan: &Plan,
     capture: &Capture,
 ) -> Result<Status, Stop>
+    requires may { MayWrite H.may_create out.now max_units }
     requires runnable { IsRunnable (vec_len bench.old) plan.now }
     ensures answer { IfOk result (λ answer. answer ≡ Status.Done) }
     ensures ok { OnOk result (HasRun (run_of out.now plan.now capture.now)
@@ -82,9 +84,12 @@ fn run_command<H: Host, G: Gate, D: TxDevice>(
     gate: &G,
     words: &Run<'_>,
 ) -> Result<Status, Stop>
+    requires { MayRun H.may_open H.may_create (run_words words.now) }
     ensures does { IfSome (H.state host.old).told (λ c.
         EndsOrStops (verdict_of_run (run_words words.now) c.files (vec_len bench.old))
         (H.state host.old) (H.state host.new) (map D.state bench.old.items) (map D.state bench.new.items) result) }
+    ensures some { EndsOrStopsOfSome (Some (run_words words.now)) (vec_len bench.old)
+        (H.state host.old) (H.state host.new) (map D.state bench.old.items) (map D.state bench.new.items) result }
     ensures answer { IfOk result IsRunStatus }
     ensures others { IfSome (H.state host.old).told (λ c.
         let units = units_of (verdict_of_run (run_words words.now) c.files (vec_len bench.old)) in
@@ -126,16 +131,24 @@ pub fn lqtx<R: Threads + Wait + Sync, H: Host, G: Gate, D: TxDevice>(
     bench: &mut Vec<D>,
     gate: &G,
 ) -> Status
+    // Only the files that the words name are opened, and only the outputs are created.
+    requires { MayDo H.may_open H.may_create (command_of (words_of words.now)) }
+
     // What the words, the files and the bench decide is answered and left, the headline for a run that is done; after a
-    // fault or want of memory, a part of what was to be written.
+    // fault or want of memory, a part of what was to be written. Where the host doesn't tell what its files hold, that is
+    // so of some bytes of theirs.
     ensures outcome { IfSome (H.state host.old).told (λ c.
         Outcome (verdict_of (words_of words.now) c.files (vec_len bench.old))
         (H.state host.old) (H.state host.new) (map D.state bench.old.items) (map D.state bench.new.items) result) }
 
-    // The causes: Usage, also where the host tells nothing; Fault; and what comes where neither a fault nor want of memory
-    // does.
+    ensures some { OutcomeOfSome (command_of (words_of words.now)) (vec_len bench.old)
+        (H.state host.old) (H.state host.new) (map D.state bench.old.items) (map D.state bench.new.items) result }
+
+    // The causes: Usage, also where the host tells nothing; Fault exactly where a call of the host failed; and what comes
+    // where neither a fault nor want of memory does.
     ensures usage { TellsUsageFor (command_of (words_of words.now)) result }
     ensures fault { result ≡ Status.Fault → Rose (H.fault_count host.old) (H.fault_count host.new) }
+    ensures calm { result ≢ Status.Fault → H.fault_count host.new ≡ H.fault_count host.old }
     ensures complete { IfSome (H.state host.old).told (λ c.
         IsAnswerOf (verdict_of (words_of words.now) c.files (vec_len bench.old)) result) }
 

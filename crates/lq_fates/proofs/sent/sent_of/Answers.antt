@@ -17,7 +17,7 @@ loop-n-preserved c =
           let places : List ℕ = c.loop-n.sent.items in
           let within = serial_within c.args.fates.now c.args.unit c.requires c.loop-n.n w.in-Some.serial (Sent 0 0) c.loop-n-test.true w.in-Some.ensures in
           let lt : w.in-Some.serial < length places = omega (arith, within, c.count_of_sent-count.ensures) in
-          let is : c.match-serial_by.sent.items ≡ set places w.in-Some.serial c.loop-n.n = ap (λ v. v.items) w.sent-is ∙ ap (λ n. set places w.in-Some.serial n) c.in_ok-number.ensures in
+          let is : c.match-serial_by.sent.items ≡ set places w.in-Some.serial c.loop-n.n = ap (λ v. v.items) w.sent-is ∙ ap (λ n. set places w.in-Some.serial n) c.in_ok-number.ensures.ok in
           record {
             same_len = ap length is ∙ length-set places w.in-Some.serial c.loop-n.n ∙ c.loop-n.invariant.same_len;
             placed = subst (λ ps. ArePlaced c.args.fates.now c.args.unit (c.loop-n.n + 1) ps) (sym is) (placed_more c.args.fates.now c.args.unit c.requires c.loop-n.n w.in-Some.serial (Sent 0 0) places c.loop-n.invariant.placed c.loop-n-test.true w.in-Some.ensures lt);

@@ -1,4 +1,4 @@
-use Rattle.std.proofs.Common.{◌∙◌, ap, sym, add-one, arith}
+use Rattle.std.proofs.Common.{◌∙◌, ap, sym, add-one}
 use Rattle.lq_top.specs.Headline.{unit_file, unit_files}
 use Rattle.lq_top.specs.Written.{files_written}
 use Rattle.lq_top.proofs.FileLemmas.{cut_at, whole_more}
@@ -18,5 +18,5 @@ loop-unit-preserved g c =
       whole = whole_more (unit_file c.args.out.now c.args.capture.now c.args.fates.now) c.loop-unit.unit old (g.H.Host.state c.loop-unit.host) (g.H.Host.state c.write_unit.new.host) c.loop-unit.invariant.whole c.in_ok-write_unit.ensures.ok
           ∙ ap (λ n. files_written old (unit_files c.args.out.now c.args.capture.now c.args.fates.now n)) (sym (add-one c.loop-unit.unit));
       handles = c.write_unit.ensures.handles ∙ c.loop-unit.invariant.handles;
-      later = (let first = c.loop-unit.invariant.later in let second = c.write_unit.ensures.cause.later in omega arith);
+      calm = c.in_ok-write_unit.ensures.cause.calm ∙ c.loop-unit.invariant.calm;
     }

@@ -1,4 +1,4 @@
-use Rattle.std.proofs.Common.{◌≡◌, ◌≤◌}
+use Rattle.std.proofs.Common.{◌≡◌}
 use Rattle.lq_top.specs.Headline.{unit_files}
 use Rattle.lq_top.specs.Written.{files_written}
 use Rattle.lq_top.proofs.files.write_units.Given as goal
@@ -10,5 +10,5 @@ invariant-loop-unit g l =
     record {
       whole : state l.host ≡ files_written (state l.fn.host) (unit_files l.out l.capture l.fates l.unit);
       handles : (state l.host).handles ≡ (state l.fn.host).handles;
-      later : g.H.Host.fault_count l.fn.host ≤ g.H.Host.fault_count l.host;
+      calm : g.H.Host.fault_count l.host ≡ g.H.Host.fault_count l.fn.host;
     }

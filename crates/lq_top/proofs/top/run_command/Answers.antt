@@ -1,11 +1,11 @@
-use Rattle.std.proofs.Common.{◌≡◌, ◌∙◌, IfSome, Some, map, subst, vec_len}
+use Rattle.std.proofs.Common.{◌≡◌, List, ℕ, ◌∙◌, IfSome, Some, map, subst, vec_len}
 use Rattle.std.specs.Option.{option_map}
 use Rattle.lq_host.specs.Host.{HostState}
 use Rattle.lq_top.specs.Command.{run_words}
-use Rattle.lq_top.specs.Decision.{Runs, limited_capture_of, plan_for}
+use Rattle.lq_top.specs.Decision.{Refuses, Runs, limited_capture_of, plan_for}
 use Rattle.lq_top.specs.Headline.{run_of}
 use Rattle.lq_top.specs.Outcome.{EndsOrStops}
-use Rattle.lq_top.proofs.RunLemmas.{beyond_units, does_run, run_does}
+use Rattle.lq_top.proofs.RunLemmas.{beyond_units, does_run, does_run_on, refuse_does, refuses_capture_on, run_does}
 use Rattle.lq_top.proofs.top.run_command.Goals as goal
 
 pub returns-in-Ok-2-clause-does : goal.returns-in-Ok-2-clause-does
@@ -26,3 +26,37 @@ returns-in-Ok-2-clause-does g c =
 pub returns-in-Ok-2-clause-beyond : goal.returns-in-Ok-2-clause-beyond
 returns-in-Ok-2-clause-beyond g c =
     beyond_units c.len.result c.in-Ok.plan c.in_ok-plan.field-0 c.args.bench.now.items c.run_capture.new.bench.items c.in-Ok.is c.in_ok-plan.ensures.runnable c.run_capture.ensures.others
+
+pub returns-in-Ok-2-clause-some : goal.returns-in-Ok-2-clause-some
+returns-in-Ok-2-clause-some g c =
+    let old : HostState = g.H.Host.state c.args.host.now in
+    let new : HostState = g.H.Host.state c.run_capture.new.host in
+    let run = run_of c.args.words.now.out.now c.in-Ok.plan c.in-Ok-2.capture in
+    let have = vec_len c.args.bench.now in
+    let before = map g.D.TxDevice.state c.args.bench.now.items in
+    let behind = map g.D.TxDevice.state c.run_capture.new.bench.items in
+    let first : g.H.Host.state c.read_plan_file.new.host ≡ old = c.in_ok-plan.ensures.same in
+    let read : (bytes : List ℕ) × (plan_for have bytes ≡ c.in_ok-plan.field-0) = subst (λ n. (bytes : List ℕ) × (plan_for n bytes ≡ c.in_ok-plan.field-0)) c.len.ensures c.in_ok-plan.ensures.some in
+    let seen = c.in_ok-capture.ensures.some in (
+      read.0,
+      seen.0,
+      does_run_on (run_words c.args.words.now) have c.in-Ok.plan c.in-Ok-2.capture read.0 seen.0 (λ v. EndsOrStops v old new before behind c.run_capture.result) (read.1 ∙ c.in-Ok.is) (seen.1 ∙ c.in-Ok-2.is)
+          (subst (λ (s : HostState). EndsOrStops (Runs run) s new before behind c.run_capture.result) (c.in_ok-capture.ensures.same ∙ first)
+          (run_does run (g.H.Host.state c.read_capture_file.new.host) new before behind c.run_capture.result c.run_capture.ensures.answer c.run_capture.ensures.ok c.run_capture.ensures.err)),
+    )
+
+pub returns-clause-some : goal.returns-clause-some
+returns-clause-some g c =
+    let old : HostState = g.H.Host.state c.args.host.now in
+    let new : HostState = g.H.Host.state c.refuse-in-Err-2.new.host in
+    let have = vec_len c.args.bench.now in
+    let devices = map g.D.TxDevice.state c.args.bench.now.items in
+    let first : g.H.Host.state c.read_plan_file.new.host ≡ old = c.in_ok-plan.ensures.same in
+    let read : (bytes : List ℕ) × (plan_for have bytes ≡ c.in_ok-plan.field-0) = subst (λ n. (bytes : List ℕ) × (plan_for n bytes ≡ c.in_ok-plan.field-0)) c.len.ensures c.in_ok-plan.ensures.some in
+    let seen = c.in_ok-capture.ensures.some in (
+      read.0,
+      seen.0,
+      refuses_capture_on (run_words c.args.words.now) have c.in-Ok.plan c.in-Err-2.refusal read.0 seen.0 (λ v. EndsOrStops v old new devices devices c.refuse-in-Err-2.result) (read.1 ∙ c.in-Ok.is) (seen.1 ∙ c.in-Err-2.is)
+          (subst (λ (s : HostState). EndsOrStops (Refuses c.in-Err-2.refusal) s new devices devices c.refuse-in-Err-2.result) (c.in_ok-capture.ensures.same ∙ first)
+          (refuse_does c.in-Err-2.refusal (g.H.Host.state c.read_capture_file.new.host) new devices devices c.refuse-in-Err-2.result c.refuse-in-Err-2.ensures.answer c.refuse-in-Err-2.ensures.ok c.refuse-in-Err-2.ensures.err)),
+    )

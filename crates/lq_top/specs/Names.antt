@@ -1,0 +1,21 @@
+-- The names of the files that a command opens and creates.
+use Rattle.std.specs.Prelude.{ℕ, ◌<◌, List, Option, Some, None}
+use Rattle.lq_top.specs.Command.{RunWords}
+use Rattle.lq_top.specs.Decision.{max_units}
+use Rattle.lq_top.specs.Headline.{capture_name, fates_name}
+
+-- the files of so many units, and the file of the fates, may be created
+pub record MayWrite (may_create : List ℕ → Type 0) (out : List ℕ) (count : ℕ) : Type 0 where
+  pub units : (unit : ℕ) → unit < count → may_create (capture_name out unit)
+  pub fates : may_create (fates_name out)
+
+-- the plan and the capture may be opened, and the outputs created
+pub record MayRun (may_open may_create : List ℕ → Type 0) (words : RunWords) : Type 0 where
+  pub plan : may_open words.plan
+  pub capture : may_open words.capture
+  pub outputs : MayWrite may_create words.out max_units
+
+-- A command may open and create the files that its words name. Words that are no command name none.
+abbrev pub MayDo : (List ℕ → Type 0) → (List ℕ → Type 0) → Option RunWords → Type 0
+MayDo may_open may_create (Some words) = MayRun may_open may_create words
+MayDo may_open may_create None = Unit {0}
