@@ -7,6 +7,10 @@ mod faults;
 #[cfg(test)]
 mod fixture;
 #[cfg(test)]
+mod generated;
+#[cfg(test)]
 mod refusals;
 #[cfg(test)]
 mod rows;
+#[cfg(test)]
+mod schedules;
