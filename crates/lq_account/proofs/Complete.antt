@@ -1,5 +1,5 @@
 -- Settled fates are complete.
-use Rattle.std.proofs.Common.{◌≡◌, ◌<◌, ◌≤◌, ℕ, ◌+◌, ◌-◌, Bool, true, false, ◌&&◌, ◌==◌, List, [], ◌∷◌, ◌⊎◌, inl, inr, length, count_by, slice_get, get_or, Some, refl, ap, arith, cond}
+use Rattle.std.proofs.Common.{◌≡◌, ◌<◌, ◌≤◌, ℕ, Bool, true, false, ◌&&◌, ◌==◌, List, [], ◌∷◌, inl, inr, length, slice_get, get_or, Some, refl, ap, arith, cond}
 use Rattle.std.specs.List.{zip}
 use Rattle.std.proofs.lemmas.List.Sums.{sum_by-cons}
 use Rattle.std.proofs.lemmas.Option.{slice_get-get_or, slice_get_within}
@@ -9,7 +9,6 @@ use Rattle.lq_model.specs.Plan.{Plan, station_in, band_in}
 use Rattle.lq_model.specs.Settled.{HangsAsTold, IsConfiguredWith, IsFateAt, IsSettled, IsUnitOf, is_let_in, let_in}
 use Rattle.lq_model.specs.Texts.{is_sent, is_full, is_shrunk, is_purged, is_refused}
 use Rattle.lq_model.specs.declared.device.Params.{Params}
-use Rattle.lq_model.specs.declared.fate.Cause.{Cause}
 use Rattle.lq_model.specs.declared.fate.Cause.TheVariants as cause
 use Rattle.lq_model.specs.declared.fate.Fate.{Fate}
 use Rattle.lq_model.specs.declared.fate.Fate.TheVariants.{Sent, Full, Shrunk, Purged, Refused}

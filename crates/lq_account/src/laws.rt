@@ -1,6 +1,7 @@
 //! The laws of accounts, each the contract of a function that does nothing.
-ghost use Rattle.std.specs.Prelude.{◌≡◌, ℕ, List, [], ◌<◌, length};
-ghost use Rattle.lq_model.specs.Account.{Account, Event};
+ghost use Rattle.std.specs.Prelude.{◌≡◌, ℕ, List, [], ◌∷◌, ◌<◌, Contains, filter_map, length};
+ghost use Rattle.lq_model.specs.Account.{Account, Down, Event, Resize, Swap};
+ghost use Rattle.lq_model.specs.Legal.{IsLegal, deactivating, resizing};
 ghost use Rattle.lq_model.specs.Complete.{IsComplete};
 ghost use Rattle.lq_model.specs.Plan.{Plan, station_in};
 ghost use Rattle.lq_model.specs.Settled.{IsInSenderOrder, IsSentList, IsSettled, IsUnitOf, MeetsEvents};
@@ -45,4 +46,15 @@ pub fn law_of_accounts()
 pub fn complete_fates()
     ensures { (plan : Plan) (infos : List Info) (fates : List Fate) → ((n : ℕ) → n < length infos → station_in infos n < length plan.stations)
         → IsSettled plan infos fates → IsComplete plan infos fates }
+{}
+
+/// In a legal list each event of the plan comes once: the one that resizes, the one that deactivates, and the exchange of
+/// the device.
+pub fn planned_events_come_once()
+    ensures resizes { (plan : Plan) (infos : List Info) (station : ℕ) (start : Account) (past : List Event) (len event : ℕ)
+        → IsLegal plan infos station start (Resize len event ∷ past) → Contains (filter_map resizing past) event → ⊥ }
+    ensures downs { (plan : Plan) (infos : List Info) (station : ℕ) (start : Account) (past : List Event) (event : ℕ)
+        → IsLegal plan infos station start (Down event ∷ past) → Contains (filter_map deactivating past) event → ⊥ }
+    ensures swaps { (plan : Plan) (infos : List Info) (station : ℕ) (start : Account) (past : List Event) (unit : ℕ)
+        → IsLegal plan infos station start (Swap unit ∷ past) → Contains past (Swap unit) → ⊥ }
 {}

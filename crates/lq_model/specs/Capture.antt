@@ -131,3 +131,13 @@ frame_of c i = drop 16 (record_of c i)
 -- the capture with the same header and these records, in the order of the list
 abbrev pub capture_text : Capture → List ℕ → List ℕ
 capture_text c packets = header_of c ++ flat_map (record_of c) packets
+
+-- THE PACKETS OF A CAPTURE, in whatever format: how many there are, and of each by its number its link type and its
+-- captured bytes
+pub record Packets : Type 0 where
+  pub count : ℕ
+  pub link : ℕ → ℕ
+  pub frame : ℕ → List ℕ
+
+abbrev pub packets_of : Capture → Packets
+packets_of c = record { count = c.count; link = λ i. link_of c; frame = frame_of c }

@@ -4,6 +4,8 @@ pub mod Numbers
 pub mod Capture
 -- the capture that a number and a count generate
 pub mod Generated
+-- which bytes are a capture in the pcapng format, and the one written for a list of packets
+pub mod Pcapng
 -- the class of a frame
 pub mod Class
 -- what callers see of a device, and how it answers

@@ -2,7 +2,7 @@
 use Rattle.std.specs.Prelude.{◌≡◌, ◌<◌, ℕ, ◌+◌, ◌%◌, Bool, true, false, ◌&&◌, ◌==◌, List, length, take, map, count_by, slice_get}
 use Rattle.std.specs.Option.{option_map_or}
 use Rattle.lq_model.specs.Numbers.{first_numbers}
-use Rattle.lq_model.specs.Capture.{Capture, link_of, frame_of}
+use Rattle.lq_model.specs.Capture.{Packets}
 use Rattle.lq_model.specs.Class.{priority_of, band_of, source_byte_of, route_byte_of}
 use Rattle.lq_model.specs.declared.fate.Info.{Info}
 use Rattle.lq_model.specs.declared.plan.EventKind.{EventKind}
@@ -48,35 +48,35 @@ unit_of_swap plan event = length plan.stations + count_by is_swap (take event pl
 -- WHAT A PACKET IS TO THE RULES
 
 -- by what packet n is split: its number, or its source byte
-abbrev pub split_number : Split → Capture → ℕ → ℕ
-split_number Round capture n = n
-split_number Source capture n = source_byte_of (link_of capture) (frame_of capture n)
+abbrev pub split_number : Split → Packets → ℕ → ℕ
+split_number Round packets n = n
+split_number Source packets n = source_byte_of (packets.link n) (packets.frame n)
 
-abbrev pub owner_of : Plan → Capture → ℕ → ℕ
-owner_of plan capture n = split_number plan.split capture n % plan.senders
+abbrev pub owner_of : Plan → Packets → ℕ → ℕ
+owner_of plan packets n = split_number plan.split packets n % plan.senders
 
-abbrev pub station_of : Plan → Capture → ℕ → ℕ
-station_of plan capture n = route_byte_of (link_of capture) (frame_of capture n) % length plan.stations
+abbrev pub station_of : Plan → Packets → ℕ → ℕ
+station_of plan packets n = route_byte_of (packets.link n) (packets.frame n) % length plan.stations
 
-abbrev pub packet_band_of : Capture → ℕ → ℕ
-packet_band_of capture n = band_of (priority_of (link_of capture) (frame_of capture n))
+abbrev pub packet_band_of : Packets → ℕ → ℕ
+packet_band_of packets n = band_of (priority_of (packets.link n) (packets.frame n))
 
 -- how many lower packets have the same owner and station
-abbrev pub rank_of : Plan → Capture → ℕ → ℕ
-rank_of plan capture n =
-    count_by (λ m. (owner_of plan capture m == owner_of plan capture n) && (station_of plan capture m == station_of plan capture n)) (first_numbers n)
+abbrev pub rank_of : Plan → Packets → ℕ → ℕ
+rank_of plan packets n =
+    count_by (λ m. (owner_of plan packets m == owner_of plan packets n) && (station_of plan packets m == station_of plan packets n)) (first_numbers n)
 
-abbrev pub info_of : Plan → Capture → ℕ → Info
-info_of plan capture n = record {
-  owner = owner_of plan capture n;
-  station = station_of plan capture n;
-  band = packet_band_of capture n;
+abbrev pub info_of : Plan → Packets → ℕ → Info
+info_of plan packets n = record {
+  owner = owner_of plan packets n;
+  station = station_of plan packets n;
+  band = packet_band_of packets n;
   queue = 0;
-  rank = rank_of plan capture n;
+  rank = rank_of plan packets n;
 }
 
-abbrev pub infos_of : Plan → Capture → List Info
-infos_of plan capture = map (info_of plan capture) (first_numbers capture.count)
+abbrev pub infos_of : Plan → Packets → List Info
+infos_of plan packets = map (info_of plan packets) (first_numbers packets.count)
 
 -- the same, read off a list that has packet n at place n
 abbrev pub owner_in : List Info → ℕ → ℕ

@@ -19,4 +19,16 @@ pub enum CaptureReason {
     TooMany,
     /// More than 67,108,864 bytes, whatever they are.
     TooLong = 9,
+    /// Of pcapng: fewer than the 12 bytes of the shortest block are left, or fewer than its length says.
+    CutBlock,
+    /// A block's length is below 12, is no multiple of 4, or is another at its end.
+    BlockLength,
+    /// The byte-order magic of the section header block fits in neither order.
+    ByteOrder,
+    /// A packet block of an interface that no block before it describes.
+    NoInterface,
+    /// A block too short for the fields of its type, or for the packet that it holds.
+    BlockBody,
+    /// A second section header block.
+    SecondSection,
 }

@@ -3,7 +3,7 @@ use Rattle.std.proofs.Common.{◌≤◌, ap, ◌≡◌, ◌<◌, ◌+◌, ◌-�
 use Rattle.std.proofs.lemmas.Bool.{cases_lt, ltb-true, ltb-false, lt-ltb, le-ltb, eqb-true, eqb-false, eq-eqb, ne_eqb, not-true, not-false}
 use Rattle.lq_model.specs.Capture.{Refusal, capture_of, with_count, refused, place_of, end_of, captured_length, record_fault, count_from, is_little_endian, is_big_endian, major_version}
 use Rattle.lq_model.specs.declared.capture.CaptureReason.{CaptureReason}
-use Rattle.lq_model.specs.declared.capture.CaptureReason.TheVariants.{ShortHeader, Magic, Version, CutRecordHeader, LongRecord, CutData, TooMany, TooLong}
+use Rattle.lq_model.specs.declared.capture.CaptureReason.TheVariants.{ShortHeader, Magic, Version, CutRecordHeader, LongRecord, CutData, TooMany}
 use Rattle.lq_pcap.specs.Laws.{IsWhole, HasFileHeader, GoesOnAt, HasFault}
 use Rattle.lq_pcap.proofs.Chain.{count_ends, count_goes_on, count_faults, count_full}
 use Rattle.lq_pcap.proofs.Walk.{begins_before, none_from_whole, option_cases, whole_from_none}
@@ -154,4 +154,4 @@ fault_refused bytes LongRecord place has =
 fault_refused bytes CutData place has =
     refused_at_record bytes has.0 place CutData has.1 has.2
     (rw (le-ltb (length bytes) (place + 16) has.3, le-ltb 262144 (captured_length bytes place) has.4, lt-ltb (length bytes) (end_of bytes place) has.5) refl)
-fault_refused bytes TooLong place has = absurd has
+fault_refused bytes _ place has = absurd has

@@ -5,7 +5,7 @@ use Rattle.lq_model.specs.Generated.{generated_capture, generated_header, genera
 use Rattle.lq_model.specs.Numbers.{first_numbers}
 use Rattle.lq_model.specs.Capture.{Capture, capture_of, capture_text, captured_length, end_of, header_of, is_big_endian, is_little_endian, major_version, place_of, record_of, records_of, refused}
 use Rattle.lq_model.specs.declared.capture.CaptureReason.{CaptureReason}
-use Rattle.lq_model.specs.declared.capture.CaptureReason.TheVariants.{ShortHeader, Magic, Version, CutRecordHeader, LongRecord, CutData, TooMany, TooLong}
+use Rattle.lq_model.specs.declared.capture.CaptureReason.TheVariants.{ShortHeader, Magic, Version, CutRecordHeader, LongRecord, CutData, TooMany}
 
 -- the record at this place has a header, a captured length of at most 262,144, and its data
 pub record IsWhole (bytes : List ℕ) (place : ℕ) : Type 0 where
@@ -47,7 +47,8 @@ HasFault bytes LongRecord place =
     (i : ℕ) × (i < 1000000) × GoesOnAt bytes i place × (place + 16 ≤ length bytes) × (262144 < captured_length bytes place)
 HasFault bytes CutData place =
     (i : ℕ) × (i < 1000000) × GoesOnAt bytes i place × (place + 16 ≤ length bytes) × (captured_length bytes place ≤ 262144) × (length bytes < end_of bytes place)
-HasFault bytes TooLong place = ⊥
+-- the other reasons are not of this format
+HasFault bytes _ place = ⊥
 
 -- the bytes are a capture exactly where they are a file header and whole records
 abbrev pub AcceptsExactly : Type 0

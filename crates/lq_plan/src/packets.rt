@@ -1,13 +1,12 @@
 //! What each packet of a capture is to the rules.
 ghost use Rattle.std.specs.Prelude.{◌≡◌, ◌+◌, ◌*◌, ◌<◌, All, IfOk, length, replicate, slice_index, slice_set, vec_len};
-ghost use Rattle.lq_model.specs.Capture.{link_of};
 ghost use Rattle.lq_model.specs.Plan.{info_of, infos_of};
 ghost use Rattle.lq_plan.specs.Packets.{IsInfoWithin};
 
 use crate::plan::Plan;
 use lq_class::{band, classify};
 use lq_model::{Info, NoMemory, Split};
-use lq_pcap::Capture;
+use lq_pcap::Frames;
 use std::alloc::{AllocError, Global};
 
 /// A plan has no more stations than this.
@@ -23,21 +22,20 @@ const MAX_STATIONS: usize = 8;
 /// # NoMemory
 ///
 /// There was no room for an `Info` of each packet, and a count of each sender and station.
-pub fn infos(alloc: Global, plan: &Plan, capture: &Capture) -> Result<Vec<Info>, NoMemory>
-    ensures infos { IfOk result (λ infos. infos.items ≡ infos_of plan.now capture.now) }
-    ensures count { IfOk result (λ infos. vec_len infos ≡ capture.now.count) }
+pub fn infos<F: Frames>(alloc: Global, plan: &Plan, frames: &F) -> Result<Vec<Info>, NoMemory>
+    ensures infos { IfOk result (λ infos. infos.items ≡ infos_of plan.now (F.packets frames.now)) }
+    ensures count { IfOk result (λ infos. vec_len infos ≡ (F.packets frames.now).count) }
     ensures within { IfOk result (λ infos. All (IsInfoWithin plan.now) infos.items) }
 {
-    let Ok(mut infos) = Vec::with_capacity(alloc, capture.len()) else {
+    let Ok(mut infos) = Vec::with_capacity(alloc, frames.len()) else {
         return Err(NoMemory);
     };
     let Ok(mut counts) = no_packets(alloc, plan.senders()) else {
         return Err(NoMemory);
     };
     let counts: &mut [u32] = &mut counts;
-    let link = capture.link();
-    for n in 0..capture.len() as u32 {
-        let mut info = unranked(plan, capture, link, n);
+    for n in 0..frames.len() as u32 {
+        let mut info = unranked(plan, frames, n);
         info.rank = next_rank(counts, info.owner, info.station);
         infos.push_reserved(info);
     }
@@ -52,14 +50,13 @@ fn no_packets(alloc: Global, senders: u32) -> Result<Vec<u32>, AllocError>
 }
 
 // What packet n is to the rules, but for its rank.
-fn unranked(plan: &Plan, capture: &Capture, link: u32, n: u32) -> Info
-    requires number { n < capture.now.count }
-    requires link { link ≡ link_of capture.now }
-    ensures info { result ≡ record (info_of plan.now capture.now n) { rank = 0 } }
+fn unranked<F: Frames>(plan: &Plan, frames: &F, n: u32) -> Info
+    requires number { n < (F.packets frames.now).count }
+    ensures info { result ≡ record (info_of plan.now (F.packets frames.now) n) { rank = 0 } }
     ensures within { IsInfoWithin plan.now result }
     ensures few_stations { result.station < 8 }
 {
-    let class = classify(link, capture.frame(n as usize));
+    let class = classify(frames.link_of(n as usize), frames.frame(n as usize));
     let split_number = match plan.split() {
         Split::Round => n,
         Split::Source => u32::from(class.source_byte),
@@ -90,7 +87,7 @@ fn next_rank(counts: &mut [u32], owner: u32, station: u32) -> u32
 mod tests {
     use super::*;
     use lq_model::{Params, StationPlan};
-    use lq_pcap::read_capture;
+    use lq_pcap::{Capture, read_capture};
     use std::test::Fail;
 
     /// The header of a capture in microseconds, little-endian, of raw IP.

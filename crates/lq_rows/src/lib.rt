@@ -9,6 +9,8 @@ mod fixture;
 #[cfg(test)]
 mod generated;
 #[cfg(test)]
+mod pcapng;
+#[cfg(test)]
 mod refusals;
 #[cfg(test)]
 mod rows;

@@ -1,10 +1,10 @@
 -- Nothing is exposed exactly where all is clear.
-use Rattle.std.proofs.Common.{◌≡◌, ◌≢◌, ℕ, zero, suc, ◌<◌, ◌⊎◌, ◌↔◌, inl, inr, List, [], ◌∷◌, get_or, Contains, Option, Some, None, refl, sym, ap, ◌∙◌, subst}
+use Rattle.std.proofs.Common.{◌≡◌, ◌≢◌, ℕ, zero, suc, ◌⊎◌, ◌↔◌, inl, inr, List, [], ◌∷◌, get_or, Option, Some, None, refl, ap}
 use Rattle.std.proofs.lemmas.Bool.{cases_eq}
 use Rattle.lq_model.specs.declared.machine.Packet.{Packet}
 use Rattle.lq_model.specs.declared.machine.Seat.{Seat}
-use Rattle.lq_model.specs.Kept.{ClearBelow, Exposes, IsClear, IsHidden, queued}
-use Rattle.lq_model.specs.Machine.{Machine, band_at, idle_seat}
+use Rattle.lq_model.specs.Kept.{Exposes, IsClear, queued}
+use Rattle.lq_model.specs.Machine.{Machine, idle_seat}
 
 -- two packets are the same, or not
 same-packet : (p r : Packet) → (p ≡ r) ⊎ (p ≢ r)

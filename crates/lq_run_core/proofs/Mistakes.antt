@@ -1,5 +1,5 @@
 -- Steps with a mistake leave a packet behind: the actions of two seats before them and behind them.
-use Rattle.std.proofs.Common.{◌≡◌, ℕ, zero, suc, ◌<◌, Bool, true, false, List, [], ◌∷◌, ◌++◌, length, map, Contains, refl, sym, ap, subst, arith, inl, inr, Some}
+use Rattle.std.proofs.Common.{◌≡◌, ℕ, zero, suc, true, false, List, [], ◌∷◌, ◌++◌, length, map, Contains, refl, sym, ap, subst, arith, inl, inr}
 use Rattle.std.specs.Prelude.{◌==◌, replicate, slice_index, slice_index_or}
 use Rattle.lq_model.specs.declared.machine.Answer.TheVariants.{Plain, Stop, Busy}
 use Rattle.lq_model.specs.declared.machine.Beginning.TheVariants.{Transmits, Interrupts, Wakes, Controls}
@@ -10,10 +10,10 @@ use Rattle.lq_model.specs.declared.machine.Packet.{Packet}
 use Rattle.lq_model.specs.Kept.{BlockedDraining, IsInductive, IsQuiet, LockFreeMissed, LookedClear, Reaches, Holds, IsHidden}
 use Rattle.lq_model.specs.Machine.{Machine, Qdisc, first_machine, seat_at}
 use Rattle.lq_model.specs.Steps.{with_seat, is_idle}
-use Rattle.lq_run_core.specs.Mistakes.{LeavesBehind, about_to_look, both_idle, clears_and_leaves, clears_behind_its_look, drains_without_a_look, found_deactivated, left_clear, left_draining, left_in_slot, left_missed, looked, looked_again, looking, misses_for_good, missing, packet, releases_behind_its_look, words}
+use Rattle.lq_run_core.specs.Mistakes.{LeavesBehind, about_to_look, both_idle, clears_and_leaves, clears_behind_its_look, drains_without_a_look, found_deactivated, left_clear, left_draining, left_in_slot, left_missed, looked, looked_again, looking, misses_for_good, missing, packet, releases_behind_its_look}
 use Rattle.lq_run_core.proofs.First.{first-inductive}
 use Rattle.lq_run_core.proofs.OneQueue.{one-open}
-use Rattle.lq_run_core.proofs.Reached.{Action, play, played, reached-inductive}
+use Rattle.lq_run_core.proofs.Reached.{Action, played, reached-inductive}
 use Rattle.lq_run_core.proofs.Reached.Action.{Does, Starts, DoesControl}
 
 abbrev start : Machine

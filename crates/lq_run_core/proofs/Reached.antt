@@ -1,5 +1,5 @@
 -- The machines that moves lead to, and lists of actions that lead to a machine.
-use Rattle.std.proofs.Common.{◌≡◌, ◌≢◌, ℕ, zero, suc, refl, Bool, true, false, List, [], ◌∷◌, get_or, Option, Some, None, sym, subst, eq-eqb}
+use Rattle.std.proofs.Common.{◌≡◌, ◌≢◌, ℕ, zero, suc, refl, Bool, true, false, List, [], ◌∷◌, get_or, Option, Some, None, subst, eq-eqb}
 use Rattle.std.specs.Prelude.{◌&&◌, ◌==◌, not, if◌then◌else◌}
 use Rattle.lq_model.specs.declared.machine.Answer.{Answer}
 use Rattle.lq_model.specs.declared.machine.Beginning.{Beginning}
@@ -11,9 +11,8 @@ use Rattle.lq_model.specs.Control.{control_of}
 use Rattle.lq_model.specs.Kept.{IsFree, IsInductive, Moves, Reaches, own_packet}
 use Rattle.lq_model.specs.Kept.Moves.{steps, begins, controls}
 use Rattle.lq_model.specs.Kept.Reaches.{no_move, one_more_move}
-use Rattle.lq_model.specs.Machine.{Machine, first_machine, idle_seat}
+use Rattle.lq_model.specs.Machine.{Machine, idle_seat}
 use Rattle.lq_model.specs.Steps.{start_of, step_of}
-use Rattle.lq_run_core.proofs.First.{first-inductive}
 use Rattle.lq_run_core.proofs.Inductive.{inductive}
 use Rattle.lq_run_core.proofs.LocalSteps.{and-true}
 

@@ -1,5 +1,5 @@
 -- Steps with a mistake, each of which leaves a packet behind, and the machines in which they do.
-use Rattle.std.specs.Prelude.{ℕ, Bool, true, false, if◌then◌else◌, List, [], ◌∷◌, Some}
+use Rattle.std.specs.Prelude.{ℕ, Bool, true, false, if◌then◌else◌, [], ◌∷◌, Some}
 use Rattle.lq_model.specs.declared.machine.Attempt.{Attempt}
 use Rattle.lq_model.specs.declared.machine.Attempt.TheVariants.{Queued}
 use Rattle.lq_model.specs.declared.machine.Blocked.{Blocked}

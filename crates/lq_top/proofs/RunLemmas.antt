@@ -2,13 +2,14 @@
 use Rattle.std.proofs.Common.{◌≡◌, ◌≢◌, ◌⊎◌, ◌∷◌, [], ℕ, List, length, Option, Some, None, Result, Ok, Err, IfOk, OnOk, OnErr, IfSome, refl, sym, ap, ◌∙◌, subst, inl, inr, ◌≤◌, ◌+◌, ◌-◌, drop, arith}
 use Rattle.std.specs.Option.{option_map}
 use Rattle.std.proofs.lemmas.List.{drop-drop}
-use Rattle.lq_model.specs.Capture.{Capture}
 use Rattle.lq_model.specs.Device.{DeviceState}
 use Rattle.lq_model.specs.Plan.{Plan, infos_of, unit_count}
 use Rattle.lq_model.specs.Texts.{counts_text}
 use Rattle.lq_model.specs.declared.fate.Fate.{Fate}
 use Rattle.lq_model.specs.declared.fate.Info.{Info}
 use Rattle.lq_host.specs.Host.{HostState, Contents, wrote}
+use Rattle.lq_pcapng.specs.File.{packets_of}
+use Rattle.lq_pcapng.specs.declared.file.CaptureFile.{CaptureFile}
 use Rattle.lq_top.specs.Command.{OfRun, RunWords}
 use Rattle.lq_top.specs.Decision.{Verdict, Generates, IsRunnable, max_units, LacksFile, Refuses, Runs, Traces, by_bytes, by_capture, by_plan, limited_capture_of, plan_for, verdict_of_run}
 use Rattle.lq_top.specs.Fates.{AreFatesOf}
@@ -28,7 +29,7 @@ use Rattle.lq_top.proofs.FileLemmas.{cut_before, cut_next, cut_whole, whole_next
 -- WRITING
 
 abbrev counts_of : Run → List Fate → List ℕ
-counts_of run fates = counts_text fates (infos_of run.plan run.capture) (length run.plan.stations) (unit_count run.plan)
+counts_of run fates = counts_text fates (infos_of run.plan (packets_of run.capture)) (length run.plan.stations) (unit_count run.plan)
 
 abbrev counts_by : Run → List Fate → List Info → List ℕ
 counts_by run fates infos = counts_text fates infos (length run.plan.stations) (unit_count run.plan)
@@ -63,7 +64,7 @@ whole_files run fates units old mid all counted whole made =
 
 -- it was stopped in the counts, or before them
 pub stopped_in_counts :
-    (run : Run) (fates : List Fate) (infos : List Info) (units : ℕ) (old mid all new : HostState) → infos ≡ infos_of run.plan run.capture → units ≡ unit_count run.plan
+    (run : Run) (fates : List Fate) (infos : List Info) (units : ℕ) (old mid all new : HostState) → infos ≡ infos_of run.plan (packets_of run.capture) → units ≡ unit_count run.plan
     → mid ≡ files_written old (unit_files run.out run.capture fates units) → all ≡ file_written mid (fates_file run.out fates)
     → (new ≡ all) ⊎ OutputHasPrefix (counts_by run fates infos) all new → IsCut (texts_of run fates) old new
 stopped_in_counts run fates infos units old mid all new known counted whole made cut =
@@ -77,7 +78,7 @@ stopped_in_counts run fates infos units old mid all new known counted whole made
 
 -- all is written
 pub all_written :
-    (run : Run) (fates : List Fate) (infos : List Info) (units : ℕ) (old mid all new : HostState) → infos ≡ infos_of run.plan run.capture → units ≡ unit_count run.plan
+    (run : Run) (fates : List Fate) (infos : List Info) (units : ℕ) (old mid all new : HostState) → infos ≡ infos_of run.plan (packets_of run.capture) → units ≡ unit_count run.plan
     → mid ≡ files_written old (unit_files run.out run.capture fates units) → all ≡ file_written mid (fates_file run.out fates)
     → new ≡ wrote all 0 (counts_by run fates infos) → new ≡ written (texts_of run fates) old
 all_written run fates infos units old mid all new known counted whole made done =
@@ -88,14 +89,14 @@ all_written run fates infos units old mid all new known counted whole made done 
 
 -- a run that is done: `given` are the fates as they were lent
 pub has_run :
-    (run : Run) (infos : List Info) (fates given : List Fate) (old new : HostState) (before behind : List DeviceState) → infos ≡ infos_of run.plan run.capture → given ≡ fates
+    (run : Run) (infos : List Info) (fates given : List Fate) (old new : HostState) (before behind : List DeviceState) → infos ≡ infos_of run.plan (packets_of run.capture) → given ≡ fates
     → AreFatesOf run.plan infos fates before behind → new ≡ written (texts_of run given) old → HasRun run old new before behind
 has_run run infos fates given old new before behind known same are done =
     (fates, subst (λ (is : List Info). AreFatesOf run.plan is fates before behind) known are, done ∙ ap (λ (fs : List Fate). written (texts_of run fs) old) same)
 
 -- a run that was stopped while it wrote
 pub run_stops :
-    (run : Run) (infos : List Info) (fates given : List Fate) (old new : HostState) (before behind : List DeviceState) → infos ≡ infos_of run.plan run.capture → given ≡ fates
+    (run : Run) (infos : List Info) (fates given : List Fate) (old new : HostState) (before behind : List DeviceState) → infos ≡ infos_of run.plan (packets_of run.capture) → given ≡ fates
     → AreFatesOf run.plan infos fates before behind → IsCut (texts_of run given) old new → Stops (Runs run) old new before behind
 run_stops run infos fates given old new before behind known same are cut =
     inr (
@@ -115,7 +116,7 @@ run_does run old new before behind (Err stop) is done stopped = stopped
 
 -- what was done as the run of a capture was decided so
 pub does_run :
-    (told : Option Contents) (words : RunWords) (have : ℕ) (plan : Plan) (capture : Capture) (read : Result Plan Refusal) (seen : Result Capture Refusal) (P : Verdict → Type 0)
+    (told : Option Contents) (words : RunWords) (have : ℕ) (plan : Plan) (capture : CaptureFile) (read : Result Plan Refusal) (seen : Result CaptureFile Refusal) (P : Verdict → Type 0)
     → read ≡ Ok plan → seen ≡ Ok capture → IfSome told (λ c. option_map (plan_for have) (c.files words.plan) ≡ Some read)
     → IfSome told (λ c. option_map limited_capture_of (c.files words.capture) ≡ Some seen) → P (Runs (run_of words.out plan capture))
     → IfSome told (λ c. P (verdict_of_run words c.files have))

@@ -1,7 +1,7 @@
 -- What a call decides from its words, its files and the number of devices on its bench.
 use Rattle.std.specs.Prelude.{◌≡◌, ◌≤◌, ℕ, Bool, nat_lt, ◌==◌, ◌&&◌, if◌then◌else◌, List, [], length, Option, Some, None, Result, Ok, Err}
 use Rattle.std.specs.Option.{option_map}
-use Rattle.lq_model.specs.Capture.{Capture, Refusal as CaptureRefusal, capture_of}
+use Rattle.lq_model.specs.Capture.{Refusal as CaptureRefusal, capture_of}
 use Rattle.lq_model.specs.Plan.{Plan, unit_count}
 use Rattle.lq_model.specs.declared.capture.CaptureReason.TheVariants as capture
 use Rattle.lq_model.specs.declared.plan.PlanReason.{PlanReason}
@@ -14,6 +14,8 @@ use Rattle.lq_run_core.specs.declared.trace_run.TraceReason.TheVariants as reaso
 use Rattle.lq_run_core.specs.declared.trace_run.TraceRefusal.{TraceRefusal}
 use Rattle.lq_run_core.specs.declared.trace_run.TraceRefusal.TheVariants.{Refused, NoMemory}
 use Rattle.lq_host.specs.Host.{Files}
+use Rattle.lq_pcapng.specs.File.{as_classic, capture_file_of}
+use Rattle.lq_pcapng.specs.declared.file.CaptureFile.{CaptureFile}
 use Rattle.lq_top.specs.Command.{CommandWords, GenWords, OfGen, OfRun, OfTrace, RunWords, command_of}
 use Rattle.lq_top.specs.Headline.{Run, run_of}
 use Rattle.lq_top.specs.declared.refusal.Refusal.{Refusal}
@@ -57,13 +59,13 @@ pub record IsRunnable (have : ℕ) (p : Plan) : Type 0 where
 abbrev pub too_long_a_capture : Refusal
 too_long_a_capture = refusal.Capture capture.TooLong 67108864
 
-abbrev pub with_refusal : Result Capture CaptureRefusal → Result Capture Refusal
+abbrev pub with_refusal : Result CaptureFile CaptureRefusal → Result CaptureFile Refusal
 with_refusal (Ok c) = Ok c
 with_refusal (Err r) = Err (refusal.Capture r.reason r.place)
 
--- the capture that bytes are, or the refusal; more than 67,108,864 bytes are none, whatever they are
-abbrev pub limited_capture_of : List ℕ → Result Capture Refusal
-limited_capture_of bytes = if nat_lt 67108864 (length bytes) then Err too_long_a_capture else with_refusal (capture_of bytes)
+-- the capture that bytes are, in either format, or the refusal; more than 67,108,864 bytes are none, whatever they are
+abbrev pub limited_capture_of : List ℕ → Result CaptureFile Refusal
+limited_capture_of bytes = if nat_lt 67108864 (length bytes) then Err too_long_a_capture else with_refusal (capture_file_of bytes)
 
 -- SCHEDULES
 
@@ -89,7 +91,7 @@ pub data Verdict : Type 0 where
   Traces : List ℕ → Verdict
 
 -- `run`: first the words are judged, then the plan and the bench, then the capture
-abbrev pub by_capture : List ℕ → Plan → Option (Result Capture Refusal) → Verdict
+abbrev pub by_capture : List ℕ → Plan → Option (Result CaptureFile Refusal) → Verdict
 by_capture out p None = LacksFile
 by_capture out p (Some (Err r)) = Refuses r
 by_capture out p (Some (Ok c)) = Runs (run_of out p c)
@@ -104,14 +106,14 @@ verdict_of_run words files have =
     by_plan (option_map (plan_for have) (files words.plan)) (λ p. by_capture words.out p (option_map limited_capture_of (files words.capture)))
 
 -- `gen`: first the words are judged, then the bench; its capture is one
-abbrev pub by_generated : List ℕ → List ℕ → Plan → Result Capture Refusal → Verdict
+abbrev pub by_generated : List ℕ → List ℕ → Plan → Result CaptureFile Refusal → Verdict
 by_generated out text p (Err r) = Refuses r
 by_generated out text p (Ok c) = Generates text (run_of out p c)
 
 abbrev pub verdict_of_gen : GenWords → ℕ → Verdict
 verdict_of_gen words have =
     let text = generated_capture words.number words.count in
-    by_plan (Some (placed_on have generated_plan)) (λ p. by_generated words.out text p (with_refusal (capture_of text)))
+    by_plan (Some (placed_on have generated_plan)) (λ p. by_generated words.out text p (with_refusal (as_classic (capture_of text))))
 
 -- `trace`: first the words are judged, then the schedule
 abbrev pub by_trace : Option (Result (List ℕ) Refusal) → Verdict

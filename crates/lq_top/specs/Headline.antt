@@ -1,7 +1,6 @@
 -- The headline: what a run that is done leaves, told by one list of fates in which packet n has the n-th.
 use Rattle.std.specs.Prelude.{◌≡◌, ◌⊎◌, ℕ, List, [], ◌∷◌, ◌++◌, map, length, codes}
 use Rattle.std.specs.Fmt.{decimal}
-use Rattle.lq_model.specs.Capture.{Capture, capture_text}
 use Rattle.lq_model.specs.Device.{DeviceState}
 use Rattle.lq_model.specs.Numbers.{first_numbers}
 use Rattle.lq_model.specs.Plan.{Plan, infos_of, unit_count}
@@ -9,6 +8,8 @@ use Rattle.lq_model.specs.Sent.{sent_of}
 use Rattle.lq_model.specs.Texts.{counts_text, fates_text}
 use Rattle.lq_model.specs.declared.fate.Fate.{Fate}
 use Rattle.lq_host.specs.Host.{HostState}
+use Rattle.lq_pcapng.specs.File.{packets_of, text_of}
+use Rattle.lq_pcapng.specs.declared.file.CaptureFile.{CaptureFile}
 use Rattle.lq_top.specs.Fates.{AreFatesOf}
 use Rattle.lq_top.specs.Written.{FileText, OutputHasPrefix, Texts, output_only, written}
 
@@ -18,9 +19,9 @@ use Rattle.lq_top.specs.Written.{FileText, OutputHasPrefix, Texts, output_only, 
 pub record Run : Type 0 where
   pub out : List ℕ
   pub plan : Plan
-  pub capture : Capture
+  pub capture : CaptureFile
 
-abbrev pub run_of : List ℕ → Plan → Capture → Run
+abbrev pub run_of : List ℕ → Plan → CaptureFile → Run
 run_of out plan capture = record { out = out; plan = plan; capture = capture }
 
 -- TEXTS
@@ -33,12 +34,12 @@ capture_name out unit = out ++ (codes "." ++ (decimal unit ++ codes ".pcap"))
 abbrev pub fates_name : List ℕ → List ℕ
 fates_name out = out ++ codes ".fates"
 
--- a unit's file: the capture of the packets that it sent, in order of serial
-abbrev pub unit_file : List ℕ → Capture → List Fate → ℕ → FileText
-unit_file out capture fates unit = record { name = capture_name out unit; text = capture_text capture (sent_of fates unit) }
+-- a unit's file: the capture of the packets that it sent, in order of serial, in the format of the capture that is run
+abbrev pub unit_file : List ℕ → CaptureFile → List Fate → ℕ → FileText
+unit_file out capture fates unit = record { name = capture_name out unit; text = text_of capture (sent_of fates unit) }
 
 -- the file of each of the first so many units, in ascending order
-abbrev pub unit_files : List ℕ → Capture → List Fate → ℕ → List FileText
+abbrev pub unit_files : List ℕ → CaptureFile → List Fate → ℕ → List FileText
 unit_files out capture fates units = map (unit_file out capture fates) (first_numbers units)
 
 abbrev pub fates_file : List ℕ → List Fate → FileText
@@ -48,14 +49,14 @@ fates_file out fates = record { name = fates_name out; text = fates_text fates }
 abbrev pub texts_of : Run → List Fate → Texts
 texts_of run fates = record {
   files = unit_files run.out run.capture fates (unit_count run.plan) ++ fates_file run.out fates ∷ [];
-  output = counts_text fates (infos_of run.plan run.capture) (length run.plan.stations) (unit_count run.plan);
+  output = counts_text fates (infos_of run.plan (packets_of run.capture)) (length run.plan.stations) (unit_count run.plan);
 }
 
 -- THE HEADLINE
 
 -- these are the fates of a run; `before` and `behind` are the devices of the bench, before the call and behind it
 abbrev pub AreFatesIn : Run → List Fate → List DeviceState → List DeviceState → Type 0
-AreFatesIn run fates before behind = AreFatesOf run.plan (infos_of run.plan run.capture) fates before behind
+AreFatesIn run fates before behind = AreFatesOf run.plan (infos_of run.plan (packets_of run.capture)) fates before behind
 
 -- A run that is done: some list of fates tells all of it. Each packet of the capture has exactly one of them, the devices
 -- accepted what they say was sent, and the files and the counts are written of them; all else is as it was.

@@ -41,6 +41,12 @@ capture_reason_number capture.LongRecord = 5
 capture_reason_number capture.CutData = 6
 capture_reason_number capture.TooMany = 7
 capture_reason_number capture.TooLong = 9
+capture_reason_number capture.CutBlock = 10
+capture_reason_number capture.BlockLength = 11
+capture_reason_number capture.ByteOrder = 12
+capture_reason_number capture.NoInterface = 13
+capture_reason_number capture.BlockBody = 14
+capture_reason_number capture.SecondSection = 15
 
 abbrev pub capture_reason_name : CaptureReason → List ℕ
 capture_reason_name capture.ShortHeader = codes "ShortHeader"
@@ -51,6 +57,12 @@ capture_reason_name capture.LongRecord = codes "LongRecord"
 capture_reason_name capture.CutData = codes "CutData"
 capture_reason_name capture.TooMany = codes "TooMany"
 capture_reason_name capture.TooLong = codes "TooLong"
+capture_reason_name capture.CutBlock = codes "CutBlock"
+capture_reason_name capture.BlockLength = codes "BlockLength"
+capture_reason_name capture.ByteOrder = codes "ByteOrder"
+capture_reason_name capture.NoInterface = codes "NoInterface"
+capture_reason_name capture.BlockBody = codes "BlockBody"
+capture_reason_name capture.SecondSection = codes "SecondSection"
 
 abbrev pub trace_reason_number : TraceReason → ℕ
 trace_reason_number trace.Syntax = 1

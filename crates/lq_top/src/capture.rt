@@ -8,20 +8,20 @@ use crate::input::{Input, read_file};
 use crate::refusal::Refusal;
 use crate::stop::Stop;
 use lq_host::Host;
-use lq_pcap::{Capture, CaptureReason, CaptureRefusal, read_capture};
+use lq_pcapng::{CaptureFile, CaptureReason, CaptureRefusal, read_either};
 use std::alloc::Global;
 
 /// Bytes of a capture.
 const MAX_CAPTURE: usize = 67_108_864;
 
-/// The capture that bytes are, or why they aren't one.
-fn capture_in(alloc: Global, bytes: Vec<u8>) -> Result<Result<Capture, Refusal>, Stop>
+/// The capture that bytes are, in either format, or why they aren't one.
+fn capture_in(alloc: Global, bytes: Vec<u8>) -> Result<Result<CaptureFile, Refusal>, Stop>
     requires { vec_len bytes ≤ 67108864 }
     ensures capture { IfOk result (λ read. read ≡ limited_capture_of bytes.items) }
     ensures not_usage { IfOk result (λ read. IfErr read (λ refusal. refusal ≢ Refusal.Usage)) }
     ensures no_fault { result ≢ Err Stop.Fault }
 {
-    match read_capture(alloc, bytes) {
+    match read_either(alloc, bytes) {
         Ok(capture) => Ok(Ok(capture)),
         Err(CaptureRefusal::Refused { reason, place }) => {
             Ok(Err(Refusal::Capture { reason, place }))
@@ -35,7 +35,7 @@ pub fn read_capture_file<H: Host>(
     alloc: Global,
     host: &mut H,
     name: &str,
-) -> Result<Result<Capture, Refusal>, Stop>
+) -> Result<Result<CaptureFile, Refusal>, Stop>
     requires { H.may_open name.now }
     ensures capture { IfOk result (λ read. IfSome (H.state host.old).told (λ c.
         option_map limited_capture_of (c.files name.now) ≡ Some read)) }

@@ -4,6 +4,7 @@ ghost use Rattle.lq_host.specs.Host.{wrote};
 ghost use Rattle.lq_model.specs.Plan.{infos_of, unit_count};
 ghost use Rattle.lq_model.specs.Settled.{AreSerials, IsSettled};
 ghost use Rattle.lq_model.specs.Texts.{counts_text};
+ghost use Rattle.lq_pcapng.specs.File.{packets_of};
 ghost use Rattle.lq_top.specs.Headline.{capture_name, fates_file, fates_name, run_of, texts_of, unit_file, unit_files};
 ghost use Rattle.lq_top.specs.Names.{MayWrite};
 ghost use Rattle.lq_top.specs.Stop.{StopsFor};
@@ -15,7 +16,7 @@ use crate::texts::{name_of_capture, name_of_fates, text_of_sent};
 use lq_fates::{counts_text, fates_text, sent_of};
 use lq_host::Host;
 use lq_model::{Fate, Info};
-use lq_pcap::Capture;
+use lq_pcapng::CaptureFile;
 use lq_plan::Plan;
 use std::alloc::Global;
 
@@ -24,13 +25,13 @@ fn write_unit<H: Host>(
     alloc: Global,
     host: &mut H,
     out: &str,
-    capture: &Capture,
+    capture: &CaptureFile,
     fates: &[Fate],
     unit: u32,
 ) -> Result<(), Stop>
     requires may { H.may_create (capture_name out.now unit) }
     requires serials { AreSerials fates.now unit }
-    requires known { length fates.now ≤ capture.now.count }
+    requires known { length fates.now ≤ (packets_of capture.now).count }
     ensures handles { (H.state host.new).handles ≡ (H.state host.old).handles }
     ensures ok { OnOk result (H.state host.new
         ≡ file_written (H.state host.old) (unit_file out.now capture.now fates.now unit)) }
@@ -49,13 +50,13 @@ fn write_units<H: Host>(
     alloc: Global,
     host: &mut H,
     out: &str,
-    capture: &Capture,
+    capture: &CaptureFile,
     fates: &[Fate],
     units: u32,
 ) -> Result<(), Stop>
     requires may { (unit : ℕ) → unit < units → H.may_create (capture_name out.now unit) }
     requires serials { (unit : ℕ) → AreSerials fates.now unit }
-    requires known { length fates.now ≤ capture.now.count }
+    requires known { length fates.now ≤ (packets_of capture.now).count }
     ensures handles { (H.state host.new).handles ≡ (H.state host.old).handles }
     ensures ok { OnOk result (H.state host.new
         ≡ files_written (H.state host.old) (unit_files out.now capture.now fates.now units)) }
@@ -111,13 +112,13 @@ pub fn write_run<H: Host>(
     host: &mut H,
     out: &str,
     plan: &Plan,
-    capture: &Capture,
+    capture: &CaptureFile,
     infos: &[Info],
     fates: &[Fate],
 ) -> Result<(), Stop>
     requires may { MayWrite H.may_create out.now (unit_count plan.now) }
-    requires infos { infos.now ≡ infos_of plan.now capture.now }
-    requires count { length infos.now ≡ capture.now.count }
+    requires infos { infos.now ≡ infos_of plan.now (packets_of capture.now) }
+    requires count { length infos.now ≡ (packets_of capture.now).count }
     requires settled { IsSettled plan.now infos.now fates.now }
     ensures handles { (H.state host.new).handles ≡ (H.state host.old).handles }
     ensures ok { OnOk result (H.state host.new

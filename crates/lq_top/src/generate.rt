@@ -3,6 +3,7 @@ ghost use Rattle.std.specs.Prelude.{◌≡◌, ◌≤◌, IfOk, IsOkAnd, Ok, OnO
 ghost use Rattle.lq_model.specs.Capture.{capture_of};
 ghost use Rattle.lq_model.specs.Generated.{generated_capture};
 ghost use Rattle.lq_model.specs.Plan.{unit_count};
+ghost use Rattle.lq_pcapng.specs.File.{as_classic};
 ghost use Rattle.lq_top.specs.Command.{gen_words};
 ghost use Rattle.lq_top.specs.Decision.{IsRunnable, by_generated, units_of, verdict_of_gen, with_refusal};
 ghost use Rattle.lq_top.specs.Fates.{identities_of};
@@ -22,7 +23,8 @@ use crate::stop::Stop;
 use lq_device::TxDevice;
 use lq_host::Host;
 use lq_model::NoMemory;
-use lq_pcap::{Capture, CaptureRefusal, gen_capture, read_capture};
+use lq_pcap::{Capture, CaptureRefusal, Frames as _, gen_capture, read_capture};
+use lq_pcapng::CaptureFile;
 use lq_plan::{Plan, generated_plan, infos};
 use std::alloc::Global;
 
@@ -49,7 +51,7 @@ fn run_and_count<H: Host, G: Gate, D: TxDevice>(
     gate: &G,
     out: &str,
     plan: &Plan,
-    capture: &Capture,
+    capture: &CaptureFile,
 ) -> Result<Status, Stop>
     requires runnable { IsRunnable (vec_len bench.old) plan.now }
     ensures answer { IfOk result (λ answer. answer ≡ Status.Done) }
@@ -84,7 +86,7 @@ fn generate<H: Host, G: Gate, D: TxDevice>(
     requires few { words.now.count ≤ 1000000 }
     requires runnable { IsRunnable (vec_len bench.old) plan.now }
     ensures does { EndsOrStops (by_generated words.now.out.now (generated_capture words.now.number words.now.count) plan.now
-        (with_refusal (capture_of (generated_capture words.now.number words.now.count))))
+        (with_refusal (as_classic (capture_of (generated_capture words.now.number words.now.count)))))
         (H.state host.old) (H.state host.new) (map D.state bench.old.items) (map D.state bench.new.items) result }
     ensures answer { IfOk result (λ answer. answer ≡ Status.Done) }
     ensures others { drop (unit_count plan.now) bench.new.items ≡ drop (unit_count plan.now) bench.old.items }
@@ -95,7 +97,7 @@ fn generate<H: Host, G: Gate, D: TxDevice>(
 {
     let text = gen_capture(alloc, words.number, words.count)?;
     write_file(host, words.out, &text)?;
-    let capture = generated_in(alloc, text)?;
+    let capture = CaptureFile::Classic(generated_in(alloc, text)?);
     run_and_count(alloc, host, bench, gate, words.out, plan, &capture)
 }
 

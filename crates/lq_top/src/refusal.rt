@@ -149,6 +149,12 @@ fn name_of_capture_reason(reason: CaptureReason) -> &'static str
         CaptureReason::CutData => "CutData",
         CaptureReason::TooMany => "TooMany",
         CaptureReason::TooLong => "TooLong",
+        CaptureReason::CutBlock => "CutBlock",
+        CaptureReason::BlockLength => "BlockLength",
+        CaptureReason::ByteOrder => "ByteOrder",
+        CaptureReason::NoInterface => "NoInterface",
+        CaptureReason::BlockBody => "BlockBody",
+        CaptureReason::SecondSection => "SecondSection",
     }
 }
 

@@ -24,7 +24,8 @@ use crate::trace::trace_command;
 use lq_device::TxDevice;
 use lq_host::Host;
 use lq_model::NoMemory;
-use lq_pcap::Capture;
+use lq_pcap::Frames as _;
+use lq_pcapng::CaptureFile;
 use lq_plan::{Plan, infos};
 use std::alloc::Global;
 use std::marker::Sync;
@@ -39,7 +40,7 @@ fn run_capture<H: Host, G: Gate, D: TxDevice>(
     gate: &G,
     out: &str,
     plan: &Plan,
-    capture: &Capture,
+    capture: &CaptureFile,
 ) -> Result<Status, Stop>
     requires may { MayWrite H.may_create out.now max_units }
     requires runnable { IsRunnable (vec_len bench.old) plan.now }

@@ -60,8 +60,8 @@ fn read_schedule_file<H: Host>(
 /// Does the command `trace`.
 pub fn trace_command<H: Host>(alloc: Global, host: &mut H, file: &str) -> Result<Status, Stop>
     requires { H.may_open file.now }
-    ensures does { IfSome (H.state host.old).told (λ c. (before behind : List DeviceState)
-        → EndsOrStops (verdict_of_trace file.now c.files) (H.state host.old) (H.state host.new) before behind result) }
+    ensures does { (before behind : List DeviceState) → IfSome (H.state host.old).told (λ c.
+        EndsOrStops (verdict_of_trace file.now c.files) (H.state host.old) (H.state host.new) before behind result) }
     ensures some { (have : ℕ) (before behind : List DeviceState)
         → EndsOrStopsOfSome (Some (OfTrace file.now)) have (H.state host.old) (H.state host.new) before behind result }
     ensures answer { IfOk result IsCommandStatus }

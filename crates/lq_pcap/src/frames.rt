@@ -1,0 +1,44 @@
+//! Captured packets, in whatever format they were read.
+ghost use Rattle.std.specs.Prelude.{◌≡◌, ◌≤◌, ◌<◌};
+ghost use Rattle.lq_model.specs.Capture.{Packets};
+
+use crate::records::Capture;
+
+/// The packets of a capture, each with the link type by which its bytes are read.
+pub trait Frames {
+    /// What contracts see of them.
+    ghost packets: { Self → Packets };
+
+    /// How many packets there are.
+    fn len(&self) -> usize
+        ensures count { result ≡ (packets self.now).count }
+        ensures few { result ≤ 1000000 };
+
+    /// The captured bytes of packet `i`.
+    fn frame(&self, i: usize) -> &[u8]
+        requires { i < (packets self.now).count }
+        ensures { result.now ≡ (packets self.now).frame i };
+
+    /// The link type of packet `i`: 1 is Ethernet, 101 is raw IP.
+    fn link_of(&self, i: usize) -> u32
+        requires { i < (packets self.now).count }
+        ensures { result ≡ (packets self.now).link i };
+}
+
+impl Frames for Capture {
+    ghost use Rattle.lq_model.specs.Capture.{packets_of};
+
+    ghost packets = { packets_of };
+
+    fn len(&self) -> usize {
+        Capture::len(self)
+    }
+
+    fn frame(&self, i: usize) -> &[u8] {
+        Capture::frame(self, i)
+    }
+
+    fn link_of(&self, _i: usize) -> u32 {
+        self.link()
+    }
+}

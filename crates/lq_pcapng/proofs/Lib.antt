@@ -1,0 +1,14 @@
+-- the order of a section, and blocks at places
+pub mod Places
+-- what a block is that has no fault
+pub mod Fits
+-- the reader's walk along the blocks
+pub mod Walk
+-- the section header block and the interfaces, written piece by piece
+pub mod WrittenSection
+-- which bytes are a capture
+pub mod Acceptance
+-- a capture that is written again
+pub mod Again
+-- the first fault of bytes that are none
+pub mod FirstFault

@@ -1,0 +1,25 @@
+-- What contracts see of a capture in memory.
+use Rattle.std.specs.Prelude.{◌≤◌, ℕ, List}
+use Rattle.lq_model.specs.Pcapng.{NgCapture, is_little_endian, total_length}
+use Rattle.lq_pcapng.specs.Reading.{AreInterfaces, ArePackets, IsWholeAt, block_at, blocks_at}
+use Rattle.lq_pcapng.specs.declared.capture.NgCapture.TheInside.{Inside}
+
+-- the capture whose blocks stand at these places
+abbrev pub capture_at : List ℕ → List ℕ → List ℕ → NgCapture
+capture_at bytes interfaces packets = record {
+  section = block_at (is_little_endian bytes) bytes 0;
+  interfaces = blocks_at (is_little_endian bytes) bytes interfaces;
+  packets = blocks_at (is_little_endian bytes) bytes packets;
+}
+
+abbrev pub capture_view : Inside → NgCapture
+capture_view c = capture_at c.bytes.items c.interfaces.items c.packets.items
+
+pub record IsRead (bytes interfaces packets : List ℕ) : Type 0 where
+  pub section : IsWholeAt (is_little_endian bytes) bytes 0
+  pub section_long : 28 ≤ total_length (is_little_endian bytes) bytes
+  pub interfaces_are : AreInterfaces (is_little_endian bytes) bytes interfaces
+  pub packets_are : ArePackets (is_little_endian bytes) bytes (blocks_at (is_little_endian bytes) bytes interfaces) packets
+
+abbrev pub capture_invariant : Inside → Type 0
+capture_invariant c = IsRead c.bytes.items c.interfaces.items c.packets.items

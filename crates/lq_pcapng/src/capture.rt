@@ -1,0 +1,133 @@
+ghost use Rattle.std.specs.Prelude.{◌≡◌, ◌<◌, ◌≤◌, length};
+ghost use Rattle.lq_model.specs.Pcapng.{frame_of, interface_at, link_of as link_type_of, order_of, packet_block};
+ghost use Rattle.lq_pcapng.specs.Reading.{IsPacket};
+
+use crate::blocks::{block, interface};
+use crate::layout::LINK;
+use crate::numbers::{begins_little_endian, short_number};
+use crate::packets::{captured_length, data_place, interface_number};
+use lq_pcap::Frames;
+use std::marker::Model;
+
+/// A capture that was read. Contracts see its section header block, its interface description blocks and its packet
+/// blocks.
+#[derive(Drop)]
+pub struct NgCapture {
+    /// The blocks of one section, as they were read.
+    pub(crate) bytes: Vec<u8>,
+    /// Where each interface description block begins.
+    pub(crate) interfaces: Vec<usize>,
+    /// Where each packet block begins.
+    pub(crate) packets: Vec<usize>,
+}
+
+impl Model for NgCapture {
+    ghost use Rattle.lq_model.specs.Pcapng.{NgCapture};
+    ghost use Rattle.lq_pcapng.specs.View.{capture_view, capture_invariant};
+
+    ghost Value = { NgCapture };
+
+    ghost view = { capture_view };
+
+    ghost invariant = { capture_invariant };
+}
+
+impl NgCapture {
+    /// How many packets the capture has.
+    pub fn len(&self) -> usize
+        ensures count { result ≡ length self.now.packets }
+        ensures few { result ≤ 1000000 }
+    {
+        self.packets.len()
+    }
+
+    /// The captured bytes of packet `i`.
+    pub fn frame(&self, i: usize) -> &[u8]
+        requires { i < length self.now.packets }
+        ensures { result.now ≡ frame_of self.now i }
+    {
+        let little_endian = self.is_little_endian();
+        let block = self.block(i);
+        let place = data_place(block, little_endian);
+        let len = captured_length(&self.bytes, little_endian, &self.interfaces, block);
+        &block[place..place + len as usize]
+    }
+
+    /// The link type of the interface of packet `i`: 1 is Ethernet, 101 is raw IP.
+    pub fn link_of(&self, i: usize) -> u32
+        requires { i < length self.now.packets }
+        ensures { result ≡ link_type_of self.now i }
+    {
+        let little_endian = self.is_little_endian();
+        let number = interface_number(self.block(i), little_endian);
+        u32::from(short_number(self.interface(number), little_endian, LINK))
+    }
+
+    /// The packet block `i`, as it was read.
+    pub fn block(&self, i: usize) -> &[u8]
+        requires { i < length self.now.packets }
+        ensures block { result.now ≡ packet_block self.now i }
+        ensures is { IsPacket (order_of self.now) self.now.interfaces result.now }
+    {
+        block(&self.bytes, self.is_little_endian(), self.packets[i])
+    }
+
+    /// How many interfaces the capture has.
+    pub fn interface_count(&self) -> usize
+        ensures { result ≡ length self.now.interfaces }
+    {
+        self.interfaces.len()
+    }
+
+    /// The interface description block `i`, as it was read.
+    pub fn interface(&self, i: usize) -> &[u8]
+        requires { i < length self.now.interfaces }
+        ensures block { result.now ≡ interface_at self.now.interfaces i }
+        ensures long { 20 ≤ length result.now }
+    {
+        interface(&self.bytes, self.is_little_endian(), &self.interfaces, i)
+    }
+
+    /// The section header block, as it was read.
+    pub fn section(&self) -> &[u8]
+        ensures block { result.now ≡ self.now.section }
+        ensures long { 28 ≤ length result.now }
+    {
+        block(&self.bytes, self.is_little_endian(), 0)
+    }
+
+    /// How many bytes the section header block and the interface description blocks take, or `usize::MAX` where that is
+    /// less.
+    pub(crate) fn start_len(&self) -> usize {
+        let mut len = self.section().len();
+        for i in 0..self.interface_count() {
+            len = len.saturating_add(self.interface(i).len());
+        }
+        len
+    }
+
+    /// Whether the numbers of the section have their lowest byte first.
+    pub fn is_little_endian(&self) -> bool
+        ensures { result ≡ order_of self.now }
+    {
+        begins_little_endian(&self.bytes)
+    }
+}
+
+impl Frames for NgCapture {
+    ghost use Rattle.lq_model.specs.Pcapng.{packets_of};
+
+    ghost packets = { packets_of };
+
+    fn len(&self) -> usize {
+        NgCapture::len(self)
+    }
+
+    fn frame(&self, i: usize) -> &[u8] {
+        NgCapture::frame(self, i)
+    }
+
+    fn link_of(&self, i: usize) -> u32 {
+        NgCapture::link_of(self, i)
+    }
+}

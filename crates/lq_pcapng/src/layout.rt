@@ -1,0 +1,61 @@
+// Where the fields of the blocks stand, and what they may be.
+
+/// The types of the blocks that are read. That of a section header block is the same in both byte orders.
+pub const SECTION: u32 = 0x0a0d_0d0a;
+
+pub const INTERFACE: u32 = 1;
+
+pub const SIMPLE: u32 = 3;
+
+pub const ENHANCED: u32 = 6;
+
+/// The places of a block's type and of its total length, which stands again in its last bytes.
+pub const TYPE: usize = 0;
+
+pub const TOTAL_LENGTH: usize = 4;
+
+pub const LENGTH_AGAIN: usize = 4;
+
+/// How many bytes a block has at least, and one of each type that is read.
+pub const MIN_BLOCK: usize = 12;
+
+pub const MIN_SECTION: usize = 28;
+
+pub const MIN_INTERFACE: usize = 20;
+
+/// The first field of a section header block, and its place.
+pub const BYTE_ORDER_MAGIC: u32 = 0x1a2b_3c4d;
+
+pub const BYTE_ORDER: usize = 8;
+
+/// The place of the version in a section header block, and the one major version that is read.
+pub const VERSION: usize = 12;
+
+pub const MAJOR_VERSION: u16 = 1;
+
+/// The places of the length of the section, and of what stands behind it.
+pub const SECTION_LENGTH: usize = 16;
+
+pub const SECTION_OPTIONS: usize = 24;
+
+/// The places of the link type and of the snapshot length in an interface description block.
+pub const LINK: usize = 8;
+
+pub const SNAPSHOT_LENGTH: usize = 12;
+
+/// The places of the interface, of the captured length and of the data in an enhanced packet block.
+pub const ENHANCED_INTERFACE: usize = 8;
+
+pub const ENHANCED_CAPTURED: usize = 20;
+
+pub const ENHANCED_DATA: usize = 28;
+
+/// The places of the length on the wire and of the data in a simple packet block.
+pub const SIMPLE_LENGTH: usize = 8;
+
+pub const SIMPLE_DATA: usize = 12;
+
+pub const MAX_CAPTURED_LENGTH: u32 = 262_144;
+
+/// How many packets a capture may have.
+pub const MAX_PACKETS: usize = 1_000_000;

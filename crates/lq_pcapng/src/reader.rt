@@ -1,0 +1,139 @@
+ghost use Rattle.std.specs.Prelude.{◌≡◌, ◌+◌, ◌≤◌, ◌<◌, ◌++◌, ◌∷◌, ◌==◌, ◌||◌, if◌then◌else◌, [], drop, length, IfErr, IfOk, OnOk};
+ghost use Rattle.lq_model.specs.Pcapng.{body_fault, is_little_endian, pcapng_of, section_fault, total_length};
+ghost use Rattle.lq_pcap.specs.Reading.{Gives};
+ghost use Rattle.lq_pcapng.specs.Reading.{AreInterfaces, IsTested, IsWholeLength, blocks_at};
+ghost use Rattle.lq_pcapng.specs.View.{IsRead, capture_at};
+
+use crate::capture::NgCapture;
+use crate::layout::{
+    ENHANCED, INTERFACE, MAX_PACKETS, MIN_BLOCK, MIN_INTERFACE, SECTION, SIMPLE, TYPE,
+};
+use crate::numbers::{begins_little_endian, number};
+use crate::packets::check_packet;
+use crate::section::{block_len, refused_at, section_len};
+use lq_model::CaptureReason;
+use lq_pcap::CaptureRefusal;
+use std::alloc::Global;
+
+/// Where the blocks of interfaces and of packets begin that were read so far.
+#[derive(Drop)]
+struct Places {
+    interfaces: Vec<usize>,
+    packets: Vec<usize>,
+}
+
+/// The capture that the bytes are, whose first four are the type of a section header block. It keeps them, and the
+/// places of its interfaces and of its packets beside them.
+///
+/// # Refused
+///
+/// The first test that the bytes fail. Of the section header block: `CutBlock` at 0, `ByteOrder` at 8, the tests of its
+/// lengths, `BlockBody` at 0 and `Version` at 12. Of each other block, at the place where it begins: `CutBlock`, the
+/// tests of its lengths, `SecondSection`, for an interface `BlockBody`, and for a packet `TooMany`, `BlockBody`,
+/// `NoInterface`, `LongRecord` and `BlockBody`. The tests of the lengths are `BlockLength` and `CutBlock` where the block
+/// begins, and `BlockLength` where its length stands again.
+///
+/// # NoMemory
+///
+/// There was no room for the places of the interfaces and of the packets, 8 bytes each. The bytes are dropped.
+pub fn read_pcapng(alloc: Global, bytes: Vec<u8>) -> Result<NgCapture, CaptureRefusal>
+    ensures { Gives (λ capture. capture) result (pcapng_of bytes.items) }
+{
+    let first = section_len(&bytes)?;
+    let little_endian = begins_little_endian(&bytes);
+    let places = places_of(alloc, &bytes, little_endian, first)?;
+    Ok(NgCapture {
+        bytes,
+        interfaces: places.interfaces,
+        packets: places.packets,
+    })
+}
+
+// The places of the interfaces and packets behind the section header block.
+fn places_of(
+    alloc: Global,
+    bytes: &[u8],
+    little_endian: bool,
+    first: usize,
+) -> Result<Places, CaptureRefusal>
+    requires order { little_endian ≡ is_little_endian bytes.now }
+    requires section { section_fault bytes.now ≡ None }
+    requires len { first ≡ total_length little_endian bytes.now }
+    requires long { 28 ≤ first }
+    requires within { first ≤ length bytes.now }
+    ensures read { IfOk result (λ places. IsRead bytes.now places.interfaces.items places.packets.items) }
+    ensures capture { Gives (λ places. capture_at bytes.now places.interfaces.items places.packets.items) result (pcapng_of bytes.now) }
+{
+    let mut places = Places {
+        interfaces: Vec::new(alloc),
+        packets: Vec::new(alloc),
+    };
+    let mut place = first;
+    while place < bytes.len() {
+        let rest = &bytes[place..];
+        let len = whole_len(bytes, little_endian, &places, place)?;
+        places.note(number(rest, little_endian, TYPE), place)?;
+        place += len;
+    }
+    Ok(places)
+}
+
+// How long the block at a place is, or what keeps it from being whole.
+#[tactic(auto, unfolding(lq_model::specs::Pcapng::block_fault))]
+fn whole_len(
+    bytes: &[u8],
+    little_endian: bool,
+    places: &Places,
+    place: usize,
+) -> Result<usize, CaptureRefusal>
+    requires within { place ≤ length bytes.now }
+    requires interfaces { AreInterfaces little_endian bytes.now places.now.interfaces.items }
+    ensures { IsWholeLength little_endian place (blocks_at little_endian bytes.now places.now.interfaces.items) (length places.now.packets.items) (drop place bytes.now) result }
+{
+    let rest = &bytes[place..];
+    if rest.len() < MIN_BLOCK {
+        return Err(refused_at(CaptureReason::CutBlock, place));
+    }
+    let len = block_len(rest, little_endian, place)?;
+    match check_body(bytes, little_endian, places, &rest[..len]) {
+        Ok(()) => Ok(len),
+        Err(reason) => Err(refused_at(reason, place)),
+    }
+}
+
+// What keeps a block from being whole behind these, by its type.
+#[tactic(auto, unfolding(lq_model::specs::Pcapng::body_fault))]
+fn check_body(
+    bytes: &[u8],
+    little_endian: bool,
+    places: &Places,
+    block: &[u8],
+) -> Result<(), CaptureReason>
+    requires long { 12 ≤ length block.now }
+    requires interfaces { AreInterfaces little_endian bytes.now places.now.interfaces.items }
+    ensures { IsTested (body_fault little_endian (blocks_at little_endian bytes.now places.now.interfaces.items) (length places.now.packets.items) block.now) result }
+{
+    match number(block, little_endian, TYPE) {
+        SECTION => Err(CaptureReason::SecondSection),
+        INTERFACE if block.len() < MIN_INTERFACE => Err(CaptureReason::BlockBody),
+        ENHANCED | SIMPLE if places.packets.len() >= MAX_PACKETS => Err(CaptureReason::TooMany),
+        ENHANCED | SIMPLE => check_packet(bytes, little_endian, &places.interfaces, block),
+        _ => Ok(()),
+    }
+}
+
+impl Places {
+    // Keeps the place of a block of this type, if it is one of an interface or of a packet.
+    fn note(&mut self, block_type: u32, place: usize) -> Result<(), CaptureRefusal>
+        ensures interfaces { OnOk result (self.new.interfaces.items ≡ self.old.interfaces.items ++ (if block_type == 1 then place ∷ [] else [])) }
+        ensures packets { OnOk result (self.new.packets.items ≡ self.old.packets.items ++ (if (block_type == 6) || (block_type == 3) then place ∷ [] else [])) }
+        ensures err { IfErr result (λ refusal. refusal ≡ CaptureRefusal.NoMemory) }
+    {
+        match block_type {
+            INTERFACE => self.interfaces.push(place)?,
+            ENHANCED | SIMPLE => self.packets.push(place)?,
+            _ => {}
+        }
+        Ok(())
+    }
+}

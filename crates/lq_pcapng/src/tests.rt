@@ -1,0 +1,122 @@
+use crate::{CaptureReason, CaptureRefusal, NgCapture, push_block, push_section, read_pcapng};
+use std::alloc::Global;
+use std::process::Abort;
+use std::test::Fail;
+
+// Little-endian: a section header block, an interface of Ethernet with a snapshot length of 262,144, and an enhanced
+// packet block of a frame of 34 bytes.
+const ONE_PACKET: [u8; 116] = [
+    0x0a, 0x0d, 0x0d, 0x0a, 28, 0, 0, 0, 0x4d, 0x3c, 0x2b, 0x1a, 1, 0, 0, 0, 0xff, 0xff, 0xff,
+    0xff, 0xff, 0xff, 0xff, 0xff, 28, 0, 0, 0, 1, 0, 0, 0, 20, 0, 0, 0, 1, 0, 0, 0, 0, 0, 4, 0, 20,
+    0, 0, 0, 6, 0, 0, 0, 68, 0, 0, 0, 0, 0, 0, 0, 0, 0, 0, 0, 0, 0, 0, 0, 34, 0, 0, 0, 34, 0, 0, 0,
+    2, 0, 0, 0, 0, 2, 2, 0, 0, 0, 0, 1, 8, 0, 0x45, 0, 0, 20, 0, 0, 0, 0, 64, 253, 0, 0, 10, 0, 0,
+    1, 10, 0, 1, 0, 0, 0, 68, 0, 0, 0,
+];
+
+// Big-endian, with a section length and options of 4 bytes: an interface of Ethernet that cuts packets to 5 bytes, a
+// simple packet of 7 bytes on the wire, a block of another type, an interface of raw IP, and an enhanced packet of 6
+// bytes of it.
+const TWO_INTERFACES: [u8; 164] = [
+    0x0a, 0x0d, 0x0d, 0x0a, 0, 0, 0, 32, 0x1a, 0x2b, 0x3c, 0x4d, 0, 1, 0, 0, 0, 0, 0, 0, 0, 0, 0,
+    132, 0, 0, 0, 0, 0, 0, 0, 32, 0, 0, 0, 1, 0, 0, 0, 20, 0, 1, 0, 0, 0, 0, 0, 5, 0, 0, 0, 20, 0,
+    0, 0, 3, 0, 0, 0, 24, 0, 0, 0, 7, 11, 12, 13, 14, 15, 0, 0, 0, 0, 0, 0, 24, 0, 0, 0, 5, 0, 0,
+    0, 12, 0, 0, 0, 12, 0, 0, 0, 1, 0, 0, 0, 20, 0, 101, 0, 0, 0, 0, 0, 0, 0, 0, 0, 20, 0, 0, 0, 6,
+    0, 0, 0, 40, 0, 0, 0, 1, 0, 0, 0, 0, 0, 0, 0, 0, 0, 0, 0, 6, 0, 0, 0, 6, 21, 22, 23, 24, 25,
+    26, 0, 0, 0, 0, 0, 40, 0, 0, 0, 5, 0, 0, 0, 16, 1, 2, 3, 4, 0, 0, 0, 16,
+];
+
+fn read(alloc: Global, bytes: &[u8]) -> Result<NgCapture, Fail> {
+    Ok(read_pcapng(alloc, Vec::from_slice(alloc, bytes)?)?)
+}
+
+// How many packets the bytes have, or why they are no capture.
+fn answer(rt: &(impl Abort + AllocGlobal), bytes: &[u8]) -> Result<usize, CaptureRefusal> {
+    let bytes = Vec::from_slice(rt.alloc(), bytes).expect(rt, "memory");
+    match read_pcapng(rt.alloc(), bytes) {
+        Ok(capture) => Ok(capture.len()),
+        Err(refusal) => Err(refusal),
+    }
+}
+
+fn refused(reason: CaptureReason, place: u64) -> Result<usize, CaptureRefusal> {
+    Err(CaptureRefusal::Refused { reason, place })
+}
+
+#[test]
+fn one_packet_cut_to_each_length(rt: HostRuntime) {
+    for len in 0..117usize {
+        let want = match len {
+            0..=27 => refused(CaptureReason::CutBlock, 0),
+            28 => Ok(0),
+            29..=47 => refused(CaptureReason::CutBlock, 28),
+            48 => Ok(0),
+            49..=115 => refused(CaptureReason::CutBlock, 48),
+            _ => Ok(1),
+        };
+        let front = ONE_PACKET.get(..len).unwrap_or(&[]);
+        assert_eq!(rt; answer(&rt, front), want, "at {len}");
+    }
+}
+
+#[test]
+fn each_byte_that_is_tested(rt: HostRuntime) {
+    // Place, new value, answer.
+    let changes = [
+        (4usize, 8u8, CaptureReason::BlockLength, 0u64),
+        (4, 30, CaptureReason::BlockLength, 0),
+        (4, 24, CaptureReason::BlockLength, 20),
+        (9, 0x3d, CaptureReason::ByteOrder, 8),
+        (12, 2, CaptureReason::Version, 12),
+        (27, 1, CaptureReason::BlockLength, 24),
+        (32, 120, CaptureReason::CutBlock, 28),
+        (56, 1, CaptureReason::NoInterface, 48),
+        (68, 37, CaptureReason::BlockBody, 48),
+        (70, 4, CaptureReason::LongRecord, 48),
+        (112, 72, CaptureReason::BlockLength, 112),
+    ];
+    for (place, value, reason, at) in changes {
+        let mut bytes = ONE_PACKET;
+        if let Some(byte) = bytes.get_mut(place) {
+            *byte = value;
+        }
+        assert_eq!(rt; answer(&rt, &bytes), refused(reason, at), "at {place}");
+    }
+}
+
+#[test]
+fn big_endian_with_two_interfaces(rt: HostRuntime) -> Result<(), Fail> {
+    let capture = read(rt.alloc(), &TWO_INTERFACES)?;
+    assert_eq!(rt; (capture.len(), capture.interface_count()), (2, 2));
+    assert_eq!(rt; capture.is_little_endian(), false);
+    if capture.len() == 2 {
+        assert_eq!(rt;
+            (capture.frame(0), capture.link_of(0)),
+            (&[11u8, 12, 13, 14, 15][..], 1)
+        );
+        assert_eq!(rt;
+            (capture.frame(1), capture.link_of(1)),
+            (&[21u8, 22, 23, 24, 25, 26][..], 101)
+        );
+    }
+    Ok(())
+}
+
+#[test]
+fn written_behind_all_interfaces(rt: HostRuntime) -> Result<(), Fail> {
+    let capture = read(rt.alloc(), &TWO_INTERFACES)?;
+    let mut out = Vec::new(rt.alloc());
+    push_section(&mut out, &capture)?;
+    for i in [1usize, 0] {
+        if i < capture.len() {
+            push_block(&mut out, &capture, i)?;
+        }
+    }
+    // The second interface and the packets as they were, the second packet first, and no block of another type.
+    let mut want = Vec::from_slice(rt.alloc(), &TWO_INTERFACES[..16])?;
+    want.extend_from_slice(&[0xff; 8])?;
+    want.extend_from_slice(&TWO_INTERFACES[24..52])?;
+    want.extend_from_slice(&TWO_INTERFACES[88..148])?;
+    want.extend_from_slice(&TWO_INTERFACES[52..76])?;
+    assert_eq!(rt; out.as_slice(), want.as_slice());
+    Ok(())
+}
