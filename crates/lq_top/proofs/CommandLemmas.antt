@@ -5,6 +5,8 @@ use Rattle.std.specs.List.{fold, list_all}
 use Rattle.std.specs.Str.{bytes_eq}
 use Rattle.std.proofs.lemmas.Slice.Eq.{bytes_eq-Decides}
 use Rattle.std.proofs.lemmas.Bool.{cases_Bool}
+use Rattle.std.proofs.lemmas.Bool.Decides.{leb_tells}
+use Rattle.std.proofs.Math.Dec.{leb-zero}
 use Rattle.clap.specs.Faults.{entered_fault, fault_of, level_fault}
 use Rattle.clap.specs.Simple.{App, Shape, built, entered, names_of, new_shape, rows_at, subcommand_of}
 use Rattle.clap.specs.Takes.{entered_passes, level_passes, takes, walk_passes}
@@ -12,7 +14,7 @@ use Rattle.clap.specs.Walk.{Held, Names, Row, Text, Walk, finished, idle, nothin
 use Rattle.clap.specs.declared.builder.value_parser.Reading.TheVariants.{AsWritten}
 use Rattle.clap.specs.declared.parser.matches.ValueSource.TheVariants.{CommandLine}
 use Rattle.clap.proofs.WalkLemmas.{both, walk_stopped}
-use Rattle.lq_run_core.specs.Schedule.{number_in, within}
+use Rattle.lq_run_core.specs.Schedule.{number_in, number_of, within}
 use Rattle.lq_top.specs.Command.{CommandWords, GenWords, HasFewRecords, OfGen, OfRun, OfTrace, command_of, command_of_one, command_of_three, gen_of, is_operand, words_of}
 use Rattle.lq_top.specs.Forms.{command_in, one_in, table_app, three_in}
 use Rattle.lq_top.proofs.ParseLemmas.{Fails, IsPlain, built_taken, fails_here, fails_later, level_fails_behind, level_fails_below, level_fails_in_walk, level_taken, passes_more, passes_none, plain, some_kind, standing, step, step_fails_as, step_is_taken}
@@ -283,12 +285,17 @@ judged : (words : List Text) → list_all is_operand words ≡ true → IsJudged
 judged [] all = Refused no_words refl
 judged (verb ∷ rest) all =
     let words = both (is_operand verb) _ all in
-    elim (cases_Bool (bytes_eq run verb), cases_Bool (bytes_eq gen verb), cases_Bool (bytes_eq trace verb)) [
-      | (inl named, g, t) ↦ subst (λ v. IsJudged (v ∷ rest)) ((bytes_eq-Decides run verb).0 named) (judged_three run is_run refl rest words.1)
-      | (inr r, inl named, t) ↦ subst (λ v. IsJudged (v ∷ rest)) ((bytes_eq-Decides gen verb).0 named) (judged_three gen is_gen refl rest words.1)
-      | (inr r, inr g, inl named) ↦ subst (λ v. IsJudged (v ∷ rest)) ((bytes_eq-Decides trace verb).0 named) (judged_trace rest words.1)
-      | (inr r, inr g, inr t) ↦
-          Refused (unknown_verb verb rest r g t (plain verb words.0)) (no_command verb rest (turned run verb r) (turned gen verb g) (turned trace verb t))
+    elim (cases_Bool (bytes_eq run verb)) [
+      | inl named ↦ subst (λ v. IsJudged (v ∷ rest)) ((bytes_eq-Decides run verb).0 named) (judged_three run is_run refl rest words.1)
+      | inr no_run ↦ elim (cases_Bool (bytes_eq gen verb)) [
+        | inl named ↦ subst (λ v. IsJudged (v ∷ rest)) ((bytes_eq-Decides gen verb).0 named) (judged_three gen is_gen refl rest words.1)
+        | inr no_gen ↦ elim (cases_Bool (bytes_eq trace verb)) [
+          | inl named ↦ subst (λ v. IsJudged (v ∷ rest)) ((bytes_eq-Decides trace verb).0 named) (judged_trace rest words.1)
+          | inr no_trace ↦
+              Refused (unknown_verb verb rest no_run no_gen no_trace (plain verb words.0))
+              (no_command verb rest (turned run verb no_run) (turned gen verb no_gen) (turned trace verb no_trace))
+        ]
+      ]
     ]
 
 module _ (words : List Text) where
@@ -352,9 +359,9 @@ few_if true x y first second = first
 few_if false x y first second = second
 
 few_within : (n : ℕ) (number : ℕ) (out : List ℕ) → HasFewRecords (option_map (λ k. OfGen (record { number = number; count = k; out = out })) (within 0 1000000 (Some n)))
-few_within n number out = elim (cases_Bool (nat_le n 1000000)) [
-  | inl few ↦ rw few (let le : n ≤ 1000000 = omega (few, arith) in le)
-  | inr many ↦ rw many _
+few_within n number out = elim (leb_tells n 1000000) [
+  | inl fits ↦ rw (leb-zero n, fits.0) fits.1
+  | inr above ↦ rw (leb-zero n, above.0) _
 ]
 
 few_in : (number : ℕ) (count : Option ℕ) (out : List ℕ) → HasFewRecords (option_map (λ k. OfGen (record { number = number; count = k; out = out })) (within 0 1000000 count))
@@ -364,7 +371,7 @@ few_in number (Some n) out = few_within n number out
 few_gen : (number : Option ℕ) (count : List ℕ) (out : List ℕ)
     → HasFewRecords (option_and_then (λ n. option_map (λ k. OfGen (record { number = n; count = k; out = out })) (number_in 0 1000000 count)) number)
 few_gen None count out = _
-few_gen (Some n) count out = few_in n _ out
+few_gen (Some n) count out = few_in n (number_of count) out
 
 -- a command generates at most 1,000,000 records
 pub few_records : (words : List Text) → HasFewRecords (command_of words)

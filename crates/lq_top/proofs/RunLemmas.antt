@@ -131,12 +131,12 @@ does_run (Some c) words have plan capture read seen P is_read is_seen first seco
 
 -- what was done as the run of some capture was decided so by its bytes and the plan's
 pub does_run_on :
-    (words : RunWords) (have : ℕ) (plan : Plan) (capture : Capture) (plan_bytes capture_bytes : List ℕ) (P : Verdict → Type 0) → plan_for have plan_bytes ≡ Ok plan
+    (words : RunWords) (have : ℕ) (plan : Plan) (capture : CaptureFile) (plan_bytes capture_bytes : List ℕ) (P : Verdict → Type 0) → plan_for have plan_bytes ≡ Ok plan
     → limited_capture_of capture_bytes ≡ Ok capture → P (Runs (run_of words.out plan capture)) → P (by_bytes (Some (OfRun words)) have plan_bytes capture_bytes)
 does_run_on words have plan capture plan_bytes capture_bytes P is_read is_seen does =
     let next : Plan → Verdict = λ p. by_capture words.out p (Some (limited_capture_of capture_bytes)) in
     let decided : by_bytes (Some (OfRun words)) have plan_bytes capture_bytes ≡ Runs (run_of words.out plan capture) =
-    ap (λ (r : Result Plan Refusal). by_plan (Some r) next) is_read ∙ ap (λ (r : Result Capture Refusal). by_capture words.out plan (Some r)) is_seen in
+    ap (λ (r : Result Plan Refusal). by_plan (Some r) next) is_read ∙ ap (λ (r : Result CaptureFile Refusal). by_capture words.out plan (Some r)) is_seen in
     subst P (sym decided) does
 
 -- a refusal of a plan was decided by its bytes
@@ -154,7 +154,7 @@ pub refuses_capture_on :
 refuses_capture_on words have plan r plan_bytes capture_bytes P is_read is_seen does =
     let next : Plan → Verdict = λ p. by_capture words.out p (Some (limited_capture_of capture_bytes)) in
     let decided : by_bytes (Some (OfRun words)) have plan_bytes capture_bytes ≡ Refuses r =
-    ap (λ (read : Result Plan Refusal). by_plan (Some read) next) is_read ∙ ap (λ (seen : Result Capture Refusal). by_capture words.out plan (Some seen)) is_seen in
+    ap (λ (read : Result Plan Refusal). by_plan (Some read) next) is_read ∙ ap (λ (seen : Result CaptureFile Refusal). by_capture words.out plan (Some seen)) is_seen in
     subst P (sym decided) does
 
 -- a host that is as before was stopped before anything was written

@@ -7,11 +7,11 @@
 //! are read here from their texts.
 ghost use Rattle.std.specs.Prelude.{◌≡◌, ◌≤◌, true, false, IfOk, IfSome, Some, None, codes, option_map, option_and_then};
 ghost use Rattle.std.specs.List.{list_all};
-ghost use Rattle.clap.specs.Words.{app_of, found_of, rows_of, rule_of, subcommand_rows_of};
+ghost use Rattle.clap.specs.Words.{app_of, found_of, with_subcommand, rows_of, rule_of, subcommand_rows_of};
 ghost use Rattle.clap.specs.declared.builder.command.Command.TheViews.{out-Command as fields_of};
 ghost use Rattle.lq_run_core.specs.Schedule.{number_in};
 ghost use Rattle.lq_top.specs.Command.{command_of, command_of_one, command_of_three, command_words, gen_of, words_of, is_operand};
-ghost use Rattle.lq_top.specs.Forms.{command_in, form_of_one, form_of_three, one_in, operand_rule, table_app, three_in};
+ghost use Rattle.lq_top.specs.Forms.{bare_app, command_in, form_of_one, form_of_three, one_in, operand_rule, table_app, three_in};
 
 use clap::error::ErrorKind;
 use clap::{Arg, ArgMatches};
@@ -91,9 +91,20 @@ fn form_of_three<'a>(alloc: Global, verb: &'a str) -> Result<clap::Command<'a>, 
         .arg(operand(alloc, "THIRD"))
 }
 
-/// The command table: one of the forms, and no help or version of clap's own.
-fn table<'a>(alloc: Global) -> Result<clap::Command<'a>, AllocError>
-    ensures app { IfOk result (λ table. app_of table ≡ table_app) }
+/// A table with one more form.
+fn with_form<'a>(
+    table: clap::Command<'a>,
+    form: clap::Command<'a>,
+) -> Result<clap::Command<'a>, AllocError>
+    requires local { (fields_of form).has_globals ≡ false }
+    ensures { IfOk result (λ whole. app_of whole ≡ with_subcommand (app_of table.entry) (app_of form.entry).top) }
+{
+    table.subcommand(form)
+}
+
+/// A table without forms, and without help or version of clap's own.
+fn bare_table<'a>(alloc: Global) -> clap::Command<'a>
+    ensures { app_of result ≡ bare_app }
 {
     clap::Command::new(alloc, "lqtx")
         .no_binary_name(true)
@@ -101,9 +112,16 @@ fn table<'a>(alloc: Global) -> Result<clap::Command<'a>, AllocError>
         .disable_help_subcommand(true)
         .disable_version_flag(true)
         .subcommand_required(true)
-        .subcommand(form_of_three(alloc, "run")?)?
-        .subcommand(form_of_three(alloc, "gen")?)?
-        .subcommand(form_of_one(alloc, "trace")?)
+}
+
+/// The command table: one of the forms.
+fn table<'a>(alloc: Global) -> Result<clap::Command<'a>, AllocError>
+    ensures app { IfOk result (λ table. app_of table ≡ table_app) }
+{
+    let table = with_form(bare_table(alloc), form_of_three(alloc, "run")?)?;
+    let table = with_form(table, form_of_three(alloc, "gen")?)?;
+    let table = with_form(table, form_of_one(alloc, "trace")?)?;
+    Ok(table)
 }
 
 /// The number that a word writes in decimal digits, with no leading zero unless it is 0, up to a limit.
@@ -133,9 +151,10 @@ fn read_gen<'a>(number: &'a str, count: &'a str, out: &'a str) -> Option<Command
 fn command_of_one<'a>(verb: &str, file: &'a str) -> Option<Command<'a>>
     ensures { option_map command_words result ≡ command_of_one verb.now file.now }
 {
-    match verb {
-        "trace" => Some(Command::Trace(file)),
-        _ => None,
+    if verb == "trace" {
+        Some(Command::Trace(file))
+    } else {
+        None
     }
 }
 
@@ -148,14 +167,16 @@ fn command_of_three<'a>(
 ) -> Option<Command<'a>>
     ensures { option_map command_words result ≡ command_of_three verb.now first.now second.now third.now }
 {
-    match verb {
-        "run" => Some(Command::Run(RunOperands {
+    if verb == "run" {
+        Some(Command::Run(RunOperands {
             plan: first,
             capture: second,
             out: third,
-        })),
-        "gen" => read_gen(first, second, third),
-        _ => None,
+        }))
+    } else if verb == "gen" {
+        read_gen(first, second, third)
+    } else {
+        None
     }
 }
 
@@ -187,8 +208,13 @@ fn command_matched<'a>(matches: &ArgMatches<'a>) -> Option<Command<'a>>
     ensures { option_map command_words result ≡ option_and_then command_in (subcommand_rows_of matches.now) }
 {
     match matches.subcommand() {
-        Some(("trace", form)) => one_in("trace", form),
-        Some((verb, form)) => three_in(verb, form),
+        Some((verb, form)) => {
+            if verb == "trace" {
+                one_in(verb, form)
+            } else {
+                three_in(verb, form)
+            }
+        }
         None => None,
     }
 }

@@ -11,7 +11,7 @@ pub returns-in-Ok-clause-complete : goal.returns-in-Ok-clause-complete
 returns-in-Ok-clause-complete g c =
     let told = (g.H.Host.state c.args.host.now).told in
     let have = vec_len c.args.bench.now in
-    let command = command_words c.in-Ok-Some.command' in
+    let command = command_words c.in-Ok-Some.command in
     subst (λ (is : Option CommandWords). IfSome told (λ k. IsAnswerOf (by_command is k.files have) c.in-Ok.status)) (ap (option_map command_words) (sym c.in-Ok-Some.field-0-is) ∙ c.in-Ok-Some.ensures)
     (all_answered told (λ k. verdict_of_command command k.files have) (g.H.Host.state c.args.host.now) (g.H.Host.state c.do_command.new.host) (map g.D.TxDevice.state c.args.bench.now.items)
     (map g.D.TxDevice.state c.do_command.new.bench.items) c.in-Ok.status c.in-Ok.ensures.does)
@@ -23,7 +23,7 @@ returns-in-Ok-clause-some g c =
     let have = vec_len c.args.bench.now in
     let before = map g.D.TxDevice.state c.args.bench.now.items in
     let behind = map g.D.TxDevice.state c.do_command.new.bench.items in
-    let command = command_words c.in-Ok-Some.command' in
+    let command = command_words c.in-Ok-Some.command in
     let found = c.in-Ok.ensures.some in
     subst (λ (is : Option CommandWords). OutcomeOfSome is have old new before behind c.in-Ok.status) (ap (option_map command_words) (sym c.in-Ok-Some.field-0-is) ∙ c.in-Ok-Some.ensures)
     (found.0, found.1, ends_outcome (by_bytes (Some command) have found.0 found.1) old new before behind c.in-Ok.status c.in-Ok.ensures.answer found.2)
@@ -35,7 +35,7 @@ returns-in-Err-do_command-clause-some g c =
     let have = vec_len c.args.bench.now in
     let before = map g.D.TxDevice.state c.args.bench.now.items in
     let behind = map g.D.TxDevice.state c.do_command.new.bench.items in
-    let command = command_words c.in-Ok-Some.command' in
+    let command = command_words c.in-Ok-Some.command in
     let found = c.in-Err-do_command.ensures.some in
     subst (λ (is : Option CommandWords). OutcomeOfSome is have old new before behind c.status.result) (ap (option_map command_words) (sym c.in-Ok-Some.field-0-is) ∙ c.in-Ok-Some.ensures) (
       found.0,
