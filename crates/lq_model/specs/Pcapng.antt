@@ -196,7 +196,7 @@ blocks_from little_endian zero place before rest = Ok before
 blocks_from little_endian (suc more) place before rest =
     if length rest == 0 then Ok before
     else unless (block_fault little_endian place (interfaces_in little_endian before) (length (packets_in little_endian before)) rest)
-      (blocks_from little_endian more (place + total_length little_endian rest) (before ++ block_in little_endian rest ∷ []) (drop (total_length little_endian rest) rest))
+    (blocks_from little_endian more (place + total_length little_endian rest) (before ++ block_in little_endian rest ∷ []) (drop (total_length little_endian rest) rest))
 
 -- a capture: its section header block, and its interface description blocks and its packet blocks in the order of the file
 pub record NgCapture : Type 0 where

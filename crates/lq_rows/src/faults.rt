@@ -1,10 +1,9 @@
 //! Calls of the host that fail: the status, and what the outputs hold after it.
 use crate::fixture::{RUN, call, host_with, three_frames};
-use lq_host::{HostCall, MemHost};
+use lq_host::{Host, HostCall, MemHost};
 use lq_pcap::gen_capture;
 use lq_top::{Free, Status};
 use std::alloc::Global;
-use std::process::Abort;
 use std::test::Fail;
 
 const COUNTS: &[u8] =
@@ -12,42 +11,83 @@ const COUNTS: &[u8] =
 
 const FATES: &[u8] = b"0 sent 0 0\n1 sent 0 1\n2 sent 0 2\n";
 
-/// A file isn't there, or has a prefix of its text.
-fn assert_prefix(rt: &impl Abort, file: Option<&[u8]>, text: &[u8]) {
-    match file {
-        Some(bytes) => assert!(rt; text.starts_with(bytes)),
-        None => (),
+/// What a file holds: it isn't there, it is empty, or it has its whole text.
+#[derive(Clone, Copy)]
+enum Held {
+    Absent,
+    Empty,
+    Whole,
+}
+
+/// The calls of a run of three frames. The plan is opened, read in one piece to its end and finished, then the capture;
+/// the capture of the unit is created, written in one piece and finished, then the fates; then the counts are written. Each
+/// with its number among those of its kind, and what the capture and the fates hold where it fails.
+const FAILED_CALLS: [(HostCall, u64, Held, Held); 15] = [
+    (HostCall::OpenRead, 1, Held::Absent, Held::Absent),
+    (HostCall::Read, 1, Held::Absent, Held::Absent),
+    (HostCall::Read, 2, Held::Absent, Held::Absent),
+    (HostCall::Finish, 1, Held::Absent, Held::Absent),
+    (HostCall::OpenRead, 2, Held::Absent, Held::Absent),
+    (HostCall::Read, 3, Held::Absent, Held::Absent),
+    (HostCall::Read, 4, Held::Absent, Held::Absent),
+    (HostCall::Finish, 2, Held::Absent, Held::Absent),
+    (HostCall::Create, 1, Held::Absent, Held::Absent),
+    (HostCall::Write, 1, Held::Empty, Held::Absent),
+    (HostCall::Finish, 3, Held::Whole, Held::Absent),
+    (HostCall::Create, 2, Held::Whole, Held::Absent),
+    (HostCall::Write, 2, Held::Whole, Held::Empty),
+    (HostCall::Finish, 4, Held::Whole, Held::Whole),
+    (HostCall::Write, 3, Held::Whole, Held::Whole),
+];
+
+/// The bytes of a file with this text that holds so much of it.
+fn bytes_of(held: Held, text: &[u8]) -> Option<&[u8]> {
+    match held {
+        Held::Absent => None,
+        Held::Empty => Some(&[]),
+        Held::Whole => Some(text),
     }
 }
 
-/// Each call of each kind fails once, and then none: a run of three frames makes so many calls of each kind.
+/// Each call of the run fails once: nothing more is written behind it.
 #[test]
 fn each_call_fails_in_turn(rt: HostRuntime) -> Result<(), Fail> {
     let alloc = rt.alloc();
     let capture = three_frames(alloc)?;
-    let kinds = [
-        (HostCall::OpenRead, 2),
-        (HostCall::Read, 4),
-        (HostCall::Create, 2),
-        (HostCall::Write, 3),
-        (HostCall::Finish, 4),
-    ];
-    for (kind, calls) in kinds {
-        for k in 1..calls + 2 {
-            let mut host = host_with(alloc, &capture)?;
-            host.fail_at(kind, k)?;
-            let status = call(&rt, alloc, &RUN, &mut host, &Free)?;
-            let expected = if k <= calls {
-                Status::Fault
-            } else {
-                Status::Done
-            };
-            assert_eq!(rt; status, expected, "call {k} of {kind:?}");
-            assert_prefix(&rt, host.file("o.0.pcap"), &capture);
-            assert_prefix(&rt, host.file("o.fates"), FATES);
-            assert!(rt; COUNTS.starts_with(host.output()));
-        }
+    for (kind, k, captured, fates) in FAILED_CALLS {
+        let mut host = host_with(alloc, &capture)?;
+        host.fail_at(kind, k)?;
+        let status = call(&rt, alloc, &RUN, &mut host, &Free)?;
+        assert_eq!(rt; status, Status::Fault, "call {k} of {kind:?}");
+        assert_eq!(rt; host.file("o.0.pcap"), bytes_of(captured, &capture));
+        assert_eq!(rt; host.file("o.fates"), bytes_of(fates, FATES));
+        assert_eq!(rt; host.output(), b"".as_slice());
+        assert_eq!(rt; host.faults(), 1);
     }
+    Ok(())
+}
+
+/// There are no more calls than those.
+#[test]
+fn no_call_behind_the_last_fails(rt: HostRuntime) -> Result<(), Fail> {
+    let alloc = rt.alloc();
+    let capture = three_frames(alloc)?;
+    let mut host = host_with(alloc, &capture)?;
+    for (kind, behind_last) in [
+        (HostCall::OpenRead, 3),
+        (HostCall::Read, 5),
+        (HostCall::Create, 3),
+        (HostCall::Write, 4),
+        (HostCall::Finish, 5),
+    ] {
+        host.fail_at(kind, behind_last)?;
+    }
+    let status = call(&rt, alloc, &RUN, &mut host, &Free)?;
+    assert_eq!(rt; status, Status::Done);
+    assert_eq!(rt; host.file("o.0.pcap"), Some(&capture[..]));
+    assert_eq!(rt; host.file("o.fates"), Some(FATES));
+    assert_eq!(rt; host.output(), COUNTS);
+    assert_eq!(rt; host.faults(), 0);
     Ok(())
 }
 

@@ -25,6 +25,10 @@ const RECORD: [u8; RECORD_BYTES] = [
 /// The plan of one station.
 pub const PLAN: &[u8] = b"[[station]]\n";
 
+/// The plan of eight stations.
+pub const EIGHT_STATIONS: &[u8] =
+    b"[[station]]\n[[station]]\n[[station]]\n[[station]]\n[[station]]\n[[station]]\n[[station]]\n[[station]]\n";
+
 /// The words of the worked rows.
 pub const RUN: [&str; 4] = ["run", "p", "c", "o"];
 
@@ -72,6 +76,7 @@ pub fn host_with(alloc: Global, capture: &[u8]) -> Result<MemHost, Fail> {
 }
 
 /// The top call with these words, on a bench of so many devices.
+#[tactic(auto, using(lq_top::proofs::NameLemmas::may_any))]
 pub fn call_on<R: Threads + Wait + Sync, G: Gate>(
     rt: &R,
     alloc: Global,

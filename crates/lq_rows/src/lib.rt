@@ -5,7 +5,11 @@
 #[cfg(test)]
 mod faults;
 #[cfg(test)]
+mod files;
+#[cfg(test)]
 mod fixture;
+#[cfg(test)]
+mod gate;
 #[cfg(test)]
 mod generated;
 #[cfg(test)]

@@ -13,7 +13,9 @@ const SECTION: [u8; 28] = [
 /// Interfaces of Ethernet and of raw IP with a snapshot length of 262,144.
 const ETHERNET: [u8; 20] = [1, 0, 0, 0, 20, 0, 0, 0, 1, 0, 0, 0, 0, 0, 4, 0, 20, 0, 0, 0];
 
-const RAW_IP: [u8; 20] = [1, 0, 0, 0, 20, 0, 0, 0, 101, 0, 0, 0, 0, 0, 4, 0, 20, 0, 0, 0];
+const RAW_IP: [u8; 20] = [
+    1, 0, 0, 0, 20, 0, 0, 0, 101, 0, 0, 0, 0, 0, 4, 0, 20, 0, 0, 0,
+];
 
 /// An enhanced packet block of interface 0: an Ethernet frame of 34 bytes from 10.0.0.1 to 10.0.1.0.
 const FRAME: [u8; 68] = [
@@ -63,7 +65,10 @@ fn writes_one_packet_again(rt: HostRuntime) -> Result<(), Fail> {
 #[test]
 fn reads_two_interfaces(rt: HostRuntime) -> Result<(), Fail> {
     let alloc = rt.alloc();
-    let capture = joined(alloc, &[&SECTION, &ETHERNET, &FRAME, &NAMES, &RAW_IP, &PACKET])?;
+    let capture = joined(
+        alloc,
+        &[&SECTION, &ETHERNET, &FRAME, &NAMES, &RAW_IP, &PACKET],
+    )?;
     let mut host = host_of(alloc, b"[[station]]\n[[station]]\n", &capture)?;
     let status = call_on(&rt, alloc, &RUN, &mut host, 2, &Free)?;
     assert_eq!(rt; status, Status::Done);
@@ -71,7 +76,10 @@ fn reads_two_interfaces(rt: HostRuntime) -> Result<(), Fail> {
     assert_eq!(rt; host.file("o.0.pcap").ok_or("no file")?, first.as_slice());
     let second = joined(alloc, &[&SECTION, &ETHERNET, &RAW_IP, &PACKET])?;
     assert_eq!(rt; host.file("o.1.pcap").ok_or("no file")?, second.as_slice());
-    assert_eq!(rt; host.file("o.fates").ok_or("no file")?, b"0 sent 0 0\n1 sent 1 0\n");
+    assert_eq!(rt;
+        host.file("o.fates").ok_or("no file")?,
+        &b"0 sent 0 0\n1 sent 1 0\n"[..]
+    );
     Ok(())
 }
 
@@ -81,13 +89,31 @@ fn refuses_what_is_no_section(rt: HostRuntime) -> Result<(), Fail> {
     let mut other_interface = FRAME;
     other_interface[8] = 1;
     let rows = vec![in alloc;
-        (joined(alloc, &[&SECTION, &ETHERNET, &FRAME[..67]])?, "10 CutBlock at 48"),
+        (
+            joined(alloc, &[&SECTION, &ETHERNET, &FRAME[..67]])?,
+            "10 CutBlock at 48"
+        ),
         (joined(alloc, &[&SECTION, &FRAME])?, "13 NoInterface at 28"),
-        (joined(alloc, &[&SECTION, &ETHERNET, &other_interface])?, "13 NoInterface at 48"),
-        (joined(alloc, &[&SECTION, &SECTION])?, "15 SecondSection at 28"),
-        (joined(alloc, &[&SECTION, &ETHERNET[..16], &SECTION[4..8]])?, "11 BlockLength at 44"),
-        (joined(alloc, &[&SECTION[..8], &SECTION[12..]])?, "12 ByteOrder at 8"),
-        (joined(alloc, &[&SECTION, &NAMES, &NAMES[..8]])?, "10 CutBlock at 44"),
+        (
+            joined(alloc, &[&SECTION, &ETHERNET, &other_interface])?,
+            "13 NoInterface at 48"
+        ),
+        (
+            joined(alloc, &[&SECTION, &SECTION])?,
+            "15 SecondSection at 28"
+        ),
+        (
+            joined(alloc, &[&SECTION, &ETHERNET[..16], &SECTION[4..8]])?,
+            "11 BlockLength at 44"
+        ),
+        (
+            joined(alloc, &[&SECTION[..8], &SECTION[12..]])?,
+            "12 ByteOrder at 8"
+        ),
+        (
+            joined(alloc, &[&SECTION, &NAMES, &NAMES[..8]])?,
+            "10 CutBlock at 44"
+        ),
         (joined(alloc, &[&SECTION[..4]])?, "10 CutBlock at 0"),
     ]?;
     for (capture, reason) in rows.iter() {

@@ -1,5 +1,7 @@
 //! Words, plans and captures that are refused: the status, the line, and no file made.
-use crate::fixture::{HEADER, PLAN, RUN, call, call_on, host_of, host_with, three_frames};
+use crate::fixture::{
+    EIGHT_STATIONS, HEADER, PLAN, RUN, call, call_on, host_of, host_with, three_frames,
+};
 use lq_host::MemHost;
 use lq_pcap::CaptureReason;
 use lq_top::{Free, Status};
@@ -107,10 +109,7 @@ fn refuses_plans_with_the_least_reason(rt: HostRuntime) -> Result<(), Fail> {
     Ok(())
 }
 
-/// Eight stations, and eight with a swap.
-const STATIONS: &[u8] =
-    b"[[station]]\n[[station]]\n[[station]]\n[[station]]\n[[station]]\n[[station]]\n[[station]]\n[[station]]\n";
-
+/// Eight stations, and a swap.
 const SWAPPED: &[u8] =
     b"[[station]]\n[[station]]\n[[station]]\n[[station]]\n[[station]]\n[[station]]\n[[station]]\n[[station]]\n[[event]]\nbefore = 0\nkind = \"swap\"\nstation = 0\n";
 
@@ -119,7 +118,12 @@ const SWAPPED: &[u8] =
 fn refuses_plans_that_it_cannot_run(rt: HostRuntime) -> Result<(), Fail> {
     let alloc = rt.alloc();
     let rows = [
-        (STATIONS, 7, 3, "bench refused: needs 8 units, has 7\n"),
+        (
+            EIGHT_STATIONS,
+            7,
+            3,
+            "bench refused: needs 8 units, has 7\n",
+        ),
         (SWAPPED, 8, 3, "bench refused: needs 9 units, has 8\n"),
         (PLAN, 0, 3, "bench refused: needs 1 units, has 0\n"),
         (SWAPPED, 9, 8, "not built: plan\n"),

@@ -1,10 +1,12 @@
 //! Runs that are done: the files and the output of each.
 use crate::fixture::{
-    HEADER, PLAN, RUN, call, call_on, capture_of, host_of, host_with, records_of, three_frames,
+    EIGHT_STATIONS, HEADER, PLAN, RUN, call, call_on, capture_of, host_of, host_with, records_of,
+    three_frames,
 };
 use lq_host::MemHost;
 use lq_pcap::gen_capture;
 use lq_top::{Free, Gate, Status};
+use std::alloc::Global;
 use std::sync::atomic::{AtomicU64, Ordering};
 use std::test::Fail;
 
@@ -162,6 +164,45 @@ fn splits_a_capture_among_stations(rt: HostRuntime) -> Result<(), Fail> {
         host.output(),
         b"unit 0 sent 2\nunit 1 sent 1\nstation 0 full 0 shrunk 0 purged 0 refused 0\nstation 1 full 0 shrunk 0 purged 0 refused 0\ntotal 3 sent 3 full 0 shrunk 0 purged 0 refused 0\n".as_slice()
     );
+    Ok(())
+}
+
+/// The fates where packet n goes to station n mod 8, and each is sent at once.
+fn fates_by_eight(alloc: Global, count: u32) -> Result<Vec<u8>, Fail> {
+    let mut text = Vec::new(alloc);
+    for n in 0..count {
+        let (unit, serial) = (n % 8, n / 8);
+        text.extend_from_slice(format!(in alloc; "{n} sent {unit} {serial}\n")?.as_bytes())?;
+    }
+    Ok(text)
+}
+
+/// More packets than 16 bits count, over as many stations as a plan may have: the run opens 11 handles.
+#[test]
+fn runs_eight_stations_and_70_000_packets(rt: HostRuntime) -> Result<(), Fail> {
+    let alloc = rt.alloc();
+    let capture = gen_capture(alloc, 1, 70_000)?;
+    let mut host = host_of(alloc, EIGHT_STATIONS, &capture)?;
+    let status = call_on(&rt, alloc, &RUN, &mut host, 8, &Free)?;
+    assert_eq!(rt; status, Status::Done);
+    let fates = fates_by_eight(alloc, 70_000)?;
+    assert_eq!(rt; host.file("o.fates").ok_or("no fates")?, fates.as_slice());
+    let last = host.file("o.7.pcap").ok_or("no capture")?;
+    assert_eq!(rt; last.len(), 24 + 8_750 * 50);
+    assert_eq!(rt;
+        last.get(437_474..).ok_or("short")?,
+        capture.get(3_499_974..).ok_or("short")?
+    );
+    let mut output = Vec::new(alloc);
+    for unit in 0..8 {
+        output.extend_from_slice(format!(in alloc; "unit {unit} sent 8750\n")?.as_bytes())?;
+    }
+    for station in 0..8 {
+        let line = format!(in alloc; "station {station} full 0 shrunk 0 purged 0 refused 0\n")?;
+        output.extend_from_slice(line.as_bytes())?;
+    }
+    output.extend_from_slice(b"total 70000 sent 70000 full 0 shrunk 0 purged 0 refused 0\n")?;
+    assert_eq!(rt; host.output(), output.as_slice());
     Ok(())
 }
 

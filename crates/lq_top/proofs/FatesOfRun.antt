@@ -4,6 +4,7 @@ use Rattle.std.proofs.lemmas.List.Elements.{All-weaker}
 use Rattle.std.specs.Prelude.{slice_get, option_map, option_and_then, count_by}
 use Rattle.std.proofs.lemmas.Option.{slice_get_within, slice_get-map, slice_get_cases, get_or_from_slice_get}
 use Rattle.lq_account.proofs.Closing.{is_closed}
+use Rattle.lq_account.proofs.Complete.{complete}
 use Rattle.lq_account.proofs.Law.{law_of_accounts}
 use Rattle.lq_account.proofs.NoEvents.{meets_no_events, no_event}
 use Rattle.lq_account.proofs.Settle.{accounts_are_in_order, accounts_settle, sent_list_of}
@@ -196,6 +197,7 @@ module _ (plan : Plan) (infos : List Info) (before behind : List DeviceState) (q
   pub fates_of_run : AreFatesOf plan infos fates before behind
   fates_of_run = record {
     settled = is-settled;
+    complete = complete plan infos fates ends.of_plan is-settled;
     in_order = accounts_are_in_order plan infos fates ends.all.accounts settled-stations;
     accounts = λ station below. ((own station below).at.past, ends.all.accounts station, closed station below);
     events = meets_no_events plan infos fates ends.none is-settled;

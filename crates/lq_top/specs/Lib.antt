@@ -32,3 +32,5 @@ pub mod Queue
 pub mod Stations
 -- what is made before a run
 pub mod Setup
+-- what the laws of its words speak of
+pub mod Laws

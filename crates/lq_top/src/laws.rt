@@ -1,16 +1,21 @@
 //! What the headline's words come to, each the contract of a function that does nothing.
-ghost use Rattle.std.specs.Prelude.{◌≡◌, ◌<◌, ℕ, List, length, slice_get, Ok, Some};
+ghost use Rattle.std.specs.Prelude.{◌≡◌, ◌<◌, ℕ, List, ◌∷◌, ◌++◌, length, slice_get, Ok, Some};
 ghost use Rattle.lq_host.specs.Host.{Files};
+ghost use Rattle.lq_model.specs.Account.{Event, Take};
 ghost use Rattle.lq_model.specs.Capture.{Capture, capture_of};
 ghost use Rattle.lq_model.specs.Device.{DeviceState};
 ghost use Rattle.lq_model.specs.Generated.{generated_capture};
+ghost use Rattle.lq_model.specs.Legal.{MayTake};
+ghost use Rattle.lq_model.specs.Plan.{infos_of, station_in};
 ghost use Rattle.lq_model.specs.declared.fate.Fate.{Fate};
+ghost use Rattle.lq_model.specs.declared.fate.Fate.TheVariants.{Full};
 ghost use Rattle.lq_pcapng.specs.File.{packets_of};
 ghost use Rattle.lq_pcapng.specs.declared.file.CaptureFile.TheVariants.{Classic};
 ghost use Rattle.lq_plan.specs.Generated.{generated_plan};
 ghost use Rattle.lq_top.specs.Command.{GenWords, OfGen, command_of};
 ghost use Rattle.lq_top.specs.Decision.{Generates, verdict_of};
 ghost use Rattle.lq_top.specs.Headline.{AreFatesIn, Run, run_of};
+ghost use Rattle.lq_top.specs.Laws.{SawItsSlot, account_behind};
 
 /// The fates of a run: as many as the capture has packets, so that each packet has exactly one.
 pub fn each_packet_has_one_fate()
@@ -19,6 +24,20 @@ pub fn each_packet_has_one_fate()
     ensures there { (run : Run) (fates : List Fate) (before behind : List DeviceState) (n : ℕ)
         → AreFatesIn run fates before behind → n < (packets_of run.capture).count
         → (fate : Fate) × (slice_get fates n ≡ Some fate) }
+{}
+
+/// What the stations of a run did with their packets, whatever the devices answered. A packet that was dropped as full saw
+/// that other one in the slot of its band. And a packet was taken from a band only while the requeue slot was empty and each
+/// lower band had been found empty: the requeue slot comes first, and then the bands in their order.
+pub fn stations_keep_their_order()
+    ensures full { (run : Run) (fates : List Fate) (before behind : List DeviceState) (station n seen : ℕ)
+        → AreFatesIn run fates before behind → station < length run.plan.stations → n < (packets_of run.capture).count
+        → station_in (infos_of run.plan (packets_of run.capture)) n ≡ station → slice_get fates n ≡ Some (Full seen)
+        → SawItsSlot run.plan (infos_of run.plan (packets_of run.capture)) station n seen }
+    ensures order { (run : Run) (fates : List Fate) (before behind : List DeviceState)
+        → (are : AreFatesIn run fates before behind) (station : ℕ) (below : station < length run.plan.stations)
+        → (later earlier : List Event) (band : ℕ) → (are.accounts station below).0 ≡ later ++ Take band ∷ earlier
+        → MayTake earlier (account_behind run.plan station earlier) band }
 {}
 
 /// Where there is a device, what the words of `gen` decide is its generated capture, which is one, under its own plan.

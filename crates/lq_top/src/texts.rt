@@ -37,7 +37,8 @@ pub fn text_of_sent(alloc: Global, capture: &CaptureFile, sent: &[u32]) -> Resul
     requires { All (λ n. n < (packets_of capture.now).count) sent.now }
     ensures { IfOk result (λ text. text.items ≡ text_of capture.now sent.now) }
 {
-    let Ok(mut text) = Vec::with_capacity(alloc, room_for(capture, capture.start_len(), sent)) else {
+    let Ok(mut text) = Vec::with_capacity(alloc, room_for(capture, capture.start_len(), sent))
+    else {
         return Err(NoMemory);
     };
     capture.push_start(&mut text)?;

@@ -13,8 +13,8 @@ pub loop-n-preserved : goal.loop-n-preserved
 loop-n-preserved g c =
     record {
       so_far = one_more_sent c.args.plan.now c.args.infos.now c.loop-n.n c.args.queues.now.items c.loop-n.queues.items c.bring.new.queues.items c.wake_behind.new.queues.items
-    c.args.fates.now c.loop-n.fates c.bring.new.fates c.wake_behind.new.fates c.requires.alone.no_events c.loop-n.invariant.so_far
-    (λ before run_at all. c.bring.ensures.stand c.args.plan.now before run_at all)
+          c.args.fates.now c.loop-n.fates c.bring.new.fates c.wake_behind.new.fates c.requires.alone.no_events c.loop-n.invariant.so_far
+          (λ before run_at all. c.bring.ensures.stand c.args.plan.now before run_at all)
           (λ before run_at all. c.wake_behind.ensures.stand c.args.infos.now before run_at all);
       boxes = c.wake_behind.ensures.boxes ∙ c.bring.ensures.boxes ∙ c.loop-n.invariant.boxes;
     }

@@ -1,0 +1,2 @@
+-- where a try of the run lock leads
+pub mod Runs

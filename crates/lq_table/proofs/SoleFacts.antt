@@ -1,0 +1,50 @@
+-- What the words tell a seat that has the table alone.
+use Rattle.std.proofs.Common.{◌≡◌, ℕ, ◌<◌, true, List, Option, get_or, sym, ap, ap₂, ◌∙◌}
+use Rattle.std.specs.Prelude.{is_some, slice_index}
+use Rattle.std.proofs.lemmas.Bool.{lt-ltb}
+use mathlib.Core.Option.{some}
+use lib.ListN.{get_elem?}
+use Rattle.atomic_table.specs.Table as table
+use Rattle.lq_device.specs.Station.{StationState}
+use Rattle.lq_model.specs.Account.{Account}
+use Rattle.lq_model.specs.Machine.{Qdisc, bit}
+use Rattle.lq_model.specs.Kept.{holds_lock}
+use Rattle.lq_table.specs.Views.{View, Setup, State, HolderPart}
+use Rattle.lq_table.specs.Rule.{words_of, xoff_word, account, holders, event_word, Rule}
+use Rattle.lq_table.specs.Told.{is_set}
+use Rattle.lq_table.specs.Solo.{IsSole, account_of, SeesState, IsAccounts}
+use Rattle.lq_table.proofs.Bits.{has_sched, has_deactivated, has_missed, has_draining}
+use Rattle.lq_table.proofs.ByName.{xoff_of}
+
+module _ (k : Setup) (s : table.State (Option StationState) View) (r : Rule k s) (id : ℕ) (v : View) (here : get_elem? s.views id ≡ some v) (some_share : 0 < v.share.shares) (sole : IsSole v) where
+  knows_qdisc : v.whole.qdisc ≡ r.qdisc
+  knows_qdisc = (r.parts.sole id v here sole.0 sole.1).0
+
+  pub knows_account : account_of v ≡ account k r.state
+  knows_account = ap₂ account (r.parts.shares.about id v here (lt-ltb 0 v.share.shares some_share)) (r.parts.sole id v here sole.0 sole.1).1
+
+  pub knows_state : v.whole.state ≡ r.state
+  knows_state = (r.parts.sole id v here sole.0 sole.1).1
+
+  pub sees_state : SeesState v (get_or s.words 1 0)
+  sees_state = let q = r.qdisc in let t = r.parts.stands in let e : ℕ = event_word (account k r.state).down in record {
+    scheduled = ap (is_set 1) t.state ∙ has_sched q.sched q.deactivated q.missed q.draining e ∙ sym (ap (λ (z : Qdisc). z.sched) knows_qdisc);
+    down = ap (is_set 2) t.state ∙ has_deactivated q.sched q.deactivated q.missed q.draining e ∙ r.parts.ties.down ∙ sym (ap (λ (a : Account). is_some a.down) knows_account);
+    missed = ap (is_set 4) t.state ∙ has_missed q.sched q.deactivated q.missed q.draining e ∙ sym (ap (λ (z : Qdisc). z.missed) knows_qdisc);
+    draining = ap (is_set 8) t.state ∙ has_draining q.sched q.deactivated q.missed q.draining e ∙ sym (ap (λ (z : Qdisc). z.draining) knows_qdisc);
+  }
+
+  pub sees_lock : get_or s.words 2 0 ≡ bit v.whole.qdisc.locked
+  sees_lock = r.parts.stands.lock ∙ sym (ap (λ (z : Qdisc). bit z.locked) knows_qdisc)
+
+  pub sees_stop : (queue : ℕ) → get_or s.words (xoff_word k queue) 0 ≡ slice_index (account_of v).stops queue
+  sees_stop queue = xoff_of k s.words queue ∙ ap (λ (ls : List ℕ). slice_index ls queue) (sym r.parts.stands.xoff ∙ r.parts.ties.stops) ∙ sym (ap (λ (a : Account). slice_index a.stops queue) knows_account)
+
+  -- what the holder would have
+  pub knows_holders : (size : ℕ) → holders r.state (account k r.state) size ≡ holders v.whole.state (account_of v) size
+  knows_holders size = ap₂ (λ (g : State) (a : Account). holders g a size) (sym knows_state) (sym knows_account)
+
+  pub holds_accounts : holds_lock v.place.position ≡ true → IsAccounts v
+  holds_accounts holds = let at = r.parts.lends.knows id v here (lt-ltb 0 v.share.shares some_share) holds in
+      let size : (words_of k s.words).size ≡ v.holder.size = sym (ap (λ (z : HolderPart). z.size) at.is) in
+      at.is ∙ ap (holders r.state (account k r.state)) size ∙ knows_holders v.holder.size

@@ -1,0 +1,290 @@
+-- What the steps of the machine make of what a seat knows that has the table alone.
+use Rattle.std.proofs.Common.{◌≡◌, ℕ, ◌-◌, ◌⊎◌, inl, inr, ⊎_elim, Bool, true, false, true≢false, refl, sym, ap, ◌∙◌, subst, Option, Some, None}
+use Rattle.std.specs.Prelude.{if◌then◌else◌, not, ◌||◌, ◌&&◌, ◌==◌, is_some}
+use Rattle.std.specs.Option.{option_map}
+use Rattle.lq_model.specs.Account.{Back, Send, Refuse, Direct as DirectEvent, Pick, Stop}
+use Rattle.lq_model.specs.declared.machine.Answer.{Answer}
+use Rattle.lq_model.specs.declared.machine.Answer.TheVariants.{Plain}
+use Rattle.lq_model.specs.declared.machine.Answer.TheVariants as answer
+use Rattle.lq_device.specs.Station.{StationState}
+use Rattle.lq_model.specs.declared.fate.Fate.{Fate}
+use Rattle.lq_model.specs.declared.fate.Fate.TheVariants as fate
+use Rattle.lq_table.specs.Settled.{MaySettle, fated}
+use Rattle.lq_model.specs.declared.machine.Attempt.{Attempt}
+use Rattle.lq_model.specs.declared.machine.Attempt.TheVariants.{Queued, Direct, Interrupt}
+use Rattle.lq_model.specs.declared.machine.Blocked.TheVariants.{InHand, NoneTaken}
+use Rattle.lq_model.specs.declared.machine.Position.{Position}
+use Rattle.lq_model.specs.declared.machine.Position.TheVariants as at
+use Rattle.lq_model.specs.declared.machine.Seat.{Seat}
+use Rattle.lq_model.specs.declared.machine.Packet.{Packet}
+use Rattle.lq_model.specs.Machine.{Qdisc, Purge, is_non_empty}
+use Rattle.lq_model.specs.Control.{is_control}
+use Rattle.lq_model.specs.Kept.{in_hand}
+use Rattle.lq_model.specs.Steps.{After, step_at, begun, run_begins, goes_to, gives_up, lock_got, try_lock, call_ends}
+use Rattle.lq_table.specs.Views.{View, HolderPart, packet_of}
+use Rattle.lq_table.specs.Told.{seen_by, seen_state, loads_state, misses, schedules, clears_missed, clears_draining, clears_sched, sets_missed, sets_draining, looking, missing, scheduling, backing, passing, setting, stepped, refusing, going, entering, bringing_packet, call_of, unlocks_at, unlocking, unlocking_control, unlocking_call, seen_lock, loading, picking, behind_stop, is_dequeue, storing, storing_from, stop_value, settling, answer_of, tries_lock, got, got_in_control, got_in_call, held}
+use Rattle.lq_table.specs.Solo.{Solo, solo, missed_to, draining_to, sched_set, sched_cleared, laid, heard, entered_as, locked_to, picks, stop_found, device_to, fated_as}
+
+either_raised : (b : Bool) (x y : After) (c : Bool) → x.seat.raised ≡ c → y.seat.raised ≡ c → (if b then x else y).seat.raised ≡ c
+either_raised true x y c e e' = e
+either_raised false x y c e e' = e'
+
+either_words : (b : Bool) (x y : After) (q : Qdisc) → (b ≡ true → x.qdisc ≡ q) → (b ≡ false → y.qdisc ≡ q) → (if b then x else y).qdisc ≡ q
+either_words true x y q e e' = e refl
+either_words false x y q e e' = e' refl
+
+-- a step that leaves the raised mark
+record Leaves (y : Position) (to : Qdisc → Qdisc) : Type 0 where
+  raised : (seen : Qdisc) (s : Seat) → (step_at y Plain seen s).seat.raised ≡ s.raised
+  words : (q : Qdisc) (s : Seat) → (step_at y Plain q s).qdisc ≡ to q
+
+-- what it makes of the solo view
+solo_step : (v : View) (seen : Qdisc) (to : Qdisc → Qdisc) → Leaves v.place.position to
+    → solo (stepped Plain seen v) ≡ record (solo v) { whole = record (solo v).whole { missed = (to v.whole.qdisc).missed; draining = (to v.whole.qdisc).draining; scheduled = (to v.whole.qdisc).sched; locked = (to v.whole.qdisc).locked } }
+solo_step v seen to l = let a = l.raised seen v.place in let b = l.words v.whole.qdisc v.place in
+    λ j. record (solo v) { raised = a j; whole = record (solo v).whole { missed = (b j).missed; draining = (b j).draining; scheduled = (b j).sched; locked = (b j).locked } }
+
+load_leaves : (y : Position) → loads_state y ≡ true → Leaves y (λ q. q)
+load_leaves at.Post h = record {
+  raised = λ seen s. either_raised (is_non_empty seen) (run_begins seen s) (goes_to seen s at.Unlock) s.raised refl refl;
+  words = λ q s. either_words (is_non_empty q) (run_begins q s) (goes_to q s at.Unlock) q (λ _. refl) (λ _. refl);
+}
+load_leaves at.Test h = record { raised = λ seen s. refl; words = λ q s. refl }
+load_leaves (at.Tail inside) h = record { raised = λ seen s. refl; words = λ q s. refl }
+load_leaves at.Soft h = record { raised = λ seen s. refl; words = λ q s. refl }
+load_leaves at.Late h = record { raised = λ seen s. refl; words = λ q s. refl }
+load_leaves (at.Control holds) h = record { raised = λ seen s. refl; words = λ q s. refl }
+load_leaves _ h = absurd cc
+
+pub looks_solo : (n : ℕ) (v : View) → loads_state v.place.position ≡ true → solo (looking n v) ≡ solo v
+looks_solo n v h = solo_step v (seen_state (seen_by v) v.share.about.bypass n) (λ q. q) (load_leaves v.place.position h)
+
+miss_leaves : (y : Position) → misses y ≡ true → Leaves y (λ q. record q { missed = true })
+miss_leaves (at.Miss attempt) h = record {
+  raised = λ seen s. either_raised seen.missed (goes_to seen s (gives_up attempt)) (goes_to (record seen { missed = true }) s (at.Try2 attempt)) s.raised refl refl;
+  words = λ q s. either_words q.missed (goes_to q s (gives_up attempt)) (goes_to (record q { missed = true }) s (at.Try2 attempt)) (record q { missed = true }) (λ e j. record q { missed = e j }) (λ _. refl);
+}
+miss_leaves _ h = absurd cc
+
+pub misses_solo : (was : Bool) (v : View) → misses v.place.position ≡ true → solo (missing was v) ≡ missed_to true (solo v)
+misses_solo was v h = solo_step v (record (seen_by v) { missed = was }) (λ q. record q { missed = true }) (miss_leaves v.place.position h)
+
+clear_missed_leaves : (y : Position) → clears_missed y ≡ true → Leaves y (λ q. record q { missed = false })
+clear_missed_leaves at.ClearMissed h = record { raised = λ seen s. refl; words = λ q s. refl }
+clear_missed_leaves (at.BlockedClear b) h = record { raised = λ seen s. refl; words = λ q s. refl }
+clear_missed_leaves _ h = absurd cc
+
+pub clears_missed_solo : (v : View) → clears_missed v.place.position ≡ true → solo (passing v) ≡ missed_to false (solo v)
+clears_missed_solo v h = solo_step v (seen_by v) (λ q. record q { missed = false }) (clear_missed_leaves v.place.position h)
+
+clear_draining_leaves : (y : Position) → clears_draining y ≡ true → Leaves y (λ q. record q { draining = false })
+clear_draining_leaves at.ClearDraining h = record { raised = λ seen s. refl; words = λ q s. refl }
+clear_draining_leaves _ h = absurd cc
+
+pub clears_draining_solo : (v : View) → clears_draining v.place.position ≡ true → solo (passing v) ≡ draining_to false (solo v)
+clears_draining_solo v h = solo_step v (seen_by v) (λ q. record q { draining = false }) (clear_draining_leaves v.place.position h)
+
+clear_sched_leaves : (y : Position) → clears_sched y ≡ true → Leaves y (λ q. record q { sched = false })
+clear_sched_leaves (at.SoftClear deactivated) h = record { raised = λ seen s. refl; words = λ q s. refl }
+clear_sched_leaves _ h = absurd cc
+
+pub clears_sched_solo : (v : View) → clears_sched v.place.position ≡ true → solo (passing v) ≡ sched_cleared (solo v)
+clears_sched_solo v h = solo_step v (seen_by v) (λ q. record q { sched = false }) (clear_sched_leaves v.place.position h)
+
+-- SCHED is set, and the seat raised where it was clear
+raised_or : (a was : Bool) → (if was then a else true) ≡ (a || not was)
+raised_or true true = refl
+raised_or true false = refl
+raised_or false true = refl
+raised_or false false = refl
+
+raised_if : (b : Bool) (x y : After) → (if b then x else y).seat.raised ≡ (if b then x.seat.raised else y.seat.raised)
+raised_if true x y = refl
+raised_if false x y = refl
+
+schedule_raises : (y : Position) → schedules y ≡ true → (seen : Qdisc) (s : Seat) → (step_at y Plain seen s).seat.raised ≡ (s.raised || not seen.sched)
+schedule_raises (at.Sched inside) h seen s =
+    raised_if seen.sched (goes_to seen s (call_ends inside)) (record { qdisc = record seen { sched = true }; seat = record s { position = call_ends inside; raised = true } }) ∙ raised_or s.raised seen.sched
+schedule_raises _ h seen s = absurd cc
+
+schedule_words : (y : Position) → schedules y ≡ true → (q : Qdisc) (s : Seat) → (step_at y Plain q s).qdisc ≡ record q { sched = true }
+schedule_words (at.Sched inside) h q s =
+    either_words q.sched (goes_to q s (call_ends inside)) (record { qdisc = record q { sched = true }; seat = record s { position = call_ends inside; raised = true } }) (record q { sched = true }) (λ e j. record q { sched = e j }) (λ _. refl)
+schedule_words _ h q s = absurd cc
+
+pub schedules_solo : (was : Bool) (v : View) → schedules v.place.position ≡ true → solo (scheduling was v) ≡ sched_set was (solo v)
+schedules_solo was v h = let a = schedule_raises v.place.position h (record (seen_by v) { sched = was }) v.place in let b = schedule_words v.place.position h v.whole.qdisc v.place in
+    λ j. record (solo v) { raised = a j; whole = record (solo v).whole { missed = (b j).missed; draining = (b j).draining; scheduled = (b j).sched; locked = (b j).locked } }
+
+-- MISSED or DRAINING is set by the holder
+record Sets (y : Position) (to : Qdisc → Qdisc) : Type 0 where
+  raised : (seen : Qdisc) (s : Seat) → (step_at y Plain seen s).seat.raised ≡ s.raised
+  missed : (q : Qdisc) (s : Seat) → (step_at y Plain q s).qdisc.missed ≡ (to q).missed
+  draining : (q : Qdisc) (s : Seat) → (step_at y Plain q s).qdisc.draining ≡ (to q).draining
+  scheduled : (q : Qdisc) (s : Seat) → (step_at y Plain q s).qdisc.sched ≡ (to q).sched
+  locked : (q : Qdisc) (s : Seat) → (step_at y Plain q s).qdisc.locked ≡ (to q).locked
+
+set_leaves : (y : Position) → sets_missed y ≡ true → Sets y (λ q. record q { missed = true })
+set_leaves at.Again h = record { raised = λ seen s. refl; missed = λ q s. refl; draining = λ q s. refl; scheduled = λ q s. refl; locked = λ q s. refl }
+set_leaves at.Quota h = record { raised = λ seen s. refl; missed = λ q s. refl; draining = λ q s. refl; scheduled = λ q s. refl; locked = λ q s. refl }
+set_leaves (at.BlockedMiss (InHand p direct)) h = record { raised = λ seen s. refl; missed = λ q s. refl; draining = λ q s. refl; scheduled = λ q s. refl; locked = λ q s. refl }
+set_leaves (at.BlockedMiss (NoneTaken queue)) h = record { raised = λ seen s. refl; missed = λ q s. refl; draining = λ q s. refl; scheduled = λ q s. refl; locked = λ q s. refl }
+set_leaves _ h = absurd cc
+
+drain_leaves : (y : Position) → sets_draining y ≡ true → Sets y (λ q. record q { draining = true })
+drain_leaves (at.BlockedDrain (InHand p direct)) h = record { raised = λ seen s. refl; missed = λ q s. refl; draining = λ q s. refl; scheduled = λ q s. refl; locked = λ q s. refl }
+drain_leaves (at.BlockedDrain (NoneTaken queue)) h = record { raised = λ seen s. refl; missed = λ q s. refl; draining = λ q s. refl; scheduled = λ q s. refl; locked = λ q s. refl }
+drain_leaves _ h = absurd cc
+
+set_step : (v : View) (to : Qdisc → Qdisc) → Sets v.place.position to
+    → solo (setting v) ≡ laid v (record (solo v) { whole = record (solo v).whole { missed = (to v.whole.qdisc).missed; draining = (to v.whole.qdisc).draining; scheduled = (to v.whole.qdisc).sched; locked = (to v.whole.qdisc).locked } })
+set_step v to t = by (is_some (in_hand v.place.position))
+  where
+    w : Solo
+    w = record (solo v) { whole = record (solo v).whole { missed = (to v.whole.qdisc).missed; draining = (to v.whole.qdisc).draining; scheduled = (to v.whole.qdisc).sched; locked = (to v.whole.qdisc).locked } }
+
+    bits : solo (passing v) ≡ w
+    bits = let a = t.raised (seen_by v) v.place in let b = t.missed v.whole.qdisc v.place in let c = t.draining v.whole.qdisc v.place in let d = t.scheduled v.whole.qdisc v.place in let e = t.locked v.whole.qdisc v.place in
+        λ j. record (solo v) { raised = a j; whole = record (solo v).whole { missed = b j; draining = c j; scheduled = d j; locked = e j } }
+
+    by : (b : Bool) → solo (if b then backing v else passing v) ≡ (if b then heard Back w else w)
+    by true = ap (heard Back) bits
+    by false = bits
+
+pub sets_missed_solo : (v : View) → sets_missed v.place.position ≡ true → solo (setting v) ≡ laid v (missed_to true (solo v))
+sets_missed_solo v h = set_step v (λ q. record q { missed = true }) (set_leaves v.place.position h)
+
+pub sets_draining_solo : (v : View) → sets_draining v.place.position ≡ true → solo (setting v) ≡ laid v (draining_to true (solo v))
+sets_draining_solo v h = set_step v (λ q. record q { draining = true }) (drain_leaves v.place.position h)
+
+-- at a place that the seat knows exactly
+check_leaves : (p : Packet) → Leaves (at.Check p) (λ q. q)
+check_leaves p = record { raised = λ seen s. refl; words = λ q s. refl }
+
+recheck_leaves : (p : Packet) → Leaves (at.Recheck p) (λ q. q)
+recheck_leaves p = record { raised = λ seen s. refl; words = λ q s. refl }
+
+leave_leaves : Leaves at.Leave (λ q. record q { inside = q.inside - 1 })
+leave_leaves = record { raised = λ seen s. refl; words = λ q s. refl }
+
+module _ (v : View) where
+  pub checks_solo : (x : ℕ) (p : Packet) → v.place.position ≡ at.Check p → solo (looking x v) ≡ solo v
+  checks_solo x p is = solo_step v (seen_state (seen_by v) v.share.about.bypass x) (λ q. q) (subst (λ (y : Position). Leaves y (λ q. q)) (sym is) (check_leaves p))
+
+  pub refuses_solo : (x n e : ℕ) (p : Packet) → v.place.position ≡ at.Check p → solo (refusing n e x v) ≡ heard (Refuse n e) (solo v)
+  refuses_solo x n e p is = ap (heard (Refuse n e)) (checks_solo x p is)
+
+  pub rechecks_solo : (x : ℕ) (p : Packet) → v.place.position ≡ at.Recheck p → solo (looking x v) ≡ solo v
+  rechecks_solo x p is = solo_step v (seen_state (seen_by v) v.share.about.bypass x) (λ q. q) (subst (λ (y : Position). Leaves y (λ q. q)) (sym is) (recheck_leaves p))
+
+  pub goes_solo : (x n : ℕ) (p : Packet) → v.place.position ≡ at.Recheck p → solo (going n x v) ≡ heard (DirectEvent n) (solo v)
+  goes_solo x n p is = ap (heard (DirectEvent n)) (rechecks_solo x p is)
+
+  pub leaves_solo : v.place.position ≡ at.Leave → solo (passing v) ≡ solo v
+  leaves_solo is = solo_step v (seen_by v) (λ q. record q { inside = q.inside - 1 }) (subst (λ (y : Position). Leaves y (λ q. record q { inside = q.inside - 1 })) (sym is) leave_leaves)
+
+  pub enters_solo : solo (entering v) ≡ entered_as (is_some (bringing_packet v)) (solo v)
+  enters_solo = by (bringing_packet v)
+    where
+      by : (o : Option Packet) → solo (stepped Plain (seen_by v) (record v { place = begun (call_of o) v.place })) ≡ entered_as (is_some o) (solo v)
+      by (Some p) = refl
+      by None = refl
+
+  pub unlocks_solo : (purge : Option Purge) → unlocks_at v.place.position purge ≡ true → solo (unlocking v) ≡ locked_to false (solo v)
+  unlocks_solo purge h = by v.place.position refl h
+    where
+      by : (y : Position) → v.place.position ≡ y → unlocks_at y purge ≡ true → solo (unlocking v) ≡ locked_to false (solo v)
+      by at.Unlock is h' = ap (λ (b : Bool). solo (if b then unlocking_control v else unlocking_call v)) (ap is_control is)
+          ∙ solo_step v (seen_lock (seen_by v) false) (λ q. record q { locked = false }) (subst (λ (y : Position). Leaves y (λ q. record q { locked = false })) (sym is) record { raised = λ seen s. refl; words = λ q s. refl })
+      by (at.Control holds) is h' = ap (λ (b : Bool). solo (if b then unlocking_control v else unlocking_call v)) (ap is_control is)
+      by _ is h' = absurd cc
+
+  pub loads_stop_solo : (x : ℕ) → solo (loading x v) ≡ stop_found x v (solo v)
+  loads_stop_solo x = by (is_dequeue v.place.position && (x == 0)) v.holder.slot (record v { place = record v.place { position = behind_stop (option_map (packet_of v.share.about.infos) v.holder.slot) x v.place.position } }) refl
+    where
+      by : (b : Bool) (slot : Option ℕ) (w : View) → solo w ≡ solo v → solo (if b then picking slot w else w) ≡ (if b then picks slot (solo v) else solo v)
+      by true None w e = e
+      by true (Some n) w e = ap (heard Pick) e
+      by false slot w e = e
+
+  pub stores_solo : (queue : ℕ) (hung direct : Bool) → v.place.position ≡ at.StoreXoff queue hung direct → solo (storing v) ≡ heard (Stop queue (stop_value hung)) (solo v)
+  stores_solo queue hung direct is = ap (λ (y : Position). solo (storing_from y v)) is
+      ∙ (ap (λ (y : Position). record (heard (Stop queue (stop_value hung)) (solo v)) {
+        whole = record (heard (Stop queue (stop_value hung)) (solo v)).whole {
+          missed = (step_at y Plain v.whole.qdisc v.place).qdisc.missed;
+          draining = (step_at y Plain v.whole.qdisc v.place).qdisc.draining;
+          scheduled = (step_at y Plain v.whole.qdisc v.place).qdisc.sched;
+          locked = (step_at y Plain v.whole.qdisc v.place).qdisc.locked;
+        };
+      }) is)
+
+-- behind a try of a sole seat the lock is held
+try_words : (attempt : Attempt) (q : Qdisc) (s : Seat) → (lock_got attempt q s).qdisc ≡ q
+try_words (Direct p) q s = refl
+try_words (Queued p) q s = refl
+try_words Interrupt q s = refl
+
+try_raised : (attempt : Attempt) (q : Qdisc) (s : Seat) → (lock_got attempt q s).seat.raised ≡ s.raised
+try_raised (Direct p) q s = refl
+try_raised (Queued p) q s = refl
+try_raised Interrupt q s = refl
+
+try_leaves : (attempt : Attempt) (otherwise : Position) (q : Qdisc) (s : Seat) → ((try_lock attempt otherwise q s).seat.raised ≡ s.raised) × ((try_lock attempt otherwise q s).qdisc ≡ record q { locked = true })
+try_leaves attempt otherwise q s = (
+  either_raised q.locked (goes_to q s otherwise) (lock_got attempt (record q { locked = true }) s) s.raised refl (try_raised attempt (record q { locked = true }) s),
+  either_words q.locked (goes_to q s otherwise) (lock_got attempt (record q { locked = true }) s) (record q { locked = true }) (λ e j. record q { locked = e j }) (λ _. try_words attempt (record q { locked = true }) s),
+)
+
+tries_leaves : (y : Position) → tries_lock y ≡ true → is_control y ≡ false → Leaves y (λ q. record q { locked = true })
+tries_leaves (at.Try1 attempt) h c = record { raised = λ seen s. (try_leaves attempt (at.Miss attempt) seen s).0; words = λ q s. (try_leaves attempt (at.Miss attempt) q s).1 }
+tries_leaves (at.Try2 attempt) h c = record { raised = λ seen s. (try_leaves attempt (gives_up attempt) seen s).0; words = λ q s. (try_leaves attempt (gives_up attempt) q s).1 }
+tries_leaves (at.Control holds) h c = absurd (true≢false c)
+tries_leaves _ h c = absurd cc
+
+module _ (v : View) (at_try : tries_lock v.place.position ≡ true) where
+  pub got_solo : (d : HolderPart) → solo (got d v) ≡ locked_to true (solo v)
+  got_solo d = by (is_control v.place.position) refl
+    where
+      by : (b : Bool) → is_control v.place.position ≡ b → solo (if b then got_in_control d v else got_in_call d v) ≡ locked_to true (solo v)
+      by true e = refl
+      by false e = solo_step v (seen_lock (seen_by (record v { holder = d })) false) (λ q. record q { locked = true }) (tries_leaves v.place.position at_try e)
+
+  pub held_solo : v.whole.qdisc.locked ≡ true → solo (held v) ≡ locked_to true (solo v)
+  held_solo locked = by (is_control v.place.position) refl
+    where
+      by : (b : Bool) → is_control v.place.position ≡ b → solo (held v) ≡ locked_to true (solo v)
+      by true e = ⊎_elim (λ (c : _). c) (λ (c : _). absurd (true≢false (sym e ∙ c))) (control_solo v.place.position refl)
+        where
+          control_solo : (y : Position) → v.place.position ≡ y → (solo (held v) ≡ locked_to true (solo v)) ⊎ (is_control v.place.position ≡ false)
+          control_solo (at.Control holds) is = inl (solo_step v (seen_lock (seen_by v) true) (λ q. q) (subst (λ (y : Position). Leaves y (λ q. q)) (sym is) record { raised = λ seen s. refl; words = λ q s. refl }) ∙ (λ j. locked_to (locked j) (solo v)))
+          control_solo y is = inr (ap is_control is ∙ cc)
+      by false e = solo_step v (seen_lock (seen_by v) true) (λ q. record q { locked = true }) (tries_leaves v.place.position at_try e)
+
+-- the device answered
+abbrev at_device : View → StationState → Position → Answer → Solo
+at_device v st y answer = record (device_to st.device (heard Send (solo v))) {
+  raised = (step_at y answer (seen_by v) v.place).seat.raised;
+  whole = record (device_to st.device (heard Send (solo v))).whole {
+    missed = (step_at y answer v.whole.qdisc v.place).qdisc.missed;
+    draining = (step_at y answer v.whole.qdisc v.place).qdisc.draining;
+    scheduled = (step_at y answer v.whole.qdisc v.place).qdisc.sched;
+    locked = (step_at y answer v.whole.qdisc v.place).qdisc.locked;
+  };
+}
+
+pub settles_solo : (v : View) (st : StationState) (p : Packet) (direct : Bool) → v.place.position ≡ at.Xmit p direct → solo (settling st v) ≡ device_to st.device (heard Send (solo v))
+settles_solo v st p direct is = ap (λ (y : Position). at_device v st y (answer_of st.last)) is ∙ by (answer_of st.last)
+  where
+    by : (answer : Answer) → at_device v st (at.Xmit p direct) answer ≡ device_to st.device (heard Send (solo v))
+    by answer.Plain = refl
+    by answer.FullSlot = refl
+    by answer.Stop = refl
+    by answer.Hang = refl
+    by answer.Busy = refl
+
+pub fates_solo : (v : View) (st : StationState) (b n : ℕ) (f : Fate) → MaySettle b n f st v → solo (fated st b n f v) ≡ fated_as st f (solo v)
+fates_solo v st b n (fate.Sent unit serial) may = settles_solo v st may.packet may.direct may.position
+fates_solo v st b n (fate.Full seen) may = refl
+fates_solo v st b n (fate.Refused event) may = refl
+fates_solo v st b n (fate.Purged cause) may = refl
+fates_solo v st b n (fate.Shrunk event) may = refl

@@ -1,0 +1,159 @@
+-- Control exchanges the device, behind a purge: the stop word is 0 again, and the new unit has sent nothing.
+use Rattle.std.proofs.Common.{◌≡◌, ℕ, zero, suc, ◌≤◌, Bool, ne_eqb, Contains, ◌-◌, ◌<◌, true, false, true≢false, List, [], ◌∷◌, ◌++◌, map, length, set, refl, sym, ap, ap₂, ◌∙◌, subst, arith, Option, Some, None}
+use Rattle.std.specs.Prelude.{◌&&◌, ◌==◌, is_none, nat_lt, slice_set, slice_get, slice_index}
+use Rattle.std.proofs.lemmas.Bool.{lt-ltb}
+use mathlib.Core.Option.{none}
+use Rattle.atomic_table.specs.Table.{step, Allows, keeps}
+use Rattle.lq_device.specs.Station.{StationState}
+use Rattle.lq_model.specs.declared.machine.ControlStep.TheVariants.{StoreOpen}
+use Rattle.lq_model.specs.declared.machine.Phase.{Phase}
+use Rattle.lq_model.specs.declared.machine.Phase.TheVariants.{Purged}
+use Rattle.lq_model.specs.declared.machine.Position.{Position}
+use Rattle.lq_model.specs.declared.machine.Position.TheVariants.{Control}
+use Rattle.lq_model.specs.declared.machine.Seat.{Seat}
+use Rattle.lq_model.specs.Account.{Account, Event, Join, Full, Refuse, Empty, Take, Pick, Direct, Send, Back, Stop, Wake, Resize, Down, Purge, Swap, Up, sent_from_hand, after, after_all}
+use Rattle.lq_model.specs.Machine.{Qdisc}
+use Rattle.lq_model.specs.Control.{is_control, is_purged}
+use Rattle.lq_model.specs.Kept.{IsInductive, holds_lock}
+use Rattle.lq_band.proofs.Seats.{each_step}
+use Rattle.lq_table.specs.Views.{View, Setup, State, HolderPart, packet_of, start_of}
+use Rattle.lq_table.specs.Rule.{IsDevice, count_at, words_of, account, holders, last_sent, units_of, KnowsPackets, Holder, bands_now, Rule}
+use Rattle.lq_table.specs.Told.{Sat}
+use Rattle.lq_table.specs.Controls.{IsExchange, swapping, swapped}
+use Rattle.lq_table.proofs.SettledKept.{settled_same}
+use Rattle.lq_table.proofs.GivenKept.{given_same}
+use Rattle.lq_table.proofs.TrailsKept.{trails_own}
+use Rattle.lq_model.specs.declared.fate.Info.{Info}
+use Rattle.lq_table.proofs.ByName.{set_xoff, xoff_long, xoff_within}
+use Rattle.lq_table.proofs.Middle.{middle, controls_in}
+use Rattle.lq_table.proofs.Facts.{map_none}
+use Rattle.lq_table.proofs.Accounts.{quiet_after, with_at_other}
+use Rattle.lq_table.proofs.Frames.{shares_same, hands_same, fates_same, turns_same, turns_past, rings_same, sole_step, account_step, leaves_same, firsts_same, rule_after, opened, closed, lends_held}
+use Rattle.lq_table.proofs.UpKept.{purged_idle}
+
+-- a unit that no exchange brought and that isn't the first has sent nothing
+module _ (u : ℕ) (past : List Event) (a : Account) (h : (a.unit ≡ u → ⊥) × (a.sent u ≡ [])) where
+  after_send : (o : Option ℕ) → ((sent_from_hand o a).unit ≡ u → ⊥) × ((sent_from_hand o a).sent u ≡ [])
+  after_send None = h
+  after_send (Some n) = (h.0, with_at_other a.unit u (a.sent a.unit ++ n ∷ []) a.sent (λ e. h.0 (sym e)) ∙ h.1)
+
+  unused_step : (e : Event) → (Contains (units_of (e ∷ past)) u → ⊥) → ((after e a).unit ≡ u → ⊥) × ((after e a).sent u ≡ [])
+  unused_step (Join n b) no_ = h
+  unused_step (Full n x) no_ = h
+  unused_step (Refuse n x) no_ = h
+  unused_step (Empty b) no_ = h
+  unused_step (Take b) no_ = h
+  unused_step Pick no_ = h
+  unused_step (Direct n) no_ = h
+  unused_step Send no_ = after_send a.hand
+  unused_step Back no_ = h
+  unused_step (Stop x y) no_ = h
+  unused_step (Wake x) no_ = h
+  unused_step (Resize x y) no_ = h
+  unused_step (Down x) no_ = h
+  unused_step (Purge c) no_ = h
+  unused_step (Swap x) no_ = (λ same. no_ (0, omega arith, same), h.1)
+  unused_step Up no_ = h
+
+fewer : (e : Event) (past : List Event) (u : ℕ) → Contains (units_of past) u → Contains (units_of (e ∷ past)) u
+fewer (Swap x) past u (i, below, is) = (suc i, omega arith, is)
+fewer (Join n b) past u h = h
+fewer (Full n x) past u h = h
+fewer (Refuse n x) past u h = h
+fewer (Empty b) past u h = h
+fewer (Take b) past u h = h
+fewer Pick past u h = h
+fewer (Direct n) past u h = h
+fewer Send past u h = h
+fewer Back past u h = h
+fewer (Stop x y) past u h = h
+fewer (Wake x) past u h = h
+fewer (Resize x y) past u h = h
+fewer (Down x) past u h = h
+fewer (Purge c) past u h = h
+fewer Up past u h = h
+
+pub unused : (k : Setup) (u : ℕ) → (k.station ≡ u → ⊥) → (past : List Event) → (Contains (units_of past) u → ⊥) → ((after_all (start_of k) past).unit ≡ u → ⊥) × ((after_all (start_of k) past).sent u ≡ [])
+unused k u first [] no_ = (first, refl)
+unused k u first (e ∷ past) no_ = unused_step u past (after_all (start_of k) past) (unused k u first past (λ h. no_ (fewer e past u h))) e no_
+
+one_open : (xs : List ℕ) → length xs ≡ 1 → slice_set xs 0 0 ≡ map (λ _. 0) xs
+one_open [] h = absurd (omega arith)
+one_open (x ∷ []) h = refl
+one_open (x ∷ y ∷ xs) h = absurd (omega arith)
+
+-- no stop word says that the device hangs
+none_two : (xs : List ℕ) → length xs ≡ 1 → (queue : ℕ) → slice_index (set xs 0 0) queue ≡ 2 → ⊥
+none_two [] h queue is = absurd (omega arith)
+none_two (x ∷ []) h zero is = absurd (omega arith)
+none_two (x ∷ []) h (suc queue) is = absurd (omega arith)
+none_two (x ∷ y ∷ xs) h queue is = absurd (omega arith)
+
+neither : (b : Bool) → (b && false) ≡ false
+neither true = refl
+neither false = refl
+
+hangs_never : (h : ℕ) → (nat_lt 0 h && (0 == h)) ≡ false
+hangs_never zero = refl
+hangs_never (suc h) = ap (λ (b : Bool). nat_lt 0 (suc h) && b) (ne_eqb 0 (suc h) (λ e. absurd (omega arith))) ∙ neither (nat_lt 0 (suc h))
+
+-- a device that has accepted nothing is as its rule says
+exchanged : (infos : List Info) (station : ℕ) (xoff : List ℕ) (st : StationState) → count_at infos station ≤ st.device.spare → st.device.accepted ≡ [] → st.device.hung ≡ false → ((queue : ℕ) → slice_index xoff queue ≡ 2 → ⊥) → IsDevice infos station xoff st.device
+exchanged infos station xoff st room none_ alive no_two = record {
+  room = (let l = ap length none_ in omega arith);
+  hung = λ queue is. absurd (no_two queue is);
+  told = λ t is. (alive ∙ sym (ap (λ (ls : List ℕ). nat_lt 0 t.params.hang_after && (length ls == t.params.hang_after)) none_ ∙ hangs_never t.params.hang_after), λ some_. (let l = ap length none_ in omega arith));
+}
+
+module _ (k : Setup) where
+  -- it stores the stop word 0, with a device that has accepted nothing and whose unit is new
+  pub swaps : (slots id : ℕ) (m : Sat) (st : StationState) → k.queues ≡ 1 → m.0.place.position ≡ Control true → m.0.control.phase ≡ Purged → m.0.control.purge ≡ None
+      → IsExchange m.0.share.about.infos m.0.share.about.station m.0.holder.units st → 0 < m.0.share.shares
+      → Allows (Rule k) slots id m 3 (λ _. 0) (swapped st (step slots 3 0 0 none) m)
+  swaps slots id m st one_queue position purged no_purge is_new some_share s r deep here small =
+      let v : View = m.0 in
+      let q = r.qdisc in let p = r.parts in let g = r.state in let a = account k g in let W = words_of k s.words in let live = lt-ltb 0 v.share.shares some_share in let mid = middle s.views id v here live in let holds : holds_lock v.place.position ≡ true = ap holds_lock position in
+      let D : HolderPart = holders g a W.size in let w : View = swapping st v in let e : Event = Swap st.unit in let a' : Account = after e a in
+      let at_ : Holder k.infos W.xoff g.past D (Control true) v.holder = subst (λ (z : Position). Holder k.infos W.xoff g.past D z v.holder) position (p.lends.knows id v here live holds) in
+      let first : v.control.first ≡ true = p.firsts.control id v here live (ap is_control position) in let knows = p.firsts.knows id v here first in
+      let phase : q.phase ≡ Purged = sym knows.0 ∙ purged in let purge : q.purge ≡ None = sym knows.1 ∙ no_purge in
+      let idle = purged_idle k s r id v here live (p.leaves.none_left purge) phase (map_none (packet_of k.infos) a.hand (sym at_.in_hand)) in
+      let q' : Qdisc = record q { xoff = slice_set q.xoff 0 0 } in let xs : List ℕ = set W.xoff 0 0 in let one_word : length W.xoff ≡ 1 = (let l = xoff_long k s.words r.wide in omega arith) in let g' : State = record g { past = e ∷ g.past; station = st } in let D' : HolderPart = holders g' a' W.size in
+      let at_control : Seat = record v.place { position = Control true } in let is : v.place ≡ at_control = λ j. record v.place { position = position j } in
+      let stepped_ = controls_in q mid.before mid.after at_control (StoreOpen 0) true refl refl (ap₂ (λ (o : Option Rattle.lq_model.specs.Machine.Purge) (x : Phase). is_none o && is_purged x) purge phase) (subst (λ (u : Seat). IsInductive (record { qdisc = q; seats = mid.before ++ u ∷ mid.after })) is (opened s.views id v here live q p.machine)) in
+      let unused_ : a.sent st.unit ≡ [] = (unused k st.unit (subst (λ (z : Setup). z.station ≡ st.unit → ⊥) (p.shares.about id v here live) is_new.other) g.past (λ h. is_new.new (subst (λ (z : HolderPart). Contains z.units st.unit) (sym at_.is) h))).1 in
+      let last_is : last_sent a' ≡ None = ap (λ (ns : List ℕ). slice_get ns (length ns - 1)) unused_ in (
+        w,
+        keeps,
+        tt,
+        rule_after k s r 3 0 id s.homes r.home w (record W { xoff = xs }) q' g' a' r.deep (set_xoff k s.words 0 0 (xoff_within k s.words 0 r.wide (omega arith))) refl record {
+          shares = shares_same k s.views id v w here live p.shares refl;
+          machine = closed s.views id v here live w q' at_control live is stepped_;
+          stands = record { state = p.stands.state; lock = p.stands.lock; xoff = ap (λ (ls : List ℕ). slice_set ls 0 0) p.stands.xoff; inside = p.stands.inside; bypass = p.stands.bypass };
+          ties = record { bands_are = p.ties.bands_are; slot = p.ties.slot; stops = ap (λ (ls : List ℕ). slice_set ls 0 0) p.ties.stops ∙ one_open a.stops (ap length (sym p.ties.stops ∙ p.stands.xoff) ∙ one_word); len = p.ties.len; down = p.ties.down };
+          lends = lends_held k s r id v here live holds w q.locked xs (e ∷ g.past) D' refl
+              (subst (λ (z : Position). Holder k.infos xs (e ∷ g.past) D' z w.holder) (sym position) record {
+                is = λ j. record (at_.is j) { station = st; last = (sym last_is) j; units = st.unit ∷ (at_.is j).units };
+                in_hand = at_.in_hand;
+                looked = λ _ l. absurd (omega arith);
+                stopping = tt;
+                alive = λ _ hung. absurd (true≢false (sym hung ∙ is_new.alive));
+              });
+          sends = record { unit = refl; sent = unused_ ∙ sym is_new.accepted };
+          packets = each_step (λ u. KnowsPackets k g.past a u.share u.packets) (λ u. KnowsPackets k (e ∷ g.past) a' u.share u.packets) s.views id w p.packets
+              (quiet_after k g.past a a' e v.share v.packets refl (λ _. refl) (p.packets id v here)) (λ j u _ _ y. quiet_after k g.past a a' e u.share u.packets refl (λ _. refl) y);
+          hands = hands_same k s.views id v w here p.hands live refl (λ y own. own);
+          fates = fates_same k s.views id v w here W.fates a a' g.turn g.left p.fates refl (λ _. refl);
+          leaves = leaves_same g.left q.purge q.purge a a' p.leaves refl refl;
+          turns = turns_past k W.turns _ g.past (e ∷ g.past) (turns_same k s.views id v w here W.turns g.past p.turns refl refl) refl;
+          rings = rings_same k s.views id v w here k.max_len W.size W.producers W.slots a.len (bands_now g.left a.bands) g.ends g.turn p.rings refl (λ _ _ y h. (y, h));
+          account = account_step k g.past e p.account idle tt tt;
+          firsts = firsts_same k s.views id v w here q.phase q.phase q.purge q.purge p.firsts live refl refl refl refl (λ h. h);
+          sole = sole_step k s.views id v w here q q' g g' p.shares p.sole some_share refl refl (λ e1 e2. (ap (λ (z : Qdisc). record z { xoff = slice_set z.xoff 0 0 }) e1, ap (λ (z : State). record z { past = e ∷ z.past; station = st }) e2));
+          settled = settled_same s.views id v w here W.fates p.settled refl;
+          given = given_same k s.views id v w here W.turns p.given refl refl refl refl refl;
+          device = exchanged k.infos k.station xs st (subst (λ (z : Setup). count_at z.infos z.station ≤ st.device.spare) (p.shares.about id v here live) is_new.room) is_new.accepted is_new.alive (none_two W.xoff one_word);
+          trails = trails_own k.infos s.views id v w here e refl p.trails p.firsts.one first refl refl refl;
+        },
+        refl,
+      )

@@ -1,0 +1,5 @@
+use Rattle.lq_table.proofs.Ends.{stands_for}
+use Rattle.lq_table.proofs.laws.words_stand_for_machine.Goals as goal
+
+pub returns : goal.returns
+returns c k s r = stands_for k s r

@@ -1,0 +1,21 @@
+use Rattle.std.proofs.Common.{◌≡◌, ℕ, ◌+◌, ◌*◌, ◌<◌, arith, sym, ap, ◌∙◌, subst, List}
+use mathlib.Core.Option.{none}
+use Rattle.lq_model.specs.declared.fate.Info.{Info}
+use Rattle.lq_model.specs.Plan.{owner_in, rank_in}
+use Rattle.atomic_table.specs.Table.{step, Allows}
+use Rattle.lq_table.specs.Rule.{Rule}
+use Rattle.lq_table.specs.Keyed.{setup_of}
+use Rattle.lq_table.specs.Told.{turn_given}
+use Rattle.lq_table.proofs.TurnsKept.{gives_turn}
+use Rattle.lq_table.proofs.shared.Shared.give_turn_of.Goals as goal
+
+pub store-requires : goal.store-requires
+store-requires g c =
+    let t = c.args.self.now in let k = setup_of t.table.shared.key in let slots = t.table.shared.table_id.slots in let seat = c.args.cpu.now.seat in let n = c.args.n in let p = c.requires.packet in let named = c.requires.named in
+    let owner : c.args.owner ≡ owner_in k.infos n = p.0 ∙ ap (λ (xs : List Info). owner_in xs n) (sym t.same.0) in
+    let rank : c.args.rank ≡ rank_in k.infos n = p.1 ∙ ap (λ (xs : List Info). rank_in xs n) (sym t.same.0) in (
+      c.requires.seat.0,
+      (let wide = t.sized.0 in let small = p.2 in let x : 9 + c.args.owner < t.table.shared.table_id.words = omega arith in x),
+      subst (λ (z : ℕ × ℕ × ℕ × ℕ). Allows (Rule k) slots seat.id seat.me (9 + z.0) (λ _. 2 * z.1 + 2) (turn_given z.2 z.3 (step slots (9 + z.0) (2 * z.1 + 2) 0 none) seat.me))
+          (λ j. (sym owner j, sym rank j, (sym owner ∙ named.0) j, (sym rank ∙ named.1) j)) (gives_turn k slots seat.id seat.me n c.requires.busy.0 c.requires.busy.1 c.requires.seat.1),
+    )

@@ -1,0 +1,6 @@
+use Rattle.std.specs.Option.{unwrap_or}
+use Rattle.lq_table.specs.Views.{no_station}
+use Rattle.lq_table.proofs.shared.Shared.requeue.Given as goal
+
+abbrev pub ghosts-requeue_of : goal.ghosts-requeue_of
+ghosts-requeue_of g a = record { station = unwrap_or a.cpu.now.station no_station }

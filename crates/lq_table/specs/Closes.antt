@@ -1,0 +1,62 @@
+-- What the words and the station say when a table is closed.
+use Rattle.std.specs.Prelude.{◌≡◌, ℕ, ◌+◌, ◌*◌, ◌<◌, ◌≤◌, Bool, true, false, ◌⊎◌, List, [], length, slice_index, slice_get, Option, Some, None, Contains}
+use Rattle.lq_device.specs.Station.{StationState}
+use Rattle.lq_model.specs.Account.{Account, Event, held}
+use Rattle.lq_model.specs.Machine.{Qdisc}
+use Rattle.lq_model.specs.Plan.{owner_in, station_in, rank_in}
+use Rattle.lq_model.specs.Words.{IsWordOf, word_of}
+use Rattle.lq_model.specs.declared.fate.Fate.{Fate}
+use Rattle.lq_ring_core.specs.Slots.{round}
+use Rattle.lq_band.specs.Seats.{Each}
+use Rattle.lq_band.specs.Stored.{FateWords}
+use Rattle.lq_band.specs.Three.{at, all_three}
+use Rattle.lq_band.specs.Ring.{unlocked}
+use Rattle.lq_table.specs.Views.{View, Setup, State}
+use Rattle.lq_table.specs.Trail.{trail_of}
+use Rattle.lq_table.specs.Told.{is_set}
+use Rattle.lq_table.specs.Rule.{Words, words_of, holders, shown, waits, bands_now, AreHung, IsDevice, Accounted, Rings, Sends, Stands, Ties}
+
+-- SCHED and DEACTIVATED are clear, and each queue is open
+pub record AreQuiet (w : Words) : Type 0 where
+  pub unscheduled : is_set 1 w.state ≡ false
+  pub active : is_set 2 w.state ≡ false
+  pub queues_open : (queue : ℕ) → slice_index w.xoff queue ≡ 0
+
+-- Nothing is left: the requeue slot is empty, each band's producer index is at the consumer's head, and each packet of the station
+-- whose turn was taken has a fate.
+pub record IsEmptied (k : Setup) (w : Words) (st : StationState) : Type 0 where
+  pub slot_empty : st.slot ≡ None
+  pub rings_empty : (b : ℕ) → b < 3 → at b w.producers ≡ 2 * round w.size (slice_index st.heads b)
+  pub decided : (n : ℕ) → n < length k.infos → station_in k.infos n ≡ k.station → 2 * rank_in k.infos n + 1 ≤ slice_index w.turns (owner_in k.infos n) → (f : Fate) × IsWordOf f (slice_index w.fates n)
+
+-- where the words are quiet nothing is left
+abbrev pub EmptiedIfQuiet : Setup → List ℕ → List (Option StationState) → Type 0
+EmptiedIfQuiet k words slots = AreQuiet (words_of k words) → (st : StationState) × (slice_get slots 0 ≡ Some (Some st)) × IsEmptied k (words_of k words) st
+
+-- each of these settled fates stands in its packet's fate word, and each fate word is 0 or a fate's
+abbrev pub FatesStand : Setup → List ℕ → List (ℕ × Fate) → Type 0
+FatesStand k words settled = ((n : ℕ) (f : Fate) → Contains settled (n, f) → slice_index (words_of k words).fates n ≡ word_of f)
+    × ((n : ℕ) → (slice_index (words_of k words).fates n ≡ 0) ⊎ ((f : Fate) × IsWordOf f (slice_index (words_of k words).fates n)))
+
+-- What the words and the slot say at the end, where one seat alone is left, which is in no call: the machine and the state are
+-- q and g, and the seat's trail is this, if it is first.
+pub record Ending (k : Setup) (words : List ℕ) (slots : List (Option StationState)) (q : Qdisc) (g : State) (a : Account) (first : Bool) (trail : List Event) : Type 0 where
+  pub stands : Stands k (words_of k words) q a.down
+  pub ties : Ties k.infos q a (bands_now g.left a.bands)
+  pub home : slice_get slots 0 ≡ Some (Some (shown (holders g a (words_of k words).size)))
+  -- the device is the account's unit: what it accepted is what that sent
+  pub sends : Sends g.station a
+  pub device : IsDevice k.infos k.station (words_of k words).xoff g.station.device
+  pub hung : g.station.device.hung ≡ true → AreHung (words_of k words).xoff
+  pub hand_empty : a.hand ≡ None
+  pub calm : g.turn ≡ None
+  pub account : Accounted k g.past a
+  pub trail_is : first ≡ true → trail ≡ trail_of k.infos g.past
+  -- no packet's fate is owed, but by a purge that is half done
+  pub fates : FateWords (length k.infos) (words_of k words).fates (λ n. waits n g.left) a.fates
+  -- the rings, where nobody has a producer lock
+  pub rings : (views : List View) × Each (λ u. u.locks ≡ all_three unlocked) views × Rings k.max_len (words_of k words).size (words_of k words).producers (words_of k words).slots views a.len (bands_now g.left a.bands) g.ends g.turn
+  -- where the words are quiet nothing is held, and no purge is half done
+  pub quiet : AreQuiet (words_of k words) → (held a ≡ []) × (g.left ≡ None)
+  -- where nothing is held nothing is left
+  pub emptied : held a ≡ [] → g.left ≡ None → IsEmptied k (words_of k words) (shown (holders g a (words_of k words).size))

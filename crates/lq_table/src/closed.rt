@@ -1,0 +1,102 @@
+//! A closed table: its words, its packets' fates, and its station's device.
+ghost use Rattle.std.specs.Prelude.{◌≡◌, ◌<◌, Some, IfSome, IfNone, slice_index};
+ghost use Rattle.lq_device.specs.Station.{StationState};
+ghost use Rattle.lq_model.specs.Words.{IsWordOf};
+ghost use Rattle.lq_table.specs.Sees.{closed_words, closed_fates, closed_home, ended_fates};
+
+use crate::ended::{Closed, Ended};
+use lq_device::{StationPlan, TxDevice};
+use lq_model::{Fate, word_fate};
+
+/// The words of a closed table that are no producer's, turn's, slot's or fate's.
+#[derive(Clone, Copy, Debug, PartialEq, Eq)]
+pub struct Words {
+    /// The bits of the state, and above them one more than the event by which the station is deactivated.
+    pub state: u64,
+    /// 1 while the run lock is held.
+    pub lock: u64,
+    /// The stop word of queue 0: 0 open, 1 stopped, 2 hung.
+    pub xoff: u64,
+    /// How many calls are inside.
+    pub inside: u64,
+    /// The rings' length.
+    pub size: u64,
+}
+
+impl<D: TxDevice> Ended<D> {
+    /// The number of the station.
+    pub fn number(&self) -> u32
+        ensures { result ≡ self.now.number }
+    {
+        self.number
+    }
+
+    /// The plan that the table was made with.
+    pub fn plan(&self) -> StationPlan
+        ensures { result ≡ self.now.plan }
+    {
+        self.plan
+    }
+
+    /// The fate of packet `n`: None exactly where its fate word is 0.
+    pub fn fate(&self, n: u32) -> Option<Fate>
+        requires packet { n < self.now.packets }
+        ensures some { IfSome result (λ fate. IsWordOf fate (slice_index (ended_fates self.now) n)) }
+        ensures none { IfNone result (slice_index (ended_fates self.now) n ≡ 0) }
+    {
+        word_fate(self.table.word(self.fates_from + n as usize))
+    }
+}
+
+impl<D: TxDevice> Closed<D> {
+    /// The fate of packet `n`: None exactly where its fate word is 0.
+    pub fn fate(&self, n: u32) -> Option<Fate>
+        requires packet { n < self.now.ended.packets }
+        ensures some { IfSome result (λ fate. IsWordOf fate (slice_index (closed_fates self.now) n)) }
+        ensures none { IfNone result (slice_index (closed_fates self.now) n ≡ 0) }
+    {
+        self.ended.fate(n)
+    }
+
+    /// The words as they are.
+    pub fn words(&self) -> Words
+        ensures state { result.state ≡ slice_index (closed_words self.now) 1 }
+        ensures lock { result.lock ≡ slice_index (closed_words self.now) 2 }
+        ensures xoff { result.xoff ≡ slice_index (closed_words self.now) 3 }
+        ensures inside { result.inside ≡ slice_index (closed_words self.now) 4 }
+        ensures size { result.size ≡ slice_index (closed_words self.now) 5 }
+    {
+        Words {
+            state: self.ended.table.word(1),
+            lock: self.ended.table.word(2),
+            xoff: self.ended.table.word(3),
+            inside: self.ended.table.word(4),
+            size: self.ended.table.word(5),
+        }
+    }
+
+    /// The unit that the station's device is. The station must be at home, as it is where the closed seat was sole.
+    pub fn unit(&self) -> u32
+        requires home { (st : StationState) × (closed_home self.now ≡ Some st) }
+        ensures { (st : StationState) → closed_home self.now ≡ Some st → result ≡ st.unit }
+    {
+        let Some(station) = &self.station else {
+            unreachable!()
+        };
+        station.unit()
+    }
+
+    /// Hands out the station's device, beside what stays. The station must be at home, as it is where the closed seat was
+    /// sole.
+    pub fn into_device(self) -> (Ended<D>, D)
+        requires home { (st : StationState) × (closed_home self ≡ Some st) }
+        ensures ended { result.0 ≡ self.ended }
+        ensures device { (st : StationState) → closed_home self ≡ Some st → D.state result.1 ≡ st.device }
+    {
+        let Closed { ended, station } = self;
+        let Some(station) = station else {
+            unreachable!()
+        };
+        (ended, station.into_device())
+    }
+}

@@ -1,0 +1,169 @@
+//! The steps of control, which the first seat alone does.
+ghost use Rattle.std.specs.Prelude.{◌≡◌, ◌<◌, ℕ, Bool, true, false, not, nat_lt, Some, None, is_some};
+ghost use Rattle.lq_model.specs.Machine.{Purge};
+ghost use Rattle.lq_model.specs.declared.machine.Phase.TheVariants.{Active, Purged};
+ghost use Rattle.lq_model.specs.declared.machine.Position.TheVariants.{Idle as AtIdle, Control as AtControl};
+ghost use Rattle.lq_table.specs.Views.{Left};
+ghost use Rattle.lq_table.specs.Sees.{view, position, carried, IsSeatOf, IsElseSame};
+ghost use Rattle.lq_table.specs.Told.{at_rest};
+ghost use Rattle.lq_table.specs.Controls.{beginning_control, returning, closing, finding, opening, resetting_missed, resetting_draining, IsExchange, swapping};
+
+use crate::plays::{
+    BeginControl, Close, Event, Find, Open, ResetDraining, ResetMissed, Return, Same, Standing,
+    Swap,
+};
+use crate::shared::{Cpu, Shared};
+use lq_device::TxDevice;
+use std::marker::Brand;
+
+const BASE: usize = 0;
+
+const STATE: usize = 1;
+
+const LOCK: usize = 2;
+
+const XOFF: usize = 3;
+
+const INSIDE: usize = 4;
+
+const ALL_BITS_BUT_DEACTIVATED: u64 = 13;
+
+const ALL_BUT_MISSED: u64 = 18446744073709551611;
+
+const ALL_BUT_DRAINING: u64 = 18446744073709551607;
+
+impl<'a, D: TxDevice> Shared<'a, D> {
+    /// A call of control begins on the first seat.
+    pub fn begin_control(&self, cpu: &mut Cpu<D>)
+        requires seat { IsSeatOf self.now cpu.old }
+        requires at { (position cpu.old ≡ AtIdle) × ((view cpu.old).control.first ≡ true) }
+        ensures same { IsElseSame cpu.old cpu.new }
+        ensures view { view cpu.new ≡ beginning_control (view cpu.old) }
+    {
+        self.table.shared.load::<BeginControl>(&mut cpu.seat, BASE);
+    }
+
+    /// A call of control ends: the seat is idle.
+    pub fn end_control(&self, cpu: &mut Cpu<D>)
+        requires seat { IsSeatOf self.now cpu.old }
+        requires at { position cpu.old ≡ AtControl false }
+        ensures same { IsElseSame cpu.old cpu.new }
+        ensures view { view cpu.new ≡ returning (view cpu.old) }
+    {
+        self.table.shared.load::<Return>(&mut cpu.seat, BASE);
+    }
+
+    fn set_deactivated_by<K: Event>(&self, cpu: &mut Cpu<D>, event: u32)
+        requires named { event ≡ K.event }
+        requires seat { IsSeatOf self.now cpu.old }
+        requires at { at_rest (position cpu.old) ≡ true }
+        requires active { ((view cpu.old).control.first ≡ true) × ((view cpu.old).control.phase ≡ Active) × ((view cpu.old).control.purge ≡ None) }
+        ensures same { IsElseSame cpu.old cpu.new }
+        ensures view { view cpu.new ≡ closing K.event (view cpu.old) }
+    {
+        self.table
+            .shared
+            .fetch_or::<Close<K>>(&mut cpu.seat, STATE, 2 + 256 * (event as u64 + 1));
+    }
+
+    /// Sets DEACTIVATED for this event of the plan, whose number stands above the bits from then on, as
+    /// `dev_deactivate_queue` of net/sched/sch_generic.c sets the bit.
+    pub fn set_deactivated(&self, cpu: &mut Cpu<D>, event: u32)
+        requires seat { IsSeatOf self.now cpu.old }
+        requires at { at_rest (position cpu.old) ≡ true }
+        requires active { ((view cpu.old).control.first ≡ true) × ((view cpu.old).control.phase ≡ Active) × ((view cpu.old).control.purge ≡ None) }
+        ensures same { IsElseSame cpu.old cpu.new }
+        ensures view { view cpu.new ≡ closing event (view cpu.old) }
+    {
+        self.set_deactivated_by::<Brand>(cpu, event);
+    }
+
+    /// Loads the count of calls inside, for which `dev_deactivate_many` of net/sched/sch_generic.c has
+    /// `synchronize_net` and `some_qdisc_is_busy`. Where it is 0 behind a set of DEACTIVATED the station is quiet.
+    pub fn load_inside(&self, cpu: &mut Cpu<D>) -> u64
+        requires seat { IsSeatOf self.now cpu.old }
+        requires at { (holds : Bool) × (position cpu.old ≡ AtControl holds) }
+        ensures same { IsElseSame cpu.old cpu.new }
+        ensures view { view cpu.new ≡ finding result (view cpu.old) }
+    {
+        self.table.shared.load::<Find>(&mut cpu.seat, INSIDE)
+    }
+
+    /// Loads the run lock's word: 1 where it is held. The seat learns nothing that lasts.
+    pub fn load_lock(&self, cpu: &mut Cpu<D>) -> u64
+        requires seat { IsSeatOf self.now cpu.old }
+        ensures same { IsElseSame cpu.old cpu.new }
+        ensures view { view cpu.new ≡ view cpu.old }
+    {
+        self.table.shared.load::<Same>(&mut cpu.seat, LOCK)
+    }
+
+    /// Clears DEACTIVATED behind a purge, as `transition_one_qdisc` of net/sched/sch_generic.c does.
+    pub fn clear_deactivated(&self, cpu: &mut Cpu<D>)
+        requires seat { IsSeatOf self.now cpu.old }
+        requires at { position cpu.old ≡ AtControl false }
+        requires purged { ((view cpu.old).control.phase ≡ Purged) × ((view cpu.old).control.purge ≡ None) }
+        ensures same { IsElseSame cpu.old cpu.new }
+        ensures view { view cpu.new ≡ opening (view cpu.old) }
+    {
+        self.table
+            .shared
+            .fetch_and::<Open>(&mut cpu.seat, STATE, ALL_BITS_BUT_DEACTIVATED);
+    }
+
+    /// Clears MISSED behind the last packet of a purge, as `dev_reset_queue` of net/sched/sch_generic.c does. The purge
+    /// ends where DRAINING was cleared before.
+    pub fn reset_missed(&self, cpu: &mut Cpu<D>)
+        requires seat { IsSeatOf self.now cpu.old }
+        requires at { position cpu.old ≡ AtControl true }
+        requires purge { (u : Purge) × (l : Left) × ((view cpu.old).control.purge ≡ Some u) × (not (nat_lt u.band 3) ≡ true) × ((view cpu.old).holder.left ≡ Some l) × ((view cpu.old).holder.turn ≡ None) }
+        ensures same { IsElseSame cpu.old cpu.new }
+        ensures view { view cpu.new ≡ resetting_missed (view cpu.old) }
+    {
+        self.table
+            .shared
+            .fetch_and::<ResetMissed>(&mut cpu.seat, STATE, ALL_BUT_MISSED);
+    }
+
+    /// Clears DRAINING behind the last packet of a purge, as `dev_reset_queue` of net/sched/sch_generic.c does. The purge
+    /// ends where MISSED was cleared before.
+    pub fn reset_draining(&self, cpu: &mut Cpu<D>)
+        requires seat { IsSeatOf self.now cpu.old }
+        requires at { position cpu.old ≡ AtControl true }
+        requires purge { (u : Purge) × (l : Left) × ((view cpu.old).control.purge ≡ Some u) × (not (nat_lt u.band 3) ≡ true) × ((view cpu.old).holder.left ≡ Some l) × ((view cpu.old).holder.turn ≡ None) }
+        ensures same { IsElseSame cpu.old cpu.new }
+        ensures view { view cpu.new ≡ resetting_draining (view cpu.old) }
+    {
+        self.table
+            .shared
+            .fetch_and::<ResetDraining>(&mut cpu.seat, STATE, ALL_BUT_DRAINING);
+    }
+
+    fn open_xoff_of<K: Standing>(&self, cpu: &mut Cpu<D>)
+        requires named { cpu.old.station ≡ Some K.station }
+        requires queues { self.now.queues ≡ 1 }
+        requires seat { IsSeatOf self.now cpu.old }
+        requires at { position cpu.old ≡ AtControl true }
+        requires purged { ((view cpu.old).control.phase ≡ Purged) × ((view cpu.old).control.purge ≡ None) }
+        requires station { IsExchange (view cpu.old).share.about.infos (view cpu.old).share.about.station (view cpu.old).holder.units K.station }
+        ensures same { IsElseSame cpu.old cpu.new }
+        ensures view { view cpu.new ≡ swapping K.station (view cpu.old) }
+    {
+        self.table.shared.store::<Swap<K>>(&mut cpu.seat, XOFF, 0);
+    }
+
+    /// Stores 0 in the stop word of a station with one queue whose device was exchanged, as a driver's open does with
+    /// `netif_tx_start_queue` of include/linux/netdevice.h. The station that the seat carries has the new device, whose
+    /// unit is none of those before.
+    pub fn open_xoff(&self, cpu: &mut Cpu<D>)
+        requires queues { self.now.queues ≡ 1 }
+        requires seat { IsSeatOf self.now cpu.old }
+        requires at { position cpu.old ≡ AtControl true }
+        requires purged { ((view cpu.old).control.phase ≡ Purged) × ((view cpu.old).control.purge ≡ None) }
+        requires station { (is_some cpu.old.station ≡ true) × IsExchange (view cpu.old).share.about.infos (view cpu.old).share.about.station (view cpu.old).holder.units (carried cpu.old) }
+        ensures same { IsElseSame cpu.old cpu.new }
+        ensures view { view cpu.new ≡ swapping (carried cpu.old) (view cpu.old) }
+    {
+        self.open_xoff_of::<Brand>(cpu);
+    }
+}

@@ -1,0 +1,41 @@
+//! What is left of a table that was closed.
+ghost use Rattle.std.specs.Prelude.{◌≡◌, ℕ, ◌+◌, ◌<◌, ◌≤◌, false, slice_index_or};
+ghost use Rattle.std.specs.Mem.Slots.{slots_items, slots_len, slots_filled, IsFull};
+ghost use Rattle.lq_table.specs.Written.{AreWritten};
+
+use atomic_table::Closed as ClosedTable;
+use lq_device::{Station, StationPlan, TxDevice};
+use std::alloc::Global;
+
+/// What stays of a closed station when its device is handed out: its number, its plan and its packets' fates.
+pub struct Ended<D: TxDevice> {
+    pub(crate) table: ClosedTable<Option<Station<D>>, Global>,
+    pub(crate) number: u32,
+    pub(crate) plan: StationPlan,
+    pub(crate) fates_from: usize,
+    pub(crate) packets: usize,
+    pub ghost long: { (fates_from + packets ≤ slots_len table.words) × (9 ≤ slots_len table.words) × (packets ≤ 1000000) },
+    pub ghost full: { IsFull table.words },
+    pub ghost written: { AreWritten fates_from packets (slots_items table.words) },
+    pub ghost taken: { (k : ℕ) → k < slots_len table.slots → slice_index_or (slots_filled table.slots) k false ≡ false },
+}
+
+/// A closed table, with its station where it was at home.
+#[derive(Drop)]
+pub struct Closed<D: TxDevice> {
+    pub(crate) ended: Ended<D>,
+    pub(crate) station: Option<Station<D>>,
+}
+
+impl<D: TxDevice> Drop for Ended<D> {
+    fn drop(self) {
+        let Ended {
+            table,
+            number: _,
+            plan: _,
+            fates_from: _,
+            packets: _,
+        } = self;
+        table.free();
+    }
+}

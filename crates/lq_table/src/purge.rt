@@ -1,0 +1,140 @@
+//! The steps of a purge by control: `qdisc_reset` of net/sched/sch_generic.c, with `pfifo_fast_reset`, on a station that
+//! is deactivated or whose device hangs. It takes the packets out of the requeue slot and the rings, whose fate is Purged.
+ghost use Rattle.std.specs.Prelude.{◌≡◌, ◌≢◌, ℕ, ◌+◌, ◌*◌, ◌-◌, ◌<◌, ◌≤◌, true, false, [], Some, None, is_some, slice_index};
+ghost use Rattle.std.specs.List.{slice_get};
+ghost use Rattle.lq_model.specs.Band.{Band, held_of};
+ghost use Rattle.lq_model.specs.Control.{is_quiet};
+ghost use Rattle.lq_model.specs.Machine.{Purge};
+ghost use Rattle.lq_model.specs.declared.fate.Cause.TheVariants as cause;
+ghost use Rattle.lq_model.specs.declared.machine.Position.TheVariants.{Control};
+ghost use Rattle.lq_band.specs.Three.{at, Three as Of};
+ghost use Rattle.lq_band.specs.Ring.{is_emptying};
+ghost use Rattle.lq_table.specs.Views.{Left};
+ghost use Rattle.lq_table.specs.Sees.{view, position, carried, ends_at, IsSeatOf, IsElseSame};
+ghost use Rattle.lq_table.specs.Purges.{purging, HoldsAtMost, purge_begun, hung_purge_begun, taking_purged, passing_band, purge_seen};
+
+use crate::shared::{Cpu, Shared};
+use crate::view::Knowledge;
+use atomic_table::Play;
+use lq_device::{Station, TxDevice};
+use std::marker::{Brand, PhantomData};
+
+const STATE: usize = 1;
+
+/// Names a band and the purge that is half done, in the machine and beside it, for the proof of one step.
+pub trait Purging {
+    ghost use Rattle.std.specs.Prelude.{ℕ};
+    ghost use Rattle.lq_model.specs.Machine.{Purge};
+    ghost use Rattle.lq_table.specs.Views.{Left};
+
+    ghost band: { ℕ };
+
+    ghost purge: { Purge };
+
+    ghost left: { Left };
+}
+
+impl Purging for Brand {
+    ghost use Rattle.lq_table.specs.Purges.{first_purge};
+    ghost use Rattle.lq_table.specs.Views.{no_left};
+
+    ghost band = { 0 };
+
+    ghost purge = { first_purge };
+
+    ghost left = { no_left };
+}
+
+pub(crate) struct BeginPurge;
+
+impl<D: TxDevice> Play<Option<Station<D>>, Knowledge> for BeginPurge {
+    ghost then = { purge_begun };
+}
+
+pub(crate) struct BeginHungPurge;
+
+impl<D: TxDevice> Play<Option<Station<D>>, Knowledge> for BeginHungPurge {
+    ghost then = { hung_purge_begun };
+}
+
+pub(crate) struct SeePurged<K> {
+    of: PhantomData<K>,
+}
+
+impl<D: TxDevice, K: Purging> Play<Option<Station<D>>, Knowledge> for SeePurged<K> {
+    ghost then = { purge_seen K.band K.purge K.left };
+}
+
+impl<'a, D: TxDevice> Shared<'a, D> {
+    /// A purge begins, and answers the plan's event that deactivated the station, which is its cause. In the account it is
+    /// done with this step: nothing is held any more, and each packet that was held has Purged as its fate, which is
+    /// owed from here on of the packet in the requeue slot, and of each other once control takes it. A load of the state
+    /// by control that has loaded the calls inside as 0 since the station was deactivated.
+    pub fn begin_purge(&self, cpu: &mut Cpu<D>) -> u32
+        requires seat { IsSeatOf self.now cpu.old }
+        requires at { (position cpu.old ≡ Control true) × (is_quiet (view cpu.old).control.phase ≡ true) }
+        requires calm { ((view cpu.old).control.purge ≡ None) × ((view cpu.old).holder.turn ≡ None) }
+        requires packets { ((view cpu.old).packets.owed ≡ None) × ((view cpu.old).packets.fresh ≡ None) }
+        ensures same { IsElseSame cpu.old cpu.new }
+        ensures begun { (bands : Of Band) × (view cpu.new ≡ purging (cause.Event result) bands (view cpu.old)) × HoldsAtMost (view cpu.old).holder.size bands }
+    {
+        let word = self.table.shared.load::<BeginPurge>(&mut cpu.seat, STATE);
+        (word / 256 - 1) as u32
+    }
+
+    /// A purge begins whose cause is the hung device, as `begin_purge` says it. A load of the state by control that is
+    /// the only seat, while its device hangs.
+    pub fn begin_hung_purge(&self, cpu: &mut Cpu<D>)
+        requires seat { IsSeatOf self.now cpu.old }
+        requires at { (position cpu.old ≡ Control true) × ((view cpu.old).share.shares ≡ 1024) × ((view cpu.old).holder.station.device.hung ≡ true) }
+        requires calm { ((view cpu.old).control.purge ≡ None) × ((view cpu.old).holder.turn ≡ None) }
+        requires packets { ((view cpu.old).packets.owed ≡ None) × ((view cpu.old).packets.fresh ≡ None) }
+        ensures same { IsElseSame cpu.old cpu.new }
+        ensures begun { (bands : Of Band) × (view cpu.new ≡ purging (cause.Hung (view cpu.old).holder.station.unit) bands (view cpu.old)) × HoldsAtMost (view cpu.old).holder.size bands }
+    {
+        self.table
+            .shared
+            .load::<BeginHungPurge>(&mut cpu.seat, STATE);
+    }
+
+    fn purge_slot_of<K: Purging>(&self, cpu: &mut Cpu<D>, band: u32, head: u32) -> u64
+        requires named { band ≡ K.band }
+        requires seat { IsSeatOf self.now cpu.old }
+        requires band { band < 3 }
+        requires at { (position cpu.old ≡ Control true) × ((view cpu.old).control.purge ≡ Some K.purge) × (K.purge.band ≡ band) × ((view cpu.old).holder.left ≡ Some K.left) }
+        requires packets { ((view cpu.old).packets.owed ≡ None) × ((view cpu.old).packets.fresh ≡ None) }
+        requires rests { ((view cpu.old).holder.turn ≡ None) × (is_emptying (view cpu.old).holder.size (ends_at band cpu.old) ≡ false) }
+        requires head { (head ≡ (ends_at band cpu.old).head) × (head < self.now.max_len) }
+        ensures same { IsElseSame cpu.old cpu.new × (result ≤ 1000000) }
+        ensures none { result ≡ 0 → (held_of (at band K.left.bands) ≡ []) × (view cpu.new ≡ passing_band K.purge (view cpu.old)) }
+        ensures taken { result ≢ 0 → (slice_get (held_of (at band K.left.bands)) 0 ≡ Some (result - 1)) × (view cpu.new ≡ taking_purged band (result - 1) K.left (view cpu.old)) }
+    {
+        let word = 9
+            + self.senders as usize
+            + band as usize * self.max_len as usize
+            + head as usize;
+        self.table.shared.load::<SeePurged<K>>(&mut cpu.seat, word)
+    }
+
+    /// What stands in the slot at the head of the band that the purge has come to. Where it isn't 0 its packet is taken,
+    /// and its fate is owed; where it is 0 the purge goes on with the next band. A load of that slot by control in a
+    /// purge, which owes no fate and has done the zeroing so far.
+    pub fn purge_slot(&self, cpu: &mut Cpu<D>, band: u32) -> u64
+        requires seat { IsSeatOf self.now cpu.old }
+        requires band { band < 3 }
+        requires at { (u : Purge) × (l : Left) × (position cpu.old ≡ Control true) × ((view cpu.old).control.purge ≡ Some u) × (u.band ≡ band) × ((view cpu.old).holder.left ≡ Some l) }
+        requires packets { ((view cpu.old).packets.owed ≡ None) × ((view cpu.old).packets.fresh ≡ None) }
+        requires rests { ((view cpu.old).holder.turn ≡ None) × (is_emptying (view cpu.old).holder.size (ends_at band cpu.old) ≡ false) }
+        requires station { (is_some cpu.old.station ≡ true) × (slice_index (carried cpu.old).heads band ≡ (ends_at band cpu.old).head) }
+        requires head { (ends_at band cpu.old).head < self.now.max_len }
+        ensures same { IsElseSame cpu.old cpu.new × (result ≤ 1000000) }
+        ensures none { (u : Purge) (l : Left) → (view cpu.old).control.purge ≡ Some u → (view cpu.old).holder.left ≡ Some l → result ≡ 0 → (held_of (at band l.bands) ≡ []) × (view cpu.new ≡ passing_band u (view cpu.old)) }
+        ensures taken { (l : Left) → (view cpu.old).holder.left ≡ Some l → result ≢ 0 → (slice_get (held_of (at band l.bands)) 0 ≡ Some (result - 1)) × (view cpu.new ≡ taking_purged band (result - 1) l (view cpu.old)) }
+    {
+        let Some(station) = &cpu.station else {
+            unreachable!()
+        };
+        let head = station.head(band);
+        self.purge_slot_of::<Brand>(cpu, band, head)
+    }
+}

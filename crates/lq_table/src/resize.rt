@@ -1,0 +1,268 @@
+//! The steps of a resize: `ptr_ring_resize_multiple` of include/linux/ptr_ring.h, which
+//! `pfifo_fast_change_tx_queue_len` of net/sched/sch_generic.c calls. Control holds the run lock and the three producer
+//! locks. There the kernel moves the packets into new arrays; here control moves them in place, one step a call.
+ghost use Rattle.std.specs.Prelude.{◌≡◌, ℕ, ◌+◌, ◌*◌, ◌<◌, ◌≤◌, ◌∷◌, [], true, false, None, Some, List, length, slice_index, Contains};
+ghost use Rattle.lq_model.specs.Kept.{holds_lock};
+ghost use Rattle.lq_model.specs.Plan.{band_in};
+ghost use Rattle.lq_model.specs.declared.machine.Position.TheVariants.{Control};
+ghost use Rattle.lq_ring_core.specs.Slots.{round};
+ghost use Rattle.lq_band.specs.Three.{at, Three as Of};
+ghost use Rattle.lq_band.specs.Ring.{locked_at};
+ghost use Rattle.lq_band.specs.Turning.{IsUnturned, IsRefilled};
+ghost use Rattle.lq_table.specs.Views.{Turn};
+ghost use Rattle.lq_table.specs.Rule.{IsResting};
+ghost use Rattle.lq_table.specs.Sees.{view, position, lock_at, ends_at, IsSeatOf, IsElseSame};
+ghost use Rattle.lq_table.specs.Rings.{with_lock_at};
+ghost use Rattle.lq_table.specs.Resizes.{turn_of, beginning, turned, with_work, out_of, into, is_member, restarted, resize_begun, slot_cleared, slot_filled, producer_set, size_stored};
+
+use crate::shared::{Cpu, Shared};
+use crate::view::Knowledge;
+use atomic_table::Play;
+use lq_device::{Station, TxDevice};
+use std::marker::{Brand, PhantomData};
+
+const SIZE: usize = 5;
+
+const PRODUCERS: usize = 6;
+
+/// Names the packets of a resize, the longest ring, the length and the event, for the proof of one step.
+pub trait Resizing {
+    ghost use Rattle.std.specs.Prelude.{ℕ, List};
+    ghost use Rattle.lq_model.specs.declared.fate.Info.{Info};
+
+    ghost infos: { List Info };
+
+    ghost limit: { ℕ };
+
+    ghost len: { ℕ };
+
+    ghost event: { ℕ };
+}
+
+impl Resizing for Brand {
+    ghost use Rattle.std.specs.Prelude.{[]};
+
+    ghost infos = { [] };
+
+    ghost limit = { 0 };
+
+    ghost len = { 0 };
+
+    ghost event = { 0 };
+}
+
+/// Names a slot, a packet, what else is in control's hand, and the resize.
+pub trait Working {
+    ghost use Rattle.std.specs.Prelude.{ℕ, List};
+    ghost use Rattle.lq_table.specs.Views.{Turn};
+
+    ghost band: { ℕ };
+
+    ghost index: { ℕ };
+
+    ghost packet: { ℕ };
+
+    ghost hand: { List ℕ };
+
+    ghost turn: { Turn };
+}
+
+impl Working for Brand {
+    ghost use Rattle.std.specs.Prelude.{[]};
+    ghost use Rattle.lq_table.specs.Views.{no_turn};
+
+    ghost band = { 0 };
+
+    ghost index = { 0 };
+
+    ghost packet = { 0 };
+
+    ghost hand = { [] };
+
+    ghost turn = { no_turn };
+}
+
+pub(crate) struct BeginResize<K> {
+    of: PhantomData<K>,
+}
+
+impl<D: TxDevice, K: Resizing> Play<Option<Station<D>>, Knowledge> for BeginResize<K> {
+    ghost then = { resize_begun K.infos K.limit K.len K.event };
+}
+
+pub(crate) struct ClearSlot<K> {
+    of: PhantomData<K>,
+}
+
+impl<D: TxDevice, K: Working> Play<Option<Station<D>>, Knowledge> for ClearSlot<K> {
+    ghost then = { slot_cleared K.band K.index K.turn };
+}
+
+pub(crate) struct FillSlot<K> {
+    of: PhantomData<K>,
+}
+
+impl<D: TxDevice, K: Working> Play<Option<Station<D>>, Knowledge> for FillSlot<K> {
+    ghost then = { slot_filled K.band K.index K.packet K.hand K.turn };
+}
+
+pub(crate) struct SetProducer<K> {
+    of: PhantomData<K>,
+}
+
+impl<D: TxDevice, K: Working> Play<Option<Station<D>>, Knowledge> for SetProducer<K> {
+    ghost then = { producer_set K.band K.index };
+}
+
+pub(crate) struct StoreSize<K> {
+    of: PhantomData<K>,
+}
+
+impl<D: TxDevice, K: Working> Play<Option<Station<D>>, Knowledge> for StoreSize<K> {
+    ghost then = { size_stored K.turn };
+}
+
+impl<'a, D: TxDevice> Shared<'a, D> {
+    fn begin_resize_of<K: Resizing>(&self, cpu: &mut Cpu<D>, len: u32, event: u32)
+        requires named { (len ≡ K.len) × (event ≡ K.event) × (self.now.infos.now ≡ K.infos) × (self.now.max_len ≡ K.limit) }
+        requires seat { IsSeatOf self.now cpu.old }
+        requires len { (0 < len) × (len ≤ self.now.max_len) }
+        requires at { position cpu.old ≡ Control true }
+        requires rests { ((view cpu.old).control.purge ≡ None) × ((view cpu.old).holder.turn ≡ None) × IsResting (view cpu.old).holder.size (view cpu.old).holder.ends }
+        requires locks { (b : ℕ) → b < 3 → ((lock_at b cpu.old).holds ≡ true) × ((lock_at b cpu.old).stored ≡ false) }
+        ensures same { IsElseSame cpu.old cpu.new }
+        ensures begun { (held : ℕ → List ℕ) × (slots : Of (List ℕ)) × (view cpu.new ≡ beginning (turn_of K.len K.event held slots) (view cpu.old))
+            × ((b : ℕ) → b < 3 → IsUnturned (view cpu.old).holder.size K.limit (at b slots) (held b) (ends_at b cpu.old))
+            × ((b n : ℕ) → b < 3 → Contains (held b) n → (band_in K.infos n ≡ b) × (n < length K.infos)) }
+    {
+        self.table
+            .shared
+            .load::<BeginResize<K>>(&mut cpu.seat, SIZE);
+    }
+
+    /// The resize to `len` begins, for the plan's event `event`. In the account it is done with this step: each band has
+    /// the packets that it keeps, and the others have Shrunk as their fates, which control has still to store. Control
+    /// learns all slots, in which each band's held packets stand from the head on. A load of the size word by control
+    /// that has the three producer locks and no purge half done.
+    pub fn begin_resize(&self, cpu: &mut Cpu<D>, len: u32, event: u32)
+        requires seat { IsSeatOf self.now cpu.old }
+        requires len { (0 < len) × (len ≤ self.now.max_len) }
+        requires at { position cpu.old ≡ Control true }
+        requires rests { ((view cpu.old).control.purge ≡ None) × ((view cpu.old).holder.turn ≡ None) × IsResting (view cpu.old).holder.size (view cpu.old).holder.ends }
+        requires locks { (b : ℕ) → b < 3 → ((lock_at b cpu.old).holds ≡ true) × ((lock_at b cpu.old).stored ≡ false) }
+        ensures same { IsElseSame cpu.old cpu.new }
+        ensures begun { (held : ℕ → List ℕ) × (slots : Of (List ℕ)) × (view cpu.new ≡ beginning (turn_of len event held slots) (view cpu.old))
+            × ((b : ℕ) → b < 3 → IsUnturned (view cpu.old).holder.size self.now.max_len (at b slots) (held b) (ends_at b cpu.old))
+            × ((b n : ℕ) → b < 3 → Contains (held b) n → (band_in self.now.infos.now n ≡ b) × (n < length self.now.infos.now)) }
+    {
+        self.begin_resize_of::<Brand>(cpu, len, event);
+    }
+
+    fn clear_slot_of<K: Working>(&self, cpu: &mut Cpu<D>, band: u32, i: u32) -> u64
+        requires named { (band ≡ K.band) × (i ≡ K.index) }
+        requires seat { IsSeatOf self.now cpu.old }
+        requires place { (band < 3) × (i < self.now.max_len) }
+        requires holder { (holds_lock (position cpu.old) ≡ true) × ((view cpu.old).holder.turn ≡ Some K.turn) }
+        ensures same { IsElseSame cpu.old cpu.new }
+        ensures cleared { (result ≡ slice_index (at band K.turn.works).slots i) × (view cpu.new ≡ turned (Some (with_work band (out_of i (at band K.turn.works)) K.turn)) (view cpu.old)) × (is_member result (at band K.turn.works) ≡ true → result ≤ 1000000) }
+    {
+        let word = 9 + self.senders as usize + band as usize * self.max_len as usize + i as usize;
+        self.table
+            .shared
+            .swap::<ClearSlot<K>>(&mut cpu.seat, word, 0)
+    }
+
+    /// Empties a slot, and answers what stood there. Its packet comes into control's hand where the band keeps it or has
+    /// still to settle it. An exchange of that slot for 0, by control of a resize half done.
+    pub fn clear_slot(&self, cpu: &mut Cpu<D>, band: u32, i: u32) -> u64
+        requires seat { IsSeatOf self.now cpu.old }
+        requires place { (band < 3) × (i < self.now.max_len) }
+        requires holder { (holds_lock (position cpu.old) ≡ true) × ((t : Turn) × ((view cpu.old).holder.turn ≡ Some t)) }
+        ensures same { IsElseSame cpu.old cpu.new }
+        ensures cleared { (t : Turn) → (view cpu.old).holder.turn ≡ Some t → (result ≡ slice_index (at band t.works).slots i) × (view cpu.new ≡ turned (Some (with_work band (out_of i (at band t.works)) t)) (view cpu.old)) × (is_member result (at band t.works) ≡ true → result ≤ 1000000) }
+    {
+        self.clear_slot_of::<Brand>(cpu, band, i)
+    }
+
+    fn fill_slot_of<K: Working>(&self, cpu: &mut Cpu<D>, band: u32, i: u32, n: u32)
+        requires named { (band ≡ K.band) × (i ≡ K.index) × (n ≡ K.packet) }
+        requires seat { IsSeatOf self.now cpu.old }
+        requires place { (band < 3) × (i < self.now.max_len) }
+        requires holder { (holds_lock (position cpu.old) ≡ true) × ((view cpu.old).holder.turn ≡ Some K.turn) }
+        requires hand { ((at band K.turn.works).hand ≡ n ∷ K.hand) × (slice_index (at band K.turn.works).slots i ≡ 0) }
+        ensures same { IsElseSame cpu.old cpu.new }
+        ensures filled { view cpu.new ≡ turned (Some (with_work band (into i n K.hand (at band K.turn.works)) K.turn)) (view cpu.old) }
+    {
+        let word = 9 + self.senders as usize + band as usize * self.max_len as usize + i as usize;
+        self.table
+            .shared
+            .store::<FillSlot<K>>(&mut cpu.seat, word, n as u64 + 1);
+    }
+
+    /// Puts the packet that came into control's hand last into an empty slot. A store of its number plus 1, by control
+    /// of a resize half done.
+    pub fn fill_slot(&self, cpu: &mut Cpu<D>, band: u32, i: u32, n: u32)
+        requires seat { IsSeatOf self.now cpu.old }
+        requires place { (band < 3) × (i < self.now.max_len) }
+        requires holder { holds_lock (position cpu.old) ≡ true }
+        requires hand { (t : Turn) × (hand : List ℕ) × ((view cpu.old).holder.turn ≡ Some t) × ((at band t.works).hand ≡ n ∷ hand) × (slice_index (at band t.works).slots i ≡ 0) }
+        ensures same { IsElseSame cpu.old cpu.new }
+        ensures filled { (t : Turn) (hand : List ℕ) → (view cpu.old).holder.turn ≡ Some t → (at band t.works).hand ≡ n ∷ hand → view cpu.new ≡ turned (Some (with_work band (into i n hand (at band t.works)) t)) (view cpu.old) }
+    {
+        self.fill_slot_of::<Brand>(cpu, band, i, n);
+    }
+
+    fn set_producer_of<K: Working>(&self, cpu: &mut Cpu<D>, band: u32, index: u32)
+        requires named { (band ≡ K.band) × (index ≡ K.index) }
+        requires seat { IsSeatOf self.now cpu.old }
+        requires band { band < 3 }
+        requires holder { (holds_lock (position cpu.old) ≡ true) × ((t : Turn) × ((view cpu.old).holder.turn ≡ Some t)) × ((lock_at band cpu.old).holds ≡ true) }
+        ensures same { IsElseSame cpu.old cpu.new }
+        ensures set { view cpu.new ≡ with_lock_at band (locked_at index) (view cpu.old) }
+    {
+        self.table.shared.store::<SetProducer<K>>(
+            &mut cpu.seat,
+            PRODUCERS + band as usize,
+            2 * index as u64 + 1,
+        );
+    }
+
+    /// Sets the index of the band's producer, whose lock control keeps. A store into the producer word, by control of a
+    /// resize half done.
+    pub fn set_producer(&self, cpu: &mut Cpu<D>, band: u32, index: u32)
+        requires seat { IsSeatOf self.now cpu.old }
+        requires band { band < 3 }
+        requires holder { (holds_lock (position cpu.old) ≡ true) × ((t : Turn) × ((view cpu.old).holder.turn ≡ Some t)) × ((lock_at band cpu.old).holds ≡ true) }
+        ensures same { IsElseSame cpu.old cpu.new }
+        ensures set { view cpu.new ≡ with_lock_at band (locked_at index) (view cpu.old) }
+    {
+        self.set_producer_of::<Brand>(cpu, band, index);
+    }
+
+    fn store_size_of<K: Working>(&self, cpu: &mut Cpu<D>, len: u32)
+        requires named { len ≡ K.turn.len }
+        requires seat { IsSeatOf self.now cpu.old }
+        requires holder { (holds_lock (position cpu.old) ≡ true) × ((view cpu.old).holder.turn ≡ Some K.turn) }
+        requires ready { (b : ℕ) → b < 3 → IsRefilled (at b K.turn.works).slots (at b K.turn.works).kept K.turn.len × (lock_at b cpu.old ≡ locked_at (round K.turn.len (length (at b K.turn.works).kept))) × ((at b K.turn.works).waiting ≡ []) }
+        ensures same { IsElseSame cpu.old cpu.new }
+        ensures restarted { view cpu.new ≡ restarted K.turn (view cpu.old) }
+    {
+        self.table
+            .shared
+            .store::<StoreSize<K>>(&mut cpu.seat, SIZE, len as u64);
+    }
+
+    /// Stores the new length, and ends the resize: the rings start again, with what each band keeps from slot 0 on. Each
+    /// producer is set behind what its band keeps, and no fate is owed. A store into the size word, by control of a
+    /// resize half done.
+    pub fn store_size(&self, cpu: &mut Cpu<D>, len: u32)
+        requires seat { IsSeatOf self.now cpu.old }
+        requires holder { holds_lock (position cpu.old) ≡ true }
+        requires ready { (t : Turn) × ((view cpu.old).holder.turn ≡ Some t) × (len ≡ t.len)
+            × ((b : ℕ) → b < 3 → IsRefilled (at b t.works).slots (at b t.works).kept t.len × (lock_at b cpu.old ≡ locked_at (round t.len (length (at b t.works).kept))) × ((at b t.works).waiting ≡ [])) }
+        ensures same { IsElseSame cpu.old cpu.new }
+        ensures restarted { (t : Turn) → (view cpu.old).holder.turn ≡ Some t → view cpu.new ≡ restarted t (view cpu.old) }
+    {
+        self.store_size_of::<Brand>(cpu, len);
+    }
+}

@@ -1,0 +1,102 @@
+//! The steps on the turn words, by which the packets of one owner are sent in order.
+ghost use Rattle.std.specs.Prelude.{◌≡◌, ◌≢◌, ℕ, ◌+◌, ◌*◌, ◌<◌, Some, None, length, slice_index, MatchResult};
+ghost use Rattle.lq_model.specs.Plan.{owner_in, station_in, rank_in};
+ghost use Rattle.lq_table.specs.Rule.{times};
+ghost use Rattle.lq_table.specs.Sees.{view, IsSeatOf, IsElseSame};
+ghost use Rattle.lq_table.specs.Told.{bringing, giving_turn};
+
+use crate::plays::{GiveTurn, SeeTurn, TakeTurn, Turned};
+use crate::shared::{Cpu, Shared};
+use lq_device::TxDevice;
+use std::marker::Brand;
+
+const TURNS: usize = 9;
+
+impl<'a, D: TxDevice> Shared<'a, D> {
+    fn take_turn_of<K: Turned>(&self, cpu: &mut Cpu<D>, n: u32, owner: u32, rank: u32) -> u64
+        requires named { (n ≡ K.packet) × (owner ≡ K.owner) × (rank ≡ K.rank) }
+        requires seat { IsSeatOf self.now cpu.old }
+        requires packet { (n < length self.now.infos.now) × (station_in self.now.infos.now n ≡ self.now.station) × (owner ≡ owner_in self.now.infos.now n) × (rank ≡ rank_in self.now.infos.now n) }
+        requires owner { (0 < times owner (view cpu.old).share.owners) × (owner < self.now.senders) }
+        requires idle { (view cpu.old).packets.busy ≡ None }
+        ensures same { IsElseSame cpu.old cpu.new }
+        ensures found { result ≡ slice_index (view cpu.old).turns K.owner }
+        ensures taken { result ≡ 2 * K.rank → view cpu.new ≡ bringing K.packet K.owner K.rank (view cpu.old) }
+        ensures other { result ≢ 2 * K.rank → view cpu.new ≡ view cpu.old }
+    {
+        let free = 2 * rank as u64;
+        self.table
+            .shared
+            .compare_exchange::<TakeTurn<K>>(&mut cpu.seat, TURNS + owner as usize, free, free + 1)
+    }
+
+    /// Takes the turn of packet `n`, which the seat then brings. Only a seat that has the packet's owner, and brings no
+    /// packet, may ask. It is refused, with the turn word as it is, where that isn't twice the packet's rank: then it isn't
+    /// the next of its owner's packets at this station.
+    pub fn take_turn(&self, cpu: &mut Cpu<D>, n: u32) -> Result<(), u64>
+        requires seat { IsSeatOf self.now cpu.old }
+        requires packet { (n < length self.now.infos.now) × (station_in self.now.infos.now n ≡ self.now.station) }
+        requires owner { (0 < times (owner_in self.now.infos.now n) (view cpu.old).share.owners) × (owner_in self.now.infos.now n < self.now.senders) }
+        requires idle { (view cpu.old).packets.busy ≡ None }
+        ensures same { IsElseSame cpu.old cpu.new }
+        ensures turn { MatchResult result (λ _. (slice_index (view cpu.old).turns (owner_in self.now.infos.now n) ≡ 2 * rank_in self.now.infos.now n) × (view cpu.new ≡ bringing n (owner_in self.now.infos.now n) (rank_in self.now.infos.now n) (view cpu.old))) (λ found. (found ≡ slice_index (view cpu.old).turns (owner_in self.now.infos.now n)) × (found ≢ 2 * rank_in self.now.infos.now n) × (view cpu.new ≡ view cpu.old)) }
+    {
+        let owner = self.infos[n as usize].owner;
+        let rank = self.infos[n as usize].rank;
+        let found = self.take_turn_of::<Brand>(cpu, n, owner, rank);
+        if found == 2 * rank as u64 {
+            Ok(())
+        } else {
+            Err(found)
+        }
+    }
+
+    fn give_turn_of<K: Turned>(&self, cpu: &mut Cpu<D>, n: u32, owner: u32, rank: u32)
+        requires named { (owner ≡ K.owner) × (rank ≡ K.rank) }
+        requires seat { IsSeatOf self.now cpu.old }
+        requires packet { (owner ≡ owner_in self.now.infos.now n) × (rank ≡ rank_in self.now.infos.now n) × (owner < self.now.senders) }
+        requires busy { ((view cpu.old).packets.busy ≡ Some n) × ((view cpu.old).packets.fresh ≡ None) }
+        ensures same { IsElseSame cpu.old cpu.new }
+        ensures given { view cpu.new ≡ giving_turn K.owner K.rank (view cpu.old) }
+    {
+        let next = 2 * rank as u64 + 2;
+        self.table
+            .shared
+            .store::<GiveTurn<K>>(&mut cpu.seat, TURNS + owner as usize, next);
+    }
+
+    /// Gives back the turn of packet `n`, which has left the seat's hand. It is the last step of a transmit.
+    pub fn give_turn(&self, cpu: &mut Cpu<D>, n: u32)
+        requires seat { IsSeatOf self.now cpu.old }
+        requires packet { (n < length self.now.infos.now) × (owner_in self.now.infos.now n < self.now.senders) }
+        requires busy { ((view cpu.old).packets.busy ≡ Some n) × ((view cpu.old).packets.fresh ≡ None) }
+        ensures same { IsElseSame cpu.old cpu.new }
+        ensures given { view cpu.new ≡ giving_turn (owner_in self.now.infos.now n) (rank_in self.now.infos.now n) (view cpu.old) }
+    {
+        let owner = self.infos[n as usize].owner;
+        let rank = self.infos[n as usize].rank;
+        self.give_turn_of::<Brand>(cpu, n, owner, rank);
+    }
+
+    fn load_turn_of<K: Turned>(&self, cpu: &mut Cpu<D>, owner: u32) -> u64
+        requires named { owner ≡ K.owner }
+        requires seat { IsSeatOf self.now cpu.old }
+        requires owner { owner < self.now.senders }
+        ensures same { IsElseSame cpu.old cpu.new × (view cpu.new ≡ view cpu.old) }
+        ensures word { 0 < times K.owner (view cpu.old).share.owners → result ≡ slice_index (view cpu.old).turns K.owner }
+    {
+        self.table
+            .shared
+            .load::<SeeTurn<K>>(&mut cpu.seat, TURNS + owner as usize)
+    }
+
+    /// Loads the turn word of `owner`: twice the rank of its next packet, and one more while that packet's turn is taken.
+    pub fn load_turn(&self, cpu: &mut Cpu<D>, owner: u32) -> u64
+        requires seat { IsSeatOf self.now cpu.old }
+        requires owner { owner < self.now.senders }
+        ensures same { IsElseSame cpu.old cpu.new × (view cpu.new ≡ view cpu.old) }
+        ensures word { 0 < times owner (view cpu.old).share.owners → result ≡ slice_index (view cpu.old).turns owner }
+    {
+        self.load_turn_of::<Brand>(cpu, owner)
+    }
+}

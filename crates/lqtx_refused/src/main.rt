@@ -1,0 +1,9 @@
+//! The program, run where its bench has one device less than the plan needs.
+#![tactic(auto)]
+
+use lq_top::run_program;
+use std::process::ExitCode;
+
+fn main(rt: HostRuntime) -> ExitCode {
+    run_program(&rt)
+}
