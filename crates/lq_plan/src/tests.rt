@@ -1,5 +1,8 @@
 //! Texts of plans: the least reason of each, and what keys that are left out or written come to.
-use crate::{EventKind, EventPlan, Params, PlanReason, PlanRefusal, Split, StationPlan, generated_plan, read_plan};
+use crate::{
+    EventKind, EventPlan, Params, PlanReason, PlanRefusal, Split, StationPlan, generated_plan,
+    read_plan,
+};
 
 #[test]
 fn least_reason_of_each_text(rt: HostRuntime) {

@@ -101,7 +101,10 @@ fn needs_a_device(rt: HostRuntime) -> Result<(), Fail> {
     let mut host = MemHost::new(alloc);
     let status = call_on(&rt, alloc, &["gen", "1", "2", "g"], &mut host, 0, &Free)?;
     assert_eq!(rt; status, Status::Bench { need: 1, have: 0 });
-    assert_eq!(rt; host.output(), b"bench refused: needs 1 units, has 0\n".as_slice());
+    assert_eq!(rt;
+        host.output(),
+        b"bench refused: needs 1 units, has 0\n".as_slice()
+    );
     assert!(rt; host.file("g").is_none());
     Ok(())
 }

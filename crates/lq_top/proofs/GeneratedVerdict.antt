@@ -49,6 +49,6 @@ generated_verdict words gen files have command some = go (capture_of text) refl 
       c,
       is,
       ap (λ k. by_command k files have) command ∙ placed gen have some
-      ∙ ap (λ (r : Result Capture CaptureRefusal). by_generated gen.out text generated_plan (with_refusal (as_classic r))) is,
+          ∙ ap (λ (r : Result Capture CaptureRefusal). by_generated gen.out text generated_plan (with_refusal (as_classic r))) is,
     )
     go (Err e) is ok = absurd ok

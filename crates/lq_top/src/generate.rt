@@ -36,10 +36,12 @@ fn generated_in(alloc: Global, text: Vec<u8>) -> Result<Capture, NoMemory>
     match read_capture(alloc, text) {
         Ok(capture) => Ok(capture),
         Err(CaptureRefusal::NoMemory) => Err(NoMemory),
-        Err(CaptureRefusal::Refused {
-            reason: _,
-            place: _,
-        }) => unreachable!(),
+        Err(
+            CaptureRefusal::Refused {
+                reason: _,
+                place: _,
+            },
+        ) => unreachable!(),
     }
 }
 
