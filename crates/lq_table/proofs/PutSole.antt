@@ -21,7 +21,7 @@ use Rattle.lq_table.specs.Views.{View, Setup, HolderPart, packet_of}
 use Rattle.lq_table.specs.Rule.{words_of, slot_word, account, holders, holding, is_live, IsResting, Rule}
 use Rattle.lq_table.specs.Told.{Sat}
 use Rattle.lq_table.specs.Rings.{slot_seen}
-use Rattle.lq_table.specs.Solo.{IsSole, account_of}
+use Rattle.lq_table.specs.Solo.{account_of}
 use Rattle.lq_table.specs.SolePut.{SeesEnd, slot_seen_all}
 use Rattle.lq_table.proofs.ByName.{slot_of}
 use Rattle.lq_table.proofs.Facts.{calm_rule}

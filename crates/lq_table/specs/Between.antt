@@ -1,5 +1,5 @@
 -- What the rule says of a table between any two steps, whatever steps its seats took.
-use Rattle.std.specs.Prelude.{◌≡◌, ℕ, List, [], Option}
+use Rattle.std.specs.Prelude.{◌≡◌, [], Option}
 use Rattle.lq_device.specs.Station.{StationState}
 use Rattle.lq_model.specs.Account.{held}
 use Rattle.lq_model.specs.Kept.{IsInductive}

@@ -1,7 +1,6 @@
-use Rattle.std.proofs.Common.{◌≡◌, ℕ, sym, ap, ◌∙◌, subst, IfSome, IfNone, slice_index}
+use Rattle.std.proofs.Common.{ℕ, sym, subst, IfSome}
 use Rattle.lq_model.specs.declared.fate.Fate.{Fate}
 use Rattle.lq_model.specs.Words.{IsWordOf}
-use Rattle.lq_table.specs.Sees.{ended_fates}
 use Rattle.lq_table.proofs.ReadBack.{fate_read, if_none}
 use Rattle.lq_table.proofs.ended.Ended.fate.Goals as goal
 
