@@ -14,6 +14,8 @@ pub mod Limits
 pub mod Reading
 -- what contracts see of a plan in memory
 pub mod View
+-- the plan of a generated run
+pub mod Generated
 -- the limits of what is known of each packet
 pub mod Packets
 -- what follows from the definition of a plan

@@ -12,6 +12,7 @@
 
 mod document;
 mod faults;
+mod generated;
 mod keys;
 mod laws;
 mod order;
@@ -21,6 +22,7 @@ mod reader;
 mod refusal;
 mod values;
 
+pub use generated::generated_plan;
 pub use laws::accepts_within_limits;
 pub use lq_model::{EventKind, EventPlan, Params, PlanReason, Split, StationPlan};
 pub use packets::infos;

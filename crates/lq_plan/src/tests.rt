@@ -1,5 +1,8 @@
 //! Texts of plans: the least reason of each, and what keys that are left out or written come to.
-use crate::{EventKind, EventPlan, Params, PlanReason, PlanRefusal, Split, StationPlan, read_plan};
+use crate::{
+    EventKind, EventPlan, Params, PlanReason, PlanRefusal, Split, StationPlan, generated_plan,
+    read_plan,
+};
 
 #[test]
 fn least_reason_of_each_text(rt: HostRuntime) {
@@ -78,6 +81,34 @@ fn keys_left_out(rt: HostRuntime) {
             bypass: true,
             params: NO_RULES,
         }
+    );
+}
+
+/// The plan of a generated run is that of this text, which docs/FORMATS.md gives.
+#[test]
+fn generated_run_has_a_text(rt: HostRuntime) {
+    let text = b"irq_every = 64\n[[station]]\nlen = 32\nburst = 48\n";
+    let (Ok(plan), Ok(read)) = (generated_plan(rt.alloc()), read_plan(rt.alloc(), text)) else {
+        panic!(rt; "no plan");
+    };
+    assert_eq!(rt; plan.irq_every(), 64);
+    assert_eq!(rt;
+        (
+            plan.senders(),
+            plan.split(),
+            plan.irq_every(),
+            plan.stations(),
+            plan.station(0),
+            plan.events()
+        ),
+        (
+            read.senders(),
+            read.split(),
+            read.irq_every(),
+            read.stations(),
+            read.station(0),
+            read.events()
+        )
     );
 }
 

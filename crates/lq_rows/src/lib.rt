@@ -11,8 +11,12 @@ mod fixture;
 #[cfg(test)]
 mod gate;
 #[cfg(test)]
+mod generated;
+#[cfg(test)]
 mod pcapng;
 #[cfg(test)]
 mod refusals;
 #[cfg(test)]
 mod rows;
+#[cfg(test)]
+mod schedules;

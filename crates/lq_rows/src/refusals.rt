@@ -11,7 +11,7 @@ const USAGE: &[u8] =
     b"usage: lqtx run PLAN CAPTURE OUT | lqtx gen NUMBER COUNT OUT | lqtx trace FILE\n";
 
 /// Command lines that aren't of the table, with the program's own name in front.
-const COMMANDS: [&str; 23] = [
+const COMMANDS: [&str; 29] = [
     "lqtx",
     "lqtx run",
     "lqtx run p c",
@@ -33,8 +33,14 @@ const COMMANDS: [&str; 23] = [
     "lqtx run --help",
     "lqtx help",
     "lqtx help run",
-    "lqtx gen 1 2 g",
-    "lqtx trace t",
+    "lqtx gen 1 2",
+    "lqtx gen 1 2 g g",
+    "lqtx gen 1 2 -g",
+    "lqtx trace",
+    "lqtx trace t t",
+    "lqtx trace t t t",
+    "lqtx trace -t",
+    "lqtx run p",
 ];
 
 #[test]

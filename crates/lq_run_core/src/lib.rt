@@ -19,5 +19,6 @@ mod trace_text;
 
 pub use lq_model::{Answer, Position, Seat};
 pub use machine::Machine;
+pub use schedule::is_number;
 pub use start::Start;
 pub use trace_run::{TraceReason, TraceRefusal, trace};

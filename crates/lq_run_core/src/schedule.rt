@@ -69,7 +69,7 @@ fn are_digits(word: &[u8]) -> bool
 }
 
 /// Whether a word is decimal digits, with no leading zero unless it is `0`.
-fn is_number(word: &[u8]) -> bool
+pub fn is_number(word: &[u8]) -> bool
     ensures { result ≡ is_number word.now }
 {
     !word.is_empty() && are_digits(word) && !(word.len() > 1 && word[0] == b'0')

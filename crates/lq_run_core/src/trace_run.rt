@@ -216,6 +216,4 @@ pub fn trace(alloc: Global, text: &[u8]) -> Result<Vec<u8>, TraceRefusal>
 }
 
 #[cfg(test)]
-mod examples;
-#[cfg(test)]
 mod tests;

@@ -9,7 +9,7 @@ use Rattle.lq_model.specs.declared.fate.Info.{Info}
 use Rattle.lq_band.proofs.Seats.{total_two, each_step, each_same}
 use Rattle.lq_band.specs.Seats.{total}
 use Rattle.lq_table.specs.Views.{View, Setup, SharePart}
-use Rattle.lq_table.specs.Trail.{is_own, trail_of}
+use Rattle.lq_account.specs.Trail.{is_own, trail_of}
 use Rattle.lq_table.specs.Rule.{times, Shares, Trails}
 use Rattle.lq_table.proofs.Accounts.{owners_apart}
 

@@ -12,7 +12,7 @@ use Rattle.lq_band.specs.Stored.{FateWords}
 use Rattle.lq_band.specs.Three.{at, all_three}
 use Rattle.lq_band.specs.Ring.{unlocked}
 use Rattle.lq_table.specs.Views.{View, Setup, State}
-use Rattle.lq_table.specs.Trail.{trail_of}
+use Rattle.lq_account.specs.Trail.{trail_of}
 use Rattle.lq_table.specs.Told.{is_set}
 use Rattle.lq_table.specs.Rule.{Words, words_of, holders, shown, waits, bands_now, AreHung, IsDevice, Accounted, Rings, Sends, Stands, Ties}
 

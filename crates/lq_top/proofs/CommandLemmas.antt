@@ -1,20 +1,23 @@
 -- What clap makes of the command table and words that aren't empty and have no dash in front.
-use Rattle.std.proofs.Common.{◌≡◌, ◌∙◌, ◌&&◌, true, false, refl, sym, ap, true≢false, inl, inr, List, [], ◌∷◌, Option, Some, None, Bor, subst, codes}
-use Rattle.std.specs.Prelude.{option_and_then, unwrap_or, slice_get}
+use Rattle.std.proofs.Common.{◌≡◌, ◌∙◌, ◌&&◌, ◌≤◌, ℕ, Bool, true, false, refl, sym, ap, true≢false, inl, inr, List, [], ◌∷◌, ◌++◌, Option, Some, None, Bor, subst, codes, if◌then◌else◌, nat_le, arith}
+use Rattle.std.specs.Prelude.{is_some, option_and_then, option_map, unwrap_or, slice_get}
 use Rattle.std.specs.List.{fold, list_all}
 use Rattle.std.specs.Str.{bytes_eq}
 use Rattle.std.proofs.lemmas.Slice.Eq.{bytes_eq-Decides}
 use Rattle.std.proofs.lemmas.Bool.{cases_Bool}
+use Rattle.std.proofs.lemmas.Bool.Decides.{leb_tells}
+use Rattle.std.proofs.Math.Dec.{leb-zero}
 use Rattle.clap.specs.Faults.{entered_fault, fault_of, level_fault}
-use Rattle.clap.specs.Simple.{App, Shape, built, entered, names_of, new_shape, subcommand_of}
-use Rattle.clap.specs.Takes.{level_passes, takes, walk_passes}
+use Rattle.clap.specs.Simple.{App, Shape, built, entered, names_of, new_shape, rows_at, subcommand_of}
+use Rattle.clap.specs.Takes.{entered_passes, level_passes, takes, walk_passes}
 use Rattle.clap.specs.Walk.{Held, Names, Row, Text, Walk, finished, idle, nothing_held, subcommand_met, walk, walked}
 use Rattle.clap.specs.declared.builder.value_parser.Reading.TheVariants.{AsWritten}
 use Rattle.clap.specs.declared.parser.matches.ValueSource.TheVariants.{CommandLine}
 use Rattle.clap.proofs.WalkLemmas.{both, walk_stopped}
-use Rattle.lq_top.specs.Command.{RunWords, command_of, is_operand, words_of}
-use Rattle.lq_top.specs.Forms.{command_in, run_in, table_app}
-use Rattle.lq_top.proofs.ParseLemmas.{Fails, IsPlain, built_taken, fails_here, fails_later, level_fails_behind, level_fails_below, level_fails_in_walk, level_taken, passes_more, passes_none, plain, some_kind, some≢none, standing, step, step_fails_as, step_is_taken}
+use Rattle.lq_run_core.specs.Schedule.{number_in, number_of, within}
+use Rattle.lq_top.specs.Command.{CommandWords, GenWords, HasFewRecords, OfGen, OfRun, OfTrace, command_of, command_of_one, command_of_three, gen_of, is_operand, words_of}
+use Rattle.lq_top.specs.Forms.{command_in, one_in, table_app, three_in}
+use Rattle.lq_top.proofs.ParseLemmas.{Fails, IsPlain, built_taken, fails_here, fails_later, level_fails_behind, level_fails_below, level_fails_in_walk, level_taken, passes_more, passes_none, plain, some_kind, standing, step, step_fails_as, step_is_taken}
 
 -- THE TABLE AS CLAP BUILDS IT
 
@@ -24,79 +27,139 @@ whole = built table_app
 abbrev names : Names
 names = names_of whole
 
-abbrev form : Shape
-form = unwrap_or (slice_get whole.subs 0) (new_shape [])
+-- the forms of `run`, `gen` and `trace`; the first two differ in their names alone
+abbrev form_at : ℕ → Shape
+form_at k = unwrap_or (slice_get whole.subs k) (new_shape [])
+
+abbrev three : Text → Shape
+three verb = record (form_at 0) { name = verb }
+
+abbrev one : Shape
+one = form_at 2
 
 abbrev run : Text
 run = codes "run"
+
+abbrev gen : Text
+gen = codes "gen"
+
+abbrev trace : Text
+trace = codes "trace"
 
 -- what is held behind one, two and three operands
 abbrev row : Text → Text → Row
 row id text = record { id = id; values = text ∷ []; count = None; source = Some CommandLine; reading = AsWritten }
 
 abbrev held_one : Text → Held
-held_one p = record { rows = []; pending = Some (codes "PLAN", p ∷ []); skip = 0 }
+held_one p = record { rows = []; pending = Some (codes "FIRST", p ∷ []); skip = 0 }
 
 abbrev held_two : Text → Text → Held
-held_two p c = record { rows = row (codes "PLAN") p ∷ []; pending = Some (codes "CAPTURE", c ∷ []); skip = 0 }
+held_two p c = record { rows = row (codes "FIRST") p ∷ []; pending = Some (codes "SECOND", c ∷ []); skip = 0 }
 
 abbrev held_three : Text → Text → Text → Held
-held_three p c o = record { rows = row (codes "PLAN") p ∷ row (codes "CAPTURE") c ∷ []; pending = Some (codes "OUT", o ∷ []); skip = 0 }
+held_three p c o = record { rows = row (codes "FIRST") p ∷ row (codes "SECOND") c ∷ []; pending = Some (codes "THIRD", o ∷ []); skip = 0 }
 
-walked_one : (p : Text) → IsPlain p → walked form.rules [] (standing nothing_held 1) p ≡ standing (held_one p) 2
-walked_one p first = step [] nothing_held 1 p refl first form.rules
+-- VERBS
 
-walked_two : (p c : Text) → IsPlain c → walked form.rules [] (standing (held_one p) 2) c ≡ standing (held_two p c) 3
-walked_two p c second = step [] (held_one p) 2 c refl second form.rules
+-- the walk over the whole stops at a verb
+abbrev stopped_at : Text → List Text → Walk
+stopped_at verb rest = record { held = nothing_held; waiting = idle; position = 1; is_trailing = false; stopped = Some (verb, rest) }
 
-walked_three : (p c o : Text) → IsPlain o → walked form.rules [] (standing (held_two p c) 3) o ≡ standing (held_three p c o) 4
-walked_three p c o third = step [] (held_two p c) 3 o refl third form.rules
+-- the words behind a verb are its form's
+passes_stopped : (verb : Text) (seen rest : List Text) → walk_passes whole.top names (stopped_at verb seen) rest ≡ true
+unfolding walked walk_passes
+passes_stopped verb seen [] = refl
+passes_stopped verb seen (word ∷ rest) = passes_stopped verb (seen ++ word ∷ []) rest
 
-walk_two : (p c : Text) → IsPlain p → IsPlain c → walk form.rules [] nothing_held (p ∷ c ∷ []) ≡ standing (held_two p c) 3
-walk_two p c first second = ap (λ w. walked form.rules [] w c) (walked_one p first) ∙ walked_two p c second
+-- a verb of the table, and its form
+record IsVerb (verb : Text) (form : Shape) : Type 0 where
+  pub stops : walked whole.top.rules names (standing nothing_held 1) verb ≡ stopped_at verb []
+  pub passes : (rest : List Text) → walk_passes whole.top names (stopped_at verb []) rest ≡ true → walk_passes whole.top names (standing nothing_held 1) (verb ∷ rest) ≡ true
+  pub taken : (rest : List Text) → entered_passes whole (Some (verb, rest)) ≡ level_passes form [] nothing_held rest false
+  pub refused : (rest : List Text) → entered_fault whole (Some (verb, rest)) ≡ level_fault form [] nothing_held rest false []
+  pub enters : (rest : List Text) → entered whole (Some (verb, rest)) ≡ Some (rows_at form rest)
+  pub named : form.name ≡ verb
 
-walk_three : (p c o : Text) → IsPlain p → IsPlain c → IsPlain o → walk form.rules [] nothing_held (p ∷ c ∷ o ∷ []) ≡ standing (held_three p c o) 4
-walk_three p c o first second third = ap (λ w. walked form.rules [] w o) (walk_two p c first second) ∙ walked_three p c o third
+is_run : IsVerb run (three run)
+unfolding walked walk_passes
+is_run = record { stops = refl; passes = λ rest behind. behind; taken = λ rest. refl; refused = λ rest. refl; enters = λ rest. refl; named = refl }
 
--- the walk over the whole stops at the verb
-abbrev stopped_at_run : List Text → Walk
-stopped_at_run rest = record { held = nothing_held; waiting = idle; position = 1; is_trailing = false; stopped = Some (run, rest) }
+is_gen : IsVerb gen (three gen)
+unfolding walked walk_passes
+is_gen = record { stops = refl; passes = λ rest behind. behind; taken = λ rest. refl; refused = λ rest. refl; enters = λ rest. refl; named = refl }
 
-walked_run : walked whole.top.rules names (standing nothing_held 1) run ≡ stopped_at_run []
-unfolding walked
-walked_run = refl
+is_trace : IsVerb trace one
+unfolding walked walk_passes
+is_trace = record { stops = refl; passes = λ rest behind. behind; taken = λ rest. refl; refused = λ rest. refl; enters = λ rest. refl; named = refl }
 
-walk_run : (rest : List Text) → walk whole.top.rules names nothing_held (run ∷ rest) ≡ stopped_at_run rest
-walk_run rest = ap (λ w. fold (walked whole.top.rules names) w rest) walked_run ∙ sym (walk_stopped whole.top.rules names (stopped_at_run []) run [] rest)
+module _ (verb : Text) (form : Shape) (is : IsVerb verb form) (rest : List Text) where
+  walk_verb : walk whole.top.rules names nothing_held (verb ∷ rest) ≡ stopped_at verb rest
+  walk_verb = ap (λ w. fold (walked whole.top.rules names) w rest) is.stops ∙ sym (walk_stopped whole.top.rules names (stopped_at verb []) verb [] rest)
+
+  -- the whole takes what the form takes
+  table_takes : level_passes form [] nothing_held rest false ≡ true → takes table_app (verb ∷ rest) ≡ true
+  table_takes inside =
+      let top : level_passes whole.top names nothing_held (verb ∷ rest) true ≡ true =
+      level_taken whole.top names nothing_held (verb ∷ rest) true (stopped_at verb rest) walk_verb (is.passes rest (passes_stopped verb [] rest)) refl refl refl in
+      built_taken whole nothing_held (verb ∷ rest) (stopped_at verb rest) walk_verb (is.taken rest ∙ inside)
+      (subst (λ (e : Bool). level_passes whole.top names nothing_held (verb ∷ rest) e ≡ true) (sym (ap is_some (is.enters rest))) top)
+
+  -- the words behind the verb are matched by the form
+  table_matches : option_and_then command_in (subcommand_of table_app (verb ∷ rest)) ≡ command_in (rows_at form rest)
+  table_matches = ap (λ (w : Walk). option_and_then command_in (entered whole w.stopped)) walk_verb ∙ ap (option_and_then command_in) (is.enters rest)
+
+  -- where the form refuses them, so does the whole
+  form_fails : Fails (level_fault form [] nothing_held rest false []) → Fails (fault_of table_app (verb ∷ rest))
+  form_fails f = level_fails_below whole.top names nothing_held (verb ∷ rest) _ _
+      (subst (λ (w : Walk). Fails (entered_fault whole w.stopped)) (sym walk_verb) (subst Fails (sym (is.refused rest)) f))
+
+-- OPERANDS
+
+walked_one : (verb p : Text) → IsPlain p → walked (three verb).rules [] (standing nothing_held 1) p ≡ standing (held_one p) 2
+walked_one verb p first = step [] nothing_held 1 p refl first (three verb).rules
+
+walked_two : (verb p c : Text) → IsPlain c → walked (three verb).rules [] (standing (held_one p) 2) c ≡ standing (held_two p c) 3
+walked_two verb p c second = step [] (held_one p) 2 c refl second (three verb).rules
+
+walked_three : (verb p c o : Text) → IsPlain o → walked (three verb).rules [] (standing (held_two p c) 3) o ≡ standing (held_three p c o) 4
+walked_three verb p c o third = step [] (held_two p c) 3 o refl third (three verb).rules
+
+walk_two : (verb p c : Text) → IsPlain p → IsPlain c → walk (three verb).rules [] nothing_held (p ∷ c ∷ []) ≡ standing (held_two p c) 3
+walk_two verb p c first second = ap (λ w. walked (three verb).rules [] w c) (walked_one verb p first) ∙ walked_two verb p c second
+
+walk_three : (verb p c o : Text) → IsPlain p → IsPlain c → IsPlain o → walk (three verb).rules [] nothing_held (p ∷ c ∷ o ∷ []) ≡ standing (held_three p c o) 4
+walk_three verb p c o first second third = ap (λ w. walked (three verb).rules [] w o) (walk_two verb p c first second) ∙ walked_three verb p c o third
+
+walked_only : (f : Text) → IsPlain f → walked one.rules [] (standing nothing_held 1) f ≡ standing (held_one f) 2
+walked_only f first = step [] nothing_held 1 f refl first one.rules
 
 -- WHAT IS TAKEN
 
-module _ (p c o : Text) (first : IsPlain p) (second : IsPlain c) (third : IsPlain o) where
-  form_passes : walk_passes form [] (standing nothing_held 1) (p ∷ c ∷ o ∷ []) ≡ true
-  form_passes =
-      passes_more form [] _ _ p (c ∷ o ∷ []) (step_is_taken [] nothing_held 1 p refl first form) (walked_one p first)
-      (passes_more form [] _ _ c (o ∷ []) (step_is_taken [] (held_one p) 2 c refl second form) (walked_two p c second)
-      (passes_more form [] _ _ o [] (step_is_taken [] (held_two p c) 3 o refl third form) (walked_three p c o third)
-      (passes_none form [] (standing (held_three p c o) 4))))
+module _ (verb p c o : Text) (first : IsPlain p) (second : IsPlain c) (third : IsPlain o) where
+  three_passes : walk_passes (three verb) [] (standing nothing_held 1) (p ∷ c ∷ o ∷ []) ≡ true
+  three_passes =
+      passes_more (three verb) [] _ _ p (c ∷ o ∷ []) (step_is_taken [] nothing_held 1 p refl first (three verb)) (walked_one verb p first)
+      (passes_more (three verb) [] _ _ c (o ∷ []) (step_is_taken [] (held_one p) 2 c refl second (three verb)) (walked_two verb p c second)
+      (passes_more (three verb) [] _ _ o [] (step_is_taken [] (held_two p c) 3 o refl third (three verb)) (walked_three verb p c o third)
+      (passes_none (three verb) [] (standing (held_three p c o) 4))))
 
-  form_takes : level_passes form [] nothing_held (p ∷ c ∷ o ∷ []) false ≡ true
-  form_takes = level_taken form [] nothing_held (p ∷ c ∷ o ∷ []) false (standing (held_three p c o) 4) (walk_three p c o first second third) form_passes refl refl refl
-
-  top_passes : walk_passes whole.top names (standing nothing_held 1) (run ∷ p ∷ c ∷ o ∷ []) ≡ true
-  unfolding walked walk_passes
-  top_passes = refl
-
-  top_takes : level_passes whole.top names nothing_held (run ∷ p ∷ c ∷ o ∷ []) true ≡ true
-  top_takes = level_taken whole.top names nothing_held (run ∷ p ∷ c ∷ o ∷ []) true (stopped_at_run (p ∷ c ∷ o ∷ [])) (walk_run (p ∷ c ∷ o ∷ [])) top_passes refl refl refl
-
-  -- three plain words behind `run` are taken
-  pub table_takes : takes table_app (run ∷ p ∷ c ∷ o ∷ []) ≡ true
-  table_takes = built_taken whole nothing_held (run ∷ p ∷ c ∷ o ∷ []) (stopped_at_run (p ∷ c ∷ o ∷ [])) (walk_run (p ∷ c ∷ o ∷ [])) form_takes top_takes
+  -- three plain words behind the verb are taken
+  three_taken : level_passes (three verb) [] nothing_held (p ∷ c ∷ o ∷ []) false ≡ true
+  three_taken = level_taken (three verb) [] nothing_held (p ∷ c ∷ o ∷ []) false (standing (held_three p c o) 4) (walk_three verb p c o first second third) three_passes refl refl refl
 
   -- and they are the operands
-  pub table_matches : option_and_then command_in (subcommand_of table_app (run ∷ p ∷ c ∷ o ∷ [])) ≡ Some (record { plan = p; capture = c; out = o })
-  table_matches = ap (λ (w : Walk). option_and_then command_in (entered whole w.stopped)) (walk_run (p ∷ c ∷ o ∷ []))
-      ∙ ap (λ (w : Walk). run_in (finished form.rules w.held)) (walk_three p c o first second third)
+  three_matched : three_in verb (rows_at (three verb) (p ∷ c ∷ o ∷ [])).1 ≡ command_of_three verb p c o
+  three_matched = ap (λ (w : Walk). three_in verb (finished (three verb).rules w.held)) (walk_three verb p c o first second third)
+
+module _ (f : Text) (first : IsPlain f) where
+  -- one plain word behind `trace` is taken
+  one_taken : level_passes one [] nothing_held (f ∷ []) false ≡ true
+  one_taken = level_taken one [] nothing_held (f ∷ []) false (standing (held_one f) 2) (walked_only f first)
+      (passes_more one [] _ _ f [] (step_is_taken [] nothing_held 1 f refl first one) (walked_only f first) (passes_none one [] (standing (held_one f) 2))) refl refl refl
+
+  -- and it is the operand
+  one_matched : one_in trace (rows_at one (f ∷ [])).1 ≡ command_of_one trace f
+  one_matched = ap (λ (w : Walk). one_in trace (finished one.rules w.held)) (walked_only f first)
 
 -- WHAT IS REFUSED
 
@@ -105,120 +168,178 @@ no_words : Fails (fault_of table_app [])
 no_words = level_fails_behind whole.top names nothing_held [] false (entered_fault whole None) (standing nothing_held 1) refl (some_kind _ _)
 
 -- with another verb
-unknown_verb : (verb : Text) (rest : List Text) → bytes_eq run verb ≡ false → IsPlain verb → Fails (fault_of table_app (verb ∷ rest))
-unknown_verb verb rest other is =
-    let unmet : subcommand_met names idle verb ≡ None = rw other refl in
+unknown_verb :
+    (verb : Text) (rest : List Text) → bytes_eq run verb ≡ false → bytes_eq gen verb ≡ false → bytes_eq trace verb ≡ false → IsPlain verb
+    → Fails (fault_of table_app (verb ∷ rest))
+unknown_verb verb rest no_run no_gen no_trace is =
+    let unmet : subcommand_met names idle verb ≡ None = rw (no_run, no_gen, no_trace) refl in
     level_fails_in_walk whole.top names nothing_held (verb ∷ rest) _ _ (fails_here whole.top names (standing nothing_held 1) verb rest
     (subst Fails (sym (step_fails_as names nothing_held 1 verb unmet is whole.top)) (some_kind _ _)))
 
--- where the form refuses the words behind its verb
-run_fails : (rest : List Text) → Fails (level_fault form [] nothing_held rest false []) → Fails (fault_of table_app (run ∷ rest))
-run_fails rest f = level_fails_below whole.top names nothing_held (run ∷ rest) _ _ (subst (λ (w : Walk). Fails (entered_fault whole w.stopped)) (sym (walk_run rest)) f)
+-- another number of operands than three
+none_of_three : (verb : Text) → Fails (level_fault (three verb) [] nothing_held [] false [])
+none_of_three verb = level_fails_behind (three verb) [] nothing_held [] false [] (standing nothing_held 1) refl (some_kind _ _)
 
--- the words behind `run` are refused that aren't three
-run_refused : (rest : List Text) → list_all is_operand rest ≡ true → command_of (run ∷ rest) ≡ None → Fails (fault_of table_app (run ∷ rest))
-run_refused [] all none = run_fails [] (level_fails_behind form [] nothing_held [] false [] (standing nothing_held 1) refl (some_kind _ _))
-run_refused (p ∷ []) all none =
-    let a = plain p (both _ _ all).0 in
-    run_fails (p ∷ []) (level_fails_behind form [] nothing_held (p ∷ []) false [] (standing (held_one p) 2) (walked_one p a) (some_kind _ _))
-run_refused (p ∷ c ∷ []) all none =
-    let a = plain p (both _ _ all).0 in
-    let b = plain c (both _ _ (both _ _ all).1).0 in
-    run_fails (p ∷ c ∷ []) (level_fails_behind form [] nothing_held (p ∷ c ∷ []) false [] (standing (held_two p c) 3) (walk_two p c a b) (some_kind _ _))
-run_refused (p ∷ c ∷ o ∷ []) all none =
+one_of_three : (verb p : Text) → IsPlain p → Fails (level_fault (three verb) [] nothing_held (p ∷ []) false [])
+one_of_three verb p a = level_fails_behind (three verb) [] nothing_held (p ∷ []) false [] (standing (held_one p) 2) (walked_one verb p a) (some_kind _ _)
+
+two_of_three : (verb p c : Text) → IsPlain p → IsPlain c → Fails (level_fault (three verb) [] nothing_held (p ∷ c ∷ []) false [])
+two_of_three verb p c a b = level_fails_behind (three verb) [] nothing_held (p ∷ c ∷ []) false [] (standing (held_two p c) 3) (walk_two verb p c a b) (some_kind _ _)
+
+more_than_three :
+    (verb p c o more : Text) (rest : List Text) → IsPlain p → IsPlain c → IsPlain o → IsPlain more
+    → Fails (level_fault (three verb) [] nothing_held (p ∷ c ∷ o ∷ more ∷ rest) false [])
+more_than_three verb p c o more rest a b d e =
+    level_fails_in_walk (three verb) [] nothing_held (p ∷ c ∷ o ∷ more ∷ rest) false []
+    (fails_later (three verb) [] _ _ p (c ∷ o ∷ more ∷ rest) (walked_one verb p a)
+    (fails_later (three verb) [] _ _ c (o ∷ more ∷ rest) (walked_two verb p c b)
+    (fails_later (three verb) [] _ _ o (more ∷ rest) (walked_three verb p c o d)
+    (fails_here (three verb) [] (standing (held_three p c o) 4) more rest
+    (subst Fails (sym (step_fails_as [] (held_three p c o) 4 more refl e (three verb))) (some_kind _ _))))))
+
+-- another number than one
+none_of_one : Fails (level_fault one [] nothing_held [] false [])
+none_of_one = level_fails_behind one [] nothing_held [] false [] (standing nothing_held 1) refl (some_kind _ _)
+
+more_than_one : (f more : Text) (rest : List Text) → IsPlain f → IsPlain more → Fails (level_fault one [] nothing_held (f ∷ more ∷ rest) false [])
+more_than_one f more rest a e =
+    level_fails_in_walk one [] nothing_held (f ∷ more ∷ rest) false []
+    (fails_later one [] _ _ f (more ∷ rest) (walked_only f a)
+    (fails_here one [] (standing (held_one f) 2) more rest
+    (subst Fails (sym (step_fails_as [] (held_one f) 2 more refl e one)) (some_kind _ _))))
+
+-- THE TABLE
+
+if_none : (b : Bool) → ◌≡◌ {A = Option CommandWords} None (if b then None else None)
+if_none true = refl
+if_none false = refl
+
+-- other texts differ, whichever stands first
+turned : (a b : Text) → bytes_eq a b ≡ false → bytes_eq b a ≡ false
+turned a b differ = elim (cases_Bool (bytes_eq b a)) [
+  | inl same ↦ absurd (true≢false (sym ((bytes_eq-Decides a b).1 (sym ((bytes_eq-Decides b a).0 same))) ∙ differ))
+  | inr other ↦ other
+]
+
+-- plain words are matched as the table says; or they are refused, and are no command
+data IsJudged (words : List Text) : Type 0 where
+  Taken : takes table_app words ≡ true → option_and_then command_in (subcommand_of table_app words) ≡ command_of words → IsJudged words
+  Refused : Fails (fault_of table_app words) → None ≡ command_of words → IsJudged words
+
+-- the words behind a verb with three operands
+judged_three :
+    (verb : Text) → IsVerb verb (three verb) → bytes_eq verb trace ≡ false → (rest : List Text) → list_all is_operand rest ≡ true → IsJudged (verb ∷ rest)
+judged_three verb is other [] all = Refused (form_fails verb (three verb) is [] (none_of_three verb)) refl
+judged_three verb is other (p ∷ []) all =
+    let a = (both (is_operand p) _ all).0 in
+    Refused (form_fails verb (three verb) is (p ∷ []) (one_of_three verb p (plain p a))) (rw (a, other) refl)
+judged_three verb is other (p ∷ c ∷ []) all =
+    let first = both (is_operand p) _ all in
+    let second = both (is_operand c) _ first.1 in
+    Refused (form_fails verb (three verb) is (p ∷ c ∷ []) (two_of_three verb p c (plain p first.0) (plain c second.0))) refl
+judged_three verb is other (p ∷ c ∷ o ∷ []) all =
     let first = both (is_operand p) _ all in
     let second = both (is_operand c) _ first.1 in
     let third = both (is_operand o) _ second.1 in
-    absurd (some≢none (record { plan = p; capture = c; out = o }) (rw (first.0, second.0, third.0) at none))
-run_refused (p ∷ c ∷ o ∷ more ∷ rest) all none =
+    let a = plain p first.0 in
+    let b = plain c second.0 in
+    let d = plain o third.0 in
+    let matched : command_in (rows_at (three verb) (p ∷ c ∷ o ∷ [])) ≡ command_of_three verb p c o = rw other (three_matched verb p c o a b d) in
+    Taken (table_takes verb (three verb) is (p ∷ c ∷ o ∷ []) (three_taken verb p c o a b d))
+    (table_matches verb (three verb) is (p ∷ c ∷ o ∷ []) ∙ matched ∙ rw (first.0, second.0, third.0) refl)
+judged_three verb is other (p ∷ c ∷ o ∷ more ∷ rest) all =
     let first = both (is_operand p) _ all in
     let second = both (is_operand c) _ first.1 in
     let third = both (is_operand o) _ second.1 in
     let fourth = both (is_operand more) _ third.1 in
-    let a = plain p first.0 in
-    let b = plain c second.0 in
-    let d = plain o third.0 in
-    run_fails (p ∷ c ∷ o ∷ more ∷ rest) (level_fails_in_walk form [] nothing_held (p ∷ c ∷ o ∷ more ∷ rest) false []
-    (fails_later form [] _ _ p (c ∷ o ∷ more ∷ rest) (walked_one p a)
-    (fails_later form [] _ _ c (o ∷ more ∷ rest) (walked_two p c b)
-    (fails_later form [] _ _ o (more ∷ rest) (walked_three p c o d)
-    (fails_here form [] (standing (held_three p c o) 4) more rest
-    (subst Fails (sym (step_fails_as [] (held_three p c o) 4 more refl (plain more fourth.0) form)) (some_kind _ _)))))))
+    Refused (form_fails verb (three verb) is (p ∷ c ∷ o ∷ more ∷ rest)
+    (more_than_three verb p c o more rest (plain p first.0) (plain c second.0) (plain o third.0) (plain more fourth.0))) refl
 
--- what is no command is refused
-refused : (words : List Text) → list_all is_operand words ≡ true → command_of words ≡ None → Fails (fault_of table_app words)
-refused [] all none = no_words
-refused (verb ∷ rest) all none = elim (cases_Bool (bytes_eq run verb)) [
-  | inl named ↦
-      let same : run ≡ verb = (bytes_eq-Decides run verb).0 named in
-      subst (λ v. Fails (fault_of table_app (v ∷ rest))) same (run_refused rest (both _ _ all).1 (subst (λ v. command_of (v ∷ rest) ≡ None) (sym same) none))
-  | inr other ↦ unknown_verb verb rest other (plain verb (both _ _ all).0)
-]
+-- the words behind `trace`
+judged_trace : (rest : List Text) → list_all is_operand rest ≡ true → IsJudged (trace ∷ rest)
+judged_trace [] all = Refused (form_fails trace one is_trace [] none_of_one) refl
+judged_trace (f ∷ []) all =
+    let a = (both (is_operand f) _ all).0 in
+    Taken (table_takes trace one is_trace (f ∷ []) (one_taken f (plain f a)))
+    (table_matches trace one is_trace (f ∷ []) ∙ one_matched f (plain f a) ∙ rw a refl)
+judged_trace (f ∷ more ∷ rest) all =
+    let first = both (is_operand f) _ all in
+    let second = both (is_operand more) _ first.1 in
+    let fails = form_fails trace one is_trace (f ∷ more ∷ rest) (more_than_one f more rest (plain f first.0) (plain more second.0)) in
+    Refused fails (no_trace more rest)
+  where
+    no_trace : (next : Text) (behind : List Text) → None ≡ command_of (trace ∷ f ∷ next ∷ behind)
+    no_trace next [] = refl
+    no_trace next (o ∷ []) = if_none (is_operand f && (is_operand next && is_operand o))
+    no_trace next (o ∷ n ∷ ns) = refl
 
--- THE TABLE
+-- with another verb there is no command
+no_command : (verb : Text) (rest : List Text) → bytes_eq verb run ≡ false → bytes_eq verb gen ≡ false → bytes_eq verb trace ≡ false → None ≡ command_of (verb ∷ rest)
+no_command verb [] no_run no_gen no_trace = refl
+no_command verb (p ∷ []) no_run no_gen no_trace = rw no_trace (if_none (is_operand p))
+no_command verb (p ∷ c ∷ []) no_run no_gen no_trace = refl
+no_command verb (p ∷ c ∷ o ∷ []) no_run no_gen no_trace = rw (no_run, no_gen) (if_none (is_operand p && (is_operand c && is_operand o)))
+no_command verb (p ∷ c ∷ o ∷ n ∷ ns) no_run no_gen no_trace = refl
 
--- the words are `run` and the operands of the command
-record IsRun (words : List Text) (command : RunWords) : Type 0 where
-  pub is : words ≡ run ∷ command.plan ∷ command.capture ∷ command.out ∷ []
-  pub plan : is_operand command.plan ≡ true
-  pub capture : is_operand command.capture ≡ true
-  pub out : is_operand command.out ≡ true
-
-is_run : (words : List Text) (command : RunWords) → command_of words ≡ Some command → IsRun words command
-is_run [] command e = absurd (some≢none command (sym e))
-is_run (a ∷ []) command e = absurd (some≢none command (sym e))
-is_run (a ∷ p ∷ []) command e = absurd (some≢none command (sym e))
-is_run (a ∷ p ∷ c ∷ []) command e = absurd (some≢none command (sym e))
-is_run (a ∷ p ∷ c ∷ o ∷ more ∷ rest) command e = absurd (some≢none command (sym e))
-is_run (a ∷ p ∷ c ∷ o ∷ []) command e = elim (cases_Bool (bytes_eq a run && (is_operand p && (is_operand c && is_operand o)))) [
-  | inl holds ↦
-      let same : ◌≡◌ {A = Option RunWords} (Some (record { plan = p; capture = c; out = o })) (Some command) = rw holds at e in
-      let is : ◌≡◌ {A = RunWords} (record { plan = p; capture = c; out = o }) command = ap (λ (x : Option RunWords). unwrap_or x command) same in
-      let verb = both (bytes_eq a run) _ holds in
-      let named : a ≡ run = (bytes_eq-Decides a run).0 verb.0 in
-      let first = both (is_operand p) _ verb.1 in
-      let second = both (is_operand c) _ first.1 in
-      subst (IsRun (a ∷ p ∷ c ∷ o ∷ [])) is (record {
-        is = ap (λ v. v ∷ p ∷ c ∷ o ∷ []) named;
-        plan = first.0;
-        capture = second.0;
-        out = second.1;
-      })
-  | inr other ↦ let bad : None ≡ Some command = rw other at e in absurd (some≢none command (sym bad))
-]
+judged : (words : List Text) → list_all is_operand words ≡ true → IsJudged words
+judged [] all = Refused no_words refl
+judged (verb ∷ rest) all =
+    let words = both (is_operand verb) _ all in
+    elim (cases_Bool (bytes_eq run verb)) [
+      | inl named ↦ subst (λ v. IsJudged (v ∷ rest)) ((bytes_eq-Decides run verb).0 named) (judged_three run is_run refl rest words.1)
+      | inr no_run ↦ elim (cases_Bool (bytes_eq gen verb)) [
+        | inl named ↦ subst (λ v. IsJudged (v ∷ rest)) ((bytes_eq-Decides gen verb).0 named) (judged_three gen is_gen refl rest words.1)
+        | inr no_gen ↦ elim (cases_Bool (bytes_eq trace verb)) [
+          | inl named ↦ subst (λ v. IsJudged (v ∷ rest)) ((bytes_eq-Decides trace verb).0 named) (judged_trace rest words.1)
+          | inr no_trace ↦
+              Refused (unknown_verb verb rest no_run no_gen no_trace (plain verb words.0))
+              (no_command verb rest (turned run verb no_run) (turned gen verb no_gen) (turned trace verb no_trace))
+        ]
+      ]
+    ]
 
 module _ (words : List Text) where
   -- what is matched is the command
   pub matched : list_all is_operand words ≡ true → fault_of table_app words ≡ [] → option_and_then command_in (subcommand_of table_app words) ≡ command_of words
-  matched all fits = go (command_of words) refl
-    where
-      go : (is : Option RunWords) → command_of words ≡ is → option_and_then command_in (subcommand_of table_app words) ≡ command_of words
-      go None e = absurd (refused words all e fits)
-      go (Some command) e =
-          let are = is_run words command e in
-          ap (λ ws. option_and_then command_in (subcommand_of table_app ws)) are.is
-          ∙ table_matches command.plan command.capture command.out (plain _ are.plan) (plain _ are.capture) (plain _ are.out) ∙ sym e
+  matched all fits = elim (judged words all) [
+    | Taken takes is ↦ is
+    | Refused fails none ↦ absurd (fails fits)
+  ]
 
   -- words that are not taken are no command
-  pub unmatched : (takes table_app words ≡ true → ⊥) → None ≡ command_of words
-  unmatched fails = go (command_of words) refl
-    where
-      go : (is : Option RunWords) → command_of words ≡ is → None ≡ command_of words
-      go None e = sym e
-      go (Some command) e =
-          let are = is_run words command e in
-          absurd (fails (ap (takes table_app) are.is ∙ table_takes command.plan command.capture command.out (plain _ are.plan) (plain _ are.capture) (plain _ are.out)))
+  pub unmatched : list_all is_operand words ≡ true → (takes table_app words ≡ true → ⊥) → None ≡ command_of words
+  unmatched all fails = elim (judged words all) [
+    | Taken takes is ↦ absurd (fails takes)
+    | Refused faulty none ↦ none
+  ]
 
-  -- nor are those with a word that is empty or has a dash in front
-  pub not_plain : list_all is_operand words ≡ false → None ≡ command_of words
-  not_plain some = go (command_of words) refl
-    where
-      go : (is : Option RunWords) → command_of words ≡ is → None ≡ command_of words
-      go None e = sym e
-      go (Some command) e =
-          let are = is_run words command e in
-          let bad : list_all is_operand (run ∷ command.plan ∷ command.capture ∷ command.out ∷ []) ≡ false = subst (λ ws. list_all is_operand ws ≡ false) are.is some in
-          absurd (true≢false (rw (are.plan, are.capture, are.out) at bad))
+-- a verb is plain
+verb_is_plain : (verb other : Text) (rest : List Text) → is_operand verb ≡ true → list_all is_operand rest ≡ true → list_all is_operand (other ∷ rest) ≡ false → bytes_eq other verb ≡ false
+verb_is_plain verb other rest is all some = elim (cases_Bool (bytes_eq other verb)) [
+  | inl same ↦
+      let plain_words : list_all is_operand (other ∷ rest) ≡ true = subst (λ v. list_all is_operand (v ∷ rest) ≡ true) (sym ((bytes_eq-Decides other verb).0 same)) (rw is all) in
+      absurd (true≢false (sym plain_words ∙ some))
+  | inr differs ↦ differs
+]
+
+-- nor are those with a word that is empty or has a dash in front
+pub not_plain : (words : List Text) → list_all is_operand words ≡ false → None ≡ command_of words
+not_plain [] some = absurd (true≢false some)
+not_plain (verb ∷ []) some = refl
+not_plain (verb ∷ p ∷ []) some = elim (cases_Bool (is_operand p)) [
+  | inl is ↦ rw (is, verb_is_plain trace verb (p ∷ []) refl (rw is refl) some) refl
+  | inr no_operand ↦ rw no_operand refl
+]
+not_plain (verb ∷ p ∷ c ∷ []) some = refl
+not_plain (verb ∷ p ∷ c ∷ o ∷ []) some = elim (cases_Bool (is_operand p && (is_operand c && is_operand o))) [
+  | inl are ↦
+      let first = both (is_operand p) _ are in
+      let second = both (is_operand c) _ first.1 in
+      let all : list_all is_operand (p ∷ c ∷ o ∷ []) ≡ true = rw (first.0, second.0, second.1) refl in
+      rw (are, verb_is_plain run verb (p ∷ c ∷ o ∷ []) refl all some, verb_is_plain gen verb (p ∷ c ∷ o ∷ []) refl all some) refl
+  | inr no_operands ↦ rw no_operands refl
+]
+not_plain (verb ∷ p ∷ c ∷ o ∷ n ∷ ns) some = refl
 
 -- the words and their texts
 pub words_all : (words : List (Bor Text)) → list_all (λ word. is_operand word.now) words ≡ list_all is_operand (words_of words)
@@ -230,3 +351,34 @@ plain_words words e = sym (words_all words) ∙ e
 
 pub not_plain_words : (words : List (Bor Text)) → list_all (λ word. is_operand word.now) words ≡ false → None ≡ command_of (words_of words)
 not_plain_words words e = not_plain (words_of words) (sym (words_all words) ∙ e)
+
+-- HOW MANY RECORDS
+
+few_if : (b : Bool) (x y : Option CommandWords) → HasFewRecords x → HasFewRecords y → HasFewRecords (if b then x else y)
+few_if true x y first second = first
+few_if false x y first second = second
+
+few_within : (n : ℕ) (number : ℕ) (out : List ℕ) → HasFewRecords (option_map (λ k. OfGen (record { number = number; count = k; out = out })) (within 0 1000000 (Some n)))
+few_within n number out = elim (leb_tells n 1000000) [
+  | inl fits ↦ rw (leb-zero n, fits.0) fits.1
+  | inr above ↦ rw (leb-zero n, above.0) _
+]
+
+few_in : (number : ℕ) (count : Option ℕ) (out : List ℕ) → HasFewRecords (option_map (λ k. OfGen (record { number = number; count = k; out = out })) (within 0 1000000 count))
+few_in number None out = _
+few_in number (Some n) out = few_within n number out
+
+few_gen : (number : Option ℕ) (count : List ℕ) (out : List ℕ)
+    → HasFewRecords (option_and_then (λ n. option_map (λ k. OfGen (record { number = n; count = k; out = out })) (number_in 0 1000000 count)) number)
+few_gen None count out = _
+few_gen (Some n) count out = few_in n (number_of count) out
+
+-- a command generates at most 1,000,000 records
+pub few_records : (words : List Text) → HasFewRecords (command_of words)
+few_records [] = _
+few_records (verb ∷ []) = _
+few_records (verb ∷ p ∷ []) = few_if (is_operand p) _ None (few_if (bytes_eq verb trace) (Some (OfTrace p)) None _ _) _
+few_records (verb ∷ p ∷ c ∷ []) = _
+few_records (verb ∷ p ∷ c ∷ o ∷ []) = few_if (is_operand p && (is_operand c && is_operand o)) _ None
+    (few_if (bytes_eq verb run) _ _ _ (few_if (bytes_eq verb gen) (gen_of p c o) None (few_gen (number_in 0 4294967295 p) c o) _)) _
+few_records (verb ∷ p ∷ c ∷ o ∷ n ∷ ns) = _

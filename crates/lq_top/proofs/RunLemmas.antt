@@ -10,11 +10,11 @@ use Rattle.lq_model.specs.declared.fate.Info.{Info}
 use Rattle.lq_host.specs.Host.{HostState, Contents, wrote}
 use Rattle.lq_pcapng.specs.File.{packets_of}
 use Rattle.lq_pcapng.specs.declared.file.CaptureFile.{CaptureFile}
-use Rattle.lq_top.specs.Command.{RunWords}
-use Rattle.lq_top.specs.Decision.{Verdict, IsRunnable, max_units, LacksFile, Refuses, Runs, by_bytes, by_capture, by_plan, limited_capture_of, plan_for, verdict_of_run}
+use Rattle.lq_top.specs.Command.{OfRun, RunWords}
+use Rattle.lq_top.specs.Decision.{Verdict, Generates, IsRunnable, max_units, LacksFile, Refuses, Runs, Traces, by_bytes, by_capture, by_plan, limited_capture_of, plan_for, verdict_of_run}
 use Rattle.lq_top.specs.Fates.{AreFatesOf}
 use Rattle.lq_top.specs.Headline.{Run, run_of, unit_files, fates_file, texts_of, HasRun}
-use Rattle.lq_top.specs.Outcome.{Ends, EndsOrStops, IsAnswerOf, IsRunStatus, Outcome, Stops}
+use Rattle.lq_top.specs.Outcome.{Ends, EndsOrStops, IsAnswerOf, IsCommandStatus, Outcome, Stops}
 use Rattle.lq_top.specs.Refusal.{line_of, status_of}
 use Rattle.lq_top.specs.Stop.{status_of_stop}
 use Rattle.lq_top.specs.Written.{FileIsCut, FilesAreCut, OutputHasPrefix, IsCut, file_written, files_written, output_only, written}
@@ -132,17 +132,17 @@ does_run (Some c) words have plan capture read seen P is_read is_seen first seco
 -- what was done as the run of some capture was decided so by its bytes and the plan's
 pub does_run_on :
     (words : RunWords) (have : ℕ) (plan : Plan) (capture : CaptureFile) (plan_bytes capture_bytes : List ℕ) (P : Verdict → Type 0) → plan_for have plan_bytes ≡ Ok plan
-    → limited_capture_of capture_bytes ≡ Ok capture → P (Runs (run_of words.out plan capture)) → P (by_bytes (Some words) have plan_bytes capture_bytes)
+    → limited_capture_of capture_bytes ≡ Ok capture → P (Runs (run_of words.out plan capture)) → P (by_bytes (Some (OfRun words)) have plan_bytes capture_bytes)
 does_run_on words have plan capture plan_bytes capture_bytes P is_read is_seen does =
     let next : Plan → Verdict = λ p. by_capture words.out p (Some (limited_capture_of capture_bytes)) in
-    let decided : by_bytes (Some words) have plan_bytes capture_bytes ≡ Runs (run_of words.out plan capture) =
+    let decided : by_bytes (Some (OfRun words)) have plan_bytes capture_bytes ≡ Runs (run_of words.out plan capture) =
     ap (λ (r : Result Plan Refusal). by_plan (Some r) next) is_read ∙ ap (λ (r : Result CaptureFile Refusal). by_capture words.out plan (Some r)) is_seen in
     subst P (sym decided) does
 
 -- a refusal of a plan was decided by its bytes
 pub refuses_plan_on :
     (words : RunWords) (have : ℕ) (r : Refusal) (plan_bytes capture_bytes : List ℕ) (P : Verdict → Type 0) → plan_for have plan_bytes ≡ Err r → P (Refuses r)
-    → P (by_bytes (Some words) have plan_bytes capture_bytes)
+    → P (by_bytes (Some (OfRun words)) have plan_bytes capture_bytes)
 refuses_plan_on words have r plan_bytes capture_bytes P is_read does =
     let next : Plan → Verdict = λ p. by_capture words.out p (Some (limited_capture_of capture_bytes)) in
     subst P (sym (ap (λ (read : Result Plan Refusal). by_plan (Some read) next) is_read)) does
@@ -150,10 +150,10 @@ refuses_plan_on words have r plan_bytes capture_bytes P is_read does =
 -- and a refusal of a capture by its bytes and the plan's
 pub refuses_capture_on :
     (words : RunWords) (have : ℕ) (plan : Plan) (r : Refusal) (plan_bytes capture_bytes : List ℕ) (P : Verdict → Type 0) → plan_for have plan_bytes ≡ Ok plan
-    → limited_capture_of capture_bytes ≡ Err r → P (Refuses r) → P (by_bytes (Some words) have plan_bytes capture_bytes)
+    → limited_capture_of capture_bytes ≡ Err r → P (Refuses r) → P (by_bytes (Some (OfRun words)) have plan_bytes capture_bytes)
 refuses_capture_on words have plan r plan_bytes capture_bytes P is_read is_seen does =
     let next : Plan → Verdict = λ p. by_capture words.out p (Some (limited_capture_of capture_bytes)) in
-    let decided : by_bytes (Some words) have plan_bytes capture_bytes ≡ Refuses r =
+    let decided : by_bytes (Some (OfRun words)) have plan_bytes capture_bytes ≡ Refuses r =
     ap (λ (read : Result Plan Refusal). by_plan (Some read) next) is_read ∙ ap (λ (seen : Result CaptureFile Refusal). by_capture words.out plan (Some seen)) is_seen in
     subst P (sym decided) does
 
@@ -162,6 +162,8 @@ stops_before : (v : Verdict) (old new : HostState) (before behind : List DeviceS
 stops_before LacksFile old new before behind same = same
 stops_before (Refuses r) old new before behind same = inl same
 stops_before (Runs run) old new before behind same = inl same
+stops_before (Generates text run) old new before behind same = inl (inl (inl same))
+stops_before (Traces text) old new before behind same = inl same
 
 -- a refusal that was told, or that was stopped on the way
 pub refuse_does :
@@ -173,12 +175,13 @@ refuse_does r old new before behind (Err stop) is whole cut = cut
 
 -- what came to its end, of a command inside, is the outcome
 pub ends_outcome :
-    (v : Verdict) (old new : HostState) (before behind : List DeviceState) (answer : Status) → IsRunStatus answer → Ends v old new before behind answer
+    (v : Verdict) (old new : HostState) (before behind : List DeviceState) (answer : Status) → IsCommandStatus answer → Ends v old new before behind answer
     → Outcome v old new before behind answer
 ends_outcome v old new before behind status.Done is ends = ends
 ends_outcome v old new before behind (status.Plan reason) is ends = ends
 ends_outcome v old new before behind (status.Bench need have) is ends = ends
 ends_outcome v old new before behind (status.Capture reason place) is ends = ends
+ends_outcome v old new before behind (status.Trace reason line) is ends = ends
 ends_outcome v old new before behind status.NotBuilt is ends = ends
 ends_outcome v old new before behind status.Usage is ends = absurd is
 ends_outcome v old new before behind status.Fault is ends = absurd is
@@ -191,12 +194,13 @@ stops_outcome v old new before behind stops.Fault left = left
 stops_outcome v old new before behind stops.NoMemory left = left
 
 -- a refusal of a file is no Usage
-pub run_status : (r : Refusal) → r ≢ refusal.Usage → IsRunStatus (status_of r)
+pub run_status : (r : Refusal) → r ≢ refusal.Usage → IsCommandStatus (status_of r)
 run_status refusal.Usage other = absurd (other refl)
 run_status (refusal.Plan reason) other = _
 run_status (refusal.Bench need have) other = _
 run_status refusal.NotBuilt other = _
 run_status (refusal.Capture reason place) other = _
+run_status (refusal.Trace reason line) other = _
 
 -- what is as it was from place m on is so from any later place on
 drop_later : {X : Type 0} (m n : ℕ) (old new : List X) → m ≤ n → drop m new ≡ drop m old → drop n new ≡ drop n old
@@ -217,6 +221,8 @@ answered : (v : Verdict) (old new : HostState) (before behind : List DeviceState
 answered LacksFile old new before behind answer ends = absurd ends
 answered (Refuses r) old new before behind answer ends = inl ends.0
 answered (Runs run) old new before behind answer ends = inl ends.0
+answered (Generates text run) old new before behind answer ends = inl ends.0
+answered (Traces text) old new before behind answer ends = inl ends.0
 
 pub all_answered :
     (told : Option Contents) (v : Contents → Verdict) (old new : HostState) (before behind : List DeviceState) (answer : Status)

@@ -1,8 +1,14 @@
 -- The command line.
-use Rattle.std.specs.Prelude.{ℕ, Bool, false, not, ◌&&◌, ◌==◌, if◌then◌else◌, List, [], ◌∷◌, map, Option, Some, None, codes}
+use Rattle.std.specs.Prelude.{ℕ, ◌≤◌, Bool, false, not, ◌&&◌, ◌==◌, if◌then◌else◌, List, [], ◌∷◌, map, Option, Some, None, option_map, option_and_then, codes}
 use Rattle.std.specs.Borrow.{Bor}
 use Rattle.std.specs.Str.{bytes_eq}
-use Rattle.lq_top.specs.declared.command.Run.{Run}
+use Rattle.lq_run_core.specs.Schedule.{number_in}
+use Rattle.lq_top.specs.declared.command.Command.{Command}
+use Rattle.lq_top.specs.declared.command.Command.TheVariants.{Run, Gen, Trace}
+use Rattle.lq_top.specs.declared.command.RunOperands.{RunOperands}
+use Rattle.lq_top.specs.declared.command.GenOperands.{GenOperands}
+
+-- COMMANDS
 
 -- the operands of `run PLAN CAPTURE OUT`
 pub record RunWords : Type 0 where
@@ -10,25 +16,70 @@ pub record RunWords : Type 0 where
   pub capture : List ℕ
   pub out : List ℕ
 
--- a name: not empty, and with no dash in front
+-- the operands of `gen NUMBER COUNT OUT`
+pub record GenWords : Type 0 where
+  pub number : ℕ
+  pub count : ℕ
+  pub out : List ℕ
+
+-- a command, with its operands; that of `trace FILE` is a name
+pub data CommandWords : Type 0 where
+  OfRun : RunWords → CommandWords
+  OfGen : GenWords → CommandWords
+  OfTrace : List ℕ → CommandWords
+
+-- THE TABLE
+
+-- not empty, and with no dash in front
 abbrev pub is_operand : List ℕ → Bool
 is_operand [] = false
 is_operand (c ∷ cs) = not (c == 45)
 
--- the command that the words are, if they are one
-abbrev pub command_of : List (List ℕ) → Option RunWords
-command_of (verb ∷ plan ∷ capture ∷ out ∷ []) =
-    if bytes_eq verb (codes "run") && (is_operand plan && (is_operand capture && is_operand out)) then Some (record { plan = plan; capture = capture; out = out })
+-- both numbers are decimal digits, with no leading zero unless the number is 0, and within their limits
+abbrev pub gen_of : List ℕ → List ℕ → List ℕ → Option CommandWords
+gen_of number count out =
+    option_and_then (λ n. option_map (λ k. OfGen (record { number = n; count = k; out = out })) (number_in 0 1000000 count)) (number_in 0 4294967295 number)
+
+-- the command of a verb and one operand, of a verb and three
+abbrev pub command_of_one : List ℕ → List ℕ → Option CommandWords
+command_of_one verb file = if bytes_eq verb (codes "trace") then Some (OfTrace file) else None
+
+abbrev pub command_of_three : List ℕ → List ℕ → List ℕ → List ℕ → Option CommandWords
+command_of_three verb first second third =
+    if bytes_eq verb (codes "run") then Some (OfRun (record { plan = first; capture = second; out = third }))
+    else if bytes_eq verb (codes "gen") then gen_of first second third
     else None
-command_of (verb ∷ plan ∷ capture ∷ out ∷ more ∷ rest) = None
-command_of (verb ∷ plan ∷ capture ∷ []) = None
-command_of (verb ∷ plan ∷ []) = None
+
+-- the command that the words are, if they are one
+abbrev pub command_of : List (List ℕ) → Option CommandWords
+command_of (verb ∷ file ∷ []) = if is_operand file then command_of_one verb file else None
+command_of (verb ∷ first ∷ second ∷ third ∷ []) =
+    if is_operand first && (is_operand second && is_operand third) then command_of_three verb first second third else None
+command_of (verb ∷ first ∷ second ∷ third ∷ more ∷ rest) = None
+command_of (verb ∷ first ∷ second ∷ []) = None
 command_of (verb ∷ []) = None
 command_of [] = None
+
+-- WHAT IS READ
 
 -- the words as lists of bytes
 abbrev pub words_of : List (Bor (List ℕ)) → List (List ℕ)
 words_of words = map (λ word. word.now) words
 
-abbrev pub run_words : Run → RunWords
+abbrev pub run_words : RunOperands → RunWords
 run_words run = record { plan = run.plan.now; capture = run.capture.now; out = run.out.now }
+
+abbrev pub gen_words : GenOperands → GenWords
+gen_words gen = record { number = gen.number; count = gen.count; out = gen.out.now }
+
+abbrev pub command_words : Command → CommandWords
+command_words (Run run) = OfRun (run_words run)
+command_words (Gen gen) = OfGen (gen_words gen)
+command_words (Trace file) = OfTrace file.now
+
+-- a generated capture has few records
+abbrev pub HasFewRecords : Option CommandWords → Type 0
+HasFewRecords None = Unit {0}
+HasFewRecords (Some (OfRun words)) = Unit {0}
+HasFewRecords (Some (OfGen words)) = words.count ≤ 1000000
+HasFewRecords (Some (OfTrace file)) = Unit {0}

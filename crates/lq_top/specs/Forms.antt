@@ -3,15 +3,18 @@ use Rattle.std.specs.Prelude.{true, if◌then◌else◌, List, Option, None, opt
 use Rattle.std.specs.Str.{bytes_eq}
 use Rattle.clap.specs.Words.{App, Row, Rule, first_of, new_app, new_rule, with_rule, with_subcommand}
 use Rattle.clap.specs.Walk.{Text}
-use Rattle.lq_top.specs.Command.{RunWords}
+use Rattle.lq_top.specs.Command.{CommandWords, command_of_one, command_of_three}
 
 -- an operand that a form can't do without
 abbrev pub operand_rule : Text → Rule
 operand_rule name = record (new_rule name) { required = true }
 
--- the form `run PLAN CAPTURE OUT`
-abbrev pub run_app : App
-run_app = with_rule (with_rule (with_rule (new_app (codes "run")) (operand_rule (codes "PLAN"))) (operand_rule (codes "CAPTURE"))) (operand_rule (codes "OUT"))
+-- the form of a verb with one operand, with three
+abbrev pub form_of_one : Text → App
+form_of_one verb = with_rule (new_app verb) (operand_rule (codes "FIRST"))
+
+abbrev pub form_of_three : Text → App
+form_of_three verb = with_rule (with_rule (form_of_one verb) (operand_rule (codes "SECOND"))) (operand_rule (codes "THIRD"))
 
 -- a program that does nothing without one of its forms, and has no help or version of clap's own
 abbrev pub bare_app : App
@@ -27,14 +30,18 @@ bare_app = record (new_app (codes "lqtx")) {
 
 -- the command table
 abbrev pub table_app : App
-table_app = with_subcommand bare_app run_app.top
+table_app =
+    with_subcommand (with_subcommand (with_subcommand bare_app (form_of_three (codes "run")).top) (form_of_three (codes "gen")).top) (form_of_one (codes "trace")).top
 
--- the operands of `run` in what was matched
-abbrev pub run_in : List Row → Option RunWords
-run_in rows =
-    option_and_then (λ plan. option_and_then (λ capture. option_map (λ out. record { plan = plan; capture = capture; out = out })
-    (first_of (codes "OUT") rows)) (first_of (codes "CAPTURE") rows)) (first_of (codes "PLAN") rows)
+-- the command of a verb and the operands in what its form was matched with
+abbrev pub one_in : Text → List Row → Option CommandWords
+one_in verb rows = option_and_then (command_of_one verb) (first_of (codes "FIRST") rows)
+
+abbrev pub three_in : Text → List Row → Option CommandWords
+three_in verb rows =
+    option_and_then (λ first. option_and_then (λ second. option_and_then (command_of_three verb first second)
+    (first_of (codes "THIRD") rows)) (first_of (codes "SECOND") rows)) (first_of (codes "FIRST") rows)
 
 -- the command in what was matched, by the name of its form
-abbrev pub command_in : Text × List Row → Option RunWords
-command_in matched = if bytes_eq matched.0 (codes "run") then run_in matched.1 else None
+abbrev pub command_in : Text × List Row → Option CommandWords
+command_in matched = if bytes_eq matched.0 (codes "trace") then one_in matched.0 matched.1 else three_in matched.0 matched.1

@@ -1,5 +1,5 @@
 -- The headline: what a run that is done leaves, told by one list of fates in which packet n has the n-th.
-use Rattle.std.specs.Prelude.{◌≡◌, ℕ, List, [], ◌∷◌, ◌++◌, map, length, codes}
+use Rattle.std.specs.Prelude.{◌≡◌, ◌⊎◌, ℕ, List, [], ◌∷◌, ◌++◌, map, length, codes}
 use Rattle.std.specs.Fmt.{decimal}
 use Rattle.lq_model.specs.Device.{DeviceState}
 use Rattle.lq_model.specs.Numbers.{first_numbers}
@@ -11,7 +11,7 @@ use Rattle.lq_host.specs.Host.{HostState}
 use Rattle.lq_pcapng.specs.File.{packets_of, text_of}
 use Rattle.lq_pcapng.specs.declared.file.CaptureFile.{CaptureFile}
 use Rattle.lq_top.specs.Fates.{AreFatesOf}
-use Rattle.lq_top.specs.Written.{FileText, Texts, written}
+use Rattle.lq_top.specs.Written.{FileText, OutputHasPrefix, Texts, output_only, written}
 
 -- RUNS
 
@@ -62,3 +62,32 @@ AreFatesIn run fates before behind = AreFatesOf run.plan (infos_of run.plan (pac
 -- accepted what they say was sent, and the files and the counts are written of them; all else is as it was.
 abbrev pub HasRun : Run → HostState → HostState → List DeviceState → List DeviceState → Type 0
 HasRun run old new before behind = (fates : List Fate) × AreFatesIn run fates before behind × (new ≡ written (texts_of run fates) old)
+
+-- GENERATED RUNS
+
+-- the file of a generated capture
+abbrev pub generated_file : List ℕ → List ℕ → FileText
+generated_file out text = record { name = out; text = text }
+
+-- the counts of a run's fates
+abbrev pub counts_of : Run → List Fate → List ℕ
+counts_of run fates = (texts_of run fates).output
+
+-- what is written: the generated capture to OUT, and then the counts of the fates of its run to standard output
+abbrev pub generated_texts_of : List ℕ → Run → List Fate → Texts
+generated_texts_of text run fates = record { files = generated_file run.out text ∷ []; output = counts_of run fates }
+
+-- A generated run that is done: as a run, but that its one file is the generated capture, which has this text.
+abbrev pub HasGenerated : List ℕ → Run → HostState → HostState → List DeviceState → List DeviceState → Type 0
+HasGenerated text run old new before behind =
+    (fates : List Fate) × AreFatesIn run fates before behind × (new ≡ written (generated_texts_of text run fates) old)
+
+-- the part of it behind the file: what is written is the counts of the fates alone
+abbrev pub HasCounted : Run → HostState → HostState → List DeviceState → List DeviceState → Type 0
+HasCounted run old new before behind =
+    (fates : List Fate) × AreFatesIn run fates before behind × (new ≡ written (output_only (counts_of run fates)) old)
+
+-- where it is stopped, nothing was written, or a prefix of the counts of one list of fates
+abbrev pub AreCountsCut : Run → HostState → HostState → List DeviceState → List DeviceState → Type 0
+AreCountsCut run old new before behind =
+    (new ≡ old) ⊎ ((fates : List Fate) × AreFatesIn run fates before behind × OutputHasPrefix (counts_of run fates) old new)

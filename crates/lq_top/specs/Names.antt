@@ -1,6 +1,6 @@
 -- The names of the files that a command opens and creates.
 use Rattle.std.specs.Prelude.{ℕ, ◌<◌, List, Option, Some, None}
-use Rattle.lq_top.specs.Command.{RunWords}
+use Rattle.lq_top.specs.Command.{CommandWords, OfGen, OfRun, OfTrace, RunWords}
 use Rattle.lq_top.specs.Decision.{max_units}
 use Rattle.lq_top.specs.Headline.{capture_name, fates_name}
 
@@ -15,7 +15,13 @@ pub record MayRun (may_open may_create : List ℕ → Type 0) (words : RunWords)
   pub capture : may_open words.capture
   pub outputs : MayWrite may_create words.out max_units
 
+-- the files of a command's words
+abbrev pub MayDoCommand : (List ℕ → Type 0) → (List ℕ → Type 0) → CommandWords → Type 0
+MayDoCommand may_open may_create (OfRun words) = MayRun may_open may_create words
+MayDoCommand may_open may_create (OfGen words) = may_create words.out
+MayDoCommand may_open may_create (OfTrace file) = may_open file
+
 -- A command may open and create the files that its words name. Words that are no command name none.
-abbrev pub MayDo : (List ℕ → Type 0) → (List ℕ → Type 0) → Option RunWords → Type 0
-MayDo may_open may_create (Some words) = MayRun may_open may_create words
+abbrev pub MayDo : (List ℕ → Type 0) → (List ℕ → Type 0) → Option CommandWords → Type 0
+MayDo may_open may_create (Some command) = MayDoCommand may_open may_create command
 MayDo may_open may_create None = Unit {0}

@@ -1,13 +1,13 @@
 -- What a call answers and leaves, once it has decided.
-use Rattle.std.specs.Prelude.{◌≡◌, ◌⊎◌, ℕ, Bool, true, false, List, Option, None, Result, Ok, Err}
+use Rattle.std.specs.Prelude.{◌≡◌, ◌⊎◌, ℕ, Bool, true, false, List, [], ◌∷◌, Option, None, Result, Ok, Err}
 use Rattle.lq_model.specs.Device.{DeviceState}
 use Rattle.lq_model.specs.declared.fate.Fate.{Fate}
 use Rattle.lq_host.specs.Host.{HostState}
-use Rattle.lq_top.specs.Command.{RunWords}
-use Rattle.lq_top.specs.Decision.{Verdict, LacksFile, Refuses, Runs, by_bytes}
-use Rattle.lq_top.specs.Headline.{AreFatesIn, HasRun, texts_of}
+use Rattle.lq_top.specs.Command.{CommandWords}
+use Rattle.lq_top.specs.Decision.{Verdict, Generates, LacksFile, Refuses, Runs, Traces, by_bytes}
+use Rattle.lq_top.specs.Headline.{AreFatesIn, HasGenerated, HasRun, Run, counts_of, generated_file, texts_of}
 use Rattle.lq_top.specs.Refusal.{line_of, status_of}
-use Rattle.lq_top.specs.Written.{output_only, written, IsCut}
+use Rattle.lq_top.specs.Written.{files_written, output_only, written, FilesAreCut, IsCut, OutputHasPrefix}
 use Rattle.lq_top.specs.declared.status.Status.{Status}
 use Rattle.lq_top.specs.declared.status.Status.TheVariants as status
 use Rattle.lq_top.specs.declared.stop.Stop.{Stop}
@@ -20,6 +20,15 @@ abbrev pub Ends : Verdict → HostState → HostState → List DeviceState → L
 Ends LacksFile old new before behind answer = ⊥
 Ends (Refuses refusal) old new before behind answer = (answer ≡ status_of refusal) × (new ≡ written (output_only (line_of refusal)) old)
 Ends (Runs run) old new before behind answer = (answer ≡ status.Done) × HasRun run old new before behind
+Ends (Generates text run) old new before behind answer = (answer ≡ status.Done) × HasGenerated text run old new before behind
+Ends (Traces text) old new before behind answer = (answer ≡ status.Done) × (new ≡ written (output_only text) old)
+
+-- a generated run that was stopped: on its way through its file, or before it; or the file is whole, and standard output
+-- got a prefix of the counts of one list of fates
+abbrev pub HasCutGenerated : List ℕ → Run → HostState → HostState → List DeviceState → List DeviceState → Type 0
+HasCutGenerated text run old new before behind =
+    let files = generated_file run.out text ∷ [] in
+    FilesAreCut files old new ⊎ ((fates : List Fate) × AreFatesIn run fates before behind × OutputHasPrefix (counts_of run fates) (files_written old files) new)
 
 -- what a call leaves that was stopped by a fault or want of memory: nothing, or a part of what it was to write, of a run
 -- by one list of fates
@@ -27,6 +36,8 @@ abbrev pub Stops : Verdict → HostState → HostState → List DeviceState → 
 Stops LacksFile old new before behind = new ≡ old
 Stops (Refuses refusal) old new before behind = IsCut (output_only (line_of refusal)) old new
 Stops (Runs run) old new before behind = (new ≡ old) ⊎ ((fates : List Fate) × AreFatesIn run fates before behind × IsCut (texts_of run fates) old new)
+Stops (Generates text run) old new before behind = HasCutGenerated text run old new before behind
+Stops (Traces text) old new before behind = IsCut (output_only text) old new
 
 -- THE OUTCOME, where the host tells its bytes
 abbrev pub Outcome : Verdict → HostState → HostState → List DeviceState → List DeviceState → Status → Type 0
@@ -37,19 +48,20 @@ Outcome verdict old new before behind status.Usage = Ends verdict old new before
 Outcome verdict old new before behind (status.Plan reason) = Ends verdict old new before behind (status.Plan reason)
 Outcome verdict old new before behind (status.Bench need have) = Ends verdict old new before behind (status.Bench need have)
 Outcome verdict old new before behind (status.Capture reason place) = Ends verdict old new before behind (status.Capture reason place)
+Outcome verdict old new before behind (status.Trace reason line) = Ends verdict old new before behind (status.Trace reason line)
 Outcome verdict old new before behind status.NotBuilt = Ends verdict old new before behind status.NotBuilt
 
--- The outcome for every host, also one that doesn't tell what its files hold: that of some bytes of a plan and of a capture.
-abbrev pub OutcomeOfSome : Option RunWords → ℕ → HostState → HostState → List DeviceState → List DeviceState → Status → Type 0
-OutcomeOfSome command have old new before behind answer = (plan capture : List ℕ) × Outcome (by_bytes command have plan capture) old new before behind answer
+-- The outcome for every host, also one that doesn't tell what its files hold: that of some bytes of the files that it reads.
+abbrev pub OutcomeOfSome : Option CommandWords → ℕ → HostState → HostState → List DeviceState → List DeviceState → Status → Type 0
+OutcomeOfSome command have old new before behind answer = (first second : List ℕ) × Outcome (by_bytes command have first second) old new before behind answer
 
 -- the same of a command inside
 abbrev pub EndsOrStops : Verdict → HostState → HostState → List DeviceState → List DeviceState → Result Status Stop → Type 0
 EndsOrStops verdict old new before behind (Ok answer) = Ends verdict old new before behind answer
 EndsOrStops verdict old new before behind (Err stop) = Stops verdict old new before behind
 
-abbrev pub EndsOrStopsOfSome : Option RunWords → ℕ → HostState → HostState → List DeviceState → List DeviceState → Result Status Stop → Type 0
-EndsOrStopsOfSome command have old new before behind result = (plan capture : List ℕ) × EndsOrStops (by_bytes command have plan capture) old new before behind result
+abbrev pub EndsOrStopsOfSome : Option CommandWords → ℕ → HostState → HostState → List DeviceState → List DeviceState → Result Status Stop → Type 0
+EndsOrStopsOfSome command have old new before behind result = (first second : List ℕ) × EndsOrStops (by_bytes command have first second) old new before behind result
 
 -- THE CAUSES
 
@@ -58,7 +70,7 @@ abbrev pub ComesUnlessStopped : Status → Status → Type 0
 ComesUnlessStopped expected answer = (answer ≡ expected) ⊎ ((answer ≡ status.Fault) ⊎ (answer ≡ status.NoMemory))
 
 -- Usage comes exactly where the words are no command, unless a fault or want of memory comes in its place
-pub record TellsUsageFor (command : Option RunWords) (answer : Status) : Type 0 where
+pub record TellsUsageFor (command : Option CommandWords) (answer : Status) : Type 0 where
   pub only : answer ≡ status.Usage → command ≡ None
   pub always : command ≡ None → ComesUnlessStopped status.Usage answer
 
@@ -67,6 +79,8 @@ abbrev pub IsAnswerOf : Verdict → Status → Type 0
 IsAnswerOf LacksFile answer = ComesUnlessStopped status.Fault answer
 IsAnswerOf (Refuses refusal) answer = ComesUnlessStopped (status_of refusal) answer
 IsAnswerOf (Runs run) answer = ComesUnlessStopped status.Done answer
+IsAnswerOf (Generates text run) answer = ComesUnlessStopped status.Done answer
+IsAnswerOf (Traces text) answer = ComesUnlessStopped status.Done answer
 
 -- a refusal
 abbrev pub refuses : Status → Bool
@@ -77,15 +91,17 @@ refuses (status.Bench need have) = true
 refuses (status.Capture reason place) = true
 refuses status.Fault = false
 refuses status.NoMemory = false
+refuses (status.Trace reason line) = true
 refuses status.NotBuilt = true
 
--- what the command `run` answers that isn't stopped
-abbrev pub IsRunStatus : Status → Type 0
-IsRunStatus status.Done = Unit {0}
-IsRunStatus (status.Plan reason) = Unit {0}
-IsRunStatus (status.Bench need have) = Unit {0}
-IsRunStatus (status.Capture reason place) = Unit {0}
-IsRunStatus status.NotBuilt = Unit {0}
-IsRunStatus status.Usage = ⊥
-IsRunStatus status.Fault = ⊥
-IsRunStatus status.NoMemory = ⊥
+-- what a command answers that isn't stopped
+abbrev pub IsCommandStatus : Status → Type 0
+IsCommandStatus status.Done = Unit {0}
+IsCommandStatus (status.Plan reason) = Unit {0}
+IsCommandStatus (status.Bench need have) = Unit {0}
+IsCommandStatus (status.Capture reason place) = Unit {0}
+IsCommandStatus (status.Trace reason line) = Unit {0}
+IsCommandStatus status.NotBuilt = Unit {0}
+IsCommandStatus status.Usage = ⊥
+IsCommandStatus status.Fault = ⊥
+IsCommandStatus status.NoMemory = ⊥

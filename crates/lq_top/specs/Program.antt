@@ -2,13 +2,13 @@
 use Rattle.std.specs.Prelude.{◌≡◌, ◌⊎◌, ℕ, List, length, Option}
 use Rattle.lq_model.specs.Device.{DeviceState}
 use Rattle.lq_host.specs.Host.{HostState}
-use Rattle.lq_top.specs.Command.{RunWords, command_of}
+use Rattle.lq_top.specs.Command.{CommandWords, command_of}
 use Rattle.lq_top.specs.Outcome.{OutcomeOfSome}
 use Rattle.lq_top.specs.Status.{code_of}
 use Rattle.lq_top.specs.declared.status.Status.{Status}
 
 -- The number is the code of a status that a call of this command answered on a bench of 16 devices.
-pub record IsCodeOfCall (command : Option RunWords) (number : ℕ) : Type 0 where
+pub record IsCodeOfCall (command : Option CommandWords) (number : ℕ) : Type 0 where
   pub status : Status
   pub code : number ≡ code_of status
   pub old : HostState

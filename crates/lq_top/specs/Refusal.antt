@@ -5,8 +5,10 @@ use Rattle.lq_model.specs.declared.capture.CaptureReason.{CaptureReason}
 use Rattle.lq_model.specs.declared.capture.CaptureReason.TheVariants as capture
 use Rattle.lq_model.specs.declared.plan.PlanReason.{PlanReason}
 use Rattle.lq_model.specs.declared.plan.PlanReason.TheVariants as plan
+use Rattle.lq_run_core.specs.declared.trace_run.TraceReason.{TraceReason}
+use Rattle.lq_run_core.specs.declared.trace_run.TraceReason.TheVariants as trace
 use Rattle.lq_top.specs.declared.refusal.Refusal.{Refusal}
-use Rattle.lq_top.specs.declared.refusal.Refusal.TheVariants.{Usage, Plan, Bench, NotBuilt, Capture}
+use Rattle.lq_top.specs.declared.refusal.Refusal.TheVariants.{Usage, Plan, Bench, NotBuilt, Capture, Trace}
 use Rattle.lq_top.specs.declared.status.Status.{Status}
 use Rattle.lq_top.specs.declared.status.Status.TheVariants as status
 
@@ -62,6 +64,18 @@ capture_reason_name capture.NoInterface = codes "NoInterface"
 capture_reason_name capture.BlockBody = codes "BlockBody"
 capture_reason_name capture.SecondSection = codes "SecondSection"
 
+abbrev pub trace_reason_number : TraceReason → ℕ
+trace_reason_number trace.Syntax = 1
+trace_reason_number trace.NoSeat = 2
+trace_reason_number trace.SeatWaits = 3
+trace_reason_number trace.TooLong = 5
+
+abbrev pub trace_reason_name : TraceReason → List ℕ
+trace_reason_name trace.Syntax = codes "Syntax"
+trace_reason_name trace.NoSeat = codes "NoSeat"
+trace_reason_name trace.SeatWaits = codes "SeatWaits"
+trace_reason_name trace.TooLong = codes "TooLong"
+
 -- LINES
 
 -- usage: lqtx run PLAN CAPTURE OUT | ..
@@ -86,6 +100,12 @@ capture_line reason place =
     codes "capture refused: "
     ++ (decimal (capture_reason_number reason) ++ (codes " " ++ (capture_reason_name reason ++ (codes " at " ++ (decimal place ++ 10 ∷ [])))))
 
+-- trace refused: NUMBER NAME at line LINE
+abbrev pub trace_line : TraceReason → ℕ → List ℕ
+trace_line reason line =
+    codes "trace refused: "
+    ++ (decimal (trace_reason_number reason) ++ (codes " " ++ (trace_reason_name reason ++ (codes " at line " ++ (decimal line ++ 10 ∷ [])))))
+
 -- the line on standard output that tells a refusal
 abbrev pub line_of : Refusal → List ℕ
 line_of Usage = usage_line
@@ -93,6 +113,7 @@ line_of (Plan reason) = plan_line reason
 line_of (Bench need have) = bench_line need have
 line_of NotBuilt = not_built_line
 line_of (Capture reason place) = capture_line reason place
+line_of (Trace reason line) = trace_line reason line
 
 -- STATUSES
 
@@ -102,3 +123,4 @@ status_of (Plan reason) = status.Plan reason
 status_of (Bench need have) = status.Bench need have
 status_of NotBuilt = status.NotBuilt
 status_of (Capture reason place) = status.Capture reason place
+status_of (Trace reason line) = status.Trace reason line

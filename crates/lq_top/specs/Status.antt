@@ -1,7 +1,7 @@
 -- The numbers of statuses.
 use Rattle.std.specs.Prelude.{ℕ}
 use Rattle.lq_top.specs.declared.status.Status.{Status}
-use Rattle.lq_top.specs.declared.status.Status.TheVariants.{Done, Usage, Plan, Bench, Capture, Fault, NoMemory, NotBuilt}
+use Rattle.lq_top.specs.declared.status.Status.TheVariants.{Done, Usage, Plan, Bench, Capture, Fault, NoMemory, Trace, NotBuilt}
 
 -- the exit status of the program
 abbrev pub code_of : Status → ℕ
@@ -12,4 +12,5 @@ code_of (Bench need have) = 3
 code_of (Capture reason place) = 4
 code_of Fault = 5
 code_of NoMemory = 6
+code_of (Trace reason line) = 7
 code_of NotBuilt = 8

@@ -86,7 +86,7 @@ fn write_fates<H: Host>(alloc: Global, host: &mut H, out: &str, fates: &[Fate]) 
 }
 
 /// Writes the counts of the fates to standard output.
-fn write_counts<H: Host>(
+pub fn write_counts<H: Host>(
     alloc: Global,
     host: &mut H,
     plan: &Plan,

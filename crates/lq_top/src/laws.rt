@@ -1,13 +1,20 @@
 //! What the headline's words come to, each the contract of a function that does nothing.
-ghost use Rattle.std.specs.Prelude.{◌≡◌, ◌<◌, ℕ, List, ◌∷◌, ◌++◌, length, slice_get, Some};
+ghost use Rattle.std.specs.Prelude.{◌≡◌, ◌<◌, ℕ, List, ◌∷◌, ◌++◌, length, slice_get, Ok, Some};
+ghost use Rattle.lq_host.specs.Host.{Files};
 ghost use Rattle.lq_model.specs.Account.{Event, Take};
+ghost use Rattle.lq_model.specs.Capture.{Capture, capture_of};
 ghost use Rattle.lq_model.specs.Device.{DeviceState};
+ghost use Rattle.lq_model.specs.Generated.{generated_capture};
 ghost use Rattle.lq_model.specs.Legal.{MayTake};
 ghost use Rattle.lq_model.specs.Plan.{infos_of, station_in};
 ghost use Rattle.lq_model.specs.declared.fate.Fate.{Fate};
 ghost use Rattle.lq_model.specs.declared.fate.Fate.TheVariants.{Full};
 ghost use Rattle.lq_pcapng.specs.File.{packets_of};
-ghost use Rattle.lq_top.specs.Headline.{AreFatesIn, Run};
+ghost use Rattle.lq_pcapng.specs.declared.file.CaptureFile.TheVariants.{Classic};
+ghost use Rattle.lq_plan.specs.Generated.{generated_plan};
+ghost use Rattle.lq_top.specs.Command.{GenWords, OfGen, command_of};
+ghost use Rattle.lq_top.specs.Decision.{Generates, verdict_of};
+ghost use Rattle.lq_top.specs.Headline.{AreFatesIn, Run, run_of};
 ghost use Rattle.lq_top.specs.Laws.{SawItsSlot, account_behind};
 
 /// The fates of a run: as many as the capture has packets, so that each packet has exactly one.
@@ -31,4 +38,11 @@ pub fn stations_keep_their_order()
         → (are : AreFatesIn run fates before behind) (station : ℕ) (below : station < length run.plan.stations)
         → (later earlier : List Event) (band : ℕ) → (are.accounts station below).0 ≡ later ++ Take band ∷ earlier
         → MayTake earlier (account_behind run.plan station earlier) band }
+{}
+
+/// Where there is a device, what the words of `gen` decide is its generated capture, which is one, under its own plan.
+pub fn generated_captures_are_run()
+    ensures { (words : List (List ℕ)) (gen : GenWords) (files : Files) (have : ℕ) → command_of words ≡ Some (OfGen gen) → 0 < have
+        → (capture : Capture) × (capture_of (generated_capture gen.number gen.count) ≡ Ok capture)
+        × (verdict_of words files have ≡ Generates (generated_capture gen.number gen.count) (run_of gen.out generated_plan (Classic capture))) }
 {}

@@ -7,6 +7,7 @@ mod capture;
 mod command;
 mod files;
 mod gate;
+mod generate;
 mod input;
 pub mod laws;
 mod output;
@@ -21,6 +22,7 @@ mod status;
 mod stop;
 mod texts;
 mod top;
+mod trace;
 
 pub use gate::{Free, Gate};
 pub use program::run_program;

@@ -36,7 +36,7 @@ fn is_built(plan: &Plan) -> bool
 }
 
 /// The plan, if a bench of so many devices can run it.
-fn place_on(have: usize, plan: Plan) -> Result<Plan, Refusal>
+pub fn place_on(have: usize, plan: Plan) -> Result<Plan, Refusal>
     ensures placed { result ≡ placed_on have plan }
     ensures runnable { IfOk result (IsRunnable have) }
     ensures not_usage { IfErr result (λ refusal. refusal ≢ Refusal.Usage) }

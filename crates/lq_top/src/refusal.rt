@@ -1,9 +1,15 @@
 //! Why a call is refused before anything is sent, and the line that tells it.
-ghost use Rattle.std.specs.Prelude.{◌≡◌, IfOk, string_bytes};
-ghost use Rattle.lq_top.specs.Refusal.{bench_line, capture_line, capture_reason_name, capture_reason_number, line_of, not_built_line, plan_line, plan_reason_name, plan_reason_number, status_of, usage_line};
+ghost use Rattle.std.specs.Prelude.{◌≡◌, IfOk, OnOk, OnErr, string_bytes};
+ghost use Rattle.lq_top.specs.Refusal.{bench_line, capture_line, capture_reason_name, capture_reason_number, line_of, not_built_line, plan_line, plan_reason_name, plan_reason_number, status_of, trace_line, trace_reason_name, trace_reason_number, usage_line};
+ghost use Rattle.lq_top.specs.Stop.{StopsFor};
+ghost use Rattle.lq_top.specs.Written.{IsCut, output_only, written};
 
+use crate::output::write_output;
 use crate::status::Status;
+use crate::stop::Stop;
+use lq_host::Host;
 use lq_model::{CaptureReason, PlanReason};
+use lq_run_core::TraceReason;
 use std::alloc::{AllocError, Global};
 
 /// Why a call is refused: the first cause, in the order in which it judges its words, its plan, its bench and its
@@ -20,6 +26,8 @@ pub enum Refusal {
     NotBuilt,
     /// The capture's bytes are refused: the first test that they fail, and where.
     Capture { reason: CaptureReason, place: u64 },
+    /// The schedule's bytes are refused: the first line that fails, and why.
+    Trace { reason: TraceReason, line: u32 },
 }
 
 impl Refusal {
@@ -33,6 +41,7 @@ impl Refusal {
             Refusal::Bench { need, have } => Status::Bench { need, have },
             Refusal::NotBuilt => Status::NotBuilt,
             Refusal::Capture { reason, place } => Status::Capture { reason, place },
+            Refusal::Trace { reason, line } => Status::Trace { reason, line },
         }
     }
 
@@ -46,8 +55,22 @@ impl Refusal {
             Refusal::Bench { need, have } => line_of_bench(alloc, need, have),
             Refusal::NotBuilt => line_of_not_built(alloc),
             Refusal::Capture { reason, place } => line_of_capture(alloc, reason, place),
+            Refusal::Trace { reason, line } => line_of_trace(alloc, reason, line),
         }
     }
+}
+
+/// Tells a refusal on standard output.
+pub fn refuse<H: Host>(alloc: Global, host: &mut H, refusal: Refusal) -> Result<Status, Stop>
+    ensures answer { IfOk result (λ answer. answer ≡ status_of refusal) }
+    ensures ok { OnOk result (H.state host.new ≡ written (output_only (line_of refusal)) (H.state host.old)) }
+    ensures err { OnErr result (IsCut (output_only (line_of refusal)) (H.state host.old) (H.state host.new)) }
+    ensures handles { (H.state host.new).handles ≡ (H.state host.old).handles }
+    ensures cause { StopsFor (H.fault_count host.old) (H.fault_count host.new) result }
+{
+    let line = refusal.line(alloc)?;
+    write_output(host, line.as_bytes())?;
+    Ok(refusal.status())
 }
 
 fn line_of_usage(alloc: Global) -> Result<String, AllocError>
@@ -84,6 +107,14 @@ fn line_of_capture(alloc: Global, reason: CaptureReason, place: u64) -> Result<S
     let number = number_of_capture_reason(reason);
     let name = name_of_capture_reason(reason);
     format!(in alloc; "capture refused: {number} {name} at {place}\n")
+}
+
+fn line_of_trace(alloc: Global, reason: TraceReason, line: u32) -> Result<String, AllocError>
+    ensures { IfOk result (λ text. string_bytes text ≡ trace_line reason line) }
+{
+    let number = number_of_trace_reason(reason);
+    let name = name_of_trace_reason(reason);
+    format!(in alloc; "trace refused: {number} {name} at line {line}\n")
 }
 
 fn name_of_plan_reason(reason: PlanReason) -> &'static str
@@ -129,6 +160,23 @@ fn name_of_capture_reason(reason: CaptureReason) -> &'static str
 
 fn number_of_capture_reason(reason: CaptureReason) -> u8
     ensures { result ≡ capture_reason_number reason }
+{
+    reason as u8
+}
+
+fn name_of_trace_reason(reason: TraceReason) -> &'static str
+    ensures { result.now ≡ trace_reason_name reason }
+{
+    match reason {
+        TraceReason::Syntax => "Syntax",
+        TraceReason::NoSeat => "NoSeat",
+        TraceReason::SeatWaits => "SeatWaits",
+        TraceReason::TooLong => "TooLong",
+    }
+}
+
+fn number_of_trace_reason(reason: TraceReason) -> u8
+    ensures { result ≡ trace_reason_number reason }
 {
     reason as u8
 }

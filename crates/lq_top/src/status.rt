@@ -3,6 +3,7 @@ ghost use Rattle.std.specs.Prelude.{◌≡◌};
 ghost use Rattle.lq_top.specs.Status.{code_of};
 
 use lq_model::{CaptureReason, PlanReason};
+use lq_run_core::TraceReason;
 
 /// How a call ended.
 #[derive(Clone, Copy, Debug, PartialEq, Eq)]
@@ -21,6 +22,8 @@ pub enum Status {
     Fault,
     /// Memory was wanting on the way. The outputs are as after a fault.
     NoMemory,
+    /// The schedule's bytes are refused: the first line that fails, and why.
+    Trace { reason: TraceReason, line: u32 },
     /// The plan has a form that isn't built: more than one sender, or an event.
     NotBuilt,
 }
@@ -41,6 +44,7 @@ impl Status {
             } => 4,
             Status::Fault => 5,
             Status::NoMemory => 6,
+            Status::Trace { reason: _, line: _ } => 7,
             Status::NotBuilt => 8,
         }
     }

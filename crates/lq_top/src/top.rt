@@ -2,26 +2,25 @@
 ghost use Rattle.std.specs.Prelude.{◌≡◌, ◌≢◌, Some, IfOk, OnOk, OnErr, IfSome, map, drop, vec_len, true};
 ghost use Rattle.lq_host.specs.Host.{Rose};
 ghost use Rattle.lq_model.specs.Plan.{unit_count};
-ghost use Rattle.lq_top.specs.Command.{command_of, run_words, words_of};
-ghost use Rattle.lq_top.specs.Decision.{IsRunnable, Refuses, Runs, max_units, units_of, verdict_of, verdict_of_run};
+ghost use Rattle.lq_top.specs.Command.{HasFewRecords, OfRun, command_of, command_words, run_words, words_of};
+ghost use Rattle.lq_top.specs.Decision.{IsRunnable, Refuses, Runs, max_units, most_units_of, units_of, verdict_of, verdict_of_command, verdict_of_run};
 ghost use Rattle.lq_top.specs.Fates.{identities_of};
 ghost use Rattle.lq_top.specs.Headline.{HasRun, run_of};
-ghost use Rattle.lq_top.specs.Names.{MayDo, MayRun, MayWrite};
-ghost use Rattle.lq_top.specs.Outcome.{Ends, EndsOrStops, EndsOrStopsOfSome, OutcomeOfSome, IsAnswerOf, IsRunStatus, Outcome, Stops, TellsUsageFor, refuses};
-ghost use Rattle.lq_top.specs.Refusal.{line_of, status_of};
+ghost use Rattle.lq_top.specs.Names.{MayDo, MayDoCommand, MayRun, MayWrite};
+ghost use Rattle.lq_top.specs.Outcome.{Ends, EndsOrStops, EndsOrStopsOfSome, OutcomeOfSome, IsAnswerOf, IsCommandStatus, Outcome, Stops, TellsUsageFor, refuses};
 ghost use Rattle.lq_top.specs.Stop.{StopsFor};
-ghost use Rattle.lq_top.specs.Written.{IsCut, output_only, written};
 
 use crate::capture::read_capture_file;
-use crate::command::{Run, read_words};
+use crate::command::{Command, RunOperands, read_words};
 use crate::files::write_run;
 use crate::gate::Gate;
-use crate::output::write_output;
+use crate::generate::gen_command;
 use crate::plan::read_plan_file;
-use crate::refusal::Refusal;
+use crate::refusal::{Refusal, refuse};
 use crate::send::send_packets;
 use crate::status::Status;
 use crate::stop::Stop;
+use crate::trace::trace_command;
 use lq_device::TxDevice;
 use lq_host::Host;
 use lq_model::NoMemory;
@@ -32,19 +31,6 @@ use std::alloc::Global;
 use std::marker::Sync;
 use std::sync::Wait;
 use std::thread::Threads;
-
-/// Tells a refusal on standard output.
-fn refuse<H: Host>(alloc: Global, host: &mut H, refusal: Refusal) -> Result<Status, Stop>
-    ensures answer { IfOk result (λ answer. answer ≡ status_of refusal) }
-    ensures ok { OnOk result (H.state host.new ≡ written (output_only (line_of refusal)) (H.state host.old)) }
-    ensures err { OnErr result (IsCut (output_only (line_of refusal)) (H.state host.old) (H.state host.new)) }
-    ensures handles { (H.state host.new).handles ≡ (H.state host.old).handles }
-    ensures cause { StopsFor (H.fault_count host.old) (H.fault_count host.new) result }
-{
-    let line = refusal.line(alloc)?;
-    write_output(host, line.as_bytes())?;
-    Ok(refusal.status())
-}
 
 /// Sends the packets of a capture under a plan, and writes what became of them.
 fn run_capture<H: Host, G: Gate, D: TxDevice>(
@@ -83,15 +69,15 @@ fn run_command<H: Host, G: Gate, D: TxDevice>(
     host: &mut H,
     bench: &mut Vec<D>,
     gate: &G,
-    words: &Run<'_>,
+    words: &RunOperands<'_>,
 ) -> Result<Status, Stop>
     requires { MayRun H.may_open H.may_create (run_words words.now) }
     ensures does { IfSome (H.state host.old).told (λ c.
         EndsOrStops (verdict_of_run (run_words words.now) c.files (vec_len bench.old))
         (H.state host.old) (H.state host.new) (map D.state bench.old.items) (map D.state bench.new.items) result) }
-    ensures some { EndsOrStopsOfSome (Some (run_words words.now)) (vec_len bench.old)
+    ensures some { EndsOrStopsOfSome (Some (OfRun (run_words words.now))) (vec_len bench.old)
         (H.state host.old) (H.state host.new) (map D.state bench.old.items) (map D.state bench.new.items) result }
-    ensures answer { IfOk result IsRunStatus }
+    ensures answer { IfOk result IsCommandStatus }
     ensures others { IfSome (H.state host.old).told (λ c.
         let units = units_of (verdict_of_run (run_words words.now) c.files (vec_len bench.old)) in
         drop units bench.new.items ≡ drop units bench.old.items) }
@@ -113,14 +99,57 @@ fn run_command<H: Host, G: Gate, D: TxDevice>(
     }
 }
 
+/// Does a command.
+fn do_command<H: Host, G: Gate, D: TxDevice>(
+    alloc: Global,
+    host: &mut H,
+    bench: &mut Vec<D>,
+    gate: &G,
+    command: &Command<'_>,
+) -> Result<Status, Stop>
+    requires may { MayDoCommand H.may_open H.may_create (command_words command.now) }
+    requires few { HasFewRecords (Some (command_words command.now)) }
+    ensures does { IfSome (H.state host.old).told (λ c.
+        EndsOrStops (verdict_of_command (command_words command.now) c.files (vec_len bench.old))
+        (H.state host.old) (H.state host.new) (map D.state bench.old.items) (map D.state bench.new.items) result) }
+    ensures some { EndsOrStopsOfSome (Some (command_words command.now)) (vec_len bench.old)
+        (H.state host.old) (H.state host.new) (map D.state bench.old.items) (map D.state bench.new.items) result }
+    ensures answer { IfOk result IsCommandStatus }
+    ensures others { IfSome (H.state host.old).told (λ c.
+        let units = units_of (verdict_of_command (command_words command.now) c.files (vec_len bench.old)) in
+        drop units bench.new.items ≡ drop units bench.old.items) }
+    ensures beyond { let units = most_units_of (Some (command_words command.now)) in
+        drop units bench.new.items ≡ drop units bench.old.items }
+    ensures refused { IfOk result (λ answer.
+        refuses answer ≡ true → bench.new.items ≡ bench.old.items) }
+    ensures len { vec_len bench.new ≡ vec_len bench.old }
+    ensures boxes { identities_of (map D.state bench.new.items) ≡ identities_of (map D.state bench.old.items) }
+    ensures handles { (H.state host.new).handles ≡ (H.state host.old).handles }
+    ensures cause { StopsFor (H.fault_count host.old) (H.fault_count host.new) result }
+{
+    match command {
+        Command::Run(words) => run_command(alloc, host, bench, gate, words),
+        Command::Gen(words) => gen_command(alloc, host, bench, gate, words),
+        Command::Trace(file) => trace_command(alloc, host, file),
+    }
+}
+
 /// All that the program does: the command that the words are, over the files and the output of a host and the devices
 /// of a bench. The words are those behind the program's own name.
 ///
-/// Only `run PLAN CAPTURE OUT` is a command, with three names that aren't empty and have no dash in front. It reads the
-/// plan, which may need more devices than the bench has, and the capture; sends the packets through the plan's stations,
-/// the device at place u of the bench being unit u; makes `OUT.<unit>.pcap` for each unit in ascending order and
-/// `OUT.fates`; and writes the counts to standard output. A refusal is one line on standard output, and makes no file.
-/// After a fault or want of memory nothing more is written.
+/// These are the commands, in which no operand is empty or has a dash in front.
+///
+/// - `run PLAN CAPTURE OUT` reads the plan, which may need more devices than the bench has, and the capture; sends the
+///   packets through the plan's stations, the device at place u of the bench being unit u; makes `OUT.<unit>.pcap` for
+///   each unit in ascending order and `OUT.fates`; and writes the counts to standard output.
+/// - `gen NUMBER COUNT OUT` makes OUT, the capture of COUNT packets that NUMBER generates, and then sends its packets
+///   through one station over the first device of the bench: `irq_every = 64`, and a station with `len = 32` and
+///   `burst = 48`. It writes the counts to standard output. NUMBER is below 2^32 and COUNT at most 1,000,000, both in
+///   decimal digits without a leading zero.
+/// - `trace FILE` works the schedule that FILE is on the machine of the run lock, and writes to standard output what it
+///   leaves. It makes no file, and no device is asked.
+///
+/// A refusal is one line on standard output, and makes no file. After a fault or want of memory nothing more is written.
 ///
 /// Plans with more than one sender or an event aren't built. `gate` is passed by sender 0 before each packet, and once
 /// behind the last.
@@ -157,17 +186,18 @@ pub fn lqtx<R: Threads + Wait + Sync, H: Host, G: Gate, D: TxDevice>(
     ensures handles { (H.state host.new).handles ≡ (H.state host.old).handles }
 
     // The boxes of the bench: none gets lost, each is in its place, and those that aren't units of a plan that is run are as before, as are all
-    // of them at each refusal; also where the host tells nothing, those beyond the units that a plan may have.
+    // of them at each refusal; also where the host tells nothing, those beyond the units that the command may have.
     ensures len { vec_len bench.new ≡ vec_len bench.old }
     ensures boxes { identities_of (map D.state bench.new.items) ≡ identities_of (map D.state bench.old.items) }
     ensures others { IfSome (H.state host.old).told (λ c.
         let units = units_of (verdict_of (words_of words.now) c.files (vec_len bench.old)) in
         drop units bench.new.items ≡ drop units bench.old.items) }
-    ensures beyond { drop max_units bench.new.items ≡ drop max_units bench.old.items }
+    ensures beyond { let units = most_units_of (command_of (words_of words.now)) in
+        drop units bench.new.items ≡ drop units bench.old.items }
     ensures refused { refuses result ≡ true → bench.new.items ≡ bench.old.items }
 {
     match read_words(alloc, words) {
-        Ok(Some(run)) => match run_command(alloc, host, bench, gate, &run) {
+        Ok(Some(command)) => match do_command(alloc, host, bench, gate, &command) {
             Ok(status) => status,
             Err(stop) => stop.status(),
         },

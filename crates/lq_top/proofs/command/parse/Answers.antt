@@ -20,4 +20,5 @@ pub returns : goal.returns
 returns c =
     let words = words_of c.args.words.now in
     let app = c.in-Ok.ensures.app in
-    unmatched words (λ taken. c.in_default-kind.not-OutOfMemory (c.kind.ensures ∙ c.in-Err.ensures.passes (ap (λ a. takes a words) app ∙ taken)))
+    unmatched words (plain_words c.args.words.now c.requires.plain)
+    (λ taken. c.in_default-kind.not-OutOfMemory (c.kind.ensures ∙ c.in-Err.ensures.passes (ap (λ a. takes a words) app ∙ taken)))

@@ -1,7 +1,7 @@
 use Rattle.std.proofs.Common.{◌∙◌, ap, sym, subst, IfSome, Option, Some, map, vec_len}
 use Rattle.std.specs.Option.{option_map}
-use Rattle.lq_top.specs.Command.{RunWords, run_words}
-use Rattle.lq_top.specs.Decision.{by_bytes, by_command, verdict_of_run}
+use Rattle.lq_top.specs.Command.{CommandWords, command_words}
+use Rattle.lq_top.specs.Decision.{by_bytes, by_command, verdict_of_command}
 use Rattle.lq_top.specs.Outcome.{IsAnswerOf, Outcome, OutcomeOfSome}
 use Rattle.lq_top.specs.declared.status.Status.{Status}
 use Rattle.lq_top.proofs.RunLemmas.{all_answered, ends_outcome, stops_outcome}
@@ -11,35 +11,35 @@ pub returns-in-Ok-clause-complete : goal.returns-in-Ok-clause-complete
 returns-in-Ok-clause-complete g c =
     let told = (g.H.Host.state c.args.host.now).told in
     let have = vec_len c.args.bench.now in
-    let run = run_words c.in-Ok-Some.run' in
-    subst (λ (command : Option RunWords). IfSome told (λ k. IsAnswerOf (by_command command k.files have) c.in-Ok.status)) (ap (option_map run_words) (sym c.in-Ok-Some.field-0-is) ∙ c.in-Ok-Some.ensures)
-    (all_answered told (λ k. verdict_of_run run k.files have) (g.H.Host.state c.args.host.now) (g.H.Host.state c.run_command.new.host) (map g.D.TxDevice.state c.args.bench.now.items)
-    (map g.D.TxDevice.state c.run_command.new.bench.items) c.in-Ok.status c.in-Ok.ensures.does)
+    let command = command_words c.in-Ok-Some.command in
+    subst (λ (is : Option CommandWords). IfSome told (λ k. IsAnswerOf (by_command is k.files have) c.in-Ok.status)) (ap (option_map command_words) (sym c.in-Ok-Some.field-0-is) ∙ c.in-Ok-Some.ensures)
+    (all_answered told (λ k. verdict_of_command command k.files have) (g.H.Host.state c.args.host.now) (g.H.Host.state c.do_command.new.host) (map g.D.TxDevice.state c.args.bench.now.items)
+    (map g.D.TxDevice.state c.do_command.new.bench.items) c.in-Ok.status c.in-Ok.ensures.does)
 
 pub returns-in-Ok-clause-some : goal.returns-in-Ok-clause-some
 returns-in-Ok-clause-some g c =
     let old = g.H.Host.state c.args.host.now in
-    let new = g.H.Host.state c.run_command.new.host in
+    let new = g.H.Host.state c.do_command.new.host in
     let have = vec_len c.args.bench.now in
     let before = map g.D.TxDevice.state c.args.bench.now.items in
-    let behind = map g.D.TxDevice.state c.run_command.new.bench.items in
-    let run = run_words c.in-Ok-Some.run' in
+    let behind = map g.D.TxDevice.state c.do_command.new.bench.items in
+    let command = command_words c.in-Ok-Some.command in
     let found = c.in-Ok.ensures.some in
-    subst (λ (command : Option RunWords). OutcomeOfSome command have old new before behind c.in-Ok.status) (ap (option_map run_words) (sym c.in-Ok-Some.field-0-is) ∙ c.in-Ok-Some.ensures)
-    (found.0, found.1, ends_outcome (by_bytes (Some run) have found.0 found.1) old new before behind c.in-Ok.status c.in-Ok.ensures.answer found.2)
+    subst (λ (is : Option CommandWords). OutcomeOfSome is have old new before behind c.in-Ok.status) (ap (option_map command_words) (sym c.in-Ok-Some.field-0-is) ∙ c.in-Ok-Some.ensures)
+    (found.0, found.1, ends_outcome (by_bytes (Some command) have found.0 found.1) old new before behind c.in-Ok.status c.in-Ok.ensures.answer found.2)
 
-pub returns-in-Err-run_command-clause-some : goal.returns-in-Err-run_command-clause-some
-returns-in-Err-run_command-clause-some g c =
+pub returns-in-Err-do_command-clause-some : goal.returns-in-Err-do_command-clause-some
+returns-in-Err-do_command-clause-some g c =
     let old = g.H.Host.state c.args.host.now in
-    let new = g.H.Host.state c.run_command.new.host in
+    let new = g.H.Host.state c.do_command.new.host in
     let have = vec_len c.args.bench.now in
     let before = map g.D.TxDevice.state c.args.bench.now.items in
-    let behind = map g.D.TxDevice.state c.run_command.new.bench.items in
-    let run = run_words c.in-Ok-Some.run' in
-    let found = c.in-Err-run_command.ensures.some in
-    subst (λ (command : Option RunWords). OutcomeOfSome command have old new before behind c.status.result) (ap (option_map run_words) (sym c.in-Ok-Some.field-0-is) ∙ c.in-Ok-Some.ensures) (
+    let behind = map g.D.TxDevice.state c.do_command.new.bench.items in
+    let command = command_words c.in-Ok-Some.command in
+    let found = c.in-Err-do_command.ensures.some in
+    subst (λ (is : Option CommandWords). OutcomeOfSome is have old new before behind c.status.result) (ap (option_map command_words) (sym c.in-Ok-Some.field-0-is) ∙ c.in-Ok-Some.ensures) (
       found.0,
       found.1,
-      subst (λ (answer : Status). Outcome (by_bytes (Some run) have found.0 found.1) old new before behind answer) (sym c.status.ensures)
-          (stops_outcome (by_bytes (Some run) have found.0 found.1) old new before behind c.in-Err-run_command.stop found.2),
+      subst (λ (answer : Status). Outcome (by_bytes (Some command) have found.0 found.1) old new before behind answer) (sym c.status.ensures)
+          (stops_outcome (by_bytes (Some command) have found.0 found.1) old new before behind c.in-Err-do_command.stop found.2),
     )

@@ -1,0 +1,47 @@
+-- The numbers of `gen`, as std parses them.
+use Rattle.std.proofs.Common.{◌≡◌, ◌≤◌, ◌<◌, ◌^◌, ◌&&◌, ℕ, List, length, Option, Some, None, Result, Ok, Err, true, nat_lt, refl, inl, inr, subst, arith, rules}
+use Rattle.std.specs.Char.{is_ascii_digit}
+use Rattle.std.specs.List.{list_all}
+use Rattle.std.specs.Result.{OkIff}
+use Rattle.std.specs.Str.Parse.{ParsesUnsigned, digits_value}
+use Rattle.std.proofs.lemmas.Bool.{le-leb, ltb-true}
+use Rattle.std.proofs.lemmas.Bool.Decides.{leb_tells}
+use Rattle.std.proofs.Math.Dec.{leb-zero}
+use Rattle.std.proofs.lemmas.Str.Parse.{IsNumeralModel, numerals_by_value, parse_digits, parse_gives}
+use Rattle.clap.proofs.WalkLemmas.{both}
+use Rattle.lq_run_core.specs.Schedule.{is_number, number_in, within}
+
+own : IsNumeralModel (λ ds. list_all is_ascii_digit ds ≡ true) (digits_value 10)
+own = numerals_by_value (λ ds. list_all is_ascii_digit ds ≡ true) (search rules)
+
+-- a number has digits, and nothing else
+are_digits : (word : List ℕ) → is_number word ≡ true → (nat_lt 0 (length word) ≡ true) × (list_all is_ascii_digit word ≡ true)
+are_digits word is = both (nat_lt 0 (length word)) (list_all is_ascii_digit word) (both (nat_lt 0 (length word) && list_all is_ascii_digit word) _ is).0
+
+within_limit : (n most : ℕ) → n ≤ most → ◌≡◌ {A = Option ℕ} (Some n) (within 0 most (Some n))
+within_limit n most few = rw (leb-zero n, le-leb n most few) refl
+
+-- a number within its limit
+pub number_read :
+    {E : Type 0} → (word : List ℕ) (most n : ℕ) (r : Result ℕ E) → ParsesUnsigned 32 10 word r → is_number word ≡ true → r ≡ Ok n → n ≤ most
+    → Some n ≡ number_in 0 most word
+number_read word most n r parses is read few =
+    let parsed : OkIff r ((0 < length word) × (digits_value 10 word < 2 ^ 32)) (digits_value 10 word) = parse_digits own 32 word r parses (are_digits word is).1 in
+    let same : n ≡ digits_value 10 word = (subst (λ s. OkIff s ((0 < length word) × (digits_value 10 word < 2 ^ 32)) (digits_value 10 word)) read parsed).1 in
+    rw is (subst (λ v. Some n ≡ within 0 most (Some v)) same (within_limit n most few))
+
+-- a number that isn't read is above it
+pub number_not_read :
+    {E : Type 0} → (word : List ℕ) (most : ℕ) (r : Result ℕ E) (e : E) → ParsesUnsigned 32 10 word r → is_number word ≡ true → r ≡ Err e → most < 2 ^ 32
+    → None ≡ number_in 0 most word
+number_not_read word most r e parses is read small =
+    let digits = are_digits word is in
+    let parsed : OkIff r ((0 < length word) × (digits_value 10 word < 2 ^ 32)) (digits_value 10 word) = parse_digits own 32 word r parses digits.1 in
+    let fails = subst (λ s. OkIff s ((0 < length word) × (digits_value 10 word < 2 ^ 32)) (digits_value 10 word)) read parsed in
+    elim (leb_tells (digits_value 10 word) most) [
+      | inl fits ↦
+          let few : digits_value 10 word ≤ most = fits.1 in
+          let some : 0 < length word = ltb-true 0 (length word) digits.0 in
+          absurd (fails (some, (let below : digits_value 10 word < 2 ^ 32 = omega (few, small, arith) in below)))
+      | inr above ↦ rw (is, leb-zero (digits_value 10 word), above.0) refl
+    ]
