@@ -6,7 +6,7 @@ ghost use Rattle.lq_model.specs.declared.machine.Position.TheVariants.{Try1, Unl
 ghost use Rattle.lq_model.specs.declared.machine.Phase.TheVariants.{Active};
 ghost use Rattle.lq_model.specs.declared.machine.Attempt.{Attempt};
 ghost use Rattle.lq_table.specs.Sees.{view, position, IsSeatOf, IsElseSame};
-ghost use Rattle.lq_table.specs.Told.{schedules, scheduling, clears_sched, passing};
+ghost use Rattle.lq_table.specs.Told.{IsKnownSlot, schedules, scheduling, clears_sched, passing};
 ghost use Rattle.lq_run.specs.Runs.{behind_got, behind_missed, HasStation, HasNone, Rests, IsElseKept, IsEventless};
 
 use lq_device::TxDevice;
@@ -21,7 +21,7 @@ pub fn begin<'a, D: TxDevice>(shared: &Shared<'a, D>, cpu: &mut Cpu<D>) -> bool
     requires at { (a : Attempt) × (position cpu.old ≡ Try1 a) }
     requires empty { HasNone cpu.old }
     ensures kept { IsElseKept cpu.old cpu.new × IsEventless cpu.old cpu.new }
-    ensures got { result ≡ true → (position cpu.new ≡ behind_got (view cpu.new) (position cpu.old)) × HasStation cpu.new × Rests cpu.new × (0 < (view cpu.new).holder.size) × ((view cpu.new).holder.hand ≡ None) × ((view cpu.new).holder.shut ≡ None) }
+    ensures got { result ≡ true → (position cpu.new ≡ behind_got (view cpu.new) (position cpu.old)) × HasStation cpu.new × Rests cpu.new × (0 < (view cpu.new).holder.size) × ((view cpu.new).holder.hand ≡ None) × ((view cpu.new).holder.shut ≡ None) × IsKnownSlot (view cpu.new).share.about (view cpu.new).holder.slot }
     ensures missed { result ≡ false → (position cpu.new ≡ behind_missed (position cpu.old)) × HasNone cpu.new }
 {
     if shared.try_lock(cpu) {

@@ -83,8 +83,8 @@ module _ (k : Setup) (slots id : ℕ) (m : Sat) where
       let rest : is_emptying W.size c ≡ false = subst (λ (z : ℕ × Ends). is_emptying z.0 z.1 ≡ false) (λ j. ((at_scan.is j).size, c_is j)) rests in
       let first : f ≢ 0 → slice_get (held_in a b) 0 ≡ Some (f - 1) = λ other. (takes _ _ _ _ _ _ old rest (let w = word in omega (arith, other, word))).1 ∙ ap (λ (z : ℕ). Some (z - 1)) (sym word) in (
         (λ sole. ap (λ (y : Account). slice_get (held_in y b) 0) (knows_account k s r id v here some_share sole) ∙ dite (ℕ_discrete f 0)
-        (λ zero_. ap (λ (xs : List ℕ). slice_get xs 0) (finds_none _ _ _ _ _ _ old rest (sym word ∙ zero_)) ∙ sym (ap (λ (z : ℕ). if z == 0 then None else Some (z - 1)) zero_))
-        (λ other. first other ∙ sym (ap (λ (z : Bool). if z then None else Some (f - 1)) (ne_eqb f 0 other)))),
+            (λ zero_. ap (λ (xs : List ℕ). slice_get xs 0) (finds_none _ _ _ _ _ _ old rest (sym word ∙ zero_)) ∙ sym (ap (λ (z : ℕ). if z == 0 then None else Some (z - 1)) zero_))
+            (λ other. first other ∙ sym (ap (λ (z : Bool). if z then None else Some (f - 1)) (ne_eqb f 0 other)))),
         (λ other. knows_held k s r id v here live b (f - 1) (first other)),
       )
 

@@ -9,8 +9,8 @@ ghost use Rattle.lq_table.specs.Told.{at_rest};
 ghost use Rattle.lq_table.specs.Controls.{beginning_control, returning, closing, finding, opening, resetting_missed, resetting_draining, IsExchange, swapping, opening_next};
 
 use crate::plays::{
-    BeginControl, Close, Event, Find, Open, ResetDraining, ResetMissed, Return, Same, Standing,
-    Swap, Named, OpenNext,
+    BeginControl, Close, Event, Find, Named, Open, OpenNext, ResetDraining, ResetMissed, Return,
+    Same, Standing, Swap,
 };
 use crate::shared::{Cpu, Shared};
 use lq_device::TxDevice;
@@ -177,7 +177,9 @@ impl<'a, D: TxDevice> Shared<'a, D> {
         ensures view { view cpu.new ≡ opening_next K.band (view cpu.old) }
     {
         let word = self.stop_word(queue);
-        self.table.shared.store::<OpenNext<K>>(&mut cpu.seat, word, 0);
+        self.table
+            .shared
+            .store::<OpenNext<K>>(&mut cpu.seat, word, 0);
     }
 
     /// Stores 0 in the next queue's stop word behind an exchange of the device, in ascending order. Until the last one a word
