@@ -3,6 +3,8 @@
 
 mod puts;
 mod takes;
+#[cfg(test)]
+mod tests;
 
 pub use puts::produce;
 pub use takes::consume;
