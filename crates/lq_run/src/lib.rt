@@ -21,7 +21,7 @@ pub fn begin<'a, D: TxDevice>(shared: &Shared<'a, D>, cpu: &mut Cpu<D>) -> bool
     requires at { (a : Attempt) × (position cpu.old ≡ Try1 a) }
     requires empty { HasNone cpu.old }
     ensures kept { IsElseKept cpu.old cpu.new × IsEventless cpu.old cpu.new }
-    ensures got { result ≡ true → (position cpu.new ≡ behind_got (view cpu.new) (position cpu.old)) × HasStation cpu.new × Rests cpu.new × (0 < (view cpu.new).holder.size) × ((view cpu.new).holder.hand ≡ None) }
+    ensures got { result ≡ true → (position cpu.new ≡ behind_got (view cpu.new) (position cpu.old)) × HasStation cpu.new × Rests cpu.new × (0 < (view cpu.new).holder.size) × ((view cpu.new).holder.hand ≡ None) × ((view cpu.new).holder.shut ≡ None) }
     ensures missed { result ≡ false → (position cpu.new ≡ behind_missed (position cpu.old)) × HasNone cpu.new }
 {
     if shared.try_lock(cpu) {
@@ -60,7 +60,7 @@ pub fn end<'a, D: TxDevice>(shared: &Shared<'a, D>, cpu: &mut Cpu<D>)
 /// end of a run.
 pub fn end_resize<'a, D: TxDevice>(shared: &Shared<'a, D>, cpu: &mut Cpu<D>)
     requires seat { IsSeatOf shared.now cpu.old }
-    requires at { (position cpu.old ≡ AtControl true) × ((view cpu.old).control.phase ≡ Active) × ((view cpu.old).control.purge ≡ None) }
+    requires at { (position cpu.old ≡ AtControl true) × ((view cpu.old).control.phase ≡ Active) × ((view cpu.old).control.purge ≡ None) × ((view cpu.old).holder.shut ≡ None) }
     requires rests { Rests cpu.old }
     requires back { HasStation cpu.old }
     ensures kept { IsElseKept cpu.old cpu.new × IsEventless cpu.old cpu.new }

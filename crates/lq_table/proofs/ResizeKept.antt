@@ -124,7 +124,7 @@ module _ (k : Setup) where
           shares = shares_same k s.views id v w here live p.shares refl;
           machine = closed s.views id v here live w q' at_control live (λ j. record v.place { position = position j }) stepped_;
           stands = record { state = p.stands.state; lock = p.stands.lock; xoff = p.stands.xoff; inside = p.stands.inside; bypass = p.stands.bypass };
-          ties = record { bands_are = ap (λ (bs : List (List Packet)). map (λ (band : List Packet). take len band) bs) p.ties.bands_are ∙ bands_cut k.infos a.bands len; slot = p.ties.slot; stops = p.ties.stops; len = refl; down = p.ties.down };
+          ties = record { bands_are = ap (λ (bs : List (List Packet)). map (λ (band : List Packet). take len band) bs) p.ties.bands_are ∙ bands_cut k.infos a.bands len; slot = p.ties.slot; len = refl; down = p.ties.down };
           lends = lends_held k s r id v here live holds w q.locked W.xoff (e ∷ g.past) D' refl
               (subst (λ (z : Position). Holder k.infos W.xoff (e ∷ g.past) D' z w.holder) (sym position) record {
                 is = λ j. record (at_.is j) { turn = Some t };
@@ -172,6 +172,7 @@ module _ (k : Setup) where
               (λ e1 e2. (ap (λ (z : Qdisc). record z { bands = map (λ (band : List Packet). take len band) z.bands; len = len }) e1, ap (λ (z : State). record z { past = e ∷ z.past; turn = Some t }) e2));
           settled = settled_same s.views id v w here W.fates p.settled refl;
           given = given_same k s.views id v w here W.turns p.given refl refl refl refl refl;
+          stops = p.stops;
           device = p.device;
           trails = trails_own k.infos s.views id v w here e refl p.trails p.firsts.one first refl refl refl;
         },
@@ -273,6 +274,7 @@ module _ (k : Setup) where
           sole = sole_step k s.views id v w here q q g g' p.shares p.sole some_share refl refl (λ e1 e2. (e1, ap (λ (z : State). record z { ends = ends'; turn = None }) e2));
           settled = settled_same s.views id v w here W.fates p.settled refl;
           given = given_same k s.views id v w here W.turns p.given refl refl refl refl refl;
+          stops = p.stops;
           device = p.device;
           trails = trails_same k.infos s.views id v w here p.trails refl refl refl refl;
         },

@@ -1,5 +1,5 @@
 -- What the words tell a seat that has the table alone.
-use Rattle.std.proofs.Common.{◌≡◌, ℕ, ◌<◌, true, List, Option, get_or, sym, ap, ap₂, ◌∙◌}
+use Rattle.std.proofs.Common.{None, ◌≡◌, ℕ, ◌<◌, true, List, Option, get_or, sym, ap, ap₂, ◌∙◌}
 use Rattle.std.specs.Prelude.{is_some, slice_index}
 use Rattle.std.proofs.lemmas.Bool.{lt-ltb}
 use mathlib.Core.Option.{some}
@@ -15,6 +15,7 @@ use Rattle.lq_table.specs.Told.{is_set}
 use Rattle.lq_table.specs.Solo.{IsSole, account_of, SeesState, IsAccounts}
 use Rattle.lq_table.proofs.Bits.{has_sched, has_deactivated, has_missed, has_draining}
 use Rattle.lq_table.proofs.ByName.{xoff_of}
+use Rattle.lq_table.proofs.StopsKept.{agree}
 
 module _ (k : Setup) (s : table.State (Option StationState) View) (r : Rule k s) (id : ℕ) (v : View) (here : get_elem? s.views id ≡ some v) (some_share : 0 < v.share.shares) (sole : IsSole v) where
   knows_qdisc : v.whole.qdisc ≡ r.qdisc
@@ -37,8 +38,8 @@ module _ (k : Setup) (s : table.State (Option StationState) View) (r : Rule k s)
   pub sees_lock : get_or s.words 2 0 ≡ bit v.whole.qdisc.locked
   sees_lock = r.parts.stands.lock ∙ sym (ap (λ (z : Qdisc). bit z.locked) knows_qdisc)
 
-  pub sees_stop : (queue : ℕ) → get_or s.words (xoff_word k queue) 0 ≡ slice_index (account_of v).stops queue
-  sees_stop queue = xoff_of k s.words queue ∙ ap (λ (ls : List ℕ). slice_index ls queue) (sym r.parts.stands.xoff ∙ r.parts.ties.stops) ∙ sym (ap (λ (a : Account). slice_index a.stops queue) knows_account)
+  pub sees_stop : v.whole.state.shut ≡ None → (queue : ℕ) → get_or s.words (xoff_word k queue) 0 ≡ slice_index (account_of v).stops queue
+  sees_stop no_shut queue = xoff_of k s.words queue ∙ ap (λ (ls : List ℕ). slice_index ls queue) (sym r.parts.stands.xoff ∙ agree _ _ _ _ r.state.shut (sym (ap (λ (g : State). g.shut) knows_state) ∙ no_shut) r.parts.stops) ∙ sym (ap (λ (a : Account). slice_index a.stops queue) knows_account)
 
   -- what the holder would have
   pub knows_holders : (size : ℕ) → holders r.state (account k r.state) size ≡ holders v.whole.state (account_of v) size

@@ -1,5 +1,5 @@
 -- The laws of steps with what they tell a seat that has the table alone.
-use Rattle.std.proofs.Common.{◌≡◌, ℕ, ◌-◌, ◌<◌, ◌≤◌, Bool, true, false, eqb, ne_eqb, List, get_or, length, sym, ap, ◌∙◌, subst, arith, Option, Some, None}
+use Rattle.std.proofs.Common.{◌≡◌, ◌≢◌, ℕ, ◌-◌, ◌<◌, ◌≤◌, Bool, true, false, eqb, ne_eqb, List, get_or, length, sym, ap, ◌∙◌, subst, arith, Option, Some, None}
 use Rattle.std.specs.Prelude.{bit_or, if◌then◌else◌, ◌==◌, slice_get}
 use Rattle.std.proofs.lemmas.Bool.{lt-ltb}
 use mathlib.Core.Logic.{dite}
@@ -16,6 +16,7 @@ use Rattle.lq_band.proofs.Kept.{finds_none, takes}
 use Rattle.lq_table.proofs.ByName.{slot_of}
 use Rattle.lq_table.proofs.Facts.{calm_rule}
 use Rattle.lq_table.proofs.HeadKept.{sees_head}
+use Rattle.lq_table.proofs.KnownPackets.{knows_held}
 use mathlib.Core.Option.{some, none}
 use prog.Atomic.{either}
 use Rattle.atomic_table.specs.Table.{step, Allows}
@@ -26,7 +27,7 @@ use Rattle.lq_table.specs.Views.{View, Setup, HolderPart, packet_of}
 use Rattle.lq_table.specs.Rule.{words_of, slot_word, account, xoff_word, Rule}
 use Rattle.lq_table.specs.Told.{Sat, loads_state, misses, schedules, tries_lock, loads_stop, stop_queue, looked, checked, rechecked, missed_now, scheduled_now, stop_loaded, woken, tried}
 use Rattle.lq_table.specs.Rings.{head_seen}
-use Rattle.lq_table.specs.Solo.{IsSole, SeesState, SeesStop, account_of, looked_all, checked_all, rechecked_all, missed_all, scheduled_all, stop_loaded_all, woken_all, tried_all, SeesHead, head_seen_all}
+use Rattle.lq_table.specs.Solo.{IsSole, SeesState, SeesStop, account_of, looked_all, checked_all, rechecked_all, missed_all, scheduled_all, stop_loaded_all, woken_all, tried_all, TellsHead, head_seen_all}
 use Rattle.lq_table.proofs.Loads.{also}
 use Rattle.lq_table.proofs.SoleFacts.{knows_account, sees_state, sees_lock, sees_stop, holds_accounts}
 use Rattle.lq_table.proofs.QuietKept.{looks_all, misses_kept, schedules_kept}
@@ -62,17 +63,17 @@ module _ (k : Setup) (slots id : ℕ) (m : Sat) where
       → Allows (Rule k) slots id m (xoff_word k queue) (λ x. x) (stop_loaded_all queue (step slots (xoff_word k queue) 0 0 none) m)
   loads_stop_sole queue at of_queue below few some_share = also k slots id m (xoff_word k queue) (λ x. x) (stop_loaded (step slots (xoff_word k queue) 0 0 none) m)
       (SeesStop queue m.0)
-      (λ s r here. ((λ sole. sees_stop k s r id m.0 here some_share sole queue), λ sole. holds_accounts k s r id m.0 here some_share sole))
+      (λ s r here. ((λ sole no_shut. sees_stop k s r id m.0 here some_share sole no_shut queue), λ sole. holds_accounts k s r id m.0 here some_share sole))
       (loads_stop_word k slots id queue m at of_queue below few some_share)
 
   pub wakes_sole : (queue : ℕ) → queue < k.queues → m.0.place.position ≡ Idle → 0 < m.0.share.shares → Allows (Rule k) slots id m (xoff_word k queue) (λ n. either (eqb n 1) 0 n) (woken_all queue (step slots (xoff_word k queue) 1 0 none) m)
-  wakes_sole queue below at some_share = also k slots id m (xoff_word k queue) (λ n. either (eqb n 1) 0 n) (woken queue (step slots (xoff_word k queue) 1 0 none) m) (λ x. IsSole m.0 → x ≡ slice_index (account_of m.0).stops queue)
-      (λ s r here sole. sees_stop k s r id m.0 here some_share sole queue) (wakes k slots id queue m below at some_share)
+  wakes_sole queue below at some_share = also k slots id m (xoff_word k queue) (λ n. either (eqb n 1) 0 n) (woken queue (step slots (xoff_word k queue) 1 0 none) m) (λ x. IsSole m.0 → m.0.whole.state.shut ≡ None → x ≡ slice_index (account_of m.0).stops queue)
+      (λ s r here sole no_shut. sees_stop k s r id m.0 here some_share sole no_shut queue) (wakes k slots id queue m below at some_share)
 
   -- what stands in the slot at the head of a band whose consumer rests
   sees_first : (b i : ℕ) (second : Bool) → b < 3 → i < k.max_len → m.0.place.position ≡ Scan b second → m.0.holder.turn ≡ None → is_emptying m.0.holder.size (at b m.0.holder.ends) ≡ false → i ≡ (at b m.0.holder.ends).head → 0 < m.0.share.shares
-      → (s : table.State (Option StationState) View) → Rule k s → get_elem? s.views id ≡ some m.0 → SeesHead b m.0 (get_or s.words (slot_word k b i) 0)
-  sees_first b i second below inside position no_turn rests is_head some_share s r0 here sole =
+      → (s : table.State (Option StationState) View) → Rule k s → get_elem? s.views id ≡ some m.0 → TellsHead b m.0 (get_or s.words (slot_word k b i) 0)
+  sees_first b i second below inside position no_turn rests is_head some_share s r0 here =
       let v : View = m.0 in let live = lt-ltb 0 v.share.shares some_share in let r = calm_rule k s r0 id v here live (ap may_be_inside position) (ap is_control position) in let p = r.parts in let g = r.state in let a = account k g in let W = words_of k s.words in
       let at_scan = p.lends.knows id v here live (ap holds_lock position) in
       let calm : g.turn ≡ None = sym (ap (λ (x : HolderPart). x.turn) at_scan.is) ∙ no_turn in let old = (p.rings.running calm).ring b below in
@@ -80,12 +81,14 @@ module _ (k : Setup) (slots id : ℕ) (m : Sat) where
       let f : ℕ = get_or s.words (slot_word k b i) 0 in
       let word : f ≡ get_or (at b W.slots) c.head 0 = slot_of k s.words b i below inside ∙ ap (λ (x : ℕ). get_or (at b W.slots) x 0) (is_head ∙ ap (λ (x : Ends). x.head) c_is) in
       let rest : is_emptying W.size c ≡ false = subst (λ (z : ℕ × Ends). is_emptying z.0 z.1 ≡ false) (λ j. ((at_scan.is j).size, c_is j)) rests in
-      let known : account_of v ≡ a = knows_account k s r id v here some_share sole in
-      ap (λ (y : Account). slice_get (held_in y b) 0) known ∙ dite (ℕ_discrete f 0)
-      (λ zero_. ap (λ (xs : List ℕ). slice_get xs 0) (finds_none _ _ _ _ _ _ old rest (sym word ∙ zero_)) ∙ sym (ap (λ (z : ℕ). if z == 0 then None else Some (z - 1)) zero_))
-      (λ other. (takes _ _ _ _ _ _ old rest (let w = word in omega (arith, other, word))).1 ∙ (ap (λ (z : ℕ). Some (z - 1)) (sym word) ∙ sym (ap (λ (z : Bool). if z then None else Some (f - 1)) (ne_eqb f 0 other))))
+      let first : f ≢ 0 → slice_get (held_in a b) 0 ≡ Some (f - 1) = λ other. (takes _ _ _ _ _ _ old rest (let w = word in omega (arith, other, word))).1 ∙ ap (λ (z : ℕ). Some (z - 1)) (sym word) in (
+        (λ sole. ap (λ (y : Account). slice_get (held_in y b) 0) (knows_account k s r id v here some_share sole) ∙ dite (ℕ_discrete f 0)
+        (λ zero_. ap (λ (xs : List ℕ). slice_get xs 0) (finds_none _ _ _ _ _ _ old rest (sym word ∙ zero_)) ∙ sym (ap (λ (z : ℕ). if z == 0 then None else Some (z - 1)) zero_))
+        (λ other. first other ∙ sym (ap (λ (z : Bool). if z then None else Some (f - 1)) (ne_eqb f 0 other)))),
+        (λ other. knows_held k s r id v here live b (f - 1) (first other)),
+      )
 
   pub sees_head_sole : (b i : ℕ) (second : Bool) → b < 3 → i < k.max_len → m.0.place.position ≡ Scan b second → m.0.holder.turn ≡ None → is_emptying m.0.holder.size (at b m.0.holder.ends) ≡ false → i ≡ (at b m.0.holder.ends).head → 0 < m.0.share.shares → length k.infos ≤ 1000000
       → Allows (Rule k) slots id m (slot_word k b i) (λ x. x) (head_seen_all b (step slots (slot_word k b i) 0 0 none) m)
-  sees_head_sole b i second below inside position no_turn rests is_head some_share few = also k slots id m (slot_word k b i) (λ x. x) (head_seen b (step slots (slot_word k b i) 0 0 none) m) (SeesHead b m.0)
+  sees_head_sole b i second below inside position no_turn rests is_head some_share few = also k slots id m (slot_word k b i) (λ x. x) (head_seen b (step slots (slot_word k b i) 0 0 none) m) (TellsHead b m.0)
       (sees_first b i second below inside position no_turn rests is_head some_share) (sees_head k slots id m b i second below inside position no_turn rests is_head some_share few)

@@ -190,10 +190,10 @@ module _ (v : View) where
       by (Some p) = refl
       by None = refl
 
-  pub unlocks_solo : (purge : Option Purge) → unlocks_at v.place.position purge ≡ true → solo (unlocking v) ≡ locked_to false (solo v)
-  unlocks_solo purge h = by v.place.position refl h
+  pub unlocks_solo : (purge : Option Purge) (shut : Option ℕ) → unlocks_at v.place.position purge shut ≡ true → solo (unlocking v) ≡ locked_to false (solo v)
+  unlocks_solo purge shut h = by v.place.position refl h
     where
-      by : (y : Position) → v.place.position ≡ y → unlocks_at y purge ≡ true → solo (unlocking v) ≡ locked_to false (solo v)
+      by : (y : Position) → v.place.position ≡ y → unlocks_at y purge shut ≡ true → solo (unlocking v) ≡ locked_to false (solo v)
       by at.Unlock is h' = ap (λ (b : Bool). solo (if b then unlocking_control v else unlocking_call v)) (ap is_control is)
           ∙ solo_step v (seen_lock (seen_by v) false) (λ q. record q { locked = false }) (subst (λ (y : Position). Leaves y (λ q. record q { locked = false })) (sym is) record { raised = λ seen s. refl; words = λ q s. refl })
       by (at.Control holds) is h' = ap (λ (b : Bool). solo (if b then unlocking_control v else unlocking_call v)) (ap is_control is)

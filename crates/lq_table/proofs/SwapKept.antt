@@ -17,18 +17,20 @@ use Rattle.lq_model.specs.Control.{is_control, is_purged}
 use Rattle.lq_model.specs.Kept.{IsInductive, holds_lock}
 use Rattle.lq_band.proofs.Seats.{each_step}
 use Rattle.lq_table.specs.Views.{View, Setup, State, HolderPart, packet_of, start_of}
-use Rattle.lq_table.specs.Rule.{IsDevice, count_at, words_of, account, holders, last_sent, units_of, KnowsPackets, Holder, bands_now, Rule}
+use Rattle.lq_table.specs.Rule.{IsDevice, Opening, AreStops, xoff_word, count_at, words_of, account, holders, last_sent, units_of, KnowsPackets, Holder, bands_now, Rule}
 use Rattle.lq_table.specs.Told.{Sat}
-use Rattle.lq_table.specs.Controls.{IsExchange, swapping, swapped}
+use Rattle.lq_table.specs.Controls.{IsExchange, shut_behind, swapping, swapped, opening_next, next_opened}
+use Rattle.lq_table.proofs.StopsKept.{agree, behind_open, no_two}
+use Rattle.lq_table.proofs.Frames.{is_locked}
 use Rattle.lq_table.proofs.SettledKept.{settled_same}
 use Rattle.lq_table.proofs.GivenKept.{given_same}
-use Rattle.lq_table.proofs.TrailsKept.{trails_own}
+use Rattle.lq_table.proofs.TrailsKept.{trails_own, trails_same}
 use Rattle.lq_model.specs.declared.fate.Info.{Info}
 use Rattle.lq_table.proofs.ByName.{set_xoff, xoff_long, xoff_within}
 use Rattle.lq_table.proofs.Middle.{middle, controls_in}
 use Rattle.lq_table.proofs.Facts.{map_none}
 use Rattle.lq_table.proofs.Accounts.{quiet_after, with_at_other}
-use Rattle.lq_table.proofs.Frames.{shares_same, hands_same, fates_same, turns_same, turns_past, rings_same, sole_step, account_step, leaves_same, firsts_same, rule_after, opened, closed, lends_held}
+use Rattle.lq_table.proofs.Frames.{packets_same, shares_same, hands_same, fates_same, turns_same, turns_past, rings_same, sole_step, account_step, leaves_same, firsts_same, rule_after, opened, closed, lends_held}
 use Rattle.lq_table.proofs.UpKept.{purged_idle}
 
 -- a unit that no exchange brought and that isn't the first has sent nothing
@@ -77,18 +79,6 @@ pub unused : (k : Setup) (u : ℕ) → (k.station ≡ u → ⊥) → (past : Lis
 unused k u first [] no_ = (first, refl)
 unused k u first (e ∷ past) no_ = unused_step u past (after_all (start_of k) past) (unused k u first past (λ h. no_ (fewer e past u h))) e no_
 
-one_open : (xs : List ℕ) → length xs ≡ 1 → slice_set xs 0 0 ≡ map (λ _. 0) xs
-one_open [] h = absurd (omega arith)
-one_open (x ∷ []) h = refl
-one_open (x ∷ y ∷ xs) h = absurd (omega arith)
-
--- no stop word says that the device hangs
-none_two : (xs : List ℕ) → length xs ≡ 1 → (queue : ℕ) → slice_index (set xs 0 0) queue ≡ 2 → ⊥
-none_two [] h queue is = absurd (omega arith)
-none_two (x ∷ []) h zero is = absurd (omega arith)
-none_two (x ∷ []) h (suc queue) is = absurd (omega arith)
-none_two (x ∷ y ∷ xs) h queue is = absurd (omega arith)
-
 neither : (b : Bool) → (b && false) ≡ false
 neither true = refl
 neither false = refl
@@ -107,10 +97,10 @@ exchanged infos station xoff st room none_ alive no_two = record {
 
 module _ (k : Setup) where
   -- it stores the stop word 0, with a device that has accepted nothing and whose unit is new
-  pub swaps : (slots id : ℕ) (m : Sat) (st : StationState) → k.queues ≡ 1 → m.0.place.position ≡ Control true → m.0.control.phase ≡ Purged → m.0.control.purge ≡ None
+  pub swaps : (slots id : ℕ) (m : Sat) (st : StationState) → 0 < k.queues → m.0.holder.shut ≡ None → m.0.place.position ≡ Control true → m.0.control.phase ≡ Purged → m.0.control.purge ≡ None
       → IsExchange m.0.share.about.infos m.0.share.about.station m.0.holder.units st → 0 < m.0.share.shares
       → Allows (Rule k) slots id m 3 (λ _. 0) (swapped st (step slots 3 0 0 none) m)
-  swaps slots id m st one_queue position purged no_purge is_new some_share s r deep here small =
+  swaps slots id m st some_queue no_shut position purged no_purge is_new some_share s r deep here small =
       let v : View = m.0 in
       let q = r.qdisc in let p = r.parts in let g = r.state in let a = account k g in let W = words_of k s.words in let live = lt-ltb 0 v.share.shares some_share in let mid = middle s.views id v here live in let holds : holds_lock v.place.position ≡ true = ap holds_lock position in
       let D : HolderPart = holders g a W.size in let w : View = swapping st v in let e : Event = Swap st.unit in let a' : Account = after e a in
@@ -118,9 +108,13 @@ module _ (k : Setup) where
       let first : v.control.first ≡ true = p.firsts.control id v here live (ap is_control position) in let knows = p.firsts.knows id v here first in
       let phase : q.phase ≡ Purged = sym knows.0 ∙ purged in let purge : q.purge ≡ None = sym knows.1 ∙ no_purge in
       let idle = purged_idle k s r id v here live (p.leaves.none_left purge) phase (map_none (packet_of k.infos) a.hand (sym at_.in_hand)) in
-      let q' : Qdisc = record q { xoff = slice_set q.xoff 0 0 } in let xs : List ℕ = set W.xoff 0 0 in let one_word : length W.xoff ≡ 1 = (let l = xoff_long k s.words r.wide in omega arith) in let g' : State = record g { past = e ∷ g.past; station = st } in let D' : HolderPart = holders g' a' W.size in
+      let q' : Qdisc = record q { xoff = slice_set q.xoff 0 0 } in let xs : List ℕ = set W.xoff 0 0 in let n : ℕ = v.share.about.queues in let shut : Option ℕ = shut_behind 0 n in let g' : State = record g { past = e ∷ g.past; station = st; shut = shut } in let D' : HolderPart = holders g' a' W.size in
       let at_control : Seat = record v.place { position = Control true } in let is : v.place ≡ at_control = λ j. record v.place { position = position j } in
       let stepped_ = controls_in q mid.before mid.after at_control (StoreOpen 0) true refl refl (ap₂ (λ (o : Option Rattle.lq_model.specs.Machine.Purge) (x : Phase). is_none o && is_purged x) purge phase) (subst (λ (u : Seat). IsInductive (record { qdisc = q; seats = mid.before ++ u ∷ mid.after })) is (opened s.views id v here live q p.machine)) in
+      let shut_none : g.shut ≡ None = sym (ap (λ (z : HolderPart). z.shut) at_.is) ∙ no_shut in
+      let long : n ≡ length q.xoff = (let l = xoff_long k s.words r.wide in let y = ap (λ (z : Setup). z.queues) (p.shares.about id v here live) in let x = ap length p.stands.xoff in omega arith) in
+      let some_word : 0 < n = (let y = ap (λ (z : Setup). z.queues) (p.shares.about id v here live) in omega arith) in
+      let was : q.xoff ≡ a.stops = agree q.phase q.locked q.xoff a.stops g.shut shut_none p.stops in let locked : q.locked ≡ true = is_locked k s r id v here live holds in
       let unused_ : a.sent st.unit ≡ [] = (unused k st.unit (subst (λ (z : Setup). z.station ≡ st.unit → ⊥) (p.shares.about id v here live) is_new.other) g.past (λ h. is_new.new (subst (λ (z : HolderPart). Contains z.units st.unit) (sym at_.is) h))).1 in
       let last_is : last_sent a' ≡ None = ap (λ (ns : List ℕ). slice_get ns (length ns - 1)) unused_ in (
         w,
@@ -130,10 +124,10 @@ module _ (k : Setup) where
           shares = shares_same k s.views id v w here live p.shares refl;
           machine = closed s.views id v here live w q' at_control live is stepped_;
           stands = record { state = p.stands.state; lock = p.stands.lock; xoff = ap (λ (ls : List ℕ). slice_set ls 0 0) p.stands.xoff; inside = p.stands.inside; bypass = p.stands.bypass };
-          ties = record { bands_are = p.ties.bands_are; slot = p.ties.slot; stops = ap (λ (ls : List ℕ). slice_set ls 0 0) p.ties.stops ∙ one_open a.stops (ap length (sym p.ties.stops ∙ p.stands.xoff) ∙ one_word); len = p.ties.len; down = p.ties.down };
+          ties = record { bands_are = p.ties.bands_are; slot = p.ties.slot; len = p.ties.len; down = p.ties.down };
           lends = lends_held k s r id v here live holds w q.locked xs (e ∷ g.past) D' refl
               (subst (λ (z : Position). Holder k.infos xs (e ∷ g.past) D' z w.holder) (sym position) record {
-                is = λ j. record (at_.is j) { station = st; last = (sym last_is) j; units = st.unit ∷ (at_.is j).units };
+                is = λ j. record (at_.is j) { station = st; last = (sym last_is) j; shut = shut; units = st.unit ∷ (at_.is j).units };
                 in_hand = at_.in_hand;
                 looked = λ _ l. absurd (omega arith);
                 stopping = tt;
@@ -149,11 +143,65 @@ module _ (k : Setup) where
           rings = rings_same k s.views id v w here k.max_len W.size W.producers W.slots a.len (bands_now g.left a.bands) g.ends g.turn p.rings refl (λ _ _ y h. (y, h));
           account = account_step k g.past e p.account idle tt tt;
           firsts = firsts_same k s.views id v w here q.phase q.phase q.purge q.purge p.firsts live refl refl refl refl (λ h. h);
-          sole = sole_step k s.views id v w here q q' g g' p.shares p.sole some_share refl refl (λ e1 e2. (ap (λ (z : Qdisc). record z { xoff = slice_set z.xoff 0 0 }) e1, ap (λ (z : State). record z { past = e ∷ z.past; station = st }) e2));
+          sole = sole_step k s.views id v w here q q' g g' p.shares p.sole some_share refl refl (λ e1 e2. (ap (λ (z : Qdisc). record z { xoff = slice_set z.xoff 0 0 }) e1, ap (λ (z : State). record z { past = e ∷ z.past; station = st; shut = shut }) e2));
           settled = settled_same s.views id v w here W.fates p.settled refl;
           given = given_same k s.views id v w here W.turns p.given refl refl refl refl refl;
-          device = exchanged k.infos k.station xs st (subst (λ (z : Setup). count_at z.infos z.station ≤ st.device.spare) (p.shares.about id v here live) is_new.room) is_new.accepted is_new.alive (none_two W.xoff one_word);
+          stops = behind_open q.xoff (map (λ _. 0) a.stops) 0 n q.phase q.locked phase locked long some_word (λ c l. absurd (omega arith)) (ap (map (λ _. 0)) (sym was));
+          device = exchanged k.infos k.station (map (λ _. 0) a.stops) st (subst (λ (z : Setup). count_at z.infos z.station ≤ st.device.spare) (p.shares.about id v here live) is_new.room) is_new.accepted is_new.alive (no_two a.stops);
           trails = trails_own k.infos s.views id v w here e refl p.trails p.firsts.one first refl refl refl;
+        },
+        refl,
+      )
+
+  -- it stores the next queue's
+  pub opens_next : (slots id queue : ℕ) (m : Sat) → queue < k.queues → m.0.holder.shut ≡ Some queue → m.0.place.position ≡ Control true → m.0.control.phase ≡ Purged → m.0.control.purge ≡ None → 0 < m.0.share.shares
+      → Allows (Rule k) slots id m (xoff_word k queue) (λ _. 0) (next_opened queue (step slots (xoff_word k queue) 0 0 none) m)
+  opens_next slots id queue m below is_shut position purged no_purge some_share s r deep here small =
+      let v : View = m.0 in
+      let q = r.qdisc in let p = r.parts in let g = r.state in let a = account k g in let W = words_of k s.words in let live = lt-ltb 0 v.share.shares some_share in let mid = middle s.views id v here live in let holds : holds_lock v.place.position ≡ true = ap holds_lock position in
+      let D : HolderPart = holders g a W.size in let w : View = opening_next queue v in let n : ℕ = v.share.about.queues in let shut : Option ℕ = shut_behind queue n in
+      let at_ : Holder k.infos W.xoff g.past D (Control true) v.holder = subst (λ (z : Position). Holder k.infos W.xoff g.past D z v.holder) position (p.lends.knows id v here live holds) in
+      let first : v.control.first ≡ true = p.firsts.control id v here live (ap is_control position) in let knows = p.firsts.knows id v here first in
+      let phase : q.phase ≡ Purged = sym knows.0 ∙ purged in let purge : q.purge ≡ None = sym knows.1 ∙ no_purge in
+      let q' : Qdisc = record q { xoff = slice_set q.xoff queue 0 } in let xs : List ℕ = set W.xoff queue 0 in let g' : State = record g { shut = shut } in let D' : HolderPart = holders g' a W.size in
+      let at_control : Seat = record v.place { position = Control true } in let is : v.place ≡ at_control = λ j. record v.place { position = position j } in
+      let stepped_ = controls_in q mid.before mid.after at_control (StoreOpen queue) true refl refl (ap₂ (λ (o : Option Rattle.lq_model.specs.Machine.Purge) (x : Phase). is_none o && is_purged x) purge phase) (subst (λ (u : Seat). IsInductive (record { qdisc = q; seats = mid.before ++ u ∷ mid.after })) is (opened s.views id v here live q p.machine)) in
+      let shut_is : g.shut ≡ Some queue = sym (ap (λ (z : HolderPart). z.shut) at_.is) ∙ is_shut in
+      let o : Opening queue q.phase q.locked q.xoff a.stops = subst (λ (z : Option ℕ). AreStops z q.phase q.locked q.xoff a.stops) shut_is p.stops in
+      let long : n ≡ length q.xoff = (let l = xoff_long k s.words r.wide in let y = ap (λ (z : Setup). z.queues) (p.shares.about id v here live) in let x = ap length p.stands.xoff in omega arith) in
+      let within : queue < n = (let y = ap (λ (z : Setup). z.queues) (p.shares.about id v here live) in omega arith) in
+      let none_hung : g.station.device.hung ≡ true → ⊥ = λ hangs. let two = at_.alive refl hangs 0 (let f = o.some_stored in let i = o.within in let x = ap length p.stands.xoff in omega arith) in let zero_ = o.opened 0 o.some_stored in let x = ap (λ (ls : List ℕ). slice_index ls 0) p.stands.xoff in absurd (omega arith) in (
+        w,
+        keeps,
+        tt,
+        rule_after k s r (xoff_word k queue) 0 id s.homes r.home w (record W { xoff = xs }) q' g' a r.deep (set_xoff k s.words 0 queue (xoff_within k s.words queue r.wide below)) refl record {
+          shares = shares_same k s.views id v w here live p.shares refl;
+          machine = closed s.views id v here live w q' at_control live is stepped_;
+          stands = record { state = p.stands.state; lock = p.stands.lock; xoff = ap (λ (ls : List ℕ). slice_set ls queue 0) p.stands.xoff; inside = p.stands.inside; bypass = p.stands.bypass };
+          ties = record { bands_are = p.ties.bands_are; slot = p.ties.slot; len = p.ties.len; down = p.ties.down };
+          lends = lends_held k s r id v here live holds w q.locked xs g.past D' refl
+              (subst (λ (z : Position). Holder k.infos xs g.past D' z w.holder) (sym position) record {
+                is = λ j. record (at_.is j) { shut = shut };
+                in_hand = at_.in_hand;
+                looked = λ _ l. absurd (omega arith);
+                stopping = tt;
+                alive = λ _ hangs. absurd (none_hung hangs);
+              });
+          sends = p.sends;
+          packets = packets_same k s.views id v w here g.past a p.packets refl refl;
+          hands = hands_same k s.views id v w here p.hands live refl (λ y own. own);
+          fates = fates_same k s.views id v w here W.fates a a g.turn g.left p.fates refl (λ _. refl);
+          leaves = leaves_same g.left q.purge q.purge a a p.leaves refl refl;
+          turns = turns_same k s.views id v w here W.turns g.past p.turns refl refl;
+          rings = rings_same k s.views id v w here k.max_len W.size W.producers W.slots a.len (bands_now g.left a.bands) g.ends g.turn p.rings refl (λ _ _ y h. (y, h));
+          account = p.account;
+          firsts = firsts_same k s.views id v w here q.phase q.phase q.purge q.purge p.firsts live refl refl refl refl (λ h. h);
+          sole = sole_step k s.views id v w here q q' g g' p.shares p.sole some_share refl refl (λ e1 e2. (ap (λ (z : Qdisc). record z { xoff = slice_set z.xoff queue 0 }) e1, ap (λ (z : State). record z { shut = shut }) e2));
+          settled = settled_same s.views id v w here W.fates p.settled refl;
+          given = given_same k s.views id v w here W.turns p.given refl refl refl refl refl;
+          stops = behind_open q.xoff a.stops queue n q.phase q.locked phase o.held long within o.opened o.all_open;
+          device = p.device;
+          trails = trails_same k.infos s.views id v w here p.trails refl refl refl refl;
         },
         refl,
       )

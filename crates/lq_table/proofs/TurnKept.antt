@@ -147,6 +147,7 @@ module _ (k : Setup) where
         sole = sole_step k s.views id v w here q q g g' p.shares p.sole some_share refl refl (λ e1 e2. (e1, ap (λ (z : State). record z { turn = Some t' }) e2));
         settled = settled_are;
         given = given_same k s.views id v w here W.turns p.given refl refl refl refl refl;
+        stops = p.stops;
         device = p.device;
         trails = trails_same k.infos s.views id v w here p.trails refl refl refl refl;
       }

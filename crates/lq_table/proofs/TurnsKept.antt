@@ -87,6 +87,7 @@ module _ (k : Setup) (s : table.State (Option StationState) View) (r : Rule k s)
         sole = sole_step k s.views id v w here q q g g p.shares p.sole (ltb-true 0 v.share.shares live) share (ap (λ z. z.told) whole) (λ e1 e2. (ap (λ z. z.qdisc) whole ∙ e1, ap (λ z. z.state) whole ∙ e2));
         settled = settled_same s.views id v w here W.fates p.settled settled;
         given = given;
+        stops = p.stops;
         device = p.device;
         trails = trails_same k.infos s.views id v w here p.trails share (ap (λ z. z.first) control) trail refl;
       }

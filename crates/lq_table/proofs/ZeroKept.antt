@@ -60,6 +60,7 @@ module _ (k : Setup) where
           sole = sole_step k s.views id v w here q q g g' p.shares p.sole some_share refl refl (λ e1 e2. (e1, λ j. record (e2 j) { ends = put b (emptied_on (size_is j) (at b (e2 j).ends)) (e2 j).ends }));
           settled = settled_same s.views id v w here W.fates p.settled refl;
           given = given_same k s.views id v w here W.turns p.given refl refl refl refl refl;
+          stops = p.stops;
           device = p.device;
           trails = trails_same k.infos s.views id v w here p.trails refl refl refl refl;
         },

@@ -6,7 +6,7 @@ use Rattle.lq_model.specs.Kept.{IsInductive}
 use Rattle.lq_model.specs.Legal.{Comes}
 use Rattle.lq_model.specs.Machine.{Qdisc}
 use Rattle.lq_table.specs.Views.{View, Setup, State, start_of}
-use Rattle.lq_table.specs.Rule.{words_of, machine_of, account, bands_now, Stands, Ties}
+use Rattle.lq_table.specs.Rule.{words_of, machine_of, account, bands_now, AreStops, Stands, Ties}
 use Rattle.atomic_table.specs.Table as table
 
 -- The words stand for a machine that keeps the invariant, and for an account. The machine's seats are the places of the views that
@@ -18,6 +18,8 @@ pub record StandsForMachine (k : Setup) (s : table.State (Option StationState) V
   pub invariant : IsInductive (machine_of qdisc s.views)
   pub words : Stands k (words_of k s.words) qdisc (account k state).down
   pub packets : Ties k.infos qdisc (account k state) (bands_now state.left (account k state).bands)
+  -- the stop values are the account's, unless an exchange of the device is half done
+  pub stops : AreStops state.shut qdisc.phase qdisc.locked qdisc.xoff (account k state).stops
   pub events : Comes k.infos k.station (start_of k) state.past
 
 -- it does, and the account holds nothing

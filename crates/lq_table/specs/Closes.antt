@@ -43,6 +43,7 @@ FatesStand k words settled = ((n : ℕ) (f : Fate) → Contains settled (n, f) �
 pub record Ending (k : Setup) (words : List ℕ) (slots : List (Option StationState)) (q : Qdisc) (g : State) (a : Account) (first : Bool) (trail : List Event) : Type 0 where
   pub stands : Stands k (words_of k words) q a.down
   pub ties : Ties k.infos q a (bands_now g.left a.bands)
+  pub stops : q.xoff ≡ a.stops
   pub home : slice_get slots 0 ≡ Some (Some (shown (holders g a (words_of k words).size)))
   -- the device is the account's unit: what it accepted is what that sent
   pub sends : Sends g.station a

@@ -1,5 +1,5 @@
 -- What a seat knows that has the table alone, without its place, and what the steps make of that.
-use Rattle.std.specs.Prelude.{◌≡◌, ℕ, ◌-◌, slice_get, ◌&&◌, ◌==◌, Some, None, Bool, true, false, not, ◌||◌, List, Option, ◌∷◌, filter, is_some, slice_index, if◌then◌else◌}
+use Rattle.std.specs.Prelude.{◌≡◌, ◌≢◌, ℕ, ◌-◌, slice_get, ◌&&◌, ◌==◌, Some, None, Bool, true, false, not, ◌||◌, List, Option, ◌∷◌, filter, is_some, slice_index, if◌then◌else◌}
 use Rattle.lq_device.specs.Station.{StationState}
 use Rattle.lq_model.specs.Account.{Account, Event, held_in, Empty, Send, Pick, Back}
 use Rattle.lq_model.specs.declared.fate.Fate.{Fate}
@@ -9,7 +9,7 @@ use Rattle.lq_model.specs.Machine.{bit}
 use Rattle.lq_model.specs.Kept.{holds_lock, in_hand}
 use Rattle.lq_table.specs.Views.{View}
 use Rattle.lq_table.specs.Rule.{account, holders}
-use Rattle.lq_table.specs.Told.{Sat, is_dequeue, is_set, looked, checked, rechecked, missed_now, scheduled_now, stop_loaded, woken, tried}
+use Rattle.lq_table.specs.Told.{Sat, IsPacketOf, is_dequeue, is_set, looked, checked, rechecked, missed_now, scheduled_now, stop_loaded, woken, tried}
 use Rattle.lq_table.specs.Rings.{head_seen}
 use Rattle.atomic_table.specs.Table.{Step}
 
@@ -139,13 +139,13 @@ scheduled_all s m found m' = scheduled_now s m found m' × (IsSole m.0 → SeesS
 
 -- a stop word; and what a holder has is the account's
 abbrev pub SeesStop : ℕ → View → ℕ → Type 0
-SeesStop queue v found = (IsSole v → found ≡ slice_index (account_of v).stops queue) × (IsSole v → holds_lock v.place.position ≡ true → IsAccounts v)
+SeesStop queue v found = (IsSole v → v.whole.state.shut ≡ None → found ≡ slice_index (account_of v).stops queue) × (IsSole v → holds_lock v.place.position ≡ true → IsAccounts v)
 
 abbrev pub stop_loaded_all : ℕ → Step (Option StationState) → Sat → ℕ → Sat → Type 0
 stop_loaded_all queue s m found m' = stop_loaded s m found m' × SeesStop queue m.0 found
 
 abbrev pub woken_all : ℕ → Step (Option StationState) → Sat → ℕ → Sat → Type 0
-woken_all queue s m found m' = woken queue s m found m' × (IsSole m.0 → found ≡ slice_index (account_of m.0).stops queue)
+woken_all queue s m found m' = woken queue s m found m' × (IsSole m.0 → m.0.whole.state.shut ≡ None → found ≡ slice_index (account_of m.0).stops queue)
 
 -- the lock was held or free as its words say, and behind a try it is held; what the holder has is the account's
 abbrev pub tried_all : Step (Option StationState) → Sat → ℕ → Sat → Type 0
@@ -155,5 +155,9 @@ tried_all s m found m' = tried s m found m' × (IsSole m.0 → found ≡ bit m.0
 abbrev pub SeesHead : ℕ → View → ℕ → Type 0
 SeesHead b v found = IsSole v → slice_get (held_in (account_of v) b) 0 ≡ (if found == 0 then None else Some (found - 1))
 
+-- it is a packet of the station; and for a sole seat the account's
+abbrev pub TellsHead : ℕ → View → ℕ → Type 0
+TellsHead b v found = SeesHead b v found × (found ≢ 0 → IsPacketOf v.share.about (found - 1))
+
 abbrev pub head_seen_all : ℕ → Step (Option StationState) → Sat → ℕ → Sat → Type 0
-head_seen_all b s m found m' = head_seen b s m found m' × SeesHead b m.0 found
+head_seen_all b s m found m' = head_seen b s m found m' × TellsHead b m.0 found

@@ -6,11 +6,11 @@ ghost use Rattle.lq_model.specs.declared.machine.Position.TheVariants.{Idle as A
 ghost use Rattle.lq_table.specs.Views.{Left};
 ghost use Rattle.lq_table.specs.Sees.{view, position, carried, IsSeatOf, IsElseSame};
 ghost use Rattle.lq_table.specs.Told.{at_rest};
-ghost use Rattle.lq_table.specs.Controls.{beginning_control, returning, closing, finding, opening, resetting_missed, resetting_draining, IsExchange, swapping};
+ghost use Rattle.lq_table.specs.Controls.{beginning_control, returning, closing, finding, opening, resetting_missed, resetting_draining, IsExchange, swapping, opening_next};
 
 use crate::plays::{
     BeginControl, Close, Event, Find, Open, ResetDraining, ResetMissed, Return, Same, Standing,
-    Swap,
+    Swap, Named, OpenNext,
 };
 use crate::shared::{Cpu, Shared};
 use lq_device::TxDevice;
@@ -139,11 +139,11 @@ impl<'a, D: TxDevice> Shared<'a, D> {
             .fetch_and::<ResetDraining>(&mut cpu.seat, STATE, ALL_BUT_DRAINING);
     }
 
-    fn open_xoff_of<K: Standing>(&self, cpu: &mut Cpu<D>)
+    fn exchange_of<K: Standing>(&self, cpu: &mut Cpu<D>)
         requires named { cpu.old.station ≡ Some K.station }
-        requires queues { self.now.queues ≡ 1 }
+        requires queues { 0 < self.now.queues }
         requires seat { IsSeatOf self.now cpu.old }
-        requires at { position cpu.old ≡ AtControl true }
+        requires at { (position cpu.old ≡ AtControl true) × ((view cpu.old).holder.shut ≡ None) }
         requires purged { ((view cpu.old).control.phase ≡ Purged) × ((view cpu.old).control.purge ≡ None) }
         requires station { IsExchange (view cpu.old).share.about.infos (view cpu.old).share.about.station (view cpu.old).holder.units K.station }
         ensures same { IsElseSame cpu.old cpu.new }
@@ -152,18 +152,44 @@ impl<'a, D: TxDevice> Shared<'a, D> {
         self.table.shared.store::<Swap<K>>(&mut cpu.seat, XOFF, 0);
     }
 
-    /// Stores 0 in the stop word of a station with one queue whose device was exchanged, as a driver's open does with
-    /// `netif_tx_start_queue` of include/linux/netdevice.h. The station that the seat carries has the new device, whose
-    /// unit is none of those before.
-    pub fn open_xoff(&self, cpu: &mut Cpu<D>)
-        requires queues { self.now.queues ≡ 1 }
+    /// Stores 0 in the first queue's stop word of a station whose device was exchanged, as a driver's open does with
+    /// `netif_tx_start_all_queues` of include/linux/netdevice.h. The station that the seat carries has the new device, whose
+    /// unit is none of those before. With several queues `open_xoff` goes on with the second.
+    pub fn exchange(&self, cpu: &mut Cpu<D>)
+        requires queues { 0 < self.now.queues }
         requires seat { IsSeatOf self.now cpu.old }
-        requires at { position cpu.old ≡ AtControl true }
+        requires at { (position cpu.old ≡ AtControl true) × ((view cpu.old).holder.shut ≡ None) }
         requires purged { ((view cpu.old).control.phase ≡ Purged) × ((view cpu.old).control.purge ≡ None) }
         requires station { (is_some cpu.old.station ≡ true) × IsExchange (view cpu.old).share.about.infos (view cpu.old).share.about.station (view cpu.old).holder.units (carried cpu.old) }
         ensures same { IsElseSame cpu.old cpu.new }
         ensures view { view cpu.new ≡ swapping (carried cpu.old) (view cpu.old) }
     {
-        self.open_xoff_of::<Brand>(cpu);
+        self.exchange_of::<Brand>(cpu);
+    }
+
+    fn open_xoff_of<K: Named>(&self, cpu: &mut Cpu<D>, queue: u32)
+        requires named { queue ≡ K.band }
+        requires queue { queue < self.now.queues }
+        requires seat { IsSeatOf self.now cpu.old }
+        requires at { (position cpu.old ≡ AtControl true) × ((view cpu.old).holder.shut ≡ Some queue) }
+        requires purged { ((view cpu.old).control.phase ≡ Purged) × ((view cpu.old).control.purge ≡ None) }
+        ensures same { IsElseSame cpu.old cpu.new }
+        ensures view { view cpu.new ≡ opening_next K.band (view cpu.old) }
+    {
+        let word = self.stop_word(queue);
+        self.table.shared.store::<OpenNext<K>>(&mut cpu.seat, word, 0);
+    }
+
+    /// Stores 0 in the next queue's stop word behind an exchange of the device, in ascending order. Until the last one a word
+    /// not yet stored may still be 1 or 2, though in the account each queue is open since the first store.
+    pub fn open_xoff(&self, cpu: &mut Cpu<D>, queue: u32)
+        requires queue { queue < self.now.queues }
+        requires seat { IsSeatOf self.now cpu.old }
+        requires at { (position cpu.old ≡ AtControl true) × ((view cpu.old).holder.shut ≡ Some queue) }
+        requires purged { ((view cpu.old).control.phase ≡ Purged) × ((view cpu.old).control.purge ≡ None) }
+        ensures same { IsElseSame cpu.old cpu.new }
+        ensures view { view cpu.new ≡ opening_next queue (view cpu.old) }
+    {
+        self.open_xoff_of::<Brand>(cpu, queue);
     }
 }
