@@ -1,5 +1,5 @@
 //! Takes by the holder of the run lock, which waits for nobody.
-ghost use Rattle.std.specs.Prelude.{◌≡◌, ◌≢◌, ℕ, ◌+◌, ◌*◌, ◌-◌, ◌<◌, ◌≤◌, Bool, true, false, Option, Some, None, MatchOption, slice_get, slice_index};
+ghost use Rattle.std.specs.Prelude.{◌≡◌, ◌≢◌, ℕ, ◌+◌, ◌*◌, ◌-◌, ◌<◌, ◌≤◌, Bool, true, false, Option, Some, None, MatchOption, IfSome, slice_get, slice_index};
 ghost use Rattle.lq_device.specs.Station.{StationState, with_ends};
 ghost use Rattle.lq_model.specs.Account.{Take, held_in};
 ghost use Rattle.lq_model.specs.Kept.{holds_lock};
@@ -11,6 +11,7 @@ ghost use Rattle.lq_table.specs.Views.{packet_of};
 ghost use Rattle.lq_table.specs.Rule.{IsResting};
 ghost use Rattle.lq_table.specs.Rings.{finding_none};
 ghost use Rattle.lq_table.specs.Sees.{view, position, slot, ends_at, IsSeatOf, IsSameSeat, IsElseSame};
+ghost use Rattle.lq_table.specs.Told.{IsPacketOf};
 ghost use Rattle.lq_table.specs.Solo.{IsSole, account_of, solo, heard};
 ghost use Rattle.lq_ring.specs.Put.{no_locks};
 ghost use Rattle.lq_ring.specs.Take.{having_ends, emptied_times, consuming, CarriesStation};
@@ -98,7 +99,7 @@ fn discard_one<'a, D: TxDevice>(shared: &Shared<'a, D>, cpu: &mut Cpu<D>, band: 
 }
 
 /// Takes the packet at the head of the band that the seat scans, as `__ptr_ring_consume` of include/linux/ptr_ring.h
-/// does for `pfifo_fast_dequeue` of net/sched/sch_generic.c: the packet is in hand then. It waits for nobody.
+/// does for `pfifo_fast_dequeue` of net/sched/sch_generic.c: the packet, one of the station's, is in hand then. It waits for nobody.
 ///
 /// None comes only where the slot at the head was loaded as 0 in this call. A seat that has the table alone gets the
 /// first packet that the account says the band holds.
@@ -111,6 +112,7 @@ pub fn consume<'a, D: TxDevice>(shared: &Shared<'a, D>, cpu: &mut Cpu<D>, band: 
     requires idle { (view cpu.old).locks ≡ no_locks }
     ensures same { IsSameSeat cpu.old cpu.new × (cpu.new.indices ≡ cpu.old.indices) × (slot cpu.new ≡ slot cpu.old) }
     ensures taken { MatchOption result (view cpu.new ≡ finding_none band (view cpu.old)) (λ n. view cpu.new ≡ consuming band n (view cpu.old)) }
+    ensures packet { IfSome result (λ n. IsPacketOf (view cpu.old).share.about n) }
     ensures at { MatchOption result ((second : Bool) → position cpu.old ≡ Scan band second → position cpu.new ≡ behind_band band second) (λ n. position cpu.new ≡ Gate (packet_of (view cpu.old).share.about.infos n) false) }
     ensures rests { IsResting (view cpu.new).holder.size (view cpu.new).holder.ends }
     ensures station { CarriesStation cpu.new }

@@ -8,6 +8,7 @@ use Rattle.lq_table.specs.Views.{View}
 use Rattle.lq_table.specs.Rule.{shown}
 use Rattle.lq_table.specs.Rings.{finding_none, taking}
 use Rattle.lq_table.specs.Sees.{view, position}
+use Rattle.lq_table.specs.Told.{IsPacketOf}
 use Rattle.lq_table.specs.Solo.{solo}
 use Rattle.lq_ring.specs.Take.{consuming}
 use Rattle.lq_ring.proofs.TakeSteps.{sized_none, none_leads, none_heard, take_leads, take_heard, heads_at, tails_at, rest_at, consumes, rests_after, station_after, known_after}
@@ -64,6 +65,11 @@ returns-clause-taken g c =
     let loaded = c.load_size-size.ensures.size.0 ∙ sized_none z v c.requires.idle in
     let took = c.head_slot-found.ensures.taken c.if-found-eq0.false ∙ ap (λ (x : View). taking b n x) loaded in
     consumes b n z v (view c.head_slot-found.new.cpu) (view c.discard_one.new.cpu) (c.load_size-size.ensures.holder (ap holds_lock c.requires.at.1)) took c.discard_one.ensures.emptied c.discard_one.ensures.rested
+
+pub returns-clause-packet : goal.returns-clause-packet
+returns-clause-packet g c =
+    let loaded = c.load_size-size.ensures.size.0 ∙ sized_none c.load_size-size.result (view c.args.cpu.now) c.requires.idle in
+    subst (λ (x : View). IsPacketOf x.share.about (c.head_slot-found.result - 1)) loaded (c.head_slot-found.ensures.known c.if-found-eq0.false)
 
 pub returns-clause-at : goal.returns-clause-at
 returns-clause-at g c =
