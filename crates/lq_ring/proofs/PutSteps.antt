@@ -1,0 +1,111 @@
+-- The steps of a put one after another.
+use Rattle.std.proofs.Common.{◌≡◌, ℕ, zero, suc, Bool, true, false, refl, ap, ◌∙◌}
+use Rattle.lq_band.specs.Three.{Three, at, put}
+use Rattle.lq_band.specs.Ring.{Lock, unlocked, locked_at, sized_at, with_room, having_stored}
+use Rattle.lq_band.proofs.Three.{at_put_same}
+use Rattle.lq_table.specs.Views.{View}
+use Rattle.lq_table.specs.Told.{seen_by}
+use Rattle.lq_table.specs.Rings.{with_lock_at, sized, dropping, joining}
+use Rattle.lq_table.specs.Solo.{solo, heard}
+use Rattle.lq_model.specs.Account.{Join, Full}
+use Rattle.lq_model.specs.Machine.{Qdisc}
+use Rattle.lq_model.specs.Steps.{After, step_at, behind_put, put_answered}
+use Rattle.lq_model.specs.declared.machine.Answer.{Answer}
+use Rattle.lq_model.specs.declared.machine.Answer.TheVariants.{Plain, FullSlot}
+use Rattle.lq_model.specs.declared.machine.Packet.{Packet}
+use Rattle.lq_model.specs.declared.machine.Position.{Position}
+use Rattle.lq_model.specs.declared.machine.Position.TheVariants.{Put}
+use Rattle.lq_model.specs.declared.machine.Seat.{Seat}
+use Rattle.lq_ring.specs.Put.{no_locks, just_locked, putting, refusing}
+use Rattle.lq_ring.specs.Put as leads
+
+pub put_put : {A : Type 0} (b : ℕ) (x y : A) (t : Three A) → put b x (put b y t) ≡ put b x t
+put_put zero x y t = refl
+put_put (suc zero) x y t = refl
+put_put (suc (suc b)) x y t = refl
+
+pub put_none : (b : ℕ) → put b unlocked no_locks ≡ no_locks
+put_none zero = refl
+put_none (suc zero) = refl
+put_none (suc (suc b)) = refl
+
+sized_just : (b z i : ℕ) (v : View) → (sized z (record v { locks = just_locked b i })).locks ≡ put b (sized_at z (locked_at i)) no_locks
+sized_just zero z i v = refl
+sized_just (suc zero) z i v = refl
+sized_just (suc (suc b)) z i v = refl
+
+pub sized_locks : (b z i : ℕ) (v : View) → v.locks ≡ just_locked b i → (sized z v).locks ≡ put b (sized_at z (locked_at i)) no_locks
+sized_locks b z i v e = ap (λ (ls : Three Lock). (sized z (record v { locks = ls })).locks) e ∙ sized_just b z i v
+
+module _ (b z i n : ℕ) (v v1 : View) (had : v.locks ≡ just_locked b i) (loaded : v1 ≡ sized z v) where
+  -- the lock, once the size was loaded
+  pub locks1 : v1.locks ≡ put b (sized_at z (locked_at i)) no_locks
+  locks1 = ap (λ (x : View). x.locks) loaded ∙ sized_locks b z i v had
+
+  pub lock1 : at b v1.locks ≡ sized_at z (locked_at i)
+  lock1 = ap (at b) locks1 ∙ at_put_same b _ no_locks
+
+  pub ends_full : (m : ℕ) (v2 v3 : View) → v2 ≡ dropping n m v1 → v3 ≡ with_lock_at b unlocked v2 → v3 ≡ refusing n m v
+  ends_full m v2 v3 e2 e3 =
+      let back : put b unlocked (sized z v).locks ≡ no_locks = ap (put b unlocked) (sized_locks b z i v had) ∙ (put_put b unlocked _ no_locks ∙ put_none b) in
+      e3 ∙ (ap (λ (x : View). with_lock_at b unlocked x) e2 ∙ (ap (λ (x : View). with_lock_at b unlocked (dropping n m x)) loaded ∙ (λ j. record (dropping n m v) { locks = back j })))
+
+  module _ (v2 : View) (seen : v2 ≡ with_lock_at b (with_room (at b v1.locks)) v1) where
+    abbrev roomy : Lock
+    roomy = with_room (sized_at z (locked_at i))
+
+    pub locks2 : v2.locks ≡ put b roomy no_locks
+    locks2 = ap (λ (x : View). x.locks) seen ∙ ((λ j. put b (with_room (lock1 j)) (locks1 j)) ∙ put_put b roomy _ no_locks)
+
+    pub lock2 : at b v2.locks ≡ roomy
+    lock2 = ap (at b) locks2 ∙ at_put_same b roomy no_locks
+
+    module _ (v3 : View) (put_is : v3 ≡ joining b n v2) where
+      pub locks3 : v3.locks ≡ put b (having_stored roomy) no_locks
+      locks3 = ap (λ (x : View). x.locks) put_is ∙ ((λ j. put b (having_stored (lock2 j)) (locks2 j)) ∙ put_put b (having_stored roomy) _ no_locks)
+
+      pub lock3 : at b v3.locks ≡ having_stored roomy
+      lock3 = ap (at b) locks3 ∙ at_put_same b _ no_locks
+
+      pub ends_put : (v4 : View) → v4 ≡ with_lock_at b unlocked v3 → v4 ≡ putting b n v
+      ends_put v4 given =
+          let back : put b unlocked v3.locks ≡ no_locks = ap (put b unlocked) locks3 ∙ (put_put b unlocked _ no_locks ∙ put_none b) in
+          given ∙ ((λ j. record (put_is j) { locks = back j }) ∙ ((λ j. record (joining b n (seen j)) { locks = no_locks }) ∙ (λ j. record (joining b n (with_lock_at b roomy (loaded j))) { locks = no_locks })))
+
+-- where the step of a put leads, and what it leaves of the words and the raised mark
+words_put : (holds : Bool) (p : Packet) (q : Qdisc) (s : Seat) → (behind_put holds p q s).qdisc ≡ q
+words_put true p q s = refl
+words_put false p q s = refl
+
+raised_put : (holds : Bool) (p : Packet) (q : Qdisc) (s : Seat) → (behind_put holds p q s).seat.raised ≡ s.raised
+raised_put true p q s = refl
+raised_put false p q s = refl
+
+module _ (b n : ℕ) (p : Packet) (holds : Bool) (v : View) (here : v.place.position ≡ Put p holds) where
+  pub put_leads : (putting b n v).place.position ≡ leads.behind_put holds p v
+  put_leads = ap (λ (y : Position). (step_at y Plain (seen_by v) v.place).seat.position) here ∙ cases holds
+    where
+      cases : (holds : Bool) → (behind_put holds p (put_answered Plain p (seen_by v)) v.place).seat.position ≡ leads.behind_put holds p v
+      cases true = refl
+      cases false = refl
+
+  pub full_leads : (seen : ℕ) → (refusing n seen v).place.position ≡ leads.behind_put holds p v
+  full_leads seen = ap (λ (y : Position). (step_at y FullSlot (seen_by v) v.place).seat.position) here ∙ cases holds
+    where
+      cases : (holds : Bool) → (behind_put holds p (put_answered FullSlot p (seen_by v)) v.place).seat.position ≡ leads.behind_put holds p v
+      cases true = refl
+      cases false = refl
+
+  pub put_heard : solo (putting b n v) ≡ heard (Join n b) (solo v)
+  put_heard =
+      let a : (step_at v.place.position Plain (seen_by v) v.place).seat.raised ≡ v.place.raised = ap (λ (y : Position). (step_at y Plain (seen_by v) v.place).seat.raised) here ∙ raised_put holds p (put_answered Plain p (seen_by v)) v.place in
+      let w : (step_at v.place.position Plain v.whole.qdisc v.place).qdisc ≡ put_answered Plain p v.whole.qdisc = ap (λ (y : Position). (step_at y Plain v.whole.qdisc v.place).qdisc) here ∙ words_put holds p (put_answered Plain p v.whole.qdisc) v.place in
+      let h = heard (Join n b) (solo v) in
+      λ j. record h { raised = a j; whole = record h.whole { missed = (w j).missed; draining = (w j).draining; scheduled = (w j).sched; locked = (w j).locked } }
+
+  pub full_heard : (seen : ℕ) → solo (refusing n seen v) ≡ heard (Full n seen) (solo v)
+  full_heard seen =
+      let a : (step_at v.place.position FullSlot (seen_by v) v.place).seat.raised ≡ v.place.raised = ap (λ (y : Position). (step_at y FullSlot (seen_by v) v.place).seat.raised) here ∙ raised_put holds p (put_answered FullSlot p (seen_by v)) v.place in
+      let w : (step_at v.place.position FullSlot v.whole.qdisc v.place).qdisc ≡ put_answered FullSlot p v.whole.qdisc = ap (λ (y : Position). (step_at y FullSlot v.whole.qdisc v.place).qdisc) here ∙ words_put holds p (put_answered FullSlot p v.whole.qdisc) v.place in
+      let h = heard (Full n seen) (solo v) in
+      λ j. record h { raised = a j; whole = record h.whole { missed = (w j).missed; draining = (w j).draining; scheduled = (w j).sched; locked = (w j).locked } }

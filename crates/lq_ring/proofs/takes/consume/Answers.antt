@@ -1,0 +1,96 @@
+use Rattle.std.proofs.Common.{◌≡◌, ℕ, ◌+◌, ◌-◌, ◌<◌, ◌≤◌, refl, sym, ap, ◌∙◌, subst, arith}
+use Rattle.lq_model.specs.Kept.{holds_lock}
+use Rattle.lq_model.specs.declared.machine.Position.{Position}
+use Rattle.lq_band.specs.Three.{at}
+use Rattle.lq_band.specs.Ring.{Ends, taken_on}
+use Rattle.lq_band.proofs.Three.{at_put_same}
+use Rattle.lq_table.specs.Views.{View}
+use Rattle.lq_table.specs.Rule.{shown}
+use Rattle.lq_table.specs.Rings.{finding_none, taking}
+use Rattle.lq_table.specs.Sees.{view, position}
+use Rattle.lq_table.specs.Told.{IsPacketOf}
+use Rattle.lq_table.specs.Solo.{solo}
+use Rattle.lq_ring.specs.Take.{consuming}
+use Rattle.lq_ring.proofs.TakeSteps.{sized_none, none_leads, none_heard, take_leads, take_heard, heads_at, tails_at, rest_at, consumes, rests_after, station_after, known_after}
+use Rattle.lq_ring.proofs.takes.consume.Goals as goal
+
+pub returns-then-found-eq0-clause-at : goal.returns-then-found-eq0-clause-at
+returns-then-found-eq0-clause-at g c second here =
+    let b = c.args.band in let v = view c.args.cpu.now in let loaded = c.load_size-size.ensures.size.0 ∙ sized_none c.load_size-size.result v c.requires.idle in
+    let none_ = c.head_slot-found.ensures.none c.if-found-eq0.true ∙ ap (λ (x : View). finding_none b x) loaded in
+    ap (λ (x : View). x.place.position) none_ ∙ none_leads b second v here c.requires.band
+
+pub returns-then-found-eq0-clause-step : goal.returns-then-found-eq0-clause-step
+returns-then-found-eq0-clause-step g c =
+    let b = c.args.band in let v = view c.args.cpu.now in let loaded = c.load_size-size.ensures.size.0 ∙ sized_none c.load_size-size.result v c.requires.idle in
+    let none_ = c.head_slot-found.ensures.none c.if-found-eq0.true ∙ ap (λ (x : View). finding_none b x) loaded in
+    ap (λ (x : View). solo x) none_ ∙ none_heard b c.requires.at.0 v c.requires.at.1
+
+pub discard_one-requires-clause-holder : goal.discard_one-requires-clause-holder
+discard_one-requires-clause-holder g c _ _ =
+    let b = c.args.band in let v = view c.args.cpu.now in let n = c.head_slot-found.result - 1 in let at_ = c.requires.at in
+    let loaded = c.load_size-size.ensures.size.0 ∙ sized_none c.load_size-size.result v c.requires.idle in
+    let took = c.head_slot-found.ensures.taken c.if-found-eq0.false ∙ ap (λ (x : View). taking b n x) loaded in (
+      ap (λ (x : View). holds_lock x.place.position) took ∙ ap holds_lock (take_leads b at_.0 v at_.1 n c.requires.band),
+      ap (λ (x : View). x.holder.turn) took ∙ c.requires.rests.1,
+      ap (λ (x : View). x.holder.size) took ∙ sym (c.load_size-size.ensures.holder (ap holds_lock at_.1)),
+      c.load_size-size.ensures.size.2,
+    )
+
+pub discard_one-requires-clause-station : goal.discard_one-requires-clause-station
+discard_one-requires-clause-station g c _ _ =
+    let b = c.args.band in let v = view c.args.cpu.now in let n = c.head_slot-found.result - 1 in let own : Ends = at b v.holder.ends in
+    let loaded = c.load_size-size.ensures.size.0 ∙ sized_none c.load_size-size.result v c.requires.idle in
+    let took = c.head_slot-found.ensures.taken c.if-found-eq0.false ∙ ap (λ (x : View). taking b n x) loaded in
+    let ends : at b (view c.head_slot-found.new.cpu).holder.ends ≡ taken_on own = ap (λ (x : View). at b x.holder.ends) took ∙ at_put_same b (taken_on own) v.holder.ends in (
+      shown v.holder,
+      c.head_slot-found.ensures.same.0.1 ∙ (c.load_size-size.ensures.same.1 ∙ c.requires.station),
+      ap (λ (x : ℕ). x + 1) (heads_at b v.holder c.requires.band) ∙ sym (ap (λ (e : Ends). e.head) ends),
+      tails_at b v.holder c.requires.band ∙ sym (ap (λ (e : Ends). e.tail) ends),
+    )
+
+pub discard_one-requires-clause-ends : goal.discard_one-requires-clause-ends
+discard_one-requires-clause-ends g c _ _ =
+    let b = c.args.band in let v = view c.args.cpu.now in let n = c.head_slot-found.result - 1 in let own : Ends = at b v.holder.ends in let z = c.load_size-size.result in
+    let loaded = c.load_size-size.ensures.size.0 ∙ sized_none z v c.requires.idle in
+    let took = c.head_slot-found.ensures.taken c.if-found-eq0.false ∙ ap (λ (x : View). taking b n x) loaded in
+    let ends : at b (view c.head_slot-found.new.cpu).holder.ends ≡ taken_on own = ap (λ (x : View). at b x.holder.ends) took ∙ at_put_same b (taken_on own) v.holder.ends in
+    let rest = rest_at v.holder.size b v.holder.ends c.requires.rests.0 in let first = rest.0 in let within = rest.1 in
+    let size : z ≡ v.holder.size = c.load_size-size.ensures.holder (ap holds_lock c.requires.at.1) in
+    subst (λ (e : Ends). (e.edge ≡ e.head) × (e.tail < e.head) × (e.head ≤ z)) (sym ends) (refl, omega arith, omega arith)
+
+pub returns-clause-taken : goal.returns-clause-taken
+returns-clause-taken g c =
+    let b = c.args.band in let v = view c.args.cpu.now in let n = c.head_slot-found.result - 1 in let z = c.load_size-size.result in
+    let loaded = c.load_size-size.ensures.size.0 ∙ sized_none z v c.requires.idle in
+    let took = c.head_slot-found.ensures.taken c.if-found-eq0.false ∙ ap (λ (x : View). taking b n x) loaded in
+    consumes b n z v (view c.head_slot-found.new.cpu) (view c.discard_one.new.cpu) (c.load_size-size.ensures.holder (ap holds_lock c.requires.at.1)) took c.discard_one.ensures.emptied c.discard_one.ensures.rested
+
+pub returns-clause-packet : goal.returns-clause-packet
+returns-clause-packet g c =
+    let loaded = c.load_size-size.ensures.size.0 ∙ sized_none c.load_size-size.result (view c.args.cpu.now) c.requires.idle in
+    subst (λ (x : View). IsPacketOf x.share.about (c.head_slot-found.result - 1)) loaded (c.head_slot-found.ensures.known c.if-found-eq0.false)
+
+pub returns-clause-at : goal.returns-clause-at
+returns-clause-at g c =
+    let b = c.args.band in let v = view c.args.cpu.now in let n = c.head_slot-found.result - 1 in let at_ = c.requires.at in
+    ap (λ (x : View). x.place.position) (returns-clause-taken g c) ∙ take_leads b at_.0 v at_.1 n c.requires.band
+
+pub returns-clause-rests : goal.returns-clause-rests
+returns-clause-rests g c = rests_after c.args.band (c.head_slot-found.result - 1) (view c.args.cpu.now) (view c.discard_one.new.cpu) c.requires.rests.0 (returns-clause-taken g c)
+
+pub returns-clause-station : goal.returns-clause-station
+returns-clause-station g c =
+    let v = view c.args.cpu.now in
+    station_after c.args.band (c.head_slot-found.result - 1) v (view c.discard_one.new.cpu) c.discard_one.new.cpu.station c.requires.band (returns-clause-taken g c)
+    (c.discard_one.ensures.station (shown v.holder) (c.head_slot-found.ensures.same.0.1 ∙ (c.load_size-size.ensures.same.1 ∙ c.requires.station)))
+
+pub returns-clause-known : goal.returns-clause-known
+returns-clause-known g c same =
+    let v = view c.args.cpu.now in
+    known_after c.args.band (c.head_slot-found.result - 1) v (view c.discard_one.new.cpu) (rest_at v.holder.size c.args.band v.holder.ends c.requires.rests.0) (returns-clause-taken g c) same
+
+pub returns-clause-step : goal.returns-clause-step
+returns-clause-step g c =
+    let at_ = c.requires.at in
+    ap (λ (x : View). solo x) (returns-clause-taken g c) ∙ take_heard c.args.band at_.0 (view c.args.cpu.now) at_.1 (c.head_slot-found.result - 1)

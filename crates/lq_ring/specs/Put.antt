@@ -1,0 +1,32 @@
+-- What a put makes of what a seat knows.
+use Rattle.std.specs.Prelude.{ℕ, Bool, if◌then◌else◌}
+use Rattle.lq_model.specs.Steps.{dequeue_begins}
+use Rattle.lq_model.specs.declared.machine.Attempt.TheVariants.{Queued}
+use Rattle.lq_model.specs.declared.machine.Packet.{Packet}
+use Rattle.lq_model.specs.declared.machine.Position.{Position}
+use Rattle.lq_model.specs.declared.machine.Position.TheVariants.{Try1}
+use Rattle.lq_band.specs.Three.{Three, put, all_three}
+use Rattle.lq_band.specs.Ring.{Lock, unlocked, locked_at}
+use Rattle.lq_table.specs.Views.{View}
+use Rattle.lq_table.specs.Told.{seen_by}
+use Rattle.lq_table.specs.Rings.{joining, dropping}
+
+-- it has no producer lock
+abbrev pub no_locks : Three Lock
+no_locks = all_three unlocked
+
+-- it has just got that of the band, with the index i
+abbrev pub just_locked : ℕ → ℕ → Three Lock
+just_locked b i = put b (locked_at i) no_locks
+
+-- the packet joined the band, and the producer lock was given back
+abbrev pub putting : ℕ → ℕ → View → View
+putting b n v = record (joining b n v) { locks = no_locks }
+
+-- it was dropped as full, and the producer lock was given back
+abbrev pub refusing : ℕ → ℕ → View → View
+refusing n seen v = record (dropping n seen v) { locks = no_locks }
+
+-- where a put leads: one that has the run lock begins to dequeue, another tries that lock
+abbrev pub behind_put : Bool → Packet → View → Position
+behind_put holds p v = if holds then dequeue_begins (seen_by v) else Try1 (Queued p)

@@ -1,0 +1,110 @@
+//! Puts by many senders, under a band's producer lock.
+ghost use Rattle.std.specs.Prelude.{◌≡◌, ◌≢◌, ℕ, ◌+◌, ◌*◌, ◌-◌, ◌<◌, ◌≤◌, Bool, true, false, Some, None, MatchResult};
+ghost use Rattle.lq_model.specs.Account.{Join, Full as FullEvent};
+ghost use Rattle.lq_model.specs.declared.machine.Position.TheVariants.{Put};
+ghost use Rattle.lq_ring_core.specs.Ring.{next_place};
+ghost use Rattle.lq_band.specs.Three.{at};
+ghost use Rattle.lq_table.specs.Sees.{view, position, slot, packet_at, IsSeatOf, IsSameSeat, IsElseSame, Brings};
+ghost use Rattle.lq_table.specs.Solo.{solo, heard};
+ghost use Rattle.lq_table.specs.SolePut.{SeesEnd};
+ghost use Rattle.lq_ring.specs.Put.{no_locks, just_locked, putting, refusing, behind_put};
+
+use crossbeam_utils::Backoff;
+use lq_device::TxDevice;
+use lq_ring_core::Full;
+use lq_table::{Cpu, Shared};
+use std::sync::Wait;
+
+/// Waits for the band's producer lock, `producer_lock` of a `ptr_ring`, and gives the producer index under it.
+fn lock_producer<'a, D: TxDevice, R: Wait>(
+    rt: &R,
+    shared: &Shared<'a, D>,
+    cpu: &mut Cpu<D>,
+    band: u32,
+) -> u32
+    requires seat { IsSeatOf shared.now cpu.old }
+    requires band { band < 3 }
+    requires idle { (view cpu.old).locks ≡ no_locks }
+    ensures same { IsSameSeat cpu.old cpu.new × (cpu.new.station ≡ cpu.old.station) × (slot cpu.new ≡ slot cpu.old) }
+    ensures locked { (view cpu.new ≡ record (view cpu.old) { locks = just_locked band result }) × (at band cpu.new.indices ≡ result) × (result < shared.now.max_len) }
+{
+    let backoff = Backoff::new();
+    for _ in rt.forever() {
+        let seen = shared.load_producer(cpu, band);
+        if seen % 2 == 0 {
+            if shared.take_producer(cpu, band, seen) {
+                return (seen / 2) as u32;
+            }
+        }
+        backoff.snooze();
+    }
+    unreachable!()
+}
+
+/// The index behind another, with 0 behind the last.
+fn next_index(index: u32, size: u32) -> u32
+    requires { index < 65536 }
+    ensures { result ≡ next_place size index }
+{
+    if index + 1 == size { 0 } else { index + 1 }
+}
+
+/// `__ptr_ring_produce` with the end of `ptr_ring_produce`: the slot at the index is looked at, and written where it is
+/// empty, and the producer lock is given back.
+fn produce_locked<'a, D: TxDevice>(
+    shared: &Shared<'a, D>,
+    cpu: &mut Cpu<D>,
+    band: u32,
+    n: u32,
+    index: u32,
+) -> Result<(), Full>
+    requires seat { IsSeatOf shared.now cpu.old }
+    requires band { band < 3 }
+    requires at { (holds : Bool) × (position cpu.old ≡ Put (packet_at shared.now n) holds) }
+    requires packet { Brings shared.now n band cpu.old × ((view cpu.old).packets.owed ≡ None) }
+    requires locked { ((view cpu.old).locks ≡ just_locked band index) × (at band cpu.old.indices ≡ index) × (index < shared.now.max_len) × ((view cpu.old).holder.turn ≡ None) }
+    ensures same { IsElseSame cpu.old cpu.new }
+    ensures put { MatchResult result (λ _. view cpu.new ≡ putting band n (view cpu.old)) (λ full. view cpu.new ≡ refusing n full.seen (view cpu.old)) }
+    ensures sole { MatchResult result (λ _. SeesEnd band (view cpu.old) 0) (λ full. SeesEnd band (view cpu.old) (full.seen + 1)) }
+{
+    let size = shared.load_size(cpu);
+    let found = shared.producer_slot(cpu, band);
+    if found != 0 {
+        shared.give_producer(cpu, band, index);
+        return Err(Full {
+            seen: (found - 1) as u32,
+        });
+    }
+    shared.store_slot(cpu, band, n);
+    let next = next_index(index, size as u32);
+    shared.give_producer(cpu, band, next);
+    Ok(())
+}
+
+/// Puts packet `n`, which the seat brings, into its band's ring, as `ptr_ring_produce` of include/linux/ptr_ring.h does for
+/// `pfifo_fast_enqueue` of net/sched/sch_generic.c. It waits for the band's producer lock, and for nothing else.
+///
+/// Full comes only where the slot at the producer index, loaded under that lock, had the packet `seen`: no word of the
+/// ring has changed then, and the fate that names `seen` is owed for the packet. A seat that has the table alone gets
+/// Full exactly where the account says that the band is full.
+pub fn produce<'a, D: TxDevice, R: Wait>(
+    rt: &R,
+    shared: &Shared<'a, D>,
+    cpu: &mut Cpu<D>,
+    band: u32,
+    n: u32,
+) -> Result<(), Full>
+    requires seat { IsSeatOf shared.now cpu.old }
+    requires band { band < 3 }
+    requires at { (holds : Bool) × (position cpu.old ≡ Put (packet_at shared.now n) holds) }
+    requires packet { Brings shared.now n band cpu.old × ((view cpu.old).packets.owed ≡ None) }
+    requires idle { ((view cpu.old).locks ≡ no_locks) × ((view cpu.old).holder.turn ≡ None) }
+    ensures same { IsSameSeat cpu.old cpu.new × (cpu.new.station ≡ cpu.old.station) × (slot cpu.new ≡ slot cpu.old) }
+    ensures put { MatchResult result (λ _. view cpu.new ≡ putting band n (view cpu.old)) (λ full. view cpu.new ≡ refusing n full.seen (view cpu.old)) }
+    ensures at { (holds : Bool) → position cpu.old ≡ Put (packet_at shared.now n) holds → position cpu.new ≡ behind_put holds (packet_at shared.now n) (view cpu.old) }
+    ensures step { MatchResult result (λ _. solo (view cpu.new) ≡ heard (Join n band) (solo (view cpu.old))) (λ full. solo (view cpu.new) ≡ heard (FullEvent n full.seen) (solo (view cpu.old))) }
+    ensures sole { MatchResult result (λ _. SeesEnd band (view cpu.old) 0) (λ full. SeesEnd band (view cpu.old) (full.seen + 1)) }
+{
+    let index = lock_producer(rt, shared, cpu, band);
+    produce_locked(shared, cpu, band, n, index)
+}
