@@ -5,7 +5,7 @@ use Rattle.std.proofs.lemmas.Bool.{cases_lt, cond_both}
 use Rattle.std.proofs.lemmas.List.{length-map, map-append}
 use Rattle.std.proofs.lemmas.Option.{same_Some, slice_get_cases, slice_get-map}
 use Rattle.lq_model.specs.Account.{Account, held}
-use Rattle.lq_model.specs.Alone.{Running, after_packets, after_run, alone, before_of, brought_in, bypass_of, changed_at, events_before, events_behind, fate_in, fates_from, finished, new_station, new_stations, opened, served, with_events, with_packet, with_turn, with_wakes}
+use Rattle.lq_model.specs.Alone.{RunningStation, after_packets, after_run, alone, before_of, brought_in, bypass_of, changed_at, events_before, events_after, fate_in, run_fates, finished, new_station, new_stations, opened, served, with_events, with_packet, with_turn, with_wakes}
 use Rattle.lq_model.specs.Numbers.{first_numbers}
 use Rattle.lq_model.specs.Plan.{Plan, station_in}
 use Rattle.lq_model.specs.declared.fate.Fate.{Fate}
@@ -47,7 +47,7 @@ length-changed (suc i) f [] = refl
 length-changed zero f (x ∷ xs) = refl
 length-changed (suc i) f (x ∷ xs) = ap suc (length-changed i f xs)
 
-new-some : (k : ℕ) (ss : List StationPlan) (j : ℕ) (y : Running) → slice_get (new_stations k ss) j ≡ Some y → (s : StationPlan) × (slice_get ss j ≡ Some s) × (new_station (k + j) s ≡ y)
+new-some : (k : ℕ) (ss : List StationPlan) (j : ℕ) (y : RunningStation) → slice_get (new_stations k ss) j ≡ Some y → (s : StationPlan) × (slice_get ss j ≡ Some s) × (new_station (k + j) s ≡ y)
 new-some k [] j y e = cc
 new-some k (s ∷ ss) zero y e = (s, refl, ap (λ n. new_station n s) (omega arith) ∙ same_Some _ y e)
 new-some k (s ∷ ss) (suc j) y e = let rest = new-some (k + 1) ss j y e in (rest.0, rest.1, ap (λ n. new_station n rest.0) (omega arith) ∙ rest.2)
@@ -90,9 +90,9 @@ all-some f (suc count) some =
 
 -- ALL STATIONS
 
-record AreInRun (plan : Plan) (infos : List Info) (n : ℕ) (stations : List Running) : Type 0 where
+record AreInRun (plan : Plan) (infos : List Info) (n : ℕ) (stations : List RunningStation) : Type 0 where
   one_each : length stations ≡ length plan.stations
-  each : (j : ℕ) (s : Running) → slice_get stations j ≡ Some s → IsInRun plan infos j n s
+  each : (j : ℕ) (s : RunningStation) → slice_get stations j ≡ Some s → IsInRun plan infos j n s
 
 module _ (plan : Plan) (infos : List Info) (plain : IsPlain plan infos) where
   all-begin : AreInRun plan infos 0 (new_stations 0 plan.stations)
@@ -102,14 +102,14 @@ module _ (plan : Plan) (infos : List Info) (plain : IsPlain plan infos) where
         subst (IsInRun plan infos j 0) (ap (λ k. new_station k new.0) (omega arith) ∙ new.2) (begins_in_run plan infos j new.0 new.1 (plain.have_slots j new.0 new.1)));
   }
 
-  all-mapped : (f : Running → Running) (n : ℕ) (stations : List Running) → ((j : ℕ) (s : Running) → IsInRun plan infos j n s → IsInRun plan infos j n (f s))
+  all-mapped : (f : RunningStation → RunningStation) (n : ℕ) (stations : List RunningStation) → ((j : ℕ) (s : RunningStation) → IsInRun plan infos j n s → IsInRun plan infos j n (f s))
       → AreInRun plan infos n stations → AreInRun plan infos n (map f stations)
   all-mapped f n stations keeps all = record {
     one_each = length-map stations f ∙ all.one_each;
     each = λ j s at. (let old = map-some f stations j s at in subst (IsInRun plan infos j n) old.2 (keeps j old.0 (all.each j old.0 old.1)));
   }
 
-  all-brought : (n : ℕ) (stations : List Running) → n < length infos → AreInRun plan infos n stations → AreInRun plan infos (n + 1) (with_packet plan infos n stations)
+  all-brought : (n : ℕ) (stations : List RunningStation) → n < length infos → AreInRun plan infos n stations → AreInRun plan infos (n + 1) (with_packet plan infos n stations)
   all-brought n stations within all = record {
     one_each = length-changed (station_in infos n) _ stations ∙ all.one_each;
     each = λ j s at. elim (changed-some (station_in infos n) (λ s. served infos (brought_in infos (bypass_of plan (station_in infos n)) n s)) stations j s at) [
@@ -119,17 +119,17 @@ module _ (plan : Plan) (infos : List Info) (plain : IsPlain plan infos) where
     ];
   }
 
-  all-woken : (n m : ℕ) (stations : List Running) → AreInRun plan infos m stations → AreInRun plan infos m (with_wakes plan n stations)
+  all-woken : (n m : ℕ) (stations : List RunningStation) → AreInRun plan infos m stations → AreInRun plan infos m (with_wakes plan n stations)
   all-woken n m stations all = cond_both ((n + 1) % plan.irq_every == 0) (map opened stations) stations (AreInRun plan infos m)
       (λ wakes. all-mapped opened m stations (λ j s h. opened_in_run plan infos j plain.queues m s h) all) (λ none. all)
 
   none-before : (n : ℕ) → events_before plan n ≡ []
   none-before n = ap (λ count. filter (λ event. before_of plan event == n) (first_numbers count)) (ap length plain.no_events)
 
-  none-behind : (n : ℕ) → events_behind plan n ≡ []
-  none-behind n = ap (λ count. filter (λ event. nat_le n (before_of plan event)) (first_numbers count)) (ap length plain.no_events)
+  none-after : (n : ℕ) → events_after plan n ≡ []
+  none-after n = ap (λ count. filter (λ event. nat_le n (before_of plan event)) (first_numbers count)) (ap length plain.no_events)
 
-  all-turn : (n : ℕ) (stations : List Running) → n < length infos → AreInRun plan infos n stations → AreInRun plan infos (n + 1) (with_turn plan infos n stations)
+  all-turn : (n : ℕ) (stations : List RunningStation) → n < length infos → AreInRun plan infos n stations → AreInRun plan infos (n + 1) (with_turn plan infos n stations)
   all-turn n stations within all =
       all-mapped (served infos) (n + 1) _ (λ j s h. served_in_run plan infos j plain.queues (n + 1) s h)
       (all-woken n (n + 1) _ (all-brought n _ within
@@ -140,35 +140,35 @@ module _ (plan : Plan) (infos : List Info) (plain : IsPlain plan infos) where
   all-packets (suc n) within = subst (λ k. AreInRun plan infos k (with_turn plan infos n (after_packets plan infos (new_stations 0 plan.stations) n))) (omega arith)
       (all-turn n _ (omega arith) (all-packets n (omega arith)))
 
-  -- the stations behind the run
-  abbrev ended : List Running
+  -- the stations after the run
+  abbrev ended : List RunningStation
   ended = after_run plan infos (new_stations 0 plan.stations)
 
-  all-behind : AreInRun plan infos (length infos) (with_events plan infos (events_behind plan (length infos)) (after_packets plan infos (new_stations 0 plan.stations) (length infos)))
-  all-behind = subst (λ events. AreInRun plan infos (length infos) (with_events plan infos events (after_packets plan infos (new_stations 0 plan.stations) (length infos))))
-      (sym (none-behind (length infos))) (all-packets (length infos) (omega arith))
+  all-after : AreInRun plan infos (length infos) (with_events plan infos (events_after plan (length infos)) (after_packets plan infos (new_stations 0 plan.stations) (length infos)))
+  all-after = subst (λ events. AreInRun plan infos (length infos) (with_events plan infos events (after_packets plan infos (new_stations 0 plan.stations) (length infos))))
+      (sym (none-after (length infos))) (all-packets (length infos) (omega arith))
 
   all-ended : AreInRun plan infos (length infos) ended
-  all-ended = all-mapped (finished infos) (length infos) _ (λ j s h. finished_in_run plan infos j plain.queues (length infos) s h) all-behind
+  all-ended = all-mapped (finished infos) (length infos) _ (λ j s h. finished_in_run plan infos j plain.queues (length infos) s h) all-after
 
-  none-held : (j : ℕ) (s : Running) → slice_get ended j ≡ Some s → held s.account ≡ []
+  none-held : (j : ℕ) (s : RunningStation) → slice_get ended j ≡ Some s → held s.account ≡ []
   none-held j s at =
-      let old = map-some (finished infos) (with_events plan infos (events_behind plan (length infos)) (after_packets plan infos (new_stations 0 plan.stations) (length infos))) j s at in
-      let h = all-behind.each j old.0 old.1 in
-      subst (λ (t : Running). held t.account ≡ []) old.2 ((finished_by_rounds infos old.0 plain.queues h.one_queue).nothing_held h.active)
+      let old = map-some (finished infos) (with_events plan infos (events_after plan (length infos)) (after_packets plan infos (new_stations 0 plan.stations) (length infos))) j s at in
+      let h = all-after.each j old.0 old.1 in
+      subst (λ (t : RunningStation). held t.account ≡ []) old.2 ((finished_by_rounds infos old.0 plain.queues h.one_queue).nothing_held h.active)
 
   -- THE FATES
 
-  station-at : (j : ℕ) → j < length plan.stations → (s : Running) × (slice_get ended j ≡ Some s)
+  station-at : (j : ℕ) → j < length plan.stations → (s : RunningStation) × (slice_get ended j ≡ Some s)
   station-at j below = elim (slice_get_cases ended j).1 [
     | inl here ↦ (here.0, here.2)
     | inr past ↦ absurd (let beyond = past.0 in let same = all-ended.one_each in omega arith)
   ]
 
-  fate-is : (n j : ℕ) (s : Running) → station_in infos n ≡ j → slice_get ended j ≡ Some s → fate_in ended infos n ≡ s.account.fates n
-  fate-is n j s of at = ap (λ o. option_and_then (λ (s : Running). s.account.fates n) o) (ap (slice_get ended) of ∙ at)
+  fate-is : (n j : ℕ) (s : RunningStation) → station_in infos n ≡ j → slice_get ended j ≡ Some s → fate_in ended infos n ≡ s.account.fates n
+  fate-is n j s of at = ap (λ o. option_and_then (λ (s : RunningStation). s.account.fates n) o) (ap (slice_get ended) of ∙ at)
 
-  decided-at : (n j : ℕ) (s : Running) → n < length infos → station_in infos n ≡ j → slice_get ended j ≡ Some s → fate_in ended infos n ≡ Some (unwrap_or (fate_in ended infos n) (Full 0))
+  decided-at : (n j : ℕ) (s : RunningStation) → n < length infos → station_in infos n ≡ j → slice_get ended j ≡ Some s → fate_in ended infos n ≡ Some (unwrap_or (fate_in ended infos n) (Full 0))
   decided-at n j s within of at =
       let fate = decided plain.bands (all-ended.each j s at).at (none-held j s at) (all-ended.each j s at).one_queue.hand n within of in
       some-unwraps (fate_in ended infos n) fate.0 (fate-is n j s of at ∙ fate.1)
@@ -186,7 +186,7 @@ module _ (plan : Plan) (infos : List Info) (plain : IsPlain plan infos) where
   one-fate-each : length fates ≡ length infos
   one-fate-each = length-map (first_numbers (length infos)) _ ∙ length-first (length infos)
 
-  settled-station : (j : ℕ) (s : Running) → j < length plan.stations → slice_get ended j ≡ Some s → IsSettledStation plan infos fates j s.account
+  settled-station : (j : ℕ) (s : RunningStation) → j < length plan.stations → slice_get ended j ≡ Some s → IsSettledStation plan infos fates j s.account
   settled-station j s below at =
       let h = all-ended.each j s at in
       law_of_accounts plan infos fates j h.at.past s.account below
@@ -194,18 +194,18 @@ module _ (plan : Plan) (infos : List Info) (plain : IsPlain plan infos) where
       (λ n within of. fates-are n within ∙ sym (decided-at n j s within of at) ∙ fate-is n j s of at))
 
   abbrev account-of : ℕ → Account
-  account-of j = option_map_or (λ (s : Running). s.account) (slice_get ended j) (start_of plan j)
+  account-of j = option_map_or (λ (s : RunningStation). s.account) (slice_get ended j) (start_of plan j)
 
   all-settled : AreSettledStations plan infos fates account-of
   all-settled = record {
     one_each = one-fate-each;
     of_plan = plain.stations;
     each = λ j below. (let here = station-at j below in
-        subst (IsSettledStation plan infos fates j) (sym (ap (λ o. option_map_or (λ (s : Running). s.account) o (start_of plan j)) here.1)) (settled-station j here.0 below here.1));
+        subst (IsSettledStation plan infos fates j) (sym (ap (λ o. option_map_or (λ (s : RunningStation). s.account) o (start_of plan j)) here.1)) (settled-station j here.0 below here.1));
   }
 
   alone-fates : alone plan infos ≡ map Some fates
-  unfolding fates_from
+  unfolding run_fates
   alone-fates = all-some (fate_in ended infos) (length infos) (λ n within. (let here = station-at (station_in infos n) (plain.stations n within) in decided-at n (station_in infos n) here.0 within refl here.1))
 
 pub alone_settles : (plan : Plan) (infos : List Info) → IsPlain plan infos → AreAloneSettled plan infos

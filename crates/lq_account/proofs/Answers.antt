@@ -15,24 +15,24 @@ with_at_same n x f = cond-true _ _ _ (eq-eqb n n refl)
 pub with_at_other : {X : Type 0} (n k : ℕ) (x : X) (f : ℕ → X) → k ≢ n → with_at n x f k ≡ f k
 with_at_other n k x f other = cond-false _ _ _ (ne_eqb k n other)
 
--- what lies in the requeue slot, and the stop value, behind an answer
-abbrev pub slot_behind : Tx → ℕ → Option ℕ
-slot_behind Sent m = None
-slot_behind SentStop m = None
-slot_behind SentHang m = None
-slot_behind Busy m = Some m
+-- what lies in the requeue slot, and the stop value, after an answer
+abbrev pub slot_after : Tx → ℕ → Option ℕ
+slot_after Sent m = None
+slot_after SentStop m = None
+slot_after SentHang m = None
+slot_after Busy m = Some m
 
-abbrev pub stop_behind : Tx → ℕ
-stop_behind Sent = 0
-stop_behind SentStop = 1
-stop_behind SentHang = 2
-stop_behind Busy = 0
+abbrev pub stop_number_after : Tx → ℕ
+stop_number_after Sent = 0
+stop_number_after SentStop = 1
+stop_number_after SentHang = 2
+stop_number_after Busy = 0
 
 -- The packet m was in hand. It is sent, or lies in the requeue slot, and nothing else has changed but the stop value.
 pub record IsAnswered (answer : Tx) (m : ℕ) (a b : Account) : Type 0 where
   pub len : b.len ≡ a.len
   pub bands : b.bands ≡ a.bands
-  pub slot : b.slot ≡ slot_behind answer m
+  pub slot : b.slot ≡ slot_after answer m
   pub hand : b.hand ≡ None
   pub unit : b.unit ≡ a.unit
   pub sent : b.sent a.unit ≡ a.sent a.unit ++ taken answer m
@@ -40,7 +40,7 @@ pub record IsAnswered (answer : Tx) (m : ℕ) (a b : Account) : Type 0 where
   pub fate : is_busy answer ≡ false → b.fates m ≡ Some (fate.Sent a.unit (length (a.sent a.unit)))
   pub fate_others : (n : ℕ) → n ≢ m → b.fates n ≡ a.fates n
   pub fate_busy : is_busy answer ≡ true → b.fates ≡ a.fates
-  pub stops : b.stops ≡ stop_behind answer ∷ []
+  pub stops : b.stops ≡ stop_number_after answer ∷ []
   pub down : b.down ≡ a.down
 
 module _ (m : ℕ) (a : Account) (hand : a.hand ≡ Some m) (stops : a.stops ≡ 0 ∷ []) where
@@ -60,9 +60,9 @@ module _ (m : ℕ) (a : Account) (hand : a.hand ≡ Some m) (stops : a.stops ≡
   answered_busy = ap (λ hand. record a { slot = hand; hand = None }) hand
 
   -- by parts
-  sent-behind : (answer : Tx) (stop : ℕ) → slot_behind answer m ≡ None → taken answer m ≡ m ∷ [] → is_busy answer ≡ false → stop_behind answer ≡ stop → a.slot ≡ None
+  sent-after : (answer : Tx) (stop : ℕ) → slot_after answer m ≡ None → taken answer m ≡ m ∷ [] → is_busy answer ≡ false → stop_number_after answer ≡ stop → a.slot ≡ None
       → IsAnswered answer m a (record (sent_from_hand (Some m) a) { stops = stop ∷ [] })
-  sent-behind answer stop slot takes busy stop_is empty = record {
+  sent-after answer stop slot takes busy stop_is empty = record {
     len = refl;
     bands = refl;
     hand = refl;
@@ -79,9 +79,9 @@ module _ (m : ℕ) (a : Account) (hand : a.hand ≡ Some m) (stops : a.stops ≡
 
   pub is_answered : (answer : Tx) → a.slot ≡ None → IsAnswered answer m a (answered answer 0 a)
   is_answered Sent empty = subst (IsAnswered Sent m a) (ap (λ stops. record (sent_from_hand (Some m) a) { stops = stops }) (sym stops) ∙ sym answered_sent)
-      (sent-behind Sent 0 refl refl refl refl empty)
-  is_answered SentStop empty = subst (IsAnswered SentStop m a) (sym answered_stop) (sent-behind SentStop 1 refl refl refl refl empty)
-  is_answered SentHang empty = subst (IsAnswered SentHang m a) (sym answered_hang) (sent-behind SentHang 2 refl refl refl refl empty)
+      (sent-after Sent 0 refl refl refl refl empty)
+  is_answered SentStop empty = subst (IsAnswered SentStop m a) (sym answered_stop) (sent-after SentStop 1 refl refl refl refl empty)
+  is_answered SentHang empty = subst (IsAnswered SentHang m a) (sym answered_hang) (sent-after SentHang 2 refl refl refl refl empty)
   is_answered Busy empty = subst (IsAnswered Busy m a) (sym answered_busy) (record {
     len = refl;
     bands = refl;

@@ -7,7 +7,7 @@ use Rattle.lq_model.specs.Settled.{IsUnitOf, IsLastUnit}
 use Rattle.lq_model.specs.declared.fate.Cause.TheVariants as cause
 use Rattle.lq_model.specs.declared.fate.Fate.TheVariants as fate
 use Rattle.lq_model.specs.declared.fate.Info.{Info}
-use Rattle.lq_account.specs.Accounts.{HaveAllCome, NoSwapBehindHang}
+use Rattle.lq_account.specs.Accounts.{HaveAllCome, NoSwapAfterHang}
 use Rattle.lq_account.proofs.Lists.{none-in, here-in, there-in, cons-in}
 use Rattle.lq_account.proofs.Changes.{Gives, fate-cases, unit-cases}
 use Rattle.lq_account.proofs.Changes.Gives.{gives_refused, gives_purged}
@@ -17,8 +17,8 @@ pub record AreCaused (plan : Plan) (station : ℕ) (past : List Event) (a : Acco
   pub refused : (n event : ℕ) → a.fates n ≡ Some (fate.Refused event) → IsPlannedDown plan station event
   pub purged : (n event : ℕ) → a.fates n ≡ Some (fate.Purged (cause.Event event)) → IsPlannedDown plan station event
   pub hung : (n unit : ℕ) → a.fates n ≡ Some (fate.Purged (cause.Hung unit)) → Contains past (Purge (cause.Hung unit))
-  -- the unit stays where no device is exchanged behind a purge of a hung one
-  pub stays : (unit : ℕ) → NoSwapBehindHang past → Contains past (Purge (cause.Hung unit)) → a.unit ≡ unit
+  -- the unit stays where no device is exchanged after a purge of a hung one
+  pub stays : (unit : ℕ) → NoSwapAfterHang past → Contains past (Purge (cause.Hung unit)) → a.unit ≡ unit
 
 pub caused-start : (plan : Plan) (station len unit queues : ℕ) → AreCaused plan station [] (new_account len unit queues)
 caused-start plan station len unit queues = record {
@@ -28,10 +28,10 @@ caused-start plan station len unit queues = record {
   stays = λ unit none h. absurd (none-in [] (Purge (cause.Hung unit)) refl h);
 }
 
-fewer-swaps : (e : Event) (past : List Event) → NoSwapBehindHang (e ∷ past) → NoSwapBehindHang past
+fewer-swaps : (e : Event) (past : List Event) → NoSwapAfterHang (e ∷ past) → NoSwapAfterHang past
 fewer-swaps e past none later before old new is = none (e ∷ later) before old new (ap (λ es. e ∷ es) is)
 
-no-swap-now : (u unit : ℕ) (past : List Event) → NoSwapBehindHang (Swap u ∷ past) → Contains past (Purge (cause.Hung unit)) → ⊥
+no-swap-now : (u unit : ℕ) (past : List Event) → NoSwapAfterHang (Swap u ∷ past) → Contains past (Purge (cause.Hung unit)) → ⊥
 no-swap-now u unit past none hung = none [] past unit u refl hung
 
 module _ (plan : Plan) (infos : List Info) (station : ℕ) (past : List Event) (a : Account) (used : AreUsed plan station past a) (h : AreCaused plan station past a) where
@@ -44,12 +44,12 @@ module _ (plan : Plan) (infos : List Info) (station : ℕ) (past : List Event) (
   new-hung : (e : Event) (n unit : ℕ) → Gives a e n (fate.Purged (cause.Hung unit)) → Contains (e ∷ past) (Purge (cause.Hung unit))
   new-hung e n unit (gives_purged c m held) = here-in (Purge (cause.Hung unit)) past
 
-  stays-step : (e : Event) → MayCome infos station past a e → (unit : ℕ) → NoSwapBehindHang (e ∷ past) → Contains (e ∷ past) (Purge (cause.Hung unit)) → (after e a).unit ≡ unit
+  stays-step : (e : Event) → MayCome infos station past a e → (unit : ℕ) → NoSwapAfterHang (e ∷ past) → Contains (e ∷ past) (Purge (cause.Hung unit)) → (after e a).unit ≡ unit
   stays-step e may unit none here = elim (cons-in e past (Purge (cause.Hung unit)) here) [
     | inl now ↦ subst (λ e. (after e a).unit ≡ unit) (sym now) (hangs (subst (λ e. MayCome infos station past a e) now may))
     | inr old ↦ elim (unit-cases e a) [
       | inl same ↦ same ∙ h.stays unit (fewer-swaps e past none) old
-      | inr swap ↦ absurd (no-swap-now swap.0 unit past (subst (λ e. NoSwapBehindHang (e ∷ past)) swap.1 none) old)
+      | inr swap ↦ absurd (no-swap-now swap.0 unit past (subst (λ e. NoSwapAfterHang (e ∷ past)) swap.1 none) old)
     ]
   ]
     where
@@ -65,7 +65,7 @@ module _ (plan : Plan) (infos : List Info) (station : ℕ) (past : List Event) (
   }
 
 -- where all swaps have come, the unit of such a purge is the last one
-pub last-unit : (plan : Plan) (station : ℕ) (past : List Event) (a : Account) → AreUsed plan station past a → AreCaused plan station past a → HaveAllCome plan station past → NoSwapBehindHang past
+pub last-unit : (plan : Plan) (station : ℕ) (past : List Event) (a : Account) → AreUsed plan station past a → AreCaused plan station past a → HaveAllCome plan station past → NoSwapAfterHang past
     → (n unit : ℕ) → a.fates n ≡ Some (fate.Purged (cause.Hung unit)) → IsLastUnit plan station unit
 last-unit plan station past a used caused events none n unit fate = record {
   used = subst (IsUnitOf plan station) is used.unit;

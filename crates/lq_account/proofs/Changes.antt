@@ -96,7 +96,7 @@ line-cases Send a b n = go a.hand
 line-cases (Resize len event) a b n = λ h. inl (drop-in (a.bands b).taken (a.bands b).line n (take-in len (held_in a b) n h))
 line-cases e a b n = inl
 
--- what a band holds behind an event it held before, unless it joined
+-- what a band holds after an event it held before, unless it joined
 pub holds-cases : (e : Event) (a : Account) (b n : ℕ) → Contains (held_in (after e a) b) n → Contains (held_in a b) n ⊎ Joins e b n
 holds-cases (Join m band) a b n =
     at-cases (λ (x : Band). Contains (held_of x) n → Contains (held_in a b) n ⊎ Joins (Join m band) b n) band b (joined (a.bands band) m) a.bands

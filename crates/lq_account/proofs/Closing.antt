@@ -1,4 +1,4 @@
--- The account of a station is closed behind the last packet, where the plan has no events.
+-- The account of a station is closed after the last packet, where the plan has no events.
 use Rattle.std.proofs.Common.{◌≡◌, ℕ, ◌<◌, List, [], ◌∷◌, ◌++◌, length, Some, None, slice_get, get_or, sym, subst, ◌∙◌, arith}
 use Rattle.std.proofs.lemmas.Option.{slice_get-get_or}
 use Rattle.lq_model.specs.Account.{Account, Event, Swap, held}
@@ -35,7 +35,7 @@ is_closed {plan = plan} {infos = infos} {station = station} {a = a} fates none h
   nothing_held = nothing;
   hand_empty = hand;
   events = have-all-come plan station h.past none;
-  no_swap_behind_hang = λ later before old new is in_it. no-swap plan station _ later before new none (subst (ArePlanned plan station (start_of plan station)) is h.legal.planned);
+  no_swap_after_hang = λ later before old new is in_it. no-swap plan station _ later before new none (subst (ArePlanned plan station (start_of plan station)) is h.legal.planned);
   decided = decided;
 }
   where

@@ -3,7 +3,7 @@ use Rattle.std.proofs.Common.{◌≡◌, ◌<◌, ◌≤◌, ℕ, Bool, true, fa
 use Rattle.std.specs.List.{zip}
 use Rattle.std.proofs.lemmas.List.Sums.{sum_by-cons}
 use Rattle.std.proofs.lemmas.Option.{slice_get-get_or, slice_get_within}
-use Rattle.lq_model.specs.Complete.{IsComplete, NeverDeactivates, NeverFills, NeverHangs, NeverShrinks, deactivates, offered}
+use Rattle.lq_model.specs.Complete.{IsComplete, NeverDeactivates, NeverFills, NeverHangs, NeverShrinks, deactivates, offered_count}
 use Rattle.lq_model.specs.Legal.{IsPlannedDown}
 use Rattle.lq_model.specs.Plan.{Plan, station_in, band_in}
 use Rattle.lq_model.specs.Settled.{HangsAsTold, IsConfiguredWith, IsFateAt, IsSettled, IsUnitOf, is_let_in, let_in}
@@ -16,7 +16,7 @@ use Rattle.lq_model.specs.declared.fate.Info.{Info}
 use Rattle.lq_model.specs.declared.plan.StationPlan.{StationPlan}
 
 -- no more were let in than are offered
-let-in-below : (fates : List Fate) (infos : List Info) (station band : ℕ) → let_in fates infos station band ≤ offered infos station band
+let-in-below : (fates : List Fate) (infos : List Info) (station band : ℕ) → let_in fates infos station band ≤ offered_count infos station band
 let-in-below [] infos station band = omega arith
 let-in-below (f ∷ fates) [] station band = omega arith
 let-in-below (f ∷ fates) (i ∷ infos) station band =

@@ -10,7 +10,7 @@ use Rattle.lq_model.specs.declared.fate.Cause.TheVariants as cause
 use Rattle.lq_model.specs.declared.fate.Fate.{Fate}
 use Rattle.lq_model.specs.declared.fate.Fate.TheVariants as fate
 use Rattle.lq_model.specs.declared.fate.Info.{Info}
-use Rattle.lq_account.specs.Places.{AreBrought, IsInOrder, Undecided}
+use Rattle.lq_account.specs.Places.{AreBrought, KeepsOrder, Undecided}
 use Rattle.lq_account.specs.Accounts.{IsClosed, IsSettledStation}
 use Rattle.lq_account.specs.Progress.{start_of, len_of}
 use Rattle.lq_account.proofs.Brought.{brought-start, brought-step}
@@ -26,7 +26,7 @@ use Rattle.lq_account.proofs.Legal.{IsLegalNext, legal-before, legal-next}
 -- what holds of an account that a legal list of events leaves
 pub record IsSound (plan : Plan) (infos : List Info) (station : ℕ) (past : List Event) (a : Account) : Type 0 where
   pub known : AreBrought infos station past a
-  pub order : IsInOrder infos a
+  pub order : KeepsOrder infos a
   pub free : Undecided a
   pub used : AreUsed plan station past a
   pub sent : AreSent infos a
@@ -87,7 +87,7 @@ module _ (plan : Plan) (infos : List Info) (fates : List Fate) (station : ℕ) (
   fate-at n (fate.Full seen) is = full-fate plan infos fates station past a whole.known closed.decided n seen (whole.seen.full n seen is)
   fate-at n (fate.Shrunk event) is = shrinking plan station past event closed.events (whole.shrunk.shrunk n event is)
   fate-at n (fate.Purged (cause.Event event)) is = whole.caused.purged n event is
-  fate-at n (fate.Purged (cause.Hung unit)) is = last-unit plan station past a whole.used whole.caused closed.events closed.no_swap_behind_hang n unit is
+  fate-at n (fate.Purged (cause.Hung unit)) is = last-unit plan station past a whole.used whole.caused closed.events closed.no_swap_after_hang n unit is
   fate-at n (fate.Refused event) is = whole.caused.refused n event is
 
   places : (u s v t : ℕ) → IsEarlier u s v t ⊎ (((u ≡ v) × (s ≡ t)) ⊎ IsEarlier v t u s)

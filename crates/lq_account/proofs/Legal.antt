@@ -1,7 +1,7 @@
 -- A legal list of events, event by event.
 use Rattle.std.proofs.Common.{ℕ, ◌<◌, List, ◌∷◌, Contains, filter_map, inl, inr, arith}
 use Rattle.lq_model.specs.Account.{Account, Down, Event, Resize, Swap, after_all}
-use Rattle.lq_model.specs.Legal.{IsInTurn, IsLegal, IsPlanned, MayCome, brought, deactivating, resizing}
+use Rattle.lq_model.specs.Legal.{IsInTurn, IsLegal, IsPlanned, MayCome, brought, down_event, resize_event}
 use Rattle.lq_model.specs.Plan.{Plan}
 use Rattle.lq_model.specs.declared.fate.Info.{Info}
 
@@ -24,14 +24,14 @@ module _ {plan : Plan} {infos : List Info} {station : ℕ} {start : Account} {pa
 -- THE PLAN'S EVENTS COME ONCE
 
 module _ {plan : Plan} {infos : List Info} {station : ℕ} {start : Account} {past : List Event} where
-  pub resizes-once : (len event : ℕ) → IsLegal plan infos station start (Resize len event ∷ past) → Contains (filter_map resizing past) event → ⊥
+  pub resizes-once : (len event : ℕ) → IsLegal plan infos station start (Resize len event ∷ past) → Contains (filter_map resize_event past) event → ⊥
   resizes-once len event legal came = elim legal.planned.1 [
-    | inl resize ↦ (let below : event < event = resize.1.behind_resizes event came in omega arith)
+    | inl resize ↦ (let below : event < event = resize.1.after_resizes event came in omega arith)
     | inr change ↦ (let below : event < event = change.once event came in omega arith)
   ]
 
-  pub downs-once : (event : ℕ) → IsLegal plan infos station start (Down event ∷ past) → Contains (filter_map deactivating past) event → ⊥
-  downs-once event legal came = let below : event < event = legal.planned.1.0.behind_downs event came in omega arith
+  pub downs-once : (event : ℕ) → IsLegal plan infos station start (Down event ∷ past) → Contains (filter_map down_event past) event → ⊥
+  downs-once event legal came = let below : event < event = legal.planned.1.0.after_downs event came in omega arith
 
   pub swaps-once : (unit : ℕ) → IsLegal plan infos station start (Swap unit ∷ past) → Contains past (Swap unit) → ⊥
   swaps-once unit legal came = legal.planned.1.4 came

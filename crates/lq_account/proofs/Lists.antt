@@ -107,7 +107,7 @@ pairs-take R n xs all i j d below within =
     subst (λ x. R x (get_or (take n xs) j d)) (sym (get_or-take n xs i d (omega arith)))
     (subst (λ y. R (get_or xs i d) y) (sym (get_or-take n xs j d short)) (all i j d below (omega (arith, length-take n xs))))
 
--- what stands before a place and what stands at it or behind it
+-- what stands before a place and what stands at it or after it
 pub pairs-apart : {X : Type 0} (R : X → X → Type 0) (n : ℕ) (xs : List X) (x y : X) → AllPairs R xs → Contains (take n xs) x → Contains (drop n xs) y → R x y
 pairs-apart R n xs x y all (i, i-below, i-at) (j, j-below, j-at) =
     let short : i < n = omega (arith, length-take n xs) in

@@ -4,7 +4,7 @@ use Rattle.std.specs.Prelude.{slice_index}
 use Rattle.std.proofs.lemmas.Option.{get_or_from_slice_get}
 use Rattle.lq_model.specs.Band.{MayBeFull}
 use Rattle.lq_model.specs.Account.{Account, Wake, Purge, is_hung, is_all_open, is_open, is_shared, after}
-use Rattle.lq_model.specs.Alone.{Running, is_clean, is_done, is_left, next_taken, opened, opened_up_to, purged_if_hung, seen_in}
+use Rattle.lq_model.specs.Alone.{RunningStation, is_clean, is_done, is_left, next_taken, opened, opened_up_to, purged_if_hung, seen_in}
 use Rattle.lq_model.specs.declared.fate.Cause.TheVariants.{Hung}
 
 and-true : (b : Bool) → (b && true) ≡ b
@@ -45,7 +45,7 @@ module _ (a : Account) (stop : ℕ) (stops : a.stops ≡ stop ∷ []) where
   one_opened_account = ap (λ stops. opened_up_to (length stops) a) stops ∙ ap (λ (word : ℕ). if word == 1 then after (Wake 0) a else a) (ap (λ stops. slice_index stops 0) stops)
 
 -- the stop value after a wake
-pub one_opened : (s : Running) (stop : ℕ) → s.account.stops ≡ stop ∷ [] → opened s ≡ record s { account = if stop == 1 then after (Wake 0) s.account else s.account }
+pub one_opened : (s : RunningStation) (stop : ℕ) → s.account.stops ≡ stop ∷ [] → opened s ≡ record s { account = if stop == 1 then after (Wake 0) s.account else s.account }
 one_opened s stop stops = ap (λ account. record s { account = account }) (one_opened_account s.account stop stops)
 
 -- the packet that a full band shows

@@ -3,7 +3,7 @@ use Rattle.std.proofs.Common.{◌≡◌, ℕ, zero, suc, ◌≤◌, true, List, 
 use Rattle.std.specs.Prelude.{slice_index, slice_set}
 use Rattle.std.proofs.lemmas.Bool.{eq-eqb, eqb-true}
 use Rattle.lq_model.specs.Account.{Account, Event, Join, Full, Refuse, Empty, Take, Pick, Direct, Send, Back, Stop, Wake, Resize, Down, Purge, Swap, Up, after, after_all, is_hung, sent_from_hand}
-use Rattle.lq_model.specs.Legal.{IsLegal, IsQueueSentOn, MayCome, begins_with_hang, begins_with_send, is_behind_send, is_hanging, is_holders}
+use Rattle.lq_model.specs.Legal.{IsLegal, IsQueueSentOn, MayCome, begins_with_hang, begins_with_send, is_after_send, is_hanging_past, is_holders}
 use Rattle.lq_model.specs.Plan.{Plan, queue_in}
 use Rattle.lq_model.specs.declared.fate.Info.{Info}
 use Rattle.lq_account.specs.OneQueue.{AreOfOneQueue, MeetsOneStopValue, stop_of}
@@ -52,33 +52,33 @@ has-one-stop plan infos station [] legal = record { stop = 0; stops = refl; know
 has-one-stop plan infos station (e ∷ past) legal =
     one-stop-step infos station past (after_all (start_of plan station) past) (has-one-stop plan infos station past (legal-before legal)) e legal.comes.1.0
 
--- BEHIND A SEND
+-- AFTER A SEND
 
 -- the holder's last event was a send: what the unit sent last is the packet that was in hand then
 queue-sent-on : (plan : Plan) (infos : List Info) (station : ℕ) (start : Account) (past : List Event) → AreOfOneQueue infos → IsLegal plan infos station start past
-    → is_behind_send past ≡ true → IsQueueSentOn infos (after_all start past) 0
-queue-sent-on plan infos station start [] one legal behind = cc
-queue-sent-on plan infos station start (Send ∷ past) one legal behind = sent_last infos (after_all start past) legal.comes.1.0.0 legal.comes.1.0.1 (one legal.comes.1.0.0)
-queue-sent-on plan infos station start (Join n band ∷ past) one legal behind = queue-sent-on plan infos station start past one (legal-before legal) behind
-queue-sent-on plan infos station start (Full n seen ∷ past) one legal behind = queue-sent-on plan infos station start past one (legal-before legal) behind
-queue-sent-on plan infos station start (Refuse n event ∷ past) one legal behind = queue-sent-on plan infos station start past one (legal-before legal) behind
-queue-sent-on plan infos station start (Wake queue ∷ past) one legal behind = queue-sent-on plan infos station start past one (legal-before legal) behind
-queue-sent-on plan infos station start (Down event ∷ past) one legal behind = queue-sent-on plan infos station start past one (legal-before legal) behind
-queue-sent-on plan infos station start (Up ∷ past) one legal behind = queue-sent-on plan infos station start past one (legal-before legal) behind
-queue-sent-on plan infos station start (Empty band ∷ past) one legal behind = cc
-queue-sent-on plan infos station start (Take band ∷ past) one legal behind = cc
-queue-sent-on plan infos station start (Pick ∷ past) one legal behind = cc
-queue-sent-on plan infos station start (Direct n ∷ past) one legal behind = cc
-queue-sent-on plan infos station start (Back ∷ past) one legal behind = cc
-queue-sent-on plan infos station start (Stop queue value ∷ past) one legal behind = cc
-queue-sent-on plan infos station start (Resize len event ∷ past) one legal behind = cc
-queue-sent-on plan infos station start (Purge cause ∷ past) one legal behind = cc
-queue-sent-on plan infos station start (Swap unit ∷ past) one legal behind = cc
+    → is_after_send past ≡ true → IsQueueSentOn infos (after_all start past) 0
+queue-sent-on plan infos station start [] one legal follows = cc
+queue-sent-on plan infos station start (Send ∷ past) one legal follows = sent_last infos (after_all start past) legal.comes.1.0.0 legal.comes.1.0.1 (one legal.comes.1.0.0)
+queue-sent-on plan infos station start (Join n band ∷ past) one legal follows = queue-sent-on plan infos station start past one (legal-before legal) follows
+queue-sent-on plan infos station start (Full n seen ∷ past) one legal follows = queue-sent-on plan infos station start past one (legal-before legal) follows
+queue-sent-on plan infos station start (Refuse n event ∷ past) one legal follows = queue-sent-on plan infos station start past one (legal-before legal) follows
+queue-sent-on plan infos station start (Wake queue ∷ past) one legal follows = queue-sent-on plan infos station start past one (legal-before legal) follows
+queue-sent-on plan infos station start (Down event ∷ past) one legal follows = queue-sent-on plan infos station start past one (legal-before legal) follows
+queue-sent-on plan infos station start (Up ∷ past) one legal follows = queue-sent-on plan infos station start past one (legal-before legal) follows
+queue-sent-on plan infos station start (Empty band ∷ past) one legal follows = cc
+queue-sent-on plan infos station start (Take band ∷ past) one legal follows = cc
+queue-sent-on plan infos station start (Pick ∷ past) one legal follows = cc
+queue-sent-on plan infos station start (Direct n ∷ past) one legal follows = cc
+queue-sent-on plan infos station start (Back ∷ past) one legal follows = cc
+queue-sent-on plan infos station start (Stop queue value ∷ past) one legal follows = cc
+queue-sent-on plan infos station start (Resize len event ∷ past) one legal follows = cc
+queue-sent-on plan infos station start (Purge cause ∷ past) one legal follows = cc
+queue-sent-on plan infos station start (Swap unit ∷ past) one legal follows = cc
 
-hang-behind-send : (past : List Event) → begins_with_send past ≡ true → begins_with_hang past ≡ true
-hang-behind-send [] behind = cc
-hang-behind-send (Send ∷ past) behind = refl
-hang-behind-send (e ∷ past) behind = cc
+hang-after-send : (past : List Event) → begins_with_send past ≡ true → begins_with_hang past ≡ true
+hang-after-send [] follows = cc
+hang-after-send (Send ∷ past) follows = refl
+hang-after-send (e ∷ past) follows = cc
 
 -- EVENTS
 
@@ -91,7 +91,7 @@ meets_one_stop_value plan infos station past a one legal is = record {
   hung = hung;
   may_send = (λ may. ((may.0, may.1), λ two. may.2 (at may.0 ∙ two)), λ may. (may.0.0, may.0.1, λ two. may.1 (sym (at may.0.0) ∙ two)));
   may_stop = λ value. (stop-to value, stop-from value);
-  may_hang = hang-behind-send (filter is_holders past);
+  may_hang = hang-after-send (filter is_holders past);
   may_wake = (λ may. may, λ may. may);
   may_purge = λ unit. (λ may. (may.0, (may.1.0, hung.0 may.1.1)), λ may. (may.0, (may.1.0, hung.1 may.1.1)));
 }
@@ -111,10 +111,10 @@ meets_one_stop_value plan infos station past a one legal is = record {
     at : (n : ℕ) → slice_index a.stops (queue_in infos n) ≡ stop_of a
     at n = ap (λ queue. slice_index a.stops queue) (one n)
 
-    stop-to : (value : ℕ) → MayCome infos station past a (Stop 0 value) → ((value ≡ 1) × (is_behind_send past ≡ true)) ⊎ ((value ≡ 2) × (is_hanging past ≡ true))
+    stop-to : (value : ℕ) → MayCome infos station past a (Stop 0 value) → ((value ≡ 1) × (is_after_send past ≡ true)) ⊎ ((value ≡ 2) × (is_hanging_past past ≡ true))
     stop-to value (inl may) = inl (may.0, may.1)
     stop-to value (inr may) = inr may
 
-    stop-from : (value : ℕ) → ((value ≡ 1) × (is_behind_send past ≡ true)) ⊎ ((value ≡ 2) × (is_hanging past ≡ true)) → MayCome infos station past a (Stop 0 value)
+    stop-from : (value : ℕ) → ((value ≡ 1) × (is_after_send past ≡ true)) ⊎ ((value ≡ 2) × (is_hanging_past past ≡ true)) → MayCome infos station past a (Stop 0 value)
     stop-from value (inl may) = inl (may.0, may.1, subst (λ b. IsQueueSentOn infos b 0) (sym is) (queue-sent-on plan infos station (start_of plan station) past one legal may.1))
     stop-from value (inr may) = inr may

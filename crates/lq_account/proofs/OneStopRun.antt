@@ -3,7 +3,7 @@ use Rattle.std.proofs.Common.{◌≡◌, ◌≢◌, ℕ, ◌+◌, ◌==◌, Bool
 use Rattle.std.specs.Prelude.{slice_index}
 use Rattle.std.proofs.lemmas.Bool.{and_from, and_parts, cases_eq, cond-true, cond-false, eq-eqb, eqb-true, ne_eqb, or_cases, or_left, or_right, true≢false}
 use Rattle.lq_model.specs.Account.{Account, Event, Purge, Wake, held, is_open, is_shared, after}
-use Rattle.lq_model.specs.Alone.{Running, cleaned, finished_rounds, is_clean, is_done, is_left, next_taken, opened, purged_if_hung, served, served_turns, turns_of}
+use Rattle.lq_model.specs.Alone.{RunningStation, cleaned, finished_rounds, is_clean, is_done, is_left, next_taken, opened, purged_if_hung, served, served_turns, turns_of}
 use Rattle.lq_model.specs.declared.fate.Cause.TheVariants.{Hung}
 use Rattle.lq_model.specs.declared.fate.Info.{Info}
 use Rattle.lq_account.specs.OneQueue.{AreOfOneQueue, IsFinishedByRounds, IsOfOneQueue, IsServedByTurns, offered_next, stop_of}
@@ -18,7 +18,7 @@ one-of [] one = absurd (omega arith)
 one-of (x ∷ []) one = refl
 one-of (x ∷ y ∷ xs) one = absurd (omega arith)
 
-pub has_one_queue : (s : Running) → IsOfOneQueue s → HasOneQueue s
+pub has_one_queue : (s : RunningStation) → IsOfOneQueue s → HasOneQueue s
 has_one_queue s h = record { stop = stop_of s.account; stops = one-of s.account.stops h.queues; known = h.known; hand = h.hand; busies = h.busies }
 
 pub stop_is : (a : Account) (stop : ℕ) → a.stops ≡ stop ∷ [] → stop_of a ≡ stop
@@ -26,7 +26,7 @@ stop_is a stop stops = ap (λ stops. slice_index stops 0) stops
 
 -- SERVING
 
-module _ (infos : List Info) (queues : AreOfOneQueue infos) (s : Running) (one : HasOneQueue s) where
+module _ (infos : List Info) (queues : AreOfOneQueue infos) (s : RunningStation) (one : HasOneQueue s) where
   open-stops : stop_of s.account ≡ 0 → s.account.stops ≡ 0 ∷ []
   open-stops at_0 = one.stops ∙ ap (λ stop. stop ∷ []) (sym (stop_is s.account one.stop one.stops) ∙ at_0)
 
@@ -36,7 +36,7 @@ module _ (infos : List Info) (queues : AreOfOneQueue infos) (s : Running) (one :
   left-closed : stop_of s.account ≢ 0 → is_left s.account ≡ true
   left-closed closed = left_stopped s.account one.stop one.stops (λ at_0. closed (stop_is s.account one.stop one.stops ∙ at_0))
 
-module _ (infos : List Info) (queues : AreOfOneQueue infos) (s : Running) (one : HasOneQueue s) (active : s.account.down ≡ None) (at_0 : stop_of s.account ≡ 0) where
+module _ (infos : List Info) (queues : AreOfOneQueue infos) (s : RunningStation) (one : HasOneQueue s) (active : s.account.down ≡ None) (at_0 : stop_of s.account ≡ 0) where
   stops : s.account.stops ≡ 0 ∷ []
   stops = open-stops infos queues s one at_0
 
@@ -73,10 +73,10 @@ module _ (infos : List Info) (queues : AreOfOneQueue infos) (s : Running) (one :
 
   clean-is : (served infos s).clean ≡ (stop_of (served infos s).account == 0)
   clean-is =
-      ap (λ (t : Running). t.clean) serves ∙ sym (ap (λ (t : Running). is_clean t.account) serves)
+      ap (λ (t : RunningStation). t.clean) serves ∙ sym (ap (λ (t : RunningStation). is_clean t.account) serves)
       ∙ one_clean (served infos s).account after-it.one.stop after-it.one.stops ∙ ap (λ stop. stop == 0) (sym (stop_is (served infos s).account after-it.one.stop after-it.one.stops))
 
-pub served_by_turns : (infos : List Info) (s : Running) → AreOfOneQueue infos → IsOfOneQueue s → IsServedByTurns infos s
+pub served_by_turns : (infos : List Info) (s : RunningStation) → AreOfOneQueue infos → IsOfOneQueue s → IsServedByTurns infos s
 served_by_turns infos s queues of_one = record {
   deactivated = λ event down. served_left infos s (left-down infos queues s one event down);
   closed = λ closed. served_left infos s (left-closed infos queues s one closed);
@@ -95,7 +95,7 @@ served_by_turns infos s queues of_one = record {
 
 -- THE END
 
-module _ (infos : List Info) (queues : AreOfOneQueue infos) (s : Running) (one : HasOneQueue s) where
+module _ (infos : List Info) (queues : AreOfOneQueue infos) (s : RunningStation) (one : HasOneQueue s) where
   stop-same : stop_of s.account ≡ one.stop
   stop-same = stop_is s.account one.stop one.stops
 
@@ -130,7 +130,7 @@ module _ (infos : List Info) (queues : AreOfOneQueue infos) (s : Running) (one :
 
   pub wakes : opened s ≡ (if stop_of s.account == 1 then record s { account = after (Wake 0) s.account } else s)
   wakes = one_opened s one.stop one.stops ∙ by_bool (one.stop == 1)
-      ∙ ap {A = ℕ} {B = Running} (λ stop. if stop == 1 then record s { account = after (Wake 0) s.account } else s) (sym stop-same)
+      ∙ ap {A = ℕ} {B = RunningStation} (λ stop. if stop == 1 then record s { account = after (Wake 0) s.account } else s) (sym stop-same)
     where
       by_bool : (b : Bool) → record s { account = if b then after (Wake 0) s.account else s.account } ≡ (if b then record s { account = after (Wake 0) s.account } else s)
       by_bool true = refl
@@ -142,8 +142,8 @@ module _ (infos : List Info) (queues : AreOfOneQueue infos) (s : Running) (one :
   pub keeps : stop_of s.account ≢ 2 → purged_if_hung s.account ≡ s.account
   keeps other = one_purged s.account one.stop one.stops ∙ cond-false _ _ _ (ne_eqb one.stop 2 (λ hung. other (stop-same ∙ hung)))
 
--- an active station that is done holds nothing behind its purge
-purged-holds-nothing : (infos : List Info) (queues : AreOfOneQueue infos) (s : Running) → IsEnded s → held (purged_if_hung s.account) ≡ []
+-- an active station that is done holds nothing after its purge
+purged-holds-nothing : (infos : List Info) (queues : AreOfOneQueue infos) (s : RunningStation) → IsEnded s → held (purged_if_hung s.account) ≡ []
 purged-holds-nothing infos queues s ended = by_done (done-to infos queues s ended.one ended.done) (cases_eq (stop_of s.account) 2)
   where
     empty : held s.account ≡ [] → stop_of s.account ≢ 2 → held (purged_if_hung s.account) ≡ []
@@ -159,7 +159,7 @@ purged-holds-nothing infos queues s ended = by_done (done-to infos queues s ende
     by_done (inr (inl hung)) (inr other) = absurd (other hung)
     by_done (inr (inr idle)) (inr other) = empty idle.1 other
 
-pub finished_by_rounds : (infos : List Info) (s : Running) → AreOfOneQueue infos → IsOfOneQueue s → IsFinishedByRounds infos s
+pub finished_by_rounds : (infos : List Info) (s : RunningStation) → AreOfOneQueue infos → IsOfOneQueue s → IsFinishedByRounds infos s
 finished_by_rounds infos s queues of_one = record {
   done = (done-to infos queues s one, done-from infos queues s one);
   wakes = wakes infos queues s one;

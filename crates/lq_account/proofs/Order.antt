@@ -8,7 +8,7 @@ use Rattle.lq_model.specs.Account.{Account, Event, Join, Take, Pick, Direct, Sen
 use Rattle.lq_model.specs.Legal.{brought, brought_by, MayCome, IsInTurn}
 use Rattle.lq_model.specs.Plan.{band_in}
 use Rattle.lq_model.specs.declared.fate.Info.{Info}
-use Rattle.lq_account.specs.Places.{AreBrought, IsInOrder, Precedes}
+use Rattle.lq_account.specs.Places.{AreBrought, KeepsOrder, Precedes}
 use Rattle.lq_account.proofs.Lists.{none-in, drop-in, first-in, first-taken, pairs-drop, pairs-take, pairs-apart, at-cases}
 use Rattle.lq_account.proofs.Changes.{Joins, ComesToHand, ComesToSlot, band-held, line-cases, holds-cases, hand-cases, slot-cases}
 use Rattle.lq_account.proofs.Changes.Joins.{joins}
@@ -19,7 +19,7 @@ use Rattle.lq_account.proofs.Brought.{above-before}
 pub never-itself : (infos : List Info) (n : ℕ) → Precedes infos n n → ⊥
 never-itself infos n h = let below : n < n = h refl refl in omega arith
 
-pub order-start : (infos : List Info) (len unit queues : ℕ) → IsInOrder infos (new_account len unit queues)
+pub order-start : (infos : List Info) (len unit queues : ℕ) → KeepsOrder infos (new_account len unit queues)
 order-start infos len unit queues = record {
   bands = λ b n h. absurd (none-in [] n refl h);
   lines = λ b i j d below within. absurd (omega arith);
@@ -28,7 +28,7 @@ order-start infos len unit queues = record {
   slot_ahead = λ n slot. absurd cc;
 }
 
-module _ (infos : List Info) (station : ℕ) (past : List Event) (a : Account) (known : AreBrought infos station past a) (h : IsInOrder infos a) where
+module _ (infos : List Info) (station : ℕ) (past : List Event) (a : Account) (known : AreBrought infos station past a) (h : KeepsOrder infos a) where
   pub held-band : (b n : ℕ) → Contains (held_in a b) n → band_in infos n ≡ b
   held-band b n held = h.bands b n (drop-in (a.bands b).taken (a.bands b).line n held)
 
@@ -83,7 +83,7 @@ module _ (infos : List Info) (station : ℕ) (past : List Event) (a : Account) (
   new-slot : (e : Event) → (n b m : ℕ) → ComesToSlot a e n → b < 3 → Contains (held_in (after e a) b) m → Precedes infos n m
   new-slot e n b m (laid_back l hand) below held = h.hand_ahead n hand b m below held
 
-  pub order-step : (e : Event) → MayCome infos station past a e → IsInTurn infos past (brought e) → IsInOrder infos (after e a)
+  pub order-step : (e : Event) → MayCome infos station past a e → IsInTurn infos past (brought e) → KeepsOrder infos (after e a)
   order-step e may turn = record {
     bands = λ b n here. elim (line-cases e a b n here) [ inl old ↦ h.bands b n old | inr new ↦ band-step e may b n new ];
     lines = lines-step e turn;

@@ -3,7 +3,7 @@ use Rattle.std.proofs.Common.{◌≡◌, ◌≢◌, ℕ, zero, suc, ◌+◌, ◌
 use Rattle.std.specs.Prelude.{slice_set}
 use Rattle.std.proofs.lemmas.Bool.{cond-true, cond-false, cases_eq, cases_lt, cases_Bool, or_parts, true≢false}
 use Rattle.lq_model.specs.Account.{Account, Event, Wake, held, after}
-use Rattle.lq_model.specs.Alone.{Running, cleaned, finished, finished_rounds, is_done, is_left, next_taken, opened, purged_if_hung, served, served_turns, turns_of}
+use Rattle.lq_model.specs.Alone.{RunningStation, cleaned, finished, finished_rounds, is_done, is_left, next_taken, opened, purged_if_hung, served, served_turns, turns_of}
 use Rattle.lq_model.specs.Plan.{queue_in}
 use Rattle.lq_model.specs.declared.fate.Info.{Info}
 use Rattle.lq_account.proofs.OneQueue.{one_done, one_opened}
@@ -13,7 +13,7 @@ use Rattle.lq_account.proofs.Turns.{HasOneQueue, IsTurned, after_turn, is_turned
 -- WHAT SERVING LEAVES
 
 -- an active station was served, as long as it could be
-pub record IsServed (s t : Running) : Type 0 where
+pub record IsServed (s t : RunningStation) : Type 0 where
   pub one : HasOneQueue t
   pub active : t.account.down ≡ None
   pub no_more : length (held t.account) ≤ length (held s.account)
@@ -22,14 +22,14 @@ pub record IsServed (s t : Running) : Type 0 where
   -- it ends where the queue isn't open or nothing is held
   pub ends : (is_left t.account ≡ true) ⊎ (held t.account ≡ [])
 
-is-served : (s t : Running) → HasOneQueue s → s.account.down ≡ None → t ≡ s → (s.account.stops ≡ 0 ∷ [] → 0 < length (held s.account) → ⊥)
+is-served : (s t : RunningStation) → HasOneQueue s → s.account.down ≡ None → t ≡ s → (s.account.stops ≡ 0 ∷ [] → 0 < length (held s.account) → ⊥)
     → (is_left s.account ≡ true) ⊎ (held s.account ≡ []) → IsServed s t
 is-served s t one active same none ends = subst (IsServed s) (sym same)
     (record { one = one; active = active; no_more = omega arith; fewer = λ stops some. absurd (none stops some); ends = ends })
 
--- serving goes on behind a turn
-behind-turn : (s t u : Running) → IsTurned s t → IsServed t u → IsServed s u
-behind-turn s t u turned h = record {
+-- serving goes on after a turn
+after-turn : (s t u : RunningStation) → IsTurned s t → IsServed t u → IsServed s u
+after-turn s t u turned h = record {
   one = h.one;
   active = h.active;
   no_more = no_more turned.fewer;
@@ -59,8 +59,8 @@ no-element [] none = refl
 no-element (x ∷ xs) none = absurd (omega arith)
 
 module _ (infos : List Info) (queues : (m : ℕ) → queue_in infos m ≡ 0) where
-  -- what holds of a station that isn't served further, and where it holds of serving behind the next turn
-  pub by_turn : (P : Running → Type 0) (s : Running) → HasOneQueue s → s.account.down ≡ None → P s
+  -- what holds of a station that isn't served further, and where it holds of serving after the next turn
+  pub by_turn : (P : RunningStation → Type 0) (s : RunningStation) → HasOneQueue s → s.account.down ≡ None → P s
       → ((event : Event) → IsTurned s (after_turn event s) → s.account.stops ≡ 0 ∷ [] → next_taken s.account ≡ Some event
       → P (served_turns infos (turns_of (after_turn event s)) (after_turn event s)))
       → P (served_turns infos (turns_of s) s)
@@ -74,7 +74,7 @@ module _ (infos : List Info) (queues : (m : ℕ) → queue_in infos m ≡ 0) whe
       by_stop (inl at_0) = by_next (next_taken s.account) refl (one.stops ∙ ap (λ stop. stop ∷ []) at_0)
       by_stop (inr closed) = subst P (sym (turns_left infos (turns_of s) s (left_stopped s.account one.stop one.stops closed))) here
 
-  serves-by-turn : (s : Running) → HasOneQueue s → s.account.down ≡ None
+  serves-by-turn : (s : RunningStation) → HasOneQueue s → s.account.down ≡ None
       → ((event : Event) → IsTurned s (after_turn event s) → IsServed (after_turn event s) (served_turns infos (turns_of (after_turn event s)) (after_turn event s)))
       → IsServed s (served_turns infos (turns_of s) s)
   serves-by-turn s one active on = by_stop (cases_eq one.stop 0)
@@ -83,23 +83,23 @@ module _ (infos : List Info) (queues : (m : ℕ) → queue_in infos m ≡ 0) whe
       by_next None next stops = let none = held_none s.account next in
           is-served s _ one active (turns_none infos (turns_of s) s none) (λ stops some. no-length _ none some) (inr none)
       by_next (Some event) next stops = let turned = is_turned s event one stops next in
-          subst (IsServed s) (sym (turn_served infos queues s event one stops active next)) (behind-turn s (after_turn event s) _ turned (on event turned))
+          subst (IsServed s) (sym (turn_served infos queues s event one stops active next)) (after-turn s (after_turn event s) _ turned (on event turned))
 
       by_stop : (one.stop ≡ 0) ⊎ (one.stop ≢ 0) → IsServed s (served_turns infos (turns_of s) s)
       by_stop (inl at_0) = by_next (next_taken s.account) refl (one.stops ∙ ap (λ stop. stop ∷ []) at_0)
       by_stop (inr closed) = let left = left_stopped s.account one.stop one.stops closed in
           is-served s _ one active (turns_left infos (turns_of s) s left) (λ stops some. closed (same-stop _ _ _ one.stops stops)) (inl left)
 
-  turns-serve : (turns : ℕ) (s : Running) → turns ≡ turns_of s → HasOneQueue s → s.account.down ≡ None → IsServed s (served_turns infos (turns_of s) s)
+  turns-serve : (turns : ℕ) (s : RunningStation) → turns ≡ turns_of s → HasOneQueue s → s.account.down ≡ None → IsServed s (served_turns infos (turns_of s) s)
   turns-serve zero s e one active = serves-by-turn s one active (λ event turned. absurd (let more = turned.turns in omega arith))
   turns-serve (suc turns) s e one active = serves-by-turn s one active (λ event turned.
       turns-serve turns (after_turn event s) (let more = turned.turns in omega arith) turned.one (turned.down ∙ active))
 
-  pub is_served : (s : Running) → HasOneQueue s → s.account.down ≡ None → s.account.stops ≡ 0 ∷ [] → IsServed s (served infos s)
+  pub is_served : (s : RunningStation) → HasOneQueue s → s.account.down ≡ None → s.account.stops ≡ 0 ∷ [] → IsServed s (served infos s)
   is_served s one active stops = subst (IsServed s) (sym (served_open infos s (left_open s.account active stops)))
       (cleaned-too (served_turns infos (turns_of s) s) (turns-serve (turns_of s) s refl one active))
     where
-      cleaned-too : (t : Running) → IsServed s t → IsServed s (cleaned t)
+      cleaned-too : (t : RunningStation) → IsServed s t → IsServed s (cleaned t)
       cleaned-too t h = record {
         one = record { stop = h.one.stop; stops = h.one.stops; known = h.one.known; hand = h.one.hand; busies = h.one.busies };
         active = h.active;
@@ -110,21 +110,21 @@ module _ (infos : List Info) (queues : (m : ℕ) → queue_in infos m ≡ 0) whe
 
 -- ROUNDS
 
--- A station that isn't done is active, and open behind a wake.
-pub record IsWoken (s t : Running) : Type 0 where
+-- A station that isn't done is active, and open after a wake.
+pub record IsWoken (s t : RunningStation) : Type 0 where
   pub one : HasOneQueue t
   pub active : t.account.down ≡ None
   pub stops : t.account.stops ≡ 0 ∷ []
   pub same : held t.account ≡ held s.account
 
-pub is_woken : (s : Running) → HasOneQueue s → is_done s.account ≡ false → IsWoken s (opened s)
+pub is_woken : (s : RunningStation) → HasOneQueue s → is_done s.account ≡ false → IsWoken s (opened s)
 is_woken s one not_done = by_stop one.stop one.stops one.known
   where
     down-none : (down : Option ℕ) → is_some down ≡ false → down ≡ None
     down-none None e = refl
     down-none (Some event) e = cc
 
-    woken : (t : Running) → opened s ≡ t → t.account.down ≡ s.account.down → t.account.stops ≡ 0 ∷ [] → held t.account ≡ held s.account → t.account.hand ≡ s.account.hand → t.device ≡ s.device
+    woken : (t : RunningStation) → opened s ≡ t → t.account.down ≡ s.account.down → t.account.stops ≡ 0 ∷ [] → held t.account ≡ held s.account → t.account.hand ≡ s.account.hand → t.device ≡ s.device
         → is_some s.account.down ≡ false → IsWoken s (opened s)
     woken t is down stops same hand device active = subst (IsWoken s) (sym is) (record {
       one = record { stop = 0; stops = stops; known = omega arith; hand = hand ∙ one.hand; busies = subst (λ d. d.busies ≤ d.params.busy_limit) (sym device) one.busies };
@@ -154,19 +154,19 @@ done-open a stops none = one_done a 0 stops ∙ ap (λ next. is_some a.down || i
     or-true false = refl
 
 -- what a round leaves: less is held, or the station is done
-pub record IsRound (s t : Running) : Type 0 where
+pub record IsRound (s t : RunningStation) : Type 0 where
   pub one : HasOneQueue t
   pub active : t.account.down ≡ None
   pub fewer : (length (held t.account) < length (held s.account)) ⊎ (is_done t.account ≡ true)
 
 -- an active station is done
-pub record IsEnded (s : Running) : Type 0 where
+pub record IsEnded (s : RunningStation) : Type 0 where
   pub one : HasOneQueue s
   pub active : s.account.down ≡ None
   pub done : is_done s.account ≡ true
 
 module _ (infos : List Info) (queues : (m : ℕ) → queue_in infos m ≡ 0) where
-  pub is_round : (s : Running) → HasOneQueue s → is_done s.account ≡ false → IsRound s (served infos (opened s))
+  pub is_round : (s : RunningStation) → HasOneQueue s → is_done s.account ≡ false → IsRound s (served infos (opened s))
   is_round s one not_done = record { one = after_it.one; active = after_it.active; fewer = fewer (cases_lt 0 (length (held (opened s).account))) }
     where
       woken : IsWoken s (opened s)
@@ -184,17 +184,17 @@ module _ (infos : List Info) (queues : (m : ℕ) → queue_in infos m ≡ 0) whe
       fewer : (0 < length (held (opened s).account)) ⊎ (length (held (opened s).account) ≤ 0)
           → (length (held (served infos (opened s)).account) < length (held s.account)) ⊎ (is_done (served infos (opened s)).account ≡ true)
       fewer (inl some) = inl (let below : length (held (served infos (opened s)).account) < length (held (opened s).account) = after_it.fewer woken.stops some in omega (arith, same_length))
-      fewer (inr none) = let nothing = no-element _ none in inr (ap (λ (t : Running). is_done t.account) (stays nothing) ∙ done-open (opened s).account woken.stops nothing)
+      fewer (inr none) = let nothing = no-element _ none in inr (ap (λ (t : RunningStation). is_done t.account) (stays nothing) ∙ done-open (opened s).account woken.stops nothing)
 
-  rounds-done : (rounds : ℕ) (s : Running) → is_done s.account ≡ true → finished_rounds infos rounds s ≡ s
+  rounds-done : (rounds : ℕ) (s : RunningStation) → is_done s.account ≡ true → finished_rounds infos rounds s ≡ s
   rounds-done zero s is_done_now = refl
   rounds-done (suc rounds) s is_done_now = cond-true _ _ _ is_done_now
 
-  rounds-next : (rounds : ℕ) (s : Running) → is_done s.account ≡ false → finished_rounds infos (suc rounds) s ≡ finished_rounds infos rounds (served infos (opened s))
+  rounds-next : (rounds : ℕ) (s : RunningStation) → is_done s.account ≡ false → finished_rounds infos (suc rounds) s ≡ finished_rounds infos rounds (served infos (opened s))
   rounds-next rounds s not_done = cond-false _ _ _ not_done
 
   -- as many rounds as packets are held, and one more, are enough
-  rounds-enough : (rounds : ℕ) (s : Running) → HasOneQueue s → length (held s.account) < rounds → finished_rounds infos (suc rounds) s ≡ finished_rounds infos rounds s
+  rounds-enough : (rounds : ℕ) (s : RunningStation) → HasOneQueue s → length (held s.account) < rounds → finished_rounds infos (suc rounds) s ≡ finished_rounds infos rounds s
   rounds-enough zero s one more = absurd (omega arith)
   rounds-enough (suc rounds) s one more =
       by_done (λ fewer next. rounds-enough rounds (served infos (opened s)) next (omega arith)) (cases_Bool (is_done s.account))
@@ -213,35 +213,35 @@ module _ (infos : List Info) (queues : (m : ℕ) → queue_in infos m ≡ 0) whe
       by_done again (inr not_done) = let round = is_round s one not_done in
           rounds-next (suc rounds) s not_done ∙ by_fewer again round.fewer round.one ∙ sym (rounds-next rounds s not_done)
 
-  rounds-more : (more rounds : ℕ) (s : Running) → HasOneQueue s → length (held s.account) < rounds → finished_rounds infos (more + rounds) s ≡ finished_rounds infos rounds s
+  rounds-more : (more rounds : ℕ) (s : RunningStation) → HasOneQueue s → length (held s.account) < rounds → finished_rounds infos (more + rounds) s ≡ finished_rounds infos rounds s
   rounds-more zero rounds s one enough = ap (λ n. finished_rounds infos n s) (zero-add rounds)
   rounds-more (suc more) rounds s one enough = ap (λ n. finished_rounds infos n s) (suc-add more rounds) ∙ rounds-enough (more + rounds) s one (omega arith) ∙ rounds-more more rounds s one enough
 
   -- they leave the station done, and an active one active
-  pub rounds_end : (rounds : ℕ) (s : Running) → HasOneQueue s → s.account.down ≡ None → length (held s.account) < rounds → IsEnded (finished_rounds infos rounds s)
+  pub rounds_end : (rounds : ℕ) (s : RunningStation) → HasOneQueue s → s.account.down ≡ None → length (held s.account) < rounds → IsEnded (finished_rounds infos rounds s)
   rounds_end zero s one active enough = absurd (omega arith)
   rounds_end (suc rounds) s one active enough = by_done (λ fewer next still. rounds_end rounds (served infos (opened s)) next still (omega arith)) (cases_Bool (is_done s.account))
     where
-      behind : (length (held (served infos (opened s)).account) < length (held s.account) → IsEnded (finished_rounds infos rounds (served infos (opened s))))
+      goes-on : (length (held (served infos (opened s)).account) < length (held s.account) → IsEnded (finished_rounds infos rounds (served infos (opened s))))
           → IsRound s (served infos (opened s)) → (length (held (served infos (opened s)).account) < length (held s.account)) ⊎ (is_done (served infos (opened s)).account ≡ true)
           → IsEnded (finished_rounds infos rounds (served infos (opened s)))
-      behind again round (inl fewer) = again fewer
-      behind again round (inr done) = subst IsEnded (sym (rounds-done rounds (served infos (opened s)) done)) (record { one = round.one; active = round.active; done = done })
+      goes-on again round (inl fewer) = again fewer
+      goes-on again round (inr done) = subst IsEnded (sym (rounds-done rounds (served infos (opened s)) done)) (record { one = round.one; active = round.active; done = done })
 
       by_done : (length (held (served infos (opened s)).account) < length (held s.account) → HasOneQueue (served infos (opened s)) → (served infos (opened s)).account.down ≡ None
           → IsEnded (finished_rounds infos rounds (served infos (opened s))))
           → (is_done s.account ≡ true) ⊎ (is_done s.account ≡ false) → IsEnded (finished_rounds infos (suc rounds) s)
       by_done again (inl done) = subst IsEnded (sym (rounds-done (suc rounds) s done)) (record { one = one; active = active; done = done })
       by_done again (inr not_done) = let round = is_round s one not_done in
-          subst IsEnded (sym (rounds-next rounds s not_done)) (behind (λ fewer. again fewer round.one round.active) round round.fewer)
+          subst IsEnded (sym (rounds-next rounds s not_done)) (goes-on (λ fewer. again fewer round.one round.active) round round.fewer)
 
   -- a station that is done is finished but for its purge
-  pub finished_done : (s : Running) → is_done s.account ≡ true → finished infos s ≡ record s { account = purged_if_hung s.account }
-  finished_done s done = ap {A = Running} {B = Running} (λ t. record t { account = purged_if_hung t.account }) (rounds-done (length (held s.account) + 1) s done)
+  pub finished_done : (s : RunningStation) → is_done s.account ≡ true → finished infos s ≡ record s { account = purged_if_hung s.account }
+  finished_done s done = ap {A = RunningStation} {B = RunningStation} (λ t. record t { account = purged_if_hung t.account }) (rounds-done (length (held s.account) + 1) s done)
 
-  -- and another is as it is behind a round
-  pub finished_next : (s : Running) → HasOneQueue s → is_done s.account ≡ false → finished infos s ≡ finished infos (served infos (opened s))
-  finished_next s one not_done = ap {A = Running} {B = Running} (λ t. record t { account = purged_if_hung t.account })
+  -- and another is as it is after a round
+  pub finished_next : (s : RunningStation) → HasOneQueue s → is_done s.account ≡ false → finished infos s ≡ finished infos (served infos (opened s))
+  finished_next s one not_done = ap {A = RunningStation} {B = RunningStation} (λ t. record t { account = purged_if_hung t.account })
       (ap (λ rounds. finished_rounds infos rounds s) (add-one (length (held s.account))) ∙ rounds-next (length (held s.account)) s not_done ∙ same round.fewer)
     where
       round : IsRound s (served infos (opened s))

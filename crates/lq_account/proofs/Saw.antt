@@ -11,7 +11,7 @@ use Rattle.lq_model.specs.declared.fate.Fate.{Fate}
 use Rattle.lq_model.specs.declared.fate.Fate.TheVariants as fate
 use Rattle.lq_model.specs.declared.fate.Info.{Info}
 use Rattle.lq_model.specs.declared.plan.StationPlan.{StationPlan}
-use Rattle.lq_account.specs.Places.{AreBrought, IsInOrder, Precedes}
+use Rattle.lq_account.specs.Places.{AreBrought, KeepsOrder, Precedes}
 use Rattle.lq_account.specs.Progress.{len_of}
 use Rattle.lq_account.proofs.Lists.{none-in, here-in, drop-in, get-in}
 use Rattle.lq_account.proofs.Changes.{Joins, Gives, line-cases, fate-cases, len-cases}
@@ -59,7 +59,7 @@ seen-start plan infos station queues inside = record {
   full = λ n seen h. absurd cc;
 }
 
-module _ (plan : Plan) (infos : List Info) (station : ℕ) (past : List Event) (a : Account) (known : AreBrought infos station past a) (order : IsInOrder infos a) (h : AreSeen plan infos station past a) where
+module _ (plan : Plan) (infos : List Info) (station : ℕ) (past : List Event) (a : Account) (known : AreBrought infos station past a) (order : KeepsOrder infos a) (h : AreSeen plan infos station past a) where
   given-in : (e : Event) → IsInTurn infos past (brought e) → (n : ℕ) (f : Fate) → Contains (brought_by past) n → Gives a e n f → is_let_in f ≡ true
   given-in e turn n f came (gives_sent m u s hand unit serial) = refl
   given-in e turn n f came (gives_full m seen) = absurd (not-before infos past (Full n seen) n turn refl came)

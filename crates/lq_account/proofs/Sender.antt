@@ -6,7 +6,7 @@ use Rattle.std.proofs.Math.Nat.{mod-le, mod_self, suc-mod}
 use Rattle.std.proofs.lemmas.Bool.{cond-false, cond-true, cond_both, eq-eqb, ne_eqb, cases_Bool, cases_eq, and_parts, true≢false}
 use Rattle.std.proofs.lemmas.Option.{slice_get-get_or}
 use Rattle.lq_model.specs.Account.{Account, Event, Direct, held, is_hung, new_account, emptied, after}
-use Rattle.lq_model.specs.Alone.{Running, answered, brought_in, finished, finished_rounds, is_occupied, purged_if_hung, gone_direct, gone_through, is_done, is_left, new_station, next_answer, next_taken, opened, queued, seen_in, served, served_turns, turns_of}
+use Rattle.lq_model.specs.Alone.{RunningStation, answered, brought_in, finished, finished_rounds, is_occupied, purged_if_hung, gone_direct, gone_through, is_done, is_left, new_station, next_answer, next_taken, opened, joined_or_full, seen_in, served, served_turns, turns_of}
 use Rattle.lq_model.specs.Band.{Band, IsOccupied, MayBeFull, batch, held_of, joined, stale_count, taken_by}
 use Rattle.lq_model.specs.Device.{Telling, is_busy, told_after}
 use Rattle.lq_model.specs.Plan.{Plan, band_in, station_in}
@@ -20,7 +20,7 @@ use Rattle.lq_account.specs.Progress.{IsAt}
 use Rattle.lq_account.specs.Sender.{FitsRing, IsInRun}
 use Rattle.lq_account.proofs.Answers.{IsAnswered, is_answered}
 use Rattle.lq_account.proofs.Lists.{at-cases}
-use Rattle.lq_account.proofs.Offers.{brought_direct, brought_through, direct_closed, direct_open, queued_full, queued_join, served_behind, through_closed, through_open}
+use Rattle.lq_account.proofs.Offers.{brought_direct, brought_through, direct_closed, direct_open, queued_full, queued_join, served_after, through_closed, through_open}
 use Rattle.lq_account.proofs.OneStopRun.{has_one_queue, keeps, purges, served_by_turns, stop_is, wakes}
 use Rattle.lq_account.proofs.OneQueue.{one_hung}
 use Rattle.lq_account.proofs.Purges.{purge_empties}
@@ -97,8 +97,8 @@ record IsAtWork (plan : Plan) (infos : List Info) (station n : ℕ) (a : Account
   has_slots : 0 < a.len
   bands : (band : ℕ) → FitsRing a.len (a.bands band)
 
--- behind serving
-record IsServedWell (plan : Plan) (infos : List Info) (station n : ℕ) (s : Running) : Type 0 where
+-- after serving
+record IsServedWell (plan : Plan) (infos : List Info) (station n : ℕ) (s : RunningStation) : Type 0 where
   one : HasOneQueue s
   work : IsAtWork plan infos station n s.account
   holds : stop_of s.account ≡ 0 → held s.account ≡ []
@@ -134,7 +134,7 @@ module _ (plan : Plan) (infos : List Info) (station n : ℕ) (queues : AreOfOneQ
         bands = λ band. subst (λ len. FitsRing len ((after event a).bands band)) (sym now.len) (fits-turn turn h.has_slots h.bands band);
       }
 
-  at-work-offer : (event : Event) (s : Running) → HasOneQueue s → s.account.stops ≡ 0 ∷ [] → next_taken s.account ≡ Some event → IsAtWork plan infos station n s.account
+  at-work-offer : (event : Event) (s : RunningStation) → HasOneQueue s → s.account.stops ≡ 0 ∷ [] → next_taken s.account ≡ Some event → IsAtWork plan infos station n s.account
       → IsAtWork plan infos station n (after_turn event s).account
   at-work-offer event s one stops next h =
       let now : IsInHand s.account (after event s.account) = in_hand (turn_of s.account event next) in
@@ -142,7 +142,7 @@ module _ (plan : Plan) (infos : List Info) (station n : ℕ) (queues : AreOfOneQ
       (at-work-turn event s.account one.hand next h)
 
   -- serving
-  at-work-turns : (turns : ℕ) (s : Running) → turns ≡ turns_of s → HasOneQueue s → s.account.down ≡ None → IsAtWork plan infos station n s.account
+  at-work-turns : (turns : ℕ) (s : RunningStation) → turns ≡ turns_of s → HasOneQueue s → s.account.down ≡ None → IsAtWork plan infos station n s.account
       → IsAtWork plan infos station n (served_turns infos (turns_of s) s).account
   at-work-turns zero s e one active h = by_turn infos queues (λ t. IsAtWork plan infos station n t.account) s one active h
       (λ event turned stops next. absurd (let more = turned.turns in omega arith))
@@ -150,7 +150,7 @@ module _ (plan : Plan) (infos : List Info) (station n : ℕ) (queues : AreOfOneQ
       at-work-turns turns (after_turn event s) (let more = turned.turns in omega arith) turned.one (turned.down ∙ active) (at-work-offer event s one stops next h))
 
   -- what serving leaves: nothing is held where the queue is open
-  at-work-served : (s : Running) → HasOneQueue s → IsAtWork plan infos station n s.account → IsServedWell plan infos station n (served infos s)
+  at-work-served : (s : RunningStation) → HasOneQueue s → IsAtWork plan infos station n s.account → IsServedWell plan infos station n (served infos s)
   at-work-served s one h = by_stop (cases_eq one.stop 0)
     where
       closed-well : one.stop ≢ 0 → IsServedWell plan infos station n s
@@ -176,24 +176,24 @@ module _ (plan : Plan) (infos : List Info) (station n : ℕ) (queues : AreOfOneQ
 
 -- STATIONS IN THE RUN
 
-of-one-queue : (s : Running) → HasOneQueue s → IsOfOneQueue s
+of-one-queue : (s : RunningStation) → HasOneQueue s → IsOfOneQueue s
 of-one-queue s one = record { queues = ap length one.stops; known = subst (λ stop. stop ≤ 2) (sym (stop_is s.account one.stop one.stops)) one.known; hand = one.hand; busies = one.busies }
 
 -- it has one queue whatever it lets past
 same-one : {a : Account} {d : Telling} {old new : Bool} → HasOneQueue (record { account = a; clean = old; device = d }) → HasOneQueue (record { account = a; clean = new; device = d })
 same-one one = record { stop = one.stop; stops = one.stops; known = one.known; hand = one.hand; busies = one.busies }
 
-in-run : {plan : Plan} {infos : List Info} {station n : ℕ} {s : Running} → HasOneQueue s → IsAtWork plan infos station n s.account → (s.clean ≡ true → held s.account ≡ [])
+in-run : {plan : Plan} {infos : List Info} {station n : ℕ} {s : RunningStation} → HasOneQueue s → IsAtWork plan infos station n s.account → (s.clean ≡ true → held s.account ≡ [])
     → IsInRun plan infos station n s
 in-run {s = s} one h clean = record { at = h.at; active = h.active; one_queue = of-one-queue s one; has_slots = h.has_slots; bands = h.bands; clean = clean }
 
-at-work : {plan : Plan} {infos : List Info} {station n : ℕ} {s : Running} → IsInRun plan infos station n s → IsAtWork plan infos station n s.account
+at-work : {plan : Plan} {infos : List Info} {station n : ℕ} {s : RunningStation} → IsInRun plan infos station n s → IsAtWork plan infos station n s.account
 at-work h = record { at = h.at; active = h.active; has_slots = h.has_slots; bands = h.bands }
 
-queued-stops : (n band : ℕ) (a : Account) → (queued n band a).stops ≡ a.stops
+queued-stops : (n band : ℕ) (a : Account) → (joined_or_full n band a).stops ≡ a.stops
 queued-stops n band a = cond_both (is_occupied a.len (a.bands band)) _ _ (λ (t : Account). t.stops ≡ a.stops) (λ full. refl) (λ room. refl)
 
-queued-hand : (n band : ℕ) (a : Account) → (queued n band a).hand ≡ a.hand
+queued-hand : (n band : ℕ) (a : Account) → (joined_or_full n band a).hand ≡ a.hand
 queued-hand n band a = cond_both (is_occupied a.len (a.bands band)) _ _ (λ (t : Account). t.hand ≡ a.hand) (λ full. refl) (λ room. refl)
 
 -- an answer leaves one queue, and what was held if it isn't Busy
@@ -225,11 +225,11 @@ begins_in_run plan infos station s planned some = in-run (record { stop = 0; sto
     (λ clean. refl)
 
 -- a packet of another station passes it by
-pub passes_in_run : {plan : Plan} {infos : List Info} {station n : ℕ} {s : Running} → station_in infos n ≢ station → IsInRun plan infos station n s → IsInRun plan infos station (n + 1) s
+pub passes_in_run : {plan : Plan} {infos : List Info} {station n : ℕ} {s : RunningStation} → station_in infos n ≢ station → IsInRun plan infos station n s → IsInRun plan infos station (n + 1) s
 passes_in_run other h = record { at = at_other other h.at; active = h.active; one_queue = h.one_queue; has_slots = h.has_slots; bands = h.bands; clean = h.clean }
 
 module _ (plan : Plan) (infos : List Info) (station : ℕ) (queues : AreOfOneQueue infos) where
-  pub served_in_run : (n : ℕ) (s : Running) → IsInRun plan infos station n s → IsInRun plan infos station n (served infos s)
+  pub served_in_run : (n : ℕ) (s : RunningStation) → IsInRun plan infos station n s → IsInRun plan infos station n (served infos s)
   served_in_run n s h = by_stop (cases_eq one.stop 0)
     where
       one : HasOneQueue s
@@ -242,7 +242,7 @@ module _ (plan : Plan) (infos : List Info) (station : ℕ) (queues : AreOfOneQue
       by_stop (inl at_0) = in-run well.one well.work (λ clean. well.holds (((served_by_turns infos s queues h.one_queue).clean h.active (stop_is s.account one.stop one.stops ∙ at_0)).0 clean))
       by_stop (inr closed) = subst (IsInRun plan infos station n) (sym (served_left infos s (left_stopped s.account one.stop one.stops closed))) h
 
-  pub opened_in_run : (n : ℕ) (s : Running) → IsInRun plan infos station n s → IsInRun plan infos station n (opened s)
+  pub opened_in_run : (n : ℕ) (s : RunningStation) → IsInRun plan infos station n s → IsInRun plan infos station n (opened s)
   opened_in_run n s h = by_stop (cases_eq (stop_of s.account) 1)
     where
       one : HasOneQueue s
@@ -258,13 +258,13 @@ module _ (plan : Plan) (infos : List Info) (station : ℕ) (queues : AreOfOneQue
   -- OFFERS
 
   -- the packet joined its band, or was dropped as full
-  queued-works : (n : ℕ) (a : Account) → n < length infos → station_in infos n ≡ station → IsAtWork plan infos station n a → IsAtWork plan infos station (n + 1) (queued n (band_in infos n) a)
+  queued-works : (n : ℕ) (a : Account) → n < length infos → station_in infos n ≡ station → IsAtWork plan infos station n a → IsAtWork plan infos station (n + 1) (joined_or_full n (band_in infos n) a)
   queued-works n a within at h = by_room (cases_eq (length (held_of band) + stale_count a.len band.taken) a.len)
     where
       band : Band
       band = a.bands (band_in infos n)
 
-      by_room : IsOccupied a.len (a.bands (band_in infos n)) ⊎ (IsOccupied a.len (a.bands (band_in infos n)) → ⊥) → IsAtWork plan infos station (n + 1) (queued n (band_in infos n) a)
+      by_room : IsOccupied a.len (a.bands (band_in infos n)) ⊎ (IsOccupied a.len (a.bands (band_in infos n)) → ⊥) → IsAtWork plan infos station (n + 1) (joined_or_full n (band_in infos n) a)
       by_room (inl occupied) =
           let full = may-be-full a.len (a.bands (band_in infos n)) h.has_slots (h.bands (band_in infos n)) occupied in
           subst (IsAtWork plan infos station (n + 1)) (sym (queued_full n (band_in infos n) _ a occupied full))
@@ -279,13 +279,13 @@ module _ (plan : Plan) (infos : List Info) (station : ℕ) (queues : AreOfOneQue
             bands = λ b. at-cases (FitsRing a.len) (band_in infos n) b _ a.bands (λ same. fits-joined a.len n (a.bands (band_in infos n)) room fits) (λ other. h.bands b);
           })
 
-  through-in-run : (n : ℕ) (s : Running) → n < length infos → station_in infos n ≡ station → IsInRun plan infos station n s → IsInRun plan infos station (n + 1) (gone_through infos n s)
+  through-in-run : (n : ℕ) (s : RunningStation) → n < length infos → station_in infos n ≡ station → IsInRun plan infos station n s → IsInRun plan infos station (n + 1) (gone_through infos n s)
   through-in-run n s within at h = by_stop (cases_eq well.one.stop 0)
     where
       one : HasOneQueue s
       one = has_one_queue s h.one_queue
 
-      one_queued : HasOneQueue (record s { account = queued n (band_in infos n) s.account })
+      one_queued : HasOneQueue (record s { account = joined_or_full n (band_in infos n) s.account })
       one_queued = record {
         stop = one.stop;
         known = one.known;
@@ -294,16 +294,16 @@ module _ (plan : Plan) (infos : List Info) (station : ℕ) (queues : AreOfOneQue
         hand = queued-hand n (band_in infos n) s.account ∙ one.hand;
       }
 
-      well : IsServedWell plan infos station (n + 1) (served_behind infos n s)
-      well = at-work-served plan infos station (n + 1) queues (record s { account = queued n (band_in infos n) s.account }) one_queued (queued-works n s.account within at (at-work h))
+      well : IsServedWell plan infos station (n + 1) (served_after infos n s)
+      well = at-work-served plan infos station (n + 1) queues (record s { account = joined_or_full n (band_in infos n) s.account }) one_queued (queued-works n s.account within at (at-work h))
 
       by_stop : (well.one.stop ≡ 0) ⊎ (well.one.stop ≢ 0) → IsInRun plan infos station (n + 1) (gone_through infos n s)
       by_stop (inl at_0) = subst (IsInRun plan infos station (n + 1)) (sym (through_open infos n s (well.one.stops ∙ ap (λ stop. stop ∷ []) at_0)))
-          (in-run well.one well.work (λ clean. well.holds (stop_is (served_behind infos n s).account well.one.stop well.one.stops ∙ at_0)))
+          (in-run well.one well.work (λ clean. well.holds (stop_is (served_after infos n s).account well.one.stop well.one.stops ∙ at_0)))
       by_stop (inr closed) = subst (IsInRun plan infos station (n + 1)) (sym (through_closed infos n s well.one.stop well.one.stops closed))
           (in-run (same-one well.one) well.work (λ clean. absurd (true≢false (sym clean))))
 
-  direct-in-run : (n : ℕ) (s : Running) → n < length infos → station_in infos n ≡ station → s.clean ≡ true → IsInRun plan infos station n s → IsInRun plan infos station (n + 1) (gone_direct infos n s)
+  direct-in-run : (n : ℕ) (s : RunningStation) → n < length infos → station_in infos n ≡ station → s.clean ≡ true → IsInRun plan infos station n s → IsInRun plan infos station (n + 1) (gone_direct infos n s)
   direct-in-run n s within at clean h = by_stop (cases_eq one.stop 0)
     where
       one : HasOneQueue s
@@ -334,7 +334,7 @@ module _ (plan : Plan) (infos : List Info) (station : ℕ) (queues : AreOfOneQue
           (in-run (record { stop = one.stop; stops = one.stops; known = one.known; hand = refl; busies = one.busies })
           (record { at = at_back n refl slot work.at; active = h.active; has_slots = h.has_slots; bands = h.bands }) (λ clean. absurd (true≢false (sym clean))))
 
-  pub brought_in_run : (bypass : Bool) (n : ℕ) (s : Running) → n < length infos → station_in infos n ≡ station → IsInRun plan infos station n s
+  pub brought_in_run : (bypass : Bool) (n : ℕ) (s : RunningStation) → n < length infos → station_in infos n ≡ station → IsInRun plan infos station n s
       → IsInRun plan infos station (n + 1) (brought_in infos bypass n s)
   brought_in_run bypass n s within at h = by_way (cases_Bool (bypass && s.clean))
     where
@@ -344,13 +344,13 @@ module _ (plan : Plan) (infos : List Info) (station : ℕ) (queues : AreOfOneQue
 
   -- THE END
 
-  rounds-in-run : (rounds n : ℕ) (s : Running) → IsInRun plan infos station n s → IsInRun plan infos station n (finished_rounds infos rounds s)
+  rounds-in-run : (rounds n : ℕ) (s : RunningStation) → IsInRun plan infos station n s → IsInRun plan infos station n (finished_rounds infos rounds s)
   rounds-in-run zero n s h = h
   rounds-in-run (suc rounds) n s h =
       cond_both (is_done s.account) s (finished_rounds infos rounds (served infos (opened s))) (IsInRun plan infos station n) (λ done. h)
       (λ not_done. rounds-in-run rounds n (served infos (opened s)) (served_in_run n (opened s) (opened_in_run n s h)))
 
-  purged-in-run : (n : ℕ) (s : Running) → IsInRun plan infos station n s → IsInRun plan infos station n (record s { account = purged_if_hung s.account })
+  purged-in-run : (n : ℕ) (s : RunningStation) → IsInRun plan infos station n s → IsInRun plan infos station n (record s { account = purged_if_hung s.account })
   purged-in-run n s h = by_stop (cases_eq (stop_of s.account) 2)
     where
       one : HasOneQueue s
@@ -371,5 +371,5 @@ module _ (plan : Plan) (infos : List Info) (station : ℕ) (queues : AreOfOneQue
           meets_hung : stop_of s.account ≡ 2 → is_hung s.account ≡ true
           meets_hung hung = one_hung s.account one.stop one.stops ∙ eq-eqb one.stop 2 (sym (stop_is s.account one.stop one.stops) ∙ hung)
 
-  pub finished_in_run : (n : ℕ) (s : Running) → IsInRun plan infos station n s → IsInRun plan infos station n (finished infos s)
+  pub finished_in_run : (n : ℕ) (s : RunningStation) → IsInRun plan infos station n s → IsInRun plan infos station n (finished infos s)
   finished_in_run n s h = purged-in-run n (finished_rounds infos (length (held s.account) + 1) s) (rounds-in-run (length (held s.account) + 1) n s h)

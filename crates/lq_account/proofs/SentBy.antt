@@ -6,7 +6,7 @@ use Rattle.lq_model.specs.Legal.{brought, MayCome, IsInTurn}
 use Rattle.lq_model.specs.Plan.{Plan}
 use Rattle.lq_model.specs.declared.fate.Fate.TheVariants.{Sent}
 use Rattle.lq_model.specs.declared.fate.Info.{Info}
-use Rattle.lq_account.specs.Places.{AreBrought, IsInOrder, Precedes, Undecided, Waits}
+use Rattle.lq_account.specs.Places.{AreBrought, KeepsOrder, Precedes, Undecided, Waits}
 use Rattle.lq_account.proofs.Changes.{Sends, Gives, fate-cases, sent-cases, sent-stays, sent-is}
 use Rattle.lq_account.proofs.Changes.Sends.{sends}
 use Rattle.lq_account.proofs.Changes.Gives.{gives_sent}
@@ -33,7 +33,7 @@ sent-start infos len unit queues = record {
   ahead = λ m n u s h. absurd cc;
 }
 
-module _ (plan : Plan) (infos : List Info) (station : ℕ) (past : List Event) (a : Account) (known : AreBrought infos station past a) (order : IsInOrder infos a) (free : Undecided a)
+module _ (plan : Plan) (infos : List Info) (station : ℕ) (past : List Event) (a : Account) (known : AreBrought infos station past a) (order : KeepsOrder infos a) (free : Undecided a)
     (used : AreUsed plan station past a) (h : AreSent infos a) where
   new-stands : (e : Event) (n u s : ℕ) → Gives a e n (Sent u s) → slice_get ((after e a).sent u) s ≡ Some n
   new-stands e n u s (gives_sent m v t hand unit serial) =
@@ -56,7 +56,7 @@ module _ (plan : Plan) (infos : List Info) (station : ℕ) (past : List Event) (
   one-new e m n u v s t (sends k w r hand unit serial) (sends k' w' r' hand' unit' serial') (inl below) = omega arith
   one-new e m n u v s t (sends k w r hand unit serial) (sends k' w' r' hand' unit' serial') (inr (same, below)) = omega arith
 
-  -- the packet that is sent now came before all that waits behind it
+  -- the packet that is sent now came before all that waits after it
   new-ahead : (e : Event) (m n u s : ℕ) → Sends a e u s m → Waits (after e a) n → Precedes infos m n
   new-ahead e m n u s (sends k w r hand unit serial) waits = go (subst (λ (o : Option ℕ). Waits (sent_from_hand o a) n) hand waits)
     where

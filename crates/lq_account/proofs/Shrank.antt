@@ -5,9 +5,9 @@ use Rattle.std.proofs.lemmas.Option.{same_Some}
 use Rattle.std.proofs.lemmas.List.{length_push}
 use Rattle.lq_model.specs.Band.{Band, held_of, joined, taken_by}
 use Rattle.lq_model.specs.Account.{Account, Event, Join, Take, Send, Resize, Purge, held, held_in, dropped_in, sent_from_hand, new_account, after}
-use Rattle.lq_model.specs.Legal.{resizing, MayCome, IsPlanned, IsEventAt}
+use Rattle.lq_model.specs.Legal.{resize_event, MayCome, IsPlanned, IsEventAt}
 use Rattle.lq_model.specs.Plan.{Plan}
-use Rattle.lq_model.specs.Settled.{is_at, length_behind, length_after, LengthBefore, IsShrinking}
+use Rattle.lq_model.specs.Settled.{is_at, length_after_event, length_after, LengthBefore, IsShrinking}
 use Rattle.lq_model.specs.declared.fate.Fate.TheVariants as fate
 use Rattle.lq_model.specs.declared.fate.Info.{Info}
 use Rattle.lq_model.specs.declared.plan.EventKind.{EventKind}
@@ -23,7 +23,7 @@ use Rattle.lq_account.proofs.Saw.{station-of}
 -- LENGTHS ALONG THE PLAN'S EVENTS
 
 abbrev KeepsLength : EventKind → Type 0
-KeepsLength k = (len : ℕ) → length_behind k len ≡ len
+KeepsLength k = (len : ℕ) → length_after_event k len ≡ len
 
 keeps-length : (k : EventKind) → ((len : ℕ) → k ≡ kind.Resize len → ⊥) → ((len : ℕ) → k ≡ kind.TxQueueLen len → ⊥) → KeepsLength k
 keeps-length kind.Down no_resize no_change len = refl
@@ -43,11 +43,11 @@ all-keep station (x ∷ events) (suc end) len keep = go (λ len. all-keep statio
   where
     go : ((len : ℕ) → length_after (filter (is_at station) (take end events)) len ≡ len) → (b : Bool) → (x.station == station) ≡ b
         → length_after (cond b (x ∷ filter (is_at station) (take end events)) (filter (is_at station) (take end events))) len ≡ len
-    go rest true at = rest (length_behind x.kind len) ∙ keep 0 x (omega arith) refl (eqb-true x.station station at) len
+    go rest true at = rest (length_after_event x.kind len) ∙ keep 0 x (omega arith) refl (eqb-true x.station station at) len
     go rest false at = rest len
 
--- behind the last of them that sets the length
-last-sets : (station : ℕ) (events : List EventPlan) (k end start len : ℕ) (x : EventPlan) → k < end → slice_get events k ≡ Some x → x.station ≡ station → ((l : ℕ) → length_behind x.kind l ≡ len)
+-- after the last of them that sets the length
+last-sets : (station : ℕ) (events : List EventPlan) (k end start len : ℕ) (x : EventPlan) → k < end → slice_get events k ≡ Some x → x.station ≡ station → ((l : ℕ) → length_after_event x.kind l ≡ len)
     → ((e : ℕ) (y : EventPlan) → k < e → e < end → slice_get events e ≡ Some y → y.station ≡ station → KeepsLength y.kind)
     → length_after (filter (is_at station) (take end events)) start ≡ len
 last-sets station events k zero start len x below there at sets keep = absurd (omega arith)
@@ -58,21 +58,21 @@ last-sets station (y ∷ events) zero (suc end) start len x below there at sets 
     is = same_Some y x there
 
     go : (b : Bool) → (y.station == station) ≡ b → length_after (cond b (y ∷ filter (is_at station) (take end events)) (filter (is_at station) (take end events))) start ≡ len
-    go true here = all-keep station events end (length_behind y.kind start) (λ e z under is_there. keep (suc e) z (omega arith) (omega arith) is_there) ∙ (ap (λ (w : EventPlan). length_behind w.kind start) is ∙ sets start)
+    go true here = all-keep station events end (length_after_event y.kind start) (λ e z under is_there. keep (suc e) z (omega arith) (omega arith) is_there) ∙ (ap (λ (w : EventPlan). length_after_event w.kind start) is ∙ sets start)
     go false here = absurd (let yes : (y.station == station) ≡ true = eq-eqb y.station station (ap (λ (w : EventPlan). w.station) is ∙ at) in cc)
 last-sets station (y ∷ events) (suc k) (suc end) start len x below there at sets keep =
     go (λ start. last-sets station events k end start len x (omega arith) there at sets (λ e z above under. keep (suc e) z (omega arith) (omega arith))) (y.station == station)
   where
     go : ((start : ℕ) → length_after (filter (is_at station) (take end events)) start ≡ len) → (b : Bool)
         → length_after (cond b (y ∷ filter (is_at station) (take end events)) (filter (is_at station) (take end events))) start ≡ len
-    go rest true = rest (length_behind y.kind start)
+    go rest true = rest (length_after_event y.kind start)
     go rest false = rest start
 
 -- THE SENTENCE
 
 -- the events that resized
 abbrev pub resizes : List Event → List ℕ
-resizes past = filter_map resizing past
+resizes past = filter_map resize_event past
 
 -- the event sets the length of the station's rings
 abbrev SetsLength : Plan → ℕ → ℕ → ℕ → Type 0
@@ -93,11 +93,11 @@ pub record Shrank (plan : Plan) (station : ℕ) (past : List Event) (event : ℕ
 pub record AreShrunk (plan : Plan) (station : ℕ) (past : List Event) (a : Account) : Type 0 where
   -- no band holds more than the length
   pub holds : (b : ℕ) → length (held_in a b) ≤ a.len
-  -- the length is that behind the events that have come
+  -- the length is that after the events that have come
   pub len_is : (event : ℕ) → ((e : ℕ) → Contains (resizes past) e → e < event) → HaveComeBelow plan station past event → LengthBefore plan station event a.len
   pub shrunk : (n event : ℕ) → a.fates n ≡ Some (fate.Shrunk event) → Shrank plan station past event
 
-is-resize : (e : Event) (k : ℕ) → resizing e ≡ Some k → (len : ℕ) × (e ≡ Resize len k)
+is-resize : (e : Event) (k : ℕ) → resize_event e ≡ Some k → (len : ℕ) × (e ≡ Resize len k)
 is-resize (Resize len event) k h = (len, ap (Resize len) (same_Some event k h))
 is-resize e k h = absurd cc
 
@@ -138,12 +138,12 @@ module _ (plan : Plan) (infos : List Info) (station : ℕ) (past : List Event) (
   holds-step e may b = h.holds b
 
   -- what a planned resize is: its event, which sets that length, and those that came before it
-  sets-length : (len event : ℕ) → IsPlanned plan station past a (Resize len event) → (x : EventPlan) × (slice_get plan.events event ≡ Some x) × (x.station ≡ station) × ((l : ℕ) → length_behind x.kind l ≡ len)
-  sets-length len event (inl plans) = let at = plans.0 in (at.0, at.1, at.2, λ l. ap (λ k. length_behind k l) at.3)
-  sets-length len event (inr change) = let at = change.planned in (at.0, at.1, at.2, λ l. ap (λ k. length_behind k l) at.3)
+  sets-length : (len event : ℕ) → IsPlanned plan station past a (Resize len event) → (x : EventPlan) × (slice_get plan.events event ≡ Some x) × (x.station ≡ station) × ((l : ℕ) → length_after_event x.kind l ≡ len)
+  sets-length len event (inl plans) = let at = plans.0 in (at.0, at.1, at.2, λ l. ap (λ k. length_after_event k l) at.3)
+  sets-length len event (inr change) = let at = change.planned in (at.0, at.1, at.2, λ l. ap (λ k. length_after_event k l) at.3)
 
   above-resizes : (len event : ℕ) → IsPlanned plan station past a (Resize len event) → (e : ℕ) → Contains (resizes past) e → e < event
-  above-resizes len event (inl plans) = plans.1.behind_resizes
+  above-resizes len event (inl plans) = plans.1.after_resizes
   above-resizes len event (inr change) = change.once
 
   resized-len : (len k : ℕ) → IsPlanned plan station past a (Resize len k) → (event : ℕ) → k < event → HaveComeBelow plan station (Resize len k ∷ past) event → LengthBefore plan station event len
@@ -171,7 +171,7 @@ module _ (plan : Plan) (infos : List Info) (station : ℕ) (past : List Event) (
   len-is-step e plans event below come = h.len_is event below come
 
   -- a resize that comes now is above those that have come
-  above-now : (e : Event) → IsPlanned plan station past a e → (k event : ℕ) → resizing e ≡ Some k → Contains (resizes past) event → event < k
+  above-now : (e : Event) → IsPlanned plan station past a e → (k event : ℕ) → resize_event e ≡ Some k → Contains (resizes past) event → event < k
   above-now e plans k event now came = let resize = is-resize e k now in above-resizes resize.0 k (subst (λ e. IsPlanned plan station past a e) resize.1 plans) event came
 
   shrank-stays : (e : Event) → IsPlanned plan station past a e → (event : ℕ) → Shrank plan station past event → Shrank plan station (e ∷ past) event
@@ -180,8 +180,8 @@ module _ (plan : Plan) (infos : List Info) (station : ℕ) (past : List Event) (
     before = was.before;
     planned = was.planned;
     shorter = was.shorter;
-    came = mapped-before resizing e past event was.came;
-    before_is = λ come. was.before_is (λ k len below sets. elim (mapped-cases resizing e past k (come k len below sets)) [
+    came = mapped-before resize_event e past event was.came;
+    before_is = λ come. was.before_is (λ k len below sets. elim (mapped-cases resize_event e past k (come k len below sets)) [
       | inl old ↦ old
       | inr now ↦ absurd (let above = above-now e plans k event now was.came in omega arith)
     ]);
@@ -194,7 +194,7 @@ module _ (plan : Plan) (infos : List Info) (station : ℕ) (past : List Event) (
     planned = plans.0;
     shorter = let most = h.holds b in let least = drop-short len (held_in a b) n dropped in omega arith;
     came = here-in event (resizes past);
-    before_is = λ come. h.len_is event plans.1.behind_resizes (λ k l under sets. elim (cons-in event (resizes past) k (come k l under sets)) [
+    before_is = λ come. h.len_is event plans.1.after_resizes (λ k l under sets. elim (cons-in event (resizes past) k (come k l under sets)) [
       | inl same ↦ absurd (omega arith)
       | inr old ↦ old
     ]);

@@ -3,12 +3,12 @@ use Rattle.std.proofs.Common.{◌≡◌, ℕ, ◌<◌, ◌==◌, Bool, true, fal
 use Rattle.std.specs.List.{cons_option}
 use Rattle.std.proofs.lemmas.Option.{same_Some, slice_get_within}
 use Rattle.lq_model.specs.Account.{Account, Event, Join, Full, Refuse, Empty, Take, Pick, Direct, Send, Back, Stop, Wake, Resize, Down, Purge, Swap, Up, sent_from_hand, after, after_all}
-use Rattle.lq_model.specs.Legal.{IsPlanned, IsEventAt, IsNext, brought, brought_by, resizing, deactivating, ArePlanned}
+use Rattle.lq_model.specs.Legal.{IsPlanned, IsEventAt, IsNext, brought, brought_by, resize_event, down_event, ArePlanned}
 use Rattle.lq_model.specs.Plan.{Plan, owner_in}
 use Rattle.lq_model.specs.declared.fate.Cause.TheVariants as cause
 use Rattle.lq_model.specs.declared.fate.Info.{Info}
 use Rattle.lq_model.specs.declared.plan.EventKind.{EventKind}
-use Rattle.lq_account.specs.Accounts.{HaveAllCome, NoSwapBehindHang}
+use Rattle.lq_account.specs.Accounts.{HaveAllCome, NoSwapAfterHang}
 use Rattle.lq_account.proofs.Lists.{here-in, there-in, cons-in}
 use Rattle.lq_account.proofs.Brought.{brought-cases, brought-now, brought-before}
 use Rattle.lq_account.specs.Trail.{is_own, trail_of, down_of, bare, IsTrail, IsTrailNext, HaveCome, FindNothing, FindsNothing}
@@ -39,19 +39,19 @@ kept-in g infos none (e ∷ past) = elim (own-or-not infos e) [
   | inr other ↦ ap (filter_map g) (trail-other infos e past other) ∙ (kept-in g infos none past ∙ ap (λ o. cons_option o (filter_map g past)) (sym (none e other)))
 ]
 
-no-resizing : (infos : List Info) (e : Event) → is_own infos e ≡ false → resizing e ≡ None
-no-resizing infos (Resize len event) other = absurd cc
-no-resizing infos e other = refl
+no-resize-event : (infos : List Info) (e : Event) → is_own infos e ≡ false → resize_event e ≡ None
+no-resize-event infos (Resize len event) other = absurd cc
+no-resize-event infos e other = refl
 
-no-deactivating : (infos : List Info) (e : Event) → is_own infos e ≡ false → deactivating e ≡ None
-no-deactivating infos (Down event) other = absurd cc
-no-deactivating infos e other = refl
+no-down-event : (infos : List Info) (e : Event) → is_own infos e ≡ false → down_event e ≡ None
+no-down-event infos (Down event) other = absurd cc
+no-down-event infos e other = refl
 
-pub same-resizes : (infos : List Info) (past : List Event) → filter_map resizing (trail_of infos past) ≡ filter_map resizing past
-same-resizes infos past = kept-in resizing infos (no-resizing infos) past
+pub same-resizes : (infos : List Info) (past : List Event) → filter_map resize_event (trail_of infos past) ≡ filter_map resize_event past
+same-resizes infos past = kept-in resize_event infos (no-resize-event infos) past
 
-pub same-downs : (infos : List Info) (past : List Event) → filter_map deactivating (trail_of infos past) ≡ filter_map deactivating past
-same-downs infos past = kept-in deactivating infos (no-deactivating infos) past
+pub same-downs : (infos : List Info) (past : List Event) → filter_map down_event (trail_of infos past) ≡ filter_map down_event past
+same-downs infos past = kept-in down_event infos (no-down-event infos) past
 
 pub own-in : (infos : List Info) (x : Event) → is_own infos x ≡ true → (past : List Event) → Contains past x → Contains (trail_of infos past) x
 own-in infos x own [] h = h
@@ -141,12 +141,12 @@ planned-other plan infos station past a (Down event) other = absurd cc
 planned-other plan infos station past a (Swap unit) other = absurd cc
 planned-other plan infos station past a e other = _
 
-module _ (plan : Plan) (station : ℕ) (trail past : List Event) (a : Account) (resizes : filter_map resizing trail ≡ filter_map resizing past)
-    (downs : filter_map deactivating trail ≡ filter_map deactivating past) (swaps : (unit : ℕ) → Contains past (Swap unit) → Contains trail (Swap unit)) (down : down_of trail ≡ a.down) where
+module _ (plan : Plan) (station : ℕ) (trail past : List Event) (a : Account) (resizes : filter_map resize_event trail ≡ filter_map resize_event past)
+    (downs : filter_map down_event trail ≡ filter_map down_event past) (swaps : (unit : ℕ) → Contains past (Swap unit) → Contains trail (Swap unit)) (down : down_of trail ≡ a.down) where
   next-too : (event : ℕ) → IsNext trail event → IsNext past event
   next-too event next = record {
-    behind_resizes = λ e h. next.behind_resizes e (subst (λ l. Contains l e) (sym resizes) h);
-    behind_downs = λ e h. next.behind_downs e (subst (λ l. Contains l e) (sym downs) h);
+    after_resizes = λ e h. next.after_resizes e (subst (λ l. Contains l e) (sym resizes) h);
+    after_downs = λ e h. next.after_downs e (subst (λ l. Contains l e) (sym downs) h);
   }
 
   planned-own : (e : Event) → FindsNothing a e → IsPlanned plan station trail (bare (down_of trail)) e → IsPlanned plan station past a e
@@ -192,8 +192,8 @@ no-swap : (plan : Plan) (infos : List Info) (station : ℕ) (before : List Event
 no-swap plan infos station before old new hung [] trail = (trail-head plan infos station (Swap new) before refl trail).no_hang old (own-in infos (Purge (cause.Hung old)) refl before hung)
 no-swap plan infos station before old new hung (e ∷ later) trail = no-swap plan infos station before old new hung later (trail-tail plan infos station e (later ++ Swap new ∷ before) trail)
 
-pub no-swap-behind-hang : (plan : Plan) (infos : List Info) (station : ℕ) (past : List Event) → IsTrail plan station (trail_of infos past) → NoSwapBehindHang past
-no-swap-behind-hang plan infos station past trail later before old new is hung =
+pub no-swap-after-hang : (plan : Plan) (infos : List Info) (station : ℕ) (past : List Event) → IsTrail plan station (trail_of infos past) → NoSwapAfterHang past
+no-swap-after-hang plan infos station past trail later before old new is hung =
     no-swap plan infos station before old new hung later (subst (λ l. IsTrail plan station (trail_of infos l)) is trail)
 
 event-within : (plan : Plan) (station event : ℕ) (kind : EventKind) → IsEventAt plan station event kind → event < length plan.events

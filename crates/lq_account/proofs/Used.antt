@@ -3,7 +3,7 @@ use Rattle.std.proofs.Common.{◌≡◌, ℕ, ◌<◌, ◌≤◌, zero, suc, Boo
 use Rattle.std.proofs.lemmas.Option.{same_Some}
 use Rattle.std.proofs.lemmas.List.Sums.{sum_by-cons}
 use Rattle.lq_model.specs.Account.{Account, Event, Down, Swap, new_account, after}
-use Rattle.lq_model.specs.Legal.{deactivating, MayCome, IsPlanned, IsPlannedDown}
+use Rattle.lq_model.specs.Legal.{down_event, MayCome, IsPlanned, IsPlannedDown}
 use Rattle.lq_model.specs.Plan.{Plan, is_swap, unit_of_swap}
 use Rattle.lq_model.specs.Settled.{IsUnitOf}
 use Rattle.lq_model.specs.declared.fate.Info.{Info}
@@ -13,9 +13,9 @@ use Rattle.lq_account.proofs.Changes.Sends.{sends}
 
 -- the events that deactivated the station
 abbrev pub downs : List Event → List ℕ
-downs past = filter_map deactivating past
+downs past = filter_map down_event past
 
-is-down : (e : Event) (event : ℕ) → deactivating e ≡ Some event → e ≡ Down event
+is-down : (e : Event) (event : ℕ) → down_event e ≡ Some event → e ≡ Down event
 is-down (Down k) event h = ap Down (same_Some k event h)
 is-down e event h = absurd cc
 
@@ -28,7 +28,7 @@ counts-rise test (x ∷ xs) (suc i) (suc j) below =
     let left = sum_by-cons (λ z. cond (test z) 1 0) x (take i xs) in let right = sum_by-cons (λ z. cond (test z) 1 0) x (take j xs) in
     let rest = counts-rise test xs i j (omega arith) in omega arith
 
--- an event keeps the station deactivated: it is planned, it came, and none came behind it
+-- an event keeps the station deactivated: it is planned, it came, and none came after it
 pub record IsLastDown (plan : Plan) (station : ℕ) (past : List Event) (event : ℕ) : Type 0 where
   pub planned : IsPlannedDown plan station event
   pub came : Contains (downs past) event
@@ -55,7 +55,7 @@ used-start plan station len queues = record {
 }
 
 module _ (plan : Plan) (infos : List Info) (station : ℕ) (past : List Event) (a : Account) (inside : station < length plan.stations) (h : AreUsed plan station past a) where
-  no-other-down : (e : Event) → MayCome infos station past a e → (event k : ℕ) → a.down ≡ Some event → deactivating e ≡ Some k → k ≤ event
+  no-other-down : (e : Event) → MayCome infos station past a e → (event k : ℕ) → a.down ≡ Some event → down_event e ≡ Some k → k ≤ event
   no-other-down e may event k down is = let none : a.down ≡ None = subst (λ e. MayCome infos station past a e) (is-down e k is) may in absurd cc
 
   old-down : (e : Event) → MayCome infos station past a e → (event : ℕ) → a.down ≡ Some event → IsLastDown plan station (e ∷ past) event
@@ -63,16 +63,16 @@ module _ (plan : Plan) (infos : List Info) (station : ℕ) (past : List Event) (
       let was = h.down event down in
       record {
         planned = was.planned;
-        came = mapped-before deactivating e past event was.came;
-        last = λ k here. elim (mapped-cases deactivating e past k here) [ inl old ↦ was.last k old | inr new ↦ no-other-down e may event k down new ];
+        came = mapped-before down_event e past event was.came;
+        last = λ k here. elim (mapped-cases down_event e past k here) [ inl old ↦ was.last k old | inr new ↦ no-other-down e may event k down new ];
       }
 
   new-down : (event : ℕ) → IsPlanned plan station past a (Down event) → IsLastDown plan station (Down event ∷ past) event
   new-down event plans = record {
     planned = plans.1;
-    came = mapped-now deactivating (Down event) past event refl;
-    last = λ k here. elim (mapped-cases deactivating (Down event) past k here) [
-      | inl old ↦ let below = plans.0.behind_downs k old in omega arith
+    came = mapped-now down_event (Down event) past event refl;
+    last = λ k here. elim (mapped-cases down_event (Down event) past k here) [
+      | inl old ↦ let below = plans.0.after_downs k old in omega arith
       | inr new ↦ let same : event ≡ k = same_Some event k new in omega arith
     ];
   }
@@ -106,7 +106,7 @@ module _ (plan : Plan) (infos : List Info) (station : ℕ) (past : List Event) (
   present-step e plans = elim (unit-cases e a) [
     | inl same ↦ elim h.present [
       | inl first ↦ inl (same ∙ first)
-      | inr swap ↦ inr (swap.0, same ∙ swap.1, mapped-before deactivating e past swap.0 swap.2)
+      | inr swap ↦ inr (swap.0, same ∙ swap.1, mapped-before down_event e past swap.0 swap.2)
     ]
     | inr swap ↦ subst (λ e. ((after e a).unit ≡ station) ⊎ ((event : ℕ) × ((after e a).unit ≡ unit_of_swap plan event) × Contains (downs (e ∷ past)) event)) (sym swap.1) (brings swap.0 (subst (λ e. IsPlanned plan station past a e) swap.1 plans))
   ]

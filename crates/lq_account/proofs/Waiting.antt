@@ -7,7 +7,7 @@ use Rattle.lq_model.specs.declared.fate.Cause.{Cause}
 use Rattle.lq_model.specs.declared.fate.Fate.{Fate}
 use Rattle.lq_model.specs.declared.fate.Fate.TheVariants as fate
 use Rattle.lq_model.specs.declared.fate.Info.{Info}
-use Rattle.lq_account.specs.Places.{AreBrought, IsInOrder, Precedes, Undecided, Waits}
+use Rattle.lq_account.specs.Places.{AreBrought, KeepsOrder, Precedes, Undecided, Waits}
 use Rattle.lq_account.proofs.Lists.{none-in, take-in, drop-in, first-in, pairs-apart, at-cases, fates-cases}
 use Rattle.lq_account.proofs.Changes.{Joins, ComesToHand, ComesToSlot, Gives, three-in, slot-held, band-held, held-cases, holds-cases, hand-cases, slot-cases, fate-cases}
 use Rattle.lq_account.proofs.Changes.Joins.{joins}
@@ -50,7 +50,7 @@ module _ (infos : List Info) (station : ℕ) (past : List Event) (a : Account) (
   from-hand : (n : ℕ) → ComesToHand a e n → Waits a n ⊎ (brought e ≡ Some n)
   from-hand n comes = hand-from infos station past a e may n comes
 
-  -- what waits behind an event waited before, or is brought by it
+  -- what waits after an event waited before, or is brought by it
   pub waits-cases : (n : ℕ) → Waits (after e a) n → Waits a n ⊎ (brought e ≡ Some n)
   waits-cases n (in_hand hand) = elim (hand-cases e a n hand) [ inl old ↦ inl (in_hand old) | inr new ↦ from-hand n new ]
   waits-cases n (in_slot slot) = elim (slot-cases e a n slot) [ inl old ↦ inl (in_slot old) | inr new ↦ inl (from-slot a e n new) ]
@@ -72,7 +72,7 @@ with-fates a b n hand slot bands (in_hand h) = in_hand (sym hand ∙ h)
 with-fates a b n hand slot bands (in_slot h) = in_slot (sym slot ∙ h)
 with-fates a b n hand slot bands (in_band k below h) = in_band k below (subst (λ w. Contains (held_in (record a { bands = w }) k) n) bands h)
 
-module _ (infos : List Info) (station : ℕ) (past : List Event) (a : Account) (known : AreBrought infos station past a) (order : IsInOrder infos a) (free : Undecided a) where
+module _ (infos : List Info) (station : ℕ) (past : List Event) (a : Account) (known : AreBrought infos station past a) (order : KeepsOrder infos a) (free : Undecided a) where
   -- what is sent waits no more
   sent-waits-not : (n : ℕ) → a.hand ≡ Some n → Waits (sent_from_hand (Some n) a) n → ⊥
   sent-waits-not n hand (in_hand h) = cc

@@ -1,7 +1,7 @@
 -- What the laws of accounts ask, and what they give.
 use Rattle.std.specs.Prelude.{◌≡◌, ◌⊎◌, ◌↔◌, ◌<◌, ℕ, List, [], ◌∷◌, ◌++◌, length, Some, None, slice_get, Contains, filter_map}
 use Rattle.lq_model.specs.Account.{Account, Event, Purge, Swap, held, after_all}
-use Rattle.lq_model.specs.Legal.{IsLegal, IsEventAt, resizing}
+use Rattle.lq_model.specs.Legal.{IsLegal, IsEventAt, resize_event}
 use Rattle.lq_model.specs.Plan.{Plan, unit_of_swap, owner_in, station_in, band_in}
 use Rattle.lq_model.specs.Settled.{IsFateAt, IsUnitOf}
 use Rattle.lq_model.specs.declared.device.Params.{Params}
@@ -16,13 +16,13 @@ use Rattle.lq_account.specs.Progress.{start_of}
 
 -- each event that the plan has for the station has come, with its resize or its swap
 pub record HaveAllCome (plan : Plan) (station : ℕ) (past : List Event) : Type 0 where
-  pub resizes : (event len : ℕ) → IsEventAt plan station event (kind.Resize len) → Contains (filter_map resizing past) event
-  pub queue_lengths : (event len : ℕ) → IsEventAt plan station event (kind.TxQueueLen len) → Contains (filter_map resizing past) event
+  pub resizes : (event len : ℕ) → IsEventAt plan station event (kind.Resize len) → Contains (filter_map resize_event past) event
+  pub queue_lengths : (event len : ℕ) → IsEventAt plan station event (kind.TxQueueLen len) → Contains (filter_map resize_event past) event
   pub swaps : (event : ℕ) (params : Params) → IsEventAt plan station event (kind.Swap params) → Contains past (Swap (unit_of_swap plan event))
 
--- no device is exchanged behind a purge of a hung one
-abbrev pub NoSwapBehindHang : List Event → Type 0
-NoSwapBehindHang past = (later : List Event) (before : List Event) (old new : ℕ) → past ≡ later ++ Swap new ∷ before → Contains before (Purge (Hung old)) → ⊥
+-- no device is exchanged after a purge of a hung one
+abbrev pub NoSwapAfterHang : List Event → Type 0
+NoSwapAfterHang past = (later : List Event) (before : List Event) (old new : ℕ) → past ≡ later ++ Swap new ∷ before → Contains before (Purge (Hung old)) → ⊥
 
 -- A station's account is closed: a legal list of events leaves nothing held and nothing in hand, all events of the plan have
 -- come, and each packet of the station has just the fate that the list of fates has for it.
@@ -32,7 +32,7 @@ pub record IsClosed (plan : Plan) (infos : List Info) (fates : List Fate) (stati
   pub nothing_held : held a ≡ []
   pub hand_empty : a.hand ≡ None
   pub events : HaveAllCome plan station past
-  pub no_swap_behind_hang : NoSwapBehindHang past
+  pub no_swap_after_hang : NoSwapAfterHang past
   pub decided : (n : ℕ) → n < length infos → station_in infos n ≡ station → (fate : Fate) × (slice_get fates n ≡ Some fate) × (a.fates n ≡ Some fate)
 
 -- WHAT FOLLOWS

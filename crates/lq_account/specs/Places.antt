@@ -47,7 +47,7 @@ Undecided a = (n : ℕ) (f : Fate) → Waits a n → a.fates n ≡ Some f → �
 abbrev pub Precedes : List Info → ℕ → ℕ → Type 0
 Precedes infos m n = owner_in infos m ≡ owner_in infos n → band_in infos m ≡ band_in infos n → m < n
 
-pub record IsInOrder (infos : List Info) (a : Account) : Type 0 where
+pub record KeepsOrder (infos : List Info) (a : Account) : Type 0 where
   -- a line has packets of its band alone, in each owner's order
   pub bands : (b n : ℕ) → Contains (a.bands b).line n → band_in infos n ≡ b
   pub lines : (b : ℕ) → AllPairs (Precedes infos) (a.bands b).line

@@ -1,7 +1,7 @@
 -- The run of one sender: a station between two offers, and the fates of all packets.
 use Rattle.std.specs.Prelude.{◌≡◌, ℕ, ◌+◌, ◌<◌, ◌≤◌, true, List, [], length, map, slice_get, Some, None}
 use Rattle.lq_model.specs.Account.{held}
-use Rattle.lq_model.specs.Alone.{Running, alone}
+use Rattle.lq_model.specs.Alone.{RunningStation, alone}
 use Rattle.lq_model.specs.Band.{Band, held_of, stale_count}
 use Rattle.lq_model.specs.Plan.{Plan, station_in, band_in}
 use Rattle.lq_model.specs.Settled.{IsInSenderOrder, IsSettled}
@@ -17,7 +17,7 @@ pub record FitsRing (len : ℕ) (band : Band) : Type 0 where
   pub slots : length (held_of band) + stale_count len band.taken ≤ len
 
 -- an active station with one queue, before packet n
-pub record IsInRun (plan : Plan) (infos : List Info) (station n : ℕ) (s : Running) : Type 0 where
+pub record IsInRun (plan : Plan) (infos : List Info) (station n : ℕ) (s : RunningStation) : Type 0 where
   -- a legal list of events leaves its account, and brought just its packets below n
   pub at : IsAt plan infos station n s.account
   pub active : s.account.down ≡ None

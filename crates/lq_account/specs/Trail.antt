@@ -1,7 +1,7 @@
 -- Lists of events that many senders make, and what of them the first sender's seat knows while others send.
 use Rattle.std.specs.Prelude.{◌≡◌, ◌<◌, ℕ, Bool, true, false, ◌==◌, List, [], ◌∷◌, Option, Some, None, Contains, filter, filter_map}
 use Rattle.lq_model.specs.Account.{Account, Event, Join, Full, Refuse, Direct, Resize, Down, Purge, Swap, Up, new_account, held, after_all}
-use Rattle.lq_model.specs.Legal.{IsPlanned, IsEventAt, brought_by, resizing, Comes}
+use Rattle.lq_model.specs.Legal.{IsPlanned, IsEventAt, brought_by, resize_event, Comes}
 use Rattle.lq_model.specs.Plan.{Plan, owner_in, unit_of_swap}
 use Rattle.lq_model.specs.Settled.{IsBehind, down_before}
 use Rattle.lq_model.specs.declared.device.Params.{Params}
@@ -76,7 +76,7 @@ MeetsDown plan station (Direct n) = down_at plan station n ≡ None
 MeetsDown plan station (Refuse n event) = down_at plan station n ≡ Some event
 MeetsDown plan station event = Unit {0}
 
--- no device is exchanged behind a purge of a hung one
+-- no device is exchanged after a purge of a hung one
 abbrev pub FindsNoHang : List Event → Event → Type 0
 FindsNoHang trail (Swap unit) = (old : ℕ) → Contains trail (Purge (cause.Hung old)) → ⊥
 FindsNoHang trail event = Unit {0}
@@ -94,6 +94,6 @@ IsTrail plan station (event ∷ trail) = IsTrail plan station trail × IsTrailNe
 
 -- each of the first so many events of the plan that resizes the station or exchanges its device has come
 pub record HaveCome (plan : Plan) (station : ℕ) (count : ℕ) (trail : List Event) : Type 0 where
-  pub resizes : (event len : ℕ) → event < count → IsEventAt plan station event (kind.Resize len) → Contains (filter_map resizing trail) event
-  pub queue_lengths : (event len : ℕ) → event < count → IsEventAt plan station event (kind.TxQueueLen len) → Contains (filter_map resizing trail) event
+  pub resizes : (event len : ℕ) → event < count → IsEventAt plan station event (kind.Resize len) → Contains (filter_map resize_event trail) event
+  pub queue_lengths : (event len : ℕ) → event < count → IsEventAt plan station event (kind.TxQueueLen len) → Contains (filter_map resize_event trail) event
   pub swaps : (event : ℕ) (params : Params) → event < count → IsEventAt plan station event (kind.Swap params) → Contains trail (Swap (unit_of_swap plan event))

@@ -1,7 +1,7 @@
 //! The laws of accounts, each the contract of a function that does nothing.
 ghost use Rattle.std.specs.Prelude.{◌≡◌, ℕ, List, [], ◌∷◌, ◌<◌, Contains, filter_map, length};
 ghost use Rattle.lq_model.specs.Account.{Account, Down, Event, Resize, Swap};
-ghost use Rattle.lq_model.specs.Legal.{IsLegal, deactivating, resizing};
+ghost use Rattle.lq_model.specs.Legal.{IsLegal, down_event, resize_event};
 ghost use Rattle.lq_model.specs.Complete.{IsComplete};
 ghost use Rattle.lq_model.specs.Plan.{Plan, station_in};
 ghost use Rattle.lq_model.specs.Settled.{IsInSenderOrder, IsSentList, IsSettled, IsUnitOf, MeetsEvents};
@@ -52,9 +52,9 @@ pub fn complete_fates()
 /// the device.
 pub fn planned_events_come_once()
     ensures resizes { (plan : Plan) (infos : List Info) (station : ℕ) (start : Account) (past : List Event) (len event : ℕ)
-        → IsLegal plan infos station start (Resize len event ∷ past) → Contains (filter_map resizing past) event → ⊥ }
+        → IsLegal plan infos station start (Resize len event ∷ past) → Contains (filter_map resize_event past) event → ⊥ }
     ensures downs { (plan : Plan) (infos : List Info) (station : ℕ) (start : Account) (past : List Event) (event : ℕ)
-        → IsLegal plan infos station start (Down event ∷ past) → Contains (filter_map deactivating past) event → ⊥ }
+        → IsLegal plan infos station start (Down event ∷ past) → Contains (filter_map down_event past) event → ⊥ }
     ensures swaps { (plan : Plan) (infos : List Info) (station : ℕ) (start : Account) (past : List Event) (unit : ℕ)
         → IsLegal plan infos station start (Swap unit ∷ past) → Contains past (Swap unit) → ⊥ }
 {}

@@ -19,7 +19,7 @@ use Rattle.lq_model.specs.declared.plan.StationPlan.{StationPlan}
 -- STATIONS
 
 -- a station of the run
-pub record Running : Type 0 where
+pub record RunningStation : Type 0 where
   pub account : Account
   -- whether the next packet may go past the bands
   pub clean : Bool
@@ -44,11 +44,11 @@ answered tx.SentHang queue a = hung_up_to (length a.stops) (after Send a)
 answered tx.Busy queue a = after Back a
 
 -- what the device answers next
-abbrev pub next_answer : Running → Tx
+abbrev pub next_answer : RunningStation → Tx
 next_answer s = answer_of s.device (length (s.account.sent s.account.unit))
 
 -- the packet in hand, which is of this queue, was offered to the device
-abbrev pub offered : ℕ → Running → Running
+abbrev pub offered : ℕ → RunningStation → RunningStation
 offered queue s = record {
   account = answered (next_answer s) queue s.account;
   clean = s.clean;
@@ -78,34 +78,34 @@ queue_in_hand infos a = option_map_or (queue_in infos) a.hand 0
 
 -- The packet that came into the hand is offered to the device, and serving goes on; but where its queue isn't open, it
 -- is laid into the requeue slot, and serving ends.
-abbrev pub hand_served : List Info → (Running → Running) → Running → Running
+abbrev pub hand_served : List Info → (RunningStation → RunningStation) → RunningStation → RunningStation
 hand_served infos serve_on s =
     if is_open s.account (queue_in_hand infos s.account) then serve_on (offered (queue_in_hand infos s.account) s)
     else record s { account = after Back s.account }
 
-abbrev pub taken_served : List Info → (Running → Running) → Option Event → Running → Running
+abbrev pub taken_served : List Info → (RunningStation → RunningStation) → Option Event → RunningStation → RunningStation
 taken_served infos serve_on None s = s
 taken_served infos serve_on (Some event) s = hand_served infos serve_on (record s { account = after event s.account })
 
 -- so many packets at most are taken, one after the other
-abbrev pub served_turns : List Info → ℕ → Running → Running
+abbrev pub served_turns : List Info → ℕ → RunningStation → RunningStation
 served_turns infos zero s = s
 served_turns infos (suc turns) s =
     if is_left s.account then s else taken_served infos (served_turns infos turns) (next_taken s.account) s
 
 -- so many turns are enough: each sends a packet that is held, or is one more answer Busy
-abbrev pub turns_of : Running → ℕ
+abbrev pub turns_of : RunningStation → ℕ
 turns_of s = length (held s.account) + (s.device.params.busy_limit - s.device.busies)
 
--- behind serving, the next packet may go past the bands where the one queue is open; of several queues, where nothing is held
+-- after serving, the next packet may go past the bands where the one queue is open; of several queues, where nothing is held
 abbrev pub is_clean : Account → Bool
 is_clean a = if is_shared a then is_none (next_taken a) else is_open a 0
 
-abbrev pub cleaned : Running → Running
+abbrev pub cleaned : RunningStation → RunningStation
 cleaned s = record s { clean = is_clean s.account }
 
 -- the station was served, as long as something is held and the device takes it
-abbrev pub served : List Info → Running → Running
+abbrev pub served : List Info → RunningStation → RunningStation
 served infos s = if is_left s.account then s else cleaned (served_turns infos (turns_of s) s)
 
 -- OFFERS OF A PACKET
@@ -119,29 +119,29 @@ abbrev pub seen_in : ℕ → Band → ℕ
 seen_in len band = slice_index band.line (length band.line - len)
 
 -- packet n joins its band, or is dropped as full
-abbrev pub queued : ℕ → ℕ → Account → Account
-queued n band a =
+abbrev pub joined_or_full : ℕ → ℕ → Account → Account
+joined_or_full n band a =
     if is_occupied a.len (a.bands band) then after (Full n (seen_in a.len (a.bands band))) a else after (Join n band) a
 
 -- packet n goes past the bands: to the device where its queue is open, or else into the requeue slot
-abbrev pub gone_direct : List Info → ℕ → Running → Running
+abbrev pub gone_direct : List Info → ℕ → RunningStation → RunningStation
 gone_direct infos n s =
     if is_open s.account (queue_in infos n)
     then record (offered (queue_in infos n) (record s { account = after (Direct n) s.account })) { clean = not (is_busy (next_answer s)) }
     else record s { account = after Back (after (Direct n) s.account); clean = false }
 
 -- packet n goes through its band, and the station is served
-abbrev pub gone_through : List Info → ℕ → Running → Running
+abbrev pub gone_through : List Info → ℕ → RunningStation → RunningStation
 gone_through infos n s =
-    let t = served infos (record s { account = queued n (band_in infos n) s.account }) in
+    let t = served infos (record s { account = joined_or_full n (band_in infos n) s.account }) in
     record t { clean = t.clean && (is_shared t.account || is_open t.account 0) }
 
 -- packet n is brought to its station, which may let packets go past the bands
-abbrev pub taken_in : List Info → Bool → ℕ → Option ℕ → Running → Running
+abbrev pub taken_in : List Info → Bool → ℕ → Option ℕ → RunningStation → RunningStation
 taken_in infos bypass n (Some event) s = record s { account = after (Refuse n event) s.account }
 taken_in infos bypass n None s = if bypass && s.clean then gone_direct infos n s else gone_through infos n s
 
-abbrev pub brought_in : List Info → Bool → ℕ → Running → Running
+abbrev pub brought_in : List Info → Bool → ℕ → RunningStation → RunningStation
 brought_in infos bypass n s = taken_in infos bypass n s.account.down s
 
 -- WAKES
@@ -154,7 +154,7 @@ abbrev pub opened_up_to : ℕ → Account → Account
 opened_up_to zero a = a
 opened_up_to (suc queue) a = opened_queue queue (opened_up_to queue a)
 
-abbrev pub opened : Running → Running
+abbrev pub opened : RunningStation → RunningStation
 opened s = record s { account = opened_up_to (length s.account.stops) s.account }
 
 -- THE PLAN'S EVENTS
@@ -163,7 +163,7 @@ opened s = record s { account = opened_up_to (length s.account.stops) s.account 
 abbrev pub deactivated : ℕ → Account → Account
 deactivated event a = after (Purge (cause.Event event)) (after (Down event) a)
 
-abbrev pub changed : Plan → ℕ → EventKind → Running → Running
+abbrev pub changed : Plan → ℕ → EventKind → RunningStation → RunningStation
 changed plan event kind.Down s = record s { account = deactivated event s.account; clean = true }
 changed plan event kind.Up s = record s { account = after Up s.account }
 changed plan event (kind.Resize len) s = record s { account = after (Resize len event) s.account }
@@ -183,50 +183,50 @@ changed_at zero f (x ∷ xs) = f x ∷ xs
 changed_at (suc i) f (x ∷ xs) = x ∷ changed_at i f xs
 
 -- an event of the plan, after which its station is served
-abbrev pub with_event : Plan → List Info → ℕ → List Running → List Running
+abbrev pub with_event : Plan → List Info → ℕ → List RunningStation → List RunningStation
 with_event plan infos event stations =
     option_map_or (λ e. changed_at e.station (λ s. served infos (changed plan event e.kind s)) stations) (slice_get plan.events event) stations
 
-abbrev pub with_events : Plan → List Info → List ℕ → List Running → List Running
+abbrev pub with_events : Plan → List Info → List ℕ → List RunningStation → List RunningStation
 with_events plan infos [] stations = stations
 with_events plan infos (event ∷ events) stations = with_events plan infos events (with_event plan infos event stations)
 
--- the events that come between packet n and the one before it, and those behind all packets
+-- the events that come between packet n and the one before it, and those after all packets
 abbrev pub before_of : Plan → ℕ → ℕ
 before_of plan event = option_map_or (λ e. e.before) (slice_get plan.events event) 0
 
 abbrev pub events_before : Plan → ℕ → List ℕ
 events_before plan n = filter (λ event. before_of plan event == n) (first_numbers (length plan.events))
 
-abbrev pub events_behind : Plan → ℕ → List ℕ
-events_behind plan count = filter (λ event. nat_le count (before_of plan event)) (first_numbers (length plan.events))
+abbrev pub events_after : Plan → ℕ → List ℕ
+events_after plan count = filter (λ event. nat_le count (before_of plan event)) (first_numbers (length plan.events))
 
 abbrev pub bypass_of : Plan → ℕ → Bool
 bypass_of plan station = option_map_or (λ s. s.bypass) (slice_get plan.stations station) false
 
 -- packet n is brought to its station, and then the station is served
-abbrev pub with_packet : Plan → List Info → ℕ → List Running → List Running
+abbrev pub with_packet : Plan → List Info → ℕ → List RunningStation → List RunningStation
 with_packet plan infos n stations =
     changed_at (station_in infos n) (λ s. served infos (brought_in infos (bypass_of plan (station_in infos n)) n s)) stations
 
--- behind a multiple of the plan's number of packets, stopped queues are woken
-abbrev pub with_wakes : Plan → ℕ → List Running → List Running
+-- after a multiple of the plan's number of packets, stopped queues are woken
+abbrev pub with_wakes : Plan → ℕ → List RunningStation → List RunningStation
 with_wakes plan n stations = if (n + 1) % plan.irq_every == 0 then map opened stations else stations
 
--- the plan's events before packet n, the packet, the wakes behind it, and then all stations are served
-abbrev pub with_turn : Plan → List Info → ℕ → List Running → List Running
+-- the plan's events before packet n, the packet, the wakes after it, and then all stations are served
+abbrev pub with_turn : Plan → List Info → ℕ → List RunningStation → List RunningStation
 with_turn plan infos n stations =
     map (served infos) (with_wakes plan n (with_packet plan infos n (with_events plan infos (events_before plan n) stations)))
 
-abbrev pub new_station : ℕ → StationPlan → Running
+abbrev pub new_station : ℕ → StationPlan → RunningStation
 new_station number s = record { account = new_account s.len number 1; clean = true; device = new_device s.params }
 
-abbrev pub new_stations : ℕ → List StationPlan → List Running
+abbrev pub new_stations : ℕ → List StationPlan → List RunningStation
 new_stations number [] = []
 new_stations number (s ∷ ss) = new_station number s ∷ new_stations (number + 1) ss
 
--- the stations behind the first so many packets, from these on
-abbrev pub after_packets : Plan → List Info → List Running → ℕ → List Running
+-- the stations after the first so many packets, from these on
+abbrev pub after_packets : Plan → List Info → List RunningStation → ℕ → List RunningStation
 after_packets plan infos start zero = start
 after_packets plan infos start (suc n) = with_turn plan infos n (after_packets plan infos start n)
 
@@ -237,7 +237,7 @@ abbrev pub is_done : Account → Bool
 is_done a = is_some a.down || (is_hung a || (is_all_open a && is_none (next_taken a)))
 
 -- the station is woken and served until it is done, so many times at most
-abbrev pub finished_rounds : List Info → ℕ → Running → Running
+abbrev pub finished_rounds : List Info → ℕ → RunningStation → RunningStation
 finished_rounds infos zero s = s
 finished_rounds infos (suc rounds) s = if is_done s.account then s else finished_rounds infos rounds (served infos (opened s))
 
@@ -246,22 +246,22 @@ abbrev pub purged_if_hung : Account → Account
 purged_if_hung a = if is_hung a then after (Purge (cause.Hung a.unit)) a else a
 
 -- so many rounds are enough: each but the last sends a packet that is held
-abbrev pub finished : List Info → Running → Running
+abbrev pub finished : List Info → RunningStation → RunningStation
 finished infos s = let t = finished_rounds infos (length (held s.account) + 1) s in record t { account = purged_if_hung t.account }
 
--- behind all packets come the events that are left, and then each station is finished
-abbrev pub after_run : Plan → List Info → List Running → List Running
+-- after all packets come the events that are left, and then each station is finished
+abbrev pub after_run : Plan → List Info → List RunningStation → List RunningStation
 after_run plan infos start =
-    map (finished infos) (with_events plan infos (events_behind plan (length infos)) (after_packets plan infos start (length infos)))
+    map (finished infos) (with_events plan infos (events_after plan (length infos)) (after_packets plan infos start (length infos)))
 
 -- THE FATES
 
-abbrev pub fate_in : List Running → List Info → ℕ → Option Fate
+abbrev pub fate_in : List RunningStation → List Info → ℕ → Option Fate
 fate_in stations infos n = option_and_then (λ s. s.account.fates n) (slice_get stations (station_in infos n))
 
 -- the fate of each packet, in ascending number, where the run begins with these stations
-unfoldable pub fates_from : Plan → List Info → List Running → List (Option Fate)
-fates_from plan infos start = map (fate_in (after_run plan infos start) infos) (first_numbers (length infos))
+unfoldable pub run_fates : Plan → List Info → List RunningStation → List (Option Fate)
+run_fates plan infos start = map (fate_in (after_run plan infos start) infos) (first_numbers (length infos))
 
 abbrev pub alone : Plan → List Info → List (Option Fate)
-alone plan infos = fates_from plan infos (new_stations 0 plan.stations)
+alone plan infos = run_fates plan infos (new_stations 0 plan.stations)

@@ -32,12 +32,12 @@ abbrev pub NeverShrinks : Plan → Type 0
 NeverShrinks plan = (station event : ℕ) → IsShrinking plan station event → ⊥
 
 -- how many packets are offered to a band of a station
-abbrev pub offered : List Info → ℕ → ℕ → ℕ
-offered infos station band = count_by (λ info. (info.station == station) && (info.band == band)) infos
+abbrev pub offered_count : List Info → ℕ → ℕ → ℕ
+offered_count infos station band = count_by (λ info. (info.station == station) && (info.band == band)) infos
 
 -- fewer than fill its ring but for a batch, at every length that the ring has
 abbrev pub NeverFills : Plan → List Info → ℕ → ℕ → Type 0
-NeverFills plan infos station band = (len : ℕ) → GivesLength plan station len → offered infos station band < len - batch len
+NeverFills plan infos station band = (len : ℕ) → GivesLength plan station len → offered_count infos station band < len - batch len
 
 -- WHAT FOLLOWS
 

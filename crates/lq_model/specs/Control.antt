@@ -20,11 +20,11 @@ is_quiet Closing = false
 is_quiet Quiet = true
 is_quiet Purged = true
 
-abbrev pub is_purged : Phase → Bool
-is_purged Active = false
-is_purged Closing = false
-is_purged Quiet = false
-is_purged Purged = true
+abbrev pub is_purged_phase : Phase → Bool
+is_purged_phase Active = false
+is_purged_phase Closing = false
+is_purged_phase Quiet = false
+is_purged_phase Purged = true
 
 abbrev pub found_inside : ℕ → Phase → Phase
 found_inside inside Active = Active
@@ -32,22 +32,22 @@ found_inside inside Closing = (if inside == 0 then Quiet else Closing)
 found_inside inside Quiet = Quiet
 found_inside inside Purged = Purged
 
-abbrev pub behind_purge : Phase → Phase
-behind_purge Active = Active
-behind_purge Closing = Closing
-behind_purge Quiet = Purged
-behind_purge Purged = Purged
+abbrev pub after_purge : Phase → Phase
+after_purge Active = Active
+after_purge Closing = Closing
+after_purge Quiet = Purged
+after_purge Purged = Purged
 
 -- PURGE
 
--- it waits for its next band, or for the bits behind the last
+-- it waits for its next band, or for the bits after the last
 abbrev pub looks_at_bands : Option Purge → Bool
 looks_at_bands (Some u) = nat_lt u.band 3
 looks_at_bands None = false
 
-abbrev pub is_behind_bands : Option Purge → Bool
-is_behind_bands (Some u) = not (nat_lt u.band 3)
-is_behind_bands None = false
+abbrev pub is_after_bands : Option Purge → Bool
+is_after_bands (Some u) = not (nat_lt u.band 3)
+is_after_bands None = false
 
 abbrev pub band_purged : List Packet → Purge → Qdisc → Qdisc
 band_purged [] u q = record q { purge = Some (record u { band = u.band + 1 }) }
@@ -60,7 +60,7 @@ purge_band None q = q
 -- the purge ends where both bits were cleared
 abbrev pub purge_goes_on : Purge → Qdisc → Qdisc
 purge_goes_on u q =
-    if u.missed && u.draining then record q { purge = None; phase = behind_purge q.phase } else record q { purge = Some u }
+    if u.missed && u.draining then record q { purge = None; phase = after_purge q.phase } else record q { purge = Some u }
 
 abbrev pub purge_missed : Option Purge → Qdisc → Qdisc
 purge_missed (Some u) q = purge_goes_on (record u { missed = true }) (record q { missed = false })
@@ -72,8 +72,8 @@ purge_draining None q = q
 
 -- THE STEPS
 
-abbrev pub opened : ℕ → Qdisc → Seat → After
-opened queue q s = record {
+abbrev pub queue_opened : ℕ → Qdisc → Seat → After
+queue_opened queue q s = record {
   qdisc = record q { xoff = slice_set q.xoff queue 0; sched = true };
   seat = record s { position = Control true; raised = s.raised || not q.sched };
 }
@@ -93,7 +93,7 @@ control_at PurgeMissed holds q s = goes_to (purge_missed q.purge q) s (Control h
 control_at PurgeDraining holds q s = goes_to (purge_draining q.purge q) s (Control holds)
 control_at (Resize len) holds q s = goes_to (record q { bands = map (λ band. take len band) q.bands; len = len }) s (Control holds)
 control_at (StoreOpen queue) holds q s = goes_to (record q { xoff = slice_set q.xoff queue 0 }) s (Control holds)
-control_at (OpenQueue queue) holds q s = opened queue q s
+control_at (OpenQueue queue) holds q s = queue_opened queue q s
 
 -- where it may come; a sole seat is the machine's only one
 abbrev pub may_control : ControlStep → Bool → Bool → Qdisc → Bool
@@ -102,14 +102,14 @@ may_control GetLock sole holds q = not holds && not q.locked
 may_control RunEnd sole holds q = holds && is_none q.purge
 may_control Release sole holds q = holds && is_none q.purge && q.deactivated
 may_control SetDeactivated sole holds q = not q.deactivated && is_none q.purge
-may_control ClearDeactivated sole holds q = not holds && is_none q.purge && is_purged q.phase
+may_control ClearDeactivated sole holds q = not holds && is_none q.purge && is_purged_phase q.phase
 may_control LoadInside sole holds q = true
 may_control PurgeSlot sole holds q = holds && is_none q.purge && (is_quiet q.phase || sole)
 may_control PurgeBand sole holds q = holds && looks_at_bands q.purge
-may_control PurgeMissed sole holds q = holds && is_behind_bands q.purge
-may_control PurgeDraining sole holds q = holds && is_behind_bands q.purge
+may_control PurgeMissed sole holds q = holds && is_after_bands q.purge
+may_control PurgeDraining sole holds q = holds && is_after_bands q.purge
 may_control (Resize len) sole holds q = holds && is_none q.purge
-may_control (StoreOpen queue) sole holds q = holds && is_none q.purge && is_purged q.phase
+may_control (StoreOpen queue) sole holds q = holds && is_none q.purge && is_purged_phase q.phase
 may_control (OpenQueue queue) sole holds q = holds && is_none q.purge && (slice_index q.xoff queue == 1)
 
 abbrev pub is_control : Position → Bool

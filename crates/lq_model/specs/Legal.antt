@@ -39,19 +39,19 @@ abbrev pub begins_with_send : List Event → Bool
 begins_with_send (Send ∷ past) = true
 begins_with_send past = false
 
--- the latest of these events are stops of hung queues, and behind them stands a send
+-- the latest of these events are stops of hung queues, and after them stands a send
 abbrev pub begins_with_hang : List Event → Bool
 begins_with_hang (Send ∷ past) = true
 begins_with_hang (Stop queue value ∷ past) = (value == 2) && begins_with_hang past
 begins_with_hang past = false
 
 -- the holder's last event was a send
-abbrev pub is_behind_send : List Event → Bool
-is_behind_send past = begins_with_send (filter is_holders past)
+abbrev pub is_after_send : List Event → Bool
+is_after_send past = begins_with_send (filter is_holders past)
 
 -- the holder's events since its last send are stops of hung queues alone
-abbrev pub is_hanging : List Event → Bool
-is_hanging past = begins_with_hang (filter is_holders past)
+abbrev pub is_hanging_past : List Event → Bool
+is_hanging_past past = begins_with_hang (filter is_holders past)
 
 -- the packet that a sender brought
 abbrev pub brought : Event → Option ℕ
@@ -65,13 +65,13 @@ abbrev pub brought_by : List Event → List ℕ
 brought_by past = filter_map brought past
 
 -- the plan's event that resized, and the one that deactivated
-abbrev pub resizing : Event → Option ℕ
-resizing (Resize len event) = Some event
-resizing event = None
+abbrev pub resize_event : Event → Option ℕ
+resize_event (Resize len event) = Some event
+resize_event event = None
 
-abbrev pub deactivating : Event → Option ℕ
-deactivating (Down event) = Some event
-deactivating event = None
+abbrev pub down_event : Event → Option ℕ
+down_event (Down event) = Some event
+down_event event = None
 
 -- PACKETS
 
@@ -133,7 +133,7 @@ MayCome infos station past a (Direct n) = MayGoDirect infos station a n
 MayCome infos station past a Send = (n : ℕ) × (a.hand ≡ Some n) × (slice_index a.stops (queue_in infos n) ≡ 2 → ⊥)
 MayCome infos station past a Back = ((n : ℕ) × (a.hand ≡ Some n)) × (a.slot ≡ None)
 MayCome infos station past a (Stop queue value) =
-    ((value ≡ 1) × (is_behind_send past ≡ true) × IsQueueSentOn infos a queue) ⊎ ((value ≡ 2) × (is_hanging past ≡ true))
+    ((value ≡ 1) × (is_after_send past ≡ true) × IsQueueSentOn infos a queue) ⊎ ((value ≡ 2) × (is_hanging_past past ≡ true))
 MayCome infos station past a (Wake queue) = slice_index a.stops queue ≡ 1
 MayCome infos station past a (Resize len event) = a.hand ≡ None
 MayCome infos station past a (Down event) = a.down ≡ None
@@ -149,13 +149,13 @@ IsEventAt plan station event kind = (e : EventPlan) × (slice_get plan.events ev
 
 -- no event of the plan that came before is this one or a later one
 pub record IsNext (past : List Event) (event : ℕ) : Type 0 where
-  pub behind_resizes : (e : ℕ) → Contains (filter_map resizing past) e → e < event
-  pub behind_downs : (e : ℕ) → Contains (filter_map deactivating past) e → e < event
+  pub after_resizes : (e : ℕ) → Contains (filter_map resize_event past) e → e < event
+  pub after_downs : (e : ℕ) → Contains (filter_map down_event past) e → e < event
 
 -- a change of the queue length resizes while it keeps the station deactivated, once, and finds nothing held
 pub record IsQueueLengthChange (plan : Plan) (station : ℕ) (past : List Event) (a : Account) (len event : ℕ) : Type 0 where
   pub planned : IsEventAt plan station event (kind.TxQueueLen len)
-  pub once : (e : ℕ) → Contains (filter_map resizing past) e → e < event
+  pub once : (e : ℕ) → Contains (filter_map resize_event past) e → e < event
   pub deactivated : a.down ≡ Some event
   pub nothing_held : held a ≡ []
 

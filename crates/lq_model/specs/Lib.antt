@@ -26,8 +26,12 @@ pub mod Machine
 pub mod Steps
 -- the steps of control
 pub mod Control
--- what holds at every moment, and the quiet machine
+-- where seats stand, what is held and exposed, and which ways on there are
+pub mod Positions
+-- what holds at every moment
 pub mod Kept
+-- what moves lead to, and the quiet machine
+pub mod Quiet
 -- the account of a station, and its events
 pub mod Account
 -- when an event may come

@@ -8,7 +8,7 @@ use Rattle.lq_model.specs.declared.machine.Seat.{Seat}
 
 -- WORDS AND BITS
 
--- a purge under way: the bands below this one were found empty, and which bits were cleared behind them
+-- a purge under way: the bands below this one were found empty, and which bits were cleared after them
 pub record Purge : Type 0 where
   pub band : ℕ
   pub missed : Bool

@@ -96,4 +96,4 @@ rank_in infos n = option_map_or (λ info. info.rank) (slice_get infos n) 0
 
 -- ranks count: of one owner and station the packet of lower rank is the lower one
 abbrev pub AreRanked : List Info → Type 0
-AreRanked infos = (m n : ℕ) → owner_in infos m ≡ owner_in infos n → station_in infos m ≡ station_in infos n → rank_in infos m < rank_in infos n → m < n
+AreRanked infos = (m n : ℕ) → m < length infos → n < length infos → owner_in infos m ≡ owner_in infos n → station_in infos m ≡ station_in infos n → rank_in infos m < rank_in infos n → m < n

@@ -1,7 +1,7 @@
 -- Small runs of one sender, and their fates.
 use Rattle.std.specs.Prelude.{◌≡◌, ℕ, Bool, true, List, [], ◌∷◌, map, Some}
 use Rattle.lq_model.specs.Account.{new_account}
-use Rattle.lq_model.specs.Alone.{alone, fates_from, new_device}
+use Rattle.lq_model.specs.Alone.{alone, run_fates, new_device}
 use Rattle.lq_model.specs.Plan.{Plan}
 use Rattle.lq_model.specs.declared.device.Params.{Params}
 use Rattle.lq_model.specs.declared.fate.Fate.{Fate}
@@ -11,14 +11,14 @@ use Rattle.lq_model.specs.declared.plan.EventPlan.{EventPlan}
 use Rattle.lq_model.specs.declared.plan.Split.TheVariants.{Round}
 
 -- packets of one station, by their bands; and by their queues and bands
-abbrev pub packet_of : ℕ → ℕ → Info
-packet_of queue band = record { owner = 0; station = 0; band = band; queue = queue; rank = 0 }
+abbrev pub packet_on : ℕ → ℕ → Info
+packet_on queue band = record { owner = 0; station = 0; band = band; queue = queue; rank = 0 }
 
-abbrev pub packets_of : List ℕ → List Info
-packets_of bands = map (packet_of 0) bands
+abbrev pub packets_in_bands : List ℕ → List Info
+packets_in_bands bands = map (packet_on 0) bands
 
 abbrev pub packets_on : List (ℕ × ℕ) → List Info
-packets_on packets = map (λ p. packet_of p.0 p.1) packets
+packets_on packets = map (λ p. packet_on p.0 p.1) packets
 
 -- packets of band 1, by their stations
 abbrev pub packets_to : List ℕ → List Info
@@ -46,7 +46,7 @@ no_rules = with_burst 0
 -- two queues share the bands of the station
 abbrev pub HaveFatesOnTwoQueues : Plan → List Info → ℕ → Params → List Fate → Type 0
 HaveFatesOnTwoQueues plan infos len params fates =
-    fates_from plan infos (record { account = new_account len 0 2; clean = true; device = new_device params } ∷ []) ≡ map (λ fate. Some fate) fates
+    run_fates plan infos (record { account = new_account len 0 2; clean = true; device = new_device params } ∷ []) ≡ map (λ fate. Some fate) fates
 
 -- the plan and the packets have just these fates
 abbrev pub HaveFates : Plan → List Info → List Fate → Type 0

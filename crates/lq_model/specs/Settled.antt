@@ -36,17 +36,17 @@ GivesLength plan station len =
     ((s : StationPlan) × (slice_get plan.stations station ≡ Some s) × (s.len ≡ len))
     ⊎ ((event : ℕ) × (IsEventAt plan station event (kind.Resize len) ⊎ IsEventAt plan station event (kind.TxQueueLen len)))
 
--- the length behind an event of the station, where there is one before it
-abbrev pub length_behind : EventKind → ℕ → ℕ
-length_behind kind.Down len = len
-length_behind kind.Up len = len
-length_behind (kind.Resize new) len = new
-length_behind (kind.TxQueueLen new) len = new
-length_behind (kind.Swap params) len = len
+-- the length after an event of the station, where there is one before it
+abbrev pub length_after_event : EventKind → ℕ → ℕ
+length_after_event kind.Down len = len
+length_after_event kind.Up len = len
+length_after_event (kind.Resize new) len = new
+length_after_event (kind.TxQueueLen new) len = new
+length_after_event (kind.Swap params) len = len
 
 abbrev pub length_after : List EventPlan → ℕ → ℕ
 length_after [] len = len
-length_after (event ∷ events) len = length_after events (length_behind event.kind len)
+length_after (event ∷ events) len = length_after events (length_after_event event.kind len)
 
 -- the length of a station's rings before an event of the plan
 abbrev pub LengthBefore : Plan → ℕ → ℕ → ℕ → Type 0
@@ -58,7 +58,7 @@ abbrev pub IsUnitOf : Plan → ℕ → ℕ → Type 0
 IsUnitOf plan station unit =
     (unit ≡ station) ⊎ ((event : ℕ) × (params : Params) × IsEventAt plan station event (kind.Swap params) × (unit ≡ unit_of_swap plan event))
 
--- the last of them: no swap of the station comes behind
+-- the last of them: no swap of the station comes after
 pub record IsLastUnit (plan : Plan) (station unit : ℕ) : Type 0 where
   pub used : IsUnitOf plan station unit
   pub last : (u : ℕ) → IsUnitOf plan station u → u ≤ unit
@@ -124,19 +124,19 @@ pub record HangsAsTold (plan : Plan) (fates : List Fate) : Type 0 where
 --
 -- The first sender does the plan's events, each before its packets with that number or a higher one.
 
--- the event that keeps a station deactivated behind an event of it, where `down` did before
-abbrev pub down_behind : EventKind → ℕ → Option ℕ → Option ℕ
-down_behind kind.Down event down = Some event
-down_behind kind.Up event down = None
-down_behind (kind.Resize len) event down = down
-down_behind (kind.TxQueueLen len) event down = down
-down_behind (kind.Swap params) event down = down
+-- the event that keeps a station deactivated after an event of it, where `down` did before
+abbrev pub down_after : EventKind → ℕ → Option ℕ → Option ℕ
+down_after kind.Down event down = Some event
+down_after kind.Up event down = None
+down_after (kind.Resize len) event down = down
+down_after (kind.TxQueueLen len) event down = down
+down_after (kind.Swap params) event down = down
 
--- the same behind the events from number e on that stand before packet n
+-- the same after the events from number e on that stand before packet n
 abbrev pub down_before : ℕ → ℕ → List EventPlan → ℕ → Option ℕ → Option ℕ
 down_before station n [] e down = down
 down_before station n (event ∷ events) e down =
-    down_before station n events (e + 1) (if nat_le event.before n && is_at station event then down_behind event.kind e down else down)
+    down_before station n events (e + 1) (if nat_le event.before n && is_at station event then down_after event.kind e down else down)
 
 -- the event stands behind the packet
 abbrev pub IsBehind : Plan → ℕ → ℕ → Type 0

@@ -73,12 +73,12 @@ deq q s =
     if is_open q (queue_of_slot q.slot) then slot_taken q.slot q s
     else goes_to q s (BlockedClear (NoneTaken (queue_of_slot q.slot)))
 
--- behind the last band: the first time the state is looked at, the second time the run ends
-abbrev pub behind_band : ℕ → Bool → Position
-behind_band band second = if nat_lt band 2 then Scan (band + 1) second else if second then Unlock else Test
+-- after the last band: the first time the state is looked at, the second time the run ends
+abbrev pub after_band : ℕ → Bool → Position
+after_band band second = if nat_lt band 2 then Scan (band + 1) second else if second then Unlock else Test
 
 abbrev pub scan : List Packet → ℕ → Bool → Qdisc → Seat → After
-scan [] band second q s = goes_to q s (behind_band band second)
+scan [] band second q s = goes_to q s (after_band band second)
 scan (p ∷ rest) band second q s = goes_to (record q { bands = slice_set q.bands band rest }) s (Gate p false)
 
 -- MAYBE CLEAR MISSED
@@ -104,11 +104,11 @@ accepted q = record q { sent = one_more q.sent }
 abbrev pub counted : Seat → Seat
 counted s = record s { run = run_counted s.run }
 
-abbrev pub behind_sent : Bool → Qdisc → Seat → Position
-behind_sent direct q s = if direct then Post else if s.run == 64 then Quota else dequeue_begins q
+abbrev pub after_sent : Bool → Qdisc → Seat → Position
+after_sent direct q s = if direct then Post else if s.run == 64 then Quota else dequeue_begins q
 
 abbrev pub xmit : Answer → Packet → Bool → Qdisc → Seat → After
-xmit Plain p direct q s = goes_to (accepted q) (counted s) (behind_sent direct q (counted s))
+xmit Plain p direct q s = goes_to (accepted q) (counted s) (after_sent direct q (counted s))
 xmit FullSlot p direct q s = goes_to q s (Xmit p direct)
 xmit Stop p direct q s = goes_to (accepted q) (counted s) (StoreXoff p.queue false direct)
 xmit Hang p direct q s = goes_to (accepted q) (counted s) (StoreXoff 0 true direct)
@@ -117,25 +117,25 @@ xmit Busy p direct q s = goes_to (record q { slot = Some p }) s Again
 abbrev pub store_xoff : ℕ → Bool → Bool → Qdisc → Seat → After
 store_xoff queue hung direct q s =
     goes_to (record q { xoff = slice_set q.xoff queue (if hung then 2 else 1) }) s
-    (if hung && nat_lt (queue + 1) (length q.xoff) then StoreXoff (queue + 1) hung direct else behind_sent direct q s)
+    (if hung && nat_lt (queue + 1) (length q.xoff) then StoreXoff (queue + 1) hung direct else after_sent direct q s)
 
 -- TRANSMIT
 
 abbrev pub check : Packet → Qdisc → Position
 check p q = if q.deactivated then Leave else if q.bypass && not (is_non_empty q) then Try1 (Direct p) else Put p false
 
-abbrev pub joined : Packet → Qdisc → Qdisc
-joined p q = record q { bands = slice_set q.bands p.band (band_at q p.band ++ p ∷ []) }
+abbrev pub joined_band : Packet → Qdisc → Qdisc
+joined_band p q = record q { bands = slice_set q.bands p.band (band_at q p.band ++ p ∷ []) }
 
 abbrev pub put_answered : Answer → Packet → Qdisc → Qdisc
-put_answered Plain p q = joined p q
+put_answered Plain p q = joined_band p q
 put_answered FullSlot p q = record q { full = one_more q.full }
 put_answered Stop p q = q
 put_answered Hang p q = q
 put_answered Busy p q = q
 
-abbrev pub behind_put : Bool → Packet → Qdisc → Seat → After
-behind_put holds p q s = if holds then run_begins q s else goes_to q s (Try1 (Queued p))
+abbrev pub after_put : Bool → Packet → Qdisc → Seat → After
+after_put holds p q s = if holds then run_begins q s else goes_to q s (Try1 (Queued p))
 
 -- RUN END, SCHEDULE AND SOFT INTERRUPT
 
@@ -164,7 +164,7 @@ abbrev pub step_at : Position → Answer → Qdisc → Seat → After
 step_at Idle answer q s = goes_to q s Idle
 step_at (Enter call) answer q s = goes_to (record q { inside = q.inside + 1 }) s (enter call)
 step_at (Check p) answer q s = goes_to q s (check p q)
-step_at (Put p holds) answer q s = behind_put holds p (put_answered answer p q) s
+step_at (Put p holds) answer q s = after_put holds p (put_answered answer p q) s
 step_at (Try1 attempt) answer q s = try_lock attempt (Miss attempt) q s
 step_at (Miss attempt) answer q s = miss attempt q s
 step_at (Try2 attempt) answer q s = try_lock attempt (gives_up attempt) q s
@@ -253,10 +253,10 @@ begun (Wakes queue) s = record s { position = Wake queue }
 begun Controls s = record s { position = Control false }
 
 -- what the start of a call on seat i leaves
-abbrev pub start_of : Machine → ℕ → Beginning → Option Machine
-start_of m i b =
+abbrev pub call_begun : Machine → ℕ → Beginning → Option Machine
+call_begun m i b =
     if nat_lt i (length m.seats) && may_begin b (seat_at m i)
     then Some (with_seat m i (record { qdisc = m.qdisc; seat = begun b (seat_at m i) })) else None
 
 abbrev pub Begins : Machine → ℕ → Beginning → Machine → Type 0
-Begins m i b m' = start_of m i b ≡ Some m'
+Begins m i b m' = call_begun m i b ≡ Some m'

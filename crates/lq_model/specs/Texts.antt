@@ -19,12 +19,12 @@ fate_words (Purged (Hung unit)) = codes " purged hung" ++ 10 ∷ []
 fate_words (Refused event) = codes " refused " ++ (decimal event ++ 10 ∷ [])
 
 -- a line for each fate, from number n on
-abbrev pub fates_from : ℕ → List Fate → List ℕ
-fates_from n [] = []
-fates_from n (fate ∷ fates) = (decimal n ++ fate_words fate) ++ fates_from (n + 1) fates
+abbrev pub fate_lines : ℕ → List Fate → List ℕ
+fate_lines n [] = []
+fate_lines n (fate ∷ fates) = (decimal n ++ fate_words fate) ++ fate_lines (n + 1) fates
 
 abbrev pub fates_text : List Fate → List ℕ
-fates_text fates = fates_from 0 fates
+fates_text fates = fate_lines 0 fates
 
 -- COUNTS
 

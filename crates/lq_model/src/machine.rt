@@ -185,7 +185,7 @@ pub enum ControlStep {
     Return,
     /// Takes the run lock.
     GetLock,
-    /// Releases the run lock; then MISSED is looked at, as behind a run.
+    /// Releases the run lock; then MISSED is looked at, as after a run.
     RunEnd,
     /// Releases the run lock, while DEACTIVATED is set.
     Release,
@@ -196,7 +196,7 @@ pub enum ControlStep {
     PurgeSlot,
     /// Looks at the next band of the purge: drops its first packet, or finds it empty.
     PurgeBand,
-    /// Clears a bit behind the purge's last packet.
+    /// Clears a bit after the purge's last packet.
     PurgeMissed,
     PurgeDraining,
     /// Gives the bands this length; what doesn't fit is dropped.

@@ -71,7 +71,7 @@ some-none x (suc n) e = cc
 suc-add-one : (n : ℕ) → suc n + 1 ≡ suc (n + 1)
 suc-add-one n = omega arith
 
--- the next of one list is written behind those that were written before
+-- the next of one list is written after those that were written before
 pub set-taken : (xs out : List ℕ) (n x : ℕ) → Some x ≡ slice_get (drop n xs) 0 → n < length out
     → set (take n xs ++ drop n out) n x ≡ take (n + 1) xs ++ drop (n + 1) out
 set-taken [] out n x e h = absurd (some-none x n e)
@@ -79,7 +79,7 @@ set-taken (y ∷ xs) [] n x e h = absurd (omega arith)
 set-taken (y ∷ xs) (z ∷ out) zero x e h = let same : x ≡ y = cc in rw same
 set-taken (y ∷ xs) (z ∷ out) (suc n) x e h = rw (suc-add-one n) (ap (λ ys. y ∷ ys) (set-taken xs out n x e (omega arith)))
 
--- one more is written behind those that were written before
+-- one more is written after those that were written before
 pub set-behind : (ys out : List ℕ) (n x : ℕ) → length ys ≡ n → n < length out → set (ys ++ drop n out) n x ≡ (ys ++ x ∷ []) ++ drop (n + 1) out
 set-behind [] [] n x e h = absurd (omega arith)
 set-behind [] (z ∷ out) zero x e h = refl
@@ -88,7 +88,7 @@ set-behind (y ∷ ys) [] n x e h = absurd (omega arith)
 set-behind (y ∷ ys) (z ∷ out) zero x e h = absurd (omega arith)
 set-behind (y ∷ ys) (z ∷ out) (suc n) x e h = rw (suc-add-one n) (ap (λ zs. y ∷ zs) (set-behind ys out n x (omega arith) (omega arith)))
 
--- THREE PARTS, ONE BEHIND THE OTHER
+-- THREE PARTS, ONE AFTER THE OTHER
 
 pub take-front : (xs ys : List ℕ) (n : ℕ) → length xs ≡ n → take n (xs ++ ys) ≡ xs
 take-front xs ys n e = ap (λ m. take m (xs ++ ys)) (sym e) ∙ take-append_seam xs ys
@@ -99,7 +99,7 @@ drop-front xs ys n e = ap (λ m. drop m (xs ++ ys)) (sym e) ∙ drop-append_seam
 pub drop-rest : (xs : List ℕ) (n : ℕ) → drop (length xs - n) (drop n xs) ≡ []
 drop-rest xs n = drop_of_length-le (drop n xs) {i = length xs - n} (omega (arith, length-drop n xs))
 
--- what is written to a list from its start, from its place na, and from nb places behind that
+-- what is written to a list from its start, from its place na, and from nb places after that
 pub three-parts : (a b c out first second third : List ℕ) (na nb nc : ℕ) → length a ≡ na → length b ≡ nb → length c ≡ nc
     → first ≡ a ++ drop na out → second ≡ b ++ drop nb (drop na first) → third ≡ c ++ drop nc (drop nb second)
     → take na first ++ ((take nb second ++ (third ++ drop (length second - nb) (drop nb second))) ++ drop (length first - na) (drop na first))

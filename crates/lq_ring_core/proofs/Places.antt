@@ -18,7 +18,7 @@ round-within size p h = grind (arith, nat_tests)
 pub round-round : (size p k : ℕ) → p + k < size + size → round size (round size p + k) ≡ round size (p + k)
 round-round size p k h = grind (arith, nat_tests)
 
--- places less than a whole turn apart differ
+-- places less than a whole lap apart differ
 pub round-apart : (size p i j : ℕ) → p < size → i < size → j < size → i ≢ j → round size (p + i) ≢ round size (p + j)
 round-apart size p i j hp hi hj e = grind (arith, nat_tests)
 
@@ -34,7 +34,7 @@ pub held_count-is : (slots : List ℕ) (size head producer c : ℕ) → head < s
     → (c ≡ 0 → slice_index slots head ≡ 0) → (0 < c → 0 < slice_index slots head) → held_count slots size head producer ≡ c
 held_count-is slots size head producer c hh hc e none some = grind (arith, nat_tests)
 
--- the place behind the one that is counted on to
+-- the place after the one that is counted on to
 pub next_place-round : (size p place : ℕ) → p + 1 < size + size → round size p ≡ place → next_place size place ≡ round size (p + 1)
 next_place-round size p place h e = grind (arith, nat_tests)
 

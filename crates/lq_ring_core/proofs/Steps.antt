@@ -145,7 +145,7 @@ slot_at-produce slots size producer head tail v i o below h =
     round-apart size tail i used (omega (arith, o.tail_before_head, o.head_within)) (omega arith) below (omega arith) in
     get_or-set_other slots producer (round size (tail + i)) v 0 (rw (producer-is slots size producer head tail o) at apart)
 
--- the entry is put behind the others
+-- the entry is put after the others
 pub ring_of-produce : (slots : List ℕ) (max_size size producer head tail n : ℕ) → size ≤ length slots → IsInOrder slots size producer head tail
     → slice_index slots producer ≡ 0
     → ring_of (set slots producer (n + 1)) max_size size (next_place size producer) head tail ≡ after_produce (ring_of slots max_size size producer head tail) n

@@ -5,7 +5,7 @@ use Rattle.lq_ring_core.specs.Slots.{round, slot_at, IsUsed, IsCleared}
 use Rattle.lq_ring_core.proofs.Places.{round-below, round-above, round-within, round-apart, round-round, round-place_before, place_before-within}
 use Rattle.lq_ring_core.specs.Ring.{place_before}
 
--- one more, behind the others
+-- one more, after the others
 pub IsUsed-set : (slots : List ℕ) (size tail count v : ℕ) → size ≤ length slots → tail < size → count < size → 0 < v → IsUsed slots size tail count
     → IsUsed (set slots (round size (tail + count)) v) size tail (count + 1)
 IsUsed-set slots size tail count v long ht hc hv u =
@@ -23,7 +23,7 @@ IsUsed-set slots size tail count v long ht hc hv u =
       empty = λ i h hi. rw (other i hi (omega arith)) (u.empty i (omega arith) hi);
     }
 
--- where the first k are cleared, the slots behind them are as before
+-- where the first k are cleared, the slots after them are as before
 pub slot_at-cleared : (old new : List ℕ) (size tail k i : ℕ) → tail + k ≤ size → IsCleared old new tail (tail + k) → i < size - k
     → slot_at new size (round size (tail + k) + i) ≡ slot_at old size (tail + (k + i))
 slot_at-cleared old new size tail k i hk cleared hi =
@@ -71,7 +71,7 @@ IsCleared-set old new place end hp he hl cleared =
       above = λ i h. rw (other i (omega arith)) (cleared.above i h);
     }
 
--- a slot behind the one before the head, once that one was set
+-- a slot after the one before the head, once that one was set
 pub slot_at-set_before : (slots : List ℕ) (size head v i : ℕ) → head < size → i + 1 < size
     → slot_at (set slots (place_before size head 1) v) size (place_before size head 1 + (i + 1)) ≡ slot_at slots size (head + i)
 slot_at-set_before slots size head v i h hi =

@@ -99,7 +99,7 @@ impl Ring {
         self.size
     }
 
-    /// Puts an entry behind the others, as `__ptr_ring_produce`. It is refused exactly where the slot at the
+    /// Puts an entry after the others, as `__ptr_ring_produce`. It is refused exactly where the slot at the
     /// producer index isn't empty; nothing changes then.
     pub fn produce(&mut self, n: u32) -> Result<(), Full>
         requires { n < 4294967295 }

@@ -81,7 +81,7 @@ pub(crate) fn copy_slots(
     }
 }
 
-/// Puts the held entries behind the first `kept` to the front of `out`.
+/// Puts the held entries after the first `kept` to the front of `out`.
 pub(crate) fn copy_entries(
     slots: &[u32],
     size: u32,

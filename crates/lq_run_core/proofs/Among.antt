@@ -14,8 +14,10 @@ use Rattle.lq_model.specs.declared.machine.Position.{Position}
 use Rattle.lq_model.specs.declared.machine.Position.TheVariants.{Idle, Deq, BlockedClear, Control}
 use Rattle.lq_model.specs.declared.machine.Seat.{Seat}
 use Rattle.lq_model.specs.Control.{control_at, holds_as_control, is_control, is_sole, may_control}
-use Rattle.lq_model.specs.Kept.{IsFree, Moves, OneHolder, holds_lock, in_hand, own_packet}
-use Rattle.lq_model.specs.Kept.Moves.{steps, begins, controls}
+use Rattle.lq_model.specs.Positions.{holds_lock, in_hand, own_packet}
+use Rattle.lq_model.specs.Kept.{OneHolder}
+use Rattle.lq_model.specs.Quiet.{IsFree, Moves}
+use Rattle.lq_model.specs.Quiet.Moves.{steps, begins, controls}
 use Rattle.lq_model.specs.Machine.{Qdisc, Machine, band_at, bit, idle_seat, is_open}
 use Rattle.lq_model.specs.Steps.{After, begun, goes_to, is_idle, may_answer, may_begin, queue_of_slot, slot_taken, step_at, with_seat}
 use Rattle.lq_run_core.specs.Among.{among, left_among}

@@ -7,16 +7,16 @@ use Rattle.lq_model.specs.declared.machine.Seat.{Seat}
 use Rattle.std.specs.Prelude.{is_none}
 use Rattle.lq_model.specs.Machine.{Qdisc, is_shared}
 use Rattle.lq_model.specs.Steps.{After}
-use Rattle.lq_model.specs.Kept.{holds_lock, queued, own_packet}
+use Rattle.lq_model.specs.Positions.{holds_lock, hidden_packet, own_packet}
 use Rattle.lq_run_core.proofs.Local as local
 use Rattle.lq_run_core.proofs.Local.{Local}
 
 -- where a seat stands that has just taken the lock
 pub data Takes (q : Qdisc) (before : Position) : Position → Type 0 where
-  takes_direct : (p : Packet) → queued before ≡ None → own_packet before ≡ Some p → Takes q before (Recheck p)
+  takes_direct : (p : Packet) → hidden_packet before ≡ None → own_packet before ≡ Some p → Takes q before (Recheck p)
   takes_word : (is_shared q ≡ true → is_none q.slot ≡ false) → Takes q before Deq
   takes_bands : q.slot ≡ None → Takes q before (Scan 0 false)
-  takes_control : queued before ≡ None → Takes q before (Control true)
+  takes_control : hidden_packet before ≡ None → Takes q before (Control true)
 
 -- it takes the free lock, and changes nothing else
 pub record IsTaking (q : Qdisc) (before after : Position) (q' : Qdisc) : Type 0 where

@@ -7,10 +7,10 @@ use Rattle.lq_model.specs.declared.machine.Position.{Position}
 use Rattle.lq_model.specs.declared.machine.Position.TheVariants.{Put, Try1, Miss}
 use Rattle.lq_model.specs.declared.machine.Seat.{Seat}
 use Rattle.lq_model.specs.Machine.{Qdisc, band_at}
-use Rattle.lq_model.specs.Steps.{After, joined}
+use Rattle.lq_model.specs.Steps.{After, joined_band}
 use Rattle.std.proofs.lemmas.List.{length-set}
 use Rattle.std.proofs.lemmas.List.Elements.{Contains-push_cases}
-use Rattle.lq_model.specs.Kept.{holds_lock, queued, own_packet}
+use Rattle.lq_model.specs.Positions.{holds_lock, hidden_packet, own_packet}
 use Rattle.lq_run_core.proofs.Local.{Local}
 use Rattle.lq_run_core.proofs.Local as local
 use Rattle.lq_run_core.proofs.Bands.{set-holds}
@@ -22,12 +22,12 @@ pub record IsBeside (before : Position) (q : Qdisc) (after : Position) (q' : Qdi
   pub slot : q'.slot ≡ q.slot
   pub purge : q'.purge ≡ q.purge
   pub queues : length q'.xoff ≡ length q.xoff
-  pub bands : (k : ℕ) (p : Packet) → Contains (band_at q' k) p → Contains (band_at q k) p ⊎ ((queued after ≡ Some p) × (own_packet before ≡ Some p))
-  pub queued : (p : Packet) → queued before ≡ Some p → q'.missed ≡ false → queued after ≡ Some p
+  pub bands : (k : ℕ) (p : Packet) → Contains (band_at q' k) p → Contains (band_at q k) p ⊎ ((hidden_packet after ≡ Some p) × (own_packet before ≡ Some p))
+  pub queued : (p : Packet) → hidden_packet before ≡ Some p → q'.missed ≡ false → hidden_packet after ≡ Some p
 
 -- a step that changes nothing that a holder rests on
 pub alike : (before after : Position) (q q' : Qdisc) → q'.missed ≡ q.missed → q'.draining ≡ q.draining → q'.slot ≡ q.slot → q'.purge ≡ q.purge
-    → length q'.xoff ≡ length q.xoff → q'.bands ≡ q.bands → ((p : Packet) → queued before ≡ Some p → q'.missed ≡ false → queued after ≡ Some p) → IsBeside before q after q'
+    → length q'.xoff ≡ length q.xoff → q'.bands ≡ q.bands → ((p : Packet) → hidden_packet before ≡ Some p → q'.missed ≡ false → hidden_packet after ≡ Some p) → IsBeside before q after q'
 alike before after q q' missed draining slot purge queues bands hidden = record {
   missed = λ e. cc;
   draining = draining;
@@ -39,7 +39,7 @@ alike before after q q' missed draining slot purge queues bands hidden = record 
 }
 
 -- a packet that a seat beside the holder puts into its band is hidden
-join-hides : (p : Packet) (q : Qdisc) → IsBeside (Put p false) q (Try1 (Queued p)) (joined p q)
+join-hides : (p : Packet) (q : Qdisc) → IsBeside (Put p false) q (Try1 (Queued p)) (joined_band p q)
 join-hides p q = record {
   missed = λ e. e;
   draining = refl;
@@ -59,7 +59,7 @@ join-hides p q = record {
     ]
 
 -- between its tries a transmit's packet stays hidden
-missed-hides : (attempt : Attempt) (p : Packet) → queued (Try1 attempt) ≡ Some p → queued (Miss attempt) ≡ Some p
+missed-hides : (attempt : Attempt) (p : Packet) → hidden_packet (Try1 attempt) ≡ Some p → hidden_packet (Miss attempt) ≡ Some p
 missed-hides (Queued r) p e = e
 missed-hides (Direct r) p e = cc
 missed-hides Interrupt p e = cc

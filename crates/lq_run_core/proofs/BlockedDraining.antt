@@ -12,8 +12,10 @@ use Rattle.lq_model.specs.declared.machine.Position.TheVariants.{BlockedLoad, Bl
 use Rattle.lq_model.specs.declared.machine.Seat.{Seat}
 use Rattle.lq_model.specs.Machine.{Qdisc, Machine, seat_at, is_open, is_shared}
 use Rattle.lq_model.specs.Steps.{After, with_seat, queue_of_slot, queue_of_blocked}
-use Rattle.lq_model.specs.Control.{is_purged, is_quiet}
-use Rattle.lq_model.specs.Kept.{IsInductive, Moves, BlockedDraining, holds_lock, may_be_inside, blocking_at, is_stopped, has_way_on, blocked}
+use Rattle.lq_model.specs.Control.{is_purged_phase, is_quiet}
+use Rattle.lq_model.specs.Positions.{holds_lock, may_be_inside, blocking_at, is_stopped, has_way_on, blocked}
+use Rattle.lq_model.specs.Kept.{IsInductive, BlockedDraining}
+use Rattle.lq_model.specs.Quiet.{Moves}
 use Rattle.lq_run_core.proofs.Local as local
 use Rattle.lq_run_core.proofs.Local.{Local}
 use Rattle.lq_run_core.proofs.LocalSteps.{Moved, moved}
@@ -55,7 +57,7 @@ blocking-at-same (InHand p direct) q q' slot queues = refl
 blocking-at-same (NoneTaken queue) q q' slot queues = blocking-same q q' slot queues
 
 -- a seat at work in a call shows that the purge hasn't ended
-purged-quiet : (phase : Phase) → is_purged phase ≡ true → is_quiet phase ≡ true
+purged-quiet : (phase : Phase) → is_purged_phase phase ≡ true → is_quiet phase ≡ true
 purged-quiet Purged e = refl
 purged-quiet _ e = cc
 
@@ -79,7 +81,7 @@ blocked-draining m n h moves = subst BlockedDraining (sym t.is)
     others j other b at =
         let holds : holds_lock (seat_at m j).position ≡ true = ap holds_lock at in
         let inside : may_be_inside (seat_at m j).position ≡ false = ap may_be_inside at in
-        let active : is_purged m.qdisc.phase ≡ false
+        let active : is_purged_phase m.qdisc.phase ≡ false
         = false_from_ne_true _ (λ purged. both_ways _ inside (h.kept.quiet_inside (purged-quiet m.qdisc.phase purged) j)) in
         let keeps = keeps-rely m t.i j h.kept.one_holder t.leads other holds active in
         subst (λ queue. (t.after.qdisc.missed || has_way_on (with_seat m t.i t.after) queue) ≡ true) (sym (blocking-at-same b m.qdisc t.after.qdisc keeps.slot keeps.queues))

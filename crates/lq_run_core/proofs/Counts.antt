@@ -11,7 +11,8 @@ use Rattle.lq_model.specs.declared.machine.Position.{Position}
 use Rattle.lq_model.specs.declared.machine.Seat.{Seat}
 use Rattle.lq_model.specs.Machine.{Qdisc, Machine, bit, idle_seat}
 use Rattle.lq_model.specs.Steps.{After, step_at, may_answer, may_begin, begun}
-use Rattle.lq_model.specs.Kept.{holds_lock, is_inside, is_due, marks, IsInductive, OneHolder, CallsInside, OneScheduled}
+use Rattle.lq_model.specs.Positions.{holds_lock, is_inside, is_due, marks}
+use Rattle.lq_model.specs.Kept.{IsInductive, OneHolder, CallsInside, OneScheduled}
 use Rattle.lq_run_core.proofs.LocalSteps.{Moved, step-leads, start-leads}
 use Rattle.lq_model.specs.declared.machine.Beginning.{Beginning}
 use Rattle.lq_model.specs.declared.machine.Answer.{Answer}

@@ -7,8 +7,9 @@ use Rattle.lq_model.specs.declared.machine.Position.{Position}
 use Rattle.lq_model.specs.declared.machine.Seat.{Seat}
 use Rattle.lq_model.specs.Machine.{Qdisc, Machine, is_closed}
 use Rattle.lq_model.specs.Steps.{After}
-use Rattle.lq_model.specs.Control.{found_inside, behind_purge}
-use Rattle.lq_model.specs.Kept.{IsInductive, Moves, Deactivation}
+use Rattle.lq_model.specs.Control.{found_inside, after_purge}
+use Rattle.lq_model.specs.Kept.{IsInductive, Deactivation}
+use Rattle.lq_model.specs.Quiet.{Moves}
 use Rattle.lq_run_core.proofs.Local as local
 use Rattle.lq_run_core.proofs.Local.{Local}
 use Rattle.lq_run_core.proofs.LocalSteps.{moved}
@@ -25,7 +26,7 @@ found-closed inside Quiet = refl
 found-closed inside Purged = refl
 
 -- and where its purge ends
-purged-closed : (phase : Phase) → is_closed (behind_purge phase) ≡ is_closed phase
+purged-closed : (phase : Phase) → is_closed (after_purge phase) ≡ is_closed phase
 purged-closed Active = refl
 purged-closed Closing = refl
 purged-closed Quiet = refl

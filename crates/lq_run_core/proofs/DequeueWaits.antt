@@ -8,7 +8,9 @@ use Rattle.lq_model.specs.declared.machine.Position.TheVariants.{Deq}
 use Rattle.lq_model.specs.declared.machine.Seat.{Seat}
 use Rattle.lq_model.specs.Machine.{Qdisc, Machine, is_shared, seat_at}
 use Rattle.lq_model.specs.Steps.{After}
-use Rattle.lq_model.specs.Kept.{IsInductive, Moves, DequeueWaits, holds_lock}
+use Rattle.lq_model.specs.Positions.{holds_lock}
+use Rattle.lq_model.specs.Kept.{IsInductive, DequeueWaits}
+use Rattle.lq_model.specs.Quiet.{Moves}
 use Rattle.lq_run_core.proofs.Local as local
 use Rattle.lq_run_core.proofs.Local.{Local}
 use Rattle.lq_run_core.proofs.LocalSteps.{Moved, moved}

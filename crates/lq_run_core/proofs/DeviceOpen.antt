@@ -9,7 +9,9 @@ use Rattle.lq_model.specs.declared.machine.Position.TheVariants.{Xmit}
 use Rattle.lq_model.specs.declared.machine.Seat.{Seat}
 use Rattle.lq_model.specs.Machine.{Qdisc, Machine, seat_at, is_open}
 use Rattle.lq_model.specs.Steps.{After}
-use Rattle.lq_model.specs.Kept.{IsInductive, Moves, DeviceOpen, holds_lock}
+use Rattle.lq_model.specs.Positions.{holds_lock}
+use Rattle.lq_model.specs.Kept.{IsInductive, DeviceOpen}
+use Rattle.lq_model.specs.Quiet.{Moves}
 use Rattle.lq_run_core.proofs.Local as local
 use Rattle.lq_run_core.proofs.Local.{Local}
 use Rattle.lq_run_core.proofs.LocalSteps.{Moved, moved}

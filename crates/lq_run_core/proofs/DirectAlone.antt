@@ -8,7 +8,9 @@ use Rattle.lq_model.specs.declared.machine.Position.TheVariants.{Try1, Miss, Rec
 use Rattle.lq_model.specs.declared.machine.Seat.{Seat}
 use Rattle.lq_model.specs.Machine.{Qdisc, Machine, seat_at, band_at}
 use Rattle.lq_model.specs.Steps.{After}
-use Rattle.lq_model.specs.Kept.{IsInductive, Moves, DirectAlone, OwnersDiffer, IsHidden, ClearBelow, holds_lock, queued, own_packet, direct_packet, looked_below}
+use Rattle.lq_model.specs.Positions.{IsHidden, ClearBelow, holds_lock, hidden_packet, own_packet, direct_packet, looked_below}
+use Rattle.lq_model.specs.Kept.{IsInductive, DirectAlone, OwnersDiffer}
+use Rattle.lq_model.specs.Quiet.{Moves}
 use Rattle.lq_run_core.proofs.Local as local
 use Rattle.lq_run_core.proofs.Local.{Local}
 use Rattle.lq_run_core.proofs.LocalSteps.{Moved, moved}
@@ -34,7 +36,7 @@ direct-own (BlockedDrain (InHand r direct)) p e = e
 direct-own _ p e = cc
 
 -- a hidden packet is that of its seat's transmit
-queued-own : (position : Position) (p : Packet) → queued position ≡ Some p → own_packet position ≡ Some p
+queued-own : (position : Position) (p : Packet) → hidden_packet position ≡ Some p → own_packet position ≡ Some p
 queued-own (Try1 (Queued r)) p e = e
 queued-own (Miss (Queued r)) p e = e
 queued-own _ p e = cc
@@ -53,12 +55,12 @@ mine (local.blocked_closed (InHand own direct) closed) alone clear p r e held = 
 mine _ alone clear p r e held = absurd cc
 
 -- a hidden packet has another owner than that of a seat that isn't queued
-hidden-differs : (m : Machine) (i : ℕ) (p r : Packet) → OwnersDiffer m → own_packet (seat_at m i).position ≡ Some p → queued (seat_at m i).position ≡ None → IsHidden m r → r.owner ≢ p.owner
+hidden-differs : (m : Machine) (i : ℕ) (p r : Packet) → OwnersDiffer m → own_packet (seat_at m i).position ≡ Some p → hidden_packet (seat_at m i).position ≡ None → IsHidden m r → r.owner ≢ p.owner
 hidden-differs m i p r owners own unqueued (j, hides) =
-    owners j i r p (λ same. let e : queued (seat_at m i).position ≡ Some r = subst (λ (k : ℕ). queued (seat_at m k).position ≡ Some r) same hides in cc) (queued-own _ r hides) own
+    owners j i r p (λ same. let e : hidden_packet (seat_at m i).position ≡ Some r = subst (λ (k : ℕ). hidden_packet (seat_at m k).position ≡ Some r) same hides in cc) (queued-own _ r hides) own
 
 -- where nothing is exposed, what is held is hidden
-clear-differs : (m : Machine) (i : ℕ) (p r : Packet) → OwnersDiffer m → own_packet (seat_at m i).position ≡ Some p → queued (seat_at m i).position ≡ None → ClearBelow m 3 → HoldsIn m.qdisc r → r.owner ≢ p.owner
+clear-differs : (m : Machine) (i : ℕ) (p r : Packet) → OwnersDiffer m → own_packet (seat_at m i).position ≡ Some p → hidden_packet (seat_at m i).position ≡ None → ClearBelow m 3 → HoldsIn m.qdisc r → r.owner ≢ p.owner
 clear-differs m i p r owners own unqueued clear (inl slot) = absurd (let none : m.qdisc.slot ≡ None = clear.slot in cc)
 clear-differs m i p r owners own unqueued clear (inr (k, (below, held))) = hidden-differs m i p r owners own unqueued (clear.bands k below r held)
 
@@ -71,7 +73,7 @@ direct-alone m n h moves = subst DirectAlone (sym t.is) (each-seat m t.i t.after
 
     rechecked : (p r : Packet) → (seat_at m t.i).position ≡ Recheck p → m.qdisc.missed ≡ false → m.qdisc.draining ≡ false → HoldsIn m.qdisc r → r.owner ≢ p.owner
     rechecked p r at missed draining held =
-        clear-differs m t.i p r h.owners_differ (ap own_packet at) (ap queued at)
+        clear-differs m t.i p r h.owners_differ (ap own_packet at) (ap hidden_packet at)
         (h.kept.looked_clear t.i 3 (ap (looked_below m.qdisc.purge) at) (record { missed = missed; draining = draining })) held
 
     joined : (j : ℕ) → j ≢ t.i → (p r : Packet) → direct_packet (seat_at m j).position ≡ Some p → IsBeside (seat_at m t.i).position m.qdisc t.after.seat.position t.after.qdisc → HoldsIn t.after.qdisc r → r.owner ≢ p.owner

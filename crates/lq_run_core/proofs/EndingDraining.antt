@@ -6,8 +6,10 @@ use Rattle.lq_model.specs.declared.machine.Position.{Position}
 use Rattle.lq_model.specs.declared.machine.Position.TheVariants.{Unlock, Control}
 use Rattle.lq_model.specs.Machine.{Machine, Purge, seat_at}
 use Rattle.lq_model.specs.Steps.{with_seat}
-use Rattle.lq_model.specs.Control.{is_purged}
-use Rattle.lq_model.specs.Kept.{IsInductive, Moves, EndingDraining, holds_lock, is_ending}
+use Rattle.lq_model.specs.Control.{is_purged_phase}
+use Rattle.lq_model.specs.Positions.{holds_lock, is_ending}
+use Rattle.lq_model.specs.Kept.{IsInductive, EndingDraining}
+use Rattle.lq_model.specs.Quiet.{Moves}
 use Rattle.lq_run_core.proofs.LocalSteps.{Moved, moved}
 use Rattle.lq_run_core.proofs.Frames.{each-seat}
 use Rattle.lq_run_core.proofs.Rely.{rely}
@@ -44,6 +46,6 @@ ending-draining m n h moves = subst EndingDraining (sym t.is)
     others j other ending = λ stuck.
         let holds : holds_lock (seat_at m j).position ≡ true = ends-holds t.after.qdisc.purge (seat_at m j).position ending in
         let leaves = rely m t.i j h.kept.one_holder t.leads other holds in
-        let active : is_purged m.qdisc.phase ≡ false = false_from_ne_true _ (λ purged. both_ways _ (leaves.draining ∙ purged-clear m h purged) stuck.draining) in
+        let active : is_purged_phase m.qdisc.phase ≡ false = false_from_ne_true _ (λ purged. both_ways _ (leaves.draining ∙ purged-clear m h purged) stuck.draining) in
         let before : is_ending m.qdisc.purge (seat_at m j).position ≡ true = subst (λ purge. is_ending purge (seat_at m j).position ≡ true) leaves.purge ending in
         drains-on m t.i t.after t.inside (record { beside = leaves; way = keeps-rely m t.i j h.kept.one_holder t.leads other holds active }) (h.kept.ending_draining j before) stuck

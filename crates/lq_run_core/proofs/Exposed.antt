@@ -3,7 +3,7 @@ use Rattle.std.proofs.Common.{◌≡◌, ◌≢◌, ℕ, zero, suc, ◌⊎◌, �
 use Rattle.std.proofs.lemmas.Bool.{cases_eq}
 use Rattle.lq_model.specs.declared.machine.Packet.{Packet}
 use Rattle.lq_model.specs.declared.machine.Seat.{Seat}
-use Rattle.lq_model.specs.Kept.{Exposes, IsClear, queued}
+use Rattle.lq_model.specs.Positions.{Exposes, IsClear, hidden_packet}
 use Rattle.lq_model.specs.Machine.{Machine, idle_seat}
 
 -- two packets are the same, or not
@@ -22,9 +22,9 @@ is-it None p = inr (λ e. cc)
 is-it (Some r) p = elim (same-packet r p) [ inl same ↦ inl (ap Some same) | inr other ↦ inr (λ e. other cc) ]
 
 -- some seat hides the packet, or none does
-hides : (seats : List Seat) (p : Packet) → ((i : ℕ) × (queued (get_or seats i idle_seat).position ≡ Some p)) ⊎ ((i : ℕ) → queued (get_or seats i idle_seat).position ≡ Some p → ⊥)
+hides : (seats : List Seat) (p : Packet) → ((i : ℕ) × (hidden_packet (get_or seats i idle_seat).position ≡ Some p)) ⊎ ((i : ℕ) → hidden_packet (get_or seats i idle_seat).position ≡ Some p → ⊥)
 hides [] p = inr (λ i e. cc)
-hides (s ∷ seats) p = elim (is-it (queued s.position) p) [
+hides (s ∷ seats) p = elim (is-it (hidden_packet s.position) p) [
   | inl here ↦ inl (zero, here)
   | inr not_here ↦ elim (hides seats p) [
     | inl there ↦ inl (suc there.0, there.1)
@@ -32,7 +32,7 @@ hides (s ∷ seats) p = elim (is-it (queued s.position) p) [
   ]
 ]
   where
-    none : (queued s.position ≡ Some p → ⊥) → ((i : ℕ) → queued (get_or seats i idle_seat).position ≡ Some p → ⊥) → (i : ℕ) → queued (get_or (s ∷ seats) i idle_seat).position ≡ Some p → ⊥
+    none : (hidden_packet s.position ≡ Some p → ⊥) → ((i : ℕ) → hidden_packet (get_or seats i idle_seat).position ≡ Some p → ⊥) → (i : ℕ) → hidden_packet (get_or (s ∷ seats) i idle_seat).position ≡ Some p → ⊥
     none here there zero e = here e
     none here there (suc i) e = there i e
 

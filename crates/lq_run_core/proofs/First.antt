@@ -6,8 +6,9 @@ use Rattle.lq_model.specs.declared.machine.Packet.{Packet}
 use Rattle.lq_model.specs.declared.machine.Position.TheVariants.{Idle, Xmit, BlockedDrain, Deq}
 use Rattle.lq_model.specs.declared.machine.Seat.{Seat}
 use Rattle.lq_model.specs.Machine.{Machine, bit, idle_seat, seat_at, first_machine}
-use Rattle.lq_run_core.specs.Running.{Running, IsSound}
-use Rattle.lq_model.specs.Kept.{IsKept, IsInductive, ClearBelow, holds_lock, is_inside, marks, looked_below, blocked, own_packet, direct_packet}
+use Rattle.lq_run_core.specs.Numbered.{NumberedMachine, KeepsInvariant}
+use Rattle.lq_model.specs.Positions.{ClearBelow, holds_lock, is_inside, marks, looked_below, blocked, own_packet, direct_packet}
+use Rattle.lq_model.specs.Kept.{IsKept, IsInductive}
 
 idle-of : (n i : ℕ) → get_or (replicate n idle_seat) i idle_seat ≡ idle_seat
 idle-of zero i = refl
@@ -67,7 +68,7 @@ first-owners seats len bypass queues i p e =
     absurd (let d : None ≡ Some p = sym (ap (λ (s : Seat). own_packet s.position) (idle-of seats i)) ∙ e in cc)
 
 -- what is made to run is sound
-pub first-sound : (r : Running) (seats len : ℕ) (bypass : Bool) (queues : ℕ)
-    → r ≡ record { machine = first_machine seats len bypass queues; next = 0 } → IsSound r
+pub first-sound : (r : NumberedMachine) (seats len : ℕ) (bypass : Bool) (queues : ℕ)
+    → r ≡ record { machine = first_machine seats len bypass queues; next = 0 } → KeepsInvariant r
 first-sound r seats len bypass queues is =
-    subst IsSound (sym is) (record { inductive = first-inductive seats len bypass queues; owners = first-owners seats len bypass queues })
+    subst KeepsInvariant (sym is) (record { inductive = first-inductive seats len bypass queues; owners = first-owners seats len bypass queues })

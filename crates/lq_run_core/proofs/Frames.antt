@@ -8,7 +8,8 @@ use Rattle.std.proofs.lemmas.List.Sums.{sum_by-set, get_or-le-sum_by}
 use Rattle.lq_model.specs.declared.machine.Seat.{Seat}
 use Rattle.lq_model.specs.Machine.{Machine, bit, idle_seat, seat_at}
 use Rattle.lq_model.specs.Steps.{After, with_seat}
-use Rattle.lq_model.specs.Kept.{holds_lock, OneHolder}
+use Rattle.lq_model.specs.Positions.{holds_lock}
+use Rattle.lq_model.specs.Kept.{OneHolder}
 
 -- THE SEAT THAT MOVED, AND THE OTHERS
 

@@ -1,6 +1,7 @@
 -- What makes the machine's sentences inductive is kept as a whole.
 use Rattle.lq_model.specs.Machine.{Machine}
-use Rattle.lq_model.specs.Kept.{IsInductive, Moves}
+use Rattle.lq_model.specs.Kept.{IsInductive}
+use Rattle.lq_model.specs.Quiet.{Moves}
 use Rattle.lq_run_core.proofs.LocalSteps.{moved}
 use Rattle.lq_run_core.proofs.Counts.{one-holder, calls-inside, one-scheduled}
 use Rattle.lq_run_core.proofs.Missed.{lock-free-missed}

@@ -1,3 +1,4 @@
+-- The lemmas on the machine of the run lock, and what each law is proved by.
 pub mod Local
 pub mod LocalSteps
 pub mod Frames

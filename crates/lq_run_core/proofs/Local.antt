@@ -12,8 +12,8 @@ use Rattle.lq_model.specs.declared.machine.Position.{Position}
 use Rattle.lq_model.specs.declared.machine.Position.TheVariants.{Idle, Enter, Check, Put, Try1, Miss, Try2, Recheck, Gate, Xmit, StoreXoff, Post, Deq, Scan, Test, ClearMissed, ClearDraining, BlockedClear, BlockedLoad, BlockedMiss, BlockedDrain, Again, Quota, Unlock, Tail, Sched, Leave, Soft, SoftClear, Late, Wake, Control}
 use Rattle.lq_model.specs.declared.machine.Seat.{Seat}
 use Rattle.lq_model.specs.Machine.{Qdisc, Purge, is_open, is_shared, band_at}
-use Rattle.lq_model.specs.Steps.{After, goes_to, one_more, joined, accepted, counted, queue_of_slot, queue_of_blocked}
-use Rattle.lq_model.specs.Control.{is_quiet, is_purged, found_inside, behind_purge, opened}
+use Rattle.lq_model.specs.Steps.{After, goes_to, one_more, joined_band, accepted, counted, queue_of_slot, queue_of_blocked}
+use Rattle.lq_model.specs.Control.{is_quiet, is_purged_phase, found_inside, after_purge, queue_opened}
 
 -- where a run or a dequeue begins
 pub data Dequeues (q : Qdisc) : Position → Type 0 where
@@ -28,7 +28,7 @@ pub data Sends (q : Qdisc) : Bool → Position → Type 0 where
 
 -- the list of its band after a put
 pub data Puts (p : Packet) (q : Qdisc) : Qdisc → Type 0 where
-  put_joins : Puts p q (joined p q)
+  put_joins : Puts p q (joined_band p q)
   put_refused : Puts p q (record q { full = one_more q.full })
 
 pub data Local (sole : Bool) (free : Packet → Type 0) (q : Qdisc) (s : Seat) : Position → After → Type 0 where
@@ -37,10 +37,10 @@ pub data Local (sole : Bool) (free : Packet → Type 0) (q : Qdisc) (s : Seat) :
   check_refused : (p : Packet) → q.deactivated ≡ true → Local sole free q s (Check p) (goes_to q s Leave)
   check_direct : (p : Packet) → q.deactivated ≡ false → Local sole free q s (Check p) (goes_to q s (Try1 (Direct p)))
   check_put : (p : Packet) → q.deactivated ≡ false → Local sole free q s (Check p) (goes_to q s (Put p false))
-  put_join : (p : Packet) → Local sole free q s (Put p false) (goes_to (joined p q) s (Try1 (Queued p)))
+  put_join : (p : Packet) → Local sole free q s (Put p false) (goes_to (joined_band p q) s (Try1 (Queued p)))
   put_full : (p : Packet) → Local sole free q s (Put p false) (goes_to (record q { full = one_more q.full }) s (Try1 (Queued p)))
-  put_join_word : (p : Packet) (run : ℕ) → (is_shared q ≡ true → is_none q.slot ≡ false) → Local sole free q s (Put p true) (record { qdisc = (joined p q); seat = record s { position = Deq; run = run } })
-  put_join_bands : (p : Packet) (run : ℕ) → q.slot ≡ None → Local sole free q s (Put p true) (record { qdisc = (joined p q); seat = record s { position = (Scan 0 false); run = run } })
+  put_join_word : (p : Packet) (run : ℕ) → (is_shared q ≡ true → is_none q.slot ≡ false) → Local sole free q s (Put p true) (record { qdisc = (joined_band p q); seat = record s { position = Deq; run = run } })
+  put_join_bands : (p : Packet) (run : ℕ) → q.slot ≡ None → Local sole free q s (Put p true) (record { qdisc = (joined_band p q); seat = record s { position = (Scan 0 false); run = run } })
   put_full_word : (p : Packet) (run : ℕ) → (is_shared q ≡ true → is_none q.slot ≡ false) → Local sole free q s (Put p true) (record { qdisc = (record q { full = one_more q.full }); seat = record s { position = Deq; run = run } })
   put_full_bands : (p : Packet) (run : ℕ) → q.slot ≡ None → Local sole free q s (Put p true) (record { qdisc = (record q { full = one_more q.full }); seat = record s { position = (Scan 0 false); run = run } })
   try1_held : (attempt : Attempt) → q.locked ≡ true → Local sole free q s (Try1 attempt) (goes_to q s (Miss attempt))
@@ -133,7 +133,7 @@ pub data Local (sole : Bool) (free : Packet → Type 0) (q : Qdisc) (s : Seat) :
   releases : q.purge ≡ None → q.deactivated ≡ true → Local sole free q s (Control true) (goes_to (record q { locked = false }) s (Control false))
   deactivates : (holds : Bool) → q.deactivated ≡ false → q.purge ≡ None
       → Local sole free q s (Control holds) (goes_to (record q { deactivated = true; phase = Closing }) s (Control holds))
-  activates : q.purge ≡ None → is_purged q.phase ≡ true
+  activates : q.purge ≡ None → is_purged_phase q.phase ≡ true
       → Local sole free q s (Control false) (goes_to (record q { deactivated = false; phase = Active }) s (Control false))
   loads_inside : (holds : Bool) → Local sole free q s (Control holds) (goes_to (record q { phase = found_inside q.inside q.phase }) s (Control holds))
   purge_begins : q.purge ≡ None → (is_quiet q.phase || sole) ≡ true
@@ -148,11 +148,11 @@ pub data Local (sole : Bool) (free : Packet → Type 0) (q : Qdisc) (s : Seat) :
   purge_draining : (u : Purge) → q.purge ≡ Some u → nat_lt u.band 3 ≡ false → u.missed ≡ false
       → Local sole free q s (Control true) (goes_to (record q { draining = false; purge = Some (record u { draining = true }) }) s (Control true))
   purge_missed_ends : (u : Purge) → q.purge ≡ Some u → nat_lt u.band 3 ≡ false → u.draining ≡ true
-      → Local sole free q s (Control true) (goes_to (record q { missed = false; purge = None; phase = behind_purge q.phase }) s (Control true))
+      → Local sole free q s (Control true) (goes_to (record q { missed = false; purge = None; phase = after_purge q.phase }) s (Control true))
   purge_draining_ends : (u : Purge) → q.purge ≡ Some u → nat_lt u.band 3 ≡ false → u.missed ≡ true
-      → Local sole free q s (Control true) (goes_to (record q { draining = false; purge = None; phase = behind_purge q.phase }) s (Control true))
+      → Local sole free q s (Control true) (goes_to (record q { draining = false; purge = None; phase = after_purge q.phase }) s (Control true))
   resizes : (len : ℕ) → q.purge ≡ None
       → Local sole free q s (Control true) (goes_to (record q { bands = map (λ band. take len band) q.bands; len = len }) s (Control true))
-  stores_open : (queue : ℕ) → q.purge ≡ None → is_purged q.phase ≡ true
+  stores_open : (queue : ℕ) → q.purge ≡ None → is_purged_phase q.phase ≡ true
       → Local sole free q s (Control true) (goes_to (record q { xoff = slice_set q.xoff queue 0 }) s (Control true))
-  opens : (queue : ℕ) → q.purge ≡ None → Local sole free q s (Control true) (opened queue q s)
+  opens : (queue : ℕ) → q.purge ≡ None → Local sole free q s (Control true) (queue_opened queue q s)

@@ -16,11 +16,11 @@ use Rattle.lq_model.specs.declared.machine.Position.TheVariants.{Idle, Enter, Ch
 use Rattle.lq_model.specs.declared.machine.Seat.{Seat}
 use Rattle.lq_model.specs.declared.machine.ControlStep.{ControlStep}
 use Rattle.lq_model.specs.declared.machine.ControlStep.TheVariants.{Return, GetLock, RunEnd, Release, SetDeactivated, ClearDeactivated, LoadInside, PurgeSlot, PurgeBand, PurgeMissed, PurgeDraining, Resize, StoreOpen, OpenQueue}
-use Rattle.lq_model.specs.Control.{control_at, may_control, is_control, holds_as_control, is_sole, purge_band, purge_missed, purge_draining, looks_at_bands, is_behind_bands, band_purged}
-use Rattle.lq_model.specs.Kept.{IsFree, Moves}
-use Rattle.lq_model.specs.Kept.Moves.{steps, begins, controls}
+use Rattle.lq_model.specs.Control.{control_at, may_control, is_control, holds_as_control, is_sole, purge_band, purge_missed, purge_draining, looks_at_bands, is_after_bands, band_purged}
+use Rattle.lq_model.specs.Quiet.{IsFree, Moves}
+use Rattle.lq_model.specs.Quiet.Moves.{steps, begins, controls}
 use Rattle.lq_model.specs.Machine.{Purge, Qdisc, Machine, seat_at, is_non_empty, is_open, is_shared, band_at}
-use Rattle.lq_model.specs.Steps.{is_idle, may_begin, begun, with_seat, After, goes_to, step_at, may_answer, check, dequeue_begins, behind_sent, call_ends, gives_up, queue_of_slot, queue_of_blocked, accepted, slot_taken, scan, counted}
+use Rattle.lq_model.specs.Steps.{is_idle, may_begin, begun, with_seat, After, goes_to, step_at, may_answer, check, dequeue_begins, after_sent, call_ends, gives_up, queue_of_slot, queue_of_blocked, accepted, slot_taken, scan, counted}
 use Rattle.lq_run_core.proofs.Local as local
 use Rattle.lq_run_core.proofs.Local.{Local, Dequeues, Sends, Puts}
 
@@ -51,7 +51,7 @@ dequeues q =
     first-true true b _ e = e
     first-true false b h e = cc
 
-pub sends : (q : Qdisc) (s : Seat) (direct : Bool) → Sends q direct (behind_sent direct q s)
+pub sends : (q : Qdisc) (s : Seat) (direct : Bool) → Sends q direct (after_sent direct q s)
 sends q s true = local.sent_directly
 sends q s false = if-cases (Sends q false) (s.run == 64) _ _ (λ _. local.sent_quota) (λ _. local.sent_on (dequeue_begins q) (dequeues q))
 
@@ -309,14 +309,14 @@ purge-band-leads sole free (Some u) q s e may = look (band_at q u.band) refl
     look (p ∷ rest) is = local.purge_takes u p rest e may is
 
 purge-missed-leads : (sole : Bool) (free : Packet → Type 0) (purge : Option Purge) (q : Qdisc) (s : Seat)
-    → q.purge ≡ purge → is_behind_bands purge ≡ true → Leads sole free (Control true) q s (goes_to (purge_missed purge q) s (Control true))
+    → q.purge ≡ purge → is_after_bands purge ≡ true → Leads sole free (Control true) q s (goes_to (purge_missed purge q) s (Control true))
 purge-missed-leads sole free None q s e may = cc
 purge-missed-leads sole free (Some u) q s e may =
     if-cases (λ after. Leads sole free (Control true) q s (goes_to after s (Control true))) u.draining _ _
     (λ d. local.purge_missed_ends u e (not-true _ may) d) (λ d. local.purge_missed u e (not-true _ may) d)
 
 purge-draining-leads : (sole : Bool) (free : Packet → Type 0) (purge : Option Purge) (q : Qdisc) (s : Seat)
-    → q.purge ≡ purge → is_behind_bands purge ≡ true → Leads sole free (Control true) q s (goes_to (purge_draining purge q) s (Control true))
+    → q.purge ≡ purge → is_after_bands purge ≡ true → Leads sole free (Control true) q s (goes_to (purge_draining purge q) s (Control true))
 purge-draining-leads sole free None q s e may = cc
 purge-draining-leads sole free (Some u) q s e may =
     if-cases (λ after. Leads sole free (Control true) q s (goes_to after s (Control true))) (u.missed && true) _ _

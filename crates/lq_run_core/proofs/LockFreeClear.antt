@@ -6,7 +6,9 @@ use Rattle.lq_model.specs.declared.machine.Position.TheVariants.{Control}
 use Rattle.lq_model.specs.declared.machine.Seat.{Seat}
 use Rattle.lq_model.specs.Machine.{Qdisc, Machine, Purge, seat_at}
 use Rattle.lq_model.specs.Steps.{After, with_seat}
-use Rattle.lq_model.specs.Kept.{IsInductive, Moves, LockFreeClear, BitsClear, IsClear, holds_lock, looked_below}
+use Rattle.lq_model.specs.Positions.{BitsClear, IsClear, holds_lock, looked_below}
+use Rattle.lq_model.specs.Kept.{IsInductive, LockFreeClear}
+use Rattle.lq_model.specs.Quiet.{Moves}
 use Rattle.lq_run_core.proofs.Local as local
 use Rattle.lq_run_core.proofs.Local.{Local}
 use Rattle.lq_run_core.proofs.LocalSteps.{Moved, moved}

@@ -3,8 +3,10 @@ use Rattle.std.proofs.Common.{◌≡◌, Bool, true, false, refl, sym, ◌∙◌
 use Rattle.std.proofs.lemmas.Bool.{both_ways, false_from_ne_true}
 use Rattle.lq_model.specs.Machine.{Machine, seat_at}
 use Rattle.lq_model.specs.Steps.{with_seat}
-use Rattle.lq_model.specs.Control.{is_purged}
-use Rattle.lq_model.specs.Kept.{IsInductive, Moves, LockFreeDraining, holds_lock}
+use Rattle.lq_model.specs.Control.{is_purged_phase}
+use Rattle.lq_model.specs.Positions.{holds_lock}
+use Rattle.lq_model.specs.Kept.{IsInductive, LockFreeDraining}
+use Rattle.lq_model.specs.Quiet.{Moves}
 use Rattle.lq_run_core.proofs.LocalSteps.{Moved, moved}
 use Rattle.lq_run_core.proofs.Frames.{holder-locks}
 use Rattle.lq_run_core.proofs.Beside.{beside, stays-locked}
@@ -24,5 +26,5 @@ lock-free-draining m n h moves = subst LockFreeDraining (sym t.is) (λ unlocked.
     step unlocked false out = λ stuck.
         let free : m.qdisc.locked ≡ false = false_from_ne_true _ (λ locked. both_ways _ unlocked (stays-locked t.leads out locked)) in
         let leaves = beside t.leads out (unlocked ∙ sym free) in
-        let active : is_purged m.qdisc.phase ≡ false = false_from_ne_true _ (λ purged. both_ways _ (leaves.draining ∙ purged-clear m h purged) stuck.draining) in
+        let active : is_purged_phase m.qdisc.phase ≡ false = false_from_ne_true _ (λ purged. both_ways _ (leaves.draining ∙ purged-clear m h purged) stuck.draining) in
         drains-on m t.i t.after t.inside (record { beside = leaves; way = keeps-beside t.leads out (unlocked ∙ sym free) active }) (h.kept.lock_free_draining free) stuck

@@ -8,7 +8,9 @@ use Rattle.lq_model.specs.declared.machine.Position.TheVariants.{Gate, Control}
 use Rattle.lq_model.specs.declared.machine.Seat.{Seat}
 use Rattle.lq_model.specs.Machine.{Qdisc, Machine, Purge, seat_at, band_at}
 use Rattle.lq_model.specs.Steps.{After, with_seat}
-use Rattle.lq_model.specs.Kept.{IsInductive, Moves, LookedClear, Purging, IsHidden, BitsClear, ClearBelow, IsClear, holds_lock, queued, needs_slot, looked_below}
+use Rattle.lq_model.specs.Positions.{IsHidden, BitsClear, ClearBelow, IsClear, holds_lock, hidden_packet, needs_slot, looked_below}
+use Rattle.lq_model.specs.Kept.{IsInductive, LookedClear, Purging}
+use Rattle.lq_model.specs.Quiet.{Moves}
 use Rattle.lq_run_core.proofs.Local as local
 use Rattle.lq_run_core.proofs.Local.{Local}
 use Rattle.lq_run_core.proofs.LocalSteps.{Moved, moved}
@@ -99,13 +101,13 @@ looks-holds purge (Control true) band e = refl
 looks-holds purge _ band e = cc
 
 -- a holder's packet isn't hidden
-pub holder-shows : (position : Position) (p : Packet) → holds_lock position ≡ true → queued position ≡ Some p → ⊥
+pub holder-shows : (position : Position) (p : Packet) → holds_lock position ≡ true → hidden_packet position ≡ Some p → ⊥
 holder-shows (Gate r direct) p holds e = cc
 holder-shows _ p holds e = cc
 
 -- what is hidden before is hidden afterwards, where the moving seat had no hidden packet
 pub below-now : (m : Machine) (i : ℕ) (a : After) (band : ℕ) → i < length m.seats → Below m a.qdisc band
-    → ((k : ℕ) → k < band → (p : Packet) → queued (seat_at m i).position ≡ Some p → ⊥) → ClearBelow (with_seat m i a) band
+    → ((k : ℕ) → k < band → (p : Packet) → hidden_packet (seat_at m i).position ≡ Some p → ⊥) → ClearBelow (with_seat m i a) band
 below-now m i a band within clear shows = record {
   slot = clear.slot;
   bands = λ k below p held. hidden-stays m i a p within (clear.bands k below p held) (λ own. absurd (shows k below p own));
@@ -118,7 +120,7 @@ control-looks (Some u) band e = cc
 
 -- at a free lock nothing was exposed, so nothing is where a seat has just taken it
 takes-below : {m : Machine} {before after : Position} (band : ℕ) → Takes m.qdisc before after → IsClear m → looked_below m.qdisc.purge after ≡ Some band
-    → Below m m.qdisc band × ((k : ℕ) → k < band → (p : Packet) → queued before ≡ Some p → ⊥)
+    → Below m m.qdisc band × ((k : ℕ) → k < band → (p : Packet) → hidden_packet before ≡ Some p → ⊥)
 takes-below band (takes_direct p unqueued own) clear e =
     (record { slot = clear.slot; bands = λ k below. clear.bands k (let is : 3 ≡ band = cc in omega arith) }, λ k below r hides. cc)
 takes-below band (takes_word full) clear e = absurd cc

@@ -6,10 +6,11 @@ use Rattle.lq_model.specs.declared.machine.Position.{Position}
 use Rattle.lq_model.specs.declared.machine.Seat.{Seat}
 use Rattle.lq_model.specs.Machine.{Qdisc, Machine}
 use Rattle.lq_model.specs.Steps.{After}
-use Rattle.lq_model.specs.Control.{is_purged}
+use Rattle.lq_model.specs.Control.{is_purged_phase}
 use Rattle.lq_model.specs.declared.machine.Phase.{Phase}
 use Rattle.lq_model.specs.declared.machine.Phase.TheVariants.{Purged}
-use Rattle.lq_model.specs.Kept.{holds_lock, is_going, IsInductive, LockFreeMissed}
+use Rattle.lq_model.specs.Positions.{holds_lock, is_going}
+use Rattle.lq_model.specs.Kept.{IsInductive, LockFreeMissed}
 use Rattle.lq_run_core.proofs.Frames.{any-kept, holder-locks}
 use Rattle.lq_run_core.proofs.LocalSteps.{Moved}
 use Rattle.lq_run_core.proofs.Local.{Local}
@@ -21,7 +22,7 @@ HasEvidence q g = q.locked ≡ false → q.missed ≡ true → (q.sched || q.dea
 
 pub going-local :
     {sole : Bool} {free : Packet → Type 0} {q : Qdisc} {s : Seat} {position : Position} {a : After} (rest : Bool)
-    → Local sole free q s position a → (holds_lock position ≡ true → q.locked ≡ true) → (is_purged q.phase ≡ true → q.missed ≡ false)
+    → Local sole free q s position a → (holds_lock position ≡ true → q.locked ≡ true) → (is_purged_phase q.phase ≡ true → q.missed ≡ false)
     → HasEvidence q (is_going position || rest) → HasEvidence a.qdisc (is_going a.seat.position || rest)
 going-local rest (check_refused p h1) held purged kept unlocked missed = grind arith
 going-local rest (check_direct p h1) held purged kept unlocked missed = grind arith
@@ -64,7 +65,7 @@ going-local rest (activates h1 h2) held purged kept unlocked missed = grind arit
 going-local rest (stores_open queue h1 h2) held purged kept unlocked missed = grind arith
 going-local rest _ held purged kept unlocked missed = grind arith
 
-pub purged-is : (phase : Phase) → is_purged phase ≡ true → phase ≡ Purged
+pub purged-is : (phase : Phase) → is_purged_phase phase ≡ true → phase ≡ Purged
 purged-is Purged e = refl
 purged-is _ e = cc
 
@@ -74,5 +75,5 @@ lock-free-missed m n ind move =
     (any-kept (λ s. is_going s.position) (HasEvidence m.qdisc) (HasEvidence move.after.qdisc) m.seats move.i move.after.seat move.inside
     (λ rest h. going-local rest move.leads (holder-locks m move.i ind.kept.one_holder) purged h) ind.kept.lock_free_missed)
   where
-    purged : is_purged m.qdisc.phase ≡ true → m.qdisc.missed ≡ false
+    purged : is_purged_phase m.qdisc.phase ≡ true → m.qdisc.missed ≡ false
     purged e = (ind.kept.purged_holds_nothing (purged-is m.qdisc.phase e)).0.missed

@@ -7,10 +7,12 @@ use Rattle.lq_model.specs.declared.machine.Blocked.TheVariants.{NoneTaken}
 use Rattle.lq_model.specs.declared.machine.ControlStep.TheVariants.{Return, GetLock, Release, SetDeactivated, ClearDeactivated, LoadInside, PurgeSlot, PurgeBand, PurgeMissed, PurgeDraining}
 use Rattle.lq_model.specs.declared.machine.Attempt.TheVariants.{Queued}
 use Rattle.lq_model.specs.declared.machine.Packet.{Packet}
-use Rattle.lq_model.specs.Kept.{BlockedDraining, IsInductive, IsQuiet, LockFreeMissed, LookedClear, Reaches, Holds, IsHidden}
+use Rattle.lq_model.specs.Positions.{Holds, IsHidden}
+use Rattle.lq_model.specs.Kept.{BlockedDraining, IsInductive, LockFreeMissed, LookedClear}
+use Rattle.lq_model.specs.Quiet.{IsQuiet, Reaches}
 use Rattle.lq_model.specs.Machine.{Machine, Qdisc, first_machine, seat_at}
 use Rattle.lq_model.specs.Steps.{with_seat, is_idle}
-use Rattle.lq_run_core.specs.Mistakes.{LeavesBehind, about_to_look, both_idle, clears_and_leaves, clears_behind_its_look, drains_without_a_look, found_deactivated, left_clear, left_draining, left_in_slot, left_missed, looked, looked_again, looking, misses_for_good, missing, packet, releases_behind_its_look}
+use Rattle.lq_run_core.specs.Mistakes.{LeavesBehind, about_to_look, both_idle, clears_and_leaves, clears_after_its_look, drains_without_a_look, found_deactivated, left_clear, left_draining, left_in_slot, left_missed, missed_meanwhile, looked_again, about_to_release, misses_for_good, about_to_miss, numbered_packet, releases_after_its_look}
 use Rattle.lq_run_core.proofs.First.{first-inductive}
 use Rattle.lq_run_core.proofs.OneQueue.{one-open}
 use Rattle.lq_run_core.proofs.Reached.{Action, played, reached-inductive}
@@ -24,7 +26,7 @@ abbrev steps : ℕ → ℕ → List Action
 steps i count = replicate count (Does i Plain)
 
 abbrev sends : ℕ → ℕ → List Action
-sends i number = Starts i (Transmits (packet number i)) ∷ []
+sends i number = Starts i (Transmits (numbered_packet number i)) ∷ []
 
 kept : (m : Machine) → Reaches start m → IsInductive m
 kept m reached = reached-inductive start m (first-inductive 2 2 false 1) reached
@@ -45,37 +47,37 @@ rests q run free calm active opens = record {
     idle (suc (suc i)) = refl
 
 -- the first packet of band 0
-in-band : (q : Qdisc) (run number owner : ℕ) → q.bands ≡ (packet number owner ∷ []) ∷ [] ∷ [] ∷ [] → Holds (both_idle q run) (packet number owner)
-in-band q run number owner is = inr (0, (omega arith, subst (λ (bands : List (List Packet)). Contains (slice_index_or bands 0 []) (packet number owner)) (sym is) (0, omega arith, refl)))
+in-band : (q : Qdisc) (run number owner : ℕ) → q.bands ≡ (numbered_packet number owner ∷ []) ∷ [] ∷ [] ∷ [] → Holds (both_idle q run) (numbered_packet number owner)
+in-band q run number owner is = inr (0, (omega arith, subst (λ (bands : List (List Packet)). Contains (slice_index_or bands 0 []) (numbered_packet number owner)) (sym is) (0, omega arith, refl)))
 
 -- RUN END AND RUN BEGIN
 
 -- the other seat puts a packet, and sets MISSED for it
-pub between : Reaches looking looked
-between = played looking looked (sends 1 1 ++ steps 1 6) refl
+pub between : Reaches about_to_release missed_meanwhile
+between = played about_to_release missed_meanwhile (sends 1 1 ++ steps 1 6) refl
 
-looked-reached : Reaches start looked
-looked-reached = played start looked (sends 0 0 ++ (steps 0 13 ++ (sends 1 1 ++ steps 1 6))) refl
+looked-reached : Reaches start missed_meanwhile
+looked-reached = played start missed_meanwhile (sends 0 0 ++ (steps 0 13 ++ (sends 1 1 ++ steps 1 6))) refl
 
-pub end-looks : LeavesBehind looked (with_seat looked 0 (releases_behind_its_look looking.qdisc.missed looked.qdisc (seat_at looked 0))) LockFreeMissed
-    left_missed (packet 1 1)
+pub end-looks : LeavesBehind missed_meanwhile (with_seat missed_meanwhile 0 (releases_after_its_look about_to_release.qdisc.missed missed_meanwhile.qdisc (seat_at missed_meanwhile 0))) LockFreeMissed
+    left_missed (numbered_packet 1 1)
 end-looks = record {
   reached = looked-reached;
-  kept = kept looked looked-reached;
+  kept = kept missed_meanwhile looked-reached;
   broken = λ h. absurd (let b : false ≡ true = h refl refl in cc);
   goes_on = played _ left_missed (steps 0 1 ++ steps 1 1) refl;
   quiet = rests left_missed.qdisc 1 refl refl refl refl;
   holds = in-band left_missed.qdisc 1 1 1 refl;
 }
 
-missing-reached : Reaches start missing
-missing-reached = played start missing (sends 0 0 ++ (steps 0 13 ++ (sends 1 1 ++ (steps 1 4 ++ steps 0 3)))) refl
+missing-reached : Reaches start about_to_miss
+missing-reached = played start about_to_miss (sends 0 0 ++ (steps 0 13 ++ (sends 1 1 ++ (steps 1 4 ++ steps 0 3)))) refl
 
-pub begin-gives-up : LeavesBehind missing (with_seat missing 1 (misses_for_good (Queued (packet 1 1)) missing.qdisc (seat_at missing 1))) LockFreeMissed
-    left_missed (packet 1 1)
+pub begin-gives-up : LeavesBehind about_to_miss (with_seat about_to_miss 1 (misses_for_good (Queued (numbered_packet 1 1)) about_to_miss.qdisc (seat_at about_to_miss 1))) LockFreeMissed
+    left_missed (numbered_packet 1 1)
 begin-gives-up = record {
   reached = missing-reached;
-  kept = kept missing missing-reached;
+  kept = kept about_to_miss missing-reached;
   broken = λ h. absurd (let b : false ≡ true = h refl refl in cc);
   goes_on = played _ left_missed (steps 1 1) refl;
   quiet = rests left_missed.qdisc 1 refl refl refl refl;
@@ -87,30 +89,30 @@ begin-gives-up = record {
 looked-again-reached : Reaches start looked_again
 looked-again-reached = played start looked_again (sends 0 0 ++ (steps 0 4 ++ (sends 1 1 ++ (steps 1 7 ++ (steps 0 18 ++ (sends 1 2 ++ steps 1 6)))))) refl
 
-pub missed-cleared : LeavesBehind looked_again (with_seat looked_again 0 (clears_behind_its_look looked_again.qdisc (seat_at looked_again 0))) LookedClear
-    left_clear (packet 2 1)
+pub missed-cleared : LeavesBehind looked_again (with_seat looked_again 0 (clears_after_its_look looked_again.qdisc (seat_at looked_again 0))) LookedClear
+    left_clear (numbered_packet 2 1)
 missed-cleared = record {
   reached = looked-again-reached;
   kept = kept looked_again looked-again-reached;
-  broken = λ h. shown ((h 0 3 refl (record { missed = refl; draining = refl })).bands 0 (omega arith) (packet 2 1) (0, omega arith, refl));
+  broken = λ h. shown ((h 0 3 refl (record { missed = refl; draining = refl })).bands 0 (omega arith) (numbered_packet 2 1) (0, omega arith, refl));
   goes_on = played _ left_clear (steps 0 3 ++ steps 1 1) refl;
   quiet = rests left_clear.qdisc 2 refl refl refl refl;
   holds = in-band left_clear.qdisc 2 2 1 refl;
 }
   where
-    shown : IsHidden (with_seat looked_again 0 (clears_behind_its_look looked_again.qdisc (seat_at looked_again 0))) (packet 2 1) → ⊥
+    shown : IsHidden (with_seat looked_again 0 (clears_after_its_look looked_again.qdisc (seat_at looked_again 0))) (numbered_packet 2 1) → ⊥
     shown (zero, e) = cc
     shown (suc zero, e) = cc
     shown (suc (suc i), e) = cc
 
--- the first seat's packet stops the queue, and the dequeue behind it finds it stopped; the other seat opens it, tries to run,
+-- the first seat's packet stops the queue, and the dequeue after it finds it stopped; the other seat opens it, tries to run,
 -- and sends a packet
 about-to-look-reached : Reaches start about_to_look
 about-to-look-reached = played start about_to_look
     (sends 0 0 ++ (steps 0 7 ++ (Does 0 Stop ∷ (steps 0 2 ++ (Starts 1 (Wakes 0) ∷ (steps 1 2 ++ (Starts 1 Interrupts ∷ (steps 1 7 ++ (sends 1 1 ++ (steps 1 5 ++ steps 0 1)))))))))) refl
 
 pub draining-set : LeavesBehind about_to_look (with_seat about_to_look 0 (drains_without_a_look (NoneTaken 0) about_to_look.qdisc (seat_at about_to_look 0))) BlockedDraining
-    left_draining (packet 1 1)
+    left_draining (numbered_packet 1 1)
 draining-set = record {
   reached = about-to-look-reached;
   kept = kept about_to_look about-to-look-reached;
@@ -137,7 +139,7 @@ unfolding deactivated found
 found-reached = played start found_deactivated (deactivated ++ found) refl
 
 pub soft-interrupt-gives-up : LeavesBehind found_deactivated (with_seat found_deactivated 1 (clears_and_leaves found_deactivated.qdisc (seat_at found_deactivated 1))) LockFreeMissed
-    left_in_slot (packet 1 0)
+    left_in_slot (numbered_packet 1 0)
 soft-interrupt-gives-up = record {
   reached = found-reached;
   kept = kept found_deactivated found-reached;

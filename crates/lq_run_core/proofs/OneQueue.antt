@@ -5,8 +5,8 @@ use Rattle.std.proofs.Math.ListN.{get_or-eq_default}
 use Rattle.lq_model.specs.declared.machine.Position.TheVariants.{Deq, Scan, StoreXoff}
 use Rattle.lq_model.specs.declared.machine.Seat.{Seat}
 use Rattle.lq_model.specs.Machine.{Qdisc, is_open, is_shared}
-use Rattle.lq_model.specs.Steps.{goes_to, dequeue_begins, store_xoff, behind_sent, queue_of_slot}
-use Rattle.lq_model.specs.Kept.{blocking}
+use Rattle.lq_model.specs.Steps.{goes_to, dequeue_begins, store_xoff, after_sent, queue_of_slot}
+use Rattle.lq_model.specs.Positions.{blocking}
 
 not-shared : (q : Qdisc) → length q.xoff ≡ 1 → is_shared q ≡ false
 not-shared q one = ap (λ (n : ℕ). nat_lt 1 n) one
@@ -15,9 +15,9 @@ pub one-dequeue : (q : Qdisc) → length q.xoff ≡ 1 → dequeue_begins q ≡ D
 one-dequeue q one = ap (λ (b : Bool). if b && is_none q.slot then Scan 0 false else Deq) (not-shared q one)
 
 pub one-hang : (q : Qdisc) (s : Seat) (direct : Bool) → length q.xoff ≡ 1
-    → store_xoff 0 true direct q s ≡ goes_to (record q { xoff = slice_set q.xoff 0 2 }) s (behind_sent direct q s)
+    → store_xoff 0 true direct q s ≡ goes_to (record q { xoff = slice_set q.xoff 0 2 }) s (after_sent direct q s)
 one-hang q s direct one =
-    ap (λ (n : ℕ). goes_to (record q { xoff = slice_set q.xoff 0 2 }) s (if nat_lt 1 n then StoreXoff 1 true direct else behind_sent direct q s)) one
+    ap (λ (n : ℕ). goes_to (record q { xoff = slice_set q.xoff 0 2 }) s (if nat_lt 1 n then StoreXoff 1 true direct else after_sent direct q s)) one
 
 pub one-blocking : (q : Qdisc) → length q.xoff ≡ 1 → q.slot ≡ None → blocking q ≡ Some 0
 one-blocking q one empty =

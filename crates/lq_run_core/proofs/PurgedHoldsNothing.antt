@@ -10,7 +10,9 @@ use Rattle.lq_model.specs.declared.machine.Seat.{Seat}
 use Rattle.lq_model.specs.Machine.{Qdisc, Machine, Purge, band_at, seat_at}
 use Rattle.lq_model.specs.Steps.{After}
 use Rattle.lq_model.specs.Control.{is_quiet, found_inside}
-use Rattle.lq_model.specs.Kept.{IsInductive, Moves, PurgedHoldsNothing, may_be_inside}
+use Rattle.lq_model.specs.Positions.{may_be_inside}
+use Rattle.lq_model.specs.Kept.{IsInductive, PurgedHoldsNothing}
+use Rattle.lq_model.specs.Quiet.{Moves}
 use Rattle.lq_run_core.proofs.Local as local
 use Rattle.lq_run_core.proofs.Local.{Local}
 use Rattle.lq_run_core.proofs.LocalSteps.{Moved, moved}
@@ -43,7 +45,7 @@ stays-empty leaves empty = record {
   draining = leaves.draining empty.draining;
 }
 
--- behind the last band and both bits everything was purged
+-- after the last band and both bits everything was purged
 all-purged : (q q' : Qdisc) (u : Purge) → SoFar q u → nat_lt u.band 3 ≡ false → q'.slot ≡ q.slot → q'.bands ≡ q.bands → q'.missed ≡ false → q'.draining ≡ false → IsEmpty q'
 all-purged q q' u far last slot bands missed draining = record {
   slot = slot ∙ far.slot;

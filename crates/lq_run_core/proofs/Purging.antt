@@ -12,7 +12,9 @@ use Rattle.lq_model.specs.declared.machine.Seat.{Seat}
 use Rattle.lq_model.specs.Machine.{Qdisc, Machine, Purge, band_at, seat_at}
 use Rattle.lq_model.specs.Steps.{After, with_seat}
 use Rattle.lq_model.specs.Control.{is_quiet, is_sole, found_inside}
-use Rattle.lq_model.specs.Kept.{IsInductive, Moves, Purging, IsPurging, may_be_inside}
+use Rattle.lq_model.specs.Positions.{may_be_inside}
+use Rattle.lq_model.specs.Kept.{IsInductive, Purging, IsPurging}
+use Rattle.lq_model.specs.Quiet.{Moves}
 use Rattle.lq_run_core.proofs.Local as local
 use Rattle.lq_run_core.proofs.Local.{Local}
 use Rattle.lq_run_core.proofs.LocalSteps.{Moved, moved}
@@ -59,7 +61,7 @@ one-more q q' v u far empty slot bands missed draining is = subst (λ (w : Purge
     lower k below p held (inl less) = far.bands k less p held
     lower k below p held (inr more) = empty-holds (band_at q k) p (let same : k ≡ v.band = omega arith in ap (band_at q) same ∙ empty) held
 
--- it cleared a bit behind the last band
+-- it cleared a bit after the last band
 missed-done : (q q' : Qdisc) (v u : Purge) → SoFar q v → q'.slot ≡ q.slot → q'.bands ≡ q.bands → q'.missed ≡ false → q'.draining ≡ q.draining → record v { missed = true } ≡ u → SoFar q' u
 missed-done q q' v u far slot bands missed draining is = subst (λ (w : Purge). SoFar q' w) is (record {
   slot = slot ∙ far.slot;

@@ -7,7 +7,9 @@ use Rattle.lq_model.specs.declared.machine.Position.TheVariants.{Idle}
 use Rattle.lq_model.specs.declared.machine.Seat.{Seat}
 use Rattle.lq_model.specs.Machine.{Qdisc, Machine, idle_seat, seat_at, is_open}
 use Rattle.lq_model.specs.Steps.{is_idle}
-use Rattle.lq_model.specs.Kept.{IsKept, IsQuiet, IsClear, Holds, queued, is_going, is_on_way, some_seat, has_way_on, is_stopped, blocking}
+use Rattle.lq_model.specs.Positions.{IsClear, Holds, hidden_packet, is_going, is_on_way, some_seat, has_way_on, is_stopped, blocking}
+use Rattle.lq_model.specs.Kept.{IsKept}
+use Rattle.lq_model.specs.Quiet.{IsQuiet}
 
 -- where a test holds of some seat it holds at some number
 none-anywhere : (f : Seat → Bool) (seats : List Seat) → ((i : ℕ) → f (get_or seats i idle_seat) ≡ false) → list_any f seats ≡ false
@@ -49,4 +51,4 @@ pub quiet-holds-nothing : (m : Machine) → IsKept m → IsQuiet m → (p : Pack
 quiet-holds-nothing m kept quiet p (inl slot) = let clear = quiet-clear m kept quiet in let e = clear.slot in cc
 quiet-holds-nothing m kept quiet p (inr (k, (below, there))) =
     let hidden = (quiet-clear m kept quiet).bands k below p there in
-    let e : queued Idle ≡ Some p = sym (ap queued (idle-is (seat_at m hidden.0).position (quiet.all_idle hidden.0))) ∙ hidden.1 in cc
+    let e : hidden_packet Idle ≡ Some p = sym (ap hidden_packet (idle-is (seat_at m hidden.0).position (quiet.all_idle hidden.0))) ∙ hidden.1 in cc

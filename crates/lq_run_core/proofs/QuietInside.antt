@@ -11,8 +11,10 @@ use Rattle.lq_model.specs.declared.machine.Position.TheVariants.{Gate}
 use Rattle.lq_model.specs.declared.machine.Seat.{Seat}
 use Rattle.lq_model.specs.Machine.{Qdisc, Machine, bit, idle_seat, is_closed, seat_at}
 use Rattle.lq_model.specs.Steps.{After}
-use Rattle.lq_model.specs.Control.{is_quiet, found_inside, behind_purge}
-use Rattle.lq_model.specs.Kept.{IsInductive, Moves, CallsInside, QuietInside, is_inside, may_be_inside}
+use Rattle.lq_model.specs.Control.{is_quiet, found_inside, after_purge}
+use Rattle.lq_model.specs.Positions.{is_inside, may_be_inside}
+use Rattle.lq_model.specs.Kept.{IsInductive, CallsInside, QuietInside}
+use Rattle.lq_model.specs.Quiet.{Moves}
 use Rattle.lq_run_core.proofs.Local as local
 use Rattle.lq_run_core.proofs.Local.{Local}
 use Rattle.lq_run_core.proofs.LocalSteps.{Moved, moved}
@@ -37,7 +39,7 @@ found-quiet inside Quiet quiet = inl quiet
 found-quiet inside Purged quiet = inl quiet
 
 -- a phase that the end of a purge left quiet was so
-purged-quiet : (phase : Phase) → is_quiet (behind_purge phase) ≡ true → is_quiet phase ≡ true
+purged-quiet : (phase : Phase) → is_quiet (after_purge phase) ≡ true → is_quiet phase ≡ true
 purged-quiet Active quiet = quiet
 purged-quiet Closing quiet = quiet
 purged-quiet Quiet quiet = refl

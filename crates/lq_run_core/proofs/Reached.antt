@@ -8,11 +8,13 @@ use Rattle.lq_model.specs.declared.machine.ControlStep.{ControlStep}
 use Rattle.lq_model.specs.declared.machine.Packet.{Packet}
 use Rattle.lq_model.specs.declared.machine.Seat.{Seat}
 use Rattle.lq_model.specs.Control.{control_of}
-use Rattle.lq_model.specs.Kept.{IsFree, IsInductive, Moves, Reaches, own_packet}
-use Rattle.lq_model.specs.Kept.Moves.{steps, begins, controls}
-use Rattle.lq_model.specs.Kept.Reaches.{no_move, one_more_move}
+use Rattle.lq_model.specs.Positions.{own_packet}
+use Rattle.lq_model.specs.Kept.{IsInductive}
+use Rattle.lq_model.specs.Quiet.{IsFree, Moves, Reaches}
+use Rattle.lq_model.specs.Quiet.Moves.{steps, begins, controls}
+use Rattle.lq_model.specs.Quiet.Reaches.{no_move, one_more_move}
 use Rattle.lq_model.specs.Machine.{Machine, idle_seat}
-use Rattle.lq_model.specs.Steps.{start_of, step_of}
+use Rattle.lq_model.specs.Steps.{call_begun, step_of}
 use Rattle.lq_run_core.proofs.Inductive.{inductive}
 use Rattle.lq_run_core.proofs.LocalSteps.{and-true}
 
@@ -44,7 +46,7 @@ may-start Controls seats = true
 
 abbrev next : Action → Machine → Option Machine
 next (Does i answer) m = step_of m i answer
-next (Starts i b) m = if may-start b m.seats then start_of m i b else None
+next (Starts i b) m = if may-start b m.seats then call_begun m i b else None
 next (DoesControl i step) m = control_of m i step
 
 abbrev goes-on : Action → Option Machine → Option Machine
@@ -74,7 +76,7 @@ starts-free Interrupts m i may = tt
 starts-free (Wakes queue) m i may = tt
 starts-free Controls m i may = tt
 
-start-moves : (m n : Machine) (i : ℕ) (b : Beginning) (may : Bool) → may-start b m.seats ≡ may → (if may then start_of m i b else None) ≡ Some n → Moves m n
+start-moves : (m n : Machine) (i : ℕ) (b : Beginning) (may : Bool) → may-start b m.seats ≡ may → (if may then call_begun m i b else None) ≡ Some n → Moves m n
 start-moves m n i b true may e = begins i b (starts-free b m i may) e
 start-moves m n i b false may e = absurd cc
 

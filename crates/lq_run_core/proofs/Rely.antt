@@ -7,7 +7,8 @@ use Rattle.lq_model.specs.declared.machine.Position.{Position}
 use Rattle.lq_model.specs.declared.machine.Seat.{Seat}
 use Rattle.lq_model.specs.Machine.{Qdisc, Machine, idle_seat, seat_at}
 use Rattle.lq_model.specs.Steps.{After, with_seat}
-use Rattle.lq_model.specs.Kept.{IsHidden, ClearBelow, BitsClear, OneHolder, holds_lock, queued}
+use Rattle.lq_model.specs.Positions.{IsHidden, ClearBelow, BitsClear, holds_lock, hidden_packet}
+use Rattle.lq_model.specs.Kept.{OneHolder}
 use Rattle.lq_run_core.proofs.Local.{Local}
 use Rattle.lq_run_core.proofs.Frames.{seat-moved, seat-other, only-holder, holder-locks}
 use Rattle.lq_run_core.proofs.Beside.{IsBeside, beside, stays-locked}
@@ -28,10 +29,10 @@ rely m i j one step other holds =
     beside step out (stays-locked step out locked ∙ sym locked)
 
 -- a packet stays hidden, unless it is the moving seat's own
-pub hidden-stays : (m : Machine) (i : ℕ) (a : After) (p : Packet) → i < length m.seats → IsHidden m p → (queued (seat_at m i).position ≡ Some p → queued a.seat.position ≡ Some p) → IsHidden (with_seat m i a) p
+pub hidden-stays : (m : Machine) (i : ℕ) (a : After) (p : Packet) → i < length m.seats → IsHidden m p → (hidden_packet (seat_at m i).position ≡ Some p → hidden_packet a.seat.position ≡ Some p) → IsHidden (with_seat m i a) p
 hidden-stays m i a p within (j, hides) own = elim (cases_eq j i) [
-  | inl same ↦ (i, ap (λ s. queued s.position) (seat-moved m i a within) ∙ own (ap (λ n. queued (seat_at m n).position) (sym same) ∙ hides))
-  | inr other ↦ (j, ap (λ s. queued s.position) (seat-other m i j a other) ∙ hides)
+  | inl same ↦ (i, ap (λ s. hidden_packet s.position) (seat-moved m i a within) ∙ own (ap (λ n. hidden_packet (seat_at m n).position) (sym same) ∙ hides))
+  | inr other ↦ (j, ap (λ s. hidden_packet s.position) (seat-other m i j a other) ∙ hides)
 ]
 
 -- a step beside a holder, or at a free lock, exposes nothing unless MISSED is set afterwards
@@ -41,10 +42,10 @@ clear-beside m i a band within leaves missed clear = record {
   slot = leaves.slot ∙ clear.slot;
   bands = λ k below p held. elim (leaves.bands k p held) [
     | inl old ↦ hidden-stays m i a p within (clear.bands k below p old) (λ own. leaves.queued p own missed)
-    | inr new ↦ (i, ap (λ s. queued s.position) (seat-moved m i a within) ∙ new.0)
+    | inr new ↦ (i, ap (λ s. hidden_packet s.position) (seat-moved m i a within) ∙ new.0)
   ];
 }
 
--- bits that are clear behind such a step were clear before it
+-- bits that are clear after such a step were clear before it
 pub bits-before : {before after : Position} {q q' : Qdisc} → IsBeside before q after q' → BitsClear q' → BitsClear q
 bits-before leaves bits = record { missed = leaves.missed bits.missed; draining = sym leaves.draining ∙ bits.draining }

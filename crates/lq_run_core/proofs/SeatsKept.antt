@@ -10,7 +10,8 @@ use Rattle.lq_model.specs.declared.machine.Seat.{Seat}
 use Rattle.lq_model.specs.Machine.{Qdisc, Machine, Purge, idle_seat, is_open, is_shared}
 use Rattle.lq_model.specs.Steps.{queue_of_slot}
 use Rattle.lq_model.specs.Control.{holds_as_control, is_quiet}
-use Rattle.lq_model.specs.Kept.{IsInductive, IsKept, IsPurging, IsHidden, IsStuck, BitsClear, ClearBelow, IsClear, OwnersDiffer, queued, blocked, blocking, blocking_at, is_stopped, has_way_on, is_on_way, is_going, is_ending, is_second_scan, looked_below, needs_slot, may_be_inside, own_packet, direct_packet, Holds}
+use Rattle.lq_model.specs.Positions.{IsHidden, IsStuck, BitsClear, ClearBelow, IsClear, hidden_packet, blocked, blocking, blocking_at, is_stopped, has_way_on, is_on_way, is_going, is_ending, is_second_scan, looked_below, needs_slot, may_be_inside, own_packet, direct_packet, Holds}
+use Rattle.lq_model.specs.Kept.{IsInductive, IsKept, IsPurging, OwnersDiffer}
 use Rattle.lq_run_core.proofs.Seats.{Extends}
 
 abbrev over : Qdisc → List Seat → Machine
@@ -30,12 +31,12 @@ lower more P all k = subst (λ (s : Seat). P s.position) (more.at k) (all (more.
 -- EXPOSURE AND A WAY ON
 
 hidden-up : (q : Qdisc) {old now : List Seat} → Extends old now → (p : Packet) → IsHidden (over q old) p → IsHidden (over q now) p
-hidden-up q more p (k, hides) = (more.up k, ap (λ (s : Seat). queued s.position) (more.at k) ∙ hides)
+hidden-up q more p (k, hides) = (more.up k, ap (λ (s : Seat). hidden_packet s.position) (more.at k) ∙ hides)
 
 hidden-down : (q : Qdisc) {old now : List Seat} → Extends old now → (p : Packet) → IsHidden (over q now) p → IsHidden (over q old) p
 hidden-down q {old = old} {now = now} more p (i, hides) = elim (more.from i) [
-  | inl e ↦ absurd (let none : queued (get_or now i idle_seat).position ≡ None = ap queued e in cc)
-  | inr found ↦ (found.0, ap (λ (s : Seat). queued s.position) (sym (more.at found.0)) ∙ (ap (λ (j : ℕ). queued (get_or now j idle_seat).position) found.1 ∙ hides))
+  | inl e ↦ absurd (let none : hidden_packet (get_or now i idle_seat).position ≡ None = ap hidden_packet e in cc)
+  | inr found ↦ (found.0, ap (λ (s : Seat). hidden_packet s.position) (sym (more.at found.0)) ∙ (ap (λ (j : ℕ). hidden_packet (get_or now j idle_seat).position) found.1 ∙ hides))
 ]
 
 clear-up : (q : Qdisc) {old now : List Seat} → Extends old now → (band : ℕ) → ClearBelow (over q old) band → ClearBelow (over q now) band

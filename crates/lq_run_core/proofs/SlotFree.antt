@@ -6,7 +6,9 @@ use Rattle.lq_model.specs.declared.machine.Position.TheVariants.{Gate}
 use Rattle.lq_model.specs.declared.machine.Seat.{Seat}
 use Rattle.lq_model.specs.Machine.{Qdisc, Machine, seat_at}
 use Rattle.lq_model.specs.Steps.{After}
-use Rattle.lq_model.specs.Kept.{IsInductive, Moves, SlotFree, holds_lock, needs_slot, looked_below}
+use Rattle.lq_model.specs.Positions.{holds_lock, needs_slot, looked_below}
+use Rattle.lq_model.specs.Kept.{IsInductive, SlotFree}
+use Rattle.lq_model.specs.Quiet.{Moves}
 use Rattle.lq_run_core.proofs.Local as local
 use Rattle.lq_run_core.proofs.Local.{Local}
 use Rattle.lq_run_core.proofs.Aside.Takes.{takes_bands}

@@ -9,7 +9,9 @@ use Rattle.lq_model.specs.declared.machine.Position.TheVariants.{Deq, BlockedCle
 use Rattle.lq_model.specs.declared.machine.Seat.{Seat}
 use Rattle.lq_model.specs.Machine.{Qdisc, Machine, is_shared, seat_at}
 use Rattle.lq_model.specs.Steps.{After, queue_of_slot}
-use Rattle.lq_model.specs.Kept.{IsInductive, Moves, SlotWaits, holds_lock, blocked}
+use Rattle.lq_model.specs.Positions.{holds_lock, blocked}
+use Rattle.lq_model.specs.Kept.{IsInductive, SlotWaits}
+use Rattle.lq_model.specs.Quiet.{Moves}
 use Rattle.lq_run_core.proofs.Local as local
 use Rattle.lq_run_core.proofs.Local.{Local}
 use Rattle.lq_run_core.proofs.LocalSteps.{Moved, moved}

@@ -8,12 +8,14 @@ use Rattle.lq_model.specs.declared.machine.Beginning.TheVariants.{Transmits, Int
 use Rattle.lq_model.specs.declared.machine.Packet.{Packet}
 use Rattle.lq_model.specs.declared.machine.Seat.{Seat}
 use Rattle.lq_model.specs.Machine.{Machine, seat_at}
-use Rattle.lq_model.specs.Steps.{After, with_seat, step_of, start_of, step_at, begun}
-use Rattle.lq_model.specs.Kept.{IsInductive, IsFree, own_packet}
-use Rattle.lq_model.specs.Kept.Moves.{steps, begins}
+use Rattle.lq_model.specs.Steps.{After, with_seat, step_of, call_begun, step_at, begun}
+use Rattle.lq_model.specs.Positions.{own_packet}
+use Rattle.lq_model.specs.Kept.{IsInductive}
+use Rattle.lq_model.specs.Quiet.{IsFree}
+use Rattle.lq_model.specs.Quiet.Moves.{steps, begins}
 use Rattle.lq_run_core.specs.declared.start.Start.{Start}
 use Rattle.lq_run_core.specs.declared.start.Start.TheVariants.{Send, SoftIrq, Wake, SendOn, WakeOn}
-use Rattle.lq_run_core.specs.Running.{Running, IsSound, OwnersAreSeats, beginning_of, begun_by}
+use Rattle.lq_run_core.specs.Numbered.{NumberedMachine, KeepsInvariant, OwnersAreSeats, beginning_of, begun_by}
 use Rattle.lq_run_core.proofs.Local.{Local}
 use Rattle.lq_run_core.proofs.LocalSteps.{and-true, if-some, step-leads, start-leads}
 use Rattle.lq_run_core.proofs.Frames.{seat-moved, seat-other}
@@ -41,7 +43,7 @@ owners-step m n i answer e owners =
     (owners-moved m i (step_at s.position answer m.qdisc s) (ltb-true _ _ may.0)
     (step-leads true (λ p. p.owner ≡ i) s.position answer m.qdisc s may.1) owners)
 
-owners-start : (m n : Machine) (i : ℕ) (b : Beginning) → ((p : Packet) → b ≡ Transmits p → p.owner ≡ i) → start_of m i b ≡ Some n → OwnersAreSeats m → OwnersAreSeats n
+owners-start : (m n : Machine) (i : ℕ) (b : Beginning) → ((p : Packet) → b ≡ Transmits p → p.owner ≡ i) → call_begun m i b ≡ Some n → OwnersAreSeats m → OwnersAreSeats n
 owners-start m n i b own e owners =
     let may = and-true _ _ (if-some _ _ _ e).0 in
     let s = seat_at m i in
@@ -49,7 +51,7 @@ owners-start m n i b own e owners =
     (owners-moved m i (record { qdisc = m.qdisc; seat = begun b s }) (ltb-true _ _ may.0) (start-leads true (λ p. p.owner ≡ i) b m.qdisc s may.1 own) owners)
 
 -- a seat sends packets of its own
-own-packet : (start : Start) (seat : ℕ) (r : Running) (p : Packet) → beginning_of start seat r ≡ Transmits p → p.owner ≡ seat
+own-packet : (start : Start) (seat : ℕ) (r : NumberedMachine) (p : Packet) → beginning_of start seat r ≡ Transmits p → p.owner ≡ seat
 own-packet (Send band) seat r p e = cc
 own-packet SoftIrq seat r p e = absurd cc
 own-packet Wake seat r p e = absurd cc
@@ -67,13 +69,13 @@ kept-after : (P : Machine → Type 0) (o : Option Machine) (m : Machine) → P m
 kept-after P (Some n) m h f = f n refl
 kept-after P None m h f = h
 
-pub step-sound : (r n : Running) (i : ℕ) (answer : Answer) → IsSound r → n.machine ≡ unwrap_or (step_of r.machine i answer) r.machine → IsSound n
+pub step-sound : (r n : NumberedMachine) (i : ℕ) (answer : Answer) → KeepsInvariant r → n.machine ≡ unwrap_or (step_of r.machine i answer) r.machine → KeepsInvariant n
 step-sound r n i answer sound e = record {
   inductive = subst IsInductive (sym e) (kept-after IsInductive (step_of r.machine i answer) r.machine sound.inductive (λ m h. inductive r.machine m sound.inductive (steps i answer h)));
   owners = subst OwnersAreSeats (sym e) (kept-after OwnersAreSeats (step_of r.machine i answer) r.machine sound.owners (λ m h. owners-step r.machine m i answer h sound.owners));
 }
 
-pub begin-sound : (r n : Running) (i : ℕ) (start : Start) → IsSound r → n.machine ≡ unwrap_or (begun_by start i r) r.machine → IsSound n
+pub begin-sound : (r n : NumberedMachine) (i : ℕ) (start : Start) → KeepsInvariant r → n.machine ≡ unwrap_or (begun_by start i r) r.machine → KeepsInvariant n
 begin-sound r n i start sound e = record {
   inductive = subst IsInductive (sym e)
       (kept-after IsInductive (begun_by start i r) r.machine sound.inductive

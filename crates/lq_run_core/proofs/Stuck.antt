@@ -10,8 +10,9 @@ use Rattle.lq_model.specs.declared.machine.Position.TheVariants.{BlockedDrain, C
 use Rattle.lq_model.specs.declared.machine.Seat.{Seat}
 use Rattle.lq_model.specs.Machine.{Qdisc, Machine, Purge, seat_at}
 use Rattle.lq_model.specs.Steps.{After, with_seat}
-use Rattle.lq_model.specs.Control.{is_purged}
-use Rattle.lq_model.specs.Kept.{IsInductive, IsStuck, IsClear, holds_lock, queued, is_on_way, is_second_scan, is_ending, blocking, has_way_on}
+use Rattle.lq_model.specs.Control.{is_purged_phase}
+use Rattle.lq_model.specs.Positions.{IsStuck, IsClear, holds_lock, hidden_packet, is_on_way, is_second_scan, is_ending, blocking, has_way_on}
+use Rattle.lq_model.specs.Kept.{IsInductive}
 use Rattle.lq_run_core.proofs.Local as local
 use Rattle.lq_run_core.proofs.Local.{Local}
 use Rattle.lq_run_core.proofs.Bands.{cut-holds}
@@ -29,7 +30,7 @@ pub record KeepsDrains (before : Position) (q : Qdisc) (after : Position) (q' : 
   pub beside : IsBeside before q after q'
   pub way : KeepsWay before q after q'
 
--- no way on behind the step, for the queue that was in the way before it
+-- no way on after the step, for the queue that was in the way before it
 no-way-now : (m : Machine) (i : ℕ) (a : After) → KeepsWay (seat_at m i).position m.qdisc a.seat.position a.qdisc → IsStuck (with_seat m i a)
     → (a.qdisc.missed || has_way_on (with_seat m i a) (blocking m.qdisc)) ≡ false
 no-way-now m i a keeps stuck =
@@ -46,7 +47,7 @@ pub drains-on : (m : Machine) (i : ℕ) (a : After) → i < length m.seats → K
 drains-on m i a within keeps drains stuck = clear-beside m i a 3 within keeps.beside stuck.missed (drains (stuck-before m i a within keeps stuck))
 
 -- once all was purged, DRAINING is clear
-pub purged-clear : (m : Machine) → IsInductive m → is_purged m.qdisc.phase ≡ true → m.qdisc.draining ≡ false
+pub purged-clear : (m : Machine) → IsInductive m → is_purged_phase m.qdisc.phase ≡ true → m.qdisc.draining ≡ false
 purged-clear m h purged = (h.kept.purged_holds_nothing (purged-is m.qdisc.phase purged)).0.draining
 
 -- THE HOLDER'S OWN STEPS
@@ -57,7 +58,7 @@ same-way : (before after : Position) (q q' : Qdisc) → q'.missed ≡ q.missed �
 same-way before after q q' missed deactivated sched xoff slot comes = record { way = λ stopped rest way. cc; xoff = inl xoff; slot = slot; queues = ap length xoff }
 
 -- a step that changes at most the run lock and the phase
-still : (before after : Position) (q : Qdisc) (locked : Bool) (phase : Phase) → is_on_way after ≡ is_on_way before → queued before ≡ None
+still : (before after : Position) (q : Qdisc) (locked : Bool) (phase : Phase) → is_on_way after ≡ is_on_way before → hidden_packet before ≡ None
     → KeepsDrains before q after (record q { locked = locked; phase = phase })
 still before after q locked phase comes own = record {
   beside = alike before after q _ refl refl refl refl refl refl (λ p hides c. absurd cc);
@@ -95,7 +96,7 @@ purges (Some v) u under ending = cc
 purges None u under ending = cc
 
 pub ends : {sole : Bool} {free : Packet → Type 0} {q : Qdisc} {s : Seat} {before : Position} {after : After} → Local sole free q s before after
-    → holds_lock before ≡ true → (is_second_scan before ≡ true → q.draining ≡ false) → (is_purged q.phase ≡ true → q.draining ≡ false)
+    → holds_lock before ≡ true → (is_second_scan before ≡ true → q.draining ≡ false) → (is_purged_phase q.phase ≡ true → q.draining ≡ false)
     → ((u : Purge) → q.purge ≡ Some u → u.draining ≡ true → q.draining ≡ false)
     → is_ending after.qdisc.purge after.seat.position ≡ true → after.qdisc.missed ≡ false → after.qdisc.draining ≡ true
     → after.qdisc.deactivated ≡ false → after.qdisc.sched ≡ false → Ends before q after.seat.position after.qdisc
@@ -122,7 +123,7 @@ takes (local.loads_inside false) out ending = absurd cc
 takes (local.loads_inside true) out ending = absurd cc
 takes _ out ending = absurd cc
 
--- THE MACHINE BEHIND THE HOLDER'S STEP
+-- THE MACHINE AFTER THE HOLDER'S STEP
 
 pub ends-drains : (m : Machine) (i : ℕ) (a : After) → i < length m.seats → IsInductive m → Ends (seat_at m i).position m.qdisc a.seat.position a.qdisc → Drains (with_seat m i a)
 ends-drains m i a within h (stays ending keeps) = drains-on m i a within keeps (h.kept.ending_draining i ending)

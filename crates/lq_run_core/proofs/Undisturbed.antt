@@ -5,7 +5,7 @@ use Rattle.lq_model.specs.declared.machine.Position.{Position}
 use Rattle.lq_model.specs.declared.machine.Seat.{Seat}
 use Rattle.lq_model.specs.Machine.{Qdisc, band_at}
 use Rattle.lq_model.specs.Steps.{After}
-use Rattle.lq_model.specs.Kept.{may_be_inside}
+use Rattle.lq_model.specs.Positions.{may_be_inside}
 use Rattle.lq_run_core.proofs.Local as local
 use Rattle.lq_run_core.proofs.Local.{Local}
 use Rattle.lq_run_core.proofs.Bands.{taken-holds, cut-holds}

@@ -7,8 +7,9 @@ use Rattle.lq_model.specs.declared.machine.Position.{Position}
 use Rattle.lq_model.specs.declared.machine.Seat.{Seat}
 use Rattle.lq_model.specs.Machine.{Qdisc, Machine, seat_at}
 use Rattle.lq_model.specs.Steps.{After, with_seat, queue_of_slot}
-use Rattle.lq_model.specs.Control.{is_purged}
-use Rattle.lq_model.specs.Kept.{OneHolder, holds_lock, is_on_way, is_stopped, blocking, has_way_on}
+use Rattle.lq_model.specs.Control.{is_purged_phase}
+use Rattle.lq_model.specs.Positions.{holds_lock, is_on_way, is_stopped, blocking, has_way_on}
+use Rattle.lq_model.specs.Kept.{OneHolder}
 use Rattle.lq_run_core.proofs.Local as local
 use Rattle.lq_run_core.proofs.Local.{Local}
 use Rattle.lq_run_core.proofs.Frames.{any-kept, only-holder, holder-locks}
@@ -31,7 +32,7 @@ some-comes missed deactivated sched stopped = grind arith
 
 -- what a seat beside the holder leaves of it: it hands over to what it sets or where it goes
 way-beside : {sole : Bool} {free : Packet → Type 0} {q : Qdisc} {s : Seat} {before : Position} {after : After} → Local sole free q s before after
-    → holds_lock before ≡ false → after.qdisc.locked ≡ q.locked → is_purged q.phase ≡ false
+    → holds_lock before ≡ false → after.qdisc.locked ≡ q.locked → is_purged_phase q.phase ≡ false
     → (stopped rest : Bool) → WayOn q stopped (is_on_way before || rest) → WayOn after.qdisc stopped (is_on_way after.seat.position || rest)
 way-beside (local.check_direct p e) h same active stopped rest way = grind arith
 way-beside (local.put_join p) h same active stopped rest way = grind arith
@@ -76,7 +77,7 @@ queues-beside {q = q} (local.wake_opens queue) h = length-set q.xoff queue 0
 queues-beside _ h = cc
 
 pub keeps-beside : {sole : Bool} {free : Packet → Type 0} {q : Qdisc} {s : Seat} {before : Position} {after : After} → Local sole free q s before after
-    → holds_lock before ≡ false → after.qdisc.locked ≡ q.locked → is_purged q.phase ≡ false → KeepsWay before q after.seat.position after.qdisc
+    → holds_lock before ≡ false → after.qdisc.locked ≡ q.locked → is_purged_phase q.phase ≡ false → KeepsWay before q after.seat.position after.qdisc
 keeps-beside step out same active = record {
   way = way-beside step out same active;
   xoff = xoff-beside step out;
@@ -86,7 +87,7 @@ keeps-beside step out same active = record {
 
 -- the same beside a holder
 pub keeps-rely : {sole : Bool} {free : Packet → Type 0} (m : Machine) (i j : ℕ) {after : After} → OneHolder m → Local sole free m.qdisc (seat_at m i) (seat_at m i).position after
-    → j ≢ i → holds_lock (seat_at m j).position ≡ true → is_purged m.qdisc.phase ≡ false → KeepsWay (seat_at m i).position m.qdisc after.seat.position after.qdisc
+    → j ≢ i → holds_lock (seat_at m j).position ≡ true → is_purged_phase m.qdisc.phase ≡ false → KeepsWay (seat_at m i).position m.qdisc after.seat.position after.qdisc
 keeps-rely m i j one step other holds active =
     let out : holds_lock (seat_at m i).position ≡ false = only-holder m j i one (holder-within m j holds) holds (λ e. other (sym e)) in
     let locked : m.qdisc.locked ≡ true = holder-locks m j one holds in

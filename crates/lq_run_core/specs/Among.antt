@@ -7,6 +7,6 @@ use Rattle.lq_model.specs.Steps.{After}
 abbrev pub among : List Seat → List Seat → Qdisc → Seat → Machine
 among before behind q s = record { qdisc = q; seats = before ++ s ∷ behind }
 
--- behind a step that left this of the words and of the seat
+-- after a step that left this of the words and of the seat
 abbrev pub left_among : List Seat → List Seat → After → Machine
 left_among before behind a = among before behind a.qdisc a.seat

@@ -1,7 +1,7 @@
 -- one seat among the others
 pub mod Among
 -- a machine that runs, with the packets that it numbers
-pub mod Running
+pub mod Numbered
 -- the room that the list of a band has
 pub mod Room
 -- the lines and words of a schedule, and what each says

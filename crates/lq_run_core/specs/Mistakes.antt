@@ -8,23 +8,25 @@ use Rattle.lq_model.specs.declared.machine.Packet.{Packet}
 use Rattle.lq_model.specs.declared.machine.Position.{Position}
 use Rattle.lq_model.specs.declared.machine.Position.TheVariants.{Idle, Miss, BlockedLoad, BlockedDrain, Unlock, Sched, Leave, SoftClear}
 use Rattle.lq_model.specs.declared.machine.Seat.{Seat}
-use Rattle.lq_model.specs.Kept.{Holds, IsInductive, IsQuiet, Reaches}
+use Rattle.lq_model.specs.Positions.{Holds}
+use Rattle.lq_model.specs.Kept.{IsInductive}
+use Rattle.lq_model.specs.Quiet.{IsQuiet, Reaches}
 use Rattle.lq_model.specs.Machine.{Machine, Qdisc, first_machine, first_qdisc}
 use Rattle.lq_model.specs.Steps.{After, gives_up, goes_to}
 
 -- MISTAKES, each as what its step leaves
 
 -- run end looks at MISSED before it releases the run lock, and goes on by what it found there
-abbrev pub releases_behind_its_look : Bool → Qdisc → Seat → After
-releases_behind_its_look found q s = goes_to (record q { locked = false }) s (if found then Sched true else Leave)
+abbrev pub releases_after_its_look : Bool → Qdisc → Seat → After
+releases_after_its_look found q s = goes_to (record q { locked = false }) s (if found then Sched true else Leave)
 
 -- run begin sets MISSED and doesn't try the run lock again
 abbrev pub misses_for_good : Attempt → Qdisc → Seat → After
 misses_for_good attempt q s = goes_to (record q { missed = true }) s (gives_up attempt)
 
--- MISSED is cleared behind the second look at the bands
-abbrev pub clears_behind_its_look : Qdisc → Seat → After
-clears_behind_its_look q s = goes_to (record q { missed = false }) s Unlock
+-- MISSED is cleared after the second look at the bands
+abbrev pub clears_after_its_look : Qdisc → Seat → After
+clears_after_its_look q s = goes_to (record q { missed = false }) s Unlock
 
 -- DRAINING is to be set with no second load of the stop word
 abbrev pub drains_without_a_look : Blocked → Qdisc → Seat → After
@@ -49,63 +51,63 @@ pub record LeavesBehind (before now : Machine) (sentence : Machine → Type 0) (
 -- MACHINES of two seats, with rings of two slots, no way past the bands and one queue
 
 -- a packet of band 0, with its number and owner
-abbrev pub packet : ℕ → ℕ → Packet
-packet number owner = record { number = number; owner = owner; band = 0; queue = 0 }
+abbrev pub numbered_packet : ℕ → ℕ → Packet
+numbered_packet number owner = record { number = number; owner = owner; band = 0; queue = 0 }
 
-abbrev pub words : Qdisc
-words = first_qdisc 2 false 1
+abbrev pub first_words : Qdisc
+first_words = first_qdisc 2 false 1
 
 -- a seat that sent so many packets in its last run
-abbrev pub seat_behind : ℕ → Position → Seat
-seat_behind run position = record { position = position; raised = false; run = run }
+abbrev pub seat_after : ℕ → Position → Seat
+seat_after run position = record { position = position; raised = false; run = run }
 
 abbrev pub two_seats : Qdisc → Seat → Seat → Machine
 two_seats q s t = record { qdisc = q; seats = s ∷ t ∷ [] }
 
 -- the holder is about to release, and looks at MISSED
-abbrev pub looking : Machine
-looking = two_seats (record words { locked = true; inside = 1; sent = 1 }) (seat_behind 1 Unlock) (seat_behind 0 Idle)
+abbrev pub about_to_release : Machine
+about_to_release = two_seats (record first_words { locked = true; inside = 1; sent = 1 }) (seat_after 1 Unlock) (seat_after 0 Idle)
 
 -- since then the other seat put a packet, set MISSED, and found the run lock held again
-abbrev pub looked : Machine
-looked = two_seats (record words { locked = true; missed = true; inside = 2; sent = 1; bands = (packet 1 1 ∷ []) ∷ [] ∷ [] ∷ [] })
-    (seat_behind 1 Unlock) (seat_behind 0 Leave)
+abbrev pub missed_meanwhile : Machine
+missed_meanwhile = two_seats (record first_words { locked = true; missed = true; inside = 2; sent = 1; bands = (numbered_packet 1 1 ∷ []) ∷ [] ∷ [] ∷ [] })
+    (seat_after 1 Unlock) (seat_after 0 Leave)
 
 -- a seat that found the run lock held is about to set MISSED, and the holder has left
-abbrev pub missing : Machine
-missing = two_seats (record words { inside = 1; sent = 1; bands = (packet 1 1 ∷ []) ∷ [] ∷ [] ∷ [] })
-    (seat_behind 1 Idle) (seat_behind 0 (Miss (Queued (packet 1 1))))
+abbrev pub about_to_miss : Machine
+about_to_miss = two_seats (record first_words { inside = 1; sent = 1; bands = (numbered_packet 1 1 ∷ []) ∷ [] ∷ [] ∷ [] })
+    (seat_after 1 Idle) (seat_after 0 (Miss (Queued (numbered_packet 1 1))))
 
 -- the holder has looked at the bands again; since then the other seat put a packet and set MISSED
 abbrev pub looked_again : Machine
-looked_again = two_seats (record words { locked = true; missed = true; inside = 2; sent = 2; bands = (packet 2 1 ∷ []) ∷ [] ∷ [] ∷ [] })
-    (seat_behind 2 Unlock) (seat_behind 0 Leave)
+looked_again = two_seats (record first_words { locked = true; missed = true; inside = 2; sent = 2; bands = (numbered_packet 2 1 ∷ []) ∷ [] ∷ [] ∷ [] })
+    (seat_after 2 Unlock) (seat_after 0 Leave)
 
 -- the holder found the queue stopped and cleared MISSED; before that the other seat opened the queue, put a packet, and found MISSED
 -- set
 abbrev pub about_to_look : Machine
-about_to_look = two_seats (record words { locked = true; inside = 2; sent = 1; bands = (packet 1 1 ∷ []) ∷ [] ∷ [] ∷ [] })
-    (seat_behind 1 (BlockedLoad (NoneTaken 0))) (seat_behind 0 Leave)
+about_to_look = two_seats (record first_words { locked = true; inside = 2; sent = 1; bands = (numbered_packet 1 1 ∷ []) ∷ [] ∷ [] ∷ [] })
+    (seat_after 1 (BlockedLoad (NoneTaken 0))) (seat_after 0 Leave)
 
 -- a soft interrupt found DEACTIVATED; the station was activated since, and a transmit laid its packet back and found SCHED set
 abbrev pub found_deactivated : Machine
-found_deactivated = two_seats (record words { sched = true; missed = true; inside = 1; sent = 1; slot = Some (packet 1 0) })
-    (seat_behind 0 Idle) (seat_behind 0 (SoftClear true))
+found_deactivated = two_seats (record first_words { sched = true; missed = true; inside = 1; sent = 1; slot = Some (numbered_packet 1 0) })
+    (seat_after 0 Idle) (seat_after 0 (SoftClear true))
 
 -- in the end both seats are idle
 abbrev pub both_idle : Qdisc → ℕ → Machine
-both_idle q run = two_seats q (seat_behind run Idle) (seat_behind 0 Idle)
+both_idle q run = two_seats q (seat_after run Idle) (seat_after 0 Idle)
 
 -- a packet is in its band: with MISSED set, with no bit set, and with DRAINING set
 abbrev pub left_missed : Machine
-left_missed = both_idle (record words { missed = true; sent = 1; bands = (packet 1 1 ∷ []) ∷ [] ∷ [] ∷ [] }) 1
+left_missed = both_idle (record first_words { missed = true; sent = 1; bands = (numbered_packet 1 1 ∷ []) ∷ [] ∷ [] ∷ [] }) 1
 
 abbrev pub left_clear : Machine
-left_clear = both_idle (record words { sent = 2; bands = (packet 2 1 ∷ []) ∷ [] ∷ [] ∷ [] }) 2
+left_clear = both_idle (record first_words { sent = 2; bands = (numbered_packet 2 1 ∷ []) ∷ [] ∷ [] ∷ [] }) 2
 
 abbrev pub left_draining : Machine
-left_draining = both_idle (record words { draining = true; sent = 1; bands = (packet 1 1 ∷ []) ∷ [] ∷ [] ∷ [] }) 1
+left_draining = both_idle (record first_words { draining = true; sent = 1; bands = (numbered_packet 1 1 ∷ []) ∷ [] ∷ [] ∷ [] }) 1
 
 -- a packet is in the requeue slot, with MISSED set
 abbrev pub left_in_slot : Machine
-left_in_slot = both_idle (record words { missed = true; sent = 1; slot = Some (packet 1 0) }) 0
+left_in_slot = both_idle (record first_words { missed = true; sent = 1; slot = Some (numbered_packet 1 0) }) 0

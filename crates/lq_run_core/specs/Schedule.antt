@@ -9,7 +9,7 @@ use Rattle.lq_model.specs.declared.machine.Answer.{Answer}
 use Rattle.lq_model.specs.declared.machine.Answer.TheVariants.{Plain, FullSlot, Stop, Hang, Busy}
 use Rattle.lq_run_core.specs.declared.schedule.Setup.{Setup}
 use Rattle.lq_model.specs.Machine.{Machine}
-use Rattle.lq_run_core.specs.Running.{IsInRange}
+use Rattle.lq_run_core.specs.Numbered.{IsInRange}
 use Rattle.lq_run_core.specs.declared.schedule.Action.{Action}
 use Rattle.lq_run_core.specs.declared.schedule.Action.TheVariants.{Begins, Steps}
 use Rattle.lq_run_core.specs.declared.start.Start.TheVariants.{Send, SoftIrq, Wake}

@@ -5,7 +5,7 @@ use Rattle.lq_model.specs.declared.machine.Answer.{Answer}
 use Rattle.lq_model.specs.Machine.{Machine, first_machine}
 use Rattle.lq_model.specs.Steps.{step_of}
 use Rattle.lq_run_core.specs.declared.start.Start.{Start}
-use Rattle.lq_run_core.specs.Running.{Running, begun_by, is_send}
+use Rattle.lq_run_core.specs.Numbered.{NumberedMachine, begun_by, is_send}
 use Rattle.lq_run_core.specs.declared.schedule.Setup.{Setup}
 use Rattle.lq_run_core.specs.declared.schedule.Action.{Action}
 use Rattle.lq_run_core.specs.declared.schedule.Action.TheVariants.{Begins, Steps}
@@ -22,7 +22,7 @@ abbrev pub set_up : Setup → Progress
 set_up s = record { running = record { machine = first_machine s.seats s.len s.bypass 1; next = 0 }; steps = 0 }
 
 -- a call begins, which is no step
-abbrev pub started : Start → ℕ → Running → Option Running
+abbrev pub started : Start → ℕ → NumberedMachine → Option NumberedMachine
 started start seat r =
     option_map (λ m. record { machine = m; next = if is_send start then r.next + 1 else r.next }) (begun_by start seat r)
 
@@ -62,7 +62,7 @@ abbrev pub lines_done : Option Progress → ℕ → List (List ℕ) → Result (
 lines_done p n [] = Ok p
 lines_done p n (line ∷ more) = line_done p n line >>= λ next. lines_done next (n + 1) more
 
--- what a schedule leaves, or the first line that fails; where every line is passed over, the line behind the last
+-- what a schedule leaves, or the first line that fails; where every line is passed over, the line after the last
 unfoldable pub schedule_done : List ℕ → Result Progress TraceRefusal
 schedule_done text = lines_done None 1 (lines text) >>= λ p. ok_or p (Refused Syntax (length (lines text) + 1))
 

@@ -9,7 +9,7 @@ use Rattle.lq_model.specs.Machine.{Machine, Qdisc, seat_at, state_word, bit}
 use Rattle.lq_model.specs.Numbers.{first_numbers}
 use Rattle.lq_run_core.specs.declared.trace_run.Progress.{Progress}
 use Rattle.lq_run_core.specs.declared.trace_run.TraceRefusal.{TraceRefusal}
-use Rattle.lq_run_core.specs.Running.{greatest, held_count}
+use Rattle.lq_run_core.specs.Numbered.{greatest, packets_held}
 use Rattle.lq_run_core.specs.Trace.{schedule_done, ◌>>=◌}
 
 -- WHERE A SEAT STANDS
@@ -72,7 +72,7 @@ state_line q =
 
 abbrev pub held_line : Qdisc → List ℕ
 held_line q =
-    codes "held " ++ (decimal (held_count q) ++ (codes " sent " ++ (decimal q.sent ++ (codes " full " ++ (decimal q.full ++ 10 ∷ [])))))
+    codes "held " ++ (decimal (packets_held q) ++ (codes " sent " ++ (decimal q.sent ++ (codes " full " ++ (decimal q.full ++ 10 ∷ [])))))
 
 abbrev pub steps_line : ℕ → List ℕ
 steps_line steps = codes "steps " ++ (decimal steps ++ 10 ∷ [])

@@ -1,4 +1,8 @@
 //! The machine: what the seats share, and the seats.
+//!
+//! What makes or changes a machine stands in two functions: a private one that does it, and a public one that calls it
+//! and tells besides that the invariant is kept. So the code is proved apart from the invariant, whose proof follows from
+//! what the private one tells.
 use crate::qdisc::Qdisc;
 use crate::start::Start;
 use lq_model::{Answer, NoMemory, Position, Seat};
@@ -19,9 +23,9 @@ impl Model for Machine {
     ghost use Rattle.std.specs.Prelude.{◌≡◌, ◌≤◌, vec_len};
     ghost use Rattle.lq_model.specs.Machine.{Machine as State};
     ghost use Rattle.lq_model.specs.Kept.{CallsInside};
-    ghost use Rattle.lq_run_core.specs.Running.{Running};
+    ghost use Rattle.lq_run_core.specs.Numbered.{NumberedMachine};
 
-    ghost Value = { Running };
+    ghost Value = { NumberedMachine };
 
     ghost view = { λ s. record { machine = record { qdisc = s.qdisc; seats = s.seats.items }; next = s.next } };
 
@@ -32,7 +36,7 @@ impl Machine {
     ghost use Rattle.std.specs.Prelude.{◌≡◌, ◌≤◌, ◌<◌, ◌+◌, ◌&&◌, true, IfOk, is_some, unwrap_or, length, if◌then◌else◌, slice_index};
     ghost use Rattle.lq_model.specs.Machine.{first_machine, seat_at, state_word, bit};
     ghost use Rattle.lq_model.specs.Steps.{step_of};
-    ghost use Rattle.lq_run_core.specs.Running.{IsInRange, IsSound, begun_by, is_send, greatest, held_count};
+    ghost use Rattle.lq_run_core.specs.Numbered.{IsInRange, KeepsInvariant, begun_by, is_send, greatest, packets_held};
 
     /// A machine with one queue; all words are 0, all lists are empty, all seats are idle. The invariant holds of
     /// it, and `begin` and `step` keep it.
@@ -40,7 +44,7 @@ impl Machine {
         requires seats { (1 ≤ seats) × (seats ≤ 8) }
         requires len { (1 ≤ len) × (len ≤ 4096) }
         ensures made { IfOk result (λ m. m ≡ record { machine = first_machine seats len bypass 1; next = 0 }) }
-        ensures sound { IfOk result (λ m. IsSound m) }
+        ensures sound { IfOk result (λ m. KeepsInvariant m) }
     {
         Machine::with_queues(alloc, seats, len, bypass, 1)
     }
@@ -57,12 +61,12 @@ impl Machine {
         requires len { (1 ≤ len) × (len ≤ 4096) }
         requires queues { (1 ≤ queues) × (queues ≤ 8) }
         ensures made { IfOk result (λ m. m ≡ record { machine = first_machine seats len bypass queues; next = 0 }) }
-        ensures sound { IfOk result (λ m. IsSound m) }
+        ensures sound { IfOk result (λ m. KeepsInvariant m) }
     {
         Machine::make(alloc, seats, len, bypass, queues)
     }
 
-    /// The machine, without what keeps it sound.
+    /// Makes the machine; of the invariant it tells nothing.
     fn make(
         alloc: Global,
         seats: u32,
@@ -93,20 +97,20 @@ impl Machine {
 
     /// Begins a call of a seat. The answer is false exactly where the seat can't: where it isn't idle, or for
     /// a soft interrupt isn't raised. Then nothing changes. At most 1,000,000 packets are sent; a wake and a soft
-    /// interrupt may begin behind the last.
+    /// interrupt may begin after the last.
     pub fn begin(&mut self, seat: u32, start: Start) -> bool
         requires seat { seat < length self.old.machine.seats }
         requires in_range { IsInRange start self.old.machine }
         requires sends { is_send start ≡ true → self.old.next < 1000000 }
         ensures answers { result ≡ is_some (begun_by start seat self.old) }
         ensures machine { self.new.machine ≡ unwrap_or (begun_by start seat self.old) self.old.machine }
-        ensures sound { IsSound self.old → IsSound self.new }
+        ensures sound { KeepsInvariant self.old → KeepsInvariant self.new }
         ensures next { self.new.next ≡ (if result && is_send start then self.old.next + 1 else self.old.next) }
     {
         self.begin_call(seat, start)
     }
 
-    /// Begins the call, without what keeps the machine sound.
+    /// Begins the call; of the invariant it tells nothing.
     fn begin_call(&mut self, seat: u32, start: Start) -> bool
         requires seat { seat < length self.old.machine.seats }
         requires sends { is_send start ≡ true → self.old.next < 1000000 }
@@ -131,12 +135,12 @@ impl Machine {
         ensures answers { result ≡ is_some (step_of self.old.machine seat answer) }
         ensures machine { self.new.machine ≡ unwrap_or (step_of self.old.machine seat answer) self.old.machine }
         ensures next { self.new.next ≡ self.old.next }
-        ensures sound { IsSound self.old → IsSound self.new }
+        ensures sound { KeepsInvariant self.old → KeepsInvariant self.new }
     {
         self.do_step(seat, answer)
     }
 
-    /// Does the step, without what keeps the machine sound.
+    /// Does the step; of the invariant it tells nothing.
     fn do_step(&mut self, seat: u32, answer: Answer) -> bool
         requires { seat < length self.old.machine.seats }
         ensures answers { result ≡ is_some (step_of self.old.machine seat answer) }
@@ -197,7 +201,7 @@ impl Machine {
 
     /// How many packets the bands and the requeue slot hold.
     pub fn held(&self) -> u64
-        ensures { result ≡ held_count self.now.machine.qdisc }
+        ensures { result ≡ packets_held self.now.machine.qdisc }
     {
         self.qdisc.held()
     }

@@ -1,6 +1,6 @@
 //! What the seats share, and what a step of a seat does there.
 ghost use Rattle.std.specs.Prelude.{◌≡◌, ◌≤◌, ◌+◌, [], nat_lt, if◌then◌else◌, IfOk};
-ghost use Rattle.lq_run_core.specs.Room.{IsBand};
+ghost use Rattle.lq_run_core.specs.Room.{IsBandList};
 
 use lq_model::{NoMemory, Packet, Phase, Position, Seat};
 use std::alloc::Global;
@@ -32,7 +32,7 @@ pub(crate) struct Qdisc {
 
 impl Model for Qdisc {
     ghost use Rattle.std.specs.Prelude.{◌≤◌, ◌∷◌, [], None, vec_len};
-    ghost use Rattle.lq_run_core.specs.Room.{IsBand};
+    ghost use Rattle.lq_run_core.specs.Room.{IsBandList};
     ghost use Rattle.lq_model.specs.Machine.{Qdisc as State};
 
     ghost Value = { State };
@@ -55,7 +55,7 @@ impl Model for Qdisc {
       purge = None;
     } };
 
-    ghost invariant = { λ s. (vec_len s.xoff ≤ 8) × (s.len ≤ 4096) × IsBand s.len s.first × IsBand s.len s.second × IsBand s.len s.third };
+    ghost invariant = { λ s. (vec_len s.xoff ≤ 8) × (s.len ≤ 4096) × IsBandList s.len s.first × IsBandList s.len s.second × IsBandList s.len s.third };
 }
 
 /// The seat at another position.
@@ -79,8 +79,8 @@ fn one_more(count: u64) -> u64
 impl Qdisc {
     ghost use Rattle.std.specs.Prelude.{◌≡◌, ◌<◌, ◌≤◌, ◌+◌, ◌∷◌, [], nat_lt, length, slice_set, slice_index, IfSome, IfNone, OnSome, IfOk};
     ghost use Rattle.lq_model.specs.Machine.{is_non_empty, is_open, is_shared, band_at, first_qdisc, state_word};
-    ghost use Rattle.lq_run_core.specs.Running.{held_count};
-    ghost use Rattle.lq_model.specs.Steps.{one_more, joined};
+    ghost use Rattle.lq_run_core.specs.Numbered.{packets_held};
+    ghost use Rattle.lq_model.specs.Steps.{one_more, joined_band};
 
     /// MISSED or DRAINING is set.
     pub(crate) fn is_non_empty(&self) -> bool
@@ -115,7 +115,7 @@ impl Qdisc {
     }
 
     /// Whether a queue has a higher number.
-    pub(crate) fn has_queue_behind(&self, queue: u32) -> bool
+    pub(crate) fn has_next_queue(&self, queue: u32) -> bool
         ensures behind { result ≡ nat_lt (queue + 1) (length self.now.xoff) }
         ensures few { length self.now.xoff ≤ 8 }
     {
@@ -146,7 +146,7 @@ impl Qdisc {
     /// Puts a packet at the end of its band's list, which has room.
     pub(crate) fn join(&mut self, packet: Packet)
         requires { length (band_at self.old packet.band) < self.old.len }
-        ensures { self.new ≡ joined packet self.old }
+        ensures { self.new ≡ joined_band packet self.old }
     {
         match packet.band {
             0 => self.first.push_back_reserved(packet),
@@ -225,7 +225,7 @@ impl Qdisc {
 
     /// How many packets the bands and the requeue slot hold.
     pub(crate) fn held(&self) -> u64
-        ensures { result ≡ held_count self.now }
+        ensures { result ≡ packets_held self.now }
     {
         (self.first.len() + self.second.len() + self.third.len()) as u64 + bit(self.slot.is_some())
     }
@@ -240,7 +240,7 @@ fn bit(set: bool) -> u64
 /// An empty list with room for so many packets.
 fn band(alloc: Global, len: u32) -> Result<VecDeque<Packet>, NoMemory>
     ensures empty { IfOk result (λ q. q.items ≡ []) }
-    ensures room { IfOk result (λ q. IsBand len q) }
+    ensures room { IfOk result (λ q. IsBandList len q) }
 {
     match VecDeque::with_capacity(alloc, len as usize) {
         Ok(list) => Ok(list),

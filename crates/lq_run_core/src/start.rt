@@ -3,7 +3,7 @@ ghost use Rattle.std.specs.Prelude.{◌≡◌, ◌<◌, ◌+◌, ℕ, true, if�
 ghost use Rattle.lq_model.specs.declared.machine.Beginning.TheVariants.{Transmits};
 ghost use Rattle.lq_model.specs.Machine.{Machine as State};
 ghost use Rattle.lq_model.specs.Steps.{is_idle, may_begin, begun};
-ghost use Rattle.lq_run_core.specs.Running.{Running, beginning_of, is_send};
+ghost use Rattle.lq_run_core.specs.Numbered.{NumberedMachine, beginning_of, is_send};
 
 use crate::qdisc::at;
 use lq_model::{Call, Packet, Position, Seat};
@@ -44,7 +44,7 @@ impl Start {
 
     /// Whether a seat can begin this: it is idle, and for a soft interrupt raised.
     pub(crate) fn may_begin(&self, old: Seat) -> bool
-        ensures { (seat : ℕ) (r : Running) → result ≡ may_begin (beginning_of self.now seat r) old }
+        ensures { (seat : ℕ) (r : NumberedMachine) → result ≡ may_begin (beginning_of self.now seat r) old }
     {
         match self {
             Start::SoftIrq => is_idle(old.position) && old.raised,

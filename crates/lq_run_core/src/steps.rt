@@ -5,7 +5,7 @@ ghost use Rattle.lq_model.specs.declared.machine.Attempt.TheVariants.{Interrupt}
 ghost use Rattle.lq_model.specs.declared.machine.Blocked.TheVariants.{InHand};
 ghost use Rattle.lq_model.specs.declared.machine.Position.TheVariants.{Put, Gate, Xmit, Unlock, ClearMissed, BlockedClear, BlockedMiss, BlockedDrain, Sched, Try1};
 ghost use Rattle.lq_model.specs.Machine.{band_at, is_non_empty, is_open};
-ghost use Rattle.lq_model.specs.Steps.{goes_to, step_at, counted, gives_up, behind_band, queue_of_blocked, queue_of_slot, call_ends, enter, dequeue_begins, run_begins, behind_sent, try_lock, miss, check, may_answer, behind_put, put_answered, xmit, store_xoff, deq, scan, requeues, schedule, wake};
+ghost use Rattle.lq_model.specs.Steps.{goes_to, step_at, counted, gives_up, after_band, queue_of_blocked, queue_of_slot, call_ends, enter, dequeue_begins, run_begins, after_sent, try_lock, miss, check, may_answer, after_put, put_answered, xmit, store_xoff, deq, scan, requeues, schedule, wake};
 
 use crate::qdisc::{Qdisc, at};
 use lq_model::{Answer, Attempt, Blocked, Call, Packet, Position, Seat, batch};
@@ -42,9 +42,9 @@ fn gives_up(attempt: Attempt) -> Position
     }
 }
 
-/// Behind the last band the state is looked at, or the second time the run ends.
-fn behind_band(band: u32, second: bool) -> Position
-    ensures { result ≡ behind_band band second }
+/// After the last band the state is looked at, or the second time the run ends.
+fn after_band(band: u32, second: bool) -> Position
+    ensures { result ≡ after_band band second }
 {
     if band < 2 {
         Position::Scan {
@@ -78,7 +78,7 @@ fn queue_of_slot(slot: Option<Packet>) -> u32
     }
 }
 
-/// Behind a transmit or a soft interrupt, or outside.
+/// After a transmit or a soft interrupt, or outside.
 fn call_ends(inside: bool) -> Position
     ensures { result ≡ call_ends inside }
 {
@@ -89,7 +89,7 @@ fn call_ends(inside: bool) -> Position
     }
 }
 
-/// Behind the count of the calls inside.
+/// After the count of the calls inside.
 fn enter(call: Call) -> Position
     ensures { result ≡ enter call }
 {
@@ -125,9 +125,9 @@ impl Qdisc {
         }
     }
 
-    /// Behind a packet that was sent: past the bands, at the end of its quota, or at the next dequeue.
-    fn behind_sent(&self, direct: bool, seat: Seat) -> Position
-        ensures { result ≡ behind_sent direct self.now seat }
+    /// After a packet that was sent: past the bands, at the end of its quota, or at the next dequeue.
+    fn after_sent(&self, direct: bool, seat: Seat) -> Position
+        ensures { result ≡ after_sent direct self.now seat }
     {
         if direct {
             Position::Post
@@ -186,8 +186,8 @@ impl Qdisc {
     /// Puts a packet into its band, or counts it as refused (`pfifo_fast_enqueue` of net/sched/sch_generic.c).
     fn put(&mut self, seat: Seat, packet: Packet, holds: bool, answer: Answer) -> Seat
         requires { IsTrue (may_answer (Put packet holds) answer self.old) }
-        ensures qdisc { self.new ≡ (behind_put holds packet (put_answered answer packet self.old) seat).qdisc }
-        ensures seat { result ≡ (behind_put holds packet (put_answered answer packet self.old) seat).seat }
+        ensures qdisc { self.new ≡ (after_put holds packet (put_answered answer packet self.old) seat).qdisc }
+        ensures seat { result ≡ (after_put holds packet (put_answered answer packet self.old) seat).seat }
     {
         match answer {
             Answer::Plain => self.join(packet),
@@ -210,7 +210,7 @@ impl Qdisc {
             Answer::Plain => {
                 self.count_sent();
                 let seat = counted(seat);
-                at(seat, self.behind_sent(direct, seat))
+                at(seat, self.after_sent(direct, seat))
             }
             Answer::FullSlot => at(seat, Position::Xmit { packet, direct }),
             Answer::Stop => {
@@ -248,7 +248,7 @@ impl Qdisc {
         ensures seat { result ≡ (store_xoff queue hung direct self.old seat).seat }
     {
         self.store_xoff(queue, if hung { 2 } else { 1 });
-        if hung && self.has_queue_behind(queue) {
+        if hung && self.has_next_queue(queue) {
             at(
                 seat,
                 Position::StoreXoff {
@@ -258,7 +258,7 @@ impl Qdisc {
                 },
             )
         } else {
-            at(seat, self.behind_sent(direct, seat))
+            at(seat, self.after_sent(direct, seat))
         }
     }
 
@@ -305,7 +305,7 @@ impl Qdisc {
                     direct: false,
                 },
             ),
-            None => at(seat, behind_band(band, second)),
+            None => at(seat, after_band(band, second)),
         }
     }
 
@@ -401,7 +401,7 @@ impl Qdisc {
         }
     }
 
-    /// Behind a packet that went past the bands.
+    /// After a packet that went past the bands.
     fn post(&self, seat: Seat) -> Seat
         ensures { result ≡ (if is_non_empty self.now then run_begins self.now seat else goes_to self.now seat Unlock).seat }
     {
@@ -434,7 +434,7 @@ impl Qdisc {
         }
     }
 
-    /// Behind the release (`qdisc_run_end` of include/net/sch_generic.h).
+    /// After the release (`qdisc_run_end` of include/net/sch_generic.h).
     fn tail(&self, inside: bool) -> Position
         ensures { result ≡ (if self.now.missed then Sched inside else call_ends inside) }
     {
@@ -456,7 +456,8 @@ impl Qdisc {
         }
     }
 
-    /// The step of a seat at its position.
+    /// The step of a seat at its position. Each arm restates a definition of lq_model's `Steps`: where that gives a
+    /// position, the arm gives it; where it gives what is left of the words and of the seat, the arm returns the seat.
     pub(crate) fn step(&mut self, seat: Seat, answer: Answer) -> Seat
         requires may { IsTrue (may_answer seat.position answer self.old) }
         requires few { self.old.inside < 18446744073709551615 }

@@ -1,5 +1,5 @@
 //! The machine with two queues, and a seat that begins a call while it is in one.
-ghost use Rattle.lq_run_core.specs.Running.{IsInRange};
+ghost use Rattle.lq_run_core.specs.Numbered.{IsInRange};
 
 use crate::{Answer, Machine, Position, Seat, Start};
 use std::process::Abort;

@@ -1,7 +1,7 @@
 //! A schedule worked on a machine.
 ghost use Rattle.std.specs.Prelude.{◌≡◌, ◌+◌, ◌<◌, ◌≤◌, ◌^◌, ◌∷◌, length, MatchBool, IfOk, IfSome, Some, None};
 ghost use Rattle.lq_model.specs.Machine.{Machine as State};
-ghost use Rattle.lq_run_core.specs.Running.{Running};
+ghost use Rattle.lq_run_core.specs.Numbered.{NumberedMachine};
 ghost use Rattle.lq_run_core.specs.Schedule.{IsActionInRange, lines, is_passed_over, words};
 ghost use Rattle.lq_run_core.specs.Trace.{steps_of, action_done, command_done, told_line_done, line_done, schedule_done, Tells, sends_so_far, steps_so_far};
 ghost use Rattle.lq_run_core.specs.TraceText.{schedule_text};

@@ -1,7 +1,7 @@
 //! Stations with one queue.
 ghost use Rattle.std.specs.Prelude.{◌≡◌, ℕ, List};
 ghost use Rattle.lq_model.specs.Account.{Account, Event, after_all};
-ghost use Rattle.lq_model.specs.Alone.{Running};
+ghost use Rattle.lq_model.specs.Alone.{RunningStation};
 ghost use Rattle.lq_model.specs.Legal.{IsLegal};
 ghost use Rattle.lq_model.specs.Plan.{Plan};
 ghost use Rattle.lq_model.specs.declared.fate.Info.{Info};
@@ -16,6 +16,6 @@ pub fn one_queue_has_one_stop_value()
     ensures events { (plan : Plan) (infos : List Info) (station : ℕ) (past : List Event) (a : Account) → AreOfOneQueue infos
         → IsLegal plan infos station (start_of plan station) past → a ≡ after_all (start_of plan station) past
         → MeetsOneStopValue infos station past a }
-    ensures serving { (infos : List Info) (s : Running) → AreOfOneQueue infos → IsOfOneQueue s → IsServedByTurns infos s }
-    ensures finish { (infos : List Info) (s : Running) → AreOfOneQueue infos → IsOfOneQueue s → IsFinishedByRounds infos s }
+    ensures serving { (infos : List Info) (s : RunningStation) → AreOfOneQueue infos → IsOfOneQueue s → IsServedByTurns infos s }
+    ensures finish { (infos : List Info) (s : RunningStation) → AreOfOneQueue infos → IsOfOneQueue s → IsFinishedByRounds infos s }
 {}

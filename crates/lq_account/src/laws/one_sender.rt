@@ -1,7 +1,7 @@
 //! The run of one sender.
 ghost use Rattle.std.specs.Prelude.{◌≡◌, ◌≢◌, ◌+◌, ◌<◌, ℕ, Bool, List, [], Some, None, length, slice_get};
 ghost use Rattle.lq_model.specs.Account.{held};
-ghost use Rattle.lq_model.specs.Alone.{Running, brought_in, finished, new_station, opened, served};
+ghost use Rattle.lq_model.specs.Alone.{RunningStation, brought_in, finished, new_station, opened, served};
 ghost use Rattle.lq_model.specs.Plan.{Plan, station_in};
 ghost use Rattle.lq_model.specs.declared.fate.Info.{Info};
 ghost use Rattle.lq_model.specs.declared.plan.StationPlan.{StationPlan};
@@ -14,18 +14,18 @@ ghost use Rattle.lq_account.specs.Sender.{AreAloneSettled, IsInRun, IsPlain};
 pub fn one_sender_makes_legal_events()
     ensures begins { (plan : Plan) (infos : List Info) (station : ℕ) (s : StationPlan) → slice_get plan.stations station ≡ Some s → 0 < s.len
         → IsInRun plan infos station 0 (new_station station s) }
-    ensures passes { (plan : Plan) (infos : List Info) (station n : ℕ) (s : Running) → station_in infos n ≢ station
+    ensures passes { (plan : Plan) (infos : List Info) (station n : ℕ) (s : RunningStation) → station_in infos n ≢ station
         → IsInRun plan infos station n s → IsInRun plan infos station (n + 1) s }
-    ensures brought { (plan : Plan) (infos : List Info) (station n : ℕ) (bypass : Bool) (s : Running) → AreOfOneQueue infos
+    ensures brought { (plan : Plan) (infos : List Info) (station n : ℕ) (bypass : Bool) (s : RunningStation) → AreOfOneQueue infos
         → n < length infos → station_in infos n ≡ station → IsInRun plan infos station n s
         → IsInRun plan infos station (n + 1) (brought_in infos bypass n s) }
-    ensures served { (plan : Plan) (infos : List Info) (station n : ℕ) (s : Running) → AreOfOneQueue infos
+    ensures served { (plan : Plan) (infos : List Info) (station n : ℕ) (s : RunningStation) → AreOfOneQueue infos
         → IsInRun plan infos station n s → IsInRun plan infos station n (served infos s) }
-    ensures opened { (plan : Plan) (infos : List Info) (station n : ℕ) (s : Running) → AreOfOneQueue infos
+    ensures opened { (plan : Plan) (infos : List Info) (station n : ℕ) (s : RunningStation) → AreOfOneQueue infos
         → IsInRun plan infos station n s → IsInRun plan infos station n (opened s) }
-    ensures finished { (plan : Plan) (infos : List Info) (station n : ℕ) (s : Running) → AreOfOneQueue infos
+    ensures finished { (plan : Plan) (infos : List Info) (station n : ℕ) (s : RunningStation) → AreOfOneQueue infos
         → IsInRun plan infos station n s → IsInRun plan infos station n (finished infos s) }
-    ensures nothing_held { (plan : Plan) (infos : List Info) (station n : ℕ) (s : Running) → AreOfOneQueue infos
+    ensures nothing_held { (plan : Plan) (infos : List Info) (station n : ℕ) (s : RunningStation) → AreOfOneQueue infos
         → IsInRun plan infos station n s → held (finished infos s).account ≡ [] }
 {}
 

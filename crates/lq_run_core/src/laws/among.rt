@@ -1,6 +1,8 @@
 //! One seat among the others: what it does is a move of the machine, and what its step leaves alone.
 ghost use Rattle.lq_model.specs.Control.{control_at, holds_as_control, is_control, is_sole, may_control};
-ghost use Rattle.lq_model.specs.Kept.{IsFree, Moves, OneHolder, holds_lock, in_hand, own_packet};
+ghost use Rattle.lq_model.specs.Positions.{holds_lock, in_hand, own_packet};
+ghost use Rattle.lq_model.specs.Kept.{OneHolder};
+ghost use Rattle.lq_model.specs.Quiet.{IsFree, Moves};
 ghost use Rattle.lq_model.specs.Machine.{Qdisc, band_at};
 ghost use Rattle.lq_model.specs.Steps.{begun, may_answer, may_begin, step_at};
 ghost use Rattle.lq_model.specs.declared.machine.Answer.{Answer};
@@ -24,7 +26,7 @@ pub fn one_seat_moves()
 {}
 
 /// A step of a seat begins no transmit and no call of control, leaves alone how far control has come, and where it leaves
-/// the run lock as it was the seat stands as its holder behind it just if it did before.
+/// the run lock as it was the seat stands as its holder after it just if it did before.
 pub fn step_leaves_alone()
     ensures own_packet { (q : Qdisc) (s : Seat) (answer : Answer) (p : Packet) → may_answer s.position answer q ≡ true
         → own_packet (step_at s.position answer q s).seat.position ≡ Some p → own_packet s.position ≡ Some p }

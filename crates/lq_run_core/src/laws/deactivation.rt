@@ -1,5 +1,6 @@
 //! Deactivation, with its purge, and activation.
-ghost use Rattle.lq_model.specs.Kept.{Deactivation, IsInductive, Moves, PurgedHoldsNothing, Purging, QuietInside};
+ghost use Rattle.lq_model.specs.Kept.{Deactivation, IsInductive, PurgedHoldsNothing, Purging, QuietInside};
+ghost use Rattle.lq_model.specs.Quiet.{Moves};
 ghost use Rattle.lq_model.specs.Machine.{Machine};
 
 /// DEACTIVATED marks a deactivation; once the calls inside were loaded as 0 under it each later call is on its way out,

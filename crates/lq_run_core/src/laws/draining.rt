@@ -1,5 +1,6 @@
 //! DRAINING, the stop words and the device.
-ghost use Rattle.lq_model.specs.Kept.{BlockedDraining, DeviceOpen, EndingDraining, IsInductive, LockFreeDraining, Moves, SecondScan};
+ghost use Rattle.lq_model.specs.Kept.{BlockedDraining, DeviceOpen, EndingDraining, IsInductive, LockFreeDraining, SecondScan};
+ghost use Rattle.lq_model.specs.Quiet.{Moves};
 ghost use Rattle.lq_model.specs.Machine.{Machine};
 
 /// With DRAINING set alone nothing is left behind unless there is a way on, at a free run lock, where its holder is

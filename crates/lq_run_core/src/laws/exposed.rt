@@ -1,5 +1,7 @@
 //! What is held and exposed, the requeue slot, and packets that go past the bands.
-ghost use Rattle.lq_model.specs.Kept.{DequeueWaits, DirectAlone, Exposes, IsClear, IsInductive, LockFreeClear, LookedClear, Moves, OwnersDiffer, SlotFree, SlotWaits};
+ghost use Rattle.lq_model.specs.Positions.{Exposes, IsClear};
+ghost use Rattle.lq_model.specs.Kept.{DequeueWaits, DirectAlone, IsInductive, LockFreeClear, LookedClear, OwnersDiffer, SlotFree, SlotWaits};
+ghost use Rattle.lq_model.specs.Quiet.{Moves};
 ghost use Rattle.lq_model.specs.Machine.{Machine};
 ghost use Rattle.lq_model.specs.declared.machine.Packet.{Packet};
 ghost use Rattle.std.specs.Prelude.{◌↔◌};

@@ -1,7 +1,8 @@
 //! The run lock, the calls inside, SCHED and MISSED.
 ghost use Rattle.std.specs.Prelude.{◌≡◌, ℕ};
 ghost use Rattle.lq_model.specs.Machine.{Machine};
-ghost use Rattle.lq_model.specs.Kept.{IsInductive, Moves, OneHolder, CallsInside, OneScheduled, LockFreeMissed};
+ghost use Rattle.lq_model.specs.Kept.{IsInductive, OneHolder, CallsInside, OneScheduled, LockFreeMissed};
+ghost use Rattle.lq_model.specs.Quiet.{Moves};
 
 /// The run lock, the calls inside and SCHED are counted right: a step of any seat keeps that.
 pub fn counts_are_kept()

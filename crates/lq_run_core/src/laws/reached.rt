@@ -1,5 +1,7 @@
 //! The machines that moves lead to from the start.
-ghost use Rattle.lq_model.specs.Kept.{Holds, IsInductive, IsQuiet, Reaches};
+ghost use Rattle.lq_model.specs.Positions.{Holds};
+ghost use Rattle.lq_model.specs.Kept.{IsInductive};
+ghost use Rattle.lq_model.specs.Quiet.{IsQuiet, Reaches};
 ghost use Rattle.lq_model.specs.Machine.{Machine, first_machine};
 ghost use Rattle.lq_model.specs.declared.machine.Packet.{Packet};
 ghost use Rattle.std.specs.Prelude.{Bool, ℕ};

@@ -1,4 +1,4 @@
-use Rattle.lq_band.proofs.TurningKept.{begins, clears, fills, shrinks, reindexes, restarts}
+use Rattle.lq_band.proofs.HalfResizedKept.{begins, clears, fills, shrinks, reindexes, restarts}
 use Rattle.lq_band.proofs.laws.resize_keeps_bands.Goals as goal
 
 pub returns-clause-begun : goal.returns-clause-begun

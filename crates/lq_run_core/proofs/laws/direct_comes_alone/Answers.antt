@@ -1,5 +1,5 @@
 use Rattle.std.proofs.Common.{ap}
-use Rattle.lq_model.specs.Kept.{direct_packet}
+use Rattle.lq_model.specs.Positions.{direct_packet}
 use Rattle.lq_run_core.proofs.laws.direct_comes_alone.Goals as goal
 
 pub returns : goal.returns

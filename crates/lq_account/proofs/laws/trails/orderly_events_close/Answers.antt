@@ -1,6 +1,6 @@
 use Rattle.std.proofs.Common.{refl}
 use Rattle.lq_account.specs.Progress.{start_of}
-use Rattle.lq_account.proofs.Trails.{are-planned, have-all-come, no-swap-behind-hang}
+use Rattle.lq_account.proofs.Trails.{are-planned, have-all-come, no-swap-after-hang}
 use Rattle.lq_account.proofs.laws.trails.orderly_events_close.Goals as goal
 
 pub returns : goal.returns
@@ -10,6 +10,6 @@ returns c plan infos fates station past a orderly is trail come nothing hand dec
   nothing_held = nothing;
   hand_empty = hand;
   events = have-all-come plan infos station past come;
-  no_swap_behind_hang = no-swap-behind-hang plan infos station past trail;
+  no_swap_after_hang = no-swap-after-hang plan infos station past trail;
   decided = decided;
 }

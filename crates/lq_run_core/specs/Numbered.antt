@@ -4,26 +4,27 @@ use Rattle.lq_model.specs.declared.machine.Packet.{Packet}
 use Rattle.lq_model.specs.declared.machine.Beginning.{Beginning}
 use Rattle.lq_model.specs.declared.machine.Beginning.TheVariants.{Transmits, Interrupts, Wakes}
 use Rattle.lq_model.specs.Machine.{Qdisc, Machine, bit, seat_at}
-use Rattle.lq_model.specs.Kept.{IsInductive, own_packet}
-use Rattle.lq_model.specs.Steps.{start_of}
+use Rattle.lq_model.specs.Positions.{own_packet}
+use Rattle.lq_model.specs.Kept.{IsInductive}
+use Rattle.lq_model.specs.Steps.{call_begun}
 use Rattle.lq_run_core.specs.declared.start.Start.{Start}
 use Rattle.lq_run_core.specs.declared.start.Start.TheVariants.{Send, SoftIrq, Wake, SendOn, WakeOn}
 
-pub record Running : Type 0 where
+pub record NumberedMachine : Type 0 where
   pub machine : Machine
   -- the number of the next packet
   pub next : ℕ
 
 -- a seat's next packet, whose owner is the seat
-abbrev pub packet_of : Running → ℕ → ℕ → ℕ → Packet
-packet_of r seat band queue = record { number = r.next; owner = seat; band = band; queue = queue }
+abbrev pub packet_begun : NumberedMachine → ℕ → ℕ → ℕ → Packet
+packet_begun r seat band queue = record { number = r.next; owner = seat; band = band; queue = queue }
 
 -- the start that a seat is told; where none is named the queue is 0
-abbrev pub beginning_of : Start → ℕ → Running → Beginning
-beginning_of (Send band) seat r = Transmits (packet_of r seat band 0)
+abbrev pub beginning_of : Start → ℕ → NumberedMachine → Beginning
+beginning_of (Send band) seat r = Transmits (packet_begun r seat band 0)
 beginning_of SoftIrq seat r = Interrupts
 beginning_of Wake seat r = Wakes 0
-beginning_of (SendOn band queue) seat r = Transmits (packet_of r seat band queue)
+beginning_of (SendOn band queue) seat r = Transmits (packet_begun r seat band queue)
 beginning_of (WakeOn queue) seat r = Wakes queue
 
 -- its band and its queue are the machine's
@@ -42,21 +43,21 @@ is_send (SendOn band queue) = true
 is_send (WakeOn queue) = false
 
 -- after a start, where the seat can do it
-abbrev pub begun_by : Start → ℕ → Running → Option Machine
-begun_by start seat r = start_of r.machine seat (beginning_of start seat r)
+abbrev pub begun_by : Start → ℕ → NumberedMachine → Option Machine
+begun_by start seat r = call_begun r.machine seat (beginning_of start seat r)
 
 -- the greatest stop word; how many packets the bands and the requeue slot hold
 abbrev pub greatest : List ℕ → ℕ
 greatest words = fold (λ most word. max most word) 0 words
 
-abbrev pub held_count : Qdisc → ℕ
-held_count q = sum_by (λ band. length band) q.bands + bit (is_some q.slot)
+abbrev pub packets_held : Qdisc → ℕ
+packets_held q = sum_by (λ band. length band) q.bands + bit (is_some q.slot)
 
 -- the packets that seats have in a transmit are their own
 abbrev pub OwnersAreSeats : Machine → Type 0
 OwnersAreSeats m = (i : ℕ) (p : Packet) → own_packet (seat_at m i).position ≡ Some p → p.owner ≡ i
 
 -- it keeps the machine's invariant
-pub record IsSound (r : Running) : Type 0 where
+pub record KeepsInvariant (r : NumberedMachine) : Type 0 where
   pub inductive : IsInductive r.machine
   pub owners : OwnersAreSeats r.machine
