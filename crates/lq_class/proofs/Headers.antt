@@ -4,7 +4,7 @@ use Rattle.std.specs.Prelude.{slice_index, slice_range}
 use Rattle.std.proofs.lemmas.Bool.{cond_both, cond-true, cond-false, eqb-true, eq-eqb, ne_eqb, leb-true, le-leb, and_parts, and_from, false_from_ne_true}
 use Rattle.std.specs.Int.{w16, from_be_bytes}
 use Rattle.lq_model.specs.Class.{has_type, ethernet_start, network_start, has_ipv4, if_ipv4}
-use Rattle.lq_class.specs.Laws.{HasType, Precedes, raw, untagged, tagged, IsIpv4At}
+use Rattle.lq_class.specs.Laws.{HasType, IsHeaderPlace, raw, untagged, tagged, IsIpv4At}
 
 -- the definition's test of a type, and the law's fact
 HasType-from_test : (frame : List ℕ) (place ethertype : ℕ) → has_type frame place ethertype ≡ true → HasType ethertype frame place
@@ -21,10 +21,10 @@ untagged≢tagged : (frame : List ℕ) → HasType 0x0800 frame 12 → HasType 0
 untagged≢tagged frame h k = omega (arith, h.value, k.value)
 
 -- where the definition puts the start, the law's cases allow it
-Precedes-from_ethernet : (link : ℕ) (frame : List ℕ) (start : ℕ) → link ≡ 1 → ethernet_start frame ≡ Some start → Precedes link frame start
+Precedes-from_ethernet : (link : ℕ) (frame : List ℕ) (start : ℕ) → link ≡ 1 → ethernet_start frame ≡ Some start → IsHeaderPlace link frame start
 Precedes-from_ethernet link frame start on_ethernet =
-    let Follows : Option ℕ → Type 0 = λ o. o ≡ Some start → Precedes link frame start in
-    let at : (n : ℕ) → Precedes link frame n → Follows (Some n) = λ n p e. let same : n ≡ start = cc in subst (λ m. Precedes link frame m) same p in
+    let Follows : Option ℕ → Type 0 = λ o. o ≡ Some start → IsHeaderPlace link frame start in
+    let at : (n : ℕ) → IsHeaderPlace link frame n → Follows (Some n) = λ n p e. let same : n ≡ start = cc in subst (λ m. IsHeaderPlace link frame m) same p in
     cond_both (has_type frame 12 0x0800) _ _ Follows
     (λ t. at 14 (untagged on_ethernet (HasType-from_test frame 12 0x0800 t)))
     (λ _. cond_both (has_type frame 12 0x8100 && has_type frame 16 0x0800) (Some 18) None Follows
@@ -32,17 +32,17 @@ Precedes-from_ethernet link frame start on_ethernet =
     at 18 (tagged on_ethernet (HasType-from_test frame 12 0x8100 both.0) (HasType-from_test frame 16 0x0800 both.1)))
     (λ _ e. absurd (cc)))
 
-Precedes-from_start : (link : ℕ) (frame : List ℕ) (start : ℕ) → network_start link frame ≡ Some start → Precedes link frame start
+Precedes-from_start : (link : ℕ) (frame : List ℕ) (start : ℕ) → network_start link frame ≡ Some start → IsHeaderPlace link frame start
 Precedes-from_start link frame start =
-    let Follows : Option ℕ → Type 0 = λ o. o ≡ Some start → Precedes link frame start in
+    let Follows : Option ℕ → Type 0 = λ o. o ≡ Some start → IsHeaderPlace link frame start in
     cond_both (nat_eq link 1) (ethernet_start frame) _ Follows
     (λ t. Precedes-from_ethernet link frame start (eqb-true link 1 t))
     (λ _. cond_both (nat_eq link 101) (Some 0) None Follows
-    (λ t e. let same : 0 ≡ start = cc in subst (λ m. Precedes link frame m) same (raw (eqb-true link 101 t)))
+    (λ t e. let same : 0 ≡ start = cc in subst (λ m. IsHeaderPlace link frame m) same (raw (eqb-true link 101 t)))
     (λ _ e. absurd (cc)))
 
 -- in each of the law's cases the definition finds the start
-start-from_Precedes : (link : ℕ) (frame : List ℕ) (start : ℕ) → Precedes link frame start → network_start link frame ≡ Some start
+start-from_Precedes : (link : ℕ) (frame : List ℕ) (start : ℕ) → IsHeaderPlace link frame start → network_start link frame ≡ Some start
 start-from_Precedes link frame _ (raw e) =
     cond-false (nat_eq link 1) _ _ (ne_eqb link 1 (λ f. omega arith)) ∙ cond-true (nat_eq link 101) _ _ (eq-eqb link 101 e)
 start-from_Precedes link frame _ (untagged e h) =

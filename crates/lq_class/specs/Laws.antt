@@ -35,12 +35,12 @@ pub record HasType (ethertype : ℕ) (frame : List ℕ) (place : ℕ) : Type 0 w
 
 -- What stands before the header. Of raw IP nothing does; of Ethernet two addresses and the type of IPv4, or two
 -- addresses, one VLAN tag and the type of IPv4.
-pub data Precedes (link : ℕ) (frame : List ℕ) : ℕ → Type 0 where
-  raw : link ≡ 101 → Precedes link frame 0
-  untagged : link ≡ 1 → HasType 0x0800 frame 12 → Precedes link frame 14
-  tagged : link ≡ 1 → HasType 0x8100 frame 12 → HasType 0x0800 frame 16 → Precedes link frame 18
+pub data IsHeaderPlace (link : ℕ) (frame : List ℕ) : ℕ → Type 0 where
+  raw : link ≡ 101 → IsHeaderPlace link frame 0
+  untagged : link ≡ 1 → HasType 0x0800 frame 12 → IsHeaderPlace link frame 14
+  tagged : link ≡ 1 → HasType 0x8100 frame 12 → HasType 0x0800 frame 16 → IsHeaderPlace link frame 18
 
 pub record IsIpv4At (link : ℕ) (frame : List ℕ) (start : ℕ) : Type 0 where
-  pub place : Precedes link frame start
+  pub place : IsHeaderPlace link frame start
   pub whole : start + 20 ≤ length frame
   pub version : slice_index frame start / 16 ≡ 4

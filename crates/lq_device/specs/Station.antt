@@ -21,13 +21,13 @@ abbrev pub sent_list : StationState → List ℕ
 sent_list station = station.device.accepted
 
 -- of three bands, and in none the tail is past the head
-pub record AreEnds (heads tails : List ℕ) : Type 0 where
+pub record AreBandEnds (heads tails : List ℕ) : Type 0 where
   pub three_heads : length heads ≡ 3
   pub three_tails : length tails ≡ 3
   pub in_order : (band : ℕ) → slice_index tails band ≤ slice_index heads band
 
-abbrev pub new_station : ℕ → DeviceState → StationState
-new_station unit device = record {
+abbrev pub initial_station : ℕ → DeviceState → StationState
+initial_station unit device = record {
   device = device;
   unit = unit;
   slot = None;

@@ -4,7 +4,7 @@ ghost use Rattle.std.specs.Prelude.{◌≡◌, [], ◌∷◌, ◌++◌};
 use std::mem::replace;
 use std::snapshot::Snapshot;
 
-/// A call behind those before it. One is made for a moment, so that a snapshot can be taken of it.
+/// A call after those before it. One is made for a moment, so that a snapshot can be taken of it.
 #[derive(Drop)]
 enum Log {
     Empty,

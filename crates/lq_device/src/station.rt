@@ -1,6 +1,6 @@
 //! A station's device, with what the holder of its run lock keeps beside it.
 ghost use Rattle.std.specs.Prelude.{◌≡◌, ◌<◌, ◌≤◌, false, [], length, slice_get, slice_index, Some, None, IsNone, ◌↔◌};
-ghost use Rattle.lq_device.specs.Station.{StationState, Transmits, AreEnds, sent_list, new_station, with_slot, with_device, with_ends};
+ghost use Rattle.lq_device.specs.Station.{StationState, Transmits, AreBandEnds, sent_list, initial_station, with_slot, with_device, with_ends};
 
 use crate::device::TxDevice;
 use lq_model::Tx;
@@ -30,7 +30,7 @@ impl<D: TxDevice> Model for Station<D> {
 
     ghost view = { λ s. record { device = D.state s.device; unit = s.unit; slot = s.slot; heads = s.heads; tails = s.tails; last = s.last } };
 
-    ghost invariant = { λ s. (s.sent ≡ length (D.state s.device).accepted) × AreEnds s.heads s.tails };
+    ghost invariant = { λ s. (s.sent ≡ length (D.state s.device).accepted) × AreBandEnds s.heads s.tails };
 }
 
 impl<D: TxDevice> Station<D> {
@@ -39,7 +39,7 @@ impl<D: TxDevice> Station<D> {
     pub fn new(unit: u32, device: D) -> Station<D>
         requires fresh { (D.state device).accepted ≡ [] }
         requires alive { (D.state device).hung ≡ false }
-        ensures { result ≡ new_station unit (D.state device) }
+        ensures { result ≡ initial_station unit (D.state device) }
     {
         Station {
             device,

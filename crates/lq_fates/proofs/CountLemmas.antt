@@ -12,7 +12,7 @@ use Rattle.lq_model.specs.declared.fate.Fate.TheVariants.{Sent, Full, Shrunk, Pu
 use Rattle.lq_model.specs.declared.fate.Info.{Info}
 use Rattle.lq_fates.specs.declared.counts.Unsent.{Unsent}
 use Rattle.lq_fates.specs.declared.counts.Counts.{Counts}
-use Rattle.lq_fates.specs.Counts.{AreCounts, AreWithOne, CanCount, HasRoom, counted, counted_by_station, counted_by_unit, none_unsent, station_lines, station_text, total_text, unit_lines, unit_text, unsent_of}
+use Rattle.lq_fates.specs.Counts.{AreCounts, AreWithOne, CanCount, CanCountOneMore, counted_unsent, counted_by_station, counted_by_unit, none_unsent, station_lines, station_text, total_text, unit_lines, unit_text, unsent_of}
 
 -- WHAT A FUNCTION GIVES FOR EACH NUMBER BELOW ONE
 
@@ -69,7 +69,7 @@ add_none : (n : ℕ) → n + 0 ≡ n
 add_none n = omega arith
 
 -- each way of counting has one more where its test says so
-unsent_more : (fate : Fate) (before after : (Fate → Bool) → ℕ) → ((test : Fate → Bool) → after test ≡ before test + one_if (test fate)) → unsent_of after ≡ counted fate (unsent_of before)
+unsent_more : (fate : Fate) (before after : (Fate → Bool) → ℕ) → ((test : Fate → Bool) → after test ≡ before test + one_if (test fate)) → unsent_of after ≡ counted_unsent fate (unsent_of before)
 unsent_more (Sent unit serial) before after more = rw (more is_full, more is_shrunk, more is_purged, more is_refused) (simp add_none)
 unsent_more (Full seen) before after more = rw (more is_full, more is_shrunk, more is_purged, more is_refused) (simp add_none)
 unsent_more (Shrunk event) before after more = rw (more is_full, more is_shrunk, more is_purged, more is_refused) (simp add_none)
@@ -119,12 +119,12 @@ by_station_more fates infos fate info len stations =
     let f : ℕ → Unsent = λ j. unsent_of (count_at fates infos j) in
     let g : ℕ → Unsent = λ j. unsent_of (count_at (fates ++ fate ∷ []) (infos ++ info ∷ []) j) in
     let more : (j : ℕ) (test : Fate → Bool) → count_at (fates ++ fate ∷ []) (infos ++ info ∷ []) j test ≡ count_at fates infos j test + one_if (test fate && eqb at j) = λ j test. count_at_more fates infos fate info len j test in
-    set_for_one f g stations at (counted fate (get_or (map f (first_numbers stations)) at none_unsent))
+    set_for_one f g stations at (counted_unsent fate (get_or (map f (first_numbers stations)) at none_unsent))
     (λ j other.
     unsent_same (count_at fates infos j) (count_at (fates ++ fate ∷ []) (infos ++ info ∷ []) j)
     (λ test. more j test ∙ ap (λ b. count_at fates infos j test + one_if (test fate && b)) (ne_eqb at j (λ e. other (sym e))) ∙ ap (λ b. count_at fates infos j test + one_if b) (and_false (test fate)) ∙ add_none (count_at fates infos j test)))
     (λ lt.
-    ap (counted fate) (at_number f stations at none_unsent lt)
+    ap (counted_unsent fate) (at_number f stations at none_unsent lt)
     ∙ sym (unsent_more fate (count_at fates infos at) (count_at (fates ++ fate ∷ []) (infos ++ info ∷ []) at)
     (λ test. more at test ∙ ap (λ b. count_at fates infos at test + one_if (test fate && b)) (eq-eqb at at refl) ∙ ap (λ b. count_at fates infos at test + one_if b) (and_true (test fate)))))
 
@@ -140,7 +140,7 @@ counts_more fates infos fate info stations units before after len are one = reco
   by_unit = one.by_unit ∙ ap (counted_by_unit fate) are.by_unit ∙ by_unit_more fates fate units;
   by_station = one.by_station ∙ ap (counted_by_station fate info.station) are.by_station ∙ by_station_more fates infos fate info len stations;
   sent = one.sent ∙ ap (λ n. cond (is_sent fate) (n + 1) n) are.sent ∙ sent_more fates fate;
-  unsent = one.unsent ∙ ap (counted fate) are.unsent ∙ sym (unsent_more fate (λ test. count_by test fates) (λ test. count_by test (fates ++ fate ∷ [])) (λ test. one_more test fates fate));
+  unsent = one.unsent ∙ ap (counted_unsent fate) are.unsent ∙ sym (unsent_more fate (λ test. count_by test fates) (λ test. count_by test (fates ++ fate ∷ [])) (λ test. one_more test fates fate));
 }
 
 -- the counts of the first n packets, with the next one
@@ -160,7 +160,7 @@ length_zip (x ∷ xs) (y ∷ ys) = omega (arith, length_zip xs ys)
 All_for_each : {A : Type 0} (P : A → Type 0) (f : ℕ → A) → ((k : ℕ) → P (f k)) → (n : ℕ) → All P (map f (first_numbers n))
 All_for_each P f each n k d lt = subst P (sym (at_number f n k d (omega (arith, length_for_each f n)))) (each k)
 
-unsent_has_room : (count : (Fate → Bool) → ℕ) → ((test : Fate → Bool) → count test < 2 ^ 63) → HasRoom (unsent_of count)
+unsent_has_room : (count : (Fate → Bool) → ℕ) → ((test : Fate → Bool) → count test < 2 ^ 63) → CanCountOneMore (unsent_of count)
 unsent_has_room count few = (few is_full, few is_shrunk, few is_purged, few is_refused)
 
 pub can_count : (fates : List Fate) (infos : List Info) (stations units : ℕ) (counts : Counts) → length fates < 2 ^ 63 → AreCounts fates infos stations units counts → CanCount counts
@@ -171,9 +171,9 @@ can_count fates infos stations units counts few are =
     in
     record {
       by_unit = subst (All (λ sent. sent < 2 ^ 63)) (sym are.by_unit) (All_for_each (λ sent. sent < 2 ^ 63) (λ u. count_by (is_sent_by u) fates) (λ u. count_few (is_sent_by u)) units);
-      by_station = subst (All HasRoom) (sym are.by_station) (All_for_each HasRoom (λ j. unsent_of (count_at fates infos j)) (λ j. unsent_has_room (count_at fates infos j) (count_at_few j)) stations);
+      by_station = subst (All CanCountOneMore) (sym are.by_station) (All_for_each CanCountOneMore (λ j. unsent_of (count_at fates infos j)) (λ j. unsent_has_room (count_at fates infos j) (count_at_few j)) stations);
       sent = omega (arith, are.sent, count_few is_sent);
-      unsent = subst HasRoom (sym are.unsent) (unsent_has_room (λ test. count_by test fates) count_few);
+      unsent = subst CanCountOneMore (sym are.unsent) (unsent_has_room (λ test. count_by test fates) count_few);
     }
 
 -- NO PACKET YET

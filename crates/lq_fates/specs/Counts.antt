@@ -28,12 +28,12 @@ pub record AreCounts (fates : List Fate) (infos : List Info) (stations units : �
 abbrev pub none_unsent : Unsent
 none_unsent = record { full = 0; shrunk = 0; purged = 0; refused = 0 }
 
-abbrev pub counted : Fate → Unsent → Unsent
-counted (Sent unit serial) u = u
-counted (Full seen) u = record u { full = u.full + 1 }
-counted (Shrunk event) u = record u { shrunk = u.shrunk + 1 }
-counted (Purged cause) u = record u { purged = u.purged + 1 }
-counted (Refused event) u = record u { refused = u.refused + 1 }
+abbrev pub counted_unsent : Fate → Unsent → Unsent
+counted_unsent (Sent unit serial) u = u
+counted_unsent (Full seen) u = record u { full = u.full + 1 }
+counted_unsent (Shrunk event) u = record u { shrunk = u.shrunk + 1 }
+counted_unsent (Purged cause) u = record u { purged = u.purged + 1 }
+counted_unsent (Refused event) u = record u { refused = u.refused + 1 }
 
 abbrev pub counted_by_unit : Fate → List ℕ → List ℕ
 counted_by_unit (Sent unit serial) counts = slice_set counts unit (slice_index counts unit + 1)
@@ -43,24 +43,24 @@ counted_by_unit (Purged cause) counts = counts
 counted_by_unit (Refused event) counts = counts
 
 abbrev pub counted_by_station : Fate → ℕ → List Unsent → List Unsent
-counted_by_station fate station counts = slice_set counts station (counted fate (slice_index_or counts station none_unsent))
+counted_by_station fate station counts = slice_set counts station (counted_unsent fate (slice_index_or counts station none_unsent))
 
 -- one more can be counted
-abbrev pub HasRoom : Unsent → Type 0
-HasRoom u = (u.full < 2 ^ 63) × (u.shrunk < 2 ^ 63) × (u.purged < 2 ^ 63) × (u.refused < 2 ^ 63)
+abbrev pub CanCountOneMore : Unsent → Type 0
+CanCountOneMore u = (u.full < 2 ^ 63) × (u.shrunk < 2 ^ 63) × (u.purged < 2 ^ 63) × (u.refused < 2 ^ 63)
 
 pub record CanCount (counts : Counts) : Type 0 where
   pub by_unit : All (λ sent. sent < 2 ^ 63) counts.by_unit.items
-  pub by_station : All HasRoom counts.by_station.items
+  pub by_station : All CanCountOneMore counts.by_station.items
   pub sent : counts.sent < 2 ^ 63
-  pub unsent : HasRoom counts.unsent
+  pub unsent : CanCountOneMore counts.unsent
 
 -- the second counts have one packet more than the first, of this fate and station
 pub record AreWithOne (before after : Counts) (fate : Fate) (station : ℕ) : Type 0 where
   pub by_unit : after.by_unit.items ≡ counted_by_unit fate before.by_unit.items
   pub by_station : after.by_station.items ≡ counted_by_station fate station before.by_station.items
   pub sent : after.sent ≡ (if is_sent fate then before.sent + 1 else before.sent)
-  pub unsent : after.unsent ≡ counted fate before.unsent
+  pub unsent : after.unsent ≡ counted_unsent fate before.unsent
 
 -- LINES
 

@@ -1,6 +1,6 @@
 //! Counts of fates by unit, by station and of all, taken in one pass.
 ghost use Rattle.std.specs.Prelude.{◌≡◌, ◌^◌, ◌<◌, All, IfOk, length, replicate, []};
-ghost use Rattle.lq_fates.specs.Counts.{AreCounts, AreWithOne, CanCount, HasRoom, counted, counted_by_station, counted_by_unit, none_unsent};
+ghost use Rattle.lq_fates.specs.Counts.{AreCounts, AreWithOne, CanCount, CanCountOneMore, counted_unsent, counted_by_station, counted_by_unit, none_unsent};
 
 use lq_model::{Fate, Info, NoMemory};
 use std::alloc::Global;
@@ -34,8 +34,8 @@ pub struct Counts {
 }
 
 fn count(unsent: &mut Unsent, fate: &Fate)
-    requires { HasRoom unsent.old }
-    ensures { unsent.new ≡ counted fate.now unsent.old }
+    requires { CanCountOneMore unsent.old }
+    ensures { unsent.new ≡ counted_unsent fate.now unsent.old }
 {
     match *fate {
         Fate::Sent { .. } => {}
@@ -59,7 +59,7 @@ fn count_by_unit(counts: &mut Vec<u64>, fate: &Fate)
 }
 
 fn count_by_station(counts: &mut Vec<Unsent>, fate: &Fate, station: u32)
-    requires { All HasRoom counts.old.items }
+    requires { All CanCountOneMore counts.old.items }
     ensures { counts.new.items ≡ counted_by_station fate.now station counts.old.items }
 {
     let station = station as usize;

@@ -9,7 +9,7 @@ use Rattle.std.specs.Option.{option_and_then}
 use Rattle.std.proofs.lemmas.Option.{slice_get-get_or}
 use Rattle.lq_host.specs.declared.slots.Slot.TheVariants.{Closed, Reader}
 use Rattle.lq_host.specs.declared.slots.Slot.{Slot}
-use Rattle.lq_host.specs.Host.{Output, Reads, with_handle, moved}
+use Rattle.lq_host.specs.Host.{Output, Reads, with_handle, read_further}
 use Rattle.lq_host.specs.Slots.{opened_of, handles_of}
 
 get_pushed : {X : Type 0} (xs : List X) (x : X) (k : ℕ) → slice_get (xs ++ x ∷ []) k ≡ cond (eqb k (length xs)) (Some x) (slice_get xs k)
@@ -59,12 +59,12 @@ handle_is slots i h s lt at is =
 
 pub slot_moves :
     (slots : List Slot) (i h n : ℕ) (s : Slot) (name : String Global) (place : ℕ) → i < length slots → h ≡ i + 1 → s ≡ get_or slots i s → s ≡ Reader name place
-    → handles_of (set slots i (Reader name (place + n))) ≡ with_handle (handles_of slots) h (moved (handles_of slots h) n)
+    → handles_of (set slots i (Reader name (place + n))) ≡ with_handle (handles_of slots) h (read_further (handles_of slots h) n)
 slot_moves slots i h n s name place lt at is reader =
     let e : suc i ≡ h = omega arith in
     handles-set slots i (Reader name (place + n)) lt
     ∙ ap (λ k. with_handle (handles_of slots) k (Some (Reads (string_bytes name) (place + n)))) e
-    ∙ ap (λ o. with_handle (handles_of slots) h (moved o n)) (sym (handle_is slots i h s lt at is ∙ ap opened_of reader))
+    ∙ ap (λ o. with_handle (handles_of slots) h (read_further o n)) (sym (handle_is slots i h s lt at is ∙ ap opened_of reader))
 
 pub slot_closes : (slots : List Slot) (i h : ℕ) → i < length slots → h ≡ i + 1 → handles_of (set slots i Closed) ≡ with_handle (handles_of slots) h None
 slot_closes slots i h lt at =

@@ -26,12 +26,12 @@ count_of counts Write = counts.write
 count_of counts Finish = counts.finish
 
 -- the counts in which that of this kind is this
-abbrev pub with_count : Counts → HostCall → Count → Counts
-with_count counts OpenRead count = record counts { open_read = count }
-with_count counts Create count = record counts { create = count }
-with_count counts Read count = record counts { read = count }
-with_count counts Write count = record counts { write = count }
-with_count counts Finish count = record counts { finish = count }
+abbrev pub with_call_count : Counts → HostCall → Count → Counts
+with_call_count counts OpenRead count = record counts { open_read = count }
+with_call_count counts Create count = record counts { create = count }
+with_call_count counts Read count = record counts { read = count }
+with_call_count counts Write count = record counts { write = count }
+with_call_count counts Finish count = record counts { finish = count }
 
 -- no call was made, and none is to fail
 abbrev pub no_calls : Counts
@@ -43,21 +43,21 @@ no_calls =
 abbrev pub called : Counts → HostCall → Counts
 called counts call =
     let count = count_of counts call in
-    with_count counts call (record { made = min (count.made + 1) (2 ^ 64 - 1); failing = count.failing })
+    with_call_count counts call (record { made = min (count.made + 1) (2 ^ 64 - 1); failing = count.failing })
 
 -- the k-th call of this kind is to fail too
 abbrev pub failing_at : Counts → HostCall → ℕ → Counts
 failing_at counts call k =
     let count = count_of counts call in
-    with_count counts call (record { made = count.made; failing = count.failing ++ k ∷ [] })
+    with_call_count counts call (record { made = count.made; failing = count.failing ++ k ∷ [] })
 
 -- the next call of this kind is one that is to fail
 abbrev pub IsToFail : Counts → HostCall → Type 0
 IsToFail counts call = let count = count_of counts call in Contains count.failing (count.made + 1)
 
 -- what the code keeps, as counts
-abbrev pub shown : CallCount → Count
-shown c = record { made = c.made; failing = c.failing.items }
+abbrev pub as_count : CallCount → Count
+as_count c = record { made = c.made; failing = c.failing.items }
 
-abbrev pub counts_of : CallCounts → Counts
-counts_of c = record { open_read = shown c.open_read; create = shown c.create; read = shown c.read; write = shown c.write; finish = shown c.finish }
+abbrev pub as_counts : CallCounts → Counts
+as_counts c = record { open_read = as_count c.open_read; create = as_count c.create; read = as_count c.read; write = as_count c.write; finish = as_count c.finish }

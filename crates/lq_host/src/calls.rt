@@ -1,6 +1,6 @@
 // The calls that a host in memory was asked for: how many there were, and which of them are to fail.
 ghost use Rattle.std.specs.Prelude.{◌≡◌, ◌+◌, ◌-◌, ◌^◌, [], ◌∷◌, ◌++◌, min, IsTrue, ◌↔◌, Contains, OnOk, OnErr};
-ghost use Rattle.lq_host.specs.Calls.{counts_of, no_calls, failing_at};
+ghost use Rattle.lq_host.specs.Calls.{as_counts, no_calls, failing_at};
 
 use std::alloc::{AllocError, Global};
 
@@ -77,7 +77,7 @@ pub(crate) struct CallCounts {
 
 impl CallCounts {
     pub(crate) fn new(alloc: Global) -> CallCounts
-        ensures { counts_of result ≡ no_calls }
+        ensures { as_counts result ≡ no_calls }
     {
         CallCounts {
             open_read: CallCount::new(alloc),
@@ -90,8 +90,8 @@ impl CallCounts {
 
     // The call of this kind with this number is to fail too.
     pub(crate) fn fail_at(&mut self, call: HostCall, k: u64) -> Result<(), AllocError>
-        ensures ok { OnOk result (counts_of self.new ≡ failing_at (counts_of self.old) call k) }
-        ensures err { OnErr result (counts_of self.new ≡ counts_of self.old) }
+        ensures ok { OnOk result (as_counts self.new ≡ failing_at (as_counts self.old) call k) }
+        ensures err { OnErr result (as_counts self.new ≡ as_counts self.old) }
     {
         match call {
             HostCall::OpenRead => self.open_read.fail_at(k)?,

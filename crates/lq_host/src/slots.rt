@@ -1,6 +1,6 @@
 // The handles of a host. Handle 0 is standard output, and handle k + 1 is slot k, which is never given out again.
 ghost use Rattle.std.specs.Prelude.{◌≡◌, ◌<◌, ◌≤◌, ◌+◌, ◌-◌, ◌^◌, ◌≢◌, ◌⊎◌, List, ℕ, Err, None, Some, length, IfOk, OnErr, IsSome, vec_len, vec_capacity, is_ok, if◌then◌else◌};
-ghost use Rattle.lq_host.specs.Host.{with_handle, Reads, Writes, IsReader, IsWriter, moved};
+ghost use Rattle.lq_host.specs.Host.{with_handle, Reads, Writes, IsReader, IsWriter, read_further};
 ghost use Rattle.lq_host.specs.Slots.{handles_of, opened_of};
 
 use crate::HostError;
@@ -71,7 +71,7 @@ pub(crate) fn advance(slots: &mut Vec<Slot>, h: u32, count: usize)
     requires fits { (name : List ℕ) (place : ℕ) →
         handles_of slots.old.items h ≡ Some (Reads name place) → place + count < 2 ^ 64 }
     ensures { handles_of slots.new.items
-        ≡ with_handle (handles_of slots.old.items) h (moved (handles_of slots.old.items h) count) }
+        ≡ with_handle (handles_of slots.old.items) h (read_further (handles_of slots.old.items h) count) }
 {
     let i = slot_at(slots, h);
     match &mut slots[i] {

@@ -3,8 +3,12 @@ ghost use Rattle.std.specs.Prelude.{◌<◌, ◌≤◌, length, IfOk};
 
 use crate::file_host::read_some;
 use crate::{FileHost, Host, HostCall, HostError, MemHost};
+use std::alloc::Allocator;
+use std::fmt::Display;
 use std::fs;
-use std::io::{Error, ErrorKind, Read, Result as IoResult};
+use std::fs::{Metadata, OpenOptions};
+use std::io::{Error, ErrorKind, Print, Read, Result as IoResult};
+use std::rt::Files;
 use std::test::Fail;
 
 // Makes a file of these bytes.
@@ -100,6 +104,84 @@ fn a_full_device_is_a_fault(rt: HostRuntime) -> Result<(), Fail> {
     let mut host = FileHost::new(rt.clone()?);
     let written = write_file(&mut host, "/dev/full", b"abc");
     assert_eq!(rt; written, Err(HostError::Failed));
+    assert_eq!(rt; host.faults(), 1);
+    Ok(())
+}
+
+/// Real files beside a standard output that takes no bytes.
+#[derive(Drop)]
+struct FullOutput<R: Drop> {
+    rt: R,
+}
+
+fn full<T>() -> IoResult<T> {
+    Err(Error::from(ErrorKind::StorageFull))
+}
+
+impl<R: Drop> Print for FullOutput<R> {
+    fn print<D: Display + Drop>(&self, _value: D) -> IoResult<()> {
+        full()
+    }
+
+    fn println<D: Display + Drop>(&self, _value: D) -> IoResult<()> {
+        full()
+    }
+
+    fn write_all(&self, _bytes: &[u8]) -> IoResult<()> {
+        full()
+    }
+}
+
+impl<R: Files + Drop> Files for FullOutput<R> {
+    type File = R::File;
+
+    type Dir = R::Dir;
+
+    fn open_file(&self, how: &OpenOptions, path: &str) -> IoResult<R::File> {
+        self.rt.open_file(how, path)
+    }
+
+    fn open_dir(&self, path: &str) -> IoResult<R::Dir> {
+        self.rt.open_dir(path)
+    }
+
+    fn metadata(&self, path: &str) -> IoResult<Metadata> {
+        self.rt.metadata(path)
+    }
+
+    fn symlink_metadata(&self, path: &str) -> IoResult<Metadata> {
+        self.rt.symlink_metadata(path)
+    }
+
+    fn copy(&self, from: &str, to: &str) -> IoResult<u64> {
+        self.rt.copy(from, to)
+    }
+
+    fn rename(&self, from: &str, to: &str) -> IoResult<()> {
+        self.rt.rename(from, to)
+    }
+
+    fn remove_file(&self, path: &str) -> IoResult<()> {
+        self.rt.remove_file(path)
+    }
+
+    fn create_dir(&self, path: &str) -> IoResult<()> {
+        self.rt.create_dir(path)
+    }
+
+    fn remove_dir(&self, path: &str) -> IoResult<()> {
+        self.rt.remove_dir(path)
+    }
+
+    fn remove_dir_all<B: Allocator>(&self, alloc: B, path: &str) -> IoResult<()> {
+        self.rt.remove_dir_all(alloc, path)
+    }
+}
+
+#[test]
+fn a_full_output_is_a_fault(rt: HostRuntime) -> Result<(), Fail> {
+    let mut host = FileHost::new((FullOutput { rt: rt.clone()? }, rt.alloc()));
+    assert_eq!(rt; host.write(0, b"abc"), Err(HostError::Failed));
     assert_eq!(rt; host.faults(), 1);
     Ok(())
 }

@@ -6,14 +6,14 @@ use Rattle.lq_pcap.specs.declared.refusal.CaptureRefusal.{CaptureRefusal}
 use Rattle.lq_pcap.specs.declared.refusal.CaptureRefusal.TheVariants.{Refused, NoMemory}
 
 -- a refusal is that of the definition, or want of memory
-abbrev pub IsRefusalOf : {T : Type 0} → Result T Refusal → CaptureRefusal → Type 0
-IsRefusalOf answer NoMemory = Unit {0}
-IsRefusalOf answer (Refused reason place) = answer ≡ Err (record { reason = reason; place = place })
+abbrev pub IsCaptureRefusal : {T : Type 0} → Result T Refusal → CaptureRefusal → Type 0
+IsCaptureRefusal answer NoMemory = Unit {0}
+IsCaptureRefusal answer (Refused reason place) = answer ≡ Err (record { reason = reason; place = place })
 
 -- a result, seen by `view`, is the answer of the definition, or want of memory
 abbrev pub Gives : {R T : Type 0} → (R → T) → Result R CaptureRefusal → Result T Refusal → Type 0
 Gives view (Ok value) answer = answer ≡ Ok (view value)
-Gives view (Err refusal) answer = IsRefusalOf answer refusal
+Gives view (Err refusal) answer = IsCaptureRefusal answer refusal
 
 -- where the record at a place ends, or what keeps it from being whole
 abbrev pub IsEnd : List ℕ → ℕ → Result ℕ CaptureReason → Type 0

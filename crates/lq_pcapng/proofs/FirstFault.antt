@@ -7,7 +7,7 @@ use Rattle.lq_model.specs.Capture.{Refusal}
 use Rattle.lq_model.specs.Pcapng.{at_place, block_fault, block_in, blocks_behind, blocks_from, body_fault, captured_length, data_place, header_fault, interface_number, interfaces_in, is_big_endian, is_interface, is_little_endian, is_packet, is_section, length_fault, major_version, number_in, or_else, packet_fault, packets_in, padded, pcapng_of, section_fault, total_length, unless, with_section}
 use Rattle.lq_model.specs.declared.capture.CaptureReason.{CaptureReason}
 use Rattle.lq_model.specs.declared.capture.CaptureReason.TheVariants.{Version, LongRecord, TooMany, CutBlock, BlockLength, ByteOrder, NoInterface, BlockBody, SecondSection}
-use Rattle.lq_pcapng.specs.Laws.{AllFit, HasBlockFault, HasBodyFault, HasFault, HasLengthFault, HasPacketFault, HasSectionFault, IsSection, at, no_length, cut_block, other_length, cut_section, no_order, section_lengths, short_section, other_version, short_packet, no_interface, long_record, short_data, second_section, short_interface, too_many, of_packet, cut_rest, block_lengths, of_body, of_section, of_block}
+use Rattle.lq_pcapng.specs.Laws.{AllFit, HasBlockFault, HasBodyFault, HasPcapngFault, HasLengthFault, HasPacketFault, HasSectionFault, IsSection, at, no_length, cut_block, other_length, cut_section, no_order, section_lengths, short_section, other_version, short_packet, no_interface, long_record, short_data, second_section, short_interface, too_many, of_packet, cut_rest, block_lengths, of_body, of_section, of_block}
 use Rattle.lq_pcapng.specs.Reading.{Fits}
 use Rattle.lq_pcapng.proofs.Acceptance.{begins, begins_with_section, block_from_lengths, is_section_block, lengths_from_none, none_from_lengths, none_from_section, option_cases, section_begins}
 use Rattle.lq_pcapng.proofs.Fits.{no_section_of_interface, no_section_of_packet, none_from_whole, not_interface, whole_from_none}
@@ -302,7 +302,7 @@ pick_of_file (Some g) o section walk f e p q = p cc
 pick_of_file None o section (Ok blocks) f e p q = cc
 pick_of_file None o section (Err g) f e p q = q refl cc
 
-pub first_fault : (bytes : List ℕ) (f : Refusal) → pcapng_of bytes ≡ Err f → HasFault bytes f
+pub first_fault : (bytes : List ℕ) (f : Refusal) → pcapng_of bytes ≡ Err f → HasPcapngFault bytes f
 unfolding pcapng_of
 first_fault bytes f e =
     let o = is_little_endian bytes in
@@ -349,7 +349,7 @@ block_refused section before rest f is fit some fault =
     let whole : unless (section_fault text) (with_section o (block_in o text) (blocks_behind o text)) ≡ Err f = rw (no_fault, walk) refl in
     subst (λ d. unless (section_fault text) (with_section d (block_in d text) (blocks_behind d text)) ≡ Err f) (sym s.0) whole
 
-pub fault_refused : (bytes : List ℕ) (f : Refusal) → HasFault bytes f → pcapng_of bytes ≡ Err f
+pub fault_refused : (bytes : List ℕ) (f : Refusal) → HasPcapngFault bytes f → pcapng_of bytes ≡ Err f
 fault_refused bytes f (of_section fault) = section_refused bytes f (is_section_fault bytes f fault)
 fault_refused bytes f (of_block section before rest g fault) =
     subst (λ (bs : List ℕ). pcapng_of bs ≡ Err f) (sym g.whole) (block_refused section before rest f g.is_section_block g.fit g.more fault)

@@ -6,7 +6,7 @@ use Rattle.std.proofs.lemmas.List.Elements.{filter-append}
 use Rattle.std.proofs.Math.Seq.{take-length}
 use Rattle.lq_model.specs.Capture.{Refusal}
 use Rattle.lq_model.specs.Pcapng.{NgCapture, block_fault, block_in, blocks_behind, blocks_from, interfaces_in, is_interface, is_little_endian, is_packet, number_in, packets_in, pcapng_of, section_fault, total_length}
-use Rattle.lq_pcap.specs.Reading.{Gives, IsRefusalOf}
+use Rattle.lq_pcap.specs.Reading.{Gives, IsCaptureRefusal}
 use Rattle.lq_pcap.specs.declared.refusal.CaptureRefusal.{CaptureRefusal}
 use Rattle.lq_pcap.specs.declared.refusal.CaptureRefusal.TheVariants.{Refused, NoMemory}
 use Rattle.lq_pcapng.specs.Reading.{AreInterfaces, ArePackets, IsFault, IsInterface, IsPacket, IsWholeAt, IsWholeLength, block_at, blocks_at}
@@ -187,7 +187,7 @@ unfolding pcapng_of
 section_refused bytes r fault = rw fault refl
 
 -- a fault that is answered is the refusal
-pub refusal_of : {T : Type 0} (fault : Option Refusal) (answer : Result T Refusal) (refusal : CaptureRefusal) → IsFault fault refusal → ((r : Refusal) → fault ≡ Some r → answer ≡ Err r) → IsRefusalOf answer refusal
+pub refusal_of : {T : Type 0} (fault : Option Refusal) (answer : Result T Refusal) (refusal : CaptureRefusal) → IsFault fault refusal → ((r : Refusal) → fault ≡ Some r → answer ≡ Err r) → IsCaptureRefusal answer refusal
 refusal_of fault answer (Refused reason place) is refused = refused (record { reason = reason; place = place }) is
 refusal_of fault answer NoMemory is refused = absurd is
 
@@ -217,19 +217,19 @@ is_next bytes interfaces packets place len block_type o order below is type_is =
 
 pub walks_refused :
     (bytes interfaces packets : List ℕ) (place : ℕ) (o : Bool) (refusal : CaptureRefusal) → o ≡ is_little_endian bytes → section_fault bytes ≡ None → Walks bytes interfaces packets place → place < length bytes
-    → IsFault (block_fault o place (blocks_at o bytes interfaces) (length packets) (drop place bytes)) refusal → IsRefusalOf (pcapng_of bytes) refusal
+    → IsFault (block_fault o place (blocks_at o bytes interfaces) (length packets) (drop place bytes)) refusal → IsCaptureRefusal (pcapng_of bytes) refusal
 walks_refused bytes interfaces packets place o refusal order no_fault w below is =
     refusal_of (block_fault (is_little_endian bytes) place (blocks_at (is_little_endian bytes) bytes interfaces) (length packets) (drop place bytes)) (pcapng_of bytes) refusal
     (subst (λ b. IsFault (block_fault b place (blocks_at b bytes interfaces) (length packets) (drop place bytes)) refusal) order is)
     (λ r fault. walks_fault bytes interfaces packets place r no_fault w below fault)
 
-pub first_refused : (bytes : List ℕ) (refusal : CaptureRefusal) → IsFault (section_fault bytes) refusal → IsRefusalOf (pcapng_of bytes) refusal
+pub first_refused : (bytes : List ℕ) (refusal : CaptureRefusal) → IsFault (section_fault bytes) refusal → IsCaptureRefusal (pcapng_of bytes) refusal
 first_refused bytes refusal is = refusal_of (section_fault bytes) (pcapng_of bytes) refusal is (section_refused bytes)
 
 -- a refusal that a call hands on
-pub handed_on : {R T : Type 0} (view : R → T) (r : Result R CaptureRefusal) (refusal : CaptureRefusal) (answer : Result T Refusal) → IsErrAnd r (λ e. e ≡ refusal) → IsRefusalOf answer refusal → Gives view r answer
+pub handed_on : {R T : Type 0} (view : R → T) (r : Result R CaptureRefusal) (refusal : CaptureRefusal) (answer : Result T Refusal) → IsErrAnd r (λ e. e ≡ refusal) → IsCaptureRefusal answer refusal → Gives view r answer
 handed_on view (Ok value) refusal answer is of = absurd is
-handed_on view (Err e) refusal answer is of = subst (IsRefusalOf answer) (sym is) of
+handed_on view (Err e) refusal answer is of = subst (IsCaptureRefusal answer) (sym is) of
 
 -- the rest of a list from a place on, as a slice
 pub slice_from : (xs : List ℕ) (n : ℕ) → take (length xs - n) (drop n xs) ≡ drop n xs

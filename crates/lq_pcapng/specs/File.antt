@@ -23,9 +23,9 @@ as_pcapng (Err refusal) = Err refusal
 abbrev pub capture_file_of : List ℕ → Result CaptureFile Refusal
 capture_file_of bytes = if is_pcapng bytes then as_pcapng (pcapng_of bytes) else as_classic (capture_of bytes)
 
-abbrev pub packets_of : CaptureFile → Packets
-packets_of (Classic c) = packets_of_capture c
-packets_of (Pcapng c) = packets_of_pcapng c
+abbrev pub packets_of_file : CaptureFile → Packets
+packets_of_file (Classic c) = packets_of_capture c
+packets_of_file (Pcapng c) = packets_of_pcapng c
 
 -- the capture in the same format with these packets, in the order of the list
 abbrev pub text_of : CaptureFile → List ℕ → List ℕ

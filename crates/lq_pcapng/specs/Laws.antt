@@ -40,8 +40,8 @@ pub record IsPcapng (bytes : List ℕ) (c : NgCapture) : Type 0 where
   pub packets : c.packets ≡ packets_in (order_of c) blocks
 
 -- bytes are a capture exactly where they are such blocks
-abbrev pub AcceptsExactly : Type 0
-AcceptsExactly = (bytes : List ℕ) (c : NgCapture) → (pcapng_of bytes ≡ Ok c) ↔ IsPcapng bytes c
+abbrev pub AcceptsPcapngExactly : Type 0
+AcceptsPcapngExactly = (bytes : List ℕ) (c : NgCapture) → (pcapng_of bytes ≡ Ok c) ↔ IsPcapng bytes c
 
 -- WHEN BYTES ARE REFUSED
 
@@ -114,15 +114,15 @@ pub record GoesOn (bytes section : List ℕ) (before : List (List ℕ)) (rest : 
   pub more : 0 < length rest
 
 -- the bytes have this fault, and none before it
-pub data HasFault (bytes : List ℕ) (f : Refusal) : Type 0 where
-  of_section : HasSectionFault bytes f → HasFault bytes f
+pub data HasPcapngFault (bytes : List ℕ) (f : Refusal) : Type 0 where
+  of_section : HasSectionFault bytes f → HasPcapngFault bytes f
   of_block :
       (section : List ℕ) (before : List (List ℕ)) (rest : List ℕ) → GoesOn bytes section before rest
-      → HasBlockFault (is_little_endian section) (length section + length (concat before)) before rest f → HasFault bytes f
+      → HasBlockFault (is_little_endian section) (length section + length (concat before)) before rest f → HasPcapngFault bytes f
 
 -- bytes are refused exactly for the first fault that they have
-abbrev pub RefusesExactly : Type 0
-RefusesExactly = (bytes : List ℕ) (f : Refusal) → (pcapng_of bytes ≡ Err f) ↔ HasFault bytes f
+abbrev pub RefusesPcapngExactly : Type 0
+RefusesPcapngExactly = (bytes : List ℕ) (f : Refusal) → (pcapng_of bytes ≡ Err f) ↔ HasPcapngFault bytes f
 
 -- WHAT IS WRITTEN
 
@@ -139,7 +139,7 @@ with_packets c packets = record { section = without_length c.section; interfaces
 
 -- The capture written for a list of packets without repeats is a capture again, with the interfaces as they were and just
 -- the packet blocks of the list, which hold the same packets.
-abbrev pub AcceptsAgain : Type 0
-AcceptsAgain =
+abbrev pub AcceptsPcapngAgain : Type 0
+AcceptsPcapngAgain =
     (bytes : List ℕ) (c : NgCapture) (packets : List ℕ) → pcapng_of bytes ≡ Ok c → All (λ i. i < length c.packets) packets → IsDistinct nat_eq packets
     → (pcapng_of (pcapng_text c packets) ≡ Ok (with_packets c packets)) × (frames_in (with_packets c packets) ≡ map (frame_of c) packets) × (links_in (with_packets c packets) ≡ map (link_of c) packets)

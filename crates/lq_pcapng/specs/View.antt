@@ -12,8 +12,8 @@ capture_at bytes interfaces packets = record {
   packets = blocks_at (is_little_endian bytes) bytes packets;
 }
 
-abbrev pub capture_view : Inside → NgCapture
-capture_view c = capture_at c.bytes.items c.interfaces.items c.packets.items
+abbrev pub ng_capture_view : Inside → NgCapture
+ng_capture_view c = capture_at c.bytes.items c.interfaces.items c.packets.items
 
 pub record IsRead (bytes interfaces packets : List ℕ) : Type 0 where
   pub section : IsWholeAt (is_little_endian bytes) bytes 0
@@ -21,5 +21,5 @@ pub record IsRead (bytes interfaces packets : List ℕ) : Type 0 where
   pub interfaces_are : AreInterfaces (is_little_endian bytes) bytes interfaces
   pub packets_are : ArePackets (is_little_endian bytes) bytes (blocks_at (is_little_endian bytes) bytes interfaces) packets
 
-abbrev pub capture_invariant : Inside → Type 0
-capture_invariant c = IsRead c.bytes.items c.interfaces.items c.packets.items
+abbrev pub ng_capture_invariant : Inside → Type 0
+ng_capture_invariant c = IsRead c.bytes.items c.interfaces.items c.packets.items

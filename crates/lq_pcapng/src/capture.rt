@@ -1,3 +1,4 @@
+// A capture in the pcapng format: its blocks, as places in the bytes that were read.
 ghost use Rattle.std.specs.Prelude.{◌≡◌, ◌<◌, ◌≤◌, length};
 ghost use Rattle.lq_model.specs.Pcapng.{frame_of, interface_at, link_of as link_type_of, order_of, packet_block};
 ghost use Rattle.lq_pcapng.specs.Reading.{IsPacket};
@@ -23,13 +24,13 @@ pub struct NgCapture {
 
 impl Model for NgCapture {
     ghost use Rattle.lq_model.specs.Pcapng.{NgCapture};
-    ghost use Rattle.lq_pcapng.specs.View.{capture_view, capture_invariant};
+    ghost use Rattle.lq_pcapng.specs.View.{ng_capture_view, ng_capture_invariant};
 
     ghost Value = { NgCapture };
 
-    ghost view = { capture_view };
+    ghost view = { ng_capture_view };
 
-    ghost invariant = { capture_invariant };
+    ghost invariant = { ng_capture_invariant };
 }
 
 impl NgCapture {

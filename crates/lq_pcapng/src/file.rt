@@ -1,7 +1,7 @@
 //! A capture in either format.
-ghost use Rattle.std.specs.Prelude.{◌≡◌, ◌≤◌, ◌<◌, ◌++◌, [], OnOk};
+ghost use Rattle.std.specs.Prelude.{◌≡◌, length, ◌≤◌, ◌<◌, ◌++◌, [], OnOk};
 ghost use Rattle.lq_pcap.specs.Reading.{Gives};
-ghost use Rattle.lq_pcapng.specs.File.{capture_file_of, is_pcapng, packets_of, piece_of, text_of};
+ghost use Rattle.lq_pcapng.specs.File.{capture_file_of, is_pcapng, packets_of_file, piece_of, text_of};
 
 use crate::capture::NgCapture;
 use crate::reader::read_pcapng;
@@ -55,7 +55,7 @@ pub fn read_either(alloc: Global, bytes: Vec<u8>) -> Result<CaptureFile, Capture
 }
 
 impl Frames for CaptureFile {
-    ghost packets = { packets_of };
+    ghost packets = { packets_of_file };
 
     fn len(&self) -> usize {
         match self {
@@ -80,7 +80,8 @@ impl Frames for CaptureFile {
 }
 
 impl CaptureFile {
-    /// How many bytes stand before the packets, or a few more.
+    /// How many bytes stand before the packets. It is a size to reserve, so no clause speaks of it: one that is wrong costs
+    /// time alone.
     pub fn start_len(&self) -> usize {
         match self {
             CaptureFile::Classic(capture) => capture.header().len(),
@@ -90,7 +91,8 @@ impl CaptureFile {
 
     /// How many bytes a written packet `i` takes.
     pub fn piece_len(&self, i: usize) -> usize
-        requires { i < (packets_of self.now).count }
+        requires { i < (packets_of_file self.now).count }
+        ensures { result ≡ length (piece_of self.now i) }
     {
         match self {
             CaptureFile::Classic(capture) => capture.whole(i).len(),
@@ -118,7 +120,7 @@ impl CaptureFile {
     ///
     /// There was no room for it, and `out` is as before.
     pub fn push_packet(&self, out: &mut Vec<u8>, i: usize) -> Result<(), NoMemory>
-        requires { i < (packets_of self.now).count }
+        requires { i < (packets_of_file self.now).count }
         ensures { OnOk result (out.new.items ≡ out.old.items ++ piece_of self.now i) }
     {
         match self {

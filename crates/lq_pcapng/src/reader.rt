@@ -1,3 +1,4 @@
+// Reading a capture in the pcapng format: the blocks one after the other, each as its type asks.
 ghost use Rattle.std.specs.Prelude.{◌≡◌, ◌+◌, ◌≤◌, ◌<◌, ◌++◌, ◌∷◌, ◌==◌, ◌||◌, if◌then◌else◌, [], drop, length, IfErr, IfOk, OnOk};
 ghost use Rattle.lq_model.specs.Pcapng.{body_fault, is_little_endian, pcapng_of, section_fault, total_length};
 ghost use Rattle.lq_pcap.specs.Reading.{Gives};

@@ -1,3 +1,4 @@
+// Captures in the pcapng format by hand, and what reading them answers.
 use crate::{CaptureReason, CaptureRefusal, NgCapture, push_block, push_section, read_pcapng};
 use std::alloc::Global;
 use std::process::Abort;

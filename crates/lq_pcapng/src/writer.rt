@@ -1,3 +1,4 @@
+// Writing packets of a capture in the pcapng format again.
 ghost use Rattle.std.specs.Prelude.{◌≡◌, ◌<◌, ◌++◌, OnOk, OnErr, length, take, replicate, drop};
 ghost use Rattle.std.specs.List.{concat};
 ghost use Rattle.lq_model.specs.Pcapng.{packet_block, without_length};

@@ -12,7 +12,7 @@ use Rattle.lq_plan.specs.Document.{Document, document_of, has_fault_in}
 use Rattle.lq_plan.specs.Faults.{has_fault, has_value_out_of_range, is_missing, is_of_wrong_kind, is_out_of_range}
 use Rattle.lq_plan.specs.Keys.{key, event_keys, event_word_in, len_in, len_presence, max_len_for, max_len_in, params_presence, root_keys, station_keys, version_1, version_of}
 use Rattle.lq_plan.specs.Limits.{AreParamsWithin, IsEventWithin, IsKindWithin, IsStationWithin, IsWithinLimits, is_out_of_order, max_len_at}
-use Rattle.lq_plan.specs.Reading.{IsEventSmall, event_in, first_fault, kind_as, params_in, station_in}
+use Rattle.lq_plan.specs.Reading.{IsEventSmall, event_in, first_fault, kind_as, params_in, station_plan_in}
 use Rattle.lq_plan.specs.Values.{number_at}
 use Rattle.lq_plan.specs.declared.faults.Fault.{Fault}
 use Rattle.lq_plan.specs.declared.faults.Fault.TheVariants.{UnknownKey, MissingKey, WrongKind, OutOfRange}
@@ -24,7 +24,7 @@ use Rattle.lq_plan.proofs.Ranges.{at_false, in_range, tables_few, tables_some}
 
 -- A STATION
 
-pub station_within : (t : Members) → has_value_out_of_range (station_keys version_1 t) t ≡ false → IsStationWithin (station_in t)
+pub station_within : (t : Members) → has_value_out_of_range (station_keys version_1 t) t ≡ false → IsStationWithin (station_plan_in t)
 unfolding station_keys
 station_within t h =
     let keys = station_keys version_1 t in
@@ -75,16 +75,16 @@ event_facts stations t h =
     }
 
 abbrev pub AreStationsWithin : List Members → Type 0
-AreStationsWithin stations = (j : ℕ) (t : Members) → slice_get stations j ≡ Some t → IsStationWithin (station_in t)
+AreStationsWithin stations = (j : ℕ) (t : Members) → slice_get stations j ≡ Some t → IsStationWithin (station_plan_in t)
 
-greatest_same : (o : Option Members) → option_map_or (λ (s : StationPlan). s.max_len) (option_map station_in o) 0 ≡ option_map_or max_len_in o 0
+greatest_same : (o : Option Members) → option_map_or (λ (s : StationPlan). s.max_len) (option_map station_plan_in o) 0 ≡ option_map_or max_len_in o 0
 greatest_same None = refl
 greatest_same (Some s) = refl
 
-max_len_same : (stations : List Members) (t : Members) → max_len_at (map station_in stations) (number_at (codes "station") 0 t) ≡ max_len_for stations t
+max_len_same : (stations : List Members) (t : Members) → max_len_at (map station_plan_in stations) (number_at (codes "station") 0 t) ≡ max_len_for stations t
 max_len_same stations t =
     let j = number_at (codes "station") 0 t in
-    ap (λ o. option_map_or (λ (s : StationPlan). s.max_len) o 0) (slice_get-map station_in stations j) ∙ greatest_same (slice_get stations j)
+    ap (λ o. option_map_or (λ (s : StationPlan). s.max_len) o 0) (slice_get-map station_plan_in stations j) ∙ greatest_same (slice_get stations j)
 
 -- the station of an event, if there is one
 max_len_bounds : (stations : List Members) (t : Members) → AreStationsWithin stations → number_at (codes "station") 0 t < length stations
@@ -97,14 +97,14 @@ max_len_bounds stations t within there =
     (omega arith, omega arith)
 
 pub event_within : (stations : List Members) (t : Members) → AreStationsWithin stations → 0 < length stations → has_value_out_of_range (event_keys stations t) t ≡ false
-    → IsEventWithin (map station_in stations) (event_in t)
+    → IsEventWithin (map station_plan_in stations) (event_in t)
 event_within stations t within some h =
     let facts = event_facts stations t h in
     let there : number_at (codes "station") 0 t < length stations = omega (arith, facts.station) in
     let bounds = max_len_bounds stations t within there in
     record {
       before = facts.before;
-      station = omega (arith, length-map stations station_in);
+      station = omega (arith, length-map stations station_plan_in);
       kind = rw (max_len_same stations t) (kind_within (event_word_in t) t (max_len_for stations t) (facts.len bounds.0) facts.params);
     }
 
@@ -187,17 +187,17 @@ mapped : {X Y : Type 0} (f : X → Y) (xs : List X) (j : ℕ) (y : Y) → slice_
 mapped f xs j y at = seen_through f (slice_get xs j) y (sym (slice_get-map f xs j) ∙ at)
 
 pub within_limits : (root : Members) (d : Document) (p : Plan) → Facts root d → is_out_of_order (map event_in d.events) ≡ false → p.senders ≡ number_at (codes "senders") 1 root
-    → p.irq_every ≡ number_at (codes "irq_every") 1 root → p.stations ≡ map station_in d.stations → p.events ≡ map event_in d.events → IsWithinLimits p
+    → p.irq_every ≡ number_at (codes "irq_every") 1 root → p.stations ≡ map station_plan_in d.stations → p.events ≡ map event_in d.events → IsWithinLimits p
 within_limits root d p all in_order senders irq_every stations events = record {
   has_sender = omega (arith, all.senders.0);
   senders = omega (arith, all.senders.1);
   has_irq_every = omega (arith, all.irq_every.0);
   irq_every = omega (arith, all.irq_every.1);
-  has_station = rw stations (omega (arith, length-map d.stations station_in, all.has_station));
-  stations = rw stations (omega (arith, length-map d.stations station_in, all.few_stations));
+  has_station = rw stations (omega (arith, length-map d.stations station_plan_in, all.has_station));
+  stations = rw stations (omega (arith, length-map d.stations station_plan_in, all.few_stations));
   events = rw events (omega (arith, length-map d.events event_in, all.few_events));
   each_station = λ j station at.
-      let found = mapped station_in d.stations j station (ap (λ ss. slice_get ss j) (sym stations) ∙ at) in
+      let found = mapped station_plan_in d.stations j station (ap (λ ss. slice_get ss j) (sym stations) ∙ at) in
       rw found.2 (all.stations j found.0 found.1);
   each_event = λ e event at.
       let found = mapped event_in d.events e event (ap (λ es. slice_get es e) (sym events) ∙ at) in

@@ -1,4 +1,4 @@
--- The plan of a generated run: one sender and one station, whose device stops behind every 48th packet.
+-- The plan of a generated run: one sender and one station, whose device stops after every 48th packet.
 use Rattle.std.specs.Prelude.{true, [], ◌∷◌}
 use Rattle.lq_model.specs.Plan.{Plan}
 use Rattle.lq_model.specs.declared.plan.Split.TheVariants.{Round}

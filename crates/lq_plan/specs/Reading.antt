@@ -34,8 +34,8 @@ params_in table = record {
   hang_after = number_at (codes "hang_after") 0 table;
 }
 
-abbrev pub station_in : Members → StationPlan
-station_in station = record {
+abbrev pub station_plan_in : Members → StationPlan
+station_plan_in station = record {
   len = len_in station;
   max_len = max_len_in station;
   bypass = flag_at (codes "bypass") true station;
@@ -66,7 +66,7 @@ plan_in d = record {
   senders = number_at (codes "senders") 1 d.root;
   split = split_in d.root;
   irq_every = number_at (codes "irq_every") 1 d.root;
-  stations = map station_in d.stations;
+  stations = map station_plan_in d.stations;
   events = map event_in d.events;
 }
 
@@ -100,9 +100,9 @@ plan_of bytes = option_map_or plan_from (root_of bytes) (Err reason.NotToml)
 -- WHAT READING ANSWERS
 
 -- a refusal is that of the definition, or want of memory
-abbrev pub IsRefusalOf : {T : Type 0} → Result T PlanReason → PlanRefusal → Type 0
-IsRefusalOf answer NoMemory = Unit {0}
-IsRefusalOf answer (Refused cause) = answer ≡ Err cause
+abbrev pub IsPlanRefusal : {T : Type 0} → Result T PlanReason → PlanRefusal → Type 0
+IsPlanRefusal answer NoMemory = Unit {0}
+IsPlanRefusal answer (Refused cause) = answer ≡ Err cause
 
 -- an event of a plan with at most 8 stations, each with rings of at most 4096
 pub record IsEventSmall (event : EventPlan) : Type 0 where

@@ -4,7 +4,7 @@ ghost use Rattle.toml.specs.Data.{Members};
 ghost use Rattle.toml.specs.View.{table_view};
 ghost use Rattle.lq_plan.specs.Limits.{AreParamsWithin, IsStationWithin};
 ghost use Rattle.lq_plan.specs.Keys.{event_word_in};
-ghost use Rattle.lq_plan.specs.Reading.{IsEventSmall, IsRefusalOf, event_in, kind_as, params_in, plan_from, plan_of, split_in, station_in};
+ghost use Rattle.lq_plan.specs.Reading.{IsEventSmall, IsPlanRefusal, event_in, kind_as, params_in, plan_from, plan_of, split_in, station_plan_in};
 ghost use Rattle.lq_plan.specs.Tables.{tables_view};
 
 use crate::document::Document;
@@ -28,7 +28,7 @@ use toml::Table;
 /// There was no room for the document, which is as large as the text, or for the plan.
 pub fn read_plan(alloc: Global, text: &[u8]) -> Result<Plan, PlanRefusal>
     ensures plan { IfOk result (λ plan. plan_of text.now ≡ Ok plan) }
-    ensures refusal { IfErr result (IsRefusalOf (plan_of text.now)) }
+    ensures refusal { IfErr result (IsPlanRefusal (plan_of text.now)) }
 {
     match toml::table_from_slice(alloc, text) {
         Ok(root) => read_root(alloc, &root),
@@ -50,7 +50,7 @@ fn refused(reason: PlanReason) -> PlanRefusal
 
 fn read_root(alloc: Global, root: &Table) -> Result<Plan, PlanRefusal>
     ensures plan { IfOk result (λ plan. plan_from (table_view root.now) ≡ Ok plan) }
-    ensures refusal { IfErr result (IsRefusalOf (plan_from (table_view root.now))) }
+    ensures refusal { IfErr result (IsPlanRefusal (plan_from (table_view root.now))) }
 {
     let document = Document::new(alloc, root)?;
     if let Some(reason) = document.first_fault() {
@@ -80,8 +80,8 @@ fn read_split(root: &Table) -> Split
 }
 
 fn read_stations(alloc: Global, stations: &[&Table]) -> Result<Vec<StationPlan>, AllocError>
-    requires { (j : ℕ) (station : Members) → slice_get (tables_view stations.now) j ≡ Some station → IsStationWithin (station_in station) }
-    ensures { IfOk result (λ plans. plans.items ≡ map station_in (tables_view stations.now)) }
+    requires { (j : ℕ) (station : Members) → slice_get (tables_view stations.now) j ≡ Some station → IsStationWithin (station_plan_in station) }
+    ensures { IfOk result (λ plans. plans.items ≡ map station_plan_in (tables_view stations.now)) }
 {
     let mut plans = Vec::with_capacity(alloc, stations.len())?;
     for station in stations {
@@ -91,8 +91,8 @@ fn read_stations(alloc: Global, stations: &[&Table]) -> Result<Vec<StationPlan>,
 }
 
 fn read_station(station: &Table) -> StationPlan
-    requires { IsStationWithin (station_in (table_view station.now)) }
-    ensures { result ≡ station_in (table_view station.now) }
+    requires { IsStationWithin (station_plan_in (table_view station.now)) }
+    ensures { result ≡ station_plan_in (table_view station.now) }
 {
     StationPlan {
         len: len_of(station) as u32,

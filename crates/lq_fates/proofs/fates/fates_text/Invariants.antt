@@ -1,7 +1,7 @@
 use Rattle.std.proofs.Common.{◌≡◌, ◌++◌, drop}
-use Rattle.lq_model.specs.Texts.{fates_from, fates_text}
+use Rattle.lq_model.specs.Texts.{fate_lines, fates_text}
 use Rattle.lq_fates.proofs.fates.fates_text.Given as goal
 
 -- what is written and the lines still to come are the text
 abbrev pub invariant-loop-n : goal.invariant-loop-n
-invariant-loop-n l = l.text.items ++ fates_from l.n (drop l.n l.fates) ≡ fates_text l.fates
+invariant-loop-n l = l.text.items ++ fate_lines l.n (drop l.n l.fates) ≡ fates_text l.fates

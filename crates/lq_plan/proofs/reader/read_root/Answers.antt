@@ -2,7 +2,7 @@ use Rattle.std.proofs.Common.{◌≡◌, ◌∙◌, map, slice_get, ap, sym, ari
 use Rattle.toml.specs.View.{table_view}
 use Rattle.lq_plan.specs.Document.{document_view}
 use Rattle.lq_plan.specs.Limits.{is_out_of_order}
-use Rattle.lq_plan.specs.Reading.{event_in, station_in}
+use Rattle.lq_plan.specs.Reading.{event_in, station_plan_in}
 use Rattle.lq_plan.specs.Tables.{tables_view}
 use Rattle.lq_plan.proofs.Within.{event_small, facts, within_limits}
 use Rattle.lq_plan.proofs.reader.read_root.Goals as goal
@@ -33,8 +33,8 @@ pub invariant_of-result : goal.invariant_of-result
 invariant_of-result c =
     let d = document_view c.in_ok-document.document in
     let all = facts (table_view c.args.root.now) d c.in_ok-document.ensures c.in_default.ensures in
-    let stations : c.in_ok-stations.stations.items ≡ map station_in d.stations =
-    c.in_ok-stations.ensures ∙ ap (λ tables. map station_in (tables_view tables)) c.deref.ensures.value
+    let stations : c.in_ok-stations.stations.items ≡ map station_plan_in d.stations =
+    c.in_ok-stations.ensures ∙ ap (λ tables. map station_plan_in (tables_view tables)) c.deref.ensures.value
     in
     let events : c.in_ok-events.events.items ≡ map event_in d.events =
     c.in_ok-events.ensures ∙ ap (λ tables. map event_in (tables_view tables)) c.deref-2.ensures.value
