@@ -1,5 +1,5 @@
 -- What an event keeps of the fates of sent packets, and of the event by which the station is deactivated.
-use Rattle.lq_account.specs.Places.{AreBrought, IsInOrder, Undecided}
+use Rattle.lq_account.specs.Places.{AreBrought, KeepsOrder, Undecided}
 use Rattle.std.proofs.Common.{◌≡◌, ℕ, ◌<◌, List, inl, inr, Option, Some, None, sym, subst}
 use Rattle.std.proofs.lemmas.Option.{same_Some}
 use Rattle.lq_model.specs.Account.{Account, Event, Send, Down, Up, sent_from_hand, after}
@@ -9,13 +9,13 @@ use Rattle.lq_model.specs.declared.fate.Fate.TheVariants.{Sent}
 use Rattle.lq_account.proofs.Waiting.{fate-stays}
 use Rattle.lq_account.proofs.Changes.{Sends, sent-cases, sent-is}
 use Rattle.lq_account.proofs.Changes.Sends.{sends}
-use Rattle.lq_table.specs.Rule.{HaveFates, IsCounted}
+use Rattle.lq_table.specs.Rule.{SentHaveFates, IsCounted}
 
 new_fate : (a : Account) (e : Event) (n u s : ℕ) → Sends a e u s n → (after e a).fates n ≡ Some (Sent u s)
 new_fate a e n u s (sends m v t hand unit serial) =
     subst (λ (w : ℕ). (after Send a).fates n ≡ Some (Sent w s)) (sym unit) (subst (λ (r : ℕ). (after Send a).fates n ≡ Some (Sent a.unit r)) (sym serial) (sent-is a n hand).1)
 
-pub sent_kept : (infos : List Info) (station : ℕ) (past : List Event) (a : Account) → AreBrought infos station past a → IsInOrder infos a → Undecided a → (e : Event) → MayCome infos station past a e → HaveFates a → HaveFates (after e a)
+pub sent_kept : (infos : List Info) (station : ℕ) (past : List Event) (a : Account) → AreBrought infos station past a → KeepsOrder infos a → Undecided a → (e : Event) → MayCome infos station past a e → SentHaveFates a → SentHaveFates (after e a)
 sent_kept infos station past a known order free e may h n u s there = elim (sent-cases e a u s n there) [
   | inl old ↦ fate-stays infos station past a known order free e may n (Sent u s) (h n u s old)
   | inr new ↦ new_fate a e n u s new

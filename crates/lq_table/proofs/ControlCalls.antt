@@ -14,9 +14,11 @@ use Rattle.lq_model.specs.declared.machine.Position.TheVariants.{Idle, Control}
 use Rattle.lq_model.specs.declared.machine.Seat.{Seat}
 use Rattle.lq_model.specs.Machine.{Purge}
 use Rattle.lq_model.specs.Control.{is_control}
-use Rattle.lq_model.specs.Kept.{IsInductive, holds_lock, own_packet}
+use Rattle.lq_model.specs.Positions.{holds_lock, own_packet}
+use Rattle.lq_model.specs.Kept.{IsInductive}
 use Rattle.lq_table.specs.Views.{View, Setup, HolderPart, Left}
 use Rattle.lq_table.specs.Rule.{words_of, account, holders, bands_now, is_live, Rule}
+use Rattle.lq_table.proofs.UnitsKept.{gone_same}
 use Rattle.lq_table.specs.Told.{Sat}
 use Rattle.lq_table.specs.Controls.{beginning_control, control_begun, returning, returned, purge_ending, purge_going, no_missed, no_draining, resetting_missed, resetting_missed_in, missed_reset, resetting_draining, resetting_draining_in, draining_reset}
 use Rattle.lq_model.specs.Steps.{is_idle}
@@ -50,11 +52,13 @@ module _ (k : Setup) where
         sends = p.sends;
         packets = packets_same k s.views id v w here g.past a p.packets refl refl;
         hands = hands_same k s.views id v w here p.hands live refl own;
-        fates = fates_same k s.views id v w here W.fates a a g.turn g.left p.fates refl (λ _. refl);
+        fates = fates_same k s.views id v w here W.fates a a g.resizing g.left p.fates refl (λ _. refl);
         leaves = p.leaves;
         turns = turns_same k s.views id v w here W.turns g.past p.turns refl refl;
-        rings = rings_same k s.views id v w here k.max_len W.size W.producers W.slots a.len (bands_now g.left a.bands) g.ends g.turn p.rings refl (λ _ _ _ h. absurd (true≢false (sym h ∙ free)));
+        rings = rings_same k s.views id v w here k.max_len W.size W.producers W.slots a.len (bands_now g.left a.bands) g.ends g.resizing p.rings refl (λ _ _ _ h. absurd (true≢false (sym h ∙ free)));
         account = p.account;
+        find_nothing = p.find_nothing;
+        gone = gone_same k s.views id v w here p.gone refl;
         firsts = let knows = p.firsts.knows id v here first in firsts_now s.views id v w here q.phase q.phase q.purge q.purge p.firsts first refl knows.0 knows.1 refl;
         sole = sole_step k s.views id v w here q q g g p.shares p.sole some_share refl refl (λ e1 e2. (e1, e2));
         settled = settled_same s.views id v w here W.fates p.settled refl;
@@ -88,12 +92,12 @@ module _ (k : Setup) where
         refl,
       )
 
-  -- the two bits behind the last packet of a purge
-  pub resets_missed : (slots id : ℕ) (m : Sat) (u : Purge) (l : Left) → m.0.place.position ≡ Control true → m.0.control.purge ≡ Some u → not (nat_lt u.band 3) ≡ true → m.0.holder.left ≡ Some l → m.0.holder.turn ≡ None → 0 < m.0.share.shares
+  -- the two bits after the last packet of a purge
+  pub resets_missed : (slots id : ℕ) (m : Sat) (u : Purge) (l : Left) → m.0.place.position ≡ Control true → m.0.control.purge ≡ Some u → not (nat_lt u.band 3) ≡ true → m.0.holder.left ≡ Some l → m.0.holder.resizing ≡ None → 0 < m.0.share.shares
       → Allows (Rule k) slots id m 1 (λ n. bit_and n 18446744073709551611) (missed_reset (step slots 1 18446744073709551611 0 none) m)
-  resets_missed slots id m u l position purge over left no_turn some_share =
+  resets_missed slots id m u l position purge over left no_resizing some_share =
       ⊎_elim
-      (λ (e : u.draining ≡ true). subst Goal (ap (λ (b : Bool). if b then ended else gone_on) (sym e) ∙ told) (ends_missed k slots id m u l position purge over e left no_turn some_share))
+      (λ (e : u.draining ≡ true). subst Goal (ap (λ (b : Bool). if b then ended else gone_on) (sym e) ∙ told) (ends_missed k slots id m u l position purge over e left no_resizing some_share))
       (λ (e : u.draining ≡ false). subst Goal (ap (λ (b : Bool). if b then ended else gone_on) (sym e) ∙ told) (goes_on_missed k slots id m u position purge over e some_share))
       (two_ways u.draining)
     where
@@ -109,11 +113,11 @@ module _ (k : Setup) where
       told : (if u.draining then ended else gone_on) ≡ resetting_missed m.0
       told = ap (λ (o : Option Purge). resetting_missed_in o m.0) (sym purge)
 
-  pub resets_draining : (slots id : ℕ) (m : Sat) (u : Purge) (l : Left) → m.0.place.position ≡ Control true → m.0.control.purge ≡ Some u → not (nat_lt u.band 3) ≡ true → m.0.holder.left ≡ Some l → m.0.holder.turn ≡ None → 0 < m.0.share.shares
+  pub resets_draining : (slots id : ℕ) (m : Sat) (u : Purge) (l : Left) → m.0.place.position ≡ Control true → m.0.control.purge ≡ Some u → not (nat_lt u.band 3) ≡ true → m.0.holder.left ≡ Some l → m.0.holder.resizing ≡ None → 0 < m.0.share.shares
       → Allows (Rule k) slots id m 1 (λ n. bit_and n 18446744073709551607) (draining_reset (step slots 1 18446744073709551607 0 none) m)
-  resets_draining slots id m u l position purge over left no_turn some_share =
+  resets_draining slots id m u l position purge over left no_resizing some_share =
       ⊎_elim
-      (λ (e : u.missed ≡ true). subst Goal (ap (λ (b : Bool). if b then ended else gone_on) (sym e) ∙ told) (ends_draining k slots id m u l position purge over e left no_turn some_share))
+      (λ (e : u.missed ≡ true). subst Goal (ap (λ (b : Bool). if b then ended else gone_on) (sym e) ∙ told) (ends_draining k slots id m u l position purge over e left no_resizing some_share))
       (λ (e : u.missed ≡ false). subst Goal (ap (λ (b : Bool). if b then ended else gone_on) (sym e) ∙ told) (goes_on_draining k slots id m u position purge over e some_share))
       (two_ways u.missed)
     where

@@ -12,9 +12,9 @@ use Rattle.atomic_table.specs.Table.{step, Allows, keeps, stepped}
 use Rattle.lq_device.specs.Station.{StationState}
 use Rattle.lq_band.specs.Three.{at, put}
 use Rattle.lq_band.specs.Ring.{Lock, unlocked, locked_at, sized_if, sized_at, index_given, IsRing}
-use Rattle.lq_band.specs.Turning.{IsTurning}
+use Rattle.lq_band.specs.HalfResized.{IsHalfResized}
 use Rattle.lq_band.proofs.Three.{at_put_same, at_put_other}
-use Rattle.lq_band.proofs.TurningKept.{turning_sized}
+use Rattle.lq_band.proofs.HalfResizedKept.{half_resized_sized}
 use Rattle.lq_band.proofs.Kept.{locks, sizes_if, gives}
 use Rattle.lq_table.specs.Views.{View, Setup, HolderPart}
 use Rattle.lq_table.specs.Rule.{words_of, account, holders, bands_now, locks_at, Rule}
@@ -26,13 +26,13 @@ use Rattle.lq_table.proofs.Frames.{locks_here, locks_after, control_same, calm_e
 
 module _ (k : Setup) where
   -- the word of the producer, and what the seat knows of it, change
-  producer_step : (s : table.State (Option StationState) View) (r : Rule k s) (id b x : ℕ) (v : View) (l : Lock) → r.state.turn ≡ None → b < 3 → get_elem? s.views id ≡ some v → 0 < v.share.shares
+  producer_step : (s : table.State (Option StationState) View) (r : Rule k s) (id b x : ℕ) (v : View) (l : Lock) → r.state.resizing ≡ None → b < 3 → get_elem? s.views id ≡ some v → 0 < v.share.shares
       → IsRing (words_of k s.words).size (at b (words_of k s.words).slots) x (set (locks_at b s.views) id l) (bands_now r.state.left (account k r.state).bands b) (at b r.state.ends)
       → Rule k record { words = set s.words (6 + b) x; homes = s.homes; views = set s.views id (with_lock_at b l v) }
   producer_step s r id b x v l calm below here some_share ring =
       let p = r.parts in let g = r.state in let a = account k g in let W = words_of k s.words in let w : View = with_lock_at b l v in
       beside k s r (6 + b) x id v (put b l v.locks) (put b x W.producers) W.slots here (lt-ltb 0 v.share.shares some_share) some_share (set_producer k s.words x b below (let wide = r.wide in omega arith))
-      (rings_step k s.views id v w here k.max_len W.size W.producers (put b x W.producers) W.slots W.slots a.len (bands_now g.left a.bands) (bands_now g.left a.bands) g.ends g.ends g.turn b p.rings calm
+      (rings_step k s.views id v w here k.max_len W.size W.producers (put b x W.producers) W.slots W.slots a.len (bands_now g.left a.bands) (bands_now g.left a.bands) g.ends g.ends g.resizing b p.rings calm
       (subst (λ (z : ℕ × Lock). IsRing W.size (at b W.slots) z.0 (set (locks_at b s.views) id z.1) (bands_now g.left a.bands b) (at b g.ends)) (λ i. (sym (at_put_same b x W.producers) i, sym (at_put_same b l v.locks) i)) ring)
       (λ c h n. (refl, at_put_other b c x W.producers below h n, at_put_other b c l v.locks below h n, refl, refl)))
 
@@ -43,7 +43,7 @@ module _ (k : Setup) where
       dite (ℕ_discrete (get_or s.words (6 + b) 0) (2 * i))
       (λ even. let w : View = with_lock_at b (locked_at i) v in
       let is : at b W.producers ≡ 2 * i = sym word ∙ even in
-      let calm : r.state.turn ≡ None = calm_even k.max_len W.size W.producers W.slots _ _ _ r.state.turn s.views b i p.rings below is in let old = (p.rings.running calm).ring b below in
+      let calm : r.state.resizing ≡ None = calm_even k.max_len W.size W.producers W.slots _ _ _ r.state.resizing s.views b i p.rings below is in let old = (p.rings.running calm).ring b below in
       let ring = locks _ _ _ _ _ _ id (at b v.locks) old (locks_here k s.views id v w here b) i free is in (
         w,
         keeps,
@@ -60,11 +60,11 @@ module _ (k : Setup) where
         ((λ even. absurd (odd even)), λ _. refl),
       ))
 
-  pub gives_producer : (slots id : ℕ) (m : Sat) (b size i : ℕ) → b < 3 → (at b m.0.locks).holds ≡ true → (at b m.0.locks).size ≡ Some size → i ≡ index_given size (at b m.0.locks) → 0 < m.0.share.shares → m.0.holder.turn ≡ None
+  pub gives_producer : (slots id : ℕ) (m : Sat) (b size i : ℕ) → b < 3 → (at b m.0.locks).holds ≡ true → (at b m.0.locks).size ≡ Some size → i ≡ index_given size (at b m.0.locks) → 0 < m.0.share.shares → m.0.holder.resizing ≡ None
       → Allows (Rule k) slots id m (6 + b) (λ _. 2 * i) (λ _. producer_given b (step slots (6 + b) (2 * i) 0 none) m (2 * i))
-  gives_producer slots id m b size i below has knows is some_share no_turn s r deep here small =
+  gives_producer slots id m b size i below has knows is some_share no_resizing s r deep here small =
       let v : View = m.0 in let p = r.parts in let g = r.state in let W = words_of k s.words in let D : HolderPart = holders g (account k g) W.size in
-      let calm : g.turn ≡ None = calm_here k.infos k.max_len W.size W.producers W.slots _ _ _ r.qdisc.locked W.xoff r.home g.past D g.turn s.views id v b p.rings p.lends refl here below has no_turn in
+      let calm : g.resizing ≡ None = calm_here k.infos k.max_len W.size W.producers W.slots _ _ _ r.qdisc.locked W.xoff r.home g.past D g.resizing s.views id v b p.rings p.lends refl here below has no_resizing in
       let old = (p.rings.running calm).ring b below in let w : View = with_lock_at b unlocked v in
       let at_b = locks_here k s.views id v w here b in
       let same : size ≡ W.size = (old.knows id (at b v.locks) at_b).size_is size has knows in
@@ -106,13 +106,13 @@ module _ (k : Setup) where
             ring = λ b h. subst (λ (ls : List Lock). IsRing W.size (at b W.slots) (at b W.producers) ls (bands_now g.left a.bands b) (at b g.ends)) (sym (locks_sized b))
                 (sizes_if _ _ _ _ _ _ id (at b v.locks) (x.ring b h) (locks_here k s.views id v w here b));
           };
-          resizing = λ t now. let x = p.rings.resizing t now in record {
+          half_resized = λ t now. let x = p.rings.half_resized t now in record {
             len_is = x.len_is;
             len_positive = x.len_positive;
             len_within = x.len_within;
             kept = x.kept;
-            ring = λ b h. subst (λ (ls : List Lock). IsTurning (at b W.slots) (at b W.producers) ls (bands_now g.left a.bands b) (at b t.works).waiting (at b t.works).slots (at b t.works).hand) (sym (locks_sized b))
-                (turning_sized W.size _ _ _ _ _ _ _ id (at b v.locks) (x.ring b h) (locks_here k s.views id v w here b));
+            ring = λ b h. subst (λ (ls : List Lock). IsHalfResized (at b W.slots) (at b W.producers) ls (bands_now g.left a.bands b) (at b t.works).waiting (at b t.works).slots (at b t.works).hand) (sym (locks_sized b))
+                (half_resized_sized W.size _ _ _ _ _ _ _ id (at b v.locks) (x.ring b h) (locks_here k s.views id v w here b));
             control = control_same k s.views id v w here x.control (λ b h has. sized_holds W.size (at b v.locks) (sym (ap (λ (l : Lock). l.holds) (at_sized W.size b v)) ∙ has)) (λ l h. (l, h));
           };
         },

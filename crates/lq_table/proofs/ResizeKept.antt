@@ -1,12 +1,13 @@
 -- A resize begins: in the machine and in the account it is done; and it ends, as the new length is stored.
 use Rattle.lq_account.specs.Places.{Precedes}
-use Rattle.std.proofs.Common.{◌≡◌, ◌≢◌, ℕ, zero, suc, ◌+◌, ◌*◌, ◌<◌, ◌≤◌, true, false, List, [], ◌∷◌, ◌++◌, length, map, take, drop, set, refl, sym, ap, ◌∙◌, subst, arith, ⊎_elim, Option, Some, None, get_or}
-use Rattle.std.specs.Prelude.{is_none}
+use Rattle.std.proofs.Common.{◌≡◌, ◌≢◌, ℕ, zero, suc, ◌+◌, ◌*◌, ◌<◌, ◌≤◌, true, false, true≢false, List, [], ◌∷◌, ◌++◌, length, map, take, drop, set, refl, sym, ap, ◌∙◌, subst, arith, ⊎_elim, Option, Some, None, get_or}
+use Rattle.std.specs.Prelude.{is_none, is_some}
 use Rattle.std.specs.List.{AllPairs}
 use Rattle.std.proofs.lemmas.Bool.{cases_eq, cases_lt, cases_order, lt-ltb}
 use Rattle.std.proofs.lemmas.Option.{same_Some}
 use mathlib.Core.Option.{none}
 use Rattle.atomic_table.specs.Table.{step, Allows, keeps}
+use Rattle.lq_account.specs.Trail.{FindsNothing}
 use Rattle.lq_account.proofs.Brought.{held-brought}
 use Rattle.lq_account.proofs.Order.{never-itself, held-band}
 use Rattle.lq_account.proofs.Purges.{with_fates_in, with_fates_out}
@@ -14,12 +15,15 @@ use Rattle.lq_account.proofs.Waiting.{fate-stays, waits-dropped}
 use Rattle.lq_model.specs.Account.{Account, Event, Resize, after, held_in, dropped_in}
 use Rattle.lq_model.specs.Band.{Band, held_of, resized}
 use Rattle.lq_model.specs.Control.{is_control}
-use Rattle.lq_model.specs.Kept.{IsInductive, holds_lock}
-use Rattle.lq_model.specs.Machine.{Qdisc}
+use Rattle.lq_model.specs.Positions.{holds_lock}
+use Rattle.lq_model.specs.Kept.{IsInductive}
+use Rattle.lq_model.specs.Machine.{Qdisc, is_closed}
 use Rattle.lq_model.specs.declared.fate.Fate.TheVariants as fate
 use Rattle.lq_model.specs.declared.fate.Info.{Info}
 use Rattle.lq_model.specs.declared.machine.ControlStep.TheVariants.{Resize as ResizeStep}
 use Rattle.lq_model.specs.declared.machine.Packet.{Packet}
+use Rattle.lq_model.specs.declared.machine.Phase.{Phase}
+use Rattle.lq_model.specs.declared.machine.Phase.TheVariants.{Active, Closing, Quiet, Purged}
 use Rattle.lq_model.specs.declared.machine.Position.{Position}
 use Rattle.lq_model.specs.declared.machine.Position.TheVariants.{Control}
 use Rattle.lq_model.specs.declared.machine.Seat.{Seat}
@@ -27,27 +31,32 @@ use Rattle.lq_ring_core.specs.Slots.{round}
 use Rattle.lq_band.specs.Three.{Three, at, put, all_three}
 use Rattle.lq_band.specs.Ring.{Ends, at_start, Lock, locked_at, IsAtRest, word_at, IsRing}
 use Rattle.lq_band.specs.Times.{times}
-use Rattle.lq_band.specs.Turning.{IsTurning, IsDistinct, IsRefilled, IsUnturned}
+use Rattle.lq_band.specs.HalfResized.{IsHalfResized, IsDistinct, IsRefilled, IsBeforeResize}
 use Rattle.lq_band.proofs.Kept.{lock_alone}
 use Rattle.lq_band.proofs.Lines.{word_at-past, word_at-get_or}
 use Rattle.lq_band.proofs.Seats.{total_same, each_step, each_same}
 use Rattle.lq_band.proofs.StoredKept.{stored_as, decides}
 use Rattle.lq_band.proofs.Three.{at_put_same, at_put_other, at_all, three_cases}
 use Rattle.lq_band.proofs.Times.{in_times, times_append, times_drop}
-use Rattle.lq_band.proofs.TurningKept.{begins, unturned, reindexes, restarts, just_got}
-use Rattle.lq_table.specs.Views.{View, Setup, State, HolderPart, Turn, Work, Left, packet_of}
-use Rattle.lq_table.specs.Rule.{words_of, account, holders, owes, waiting_of, unstored, bands_of, bands_now, Holder, IsLocker, IsResizing, IsResting, locks_at, KnowsPackets, Parts, Rule}
+use Rattle.lq_band.proofs.HalfResizedKept.{begins, unturned, reindexes, restarts, just_got}
+use Rattle.lq_table.specs.Views.{View, Setup, State, HolderPart, HalfResize, Work, Left, machine_packet}
+use Rattle.lq_table.specs.Rule.{words_of, machine_of, account, holders, owes, waiting_of, unstored, bands_of, bands_now, Holder, IsLocker, IsResizing, IsResting, locks_at, KnowsPackets, Parts, Rule}
+use Rattle.lq_table.proofs.UnitsKept.{gone_same, gone_step}
 use Rattle.lq_table.specs.Told.{Sat}
 use Rattle.lq_table.specs.Rings.{with_lock_at}
-use Rattle.lq_table.specs.Resizes.{each_band, turn_of, beginning, resize_begun, producer_set, restarted, size_stored}
+use Rattle.lq_table.specs.Resizes.{may_resize, each_band, resizing_of, beginning, resize_begun, producer_set, restarted, size_stored}
 use Rattle.lq_table.proofs.Accounts.{quiet_after}
 use Rattle.lq_table.proofs.ByName.{slots_long, set_back, set_producer, set_size}
 use Rattle.lq_table.proofs.Facts.{map_none}
 use Rattle.lq_table.proofs.HeldOnce.{no_fate, held_once}
 use Rattle.lq_table.proofs.Middle.{middle, controls_in}
 use Rattle.lq_table.proofs.Quiet.{beside}
-use Rattle.lq_table.proofs.TurnKept.{turn_rule, turn_known}
+use Rattle.lq_account.proofs.Changes.{band-held}
+use Rattle.lq_account.proofs.Lists.{none-in}
+use Rattle.lq_table.proofs.Ties.{nothing_in, holds_none}
+use Rattle.lq_table.proofs.ResizeSlotsKept.{resizing_rule, resizing_known}
 use Rattle.lq_table.proofs.SettledKept.{settled_same}
+use Rattle.lq_table.proofs.SoleFacts.{knows_account}
 use Rattle.lq_table.proofs.GivenKept.{given_same}
 use Rattle.lq_table.proofs.TrailsKept.{trails_same, trails_own}
 use Rattle.lq_table.proofs.Frames.{at_map, none_some, none_left, shares_same, hands_same, packets_same, turns_same, turns_past, locks_here, locks_same, locks_after, firsts_same, sole_step, account_step, rule_after, opened, closed, stays, lends_held}
@@ -82,16 +91,23 @@ map_take f (suc n) (x ∷ xs) = ap (λ (ys : List _). f x ∷ ys) (map_take f n 
 
 -- the machine's bands, cut to the length, are those of the resized account
 bands_cut : (infos : List Info) (bands : ℕ → Band) (len : ℕ) → map (λ (band : List Packet). take len band) (bands_of infos bands) ≡ bands_of infos (λ b. resized (bands b) len)
-bands_cut infos bands len = let cut = λ (b : ℕ). map_take (packet_of infos) len (held_of (bands b)) in λ j. cut 0 j ∷ cut 1 j ∷ cut 2 j ∷ []
+bands_cut infos bands len = let cut = λ (b : ℕ). map_take (machine_packet infos) len (held_of (bands b)) in λ j. cut 0 j ∷ cut 1 j ∷ cut 2 j ∷ []
+
+-- a deactivated station whose bands may be resized was purged
+closed_purged : (phase : Phase) → may_resize phase ≡ true → is_closed phase ≡ true → phase ≡ Purged
+closed_purged Active may closed_ = absurd (true≢false (sym closed_))
+closed_purged Closing may closed_ = absurd (true≢false (sym may))
+closed_purged Quiet may closed_ = absurd (true≢false (sym may))
+closed_purged Purged may closed_ = refl
 
 module _ (k : Setup) where
   -- a resize begins
-  pub begins_resize : (slots id : ℕ) (m : Sat) (len event : ℕ) → m.0.place.position ≡ Control true → m.0.control.purge ≡ None → m.0.holder.turn ≡ None → IsResting m.0.holder.size m.0.holder.ends
+  pub begins_resize : (slots id : ℕ) (m : Sat) (len event : ℕ) → m.0.place.position ≡ Control true → may_resize m.0.control.phase ≡ true → m.0.control.purge ≡ None → m.0.holder.resizing ≡ None → IsResting m.0.holder.size m.0.holder.ends
       → ((b : ℕ) → b < 3 → ((at b m.0.locks).holds ≡ true) × ((at b m.0.locks).stored ≡ false)) → 0 < len → len ≤ k.max_len → 0 < m.0.share.shares
       → Allows (Rule k) slots id m 5 (λ n. n) (resize_begun k.infos k.max_len len event (step slots 5 0 0 none) m)
-  begins_resize slots id m len event position no_purge no_turn rests locked some_len fits some_share s r2 deep here small =
+  begins_resize slots id m len event position phase no_purge no_resizing rests locked some_len fits some_share s r2 deep here small =
       let v : View = m.0 in let live = lt-ltb 0 v.share.shares some_share in let holds : holds_lock v.place.position ≡ true = ap holds_lock position in
-      let r1 = turn_rule k s r2 None (turn_known k s r2 id v None here some_share holds no_turn) in
+      let r1 = resizing_rule k s r2 None (resizing_known k s r2 id v None here some_share holds no_resizing) in
       let first : v.control.first ≡ true = r1.parts.firsts.control id v here live (ap is_control position) in
       let free : r1.qdisc.purge ≡ None = sym (r1.parts.firsts.knows id v here first).1 ∙ no_purge in
       let r : Rule k s = record {
@@ -106,12 +122,15 @@ module _ (k : Setup) where
       let p = r.parts in let g = r.state in let a = account k g in let q = r.qdisc in let W = words_of k s.words in let mid = middle s.views id v here live in let run = p.rings.running refl in
       let D : HolderPart = holders g a W.size in
       let at_ : Holder k.infos W.xoff g.past D (Control true) v.holder = subst (λ (z : Position). Holder k.infos W.xoff g.past D z v.holder) position (p.lends.knows id v here live holds) in
-      let held : ℕ → List ℕ = held_in a in let t : Turn = turn_of len event held W.slots in let e : Event = Resize len event in let g' : State = record g { past = e ∷ g.past; turn = Some t } in let a' : Account = after e a in
+      let held : ℕ → List ℕ = held_in a in let t : HalfResize = resizing_of len event held W.slots in let e : Event = Resize len event in let g' : State = record g { past = e ∷ g.past; resizing = Some t } in let a' : Account = after e a in
       let works : ℕ → Work = λ b. record { kept = take len (held b); waiting = drop len (held b); slots = at b W.slots; hand = [] } in let w : View = beginning t v in
       let rest : IsResting W.size g.ends = subst (λ (z : HolderPart). IsResting z.size z.ends) at_.is rests in
-      let may : a.hand ≡ None = map_none (packet_of k.infos) a.hand (sym at_.in_hand) in let drops : List ℕ = dropped_in len a 0 ++ (dropped_in len a 1 ++ dropped_in len a 2) in
+      let may : a.hand ≡ None = map_none (machine_packet k.infos) a.hand (sym at_.in_hand) in let drops : List ℕ = dropped_in len a 0 ++ (dropped_in len a 1 ++ dropped_in len a 2) in
       let same : (c : ℕ) → locks_at c (set s.views id w) ≡ locks_at c s.views = λ c. locks_same k s.views id v w here c refl in
       let stays_decided = fate-stays k.infos k.station g.past a p.account.brought p.account.order p.account.free e may in
+      let none_held = λ (purged : q.phase ≡ Purged). holds_none k.infos (machine_of q s.views) a p.ties (p.machine.kept.purged_holds_nothing purged).1 in
+      let phase_is : v.control.phase ≡ q.phase = (p.firsts.knows id v here first).0 in
+      let empty : FindsNothing a e = λ x down. none_held (closed_purged q.phase (subst (λ (z : Phase). may_resize z ≡ true) phase_is phase) (sym p.machine.deactivation ∙ (p.ties.down ∙ ap is_some down))) in
       let q' : Qdisc = record q { bands = map (λ (band : List Packet). take len band) q.bands; len = len } in
       let at_control : Seat = record v.place { position = Control true } in
       let stepped_ = controls_in q mid.before mid.after at_control (ResizeStep len) true refl refl (ap (λ (o : Option _). is_none o) free)
@@ -127,13 +146,13 @@ module _ (k : Setup) where
           ties = record { bands_are = ap (λ (bs : List (List Packet)). map (λ (band : List Packet). take len band) bs) p.ties.bands_are ∙ bands_cut k.infos a.bands len; slot = p.ties.slot; len = refl; down = p.ties.down };
           lends = lends_held k s r id v here live holds w q.locked W.xoff (e ∷ g.past) D' refl
               (subst (λ (z : Position). Holder k.infos W.xoff (e ∷ g.past) D' z w.holder) (sym position) record {
-                is = λ j. record (at_.is j) { turn = Some t };
+                is = λ j. record (at_.is j) { resizing = Some t };
                 in_hand = at_.in_hand;
                 looked = λ _ y. absurd (omega arith);
                 stopping = tt;
                 alive = λ _. at_.alive refl;
               });
-          sends = record { unit = p.sends.unit; sent = p.sends.sent };
+          sends = record { unit = p.sends.unit; sent = p.sends.sent; small = p.sends.small };
           packets = each_step (λ u. KnowsPackets k g.past a u.share u.packets) (λ u. KnowsPackets k (e ∷ g.past) a' u.share u.packets) s.views id w p.packets
               (let x = p.packets id v here in let y = quiet_after k g.past a a e v.share v.packets refl (λ _. refl) x in record { own = y.own; fresh = y.fresh; owed = λ n z h. stays_decided n z (x.owed n z h) })
               (λ j u _ _ x. let y = quiet_after k g.past a a e u.share u.packets refl (λ _. refl) x in record { own = y.own; fresh = y.fresh; owed = λ n z h. stays_decided n z (x.owed n z h) });
@@ -144,7 +163,7 @@ module _ (k : Setup) where
                 (λ n. let x = sums n in let y = sums' n in let x0 = times_drop n len (held_in a 0) in let x1 = times_drop n len (held_in a 1) in let x2 = times_drop n len (held_in a 2) in let o = held_once k g.past a p.account n in omega arith)
                 (λ n h. (no_fate a p.account.free n (waits-dropped len a n h), (fate.Shrunk event, with_fates_in drops n (fate.Shrunk event) a.fates h)))
                 (λ n out. with_fates_out drops n (fate.Shrunk event) a.fates out);
-            shrunk = λ u is n h. subst (λ (y : Turn). 0 < waiting_of n y.works → a'.fates n ≡ Some (fate.Shrunk y.event)) (same_Some t u is)
+            shrunk = λ u is n h. subst (λ (y : HalfResize). 0 < waiting_of n y.works → a'.fates n ≡ Some (fate.Shrunk y.event)) (same_Some t u is)
                 (λ some_. with_fates_in drops n (fate.Shrunk event) a.fates (in_times n drops (let x = sums n in let y = sums' n in omega arith))) h;
             purged = λ l is. absurd (none_some is);
           };
@@ -154,12 +173,12 @@ module _ (k : Setup) where
             positive = p.rings.positive;
             within = p.rings.within;
             running = λ c. absurd (none_some (sym c));
-            resizing = λ u is. subst (λ (y : Turn). IsResizing k.max_len W.producers W.slots (set s.views id w) len a'.bands y) (same_Some t u is) record {
+            half_resized = λ u is. subst (λ (y : HalfResize). IsResizing k.max_len W.producers W.slots (set s.views id w) len a'.bands y) (same_Some t u is) record {
               len_is = refl;
               len_positive = some_len;
               len_within = fits;
               kept = λ b h. sym (ap (λ (y : Work). y.kept) (each_at works b h));
-              ring = λ b h. subst (λ (y : List Lock × Work). IsTurning (at b W.slots) (at b W.producers) y.0 (resized (a.bands b) len) y.1.waiting y.1.slots y.1.hand)
+              ring = λ b h. subst (λ (y : List Lock × Work). IsHalfResized (at b W.slots) (at b W.producers) y.0 (resized (a.bands b) len) y.1.waiting y.1.slots y.1.hand)
                   (λ j. (sym (same b) j, sym (each_at works b h) j))
                   (begins _ _ _ _ _ _ (run.ring b h) id (at b v.locks) len (locks_here k s.views id v w here b) (locked b h).0 (locked b h).1 (rest_of W.size b g.ends rest).2 (distinct k (a.bands b).line (p.account.order.lines b)));
               control = each_step (λ _. Unit {0}) IsLocker s.views id w (λ _ _ _. tt) (λ _ _ _. (live, holds))
@@ -167,9 +186,11 @@ module _ (k : Setup) where
             };
           };
           account = account_step k g.past e p.account may tt tt;
+          find_nothing = (p.find_nothing, empty);
+          gone = gone_step k s.views id v w here e tt p.gone refl;
           firsts = firsts_same k s.views id v w here q.phase q.phase q.purge q.purge p.firsts live refl refl refl refl (λ h. h);
           sole = sole_step k s.views id v w here q q' g g' p.shares p.sole some_share refl refl
-              (λ e1 e2. (ap (λ (z : Qdisc). record z { bands = map (λ (band : List Packet). take len band) z.bands; len = len }) e1, ap (λ (z : State). record z { past = e ∷ z.past; turn = Some t }) e2));
+              (λ e1 e2. (ap (λ (z : Qdisc). record z { bands = map (λ (band : List Packet). take len band) z.bands; len = len }) e1, ap (λ (z : State). record z { past = e ∷ z.past; resizing = Some t }) e2));
           settled = settled_same s.views id v w here W.fates p.settled refl;
           given = given_same k s.views id v w here W.turns p.given refl refl refl refl refl;
           stops = p.stops;
@@ -180,19 +201,21 @@ module _ (k : Setup) where
           held,
           W.slots,
           refl,
-          (λ b h. subst (λ (z : HolderPart). IsUnturned z.size k.max_len (at b W.slots) (held b) (at b z.ends)) (sym at_.is)
+          (λ b h. subst (λ (z : HolderPart). IsBeforeResize z.size k.max_len (at b W.slots) (held b) (at b z.ends)) (sym at_.is)
               (unturned _ k.max_len _ _ _ _ _ (run.ring b h) (rest_of W.size b g.ends rest) (slots_long k s.words b r.wide h) (distinct k (a.bands b).line (p.account.order.lines b)))),
-          λ b n _ h. (held-band k.infos k.station g.past a p.account.brought p.account.order b n h, (p.account.brought.packets n (held-brought p.account.brought b n h)).0),
+          (λ b n _ h. (held-band k.infos k.station g.past a p.account.brought p.account.order b n h, (p.account.brought.packets n (held-brought p.account.brought b n h)).0)),
+          (λ purged b below. nothing_in (held_in a b) (λ n is. none-in _ n (none_held (sym phase_is ∙ purged)) (band-held a b n below is))),
+          λ sole b _. ap (λ (y : Account). held_in y b) (sym (knows_account k s r id v here some_share sole)),
         ),
       )
 
   -- control sets the producer of a band
-  pub sets_producer : (slots id : ℕ) (m : Sat) (b i : ℕ) (t : Turn) → b < 3 → holds_lock m.0.place.position ≡ true → m.0.holder.turn ≡ Some t → (at b m.0.locks).holds ≡ true → 0 < m.0.share.shares
+  pub sets_producer : (slots id : ℕ) (m : Sat) (b i : ℕ) (t : HalfResize) → b < 3 → holds_lock m.0.place.position ≡ true → m.0.holder.resizing ≡ Some t → (at b m.0.locks).holds ≡ true → 0 < m.0.share.shares
       → Allows (Rule k) slots id m (6 + b) (λ _. 2 * i + 1) (λ _. producer_set b i (step slots (6 + b) (2 * i + 1) 0 none) m (2 * i + 1))
-  sets_producer slots id m b i t below holds turning locked some_share s r1 deep here small =
-      let v : View = m.0 in let r = turn_rule k s r1 (Some t) (turn_known k s r1 id v (Some t) here some_share holds turning) in
+  sets_producer slots id m b i t below holds under_way locked some_share s r1 deep here small =
+      let v : View = m.0 in let r = resizing_rule k s r1 (Some t) (resizing_known k s r1 id v (Some t) here some_share holds under_way) in
       let p = r.parts in let g = r.state in let a = account k g in let W = words_of k s.words in let w : View = with_lock_at b (locked_at i) v in let live = lt-ltb 0 v.share.shares some_share in
-      let x : ℕ = 2 * i + 1 in let y = p.rings.resizing t refl in
+      let x : ℕ = 2 * i + 1 in let y = p.rings.half_resized t refl in
       let new = reindexes _ _ _ _ _ _ _ id i (at b v.locks) (y.ring b below) (locks_here k s.views id v w here b) locked in (
         w,
         keeps,
@@ -201,16 +224,16 @@ module _ (k : Setup) where
           positive = p.rings.positive;
           within = p.rings.within;
           running = λ calm. absurd (none_some (sym calm));
-          resizing = λ u is. subst (λ (z : Turn). IsResizing k.max_len (put b x W.producers) W.slots (set s.views id w) a.len (bands_now g.left a.bands) z) (same_Some t u is) record {
+          half_resized = λ u is. subst (λ (z : HalfResize). IsResizing k.max_len (put b x W.producers) W.slots (set s.views id w) a.len (bands_now g.left a.bands) z) (same_Some t u is) record {
             len_is = y.len_is;
             len_positive = y.len_positive;
             len_within = y.len_within;
             kept = y.kept;
             ring = λ c l. ⊎_elim
-                (λ (e : c ≡ b). subst (λ (z : ℕ). IsTurning (at z W.slots) (at z (put b x W.producers)) (locks_at z (set s.views id w)) (bands_now g.left a.bands z) (at z t.works).waiting (at z t.works).slots (at z t.works).hand) (sym e)
-                (subst (λ (z : ℕ × List Lock). IsTurning (at b W.slots) z.0 z.1 (bands_now g.left a.bands b) (at b t.works).waiting (at b t.works).slots (at b t.works).hand)
+                (λ (e : c ≡ b). subst (λ (z : ℕ). IsHalfResized (at z W.slots) (at z (put b x W.producers)) (locks_at z (set s.views id w)) (bands_now g.left a.bands z) (at z t.works).waiting (at z t.works).slots (at z t.works).hand) (sym e)
+                (subst (λ (z : ℕ × List Lock). IsHalfResized (at b W.slots) z.0 z.1 (bands_now g.left a.bands b) (at b t.works).waiting (at b t.works).slots (at b t.works).hand)
                 (λ j. (sym (at_put_same b x W.producers) j, sym (locks_after k s.views id v w here b ∙ ap (set (locks_at b s.views) id) (at_put_same b (locked_at i) v.locks)) j)) new))
-                (λ (n : c ≢ b). subst (λ (z : ℕ × List Lock). IsTurning (at c W.slots) z.0 z.1 (bands_now g.left a.bands c) (at c t.works).waiting (at c t.works).slots (at c t.works).hand)
+                (λ (n : c ≢ b). subst (λ (z : ℕ × List Lock). IsHalfResized (at c W.slots) z.0 z.1 (bands_now g.left a.bands c) (at c t.works).waiting (at c t.works).slots (at c t.works).hand)
                 (λ j. (sym (at_put_other b c x W.producers below l n) j, sym (locks_same k s.views id v w here c (at_put_other b c (locked_at i) v.locks below l n)) j)) (y.ring c l))
                 (cases_eq c b);
             control = each_same IsLocker s.views id w y.control (λ _ _ _. (live, holds));
@@ -220,14 +243,14 @@ module _ (k : Setup) where
       )
 
   -- the size is stored, once the slots have what each band keeps, the producers are set and no fate is owed
-  pub stores_size : (slots id : ℕ) (m : Sat) (t : Turn) → holds_lock m.0.place.position ≡ true → m.0.holder.turn ≡ Some t → 0 < m.0.share.shares
+  pub stores_size : (slots id : ℕ) (m : Sat) (t : HalfResize) → holds_lock m.0.place.position ≡ true → m.0.holder.resizing ≡ Some t → 0 < m.0.share.shares
       → ((b : ℕ) → b < 3 → IsRefilled (at b t.works).slots (at b t.works).kept t.len × (at b m.0.locks ≡ locked_at (round t.len (length (at b t.works).kept))) × ((at b t.works).waiting ≡ []))
       → Allows (Rule k) slots id m 5 (λ _. t.len) (λ _. size_stored t (step slots 5 t.len 0 none) m t.len)
-  stores_size slots id m t holds turning some_share ready s r1 deep here small =
-      let v : View = m.0 in let r = turn_rule k s r1 (Some t) (turn_known k s r1 id v (Some t) here some_share holds turning) in let live = lt-ltb 0 v.share.shares some_share in
+  stores_size slots id m t holds under_way some_share ready s r1 deep here small =
+      let v : View = m.0 in let r = resizing_rule k s r1 (Some t) (resizing_known k s r1 id v (Some t) here some_share holds under_way) in let live = lt-ltb 0 v.share.shares some_share in
       let p = r.parts in let g = r.state in let a = account k g in let q = r.qdisc in let W = words_of k s.words in let w : View = restarted t v in
       let at_ = p.lends.knows id v here live holds in let mach = stays k s r id v w here live refl refl refl in
-      let res = p.rings.resizing t refl in let ends' : Three Ends = all_three at_start in let g' : State = record g { ends = ends'; turn = None } in let D' : HolderPart = holders g' a t.len in (
+      let res = p.rings.half_resized t refl in let ends' : Three Ends = all_three at_start in let g' : State = record g { ends = ends'; resizing = None } in let D' : HolderPart = holders g' a t.len in (
         w,
         keeps,
         tt,
@@ -237,7 +260,7 @@ module _ (k : Setup) where
           stands = record { state = p.stands.state; lock = p.stands.lock; xoff = p.stands.xoff; inside = p.stands.inside; bypass = p.stands.bypass };
           ties = p.ties;
           lends = lends_held k s r id v here live holds w q.locked W.xoff g.past D' refl record {
-            is = λ j. record (at_.is j) { size = t.len; ends = ends'; turn = None };
+            is = λ j. record (at_.is j) { size = t.len; ends = ends'; resizing = None };
             in_hand = at_.in_hand;
             looked = at_.looked;
             stopping = at_.stopping;
@@ -267,11 +290,13 @@ module _ (k : Setup) where
                   (restarts t.len _ _ _ _ _ _ _ old res.len_positive (subst (λ (z : List ℕ × List ℕ). IsRefilled z.0 z.1 t.len) (λ j. (sym old.known_is j, sym line j)) y.0) index
                   (just_got _ id _ (at b v.locks) at_l y.1 (omega arith)));
             };
-            resizing = λ u is. absurd (none_some is);
+            half_resized = λ u is. absurd (none_some is);
           };
           account = p.account;
+          find_nothing = p.find_nothing;
+          gone = gone_same k s.views id v w here p.gone refl;
           firsts = mach.firsts;
-          sole = sole_step k s.views id v w here q q g g' p.shares p.sole some_share refl refl (λ e1 e2. (e1, ap (λ (z : State). record z { ends = ends'; turn = None }) e2));
+          sole = sole_step k s.views id v w here q q g g' p.shares p.sole some_share refl refl (λ e1 e2. (e1, ap (λ (z : State). record z { ends = ends'; resizing = None }) e2));
           settled = settled_same s.views id v w here W.fates p.settled refl;
           given = given_same k s.views id v w here W.turns p.given refl refl refl refl refl;
           stops = p.stops;

@@ -18,7 +18,7 @@ use Rattle.lq_model.specs.declared.fate.Info.{Info}
 use Rattle.lq_band.specs.Times.{times}
 use Rattle.lq_band.proofs.Times.{in_times, times_in, times_none, times_same, times_other}
 use Rattle.lq_table.specs.Views.{View, Setup}
-use Rattle.lq_table.specs.Rule.{account, count_at, Rule}
+use Rattle.lq_table.specs.Rule.{account, station_count, Rule}
 
 abbrev one_where : Bool → ℕ
 one_where b = if b then 1 else 0
@@ -83,11 +83,11 @@ fewer infos station ys once of (suc i) l =
         let none_ : times i ys ≡ 0 = times_none i ys (λ has. true≢false (sym (eq-eqb x.station station (sym (ap (λ (o : Option Info). option_map_or (λ (info : Info). info.station) o 0) here) ∙ of i (times_in i ys has))) ∙ no_)) in omega arith)
         (either_way (x.station == station)))
 
-pub distinct_packets : (infos : List Info) (station : ℕ) (ys : List ℕ) → ((y : ℕ) → times y ys ≤ 1) → ((y : ℕ) → 0 < times y ys → (y < length infos) × (station_in infos y ≡ station)) → length ys ≤ count_at infos station
+pub distinct_packets : (infos : List Info) (station : ℕ) (ys : List ℕ) → ((y : ℕ) → times y ys ≤ 1) → ((y : ℕ) → 0 < times y ys → (y < length infos) × (station_in infos y ≡ station)) → length ys ≤ station_count infos station
 distinct_packets infos station ys once of =
     let all : below (length infos) ys ≡ length ys = below_all (length infos) ys (λ y h. (of y h).0) in
     let most = fewer infos station ys once (λ y h. (of y h).1) (length infos) (omega arith) in
-    let whole : count_by (λ (info : Info). info.station == station) (take (length infos) infos) ≡ count_at infos station = ap (count_by (λ (info : Info). info.station == station)) (take-length infos) in omega arith
+    let whole : count_by (λ (info : Info). info.station == station) (take (length infos) infos) ≡ station_count infos station = ap (count_by (λ (info : Info). info.station == station)) (take-length infos) in omega arith
 
 -- a list in which no element stands at two places
 once_if : (xs : List ℕ) → ((i j l : ℕ) → slice_get xs i ≡ Some l → slice_get xs j ≡ Some l → i ≡ j) → (l : ℕ) → times l xs ≤ 1
@@ -113,9 +113,9 @@ has_room k s r n hand =
     let once : (l : ℕ) → times l xs ≤ 1 = once_if xs (λ i j l is is'. same_serial a.unit i j (sym (fate i l is) ∙ fate j l is')) in
     let known : (l : ℕ) → 0 < times l xs → (f : Fate) × (a.fates l ≡ Some f) = λ l h. (let has = in_times l xs h in (Sent a.unit has.0, fate has.0 l (slice_get_read xs (length xs) has.0 l refl has.1 (sym has.2)))) in
     let new : times n xs ≡ 0 = times_none n xs (λ has. let f = known n (times_in n xs has) in acc.free n f.0 (in_hand hand) f.1) in
-    let most : length (n ∷ xs) ≤ count_at k.infos k.station = distinct_packets k.infos k.station (n ∷ xs)
+    let most : length (n ∷ xs) ≤ station_count k.infos k.station = distinct_packets k.infos k.station (n ∷ xs)
     (λ l. ⊎_elim (λ (same : l ≡ n). let t = times_same l n xs same in let z : times l xs ≡ 0 = ap (λ (y : ℕ). times y xs) same ∙ new in omega arith) (λ (other : l ≢ n). let t = times_other l n xs other in let o = once l in omega arith) (cases_eq l n))
     (λ l h. ⊎_elim (λ (same : l ≡ n). subst (λ (y : ℕ). (y < length k.infos) × (station_in k.infos y ≡ k.station)) (sym same) (acc.brought.packets n (acc.brought.hand n hand)))
     (λ (other : l ≢ n). let t = times_other l n xs other in let f = known l (omega arith) in acc.brought.packets l (acc.brought.fates l f.0 f.1)) (cases_eq l n)) in
-    let all : count_at k.infos k.station ≤ length k.infos = count_by-le-length (λ (info : Info). info.station == k.station) k.infos in
+    let all : station_count k.infos k.station ≤ length k.infos = count_by-le-length (λ (info : Info). info.station == k.station) k.infos in
     let room = p.device.room in (omega arith, omega arith)

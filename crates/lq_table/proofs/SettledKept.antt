@@ -30,7 +30,7 @@ word_positive (fate.Purged (cause.Hung unit)) e = omega arith
 word_positive (fate.Refused event) e = omega arith
 
 -- an element of a list with one more is that one or one of the others
-in_front : {X : Type 0} (x : X) (xs : List X) (y : X) → Contains (x ∷ xs) y → (x ≡ y) ⊎ Contains xs y
+pub in_front : {X : Type 0} (x : X) (xs : List X) (y : X) → Contains (x ∷ xs) y → (x ≡ y) ⊎ Contains xs y
 in_front x xs y (zero, l, e) = inl e
 in_front x xs y (suc i, l, e) = inr (i, omega arith, e)
 

@@ -1,5 +1,5 @@
 -- What the words tell a seat that has the table alone.
-use Rattle.std.proofs.Common.{None, ◌≡◌, ℕ, ◌<◌, true, List, Option, get_or, sym, ap, ap₂, ◌∙◌}
+use Rattle.std.proofs.Common.{None, ◌≡◌, ℕ, ◌+◌, ◌*◌, ◌<◌, ◌≤◌, arith, Bool, true, false, List, Option, get_or, refl, sym, ap, ap₂, ◌∙◌}
 use Rattle.std.specs.Prelude.{is_some, slice_index}
 use Rattle.std.proofs.lemmas.Bool.{lt-ltb}
 use mathlib.Core.Option.{some}
@@ -7,18 +7,35 @@ use lib.ListN.{get_elem?}
 use Rattle.atomic_table.specs.Table as table
 use Rattle.lq_device.specs.Station.{StationState}
 use Rattle.lq_model.specs.Account.{Account}
-use Rattle.lq_model.specs.Machine.{Qdisc, bit}
-use Rattle.lq_model.specs.Kept.{holds_lock}
-use Rattle.lq_table.specs.Views.{View, Setup, State, HolderPart}
+use Rattle.lq_model.specs.Machine.{Qdisc, bit, state_word}
+use Rattle.lq_model.specs.Positions.{holds_lock}
+use Rattle.lq_table.specs.Views.{View, Setup, State, HolderPart, first_account}
+use Rattle.lq_account.specs.Trail.{down_of}
+use Rattle.lq_account.proofs.Trails.{down-is}
 use Rattle.lq_table.specs.Rule.{words_of, xoff_word, account, holders, event_word, Rule}
 use Rattle.lq_table.specs.Told.{is_set}
-use Rattle.lq_table.specs.Solo.{IsSole, account_of, SeesState, IsAccounts}
+use Rattle.lq_table.specs.Solo.{IsSole, account_of, SeesState, SeesDown, IsAccounts, HasSent}
 use Rattle.lq_table.proofs.Bits.{has_sched, has_deactivated, has_missed, has_draining}
 use Rattle.lq_table.proofs.ByName.{xoff_of}
 use Rattle.lq_table.proofs.StopsKept.{agree}
 
+bit_small : (b : Bool) → bit b ≤ 1
+bit_small true = omega arith
+bit_small false = omega arith
+
+four_bits : (s d m r : Bool) → bit s + 2 * bit d + 4 * bit m + 8 * bit r < 16
+four_bits s d m r = let a = bit_small s in let b = bit_small d in let c = bit_small m in let e = bit_small r in omega arith
+
+-- what the state word tells the first seat
+pub sees_down : (k : Setup) (s : table.State (Option StationState) View) (r : Rule k s) (id : ℕ) (v : View) → get_elem? s.views id ≡ some v → v.control.first ≡ true → SeesDown v (get_or s.words 1 0)
+sees_down k s r id v here first = let q = r.qdisc in let t = r.parts.stands in let e : ℕ = event_word (account k r.state).down in
+    let down : down_of v.trail ≡ (account k r.state).down = ap down_of (r.parts.trails.knows id v here first) ∙ down-is k.infos (first_account k) refl r.state.past in record {
+      down = ap (is_set 2) t.state ∙ has_deactivated q.sched q.deactivated q.missed q.draining e ∙ r.parts.ties.down ∙ sym (ap (λ (o : Option ℕ). is_some o) down);
+      event = λ event is. (state_word q, four_bits q.sched q.deactivated q.missed q.draining, t.state ∙ ap (λ (o : Option ℕ). state_word q + 256 * event_word o) (sym down ∙ is));
+    }
+
 module _ (k : Setup) (s : table.State (Option StationState) View) (r : Rule k s) (id : ℕ) (v : View) (here : get_elem? s.views id ≡ some v) (some_share : 0 < v.share.shares) (sole : IsSole v) where
-  knows_qdisc : v.whole.qdisc ≡ r.qdisc
+  pub knows_qdisc : v.whole.qdisc ≡ r.qdisc
   knows_qdisc = (r.parts.sole id v here sole.0 sole.1).0
 
   pub knows_account : account_of v ≡ account k r.state
@@ -33,6 +50,7 @@ module _ (k : Setup) (s : table.State (Option StationState) View) (r : Rule k s)
     down = ap (is_set 2) t.state ∙ has_deactivated q.sched q.deactivated q.missed q.draining e ∙ r.parts.ties.down ∙ sym (ap (λ (a : Account). is_some a.down) knows_account);
     missed = ap (is_set 4) t.state ∙ has_missed q.sched q.deactivated q.missed q.draining e ∙ sym (ap (λ (z : Qdisc). z.missed) knows_qdisc);
     draining = ap (is_set 8) t.state ∙ has_draining q.sched q.deactivated q.missed q.draining e ∙ sym (ap (λ (z : Qdisc). z.draining) knows_qdisc);
+    event = λ event down. (state_word q, four_bits q.sched q.deactivated q.missed q.draining, t.state ∙ ap (λ (o : Option ℕ). state_word q + 256 * event_word o) (ap (λ (a : Account). a.down) (sym knows_account) ∙ down));
   }
 
   pub sees_lock : get_or s.words 2 0 ≡ bit v.whole.qdisc.locked
@@ -49,3 +67,7 @@ module _ (k : Setup) (s : table.State (Option StationState) View) (r : Rule k s)
   holds_accounts holds = let at = r.parts.lends.knows id v here (lt-ltb 0 v.share.shares some_share) holds in
       let size : (words_of k s.words).size ≡ v.holder.size = sym (ap (λ (z : HolderPart). z.size) at.is) in
       at.is ∙ ap (holders r.state (account k r.state)) size ∙ knows_holders v.holder.size
+
+  pub holds_sent : holds_lock v.place.position ≡ true → HasSent v
+  holds_sent holds = let at = r.parts.lends.knows id v here (lt-ltb 0 v.share.shares some_share) holds in
+      ap (λ (a : Account). a.sent a.unit) knows_account ∙ (r.parts.sends.sent ∙ sym (ap (λ (z : HolderPart). z.station.device.accepted) at.is))

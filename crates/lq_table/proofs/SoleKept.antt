@@ -9,7 +9,7 @@ use Rattle.atomic_table.specs.Table as table
 use Rattle.lq_device.specs.Station.{StationState}
 use Rattle.lq_model.specs.Account.{Account, held_in}
 use Rattle.lq_model.specs.Control.{is_control}
-use Rattle.lq_model.specs.Kept.{holds_lock, may_be_inside}
+use Rattle.lq_model.specs.Positions.{holds_lock, may_be_inside}
 use Rattle.lq_band.specs.Three.{at}
 use Rattle.lq_band.specs.Ring.{Ends, is_emptying}
 use Rattle.lq_band.proofs.Kept.{finds_none, takes}
@@ -23,13 +23,13 @@ use Rattle.atomic_table.specs.Table.{step, Allows}
 use Rattle.lq_model.specs.declared.machine.Position.TheVariants.{Check, Recheck, Scan, Idle}
 use Rattle.lq_model.specs.Machine.{bit}
 use Rattle.std.specs.Prelude.{slice_index}
-use Rattle.lq_table.specs.Views.{View, Setup, HolderPart, packet_of}
+use Rattle.lq_table.specs.Views.{View, Setup, HolderPart, machine_packet}
 use Rattle.lq_table.specs.Rule.{words_of, slot_word, account, xoff_word, Rule}
 use Rattle.lq_table.specs.Told.{Sat, loads_state, misses, schedules, tries_lock, loads_stop, stop_queue, looked, checked, rechecked, missed_now, scheduled_now, stop_loaded, woken, tried}
 use Rattle.lq_table.specs.Rings.{head_seen}
-use Rattle.lq_table.specs.Solo.{IsSole, SeesState, SeesStop, account_of, looked_all, checked_all, rechecked_all, missed_all, scheduled_all, stop_loaded_all, woken_all, tried_all, TellsHead, head_seen_all}
+use Rattle.lq_table.specs.Solo.{IsSole, SeesState, SeesChecked, SeesStop, account_of, looked_all, checked_all, rechecked_all, missed_all, scheduled_all, stop_loaded_all, woken_all, tried_all, TellsHead, head_seen_all}
 use Rattle.lq_table.proofs.Loads.{also}
-use Rattle.lq_table.proofs.SoleFacts.{knows_account, sees_state, sees_lock, sees_stop, holds_accounts}
+use Rattle.lq_table.proofs.SoleFacts.{knows_account, sees_down, sees_state, sees_lock, sees_stop, holds_accounts, holds_sent}
 use Rattle.lq_table.proofs.QuietKept.{looks_all, misses_kept, schedules_kept}
 use Rattle.lq_table.proofs.RefuseKept.{checks}
 use Rattle.lq_table.proofs.DirectKept.{rechecks}
@@ -44,10 +44,10 @@ module _ (k : Setup) (slots id : ℕ) (m : Sat) where
   pub looks_sole : loads_state m.0.place.position ≡ true → 0 < m.0.share.shares → Allows (Rule k) slots id m 1 (λ n. n) (looked_all (step slots 1 0 0 none) m)
   looks_sole at some_share = also k slots id m 1 (λ n. n) (looked (step slots 1 0 0 none) m) sees (λ s r here sole. sees_state k s r id m.0 here some_share sole) (looks_all k slots id m at some_share)
 
-  pub checks_sole : (n : ℕ) → m.0.place.position ≡ Check (packet_of k.infos n) → m.0.packets.fresh ≡ Some n → m.0.packets.owed ≡ None → 0 < m.0.share.shares → Allows (Rule k) slots id m 1 (λ x. x) (checked_all n (step slots 1 0 0 none) m)
-  checks_sole n at fresh owed some_share = also k slots id m 1 (λ x. x) (checked n (step slots 1 0 0 none) m) sees (λ s r here sole. sees_state k s r id m.0 here some_share sole) (checks k slots id n m at fresh owed some_share)
+  pub checks_sole : (n : ℕ) → m.0.place.position ≡ Check (machine_packet k.infos n) → m.0.packets.fresh ≡ Some n → m.0.packets.owed ≡ None → 0 < m.0.share.shares → Allows (Rule k) slots id m 1 (λ x. x) (checked_all n (step slots 1 0 0 none) m)
+  checks_sole n at fresh owed some_share = also k slots id m 1 (λ x. x) (checked n (step slots 1 0 0 none) m) (SeesChecked m.0) (λ s r here. (λ sole. sees_state k s r id m.0 here some_share sole, λ first. sees_down k s r id m.0 here first)) (checks k slots id n m at fresh owed some_share)
 
-  pub rechecks_sole : (n : ℕ) → m.0.place.position ≡ Recheck (packet_of k.infos n) → m.0.packets.fresh ≡ Some n → 0 < m.0.share.shares → Allows (Rule k) slots id m 1 (λ x. x) (rechecked_all n (step slots 1 0 0 none) m)
+  pub rechecks_sole : (n : ℕ) → m.0.place.position ≡ Recheck (machine_packet k.infos n) → m.0.packets.fresh ≡ Some n → 0 < m.0.share.shares → Allows (Rule k) slots id m 1 (λ x. x) (rechecked_all n (step slots 1 0 0 none) m)
   rechecks_sole n at fresh some_share = also k slots id m 1 (λ x. x) (rechecked n (step slots 1 0 0 none) m) sees (λ s r here sole. sees_state k s r id m.0 here some_share sole) (rechecks k slots id n m at fresh some_share)
 
   pub misses_sole : misses m.0.place.position ≡ true → 0 < m.0.share.shares → Allows (Rule k) slots id m 1 (λ n. bit_or n 4) (missed_all (step slots 1 4 0 none) m)
@@ -63,7 +63,7 @@ module _ (k : Setup) (slots id : ℕ) (m : Sat) where
       → Allows (Rule k) slots id m (xoff_word k queue) (λ x. x) (stop_loaded_all queue (step slots (xoff_word k queue) 0 0 none) m)
   loads_stop_sole queue at of_queue below few some_share = also k slots id m (xoff_word k queue) (λ x. x) (stop_loaded (step slots (xoff_word k queue) 0 0 none) m)
       (SeesStop queue m.0)
-      (λ s r here. ((λ sole no_shut. sees_stop k s r id m.0 here some_share sole no_shut queue), λ sole. holds_accounts k s r id m.0 here some_share sole))
+      (λ s r here. ((λ sole no_shut. sees_stop k s r id m.0 here some_share sole no_shut queue), λ sole. holds_accounts k s r id m.0 here some_share sole, λ sole. holds_sent k s r id m.0 here some_share sole))
       (loads_stop_word k slots id queue m at of_queue below few some_share)
 
   pub wakes_sole : (queue : ℕ) → queue < k.queues → m.0.place.position ≡ Idle → 0 < m.0.share.shares → Allows (Rule k) slots id m (xoff_word k queue) (λ n. either (eqb n 1) 0 n) (woken_all queue (step slots (xoff_word k queue) 1 0 none) m)
@@ -71,12 +71,12 @@ module _ (k : Setup) (slots id : ℕ) (m : Sat) where
       (λ s r here sole no_shut. sees_stop k s r id m.0 here some_share sole no_shut queue) (wakes k slots id queue m below at some_share)
 
   -- what stands in the slot at the head of a band whose consumer rests
-  sees_first : (b i : ℕ) (second : Bool) → b < 3 → i < k.max_len → m.0.place.position ≡ Scan b second → m.0.holder.turn ≡ None → is_emptying m.0.holder.size (at b m.0.holder.ends) ≡ false → i ≡ (at b m.0.holder.ends).head → 0 < m.0.share.shares
+  sees_first : (b i : ℕ) (second : Bool) → b < 3 → i < k.max_len → m.0.place.position ≡ Scan b second → m.0.holder.resizing ≡ None → is_emptying m.0.holder.size (at b m.0.holder.ends) ≡ false → i ≡ (at b m.0.holder.ends).head → 0 < m.0.share.shares
       → (s : table.State (Option StationState) View) → Rule k s → get_elem? s.views id ≡ some m.0 → TellsHead b m.0 (get_or s.words (slot_word k b i) 0)
-  sees_first b i second below inside position no_turn rests is_head some_share s r0 here =
+  sees_first b i second below inside position no_resizing rests is_head some_share s r0 here =
       let v : View = m.0 in let live = lt-ltb 0 v.share.shares some_share in let r = calm_rule k s r0 id v here live (ap may_be_inside position) (ap is_control position) in let p = r.parts in let g = r.state in let a = account k g in let W = words_of k s.words in
       let at_scan = p.lends.knows id v here live (ap holds_lock position) in
-      let calm : g.turn ≡ None = sym (ap (λ (x : HolderPart). x.turn) at_scan.is) ∙ no_turn in let old = (p.rings.running calm).ring b below in
+      let calm : g.resizing ≡ None = sym (ap (λ (x : HolderPart). x.resizing) at_scan.is) ∙ no_resizing in let old = (p.rings.running calm).ring b below in
       let c : Ends = at b g.ends in let c_is : at b v.holder.ends ≡ c = ap (λ (x : HolderPart). at b x.ends) at_scan.is in
       let f : ℕ = get_or s.words (slot_word k b i) 0 in
       let word : f ≡ get_or (at b W.slots) c.head 0 = slot_of k s.words b i below inside ∙ ap (λ (x : ℕ). get_or (at b W.slots) x 0) (is_head ∙ ap (λ (x : Ends). x.head) c_is) in
@@ -88,7 +88,7 @@ module _ (k : Setup) (slots id : ℕ) (m : Sat) where
         (λ other. knows_held k s r id v here live b (f - 1) (first other)),
       )
 
-  pub sees_head_sole : (b i : ℕ) (second : Bool) → b < 3 → i < k.max_len → m.0.place.position ≡ Scan b second → m.0.holder.turn ≡ None → is_emptying m.0.holder.size (at b m.0.holder.ends) ≡ false → i ≡ (at b m.0.holder.ends).head → 0 < m.0.share.shares → length k.infos ≤ 1000000
+  pub sees_head_sole : (b i : ℕ) (second : Bool) → b < 3 → i < k.max_len → m.0.place.position ≡ Scan b second → m.0.holder.resizing ≡ None → is_emptying m.0.holder.size (at b m.0.holder.ends) ≡ false → i ≡ (at b m.0.holder.ends).head → 0 < m.0.share.shares → length k.infos ≤ 1000000
       → Allows (Rule k) slots id m (slot_word k b i) (λ x. x) (head_seen_all b (step slots (slot_word k b i) 0 0 none) m)
-  sees_head_sole b i second below inside position no_turn rests is_head some_share few = also k slots id m (slot_word k b i) (λ x. x) (head_seen b (step slots (slot_word k b i) 0 0 none) m) (TellsHead b m.0)
-      (sees_first b i second below inside position no_turn rests is_head some_share) (sees_head k slots id m b i second below inside position no_turn rests is_head some_share few)
+  sees_head_sole b i second below inside position no_resizing rests is_head some_share few = also k slots id m (slot_word k b i) (λ x. x) (head_seen b (step slots (slot_word k b i) 0 0 none) m) (TellsHead b m.0)
+      (sees_first b i second below inside position no_resizing rests is_head some_share) (sees_head k slots id m b i second below inside position no_resizing rests is_head some_share few)

@@ -19,10 +19,10 @@ use Rattle.lq_model.specs.declared.machine.Seat.{Seat}
 use Rattle.lq_model.specs.declared.machine.Packet.{Packet}
 use Rattle.lq_model.specs.Machine.{Qdisc, Purge, is_non_empty}
 use Rattle.lq_model.specs.Control.{is_control}
-use Rattle.lq_model.specs.Kept.{in_hand}
+use Rattle.lq_model.specs.Positions.{in_hand}
 use Rattle.lq_model.specs.Steps.{After, step_at, begun, run_begins, goes_to, gives_up, lock_got, try_lock, call_ends}
-use Rattle.lq_table.specs.Views.{View, HolderPart, packet_of}
-use Rattle.lq_table.specs.Told.{seen_by, seen_state, loads_state, misses, schedules, clears_missed, clears_draining, clears_sched, sets_missed, sets_draining, looking, missing, scheduling, backing, passing, setting, stepped, refusing, going, entering, bringing_packet, call_of, unlocks_at, unlocking, unlocking_control, unlocking_call, seen_lock, loading, picking, behind_stop, is_dequeue, storing, storing_from, stop_value, settling, answer_of, tries_lock, got, got_in_control, got_in_call, held}
+use Rattle.lq_table.specs.Views.{View, HolderPart, machine_packet}
+use Rattle.lq_table.specs.Told.{seen_by, seen_state, loads_state, misses, schedules, clears_missed, clears_draining, clears_sched, sets_missed, sets_draining, looking, missing, scheduling, backing, passing, setting, stepped, refusing, going, entering, bringing_packet, call_of, unlocks_at, unlocking, unlocking_control, unlocking_call, seen_lock, loading, picking, after_stop, is_dequeue, storing, storing_from, stop_value, settling, machine_answer, tries_lock, got, got_in_control, got_in_call, finding_locked}
 use Rattle.lq_table.specs.Solo.{Solo, solo, missed_to, draining_to, sched_set, sched_cleared, laid, heard, entered_as, locked_to, picks, stop_found, device_to, fated_as}
 
 either_raised : (b : Bool) (x y : After) (c : Bool) → x.seat.raised ≡ c → y.seat.raised ≡ c → (if b then x else y).seat.raised ≡ c
@@ -200,7 +200,7 @@ module _ (v : View) where
       by _ is h' = absurd cc
 
   pub loads_stop_solo : (x : ℕ) → solo (loading x v) ≡ stop_found x v (solo v)
-  loads_stop_solo x = by (is_dequeue v.place.position && (x == 0)) v.holder.slot (record v { place = record v.place { position = behind_stop (option_map (packet_of v.share.about.infos) v.holder.slot) x v.place.position } }) refl
+  loads_stop_solo x = by (is_dequeue v.place.position && (x == 0)) v.holder.slot (record v { place = record v.place { position = after_stop (option_map (machine_packet v.share.about.infos) v.holder.slot) x v.place.position } }) refl
     where
       by : (b : Bool) (slot : Option ℕ) (w : View) → solo w ≡ solo v → solo (if b then picking slot w else w) ≡ (if b then picks slot (solo v) else solo v)
       by true None w e = e
@@ -218,7 +218,7 @@ module _ (v : View) where
         };
       }) is)
 
--- behind a try of a sole seat the lock is held
+-- after a try of a sole seat the lock is held
 try_words : (attempt : Attempt) (q : Qdisc) (s : Seat) → (lock_got attempt q s).qdisc ≡ q
 try_words (Direct p) q s = refl
 try_words (Queued p) q s = refl
@@ -249,13 +249,13 @@ module _ (v : View) (at_try : tries_lock v.place.position ≡ true) where
       by true e = refl
       by false e = solo_step v (seen_lock (seen_by (record v { holder = d })) false) (λ q. record q { locked = true }) (tries_leaves v.place.position at_try e)
 
-  pub held_solo : v.whole.qdisc.locked ≡ true → solo (held v) ≡ locked_to true (solo v)
+  pub held_solo : v.whole.qdisc.locked ≡ true → solo (finding_locked v) ≡ locked_to true (solo v)
   held_solo locked = by (is_control v.place.position) refl
     where
-      by : (b : Bool) → is_control v.place.position ≡ b → solo (held v) ≡ locked_to true (solo v)
+      by : (b : Bool) → is_control v.place.position ≡ b → solo (finding_locked v) ≡ locked_to true (solo v)
       by true e = ⊎_elim (λ (c : _). c) (λ (c : _). absurd (true≢false (sym e ∙ c))) (control_solo v.place.position refl)
         where
-          control_solo : (y : Position) → v.place.position ≡ y → (solo (held v) ≡ locked_to true (solo v)) ⊎ (is_control v.place.position ≡ false)
+          control_solo : (y : Position) → v.place.position ≡ y → (solo (finding_locked v) ≡ locked_to true (solo v)) ⊎ (is_control v.place.position ≡ false)
           control_solo (at.Control holds) is = inl (solo_step v (seen_lock (seen_by v) true) (λ q. q) (subst (λ (y : Position). Leaves y (λ q. q)) (sym is) record { raised = λ seen s. refl; words = λ q s. refl }) ∙ (λ j. locked_to (locked j) (solo v)))
           control_solo y is = inr (ap is_control is ∙ cc)
       by false e = solo_step v (seen_lock (seen_by v) true) (λ q. record q { locked = true }) (tries_leaves v.place.position at_try e)
@@ -273,7 +273,7 @@ at_device v st y answer = record (device_to st.device (heard Send (solo v))) {
 }
 
 pub settles_solo : (v : View) (st : StationState) (p : Packet) (direct : Bool) → v.place.position ≡ at.Xmit p direct → solo (settling st v) ≡ device_to st.device (heard Send (solo v))
-settles_solo v st p direct is = ap (λ (y : Position). at_device v st y (answer_of st.last)) is ∙ by (answer_of st.last)
+settles_solo v st p direct is = ap (λ (y : Position). at_device v st y (machine_answer st.last)) is ∙ by (machine_answer st.last)
   where
     by : (answer : Answer) → at_device v st (at.Xmit p direct) answer ≡ device_to st.device (heard Send (solo v))
     by answer.Plain = refl

@@ -10,13 +10,15 @@ use lib.ListN.{get_elem?}
 use Rattle.lq_model.specs.declared.machine.Phase.{Phase}
 use Rattle.lq_model.specs.declared.machine.Phase.TheVariants.{Purged}
 use Rattle.lq_model.specs.Control.{is_quiet}
-use Rattle.lq_model.specs.Kept.{IsInductive, may_be_inside}
+use Rattle.lq_model.specs.Positions.{may_be_inside}
+use Rattle.lq_model.specs.Kept.{IsInductive}
 use Rattle.lq_model.specs.Machine.{Qdisc}
 use Rattle.lq_model.specs.declared.machine.Seat.{Seat}
 use Rattle.lq_table.specs.Views.{View}
 use Rattle.lq_table.specs.Rule.{machine_of, is_live, AreStops}
-use Rattle.lq_table.specs.Controls.{shut_behind}
-use Rattle.lq_table.proofs.Middle.{middle, here}
+use Rattle.lq_table.specs.Controls.{shut_after}
+use Rattle.lq_run_core.proofs.Among.{among-at as here}
+use Rattle.lq_table.proofs.Middle.{middle}
 use Rattle.lq_table.proofs.Frames.{opened}
 
 module _ (phase : Phase) (locked : Bool) (xoff stops : List ℕ) where
@@ -70,10 +72,10 @@ no_two [] c e = absurd (omega arith)
 no_two (x ∷ xs) zero e = absurd (omega arith)
 no_two (x ∷ xs) (suc c) e = no_two xs c e
 
--- behind the store of this queue's word
-pub behind_open : (xs stops : List ℕ) (queue n : ℕ) (phase : Phase) (locked : Bool) → phase ≡ Purged → locked ≡ true → n ≡ length xs → queue < n → ((c : ℕ) → c < queue → slice_index xs c ≡ 0) → stops ≡ map (λ _. 0) xs
-    → AreStops (shut_behind queue n) phase locked (set xs queue 0) stops
-behind_open xs stops queue n phase locked purged held long below opened_ all_open = by (nat_lt (queue + 1) n) refl
+-- after the store of this queue's word
+pub after_open : (xs stops : List ℕ) (queue n : ℕ) (phase : Phase) (locked : Bool) → phase ≡ Purged → locked ≡ true → n ≡ length xs → queue < n → ((c : ℕ) → c < queue → slice_index xs c ≡ 0) → stops ≡ map (λ _. 0) xs
+    → AreStops (shut_after queue n) phase locked (set xs queue 0) stops
+after_open xs stops queue n phase locked purged held long below opened_ all_open = by (nat_lt (queue + 1) n) refl
   where
     zeros : (c : ℕ) → c < queue + 1 → slice_index (set xs queue 0) c ≡ 0
     zeros c l = dite (ℕ_discrete c queue) (λ same. ap (λ (z : ℕ). get_or (set xs queue 0) z 0) same ∙ get_or-set_same xs queue 0 0 (omega (arith, long, below))) (λ other. get_or-set_other xs queue c 0 0 other ∙ opened_ c (omega (arith, l, other)))

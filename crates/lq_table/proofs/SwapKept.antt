@@ -1,4 +1,4 @@
--- Control exchanges the device, behind a purge: the stop word is 0 again, and the new unit has sent nothing.
+-- Control exchanges the device, after a purge: the stop word is 0 again, and the new unit has sent nothing.
 use Rattle.std.proofs.Common.{◌≡◌, ℕ, zero, suc, ◌≤◌, Bool, ne_eqb, Contains, ◌-◌, ◌<◌, true, false, true≢false, List, [], ◌∷◌, ◌++◌, map, length, set, refl, sym, ap, ap₂, ◌∙◌, subst, arith, Option, Some, None}
 use Rattle.std.specs.Prelude.{◌&&◌, ◌==◌, is_none, nat_lt, slice_set, slice_get, slice_index}
 use Rattle.std.proofs.lemmas.Bool.{lt-ltb}
@@ -13,14 +13,16 @@ use Rattle.lq_model.specs.declared.machine.Position.TheVariants.{Control}
 use Rattle.lq_model.specs.declared.machine.Seat.{Seat}
 use Rattle.lq_model.specs.Account.{Account, Event, Join, Full, Refuse, Empty, Take, Pick, Direct, Send, Back, Stop, Wake, Resize, Down, Purge, Swap, Up, sent_from_hand, after, after_all}
 use Rattle.lq_model.specs.Machine.{Qdisc}
-use Rattle.lq_model.specs.Control.{is_control, is_purged}
-use Rattle.lq_model.specs.Kept.{IsInductive, holds_lock}
+use Rattle.lq_model.specs.Control.{is_control, is_purged_phase}
+use Rattle.lq_model.specs.Positions.{holds_lock}
+use Rattle.lq_model.specs.Kept.{IsInductive}
 use Rattle.lq_band.proofs.Seats.{each_step}
-use Rattle.lq_table.specs.Views.{View, Setup, State, HolderPart, packet_of, start_of}
-use Rattle.lq_table.specs.Rule.{IsDevice, Opening, AreStops, xoff_word, count_at, words_of, account, holders, last_sent, units_of, KnowsPackets, Holder, bands_now, Rule}
+use Rattle.lq_table.specs.Views.{View, Setup, State, HolderPart, machine_packet, first_account}
+use Rattle.lq_table.specs.Rule.{IsDevice, Opening, AreStops, xoff_word, station_count, words_of, account, holders, last_sent, units_of, KnowsPackets, Holder, bands_now, Rule}
+use Rattle.lq_table.proofs.UnitsKept.{fewer, BringsNone, gone_same, gone_swap}
 use Rattle.lq_table.specs.Told.{Sat}
-use Rattle.lq_table.specs.Controls.{IsExchange, shut_behind, swapping, swapped, opening_next, next_opened}
-use Rattle.lq_table.proofs.StopsKept.{agree, behind_open, no_two}
+use Rattle.lq_table.specs.Controls.{IsExchange, shut_after, swapping, swapped, opening_next, next_opened}
+use Rattle.lq_table.proofs.StopsKept.{agree, after_open, no_two}
 use Rattle.lq_table.proofs.Frames.{is_locked}
 use Rattle.lq_table.proofs.SettledKept.{settled_same}
 use Rattle.lq_table.proofs.GivenKept.{given_same}
@@ -30,7 +32,7 @@ use Rattle.lq_table.proofs.ByName.{set_xoff, xoff_long, xoff_within}
 use Rattle.lq_table.proofs.Middle.{middle, controls_in}
 use Rattle.lq_table.proofs.Facts.{map_none}
 use Rattle.lq_table.proofs.Accounts.{quiet_after, with_at_other}
-use Rattle.lq_table.proofs.Frames.{packets_same, shares_same, hands_same, fates_same, turns_same, turns_past, rings_same, sole_step, account_step, leaves_same, firsts_same, rule_after, opened, closed, lends_held}
+use Rattle.lq_table.proofs.Frames.{packets_same, shares_same, hands_same, fates_same, turns_same, turns_past, rings_same, sole_step, account_step, leaves_same, firsts_same, firsts_as, rule_after, opened, closed, lends_held}
 use Rattle.lq_table.proofs.UpKept.{purged_idle}
 
 -- a unit that no exchange brought and that isn't the first has sent nothing
@@ -57,27 +59,9 @@ module _ (u : ℕ) (past : List Event) (a : Account) (h : (a.unit ≡ u → ⊥)
   unused_step (Swap x) no_ = (λ same. no_ (0, omega arith, same), h.1)
   unused_step Up no_ = h
 
-fewer : (e : Event) (past : List Event) (u : ℕ) → Contains (units_of past) u → Contains (units_of (e ∷ past)) u
-fewer (Swap x) past u (i, below, is) = (suc i, omega arith, is)
-fewer (Join n b) past u h = h
-fewer (Full n x) past u h = h
-fewer (Refuse n x) past u h = h
-fewer (Empty b) past u h = h
-fewer (Take b) past u h = h
-fewer Pick past u h = h
-fewer (Direct n) past u h = h
-fewer Send past u h = h
-fewer Back past u h = h
-fewer (Stop x y) past u h = h
-fewer (Wake x) past u h = h
-fewer (Resize x y) past u h = h
-fewer (Down x) past u h = h
-fewer (Purge c) past u h = h
-fewer Up past u h = h
-
-pub unused : (k : Setup) (u : ℕ) → (k.station ≡ u → ⊥) → (past : List Event) → (Contains (units_of past) u → ⊥) → ((after_all (start_of k) past).unit ≡ u → ⊥) × ((after_all (start_of k) past).sent u ≡ [])
+pub unused : (k : Setup) (u : ℕ) → (k.station ≡ u → ⊥) → (past : List Event) → (Contains (units_of past) u → ⊥) → ((after_all (first_account k) past).unit ≡ u → ⊥) × ((after_all (first_account k) past).sent u ≡ [])
 unused k u first [] no_ = (first, refl)
-unused k u first (e ∷ past) no_ = unused_step u past (after_all (start_of k) past) (unused k u first past (λ h. no_ (fewer e past u h))) e no_
+unused k u first (e ∷ past) no_ = unused_step u past (after_all (first_account k) past) (unused k u first past (λ h. no_ (fewer e past u h))) e no_
 
 neither : (b : Bool) → (b && false) ≡ false
 neither true = refl
@@ -88,7 +72,7 @@ hangs_never zero = refl
 hangs_never (suc h) = ap (λ (b : Bool). nat_lt 0 (suc h) && b) (ne_eqb 0 (suc h) (λ e. absurd (omega arith))) ∙ neither (nat_lt 0 (suc h))
 
 -- a device that has accepted nothing is as its rule says
-exchanged : (infos : List Info) (station : ℕ) (xoff : List ℕ) (st : StationState) → count_at infos station ≤ st.device.spare → st.device.accepted ≡ [] → st.device.hung ≡ false → ((queue : ℕ) → slice_index xoff queue ≡ 2 → ⊥) → IsDevice infos station xoff st.device
+exchanged : (infos : List Info) (station : ℕ) (xoff : List ℕ) (st : StationState) → station_count infos station ≤ st.device.spare → st.device.accepted ≡ [] → st.device.hung ≡ false → ((queue : ℕ) → slice_index xoff queue ≡ 2 → ⊥) → IsDevice infos station xoff st.device
 exchanged infos station xoff st room none_ alive no_two = record {
   room = (let l = ap length none_ in omega arith);
   hung = λ queue is. absurd (no_two queue is);
@@ -107,15 +91,19 @@ module _ (k : Setup) where
       let at_ : Holder k.infos W.xoff g.past D (Control true) v.holder = subst (λ (z : Position). Holder k.infos W.xoff g.past D z v.holder) position (p.lends.knows id v here live holds) in
       let first : v.control.first ≡ true = p.firsts.control id v here live (ap is_control position) in let knows = p.firsts.knows id v here first in
       let phase : q.phase ≡ Purged = sym knows.0 ∙ purged in let purge : q.purge ≡ None = sym knows.1 ∙ no_purge in
-      let idle = purged_idle k s r id v here live (p.leaves.none_left purge) phase (map_none (packet_of k.infos) a.hand (sym at_.in_hand)) in
-      let q' : Qdisc = record q { xoff = slice_set q.xoff 0 0 } in let xs : List ℕ = set W.xoff 0 0 in let n : ℕ = v.share.about.queues in let shut : Option ℕ = shut_behind 0 n in let g' : State = record g { past = e ∷ g.past; station = st; shut = shut } in let D' : HolderPart = holders g' a' W.size in
+      let idle = purged_idle k s r id v here live (p.leaves.none_left purge) phase (map_none (machine_packet k.infos) a.hand (sym at_.in_hand)) in
+      let q' : Qdisc = record q { xoff = slice_set q.xoff 0 0 } in let xs : List ℕ = set W.xoff 0 0 in let n : ℕ = v.share.about.queues in let shut : Option ℕ = shut_after 0 n in let g' : State = record g { past = e ∷ g.past; station = st; shut = shut } in let D' : HolderPart = holders g' a' W.size in
       let at_control : Seat = record v.place { position = Control true } in let is : v.place ≡ at_control = λ j. record v.place { position = position j } in
-      let stepped_ = controls_in q mid.before mid.after at_control (StoreOpen 0) true refl refl (ap₂ (λ (o : Option Rattle.lq_model.specs.Machine.Purge) (x : Phase). is_none o && is_purged x) purge phase) (subst (λ (u : Seat). IsInductive (record { qdisc = q; seats = mid.before ++ u ∷ mid.after })) is (opened s.views id v here live q p.machine)) in
+      let stepped_ = controls_in q mid.before mid.after at_control (StoreOpen 0) true refl refl (ap₂ (λ (o : Option Rattle.lq_model.specs.Machine.Purge) (x : Phase). is_none o && is_purged_phase x) purge phase) (subst (λ (u : Seat). IsInductive (record { qdisc = q; seats = mid.before ++ u ∷ mid.after })) is (opened s.views id v here live q p.machine)) in
       let shut_none : g.shut ≡ None = sym (ap (λ (z : HolderPart). z.shut) at_.is) ∙ no_shut in
       let long : n ≡ length q.xoff = (let l = xoff_long k s.words r.wide in let y = ap (λ (z : Setup). z.queues) (p.shares.about id v here live) in let x = ap length p.stands.xoff in omega arith) in
       let some_word : 0 < n = (let y = ap (λ (z : Setup). z.queues) (p.shares.about id v here live) in omega arith) in
       let was : q.xoff ≡ a.stops = agree q.phase q.locked q.xoff a.stops g.shut shut_none p.stops in let locked : q.locked ≡ true = is_locked k s r id v here live holds in
       let unused_ : a.sent st.unit ≡ [] = (unused k st.unit (subst (λ (z : Setup). z.station ≡ st.unit → ⊥) (p.shares.about id v here live) is_new.other) g.past (λ h. is_new.new (subst (λ (z : HolderPart). Contains z.units st.unit) (sym at_.is) h))).1 in
+      let known = p.shares.about id v here live in let other : k.station ≡ st.unit → ⊥ = subst (λ (z : Setup). z.station ≡ st.unit → ⊥) known is_new.other in
+      let new_unit : BringsNone k g.past (Swap st.unit) = (other, λ h. is_new.new (subst (λ (z : HolderPart). Contains z.units st.unit) (sym at_.is) h)) in
+      let unit_is : v.holder.station.unit ≡ a.unit = ap (λ (z : HolderPart). z.station.unit) at_.is ∙ sym p.sends.unit in
+      let sent_is : a.sent v.holder.station.unit ≡ v.holder.station.device.accepted = ap a.sent unit_is ∙ (p.sends.sent ∙ sym (ap (λ (z : HolderPart). z.station.device.accepted) at_.is)) in
       let last_is : last_sent a' ≡ None = ap (λ (ns : List ℕ). slice_get ns (length ns - 1)) unused_ in (
         w,
         keeps,
@@ -133,21 +121,23 @@ module _ (k : Setup) where
                 stopping = tt;
                 alive = λ _ hung. absurd (true≢false (sym hung ∙ is_new.alive));
               });
-          sends = record { unit = refl; sent = unused_ ∙ sym is_new.accepted };
+          sends = record { unit = refl; sent = unused_ ∙ sym is_new.accepted; small = is_new.small };
           packets = each_step (λ u. KnowsPackets k g.past a u.share u.packets) (λ u. KnowsPackets k (e ∷ g.past) a' u.share u.packets) s.views id w p.packets
               (quiet_after k g.past a a' e v.share v.packets refl (λ _. refl) (p.packets id v here)) (λ j u _ _ y. quiet_after k g.past a a' e u.share u.packets refl (λ _. refl) y);
           hands = hands_same k s.views id v w here p.hands live refl (λ y own. own);
-          fates = fates_same k s.views id v w here W.fates a a' g.turn g.left p.fates refl (λ _. refl);
+          fates = fates_same k s.views id v w here W.fates a a' g.resizing g.left p.fates refl (λ _. refl);
           leaves = leaves_same g.left q.purge q.purge a a' p.leaves refl refl;
           turns = turns_past k W.turns _ g.past (e ∷ g.past) (turns_same k s.views id v w here W.turns g.past p.turns refl refl) refl;
-          rings = rings_same k s.views id v w here k.max_len W.size W.producers W.slots a.len (bands_now g.left a.bands) g.ends g.turn p.rings refl (λ _ _ y h. (y, h));
+          rings = rings_same k s.views id v w here k.max_len W.size W.producers W.slots a.len (bands_now g.left a.bands) g.ends g.resizing p.rings refl (λ _ _ y h. (y, h));
           account = account_step k g.past e p.account idle tt tt;
-          firsts = firsts_same k s.views id v w here q.phase q.phase q.purge q.purge p.firsts live refl refl refl refl (λ h. h);
+          find_nothing = (p.find_nothing, tt);
+          gone = gone_swap k s.views id v w here st.unit v.holder.station.unit v.holder.station.device.accepted new_unit p.gone refl unit_is sent_is;
+          firsts = firsts_as k s.views id v w here q.phase q.phase q.purge q.purge p.firsts live refl refl refl refl refl refl (λ h. h);
           sole = sole_step k s.views id v w here q q' g g' p.shares p.sole some_share refl refl (λ e1 e2. (ap (λ (z : Qdisc). record z { xoff = slice_set z.xoff 0 0 }) e1, ap (λ (z : State). record z { past = e ∷ z.past; station = st; shut = shut }) e2));
           settled = settled_same s.views id v w here W.fates p.settled refl;
           given = given_same k s.views id v w here W.turns p.given refl refl refl refl refl;
-          stops = behind_open q.xoff (map (λ _. 0) a.stops) 0 n q.phase q.locked phase locked long some_word (λ c l. absurd (omega arith)) (ap (map (λ _. 0)) (sym was));
-          device = exchanged k.infos k.station (map (λ _. 0) a.stops) st (subst (λ (z : Setup). count_at z.infos z.station ≤ st.device.spare) (p.shares.about id v here live) is_new.room) is_new.accepted is_new.alive (no_two a.stops);
+          stops = after_open q.xoff (map (λ _. 0) a.stops) 0 n q.phase q.locked phase locked long some_word (λ c l. absurd (omega arith)) (ap (map (λ _. 0)) (sym was));
+          device = exchanged k.infos k.station (map (λ _. 0) a.stops) st (subst (λ (z : Setup). station_count z.infos z.station ≤ st.device.spare) (p.shares.about id v here live) is_new.room) is_new.accepted is_new.alive (no_two a.stops);
           trails = trails_own k.infos s.views id v w here e refl p.trails p.firsts.one first refl refl refl;
         },
         refl,
@@ -159,13 +149,13 @@ module _ (k : Setup) where
   opens_next slots id queue m below is_shut position purged no_purge some_share s r deep here small =
       let v : View = m.0 in
       let q = r.qdisc in let p = r.parts in let g = r.state in let a = account k g in let W = words_of k s.words in let live = lt-ltb 0 v.share.shares some_share in let mid = middle s.views id v here live in let holds : holds_lock v.place.position ≡ true = ap holds_lock position in
-      let D : HolderPart = holders g a W.size in let w : View = opening_next queue v in let n : ℕ = v.share.about.queues in let shut : Option ℕ = shut_behind queue n in
+      let D : HolderPart = holders g a W.size in let w : View = opening_next queue v in let n : ℕ = v.share.about.queues in let shut : Option ℕ = shut_after queue n in
       let at_ : Holder k.infos W.xoff g.past D (Control true) v.holder = subst (λ (z : Position). Holder k.infos W.xoff g.past D z v.holder) position (p.lends.knows id v here live holds) in
       let first : v.control.first ≡ true = p.firsts.control id v here live (ap is_control position) in let knows = p.firsts.knows id v here first in
       let phase : q.phase ≡ Purged = sym knows.0 ∙ purged in let purge : q.purge ≡ None = sym knows.1 ∙ no_purge in
       let q' : Qdisc = record q { xoff = slice_set q.xoff queue 0 } in let xs : List ℕ = set W.xoff queue 0 in let g' : State = record g { shut = shut } in let D' : HolderPart = holders g' a W.size in
       let at_control : Seat = record v.place { position = Control true } in let is : v.place ≡ at_control = λ j. record v.place { position = position j } in
-      let stepped_ = controls_in q mid.before mid.after at_control (StoreOpen queue) true refl refl (ap₂ (λ (o : Option Rattle.lq_model.specs.Machine.Purge) (x : Phase). is_none o && is_purged x) purge phase) (subst (λ (u : Seat). IsInductive (record { qdisc = q; seats = mid.before ++ u ∷ mid.after })) is (opened s.views id v here live q p.machine)) in
+      let stepped_ = controls_in q mid.before mid.after at_control (StoreOpen queue) true refl refl (ap₂ (λ (o : Option Rattle.lq_model.specs.Machine.Purge) (x : Phase). is_none o && is_purged_phase x) purge phase) (subst (λ (u : Seat). IsInductive (record { qdisc = q; seats = mid.before ++ u ∷ mid.after })) is (opened s.views id v here live q p.machine)) in
       let shut_is : g.shut ≡ Some queue = sym (ap (λ (z : HolderPart). z.shut) at_.is) ∙ is_shut in
       let o : Opening queue q.phase q.locked q.xoff a.stops = subst (λ (z : Option ℕ). AreStops z q.phase q.locked q.xoff a.stops) shut_is p.stops in
       let long : n ≡ length q.xoff = (let l = xoff_long k s.words r.wide in let y = ap (λ (z : Setup). z.queues) (p.shares.about id v here live) in let x = ap length p.stands.xoff in omega arith) in
@@ -190,16 +180,18 @@ module _ (k : Setup) where
           sends = p.sends;
           packets = packets_same k s.views id v w here g.past a p.packets refl refl;
           hands = hands_same k s.views id v w here p.hands live refl (λ y own. own);
-          fates = fates_same k s.views id v w here W.fates a a g.turn g.left p.fates refl (λ _. refl);
+          fates = fates_same k s.views id v w here W.fates a a g.resizing g.left p.fates refl (λ _. refl);
           leaves = leaves_same g.left q.purge q.purge a a p.leaves refl refl;
           turns = turns_same k s.views id v w here W.turns g.past p.turns refl refl;
-          rings = rings_same k s.views id v w here k.max_len W.size W.producers W.slots a.len (bands_now g.left a.bands) g.ends g.turn p.rings refl (λ _ _ y h. (y, h));
+          rings = rings_same k s.views id v w here k.max_len W.size W.producers W.slots a.len (bands_now g.left a.bands) g.ends g.resizing p.rings refl (λ _ _ y h. (y, h));
           account = p.account;
+          find_nothing = p.find_nothing;
+          gone = gone_same k s.views id v w here p.gone refl;
           firsts = firsts_same k s.views id v w here q.phase q.phase q.purge q.purge p.firsts live refl refl refl refl (λ h. h);
           sole = sole_step k s.views id v w here q q' g g' p.shares p.sole some_share refl refl (λ e1 e2. (ap (λ (z : Qdisc). record z { xoff = slice_set z.xoff queue 0 }) e1, ap (λ (z : State). record z { shut = shut }) e2));
           settled = settled_same s.views id v w here W.fates p.settled refl;
           given = given_same k s.views id v w here W.turns p.given refl refl refl refl refl;
-          stops = behind_open q.xoff a.stops queue n q.phase q.locked phase o.held long within o.opened o.all_open;
+          stops = after_open q.xoff a.stops queue n q.phase q.locked phase o.held long within o.opened o.all_open;
           device = p.device;
           trails = trails_same k.infos s.views id v w here p.trails refl refl refl refl;
         },

@@ -1,7 +1,7 @@
 -- The steps on a turn word keep the rule.
 use Rattle.std.proofs.Common.{◌≡◌, ◌≢◌, ℕ, ◌+◌, ◌*◌, ◌<◌, Bool, true, List, eqb, length, set, refl, sym, ap, ◌∙◌, subst, arith, ⊎_elim, Option, Some, None, eq-eqb, ne_eqb, get_or, length-set, get_or-set_same, get_or-set_other, Contains}
 use Rattle.std.specs.Prelude.{if◌then◌else◌, nat_lt}
-use Rattle.lq_model.specs.Kept.{holds_lock}
+use Rattle.lq_model.specs.Positions.{holds_lock}
 use Rattle.lq_model.specs.declared.machine.Seat.{Seat}
 use Rattle.lq_model.specs.declared.fate.Info.{Info}
 use Rattle.std.proofs.lemmas.Option.{same_Some}
@@ -21,6 +21,7 @@ use Rattle.lq_band.proofs.Seats.{total_set, each_step, each_same}
 use Rattle.lq_table.specs.Views.{View, Setup, SharePart, HolderPart}
 use Rattle.lq_table.specs.Comes.{IsFresh}
 use Rattle.lq_table.specs.Rule.{words_of, times, is_live, account, holders, bands_now, Holder, KnowsPackets, KnowsTurn, KnowsWords, has_turn, Given, Turns, Rule}
+use Rattle.lq_table.proofs.UnitsKept.{gone_same}
 use Rattle.lq_table.specs.Told.{Sat, bringing, turn_taken, giving_turn, turn_given, turn_seen}
 use Rattle.lq_table.proofs.ByName.{set_turn, turn_of_word}
 use Rattle.lq_table.proofs.Accounts.{owners_apart}
@@ -77,12 +78,14 @@ module _ (k : Setup) (s : table.State (Option StationState) View) (r : Rule k s)
         sends = p.sends;
         packets = each_same (λ u. KnowsPackets k g.past a u.share u.packets) s.views id w p.packets packets;
         hands = mach.hands;
-        fates = fates_same k s.views id v w here W.fates a a g.turn g.left p.fates owed (λ _. refl);
+        fates = fates_same k s.views id v w here W.fates a a g.resizing g.left p.fates owed (λ _. refl);
         leaves = p.leaves;
         turns = turns;
-        rings = rings_same k s.views id v w here k.max_len W.size W.producers W.slots a.len (bands_now g.left a.bands) g.ends g.turn p.rings locks
+        rings = rings_same k s.views id v w here k.max_len W.size W.producers W.slots a.len (bands_now g.left a.bands) g.ends g.resizing p.rings locks
             (λ _ _ l h. (ap (λ (z : SharePart). nat_lt 0 z.shares) share ∙ l, ap (λ (z : Seat). holds_lock z.position) place ∙ h));
         account = p.account;
+        find_nothing = p.find_nothing;
+        gone = gone_same k s.views id v w here p.gone (ap (λ z. z.gone) control);
         firsts = mach.firsts;
         sole = sole_step k s.views id v w here q q g g p.shares p.sole (ltb-true 0 v.share.shares live) share (ap (λ z. z.told) whole) (λ e1 e2. (ap (λ z. z.qdisc) whole ∙ e1, ap (λ z. z.state) whole ∙ e2));
         settled = settled_same s.views id v w here W.fates p.settled settled;
@@ -110,7 +113,7 @@ module _ (k : Setup) where
         of_station = here_station;
         in_turn = λ l h same.
             let below = t.brought l h in let at_o : get_or W.turns (owner_in k.infos l) 0 ≡ 2 * rank = ap (λ (y : ℕ). get_or W.turns y 0) same ∙ is in
-            r.setup.ranked l n same ((p.account.brought.packets l h).1 ∙ sym here_station) (omega arith);
+            r.setup.ranked l n (p.account.brought.packets l h).0 inside same ((p.account.brought.packets l h).1 ∙ sym here_station) (omega arith);
       } in (
         w,
         keeps,

@@ -7,20 +7,21 @@ use Rattle.lq_model.specs.Plan.{owner_in, station_in, rank_in}
 use Rattle.lq_model.specs.Words.{IsWordOf, word_of}
 use Rattle.lq_model.specs.declared.fate.Fate.{Fate}
 use Rattle.lq_ring_core.specs.Slots.{round}
+use Rattle.lq_run_core.specs.Numbered.{greatest}
 use Rattle.lq_band.specs.Seats.{Each}
 use Rattle.lq_band.specs.Stored.{FateWords}
 use Rattle.lq_band.specs.Three.{at, all_three}
 use Rattle.lq_band.specs.Ring.{unlocked}
-use Rattle.lq_table.specs.Views.{View, Setup, State}
-use Rattle.lq_account.specs.Trail.{trail_of}
+use Rattle.lq_table.specs.Views.{View, Setup, State, first_account}
+use Rattle.lq_account.specs.Trail.{IsOrderly, trail_of}
 use Rattle.lq_table.specs.Told.{is_set}
 use Rattle.lq_table.specs.Rule.{Words, words_of, holders, shown, waits, bands_now, AreHung, IsDevice, Accounted, Rings, Sends, Stands, Ties}
 
--- SCHED and DEACTIVATED are clear, and each queue is open
+-- SCHED and DEACTIVATED are clear, and the greatest stop word is 0: each queue is open
 pub record AreQuiet (w : Words) : Type 0 where
   pub unscheduled : is_set 1 w.state ≡ false
   pub active : is_set 2 w.state ≡ false
-  pub queues_open : (queue : ℕ) → slice_index w.xoff queue ≡ 0
+  pub queues_open : greatest w.xoff ≡ 0
 
 -- Nothing is left: the requeue slot is empty, each band's producer index is at the consumer's head, and each packet of the station
 -- whose turn was taken has a fate.
@@ -38,6 +39,14 @@ abbrev pub FatesStand : Setup → List ℕ → List (ℕ × Fate) → Type 0
 FatesStand k words settled = ((n : ℕ) (f : Fate) → Contains settled (n, f) → slice_index (words_of k words).fates n ≡ word_of f)
     × ((n : ℕ) → (slice_index (words_of k words).fates n ≡ 0) ⊎ ((f : Fate) × IsWordOf f (slice_index (words_of k words).fates n)))
 
+-- the station is at home, and its device accepted what the account's unit sent
+abbrev pub HasAccepted : Account → Option StationState → Type 0
+HasAccepted a home = (st : StationState) × (home ≡ Some st) × (st.unit ≡ a.unit) × (st.device.accepted ≡ a.sent a.unit)
+
+-- each unit that an exchange took away has sent what it had sent then
+abbrev pub HaveSent : Account → List (ℕ × List ℕ) → Type 0
+HaveSent a gone = (unit : ℕ) (sent : List ℕ) → Contains gone (unit, sent) → a.sent unit ≡ sent
+
 -- What the words and the slot say at the end, where one seat alone is left, which is in no call: the machine and the state are
 -- q and g, and the seat's trail is this, if it is first.
 pub record Ending (k : Setup) (words : List ℕ) (slots : List (Option StationState)) (q : Qdisc) (g : State) (a : Account) (first : Bool) (trail : List Event) : Type 0 where
@@ -50,13 +59,15 @@ pub record Ending (k : Setup) (words : List ℕ) (slots : List (Option StationSt
   pub device : IsDevice k.infos k.station (words_of k words).xoff g.station.device
   pub hung : g.station.device.hung ≡ true → AreHung (words_of k words).xoff
   pub hand_empty : a.hand ≡ None
-  pub calm : g.turn ≡ None
+  pub calm : g.resizing ≡ None
   pub account : Accounted k g.past a
+  -- each event may come where it stands, and a resize of a deactivated station found nothing held
+  pub orderly : IsOrderly k.infos k.station (first_account k) g.past
   pub trail_is : first ≡ true → trail ≡ trail_of k.infos g.past
   -- no packet's fate is owed, but by a purge that is half done
   pub fates : FateWords (length k.infos) (words_of k words).fates (λ n. waits n g.left) a.fates
   -- the rings, where nobody has a producer lock
-  pub rings : (views : List View) × Each (λ u. u.locks ≡ all_three unlocked) views × Rings k.max_len (words_of k words).size (words_of k words).producers (words_of k words).slots views a.len (bands_now g.left a.bands) g.ends g.turn
+  pub rings : (views : List View) × Each (λ u. u.locks ≡ all_three unlocked) views × Rings k.max_len (words_of k words).size (words_of k words).producers (words_of k words).slots views a.len (bands_now g.left a.bands) g.ends g.resizing
   -- where the words are quiet nothing is held, and no purge is half done
   pub quiet : AreQuiet (words_of k words) → (held a ≡ []) × (g.left ≡ None)
   -- where nothing is held nothing is left

@@ -1,19 +1,22 @@
 -- What the steps of a purge tell. In the account the purge is one event at its beginning; what control does from there on is to
 -- take the packets from the bands and to store their fates.
-use Rattle.std.specs.Prelude.{◌≡◌, ◌≢◌, ℕ, ◌+◌, ◌-◌, ◌*◌, ◌<◌, ◌≤◌, false, [], ◌∷◌, Option, Some, None, length, slice_set}
+use Rattle.std.specs.Prelude.{◌≡◌, ◌≢◌, ℕ, ◌+◌, ◌-◌, ◌*◌, ◌<◌, ◌≤◌, false, List, [], ◌∷◌, Contains, Option, Some, None, length, slice_set}
 use Rattle.std.specs.List.{slice_get}
 use Rattle.std.specs.Option.{option_map}
 use Rattle.lq_device.specs.Station.{StationState}
 use Rattle.lq_model.specs.Account.{Purge as PurgeEvent}
 use Rattle.lq_model.specs.Band.{Band, held_of, taken_by}
 use Rattle.lq_model.specs.Machine.{Purge}
+use Rattle.lq_account.specs.Trail.{down_of}
 use Rattle.lq_model.specs.declared.fate.Cause.{Cause}
+use Rattle.lq_model.specs.declared.fate.Info.{Info}
 use Rattle.lq_model.specs.declared.fate.Cause.TheVariants as cause
 use Rattle.lq_model.specs.declared.fate.Fate.TheVariants as fate
 use Rattle.lq_band.specs.Three.{Three, at, put}
 use Rattle.lq_band.specs.Ring.{taken_on}
-use Rattle.lq_table.specs.Views.{View, Left, packets_of}
+use Rattle.lq_table.specs.Views.{View, Left, machine_packets}
 use Rattle.lq_table.specs.Told.{Sat}
+use Rattle.lq_table.specs.Solo.{IsSole, account_of}
 use Rattle.atomic_table.specs.Table.{Step}
 
 -- THE BEGINNING
@@ -38,13 +41,21 @@ purging c bands v = record v {
 abbrev pub HoldsAtMost : ℕ → Three Band → Type 0
 HoldsAtMost size bands = (b : ℕ) → b < 3 → length (held_of (at b bands)) ≤ size
 
--- for the event that deactivated the station, which the word tells
+-- each packet that they hold is one of the capture
+abbrev pub HoldPackets : List Info → Three Band → Type 0
+HoldPackets infos bands = (b n : ℕ) → b < 3 → Contains (held_of (at b bands)) n → n < length infos
+
+-- a seat that has the table alone finds what its account says
+abbrev pub AreKnown : View → Three Band → Type 0
+AreKnown v bands = IsSole v → (b : ℕ) → b < 3 → at b bands ≡ (account_of v).bands b
+
+-- for the event that deactivated the station, which the word tells, and with it the trail
 abbrev pub purge_begun : Step (Option StationState) → Sat → ℕ → Sat → Type 0
-purge_begun _ m found m' = (e : ℕ) × (bits : ℕ) × (bands : Three Band) × (e < 4294967296) × (bits < 16) × (found ≡ bits + 256 * (e + 1)) × HoldsAtMost m.0.holder.size bands × (m' ≡ (purging (cause.Event e) bands m.0, m.1))
+purge_begun _ m found m' = (e : ℕ) × (bits : ℕ) × (bands : Three Band) × (e < 4294967296) × (bits < 16) × (found ≡ bits + 256 * (e + 1)) × HoldsAtMost m.0.holder.size bands × HoldPackets m.0.share.about.infos bands × AreKnown m.0 bands × (down_of m.0.trail ≡ Some e) × (m' ≡ (purging (cause.Event e) bands m.0, m.1))
 
 -- for the hung device
 abbrev pub hung_purge_begun : Step (Option StationState) → Sat → ℕ → Sat → Type 0
-hung_purge_begun _ m found m' = (bands : Three Band) × HoldsAtMost m.0.holder.size bands × (m' ≡ (purging (cause.Hung m.0.holder.station.unit) bands m.0, m.1))
+hung_purge_begun _ m found m' = (bands : Three Band) × HoldsAtMost m.0.holder.size bands × HoldPackets m.0.share.about.infos bands × AreKnown m.0 bands × (m' ≡ (purging (cause.Hung m.0.holder.station.unit) bands m.0, m.1))
 
 -- THE TAKES
 
@@ -57,7 +68,7 @@ taking_purged b n l v = record v {
   packets = record v.packets { owed = Some (n, fate.Purged l.cause) };
   holder = record v.holder { ends = put b (taken_on (at b v.holder.ends)) v.holder.ends; left = Some (purged_one b l) };
   whole = record v.whole {
-    qdisc = record v.whole.qdisc { bands = slice_set v.whole.qdisc.bands b (packets_of v.share.about.infos (held_of (taken_by (at b l.bands) 1))) };
+    qdisc = record v.whole.qdisc { bands = slice_set v.whole.qdisc.bands b (machine_packets v.share.about.infos (held_of (taken_by (at b l.bands) 1))) };
     state = record v.whole.state { ends = put b (taken_on (at b v.whole.state.ends)) v.whole.state.ends; left = Some (purged_one b l) };
   };
 }

@@ -2,15 +2,18 @@
 -- to bring the slots to what each band keeps, and to store the fates of what it dropped.
 use Rattle.std.specs.Prelude.{◌≡◌, ℕ, ◌+◌, ◌-◌, ◌<◌, ◌≤◌, ◌==◌, ◌||◌, ◌++◌, if◌then◌else◌, Bool, true, false, List, [], ◌∷◌, Option, Some, None, map, slice_set, take, drop, length, slice_index, Contains}
 use Rattle.lq_device.specs.Station.{StationState}
-use Rattle.lq_model.specs.Account.{Resize}
+use Rattle.lq_model.specs.Account.{Resize, held_in}
 use Rattle.lq_model.specs.Plan.{band_in}
 use Rattle.lq_model.specs.declared.fate.Info.{Info}
+use Rattle.lq_model.specs.declared.machine.Phase.{Phase}
+use Rattle.lq_model.specs.declared.machine.Phase.TheVariants.{Active, Closing, Quiet, Purged}
 use Rattle.lq_band.specs.Three.{Three, at, put, all_three}
 use Rattle.lq_band.specs.Ring.{at_start, locked_at}
-use Rattle.lq_band.specs.Turning.{IsUnturned}
-use Rattle.lq_table.specs.Views.{View, Turn, Work}
+use Rattle.lq_band.specs.HalfResized.{IsBeforeResize}
+use Rattle.lq_table.specs.Views.{View, HalfResize, Work}
 use Rattle.lq_table.specs.Told.{Sat}
 use Rattle.lq_table.specs.Rings.{with_lock_at}
+use Rattle.lq_table.specs.Solo.{IsSole, account_of}
 use Rattle.atomic_table.specs.Table.{Step}
 
 -- THE WORK ON A BAND
@@ -39,58 +42,67 @@ into i n hand w = record w { slots = slice_set w.slots i (n + 1); hand = hand }
 abbrev pub settled_work : Work → Work
 settled_work w = record w { waiting = drop 1 w.waiting; hand = drop 1 w.hand }
 
-abbrev pub with_work : ℕ → Work → Turn → Turn
+abbrev pub with_work : ℕ → Work → HalfResize → HalfResize
 with_work b w t = record t { works = put b w t.works }
 
 -- the resize stands so
-abbrev pub turned : Option Turn → View → View
-turned o v = record v { holder = record v.holder { turn = o }; whole = record v.whole { state = record v.whole.state { turn = o } } }
+abbrev pub with_resizing : Option HalfResize → View → View
+with_resizing o v = record v { holder = record v.holder { resizing = o }; whole = record v.whole { state = record v.whole.state { resizing = o } } }
 
 -- THE BEGINNING
+
+-- it may begin while the station is active, and while it is deactivated once the purge has ended, when nothing is held
+abbrev pub may_resize : Phase → Bool
+may_resize Active = true
+may_resize Closing = false
+may_resize Quiet = false
+may_resize Purged = true
 
 -- something for each band
 abbrev pub each_band : {A : Type 0} → (ℕ → A) → Three A
 each_band f = record { low = f 0; mid = f 1; high = f 2 }
 
 -- a resize of these bands, with these slots, at its beginning
-abbrev pub turn_of : ℕ → ℕ → (ℕ → List ℕ) → Three (List ℕ) → Turn
-turn_of len event held slots = record { len = len; event = event; works = each_band (λ b. record { kept = take len (held b); waiting = drop len (held b); slots = at b slots; hand = [] }) }
+abbrev pub resizing_of : ℕ → ℕ → (ℕ → List ℕ) → Three (List ℕ) → HalfResize
+resizing_of len event held slots = record { len = len; event = event; works = each_band (λ b. record { kept = take len (held b); waiting = drop len (held b); slots = at b slots; hand = [] }) }
 
 -- the resize began
-abbrev pub beginning : Turn → View → View
+abbrev pub beginning : HalfResize → View → View
 beginning t v = record v {
-  holder = record v.holder { turn = Some t };
+  holder = record v.holder { resizing = Some t };
   whole = record v.whole {
     qdisc = record v.whole.qdisc { bands = map (λ band. take t.len band) v.whole.qdisc.bands; len = t.len };
-    state = record v.whole.state { past = Resize t.len t.event ∷ v.whole.state.past; turn = Some t };
+    state = record v.whole.state { past = Resize t.len t.event ∷ v.whole.state.past; resizing = Some t };
   };
   trail = Resize t.len t.event ∷ v.trail;
 }
 
--- control knows what each band held, and the slots, in which the held packets stand from the head on
+-- control knows what each band held, and the slots, in which the held packets stand from the head on; after a purge none was held
 abbrev pub resize_begun : List Info → ℕ → ℕ → ℕ → Step (Option StationState) → Sat → ℕ → Sat → Type 0
-resize_begun infos limit len event _ m found m' = (held : ℕ → List ℕ) × (slots : Three (List ℕ)) × (m' ≡ (beginning (turn_of len event held slots) m.0, m.1))
-    × ((b : ℕ) → b < 3 → IsUnturned m.0.holder.size limit (at b slots) (held b) (at b m.0.holder.ends))
+resize_begun infos limit len event _ m found m' = (held : ℕ → List ℕ) × (slots : Three (List ℕ)) × (m' ≡ (beginning (resizing_of len event held slots) m.0, m.1))
+    × ((b : ℕ) → b < 3 → IsBeforeResize m.0.holder.size limit (at b slots) (held b) (at b m.0.holder.ends))
     × ((b n : ℕ) → b < 3 → Contains (held b) n → (band_in infos n ≡ b) × (n < length infos))
+    × (m.0.control.phase ≡ Purged → (b : ℕ) → b < 3 → held b ≡ [])
+    × (IsSole m.0 → (b : ℕ) → b < 3 → held b ≡ held_in (account_of m.0) b)
 
 -- THE STEPS
 
-abbrev pub slot_cleared : ℕ → ℕ → Turn → Step (Option StationState) → Sat → ℕ → Sat → Type 0
+abbrev pub slot_cleared : ℕ → ℕ → HalfResize → Step (Option StationState) → Sat → ℕ → Sat → Type 0
 slot_cleared b i t _ m found m' =
-    (found ≡ slice_index (at b t.works).slots i) × (m' ≡ (turned (Some (with_work b (out_of i (at b t.works)) t)) m.0, m.1)) × (is_member found (at b t.works) ≡ true → found ≤ 1000000)
+    (found ≡ slice_index (at b t.works).slots i) × (m' ≡ (with_resizing (Some (with_work b (out_of i (at b t.works)) t)) m.0, m.1)) × (is_member found (at b t.works) ≡ true → found ≤ 1000000)
 
-abbrev pub slot_filled : ℕ → ℕ → ℕ → List ℕ → Turn → Step (Option StationState) → Sat → ℕ → Sat → Type 0
-slot_filled b i n hand t _ m found m' = m' ≡ (turned (Some (with_work b (into i n hand (at b t.works)) t)) m.0, m.1)
+abbrev pub slot_filled : ℕ → ℕ → ℕ → List ℕ → HalfResize → Step (Option StationState) → Sat → ℕ → Sat → Type 0
+slot_filled b i n hand t _ m found m' = m' ≡ (with_resizing (Some (with_work b (into i n hand (at b t.works)) t)) m.0, m.1)
 
 abbrev pub producer_set : ℕ → ℕ → Step (Option StationState) → Sat → ℕ → Sat → Type 0
 producer_set b i _ m found m' = m' ≡ (with_lock_at b (locked_at i) m.0, m.1)
 
 -- the rings start again, at the new length
-abbrev pub restarted : Turn → View → View
+abbrev pub restarted : HalfResize → View → View
 restarted t v = record v {
-  holder = record v.holder { size = t.len; ends = all_three at_start; turn = None };
-  whole = record v.whole { state = record v.whole.state { ends = all_three at_start; turn = None } };
+  holder = record v.holder { size = t.len; ends = all_three at_start; resizing = None };
+  whole = record v.whole { state = record v.whole.state { ends = all_three at_start; resizing = None } };
 }
 
-abbrev pub size_stored : Turn → Step (Option StationState) → Sat → ℕ → Sat → Type 0
+abbrev pub size_stored : HalfResize → Step (Option StationState) → Sat → ℕ → Sat → Type 0
 size_stored t _ m found m' = m' ≡ (restarted t m.0, m.1)

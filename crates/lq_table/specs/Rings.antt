@@ -2,13 +2,13 @@
 use Rattle.std.specs.Prelude.{◌≡◌, ◌≢◌, ℕ, ◌-◌, ◌*◌, ◌<◌, ◌≤◌, true, [], ◌∷◌, Option, Some, None}
 use Rattle.lq_device.specs.Station.{StationState}
 use Rattle.lq_model.specs.Account.{Join, Full, Empty, Take}
-use Rattle.lq_model.specs.Kept.{holds_lock}
+use Rattle.lq_model.specs.Positions.{holds_lock}
 use Rattle.lq_model.specs.declared.fate.Fate.TheVariants as fate
 use Rattle.lq_model.specs.declared.machine.Answer.TheVariants.{Plain, FullSlot}
 use Rattle.lq_band.specs.Three.{at, put}
 use Rattle.lq_band.specs.Ring.{Lock, unlocked, locked_at, sized_if, with_room, having_stored, taken_on, emptied_on}
-use Rattle.lq_table.specs.Views.{View, packet_of}
-use Rattle.lq_table.specs.Told.{Sat, seen_by, seen_band, moved, with_event, on_trail}
+use Rattle.lq_table.specs.Views.{View, machine_packet}
+use Rattle.lq_table.specs.Told.{Sat, seen_by, seen_band, moved, past_with, on_trail}
 use Rattle.atomic_table.specs.Table.{Step}
 
 -- THE PRODUCERS
@@ -33,11 +33,11 @@ size_loaded limit _ m found m' = (m' ≡ (sized found m.0, m.1)) × (0 < found) 
 
 -- the packet was dropped as full, where it saw that other one
 abbrev pub dropping : ℕ → ℕ → View → View
-dropping n seen v = record (moved FullSlot (seen_by v) (λ h. h) (with_event (Full n seen)) v) { packets = record v.packets { fresh = None; owed = Some (n, fate.Full seen) }; trail = on_trail (Full n seen) v }
+dropping n seen v = record (moved FullSlot (seen_by v) (λ h. h) (past_with (Full n seen)) v) { packets = record v.packets { fresh = None; owed = Some (n, fate.Full seen) }; trail = on_trail (Full n seen) v }
 
 -- the packet joined the band
 abbrev pub joining : ℕ → ℕ → View → View
-joining b n v = record (moved Plain (seen_by v) (λ h. h) (with_event (Join n b)) v) { packets = record v.packets { fresh = None }; locks = put b (having_stored (at b v.locks)) v.locks; trail = on_trail (Join n b) v }
+joining b n v = record (moved Plain (seen_by v) (λ h. h) (past_with (Join n b)) v) { packets = record v.packets { fresh = None }; locks = put b (having_stored (at b v.locks)) v.locks; trail = on_trail (Join n b) v }
 
 abbrev pub slot_seen : ℕ → ℕ → Step (Option StationState) → Sat → ℕ → Sat → Type 0
 slot_seen b n _ m found m' =
@@ -50,11 +50,11 @@ slot_stored b n _ m found m' = m' ≡ (joining b n m.0, m.1)
 
 -- the band was found empty
 abbrev pub finding_none : ℕ → View → View
-finding_none b v = moved Plain (seen_band b []) (λ h. h) (with_event (Empty b)) v
+finding_none b v = moved Plain (seen_band b []) (λ h. h) (past_with (Empty b)) v
 
 -- the packet was taken from the band
 abbrev pub taking : ℕ → ℕ → View → View
-taking b n v = moved Plain (seen_band b (packet_of v.share.about.infos n ∷ [])) (λ h. record h { ends = put b (taken_on (at b h.ends)) h.ends; hand = Some n })
+taking b n v = moved Plain (seen_band b (machine_packet v.share.about.infos n ∷ [])) (λ h. record h { ends = put b (taken_on (at b h.ends)) h.ends; hand = Some n })
     (λ g. record g { past = Take b ∷ g.past; ends = put b (taken_on (at b g.ends)) g.ends }) v
 
 abbrev pub head_seen : ℕ → Step (Option StationState) → Sat → ℕ → Sat → Type 0

@@ -2,17 +2,17 @@
 use Rattle.std.specs.Prelude.{◌≡◌, ℕ, ◌<◌, Bool, true, false, List, ◌∷◌, Option, Some, option_map}
 use Rattle.lq_device.specs.Station.{StationState, Transmits}
 use Rattle.lq_model.specs.Device.{is_busy}
-use Rattle.lq_model.specs.Kept.{holds_lock}
+use Rattle.lq_model.specs.Positions.{holds_lock}
 use Rattle.lq_model.specs.declared.device.Tx.{Tx}
 use Rattle.lq_model.specs.declared.fate.Fate.{Fate}
 use Rattle.lq_model.specs.declared.fate.Fate.TheVariants as fate
 use Rattle.lq_model.specs.declared.machine.Packet.{Packet}
 use Rattle.lq_model.specs.declared.machine.Position.TheVariants.{Xmit}
 use Rattle.lq_band.specs.Three.{at}
-use Rattle.lq_table.specs.Views.{View, Turn}
+use Rattle.lq_table.specs.Views.{View, HalfResize}
 use Rattle.lq_table.specs.Rule.{shown}
 use Rattle.lq_table.specs.Told.{Sat, settling, paying, fate_sent}
-use Rattle.lq_table.specs.Resizes.{settled_work, with_work, turned}
+use Rattle.lq_table.specs.Resizes.{settled_work, with_work, with_resizing}
 use Rattle.atomic_table.specs.Table.{Step}
 
 -- the device has just accepted the packet n, and the fate names its unit and its place in what that has sent
@@ -29,13 +29,13 @@ pub record MaySend (n : ℕ) (fate : Fate) (st : StationState) (v : View) : Type
 -- a resize of this event has dropped the packet n of the band b: it is the first to be settled, and in control's hand
 pub record MayShrink (b n event : ℕ) (v : View) : Type 0 where
   pub holds : holds_lock v.place.position ≡ true
-  pub turn : Turn
-  pub turning : v.holder.turn ≡ Some turn
-  pub event_is : turn.event ≡ event
+  pub resizing : HalfResize
+  pub under_way : v.holder.resizing ≡ Some resizing
+  pub event_is : resizing.event ≡ event
   pub waiting : List ℕ
-  pub first : (at b turn.works).waiting ≡ n ∷ waiting
+  pub first : (at b resizing.works).waiting ≡ n ∷ waiting
   pub hand : List ℕ
-  pub in_hand : (at b turn.works).hand ≡ n ∷ hand
+  pub in_hand : (at b resizing.works).hand ≡ n ∷ hand
 
 -- Sent follows the device's answer; each other fate was decided by an earlier step, and the seat owes it
 abbrev pub MaySettle : ℕ → ℕ → Fate → StationState → View → Type 0
@@ -47,7 +47,7 @@ MaySettle b n (fate.Shrunk event) st v = (b < 3) × MayShrink b n event v
 
 -- the packet n, which the resize of the event dropped from the band b, is settled
 abbrev pub shrinking : ℕ → ℕ → ℕ → View → View
-shrinking b n event v = record (turned (option_map (λ (t : Turn). with_work b (settled_work (at b t.works)) t) v.holder.turn) v) { settled = (n, fate.Shrunk event) ∷ v.settled }
+shrinking b n event v = record (with_resizing (option_map (λ (t : HalfResize). with_work b (settled_work (at b t.works)) t) v.holder.resizing) v) { settled = (n, fate.Shrunk event) ∷ v.settled }
 
 -- the fate of the packet n of the band b was stored, where the station is as st says
 abbrev pub fated : StationState → ℕ → ℕ → Fate → View → View

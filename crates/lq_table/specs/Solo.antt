@@ -1,12 +1,13 @@
 -- What a seat knows that has the table alone, without its place, and what the steps make of that.
-use Rattle.std.specs.Prelude.{◌≡◌, ◌≢◌, ℕ, ◌-◌, slice_get, ◌&&◌, ◌==◌, Some, None, Bool, true, false, not, ◌||◌, List, Option, ◌∷◌, filter, is_some, slice_index, if◌then◌else◌}
+use Rattle.std.specs.Prelude.{◌≡◌, ◌≢◌, ℕ, ◌+◌, ◌-◌, ◌*◌, ◌<◌, slice_get, ◌&&◌, ◌==◌, Some, None, Bool, true, false, not, ◌||◌, List, Option, ◌∷◌, filter, is_some, slice_index, if◌then◌else◌}
+use Rattle.lq_account.specs.Trail.{down_of}
 use Rattle.lq_device.specs.Station.{StationState}
 use Rattle.lq_model.specs.Account.{Account, Event, held_in, Empty, Send, Pick, Back}
 use Rattle.lq_model.specs.declared.fate.Fate.{Fate}
 use Rattle.lq_model.specs.declared.fate.Fate.TheVariants as fate
 use Rattle.lq_model.specs.Device.{DeviceState}
 use Rattle.lq_model.specs.Machine.{bit}
-use Rattle.lq_model.specs.Kept.{holds_lock, in_hand}
+use Rattle.lq_model.specs.Positions.{holds_lock, in_hand}
 use Rattle.lq_table.specs.Views.{View}
 use Rattle.lq_table.specs.Rule.{account, holders}
 use Rattle.lq_table.specs.Told.{Sat, IsPacketOf, is_dequeue, is_set, looked, checked, rechecked, missed_now, scheduled_now, stop_loaded, woken, tried}
@@ -117,6 +118,18 @@ pub record SeesState (v : View) (found : ℕ) : Type 0 where
   pub down : is_set 2 found ≡ is_some (account_of v).down
   pub missed : is_set 4 found ≡ v.whole.qdisc.missed
   pub draining : is_set 8 found ≡ v.whole.qdisc.draining
+  -- the event that deactivated it stands above the bits
+  pub event : (e : ℕ) → (account_of v).down ≡ Some e → (bits : ℕ) × (bits < 16) × (found ≡ bits + 256 * (e + 1))
+
+-- The first seat finds the state as its trail tells: DEACTIVATED is set just where that has the station deactivated, and the
+-- event stands above the bits.
+pub record SeesDown (v : View) (found : ℕ) : Type 0 where
+  pub down : is_set 2 found ≡ is_some (down_of v.trail)
+  pub event : (e : ℕ) → down_of v.trail ≡ Some e → (bits : ℕ) × (bits < 16) × (found ≡ bits + 256 * (e + 1))
+
+-- what the first load of the state in a transmit tells a seat alone, and the first seat
+abbrev pub SeesChecked : View → ℕ → Type 0
+SeesChecked v found = (IsSole v → SeesState v found) × (v.control.first ≡ true → SeesDown v found)
 
 -- what the holder has is the account's
 abbrev pub IsAccounts : View → Type 0
@@ -126,7 +139,7 @@ abbrev pub looked_all : Step (Option StationState) → Sat → ℕ → Sat → T
 looked_all s m found m' = looked s m found m' × (IsSole m.0 → SeesState m.0 found)
 
 abbrev pub checked_all : ℕ → Step (Option StationState) → Sat → ℕ → Sat → Type 0
-checked_all n s m found m' = checked n s m found m' × (IsSole m.0 → SeesState m.0 found)
+checked_all n s m found m' = checked n s m found m' × SeesChecked m.0 found
 
 abbrev pub rechecked_all : ℕ → Step (Option StationState) → Sat → ℕ → Sat → Type 0
 rechecked_all n s m found m' = rechecked n s m found m' × (IsSole m.0 → SeesState m.0 found)
@@ -137,9 +150,13 @@ missed_all s m found m' = missed_now s m found m' × (IsSole m.0 → SeesState m
 abbrev pub scheduled_all : Step (Option StationState) → Sat → ℕ → Sat → Type 0
 scheduled_all s m found m' = scheduled_now s m found m' × (IsSole m.0 → SeesState m.0 found)
 
--- a stop word; and what a holder has is the account's
+-- what the holder's device accepted is what the account's unit sent
+abbrev pub HasSent : View → Type 0
+HasSent v = (account_of v).sent (account_of v).unit ≡ v.holder.station.device.accepted
+
+-- a stop word; and what a holder has, and its device accepted, is the account's
 abbrev pub SeesStop : ℕ → View → ℕ → Type 0
-SeesStop queue v found = (IsSole v → v.whole.state.shut ≡ None → found ≡ slice_index (account_of v).stops queue) × (IsSole v → holds_lock v.place.position ≡ true → IsAccounts v)
+SeesStop queue v found = (IsSole v → v.whole.state.shut ≡ None → found ≡ slice_index (account_of v).stops queue) × (IsSole v → holds_lock v.place.position ≡ true → IsAccounts v) × (IsSole v → holds_lock v.place.position ≡ true → HasSent v)
 
 abbrev pub stop_loaded_all : ℕ → Step (Option StationState) → Sat → ℕ → Sat → Type 0
 stop_loaded_all queue s m found m' = stop_loaded s m found m' × SeesStop queue m.0 found
@@ -147,7 +164,7 @@ stop_loaded_all queue s m found m' = stop_loaded s m found m' × SeesStop queue 
 abbrev pub woken_all : ℕ → Step (Option StationState) → Sat → ℕ → Sat → Type 0
 woken_all queue s m found m' = woken queue s m found m' × (IsSole m.0 → m.0.whole.state.shut ≡ None → found ≡ slice_index (account_of m.0).stops queue)
 
--- the lock was held or free as its words say, and behind a try it is held; what the holder has is the account's
+-- the lock was held or free as its words say, and after a try it is held; what the holder has is the account's
 abbrev pub tried_all : Step (Option StationState) → Sat → ℕ → Sat → Type 0
 tried_all s m found m' = tried s m found m' × (IsSole m.0 → found ≡ bit m.0.whole.qdisc.locked)
 

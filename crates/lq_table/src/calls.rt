@@ -1,31 +1,45 @@
 //! The steps on the count of calls inside.
-ghost use Rattle.std.specs.Prelude.{◌≡◌, ◌⊎◌, true, is_some};
+ghost use Rattle.std.specs.Prelude.{◌≡◌, ℕ, ◌<◌, ◌⊎◌, true, is_some, None};
 ghost use Rattle.lq_model.specs.declared.machine.Position.TheVariants.{Leave as AtLeave};
+ghost use Rattle.lq_table.specs.Marks.{marks_of};
 ghost use Rattle.lq_table.specs.Sees.{view, position, IsSeatOf, IsElseSame};
 ghost use Rattle.lq_table.specs.Told.{at_rest, bringing_packet, entering, passing};
 ghost use Rattle.lq_table.specs.Solo.{solo, entered_as};
 
+use crate::marks::Marks;
 use crate::plays::{Enter, Pass};
 use crate::shared::{Cpu, Shared};
-use lq_device::TxDevice;
+use crate::view::Knowledge;
+use atomic_table::Seat;
+use lq_device::{Station, TxDevice};
 
 const INSIDE: usize = 4;
 
 impl<'a, D: TxDevice> Shared<'a, D> {
-    /// A call begins: a transmit of the packet that the seat brings, or else a soft interrupt, which takes the raised
-    /// mark down. The count of calls inside rises by one, as on entry to the read side of RCU in `__dev_queue_xmit`
+    fn enter_seat(&self, seat: &mut Seat<Option<Station<D>>, Knowledge>, marks: &mut Marks)
+        requires seat { (seat.old.table_id ≡ self.now.table.shared.table_id) × (0 < seat.old.me.0.share.shares) }
+        requires at { at_rest seat.old.me.0.place.position ≡ true }
+        requires call { (is_some (bringing_packet seat.old.me.0) ≡ true) ⊎ ((seat.old.me.0.place.raised ≡ true) × (seat.old.me.0.packets.busy ≡ None)) }
+        requires told { marks.old ≡ marks_of seat.old.me.0 }
+        ensures seat { (seat.new.table_id ≡ seat.old.table_id) × (seat.new.id ≡ seat.old.id) × (seat.new.me.1 ≡ seat.old.me.1) × (seat.new.me.0 ≡ entering seat.old.me.0) }
+        ensures told { marks.new ≡ marks_of seat.new.me.0 }
+    {
+        self.table.shared.fetch_add::<Enter>(seat, INSIDE, 1);
+        marks.raised = marks.raised && marks.busy;
+    }
+
+    /// A call begins: a transmit of the packet that the seat brings, or else, where it has no packet's turn, a soft
+    /// interrupt, which takes the raised mark down. The count of calls inside rises by one, as on entry to the read side of RCU in `__dev_queue_xmit`
     /// and in `net_tx_action` (net/core/dev.c).
     pub fn enter(&self, cpu: &mut Cpu<D>)
         requires seat { IsSeatOf self.now cpu.old }
         requires at { at_rest (position cpu.old) ≡ true }
-        requires call { (is_some (bringing_packet (view cpu.old)) ≡ true) ⊎ ((view cpu.old).place.raised ≡ true) }
+        requires call { (is_some (bringing_packet (view cpu.old)) ≡ true) ⊎ (((view cpu.old).place.raised ≡ true) × ((view cpu.old).packets.busy ≡ None)) }
         ensures same { IsElseSame cpu.old cpu.new }
         ensures view { view cpu.new ≡ entering (view cpu.old) }
         ensures step { solo (view cpu.new) ≡ entered_as (is_some (bringing_packet (view cpu.old))) (solo (view cpu.old)) }
     {
-        self.table
-            .shared
-            .fetch_add::<Enter>(&mut cpu.seat, INSIDE, 1);
+        self.enter_seat(&mut cpu.known.seat, &mut cpu.known.marks);
     }
 
     /// A call ends: the count of calls inside falls by one.
@@ -38,6 +52,6 @@ impl<'a, D: TxDevice> Shared<'a, D> {
     {
         self.table
             .shared
-            .fetch_sub::<Pass>(&mut cpu.seat, INSIDE, 1);
+            .fetch_sub::<Pass>(&mut cpu.known.seat, INSIDE, 1);
     }
 }

@@ -2,20 +2,23 @@
 ghost use Rattle.std.specs.Prelude.{◌≡◌, ◌<◌, Some, IfSome, IfNone, slice_index};
 ghost use Rattle.lq_device.specs.Station.{StationState};
 ghost use Rattle.lq_model.specs.Words.{IsWordOf};
-ghost use Rattle.lq_table.specs.Sees.{closed_words, closed_fates, closed_home, ended_fates};
+ghost use Rattle.lq_run_core.specs.Numbered.{greatest};
+ghost use Rattle.lq_table.specs.Sees.{closed_words, closed_stops, closed_fates, closed_home, ended_fates};
 
 use crate::ended::{Closed, Ended};
 use lq_device::{StationPlan, TxDevice};
 use lq_model::{Fate, word_fate};
 
-/// The words of a closed table that are no producer's, turn's, slot's or fate's.
+const XOFF: usize = 3;
+
+/// The words of a closed table that are no producer's, turn's, slot's or fate's, the stop words as one.
 #[derive(Clone, Copy, Debug, PartialEq, Eq)]
 pub struct Words {
     /// The bits of the state, and above them one more than the event by which the station is deactivated.
     pub state: u64,
     /// 1 while the run lock is held.
     pub lock: u64,
-    /// The stop word of queue 0: 0 open, 1 stopped, 2 hung.
+    /// The greatest stop word of the queues: 0 where each is open, 1 where one is stopped and none hung, 2 where one is hung.
     pub xoff: u64,
     /// How many calls are inside.
     pub inside: u64,
@@ -58,18 +61,29 @@ impl<D: TxDevice> Closed<D> {
         self.ended.fate(n)
     }
 
-    /// The words as they are.
+    fn greatest_stop(&self) -> u64
+        ensures { result ≡ greatest (closed_stops self.now) }
+    {
+        let others = self.ended.fates_from + self.ended.packets;
+        let mut most = self.ended.table.word(XOFF);
+        for queue in 0..self.queues - 1 {
+            most = most.max(self.ended.table.word(others + queue));
+        }
+        most
+    }
+
+    /// The words as they are, and the greatest of the stop words.
     pub fn words(&self) -> Words
         ensures state { result.state ≡ slice_index (closed_words self.now) 1 }
         ensures lock { result.lock ≡ slice_index (closed_words self.now) 2 }
-        ensures xoff { result.xoff ≡ slice_index (closed_words self.now) 3 }
+        ensures xoff { result.xoff ≡ greatest (closed_stops self.now) }
         ensures inside { result.inside ≡ slice_index (closed_words self.now) 4 }
         ensures size { result.size ≡ slice_index (closed_words self.now) 5 }
     {
         Words {
             state: self.ended.table.word(1),
             lock: self.ended.table.word(2),
-            xoff: self.ended.table.word(3),
+            xoff: self.greatest_stop(),
             inside: self.ended.table.word(4),
             size: self.ended.table.word(5),
         }
@@ -86,14 +100,18 @@ impl<D: TxDevice> Closed<D> {
         station.unit()
     }
 
-    /// Hands out the station's device, beside what stays. The station must be at home, as it is where the closed seat was
-    /// sole.
+    /// Hands out the station's device, beside what stays. Where the closed seat was sole the station is at home, as it must
+    /// be, and its device accepted what the account's unit sent (`close`: `device`).
     pub fn into_device(self) -> (Ended<D>, D)
         requires home { (st : StationState) × (closed_home self ≡ Some st) }
         ensures ended { result.0 ≡ self.ended }
         ensures device { (st : StationState) → closed_home self ≡ Some st → D.state result.1 ≡ st.device }
     {
-        let Closed { ended, station } = self;
+        let Closed {
+            ended,
+            station,
+            queues: _,
+        } = self;
         let Some(station) = station else {
             unreachable!()
         };

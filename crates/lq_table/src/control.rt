@@ -5,12 +5,13 @@ ghost use Rattle.lq_model.specs.declared.machine.Phase.TheVariants.{Active, Purg
 ghost use Rattle.lq_model.specs.declared.machine.Position.TheVariants.{Idle as AtIdle, Control as AtControl};
 ghost use Rattle.lq_table.specs.Views.{Left};
 ghost use Rattle.lq_table.specs.Sees.{view, position, carried, IsSeatOf, IsElseSame};
+ghost use Rattle.lq_table.specs.AtRest.{IsAlone, KnowsRest};
 ghost use Rattle.lq_table.specs.Told.{at_rest};
 ghost use Rattle.lq_table.specs.Controls.{beginning_control, returning, closing, finding, opening, resetting_missed, resetting_draining, IsExchange, swapping, opening_next};
 
 use crate::plays::{
-    BeginControl, Close, Event, Find, Named, Open, OpenNext, ResetDraining, ResetMissed, Return,
-    Same, Standing, Swap,
+    BeginControl, Close, Event, Find, LoadLock, Named, Open, OpenNext, ResetDraining, ResetMissed,
+    Return, Standing, Swap,
 };
 use crate::shared::{Cpu, Shared};
 use lq_device::TxDevice;
@@ -40,7 +41,9 @@ impl<'a, D: TxDevice> Shared<'a, D> {
         ensures same { IsElseSame cpu.old cpu.new }
         ensures view { view cpu.new ≡ beginning_control (view cpu.old) }
     {
-        self.table.shared.load::<BeginControl>(&mut cpu.seat, BASE);
+        self.table
+            .shared
+            .load::<BeginControl>(&mut cpu.known.seat, BASE);
     }
 
     /// A call of control ends: the seat is idle.
@@ -50,7 +53,7 @@ impl<'a, D: TxDevice> Shared<'a, D> {
         ensures same { IsElseSame cpu.old cpu.new }
         ensures view { view cpu.new ≡ returning (view cpu.old) }
     {
-        self.table.shared.load::<Return>(&mut cpu.seat, BASE);
+        self.table.shared.load::<Return>(&mut cpu.known.seat, BASE);
     }
 
     fn set_deactivated_by<K: Event>(&self, cpu: &mut Cpu<D>, event: u32)
@@ -63,7 +66,7 @@ impl<'a, D: TxDevice> Shared<'a, D> {
     {
         self.table
             .shared
-            .fetch_or::<Close<K>>(&mut cpu.seat, STATE, 2 + 256 * (event as u64 + 1));
+            .fetch_or::<Close<K>>(&mut cpu.known.seat, STATE, 2 + 256 * (event as u64 + 1));
     }
 
     /// Sets DEACTIVATED for this event of the plan, whose number stands above the bits from then on, as
@@ -79,26 +82,30 @@ impl<'a, D: TxDevice> Shared<'a, D> {
     }
 
     /// Loads the count of calls inside, for which `dev_deactivate_many` of net/sched/sch_generic.c has
-    /// `synchronize_net` and `some_qdisc_is_busy`. Where it is 0 behind a set of DEACTIVATED the station is quiet.
+    /// `synchronize_net` and `some_qdisc_is_busy`. Where it is 0 after a set of DEACTIVATED the station is quiet.
     pub fn load_inside(&self, cpu: &mut Cpu<D>) -> u64
         requires seat { IsSeatOf self.now cpu.old }
         requires at { (holds : Bool) × (position cpu.old ≡ AtControl holds) }
         ensures same { IsElseSame cpu.old cpu.new }
         ensures view { view cpu.new ≡ finding result (view cpu.old) }
     {
-        self.table.shared.load::<Find>(&mut cpu.seat, INSIDE)
+        self.table.shared.load::<Find>(&mut cpu.known.seat, INSIDE)
     }
 
-    /// Loads the run lock's word: 1 where it is held. The seat learns nothing that lasts.
+    /// Loads the run lock's word: 1 where it is held. A seat that has the table alone, and is in no call, learns what is left at
+    /// the station.
     pub fn load_lock(&self, cpu: &mut Cpu<D>) -> u64
         requires seat { IsSeatOf self.now cpu.old }
         ensures same { IsElseSame cpu.old cpu.new }
         ensures view { view cpu.new ≡ view cpu.old }
+        ensures alone { IsAlone (view cpu.old) → KnowsRest (view cpu.old) }
     {
-        self.table.shared.load::<Same>(&mut cpu.seat, LOCK)
+        self.table
+            .shared
+            .load::<LoadLock>(&mut cpu.known.seat, LOCK)
     }
 
-    /// Clears DEACTIVATED behind a purge, as `transition_one_qdisc` of net/sched/sch_generic.c does.
+    /// Clears DEACTIVATED after a purge, as `transition_one_qdisc` of net/sched/sch_generic.c does.
     pub fn clear_deactivated(&self, cpu: &mut Cpu<D>)
         requires seat { IsSeatOf self.now cpu.old }
         requires at { position cpu.old ≡ AtControl false }
@@ -108,40 +115,39 @@ impl<'a, D: TxDevice> Shared<'a, D> {
     {
         self.table
             .shared
-            .fetch_and::<Open>(&mut cpu.seat, STATE, ALL_BITS_BUT_DEACTIVATED);
+            .fetch_and::<Open>(&mut cpu.known.seat, STATE, ALL_BITS_BUT_DEACTIVATED);
     }
 
-    /// Clears MISSED behind the last packet of a purge, as `dev_reset_queue` of net/sched/sch_generic.c does. The purge
+    /// Clears MISSED after the last packet of a purge, as `dev_reset_queue` of net/sched/sch_generic.c does. The purge
     /// ends where DRAINING was cleared before.
     pub fn reset_missed(&self, cpu: &mut Cpu<D>)
         requires seat { IsSeatOf self.now cpu.old }
         requires at { position cpu.old ≡ AtControl true }
-        requires purge { (u : Purge) × (l : Left) × ((view cpu.old).control.purge ≡ Some u) × (not (nat_lt u.band 3) ≡ true) × ((view cpu.old).holder.left ≡ Some l) × ((view cpu.old).holder.turn ≡ None) }
+        requires purge { (u : Purge) × (l : Left) × ((view cpu.old).control.purge ≡ Some u) × (not (nat_lt u.band 3) ≡ true) × ((view cpu.old).holder.left ≡ Some l) × ((view cpu.old).holder.resizing ≡ None) }
         ensures same { IsElseSame cpu.old cpu.new }
         ensures view { view cpu.new ≡ resetting_missed (view cpu.old) }
     {
         self.table
             .shared
-            .fetch_and::<ResetMissed>(&mut cpu.seat, STATE, ALL_BUT_MISSED);
+            .fetch_and::<ResetMissed>(&mut cpu.known.seat, STATE, ALL_BUT_MISSED);
     }
 
-    /// Clears DRAINING behind the last packet of a purge, as `dev_reset_queue` of net/sched/sch_generic.c does. The purge
+    /// Clears DRAINING after the last packet of a purge, as `dev_reset_queue` of net/sched/sch_generic.c does. The purge
     /// ends where MISSED was cleared before.
     pub fn reset_draining(&self, cpu: &mut Cpu<D>)
         requires seat { IsSeatOf self.now cpu.old }
         requires at { position cpu.old ≡ AtControl true }
-        requires purge { (u : Purge) × (l : Left) × ((view cpu.old).control.purge ≡ Some u) × (not (nat_lt u.band 3) ≡ true) × ((view cpu.old).holder.left ≡ Some l) × ((view cpu.old).holder.turn ≡ None) }
+        requires purge { (u : Purge) × (l : Left) × ((view cpu.old).control.purge ≡ Some u) × (not (nat_lt u.band 3) ≡ true) × ((view cpu.old).holder.left ≡ Some l) × ((view cpu.old).holder.resizing ≡ None) }
         ensures same { IsElseSame cpu.old cpu.new }
         ensures view { view cpu.new ≡ resetting_draining (view cpu.old) }
     {
         self.table
             .shared
-            .fetch_and::<ResetDraining>(&mut cpu.seat, STATE, ALL_BUT_DRAINING);
+            .fetch_and::<ResetDraining>(&mut cpu.known.seat, STATE, ALL_BUT_DRAINING);
     }
 
     fn exchange_of<K: Standing>(&self, cpu: &mut Cpu<D>)
         requires named { cpu.old.station ≡ Some K.station }
-        requires queues { 0 < self.now.queues }
         requires seat { IsSeatOf self.now cpu.old }
         requires at { (position cpu.old ≡ AtControl true) × ((view cpu.old).holder.shut ≡ None) }
         requires purged { ((view cpu.old).control.phase ≡ Purged) × ((view cpu.old).control.purge ≡ None) }
@@ -149,14 +155,15 @@ impl<'a, D: TxDevice> Shared<'a, D> {
         ensures same { IsElseSame cpu.old cpu.new }
         ensures view { view cpu.new ≡ swapping K.station (view cpu.old) }
     {
-        self.table.shared.store::<Swap<K>>(&mut cpu.seat, XOFF, 0);
+        self.table
+            .shared
+            .store::<Swap<K>>(&mut cpu.known.seat, XOFF, 0);
     }
 
     /// Stores 0 in the first queue's stop word of a station whose device was exchanged, as a driver's open does with
     /// `netif_tx_start_all_queues` of include/linux/netdevice.h. The station that the seat carries has the new device, whose
-    /// unit is none of those before. With several queues `open_xoff` goes on with the second.
+    /// unit is below 256 and none of those before. With several queues `open_xoff` goes on with the second.
     pub fn exchange(&self, cpu: &mut Cpu<D>)
-        requires queues { 0 < self.now.queues }
         requires seat { IsSeatOf self.now cpu.old }
         requires at { (position cpu.old ≡ AtControl true) × ((view cpu.old).holder.shut ≡ None) }
         requires purged { ((view cpu.old).control.phase ≡ Purged) × ((view cpu.old).control.purge ≡ None) }
@@ -179,10 +186,10 @@ impl<'a, D: TxDevice> Shared<'a, D> {
         let word = self.stop_word(queue);
         self.table
             .shared
-            .store::<OpenNext<K>>(&mut cpu.seat, word, 0);
+            .store::<OpenNext<K>>(&mut cpu.known.seat, word, 0);
     }
 
-    /// Stores 0 in the next queue's stop word behind an exchange of the device, in ascending order. Until the last one a word
+    /// Stores 0 in the next queue's stop word after an exchange of the device, in ascending order. Until the last one a word
     /// not yet stored may still be 1 or 2, though in the account each queue is open since the first store.
     pub fn open_xoff(&self, cpu: &mut Cpu<D>, queue: u32)
         requires queue { queue < self.now.queues }

@@ -25,6 +25,8 @@ pub struct Ended<D: TxDevice> {
 pub struct Closed<D: TxDevice> {
     pub(crate) ended: Ended<D>,
     pub(crate) station: Option<Station<D>>,
+    pub(crate) queues: usize,
+    pub ghost stopped: { (0 < queues) × (ended.fates_from + ended.packets + queues ≡ slots_len ended.table.words + 1) },
 }
 
 impl<D: TxDevice> Drop for Ended<D> {

@@ -62,7 +62,7 @@ impl<'a, D: TxDevice> Shared<'a, D> {
         let word = 9 + self.senders as usize + 3 * self.max_len as usize + n as usize;
         self.table
             .shared
-            .store::<Settle<K>>(&mut cpu.seat, word, fate_word(fate));
+            .store::<Settle<K>>(&mut cpu.known.seat, word, fate_word(fate));
     }
 
     /// Stores the fate of the packet `n`, whose fate word was 0: what the kernel tells of a packet by

@@ -2,6 +2,7 @@
 //! is deactivated or whose device hangs. It takes the packets out of the requeue slot and the rings, whose fate is Purged.
 ghost use Rattle.std.specs.Prelude.{◌≡◌, ◌≢◌, ℕ, ◌+◌, ◌*◌, ◌-◌, ◌<◌, ◌≤◌, true, false, [], Some, None, is_some, slice_index};
 ghost use Rattle.std.specs.List.{slice_get};
+ghost use Rattle.lq_account.specs.Trail.{down_of};
 ghost use Rattle.lq_model.specs.Band.{Band, held_of};
 ghost use Rattle.lq_model.specs.Control.{is_quiet};
 ghost use Rattle.lq_model.specs.Machine.{Purge};
@@ -11,7 +12,7 @@ ghost use Rattle.lq_band.specs.Three.{at, Three as Of};
 ghost use Rattle.lq_band.specs.Ring.{is_emptying};
 ghost use Rattle.lq_table.specs.Views.{Left};
 ghost use Rattle.lq_table.specs.Sees.{view, position, carried, ends_at, IsSeatOf, IsElseSame};
-ghost use Rattle.lq_table.specs.Purges.{purging, HoldsAtMost, purge_begun, hung_purge_begun, taking_purged, passing_band, purge_seen};
+ghost use Rattle.lq_table.specs.Purges.{purging, HoldsAtMost, HoldPackets, AreKnown, purge_begun, hung_purge_begun, taking_purged, passing_band, purge_seen};
 
 use crate::shared::{Cpu, Shared};
 use crate::view::Knowledge;
@@ -73,12 +74,16 @@ impl<'a, D: TxDevice> Shared<'a, D> {
     pub fn begin_purge(&self, cpu: &mut Cpu<D>) -> u32
         requires seat { IsSeatOf self.now cpu.old }
         requires at { (position cpu.old ≡ Control true) × (is_quiet (view cpu.old).control.phase ≡ true) }
-        requires calm { ((view cpu.old).control.purge ≡ None) × ((view cpu.old).holder.turn ≡ None) }
+        requires calm { ((view cpu.old).control.purge ≡ None) × ((view cpu.old).holder.resizing ≡ None) }
         requires packets { ((view cpu.old).packets.owed ≡ None) × ((view cpu.old).packets.fresh ≡ None) }
         ensures same { IsElseSame cpu.old cpu.new }
-        ensures begun { (bands : Of Band) × (view cpu.new ≡ purging (cause.Event result) bands (view cpu.old)) × HoldsAtMost (view cpu.old).holder.size bands }
+        ensures begun { (bands : Of Band) × (view cpu.new ≡ purging (cause.Event result) bands (view cpu.old)) × HoldsAtMost (view cpu.old).holder.size bands × HoldPackets (view cpu.old).share.about.infos bands × AreKnown (view cpu.old) bands }
+        ensures event { down_of (view cpu.old).trail ≡ Some result }
     {
-        let word = self.table.shared.load::<BeginPurge>(&mut cpu.seat, STATE);
+        let word = self
+            .table
+            .shared
+            .load::<BeginPurge>(&mut cpu.known.seat, STATE);
         (word / 256 - 1) as u32
     }
 
@@ -87,14 +92,14 @@ impl<'a, D: TxDevice> Shared<'a, D> {
     pub fn begin_hung_purge(&self, cpu: &mut Cpu<D>)
         requires seat { IsSeatOf self.now cpu.old }
         requires at { (position cpu.old ≡ Control true) × ((view cpu.old).share.shares ≡ 1024) × ((view cpu.old).holder.station.device.hung ≡ true) }
-        requires calm { ((view cpu.old).control.purge ≡ None) × ((view cpu.old).holder.turn ≡ None) }
+        requires calm { ((view cpu.old).control.purge ≡ None) × ((view cpu.old).holder.resizing ≡ None) }
         requires packets { ((view cpu.old).packets.owed ≡ None) × ((view cpu.old).packets.fresh ≡ None) }
         ensures same { IsElseSame cpu.old cpu.new }
-        ensures begun { (bands : Of Band) × (view cpu.new ≡ purging (cause.Hung (view cpu.old).holder.station.unit) bands (view cpu.old)) × HoldsAtMost (view cpu.old).holder.size bands }
+        ensures begun { (bands : Of Band) × (view cpu.new ≡ purging (cause.Hung (view cpu.old).holder.station.unit) bands (view cpu.old)) × HoldsAtMost (view cpu.old).holder.size bands × HoldPackets (view cpu.old).share.about.infos bands × AreKnown (view cpu.old) bands }
     {
         self.table
             .shared
-            .load::<BeginHungPurge>(&mut cpu.seat, STATE);
+            .load::<BeginHungPurge>(&mut cpu.known.seat, STATE);
     }
 
     fn purge_slot_of<K: Purging>(&self, cpu: &mut Cpu<D>, band: u32, head: u32) -> u64
@@ -103,7 +108,7 @@ impl<'a, D: TxDevice> Shared<'a, D> {
         requires band { band < 3 }
         requires at { (position cpu.old ≡ Control true) × ((view cpu.old).control.purge ≡ Some K.purge) × (K.purge.band ≡ band) × ((view cpu.old).holder.left ≡ Some K.left) }
         requires packets { ((view cpu.old).packets.owed ≡ None) × ((view cpu.old).packets.fresh ≡ None) }
-        requires rests { ((view cpu.old).holder.turn ≡ None) × (is_emptying (view cpu.old).holder.size (ends_at band cpu.old) ≡ false) }
+        requires rests { ((view cpu.old).holder.resizing ≡ None) × (is_emptying (view cpu.old).holder.size (ends_at band cpu.old) ≡ false) }
         requires head { (head ≡ (ends_at band cpu.old).head) × (head < self.now.max_len) }
         ensures same { IsElseSame cpu.old cpu.new × (result ≤ 1000000) }
         ensures none { result ≡ 0 → (held_of (at band K.left.bands) ≡ []) × (view cpu.new ≡ passing_band K.purge (view cpu.old)) }
@@ -113,7 +118,9 @@ impl<'a, D: TxDevice> Shared<'a, D> {
             + self.senders as usize
             + band as usize * self.max_len as usize
             + head as usize;
-        self.table.shared.load::<SeePurged<K>>(&mut cpu.seat, word)
+        self.table
+            .shared
+            .load::<SeePurged<K>>(&mut cpu.known.seat, word)
     }
 
     /// What stands in the slot at the head of the band that the purge has come to. Where it isn't 0 its packet is taken,
@@ -124,7 +131,7 @@ impl<'a, D: TxDevice> Shared<'a, D> {
         requires band { band < 3 }
         requires at { (u : Purge) × (l : Left) × (position cpu.old ≡ Control true) × ((view cpu.old).control.purge ≡ Some u) × (u.band ≡ band) × ((view cpu.old).holder.left ≡ Some l) }
         requires packets { ((view cpu.old).packets.owed ≡ None) × ((view cpu.old).packets.fresh ≡ None) }
-        requires rests { ((view cpu.old).holder.turn ≡ None) × (is_emptying (view cpu.old).holder.size (ends_at band cpu.old) ≡ false) }
+        requires rests { ((view cpu.old).holder.resizing ≡ None) × (is_emptying (view cpu.old).holder.size (ends_at band cpu.old) ≡ false) }
         requires station { (is_some cpu.old.station ≡ true) × (slice_index (carried cpu.old).heads band ≡ (ends_at band cpu.old).head) }
         requires head { (ends_at band cpu.old).head < self.now.max_len }
         ensures same { IsElseSame cpu.old cpu.new × (result ≤ 1000000) }

@@ -2,18 +2,21 @@
 //! `pfifo_fast_change_tx_queue_len` of net/sched/sch_generic.c calls. Control holds the run lock and the three producer
 //! locks. There the kernel moves the packets into new arrays; here control moves them in place, one step a call.
 ghost use Rattle.std.specs.Prelude.{◌≡◌, ℕ, ◌+◌, ◌*◌, ◌<◌, ◌≤◌, ◌∷◌, [], true, false, None, Some, List, length, slice_index, Contains};
-ghost use Rattle.lq_model.specs.Kept.{holds_lock};
+ghost use Rattle.lq_model.specs.Account.{held_in};
+ghost use Rattle.lq_model.specs.Positions.{holds_lock};
 ghost use Rattle.lq_model.specs.Plan.{band_in};
+ghost use Rattle.lq_model.specs.declared.machine.Phase.TheVariants.{Purged};
 ghost use Rattle.lq_model.specs.declared.machine.Position.TheVariants.{Control};
 ghost use Rattle.lq_ring_core.specs.Slots.{round};
 ghost use Rattle.lq_band.specs.Three.{at, Three as Of};
 ghost use Rattle.lq_band.specs.Ring.{locked_at};
-ghost use Rattle.lq_band.specs.Turning.{IsUnturned, IsRefilled};
-ghost use Rattle.lq_table.specs.Views.{Turn};
+ghost use Rattle.lq_band.specs.HalfResized.{IsBeforeResize, IsRefilled};
+ghost use Rattle.lq_table.specs.Views.{HalfResize};
 ghost use Rattle.lq_table.specs.Rule.{IsResting};
 ghost use Rattle.lq_table.specs.Sees.{view, position, lock_at, ends_at, IsSeatOf, IsElseSame};
 ghost use Rattle.lq_table.specs.Rings.{with_lock_at};
-ghost use Rattle.lq_table.specs.Resizes.{turn_of, beginning, turned, with_work, out_of, into, is_member, restarted, resize_begun, slot_cleared, slot_filled, producer_set, size_stored};
+ghost use Rattle.lq_table.specs.Solo.{IsSole, account_of};
+ghost use Rattle.lq_table.specs.Resizes.{may_resize, resizing_of, beginning, with_resizing, with_work, out_of, into, is_member, restarted, resize_begun, slot_cleared, slot_filled, producer_set, size_stored};
 
 use crate::shared::{Cpu, Shared};
 use crate::view::Knowledge;
@@ -54,7 +57,7 @@ impl Resizing for Brand {
 /// Names a slot, a packet, what else is in control's hand, and the resize.
 pub trait Working {
     ghost use Rattle.std.specs.Prelude.{ℕ, List};
-    ghost use Rattle.lq_table.specs.Views.{Turn};
+    ghost use Rattle.lq_table.specs.Views.{HalfResize};
 
     ghost band: { ℕ };
 
@@ -64,12 +67,12 @@ pub trait Working {
 
     ghost hand: { List ℕ };
 
-    ghost turn: { Turn };
+    ghost resizing: { HalfResize };
 }
 
 impl Working for Brand {
     ghost use Rattle.std.specs.Prelude.{[]};
-    ghost use Rattle.lq_table.specs.Views.{no_turn};
+    ghost use Rattle.lq_table.specs.Views.{no_resizing};
 
     ghost band = { 0 };
 
@@ -79,7 +82,7 @@ impl Working for Brand {
 
     ghost hand = { [] };
 
-    ghost turn = { no_turn };
+    ghost resizing = { no_resizing };
 }
 
 pub(crate) struct BeginResize<K> {
@@ -95,7 +98,7 @@ pub(crate) struct ClearSlot<K> {
 }
 
 impl<D: TxDevice, K: Working> Play<Option<Station<D>>, Knowledge> for ClearSlot<K> {
-    ghost then = { slot_cleared K.band K.index K.turn };
+    ghost then = { slot_cleared K.band K.index K.resizing };
 }
 
 pub(crate) struct FillSlot<K> {
@@ -103,7 +106,7 @@ pub(crate) struct FillSlot<K> {
 }
 
 impl<D: TxDevice, K: Working> Play<Option<Station<D>>, Knowledge> for FillSlot<K> {
-    ghost then = { slot_filled K.band K.index K.packet K.hand K.turn };
+    ghost then = { slot_filled K.band K.index K.packet K.hand K.resizing };
 }
 
 pub(crate) struct SetProducer<K> {
@@ -119,7 +122,7 @@ pub(crate) struct StoreSize<K> {
 }
 
 impl<D: TxDevice, K: Working> Play<Option<Station<D>>, Knowledge> for StoreSize<K> {
-    ghost then = { size_stored K.turn };
+    ghost then = { size_stored K.resizing };
 }
 
 impl<'a, D: TxDevice> Shared<'a, D> {
@@ -127,33 +130,38 @@ impl<'a, D: TxDevice> Shared<'a, D> {
         requires named { (len ≡ K.len) × (event ≡ K.event) × (self.now.infos.now ≡ K.infos) × (self.now.max_len ≡ K.limit) }
         requires seat { IsSeatOf self.now cpu.old }
         requires len { (0 < len) × (len ≤ self.now.max_len) }
-        requires at { position cpu.old ≡ Control true }
-        requires rests { ((view cpu.old).control.purge ≡ None) × ((view cpu.old).holder.turn ≡ None) × IsResting (view cpu.old).holder.size (view cpu.old).holder.ends }
+        requires at { (position cpu.old ≡ Control true) × (may_resize (view cpu.old).control.phase ≡ true) }
+        requires rests { ((view cpu.old).control.purge ≡ None) × ((view cpu.old).holder.resizing ≡ None) × IsResting (view cpu.old).holder.size (view cpu.old).holder.ends }
         requires locks { (b : ℕ) → b < 3 → ((lock_at b cpu.old).holds ≡ true) × ((lock_at b cpu.old).stored ≡ false) }
         ensures same { IsElseSame cpu.old cpu.new }
-        ensures begun { (held : ℕ → List ℕ) × (slots : Of (List ℕ)) × (view cpu.new ≡ beginning (turn_of K.len K.event held slots) (view cpu.old))
-            × ((b : ℕ) → b < 3 → IsUnturned (view cpu.old).holder.size K.limit (at b slots) (held b) (ends_at b cpu.old))
-            × ((b n : ℕ) → b < 3 → Contains (held b) n → (band_in K.infos n ≡ b) × (n < length K.infos)) }
+        ensures begun { (held : ℕ → List ℕ) × (slots : Of (List ℕ)) × (view cpu.new ≡ beginning (resizing_of K.len K.event held slots) (view cpu.old))
+            × ((b : ℕ) → b < 3 → IsBeforeResize (view cpu.old).holder.size K.limit (at b slots) (held b) (ends_at b cpu.old))
+            × ((b n : ℕ) → b < 3 → Contains (held b) n → (band_in K.infos n ≡ b) × (n < length K.infos))
+            × ((view cpu.old).control.phase ≡ Purged → (b : ℕ) → b < 3 → held b ≡ [])
+            × (IsSole (view cpu.old) → (b : ℕ) → b < 3 → held b ≡ held_in (account_of (view cpu.old)) b) }
     {
         self.table
             .shared
-            .load::<BeginResize<K>>(&mut cpu.seat, SIZE);
+            .load::<BeginResize<K>>(&mut cpu.known.seat, SIZE);
     }
 
     /// The resize to `len` begins, for the plan's event `event`. In the account it is done with this step: each band has
     /// the packets that it keeps, and the others have Shrunk as their fates, which control has still to store. Control
     /// learns all slots, in which each band's held packets stand from the head on. A load of the size word by control
-    /// that has the three producer locks and no purge half done.
+    /// that has the three producer locks and no purge half done, of an active station or after the purge of a deactivated one,
+    /// where nothing is held.
     pub fn begin_resize(&self, cpu: &mut Cpu<D>, len: u32, event: u32)
         requires seat { IsSeatOf self.now cpu.old }
         requires len { (0 < len) × (len ≤ self.now.max_len) }
-        requires at { position cpu.old ≡ Control true }
-        requires rests { ((view cpu.old).control.purge ≡ None) × ((view cpu.old).holder.turn ≡ None) × IsResting (view cpu.old).holder.size (view cpu.old).holder.ends }
+        requires at { (position cpu.old ≡ Control true) × (may_resize (view cpu.old).control.phase ≡ true) }
+        requires rests { ((view cpu.old).control.purge ≡ None) × ((view cpu.old).holder.resizing ≡ None) × IsResting (view cpu.old).holder.size (view cpu.old).holder.ends }
         requires locks { (b : ℕ) → b < 3 → ((lock_at b cpu.old).holds ≡ true) × ((lock_at b cpu.old).stored ≡ false) }
         ensures same { IsElseSame cpu.old cpu.new }
-        ensures begun { (held : ℕ → List ℕ) × (slots : Of (List ℕ)) × (view cpu.new ≡ beginning (turn_of len event held slots) (view cpu.old))
-            × ((b : ℕ) → b < 3 → IsUnturned (view cpu.old).holder.size self.now.max_len (at b slots) (held b) (ends_at b cpu.old))
-            × ((b n : ℕ) → b < 3 → Contains (held b) n → (band_in self.now.infos.now n ≡ b) × (n < length self.now.infos.now)) }
+        ensures begun { (held : ℕ → List ℕ) × (slots : Of (List ℕ)) × (view cpu.new ≡ beginning (resizing_of len event held slots) (view cpu.old))
+            × ((b : ℕ) → b < 3 → IsBeforeResize (view cpu.old).holder.size self.now.max_len (at b slots) (held b) (ends_at b cpu.old))
+            × ((b n : ℕ) → b < 3 → Contains (held b) n → (band_in self.now.infos.now n ≡ b) × (n < length self.now.infos.now))
+            × ((view cpu.old).control.phase ≡ Purged → (b : ℕ) → b < 3 → held b ≡ [])
+            × (IsSole (view cpu.old) → (b : ℕ) → b < 3 → held b ≡ held_in (account_of (view cpu.old)) b) }
     {
         self.begin_resize_of::<Brand>(cpu, len, event);
     }
@@ -162,14 +170,14 @@ impl<'a, D: TxDevice> Shared<'a, D> {
         requires named { (band ≡ K.band) × (i ≡ K.index) }
         requires seat { IsSeatOf self.now cpu.old }
         requires place { (band < 3) × (i < self.now.max_len) }
-        requires holder { (holds_lock (position cpu.old) ≡ true) × ((view cpu.old).holder.turn ≡ Some K.turn) }
+        requires holder { (holds_lock (position cpu.old) ≡ true) × ((view cpu.old).holder.resizing ≡ Some K.resizing) }
         ensures same { IsElseSame cpu.old cpu.new }
-        ensures cleared { (result ≡ slice_index (at band K.turn.works).slots i) × (view cpu.new ≡ turned (Some (with_work band (out_of i (at band K.turn.works)) K.turn)) (view cpu.old)) × (is_member result (at band K.turn.works) ≡ true → result ≤ 1000000) }
+        ensures cleared { (result ≡ slice_index (at band K.resizing.works).slots i) × (view cpu.new ≡ with_resizing (Some (with_work band (out_of i (at band K.resizing.works)) K.resizing)) (view cpu.old)) × (is_member result (at band K.resizing.works) ≡ true → result ≤ 1000000) }
     {
         let word = 9 + self.senders as usize + band as usize * self.max_len as usize + i as usize;
         self.table
             .shared
-            .swap::<ClearSlot<K>>(&mut cpu.seat, word, 0)
+            .swap::<ClearSlot<K>>(&mut cpu.known.seat, word, 0)
     }
 
     /// Empties a slot, and answers what stood there. Its packet comes into control's hand where the band keeps it or has
@@ -177,9 +185,9 @@ impl<'a, D: TxDevice> Shared<'a, D> {
     pub fn clear_slot(&self, cpu: &mut Cpu<D>, band: u32, i: u32) -> u64
         requires seat { IsSeatOf self.now cpu.old }
         requires place { (band < 3) × (i < self.now.max_len) }
-        requires holder { (holds_lock (position cpu.old) ≡ true) × ((t : Turn) × ((view cpu.old).holder.turn ≡ Some t)) }
+        requires holder { (holds_lock (position cpu.old) ≡ true) × ((t : HalfResize) × ((view cpu.old).holder.resizing ≡ Some t)) }
         ensures same { IsElseSame cpu.old cpu.new }
-        ensures cleared { (t : Turn) → (view cpu.old).holder.turn ≡ Some t → (result ≡ slice_index (at band t.works).slots i) × (view cpu.new ≡ turned (Some (with_work band (out_of i (at band t.works)) t)) (view cpu.old)) × (is_member result (at band t.works) ≡ true → result ≤ 1000000) }
+        ensures cleared { (t : HalfResize) → (view cpu.old).holder.resizing ≡ Some t → (result ≡ slice_index (at band t.works).slots i) × (view cpu.new ≡ with_resizing (Some (with_work band (out_of i (at band t.works)) t)) (view cpu.old)) × (is_member result (at band t.works) ≡ true → result ≤ 1000000) }
     {
         self.clear_slot_of::<Brand>(cpu, band, i)
     }
@@ -188,15 +196,15 @@ impl<'a, D: TxDevice> Shared<'a, D> {
         requires named { (band ≡ K.band) × (i ≡ K.index) × (n ≡ K.packet) }
         requires seat { IsSeatOf self.now cpu.old }
         requires place { (band < 3) × (i < self.now.max_len) }
-        requires holder { (holds_lock (position cpu.old) ≡ true) × ((view cpu.old).holder.turn ≡ Some K.turn) }
-        requires hand { ((at band K.turn.works).hand ≡ n ∷ K.hand) × (slice_index (at band K.turn.works).slots i ≡ 0) }
+        requires holder { (holds_lock (position cpu.old) ≡ true) × ((view cpu.old).holder.resizing ≡ Some K.resizing) }
+        requires hand { ((at band K.resizing.works).hand ≡ n ∷ K.hand) × (slice_index (at band K.resizing.works).slots i ≡ 0) }
         ensures same { IsElseSame cpu.old cpu.new }
-        ensures filled { view cpu.new ≡ turned (Some (with_work band (into i n K.hand (at band K.turn.works)) K.turn)) (view cpu.old) }
+        ensures filled { view cpu.new ≡ with_resizing (Some (with_work band (into i n K.hand (at band K.resizing.works)) K.resizing)) (view cpu.old) }
     {
         let word = 9 + self.senders as usize + band as usize * self.max_len as usize + i as usize;
         self.table
             .shared
-            .store::<FillSlot<K>>(&mut cpu.seat, word, n as u64 + 1);
+            .store::<FillSlot<K>>(&mut cpu.known.seat, word, n as u64 + 1);
     }
 
     /// Puts the packet that came into control's hand last into an empty slot. A store of its number plus 1, by control
@@ -205,9 +213,9 @@ impl<'a, D: TxDevice> Shared<'a, D> {
         requires seat { IsSeatOf self.now cpu.old }
         requires place { (band < 3) × (i < self.now.max_len) }
         requires holder { holds_lock (position cpu.old) ≡ true }
-        requires hand { (t : Turn) × (hand : List ℕ) × ((view cpu.old).holder.turn ≡ Some t) × ((at band t.works).hand ≡ n ∷ hand) × (slice_index (at band t.works).slots i ≡ 0) }
+        requires hand { (t : HalfResize) × (hand : List ℕ) × ((view cpu.old).holder.resizing ≡ Some t) × ((at band t.works).hand ≡ n ∷ hand) × (slice_index (at band t.works).slots i ≡ 0) }
         ensures same { IsElseSame cpu.old cpu.new }
-        ensures filled { (t : Turn) (hand : List ℕ) → (view cpu.old).holder.turn ≡ Some t → (at band t.works).hand ≡ n ∷ hand → view cpu.new ≡ turned (Some (with_work band (into i n hand (at band t.works)) t)) (view cpu.old) }
+        ensures filled { (t : HalfResize) (hand : List ℕ) → (view cpu.old).holder.resizing ≡ Some t → (at band t.works).hand ≡ n ∷ hand → view cpu.new ≡ with_resizing (Some (with_work band (into i n hand (at band t.works)) t)) (view cpu.old) }
     {
         self.fill_slot_of::<Brand>(cpu, band, i, n);
     }
@@ -216,12 +224,12 @@ impl<'a, D: TxDevice> Shared<'a, D> {
         requires named { (band ≡ K.band) × (index ≡ K.index) }
         requires seat { IsSeatOf self.now cpu.old }
         requires band { band < 3 }
-        requires holder { (holds_lock (position cpu.old) ≡ true) × ((t : Turn) × ((view cpu.old).holder.turn ≡ Some t)) × ((lock_at band cpu.old).holds ≡ true) }
+        requires holder { (holds_lock (position cpu.old) ≡ true) × ((t : HalfResize) × ((view cpu.old).holder.resizing ≡ Some t)) × ((lock_at band cpu.old).holds ≡ true) }
         ensures same { IsElseSame cpu.old cpu.new }
         ensures set { view cpu.new ≡ with_lock_at band (locked_at index) (view cpu.old) }
     {
         self.table.shared.store::<SetProducer<K>>(
-            &mut cpu.seat,
+            &mut cpu.known.seat,
             PRODUCERS + band as usize,
             2 * index as u64 + 1,
         );
@@ -232,7 +240,7 @@ impl<'a, D: TxDevice> Shared<'a, D> {
     pub fn set_producer(&self, cpu: &mut Cpu<D>, band: u32, index: u32)
         requires seat { IsSeatOf self.now cpu.old }
         requires band { band < 3 }
-        requires holder { (holds_lock (position cpu.old) ≡ true) × ((t : Turn) × ((view cpu.old).holder.turn ≡ Some t)) × ((lock_at band cpu.old).holds ≡ true) }
+        requires holder { (holds_lock (position cpu.old) ≡ true) × ((t : HalfResize) × ((view cpu.old).holder.resizing ≡ Some t)) × ((lock_at band cpu.old).holds ≡ true) }
         ensures same { IsElseSame cpu.old cpu.new }
         ensures set { view cpu.new ≡ with_lock_at band (locked_at index) (view cpu.old) }
     {
@@ -240,16 +248,16 @@ impl<'a, D: TxDevice> Shared<'a, D> {
     }
 
     fn store_size_of<K: Working>(&self, cpu: &mut Cpu<D>, len: u32)
-        requires named { len ≡ K.turn.len }
+        requires named { len ≡ K.resizing.len }
         requires seat { IsSeatOf self.now cpu.old }
-        requires holder { (holds_lock (position cpu.old) ≡ true) × ((view cpu.old).holder.turn ≡ Some K.turn) }
-        requires ready { (b : ℕ) → b < 3 → IsRefilled (at b K.turn.works).slots (at b K.turn.works).kept K.turn.len × (lock_at b cpu.old ≡ locked_at (round K.turn.len (length (at b K.turn.works).kept))) × ((at b K.turn.works).waiting ≡ []) }
+        requires holder { (holds_lock (position cpu.old) ≡ true) × ((view cpu.old).holder.resizing ≡ Some K.resizing) }
+        requires ready { (b : ℕ) → b < 3 → IsRefilled (at b K.resizing.works).slots (at b K.resizing.works).kept K.resizing.len × (lock_at b cpu.old ≡ locked_at (round K.resizing.len (length (at b K.resizing.works).kept))) × ((at b K.resizing.works).waiting ≡ []) }
         ensures same { IsElseSame cpu.old cpu.new }
-        ensures restarted { view cpu.new ≡ restarted K.turn (view cpu.old) }
+        ensures restarted { view cpu.new ≡ restarted K.resizing (view cpu.old) }
     {
         self.table
             .shared
-            .store::<StoreSize<K>>(&mut cpu.seat, SIZE, len as u64);
+            .store::<StoreSize<K>>(&mut cpu.known.seat, SIZE, len as u64);
     }
 
     /// Stores the new length, and ends the resize: the rings start again, with what each band keeps from slot 0 on. Each
@@ -258,10 +266,10 @@ impl<'a, D: TxDevice> Shared<'a, D> {
     pub fn store_size(&self, cpu: &mut Cpu<D>, len: u32)
         requires seat { IsSeatOf self.now cpu.old }
         requires holder { holds_lock (position cpu.old) ≡ true }
-        requires ready { (t : Turn) × ((view cpu.old).holder.turn ≡ Some t) × (len ≡ t.len)
+        requires ready { (t : HalfResize) × ((view cpu.old).holder.resizing ≡ Some t) × (len ≡ t.len)
             × ((b : ℕ) → b < 3 → IsRefilled (at b t.works).slots (at b t.works).kept t.len × (lock_at b cpu.old ≡ locked_at (round t.len (length (at b t.works).kept))) × ((at b t.works).waiting ≡ [])) }
         ensures same { IsElseSame cpu.old cpu.new }
-        ensures restarted { (t : Turn) → (view cpu.old).holder.turn ≡ Some t → view cpu.new ≡ restarted t (view cpu.old) }
+        ensures restarted { (t : HalfResize) → (view cpu.old).holder.resizing ≡ Some t → view cpu.new ≡ restarted t (view cpu.old) }
     {
         self.store_size_of::<Brand>(cpu, len);
     }

@@ -30,7 +30,7 @@ impl<'a, D: TxDevice> Shared<'a, D> {
     {
         self.table
             .shared
-            .fetch_and::<Pass>(&mut cpu.seat, STATE, ALL_BUT_MISSED);
+            .fetch_and::<Pass>(&mut cpu.known.seat, STATE, ALL_BUT_MISSED);
     }
 
     /// Clears DRAINING before the bands are looked through once more (`pfifo_fast_dequeue`).
@@ -43,10 +43,10 @@ impl<'a, D: TxDevice> Shared<'a, D> {
     {
         self.table
             .shared
-            .fetch_and::<Pass>(&mut cpu.seat, STATE, ALL_BUT_DRAINING);
+            .fetch_and::<Pass>(&mut cpu.known.seat, STATE, ALL_BUT_DRAINING);
     }
 
-    /// Sets MISSED: behind a packet that was laid back, at the end of the quota (`__qdisc_run`), or where the stopped
+    /// Sets MISSED: after a packet that was laid back, at the end of the quota (`__qdisc_run`), or where the stopped
     /// queue is open by now (`qdisc_maybe_clear_missed`); there a packet in hand goes to the requeue slot with this step.
     pub fn set_missed(&self, cpu: &mut Cpu<D>)
         requires seat { IsSeatOf self.now cpu.old }
@@ -57,10 +57,10 @@ impl<'a, D: TxDevice> Shared<'a, D> {
     {
         self.table
             .shared
-            .fetch_or::<Set>(&mut cpu.seat, STATE, MISSED);
+            .fetch_or::<Set>(&mut cpu.known.seat, STATE, MISSED);
     }
 
-    /// Sets DRAINING where the queue is stopped still (`qdisc_maybe_clear_missed`). The seat stands there only behind its
+    /// Sets DRAINING where the queue is stopped still (`qdisc_maybe_clear_missed`). The seat stands there only after its
     /// second load of the stop word. A packet in hand goes to the requeue slot with this step.
     pub fn set_draining(&self, cpu: &mut Cpu<D>)
         requires seat { IsSeatOf self.now cpu.old }
@@ -71,6 +71,6 @@ impl<'a, D: TxDevice> Shared<'a, D> {
     {
         self.table
             .shared
-            .fetch_or::<Set>(&mut cpu.seat, STATE, DRAINING);
+            .fetch_or::<Set>(&mut cpu.known.seat, STATE, DRAINING);
     }
 }

@@ -2,32 +2,48 @@
 ghost use Rattle.std.specs.Prelude.{◌≡◌, ◌≢◌, ℕ, ◌+◌, ◌*◌, ◌<◌, Some, None, length, slice_index, MatchResult};
 ghost use Rattle.lq_model.specs.Plan.{owner_in, station_in, rank_in};
 ghost use Rattle.lq_table.specs.Rule.{times};
+ghost use Rattle.lq_table.specs.Marks.{marks_of};
 ghost use Rattle.lq_table.specs.Sees.{view, IsSeatOf, IsElseSame};
 ghost use Rattle.lq_table.specs.Told.{bringing, giving_turn};
 
+use crate::marks::Marks;
 use crate::plays::{GiveTurn, SeeTurn, TakeTurn, Turned};
 use crate::shared::{Cpu, Shared};
-use lq_device::TxDevice;
+use crate::view::Knowledge;
+use atomic_table::Seat;
+use lq_device::{Station, TxDevice};
 use std::marker::Brand;
 
 const TURNS: usize = 9;
 
 impl<'a, D: TxDevice> Shared<'a, D> {
-    fn take_turn_of<K: Turned>(&self, cpu: &mut Cpu<D>, n: u32, owner: u32, rank: u32) -> u64
+    fn take_turn_of<K: Turned>(
+        &self,
+        seat: &mut Seat<Option<Station<D>>, Knowledge>,
+        marks: &mut Marks,
+        n: u32,
+        owner: u32,
+        rank: u32,
+    ) -> u64
         requires named { (n ≡ K.packet) × (owner ≡ K.owner) × (rank ≡ K.rank) }
-        requires seat { IsSeatOf self.now cpu.old }
+        requires seat { (seat.old.table_id ≡ self.now.table.shared.table_id) × (0 < seat.old.me.0.share.shares) }
         requires packet { (n < length self.now.infos.now) × (station_in self.now.infos.now n ≡ self.now.station) × (owner ≡ owner_in self.now.infos.now n) × (rank ≡ rank_in self.now.infos.now n) }
-        requires owner { (0 < times owner (view cpu.old).share.owners) × (owner < self.now.senders) }
-        requires idle { (view cpu.old).packets.busy ≡ None }
-        ensures same { IsElseSame cpu.old cpu.new }
-        ensures found { result ≡ slice_index (view cpu.old).turns K.owner }
-        ensures taken { result ≡ 2 * K.rank → view cpu.new ≡ bringing K.packet K.owner K.rank (view cpu.old) }
-        ensures other { result ≢ 2 * K.rank → view cpu.new ≡ view cpu.old }
+        requires owner { (0 < times owner seat.old.me.0.share.owners) × (owner < self.now.senders) }
+        requires idle { seat.old.me.0.packets.busy ≡ None }
+        requires told { marks.old ≡ marks_of seat.old.me.0 }
+        ensures same { (seat.new.table_id ≡ seat.old.table_id) × (seat.new.id ≡ seat.old.id) × (seat.new.me.1 ≡ seat.old.me.1) }
+        ensures found { result ≡ slice_index seat.old.me.0.turns K.owner }
+        ensures taken { result ≡ 2 * K.rank → seat.new.me.0 ≡ bringing K.packet K.owner K.rank seat.old.me.0 }
+        ensures other { result ≢ 2 * K.rank → seat.new.me.0 ≡ seat.old.me.0 }
+        ensures told { marks.new ≡ marks_of seat.new.me.0 }
     {
         let free = 2 * rank as u64;
-        self.table
+        let found = self
+            .table
             .shared
-            .compare_exchange::<TakeTurn<K>>(&mut cpu.seat, TURNS + owner as usize, free, free + 1)
+            .compare_exchange::<TakeTurn<K>>(seat, TURNS + owner as usize, free, free + 1);
+        marks.busy = found == free;
+        found
     }
 
     /// Takes the turn of packet `n`, which the seat then brings. Only a seat that has the packet's owner, and brings no
@@ -43,7 +59,13 @@ impl<'a, D: TxDevice> Shared<'a, D> {
     {
         let owner = self.infos[n as usize].owner;
         let rank = self.infos[n as usize].rank;
-        let found = self.take_turn_of::<Brand>(cpu, n, owner, rank);
+        let found = self.take_turn_of::<Brand>(
+            &mut cpu.known.seat,
+            &mut cpu.known.marks,
+            n,
+            owner,
+            rank,
+        );
         if found == 2 * rank as u64 {
             Ok(())
         } else {
@@ -51,18 +73,28 @@ impl<'a, D: TxDevice> Shared<'a, D> {
         }
     }
 
-    fn give_turn_of<K: Turned>(&self, cpu: &mut Cpu<D>, n: u32, owner: u32, rank: u32)
+    fn give_turn_of<K: Turned>(
+        &self,
+        seat: &mut Seat<Option<Station<D>>, Knowledge>,
+        marks: &mut Marks,
+        n: u32,
+        owner: u32,
+        rank: u32,
+    )
         requires named { (owner ≡ K.owner) × (rank ≡ K.rank) }
-        requires seat { IsSeatOf self.now cpu.old }
+        requires seat { (seat.old.table_id ≡ self.now.table.shared.table_id) × (0 < seat.old.me.0.share.shares) }
         requires packet { (owner ≡ owner_in self.now.infos.now n) × (rank ≡ rank_in self.now.infos.now n) × (owner < self.now.senders) }
-        requires busy { ((view cpu.old).packets.busy ≡ Some n) × ((view cpu.old).packets.fresh ≡ None) }
-        ensures same { IsElseSame cpu.old cpu.new }
-        ensures given { view cpu.new ≡ giving_turn K.owner K.rank (view cpu.old) }
+        requires busy { (seat.old.me.0.packets.busy ≡ Some n) × (seat.old.me.0.packets.fresh ≡ None) }
+        requires told { marks.old ≡ marks_of seat.old.me.0 }
+        ensures same { (seat.new.table_id ≡ seat.old.table_id) × (seat.new.id ≡ seat.old.id) × (seat.new.me.1 ≡ seat.old.me.1) }
+        ensures given { seat.new.me.0 ≡ giving_turn K.owner K.rank seat.old.me.0 }
+        ensures told { marks.new ≡ marks_of seat.new.me.0 }
     {
         let next = 2 * rank as u64 + 2;
         self.table
             .shared
-            .store::<GiveTurn<K>>(&mut cpu.seat, TURNS + owner as usize, next);
+            .store::<GiveTurn<K>>(seat, TURNS + owner as usize, next);
+        marks.busy = false;
     }
 
     /// Gives back the turn of packet `n`, which has left the seat's hand. It is the last step of a transmit.
@@ -75,7 +107,7 @@ impl<'a, D: TxDevice> Shared<'a, D> {
     {
         let owner = self.infos[n as usize].owner;
         let rank = self.infos[n as usize].rank;
-        self.give_turn_of::<Brand>(cpu, n, owner, rank);
+        self.give_turn_of::<Brand>(&mut cpu.known.seat, &mut cpu.known.marks, n, owner, rank);
     }
 
     fn load_turn_of<K: Turned>(&self, cpu: &mut Cpu<D>, owner: u32) -> u64
@@ -87,7 +119,7 @@ impl<'a, D: TxDevice> Shared<'a, D> {
     {
         self.table
             .shared
-            .load::<SeeTurn<K>>(&mut cpu.seat, TURNS + owner as usize)
+            .load::<SeeTurn<K>>(&mut cpu.known.seat, TURNS + owner as usize)
     }
 
     /// Loads the turn word of `owner`: twice the rank of its next packet, and one more while that packet's turn is taken.

@@ -8,4 +8,4 @@ pub fetch_and-requires : goal.fetch_and-requires
 fetch_and-requires g c = (c.requires.seat.0, (let wide = c.args.self.now.sized.0 in omega arith), clears_sched_kept _ _ _ _ c.requires.at c.requires.seat.1)
 
 pub returns-clause-step : goal.returns-clause-step
-returns-clause-step g c = ap (λ m. solo m.0) c.fetch_and.ensures.2 ∙ clears_sched_solo c.args.cpu.now.seat.me.0 c.requires.at
+returns-clause-step g c = ap (λ m. solo m.0) c.fetch_and.ensures.2 ∙ clears_sched_solo c.args.cpu.now.known.seat.me.0 c.requires.at

@@ -2,14 +2,14 @@ use Rattle.std.proofs.Common.{ℕ, ◌+◌, ◌*◌, ◌<◌, arith, subst}
 use mathlib.Core.Option.{none}
 use Rattle.atomic_table.specs.Table.{step, Allows}
 use Rattle.lq_table.specs.Rule.{Rule}
-use Rattle.lq_table.specs.Keyed.{setup_of}
+use Rattle.lq_table.specs.Keyed.{keyed_setup}
 use Rattle.lq_table.specs.Rings.{producer_given}
 use Rattle.lq_table.proofs.ProducersKept.{gives_producer}
 use Rattle.lq_table.proofs.shared.Shared.give_producer_of.Goals as goal
 
 pub store-requires : goal.store-requires
 store-requires g c =
-    let t = c.args.self.now in let k = setup_of t.table.shared.key in let slots = t.table.shared.table_id.slots in let seat = c.args.cpu.now.seat in let i = c.requires.index in
+    let t = c.args.self.now in let k = keyed_setup t.table.shared.key in let slots = t.table.shared.table_id.slots in let seat = c.args.cpu.now.known.seat in let i = c.requires.index in
     let word : 6 + c.args.band < t.table.shared.table_id.words = let wide = t.sized.0 in let b = c.requires.band in omega arith in (
       c.requires.seat.0,
       word,

@@ -4,14 +4,14 @@ use Rattle.lq_model.specs.declared.fate.Info.{Info}
 use Rattle.lq_model.specs.Plan.{owner_in, rank_in}
 use Rattle.atomic_table.specs.Table.{step, Allows}
 use Rattle.lq_table.specs.Rule.{Rule}
-use Rattle.lq_table.specs.Keyed.{setup_of}
+use Rattle.lq_table.specs.Keyed.{keyed_setup}
 use Rattle.lq_table.specs.Told.{turn_given}
 use Rattle.lq_table.proofs.TurnsKept.{gives_turn}
 use Rattle.lq_table.proofs.shared.Shared.give_turn_of.Goals as goal
 
 pub store-requires : goal.store-requires
 store-requires g c =
-    let t = c.args.self.now in let k = setup_of t.table.shared.key in let slots = t.table.shared.table_id.slots in let seat = c.args.cpu.now.seat in let n = c.args.n in let p = c.requires.packet in let named = c.requires.named in
+    let t = c.args.self.now in let k = keyed_setup t.table.shared.key in let slots = t.table.shared.table_id.slots in let seat = c.args.seat.now in let n = c.args.n in let p = c.requires.packet in let named = c.requires.named in
     let owner : c.args.owner ≡ owner_in k.infos n = p.0 ∙ ap (λ (xs : List Info). owner_in xs n) (sym t.same.0) in
     let rank : c.args.rank ≡ rank_in k.infos n = p.1 ∙ ap (λ (xs : List Info). rank_in xs n) (sym t.same.0) in (
       c.requires.seat.0,

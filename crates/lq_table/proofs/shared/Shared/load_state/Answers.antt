@@ -8,4 +8,4 @@ pub load-requires : goal.load-requires
 load-requires g c = (c.requires.seat.0, (let wide = c.args.self.now.sized.0 in omega arith), looks_sole _ _ _ _ c.requires.at c.requires.seat.1)
 
 pub returns-clause-step : goal.returns-clause-step
-returns-clause-step g c = ap (λ m. solo m.0) c.load.ensures.2.0 ∙ looks_solo c.load.result c.args.cpu.now.seat.me.0 c.requires.at
+returns-clause-step g c = ap (λ m. solo m.0) c.load.ensures.2.0 ∙ looks_solo c.load.result c.args.cpu.now.known.seat.me.0 c.requires.at

@@ -2,14 +2,14 @@ use Rattle.std.proofs.Common.{ℕ, ◌+◌, ◌<◌, arith, subst}
 use mathlib.Core.Option.{none}
 use Rattle.atomic_table.specs.Table.{step, Allows}
 use Rattle.lq_table.specs.Rule.{Rule}
-use Rattle.lq_table.specs.Keyed.{setup_of}
+use Rattle.lq_table.specs.Keyed.{keyed_setup}
 use Rattle.lq_table.specs.Told.{turn_seen}
 use Rattle.lq_table.proofs.TurnsKept.{loads_turn}
 use Rattle.lq_table.proofs.shared.Shared.load_turn_of.Goals as goal
 
 pub load-requires : goal.load-requires
 load-requires g c =
-    let t = c.args.self.now in let k = setup_of t.table.shared.key in let slots = t.table.shared.table_id.slots in let seat = c.args.cpu.now.seat in let o = c.args.owner in
+    let t = c.args.self.now in let k = keyed_setup t.table.shared.key in let slots = t.table.shared.table_id.slots in let seat = c.args.cpu.now.known.seat in let o = c.args.owner in
     let below : o < k.senders = (let e = t.same.1 in let l = c.requires.owner in omega arith) in (
       c.requires.seat.0,
       (let wide = t.sized.0 in let small = c.requires.owner in let x : 9 + o < t.table.shared.table_id.words = omega arith in x),

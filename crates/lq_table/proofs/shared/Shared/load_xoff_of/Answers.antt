@@ -3,7 +3,7 @@ use mathlib.Core.Option.{none}
 use Rattle.lq_model.specs.declared.fate.Info.{Info}
 use Rattle.atomic_table.specs.Table.{step, Allows}
 use Rattle.lq_table.specs.Rule.{Rule}
-use Rattle.lq_table.specs.Keyed.{setup_of}
+use Rattle.lq_table.specs.Keyed.{keyed_setup}
 use Rattle.lq_table.specs.Told.{stop_queue}
 use Rattle.lq_table.specs.Solo.{solo, stop_loaded_all}
 use Rattle.lq_table.proofs.ByName.{xoff_in}
@@ -13,7 +13,7 @@ use Rattle.lq_table.proofs.shared.Shared.load_xoff_of.Goals as goal
 
 pub load-requires : goal.load-requires
 load-requires g c =
-    let t = c.args.self.now in let k = setup_of t.table.shared.key in let slots = t.table.shared.table_id.slots in let seat = c.args.cpu.now.seat in
+    let t = c.args.self.now in let k = keyed_setup t.table.shared.key in let slots = t.table.shared.table_id.slots in let seat = c.args.cpu.now.known.seat in
     let e = t.same.5 in let below : c.args.queue < k.queues = (let b = c.requires.queue in omega arith) in
     let at : stop_queue k.infos seat.me.0.holder.slot seat.me.0.place.position c.args.queue ≡ c.args.queue = subst (λ (xs : List Info). stop_queue xs seat.me.0.holder.slot seat.me.0.place.position c.args.queue ≡ c.args.queue) (sym t.same.0) c.requires.at.1 in
     let few : length k.infos ≤ 1000000 = subst (λ (xs : List Info). length xs ≤ 1000000) (sym t.same.0) t.sized.2 in (
@@ -24,4 +24,4 @@ load-requires g c =
     )
 
 pub returns-clause-step : goal.returns-clause-step
-returns-clause-step g c = ap (λ m. solo m.0) c.load.ensures.2.0.0 ∙ loads_stop_solo c.args.cpu.now.seat.me.0 c.load.result
+returns-clause-step g c = ap (λ m. solo m.0) c.load.ensures.2.0.0 ∙ loads_stop_solo c.args.cpu.now.known.seat.me.0 c.load.result

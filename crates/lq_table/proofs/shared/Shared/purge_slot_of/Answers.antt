@@ -3,7 +3,7 @@ use mathlib.Core.Option.{none}
 use Rattle.lq_model.specs.declared.fate.Info.{Info}
 use Rattle.atomic_table.specs.Table.{step, Allows}
 use Rattle.lq_table.specs.Rule.{Rule, slot_word}
-use Rattle.lq_table.specs.Keyed.{setup_of}
+use Rattle.lq_table.specs.Keyed.{keyed_setup}
 use Rattle.lq_table.proofs.ByName.{slot_within}
 use Rattle.lq_table.specs.Purges.{purge_seen}
 use Rattle.lq_table.proofs.PurgeTakes.{purge_sees}
@@ -11,7 +11,7 @@ use Rattle.lq_table.proofs.shared.Shared.purge_slot_of.Goals as goal
 
 pub load-requires : goal.load-requires
 load-requires g c =
-    let t = c.args.self.now in let k = setup_of t.table.shared.key in let slots = t.table.shared.table_id.slots in let seat = c.args.cpu.now.seat in let b = c.args.band in
+    let t = c.args.self.now in let k = keyed_setup t.table.shared.key in let slots = t.table.shared.table_id.slots in let seat = c.args.cpu.now.known.seat in let b = c.args.band in
     let i = c.args.head in let at = c.requires.at in
     let inside : i < k.max_len = let x = c.requires.head.1 in let y = t.same.2 in omega arith in
     let place : slot_word k b i ≡ 9 + t.senders + b * t.max_len + i = λ j. 9 + t.same.1 j + b * t.same.2 j + i in

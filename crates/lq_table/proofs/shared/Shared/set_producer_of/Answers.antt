@@ -2,14 +2,14 @@ use Rattle.std.proofs.Common.{ℕ, ◌+◌, ◌*◌, ◌<◌, arith, subst}
 use mathlib.Core.Option.{none}
 use Rattle.atomic_table.specs.Table.{step, Allows}
 use Rattle.lq_table.specs.Rule.{Rule}
-use Rattle.lq_table.specs.Keyed.{setup_of}
+use Rattle.lq_table.specs.Keyed.{keyed_setup}
 use Rattle.lq_table.specs.Resizes.{producer_set}
 use Rattle.lq_table.proofs.ResizeKept.{sets_producer}
 use Rattle.lq_table.proofs.shared.Shared.set_producer_of.Goals as goal
 
 pub store-requires : goal.store-requires
 store-requires g c =
-    let t = c.args.self.now in let k = setup_of t.table.shared.key in let slots = t.table.shared.table_id.slots in let seat = c.args.cpu.now.seat in let b = c.args.band in let i = c.args.index in let h = c.requires.holder in
+    let t = c.args.self.now in let k = keyed_setup t.table.shared.key in let slots = t.table.shared.table_id.slots in let seat = c.args.cpu.now.known.seat in let b = c.args.band in let i = c.args.index in let h = c.requires.holder in
     let word : 6 + b < t.table.shared.table_id.words = let wide = t.sized.0 in let x = c.requires.band in omega arith in (
       c.requires.seat.0,
       word,

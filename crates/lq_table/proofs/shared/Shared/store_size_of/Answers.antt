@@ -2,14 +2,14 @@ use Rattle.std.proofs.Common.{ℕ, ◌<◌, arith, sym, subst}
 use mathlib.Core.Option.{none}
 use Rattle.atomic_table.specs.Table.{step, Allows}
 use Rattle.lq_table.specs.Rule.{Rule}
-use Rattle.lq_table.specs.Keyed.{setup_of}
+use Rattle.lq_table.specs.Keyed.{keyed_setup}
 use Rattle.lq_table.specs.Resizes.{size_stored}
 use Rattle.lq_table.proofs.ResizeKept.{stores_size}
 use Rattle.lq_table.proofs.shared.Shared.store_size_of.Goals as goal
 
 pub store-requires : goal.store-requires
 store-requires g c =
-    let t = c.args.self.now in let k = setup_of t.table.shared.key in let slots = t.table.shared.table_id.slots in let seat = c.args.cpu.now.seat in let h = c.requires.holder in let u = g.K.Working.turn in
+    let t = c.args.self.now in let k = keyed_setup t.table.shared.key in let slots = t.table.shared.table_id.slots in let seat = c.args.cpu.now.known.seat in let h = c.requires.holder in let u = g.K.Working.resizing in
     let word : 5 < t.table.shared.table_id.words = let wide = t.sized.0 in omega arith in (
       c.requires.seat.0,
       word,

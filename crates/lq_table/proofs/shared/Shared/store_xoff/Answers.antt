@@ -2,7 +2,7 @@ use Rattle.std.proofs.Common.{◌≡◌, ℕ, ◌<◌, arith, sym, ap, ◌∙◌
 use mathlib.Core.Option.{none}
 use Rattle.atomic_table.specs.Table.{step, Allows}
 use Rattle.lq_table.specs.Rule.{Rule}
-use Rattle.lq_table.specs.Keyed.{setup_of}
+use Rattle.lq_table.specs.Keyed.{keyed_setup}
 use Rattle.lq_model.specs.Account.{Stop}
 use Rattle.lq_table.specs.Told.{stored_stop}
 use Rattle.lq_table.specs.Solo.{solo, heard}
@@ -13,7 +13,7 @@ use Rattle.lq_table.proofs.shared.Shared.store_xoff.Goals as goal
 
 pub store-requires : goal.store-requires
 store-requires g c =
-    let t = c.args.self.now in let k = setup_of t.table.shared.key in let slots = t.table.shared.table_id.slots in let seat = c.args.cpu.now.seat in let at = c.requires.at in
+    let t = c.args.self.now in let k = keyed_setup t.table.shared.key in let slots = t.table.shared.table_id.slots in let seat = c.args.cpu.now.known.seat in let at = c.requires.at in
     let e = t.same.5 in let below : c.args.queue < k.queues = (let b = c.requires.queue in omega arith) in (
       c.requires.seat.0,
       (let wide = t.sized.0 in let b = xoff_in k c.args.queue below in let w = c.stop_word-word.ensures in let s = t.same.1 in let m = t.same.2 in let l = ap Rattle.std.proofs.Common.length t.same.0 in omega arith),
@@ -22,4 +22,4 @@ store-requires g c =
     )
 
 pub returns-clause-step : goal.returns-clause-step
-returns-clause-step g c = let at = c.requires.at in ap (λ m. solo m.0) c.store.ensures.2 ∙ (stores_solo c.args.cpu.now.seat.me.0 c.args.queue at.0 at.1 at.2 ∙ ap (λ (x : ℕ). heard (Stop c.args.queue x) (solo c.args.cpu.now.seat.me.0)) (sym at.3))
+returns-clause-step g c = let at = c.requires.at in ap (λ m. solo m.0) c.store.ensures.2 ∙ (stores_solo c.args.cpu.now.known.seat.me.0 c.args.queue at.0 at.1 at.2 ∙ ap (λ (x : ℕ). heard (Stop c.args.queue x) (solo c.args.cpu.now.known.seat.me.0)) (sym at.3))

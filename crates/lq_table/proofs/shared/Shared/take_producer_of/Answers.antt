@@ -2,7 +2,7 @@ use Rattle.std.proofs.Common.{ℕ, ◌+◌, ◌<◌, arith, sym, ◌∙◌, subs
 use mathlib.Core.Option.{none}
 use Rattle.atomic_table.specs.Table.{step, Allows}
 use Rattle.lq_table.specs.Rule.{Rule}
-use Rattle.lq_table.specs.Keyed.{setup_of}
+use Rattle.lq_table.specs.Keyed.{keyed_setup}
 use Rattle.lq_table.specs.Rings.{got_producer}
 use Rattle.lq_table.proofs.ProducersKept.{gets_producer}
 use prog.Atomic.{either}
@@ -11,7 +11,7 @@ use Rattle.lq_table.proofs.shared.Shared.take_producer_of.Goals as goal
 
 pub compare_exchange-found-requires : goal.compare_exchange-found-requires
 compare_exchange-found-requires g c =
-    let t = c.args.self.now in let k = setup_of t.table.shared.key in let slots = t.table.shared.table_id.slots in let seat = c.args.cpu.now.seat in let n = c.requires.named in let b = c.args.band in
+    let t = c.args.self.now in let k = keyed_setup t.table.shared.key in let slots = t.table.shared.table_id.slots in let seat = c.args.cpu.now.known.seat in let n = c.requires.named in let b = c.args.band in
     let word : 6 + b < t.table.shared.table_id.words = let wide = t.sized.0 in let small = c.requires.band in omega arith in (
       c.requires.seat.0,
       word,

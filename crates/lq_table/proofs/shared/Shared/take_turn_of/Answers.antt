@@ -5,14 +5,14 @@ use Rattle.lq_model.specs.declared.fate.Info.{Info}
 use Rattle.lq_model.specs.Plan.{owner_in, station_in, rank_in}
 use Rattle.atomic_table.specs.Table.{step, Allows}
 use Rattle.lq_table.specs.Rule.{Rule, times}
-use Rattle.lq_table.specs.Keyed.{setup_of}
+use Rattle.lq_table.specs.Keyed.{keyed_setup}
 use Rattle.lq_table.specs.Told.{turn_taken}
 use Rattle.lq_table.proofs.TurnsKept.{takes_turn}
 use Rattle.lq_table.proofs.shared.Shared.take_turn_of.Goals as goal
 
-pub compare_exchange-requires : goal.compare_exchange-requires
-compare_exchange-requires g c =
-    let t = c.args.self.now in let k = setup_of t.table.shared.key in let slots = t.table.shared.table_id.slots in let seat = c.args.cpu.now.seat in let n = c.args.n in let p = c.requires.packet in let named = c.requires.named in
+pub compare_exchange-found-requires : goal.compare_exchange-found-requires
+compare_exchange-found-requires g c =
+    let t = c.args.self.now in let k = keyed_setup t.table.shared.key in let slots = t.table.shared.table_id.slots in let seat = c.args.seat.now in let n = c.args.n in let p = c.requires.packet in let named = c.requires.named in
     let inside : n < length k.infos = subst (λ (xs : List Info). n < length xs) (sym t.same.0) p.0 in
     let here : station_in k.infos n ≡ k.station = ap (λ (xs : List Info). station_in xs n) t.same.0 ∙ (p.1 ∙ sym t.same.4) in
     let owner : c.args.owner ≡ owner_in k.infos n = p.2 ∙ ap (λ (xs : List Info). owner_in xs n) (sym t.same.0) in

@@ -2,7 +2,7 @@ use Rattle.std.proofs.Common.{◌≡◌, ℕ, ◌+◌, ◌*◌, ◌<◌, arith, 
 use mathlib.Core.Option.{none}
 use Rattle.atomic_table.specs.Table.{step, Allows}
 use Rattle.lq_table.specs.Rule.{Rule, slot_word}
-use Rattle.lq_table.specs.Keyed.{setup_of}
+use Rattle.lq_table.specs.Keyed.{keyed_setup}
 use Rattle.lq_table.proofs.ByName.{slot_within}
 use Rattle.lq_table.specs.Rings.{slot_emptied}
 use Rattle.lq_table.proofs.ZeroKept.{empties_slot}
@@ -10,7 +10,7 @@ use Rattle.lq_table.proofs.shared.Shared.zero_slot_of.Goals as goal
 
 pub store-requires : goal.store-requires
 store-requires g c =
-    let t = c.args.self.now in let k = setup_of t.table.shared.key in let slots = t.table.shared.table_id.slots in let seat = c.args.cpu.now.seat in let b = c.args.band in
+    let t = c.args.self.now in let k = keyed_setup t.table.shared.key in let slots = t.table.shared.table_id.slots in let seat = c.args.cpu.now.known.seat in let b = c.args.band in
     let h = c.requires.holder in let e = c.requires.edge in let i = c.args.i in
     let inside : i < k.max_len = let x = c.requires.band.1 in let y = t.same.2 in omega arith in
     let place : slot_word k b i ≡ 9 + t.senders + b * t.max_len + i = λ j. 9 + t.same.1 j + b * t.same.2 j + i in

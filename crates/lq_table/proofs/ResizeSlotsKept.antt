@@ -11,23 +11,24 @@ use Rattle.atomic_table.specs.Table.{step, Allows, keeps}
 use Rattle.lq_device.specs.Station.{StationState}
 use Rattle.lq_account.proofs.Lists.{none-in, here-in, there-in, cons-in}
 use Rattle.lq_model.specs.Account.{Account}
-use Rattle.lq_model.specs.Kept.{holds_lock}
+use Rattle.lq_model.specs.Positions.{holds_lock}
 use Rattle.lq_model.specs.Machine.{Purge}
 use Rattle.lq_model.specs.declared.fate.Fate.{Fate}
 use Rattle.lq_model.specs.declared.fate.Fate.TheVariants as fate
 use Rattle.lq_band.specs.Three.{Three, at, put}
 use Rattle.lq_band.specs.Ring.{Lock}
 use Rattle.lq_band.specs.Times.{times}
-use Rattle.lq_band.specs.Turning.{IsTurning}
+use Rattle.lq_band.specs.HalfResized.{IsHalfResized}
 use Rattle.lq_band.proofs.Seats.{total_same}
 use Rattle.lq_band.proofs.Three.{at_put_same, at_put_other}
 use Rattle.lq_band.proofs.Times.{times_in}
 use Rattle.lq_band.proofs.StoredKept.{stored_as}
-use Rattle.lq_band.proofs.TurningKept.{clears, clears_other, fills}
-use Rattle.lq_table.specs.Views.{View, Setup, State, HolderPart, Turn, Work, Left}
-use Rattle.lq_table.specs.Rule.{words_of, slot_word, account, holders, owes, waiting_of, unstored, Fates, bands_now, Leaves, IsResizing, locks_at, Settled, Parts, Rule}
+use Rattle.lq_band.proofs.HalfResizedKept.{clears, clears_other, fills}
+use Rattle.lq_table.specs.Views.{View, Setup, State, HolderPart, HalfResize, Work, Left}
+use Rattle.lq_table.specs.Rule.{words_of, slot_word, account, holders, owes, waiting_of, unstored, FatesStored, bands_now, Leaves, IsResizing, locks_at, Settled, Parts, Rule}
+use Rattle.lq_table.proofs.UnitsKept.{gone_same}
 use Rattle.lq_table.specs.Told.{Sat}
-use Rattle.lq_table.specs.Resizes.{is_word, is_member, hand_with, out_of, into, with_work, turned, slot_cleared, slot_filled}
+use Rattle.lq_table.specs.Resizes.{is_word, is_member, hand_with, out_of, into, with_work, with_resizing, slot_cleared, slot_filled}
 use Rattle.lq_table.proofs.ByName.{slots_long, set_slot, slot_of}
 use Rattle.lq_table.proofs.SettledKept.{settled_same}
 use Rattle.lq_table.proofs.GivenKept.{given_same}
@@ -69,20 +70,20 @@ by_bool true P y n = y refl
 by_bool false P y n = n refl
 
 -- the rule, with what is known of the resize written out
-abbrev pub turn_rule : (k : Setup) (s : table.State (Option StationState) View) (r : Rule k s) (o : Option Turn) → r.state.turn ≡ o → Rule k s
-turn_rule k s r o is = record {
+abbrev pub resizing_rule : (k : Setup) (s : table.State (Option StationState) View) (r : Rule k s) (o : Option HalfResize) → r.state.resizing ≡ o → Rule k s
+resizing_rule k s r o is = record {
   home = r.home;
   qdisc = r.qdisc;
-  state = record r.state { turn = o };
+  state = record r.state { resizing = o };
   setup = r.setup;
   wide = r.wide;
   deep = r.deep;
-  parts = subst (λ (z : Option Turn). Parts k (words_of k s.words) r.home s.views r.qdisc (record r.state { turn = z }) (account k r.state)) is r.parts;
+  parts = subst (λ (z : Option HalfResize). Parts k (words_of k s.words) r.home s.views r.qdisc (record r.state { resizing = z }) (account k r.state)) is r.parts;
 }
 
 -- what the holder knows of the resize is so
-pub turn_known : (k : Setup) (s : table.State (Option StationState) View) (r : Rule k s) (id : ℕ) (v : View) (o : Option Turn) → get_elem? s.views id ≡ some v → 0 < v.share.shares → holds_lock v.place.position ≡ true → v.holder.turn ≡ o → r.state.turn ≡ o
-turn_known k s r id v o here some_share holds turning = sym (ap (λ (h : HolderPart). h.turn) (r.parts.lends.knows id v here (lt-ltb 0 v.share.shares some_share) holds).is) ∙ turning
+pub resizing_known : (k : Setup) (s : table.State (Option StationState) View) (r : Rule k s) (id : ℕ) (v : View) (o : Option HalfResize) → get_elem? s.views id ≡ some v → 0 < v.share.shares → holds_lock v.place.position ≡ true → v.holder.resizing ≡ o → r.state.resizing ≡ o
+resizing_known k s r id v o here some_share holds under_way = sym (ap (λ (h : HolderPart). h.resizing) (r.parts.lends.knows id v here (lt-ltb 0 v.share.shares some_share) holds).is) ∙ under_way
 
 -- a purge takes packets from a line, and leaves the line
 line_now : (left : Option Left) (purge : Option Purge) (a : Account) → Leaves left purge a → (b : ℕ) → b < 3 → (bands_now left a.bands b).line ≡ (a.bands b).line
@@ -91,16 +92,16 @@ line_now (Some l) purge a x b h = (x.lines l refl b h).0
 
 module _ (k : Setup) where
   -- control of a resize that is half done changes what stands of a band
-  pub works_on : (s : table.State (Option StationState) View) (r1 : Rule k s) (i x id b : ℕ) (v : View) (t : Turn) (y : Work) (sb fs : List ℕ) (more : List (ℕ × Fate)) → get_elem? s.views id ≡ some v → 0 < v.share.shares → holds_lock v.place.position ≡ true → v.holder.turn ≡ Some t → b < 3
+  pub works_on : (s : table.State (Option StationState) View) (r1 : Rule k s) (i x id b : ℕ) (v : View) (t : HalfResize) (y : Work) (sb fs : List ℕ) (more : List (ℕ × Fate)) → get_elem? s.views id ≡ some v → 0 < v.share.shares → holds_lock v.place.position ≡ true → v.holder.resizing ≡ Some t → b < 3
       → words_of k (set s.words i x) ≡ record (words_of k s.words) { slots = put b sb (words_of k s.words).slots; fates = fs } → y.kept ≡ (at b t.works).kept
-      → IsTurning sb (at b (words_of k s.words).producers) (locks_at b s.views) (bands_now r1.state.left (account k r1.state).bands b) y.waiting y.slots y.hand
-      → Fates k.infos fs (set s.views id (record (turned (Some (with_work b y t)) v) { settled = more })) (account k r1.state) (Some (with_work b y t)) r1.state.left
-      → Settled fs (set s.views id (record (turned (Some (with_work b y t)) v) { settled = more }))
-      → Rule k record { words = set s.words i x; homes = s.homes; views = set s.views id (record (turned (Some (with_work b y t)) v) { settled = more }) }
-  works_on s r1 i x id b v t y sb fs more here some_share holds turning below is kept_same new stored settled_are =
-      let r = turn_rule k s r1 (Some t) (turn_known k s r1 id v (Some t) here some_share holds turning) in let live = lt-ltb 0 v.share.shares some_share in
-      let p = r.parts in let g = r.state in let a = account k g in let q = r.qdisc in let W = words_of k s.words in let t' : Turn = with_work b y t in let w : View = record (turned (Some t') v) { settled = more } in
-      let g' : State = record g { turn = Some t' } in let D' : HolderPart = holders g' a W.size in let res = p.rings.resizing t refl in let at_ = p.lends.knows id v here live holds in let mach = stays k s r id v w here live refl refl refl in
+      → IsHalfResized sb (at b (words_of k s.words).producers) (locks_at b s.views) (bands_now r1.state.left (account k r1.state).bands b) y.waiting y.slots y.hand
+      → FatesStored k.infos fs (set s.views id (record (with_resizing (Some (with_work b y t)) v) { settled = more })) (account k r1.state) (Some (with_work b y t)) r1.state.left
+      → Settled fs (set s.views id (record (with_resizing (Some (with_work b y t)) v) { settled = more }))
+      → Rule k record { words = set s.words i x; homes = s.homes; views = set s.views id (record (with_resizing (Some (with_work b y t)) v) { settled = more }) }
+  works_on s r1 i x id b v t y sb fs more here some_share holds under_way below is kept_same new stored settled_are =
+      let r = resizing_rule k s r1 (Some t) (resizing_known k s r1 id v (Some t) here some_share holds under_way) in let live = lt-ltb 0 v.share.shares some_share in
+      let p = r.parts in let g = r.state in let a = account k g in let q = r.qdisc in let W = words_of k s.words in let t' : HalfResize = with_work b y t in let w : View = record (with_resizing (Some t') v) { settled = more } in
+      let g' : State = record g { resizing = Some t' } in let D' : HolderPart = holders g' a W.size in let res = p.rings.half_resized t refl in let at_ = p.lends.knows id v here live holds in let mach = stays k s r id v w here live refl refl refl in
       let same : (c : ℕ) → locks_at c (set s.views id w) ≡ locks_at c s.views = λ c. locks_same k s.views id v w here c refl in
       rule_after k s r i x id s.homes r.home w (record W { slots = put b sb W.slots; fates = fs }) q g' a r.deep is refl record {
         shares = shares_same k s.views id v w here live p.shares refl;
@@ -108,7 +109,7 @@ module _ (k : Setup) where
         stands = record { state = p.stands.state; lock = p.stands.lock; xoff = p.stands.xoff; inside = p.stands.inside; bypass = p.stands.bypass };
         ties = p.ties;
         lends = lends_held k s r id v here live holds w q.locked W.xoff g.past D' refl record {
-          is = λ j. record (at_.is j) { turn = Some t' };
+          is = λ j. record (at_.is j) { resizing = Some t' };
           in_hand = at_.in_hand;
           looked = at_.looked;
           stopping = at_.stopping;
@@ -124,7 +125,7 @@ module _ (k : Setup) where
           positive = p.rings.positive;
           within = p.rings.within;
           running = λ calm. absurd (none_some (sym calm));
-          resizing = λ u now. subst (λ (z : Turn). IsResizing k.max_len W.producers (put b sb W.slots) (set s.views id w) a.len (bands_now g.left a.bands) z) (same_Some t' u now) record {
+          half_resized = λ u now. subst (λ (z : HalfResize). IsResizing k.max_len W.producers (put b sb W.slots) (set s.views id w) a.len (bands_now g.left a.bands) z) (same_Some t' u now) record {
             len_is = res.len_is;
             len_positive = res.len_positive;
             len_within = res.len_within;
@@ -133,18 +134,20 @@ module _ (k : Setup) where
                 (λ (n : c ≢ b). sym (ap (λ (z : Work). z.kept) (at_put_other b c y t.works below l n)))
                 (cases_eq c b);
             ring = λ c l. ⊎_elim
-                (λ (e : c ≡ b). subst (λ (z : ℕ). IsTurning (at z (put b sb W.slots)) (at z W.producers) (locks_at z (set s.views id w)) (bands_now g.left a.bands z) (at z t'.works).waiting (at z t'.works).slots (at z t'.works).hand) (sym e)
-                (subst (λ (z : List ℕ × List Lock × Work). IsTurning z.0 (at b W.producers) z.1 (bands_now g.left a.bands b) z.2.waiting z.2.slots z.2.hand)
+                (λ (e : c ≡ b). subst (λ (z : ℕ). IsHalfResized (at z (put b sb W.slots)) (at z W.producers) (locks_at z (set s.views id w)) (bands_now g.left a.bands z) (at z t'.works).waiting (at z t'.works).slots (at z t'.works).hand) (sym e)
+                (subst (λ (z : List ℕ × List Lock × Work). IsHalfResized z.0 (at b W.producers) z.1 (bands_now g.left a.bands b) z.2.waiting z.2.slots z.2.hand)
                 (λ j. (sym (at_put_same b sb W.slots) j, sym (same b) j, sym (at_put_same b y t.works) j)) new))
-                (λ (n : c ≢ b). subst (λ (z : List ℕ × List Lock × Work). IsTurning z.0 (at c W.producers) z.1 (bands_now g.left a.bands c) z.2.waiting z.2.slots z.2.hand)
+                (λ (n : c ≢ b). subst (λ (z : List ℕ × List Lock × Work). IsHalfResized z.0 (at c W.producers) z.1 (bands_now g.left a.bands c) z.2.waiting z.2.slots z.2.hand)
                 (λ j. (sym (at_put_other b c sb W.slots below l n) j, sym (same c) j, sym (at_put_other b c y t.works below l n) j)) (res.ring c l))
                 (cases_eq c b);
             control = control_same k s.views id v w here res.control (λ c l z. z) (λ l h. (l, h));
           };
         };
         account = p.account;
+        find_nothing = p.find_nothing;
+        gone = gone_same k s.views id v w here p.gone refl;
         firsts = mach.firsts;
-        sole = sole_step k s.views id v w here q q g g' p.shares p.sole some_share refl refl (λ e1 e2. (e1, ap (λ (z : State). record z { turn = Some t' }) e2));
+        sole = sole_step k s.views id v w here q q g g' p.shares p.sole some_share refl refl (λ e1 e2. (e1, ap (λ (z : State). record z { resizing = Some t' }) e2));
         settled = settled_are;
         given = given_same k s.views id v w here W.turns p.given refl refl refl refl refl;
         stops = p.stops;
@@ -153,63 +156,63 @@ module _ (k : Setup) where
       }
 
   -- where the same packets wait, the fates stand as they are
-  fates_turned : (views : List View) (id : ℕ) (v : View) (words : List ℕ) (a : Account) (b : ℕ) (t : Turn) (y : Work) (left : Option Left) → get_elem? views id ≡ some v → y.waiting ≡ (at b t.works).waiting → Fates k.infos words views a (Some t) left
-      → Fates k.infos words (set views id (turned (Some (with_work b y t)) v)) a (Some (with_work b y t)) left
-  fates_turned views id v words a b t y left here same f =
-      let t' : Turn = with_work b y t in let w : View = turned (Some t') v in
+  fates_resizing : (views : List View) (id : ℕ) (v : View) (words : List ℕ) (a : Account) (b : ℕ) (t : HalfResize) (y : Work) (left : Option Left) → get_elem? views id ≡ some v → y.waiting ≡ (at b t.works).waiting → FatesStored k.infos words views a (Some t) left
+      → FatesStored k.infos words (set views id (with_resizing (Some (with_work b y t)) v)) a (Some (with_work b y t)) left
+  fates_resizing views id v words a b t y left here same f =
+      let t' : HalfResize = with_work b y t in let w : View = with_resizing (Some t') v in
       let waits_same : (n : ℕ) → waiting_of n t'.works ≡ waiting_of n t.works = λ n. let z = waiting_put n b y t.works in let e = ap (times n) same in omega arith in record {
         stored = stored_as (length k.infos) words (unstored views (Some t) left) a.fates f.stored (unstored (set views id w) (Some t') left) a.fates
             (λ n. let e = total_same (λ u. owes n u.packets.owed) views id v w here refl in let z = waits_same n in omega arith) (λ _. refl);
-        shrunk = λ u is n h. f.shrunk t refl n (let z = waits_same n in let h' : 0 < waiting_of n t'.works = subst (λ (z : Turn). 0 < waiting_of n z.works) (sym (same_Some t' u is)) h in omega arith) ∙ ap (λ (z : Turn). Some (fate.Shrunk z.event)) (same_Some t' u is);
+        shrunk = λ u is n h. f.shrunk t refl n (let z = waits_same n in let h' : 0 < waiting_of n t'.works = subst (λ (z : HalfResize). 0 < waiting_of n z.works) (sym (same_Some t' u is)) h in omega arith) ∙ ap (λ (z : HalfResize). Some (fate.Shrunk z.event)) (same_Some t' u is);
         purged = f.purged;
       }
 
   -- a packet that a band keeps or has still to settle is one of the packets
-  turned_packet : (s : table.State (Option StationState) View) (r : Rule k s) (t : Turn) → r.state.turn ≡ Some t → (b : ℕ) → b < 3 → (n : ℕ) → Contains ((at b t.works).kept ++ (at b t.works).waiting) n → n < length k.infos
-  turned_packet s r t now b below n member =
+  resizing_packet : (s : table.State (Option StationState) View) (r : Rule k s) (t : HalfResize) → r.state.resizing ≡ Some t → (b : ℕ) → b < 3 → (n : ℕ) → Contains ((at b t.works).kept ++ (at b t.works).waiting) n → n < length k.infos
+  resizing_packet s r t now b below n member =
       let p = r.parts in let a = account k r.state in ⊎_elim
-      (λ (kept : Contains (at b t.works).kept n). let line = subst (λ (ls : List ℕ). Contains ls n) (sym ((p.rings.resizing t now).kept b below)) kept in (p.account.brought.packets n (p.account.brought.lines b n (subst (λ (ls : List ℕ). Contains ls n) (line_now r.state.left r.qdisc.purge a p.leaves b below) line))).0)
+      (λ (kept : Contains (at b t.works).kept n). let line = subst (λ (ls : List ℕ). Contains ls n) (sym ((p.rings.half_resized t now).kept b below)) kept in (p.account.brought.packets n (p.account.brought.lines b n (subst (λ (ls : List ℕ). Contains ls n) (line_now r.state.left r.qdisc.purge a p.leaves b below) line))).0)
       (λ (waiting : Contains (at b t.works).waiting n). (p.account.brought.packets n (p.account.brought.fates n _ (p.fates.shrunk t now n (let x = times_in n (at b t.works).waiting waiting in let y = waiting_at n b t.works in omega arith)))).0)
       (Contains-append_cases (at b t.works).kept (at b t.works).waiting n member)
 
-  module _ (slots id : ℕ) (m : Sat) (b i : ℕ) (t : Turn) (below : b < 3) (inside : i < k.max_len) (holds : holds_lock m.0.place.position ≡ true) (turning : m.0.holder.turn ≡ Some t) (some_share : 0 < m.0.share.shares) where
+  module _ (slots id : ℕ) (m : Sat) (b i : ℕ) (t : HalfResize) (below : b < 3) (inside : i < k.max_len) (holds : holds_lock m.0.place.position ≡ true) (under_way : m.0.holder.resizing ≡ Some t) (some_share : 0 < m.0.share.shares) where
     abbrev word : ℕ
     word = slot_word k b i
 
     -- any slot is emptied
     pub clears_slot : length k.infos ≤ 1000000 → Allows (Rule k) slots id m word (λ _. 0) (slot_cleared b i t (step slots word 0 0 none) m)
     clears_slot few s r1 deep here small =
-        let v : View = m.0 in let r = turn_rule k s r1 (Some t) (turn_known k s r1 id v (Some t) here some_share holds turning) in let p = r.parts in let g = r.state in let W = words_of k s.words in
-        let a = account k g in let res = p.rings.resizing t refl in let old = res.ring b below in let x : Work = at b t.works in let f : ℕ = get_or x.slots i 0 in
+        let v : View = m.0 in let r = resizing_rule k s r1 (Some t) (resizing_known k s r1 id v (Some t) here some_share holds under_way) in let p = r.parts in let g = r.state in let W = words_of k s.words in
+        let a = account k g in let res = p.rings.half_resized t refl in let old = res.ring b below in let x : Work = at b t.works in let f : ℕ = get_or x.slots i 0 in
         let long : i < length (at b W.slots) = (let l = slots_long k s.words b r.wide below in omega arith) in
         let there : get_or (at b W.slots) i 0 ≡ f = ap (λ (xs : List ℕ). get_or xs i 0) old.known_is in
         let found : get_or s.words word 0 ≡ f = slot_of k s.words b i below inside ∙ there in
         let line = res.kept b below in
         let all : (n : ℕ) → Contains ((bands_now g.left a.bands b).line ++ x.waiting) n → Contains (x.kept ++ x.waiting) n = λ n h. subst (λ (ls : List ℕ). Contains (ls ++ x.waiting) n) line h in
-        let both = by_bool (is_member f x) (λ c. IsTurning (set (at b W.slots) i 0) (at b W.producers) (locks_at b s.views) (bands_now g.left a.bands b) x.waiting (set x.slots i 0) (hand_with c f x.hand) × (c ≡ true → f ≤ 1000000))
+        let both = by_bool (is_member f x) (λ c. IsHalfResized (set (at b W.slots) i 0) (at b W.producers) (locks_at b s.views) (bands_now g.left a.bands b) x.waiting (set x.slots i 0) (hand_with c f x.hand) × (c ≡ true → f ≤ 1000000))
         (λ yes_. let y = word_member f (x.kept ++ x.waiting) yes_ in let is : f ≡ f - 1 + 1 = y.0 in let member = y.1 in (
           clears _ _ _ _ _ _ _ old i (f - 1) long (there ∙ is) (subst (λ (ls : List ℕ). Contains (ls ++ x.waiting) (f - 1)) (sym line) member),
-          λ _. let known = turned_packet s r t refl b below (f - 1) member in omega arith,
+          λ _. let known = resizing_packet s r t refl b below (f - 1) member in omega arith,
         )) (λ no_. (clears_other _ _ _ _ _ _ _ old i long (λ n h e. word_other f (x.kept ++ x.waiting) no_ n (all n h) (sym there ∙ e)), λ e. absurd (cc))) in (
-          turned (Some (with_work b (out_of i x) t)) v,
+          with_resizing (Some (with_work b (out_of i x) t)) v,
           keeps,
           tt,
-          works_on s r word 0 id b v t (out_of i x) (set (at b W.slots) i 0) W.fates v.settled here some_share holds turning below (set_slot k s.words 0 b i below inside) refl both.0 (fates_turned s.views id v W.fates a b t (out_of i x) g.left here refl p.fates)
-              (settled_same s.views id v (turned (Some (with_work b (out_of i x) t)) v) here W.fates p.settled refl),
+          works_on s r word 0 id b v t (out_of i x) (set (at b W.slots) i 0) W.fates v.settled here some_share holds under_way below (set_slot k s.words 0 b i below inside) refl both.0 (fates_resizing s.views id v W.fates a b t (out_of i x) g.left here refl p.fates)
+              (settled_same s.views id v (with_resizing (Some (with_work b (out_of i x) t)) v) here W.fates p.settled refl),
           (found, refl, λ yes_. let y = both.1 (sym (ap (λ (z : ℕ). is_member z x) found) ∙ yes_) in let e : get_or s.words word 0 ≡ f = found in omega arith),
         )
 
     -- a packet in hand is put into an empty slot
     pub fills_slot : (n : ℕ) (hand : List ℕ) → (at b t.works).hand ≡ n ∷ hand → get_or (at b t.works).slots i 0 ≡ 0 → Allows (Rule k) slots id m word (λ _. n + 1) (λ _. slot_filled b i n hand t (step slots word (n + 1) 0 none) m (n + 1))
     fills_slot n hand has_it empty_ s r1 deep here small =
-        let v : View = m.0 in let r = turn_rule k s r1 (Some t) (turn_known k s r1 id v (Some t) here some_share holds turning) in let p = r.parts in let g = r.state in let W = words_of k s.words in let a = account k g in
+        let v : View = m.0 in let r = resizing_rule k s r1 (Some t) (resizing_known k s r1 id v (Some t) here some_share holds under_way) in let p = r.parts in let g = r.state in let W = words_of k s.words in let a = account k g in
         let y : Work = at b t.works in
-        let old = subst (λ (ls : List ℕ). IsTurning (at b W.slots) (at b W.producers) (locks_at b s.views) (bands_now g.left a.bands b) y.waiting y.slots ls) has_it ((p.rings.resizing t refl).ring b below) in
+        let old = subst (λ (ls : List ℕ). IsHalfResized (at b W.slots) (at b W.producers) (locks_at b s.views) (bands_now g.left a.bands b) y.waiting y.slots ls) has_it ((p.rings.half_resized t refl).ring b below) in
         let new = fills _ _ _ _ _ _ hand n old i (let l = slots_long k s.words b r.wide below in omega arith) (ap (λ (xs : List ℕ). get_or xs i 0) old.known_is ∙ empty_) in (
-          turned (Some (with_work b (into i n hand y) t)) v,
+          with_resizing (Some (with_work b (into i n hand y) t)) v,
           keeps,
           tt,
-          works_on s r word (n + 1) id b v t (into i n hand y) (set (at b W.slots) i (n + 1)) W.fates v.settled here some_share holds turning below (set_slot k s.words (n + 1) b i below inside) refl new (fates_turned s.views id v W.fates a b t (into i n hand y) g.left here refl p.fates)
-              (settled_same s.views id v (turned (Some (with_work b (into i n hand y) t)) v) here W.fates p.settled refl),
+          works_on s r word (n + 1) id b v t (into i n hand y) (set (at b W.slots) i (n + 1)) W.fates v.settled here some_share holds under_way below (set_slot k s.words (n + 1) b i below inside) refl new (fates_resizing s.views id v W.fates a b t (into i n hand y) g.left here refl p.fates)
+              (settled_same s.views id v (with_resizing (Some (with_work b (into i n hand y) t)) v) here W.fates p.settled refl),
           refl,
         )

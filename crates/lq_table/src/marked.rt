@@ -1,0 +1,15 @@
+//! A seat of the table with its marks.
+ghost use Rattle.std.specs.Prelude.{◌≡◌};
+ghost use Rattle.lq_table.specs.Marks.{marks_of};
+
+use crate::marks::Marks;
+use crate::view::Knowledge;
+use atomic_table::Seat;
+
+/// A seat of the table, and what can be told of its view at run time.
+#[derive(Drop)]
+pub struct Marked<S> {
+    pub(crate) seat: Seat<S, Knowledge>,
+    pub(crate) marks: Marks,
+    pub ghost told: { marks ≡ marks_of seat.me.0 },
+}
