@@ -1,12 +1,13 @@
 -- Where a try of the run lock leads, and what a call leaves as it was.
-use Rattle.std.specs.Prelude.{◌≡◌, false, [], ◌∷◌, Some, None}
+use Rattle.std.specs.Prelude.{◌≡◌, ◌⊎◌, ℕ, Bool, true, false, if◌then◌else◌, [], ◌∷◌, Some, None}
 use Rattle.lq_model.specs.declared.machine.Attempt.TheVariants.{Queued, Direct, Interrupt}
 use Rattle.lq_model.specs.declared.machine.Position.{Position}
 use Rattle.lq_model.specs.declared.machine.Position.TheVariants.{Try1, Recheck, Leave, Put}
 use Rattle.lq_model.specs.Steps.{dequeue_begins}
 use Rattle.lq_table.specs.Views.{View}
 use Rattle.lq_table.specs.Rule.{shown, IsResting}
-use Rattle.lq_table.specs.Told.{seen_by}
+use Rattle.lq_table.specs.Told.{seen_by, schedules, scheduling}
+use Rattle.lq_table.specs.Solo.{Solo, missed_to, sched_set, locked_to}
 use Rattle.lq_table.specs.Sees.{view, slot, IsSameSeat}
 use Rattle.lq_table.specs.declared.shared.Cpu.{Cpu}
 
@@ -14,19 +15,44 @@ use Rattle.lq_table.specs.declared.shared.Cpu.{Cpu}
 abbrev pub begins : View → Position
 begins v = dequeue_begins (seen_by v)
 
--- behind a try that got the lock
-abbrev pub behind_got : View → Position → Position
-behind_got v (Try1 (Direct p)) = Recheck p
-behind_got v (Try1 (Queued p)) = begins v
-behind_got v (Try1 Interrupt) = begins v
-behind_got v position = position
+-- after a try that got the lock
+abbrev pub after_got : View → Position → Position
+after_got v (Try1 (Direct p)) = Recheck p
+after_got v (Try1 (Queued p)) = begins v
+after_got v (Try1 Interrupt) = begins v
+after_got v position = position
 
--- behind two that didn't
-abbrev pub behind_missed : Position → Position
-behind_missed (Try1 (Direct p)) = Put p false
-behind_missed (Try1 (Queued p)) = Leave
-behind_missed (Try1 Interrupt) = Leave
-behind_missed position = position
+-- after two that didn't
+abbrev pub after_missed : Position → Position
+after_missed (Try1 (Direct p)) = Put p false
+after_missed (Try1 (Queued p)) = Leave
+after_missed (Try1 Interrupt) = Leave
+after_missed position = position
+
+-- how many packets the run has sent after a try that got the lock: a run begins with none, and a packet that goes past the bands
+-- is counted before that
+abbrev pub run_got : ℕ → Position → ℕ
+run_got run (Try1 (Queued p)) = 0
+run_got run (Try1 Interrupt) = 0
+run_got run position = run
+
+-- WHAT A SEAT KNOWS THAT HAS THE TABLE ALONE
+
+-- the lock is held after a try, and MISSED set where it was held before
+abbrev pub begun : Bool → Solo → Solo
+begun got s = locked_to true (if got then s else missed_to true s)
+
+-- the lock is free after the end of a run, and the table scheduled where MISSED is set
+abbrev pub ended : Solo → Solo
+ended s = if s.whole.missed then sched_set s.whole.scheduled (locked_to false s) else locked_to false s
+
+-- THE RAISED MARK
+
+-- It is as it was, or SCHED was set, which raises the seat where that was clear.
+abbrev pub IsRaisedBySched : View → View → Type 0
+IsRaisedBySched old new = (new.place.raised ≡ old.place.raised) ⊎ ((was : Bool) × (before : View) × (schedules before.place.position ≡ true) × (new ≡ scheduling was before))
+
+-- WHAT A CALL LEAVES
 
 module _ {D : Type 0} where
   -- the seat carries the station as it is due at its next step, and has nothing else of the table's slot
@@ -38,11 +64,12 @@ module _ {D : Type 0} where
 
   -- no take or resize is half done
   abbrev pub Rests : Cpu D → Type 0
-  Rests c = IsResting (view c).holder.size (view c).holder.ends × ((view c).holder.turn ≡ None)
+  Rests c = IsResting (view c).holder.size (view c).holder.ends × ((view c).holder.resizing ≡ None)
 
   -- what the run lock's steps leave as it was
   abbrev pub IsElseKept : Cpu D → Cpu D → Type 0
   IsElseKept b a = IsSameSeat b a × ((view a).share ≡ (view b).share) × ((view a).packets ≡ (view b).packets) × ((view a).locks ≡ (view b).locks) × ((view a).control ≡ (view b).control) × ((view a).whole.told ≡ (view b).whole.told)
+      × (a.indices ≡ b.indices) × ((view a).turns ≡ (view b).turns) × ((view a).settled ≡ (view b).settled) × ((view a).trail ≡ (view b).trail)
 
   -- nor did an event come
   abbrev pub IsEventless : Cpu D → Cpu D → Type 0

@@ -1,13 +1,14 @@
 //! The run lock is tried and released, and what was missed meanwhile is scheduled.
 #![tactic(auto)]
 
-ghost use Rattle.std.specs.Prelude.{◌≡◌, ◌<◌, Bool, true, false, None};
+ghost use Rattle.std.specs.Prelude.{◌≡◌, ◌<◌, Bool, true, false, not, None};
 ghost use Rattle.lq_model.specs.declared.machine.Position.TheVariants.{Try1, Unlock as AtUnlock, Leave as AtLeave, Idle as AtIdle, Control as AtControl};
 ghost use Rattle.lq_model.specs.declared.machine.Phase.TheVariants.{Active};
 ghost use Rattle.lq_model.specs.declared.machine.Attempt.{Attempt};
 ghost use Rattle.lq_table.specs.Sees.{view, position, IsSeatOf, IsElseSame};
 ghost use Rattle.lq_table.specs.Told.{IsKnownSlot, schedules, scheduling, clears_sched, passing};
-ghost use Rattle.lq_run.specs.Runs.{behind_got, behind_missed, HasStation, HasNone, Rests, IsElseKept, IsEventless};
+ghost use Rattle.lq_table.specs.Solo.{IsSole, IsAccounts, solo, sched_set, sched_cleared};
+ghost use Rattle.lq_run.specs.Runs.{after_got, after_missed, run_got, begun, ended, HasStation, HasNone, Rests, IsElseKept, IsEventless, IsRaisedBySched};
 
 use lq_device::TxDevice;
 use lq_table::{Cpu, Shared};
@@ -21,8 +22,11 @@ pub fn begin<'a, D: TxDevice>(shared: &Shared<'a, D>, cpu: &mut Cpu<D>) -> bool
     requires at { (a : Attempt) × (position cpu.old ≡ Try1 a) }
     requires empty { HasNone cpu.old }
     ensures kept { IsElseKept cpu.old cpu.new × IsEventless cpu.old cpu.new }
-    ensures got { result ≡ true → (position cpu.new ≡ behind_got (view cpu.new) (position cpu.old)) × HasStation cpu.new × Rests cpu.new × (0 < (view cpu.new).holder.size) × ((view cpu.new).holder.hand ≡ None) × ((view cpu.new).holder.shut ≡ None) × IsKnownSlot (view cpu.new).share.about (view cpu.new).holder.slot }
-    ensures missed { result ≡ false → (position cpu.new ≡ behind_missed (position cpu.old)) × HasNone cpu.new }
+    ensures got { result ≡ true → (position cpu.new ≡ after_got (view cpu.new) (position cpu.old)) × HasStation cpu.new × Rests cpu.new × (0 < (view cpu.new).holder.size) × ((view cpu.new).holder.hand ≡ None) × ((view cpu.new).holder.shut ≡ None) × IsKnownSlot (view cpu.new).share.about (view cpu.new).holder.slot }
+    ensures missed { result ≡ false → (position cpu.new ≡ after_missed (position cpu.old)) × HasNone cpu.new × ((view cpu.new).holder ≡ (view cpu.old).holder) }
+    ensures run { result ≡ true → (view cpu.new).place.run ≡ run_got (view cpu.old).place.run (position cpu.old) }
+    ensures sole { IsSole (view cpu.old) → (result ≡ not (view cpu.old).whole.qdisc.locked) × (solo (view cpu.new) ≡ begun result (solo (view cpu.old))) × (result ≡ true → IsAccounts (view cpu.new)) }
+    ensures mark { (view cpu.new).place.raised ≡ (view cpu.old).place.raised }
 {
     if shared.try_lock(cpu) {
         shared.move_station(cpu);
@@ -38,7 +42,7 @@ pub fn begin<'a, D: TxDevice>(shared: &Shared<'a, D>, cpu: &mut Cpu<D>) -> bool
     false
 }
 
-/// Releases the run lock, and schedules where MISSED is set behind it, as `qdisc_run_end` of include/net/sch_generic.h
+/// Releases the run lock, and schedules where MISSED is set after it, as `qdisc_run_end` of include/net/sch_generic.h
 /// does.
 pub fn end<'a, D: TxDevice>(shared: &Shared<'a, D>, cpu: &mut Cpu<D>)
     requires seat { IsSeatOf shared.now cpu.old }
@@ -46,7 +50,10 @@ pub fn end<'a, D: TxDevice>(shared: &Shared<'a, D>, cpu: &mut Cpu<D>)
     requires rests { Rests cpu.old }
     requires back { HasStation cpu.old }
     ensures kept { IsElseKept cpu.old cpu.new × IsEventless cpu.old cpu.new }
-    ensures at { (position cpu.new ≡ AtLeave) × HasNone cpu.new }
+    ensures at { (position cpu.new ≡ AtLeave) × HasNone cpu.new × ((view cpu.new).holder ≡ (view cpu.old).holder) }
+    ensures raised { (view cpu.old).place.raised ≡ true → (view cpu.new).place.raised ≡ true }
+    ensures sched { IsRaisedBySched (view cpu.old) (view cpu.new) }
+    ensures sole { IsSole (view cpu.old) → solo (view cpu.new) ≡ ended (solo (view cpu.old)) }
 {
     shared.move_station(cpu);
     shared.unlock(cpu);
@@ -56,7 +63,7 @@ pub fn end<'a, D: TxDevice>(shared: &Shared<'a, D>, cpu: &mut Cpu<D>)
     }
 }
 
-/// Releases the run lock behind a live resize, and schedules where MISSED is set behind it: what control does in place of the
+/// Releases the run lock after a live resize, and schedules where MISSED is set after it: what control does in place of the
 /// end of a run.
 pub fn end_resize<'a, D: TxDevice>(shared: &Shared<'a, D>, cpu: &mut Cpu<D>)
     requires seat { IsSeatOf shared.now cpu.old }
@@ -64,7 +71,9 @@ pub fn end_resize<'a, D: TxDevice>(shared: &Shared<'a, D>, cpu: &mut Cpu<D>)
     requires rests { Rests cpu.old }
     requires back { HasStation cpu.old }
     ensures kept { IsElseKept cpu.old cpu.new × IsEventless cpu.old cpu.new }
-    ensures at { (position cpu.new ≡ AtIdle) × HasNone cpu.new }
+    ensures at { (position cpu.new ≡ AtIdle) × HasNone cpu.new × ((view cpu.new).holder ≡ (view cpu.old).holder) }
+    ensures raised { (view cpu.old).place.raised ≡ true → (view cpu.new).place.raised ≡ true }
+    ensures sole { IsSole (view cpu.old) → solo (view cpu.new) ≡ ended (solo (view cpu.old)) }
 {
     shared.move_station(cpu);
     shared.unlock(cpu);
@@ -79,7 +88,7 @@ pub fn schedule<'a, D: TxDevice>(shared: &Shared<'a, D>, cpu: &mut Cpu<D>)
     requires seat { IsSeatOf shared.now cpu.old }
     requires at { schedules (position cpu.old) ≡ true }
     ensures same { IsElseSame cpu.old cpu.new }
-    ensures view { (was : Bool) × (view cpu.new ≡ scheduling was (view cpu.old)) }
+    ensures view { (was : Bool) × (view cpu.new ≡ scheduling was (view cpu.old)) × (solo (view cpu.new) ≡ sched_set was (solo (view cpu.old))) × (IsSole (view cpu.old) → was ≡ (view cpu.old).whole.qdisc.sched) }
 {
     shared.set_sched(cpu);
 }
@@ -90,6 +99,7 @@ pub fn unschedule<'a, D: TxDevice>(shared: &Shared<'a, D>, cpu: &mut Cpu<D>)
     requires at { clears_sched (position cpu.old) ≡ true }
     ensures same { IsElseSame cpu.old cpu.new }
     ensures view { view cpu.new ≡ passing (view cpu.old) }
+    ensures step { solo (view cpu.new) ≡ sched_cleared (solo (view cpu.old)) }
 {
     shared.clear_sched(cpu);
 }
