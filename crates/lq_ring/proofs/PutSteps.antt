@@ -9,14 +9,13 @@ use Rattle.lq_table.specs.Rings.{with_lock_at, sized, dropping, joining}
 use Rattle.lq_table.specs.Solo.{solo, heard}
 use Rattle.lq_model.specs.Account.{Join, Full}
 use Rattle.lq_model.specs.Machine.{Qdisc}
-use Rattle.lq_model.specs.Steps.{After, step_at, behind_put, put_answered}
-use Rattle.lq_model.specs.declared.machine.Answer.{Answer}
+use Rattle.lq_model.specs.Steps.{step_at, after_put, put_answered}
 use Rattle.lq_model.specs.declared.machine.Answer.TheVariants.{Plain, FullSlot}
 use Rattle.lq_model.specs.declared.machine.Packet.{Packet}
 use Rattle.lq_model.specs.declared.machine.Position.{Position}
 use Rattle.lq_model.specs.declared.machine.Position.TheVariants.{Put}
 use Rattle.lq_model.specs.declared.machine.Seat.{Seat}
-use Rattle.lq_ring.specs.Put.{no_locks, just_locked, putting, refusing}
+use Rattle.lq_ring.specs.Put.{no_locks, just_locked, putting, dropping_full}
 use Rattle.lq_ring.specs.Put as leads
 
 pub put_put : {A : Type 0} (b : ℕ) (x y : A) (t : Three A) → put b x (put b y t) ≡ put b x t
@@ -45,7 +44,7 @@ module _ (b z i n : ℕ) (v v1 : View) (had : v.locks ≡ just_locked b i) (load
   pub lock1 : at b v1.locks ≡ sized_at z (locked_at i)
   lock1 = ap (at b) locks1 ∙ at_put_same b _ no_locks
 
-  pub ends_full : (m : ℕ) (v2 v3 : View) → v2 ≡ dropping n m v1 → v3 ≡ with_lock_at b unlocked v2 → v3 ≡ refusing n m v
+  pub ends_full : (m : ℕ) (v2 v3 : View) → v2 ≡ dropping n m v1 → v3 ≡ with_lock_at b unlocked v2 → v3 ≡ dropping_full n m v
   ends_full m v2 v3 e2 e3 =
       let back : put b unlocked (sized z v).locks ≡ no_locks = ap (put b unlocked) (sized_locks b z i v had) ∙ (put_put b unlocked _ no_locks ∙ put_none b) in
       e3 ∙ (ap (λ (x : View). with_lock_at b unlocked x) e2 ∙ (ap (λ (x : View). with_lock_at b unlocked (dropping n m x)) loaded ∙ (λ j. record (dropping n m v) { locks = back j })))
@@ -73,26 +72,26 @@ module _ (b z i n : ℕ) (v v1 : View) (had : v.locks ≡ just_locked b i) (load
           given ∙ ((λ j. record (put_is j) { locks = back j }) ∙ ((λ j. record (joining b n (seen j)) { locks = no_locks }) ∙ (λ j. record (joining b n (with_lock_at b roomy (loaded j))) { locks = no_locks })))
 
 -- where the step of a put leads, and what it leaves of the words and the raised mark
-words_put : (holds : Bool) (p : Packet) (q : Qdisc) (s : Seat) → (behind_put holds p q s).qdisc ≡ q
+words_put : (holds : Bool) (p : Packet) (q : Qdisc) (s : Seat) → (after_put holds p q s).qdisc ≡ q
 words_put true p q s = refl
 words_put false p q s = refl
 
-raised_put : (holds : Bool) (p : Packet) (q : Qdisc) (s : Seat) → (behind_put holds p q s).seat.raised ≡ s.raised
+raised_put : (holds : Bool) (p : Packet) (q : Qdisc) (s : Seat) → (after_put holds p q s).seat.raised ≡ s.raised
 raised_put true p q s = refl
 raised_put false p q s = refl
 
 module _ (b n : ℕ) (p : Packet) (holds : Bool) (v : View) (here : v.place.position ≡ Put p holds) where
-  pub put_leads : (putting b n v).place.position ≡ leads.behind_put holds p v
+  pub put_leads : (putting b n v).place.position ≡ leads.put_leads_to holds p v
   put_leads = ap (λ (y : Position). (step_at y Plain (seen_by v) v.place).seat.position) here ∙ cases holds
     where
-      cases : (holds : Bool) → (behind_put holds p (put_answered Plain p (seen_by v)) v.place).seat.position ≡ leads.behind_put holds p v
+      cases : (holds : Bool) → (after_put holds p (put_answered Plain p (seen_by v)) v.place).seat.position ≡ leads.put_leads_to holds p v
       cases true = refl
       cases false = refl
 
-  pub full_leads : (seen : ℕ) → (refusing n seen v).place.position ≡ leads.behind_put holds p v
+  pub full_leads : (seen : ℕ) → (dropping_full n seen v).place.position ≡ leads.put_leads_to holds p v
   full_leads seen = ap (λ (y : Position). (step_at y FullSlot (seen_by v) v.place).seat.position) here ∙ cases holds
     where
-      cases : (holds : Bool) → (behind_put holds p (put_answered FullSlot p (seen_by v)) v.place).seat.position ≡ leads.behind_put holds p v
+      cases : (holds : Bool) → (after_put holds p (put_answered FullSlot p (seen_by v)) v.place).seat.position ≡ leads.put_leads_to holds p v
       cases true = refl
       cases false = refl
 
@@ -103,7 +102,7 @@ module _ (b n : ℕ) (p : Packet) (holds : Bool) (v : View) (here : v.place.posi
       let h = heard (Join n b) (solo v) in
       λ j. record h { raised = a j; whole = record h.whole { missed = (w j).missed; draining = (w j).draining; scheduled = (w j).sched; locked = (w j).locked } }
 
-  pub full_heard : (seen : ℕ) → solo (refusing n seen v) ≡ heard (Full n seen) (solo v)
+  pub full_heard : (seen : ℕ) → solo (dropping_full n seen v) ≡ heard (Full n seen) (solo v)
   full_heard seen =
       let a : (step_at v.place.position FullSlot (seen_by v) v.place).seat.raised ≡ v.place.raised = ap (λ (y : Position). (step_at y FullSlot (seen_by v) v.place).seat.raised) here ∙ raised_put holds p (put_answered FullSlot p (seen_by v)) v.place in
       let w : (step_at v.place.position FullSlot v.whole.qdisc v.place).qdisc ≡ put_answered FullSlot p v.whole.qdisc = ap (λ (y : Position). (step_at y FullSlot v.whole.qdisc v.place).qdisc) here ∙ words_put holds p (put_answered FullSlot p v.whole.qdisc) v.place in

@@ -3,9 +3,9 @@ use Rattle.std.proofs.Common.{◌≡◌, ℕ, zero, suc, ◌+◌, ◌-◌, ◌<�
 use Rattle.std.specs.Prelude.{if◌then◌else◌, slice_index, slice_set}
 use Rattle.std.proofs.lemmas.Bool.{cases_Bool}
 use Rattle.lq_device.specs.Station.{StationState, with_ends}
-use Rattle.lq_model.specs.Account.{Take, Empty}
+use Rattle.lq_model.specs.Account.{Take}
 use Rattle.lq_model.specs.Machine.{Qdisc, band_at}
-use Rattle.lq_model.specs.Steps.{step_at, scan, behind_band}
+use Rattle.lq_model.specs.Steps.{step_at, scan, after_band}
 use Rattle.lq_model.specs.declared.machine.Answer.TheVariants.{Plain}
 use Rattle.lq_model.specs.declared.machine.Packet.{Packet}
 use Rattle.lq_model.specs.declared.machine.Position.{Position}
@@ -15,9 +15,9 @@ use Rattle.lq_band.specs.Three.{Three, at, put}
 use Rattle.lq_band.specs.Ring.{sized_if, Lock, Ends, is_emptying, taken_on, emptied_on, emptied_down, all_empty, after_take, IsAtRest}
 use Rattle.lq_band.proofs.Three.{at_put_same, put_at}
 use Rattle.lq_band.proofs.Kept.{rest_after, down_more, down_here, down_all}
-use Rattle.lq_table.specs.Views.{View, HolderPart, packet_of}
+use Rattle.lq_table.specs.Views.{View, HolderPart, machine_packet}
 use Rattle.lq_table.specs.Rule.{IsResting, shown}
-use Rattle.lq_table.specs.Told.{seen_by, seen_band}
+use Rattle.lq_table.specs.Told.{seen_band}
 use Rattle.lq_table.specs.Rings.{emptying, taking, finding_none, sized}
 use Rattle.lq_table.specs.Solo.{solo, heard}
 use Rattle.lq_ring.specs.Put.{no_locks}
@@ -67,29 +67,28 @@ pub sized_none : (z : ℕ) (v : View) → v.locks ≡ no_locks → sized z v ≡
 sized_none z v e =
     ap (λ (ls : Three Lock). record v { locks = record { low = sized_if z ls.low; mid = sized_if z ls.mid; high = sized_if z ls.high } }) e ∙ (λ j. record v { locks = sym e j })
 
+-- the emptying that a take asks, where the packet was taken as t says
+pub takes_end : (b z size : ℕ) (c d : Ends) (t v2 v3 : View) → z ≡ size → v2 ≡ t → at b t.holder.ends ≡ taken_on c → at b t.whole.state.ends ≡ taken_on d
+    → (is_emptying z (at b v2.holder.ends) ≡ true → v3 ≡ having_ends b (all_empty z (at b v2.holder.ends)) (emptied_times z ((at b v2.holder.ends).head - (at b v2.holder.ends).tail) (at b v2.whole.state.ends)) v2)
+    → (is_emptying z (at b v2.holder.ends) ≡ false → v3 ≡ v2) → v3 ≡ having_ends b (after_take size c) (emptied_times size (emptied_count size (taken_on c)) (taken_on d)) t
+takes_end b z size c d t v2 v3 is_size took own known emptied rested =
+    let c_is : at b v2.holder.ends ≡ taken_on c = ap (λ (x : View). at b x.holder.ends) took ∙ own in
+    let d_is : at b v2.whole.state.ends ≡ taken_on d = ap (λ (x : View). at b x.whole.state.ends) took ∙ known in
+    ⊎_elim
+    (λ (busy : is_emptying size (taken_on c) ≡ true).
+    emptied ((λ j. is_emptying (is_size j) (c_is j)) ∙ busy) ∙ ((λ j. having_ends b (all_empty (is_size j) (c_is j)) (emptied_times (is_size j) ((c_is j).head - (c_is j).tail) (d_is j)) (took j))
+    ∙ sym (λ j. having_ends b (if busy j then all_empty size (taken_on c) else taken_on c) (emptied_times size (if busy j then (taken_on c).head - (taken_on c).tail else 0) (taken_on d)) t)))
+    (λ (idle : is_emptying size (taken_on c) ≡ false).
+    rested ((λ j. is_emptying (is_size j) (c_is j)) ∙ idle) ∙ (took ∙ (sym (having_same b t) ∙ ((λ j. having_ends b (own j) (known j) t)
+    ∙ sym (λ j. having_ends b (if idle j then all_empty size (taken_on c) else taken_on c) (emptied_times size (if idle j then (taken_on c).head - (taken_on c).tail else 0) (taken_on d)) t)))))
+    (cases_Bool (is_emptying size (taken_on c)))
+
 -- a take, and the emptying that it asks
 pub consumes : (b n z : ℕ) (v v2 v3 : View) → z ≡ v.holder.size → v2 ≡ taking b n v
     → (is_emptying z (at b v2.holder.ends) ≡ true → v3 ≡ having_ends b (all_empty z (at b v2.holder.ends)) (emptied_times z ((at b v2.holder.ends).head - (at b v2.holder.ends).tail) (at b v2.whole.state.ends)) v2)
     → (is_emptying z (at b v2.holder.ends) ≡ false → v3 ≡ v2) → v3 ≡ consuming b n v
 consumes b n z v v2 v3 is_size took emptied rested =
-    let c : Ends = at b v.holder.ends in let d : Ends = at b v.whole.state.ends in let t : View = taking b n v in let size = v.holder.size in
-    let c_is : at b v2.holder.ends ≡ taken_on c = ap (λ (x : View). at b x.holder.ends) took ∙ at_put_same b (taken_on c) v.holder.ends in
-    let d_is : at b v2.whole.state.ends ≡ taken_on d = ap (λ (x : View). at b x.whole.state.ends) took ∙ at_put_same b (taken_on d) v.whole.state.ends in
-    let flat : (e f : Ends) → having_ends b e f (having_ends b (taken_on c) (taken_on d) t) ≡ having_ends b e f t = λ e f. (λ j. record t { holder = record t.holder { ends = put_put b e (taken_on c) t.holder.ends j }; whole = record t.whole { state = record t.whole.state { ends = put_put b f (taken_on d) t.whole.state.ends j } } }) in
-    ⊎_elim
-    (λ (busy : is_emptying size (taken_on c) ≡ true).
-    let now : is_emptying z (at b v2.holder.ends) ≡ true = (λ j. is_emptying (is_size j) (c_is j)) ∙ busy in
-    emptied now ∙ ((λ j. having_ends b (all_empty (is_size j) (c_is j)) (emptied_times (is_size j) ((c_is j).head - (c_is j).tail) (d_is j)) (took j))
-    ∙ sym (λ j. having_ends b (if busy j then all_empty size (taken_on c) else taken_on c) (emptied_times size (if busy j then (taken_on c).head - (taken_on c).tail else 0) (taken_on d)) t)))
-    (λ (idle : is_emptying size (taken_on c) ≡ false).
-    let now : is_emptying z (at b v2.holder.ends) ≡ false = (λ j. is_emptying (is_size j) (c_is j)) ∙ idle in
-    rested now ∙ (took ∙ (sym (having_taken b n v)
-    ∙ sym (λ j. having_ends b (if idle j then all_empty size (taken_on c) else taken_on c) (emptied_times size (if idle j then (taken_on c).head - (taken_on c).tail else 0) (taken_on d)) t))))
-    (cases_Bool (is_emptying size (taken_on c)))
-  where
-    having_taken : (b n : ℕ) (v : View) → having_ends b (taken_on (at b v.holder.ends)) (taken_on (at b v.whole.state.ends)) (taking b n v) ≡ taking b n v
-    having_taken b n v = let t : View = taking b n v in
-        λ j. record t { holder = record t.holder { ends = put_put b (taken_on (at b v.holder.ends)) (taken_on (at b v.holder.ends)) v.holder.ends j }; whole = record t.whole { state = record t.whole.state { ends = put_put b (taken_on (at b v.whole.state.ends)) (taken_on (at b v.whole.state.ends)) v.whole.state.ends j } } }
+    takes_end b z v.holder.size (at b v.holder.ends) (at b v.whole.state.ends) (taking b n v) v2 v3 is_size took (at_put_same b _ v.holder.ends) (at_put_same b _ v.whole.state.ends) emptied rested
 
 -- it leaves all three at rest, and the station as the holder knows it
 pub ends_after : (b n : ℕ) (v w : View) → w ≡ consuming b n v → w.holder.ends ≡ put b (after_take v.holder.size (at b v.holder.ends)) v.holder.ends
@@ -124,13 +123,13 @@ raised_scan [] b second q s = refl
 raised_scan (p ∷ ps) b second q s = refl
 
 module _ (b : ℕ) (second : Bool) (v : View) (here : v.place.position ≡ Scan b second) where
-  pub none_leads : b < 3 → (finding_none b v).place.position ≡ behind_band b second
+  pub none_leads : b < 3 → (finding_none b v).place.position ≡ after_band b second
   none_leads below =
       ap (λ (y : Position). (step_at y Plain (seen_band b []) v.place).seat.position) here ∙ ap (λ (ps : List Packet). (scan ps b second (seen_band b []) v.place).seat.position) (one_band b [] below)
 
-  pub take_leads : (n : ℕ) → b < 3 → (taking b n v).place.position ≡ Gate (packet_of v.share.about.infos n) false
+  pub take_leads : (n : ℕ) → b < 3 → (taking b n v).place.position ≡ Gate (machine_packet v.share.about.infos n) false
   take_leads n below =
-      let ps = packet_of v.share.about.infos n ∷ [] in
+      let ps = machine_packet v.share.about.infos n ∷ [] in
       ap (λ (y : Position). (step_at y Plain (seen_band b ps) v.place).seat.position) here ∙ ap (λ (qs : List Packet). (scan qs b second (seen_band b ps) v.place).seat.position) (one_band b ps below)
 
   words : (bands : List (List Packet)) × ((step_at v.place.position Plain v.whole.qdisc v.place).qdisc ≡ record v.whole.qdisc { bands = bands })
@@ -144,7 +143,7 @@ module _ (b : ℕ) (second : Bool) (v : View) (here : v.place.position ≡ Scan 
       λ j. record h { raised = a j; whole = record h.whole { missed = (w j).missed; draining = (w j).draining; scheduled = (w j).sched; locked = (w j).locked } }
 
   pub take_heard : (n : ℕ) → solo (consuming b n v) ≡ heard (Take b) (solo v)
-  take_heard n = let a = raised (seen_band b (packet_of v.share.about.infos n ∷ [])) in let w = words.1 in let h = heard (Take b) (solo v) in
+  take_heard n = let a = raised (seen_band b (machine_packet v.share.about.infos n ∷ [])) in let w = words.1 in let h = heard (Take b) (solo v) in
       λ j. record h { raised = a j; whole = record h.whole { missed = (w j).missed; draining = (w j).draining; scheduled = (w j).sched; locked = (w j).locked } }
 
 -- a batch is emptied slot by slot

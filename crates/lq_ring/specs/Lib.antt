@@ -2,3 +2,11 @@
 pub mod Put
 -- what a take makes of what the holder knows
 pub mod Take
+-- what a resize makes of the bands
+pub mod Work
+-- what a live resize makes of what control knows
+pub mod Resized
+-- the fates that a call stores one after another
+pub mod Fates
+-- what a purge makes of a band
+pub mod Purged

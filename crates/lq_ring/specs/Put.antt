@@ -24,9 +24,9 @@ abbrev pub putting : ℕ → ℕ → View → View
 putting b n v = record (joining b n v) { locks = no_locks }
 
 -- it was dropped as full, and the producer lock was given back
-abbrev pub refusing : ℕ → ℕ → View → View
-refusing n seen v = record (dropping n seen v) { locks = no_locks }
+abbrev pub dropping_full : ℕ → ℕ → View → View
+dropping_full n seen v = record (dropping n seen v) { locks = no_locks }
 
 -- where a put leads: one that has the run lock begins to dequeue, another tries that lock
-abbrev pub behind_put : Bool → Packet → View → Position
-behind_put holds p v = if holds then dequeue_begins (seen_by v) else Try1 (Queued p)
+abbrev pub put_leads_to : Bool → Packet → View → Position
+put_leads_to holds p v = if holds then dequeue_begins (seen_by v) else Try1 (Queued p)

@@ -4,10 +4,12 @@ ghost use Rattle.lq_model.specs.Account.{Join, Full as FullEvent};
 ghost use Rattle.lq_model.specs.declared.machine.Position.TheVariants.{Put};
 ghost use Rattle.lq_ring_core.specs.Ring.{next_place};
 ghost use Rattle.lq_band.specs.Three.{at};
-ghost use Rattle.lq_table.specs.Sees.{view, position, slot, packet_at, IsSeatOf, IsSameSeat, IsElseSame, Brings};
+ghost use Rattle.lq_band.specs.Ring.{unlocked, locked_at};
+ghost use Rattle.lq_table.specs.Rings.{with_lock_at};
+ghost use Rattle.lq_table.specs.Sees.{view, position, slot, packet_at, lock_at, IsSeatOf, IsSameSeat, IsElseSame, Brings};
 ghost use Rattle.lq_table.specs.Solo.{solo, heard};
 ghost use Rattle.lq_table.specs.SolePut.{SeesEnd};
-ghost use Rattle.lq_ring.specs.Put.{no_locks, just_locked, putting, refusing, behind_put};
+ghost use Rattle.lq_ring.specs.Put.{no_locks, just_locked, putting, dropping_full, put_leads_to};
 
 use crossbeam_utils::Backoff;
 use lq_device::TxDevice;
@@ -16,7 +18,7 @@ use lq_table::{Cpu, Shared};
 use std::sync::Wait;
 
 /// Waits for the band's producer lock, `producer_lock` of a `ptr_ring`, and gives the producer index under it.
-fn lock_producer<'a, D: TxDevice, R: Wait>(
+pub(crate) fn lock_producer<'a, D: TxDevice, R: Wait>(
     rt: &R,
     shared: &Shared<'a, D>,
     cpu: &mut Cpu<D>,
@@ -24,9 +26,9 @@ fn lock_producer<'a, D: TxDevice, R: Wait>(
 ) -> u32
     requires seat { IsSeatOf shared.now cpu.old }
     requires band { band < 3 }
-    requires idle { (view cpu.old).locks ≡ no_locks }
+    requires idle { lock_at band cpu.old ≡ unlocked }
     ensures same { IsSameSeat cpu.old cpu.new × (cpu.new.station ≡ cpu.old.station) × (slot cpu.new ≡ slot cpu.old) }
-    ensures locked { (view cpu.new ≡ record (view cpu.old) { locks = just_locked band result }) × (at band cpu.new.indices ≡ result) × (result < shared.now.max_len) }
+    ensures locked { (view cpu.new ≡ with_lock_at band (locked_at result) (view cpu.old)) × (at band cpu.new.indices ≡ result) × (result < shared.now.max_len) }
 {
     let backoff = Backoff::new();
     for _ in rt.forever() {
@@ -62,9 +64,9 @@ fn produce_locked<'a, D: TxDevice>(
     requires band { band < 3 }
     requires at { (holds : Bool) × (position cpu.old ≡ Put (packet_at shared.now n) holds) }
     requires packet { Brings shared.now n band cpu.old × ((view cpu.old).packets.owed ≡ None) }
-    requires locked { ((view cpu.old).locks ≡ just_locked band index) × (at band cpu.old.indices ≡ index) × (index < shared.now.max_len) × ((view cpu.old).holder.turn ≡ None) }
+    requires locked { ((view cpu.old).locks ≡ just_locked band index) × (at band cpu.old.indices ≡ index) × (index < shared.now.max_len) × ((view cpu.old).holder.resizing ≡ None) }
     ensures same { IsElseSame cpu.old cpu.new }
-    ensures put { MatchResult result (λ _. view cpu.new ≡ putting band n (view cpu.old)) (λ full. view cpu.new ≡ refusing n full.seen (view cpu.old)) }
+    ensures put { MatchResult result (λ _. view cpu.new ≡ putting band n (view cpu.old)) (λ full. view cpu.new ≡ dropping_full n full.seen (view cpu.old)) }
     ensures sole { MatchResult result (λ _. SeesEnd band (view cpu.old) 0) (λ full. SeesEnd band (view cpu.old) (full.seen + 1)) }
 {
     let size = shared.load_size(cpu);
@@ -98,10 +100,10 @@ pub fn produce<'a, D: TxDevice, R: Wait>(
     requires band { band < 3 }
     requires at { (holds : Bool) × (position cpu.old ≡ Put (packet_at shared.now n) holds) }
     requires packet { Brings shared.now n band cpu.old × ((view cpu.old).packets.owed ≡ None) }
-    requires idle { ((view cpu.old).locks ≡ no_locks) × ((view cpu.old).holder.turn ≡ None) }
+    requires idle { ((view cpu.old).locks ≡ no_locks) × ((view cpu.old).holder.resizing ≡ None) }
     ensures same { IsSameSeat cpu.old cpu.new × (cpu.new.station ≡ cpu.old.station) × (slot cpu.new ≡ slot cpu.old) }
-    ensures put { MatchResult result (λ _. view cpu.new ≡ putting band n (view cpu.old)) (λ full. view cpu.new ≡ refusing n full.seen (view cpu.old)) }
-    ensures at { (holds : Bool) → position cpu.old ≡ Put (packet_at shared.now n) holds → position cpu.new ≡ behind_put holds (packet_at shared.now n) (view cpu.old) }
+    ensures put { MatchResult result (λ _. view cpu.new ≡ putting band n (view cpu.old)) (λ full. view cpu.new ≡ dropping_full n full.seen (view cpu.old)) }
+    ensures at { (holds : Bool) → position cpu.old ≡ Put (packet_at shared.now n) holds → position cpu.new ≡ put_leads_to holds (packet_at shared.now n) (view cpu.old) }
     ensures step { MatchResult result (λ _. solo (view cpu.new) ≡ heard (Join n band) (solo (view cpu.old))) (λ full. solo (view cpu.new) ≡ heard (FullEvent n full.seen) (solo (view cpu.old))) }
     ensures sole { MatchResult result (λ _. SeesEnd band (view cpu.old) 0) (λ full. SeesEnd band (view cpu.old) (full.seen + 1)) }
 {

@@ -2,12 +2,12 @@
 ghost use Rattle.std.specs.Prelude.{◌≡◌, ◌≢◌, ℕ, ◌+◌, ◌*◌, ◌-◌, ◌<◌, ◌≤◌, Bool, true, false, Option, Some, None, MatchOption, IfSome, slice_get, slice_index};
 ghost use Rattle.lq_device.specs.Station.{StationState, with_ends};
 ghost use Rattle.lq_model.specs.Account.{Take, held_in};
-ghost use Rattle.lq_model.specs.Kept.{holds_lock};
-ghost use Rattle.lq_model.specs.Steps.{behind_band};
+ghost use Rattle.lq_model.specs.Positions.{holds_lock};
+ghost use Rattle.lq_model.specs.Steps.{after_band};
 ghost use Rattle.lq_model.specs.declared.machine.Position.TheVariants.{Scan, Gate};
 ghost use Rattle.lq_band.specs.Three.{at};
 ghost use Rattle.lq_band.specs.Ring.{all_empty, is_emptying};
-ghost use Rattle.lq_table.specs.Views.{packet_of};
+ghost use Rattle.lq_table.specs.Views.{machine_packet};
 ghost use Rattle.lq_table.specs.Rule.{IsResting};
 ghost use Rattle.lq_table.specs.Rings.{finding_none};
 ghost use Rattle.lq_table.specs.Sees.{view, position, slot, ends_at, IsSeatOf, IsSameSeat, IsElseSame};
@@ -20,7 +20,7 @@ use lq_device::TxDevice;
 use lq_model::batch;
 use lq_table::{Cpu, Shared};
 
-fn head_of<D: TxDevice>(cpu: &Cpu<D>, band: u32) -> u32
+pub(crate) fn head_of<D: TxDevice>(cpu: &Cpu<D>, band: u32) -> u32
     requires band { band < 3 }
     requires station { (st : StationState) × (cpu.now.station ≡ Some st) }
     ensures { (st : StationState) → cpu.now.station ≡ Some st → result ≡ slice_index st.heads band }
@@ -31,7 +31,7 @@ fn head_of<D: TxDevice>(cpu: &Cpu<D>, band: u32) -> u32
     station.head(band)
 }
 
-fn tail_of<D: TxDevice>(cpu: &Cpu<D>, band: u32) -> u32
+pub(crate) fn tail_of<D: TxDevice>(cpu: &Cpu<D>, band: u32) -> u32
     requires band { band < 3 }
     requires station { (st : StationState) × (cpu.now.station ≡ Some st) }
     ensures { (st : StationState) → cpu.now.station ≡ Some st → result ≡ slice_index st.tails band }
@@ -42,7 +42,7 @@ fn tail_of<D: TxDevice>(cpu: &Cpu<D>, band: u32) -> u32
     station.tail(band)
 }
 
-fn set_ends<D: TxDevice>(cpu: &mut Cpu<D>, band: u32, head: u32, tail: u32)
+pub(crate) fn set_ends<D: TxDevice>(cpu: &mut Cpu<D>, band: u32, head: u32, tail: u32)
     requires band { (band < 3) × (tail ≤ head) }
     requires station { (st : StationState) × (cpu.old.station ≡ Some st) }
     ensures same { IsSameSeat cpu.old cpu.new × (cpu.new.indices ≡ cpu.old.indices) × (slot cpu.new ≡ slot cpu.old) × (view cpu.new ≡ view cpu.old) }
@@ -64,7 +64,7 @@ fn zero_tail<'a, D: TxDevice>(
 )
     requires seat { IsSeatOf shared.now cpu.old }
     requires band { band < 3 }
-    requires holder { (holds_lock (position cpu.old) ≡ true) × ((view cpu.old).holder.turn ≡ None) × ((view cpu.old).holder.size ≤ shared.now.max_len) }
+    requires holder { (holds_lock (position cpu.old) ≡ true) × ((view cpu.old).holder.resizing ≡ None) × ((view cpu.old).holder.size ≤ shared.now.max_len) }
     requires ends { (ends_at band cpu.old ≡ record { head = head; tail = tail; edge = head }) × (tail < head) × (head ≤ (view cpu.old).holder.size) × (is_emptying (view cpu.old).holder.size (ends_at band cpu.old) ≡ true) }
     ensures same { IsElseSame cpu.old cpu.new }
     ensures emptied { view cpu.new ≡ having_ends band (all_empty (view cpu.old).holder.size (ends_at band cpu.old)) (emptied_times (view cpu.old).holder.size (head - tail) (at band (view cpu.old).whole.state.ends)) (view cpu.old) }
@@ -74,12 +74,17 @@ fn zero_tail<'a, D: TxDevice>(
     }
 }
 
-/// What `__ptr_ring_discard_one` does behind a take: where a batch was taken, or the last slot, the taken slots are
+/// What `__ptr_ring_discard_one` does after a take: where a batch was taken, or the last slot, the taken slots are
 /// emptied, and the station has the new ends.
-fn discard_one<'a, D: TxDevice>(shared: &Shared<'a, D>, cpu: &mut Cpu<D>, band: u32, size: u32)
+pub(crate) fn discard_one<'a, D: TxDevice>(
+    shared: &Shared<'a, D>,
+    cpu: &mut Cpu<D>,
+    band: u32,
+    size: u32,
+)
     requires seat { IsSeatOf shared.now cpu.old }
     requires band { band < 3 }
-    requires holder { (holds_lock (position cpu.old) ≡ true) × ((view cpu.old).holder.turn ≡ None) × ((view cpu.old).holder.size ≡ size) × (size ≤ shared.now.max_len) }
+    requires holder { (holds_lock (position cpu.old) ≡ true) × ((view cpu.old).holder.resizing ≡ None) × ((view cpu.old).holder.size ≡ size) × (size ≤ shared.now.max_len) }
     requires station { (st : StationState) × (cpu.old.station ≡ Some st) × (slice_index st.heads band + 1 ≡ (ends_at band cpu.old).head) × (slice_index st.tails band ≡ (ends_at band cpu.old).tail) }
     requires ends { ((ends_at band cpu.old).edge ≡ (ends_at band cpu.old).head) × ((ends_at band cpu.old).tail < (ends_at band cpu.old).head) × ((ends_at band cpu.old).head ≤ size) }
     ensures same { IsSameSeat cpu.old cpu.new × (cpu.new.indices ≡ cpu.old.indices) × (slot cpu.new ≡ slot cpu.old) }
@@ -107,13 +112,13 @@ pub fn consume<'a, D: TxDevice>(shared: &Shared<'a, D>, cpu: &mut Cpu<D>, band: 
     requires seat { IsSeatOf shared.now cpu.old }
     requires band { band < 3 }
     requires at { (second : Bool) × (position cpu.old ≡ Scan band second) }
-    requires rests { IsResting (view cpu.old).holder.size (view cpu.old).holder.ends × ((view cpu.old).holder.turn ≡ None) }
+    requires rests { IsResting (view cpu.old).holder.size (view cpu.old).holder.ends × ((view cpu.old).holder.resizing ≡ None) }
     requires station { CarriesStation cpu.old }
     requires idle { (view cpu.old).locks ≡ no_locks }
     ensures same { IsSameSeat cpu.old cpu.new × (cpu.new.indices ≡ cpu.old.indices) × (slot cpu.new ≡ slot cpu.old) }
     ensures taken { MatchOption result (view cpu.new ≡ finding_none band (view cpu.old)) (λ n. view cpu.new ≡ consuming band n (view cpu.old)) }
     ensures packet { IfSome result (λ n. IsPacketOf (view cpu.old).share.about n) }
-    ensures at { MatchOption result ((second : Bool) → position cpu.old ≡ Scan band second → position cpu.new ≡ behind_band band second) (λ n. position cpu.new ≡ Gate (packet_of (view cpu.old).share.about.infos n) false) }
+    ensures at { MatchOption result ((second : Bool) → position cpu.old ≡ Scan band second → position cpu.new ≡ after_band band second) (λ n. position cpu.new ≡ Gate (machine_packet (view cpu.old).share.about.infos n) false) }
     ensures rests { IsResting (view cpu.new).holder.size (view cpu.new).holder.ends }
     ensures station { CarriesStation cpu.new }
     ensures known { (view cpu.old).whole.state.ends ≡ (view cpu.old).holder.ends → (view cpu.new).whole.state.ends ≡ (view cpu.new).holder.ends }

@@ -31,7 +31,7 @@ const PLAN: StationPlan = StationPlan {
 fn take<'a, D: TxDevice>(shared: &Shared<'a, D>, cpu: &mut Cpu<D>) -> Option<u32>
     requires seat { IsSeatOf shared.now cpu.old }
     requires at { position cpu.old ≡ Scan 0 false }
-    requires rests { IsResting (view cpu.old).holder.size (view cpu.old).holder.ends × ((view cpu.old).holder.turn ≡ None) }
+    requires rests { IsResting (view cpu.old).holder.size (view cpu.old).holder.ends × ((view cpu.old).holder.resizing ≡ None) }
     requires station { CarriesStation cpu.old }
     requires idle { (view cpu.old).locks ≡ no_locks }
 {
@@ -46,7 +46,7 @@ fn dequeue<'a, D: TxDevice>(shared: &Shared<'a, D>, cpu: &mut Cpu<D>) -> Option<
     requires seat { IsSeatOf shared.now cpu.old }
     requires queue { 0 < shared.now.queues }
     requires at { position cpu.old ≡ Deq }
-    requires rests { IsResting (view cpu.old).holder.size (view cpu.old).holder.ends × ((view cpu.old).holder.turn ≡ None) }
+    requires rests { IsResting (view cpu.old).holder.size (view cpu.old).holder.ends × ((view cpu.old).holder.resizing ≡ None) }
     requires station { CarriesStation cpu.old }
     requires idle { (view cpu.old).locks ≡ no_locks }
 {

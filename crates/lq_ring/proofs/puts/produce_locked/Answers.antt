@@ -1,7 +1,6 @@
 use Rattle.std.proofs.Common.{◌≡◌, ℕ, ◌+◌, ◌-◌, ◌<◌, sym, ap, ◌∙◌, subst, arith, Some}
 use Rattle.lq_band.specs.Three.{at}
 use Rattle.lq_band.specs.Ring.{Lock, index_given}
-use Rattle.lq_ring_core.specs.Ring.{next_place}
 use Rattle.lq_table.specs.Views.{View}
 use Rattle.lq_band.specs.Ring.{with_room}
 use Rattle.lq_table.specs.Rings.{with_lock_at, joining, dropping}
@@ -24,7 +23,7 @@ give_producer-requires-clause-seat g c _ _ =
     let v1 = view c.load_size-size.new.cpu in let e1 = c.load_size-size.ensures.size.0 in let m = c.producer_slot-found.result - 1 in
     let fresh : v1.packets.fresh ≡ Some c.args.n = ap (λ (x : View). x.packets.fresh) e1 ∙ c.requires.packet.0.0 in
     let e2 : view c.producer_slot-found.new.cpu ≡ dropping c.args.n m v1 = c.producer_slot-found.ensures.full c.args.n fresh c.if-found-ne0.true in
-    (c.producer_slot-found.ensures.same.0.0.0 ∙ (c.load_size-size.ensures.same.0.0 ∙ c.requires.seat.0), subst (λ (x : ℕ). 0 < x) (sym (ap (λ (x : View). x.share.shares) e2 ∙ ap (λ (x : View). x.share.shares) e1)) c.requires.seat.1)
+    (c.producer_slot-found.ensures.same.0.0.0 ∙ (c.load_size-size.ensures.same.0.0 ∙ c.requires.seat.0), subst (λ (x : ℕ). 0 < x) (sym (ap (λ (x : View). x.share.shares) e2 ∙ ap (λ (x : View). x.share.shares) e1)) c.requires.seat.1, ap (λ (x : View). x.share.about) e2 ∙ (ap (λ (x : View). x.share.about) e1 ∙ c.requires.seat.2))
 
 pub give_producer-requires-clause-lock : goal.give_producer-requires-clause-lock
 give_producer-requires-clause-lock g c _ _ =
@@ -32,7 +31,7 @@ give_producer-requires-clause-lock g c _ _ =
     let fresh : v1.packets.fresh ≡ Some c.args.n = ap (λ (x : View). x.packets.fresh) e1 ∙ c.requires.packet.0.0 in
     let e2 : view c.producer_slot-found.new.cpu ≡ dropping c.args.n m v1 = c.producer_slot-found.ensures.full c.args.n fresh c.if-found-ne0.true in (
       ap (λ (x : View). (at b x.locks).holds) e2 ∙ ap (λ (x : Lock). x.holds) (lock1 b c.load_size-size.result c.args.index c.args.n v v1 c.requires.locked.0 e1),
-      ap (λ (x : View). x.holder.turn) (e2 ∙ ap (λ (x : View). dropping c.args.n m x) e1) ∙ c.requires.locked.3,
+      ap (λ (x : View). x.holder.resizing) (e2 ∙ ap (λ (x : View). dropping c.args.n m x) e1) ∙ c.requires.locked.3,
     )
 
 pub give_producer-requires-clause-index : goal.give_producer-requires-clause-index
@@ -55,7 +54,7 @@ store_slot-requires-clause-lock g c _ _ =
     let e = lock2 b c.load_size-size.result c.args.index c.args.n (view c.args.cpu.now) v1 locked.0 c.load_size-size.ensures.size.0 v2 (c.producer_slot-found.ensures.room c.if-found-ne0.false) in
     let is : (at b v2.locks).index ≡ c.args.index = ap (λ (x : Lock). x.index) e in
     let small = locked.2 in (
-      (ap (λ (x : Lock). x.holds) e, is ∙ sym (ap (at b) c.producer_slot-found.ensures.same.0.2 ∙ (ap (at b) c.load_size-size.ensures.same.2 ∙ locked.1)), omega arith, ap (λ (x : View). x.holder.turn) (c.producer_slot-found.ensures.room c.if-found-ne0.false ∙ ap (with_lock_at b (with_room (at b v1.locks))) c.load_size-size.ensures.size.0) ∙ locked.3),
+      (ap (λ (x : Lock). x.holds) e, is ∙ sym (ap (at b) c.producer_slot-found.ensures.same.0.2 ∙ (ap (at b) c.load_size-size.ensures.same.2 ∙ locked.1)), omega arith, ap (λ (x : View). x.holder.resizing) (c.producer_slot-found.ensures.room c.if-found-ne0.false ∙ ap (with_lock_at b (with_room (at b v1.locks))) c.load_size-size.ensures.size.0) ∙ locked.3),
       ap (λ (x : Lock). x.stored) e,
       ap (λ (x : Lock). x.room) e,
     )
@@ -64,7 +63,7 @@ pub give_producer-requires-2-clause-lock : goal.give_producer-requires-2-clause-
 give_producer-requires-2-clause-lock g c _ _ =
     let b = c.args.band in let locked = c.requires.locked in let v1 = view c.load_size-size.new.cpu in let v2 = view c.producer_slot-found.new.cpu in (
       ap (λ (x : Lock). x.holds) (lock3 b c.load_size-size.result c.args.index c.args.n (view c.args.cpu.now) v1 locked.0 c.load_size-size.ensures.size.0 v2 (c.producer_slot-found.ensures.room c.if-found-ne0.false) (view c.store_slot.new.cpu) c.store_slot.ensures.joined),
-      ap (λ (x : View). x.holder.turn) (c.store_slot.ensures.joined ∙ ap (joining b c.args.n) (c.producer_slot-found.ensures.room c.if-found-ne0.false ∙ ap (with_lock_at b (with_room (at b v1.locks))) c.load_size-size.ensures.size.0)) ∙ locked.3,
+      ap (λ (x : View). x.holder.resizing) (c.store_slot.ensures.joined ∙ ap (joining b c.args.n) (c.producer_slot-found.ensures.room c.if-found-ne0.false ∙ ap (with_lock_at b (with_room (at b v1.locks))) c.load_size-size.ensures.size.0)) ∙ locked.3,
     )
 
 pub give_producer-requires-2-clause-index : goal.give_producer-requires-2-clause-index

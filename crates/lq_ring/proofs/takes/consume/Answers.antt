@@ -1,16 +1,14 @@
 use Rattle.std.proofs.Common.{◌≡◌, ℕ, ◌+◌, ◌-◌, ◌<◌, ◌≤◌, refl, sym, ap, ◌∙◌, subst, arith}
-use Rattle.lq_model.specs.Kept.{holds_lock}
-use Rattle.lq_model.specs.declared.machine.Position.{Position}
+use Rattle.lq_model.specs.Positions.{holds_lock}
 use Rattle.lq_band.specs.Three.{at}
 use Rattle.lq_band.specs.Ring.{Ends, taken_on}
 use Rattle.lq_band.proofs.Three.{at_put_same}
 use Rattle.lq_table.specs.Views.{View}
 use Rattle.lq_table.specs.Rule.{shown}
 use Rattle.lq_table.specs.Rings.{finding_none, taking}
-use Rattle.lq_table.specs.Sees.{view, position}
+use Rattle.lq_table.specs.Sees.{view}
 use Rattle.lq_table.specs.Told.{IsPacketOf}
 use Rattle.lq_table.specs.Solo.{solo}
-use Rattle.lq_ring.specs.Take.{consuming}
 use Rattle.lq_ring.proofs.TakeSteps.{sized_none, none_leads, none_heard, take_leads, take_heard, heads_at, tails_at, rest_at, consumes, rests_after, station_after, known_after}
 use Rattle.lq_ring.proofs.takes.consume.Goals as goal
 
@@ -32,7 +30,7 @@ discard_one-requires-clause-holder g c _ _ =
     let loaded = c.load_size-size.ensures.size.0 ∙ sized_none c.load_size-size.result v c.requires.idle in
     let took = c.head_slot-found.ensures.taken c.if-found-eq0.false ∙ ap (λ (x : View). taking b n x) loaded in (
       ap (λ (x : View). holds_lock x.place.position) took ∙ ap holds_lock (take_leads b at_.0 v at_.1 n c.requires.band),
-      ap (λ (x : View). x.holder.turn) took ∙ c.requires.rests.1,
+      ap (λ (x : View). x.holder.resizing) took ∙ c.requires.rests.1,
       ap (λ (x : View). x.holder.size) took ∙ sym (c.load_size-size.ensures.holder (ap holds_lock at_.1)),
       c.load_size-size.ensures.size.2,
     )

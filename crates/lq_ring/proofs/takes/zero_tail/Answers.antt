@@ -20,7 +20,7 @@ loop-n-preserved g c =
     c.zero_slot.ensures.emptied ∙ (ap (emptying b) old.view_is ∙ (emptying_having b (emptied_down size own n) (emptied_times size n known) v
     ∙ (λ j. having_ends b (down_more size own n (omega arith) j) (emptied_times size (sym one j) known) v))) in
     record {
-      seat = (same.0.0 ∙ old.seat.0, subst (λ (x : ℕ). 0 < x) (sym (ap (λ (x : View). x.share.shares) is)) c.requires.seat.1);
+      seat = (same.0.0 ∙ old.seat.0, subst (λ (x : ℕ). 0 < x) (sym (ap (λ (x : View). x.share.shares) is)) c.requires.seat.1, ap (λ (x : View). x.share.about) is ∙ c.requires.seat.2);
       same = ((same.0.0 ∙ old.same.0.0, same.0.1 ∙ old.same.0.1), same.1 ∙ old.same.1, same.2 ∙ old.same.2, same.3 ∙ old.same.3);
       view_is = is;
     }

@@ -1,0 +1,89 @@
+-- What control does to one band in a resize.
+use Rattle.std.specs.Prelude.{◌≡◌, ◌⊎◌, ℕ, zero, suc, ◌+◌, ◌-◌, ◌/◌, ◌==◌, if◌then◌else◌, true, List, [], ◌∷◌, ◌++◌, take, drop, slice_index, slice_set, option_map, Some}
+use Rattle.std.specs.Option.{unwrap_or}
+use Rattle.lq_band.specs.Three.{at}
+use Rattle.lq_band.specs.HalfResized.{IsBeforeResize, IsRefilled}
+use Rattle.lq_model.specs.Positions.{holds_lock}
+use Rattle.lq_model.specs.declared.fate.Fate.{Fate}
+use Rattle.lq_model.specs.declared.fate.Fate.TheVariants as fate
+use Rattle.lq_ring.specs.Fates.{fates_onto}
+use Rattle.lq_table.specs.Views.{View, HalfResize, Work, no_resizing}
+use Rattle.lq_table.specs.Resizes.{is_word, with_work, settled_work, with_resizing}
+
+-- the band's part of the resize that the seat has half done
+abbrev pub work_at : ℕ → View → Work
+work_at b v = at b (unwrap_or v.holder.resizing no_resizing).works
+
+abbrev pub working : ℕ → Work → View → View
+working b w v = with_resizing (option_map (with_work b w) v.holder.resizing) v
+
+abbrev pub IsTurner : View → Type 0
+IsTurner v = (holds_lock v.place.position ≡ true) × ((t : HalfResize) × (v.holder.resizing ≡ Some t) × (v.whole.state.resizing ≡ Some t))
+
+-- each slot is empty or has one of these packets
+abbrev pub AreMembers : List ℕ → List ℕ → Type 0
+AreMembers members slots = (x : ℕ) → (slice_index slots x ≡ 0) ⊎ (is_word (slice_index slots x) members ≡ true)
+
+abbrev pub members_of : Work → List ℕ
+members_of w = w.kept ++ w.waiting
+
+-- a word is put back from the hand into a slot, unless it is 0
+abbrev pub back_in : ℕ → ℕ → Work → Work
+back_in i x w = if x == 0 then w else record w { slots = slice_set w.slots i x; hand = drop 1 w.hand }
+
+abbrev pub with_slots : List ℕ → Work → Work
+with_slots s w = record w { slots = s }
+
+abbrev pub exchanged : ℕ → ℕ → List ℕ → List ℕ
+exchanged i j s = slice_set (slice_set s i (slice_index s j)) j (slice_index s i)
+
+-- after so many exchanges of the reversal from a up to b
+abbrev pub reversed_to : ℕ → ℕ → ℕ → List ℕ → List ℕ
+reversed_to a b zero s = s
+reversed_to a b (suc k) s = exchanged (a + k) (b - 1 - k) (reversed_to a b k s)
+
+-- after the reversals of the slots up to the head, of those from it on, and of all of them
+abbrev pub rotated : ℕ → ℕ → List ℕ → List ℕ
+rotated head size s = reversed_to 0 size ((size - 0) / 2) (reversed_to head size ((size - head) / 2) (reversed_to 0 head ((head - 0) / 2) s))
+
+-- after so many slots from a place on were emptied
+abbrev pub zeroed_to : ℕ → ℕ → List ℕ → List ℕ
+zeroed_to from zero s = s
+zeroed_to from (suc k) s = slice_set (zeroed_to from k s) (from + k) 0
+
+-- a word is settled, unless it is 0
+abbrev pub settled_if : ℕ → Work → Work
+settled_if x w = if x == 0 then w else settled_work w
+
+-- so many of the dropped packets, which stand from a place on, were settled
+abbrev pub dropped_to : ℕ → ℕ → Work → Work
+dropped_to from n w = record w { slots = zeroed_to from n w.slots; waiting = drop n w.waiting }
+
+-- the seat has stored these fates
+abbrev pub having_settled : List (ℕ × Fate) → View → View
+having_settled fates v = record v { settled = fates }
+
+-- the fates of the first n packets that a resize of the event dropped
+abbrev pub shrunk_to : ℕ → ℕ → List ℕ → List (ℕ × Fate) → List (ℕ × Fate)
+shrunk_to event n ns fates = fates_onto (fate.Shrunk event) (take n ns) fates
+
+-- the fate of the packet of a word, unless it is 0
+abbrev pub shrunk_if : ℕ → ℕ → List (ℕ × Fate) → List (ℕ × Fate)
+shrunk_if x event fates = if x == 0 then fates else (x - 1, fate.Shrunk event) ∷ fates
+
+abbrev pub event_at : View → ℕ
+event_at v = (unwrap_or v.holder.resizing no_resizing).event
+
+-- the band at the beginning: what it held is kept up to the new length and dropped from there on
+pub record IsWhole (limit size tail head len : ℕ) (held : List ℕ) (w : Work) : Type 0 where
+  pub kept_is : w.kept ≡ take len held
+  pub waiting_is : w.waiting ≡ drop len held
+  pub bare : w.hand ≡ []
+  pub unturned : IsBeforeResize size limit w.slots held (record { head = head; tail = tail; edge = head })
+
+-- the work on the band is done
+pub record IsDone (limit len : ℕ) (before after : Work) : Type 0 where
+  pub kept_is : after.kept ≡ before.kept
+  pub waiting_is : after.waiting ≡ []
+  pub bare : after.hand ≡ []
+  pub refilled : IsRefilled after.slots before.kept len

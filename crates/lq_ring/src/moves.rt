@@ -1,0 +1,180 @@
+//! The exchanges of a resize on one band, which keep what stands in its slots and change only the order.
+ghost use Rattle.std.specs.Prelude.{◌≡◌, ◌≢◌, ℕ, ◌+◌, ◌*◌, ◌-◌, ◌/◌, ◌<◌, ◌≤◌, ◌∷◌, [], true, false, List, drop, length, slice_index, Contains, ◌==◌, if◌then◌else◌};
+ghost use Rattle.lq_model.specs.Plan.{band_in};
+ghost use Rattle.lq_band.specs.Ring.{word_at};
+ghost use Rattle.lq_table.specs.Sees.{view, IsSeatOf, IsElseSame};
+ghost use Rattle.lq_table.specs.Resizes.{is_member, out_of};
+ghost use Rattle.lq_table.specs.Settled.{MayShrink};
+ghost use Rattle.lq_ring.specs.Work.{work_at, working, having_settled, IsTurner, AreMembers, members_of, back_in, with_slots, exchanged, reversed_to, rotated, zeroed_to, settled_if, shrunk_if, dropped_to, shrunk_to, event_at};
+
+use lq_device::TxDevice;
+use lq_model::Fate;
+use lq_table::{Cpu, Shared};
+
+/// Empties a slot.
+fn take_out<'a, D: TxDevice>(shared: &Shared<'a, D>, cpu: &mut Cpu<D>, band: u32, i: u32) -> u64
+    requires seat { IsSeatOf shared.now cpu.old }
+    requires place { (band < 3) × (i < shared.now.max_len) }
+    requires turner { IsTurner (view cpu.old) }
+    ensures same { IsElseSame cpu.old cpu.new }
+    ensures found { (result ≡ slice_index (work_at band (view cpu.old)).slots i) × (is_member result (work_at band (view cpu.old)) ≡ true → result ≤ 1000000) }
+    ensures taken { view cpu.new ≡ working band (out_of i (work_at band (view cpu.old))) (view cpu.old) }
+{
+    shared.clear_slot(cpu, band, i)
+}
+
+/// Puts a word that came into the hand last into an empty slot, unless it is 0.
+fn put_back<'a, D: TxDevice>(shared: &Shared<'a, D>, cpu: &mut Cpu<D>, band: u32, i: u32, x: u64)
+    requires seat { IsSeatOf shared.now cpu.old }
+    requires place { (band < 3) × (i < shared.now.max_len) }
+    requires turner { IsTurner (view cpu.old) }
+    requires hand { x ≢ 0 → (hand : List ℕ) × ((work_at band (view cpu.old)).hand ≡ (x - 1) ∷ hand) × (slice_index (work_at band (view cpu.old)).slots i ≡ 0) × (x ≤ 1000000) }
+    ensures same { IsElseSame cpu.old cpu.new }
+    ensures put { view cpu.new ≡ working band (back_in i x (work_at band (view cpu.old))) (view cpu.old) }
+{
+    if x != 0 {
+        shared.fill_slot(cpu, band, i, (x - 1) as u32);
+    }
+}
+
+/// Two slots get what the other had.
+fn exchange<'a, D: TxDevice>(shared: &Shared<'a, D>, cpu: &mut Cpu<D>, band: u32, i: u32, j: u32)
+    requires seat { IsSeatOf shared.now cpu.old }
+    requires place { (band < 3) × (i < j) × (j < shared.now.max_len) }
+    requires turner { IsTurner (view cpu.old) }
+    requires slots { (length (work_at band (view cpu.old)).slots ≡ shared.now.max_len) × AreMembers (members_of (work_at band (view cpu.old))) (work_at band (view cpu.old)).slots }
+    ensures same { IsElseSame cpu.old cpu.new }
+    ensures exchanged { view cpu.new ≡ working band (with_slots (exchanged i j (work_at band (view cpu.old)).slots) (work_at band (view cpu.old))) (view cpu.old) }
+{
+    let x = take_out(shared, cpu, band, i);
+    let y = take_out(shared, cpu, band, j);
+    put_back(shared, cpu, band, i, y);
+    put_back(shared, cpu, band, j, x);
+}
+
+/// The slots from a up to b get what they had the other way round.
+fn reverse<'a, D: TxDevice>(shared: &Shared<'a, D>, cpu: &mut Cpu<D>, band: u32, a: u32, b: u32)
+    requires seat { IsSeatOf shared.now cpu.old }
+    requires place { (band < 3) × (a ≤ b) × (b ≤ shared.now.max_len) }
+    requires turner { IsTurner (view cpu.old) }
+    requires slots { (length (work_at band (view cpu.old)).slots ≡ shared.now.max_len) × AreMembers (members_of (work_at band (view cpu.old))) (work_at band (view cpu.old)).slots }
+    ensures same { IsElseSame cpu.old cpu.new }
+    ensures reversed { view cpu.new ≡ working band (with_slots (reversed_to a b ((b - a) / 2) (work_at band (view cpu.old)).slots) (work_at band (view cpu.old))) (view cpu.old) }
+{
+    for k in 0..(b - a) / 2 {
+        exchange(shared, cpu, band, a + k, b - 1 - k);
+    }
+}
+
+/// The slot at the head becomes slot 0.
+pub(crate) fn rotate<'a, D: TxDevice>(
+    shared: &Shared<'a, D>,
+    cpu: &mut Cpu<D>,
+    band: u32,
+    head: u32,
+    size: u32,
+)
+    requires seat { IsSeatOf shared.now cpu.old }
+    requires place { (band < 3) × (head ≤ size) × (size ≤ shared.now.max_len) }
+    requires turner { IsTurner (view cpu.old) }
+    requires slots { (length (work_at band (view cpu.old)).slots ≡ shared.now.max_len) × AreMembers (members_of (work_at band (view cpu.old))) (work_at band (view cpu.old)).slots }
+    ensures same { IsElseSame cpu.old cpu.new }
+    ensures rotated { view cpu.new ≡ working band (with_slots (rotated head size (work_at band (view cpu.old)).slots) (work_at band (view cpu.old))) (view cpu.old) }
+{
+    reverse(shared, cpu, band, 0, head);
+    reverse(shared, cpu, band, head, size);
+    reverse(shared, cpu, band, 0, size);
+}
+
+/// Empties the slots of packets that were taken.
+pub(crate) fn clear_stale<'a, D: TxDevice>(
+    shared: &Shared<'a, D>,
+    cpu: &mut Cpu<D>,
+    band: u32,
+    tail: u32,
+    head: u32,
+)
+    requires seat { IsSeatOf shared.now cpu.old }
+    requires place { (band < 3) × (tail ≤ head) × (head ≤ shared.now.max_len) }
+    requires turner { IsTurner (view cpu.old) }
+    requires stale { (j : ℕ) → tail ≤ j → j < head → is_member (slice_index (work_at band (view cpu.old)).slots j) (work_at band (view cpu.old)) ≡ false }
+    ensures same { IsElseSame cpu.old cpu.new }
+    ensures cleared { view cpu.new ≡ working band (with_slots (zeroed_to tail (head - tail) (work_at band (view cpu.old)).slots) (work_at band (view cpu.old))) (view cpu.old) }
+{
+    for n in 0..head - tail {
+        take_out(shared, cpu, band, tail + n);
+    }
+}
+
+/// Stores the fate of the dropped packet whose word this is, unless it is 0. It answers how many fates it stored.
+fn settle_word<'a, D: TxDevice>(
+    shared: &Shared<'a, D>,
+    cpu: &mut Cpu<D>,
+    band: u32,
+    x: u64,
+    event: u32,
+) -> u32
+    requires seat { IsSeatOf shared.now cpu.old }
+    requires turner { IsTurner (view cpu.old) }
+    requires word { x ≢ 0 → MayShrink band (x - 1) event (view cpu.old) × (band < 3) × (band_in shared.now.infos.now (x - 1) ≡ band) × (x - 1 < length shared.now.infos.now) × (x ≤ 1000000) }
+    ensures same { IsElseSame cpu.old cpu.new }
+    ensures settled { view cpu.new ≡ having_settled (shrunk_if x event (view cpu.old).settled) (working band (settled_if x (work_at band (view cpu.old))) (view cpu.old)) }
+    ensures count { result ≡ (if x == 0 then 0 else 1) }
+{
+    if x == 0 {
+        return 0;
+    }
+    shared.settle(cpu, (x - 1) as u32, Fate::Shrunk { event });
+    1
+}
+
+/// How many of the first slots have a packet, up to the first that is empty.
+pub(crate) fn count_filled<'a, D: TxDevice>(
+    shared: &Shared<'a, D>,
+    cpu: &mut Cpu<D>,
+    band: u32,
+    limit: u32,
+) -> u32
+    requires seat { IsSeatOf shared.now cpu.old }
+    requires place { (band < 3) × (limit ≤ shared.now.max_len) }
+    requires turner { IsTurner (view cpu.old) }
+    requires slots { (length (work_at band (view cpu.old)).slots ≡ shared.now.max_len) × AreMembers (members_of (work_at band (view cpu.old))) (work_at band (view cpu.old)).slots }
+    ensures same { IsElseSame cpu.old cpu.new × (view cpu.new ≡ view cpu.old) }
+    ensures filled { (result ≤ limit) × ((j : ℕ) → j < result → slice_index (work_at band (view cpu.old)).slots j ≢ 0) × (result < limit → slice_index (work_at band (view cpu.old)).slots result ≡ 0) }
+{
+    for i in 0..limit {
+        let x = take_out(shared, cpu, band, i);
+        put_back(shared, cpu, band, i, x);
+        if x == 0 {
+            return i;
+        }
+    }
+    limit
+}
+
+/// Empties the slots that have the dropped packets in order, and stores their fates. It answers their number.
+pub(crate) fn drop_rest<'a, D: TxDevice>(
+    shared: &Shared<'a, D>,
+    cpu: &mut Cpu<D>,
+    band: u32,
+    from: u32,
+    to: u32,
+    event: u32,
+) -> u32
+    requires seat { IsSeatOf shared.now cpu.old }
+    requires place { (band < 3) × (from ≤ to) × (to ≤ shared.now.max_len) }
+    requires turner { IsTurner (view cpu.old) × (event_at (view cpu.old) ≡ event) }
+    requires rest { let w = work_at band (view cpu.old) in (w.hand ≡ []) × ((n : ℕ) → n < to - from → slice_index w.slots (from + n) ≡ word_at w.waiting n) }
+    requires packets { (n : ℕ) → Contains (work_at band (view cpu.old)).waiting n → (band_in shared.now.infos.now n ≡ band) × (n < length shared.now.infos.now) }
+    ensures same { IsElseSame cpu.old cpu.new }
+    ensures dropped { view cpu.new ≡ having_settled (shrunk_to event (to - from) (work_at band (view cpu.old)).waiting (view cpu.old).settled) (working band (dropped_to from (to - from) (work_at band (view cpu.old))) (view cpu.old)) }
+    ensures few { result ≤ to - from }
+    ensures count { result + length (drop (to - from) (work_at band (view cpu.old)).waiting) ≡ length (work_at band (view cpu.old)).waiting }
+{
+    let mut count = 0;
+    for n in 0..to - from {
+        let x = take_out(shared, cpu, band, from + n);
+        count += settle_word(shared, cpu, band, x, event);
+    }
+    count
+}

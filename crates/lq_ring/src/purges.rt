@@ -1,0 +1,84 @@
+//! The takes of a purge: `pfifo_fast_reset` of net/sched/sch_generic.c empties each ring by `__skb_array_consume`, with
+//! the zeroing that this does.
+ghost use Rattle.std.specs.Prelude.{◌≡◌, ◌≢◌, ℕ, ◌+◌, ◌-◌, ◌<◌, ◌≤◌, true, false, [], Some, None, List, length, Contains};
+ghost use Rattle.std.specs.List.{slice_get};
+ghost use Rattle.lq_model.specs.Band.{held_of};
+ghost use Rattle.lq_model.specs.Machine.{Purge};
+ghost use Rattle.lq_model.specs.Words.{HasWord};
+ghost use Rattle.lq_model.specs.declared.fate.Fate.TheVariants as fate;
+ghost use Rattle.lq_model.specs.declared.machine.Position.TheVariants.{Control};
+ghost use Rattle.lq_band.specs.Three.{at};
+ghost use Rattle.lq_table.specs.Views.{Left};
+ghost use Rattle.lq_table.specs.Purges.{passing_band};
+ghost use Rattle.lq_table.specs.Rule.{IsResting};
+ghost use Rattle.lq_table.specs.Sees.{view, position, slot, IsSeatOf, IsSameSeat};
+ghost use Rattle.lq_ring.specs.Put.{no_locks};
+ghost use Rattle.lq_ring.specs.Take.{CarriesStation};
+ghost use Rattle.lq_ring.specs.Purged.{purging_one, IsBandPurged};
+
+use crate::takes::discard_one;
+use lq_device::TxDevice;
+use lq_model::{Cause, Fate};
+use lq_table::{Cpu, Shared};
+
+/// Takes the first packet of the band that a purge has come to, and stores its fate. Where the band is empty it answers
+/// false, and the purge goes on with the next band.
+fn purge_one<'a, D: TxDevice>(
+    shared: &Shared<'a, D>,
+    cpu: &mut Cpu<D>,
+    band: u32,
+    size: u32,
+    cause: Cause,
+) -> bool
+    requires seat { IsSeatOf shared.now cpu.old }
+    requires band { band < 3 }
+    requires at { (u : Purge) × (l : Left) × (position cpu.old ≡ Control true) × ((view cpu.old).control.purge ≡ Some u) × (u.band ≡ band) × ((view cpu.old).holder.left ≡ Some l) × (l.cause ≡ cause)
+        × ((n : ℕ) → Contains (held_of (at band l.bands)) n → n < length shared.now.infos.now) }
+    requires word { HasWord (fate.Purged cause) }
+    requires packets { ((view cpu.old).packets.owed ≡ None) × ((view cpu.old).packets.fresh ≡ None) }
+    requires rests { IsResting (view cpu.old).holder.size (view cpu.old).holder.ends × ((view cpu.old).holder.resizing ≡ None) × ((view cpu.old).holder.size ≡ size) × (size ≤ shared.now.max_len) }
+    requires station { CarriesStation cpu.old }
+    ensures same { IsSameSeat cpu.old cpu.new × (slot cpu.new ≡ slot cpu.old) }
+    ensures none { result ≡ false → (u : Purge) (l : Left) → (view cpu.old).control.purge ≡ Some u → (view cpu.old).holder.left ≡ Some l → (held_of (at band l.bands) ≡ []) × (view cpu.new ≡ passing_band u (view cpu.old)) }
+    ensures taken { result ≡ true → (l : Left) → (view cpu.old).holder.left ≡ Some l → (n : ℕ) × (slice_get (held_of (at band l.bands)) 0 ≡ Some n) × (view cpu.new ≡ purging_one band n l (view cpu.old)) }
+    ensures station { CarriesStation cpu.new }
+{
+    let found = shared.purge_slot(cpu, band);
+    if found == 0 {
+        return false;
+    }
+    shared.settle(cpu, (found - 1) as u32, Fate::Purged { cause });
+    discard_one(shared, cpu, band, size);
+    true
+}
+
+/// Takes all packets of the band that a purge has come to, in order, and stores their fates. It answers their number, and
+/// the purge goes on with the next band.
+pub fn purge_band<'a, D: TxDevice>(
+    shared: &Shared<'a, D>,
+    cpu: &mut Cpu<D>,
+    band: u32,
+    cause: Cause,
+) -> u32
+    requires seat { IsSeatOf shared.now cpu.old }
+    requires band { band < 3 }
+    requires at { (u : Purge) × (l : Left) × (position cpu.old ≡ Control true) × ((view cpu.old).control.purge ≡ Some u) × (u.band ≡ band) × ((view cpu.old).holder.left ≡ Some l) × (l.cause ≡ cause)
+        × ((n : ℕ) → Contains (held_of (at band l.bands)) n → n < length shared.now.infos.now) × (length (held_of (at band l.bands)) ≤ (view cpu.old).holder.size) }
+    requires word { HasWord (fate.Purged cause) }
+    requires packets { ((view cpu.old).packets.owed ≡ None) × ((view cpu.old).packets.fresh ≡ None) }
+    requires rests { IsResting (view cpu.old).holder.size (view cpu.old).holder.ends × ((view cpu.old).holder.resizing ≡ None) }
+    requires station { CarriesStation cpu.old }
+    requires idle { (view cpu.old).locks ≡ no_locks }
+    ensures same { IsSameSeat cpu.old cpu.new × (slot cpu.new ≡ slot cpu.old) }
+    ensures few { result ≤ shared.now.max_len }
+    ensures purged { (u : Purge) (l : Left) → (view cpu.old).control.purge ≡ Some u → (view cpu.old).holder.left ≡ Some l → IsBandPurged band u l (view cpu.old) (view cpu.new) × (result ≡ length (held_of (at band l.bands))) }
+    ensures station { CarriesStation cpu.new }
+{
+    let size = shared.load_size(cpu) as u32;
+    for n in 0..size + 1 {
+        if !purge_one(shared, cpu, band, size, cause) {
+            return n;
+        }
+    }
+    unreachable!()
+}

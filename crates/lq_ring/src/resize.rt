@@ -1,0 +1,172 @@
+//! A live resize of the three rings, which control does under the run lock and the three producer locks.
+ghost use Rattle.std.specs.Prelude.{◌≡◌, ◌≢◌, ℕ, ◌+◌, ◌*◌, ◌-◌, ◌<◌, ◌≤◌, true, false, Some, None, List, length, slice_index, Contains};
+ghost use Rattle.lq_device.specs.Station.{StationState};
+ghost use Rattle.lq_model.specs.Plan.{band_in};
+ghost use Rattle.lq_model.specs.declared.fate.Fate.TheVariants as fate;
+ghost use Rattle.lq_model.specs.declared.machine.Position.TheVariants.{Control};
+ghost use Rattle.lq_ring_core.specs.Slots.{round};
+ghost use Rattle.lq_band.specs.Three.{all_three};
+ghost use Rattle.lq_band.specs.Ring.{at_start, locked_at};
+ghost use Rattle.lq_table.specs.Views.{HolderPart, Work};
+ghost use Rattle.lq_table.specs.Rings.{with_lock_at};
+ghost use Rattle.lq_table.specs.Rule.{shown, IsResting};
+ghost use Rattle.lq_table.specs.Sees.{view, position, slot, lock_at, IsSeatOf, IsSameSeat, IsElseSame};
+ghost use Rattle.lq_ring.specs.Put.{no_locks};
+ghost use Rattle.lq_ring.specs.Take.{CarriesStation};
+ghost use Rattle.lq_ring.specs.Fates.{fates_onto};
+ghost use Rattle.lq_ring.specs.Work.{work_at, working, having_settled, IsDone};
+ghost use Rattle.lq_table.specs.Resizes.{may_resize};
+ghost use Rattle.lq_ring.specs.Resized.{IsReady, IsKnownHeld, having_resized, locked_three, having_locks, all_lost};
+
+use crate::puts::lock_producer;
+use crate::takes::{head_of, set_ends, tail_of};
+use crate::turns::turn_band;
+use lq_device::TxDevice;
+use lq_table::{Cpu, Shared};
+use std::sync::Wait;
+
+/// The producer's index in a band after a resize, and how many packets the band dropped.
+#[derive(Clone, Copy, Drop)]
+struct Turned {
+    index: u32,
+    dropped: u32,
+}
+
+#[derive(Clone, Copy, Drop)]
+struct AllTurned {
+    low: Turned,
+    mid: Turned,
+    high: Turned,
+}
+
+/// The producer's index after so many packets from slot 0 on.
+fn index_after(kept: u32, len: u32) -> u32
+    requires { kept ≤ len }
+    ensures { result ≡ round len kept }
+{
+    if kept == len { 0 } else { kept }
+}
+
+/// Turns one band, whose ends the station has, and sets its producer.
+fn turn_at<'a, D: TxDevice>(
+    shared: &Shared<'a, D>,
+    cpu: &mut Cpu<D>,
+    band: u32,
+    size: u32,
+    len: u32,
+    event: u32,
+) -> Turned
+    requires seat { IsSeatOf shared.now cpu.old }
+    requires place { (band < 3) × (len ≤ shared.now.max_len) }
+    requires ready { (st : StationState) × (cpu.old.station ≡ Some st) × IsReady shared.now.max_len shared.now.infos.now st size len event band (view cpu.old) }
+    ensures same { IsElseSame cpu.old cpu.new }
+    ensures turned { (w : Work) × (view cpu.new ≡ with_lock_at band (locked_at result.index) (having_settled (fates_onto (fate.Shrunk event) (work_at band (view cpu.old)).waiting (view cpu.old).settled) (working band w (view cpu.old)))) × IsDone shared.now.max_len len (work_at band (view cpu.old)) w × (result.index ≡ round len (length w.kept)) }
+    ensures count { (result.dropped ≡ length (work_at band (view cpu.old)).waiting) × (result.dropped ≤ size) }
+{
+    let tail = tail_of(cpu, band);
+    let head = head_of(cpu, band);
+    let done = turn_band(shared, cpu, band, tail, head, size, len, event);
+    let index = index_after(done.kept, len);
+    shared.set_producer(cpu, band, index);
+    Turned {
+        index,
+        dropped: done.dropped,
+    }
+}
+
+/// Turns the three bands of a station whose run lock and producer locks the seat has.
+fn turn_all<'a, D: TxDevice>(
+    shared: &Shared<'a, D>,
+    cpu: &mut Cpu<D>,
+    size: u32,
+    len: u32,
+    event: u32,
+) -> AllTurned
+    requires seat { IsSeatOf shared.now cpu.old }
+    requires len { (0 < len) × (len ≤ shared.now.max_len) }
+    requires at { (position cpu.old ≡ Control true) × ((view cpu.old).control.purge ≡ None) × (may_resize (view cpu.old).control.phase ≡ true) }
+    requires rests { ((view cpu.old).holder.resizing ≡ None) × IsResting (view cpu.old).holder.size (view cpu.old).holder.ends × ((view cpu.old).holder.size ≡ size) }
+    requires station { CarriesStation cpu.old }
+    requires locks { (b : ℕ) → b < 3 → ((lock_at b cpu.old).holds ≡ true) × ((lock_at b cpu.old).stored ≡ false) }
+    ensures same { IsElseSame cpu.old cpu.new }
+    ensures resized { (held : ℕ → List ℕ) × (view cpu.new ≡ having_locks result.low.index result.mid.index result.high.index (having_resized len event (all_lost len held) (view cpu.old)))
+        × (result.low.dropped + result.mid.dropped + result.high.dropped ≡ length (all_lost len held))
+        × ((b n : ℕ) → b < 3 → Contains (held b) n → (band_in shared.now.infos.now n ≡ b) × (n < length shared.now.infos.now)) × IsKnownHeld (view cpu.old) held }
+    ensures few { (result.low.dropped ≤ size) × (result.mid.dropped ≤ size) × (result.high.dropped ≤ size) }
+{
+    shared.begin_resize(cpu, len, event);
+    let low = turn_at(shared, cpu, 0, size, len, event);
+    let mid = turn_at(shared, cpu, 1, size, len, event);
+    let high = turn_at(shared, cpu, 2, size, len, event);
+    shared.store_size(cpu, len);
+    AllTurned { low, mid, high }
+}
+
+/// Waits for the producer locks of bands 0, 1 and 2 in this order.
+fn lock_all<'a, D: TxDevice, R: Wait>(rt: &R, shared: &Shared<'a, D>, cpu: &mut Cpu<D>)
+    requires seat { IsSeatOf shared.now cpu.old }
+    requires idle { (view cpu.old).locks ≡ no_locks }
+    ensures same { IsSameSeat cpu.old cpu.new × (cpu.new.station ≡ cpu.old.station) × (slot cpu.new ≡ slot cpu.old) }
+    ensures locked { (low : ℕ) × (mid : ℕ) × (high : ℕ) × (view cpu.new ≡ having_locks low mid high (view cpu.old)) }
+{
+    lock_producer(rt, shared, cpu, 0);
+    lock_producer(rt, shared, cpu, 1);
+    lock_producer(rt, shared, cpu, 2);
+}
+
+/// Gives the three producer locks back, with the indices that the resize has set.
+fn unlock_all<'a, D: TxDevice>(shared: &Shared<'a, D>, cpu: &mut Cpu<D>, turned: AllTurned)
+    requires seat { IsSeatOf shared.now cpu.old }
+    requires locks { ((view cpu.old).locks ≡ locked_three turned.low.index turned.mid.index turned.high.index) × ((view cpu.old).holder.resizing ≡ None) }
+    ensures same { IsElseSame cpu.old cpu.new }
+    ensures unlocked { view cpu.new ≡ record (view cpu.old) { locks = no_locks } }
+{
+    shared.load_size(cpu);
+    shared.give_producer(cpu, 0, turned.low.index);
+    shared.give_producer(cpu, 1, turned.mid.index);
+    shared.give_producer(cpu, 2, turned.high.index);
+}
+
+/// Sets the station's heads and tails to 0.
+fn restart_ends<D: TxDevice>(cpu: &mut Cpu<D>)
+    requires station { (h : HolderPart) × (cpu.old.station ≡ Some (shown h)) }
+    ensures same { IsSameSeat cpu.old cpu.new × (slot cpu.new ≡ slot cpu.old) × (view cpu.new ≡ view cpu.old) }
+    ensures station { (h : HolderPart) → cpu.old.station ≡ Some (shown h) → cpu.new.station ≡ Some (shown (record h { ends = all_three at_start })) }
+{
+    set_ends(cpu, 0, 0, 0);
+    set_ends(cpu, 1, 0, 0);
+    set_ends(cpu, 2, 0, 0);
+}
+
+/// Changes the length of the rings while senders go on, as `ptr_ring_resize_multiple` of include/linux/ptr_ring.h does for
+/// `pfifo_fast_change_tx_queue_len` of net/sched/sch_generic.c. It waits for the three producer locks, turns each ring in
+/// place, and takes no memory. It answers how many packets were dropped.
+///
+/// Each band keeps its first packets, up to the new length, in order; those after them get Shrunk with the plan's event as
+/// their fate, which this call stores. A deactivated station that was purged loses none, and a seat that has the table alone finds
+/// what its account says.
+pub fn resize_all<'a, D: TxDevice, R: Wait>(
+    rt: &R,
+    shared: &Shared<'a, D>,
+    cpu: &mut Cpu<D>,
+    len: u32,
+    event: u32,
+) -> u32
+    requires seat { IsSeatOf shared.now cpu.old }
+    requires len { (0 < len) × (len ≤ shared.now.max_len) }
+    requires at { (position cpu.old ≡ Control true) × ((view cpu.old).control.purge ≡ None) × (may_resize (view cpu.old).control.phase ≡ true) }
+    requires rests { IsResting (view cpu.old).holder.size (view cpu.old).holder.ends × ((view cpu.old).holder.resizing ≡ None) }
+    requires station { CarriesStation cpu.old }
+    requires idle { (view cpu.old).locks ≡ no_locks }
+    ensures same { IsSameSeat cpu.old cpu.new × (slot cpu.new ≡ slot cpu.old) }
+    ensures resized { (held : ℕ → List ℕ) × (view cpu.new ≡ having_resized len event (all_lost len held) (view cpu.old)) × (result ≡ length (all_lost len held))
+        × ((b n : ℕ) → b < 3 → Contains (held b) n → (band_in shared.now.infos.now n ≡ b) × (n < length shared.now.infos.now)) × IsKnownHeld (view cpu.old) held }
+    ensures station { CarriesStation cpu.new }
+{
+    lock_all(rt, shared, cpu);
+    let size = shared.load_size(cpu) as u32;
+    let turned = turn_all(shared, cpu, size, len, event);
+    unlock_all(shared, cpu, turned);
+    restart_ends(cpu);
+    turned.low.dropped + turned.mid.dropped + turned.high.dropped
+}

@@ -1,0 +1,54 @@
+//! A resize of one band.
+ghost use Rattle.std.specs.Prelude.{◌≡◌, ◌≢◌, ℕ, ◌+◌, ◌*◌, ◌-◌, ◌<◌, ◌≤◌, [], true, false, List, length, slice_index, Contains};
+ghost use Rattle.lq_model.specs.Plan.{band_in};
+ghost use Rattle.lq_model.specs.declared.fate.Fate.TheVariants as fate;
+ghost use Rattle.lq_table.specs.Views.{Work};
+ghost use Rattle.lq_table.specs.Sees.{view, IsSeatOf, IsElseSame};
+ghost use Rattle.lq_ring.specs.Fates.{fates_onto};
+ghost use Rattle.lq_ring.specs.Work.{work_at, working, having_settled, IsTurner, IsWhole, IsDone, event_at};
+
+use crate::moves::{clear_stale, count_filled, drop_rest, rotate};
+use lq_device::TxDevice;
+use lq_table::{Cpu, Shared};
+
+/// How many packets a band keeps, and how many it drops.
+#[derive(Clone, Copy, Drop)]
+pub(crate) struct Kept {
+    pub kept: u32,
+    pub dropped: u32,
+}
+
+fn lesser(a: u32, b: u32) -> u32
+    ensures less { (a < b → result ≡ a) × (b ≤ a → result ≡ b) }
+{
+    if a < b { a } else { b }
+}
+
+/// Puts the packets that the band keeps in order from slot 0 on, and stores the fates of the others.
+pub(crate) fn turn_band<'a, D: TxDevice>(
+    shared: &Shared<'a, D>,
+    cpu: &mut Cpu<D>,
+    band: u32,
+    tail: u32,
+    head: u32,
+    size: u32,
+    len: u32,
+    event: u32,
+) -> Kept
+    requires seat { IsSeatOf shared.now cpu.old }
+    requires place { (band < 3) × (len ≤ shared.now.max_len) }
+    requires turner { IsTurner (view cpu.old) × (event_at (view cpu.old) ≡ event) }
+    requires whole { (held : List ℕ) × IsWhole shared.now.max_len size tail head len held (work_at band (view cpu.old)) }
+    requires packets { (n : ℕ) → Contains (work_at band (view cpu.old)).waiting n → (band_in shared.now.infos.now n ≡ band) × (n < length shared.now.infos.now) }
+    ensures same { IsElseSame cpu.old cpu.new }
+    ensures turned { (w : Work) × (view cpu.new ≡ having_settled (fates_onto (fate.Shrunk event) (work_at band (view cpu.old)).waiting (view cpu.old).settled) (working band w (view cpu.old))) × IsDone shared.now.max_len len (work_at band (view cpu.old)) w }
+    ensures few { result.dropped ≤ size }
+    ensures kept { (result.kept ≡ length (work_at band (view cpu.old)).kept) × (result.dropped ≡ length (work_at band (view cpu.old)).waiting) }
+{
+    clear_stale(shared, cpu, band, tail, head);
+    rotate(shared, cpu, band, head, size);
+    let limit = lesser(len, size);
+    let kept = count_filled(shared, cpu, band, limit);
+    let dropped = drop_rest(shared, cpu, band, limit, size, event);
+    Kept { kept, dropped }
+}
