@@ -1,0 +1,134 @@
+-- What a look through the bands leaves.
+use Rattle.std.proofs.Common.{◌≡◌, ℕ, zero, suc, ◌+◌, ◌<◌, Bool, true, refl, sym, ap, ◌∙◌, subst, arith, List, [], ◌∷◌, None, Some}
+use Rattle.std.specs.Prelude.{slice_get, slice_index}
+use Rattle.lq_model.specs.Account.{Account, Event, Empty, after_all, held_in}
+use Rattle.lq_model.specs.Machine.{Qdisc, band_at}
+use Rattle.lq_model.specs.Steps.{step_at, scan, after_band}
+use Rattle.lq_model.specs.declared.machine.Answer.TheVariants.{Plain}
+use Rattle.lq_model.specs.declared.machine.Packet.{Packet}
+use Rattle.lq_model.specs.declared.machine.Position.{Position}
+use Rattle.lq_model.specs.declared.machine.Position.TheVariants.{BlockedClear, Scan}
+use Rattle.lq_model.specs.declared.machine.Blocked.{Blocked}
+use Rattle.lq_model.specs.Positions.{holds_lock}
+use Rattle.lq_model.specs.declared.machine.Seat.{Seat}
+use Rattle.lq_ring.specs.Take.{consuming}
+use Rattle.lq_table.specs.Views.{View, HolderPart, machine_packet, first_account}
+use Rattle.lq_table.specs.Rule.{shown, IsResting}
+use Rattle.lq_table.specs.Told.{seen_band, seen_by, passing}
+use Rattle.lq_table.specs.Rings.{finding_none}
+use Rattle.lq_table.specs.Sees.{view, position, slot, IsSeatOf, IsSameSeat}
+use Rattle.lq_table.specs.Solo.{IsSole, SeesStop, account_of}
+use Rattle.lq_table.specs.declared.shared.Cpu.{Cpu}
+use Rattle.lq_table.specs.declared.shared.Shared.{Shared}
+use Rattle.lq_qdisc.specs.Calls.{IsServing, IsKept, AreNone, found_empty, looking_at}
+
+pub one : (n : ℕ) → suc n ≡ n + 1
+one n = omega arith
+
+pub none_more : (a : Account) (band : ℕ) → AreNone a band → slice_get (held_in a band) 0 ≡ None → AreNone a (band + 1)
+none_more a band h e = subst (λ (n : ℕ). AreNone a n) (one band) (h, e)
+
+pub empty_more : (band : ℕ) (past : List Event) → Empty band ∷ found_empty band past ≡ found_empty (band + 1) past
+empty_more band past = ap (λ (n : ℕ). found_empty n past) (one band)
+
+pub looking_here : (band : ℕ) (second : Bool) → band < 3 → looking_at band second ≡ Scan band second
+looking_here zero second below = refl
+looking_here (suc zero) second below = refl
+looking_here (suc (suc zero)) second below = refl
+looking_here (suc (suc (suc b))) second below = absurd (omega arith)
+
+pub lead_more : (band : ℕ) (second : Bool) → band < 3 → after_band band second ≡ looking_at (band + 1) second
+lead_more zero second below = refl
+lead_more (suc zero) second below = refl
+lead_more (suc (suc zero)) second below = refl
+lead_more (suc (suc (suc b))) second below = absurd (omega arith)
+
+after_empty : (start : Account) (band : ℕ) (past : List Event) → after_all start (found_empty band past) ≡ after_all start past
+after_empty start zero past = refl
+after_empty start (suc band) past = after_empty start band past
+
+-- the looks at empty bands change no account
+pub account_same : (band : ℕ) (v w : View) → w.share ≡ v.share → w.whole.state.past ≡ found_empty band v.whole.state.past → account_of w ≡ account_of v
+account_same band v w share past = (λ j. after_all (first_account (share j).about) (past j)) ∙ after_empty (first_account v.share.about) band v.whole.state.past
+
+seat_scan : (ps : List Packet) (b : ℕ) (second : Bool) (q : Qdisc) (s : Seat) → ((scan ps b second q s).seat.run ≡ s.run) × ((scan ps b second q s).seat.raised ≡ s.raised)
+seat_scan [] b second q s = (refl, refl)
+seat_scan (p ∷ ps) b second q s = (refl, refl)
+
+seat_kept : (q : Qdisc) (b : ℕ) (second : Bool) (v : View) → v.place.position ≡ Scan b second
+    → ((step_at v.place.position Plain q v.place).seat.run ≡ v.place.run) × ((step_at v.place.position Plain q v.place).seat.raised ≡ v.place.raised)
+seat_kept q b second v here =
+    let k = seat_scan (band_at q b) b second q v.place in
+    (ap (λ (y : Position). (step_at y Plain q v.place).seat.run) here ∙ k.0, ap (λ (y : Position). (step_at y Plain q v.place).seat.raised) here ∙ k.1)
+
+-- a holder that has the table alone, with no exchange half done, finds the account's stop value
+pub stop_is : (queue found : ℕ) (v : View) → SeesStop queue v found → IsSole v → holds_lock v.place.position ≡ true → v.holder.shut ≡ None → found ≡ slice_index (account_of v).stops queue
+stop_is queue found v s alone holds shut = s.0 alone (sym (ap (λ (h : HolderPart). h.shut) (s.1 alone holds)) ∙ shut)
+
+pub stop_loaded_again : (queue found : ℕ) (b : Blocked) (old m : View) → m ≡ passing old → old.place.position ≡ BlockedClear b → SeesStop queue m found → IsSole old → old.holder.shut ≡ None
+    → found ≡ slice_index (account_of old).stops queue
+stop_loaded_again queue found b old m is here s alone shut =
+    stop_is queue found m s (ap (λ (v : View). v.share.shares) is ∙ alone.0, ap (λ (v : View). v.whole.told) is ∙ alone.1)
+    (ap (λ (v : View). holds_lock v.place.position) is ∙ ap (λ (y : Position). holds_lock (step_at y Plain (seen_by old) old.place).seat.position) here)
+    (ap (λ (v : View). v.holder.shut) is ∙ shut)
+    ∙ ap (λ (v : View). slice_index (account_of v).stops queue) is
+
+module _ {D : Type 0} where
+  pub kept_then : {b m a : Cpu D} → IsKept b m → IsKept m a → IsKept b a
+  kept_then x y = record {
+    seat = (y.seat.0 ∙ x.seat.0, y.seat.1 ∙ x.seat.1);
+    indices = y.indices ∙ x.indices;
+    share = y.share ∙ x.share;
+    packets = y.packets ∙ x.packets;
+    locks = y.locks ∙ x.locks;
+    control = y.control ∙ x.control;
+    turns = y.turns ∙ x.turns;
+    told = y.told ∙ x.told;
+    raised = y.raised ∙ x.raised;
+  }
+
+  pub kept_none : (b : ℕ) (second : Bool) (m a : Cpu D) → position m ≡ Scan b second → IsSameSeat m a → a.indices ≡ m.indices → view a ≡ finding_none b (view m) → IsKept m a
+  kept_none b second m a here seat indices is = let k = seat_kept (seen_band b []) b second (view m) here in record {
+    seat = seat;
+    indices = indices;
+    share = ap (λ (x : View). x.share) is;
+    packets = ap (λ (x : View). x.packets) is;
+    locks = ap (λ (x : View). x.locks) is;
+    control = ap (λ (x : View). x.control) is;
+    turns = ap (λ (x : View). x.turns) is;
+    told = ap (λ (x : View). x.whole.told) is;
+    raised = ap (λ (x : View). x.place.raised) is ∙ k.1;
+  }
+
+  pub kept_take : (b n : ℕ) (second : Bool) (m a : Cpu D) → position m ≡ Scan b second → IsSameSeat m a → a.indices ≡ m.indices → view a ≡ consuming b n (view m) → IsKept m a
+  kept_take b n second m a here seat indices is = let k = seat_kept (seen_band b (machine_packet (view m).share.about.infos n ∷ [])) b second (view m) here in record {
+    seat = seat;
+    indices = indices;
+    share = ap (λ (x : View). x.share) is;
+    packets = ap (λ (x : View). x.packets) is;
+    locks = ap (λ (x : View). x.locks) is;
+    control = ap (λ (x : View). x.control) is;
+    turns = ap (λ (x : View). x.turns) is;
+    told = ap (λ (x : View). x.whole.told) is;
+    raised = ap (λ (x : View). x.place.raised) is ∙ k.1;
+  }
+
+  pub sole_kept : (b a : Cpu D) → IsKept b a → IsSole (view b) → IsSole (view a)
+  sole_kept b a k s = (ap (λ x. x.shares) k.share ∙ s.0, k.told ∙ s.1)
+
+  pub seat_in : (t : Shared D) (b a : Cpu D) → IsKept b a → IsSeatOf t b → IsSeatOf t a
+  seat_in t b a k s = (k.seat.0 ∙ s.0, subst (λ (n : ℕ). 0 < n) (sym (ap (λ x. x.shares) k.share)) s.1, ap (λ x. x.about) k.share ∙ s.2)
+
+  pub serving_same : (b a : Cpu D) → IsServing b → IsKept b a → a.station ≡ b.station → slot a ≡ slot b → (view a).holder ≡ (view b).holder → IsServing a
+  serving_same b a s k station slots holder = (
+    (slots ∙ s.0.0, station ∙ (s.0.1 ∙ (λ j. Some (shown (sym holder j))))),
+    subst (λ (h : HolderPart). IsResting h.size h.ends × (h.resizing ≡ None)) (sym holder) s.1,
+    k.locks ∙ s.2,
+    ap (λ (h : HolderPart). h.shut) holder ∙ s.3,
+  )
+
+  pub run_none : (b : ℕ) (second : Bool) (m a : Cpu D) → position m ≡ Scan b second → view a ≡ finding_none b (view m) → (view a).place.run ≡ (view m).place.run
+  run_none b second m a here is = ap (λ (x : View). x.place.run) is ∙ (seat_kept (seen_band b []) b second (view m) here).0
+
+  pub run_take : (b n : ℕ) (second : Bool) (m a : Cpu D) → position m ≡ Scan b second → view a ≡ consuming b n (view m) → (view a).place.run ≡ (view m).place.run
+  run_take b n second m a here is = ap (λ (x : View). x.place.run) is ∙ (seat_kept (seen_band b (machine_packet (view m).share.about.infos n ∷ [])) b second (view m) here).0

@@ -1,0 +1,18 @@
+use Rattle.std.proofs.Common.{◌≡◌, Bool, true, if◌then◌else◌}
+use Rattle.std.specs.Prelude.{nat_lt}
+use Rattle.lq_model.specs.declared.machine.Position.TheVariants.{StoreXoff}
+use Rattle.lq_table.specs.Sees.{view, position, IsSeatOf, IsElseSame}
+use Rattle.lq_table.specs.Solo.{solo}
+use Rattle.lq_qdisc.specs.Direct.{StaysAt, hearing_hung, hung_below, position_after}
+use Rattle.lq_qdisc.specs.declared.answers.Through.TheVariants.{Yes}
+use Rattle.lq_qdisc.proofs.direct.store_hung.Given as goal
+
+abbrev pub invariant-loop-queue : goal.invariant-loop-queue
+invariant-loop-queue g l = record {
+  seat : IsSeatOf l.shared l.cpu;
+  same : IsElseSame l.fn.cpu l.cpu;
+  at : (direct : Bool) → position l.fn.cpu ≡ StoreXoff 0 true direct → position l.cpu ≡ (if nat_lt l.queue l.shared.queues then StoreXoff l.queue true direct else position_after Yes direct (view l.cpu));
+  stays : StaysAt (view l.fn.cpu) (view l.cpu);
+  heard : (view l.cpu).whole.state.past ≡ hung_below l.queue (view l.fn.cpu).whole.state.past;
+  step : solo (view l.cpu) ≡ hearing_hung l.queue (solo (view l.fn.cpu));
+}

@@ -1,0 +1,49 @@
+use Rattle.std.proofs.Common.{ℕ, ◌<◌, sym, ap, ◌∙◌, subst, List, ◌∷◌}
+use Rattle.std.specs.Prelude.{slice_get}
+use Rattle.lq_model.specs.Account.{Account, Event, Empty, held_in}
+use Rattle.lq_table.specs.Views.{View, Setup}
+use Rattle.lq_table.specs.Told.{IsPacketOf}
+use Rattle.lq_table.specs.Sees.{view}
+use Rattle.lq_table.specs.Solo.{account_of}
+use Rattle.lq_qdisc.proofs.TakeLemmas.{none_more, empty_more, looking_here, lead_more, account_same, kept_then, kept_none, kept_take, run_none, run_take, sole_kept}
+use Rattle.lq_qdisc.proofs.takes.scan.Goals as goal
+
+pub consume-requires-clause-at : goal.consume-requires-clause-at
+consume-requires-clause-at g c κs within =
+    let at_ = c.requires.at in
+    (at_.0, c.loop-band.invariant.at at_.0 at_.1 ∙ looking_here c.loop-band.band at_.0 c.loop-band-test.true)
+
+pub returns-in-Some-clause-kept : goal.returns-in-Some-clause-kept
+returns-in-Some-clause-kept g c =
+    let at_ = c.requires.at in let here = c.loop-band.invariant.at at_.0 at_.1 ∙ looking_here c.loop-band.band at_.0 c.loop-band-test.true in
+    kept_then c.loop-band.invariant.kept (kept_take c.loop-band.band c.in-Some.n at_.0 c.loop-band.cpu c.consume.new.cpu here c.consume.ensures.same.0 c.consume.ensures.same.1 c.in-Some.ensures.taken)
+
+pub returns-in-Some-clause-run : goal.returns-in-Some-clause-run
+returns-in-Some-clause-run g c =
+    let at_ = c.requires.at in let here = c.loop-band.invariant.at at_.0 at_.1 ∙ looking_here c.loop-band.band at_.0 c.loop-band-test.true in
+    run_take c.loop-band.band c.in-Some.n at_.0 c.loop-band.cpu c.consume.new.cpu here c.in-Some.ensures.taken ∙ c.loop-band.invariant.run
+
+pub returns-in-Some-clause-packet : goal.returns-in-Some-clause-packet
+returns-in-Some-clause-packet g c = subst (λ (k : Setup). IsPacketOf k c.in-Some.n) c.loop-band.invariant.seat.2 c.in-Some.ensures.packet
+
+pub loop-band-preserved : goal.loop-band-preserved
+loop-band-preserved g c =
+    let at_ = c.requires.at in let old = c.loop-band.invariant in let b = c.loop-band.band in let m = c.loop-band.cpu in let a = c.consume.new.cpu in
+    let is = c.in_default.ensures.taken in
+    let here = old.at at_.0 at_.1 ∙ looking_here b at_.0 c.loop-band-test.true in
+    let kept = kept_none b at_.0 m a here c.consume.ensures.same.0 c.consume.ensures.same.1 is in
+    let kept_all = kept_then old.kept kept in
+    let holder = ap (λ (x : View). x.holder) is in record {
+      seat = (kept.seat.0 ∙ old.seat.0, subst (λ (s : ℕ). 0 < s) (sym (ap (λ s. s.shares) kept.share)) old.seat.1, ap (λ s. s.about) kept.share ∙ old.seat.2);
+      kept = kept_all;
+      run = run_none b at_.0 m a here is ∙ old.run;
+      serving = ((c.consume.ensures.same.2 ∙ old.serving.0.0, c.consume.ensures.station), (c.consume.ensures.rests, ap (λ h. h.resizing) holder ∙ old.serving.1.1), kept.locks ∙ old.serving.2, ap (λ h. h.shut) holder ∙ old.serving.3);
+      settled = (ap (λ (x : View). x.settled) is ∙ old.settled.0, ap (λ (x : View). x.trail) is ∙ old.settled.1);
+      at = λ second from. c.in_default.ensures.at second (old.at second from ∙ looking_here b second c.loop-band-test.true) ∙ lead_more b second c.loop-band-test.true;
+      past = ap (λ (x : View). x.whole.state.past) is ∙ (ap (λ (past : List Event). Empty b ∷ past) old.past ∙ empty_more b _);
+      holder = holder ∙ old.holder;
+      step = c.in_default.ensures.step ∙ old.step;
+      sole = λ alone. let same = account_same b (view c.args.cpu.now) (view m) old.kept.share old.past in
+          none_more (account_of (view c.args.cpu.now)) b (old.sole alone)
+          (ap (λ (x : Account). slice_get (held_in x b) 0) (sym same) ∙ (c.consume.ensures.sole (sole_kept c.args.cpu.now m old.kept alone) ∙ c.in_default.is));
+    }

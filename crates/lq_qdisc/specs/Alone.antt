@@ -1,0 +1,91 @@
+-- What the calls do of a seat that has the table alone, where there is one queue and the device tells its rule: the run of one
+-- sender.
+use Rattle.std.specs.Prelude.{◌≡◌, ℕ, Bool, true, false, ◌||◌, not, [], List, Option, Some, None, IsSome}
+use Rattle.lq_account.specs.OneQueue.{AreOfOneQueue, IsOfOneQueue, stop_of}
+use Rattle.lq_model.specs.Account.{Account, after_all, held}
+use Rattle.lq_model.specs.Alone.{RunningStation, served}
+use Rattle.lq_model.specs.Device.{Telling}
+use Rattle.lq_model.specs.declared.fate.Info.{Info}
+use Rattle.lq_table.specs.Solo.{Solo}
+
+-- it has all shares, and was told the state
+abbrev pub HasAll : Solo → Type 0
+HasAll v = (v.shares ≡ 1024) × (v.told ≡ true)
+
+-- what a device tells; a device that doesn't tell has no params
+abbrev pub telling_of : Option Telling → Telling
+telling_of (Some t) = t
+telling_of None = record { params = record { burst = 0; busy_every = 0; busy_limit = 0; hang_after = 0 }; busies = 0 }
+
+-- the station's account, which was this at the start, and its queue's stop value
+abbrev pub account_in : Account → Solo → Account
+account_in start v = after_all start v.whole.past
+
+abbrev pub stop_in : Account → Solo → ℕ
+stop_in start v = stop_of (account_in start v)
+
+-- neither MISSED nor DRAINING is set
+abbrev pub is_clean : Solo → Bool
+is_clean v = not (v.whole.missed || v.whole.draining)
+
+-- the station of the run of one sender: the next packet may go past the bands where neither bit is set
+abbrev pub running : Account → Solo → RunningStation
+running start v = record { account = account_in start v; clean = is_clean v; device = telling_of v.whole.device.told }
+
+abbrev pub dirty : RunningStation → RunningStation
+dirty s = record s { clean = false }
+
+-- the seat has the table alone, the device tells its rule, and nothing is in hand
+pub record IsOneSender (infos : List Info) (start : Account) (v : Solo) : Type 0 where
+  pub queues : AreOfOneQueue infos
+  pub sole : HasAll v
+  pub tells : IsSome v.whole.device.told
+  pub one : IsOfOneQueue (running start v)
+
+-- what the bits say between two calls
+pub record RestsAlone (start : Account) (v : Solo) : Type 0 where
+  pub unlocked : v.whole.locked ≡ false
+  pub scheduled : v.whole.scheduled ≡ v.raised
+  pub missed : v.whole.missed ≡ true → v.raised ≡ true
+  -- with both bits clear nothing is held
+  pub empty : is_clean v ≡ true → held (account_in start v) ≡ []
+  -- an open queue has both bits clear, unless the seat is raised
+  pub calm : v.raised ≡ false → stop_in start v ≡ 0 → is_clean v ≡ true
+  -- a raised seat whose queue isn't open has a bit set
+  pub shut : v.raised ≡ true → is_clean v ≡ true → stop_in start v ≡ 0
+  pub off : IsSome (account_in start v).down → is_clean v ≡ true
+
+-- a seat alone, between two calls
+pub record IsAlone (infos : List Info) (start : Account) (v : Solo) : Type 0 where
+  pub sender : IsOneSender infos start v
+  pub rests : RestsAlone start v
+
+-- Soft interrupts as long as the seat is raised would leave now what they would have left after this step of the run of one
+-- sender.
+abbrev pub Brings : List Info → Account → (RunningStation → RunningStation) → Solo → Solo → Type 0
+Brings infos start step old new = IsAlone infos start old → IsAlone infos start new × (served infos (running start new) ≡ served infos (step (running start old)))
+
+-- the station is just as after this step
+abbrev pub Does : List Info → Account → (RunningStation → RunningStation) → Solo → Solo → Type 0
+Does infos start step old new = IsAlone infos start old → IsAlone infos start new × (running start new ≡ step (running start old))
+
+-- RUNS
+
+-- the packets that were sent so far leave what serving goes on to
+pub record RunsOn (infos : List Info) (start : Account) (old now : Solo) : Type 0 where
+  pub sender : IsOneSender infos start now
+  pub active : (account_in start now).down ≡ None
+  pub raised : now.raised ≡ old.raised
+  pub scheduled : now.whole.scheduled ≡ old.whole.scheduled
+  pub does : served infos (dirty (running start now)) ≡ served infos (dirty (running start old))
+
+-- what the bits say at the end of a run
+pub record IsAtEnd (start : Account) (v : Solo) : Type 0 where
+  pub empty : is_clean v ≡ true → held (account_in start v) ≡ []
+  pub shut : is_clean v ≡ true → stop_in start v ≡ 0
+  pub calm : v.whole.missed ≡ false → stop_in start v ≡ 0 → is_clean v ≡ true
+
+-- a run serves the station
+pub record RunsAlone (infos : List Info) (start : Account) (old new : Solo) : Type 0 where
+  pub on : RunsOn infos start old new
+  pub at_end : IsAtEnd start new

@@ -1,0 +1,12 @@
+-- what a dequeue leaves of what a seat knows
+pub mod Calls
+-- what handing a packet to the device leaves
+pub mod Direct
+-- what a run leaves
+pub mod Runs
+-- what a transmit and a soft interrupt leave
+pub mod Sends
+-- what the calls do of a seat that has the table alone
+pub mod Alone
+-- what the tests keep of a seat and of the packets
+pub mod Plain

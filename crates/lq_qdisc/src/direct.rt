@@ -1,0 +1,204 @@
+//! Handing a packet to the device.
+ghost use Rattle.std.specs.Prelude.{◌≡◌, ◌≢◌, ℕ, ◌<◌, ◌≤◌, Bool, true, false, length, slice_index, [], ◌∷◌, is_some, Some, None};
+ghost use Rattle.lq_device.specs.Station.{StationState, Transmits, with_slot};
+ghost use Rattle.lq_model.specs.Account.{Back};
+ghost use Rattle.lq_model.specs.Device.{is_busy, is_hang};
+ghost use Rattle.lq_model.specs.Plan.{queue_in};
+ghost use Rattle.lq_model.specs.declared.device.Tx.{Tx as Answer};
+ghost use Rattle.lq_model.specs.declared.device.Tx.TheVariants.{Busy as NotSent};
+ghost use Rattle.lq_model.specs.declared.machine.Blocked.TheVariants.{InHand};
+ghost use Rattle.lq_model.specs.declared.machine.Position.TheVariants.{BlockedClear, Gate, StoreXoff, Unlock, Xmit};
+ghost use Rattle.lq_table.specs.Rule.{shown};
+ghost use Rattle.lq_table.specs.Sees.{view, setup, position, slot, packet_at, carried, IsSeatOf, IsSameSeat, IsElseSame};
+ghost use Rattle.lq_table.specs.Told.{HasRoom, IsPacketOf, fate_sent, loading, passing, setting, requeuing};
+ghost use Rattle.lq_table.specs.Solo.{IsSole, account_of, solo, heard, missed_to, draining_to, device_to};
+ghost use Rattle.lq_qdisc.specs.Calls.{IsServing, IsKept, IsSettledSame};
+ghost use Rattle.lq_qdisc.specs.Direct.{Directs, IsSentAs, Offers, SeesOpen, StaysAt, hearing_hung, hearing_stops, hung_below, position_after, run_after, sent_leads, stopped_by};
+ghost use Rattle.lq_qdisc.specs.declared.answers.Through.TheVariants.{Yes};
+
+use crate::answers::{Through, Why};
+use crate::takes::{maybe_clear_missed, queue_of};
+use lq_device::TxDevice;
+use lq_model::{Fate, Tx};
+use lq_table::{Cpu, Shared};
+
+/// Hands packet `n`, which is in hand, to the device, as `sch_direct_xmit` of net/sched/sch_generic.c does. A packet that
+/// the device doesn't take goes to the requeue slot, and MISSED is set, as `dev_requeue_skb` does there.
+///
+/// Yes only where the device accepted `n` in this call: its fate is Sent. Stopped only where the stop word of the packet's
+/// queue was loaded as 1 or 2 in this call, Busy only where the device answered so.
+pub fn direct_xmit<'a, D: TxDevice>(shared: &Shared<'a, D>, cpu: &mut Cpu<D>, n: u32) -> Through
+    requires seat { IsSeatOf shared.now cpu.old }
+    requires packet { IsPacketOf (setup shared.now) n }
+    requires at { (direct : Bool) × (position cpu.old ≡ Gate (packet_at shared.now n) direct) }
+    requires serving { IsServing cpu.old }
+    requires hand { (view cpu.old).holder.hand ≡ Some n }
+    ensures kept { IsKept cpu.old cpu.new }
+    ensures serving { IsServing cpu.new }
+    ensures at { (direct : Bool) → position cpu.old ≡ Gate (packet_at shared.now n) direct → position cpu.new ≡ position_after result direct (view cpu.new) }
+    ensures run { (view cpu.new).place.run ≡ run_after result (view cpu.old).place.run }
+    ensures empty { result ≡ Yes → ((view cpu.new).holder.hand ≡ None) × ((view cpu.new).holder.slot ≡ None) }
+    ensures trail { (view cpu.new).trail ≡ (view cpu.old).trail }
+    ensures handed { Directs result n (queue_in shared.now.infos.now n) (view cpu.old) (view cpu.new) }
+{
+    let queue = queue_of(shared, n);
+    if shared.load_xoff(cpu, queue) != 0 {
+        lay_aside(shared, cpu, n, queue);
+        return Through::Back(Why::Stopped);
+    }
+    offer(shared, cpu, n, queue)
+}
+
+/// Lays packet `n` into the requeue slot, which is empty.
+fn put_back<D: TxDevice>(cpu: &mut Cpu<D>, n: u32)
+    requires station { (st : StationState) × (cpu.old.station ≡ Some st) × (st.slot ≡ None) }
+    ensures same { IsSameSeat cpu.old cpu.new × (cpu.new.indices ≡ cpu.old.indices) × (slot cpu.new ≡ slot cpu.old) × (view cpu.new ≡ view cpu.old) }
+    ensures station { (st : StationState) → cpu.old.station ≡ Some st → cpu.new.station ≡ Some (with_slot st (Some n)) }
+{
+    let Some(station) = &mut cpu.station else {
+        unreachable!()
+    };
+    station.set_slot(n);
+}
+
+/// The queue of packet `n` is stopped: `n` goes to the requeue slot, and MISSED is set.
+fn lay_aside<'a, D: TxDevice>(shared: &Shared<'a, D>, cpu: &mut Cpu<D>, n: u32, queue: u32)
+    requires seat { IsSeatOf shared.now cpu.old }
+    requires queue { (queue < shared.now.queues) × (queue ≡ queue_in shared.now.infos.now n) }
+    requires at { (direct : Bool) × (position cpu.old ≡ BlockedClear (InHand (packet_at shared.now n) direct)) }
+    requires serving { IsServing cpu.old }
+    requires hand { ((view cpu.old).holder.hand ≡ Some n) × ((view cpu.old).holder.slot ≡ None) }
+    ensures kept { IsKept cpu.old cpu.new }
+    ensures serving { IsServing cpu.new }
+    ensures at { position cpu.new ≡ Unlock }
+    ensures run { (view cpu.new).place.run ≡ (view cpu.old).place.run }
+    ensures fates { IsSettledSame cpu.old cpu.new }
+    ensures holder { (view cpu.new).holder ≡ record (view cpu.old).holder { slot = Some n; hand = None } }
+    ensures heard { (view cpu.new).whole.state.past ≡ Back ∷ (view cpu.old).whole.state.past }
+    ensures stopped { (again : ℕ) × (view cpu.new ≡ setting (setting (loading again (passing (view cpu.old))))) }
+    ensures sole { IsSole (view cpu.old) → slice_index (account_of (view cpu.old)).stops queue ≢ 0 → solo (view cpu.new) ≡ missed_to true (heard Back (draining_to true (missed_to false (solo (view cpu.old))))) }
+{
+    maybe_clear_missed(shared, cpu, queue);
+    put_back(cpu, n);
+    shared.set_missed(cpu);
+}
+
+/// Hands packet `n` to the device. Gives its answer, and the fate that the packet has where it was accepted.
+fn hand_over<D: TxDevice>(cpu: &mut Cpu<D>, queue: u32, n: u32) -> (Tx, Fate)
+    requires station { (st : StationState) × (cpu.old.station ≡ Some st) × (0 < st.device.spare) × (st.device.hung ≡ false) × (length st.device.accepted < 1000000) }
+    ensures same { IsSameSeat cpu.old cpu.new × (cpu.new.indices ≡ cpu.old.indices) × (slot cpu.new ≡ slot cpu.old) × (view cpu.new ≡ view cpu.old) }
+    ensures station { cpu.new.station ≡ Some (carried cpu.new) }
+    ensures handed { (st : StationState) → cpu.old.station ≡ Some st → (result.1 ≡ fate_sent st) × Transmits result.0 queue n st (carried cpu.new) }
+{
+    let Some(station) = &mut cpu.station else {
+        unreachable!()
+    };
+    let unit = station.unit();
+    let serial = station.sent();
+    let answer = station.xmit(queue, n);
+    (answer, Fate::Sent { unit, serial })
+}
+
+/// Whether the device didn't accept a packet that it answered so: it stays with the caller, as with `NETDEV_TX_BUSY`.
+fn is_refusal(answer: Tx) -> bool
+    ensures { result ≡ is_busy answer }
+{
+    match answer {
+        Tx::Busy => true,
+        Tx::Sent | Tx::SentStop | Tx::SentHang => false,
+    }
+}
+
+/// Stores in each queue's stop word that the device hangs.
+fn store_hung<'a, D: TxDevice>(shared: &Shared<'a, D>, cpu: &mut Cpu<D>)
+    requires seat { IsSeatOf shared.now cpu.old }
+    requires at { (direct : Bool) × (position cpu.old ≡ StoreXoff 0 true direct) }
+    requires hung { (view cpu.old).holder.station.device.hung ≡ true }
+    ensures same { IsElseSame cpu.old cpu.new }
+    ensures at { (direct : Bool) → position cpu.old ≡ StoreXoff 0 true direct → position cpu.new ≡ position_after Yes direct (view cpu.new) }
+    ensures stays { StaysAt (view cpu.old) (view cpu.new) }
+    ensures heard { (view cpu.new).whole.state.past ≡ hung_below shared.now.queues (view cpu.old).whole.state.past }
+    ensures step { solo (view cpu.new) ≡ hearing_hung shared.now.queues (solo (view cpu.old)) }
+{
+    for queue in 0..shared.queues() {
+        shared.store_xoff(cpu, queue, 2);
+    }
+}
+
+/// The device is busy: packet `n` goes to the requeue slot, and MISSED is set.
+fn requeue<'a, D: TxDevice>(shared: &Shared<'a, D>, cpu: &mut Cpu<D>, n: u32)
+    requires seat { IsSeatOf shared.now cpu.old }
+    requires at { (direct : Bool) × (position cpu.old ≡ Xmit (packet_at shared.now n) direct) }
+    requires station { (slot cpu.old ≡ (0, None) ∷ []) × (is_some cpu.old.station ≡ true) }
+    requires hand { ((view cpu.old).holder.hand ≡ Some n) × ((view cpu.old).holder.slot ≡ None) }
+    requires called { Transmits NotSent (queue_in shared.now.infos.now n) n (shown (view cpu.old).holder) (carried cpu.old) }
+    ensures same { IsSameSeat cpu.old cpu.new × (cpu.new.indices ≡ cpu.old.indices) × (slot cpu.new ≡ slot cpu.old) }
+    ensures view { view cpu.new ≡ requeuing (carried cpu.old) (view cpu.old) }
+    ensures station { cpu.new.station ≡ Some (shown (view cpu.new).holder) }
+    ensures step { solo (view cpu.new) ≡ device_to (carried cpu.old).device (heard Back (missed_to true (solo (view cpu.old)))) }
+{
+    shared.requeue(cpu);
+    put_back(cpu, n);
+}
+
+/// Stores the fate of packet `n`, which the device has just accepted.
+fn settle_sent<'a, D: TxDevice>(shared: &Shared<'a, D>, cpu: &mut Cpu<D>, n: u32, fate: Fate)
+    requires seat { IsSeatOf shared.now cpu.old }
+    requires packet { n < length shared.now.infos.now }
+    requires at { (direct : Bool) × (position cpu.old ≡ Xmit (packet_at shared.now n) direct) }
+    requires hand { (view cpu.old).holder.hand ≡ Some n }
+    requires room { HasRoom (view cpu.old).holder }
+    requires accepted { (answer : Answer) × (is_busy answer ≡ false) × Transmits answer (queue_in shared.now.infos.now n) n (shown (view cpu.old).holder) (carried cpu.old) }
+    requires fate { fate ≡ fate_sent (view cpu.old).holder.station }
+    ensures same { IsElseSame cpu.old cpu.new }
+    ensures sent { (answer : Answer) → (direct : Bool) → is_busy answer ≡ false → Transmits answer (queue_in shared.now.infos.now n) n (shown (view cpu.old).holder) (carried cpu.old) → position cpu.old ≡ Xmit (packet_at shared.now n) direct → IsSentAs answer n (queue_in shared.now.infos.now n) direct (carried cpu.old) (view cpu.old) (view cpu.new) }
+{
+    shared.settle(cpu, n, fate);
+}
+
+/// Stores what follows an answer of the device that accepted a packet of this queue: nothing, that the queue is stopped, or
+/// that each queue is hung.
+fn stop<'a, D: TxDevice>(shared: &Shared<'a, D>, cpu: &mut Cpu<D>, queue: u32, answer: Tx)
+    requires seat { IsSeatOf shared.now cpu.old }
+    requires queue { queue < shared.now.queues }
+    requires at { (direct : Bool) × (position cpu.old ≡ sent_leads answer queue direct (view cpu.old)) }
+    requires hung { (view cpu.old).holder.station.device.hung ≡ is_hang answer }
+    ensures same { IsElseSame cpu.old cpu.new }
+    ensures at { (direct : Bool) → position cpu.old ≡ sent_leads answer queue direct (view cpu.old) → position cpu.new ≡ position_after Yes direct (view cpu.new) }
+    ensures stays { StaysAt (view cpu.old) (view cpu.new) }
+    ensures heard { (view cpu.new).whole.state.past ≡ stopped_by answer queue shared.now.queues (view cpu.old).whole.state.past }
+    ensures step { solo (view cpu.new) ≡ hearing_stops answer queue shared.now.queues (solo (view cpu.old)) }
+{
+    match answer {
+        Tx::Sent | Tx::Busy => {}
+        Tx::SentStop => shared.store_xoff(cpu, queue, 1),
+        Tx::SentHang => store_hung(shared, cpu),
+    }
+}
+
+/// Hands packet `n`, whose queue is open, to the device; what follows goes by its answer.
+fn offer<'a, D: TxDevice>(shared: &Shared<'a, D>, cpu: &mut Cpu<D>, n: u32, queue: u32) -> Through
+    requires seat { IsSeatOf shared.now cpu.old }
+    requires packet { IsPacketOf (setup shared.now) n × (queue ≡ queue_in shared.now.infos.now n) }
+    requires at { (direct : Bool) × (position cpu.old ≡ Xmit (packet_at shared.now n) direct) }
+    requires serving { IsServing cpu.old }
+    requires hand { (view cpu.old).holder.hand ≡ Some n }
+    requires room { HasRoom (view cpu.old).holder × ((view cpu.old).holder.station.device.hung ≡ false) }
+    requires open { SeesOpen queue (view cpu.old) }
+    ensures kept { IsKept cpu.old cpu.new }
+    ensures serving { IsServing cpu.new }
+    ensures at { (direct : Bool) → position cpu.old ≡ Xmit (packet_at shared.now n) direct → position cpu.new ≡ position_after result direct (view cpu.new) }
+    ensures run { (view cpu.new).place.run ≡ run_after result (view cpu.old).place.run }
+    ensures empty { result ≡ Yes → ((view cpu.new).holder.hand ≡ None) × ((view cpu.new).holder.slot ≡ None) }
+    ensures trail { (view cpu.new).trail ≡ (view cpu.old).trail }
+    ensures offered { Offers result n queue (view cpu.old) (view cpu.new) }
+{
+    let (answer, fate) = hand_over(cpu, queue, n);
+    if is_refusal(answer) {
+        requeue(shared, cpu, n);
+        return Through::Back(Why::Busy);
+    }
+    settle_sent(shared, cpu, n, fate);
+    stop(shared, cpu, queue, answer);
+    Through::Yes
+}

@@ -1,0 +1,92 @@
+//! Soft interrupts, and a driver's interrupts.
+ghost use Rattle.std.specs.Prelude.{◌≡◌, ◌<◌, Bool, true, false, None, if◌then◌else◌};
+ghost use Rattle.lq_model.specs.declared.machine.Attempt.TheVariants.{Interrupt};
+ghost use Rattle.lq_model.specs.declared.machine.Position.TheVariants.{Idle, Leave, Soft, Try1};
+ghost use Rattle.lq_model.specs.Alone.{opened};
+ghost use Rattle.lq_table.specs.Views.{View, first_account};
+ghost use Rattle.lq_qdisc.specs.Alone.{Brings, Does};
+ghost use Rattle.lq_table.specs.Sees.{view, setup, position, IsSeatOf, IsElseSame};
+ghost use Rattle.lq_table.specs.Solo.{solo};
+ghost use Rattle.lq_table.specs.Told.{at_rest, entering, passing};
+ghost use Rattle.lq_qdisc.specs.Calls.{KeepsFates};
+ghost use Rattle.lq_qdisc.specs.Sends.{Interrupts, IsCallKept, IsDue, IsRaisedAgain, IsReady, IsStill, Wakes, WakesBelow};
+
+use crate::sends::{attempt, is_deactivated};
+use lq_device::TxDevice;
+use lq_run::{schedule, unschedule};
+use lq_table::{Cpu, Shared};
+
+/// The soft interrupt of a raised seat, as `net_tx_action` of net/core/dev.c does it for one qdisc: the mark is taken down and
+/// SCHED cleared, so that the seat is raised afterwards only where it set SCHED after that, and the bands are served. It gives up
+/// only where both loads of the state, the one before SCHED was cleared and the one after it, showed DEACTIVATED.
+pub fn softirq<'a, D: TxDevice>(shared: &Shared<'a, D>, cpu: &mut Cpu<D>)
+    requires seat { IsSeatOf shared.now cpu.old }
+    requires at { at_rest (position cpu.old) ≡ true }
+    requires raised { (view cpu.old).place.raised ≡ true }
+    requires ready { IsReady cpu.old }
+    ensures kept { IsCallKept cpu.old cpu.new }
+    ensures fates { KeepsFates (view cpu.old) (view cpu.new) }
+    ensures at { position cpu.new ≡ Idle }
+    ensures ready { IsReady cpu.new }
+    ensures still { IsStill (view cpu.old) (view cpu.new) }
+    ensures interrupts { (before : View) × Interrupts shared.now.infos.now (entering (view cpu.old)) before × (view cpu.new ≡ passing before) × (solo (view cpu.new) ≡ solo before) }
+    ensures again { IsRaisedAgain (view cpu.new) }
+    ensures alone { shared.now.queues ≡ 1 → Brings shared.now.infos.now (first_account (setup shared.now)) (λ s. s) (solo (view cpu.old)) (solo (view cpu.new)) }
+{
+    shared.enter(cpu);
+    if is_due(shared, cpu) {
+        attempt(shared, cpu);
+    }
+    shared.leave(cpu);
+}
+
+/// Clears SCHED. Whether the bands are to be served: not where the station is deactivated still.
+fn is_due<'a, D: TxDevice>(shared: &Shared<'a, D>, cpu: &mut Cpu<D>) -> bool
+    requires seat { IsSeatOf shared.now cpu.old }
+    requires at { position cpu.old ≡ Soft }
+    ensures same { IsElseSame cpu.old cpu.new }
+    ensures at { position cpu.new ≡ (if result then Try1 Interrupt else Leave) }
+    ensures still { IsStill (view cpu.old) (view cpu.new) × ((view cpu.new).locks ≡ (view cpu.old).locks) × ((view cpu.new).holder ≡ (view cpu.old).holder) }
+    ensures due { IsDue result (view cpu.old) (view cpu.new) }
+    ensures mark { (view cpu.new).place.raised ≡ (view cpu.old).place.raised }
+{
+    let first = shared.load_state(cpu);
+    unschedule(shared, cpu);
+    if is_deactivated(first) {
+        return !is_deactivated(shared.load_state(cpu));
+    }
+    true
+}
+
+/// A driver's interrupt: each queue that is stopped is opened, and the table scheduled, as `netif_tx_wake_queue` of
+/// include/linux/netdevice.h does. The stop word of each queue is exchanged in this call; a hung queue stays hung.
+pub fn irq<'a, D: TxDevice>(shared: &Shared<'a, D>, cpu: &mut Cpu<D>)
+    requires seat { IsSeatOf shared.now cpu.old }
+    requires at { position cpu.old ≡ Idle }
+    requires ready { IsReady cpu.old }
+    ensures kept { IsCallKept cpu.old cpu.new }
+    ensures at { position cpu.new ≡ Idle }
+    ensures ready { IsReady cpu.new }
+    ensures still { IsStill (view cpu.old) (view cpu.new) }
+    ensures settled { (view cpu.new).settled ≡ (view cpu.old).settled }
+    ensures wakes { WakesBelow shared.now.queues (view cpu.old) (view cpu.new) }
+    ensures alone { shared.now.queues ≡ 1 → (view cpu.old).whole.state.shut ≡ None → Does shared.now.infos.now (first_account (setup shared.now)) opened (solo (view cpu.old)) (solo (view cpu.new)) }
+{
+    for queue in 0..shared.queues() {
+        open(shared, cpu, queue);
+    }
+}
+
+/// Opens a queue that is stopped, and schedules.
+fn open<'a, D: TxDevice>(shared: &Shared<'a, D>, cpu: &mut Cpu<D>, queue: u32)
+    requires seat { IsSeatOf shared.now cpu.old }
+    requires queue { queue < shared.now.queues }
+    requires at { position cpu.old ≡ Idle }
+    ensures same { IsElseSame cpu.old cpu.new }
+    ensures at { position cpu.new ≡ Idle }
+    ensures wakes { Wakes queue (view cpu.old) (view cpu.new) }
+{
+    if shared.wake(cpu, queue) {
+        schedule(shared, cpu);
+    }
+}

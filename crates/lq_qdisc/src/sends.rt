@@ -1,0 +1,296 @@
+//! Transmits, and attempts to run the queue discipline.
+ghost use Rattle.std.specs.Prelude.{◌≡◌, ◌≢◌, ◌⊎◌, ℕ, ◌+◌, ◌*◌, ◌<◌, Bool, true, false, not, ◌&&◌, length, slice_index, slice_set, Some, None};
+ghost use Rattle.lq_model.specs.Plan.{band_in, queue_in};
+ghost use Rattle.lq_model.specs.declared.fate.Fate.TheVariants.{Refused};
+ghost use Rattle.lq_model.specs.declared.machine.Attempt.{Attempt};
+ghost use Rattle.lq_model.specs.declared.machine.Attempt.TheVariants.{Direct as ToPass};
+ghost use Rattle.lq_model.specs.declared.machine.Position.TheVariants.{Check, Gate, Idle, Leave, Put, Recheck, Try1};
+ghost use Rattle.lq_run.specs.Runs.{IsRaisedBySched, begins};
+ghost use Rattle.lq_ring.specs.Put.{no_locks, put_leads_to};
+ghost use Rattle.lq_table.specs.Views.{View};
+ghost use Rattle.lq_table.specs.Sees.{view, setup, position, slot, packet_at, IsSeatOf, IsSameSeat, IsElseSame};
+ghost use Rattle.lq_table.specs.Told.{IsPacketOf, is_set, some_bit, paying};
+ghost use Rattle.lq_table.specs.Solo.{solo};
+ghost use Rattle.lq_qdisc.specs.Calls.{IsServing, IsSlotOf, KeepsFates};
+ghost use Rattle.lq_qdisc.specs.Sends.{Attempts, Enqueues, FollowsDirect, IsFree, IsInsideKept, Goes, GoesPast, GoesThrough, GoesThroughHeld, HasCome, IsBringing, IsCallKept, RunsToEnd, TriesToPass, serves_bands};
+ghost use Rattle.lq_qdisc.specs.Direct.{Directs, position_after};
+ghost use Rattle.lq_qdisc.specs.declared.answers.Sending.TheVariants as sending;
+ghost use Rattle.lq_qdisc.specs.declared.answers.Through.{Through as Handed};
+ghost use Rattle.lq_qdisc.specs.declared.answers.Through.TheVariants.{Yes};
+
+use crate::answers::{Sending, Through};
+use crate::direct::direct_xmit;
+use crate::runs::run;
+use lq_device::TxDevice;
+use lq_model::Fate;
+use lq_ring::produce;
+use lq_run::{begin, end};
+use lq_table::{Cpu, Shared};
+use std::sync::Wait;
+
+const DEACTIVATED: u64 = 2;
+
+const MISSED: u64 = 4;
+
+const DRAINING: u64 = 8;
+
+/// Whether MISSED or DRAINING is set: `QDISC_STATE_NON_EMPTY` of include/net/sch_generic.h.
+pub(crate) fn is_non_empty(state: u64) -> bool
+    ensures { result ≡ some_bit state }
+{
+    state & MISSED != 0 || state & DRAINING != 0
+}
+
+/// Whether DEACTIVATED is set.
+pub(crate) fn is_deactivated(state: u64) -> bool
+    ensures { result ≡ is_set 2 state }
+{
+    state & DEACTIVATED != 0
+}
+
+/// Serves the bands and releases the run lock: `__qdisc_run` of net/sched/sch_generic.c and `qdisc_run_end` of
+/// include/net/sch_generic.h.
+fn run_to_end<'a, D: TxDevice>(shared: &Shared<'a, D>, cpu: &mut Cpu<D>)
+    requires seat { IsSeatOf shared.now cpu.old }
+    requires at { position cpu.old ≡ begins (view cpu.old) }
+    requires serving { IsServing cpu.old }
+    requires hand { (view cpu.old).holder.hand ≡ None }
+    requires slot { IsSlotOf shared.now cpu.old }
+    requires begun { (view cpu.old).place.run ≡ 0 }
+    ensures kept { IsInsideKept cpu.old cpu.new }
+    ensures fates { KeepsFates (view cpu.old) (view cpu.new) }
+    ensures at { position cpu.new ≡ Leave }
+    ensures left { IsFree cpu.new }
+    ensures served { RunsToEnd shared.now.infos.now (view cpu.old) (view cpu.new) }
+    ensures sched { IsRaisedBySched (view cpu.old) (view cpu.new) }
+{
+    run(shared, cpu);
+    end(shared, cpu);
+}
+
+/// Tries the run lock, and serves the bands where it is got: `qdisc_run` of include/net/pkt_sched.h.
+pub(crate) fn attempt<'a, D: TxDevice>(shared: &Shared<'a, D>, cpu: &mut Cpu<D>)
+    requires seat { IsSeatOf shared.now cpu.old }
+    requires at { (a : Attempt) × (position cpu.old ≡ Try1 a) × (serves_bands a ≡ true) }
+    requires ready { IsFree cpu.old }
+    ensures kept { IsInsideKept cpu.old cpu.new }
+    ensures fates { KeepsFates (view cpu.old) (view cpu.new) }
+    ensures at { position cpu.new ≡ Leave }
+    ensures left { IsFree cpu.new }
+    ensures attempted { Attempts shared.now.infos.now (view cpu.old) (view cpu.new) }
+    ensures sched { IsRaisedBySched (view cpu.old) (view cpu.new) }
+{
+    if begin(shared, cpu) {
+        run_to_end(shared, cpu);
+    }
+}
+
+/// Puts packet `n`, which the seat brings, into its band, as `pfifo_fast_enqueue` of net/sched/sch_generic.c does; where
+/// that is full the packet is dropped, and its fate stored.
+fn enqueue<'a, D: TxDevice, R: Wait>(
+    rt: &R,
+    shared: &Shared<'a, D>,
+    cpu: &mut Cpu<D>,
+    n: u32,
+) -> Sending
+    requires seat { IsSeatOf shared.now cpu.old }
+    requires at { (holds : Bool) × (position cpu.old ≡ Put (packet_at shared.now n) holds) }
+    requires packet { (n < length shared.now.infos.now) × (band_in shared.now.infos.now n < 3) × ((view cpu.old).packets.fresh ≡ Some n) × ((view cpu.old).packets.owed ≡ None) }
+    requires idle { ((view cpu.old).locks ≡ no_locks) × ((view cpu.old).holder.resizing ≡ None) }
+    ensures same { IsSameSeat cpu.old cpu.new × (cpu.new.station ≡ cpu.old.station) × (slot cpu.new ≡ slot cpu.old) }
+    ensures at { (holds : Bool) → position cpu.old ≡ Put (packet_at shared.now n) holds → position cpu.new ≡ put_leads_to holds (packet_at shared.now n) (view cpu.old) }
+    ensures put { Enqueues n (band_in shared.now.infos.now n) result (view cpu.old) (view cpu.new) }
+{
+    let band = shared.infos()[n as usize].band;
+    match produce(rt, shared, cpu, band, n) {
+        Ok(()) => Sending::Queued,
+        Err(full) => {
+            shared.settle(cpu, n, Fate::Full { seen: full.seen });
+            Sending::FullSeen(full.seen)
+        }
+    }
+}
+
+/// Puts packet `n` into its band, and then tries to run the queue discipline; it does so after a drop too.
+fn send_through<'a, D: TxDevice, R: Wait>(
+    rt: &R,
+    shared: &Shared<'a, D>,
+    cpu: &mut Cpu<D>,
+    n: u32,
+) -> Sending
+    requires seat { IsSeatOf shared.now cpu.old }
+    requires at { position cpu.old ≡ Put (packet_at shared.now n) false }
+    requires packet { IsBringing shared.now n cpu.old }
+    requires free { IsFree cpu.old }
+    ensures kept { IsCallKept cpu.old cpu.new }
+    ensures fates { KeepsFates (view cpu.old) (view cpu.new) }
+    ensures at { position cpu.new ≡ Leave }
+    ensures free { IsFree cpu.new }
+    ensures came { HasCome shared.now.infos.now n result (view cpu.old) (view cpu.new) }
+    ensures goes { GoesThrough shared.now.infos.now n result (view cpu.old) (view cpu.new) }
+{
+    let sending = enqueue(rt, shared, cpu, n);
+    attempt(shared, cpu);
+    sending
+}
+
+/// Puts packet `n` into its band under the run lock, where something may be held, and serves the bands.
+fn send_held<'a, D: TxDevice, R: Wait>(
+    rt: &R,
+    shared: &Shared<'a, D>,
+    cpu: &mut Cpu<D>,
+    n: u32,
+) -> Sending
+    requires seat { IsSeatOf shared.now cpu.old }
+    requires at { position cpu.old ≡ Put (packet_at shared.now n) true }
+    requires packet { IsBringing shared.now n cpu.old }
+    requires serving { IsServing cpu.old }
+    requires hand { (view cpu.old).holder.hand ≡ None }
+    requires slot { IsSlotOf shared.now cpu.old }
+    ensures kept { IsCallKept cpu.old cpu.new }
+    ensures fates { KeepsFates (view cpu.old) (view cpu.new) }
+    ensures at { position cpu.new ≡ Leave }
+    ensures free { IsFree cpu.new }
+    ensures came { HasCome shared.now.infos.now n result (view cpu.old) (view cpu.new) }
+    ensures goes { (put : View) × Enqueues n (band_in shared.now.infos.now n) result (view cpu.old) put × RunsToEnd shared.now.infos.now put (view cpu.new) }
+{
+    let sending = enqueue(rt, shared, cpu, n);
+    run_to_end(shared, cpu);
+    sending
+}
+
+/// After a packet that went past the bands: serves the bands where MISSED or DRAINING was set meanwhile, and releases the run
+/// lock.
+fn follow<'a, D: TxDevice>(shared: &Shared<'a, D>, cpu: &mut Cpu<D>, through: Through)
+    requires seat { IsSeatOf shared.now cpu.old }
+    requires at { position cpu.old ≡ position_after through true (view cpu.old) }
+    requires serving { IsServing cpu.old }
+    requires empty { through ≡ Yes → ((view cpu.old).holder.hand ≡ None) × ((view cpu.old).holder.slot ≡ None) }
+    ensures kept { IsInsideKept cpu.old cpu.new }
+    ensures fates { KeepsFates (view cpu.old) (view cpu.new) }
+    ensures at { position cpu.new ≡ Leave }
+    ensures free { IsFree cpu.new }
+    ensures follows { FollowsDirect through shared.now.infos.now (view cpu.old) (view cpu.new) }
+{
+    if through == Through::Yes && is_non_empty(shared.load_state(cpu)) {
+        run_to_end(shared, cpu);
+    } else {
+        end(shared, cpu);
+    }
+}
+
+/// Hands packet `n` to the device, past the bands: neither MISSED nor DRAINING was set under the run lock.
+fn send_past<'a, D: TxDevice>(shared: &Shared<'a, D>, cpu: &mut Cpu<D>, n: u32)
+    requires seat { IsSeatOf shared.now cpu.old }
+    requires at { position cpu.old ≡ Gate (packet_at shared.now n) true }
+    requires packet { IsPacketOf (setup shared.now) n }
+    requires serving { IsServing cpu.old }
+    requires hand { (view cpu.old).holder.hand ≡ Some n }
+    ensures kept { IsInsideKept cpu.old cpu.new }
+    ensures fates { KeepsFates (view cpu.old) (view cpu.new) }
+    ensures at { position cpu.new ≡ Leave }
+    ensures free { IsFree cpu.new }
+    ensures past { (handed : Handed) × (after : View) × Directs handed n (queue_in shared.now.infos.now n) (view cpu.old) after × FollowsDirect handed shared.now.infos.now after (view cpu.new) }
+{
+    let through = direct_xmit(shared, cpu, n);
+    follow(shared, cpu, through);
+}
+
+/// Under the run lock: packet `n` goes past the bands where the state, loaded again, has neither MISSED nor DRAINING set; else
+/// through its band.
+fn send_locked<'a, D: TxDevice, R: Wait>(
+    rt: &R,
+    shared: &Shared<'a, D>,
+    cpu: &mut Cpu<D>,
+    n: u32,
+) -> Sending
+    requires seat { IsSeatOf shared.now cpu.old }
+    requires at { position cpu.old ≡ Recheck (packet_at shared.now n) }
+    requires packet { IsBringing shared.now n cpu.old × IsPacketOf (setup shared.now) n }
+    requires serving { IsServing cpu.old }
+    requires hand { (view cpu.old).holder.hand ≡ None }
+    requires slot { IsSlotOf shared.now cpu.old }
+    ensures kept { IsCallKept cpu.old cpu.new }
+    ensures fates { KeepsFates (view cpu.old) (view cpu.new) }
+    ensures at { position cpu.new ≡ Leave }
+    ensures free { IsFree cpu.new }
+    ensures came { HasCome shared.now.infos.now n result (view cpu.old) (view cpu.new) }
+    ensures goes { GoesThroughHeld shared.now.infos.now n result (view cpu.old) (view cpu.new) ⊎ ((result ≡ sending.Direct) × GoesPast shared.now.infos.now n (view cpu.old) (view cpu.new)) }
+{
+    let state = shared.recheck(cpu, n);
+    if is_non_empty(state) {
+        return send_held(rt, shared, cpu, n);
+    }
+    send_past(shared, cpu, n);
+    Sending::Direct
+}
+
+/// Packet `n` may go past the bands, if the run lock is free: `__dev_xmit_skb` of net/core/dev.c for a qdisc with
+/// `TCQ_F_CAN_BYPASS` that `nolock_qdisc_is_empty` calls empty.
+fn send_try<'a, D: TxDevice, R: Wait>(
+    rt: &R,
+    shared: &Shared<'a, D>,
+    cpu: &mut Cpu<D>,
+    n: u32,
+) -> Sending
+    requires seat { IsSeatOf shared.now cpu.old }
+    requires at { position cpu.old ≡ Try1 (ToPass (packet_at shared.now n)) }
+    requires packet { IsBringing shared.now n cpu.old × IsPacketOf (setup shared.now) n }
+    requires free { IsFree cpu.old }
+    ensures kept { IsCallKept cpu.old cpu.new }
+    ensures fates { KeepsFates (view cpu.old) (view cpu.new) }
+    ensures at { position cpu.new ≡ Leave }
+    ensures free { IsFree cpu.new }
+    ensures came { HasCome shared.now.infos.now n result (view cpu.old) (view cpu.new) }
+    ensures goes { TriesToPass shared.now.infos.now n result (view cpu.old) (view cpu.new) }
+{
+    if begin(shared, cpu) {
+        send_locked(rt, shared, cpu, n)
+    } else {
+        send_through(rt, shared, cpu, n)
+    }
+}
+
+/// Refuses packet `n`, where the state was loaded as this word, and stores its fate.
+fn refuse<'a, D: TxDevice>(shared: &Shared<'a, D>, cpu: &mut Cpu<D>, n: u32, state: u64) -> Sending
+    requires seat { IsSeatOf shared.now cpu.old }
+    requires packet { n < length shared.now.infos.now }
+    requires state { (event : ℕ) × (bits : ℕ) × (bits < 16) × (event < 4294967296) × (state ≡ bits + 256 * (event + 1)) × ((view cpu.old).packets.owed ≡ Some (n, Refused event)) }
+    ensures same { IsElseSame cpu.old cpu.new }
+    ensures view { view cpu.new ≡ paying (view cpu.old) }
+    ensures event { (event : ℕ) × (bits : ℕ) × (bits < 16) × (state ≡ bits + 256 * (event + 1)) × (result ≡ sending.Refused event) }
+    ensures step { solo (view cpu.new) ≡ solo (view cpu.old) }
+{
+    let event = (state / 256 - 1) as u32;
+    shared.settle(cpu, n, Fate::Refused { event });
+    Sending::Refused(event)
+}
+
+/// What a transmit of packet `n` does between its two steps on the calls inside: `__dev_xmit_skb` of net/core/dev.c, the
+/// part for a qdisc with `TCQ_F_NOLOCK`.
+pub(crate) fn send<'a, D: TxDevice, R: Wait>(
+    rt: &R,
+    shared: &Shared<'a, D>,
+    cpu: &mut Cpu<D>,
+    n: u32,
+) -> Sending
+    requires seat { IsSeatOf shared.now cpu.old }
+    requires at { position cpu.old ≡ Check (packet_at shared.now n) }
+    requires packet { IsBringing shared.now n cpu.old × IsPacketOf (setup shared.now) n }
+    requires free { IsFree cpu.old }
+    ensures kept { IsCallKept cpu.old cpu.new }
+    ensures fates { KeepsFates (view cpu.old) (view cpu.new) }
+    ensures at { position cpu.new ≡ Leave }
+    ensures free { IsFree cpu.new }
+    ensures came { HasCome shared.now.infos.now n result (view cpu.old) (view cpu.new) }
+    ensures goes { Goes shared.now.infos.now shared.now.bypass n result (view cpu.old) (view cpu.new) }
+{
+    let state = shared.check(cpu, n);
+    if is_deactivated(state) {
+        return refuse(shared, cpu, n, state);
+    }
+    if shared.bypass() && !is_non_empty(state) {
+        return send_try(rt, shared, cpu, n);
+    }
+    send_through(rt, shared, cpu, n)
+}

@@ -1,0 +1,60 @@
+//! The transmit of a packet by its sender.
+ghost use Rattle.std.specs.Prelude.{◌≡◌, ◌≢◌, ℕ, ◌*◌, ◌<◌, ◌↔◌, true, false, Some, slice_index};
+ghost use Rattle.lq_model.specs.Plan.{band_in, owner_in, rank_in, station_in};
+ghost use Rattle.lq_model.specs.declared.machine.Position.TheVariants.{Idle};
+ghost use Rattle.lq_account.specs.Trail.{down_of};
+ghost use Rattle.lq_model.specs.Alone.{brought_in};
+ghost use Rattle.lq_table.specs.Views.{first_account};
+ghost use Rattle.lq_table.specs.Solo.{solo};
+ghost use Rattle.lq_qdisc.specs.Alone.{Brings};
+ghost use Rattle.lq_table.specs.Rule.{times};
+ghost use Rattle.lq_table.specs.Sees.{view, setup, position, IsSeatOf};
+ghost use Rattle.lq_table.specs.Told.{IsPacketOf};
+ghost use Rattle.lq_qdisc.specs.Calls.{KeepsFates};
+ghost use Rattle.lq_qdisc.specs.Sends.{IsCallKept, IsReady, Transmits};
+ghost use Rattle.lq_qdisc.specs.declared.answers.Sending.TheVariants.{OutOfTurn, Refused};
+
+use crate::answers::Sending;
+use crate::sends::send;
+use lq_device::TxDevice;
+use lq_table::{Cpu, Shared};
+use std::sync::Wait;
+
+/// Sends packet `n`, as `__dev_queue_xmit` of net/core/dev.c does for one whose qdisc has `TCQ_F_NOLOCK`. The seat is in no
+/// call and has the packet's owner. It waits for the producer lock of the packet's band, and for nothing else.
+///
+/// OutOfTurn comes exactly where the turn word of the packet's owner isn't twice the packet's rank, and then nothing was
+/// done. After every other answer the turn of `n` is given back. Refused comes only where the state was loaded with
+/// DEACTIVATED and that event, and for the first seat's packets just where its trail has the station deactivated by it; FullSeen only where the slot that the packet needed had that other one. Direct comes only
+/// where packets may go past the bands and the state was loaded under the run lock in this call with MISSED and DRAINING
+/// clear; where they may, Queued and FullSeen come only where this call loaded the state with one of them set, or didn't get
+/// the run lock. A seat that has the table alone and isn't raised brings the packet to its station as the run of one sender does.
+pub fn transmit<'a, D: TxDevice, R: Wait>(
+    rt: &R,
+    shared: &Shared<'a, D>,
+    cpu: &mut Cpu<D>,
+    n: u32,
+) -> Sending
+    requires seat { IsSeatOf shared.now cpu.old }
+    requires at { position cpu.old ≡ Idle }
+    requires ready { IsReady cpu.old }
+    requires packet { IsPacketOf (setup shared.now) n × (station_in shared.now.infos.now n ≡ shared.now.station) × (band_in shared.now.infos.now n < 3) }
+    requires owner { (0 < times (owner_in shared.now.infos.now n) (view cpu.old).share.owners) × (owner_in shared.now.infos.now n < shared.now.senders) }
+    ensures kept { IsCallKept cpu.old cpu.new }
+    ensures fates { KeepsFates (view cpu.old) (view cpu.new) }
+    ensures at { position cpu.new ≡ Idle }
+    ensures ready { IsReady cpu.new }
+    ensures in_turn { slice_index (view cpu.old).turns (owner_in shared.now.infos.now n) ≡ 2 * rank_in shared.now.infos.now n → Transmits shared.now.infos.now shared.now.bypass n result (view cpu.old) (view cpu.new) }
+    ensures first { slice_index (view cpu.old).turns (owner_in shared.now.infos.now n) ≡ 2 * rank_in shared.now.infos.now n → (view cpu.old).control.first ≡ true → (event : ℕ) → (result ≡ Refused event) ↔ (down_of (view cpu.old).trail ≡ Some event) }
+    ensures alone { shared.now.queues ≡ 1 → slice_index (view cpu.old).turns (owner_in shared.now.infos.now n) ≡ 2 * rank_in shared.now.infos.now n → (view cpu.old).place.raised ≡ false → Brings shared.now.infos.now (first_account (setup shared.now)) (brought_in shared.now.infos.now shared.now.bypass n) (solo (view cpu.old)) (solo (view cpu.new)) }
+    ensures out_of_turn { slice_index (view cpu.old).turns (owner_in shared.now.infos.now n) ≢ 2 * rank_in shared.now.infos.now n → (result ≡ OutOfTurn (slice_index (view cpu.old).turns (owner_in shared.now.infos.now n))) × (view cpu.new ≡ view cpu.old) }
+{
+    if let Err(found) = shared.take_turn(cpu, n) {
+        return Sending::OutOfTurn { found };
+    }
+    shared.enter(cpu);
+    let sending = send(rt, shared, cpu, n);
+    shared.leave(cpu);
+    shared.give_turn(cpu, n);
+    sending
+}
