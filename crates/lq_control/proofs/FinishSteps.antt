@@ -1,0 +1,242 @@
+-- What a look at the words tells, and what the purge of a hung station leaves.
+use Rattle.std.proofs.Common.{◌≡◌, ◌≢◌, ◌⊎◌, inl, inr, ⊎_elim, ℕ, zero, suc, ◌+◌, ◌*◌, ◌<◌, ◌≤◌, Bool, true, false, true≢false, List, [], ◌∷◌, ◌++◌, length, Contains, Option, Some, None, refl, sym, ap, ◌∙◌, subst, arith, slice_index, slice_get}
+use Rattle.std.specs.Prelude.{is_some, filter, if◌then◌else◌}
+use Rattle.std.specs.Option.{option_map_or, option_to_list}
+use Rattle.std.proofs.lemmas.Option.{slice_get_cases}
+use Rattle.lq_account.proofs.Lists.{none-in, fates-cases}
+use Rattle.lq_account.proofs.Purges.{purge_empties, with_fates_in}
+use Rattle.lq_model.specs.Account.{Account, Event, Purge, Join, Full, Refuse, Empty, Take, Pick, Direct, Send, Back, Stop, Wake, Resize, Down, Swap, Up, after, after_all, held}
+use Rattle.lq_model.specs.Machine.{is_closed}
+use Rattle.lq_model.specs.Plan.{owner_in, station_in, rank_in}
+use Rattle.lq_model.specs.declared.fate.Cause.{Cause}
+use Rattle.lq_model.specs.declared.fate.Cause.TheVariants as cause
+use Rattle.lq_model.specs.declared.fate.Fate.{Fate}
+use Rattle.lq_model.specs.declared.fate.Fate.TheVariants as fate
+use Rattle.lq_model.specs.declared.fate.Info.{Info}
+use Rattle.lq_model.specs.declared.machine.Phase.{Phase}
+use Rattle.lq_model.specs.declared.machine.Phase.TheVariants.{Active, Purged}
+use Rattle.lq_model.specs.Control.{found_inside, after_purge}
+use Rattle.lq_table.specs.Views.{View, Setup, HolderPart, FirstPart, SharePart, State, first_account}
+use Rattle.lq_table.specs.Controls.{finding, returning, beginning_control}
+use Rattle.lq_table.specs.Rule.{holders, times}
+use Rattle.lq_table.specs.AtRest.{KnowsRest, IsKept}
+use Rattle.lq_table.specs.Solo.{Solo, SeesState, IsSole, IsAccounts, is_heard, solo, account_of, heard, locked_to, missed_to, draining_to, sched_set}
+use Rattle.lq_table.specs.Told.{is_set, got_in_control, looking, loading}
+use Rattle.lq_table.specs.Sees.{view, IsElseSame}
+use Rattle.lq_table.specs.declared.shared.Cpu.{Cpu}
+use Rattle.lq_qdisc.specs.Sends.{IsReady}
+use Rattle.lq_model.specs.declared.machine.Position.TheVariants.{Control}
+use Rattle.lq_run.specs.Runs.{ended}
+use Rattle.lq_model.specs.Band.{Band, held_of}
+use Rattle.lq_band.specs.Three.{Three, at}
+use Rattle.lq_table.specs.Purges.{AreKnown}
+use Rattle.lq_control.specs.Control.{IsIn, IsPurged, IsServed, all_purged}
+use Rattle.lq_control.specs.Finish.{AreFor, AreAllDone, AreKept, IsLook, IsSettled, IsFinished}
+use Rattle.lq_control.proofs.FinishLemmas.{not_left}
+
+-- LOOKS
+
+pub kept_of : (k : Setup) (v : View) → v.share.about ≡ k → KnowsRest v → AreKept k v
+kept_of k v about r = subst (λ (s : Setup). AreKept s v) about (record { hand_empty = r.hand_empty; kept = r.kept })
+
+pub look_none : (v w : View) → w ≡ v → IsLook v w
+look_none v w e = (v.whole.qdisc.phase, e)
+
+pub look_then : (v w x : View) → IsLook v w → IsLook w x → IsLook v x
+look_then v w x (p, e) (q, f) = (q, f ∙ ap (λ (y : View). record y { whole = record y.whole { qdisc = record y.whole.qdisc { phase = q } } }) e)
+
+pub kept_looked : (k : Setup) (v w : View) → AreKept k v → IsLook v w → AreKept k w
+kept_looked k v w a (p, e) = subst (λ (x : View). AreKept k x) (sym e) (record { hand_empty = a.hand_empty; kept = a.kept })
+
+pub kept_returned : (k : Setup) (v w : View) → AreKept k v → w ≡ returning v → AreKept k w
+kept_returned k v w a e = subst (λ (x : View). AreKept k x) (sym e) (record { hand_empty = a.hand_empty; kept = a.kept })
+
+-- an active station, or a purged one, stays so
+found_same : (n : ℕ) (v : View) → IsSettled v → found_inside n v.control.phase ≡ v.control.phase
+found_same n v (inl active) = ap (found_inside n) active.0 ∙ sym active.0
+found_same n v (inr purged) = ap (found_inside n) purged.0 ∙ sym purged.0
+
+pub look_found : (n : ℕ) (v w : View) → IsSettled v → w ≡ finding n v → IsLook v w
+look_found n v w settled e = (found_inside v.whole.qdisc.inside v.whole.qdisc.phase, e ∙ (λ j. record (finding n v) { control = record v.control { phase = found_same n v settled j } }))
+
+closed_purged : (v : View) → IsSettled v → is_closed v.control.phase ≡ true → IsIn Purged v
+closed_purged v (inl active) closed = absurd (true≢false (sym closed ∙ ap is_closed active.0))
+closed_purged v (inr purged) closed = purged
+
+open_active : (v : View) → IsSettled v → is_closed v.control.phase ≡ false → IsIn Active v
+open_active v (inl active) open_ = active
+open_active v (inr purged) open_ = absurd (true≢false (sym (ap is_closed purged.0) ∙ open_))
+
+none_some : (o : Option ℕ) → is_some o ≡ false → o ≡ None
+none_some None e = refl
+none_some (Some n) e = absurd (true≢false e)
+
+-- DEACTIVATED was loaded
+pub nothing_down : (v : View) (state : ℕ) → v.control.first ≡ true → IsSettled v → KnowsRest v → SeesState v state → is_set 2 state ≡ true → held (account_of v) ≡ []
+nothing_down v state first settled r s down = let p = closed_purged v settled (sym (r.down first) ∙ (sym s.down ∙ down)) in r.purged first p.0 p.1
+
+pub active_up : (v : View) (state : ℕ) → v.control.first ≡ true → IsSettled v → KnowsRest v → SeesState v state → is_set 2 state ≡ false → IsIn Active v
+active_up v state first settled r s up = open_active v settled (sym (r.down first) ∙ (sym s.down ∙ up))
+
+-- the words are quiet
+pub nothing_quiet : (v : View) (state : ℕ) → KnowsRest v → SeesState v state → is_set 2 state ≡ false → is_set 1 state ≡ false → ((queue : ℕ) → queue < v.share.about.queues → slice_index (account_of v).stops queue ≡ 0) → held (account_of v) ≡ []
+nothing_quiet v state r s up unscheduled open_ = r.quiet (sym s.scheduled ∙ unscheduled) (none_some _ (sym s.down ∙ up)) open_
+
+-- THE END
+
+module _ (k : Setup) (v : View) (made : AreFor k v) (done : AreAllDone k v.turns) where
+  taken : (n : ℕ) → n < length k.infos → station_in k.infos n ≡ k.station → 2 * rank_in k.infos n + 1 ≤ slice_index v.turns (owner_in k.infos n)
+  taken n inside own = ⊎_elim
+      (λ (t : (x : Info) × (n < length k.infos) × (slice_get k.infos n ≡ Some x) × _). let info : Info = t.0 in let here : slice_get k.infos n ≡ Some info = t.2 in
+      let owner : owner_in k.infos n ≡ info.owner = ap (λ (o : Option Info). option_map_or (λ (i : Info). i.owner) o 0) here in
+      let rank : rank_in k.infos n ≡ info.rank = ap (λ (o : Option Info). option_map_or (λ (i : Info). i.rank) o 0) here in
+      let station : station_in k.infos n ≡ info.station = ap (λ (o : Option Info). option_map_or (λ (i : Info). i.station) o 0) here in
+      let left = not_left k n info here (sym station ∙ own) (made.ranks n info here) (subst (λ (o : ℕ). o < k.senders) owner (made.infos.owners n inside)) v.turns done in
+      let words : slice_index v.turns (owner_in k.infos n) ≡ slice_index v.turns info.owner = ap (slice_index v.turns) owner in omega arith)
+      (λ t. absurd (let z = t.0 in omega arith))
+      (slice_get_cases k.infos n).1
+
+  owned : (n : ℕ) → n < length k.infos → 0 < times (owner_in k.infos n) v.share.owners
+  owned n inside = made.owners (owner_in k.infos n) (made.infos.owners n inside)
+
+  -- nothing was held at the last look
+  pub finished : AreKept k v → held (account_of v) ≡ [] → IsFinished k v
+  finished a none = record {
+    nothing_held = none;
+    hand_empty = a.hand_empty;
+    decided = λ n inside own. ⊎_elim (λ fate. fate) (λ is_held. absurd (none-in (held (account_of v)) n none is_held)) (a.kept n inside own (owned n inside) (taken n inside own));
+  }
+
+  -- or all that was held was purged
+  pub finished_purged : (c : Cause) (w : View) → AreKept k v → account_of w ≡ after (Purge c) (account_of v) → IsFinished k w
+  finished_purged c w a is = let b : Account = account_of v in record {
+    nothing_held = ap held is ∙ purge_empties c b;
+    hand_empty = ap (λ (x : Account). x.hand) is ∙ a.hand_empty;
+    decided = λ n inside own. subst (λ (x : Account). (f : Fate) × (x.fates n ≡ Some f)) (sym is)
+        (⊎_elim
+        (λ (has : (f : Fate) × (b.fates n ≡ Some f)). fates-cases (λ (o : Option Fate). (f : Fate) × (o ≡ Some f)) (held b) n (fate.Purged c) b.fates (λ _. (fate.Purged c, refl)) (λ _. has))
+        (λ is_held. (fate.Purged c, with_fates_in (held b) n (fate.Purged c) b.fates is_held))
+        (a.kept n inside own (owned n inside) (taken n inside own)));
+  }
+
+-- THE PURGE
+
+-- looks that found a band empty changed no account
+heard_past : (start : Account) (past : List Event) → after_all start (filter is_heard past) ≡ after_all start past
+heard_past start [] = refl
+heard_past start (Empty band ∷ past) = heard_past start past
+heard_past start (Join n band ∷ past) = ap (after (Join n band)) (heard_past start past)
+heard_past start (Full n seen ∷ past) = ap (after (Full n seen)) (heard_past start past)
+heard_past start (Refuse n event ∷ past) = ap (after (Refuse n event)) (heard_past start past)
+heard_past start (Take band ∷ past) = ap (after (Take band)) (heard_past start past)
+heard_past start (Pick ∷ past) = ap (after Pick) (heard_past start past)
+heard_past start (Direct n ∷ past) = ap (after (Direct n)) (heard_past start past)
+heard_past start (Send ∷ past) = ap (after Send) (heard_past start past)
+heard_past start (Back ∷ past) = ap (after Back) (heard_past start past)
+heard_past start (Stop queue value ∷ past) = ap (after (Stop queue value)) (heard_past start past)
+heard_past start (Wake queue ∷ past) = ap (after (Wake queue)) (heard_past start past)
+heard_past start (Resize len event ∷ past) = ap (after (Resize len event)) (heard_past start past)
+heard_past start (Down event ∷ past) = ap (after (Down event)) (heard_past start past)
+heard_past start (Purge cause ∷ past) = ap (after (Purge cause)) (heard_past start past)
+heard_past start (Swap unit ∷ past) = ap (after (Swap unit)) (heard_past start past)
+heard_past start (Up ∷ past) = ap (after Up) (heard_past start past)
+
+calm_raised : (s : Solo) → s.whole.missed ≡ false → (ended s).raised ≡ s.raised
+calm_raised s calm = ap (λ (b : Bool). (if b then sched_set s.whole.scheduled (locked_to false s) else locked_to false s).raised) calm
+
+-- from the last look before the lock was taken to the end of the run
+module _ (c : Cause) (lost : List ℕ) (d : HolderPart) (v0 v1 v2 v4 v5 : View) (look : IsLook v0 v1) (got : v2 ≡ got_in_control d v1) (locks : solo v2 ≡ locked_to true (solo v1)) (known : IsAccounts v2) (purged : IsPurged c lost v2 v4)
+    (state : v5.whole.state ≡ v4.whole.state) (share : v5.share ≡ v4.share) (ends : IsSole v4 → solo v5 ≡ ended (solo v4)) (sole : IsSole v0) where
+  -- the lock was taken, and the whole state is as it was
+  holds : View → View
+  holds x = got_in_control d x
+
+  solo_four : solo v4 ≡ missed_to false (draining_to false (heard (Purge c) (solo v2)))
+  solo_four = ap solo purged.is ∙ purged.alone
+
+  pub state_two : v2.whole.state ≡ v0.whole.state
+  state_two = ap (λ (x : View). x.whole.state) got ∙ ap (λ (x : View). x.whole.state) look.1
+
+  share_two : v2.share ≡ v0.share
+  share_two = ap (λ (x : View). x.share) got ∙ ap (λ (x : View). x.share) look.1
+
+  share_four : v4.share ≡ v2.share
+  share_four = ap (λ (x : View). x.share) purged.is
+
+  pub sole_four : IsSole v4
+  sole_four = (ap (λ (s : _). s.shares) (share_four ∙ share_two) ∙ sole.0, ap (λ (x : View). x.whole.told) purged.is ∙ (purged.told ∙ (ap (λ (x : View). x.whole.told) got ∙ (ap (λ (x : View). x.whole.told) look.1 ∙ sole.1))))
+
+  pub account_five : account_of v5 ≡ after (Purge c) (account_of v0)
+  account_five = let k : Setup = v0.share.about in
+      (λ j. after_all (first_account ((share ∙ (share_four ∙ share_two)) j).about) (state j).past)
+      ∙ (sym (heard_past (first_account k) v4.whole.state.past)
+      ∙ (ap (λ (s : Solo). after_all (first_account k) s.whole.past) solo_four
+      ∙ ap (after (Purge c)) (heard_past (first_account k) v2.whole.state.past ∙ ap (λ (s : State). after_all (first_account k) s.past) state_two)))
+
+  -- what was taken is what the account held
+  pub lost_is : (bands : Three Band) → AreKnown v2 bands → all_purged v2.holder.slot bands ≡ held (account_of v0)
+  lost_is bands bands_are =
+      let sole2 : IsSole v2 = (ap (λ (s : SharePart). s.shares) share_two ∙ sole.0, ap (λ (x : View). x.whole.told) got ∙ (ap (λ (x : View). x.whole.told) look.1 ∙ sole.1)) in
+      let same : account_of v2 ≡ account_of v0 = λ j. after_all (first_account (share_two j).about) (state_two j).past in
+      let band = λ (b : ℕ) (h : b < 3). bands_are sole2 b h ∙ ap (λ (a : Account). a.bands b) same in
+      let slot : v2.holder.slot ≡ (account_of v0).slot = ap (λ (h : HolderPart). h.slot) known ∙ ap (λ (a : Account). a.slot) same in
+      λ j. option_to_list (slot j) ++ (held_of (band 0 (omega arith) j) ++ (held_of (band 1 (omega arith) j) ++ held_of (band 2 (omega arith) j)))
+
+  pub device_five : v5.whole.state.station.device ≡ v0.whole.state.station.device
+  device_five = ap (λ (s : State). s.station.device) state ∙ (ap (λ (s : Solo). s.whole.device) solo_four ∙ ap (λ (s : State). s.station.device) state_two)
+
+  pub raised_five : v5.place.raised ≡ v0.place.raised
+  raised_five = ap (λ (s : Solo). s.raised) (ends sole_four) ∙ (calm_raised (solo v4) (ap (λ (s : Solo). s.whole.missed) solo_four) ∙ (ap (λ (x : View). x.place.raised) purged.is ∙ (ap (λ (x : View). x.place.raised) got ∙ ap (λ (x : View). x.place.raised) look.1)))
+
+-- control is as before the purge of an active station
+pub control_kept : (b c : FirstPart) → b.phase ≡ Active → b.purge ≡ None → c ≡ record b { phase = after_purge b.phase; purge = None } → c ≡ b
+control_kept b c active none e = let q : after_purge b.phase ≡ b.phase = ap after_purge active ∙ sym active in e ∙ (λ j. record b { phase = q j; purge = sym none j })
+
+-- the holder's device is the station's
+pub station_known : (d : HolderPart) (v0 v1 v2 : View) → IsLook v0 v1 → v2 ≡ got_in_control d v1 → IsAccounts v2 → v2.holder.station ≡ v0.whole.state.station
+station_known d v0 v1 v2 look got known = ap (λ (h : HolderPart). h.station) known ∙ (ap (λ (x : View). x.whole.state.station) got ∙ ap (λ (x : View). x.whole.state.station) look.1)
+
+-- STEPS OF CONTROL
+
+control_at : (h : Bool) (v : View) → v.place.position ≡ Control h → (f : View → View) → f (record v { place = record v.place { position = Control h } }) ≡ record v { place = record v.place { position = Control h } } → f v ≡ v
+control_at h v e f same = (λ j. f (record v { place = record v.place { position = e j } })) ∙ (same ∙ (λ j. record v { place = record v.place { position = sym e j } }))
+
+pub control_looked : (n : ℕ) (h : Bool) (v : View) → v.place.position ≡ Control h → looking n v ≡ v
+control_looked n h v e = control_at h v e (looking n) refl
+
+pub control_loaded : (x : ℕ) (h : Bool) (v : View) → v.place.position ≡ Control h → loading x v ≡ v
+control_loaded x h v e = control_at h v e (loading x) refl
+
+pub served_begun : (v w : View) → w ≡ beginning_control v → IsServed v w
+served_begun v w e = record {
+  kept = record { share = ap (λ (x : View). x.share) e; turns = ap (λ (x : View). x.turns) e; first = ap (λ (x : View). x.control.first) e; told = ap (λ (x : View). x.whole.told) e };
+  control = ap (λ (x : View). x.control) e;
+  trail = ap (λ (x : View). x.trail) e;
+  fates = ([], ap (λ (x : View). x.settled) e);
+}
+
+pub served_returned : (v w : View) → w ≡ returning v → IsServed v w
+served_returned v w e = record {
+  kept = record { share = ap (λ (x : View). x.share) e; turns = ap (λ (x : View). x.turns) e; first = ap (λ (x : View). x.control.first) e; told = ap (λ (x : View). x.whole.told) e };
+  control = ap (λ (x : View). x.control) e;
+  trail = ap (λ (x : View). x.trail) e;
+  fates = ([], ap (λ (x : View). x.settled) e);
+}
+
+pub served_looked : (v w : View) → IsLook v w → IsServed v w
+served_looked v w (p, e) = record {
+  kept = record { share = ap (λ (x : View). x.share) e; turns = ap (λ (x : View). x.turns) e; first = ap (λ (x : View). x.control.first) e; told = ap (λ (x : View). x.whole.told) e };
+  control = ap (λ (x : View). x.control) e;
+  trail = ap (λ (x : View). x.trail) e;
+  fates = ([], ap (λ (x : View). x.settled) e);
+}
+
+pub settled_kept : (v w : View) → w.control ≡ v.control → IsSettled v → IsSettled w
+settled_kept v w e s = subst (λ (c : FirstPart). ((c.phase ≡ Active) × (c.purge ≡ None)) ⊎ ((c.phase ≡ Purged) × (c.purge ≡ None))) (sym e) s
+
+pub sole_kept : (v w : View) → w.share ≡ v.share → w.whole.told ≡ v.whole.told → IsSole v → IsSole w
+sole_kept v w share told sole = (ap (λ (s : SharePart). s.shares) share ∙ sole.0, told ∙ sole.1)
+
+module _ {D : Type 0} where
+  pub ready_kept : (b a : Cpu D) → IsElseSame b a → (view a).packets ≡ (view b).packets → (view a).locks ≡ (view b).locks → (view a).holder.resizing ≡ (view b).holder.resizing → IsReady b → IsReady a
+  ready_kept b a same packets locks resizing ready = ((same.3 ∙ ready.0.0, same.1 ∙ ready.0.1), packets ∙ ready.1, locks ∙ ready.2, resizing ∙ ready.3)

@@ -1,0 +1,17 @@
+use Rattle.std.proofs.Common.{◌≡◌, false}
+use Rattle.lq_model.specs.declared.machine.Position.TheVariants.{Control}
+use Rattle.lq_table.specs.Sees.{view, position, IsSeatOf, IsSameSeat}
+use Rattle.lq_qdisc.specs.Sends.{IsReady}
+use Rattle.lq_control.specs.Control.{IsServed}
+use Rattle.lq_control.proofs.drains.wait_until_clear.Given as goal
+
+abbrev pub invariant-loop : goal.invariant-loop
+invariant-loop g l = record {
+  can : (goal.iterator-loop g).can_next l.iterator';
+  ends : (goal.iterator-loop g).is_finite l.iterator';
+  seat : IsSeatOf l.shared l.cpu;
+  same : IsSameSeat l.fn.cpu l.cpu;
+  at : position l.cpu ≡ Control false;
+  ready : IsReady l.cpu;
+  served : IsServed (view l.fn.cpu) (view l.cpu);
+}

@@ -1,0 +1,93 @@
+use Rattle.std.proofs.Common.{◌≡◌, ◌<◌, ℕ, false, refl, sym, ap, ◌∙◌, subst, slice_index, true, true≢false}
+use Rattle.std.specs.Prelude.{not, bit_and, ◌==◌}
+use Rattle.std.proofs.lemmas.Bool.{eq-eqb}
+use Rattle.lq_model.specs.Account.{held}
+use Rattle.lq_table.specs.Views.{View}
+use Rattle.lq_table.specs.AtRest.{KnowsRest}
+use Rattle.lq_table.specs.Sees.{view, setup}
+use Rattle.lq_table.specs.Solo.{IsSole, SeesState, account_of}
+use Rattle.lq_table.specs.Told.{at_rest, is_set}
+use Rattle.lq_control.specs.declared.finishes.Seen.TheVariants.{Hung}
+use Rattle.lq_control.specs.Finish.{AreKept, Shows}
+use Rattle.lq_control.proofs.FinishLemmas.{not_eqb}
+use Rattle.lq_control.proofs.FinishSteps.{control_looked, kept_of, look_none, nothing_down, active_up, nothing_quiet}
+use Rattle.lq_control.proofs.finishes.look.Goals as goal
+
+pub returns-then-state-ne0-clause-same : goal.returns-then-state-ne0-clause-same
+returns-then-state-ne0-clause-same g c =
+    let k = setup c.args.shared.now in let v0 = view c.args.cpu.now in let state = c.load_state-state.result in
+    let a = c.load_lock-lock.ensures.same in let b = c.load_state-state.ensures.same in
+    let v1 = view c.load_lock-lock.new.cpu in let e1 : v1 ≡ v0 = c.load_lock-lock.ensures.view in
+    let e2 : view c.load_state-state.new.cpu ≡ v0 = c.load_state-state.ensures.view ∙ (control_looked state false v1 (ap (λ (x : View). x.place.position) e1 ∙ c.requires.at.0) ∙ e1) in
+    (((b.0.0 ∙ a.0.0, b.0.1 ∙ a.0.1), b.1 ∙ a.1, b.2 ∙ a.2, b.3 ∙ a.3), look_none v0 (view c.load_state-state.new.cpu) e2)
+
+pub returns-then-state-ne0-clause-kept : goal.returns-then-state-ne0-clause-kept
+returns-then-state-ne0-clause-kept g c =
+    let k = setup c.args.shared.now in let v0 = view c.args.cpu.now in let state = c.load_state-state.result in
+    let a = c.load_lock-lock.ensures.same in let b = c.load_state-state.ensures.same in
+    let v1 = view c.load_lock-lock.new.cpu in let e1 : v1 ≡ v0 = c.load_lock-lock.ensures.view in
+    let e2 : view c.load_state-state.new.cpu ≡ v0 = c.load_state-state.ensures.view ∙ (control_looked state false v1 (ap (λ (x : View). x.place.position) e1 ∙ c.requires.at.0) ∙ e1) in
+    let rest : KnowsRest v0 = c.load_lock-lock.ensures.alone (c.requires.sole.0, ap at_rest c.requires.at.0, c.requires.at.2.1, c.requires.at.2.2) in
+    let sees : SeesState v0 state = subst (λ (x : View). SeesState x state) e1 (c.load_state-state.ensures.sole (subst IsSole (sym e1) c.requires.sole.0)) in
+    subst (λ (x : View). AreKept k x) (sym e2) (kept_of k v0 c.requires.seat.2 rest)
+
+pub returns-then-state-ne0-clause-shows : goal.returns-then-state-ne0-clause-shows
+returns-then-state-ne0-clause-shows g c =
+    let k = setup c.args.shared.now in let v0 = view c.args.cpu.now in let state = c.load_state-state.result in
+    let a = c.load_lock-lock.ensures.same in let b = c.load_state-state.ensures.same in
+    let v1 = view c.load_lock-lock.new.cpu in let e1 : v1 ≡ v0 = c.load_lock-lock.ensures.view in
+    let e2 : view c.load_state-state.new.cpu ≡ v0 = c.load_state-state.ensures.view ∙ (control_looked state false v1 (ap (λ (x : View). x.place.position) e1 ∙ c.requires.at.0) ∙ e1) in
+    let rest : KnowsRest v0 = c.load_lock-lock.ensures.alone (c.requires.sole.0, ap at_rest c.requires.at.0, c.requires.at.2.1, c.requires.at.2.2) in
+    let sees : SeesState v0 state = subst (λ (x : View). SeesState x state) e1 (c.load_state-state.ensures.sole (subst IsSole (sym e1) c.requires.sole.0)) in
+    ap (λ (x : View). held (account_of x)) e2 ∙ nothing_down v0 state c.requires.at.1 c.requires.sole.1 rest sees (ap not (not_eqb (bit_and state 2) 0 c.if-state-ne0.true))
+
+pub returns-then-are_stops-clause-same : goal.returns-then-are_stops-clause-same
+returns-then-are_stops-clause-same g c =
+    let k = setup c.args.shared.now in let v0 = view c.args.cpu.now in let state = c.load_state-state.result in
+    let a = c.load_lock-lock.ensures.same in let b = c.load_state-state.ensures.same in
+    let v1 = view c.load_lock-lock.new.cpu in let e1 : v1 ≡ v0 = c.load_lock-lock.ensures.view in
+    let e2 : view c.load_state-state.new.cpu ≡ v0 = c.load_state-state.ensures.view ∙ (control_looked state false v1 (ap (λ (x : View). x.place.position) e1 ∙ c.requires.at.0) ∙ e1) in
+    let s = c.are_stops.ensures.same in let d = s.0 in
+    (((d.0.0 ∙ (b.0.0 ∙ a.0.0), d.0.1 ∙ (b.0.1 ∙ a.0.1)), d.1 ∙ (b.1 ∙ a.1), d.2 ∙ (b.2 ∙ a.2), d.3 ∙ (b.3 ∙ a.3)), look_none v0 (view c.are_stops.new.cpu) (s.1 ∙ e2))
+
+pub returns-then-are_stops-clause-kept : goal.returns-then-are_stops-clause-kept
+returns-then-are_stops-clause-kept g c =
+    let k = setup c.args.shared.now in let v0 = view c.args.cpu.now in let state = c.load_state-state.result in
+    let a = c.load_lock-lock.ensures.same in let b = c.load_state-state.ensures.same in
+    let v1 = view c.load_lock-lock.new.cpu in let e1 : v1 ≡ v0 = c.load_lock-lock.ensures.view in
+    let e2 : view c.load_state-state.new.cpu ≡ v0 = c.load_state-state.ensures.view ∙ (control_looked state false v1 (ap (λ (x : View). x.place.position) e1 ∙ c.requires.at.0) ∙ e1) in
+    let rest : KnowsRest v0 = c.load_lock-lock.ensures.alone (c.requires.sole.0, ap at_rest c.requires.at.0, c.requires.at.2.1, c.requires.at.2.2) in
+    let sees : SeesState v0 state = subst (λ (x : View). SeesState x state) e1 (c.load_state-state.ensures.sole (subst IsSole (sym e1) c.requires.sole.0)) in
+    subst (λ (x : View). AreKept k x) (sym (c.are_stops.ensures.same.1 ∙ e2)) (kept_of k v0 c.requires.seat.2 rest)
+
+pub returns-then-are_stops-clause-shows : goal.returns-then-are_stops-clause-shows
+returns-then-are_stops-clause-shows g c =
+    let k = setup c.args.shared.now in let v0 = view c.args.cpu.now in let state = c.load_state-state.result in
+    let a = c.load_lock-lock.ensures.same in let b = c.load_state-state.ensures.same in
+    let v1 = view c.load_lock-lock.new.cpu in let e1 : v1 ≡ v0 = c.load_lock-lock.ensures.view in
+    let e2 : view c.load_state-state.new.cpu ≡ v0 = c.load_state-state.ensures.view ∙ (control_looked state false v1 (ap (λ (x : View). x.place.position) e1 ∙ c.requires.at.0) ∙ e1) in
+    let rest : KnowsRest v0 = c.load_lock-lock.ensures.alone (c.requires.sole.0, ap at_rest c.requires.at.0, c.requires.at.2.1, c.requires.at.2.2) in
+    let sees : SeesState v0 state = subst (λ (x : View). SeesState x state) e1 (c.load_state-state.ensures.sole (subst IsSole (sym e1) c.requires.sole.0)) in
+    let stop : slice_index (account_of v0).stops 0 ≡ 2 = subst (λ (x : View). slice_index (account_of x).stops 0 ≡ 2) e2
+    (c.are_stops.ensures.sole (subst IsSole (sym e2) c.requires.sole.0) (ap (λ (x : View). x.whole.state.shut) e2 ∙ rest.shut) c.if-are_stops.true 0 c.args.shared.now.sized.4) in
+    subst (λ (x : View). Shows Hung x) (sym (c.are_stops.ensures.same.1 ∙ e2))
+    (active_up v0 state c.requires.at.1 c.requires.sole.1 rest sees (ap not (eq-eqb (bit_and state 2) 0 c.if-state-ne0.false)), rest.hung 0 stop)
+
+pub returns-then-not-open-clause-same : goal.returns-then-not-open-clause-same
+returns-then-not-open-clause-same g c =
+    let k = setup c.args.shared.now in let v0 = view c.args.cpu.now in let state = c.load_state-state.result in
+    let a = c.load_lock-lock.ensures.same in let b = c.load_state-state.ensures.same in
+    let v1 = view c.load_lock-lock.new.cpu in let e1 : v1 ≡ v0 = c.load_lock-lock.ensures.view in
+    let e2 : view c.load_state-state.new.cpu ≡ v0 = c.load_state-state.ensures.view ∙ (control_looked state false v1 (ap (λ (x : View). x.place.position) e1 ∙ c.requires.at.0) ∙ e1) in
+    let s = c.are_stops.ensures.same in let d = s.0 in let t = c.are_stops-open.ensures.same in let f = t.0 in
+    (((f.0.0 ∙ (d.0.0 ∙ (b.0.0 ∙ a.0.0)), f.0.1 ∙ (d.0.1 ∙ (b.0.1 ∙ a.0.1))), f.1 ∙ (d.1 ∙ (b.1 ∙ a.1)), f.2 ∙ (d.2 ∙ (b.2 ∙ a.2)), f.3 ∙ (d.3 ∙ (b.3 ∙ a.3))), look_none v0 (view c.are_stops-open.new.cpu) (t.1 ∙ (s.1 ∙ e2)))
+
+pub returns-then-not-open-clause-kept : goal.returns-then-not-open-clause-kept
+returns-then-not-open-clause-kept g c =
+    let k = setup c.args.shared.now in let v0 = view c.args.cpu.now in let state = c.load_state-state.result in
+    let a = c.load_lock-lock.ensures.same in let b = c.load_state-state.ensures.same in
+    let v1 = view c.load_lock-lock.new.cpu in let e1 : v1 ≡ v0 = c.load_lock-lock.ensures.view in
+    let e2 : view c.load_state-state.new.cpu ≡ v0 = c.load_state-state.ensures.view ∙ (control_looked state false v1 (ap (λ (x : View). x.place.position) e1 ∙ c.requires.at.0) ∙ e1) in
+    let rest : KnowsRest v0 = c.load_lock-lock.ensures.alone (c.requires.sole.0, ap at_rest c.requires.at.0, c.requires.at.2.1, c.requires.at.2.2) in
+    let sees : SeesState v0 state = subst (λ (x : View). SeesState x state) e1 (c.load_state-state.ensures.sole (subst IsSole (sym e1) c.requires.sole.0)) in
+    subst (λ (x : View). AreKept k x) (sym (c.are_stops-open.ensures.same.1 ∙ (c.are_stops.ensures.same.1 ∙ e2))) (kept_of k v0 c.requires.seat.2 rest)

@@ -1,0 +1,22 @@
+use Rattle.std.proofs.Common.{sym, ◌∙◌, subst}
+use Rattle.lq_table.specs.Views.{View}
+use Rattle.lq_table.specs.Sees.{view, setup}
+use Rattle.lq_ring.proofs.Seats.{seat_on}
+use Rattle.lq_control.specs.Finish.{AreAllDone}
+use Rattle.lq_control.proofs.FinishLemmas.{sent_then}
+use Rattle.lq_control.proofs.finishes.send_all_left.Goals as goal
+
+pub loop-n-preserved : goal.loop-n-preserved
+loop-n-preserved g c =
+    let i = c.loop-n.invariant in let s = c.send_left.ensures in let k = setup c.args.shared.now in record {
+      seat = seat_on c.args.shared.now c.loop-n.cpu c.send_left.new.cpu i.seat s.same s.kept.0;
+      same = (s.same.0 ∙ i.same.0, s.same.1 ∙ i.same.1);
+      at = s.at.0;
+      ready = s.at.1;
+      share = s.kept.0 ∙ i.share;
+      control = s.kept.1 ∙ i.control;
+      told = s.kept.2 ∙ i.told;
+      turns = s.turns;
+      sent = sent_then k (view c.args.cpu.now) (view c.loop-n.cpu) (view c.send_left.new.cpu) i.sent s.sent;
+      done = λ all. s.done (subst (λ (x : View). AreAllDone k x.turns) (sym (i.done all)) all) ∙ i.done all;
+    }

@@ -1,0 +1,20 @@
+use Rattle.std.proofs.Common.{◌≡◌}
+use Rattle.lq_model.specs.declared.machine.Position.TheVariants.{Idle}
+use Rattle.lq_table.specs.Sees.{view, setup, position, IsSeatOf, IsSameSeat}
+use Rattle.lq_qdisc.specs.Sends.{IsReady}
+use Rattle.lq_control.specs.Finish.{AreFor, AreTurnsFrom, AreAllDone, IsSent}
+use Rattle.lq_control.proofs.finishes.send_all_left.Given as goal
+
+abbrev pub invariant-loop-n : goal.invariant-loop-n
+invariant-loop-n g l = record {
+  seat : IsSeatOf l.shared l.cpu;
+  same : IsSameSeat l.fn.cpu l.cpu;
+  at : position l.cpu ≡ Idle;
+  ready : IsReady l.cpu;
+  share : (view l.cpu).share ≡ (view l.fn.cpu).share;
+  control : (view l.cpu).control ≡ (view l.fn.cpu).control;
+  told : (view l.cpu).whole.told ≡ (view l.fn.cpu).whole.told;
+  turns : AreTurnsFrom (setup l.shared) l.n (view l.cpu).turns;
+  sent : IsSent (setup l.shared) (view l.fn.cpu) (view l.cpu);
+  done : AreAllDone (setup l.shared) (view l.fn.cpu).turns → view l.cpu ≡ view l.fn.cpu;
+}

@@ -1,0 +1,32 @@
+use Rattle.std.proofs.Common.{◌≡◌, true, sym, ap, ◌∙◌, subst}
+use Rattle.lq_model.specs.Account.{Resize}
+use Rattle.lq_model.specs.declared.fate.Fate.TheVariants as fate
+use Rattle.lq_table.specs.Views.{View}
+use Rattle.lq_table.specs.Controls.{beginning_control}
+use Rattle.lq_table.specs.Sees.{view}
+use Rattle.lq_table.specs.Solo.{IsSole, solo, heard, locked_to}
+use Rattle.lq_table.specs.Told.{got_in_control}
+use Rattle.lq_run.specs.Runs.{ended}
+use Rattle.lq_ring.specs.Fates.{fates_onto}
+use Rattle.lq_ring.specs.Resized.{all_lost, having_resized}
+use Rattle.lq_control.proofs.Sole.{lost_dropped}
+use Rattle.lq_control.proofs.resizes.resize.Goals as goal
+
+pub returns-clause-shrunk : goal.returns-clause-shrunk
+returns-clause-shrunk g c =
+    let v = view c.args.cpu.now in let len = c.args.len in let got = c.take_lock.ensures.got in let v2 = view c.take_lock.new.cpu in
+    let e2 : v2 ≡ got_in_control got.0 (beginning_control v) = got.1 ∙ ap (got_in_control got.0) c.begin_control.ensures.view in
+    let r = c.resize_all-shrunk.ensures.resized in (
+      all_lost len r.0,
+      c.end_resize.ensures.kept.0.8 ∙ (ap (λ (x : View). x.settled) r.1 ∙ ap (λ (x : View). fates_onto (fate.Shrunk c.args.event) (all_lost len r.0) x.settled) e2),
+      r.2,
+      λ sole. lost_dropped len r.0 got.0 v v2 e2 r.4 sole,
+    )
+
+pub returns-clause-sole : goal.returns-clause-sole
+returns-clause-sole g c sole =
+    let v = view c.args.cpu.now in let got = c.take_lock.ensures.got in let v2 = view c.take_lock.new.cpu in
+    let e2 : v2 ≡ got_in_control got.0 (beginning_control v) = got.1 ∙ ap (got_in_control got.0) c.begin_control.ensures.view in
+    let r = c.resize_all-shrunk.ensures.resized in let s1 : solo (view c.begin_control.new.cpu) ≡ solo v = ap solo c.begin_control.ensures.view in
+    let s2 = (c.take_lock.ensures.sole (subst IsSole (sym c.begin_control.ensures.view) sole)).0 ∙ ap (locked_to true) s1 in
+    c.end_resize.ensures.sole (subst IsSole (sym (r.1 ∙ ap (having_resized c.args.len c.args.event (all_lost c.args.len r.0)) e2)) sole) ∙ ap ended (ap solo r.1 ∙ ap (heard (Resize c.args.len c.args.event)) s2)

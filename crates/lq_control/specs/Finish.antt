@@ -1,0 +1,107 @@
+-- The end of a station: what is left of its packets is sent, and nothing is held afterwards.
+use Rattle.std.specs.Prelude.{◌≡◌, ◌⊎◌, ℕ, ◌+◌, ◌*◌, ◌<◌, ◌≤◌, Bool, true, false, ◌&&◌, ◌==◌, List, [], ◌∷◌, ◌++◌, length, take, count_by, slice_get, slice_index, Contains, Option, Some, None}
+use Rattle.lq_model.specs.Account.{Account, Event, Purge, after, held}
+use Rattle.lq_model.specs.Legal.{brought}
+use Rattle.lq_model.specs.Plan.{owner_in, station_in, rank_in}
+use Rattle.lq_model.specs.declared.fate.Cause.TheVariants as cause
+use Rattle.lq_model.specs.declared.fate.Fate.{Fate}
+use Rattle.lq_model.specs.declared.fate.Info.{Info}
+use Rattle.lq_model.specs.declared.machine.Phase.{Phase}
+use Rattle.lq_model.specs.declared.machine.Phase.TheVariants.{Active, Purged}
+use Rattle.lq_table.specs.Views.{View, Setup}
+use Rattle.lq_table.specs.Rule.{AreInfos, times}
+use Rattle.lq_table.specs.AtRest.{IsKept}
+use Rattle.lq_table.specs.Solo.{IsSole, account_of}
+use Rattle.lq_control.specs.Control.{IsIn}
+use Rattle.lq_control.specs.declared.finishes.Seen.{Seen}
+use Rattle.lq_control.specs.declared.finishes.Seen.TheVariants as seen
+
+-- PACKETS
+
+abbrev pub is_packet_of : ℕ → ℕ → Info → Bool
+is_packet_of owner station info = (info.owner == owner) && (info.station == station)
+
+-- how many packets of this owner and station are among the first n, and among all
+abbrev pub count_below : List Info → ℕ → ℕ → ℕ → ℕ
+count_below infos owner station n = count_by (is_packet_of owner station) (take n infos)
+
+abbrev pub count_all : List Info → ℕ → ℕ → ℕ
+count_all infos owner station = count_by (is_packet_of owner station) infos
+
+-- a rank is the number of lower packets of the same owner and station
+abbrev pub AreRanks : List Info → Type 0
+AreRanks infos = (n : ℕ) (info : Info) → slice_get infos n ≡ Some info → info.rank ≡ count_below infos info.owner info.station n
+
+-- what a station was made for: its packets are numbered by rank, and the sole seat has every owner
+pub record AreFor (k : Setup) (v : View) : Type 0 where
+  pub infos : AreInfos k.infos k.station k.senders k.queues
+  pub ranks : AreRanks k.infos
+  pub owners : (o : ℕ) → o < k.senders → 0 < times o v.share.owners
+
+-- the turn word of an owner is twice a number of its packets that is at least that below n
+abbrev pub IsTurn : Setup → ℕ → List ℕ → ℕ → Type 0
+IsTurn k n turns o = (r : ℕ) × (slice_index turns o ≡ 2 * r) × (count_below k.infos o k.station n ≤ r) × (r ≤ count_all k.infos o k.station)
+
+-- each owner's packets below n were transmitted, at least
+pub record AreTurnsFrom (k : Setup) (n : ℕ) (turns : List ℕ) : Type 0 where
+  pub long : length turns ≡ k.senders
+  pub words : (o : ℕ) → o < k.senders → IsTurn k n turns o
+
+-- all were
+abbrev pub AreAllDone : Setup → List ℕ → Type 0
+AreAllDone k turns = (o : ℕ) → o < k.senders → slice_index turns o ≡ 2 * count_all k.infos o k.station
+
+-- THE TRAIL
+
+-- each of these events brought a packet of the first sender
+abbrev pub BroughtFirst : List Info → List Event → Type 0
+BroughtFirst infos events = (e : Event) → Contains events e → (n : ℕ) × (brought e ≡ Some n) × (owner_in infos n ≡ 0)
+
+-- what transmits of the seat put on the trail
+pub record IsSent (k : Setup) (v w : View) : Type 0 where
+  pub events : List Event
+  pub trail : w.trail ≡ events ++ v.trail
+  pub first : BroughtFirst k.infos events
+
+-- WHAT IS LEFT
+
+-- the hand is empty, and each packet of the station whose turn was taken has a fate or is held
+pub record AreKept (k : Setup) (v : View) : Type 0 where
+  pub hand_empty : (account_of v).hand ≡ None
+  pub kept : (n : ℕ) → n < length k.infos → station_in k.infos n ≡ k.station → 0 < times (owner_in k.infos n) v.share.owners → 2 * rank_in k.infos n + 1 ≤ slice_index v.turns (owner_in k.infos n) → IsKept (account_of v) n
+
+-- by a look nothing changes but what the seat knows of the phase
+abbrev pub IsLook : View → View → Type 0
+IsLook v w = (p : Phase) × (w ≡ record v { whole = record v.whole { qdisc = record v.whole.qdisc { phase = p } } })
+
+-- the station is active, or was purged
+abbrev pub IsSettled : View → Type 0
+IsSettled v = IsIn Active v ⊎ IsIn Purged v
+
+-- what a look at the words tells
+abbrev pub Shows : Seen → View → Type 0
+Shows seen.Ended v = held (account_of v) ≡ []
+Shows seen.Hung v = IsIn Active v × (v.whole.state.station.device.hung ≡ true)
+Shows seen.Going v = Unit {0}
+
+-- Nothing is left: nothing is held, and each packet of the station has a fate.
+pub record IsFinished (k : Setup) (v : View) : Type 0 where
+  pub nothing_held : held (account_of v) ≡ []
+  pub hand_empty : (account_of v).hand ≡ None
+  pub decided : (n : ℕ) → n < length k.infos → station_in k.infos n ≡ k.station → (f : Fate) × ((account_of v).fates n ≡ Some f)
+
+-- The purge of what a hung device left when the seat's view was `before`: all that was held has Purged by its unit as its fate.
+pub record PurgesHung (purged : ℕ) (before w : View) : Type 0 where
+  pub hung : before.whole.state.station.device.hung ≡ true
+  pub account : account_of w ≡ after (Purge (cause.Hung before.whole.state.station.unit)) (account_of before)
+  pub counted : purged ≡ length (held (account_of before))
+  pub trail : w.trail ≡ Purge (cause.Hung before.whole.state.station.unit) ∷ before.trail
+  pub device : w.whole.state.station.device ≡ before.whole.state.station.device
+
+-- What transmits of the seat brought comes on the trail, nothing where all packets were transmitted before; and after it nothing,
+-- or the purge of what the hung device left.
+pub record Ends (k : Setup) (purged : ℕ) (v w : View) : Type 0 where
+  pub sent : View
+  pub is_sent : IsSent k v sent
+  pub none_sent : AreAllDone k v.turns → sent ≡ v
+  pub ends : ((w.trail ≡ sent.trail) × (purged ≡ 0)) ⊎ ((before : View) × (before.trail ≡ sent.trail) × PurgesHung purged before w)

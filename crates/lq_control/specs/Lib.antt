@@ -1,0 +1,6 @@
+-- what the tests know of the first seat between two calls
+pub mod Plain
+-- what the calls of control leave
+pub mod Control
+-- what is left of a station, and its end
+pub mod Finish

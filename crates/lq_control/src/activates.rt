@@ -1,0 +1,84 @@
+//! A station is activated and deactivated.
+ghost use Rattle.std.specs.Prelude.{◌≡◌, ℕ, ◌∷◌, true, false, None, List, length};
+ghost use Rattle.lq_model.specs.Account.{Down, Purge, Up, held};
+ghost use Rattle.lq_model.specs.declared.fate.Cause.TheVariants as cause;
+ghost use Rattle.lq_model.specs.declared.fate.Fate.TheVariants as fate;
+ghost use Rattle.lq_model.specs.declared.machine.Phase.TheVariants.{Active, Purged};
+ghost use Rattle.lq_model.specs.declared.machine.Position.TheVariants.{Idle, Control};
+ghost use Rattle.lq_table.specs.Controls.{opening};
+ghost use Rattle.lq_table.specs.Sees.{view, position, IsSeatOf, IsSameSeat, IsElseSame};
+ghost use Rattle.lq_ring.specs.Fates.{fates_onto};
+ghost use Rattle.lq_qdisc.specs.Sends.{IsReady};
+ghost use Rattle.lq_control.specs.Control.{IsIn, IsKept, Stores, deactivated};
+ghost use Rattle.lq_table.specs.Solo.{IsSole, account_of, solo, heard};
+
+use crate::drains::wait_until_clear;
+use crate::purges::purge_all;
+use crate::waits::{release, take_lock, wait_for_calls};
+use lq_device::TxDevice;
+use lq_table::{Cpu, Shared};
+use std::sync::Wait;
+
+/// Activates a deactivated station: clears DEACTIVATED, as `transition_one_qdisc` of net/sched/sch_generic.c does for
+/// `dev_activate`.
+pub fn up<'a, D: TxDevice>(shared: &Shared<'a, D>, cpu: &mut Cpu<D>)
+    requires seat { IsSeatOf shared.now cpu.old }
+    requires at { (position cpu.old ≡ Idle) × ((view cpu.old).control.first ≡ true) }
+    requires deactivated { IsIn Purged (view cpu.old) }
+    ensures same { IsElseSame cpu.old cpu.new }
+    ensures opened { view cpu.new ≡ opening (view cpu.old) }
+    ensures step { solo (view cpu.new) ≡ heard Up (solo (view cpu.old)) }
+{
+    shared.begin_control(cpu);
+    shared.clear_deactivated(cpu);
+    shared.end_control(cpu);
+}
+
+/// Deactivates a station, as `dev_deactivate_many` of net/sched/sch_generic.c does: sets DEACTIVATED, waits until no call is
+/// inside, purges under the run lock, and waits until the lock is free and SCHED is clear. What the station held gets Purged as
+/// its fate, by the plan's event. It answers how many packets these were.
+pub fn down<'a, D: TxDevice, R: Wait>(
+    rt: &R,
+    shared: &Shared<'a, D>,
+    cpu: &mut Cpu<D>,
+    event: u32,
+) -> u32
+    requires seat { IsSeatOf shared.now cpu.old }
+    requires at { (position cpu.old ≡ Idle) × ((view cpu.old).control.first ≡ true) × IsReady cpu.old }
+    requires active { IsIn Active (view cpu.old) }
+    ensures same { IsSameSeat cpu.old cpu.new × IsKept (view cpu.old) (view cpu.new) × ((view cpu.new).control.gone ≡ (view cpu.old).control.gone) }
+    ensures at { (position cpu.new ≡ Idle) × IsReady cpu.new × IsIn Purged (view cpu.new) }
+    ensures trail { (view cpu.new).trail ≡ Purge (cause.Event event) ∷ Down event ∷ (view cpu.old).trail }
+    ensures purged { (lost : List ℕ) × Stores (fate.Purged (cause.Event event)) lost (view cpu.old) (view cpu.new) × (result ≡ length lost) × (IsSole (view cpu.old) → lost ≡ held (account_of (view cpu.old))) }
+    ensures raised { (view cpu.new).place.raised ≡ false }
+    ensures clear { IsSole (view cpu.new) → (view cpu.new).whole.qdisc.sched ≡ false }
+{
+    let purged = deactivate(rt, shared, cpu, event);
+    wait_until_clear(rt, shared, cpu);
+    shared.end_control(cpu);
+    purged
+}
+
+/// Deactivates a station and purges it, up to the release of the run lock. It answers how many packets were purged.
+pub(crate) fn deactivate<'a, D: TxDevice, R: Wait>(
+    rt: &R,
+    shared: &Shared<'a, D>,
+    cpu: &mut Cpu<D>,
+    event: u32,
+) -> u32
+    requires seat { IsSeatOf shared.now cpu.old }
+    requires at { (position cpu.old ≡ Idle) × ((view cpu.old).control.first ≡ true) × IsReady cpu.old }
+    requires active { IsIn Active (view cpu.old) }
+    ensures same { IsSameSeat cpu.old cpu.new × IsKept (view cpu.old) (view cpu.new) × ((view cpu.new).control.gone ≡ (view cpu.old).control.gone) }
+    ensures at { (position cpu.new ≡ Control false) × IsReady cpu.new × IsIn Purged (view cpu.new) }
+    ensures trail { (view cpu.new).trail ≡ Purge (cause.Event event) ∷ Down event ∷ (view cpu.old).trail }
+    ensures purged { (lost : List ℕ) × ((view cpu.new).settled ≡ fates_onto (fate.Purged (cause.Event event)) lost (view cpu.old).settled) × (result ≡ length lost) × (IsSole (view cpu.old) → lost ≡ held (account_of (view cpu.old))) }
+    ensures sole { IsSole (view cpu.old) → solo (view cpu.new) ≡ deactivated event (solo (view cpu.old)) }
+{
+    shared.set_deactivated(cpu, event);
+    wait_for_calls(rt, shared, cpu);
+    take_lock(rt, shared, cpu);
+    let purged = purge_all(shared, cpu);
+    release(shared, cpu);
+    purged
+}

@@ -1,0 +1,86 @@
+//! The soft interrupts of control's own seat.
+ghost use Rattle.std.specs.Prelude.{◌≡◌, ℕ, true, false, List};
+ghost use Rattle.lq_model.specs.declared.machine.Position.TheVariants.{Idle, Control};
+ghost use Rattle.lq_table.specs.Sees.{view, position, IsSeatOf, IsSameSeat, IsElseSame};
+ghost use Rattle.lq_table.specs.Solo.{IsSole};
+ghost use Rattle.lq_qdisc.specs.Sends.{IsReady};
+ghost use Rattle.lq_control.specs.Control.{IsServed};
+
+use crossbeam_utils::Backoff;
+use lq_device::TxDevice;
+use lq_qdisc::softirq;
+use lq_table::{Cpu, Shared};
+use std::sync::Wait;
+
+const SCHED: u64 = 1;
+
+/// Does soft interrupts as long as the seat is raised, as `net_tx_action` of net/core/dev.c comes again for a CPU whose
+/// `output_queue` isn't empty.
+pub fn drain<'a, D: TxDevice, R: Wait>(rt: &R, shared: &Shared<'a, D>, cpu: &mut Cpu<D>)
+    requires seat { IsSeatOf shared.now cpu.old }
+    requires at { (position cpu.old ≡ Idle) × IsReady cpu.old }
+    ensures same { IsSameSeat cpu.old cpu.new }
+    ensures served { IsServed (view cpu.old) (view cpu.new) }
+    ensures at { (position cpu.new ≡ Idle) × IsReady cpu.new }
+    ensures raised { (view cpu.new).place.raised ≡ false }
+{
+    for _ in rt.forever() {
+        if !cpu.raised() {
+            return;
+        }
+        softirq(shared, cpu);
+    }
+    unreachable!()
+}
+
+/// Whether the run lock is free and SCHED is clear.
+fn is_clear<'a, D: TxDevice>(shared: &Shared<'a, D>, cpu: &mut Cpu<D>) -> bool
+    requires seat { IsSeatOf shared.now cpu.old }
+    requires at { position cpu.old ≡ Control false }
+    ensures same { IsElseSame cpu.old cpu.new × (view cpu.new ≡ view cpu.old) }
+    ensures sole { IsSole (view cpu.old) → result ≡ true → (view cpu.old).whole.qdisc.sched ≡ false }
+{
+    shared.load_lock(cpu) == 0 && shared.load_state(cpu) & SCHED == 0
+}
+
+/// Does the soft interrupt of a raised seat; or else tells whether the run lock is free and SCHED is clear.
+fn serves_or_is_clear<'a, D: TxDevice>(shared: &Shared<'a, D>, cpu: &mut Cpu<D>) -> bool
+    requires seat { IsSeatOf shared.now cpu.old }
+    requires at { (position cpu.old ≡ Control false) × ((view cpu.old).control.first ≡ true) × IsReady cpu.old }
+    ensures same { IsSameSeat cpu.old cpu.new }
+    ensures served { IsServed (view cpu.old) (view cpu.new) }
+    ensures at { (position cpu.new ≡ Control false) × IsReady cpu.new }
+    ensures clear { result ≡ true → ((view cpu.new).place.raised ≡ false) × (IsSole (view cpu.new) → (view cpu.new).whole.qdisc.sched ≡ false) }
+{
+    if cpu.raised() {
+        softirq(shared, cpu);
+        shared.begin_control(cpu);
+        return false;
+    }
+    is_clear(shared, cpu)
+}
+
+/// Waits until the run lock is free and SCHED is clear, for which `dev_deactivate_many` of net/sched/sch_generic.c has
+/// `some_qdisc_is_busy`. Meanwhile it does the soft interrupts of its own seat, for which nobody else would come.
+pub(crate) fn wait_until_clear<'a, D: TxDevice, R: Wait>(
+    rt: &R,
+    shared: &Shared<'a, D>,
+    cpu: &mut Cpu<D>,
+)
+    requires seat { IsSeatOf shared.now cpu.old }
+    requires at { (position cpu.old ≡ Control false) × ((view cpu.old).control.first ≡ true) × IsReady cpu.old }
+    ensures same { IsSameSeat cpu.old cpu.new }
+    ensures served { IsServed (view cpu.old) (view cpu.new) }
+    ensures at { (position cpu.new ≡ Control false) × IsReady cpu.new }
+    ensures raised { (view cpu.new).place.raised ≡ false }
+    ensures clear { IsSole (view cpu.new) → (view cpu.new).whole.qdisc.sched ≡ false }
+{
+    let backoff = Backoff::new();
+    for _ in rt.forever() {
+        if serves_or_is_clear(shared, cpu) {
+            return;
+        }
+        backoff.snooze();
+    }
+    unreachable!()
+}

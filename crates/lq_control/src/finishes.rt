@@ -1,0 +1,227 @@
+//! The end of a station, once all its seats are joined.
+ghost use Rattle.std.specs.Prelude.{◌≡◌, ◌⊎◌, ℕ, ◌<◌, ◌≤◌, ◌*◌, true, false, None, Some, List, ◌∷◌, length, slice_index, ◌+◌, if◌then◌else◌};
+ghost use Rattle.lq_model.specs.Account.{Purge, after, held};
+ghost use Rattle.lq_model.specs.Plan.{station_in};
+ghost use Rattle.lq_model.specs.declared.fate.Cause.TheVariants as cause;
+ghost use Rattle.lq_model.specs.declared.fate.Fate.TheVariants as fate;
+ghost use Rattle.lq_model.specs.declared.machine.Phase.{Phase};
+ghost use Rattle.lq_model.specs.declared.machine.Phase.TheVariants.{Active};
+ghost use Rattle.lq_model.specs.declared.machine.Position.TheVariants.{Idle, Control};
+ghost use Rattle.lq_table.specs.Sees.{view, setup, position, IsSeatOf, IsSameSeat, IsElseSame};
+ghost use Rattle.lq_table.specs.Solo.{IsSole, account_of};
+ghost use Rattle.lq_qdisc.specs.Sends.{IsReady};
+ghost use Rattle.lq_ring.specs.Fates.{fates_onto};
+ghost use Rattle.lq_control.specs.declared.finishes.Seen.TheVariants.{Hung, Ended};
+ghost use Rattle.lq_control.specs.Control.{IsIn, IsKept};
+ghost use Rattle.lq_control.specs.Finish.{AreFor, AreTurnsFrom, AreAllDone, AreKept, IsSent, IsLook, IsSettled, Shows, IsFinished, Ends};
+
+use crate::drains::drain;
+use crate::purges::purge_held;
+use crate::waits::take_lock;
+use crossbeam_utils::Backoff;
+use lq_device::TxDevice;
+use lq_model::Cause;
+use lq_qdisc::{irq, transmit};
+use lq_run::end_resize;
+use lq_table::{Cpu, Shared};
+use std::sync::Wait;
+
+const SCHED: u64 = 1;
+
+const DEACTIVATED: u64 = 2;
+
+const OPEN: u64 = 0;
+
+const HUNG: u64 = 2;
+
+/// What a look at a station's words shows.
+#[derive(Clone, Copy)]
+enum Seen {
+    /// Deactivated, or quiet: nothing is held.
+    Ended,
+    /// Each stop word is 2.
+    Hung,
+    Going,
+}
+
+/// Transmits packet `n` where it is left: where it is one of the station, and its owner's turn word is at most twice its rank.
+fn send_left<'a, D: TxDevice, R: Wait>(rt: &R, shared: &Shared<'a, D>, cpu: &mut Cpu<D>, n: u32)
+    requires seat { IsSeatOf shared.now cpu.old }
+    requires at { (position cpu.old ≡ Idle) × IsReady cpu.old }
+    requires made { AreFor (setup shared.now) (view cpu.old) }
+    requires packet { n < length shared.now.infos.now }
+    requires turns { AreTurnsFrom (setup shared.now) n (view cpu.old).turns }
+    ensures same { IsSameSeat cpu.old cpu.new }
+    ensures kept { ((view cpu.new).share ≡ (view cpu.old).share) × ((view cpu.new).control ≡ (view cpu.old).control) × ((view cpu.new).whole.told ≡ (view cpu.old).whole.told) }
+    ensures at { (position cpu.new ≡ Idle) × IsReady cpu.new }
+    ensures turns { AreTurnsFrom (setup shared.now) (n + 1) (view cpu.new).turns }
+    ensures sent { IsSent (setup shared.now) (view cpu.old) (view cpu.new) }
+    ensures done { AreAllDone (setup shared.now) (view cpu.old).turns → view cpu.new ≡ view cpu.old }
+{
+    let info = shared.infos()[n as usize];
+    if info.station != shared.number() {
+        return;
+    }
+    if shared.load_turn(cpu, info.owner) <= 2 * info.rank as u64 {
+        let _sending = transmit(rt, shared, cpu, n);
+        drain(rt, shared, cpu);
+    }
+}
+
+/// Transmits the packets that are left, of all owners in one pass in ascending order.
+fn send_all_left<'a, D: TxDevice, R: Wait>(rt: &R, shared: &Shared<'a, D>, cpu: &mut Cpu<D>)
+    requires seat { IsSeatOf shared.now cpu.old }
+    requires at { (position cpu.old ≡ Idle) × IsReady cpu.old }
+    requires made { AreFor (setup shared.now) (view cpu.old) }
+    requires turns { AreTurnsFrom (setup shared.now) 0 (view cpu.old).turns }
+    ensures same { IsSameSeat cpu.old cpu.new }
+    ensures kept { ((view cpu.new).share ≡ (view cpu.old).share) × ((view cpu.new).control ≡ (view cpu.old).control) × ((view cpu.new).whole.told ≡ (view cpu.old).whole.told) }
+    ensures at { (position cpu.new ≡ Idle) × IsReady cpu.new }
+    ensures turns { AreTurnsFrom (setup shared.now) (length shared.now.infos.now) (view cpu.new).turns }
+    ensures sent { IsSent (setup shared.now) (view cpu.old) (view cpu.new) }
+    ensures done { AreAllDone (setup shared.now) (view cpu.old).turns → view cpu.new ≡ view cpu.old }
+{
+    for n in 0..shared.infos().len() {
+        send_left(rt, shared, cpu, n as u32);
+    }
+}
+
+/// Whether each queue's stop word is `word`.
+fn are_stops<'a, D: TxDevice>(shared: &Shared<'a, D>, cpu: &mut Cpu<D>, word: u64) -> bool
+    requires seat { IsSeatOf shared.now cpu.old }
+    requires at { position cpu.old ≡ Control false }
+    ensures same { IsElseSame cpu.old cpu.new × (view cpu.new ≡ view cpu.old) }
+    ensures sole { IsSole (view cpu.old) → (view cpu.old).whole.state.shut ≡ None → result ≡ true → (queue : ℕ) → queue < shared.now.queues → slice_index (account_of (view cpu.old)).stops queue ≡ word }
+{
+    for queue in 0..shared.queues() {
+        if shared.load_xoff(cpu, queue) != word {
+            return false;
+        }
+    }
+    true
+}
+
+/// Looks at a station's words. They are quiet where the run lock is free, no call is inside, SCHED is clear and each queue is
+/// open.
+fn look<'a, D: TxDevice>(shared: &Shared<'a, D>, cpu: &mut Cpu<D>) -> Seen
+    requires seat { IsSeatOf shared.now cpu.old }
+    requires at { (position cpu.old ≡ Control false) × ((view cpu.old).control.first ≡ true) × IsReady cpu.old }
+    requires sole { IsSole (view cpu.old) × IsSettled (view cpu.old) }
+    ensures same { IsElseSame cpu.old cpu.new × IsLook (view cpu.old) (view cpu.new) }
+    ensures kept { AreKept (setup shared.now) (view cpu.new) }
+    ensures shows { Shows result (view cpu.new) }
+{
+    let lock = shared.load_lock(cpu);
+    let state = shared.load_state(cpu);
+    if state & DEACTIVATED != 0 {
+        return Seen::Ended;
+    }
+    if are_stops(shared, cpu, HUNG) {
+        return Seen::Hung;
+    }
+    let open = are_stops(shared, cpu, OPEN);
+    if !open || lock != 0 || state & SCHED != 0 {
+        return Seen::Going;
+    }
+    if shared.load_inside(cpu) != 0 {
+        return Seen::Going;
+    }
+    Seen::Ended
+}
+
+/// Wakes the queues and does soft interrupts until the station is deactivated or hung, or its words are quiet. True where it is
+/// hung. The seat is in a call of control afterwards.
+fn serve_to_end<'a, D: TxDevice, R: Wait>(rt: &R, shared: &Shared<'a, D>, cpu: &mut Cpu<D>) -> bool
+    requires seat { IsSeatOf shared.now cpu.old }
+    requires at { (position cpu.old ≡ Idle) × ((view cpu.old).control.first ≡ true) × IsReady cpu.old }
+    requires sole { IsSole (view cpu.old) × IsSettled (view cpu.old) }
+    ensures same { IsSameSeat cpu.old cpu.new × IsKept (view cpu.old) (view cpu.new) }
+    ensures at { (position cpu.new ≡ Control false) × IsReady cpu.new × ((view cpu.new).place.raised ≡ false) }
+    ensures still { ((view cpu.new).control ≡ (view cpu.old).control) × ((view cpu.new).trail ≡ (view cpu.old).trail) }
+    ensures kept { AreKept (setup shared.now) (view cpu.new) }
+    ensures shows { Shows (if result then Hung else Ended) (view cpu.new) }
+{
+    let backoff = Backoff::new();
+    for _ in rt.forever() {
+        irq(shared, cpu);
+        drain(rt, shared, cpu);
+        shared.begin_control(cpu);
+        match look(shared, cpu) {
+            Seen::Ended => return false,
+            Seen::Hung => return true,
+            Seen::Going => shared.end_control(cpu),
+        }
+        backoff.snooze();
+    }
+    unreachable!()
+}
+
+/// Waits until no call is inside and SCHED is clear.
+fn wait_until_left<'a, D: TxDevice, R: Wait>(rt: &R, shared: &Shared<'a, D>, cpu: &mut Cpu<D>)
+    requires seat { IsSeatOf shared.now cpu.old }
+    requires at { position cpu.old ≡ Control false }
+    requires active { IsIn Active (view cpu.old) }
+    ensures same { IsElseSame cpu.old cpu.new × IsLook (view cpu.old) (view cpu.new) }
+{
+    let backoff = Backoff::new();
+    for _ in rt.forever() {
+        if shared.load_inside(cpu) == 0 && shared.load_state(cpu) & SCHED == 0 {
+            return;
+        }
+        backoff.snooze();
+    }
+    unreachable!()
+}
+
+/// Purges a station whose device hangs, once no call is inside and SCHED is clear: all packets that it holds get Purged as their
+/// fate, by the hung unit. It answers their number.
+fn purge_hung<'a, D: TxDevice, R: Wait>(rt: &R, shared: &Shared<'a, D>, cpu: &mut Cpu<D>) -> u32
+    requires seat { IsSeatOf shared.now cpu.old }
+    requires at { (position cpu.old ≡ Control false) × ((view cpu.old).control.first ≡ true) × IsReady cpu.old }
+    requires sole { IsSole (view cpu.old) }
+    requires hung { Shows Hung (view cpu.old) }
+    ensures same { IsSameSeat cpu.old cpu.new × IsKept (view cpu.old) (view cpu.new) }
+    ensures at { (position cpu.new ≡ Idle) × IsReady cpu.new × IsIn Active (view cpu.new) }
+    ensures raised { (view cpu.new).place.raised ≡ (view cpu.old).place.raised }
+    ensures trail { (view cpu.new).trail ≡ Purge (cause.Hung (view cpu.old).whole.state.station.unit) ∷ (view cpu.old).trail }
+    ensures control { (view cpu.new).control ≡ (view cpu.old).control }
+    ensures purged { ((view cpu.new).settled ≡ fates_onto (fate.Purged (cause.Hung (view cpu.old).whole.state.station.unit)) (held (account_of (view cpu.old))) (view cpu.old).settled) × (result ≡ length (held (account_of (view cpu.old)))) }
+    ensures account { account_of (view cpu.new) ≡ after (Purge (cause.Hung (view cpu.old).whole.state.station.unit)) (account_of (view cpu.old)) }
+    ensures device { (view cpu.new).whole.state.station.device ≡ (view cpu.old).whole.state.station.device }
+{
+    wait_until_left(rt, shared, cpu);
+    take_lock(rt, shared, cpu);
+    let Some(station) = &cpu.station else {
+        unreachable!()
+    };
+    let unit = station.unit();
+    shared.begin_hung_purge(cpu);
+    let purged = purge_held(shared, cpu, Cause::Hung(unit));
+    end_resize(shared, cpu);
+    purged
+}
+
+/// Ends a station whose seats are all joined into this one, which isn't raised: transmits what is left of each owner's packets;
+/// then wakes the queues and does soft interrupts until the station is deactivated or hung, or its words are quiet; and where it
+/// is hung, purges it, with the hung unit as the cause. It answers the number purged. Nothing is held afterwards, and each packet
+/// of the station has a fate.
+pub fn finish<'a, D: TxDevice, R: Wait>(rt: &R, shared: &Shared<'a, D>, cpu: &mut Cpu<D>) -> u32
+    requires seat { IsSeatOf shared.now cpu.old }
+    requires at { (position cpu.old ≡ Idle) × ((view cpu.old).control.first ≡ true) × ((view cpu.old).place.raised ≡ false) × IsReady cpu.old }
+    requires sole { IsSole (view cpu.old) × IsSettled (view cpu.old) }
+    requires made { AreFor (setup shared.now) (view cpu.old) }
+    requires turns { AreTurnsFrom (setup shared.now) 0 (view cpu.old).turns }
+    ensures same { IsSameSeat cpu.old cpu.new }
+    ensures kept { ((view cpu.new).share ≡ (view cpu.old).share) × ((view cpu.new).control ≡ (view cpu.old).control) × ((view cpu.new).whole.told ≡ (view cpu.old).whole.told) }
+    ensures at { (position cpu.new ≡ Idle) × ((view cpu.new).place.raised ≡ false) × IsReady cpu.new }
+    ensures turns { AreAllDone (setup shared.now) (view cpu.new).turns }
+    ensures ends { Ends (setup shared.now) result (view cpu.old) (view cpu.new) }
+    ensures finished { IsFinished (setup shared.now) (view cpu.new) }
+{
+    send_all_left(rt, shared, cpu);
+    if serve_to_end(rt, shared, cpu) {
+        return purge_hung(rt, shared, cpu);
+    }
+    shared.end_control(cpu);
+    0
+}

@@ -1,0 +1,98 @@
+//! The length of a station's rings is changed.
+ghost use Rattle.std.specs.Prelude.{◌≡◌, ◌<◌, ◌≤◌, ℕ, ◌∷◌, true, false, None, List, length};
+ghost use Rattle.lq_model.specs.Account.{Resize, Down, Purge, Up, held};
+ghost use Rattle.lq_table.specs.Solo.{IsSole, account_of, solo, heard, locked_to};
+ghost use Rattle.lq_run.specs.Runs.{ended};
+ghost use Rattle.lq_model.specs.declared.fate.Cause.TheVariants as cause;
+ghost use Rattle.lq_model.specs.declared.fate.Fate.TheVariants as fate;
+ghost use Rattle.lq_model.specs.declared.machine.Phase.TheVariants.{Active, Purged};
+ghost use Rattle.lq_model.specs.declared.machine.Position.TheVariants.{Idle, Control};
+ghost use Rattle.lq_table.specs.Sees.{view, position, IsSeatOf, IsSameSeat};
+ghost use Rattle.lq_ring.specs.Fates.{fates_onto};
+ghost use Rattle.lq_qdisc.specs.Sends.{IsReady};
+ghost use Rattle.lq_control.specs.Control.{IsIn, IsKept, Stores, all_dropped};
+
+use crate::activates::deactivate;
+use crate::drains::wait_until_clear;
+use crate::waits::{release, take_lock};
+use lq_device::TxDevice;
+use lq_ring::resize_all;
+use lq_run::end_resize;
+use lq_table::{Cpu, Shared};
+use std::sync::Wait;
+
+/// Changes the length of the rings of an active station while senders go on, as `pfifo_fast_change_tx_queue_len` of
+/// net/sched/sch_generic.c does. It waits for the run lock and for the three producer locks. Each band keeps its first packets
+/// in order; the others get Shrunk as their fate, by the plan's event. It answers their number.
+pub fn resize<'a, D: TxDevice, R: Wait>(
+    rt: &R,
+    shared: &Shared<'a, D>,
+    cpu: &mut Cpu<D>,
+    len: u32,
+    event: u32,
+) -> u32
+    requires seat { IsSeatOf shared.now cpu.old }
+    requires at { (position cpu.old ≡ Idle) × ((view cpu.old).control.first ≡ true) × IsReady cpu.old }
+    requires active { IsIn Active (view cpu.old) }
+    requires len { (0 < len) × (len ≤ shared.now.max_len) }
+    ensures same { IsSameSeat cpu.old cpu.new × IsKept (view cpu.old) (view cpu.new) × ((view cpu.new).control.gone ≡ (view cpu.old).control.gone) }
+    ensures at { (position cpu.new ≡ Idle) × IsReady cpu.new × IsIn Active (view cpu.new) }
+    ensures trail { (view cpu.new).trail ≡ Resize len event ∷ (view cpu.old).trail }
+    ensures shrunk { (lost : List ℕ) × ((view cpu.new).settled ≡ fates_onto (fate.Shrunk event) lost (view cpu.old).settled) × (result ≡ length lost) × (IsSole (view cpu.old) → lost ≡ all_dropped len (account_of (view cpu.old))) }
+    ensures sole { IsSole (view cpu.old) → solo (view cpu.new) ≡ ended (heard (Resize len event) (locked_to true (solo (view cpu.old)))) }
+{
+    shared.begin_control(cpu);
+    take_lock(rt, shared, cpu);
+    let shrunk = resize_all(rt, shared, cpu, len, event);
+    end_resize(shared, cpu);
+    shrunk
+}
+
+/// Changes the length of the empty rings of a station that is deactivated and purged.
+fn relength<'a, D: TxDevice, R: Wait>(
+    rt: &R,
+    shared: &Shared<'a, D>,
+    cpu: &mut Cpu<D>,
+    len: u32,
+    event: u32,
+)
+    requires seat { IsSeatOf shared.now cpu.old }
+    requires at { (position cpu.old ≡ Control false) × IsReady cpu.old }
+    requires purged { IsIn Purged (view cpu.old) }
+    requires len { (0 < len) × (len ≤ shared.now.max_len) }
+    ensures same { IsSameSeat cpu.old cpu.new × IsKept (view cpu.old) (view cpu.new) × ((view cpu.new).control.gone ≡ (view cpu.old).control.gone) }
+    ensures at { (position cpu.new ≡ Control false) × IsReady cpu.new × IsIn Purged (view cpu.new) }
+    ensures trail { (view cpu.new).trail ≡ Resize len event ∷ (view cpu.old).trail }
+    ensures none_lost { (view cpu.new).settled ≡ (view cpu.old).settled }
+{
+    take_lock(rt, shared, cpu);
+    resize_all(rt, shared, cpu, len, event);
+    release(shared, cpu);
+}
+
+/// Changes the length of the rings of an active station while it is deactivated, as `dev_qdisc_change_tx_queue_len` of
+/// net/sched/sch_generic.c does: no packet is dropped for want of room. What the station held gets Purged as its fate, by the
+/// plan's event. It answers how many packets these were.
+pub fn tx_queue_len<'a, D: TxDevice, R: Wait>(
+    rt: &R,
+    shared: &Shared<'a, D>,
+    cpu: &mut Cpu<D>,
+    len: u32,
+    event: u32,
+) -> u32
+    requires seat { IsSeatOf shared.now cpu.old }
+    requires at { (position cpu.old ≡ Idle) × ((view cpu.old).control.first ≡ true) × IsReady cpu.old }
+    requires active { IsIn Active (view cpu.old) }
+    requires len { (0 < len) × (len ≤ shared.now.max_len) }
+    ensures same { IsSameSeat cpu.old cpu.new × IsKept (view cpu.old) (view cpu.new) × ((view cpu.new).control.gone ≡ (view cpu.old).control.gone) }
+    ensures at { (position cpu.new ≡ Idle) × IsReady cpu.new × IsIn Active (view cpu.new) }
+    ensures trail { (view cpu.new).trail ≡ Up ∷ Resize len event ∷ Purge (cause.Event event) ∷ Down event ∷ (view cpu.old).trail }
+    ensures purged { (lost : List ℕ) × Stores (fate.Purged (cause.Event event)) lost (view cpu.old) (view cpu.new) × (result ≡ length lost) × (IsSole (view cpu.old) → lost ≡ held (account_of (view cpu.old))) }
+{
+    let purged = deactivate(rt, shared, cpu, event);
+    wait_until_clear(rt, shared, cpu);
+    relength(rt, shared, cpu, len, event);
+    shared.clear_deactivated(cpu);
+    shared.end_control(cpu);
+    purged
+}

@@ -1,0 +1,106 @@
+//! The device of a station is exchanged.
+ghost use Rattle.std.specs.Prelude.{◌≡◌, ◌<◌, ◌≤◌, ℕ, ◌∷◌, [], true, false, Some, None, List, length, Contains};
+ghost use Rattle.lq_device.specs.Station.{with_device};
+ghost use Rattle.lq_model.specs.Account.{Down, Purge, Swap, Up, held};
+ghost use Rattle.lq_table.specs.Solo.{IsSole, account_of};
+ghost use Rattle.lq_model.specs.declared.fate.Cause.TheVariants as cause;
+ghost use Rattle.lq_model.specs.declared.fate.Fate.TheVariants as fate;
+ghost use Rattle.lq_model.specs.declared.machine.Phase.TheVariants.{Active, Purged};
+ghost use Rattle.lq_model.specs.declared.machine.Position.TheVariants.{Idle, Control};
+ghost use Rattle.lq_table.specs.Views.{HolderPart, WholePart};
+ghost use Rattle.lq_table.specs.Rule.{shown, units_of, station_count};
+ghost use Rattle.lq_table.specs.Controls.{shut_after};
+ghost use Rattle.lq_table.specs.Sees.{view, position, slot, IsSeatOf, IsSameSeat, IsElseSame};
+ghost use Rattle.lq_qdisc.specs.Sends.{IsReady};
+ghost use Rattle.lq_control.specs.Control.{IsIn, IsKept, Stores, all_opened, IsAfterUnits};
+
+use crate::activates::deactivate;
+use crate::drains::wait_until_clear;
+use crate::waits::{release, take_lock};
+use lq_device::TxDevice;
+use lq_table::{Cpu, Shared};
+use std::sync::Wait;
+
+/// Exchanges the device of the station that the seat carries.
+fn change_device<D: TxDevice>(cpu: &mut Cpu<D>, unit: u32, device: D) -> D
+    requires station { (h : HolderPart) × (cpu.old.station ≡ Some (shown h)) }
+    requires device { ((D.state device).accepted ≡ []) × ((D.state device).hung ≡ false) }
+    ensures same { IsSameSeat cpu.old cpu.new × (cpu.new.indices ≡ cpu.old.indices) × (slot cpu.new ≡ slot cpu.old) × (view cpu.new ≡ view cpu.old) }
+    ensures changed { (h : HolderPart) → cpu.old.station ≡ Some (shown h) → (cpu.new.station ≡ Some (with_device (shown h) unit (D.state device))) × (D.state result ≡ h.station.device) }
+{
+    let Some(station) = &mut cpu.station else {
+        unreachable!()
+    };
+    station.change(unit, device)
+}
+
+/// Opens the queues after the first, whose stop word the exchange has stored.
+fn open_queues<'a, D: TxDevice>(shared: &Shared<'a, D>, cpu: &mut Cpu<D>)
+    requires seat { IsSeatOf shared.now cpu.old }
+    requires at { (position cpu.old ≡ Control true) × IsIn Purged (view cpu.old) }
+    requires shut { (view cpu.old).holder.shut ≡ shut_after 0 shared.now.queues }
+    ensures same { IsElseSame cpu.old cpu.new }
+    ensures opened { (w : WholePart) × (view cpu.new ≡ all_opened None w (view cpu.old)) × (w.told ≡ (view cpu.old).whole.told) }
+{
+    for queue in 1..shared.queues() {
+        shared.open_xoff(cpu, queue);
+    }
+}
+
+/// Exchanges the device of a station that is deactivated and purged, under the run lock, and opens its queues.
+fn exchange_device<'a, D: TxDevice, R: Wait>(
+    rt: &R,
+    shared: &Shared<'a, D>,
+    cpu: &mut Cpu<D>,
+    unit: u32,
+    device: D,
+) -> D
+    requires seat { IsSeatOf shared.now cpu.old }
+    requires at { (position cpu.old ≡ Control false) × ((view cpu.old).control.first ≡ true) × IsReady cpu.old }
+    requires purged { IsIn Purged (view cpu.old) }
+    requires unit { (unit < 256) × IsAfterUnits shared.now.station (view cpu.old).trail unit }
+    requires device { ((D.state device).accepted ≡ []) × ((D.state device).hung ≡ false) × (station_count shared.now.infos.now shared.now.station ≤ (D.state device).spare) }
+    ensures same { IsSameSeat cpu.old cpu.new × IsKept (view cpu.old) (view cpu.new) }
+    ensures at { (position cpu.new ≡ Control false) × IsReady cpu.new × IsIn Purged (view cpu.new) }
+    ensures trail { (view cpu.new).trail ≡ Swap unit ∷ (view cpu.old).trail }
+    ensures gone { (old_unit : ℕ) × ((view cpu.new).control.gone ≡ (old_unit, (D.state result).accepted) ∷ (view cpu.old).control.gone) }
+    ensures none_stored { (view cpu.new).settled ≡ (view cpu.old).settled }
+{
+    take_lock(rt, shared, cpu);
+    let old = change_device(cpu, unit, device);
+    shared.exchange(cpu);
+    open_queues(shared, cpu);
+    release(shared, cpu);
+    old
+}
+
+/// Exchanges the device of an active station while it is deactivated: what the station held gets Purged as its fate, by the
+/// plan's event, and its queues are open afterwards. `unit` is above every unit that the station had, and the device has room for
+/// all packets of the station. The old device comes back as it is, and what it has accepted is what the seat knows its unit to have
+/// sent.
+pub fn swap<'a, D: TxDevice, R: Wait>(
+    rt: &R,
+    shared: &Shared<'a, D>,
+    cpu: &mut Cpu<D>,
+    unit: u32,
+    device: D,
+    event: u32,
+) -> D
+    requires seat { IsSeatOf shared.now cpu.old }
+    requires at { (position cpu.old ≡ Idle) × ((view cpu.old).control.first ≡ true) × IsReady cpu.old }
+    requires active { IsIn Active (view cpu.old) }
+    requires unit { (unit < 256) × IsAfterUnits shared.now.station (view cpu.old).trail unit }
+    requires device { ((D.state device).accepted ≡ []) × ((D.state device).hung ≡ false) × (station_count shared.now.infos.now shared.now.station ≤ (D.state device).spare) }
+    ensures same { IsSameSeat cpu.old cpu.new × IsKept (view cpu.old) (view cpu.new) }
+    ensures at { (position cpu.new ≡ Idle) × IsReady cpu.new × IsIn Active (view cpu.new) }
+    ensures trail { (view cpu.new).trail ≡ Up ∷ Swap unit ∷ Purge (cause.Event event) ∷ Down event ∷ (view cpu.old).trail }
+    ensures purged { (lost : List ℕ) × Stores (fate.Purged (cause.Event event)) lost (view cpu.old) (view cpu.new) × (IsSole (view cpu.old) → lost ≡ held (account_of (view cpu.old))) }
+    ensures gone { (old_unit : ℕ) × ((view cpu.new).control.gone ≡ (old_unit, (D.state result).accepted) ∷ (view cpu.old).control.gone) }
+{
+    deactivate(rt, shared, cpu, event);
+    wait_until_clear(rt, shared, cpu);
+    let old = exchange_device(rt, shared, cpu, unit, device);
+    shared.clear_deactivated(cpu);
+    shared.end_control(cpu);
+    old
+}

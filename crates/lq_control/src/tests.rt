@@ -1,0 +1,270 @@
+//! Worked rows with events on one thread: what is answered and what becomes of each packet was told by hand from the rules.
+ghost use Rattle.std.specs.Prelude.{◌≡◌, ℕ, ◌<◌, ◌≤◌, length, true};
+ghost use Rattle.lq_model.specs.declared.machine.Phase.TheVariants.{Active, Purged};
+ghost use Rattle.lq_table.specs.Sees.{view};
+ghost use Rattle.lq_qdisc.specs.Plain.{IsBetweenCalls, IsPlain};
+ghost use Rattle.lq_control.specs.Control.{IsIn};
+ghost use Rattle.lq_control.specs.Plain.{IsControls};
+
+use crate::{down, drain, resize, tx_queue_len, up};
+use lq_device::{BenchDevice, Station, StationPlan, TxDevice};
+use lq_model::{Cause, Fate, Info, Params};
+use lq_qdisc::{Sending, irq, transmit};
+use lq_table::{Cpu, Shared};
+use std::alloc::Global;
+use std::process::Abort;
+use std::sync::Wait;
+
+const PARAMS: Params = Params {
+    burst: 0,
+    busy_every: 0,
+    busy_limit: 0,
+    hang_after: 0,
+};
+
+/// Each packet that it accepts stops its queue.
+const STOPPING: Params = Params {
+    burst: 1,
+    busy_every: 0,
+    busy_limit: 0,
+    hang_after: 0,
+};
+
+/// Packet `rank` of the sender.
+fn info(rank: u32) -> Info {
+    Info {
+        owner: 1,
+        station: 0,
+        band: 1,
+        queue: 0,
+        rank,
+    }
+}
+
+/// The fate of a packet that the device accepted after so many others.
+fn sent(serial: u32) -> Option<Fate> {
+    Some(Fate::Sent { unit: 0, serial })
+}
+
+fn purged(event: u32) -> Option<Fate> {
+    Some(Fate::Purged {
+        cause: Cause::Event(event),
+    })
+}
+
+fn check_packets<A: Abort>(rt: &A, infos: &[Info])
+    ensures { (k : ℕ) → k < length infos.now → IsPlain infos.now 1 k }
+{
+    for k in 0..infos.len() {
+        assert!(rt; infos[k].owner == 1);
+        assert!(rt; infos[k].station == 0);
+        assert!(rt; infos[k].band < 3);
+        assert!(rt; infos[k].queue < 1);
+        assert!(rt; infos[k].rank as usize == k);
+    }
+}
+
+/// The table of these packets, and its one seat.
+fn table<'a, A: Abort>(
+    rt: &A,
+    alloc: Global,
+    infos: &'a [Info],
+    params: Params,
+) -> (Shared<'a, BenchDevice>, Cpu<BenchDevice>)
+    ensures rests { IsControls result.0 result.1 }
+    ensures active { IsIn Active (view result.1) }
+    ensures limit { 8 ≤ result.0.max_len }
+{
+    assert!(rt; infos.len() <= 100);
+    check_packets(rt, infos);
+    let mut device = BenchDevice::new(alloc);
+    device.configure(&params, infos.len()).expect(rt, "memory");
+    let station = Station::new(0, device);
+    let plan = StationPlan {
+        len: 8,
+        max_len: 8,
+        bypass: true,
+        params,
+    };
+    Shared::make(alloc, infos, 0, plan, 1, 2, station).expect(rt, "memory")
+}
+
+fn send<'a, A: Abort + Wait, D: TxDevice>(
+    rt: &A,
+    shared: &Shared<'a, D>,
+    cpu: &mut Cpu<D>,
+    n: usize,
+) -> Sending
+    requires rests { IsControls shared.now cpu.old }
+    ensures rests { IsControls shared.now cpu.new × ((view cpu.new).control ≡ (view cpu.old).control) }
+{
+    let infos = shared.infos();
+    assert!(rt; n < infos.len());
+    assert!(rt; infos[n].owner == 1);
+    assert!(rt; shared.senders() == 2);
+    assert!(rt; infos[n].station == shared.number());
+    assert!(rt; infos[n].band < 3);
+    assert!(rt; infos[n].queue < shared.queues());
+    transmit(rt, shared, cpu, n as u32)
+}
+
+/// Sends so many packets from packet 0 on.
+fn send_first<'a, A: Abort + Wait, D: TxDevice>(
+    rt: &A,
+    shared: &Shared<'a, D>,
+    cpu: &mut Cpu<D>,
+    count: usize,
+)
+    requires rests { IsControls shared.now cpu.old }
+    ensures rests { IsControls shared.now cpu.new × ((view cpu.new).control ≡ (view cpu.old).control) }
+{
+    for n in 0..count {
+        send(rt, shared, cpu, n);
+    }
+}
+
+/// Wakes the queue, with the soft interrupts that this raises.
+fn wake<'a, R: Wait, D: TxDevice>(rt: &R, shared: &Shared<'a, D>, cpu: &mut Cpu<D>)
+    requires rests { IsControls shared.now cpu.old }
+    ensures rests { IsControls shared.now cpu.new × ((view cpu.new).control ≡ (view cpu.old).control) }
+{
+    irq(shared, cpu);
+    drain(rt, shared, cpu);
+}
+
+fn wake_times<'a, R: Wait, D: TxDevice>(
+    rt: &R,
+    shared: &Shared<'a, D>,
+    cpu: &mut Cpu<D>,
+    times: u32,
+)
+    requires rests { IsControls shared.now cpu.old }
+    ensures rests { IsControls shared.now cpu.new × ((view cpu.new).control ≡ (view cpu.old).control) }
+{
+    for _ in 0..times {
+        wake(rt, shared, cpu);
+    }
+}
+
+/// Closes the table, and compares the packets' fates.
+fn close<'a, A: Abort, D: TxDevice>(
+    rt: &A,
+    shared: Shared<'a, D>,
+    cpu: Cpu<D>,
+    fates: &[Option<Fate>],
+)
+    requires rests { IsControls shared cpu }
+{
+    assert!(rt; !cpu.raised());
+    let packets = shared.infos().len();
+    assert_eq!(rt; fates.len(), packets);
+    let closed = shared.close(cpu);
+    for n in 0..packets {
+        assert_eq!(rt; closed.fate(n as u32), fates[n]);
+    }
+}
+
+#[test]
+fn a_deactivated_station_refuses(rt: HostRuntime) {
+    let infos = [info(0), info(1), info(2)];
+    let (shared, mut cpu) = table(&rt, rt.alloc(), &infos, PARAMS);
+    assert_eq!(rt; down(&rt, &shared, &mut cpu, 5), 0);
+    assert_eq!(rt; send(&rt, &shared, &mut cpu, 0), Sending::Refused(5));
+    up(&shared, &mut cpu);
+    assert_eq!(rt; send(&rt, &shared, &mut cpu, 1), Sending::Direct);
+    assert_eq!(rt; send(&rt, &shared, &mut cpu, 2), Sending::Direct);
+    let refused = Some(Fate::Refused { event: 5 });
+    close(&rt, shared, cpu, &[refused, sent(0), sent(1)]);
+}
+
+#[test]
+fn a_deactivation_purges_what_is_held(rt: HostRuntime) {
+    let infos = [info(0), info(1), info(2)];
+    let (shared, mut cpu) = table(&rt, rt.alloc(), &infos, STOPPING);
+    assert_eq!(rt; send(&rt, &shared, &mut cpu, 0), Sending::Direct);
+    assert_eq!(rt; send(&rt, &shared, &mut cpu, 1), Sending::Direct);
+    assert_eq!(rt; send(&rt, &shared, &mut cpu, 2), Sending::Queued);
+    drain(&rt, &shared, &mut cpu);
+    assert_eq!(rt; down(&rt, &shared, &mut cpu, 0), 2);
+    close(&rt, shared, cpu, &[sent(0), purged(0), purged(0)]);
+}
+
+#[test]
+fn a_resize_keeps_the_first(rt: HostRuntime) {
+    let infos = [info(0), info(1), info(2), info(3), info(4)];
+    let (shared, mut cpu) = table(&rt, rt.alloc(), &infos, STOPPING);
+    assert_eq!(rt; send(&rt, &shared, &mut cpu, 0), Sending::Direct);
+    assert_eq!(rt; send(&rt, &shared, &mut cpu, 1), Sending::Direct);
+    assert_eq!(rt; send(&rt, &shared, &mut cpu, 2), Sending::Queued);
+    assert_eq!(rt; send(&rt, &shared, &mut cpu, 3), Sending::Queued);
+    assert_eq!(rt; resize(&rt, &shared, &mut cpu, 1, 4), 1);
+    assert_eq!(rt; send(&rt, &shared, &mut cpu, 4), Sending::FullSeen(2));
+    wake_times(&rt, &shared, &mut cpu, 2);
+    let shrunk = Some(Fate::Shrunk { event: 4 });
+    let full = Some(Fate::Full { seen: 2 });
+    close(&rt, shared, cpu, &[sent(0), sent(1), sent(2), shrunk, full]);
+}
+
+#[test]
+fn a_change_of_length_purges(rt: HostRuntime) {
+    let infos = [info(0), info(1), info(2), info(3)];
+    let (shared, mut cpu) = table(&rt, rt.alloc(), &infos, STOPPING);
+    assert_eq!(rt; send(&rt, &shared, &mut cpu, 0), Sending::Direct);
+    assert_eq!(rt; send(&rt, &shared, &mut cpu, 1), Sending::Direct);
+    assert_eq!(rt; send(&rt, &shared, &mut cpu, 2), Sending::Queued);
+    drain(&rt, &shared, &mut cpu);
+    assert_eq!(rt; tx_queue_len(&rt, &shared, &mut cpu, 2, 7), 2);
+    assert_eq!(rt; send(&rt, &shared, &mut cpu, 3), Sending::Direct);
+    wake(&rt, &shared, &mut cpu);
+    close(&rt, shared, cpu, &[sent(0), purged(7), purged(7), sent(1)]);
+}
+
+/// Packets 5 to 11 stand in slots 3 to 7, 0 and 1 when the rings are resized.
+#[test]
+fn a_resize_turns_a_ring_that_wrapped(rt: HostRuntime) {
+    let infos = [
+        info(0),
+        info(1),
+        info(2),
+        info(3),
+        info(4),
+        info(5),
+        info(6),
+        info(7),
+        info(8),
+        info(9),
+        info(10),
+        info(11),
+        info(12),
+    ];
+    let (shared, mut cpu) = table(&rt, rt.alloc(), &infos, STOPPING);
+    send_first(&rt, &shared, &mut cpu, 10);
+    wake_times(&rt, &shared, &mut cpu, 4);
+    assert_eq!(rt; send(&rt, &shared, &mut cpu, 10), Sending::Queued);
+    assert_eq!(rt; send(&rt, &shared, &mut cpu, 11), Sending::Queued);
+    assert_eq!(rt; resize(&rt, &shared, &mut cpu, 4, 9), 3);
+    assert_eq!(rt; send(&rt, &shared, &mut cpu, 12), Sending::FullSeen(5));
+    wake_times(&rt, &shared, &mut cpu, 4);
+    let shrunk = Some(Fate::Shrunk { event: 9 });
+    let full = Some(Fate::Full { seen: 5 });
+    close(
+        &rt,
+        shared,
+        cpu,
+        &[
+            sent(0),
+            sent(1),
+            sent(2),
+            sent(3),
+            sent(4),
+            sent(5),
+            sent(6),
+            sent(7),
+            sent(8),
+            shrunk,
+            shrunk,
+            shrunk,
+            full,
+        ],
+    );
+}

@@ -1,0 +1,76 @@
+//! The loops in which control waits for senders. Each pauses between two looks by a `Backoff`, and looks at nothing but one word.
+ghost use Rattle.std.specs.Prelude.{◌≡◌, ℕ, ◌<◌, true, false, [], ◌∷◌, None, Some};
+ghost use Rattle.lq_model.specs.Machine.{is_closed};
+ghost use Rattle.lq_model.specs.declared.machine.Phase.{Phase};
+ghost use Rattle.lq_model.specs.declared.machine.Phase.TheVariants.{Closing, Quiet};
+ghost use Rattle.lq_model.specs.declared.machine.Position.TheVariants.{Control};
+ghost use Rattle.lq_table.specs.Views.{HolderPart};
+ghost use Rattle.lq_table.specs.Rule.{IsResting, units_of};
+ghost use Rattle.lq_table.specs.Sees.{view, position, slot, IsSeatOf, IsSameSeat, IsElseSame};
+ghost use Rattle.lq_table.specs.Solo.{IsSole, IsAccounts, solo, locked_to};
+ghost use Rattle.lq_table.specs.Told.{IsKnownSlot, got_in_control};
+ghost use Rattle.lq_run.specs.Runs.{HasStation, HasNone, Rests};
+ghost use Rattle.lq_control.specs.Control.{phased, with_lock_free};
+
+use crossbeam_utils::Backoff;
+use lq_device::TxDevice;
+use lq_table::{Cpu, Shared};
+use std::sync::Wait;
+
+/// Waits until no call is inside, for which `dev_deactivate_many` of net/sched/sch_generic.c has `synchronize_net` and
+/// `some_qdisc_is_busy`.
+pub(crate) fn wait_for_calls<'a, D: TxDevice, R: Wait>(
+    rt: &R,
+    shared: &Shared<'a, D>,
+    cpu: &mut Cpu<D>,
+)
+    requires seat { IsSeatOf shared.now cpu.old }
+    requires at { (position cpu.old ≡ Control false) × ((view cpu.old).control.phase ≡ Closing) }
+    ensures same { IsElseSame cpu.old cpu.new }
+    ensures quiet { (p : Phase) × (view cpu.new ≡ phased Quiet p (view cpu.old)) }
+{
+    let backoff = Backoff::new();
+    for _ in rt.forever() {
+        if shared.load_inside(cpu) == 0 {
+            return;
+        }
+        backoff.snooze();
+    }
+    unreachable!()
+}
+
+/// Waits for the run lock, and takes it with the station.
+pub(crate) fn take_lock<'a, D: TxDevice, R: Wait>(rt: &R, shared: &Shared<'a, D>, cpu: &mut Cpu<D>)
+    requires seat { IsSeatOf shared.now cpu.old }
+    requires at { position cpu.old ≡ Control false }
+    requires empty { HasNone cpu.old }
+    ensures same { IsSameSeat cpu.old cpu.new × (cpu.new.indices ≡ cpu.old.indices) }
+    ensures got { (d : HolderPart) × (view cpu.new ≡ got_in_control d (view cpu.old)) × IsResting d.size d.ends × (0 < d.size) × (d.hand ≡ None) × (d.resizing ≡ None) × (d.shut ≡ None) × IsKnownSlot (view cpu.old).share.about d.slot }
+    ensures units { (view cpu.old).control.first ≡ true → (view cpu.new).holder.units ≡ units_of (view cpu.old).trail }
+    ensures station { HasStation cpu.new }
+    ensures sole { IsSole (view cpu.old) → (solo (view cpu.new) ≡ locked_to true (solo (view cpu.old))) × IsAccounts (view cpu.new) }
+{
+    let backoff = Backoff::new();
+    for _ in rt.forever() {
+        if shared.try_lock(cpu) {
+            shared.move_station(cpu);
+            return;
+        }
+        backoff.snooze();
+    }
+    unreachable!()
+}
+
+/// Gives the station back and releases the run lock of a deactivated station.
+pub(crate) fn release<'a, D: TxDevice>(shared: &Shared<'a, D>, cpu: &mut Cpu<D>)
+    requires seat { IsSeatOf shared.now cpu.old }
+    requires at { (position cpu.old ≡ Control true) × (is_closed (view cpu.old).control.phase ≡ true) × ((view cpu.old).control.purge ≡ None) × ((view cpu.old).holder.shut ≡ None) }
+    requires rests { Rests cpu.old }
+    requires back { HasStation cpu.old }
+    ensures same { IsSameSeat cpu.old cpu.new × (cpu.new.indices ≡ cpu.old.indices) }
+    ensures released { view cpu.new ≡ with_lock_free (view cpu.old) }
+    ensures empty { HasNone cpu.new }
+{
+    shared.move_station(cpu);
+    shared.unlock(cpu);
+}
