@@ -1,0 +1,26 @@
+-- A transmit brings no unit.
+use Rattle.std.proofs.Common.{◌≡◌, ◌≢◌, ℕ, Bool, true, false, List, ◌∷◌, ◌⊎◌, inl, inr, cond, refl, ap, ◌∙◌}
+use Rattle.lq_model.specs.Account.{Event, Join, Full, Refuse, Direct}
+use Rattle.lq_model.specs.declared.fate.Info.{Info}
+use Rattle.lq_model.specs.Plan.{band_in}
+use Rattle.lq_table.specs.Views.{View}
+use Rattle.lq_table.specs.Rule.{units_of}
+use Rattle.lq_qdisc.specs.Sends.{Transmits, came_as, trail_with}
+use Rattle.lq_qdisc.specs.declared.answers.Sending.{Sending}
+use Rattle.lq_qdisc.specs.declared.answers.Sending.TheVariants as sending
+
+units_own : (b : Bool) (e : Event) (t : List Event) → units_of (e ∷ t) ≡ units_of t → units_of (cond b (e ∷ t) t) ≡ units_of t
+units_own true e t same = same
+units_own false e t same = refl
+
+units_came : (infos : List Info) (n : ℕ) (a : Sending) (v : View) → units_of (trail_with (came_as infos n a) v) ≡ units_of v.trail
+units_came infos n sending.Direct v = units_own _ (Direct n) v.trail refl
+units_came infos n sending.Queued v = units_own _ (Join n (band_in infos n)) v.trail refl
+units_came infos n (sending.FullSeen seen) v = units_own _ (Full n seen) v.trail refl
+units_came infos n (sending.Refused event) v = units_own _ (Refuse n event) v.trail refl
+units_came infos n (sending.OutOfTurn found) v = refl
+
+-- whether it was the packet's turn or not
+pub units_sent : (infos : List Info) (bypass : Bool) (n turn due : ℕ) (a : Sending) (old new : View) → (turn ≡ due) ⊎ (turn ≢ due) → (turn ≡ due → Transmits infos bypass n a old new) → (turn ≢ due → new ≡ old) → units_of new.trail ≡ units_of old.trail
+units_sent infos bypass n turn due a old new (inl same) sent still = ap units_of (sent same).trail ∙ units_came infos n a old
+units_sent infos bypass n turn due a old new (inr other) sent still = ap (λ (v : View). units_of v.trail) (still other)
