@@ -1,0 +1,23 @@
+//! The kinds of rounds.
+
+/// What a round does.
+#[derive(Clone, Copy, Drop)]
+pub enum Kind {
+    /// One load, of a turn word.
+    Load,
+    /// One exchange, which tries to wake a queue that is open.
+    Wake,
+    /// A try of a producer lock: a load, and where it is free an exchange, a load and a store.
+    Produce,
+}
+
+impl Kind {
+    /// What is printed of it.
+    pub fn name(self) -> &'static str {
+        match self {
+            Kind::Load => "a load",
+            Kind::Wake => "an exchange that finds another value",
+            Kind::Produce => "a try of a producer lock, given back where it was got",
+        }
+    }
+}

@@ -1,0 +1,174 @@
+//! A table with four seats, and what is measured on it.
+ghost use Rattle.std.specs.Prelude.{All, IfOk, OnOk};
+ghost use Rattle.lq_bench.specs.Ready.{IsReady, IsFirstReady, IsWhole};
+
+use crate::kind::Kind;
+use crate::timing::{timed, timed_alone, timed_control};
+use lq_device::{BenchDevice, Station, StationPlan, TxDevice};
+use lq_model::{NoMemory, Params};
+use lq_table::{Cpu, Shared};
+use std::alloc::Global;
+use std::io;
+use std::marker::Sync;
+use std::rt::Runtime;
+use std::thread::Threads;
+use std::time::Duration;
+
+/// How many seats there are, each on a thread of its own.
+const SEATS: u32 = 4;
+
+const PLAN: StationPlan = StationPlan {
+    len: 1000,
+    max_len: 1000,
+    bypass: true,
+    params: Params {
+        burst: 0,
+        busy_every: 0,
+        busy_limit: 0,
+        hang_after: 0,
+    },
+};
+
+/// Tenths of a nanosecond that a round took.
+fn tenths_a_round(time: Duration, count: u32) -> u128 {
+    if count == 0 {
+        0
+    } else {
+        time.as_nanos() * 10 / count as u128
+    }
+}
+
+/// A line on what was measured: its name, and the time where it is asked for.
+pub fn show<R: Runtime>(
+    rt: &R,
+    name: &str,
+    threads: u32,
+    time: Duration,
+    count: u32,
+    shows: bool,
+) -> io::Result<()> {
+    if shows {
+        let tenths = tenths_a_round(time, count);
+        println!(rt;
+            "{name}, {threads} at once: {}.{} ns",
+            tenths / 10,
+            tenths % 10
+        )
+    } else {
+        println!(rt; "{name}, {threads} at once")
+    }
+}
+
+/// A table without packets, and its first seat.
+fn empty_table<'a>(alloc: Global) -> Result<(Shared<'a, BenchDevice>, Cpu<BenchDevice>), NoMemory>
+    ensures { IfOk result (λ t. IsFirstReady t.0 t.1 × IsWhole t.1) }
+{
+    Shared::make(
+        alloc,
+        &[],
+        0,
+        PLAN,
+        1,
+        SEATS,
+        Station::new(0, BenchDevice::new(alloc)),
+    )
+}
+
+/// One seat more.
+fn add_seat<'a, D: TxDevice>(
+    cpus: &mut Vec<Cpu<D>>,
+    shared: &Shared<'a, D>,
+    cpu: Cpu<D>,
+) -> Result<(), NoMemory>
+    requires seats { All (λ c. IsReady shared.now c) cpus.old.items }
+    requires seat { IsReady shared.now cpu }
+    ensures { OnOk result (All (λ c. IsReady shared.now c) cpus.new.items) }
+{
+    match cpus.push(cpu) {
+        Ok(()) => Ok(()),
+        Err(_) => Err(NoMemory),
+    }
+}
+
+/// A seat for each of the four owners.
+fn four_seats<'a, D: TxDevice>(
+    alloc: Global,
+    shared: &Shared<'a, D>,
+    first: Cpu<D>,
+) -> Result<Vec<Cpu<D>>, NoMemory>
+    requires ready { IsReady shared.now first × IsWhole first }
+    ensures { IfOk result (λ cpus. All (λ c. IsReady shared.now c) cpus.items) }
+{
+    let mut first = first;
+    let second = shared.split(&mut first, 1);
+    let third = shared.split(&mut first, 2);
+    let fourth = shared.split(&mut first, 3);
+    let mut cpus = Vec::new(alloc);
+    add_seat(&mut cpus, shared, first)?;
+    add_seat(&mut cpus, shared, second)?;
+    add_seat(&mut cpus, shared, third)?;
+    add_seat(&mut cpus, shared, fourth)?;
+    Ok(cpus)
+}
+
+/// One seat, with nobody else at the table.
+fn measure_alone<'a, R: Runtime, D: TxDevice>(
+    rt: &R,
+    shared: &Shared<'a, D>,
+    cpu: &mut Cpu<D>,
+    count: u32,
+    shows: bool,
+) -> io::Result<()>
+    requires ready { IsFirstReady shared.now cpu.old }
+{
+    let time = timed_control(rt, shared, cpu, count)?;
+    show(
+        rt,
+        "the run lock with the station, taken and given back by control",
+        1,
+        time,
+        count,
+        shows,
+    )?;
+    for kind in [Kind::Load, Kind::Wake, Kind::Produce] {
+        let time = timed_alone(rt, kind, shared, cpu, count)?;
+        show(rt, kind.name(), 1, time, count, shows)?;
+    }
+    Ok(())
+}
+
+/// Four seats at once.
+fn measure_four<'a, R: Runtime + Threads + Sync, D: TxDevice>(
+    rt: &R,
+    shared: &Shared<'a, D>,
+    cpus: &mut [Cpu<D>],
+    count: u32,
+    shows: bool,
+) -> io::Result<()>
+    requires ready { All (λ c. IsReady shared.now c) cpus.old }
+{
+    for kind in [Kind::Load, Kind::Wake, Kind::Produce] {
+        let time = timed(rt, kind, shared, cpus, count)?;
+        show(rt, kind.name(), SEATS, time, count, shows)?;
+    }
+    Ok(())
+}
+
+/// All that is measured, each on a table of its own.
+pub fn measure_all<R: Runtime + AllocGlobal + Threads + Sync>(
+    rt: &R,
+    count: u32,
+    shows: bool,
+) -> io::Result<()> {
+    let Ok((shared, mut cpu)) = empty_table(rt.alloc()) else {
+        return Err(io::ErrorKind::OutOfMemory.into());
+    };
+    measure_alone(rt, &shared, &mut cpu, count, shows)?;
+    let Ok((shared, first)) = empty_table(rt.alloc()) else {
+        return Err(io::ErrorKind::OutOfMemory.into());
+    };
+    let Ok(mut cpus) = four_seats(rt.alloc(), &shared, first) else {
+        return Err(io::ErrorKind::OutOfMemory.into());
+    };
+    measure_four(rt, &shared, cpus.as_mut_slice(), count, shows)
+}
