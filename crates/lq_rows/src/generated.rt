@@ -1,5 +1,5 @@
 //! The command `gen`: its file, and the counts of its run.
-use crate::fixture::{HEADER, call, call_on};
+use lq_fixture::{HEADER, call, call_on};
 use lq_host::{HostCall, MemHost};
 use lq_pcap::gen_capture;
 use lq_top::{Free, Status};

@@ -1,5 +1,5 @@
 //! Captures in the pcapng format: runs that are done, and the lines that refuse others.
-use crate::fixture::{PLAN, RUN, call, call_on, host_of, host_with};
+use lq_fixture::{PLAN, RUN, call, call_on, host_of, host_with};
 use lq_top::{Free, Status};
 use std::alloc::{AllocError, Global};
 use std::test::Fail;

@@ -1,5 +1,5 @@
 //! Runs that are done: the files and the output of each.
-use crate::fixture::{
+use lq_fixture::{
     EIGHT_STATIONS, HEADER, PLAN, RUN, call, call_on, capture_of, host_of, host_with, records_of,
     three_frames,
 };
@@ -236,7 +236,7 @@ impl Gate for Passes {
 }
 
 #[test]
-fn passes_the_gate_before_each_packet_and_behind_the_last(rt: HostRuntime) -> Result<(), Fail> {
+fn passes_the_gate_before_each_packet_and_after_the_last(rt: HostRuntime) -> Result<(), Fail> {
     let alloc = rt.alloc();
     let capture = three_frames(alloc)?;
     let mut host = host_with(alloc, &capture)?;

@@ -1,6 +1,6 @@
 //! The command `trace`. The files of examples/schedules, without their comments: each ends with no packet held and nobody
 //! on the way. Step numbers and packets sent are counted by hand from the comments of the files.
-use crate::fixture::call;
+use lq_fixture::call;
 use lq_host::{HostCall, MemHost};
 use lq_run_core::TraceReason;
 use lq_top::{Free, Status};

@@ -8,7 +8,7 @@ use Rattle.lq_model.specs.Legal.{ArePlanned, Comes, MayCome}
 use Rattle.lq_model.specs.Plan.{Plan}
 use Rattle.lq_model.specs.declared.fate.Fate.TheVariants as fate
 use Rattle.lq_model.specs.declared.fate.Info.{Info}
-use Rattle.lq_top.specs.Laws.{SawItsSlot, account_behind}
+use Rattle.lq_top.specs.Laws.{SawItsSlot, account_after}
 
 -- it may come where it stands
 pub comes_there : (infos : List Info) (station : ℕ) (start : Account) (later earlier : List Event) (event : Event)
@@ -18,14 +18,14 @@ comes_there infos station start (e ∷ later) earlier event (before, next) = com
 
 module _ (plan : Plan) (infos : List Info) (station n seen : ℕ) where
   saw-now : (e : Event) (past : List Event) → Comes infos station (start_of plan station) past → ArePlanned plan station (start_of plan station) past
-      → MayCome infos station past (account_behind plan station past) e → Gives (account_behind plan station past) e n (fate.Full seen) → SawItsSlot plan infos station n seen
+      → MayCome infos station past (account_after plan station past) e → Gives (account_after plan station past) e n (fate.Full seen) → SawItsSlot plan infos station n seen
   saw-now e past comes planned may (gives_full m k) = record { earlier = past; legal = record { comes = comes; planned = planned }; full = may.full }
 
   -- a packet that has the fate Full saw its slot
   pub saw_its_slot : (past : List Event) → Comes infos station (start_of plan station) past → ArePlanned plan station (start_of plan station) past
-      → (account_behind plan station past).fates n ≡ Some (fate.Full seen) → SawItsSlot plan infos station n seen
+      → (account_after plan station past).fates n ≡ Some (fate.Full seen) → SawItsSlot plan infos station n seen
   saw_its_slot [] comes planned is = absurd cc
-  saw_its_slot (e ∷ past) comes planned is = elim (fate-cases e (account_behind plan station past) n (fate.Full seen) is) [
+  saw_its_slot (e ∷ past) comes planned is = elim (fate-cases e (account_after plan station past) n (fate.Full seen) is) [
     | inl old ↦ saw_its_slot past comes.0 planned.0 old
     | inr new ↦ saw-now e past comes.0 planned.0 comes.1.0 new
   ]

@@ -6,7 +6,7 @@ use Rattle.std.proofs.lemmas.List.{length-set}
 use Rattle.lq_account.proofs.Offers.{served_idle}
 use Rattle.lq_account.proofs.Turns.{served_left, left_stopped}
 use Rattle.lq_model.specs.Account.{Account, with_at}
-use Rattle.lq_model.specs.Alone.{Running, bypass_of, finished, served}
+use Rattle.lq_model.specs.Alone.{RunningStation, bypass_of, finished, served}
 use Rattle.lq_model.specs.Device.{DeviceState, Telling}
 use Rattle.lq_model.specs.Plan.{Plan, station_in}
 use Rattle.lq_model.specs.declared.fate.Fate.{Fate}
@@ -14,7 +14,7 @@ use Rattle.lq_model.specs.declared.fate.Info.{Info}
 use Rattle.lq_top.proofs.FateLists.{set_apart, set_here, some_is}
 use Rattle.lq_top.proofs.StationLemmas.{finished_aside, one_less, station_aside, station_beside}
 use Rattle.lq_top.specs.Fates.{AllTell}
-use Rattle.lq_top.specs.Queue.{QueueState, Setting, Goes, Does, StandsFor, StandsForSome, IsNextPacket, MayTransmit, Finishes, Matches, device_of, running, stop_number, transmitted, woken}
+use Rattle.lq_top.specs.Queue.{QueueState, Setting, Goes, Does, StandsFor, StandsForSome, IsNextPacket, MayTransmit, Finishes, Matches, device_of, running, stop_number, transmitted, woken_and_served}
 use Rattle.lq_top.specs.Stations.{AllAt, AllStand, SomeStand, FirstFinished, AllFinished, IsFinishedBelow, StationStands, IsRunningAt, setting_at, still_to_come, with_change, packet_step, with_first_changed}
 use Rattle.lq_top.specs.declared.queue.stop_value.StopValue.{StopValue}
 use Rattle.lq_top.specs.declared.queue.stop_value.StopValue.TheVariants as stop
@@ -33,7 +33,7 @@ same-or-not (suc k) (suc i) = elim (same-or-not k i) [
 -- one queue of the list is another, and the others are as they were
 pub record OneChanged (i : ℕ) (old new : QueueState) (queues queues' : List QueueState) : Type 0 where
   pub before : slice_get queues i ≡ Some old
-  pub behind : slice_get queues' i ≡ Some new
+  pub after : slice_get queues' i ≡ Some new
   pub others : (k : ℕ) → k ≢ i → slice_get queues' k ≡ slice_get queues k
   pub same_length : length queues' ≡ length queues
 
@@ -43,15 +43,15 @@ at-same i x f = grind arith
 at-other : (i k : ℕ) (x : Account) (f : ℕ → Account) → k ≢ i → with_at i x f k ≡ f k
 at-other i k x f other = grind arith
 
-changed-same : (i : ℕ) (step : Running → Running) (run_at : ℕ → Option Running) → with_change i step run_at i ≡ option_map step (run_at i)
+changed-same : (i : ℕ) (step : RunningStation → RunningStation) (run_at : ℕ → Option RunningStation) → with_change i step run_at i ≡ option_map step (run_at i)
 changed-same i step run_at = grind arith
 
-changed-other : (i k : ℕ) (step : Running → Running) (run_at : ℕ → Option Running) → k ≢ i → with_change i step run_at k ≡ run_at k
+changed-other : (i k : ℕ) (step : RunningStation → RunningStation) (run_at : ℕ → Option RunningStation) → k ≢ i → with_change i step run_at k ≡ run_at k
 changed-other i k step run_at other = grind arith
 
 pub one_moved :
-    (P Q : ℕ → QueueState → Account → Type 0) (plan : Plan) (before : List DeviceState) (i : ℕ) (step : Running → Running) (old new : QueueState) (queues queues' : List QueueState)
-    (run_at : ℕ → Option Running) (all : AllAt P plan before queues run_at) (account : Account)
+    (P Q : ℕ → QueueState → Account → Type 0) (plan : Plan) (before : List DeviceState) (i : ℕ) (step : RunningStation → RunningStation) (old new : QueueState) (queues queues' : List QueueState)
+    (run_at : ℕ → Option RunningStation) (all : AllAt P plan before queues run_at) (account : Account)
     → OneChanged i old new queues queues' → Q i new account
     → ((k : ℕ) (q : QueueState) → k ≢ i → P k q (all.accounts k) → Q k q (all.accounts k))
     → (IsRunningAt plan i (run_at i) old (all.accounts i) → IsRunningAt plan i (option_map step (run_at i)) new account)
@@ -64,7 +64,7 @@ one_moved P Q plan before i step old new queues queues' run_at all account chang
 }
   where
     is-new : (station : ℕ) (q : QueueState) → slice_get queues' station ≡ Some q → station ≡ i → new ≡ q
-    is-new station q here same = some_is (sym changed.behind ∙ (ap (slice_get queues') (sym same) ∙ here))
+    is-new station q here same = some_is (sym changed.after ∙ (ap (slice_get queues') (sym same) ∙ here))
 
     is-old : (station : ℕ) (q : QueueState) → slice_get queues' station ≡ Some q → station ≢ i → slice_get queues station ≡ Some q
     is-old station q here other = sym (changed.others station other) ∙ here
@@ -90,7 +90,7 @@ one_moved P Q plan before i step old new queues queues' run_at all account chang
     ]
 
 -- where the station's device tells, the run went on by this step
-runs-on : (plan : Plan) (i : ℕ) (step : Running → Running) (old new : QueueState) (a b : Account) (run : Option Running)
+runs-on : (plan : Plan) (i : ℕ) (step : RunningStation → RunningStation) (old new : QueueState) (a b : Account) (run : Option RunningStation)
     → ((t : Telling) → (device_of old).told ≡ Some t → Does step t old new a b) → IsRunningAt plan i run old a
     → IsRunningAt plan i (option_map step run) new b
 runs-on plan i step old new a b run moves runs = record {
@@ -105,7 +105,7 @@ runs-on plan i step old new a b run moves runs = record {
 
 -- packet n was brought to its station
 pub brought_all :
-    (plan : Plan) (infos : List Info) (before : List DeviceState) (n : ℕ) (info : Info) (old new : QueueState) (queues queues' : List QueueState) (fates fates' : List (Option Fate)) (run_at : ℕ → Option Running)
+    (plan : Plan) (infos : List Info) (before : List DeviceState) (n : ℕ) (info : Info) (old new : QueueState) (queues queues' : List QueueState) (fates fates' : List (Option Fate)) (run_at : ℕ → Option RunningStation)
     → slice_get infos n ≡ Some info → (all : AllStand plan infos before n queues fates run_at)
     → OneChanged (station_in infos n) old new queues queues'
     → Goes (transmitted infos old.bypass n) (setting_at plan infos (station_in infos n)) (n + 1) (still_to_come infos (station_in infos n) (n + 1)) old new fates fates' (all.accounts (station_in infos n))
@@ -124,21 +124,21 @@ brought_all plan infos before n info old new queues queues' fates fates' run_at 
 
 -- station i was woken
 pub woken_one :
-    (plan : Plan) (infos : List Info) (before : List DeviceState) (n i : ℕ) (old new : QueueState) (queues queues' : List QueueState) (fates fates' : List (Option Fate)) (run_at : ℕ → Option Running)
+    (plan : Plan) (infos : List Info) (before : List DeviceState) (n i : ℕ) (old new : QueueState) (queues queues' : List QueueState) (fates fates' : List (Option Fate)) (run_at : ℕ → Option RunningStation)
     → (all : AllStand plan infos before n queues fates run_at) → OneChanged i old new queues queues'
-    → Goes (woken infos) (setting_at plan infos i) n (still_to_come infos i n) old new fates fates' (all.accounts i)
+    → Goes (woken_and_served infos) (setting_at plan infos i) n (still_to_come infos i n) old new fates fates' (all.accounts i)
     → new.bypass ≡ old.bypass
-    → AllStand plan infos before n queues' fates' (with_change i (woken infos) run_at)
+    → AllStand plan infos before n queues' fates' (with_change i (woken_and_served infos) run_at)
 woken_one plan infos before n i old new queues queues' fates fates' run_at all changed goes bypass =
     one_moved (λ station q a. StationStands plan infos station n q fates a) (λ station q a. StationStands plan infos station n q fates' a)
-    plan before i (woken infos) old new queues queues' run_at all goes.moves.account changed
+    plan before i (woken_and_served infos) old new queues queues' run_at all goes.moves.account changed
     (record { stands = record { underway = goes.moves.underway; served = goes.is_served }; bypass = bypass ∙ (all.each i old changed.before).bypass })
     (λ k q other stands. station_aside plan infos k n i q fates fates' (all.accounts k) (λ e. other (sym e)) goes.moves.elsewhere stands)
-    (runs-on plan i (woken infos) old new (all.accounts i) goes.moves.account (run_at i) goes.moves.tells)
+    (runs-on plan i (woken_and_served infos) old new (all.accounts i) goes.moves.account (run_at i) goes.moves.tells)
 
 -- station k was finished, after those below it
 pub finished_one :
-    (plan : Plan) (infos : List Info) (before : List DeviceState) (k : ℕ) (old new : QueueState) (queues queues' : List QueueState) (fates fates' : List (Option Fate)) (run_at : ℕ → Option Running)
+    (plan : Plan) (infos : List Info) (before : List DeviceState) (k : ℕ) (old new : QueueState) (queues queues' : List QueueState) (fates fates' : List (Option Fate)) (run_at : ℕ → Option RunningStation)
     → (all : FirstFinished k plan infos before queues fates run_at) → OneChanged k old new queues queues'
     → Finishes (setting_at plan infos k) (length infos) (still_to_come infos k (length infos)) old new fates fates' (all.accounts k)
     → FirstFinished (k + 1) plan infos before queues' fates' (with_change k (finished infos) run_at)
@@ -159,7 +159,7 @@ finished_one plan infos before k old new queues queues' fates fates' run_at all 
 
 -- runs that are the same at each station serve as well
 pub same_runs :
-    (P : ℕ → QueueState → Account → Type 0) (plan : Plan) (before : List DeviceState) (queues : List QueueState) (run_at run_at' : ℕ → Option Running)
+    (P : ℕ → QueueState → Account → Type 0) (plan : Plan) (before : List DeviceState) (queues : List QueueState) (run_at run_at' : ℕ → Option RunningStation)
     → ((station : ℕ) → station < length queues → run_at station ≡ run_at' station) → AllAt P plan before queues run_at → AllAt P plan before queues run_at'
 same_runs P plan before queues run_at run_at' same all = record {
   accounts = all.accounts;
@@ -168,17 +168,17 @@ same_runs P plan before queues run_at run_at' same all = record {
   tells = λ tell station q here. subst (λ run. IsRunningAt plan station run q (all.accounts station)) (same station (slice_get_within queues station q here)) (all.tells tell station q here);
 }
 
-pub none_changed : (step : Running → Running) (run_at : ℕ → Option Running) (station : ℕ) → run_at station ≡ with_first_changed 0 step run_at station
+pub none_changed : (step : RunningStation → RunningStation) (run_at : ℕ → Option RunningStation) (station : ℕ) → run_at station ≡ with_first_changed 0 step run_at station
 none_changed step run_at station = grind arith
 
-pub one_more_changed : (step : Running → Running) (run_at : ℕ → Option Running) (k station : ℕ)
+pub one_more_changed : (step : RunningStation → RunningStation) (run_at : ℕ → Option RunningStation) (k station : ℕ)
     → with_change k step (with_first_changed k step run_at) station ≡ with_first_changed (k + 1) step run_at station
 one_more_changed step run_at k station = elim (same-or-not station k) [
   | inl same ↦ grind arith
   | inr other ↦ grind arith
 ]
 
-pub all_changed : (step : Running → Running) (run_at : ℕ → Option Running) (k station : ℕ) → station < k → with_first_changed k step run_at station ≡ option_map step (run_at station)
+pub all_changed : (step : RunningStation → RunningStation) (run_at : ℕ → Option RunningStation) (k station : ℕ) → station < k → with_first_changed k step run_at station ≡ option_map step (run_at station)
 all_changed step run_at k station below = grind arith
 
 -- A QUEUE THAT IS SERVED ALREADY
@@ -204,22 +204,22 @@ served_stands s n rest q fates a t stands = elim (stop-cases q.stop) [
 -- the first so many stations were woken
 pub record FirstWoken (k : ℕ) (queues queues' : List QueueState) (fates fates' : List (Option Fate)) : Type 0 where
   pub same_length : length queues' ≡ length queues
-  pub stand : (plan : Plan) (infos : List Info) (before : List DeviceState) (n : ℕ) (run_at : ℕ → Option Running)
+  pub stand : (plan : Plan) (infos : List Info) (before : List DeviceState) (n : ℕ) (run_at : ℕ → Option RunningStation)
       → AllStand plan infos before n queues fates run_at
-      → AllStand plan infos before n queues' fates' (with_first_changed k (woken infos) run_at)
+      → AllStand plan infos before n queues' fates' (with_first_changed k (woken_and_served infos) run_at)
 
 pub none_woken : (queues : List QueueState) (fates : List (Option Fate)) → FirstWoken 0 queues queues fates fates
 none_woken queues fates = record {
   same_length = refl;
   stand = λ plan infos before n run_at all.
-      same_runs (λ station q a. StationStands plan infos station n q fates a) plan before queues run_at (with_first_changed 0 (woken infos) run_at) (λ station below. none_changed (woken infos) run_at station) all;
+      same_runs (λ station q a. StationStands plan infos station n q fates a) plan before queues run_at (with_first_changed 0 (woken_and_served infos) run_at) (λ station below. none_changed (woken_and_served infos) run_at station) all;
 }
 
 -- station k is woken next
 pub one_more_woken :
     (k : ℕ) (old new : QueueState) (start queues queues' : List QueueState) (fates₀ fates fates' : List (Option Fate))
     → FirstWoken k start queues fates₀ fates → OneChanged k old new queues queues'
-    → ((s : Setting) (n rest : ℕ) (a : Account) → StandsFor s n rest old fates a → Goes (woken s.infos) s n rest old new fates fates' a)
+    → ((s : Setting) (n rest : ℕ) (a : Account) → StandsFor s n rest old fates a → Goes (woken_and_served s.infos) s n rest old new fates fates' a)
     → new.bypass ≡ old.bypass
     → FirstWoken (k + 1) start queues' fates₀ fates'
 one_more_woken k old new start queues queues' fates₀ fates fates' first changed goes bypass = record {
@@ -227,22 +227,22 @@ one_more_woken k old new start queues queues' fates₀ fates fates' first change
   stand = λ plan infos before n run_at all.
       let stands = first.stand plan infos before n run_at all in
       same_runs (λ station q a. StationStands plan infos station n q fates' a) plan before queues'
-      (with_change k (woken infos) (with_first_changed k (woken infos) run_at)) (with_first_changed (k + 1) (woken infos) run_at)
-      (λ station below. one_more_changed (woken infos) run_at k station)
-      (woken_one plan infos before n k old new queues queues' fates fates' (with_first_changed k (woken infos) run_at) stands changed
+      (with_change k (woken_and_served infos) (with_first_changed k (woken_and_served infos) run_at)) (with_first_changed (k + 1) (woken_and_served infos) run_at)
+      (λ station below. one_more_changed (woken_and_served infos) run_at k station)
+      (woken_one plan infos before n k old new queues queues' fates fates' (with_first_changed k (woken_and_served infos) run_at) stands changed
       (goes (setting_at plan infos k) n (still_to_come infos k n) (stands.accounts k) (stands.each k old changed.before).stands) bypass);
 }
 
 pub all_woken :
     (k : ℕ) (start queues : List QueueState) (fates₀ fates : List (Option Fate)) → length start ≤ k → FirstWoken k start queues fates₀ fates
-    → (plan : Plan) (infos : List Info) (before : List DeviceState) (n : ℕ) (run_at : ℕ → Option Running)
-    → AllStand plan infos before n start fates₀ run_at → AllStand plan infos before n queues fates (λ station. option_map (woken infos) (run_at station))
+    → (plan : Plan) (infos : List Info) (before : List DeviceState) (n : ℕ) (run_at : ℕ → Option RunningStation)
+    → AllStand plan infos before n start fates₀ run_at → AllStand plan infos before n queues fates (λ station. option_map (woken_and_served infos) (run_at station))
 all_woken k start queues fates₀ fates enough first plan infos before n run_at all =
-    same_runs (λ station q a. StationStands plan infos station n q fates a) plan before queues (with_first_changed k (woken infos) run_at) (λ station. option_map (woken infos) (run_at station))
-    (λ station below. all_changed (woken infos) run_at k station (let e = first.same_length in omega arith)) (first.stand plan infos before n run_at all)
+    same_runs (λ station q a. StationStands plan infos station n q fates a) plan before queues (with_first_changed k (woken_and_served infos) run_at) (λ station. option_map (woken_and_served infos) (run_at station))
+    (λ station below. all_changed (woken_and_served infos) run_at k station (let e = first.same_length in omega arith)) (first.stand plan infos before n run_at all)
 
 -- the queue of a station that stands stands for some account
-pub stands_for_some : (plan : Plan) (infos : List Info) (before : List DeviceState) (n : ℕ) (queues : List QueueState) (fates : List (Option Fate)) (run_at : ℕ → Option Running)
+pub stands_for_some : (plan : Plan) (infos : List Info) (before : List DeviceState) (n : ℕ) (queues : List QueueState) (fates : List (Option Fate)) (run_at : ℕ → Option RunningStation)
     → AllStand plan infos before n queues fates run_at → (station : ℕ) (q : QueueState) → slice_get queues station ≡ Some q → StandsForSome q fates
 stands_for_some plan infos before n queues fates run_at all station q here = record {
   setting = setting_at plan infos station;
@@ -255,15 +255,15 @@ stands_for_some plan infos before n queues fates run_at all station q here = rec
 pub changed_by_set : (queues : List QueueState) (k : ℕ) (old new : QueueState) → slice_get queues k ≡ Some old → OneChanged k old new queues (slice_set queues k new)
 changed_by_set queues k old new there = record {
   before = there;
-  behind = set_here queues k new (slice_get_within queues k old there);
+  after = set_here queues k new (slice_get_within queues k old there);
   others = λ j other. set_apart queues k j new other;
   same_length = length-set queues k new;
 }
 
--- the first so many stations were finished, behind the last packet
+-- the first so many stations were finished, after the last packet
 pub record FinishedSoFar (k : ℕ) (queues queues' : List QueueState) (fates fates' : List (Option Fate)) : Type 0 where
   pub same_length : length queues' ≡ length queues
-  pub stand : (plan : Plan) (infos : List Info) (before : List DeviceState) (run_at : ℕ → Option Running)
+  pub stand : (plan : Plan) (infos : List Info) (before : List DeviceState) (run_at : ℕ → Option RunningStation)
       → AllStand plan infos before (length infos) queues fates run_at
       → FirstFinished k plan infos before queues' fates' (with_first_changed k (finished infos) run_at)
 
@@ -297,7 +297,7 @@ one_more_finished k old new start queues queues' fates₀ fates fates' first cha
 
 pub all_finished :
     (k : ℕ) (start queues : List QueueState) (fates₀ fates : List (Option Fate)) → length start ≤ k → FinishedSoFar k start queues fates₀ fates
-    → (plan : Plan) (infos : List Info) (before : List DeviceState) (run_at : ℕ → Option Running)
+    → (plan : Plan) (infos : List Info) (before : List DeviceState) (run_at : ℕ → Option RunningStation)
     → AllStand plan infos before (length infos) start fates₀ run_at → AllFinished plan infos before queues fates (λ station. option_map (finished infos) (run_at station))
 all_finished k start queues fates₀ fates enough first plan infos before run_at all = record {
   accounts = some.accounts;
@@ -332,7 +332,7 @@ NextStands plan infos n q fates a =
     StandsFor (setting_at plan infos (station_in infos n)) n (still_to_come infos (station_in infos n) (n + 1) + 1) q fates a
 
 pub next_stands :
-    (plan : Plan) (infos : List Info) (before : List DeviceState) (n : ℕ) (info : Info) (queues : List QueueState) (fates : List (Option Fate)) (run_at : ℕ → Option Running)
+    (plan : Plan) (infos : List Info) (before : List DeviceState) (n : ℕ) (info : Info) (queues : List QueueState) (fates : List (Option Fate)) (run_at : ℕ → Option RunningStation)
     → slice_get infos n ≡ Some info → (all : AllStand plan infos before n queues fates run_at) → (q : QueueState) → slice_get queues (station_in infos n) ≡ Some q
     → NextStands plan infos n q fates (all.accounts (station_in infos n))
 next_stands plan infos before n info queues fates run_at there all q here =

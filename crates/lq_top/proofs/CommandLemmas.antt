@@ -15,9 +15,9 @@ use Rattle.clap.specs.declared.builder.value_parser.Reading.TheVariants.{AsWritt
 use Rattle.clap.specs.declared.parser.matches.ValueSource.TheVariants.{CommandLine}
 use Rattle.clap.proofs.WalkLemmas.{both, walk_stopped}
 use Rattle.lq_run_core.specs.Schedule.{number_in, number_of, within}
-use Rattle.lq_top.specs.Command.{CommandWords, GenWords, HasFewRecords, OfGen, OfRun, OfTrace, command_of, command_of_one, command_of_three, gen_of, is_operand, words_of}
+use Rattle.lq_top.specs.Command.{CommandWords, GenWords, HasFewRecords, OfGen, OfRun, OfTrace, command_of_words, command_of_one, command_of_three, gen_of, is_operand, bytes_of_words}
 use Rattle.lq_top.specs.Forms.{command_in, one_in, table_app, three_in}
-use Rattle.lq_top.proofs.ParseLemmas.{Fails, IsPlain, built_taken, fails_here, fails_later, level_fails_behind, level_fails_below, level_fails_in_walk, level_taken, passes_more, passes_none, plain, some_kind, standing, step, step_fails_as, step_is_taken}
+use Rattle.lq_top.proofs.ParseLemmas.{Fails, IsPlain, built_taken, fails_here, fails_later, level_fails_after, level_fails_below, level_fails_in_walk, level_taken, passes_more, passes_none, plain, some_kind, standing, step, step_fails_as, step_is_taken}
 
 -- THE TABLE AS CLAP BUILDS IT
 
@@ -46,7 +46,7 @@ gen = codes "gen"
 abbrev trace : Text
 trace = codes "trace"
 
--- what is held behind one, two and three operands
+-- what is held after one, two and three operands
 abbrev row : Text → Text → Row
 row id text = record { id = id; values = text ∷ []; count = None; source = Some CommandLine; reading = AsWritten }
 
@@ -65,7 +65,7 @@ held_three p c o = record { rows = row (codes "FIRST") p ∷ row (codes "SECOND"
 abbrev stopped_at : Text → List Text → Walk
 stopped_at verb rest = record { held = nothing_held; waiting = idle; position = 1; is_trailing = false; stopped = Some (verb, rest) }
 
--- the words behind a verb are its form's
+-- the words after a verb are its form's
 passes_stopped : (verb : Text) (seen rest : List Text) → walk_passes whole.top names (stopped_at verb seen) rest ≡ true
 unfolding walked walk_passes
 passes_stopped verb seen [] = refl
@@ -82,15 +82,15 @@ record IsVerb (verb : Text) (form : Shape) : Type 0 where
 
 is_run : IsVerb run (three run)
 unfolding walked walk_passes
-is_run = record { stops = refl; passes = λ rest behind. behind; taken = λ rest. refl; refused = λ rest. refl; enters = λ rest. refl; named = refl }
+is_run = record { stops = refl; passes = λ rest after. after; taken = λ rest. refl; refused = λ rest. refl; enters = λ rest. refl; named = refl }
 
 is_gen : IsVerb gen (three gen)
 unfolding walked walk_passes
-is_gen = record { stops = refl; passes = λ rest behind. behind; taken = λ rest. refl; refused = λ rest. refl; enters = λ rest. refl; named = refl }
+is_gen = record { stops = refl; passes = λ rest after. after; taken = λ rest. refl; refused = λ rest. refl; enters = λ rest. refl; named = refl }
 
 is_trace : IsVerb trace one
 unfolding walked walk_passes
-is_trace = record { stops = refl; passes = λ rest behind. behind; taken = λ rest. refl; refused = λ rest. refl; enters = λ rest. refl; named = refl }
+is_trace = record { stops = refl; passes = λ rest after. after; taken = λ rest. refl; refused = λ rest. refl; enters = λ rest. refl; named = refl }
 
 module _ (verb : Text) (form : Shape) (is : IsVerb verb form) (rest : List Text) where
   walk_verb : walk whole.top.rules names nothing_held (verb ∷ rest) ≡ stopped_at verb rest
@@ -104,7 +104,7 @@ module _ (verb : Text) (form : Shape) (is : IsVerb verb form) (rest : List Text)
       built_taken whole nothing_held (verb ∷ rest) (stopped_at verb rest) walk_verb (is.taken rest ∙ inside)
       (subst (λ (e : Bool). level_passes whole.top names nothing_held (verb ∷ rest) e ≡ true) (sym (ap is_some (is.enters rest))) top)
 
-  -- the words behind the verb are matched by the form
+  -- the words after the verb are matched by the form
   table_matches : option_and_then command_in (subcommand_of table_app (verb ∷ rest)) ≡ command_in (rows_at form rest)
   table_matches = ap (λ (w : Walk). option_and_then command_in (entered whole w.stopped)) walk_verb ∙ ap (option_and_then command_in) (is.enters rest)
 
@@ -143,7 +143,7 @@ module _ (verb p c o : Text) (first : IsPlain p) (second : IsPlain c) (third : I
       (passes_more (three verb) [] _ _ o [] (step_is_taken [] (held_two p c) 3 o refl third (three verb)) (walked_three verb p c o third)
       (passes_none (three verb) [] (standing (held_three p c o) 4))))
 
-  -- three plain words behind the verb are taken
+  -- three plain words after the verb are taken
   three_taken : level_passes (three verb) [] nothing_held (p ∷ c ∷ o ∷ []) false ≡ true
   three_taken = level_taken (three verb) [] nothing_held (p ∷ c ∷ o ∷ []) false (standing (held_three p c o) 4) (walk_three verb p c o first second third) three_passes refl refl refl
 
@@ -152,7 +152,7 @@ module _ (verb p c o : Text) (first : IsPlain p) (second : IsPlain c) (third : I
   three_matched = ap (λ (w : Walk). three_in verb (finished (three verb).rules w.held)) (walk_three verb p c o first second third)
 
 module _ (f : Text) (first : IsPlain f) where
-  -- one plain word behind `trace` is taken
+  -- one plain word after `trace` is taken
   one_taken : level_passes one [] nothing_held (f ∷ []) false ≡ true
   one_taken = level_taken one [] nothing_held (f ∷ []) false (standing (held_one f) 2) (walked_only f first)
       (passes_more one [] _ _ f [] (step_is_taken [] nothing_held 1 f refl first one) (walked_only f first) (passes_none one [] (standing (held_one f) 2))) refl refl refl
@@ -165,7 +165,7 @@ module _ (f : Text) (first : IsPlain f) where
 
 -- without words
 no_words : Fails (fault_of table_app [])
-no_words = level_fails_behind whole.top names nothing_held [] false (entered_fault whole None) (standing nothing_held 1) refl (some_kind _ _)
+no_words = level_fails_after whole.top names nothing_held [] false (entered_fault whole None) (standing nothing_held 1) refl (some_kind _ _)
 
 -- with another verb
 unknown_verb :
@@ -178,13 +178,13 @@ unknown_verb verb rest no_run no_gen no_trace is =
 
 -- another number of operands than three
 none_of_three : (verb : Text) → Fails (level_fault (three verb) [] nothing_held [] false [])
-none_of_three verb = level_fails_behind (three verb) [] nothing_held [] false [] (standing nothing_held 1) refl (some_kind _ _)
+none_of_three verb = level_fails_after (three verb) [] nothing_held [] false [] (standing nothing_held 1) refl (some_kind _ _)
 
 one_of_three : (verb p : Text) → IsPlain p → Fails (level_fault (three verb) [] nothing_held (p ∷ []) false [])
-one_of_three verb p a = level_fails_behind (three verb) [] nothing_held (p ∷ []) false [] (standing (held_one p) 2) (walked_one verb p a) (some_kind _ _)
+one_of_three verb p a = level_fails_after (three verb) [] nothing_held (p ∷ []) false [] (standing (held_one p) 2) (walked_one verb p a) (some_kind _ _)
 
 two_of_three : (verb p c : Text) → IsPlain p → IsPlain c → Fails (level_fault (three verb) [] nothing_held (p ∷ c ∷ []) false [])
-two_of_three verb p c a b = level_fails_behind (three verb) [] nothing_held (p ∷ c ∷ []) false [] (standing (held_two p c) 3) (walk_two verb p c a b) (some_kind _ _)
+two_of_three verb p c a b = level_fails_after (three verb) [] nothing_held (p ∷ c ∷ []) false [] (standing (held_two p c) 3) (walk_two verb p c a b) (some_kind _ _)
 
 more_than_three :
     (verb p c o more : Text) (rest : List Text) → IsPlain p → IsPlain c → IsPlain o → IsPlain more
@@ -199,7 +199,7 @@ more_than_three verb p c o more rest a b d e =
 
 -- another number than one
 none_of_one : Fails (level_fault one [] nothing_held [] false [])
-none_of_one = level_fails_behind one [] nothing_held [] false [] (standing nothing_held 1) refl (some_kind _ _)
+none_of_one = level_fails_after one [] nothing_held [] false [] (standing nothing_held 1) refl (some_kind _ _)
 
 more_than_one : (f more : Text) (rest : List Text) → IsPlain f → IsPlain more → Fails (level_fault one [] nothing_held (f ∷ more ∷ rest) false [])
 more_than_one f more rest a e =
@@ -223,10 +223,10 @@ turned a b differ = elim (cases_Bool (bytes_eq b a)) [
 
 -- plain words are matched as the table says; or they are refused, and are no command
 data IsJudged (words : List Text) : Type 0 where
-  Taken : takes table_app words ≡ true → option_and_then command_in (subcommand_of table_app words) ≡ command_of words → IsJudged words
-  Refused : Fails (fault_of table_app words) → None ≡ command_of words → IsJudged words
+  Taken : takes table_app words ≡ true → option_and_then command_in (subcommand_of table_app words) ≡ command_of_words words → IsJudged words
+  Refused : Fails (fault_of table_app words) → None ≡ command_of_words words → IsJudged words
 
--- the words behind a verb with three operands
+-- the words after a verb with three operands
 judged_three :
     (verb : Text) → IsVerb verb (three verb) → bytes_eq verb trace ≡ false → (rest : List Text) → list_all is_operand rest ≡ true → IsJudged (verb ∷ rest)
 judged_three verb is other [] all = Refused (form_fails verb (three verb) is [] (none_of_three verb)) refl
@@ -255,7 +255,7 @@ judged_three verb is other (p ∷ c ∷ o ∷ more ∷ rest) all =
     Refused (form_fails verb (three verb) is (p ∷ c ∷ o ∷ more ∷ rest)
     (more_than_three verb p c o more rest (plain p first.0) (plain c second.0) (plain o third.0) (plain more fourth.0))) refl
 
--- the words behind `trace`
+-- the words after `trace`
 judged_trace : (rest : List Text) → list_all is_operand rest ≡ true → IsJudged (trace ∷ rest)
 judged_trace [] all = Refused (form_fails trace one is_trace [] none_of_one) refl
 judged_trace (f ∷ []) all =
@@ -268,13 +268,13 @@ judged_trace (f ∷ more ∷ rest) all =
     let fails = form_fails trace one is_trace (f ∷ more ∷ rest) (more_than_one f more rest (plain f first.0) (plain more second.0)) in
     Refused fails (no_trace more rest)
   where
-    no_trace : (next : Text) (behind : List Text) → None ≡ command_of (trace ∷ f ∷ next ∷ behind)
+    no_trace : (next : Text) (after : List Text) → None ≡ command_of_words (trace ∷ f ∷ next ∷ after)
     no_trace next [] = refl
     no_trace next (o ∷ []) = if_none (is_operand f && (is_operand next && is_operand o))
     no_trace next (o ∷ n ∷ ns) = refl
 
 -- with another verb there is no command
-no_command : (verb : Text) (rest : List Text) → bytes_eq verb run ≡ false → bytes_eq verb gen ≡ false → bytes_eq verb trace ≡ false → None ≡ command_of (verb ∷ rest)
+no_command : (verb : Text) (rest : List Text) → bytes_eq verb run ≡ false → bytes_eq verb gen ≡ false → bytes_eq verb trace ≡ false → None ≡ command_of_words (verb ∷ rest)
 no_command verb [] no_run no_gen no_trace = refl
 no_command verb (p ∷ []) no_run no_gen no_trace = rw no_trace (if_none (is_operand p))
 no_command verb (p ∷ c ∷ []) no_run no_gen no_trace = refl
@@ -300,14 +300,14 @@ judged (verb ∷ rest) all =
 
 module _ (words : List Text) where
   -- what is matched is the command
-  pub matched : list_all is_operand words ≡ true → fault_of table_app words ≡ [] → option_and_then command_in (subcommand_of table_app words) ≡ command_of words
+  pub matched : list_all is_operand words ≡ true → fault_of table_app words ≡ [] → option_and_then command_in (subcommand_of table_app words) ≡ command_of_words words
   matched all fits = elim (judged words all) [
     | Taken takes is ↦ is
     | Refused fails none ↦ absurd (fails fits)
   ]
 
   -- words that are not taken are no command
-  pub unmatched : list_all is_operand words ≡ true → (takes table_app words ≡ true → ⊥) → None ≡ command_of words
+  pub unmatched : list_all is_operand words ≡ true → (takes table_app words ≡ true → ⊥) → None ≡ command_of_words words
   unmatched all fails = elim (judged words all) [
     | Taken takes is ↦ absurd (fails takes)
     | Refused faulty none ↦ none
@@ -323,7 +323,7 @@ verb_is_plain verb other rest is all some = elim (cases_Bool (bytes_eq other ver
 ]
 
 -- nor are those with a word that is empty or has a dash in front
-pub not_plain : (words : List Text) → list_all is_operand words ≡ false → None ≡ command_of words
+pub not_plain : (words : List Text) → list_all is_operand words ≡ false → None ≡ command_of_words words
 not_plain [] some = absurd (true≢false some)
 not_plain (verb ∷ []) some = refl
 not_plain (verb ∷ p ∷ []) some = elim (cases_Bool (is_operand p)) [
@@ -342,15 +342,15 @@ not_plain (verb ∷ p ∷ c ∷ o ∷ []) some = elim (cases_Bool (is_operand p 
 not_plain (verb ∷ p ∷ c ∷ o ∷ n ∷ ns) some = refl
 
 -- the words and their texts
-pub words_all : (words : List (Bor Text)) → list_all (λ word. is_operand word.now) words ≡ list_all is_operand (words_of words)
+pub words_all : (words : List (Bor Text)) → list_all (λ word. is_operand word.now) words ≡ list_all is_operand (bytes_of_words words)
 words_all [] = refl
 words_all (word ∷ rest) = ap (λ b. is_operand word.now && b) (words_all rest)
 
-pub plain_words : (words : List (Bor Text)) → list_all (λ word. is_operand word.now) words ≡ true → list_all is_operand (words_of words) ≡ true
+pub plain_words : (words : List (Bor Text)) → list_all (λ word. is_operand word.now) words ≡ true → list_all is_operand (bytes_of_words words) ≡ true
 plain_words words e = sym (words_all words) ∙ e
 
-pub not_plain_words : (words : List (Bor Text)) → list_all (λ word. is_operand word.now) words ≡ false → None ≡ command_of (words_of words)
-not_plain_words words e = not_plain (words_of words) (sym (words_all words) ∙ e)
+pub not_plain_words : (words : List (Bor Text)) → list_all (λ word. is_operand word.now) words ≡ false → None ≡ command_of_words (bytes_of_words words)
+not_plain_words words e = not_plain (bytes_of_words words) (sym (words_all words) ∙ e)
 
 -- HOW MANY RECORDS
 
@@ -374,7 +374,7 @@ few_gen None count out = _
 few_gen (Some n) count out = few_in n (number_of count) out
 
 -- a command generates at most 1,000,000 records
-pub few_records : (words : List Text) → HasFewRecords (command_of words)
+pub few_records : (words : List Text) → HasFewRecords (command_of_words words)
 few_records [] = _
 few_records (verb ∷ []) = _
 few_records (verb ∷ p ∷ []) = few_if (is_operand p) _ None (few_if (bytes_eq verb trace) (Some (OfTrace p)) None _ _) _

@@ -61,7 +61,7 @@ module _ (t : Telling) (n sent : ℕ) (m : MeetsParams t sent false) where
 none_some : {X : Type 0} {x : X} → None ≡ Some x → ⊥
 none_some e = cc
 
--- what a device tells behind an answer
+-- what a device tells after an answer
 pub told_now : (answer : Tx) (n : ℕ) (t : Telling) (old new : DeviceState) → Answers answer 0 n old new → old.told ≡ Some t → new.told ≡ Some (told_after answer t)
 told_now answer n t old new an e = an.told ∙ ap (λ o. option_map (told_after answer) o) e
 

@@ -12,7 +12,7 @@ use Rattle.lq_account.specs.Accounts.{AreSettledStations, IsClosed}
 use Rattle.lq_fates.proofs.CountLemmas.{list_for_each}
 use Rattle.lq_fates.proofs.SentLemmas.{count_is, sent_is}
 use Rattle.lq_model.specs.Account.{Account}
-use Rattle.lq_model.specs.Alone.{Running, alone, after_packets, after_run, fate_in, fates_from, finished, new_stations}
+use Rattle.lq_model.specs.Alone.{RunningStation, alone, after_packets, after_run, fate_in, run_fates, finished, new_stations}
 use Rattle.lq_model.specs.Device.{DeviceState, Telling}
 use Rattle.lq_model.specs.Plan.{Plan, is_swap, queue_in, station_in, unit_count}
 use Rattle.lq_model.specs.Sent.{sent_of}
@@ -25,27 +25,27 @@ use Rattle.lq_model.specs.declared.fate.Fate.TheVariants.{Purged}
 use Rattle.lq_model.specs.declared.fate.Info.{Info}
 use Rattle.lq_top.proofs.FateLists.{some_is}
 use Rattle.lq_top.proofs.StationLemmas.{unit_is}
-use Rattle.lq_top.proofs.TurnLemmas.{no_events_behind}
+use Rattle.lq_top.proofs.TurnLemmas.{no_events_after}
 use Rattle.lq_top.specs.Fates.{AllTell, AreFatesOf, IsCallOfUnit, accepted_of}
 use Rattle.lq_top.specs.Queue.{IsCallOf, QueueState, MeetsParams, device_of, is_hung_value}
 use Rattle.lq_top.specs.Stations.{AllFinished, IsRunningAt, StationFinished}
 use Rattle.lq_top.specs.declared.queue.stop_value.StopValue.TheVariants as stop
 
 -- the run came to its end
-pub record RunEnds (plan : Plan) (infos : List Info) (before behind : List DeviceState) (queues : List QueueState) (options : List (Option Fate)) (fates : List Fate)
-    (run_at : ℕ → Option Running) : Type 0 where
+pub record RunEnds (plan : Plan) (infos : List Info) (before after : List DeviceState) (queues : List QueueState) (options : List (Option Fate)) (fates : List Fate)
+    (run_at : ℕ → Option RunningStation) : Type 0 where
   pub none : plan.events ≡ []
   pub all : AllFinished plan infos before queues options run_at
   pub of_plan : (n : ℕ) → n < length infos → station_in infos n < length plan.stations
   pub first_queue : (n : ℕ) → queue_in infos n ≡ 0
   pub one_each : length options ≡ length infos
   pub settled : map (λ fate. Some fate) fates ≡ options
-  pub devices : (station : ℕ) (q : QueueState) → slice_get queues station ≡ Some q → slice_get behind station ≡ Some (device_of q)
+  pub devices : (station : ℕ) (q : QueueState) → slice_get queues station ≡ Some q → slice_get after station ≡ Some (device_of q)
   pub runs : (station : ℕ) → station < length plan.stations
       → run_at station ≡ option_map (finished infos) (slice_get (after_packets plan infos (new_stations 0 plan.stations) (length infos)) station)
 
-module _ (plan : Plan) (infos : List Info) (before behind : List DeviceState) (queues : List QueueState) (options : List (Option Fate)) (fates : List Fate)
-    (run_at : ℕ → Option Running) (ends : RunEnds plan infos before behind queues options fates run_at) where
+module _ (plan : Plan) (infos : List Info) (before after : List DeviceState) (queues : List QueueState) (options : List (Option Fate)) (fates : List Fate)
+    (run_at : ℕ → Option RunningStation) (ends : RunEnds plan infos before after queues options fates run_at) where
   accounts : ℕ → Account
   accounts = ends.all.accounts
 
@@ -106,10 +106,10 @@ module _ (plan : Plan) (infos : List Info) (before behind : List DeviceState) (q
   units-are : unit_count plan ≡ length plan.stations
   units-are = ap (λ events. length plan.stations + count_by is_swap events) ends.none ∙ omega arith
 
-  devices-are : (unit : ℕ) → unit < unit_count plan → slice_get (accepted_of behind) unit ≡ Some (sent_of fates unit)
+  devices-are : (unit : ℕ) → unit < unit_count plan → slice_get (accepted_of after) unit ≡ Some (sent_of fates unit)
   devices-are unit below =
       let inside : unit < length plan.stations = subst (λ k. unit < k) units-are below in
-      slice_get-map (λ device. device.accepted) behind unit
+      slice_get-map (λ device. device.accepted) after unit
       ∙ (ap (option_map (λ device. device.accepted)) (ends.devices unit (queue-at unit inside).0 (queue-at unit inside).1)
       ∙ ap Some (sym (sent_is fates unit (device_of (queue-at unit inside).0).accepted (sent-list unit inside))))
 
@@ -122,7 +122,7 @@ module _ (plan : Plan) (infos : List Info) (before behind : List DeviceState) (q
       subst (λ u. (under : u < length plan.stations) × ((queue-at u under).0.stop ≡ stop.Hung)) (sym same)
       (below, (own (station_in infos n) below).purged n (Hung unit) (sym (agree (station_in infos n) below n inside refl) ∙ there))
 
-  hung-is : (n unit : ℕ) (device : DeviceState) → slice_get fates n ≡ Some (Purged (Hung unit)) → slice_get behind unit ≡ Some device → device.hung ≡ true
+  hung-is : (n unit : ℕ) (device : DeviceState) → slice_get fates n ≡ Some (Purged (Hung unit)) → slice_get after unit ≡ Some device → device.hung ≡ true
   hung-is n unit device there here =
       let found = purged-by n unit there in
       let q = (queue-at unit found.0).0 in
@@ -159,7 +159,7 @@ module _ (plan : Plan) (infos : List Info) (before behind : List DeviceState) (q
   -- where the devices tell, each packet's fate is that of its station in the run of one sender
   fate-alone : AllTell (length plan.stations) before → (n : ℕ) → n < length infos
       → fate_in (after_run plan infos (new_stations 0 plan.stations)) infos n ≡ (ends.all.accounts (station_in infos n)).fates n
-  fate-alone tell n inside = ap (option_and_then (λ s. s.account.fates n)) (behind-run ∙ runs.run_is)
+  fate-alone tell n inside = ap (option_and_then (λ s. s.account.fates n)) (run-at-end ∙ runs.run_is)
     where
       below : station_in infos n < length plan.stations
       below = ends.of_plan n inside
@@ -167,21 +167,21 @@ module _ (plan : Plan) (infos : List Info) (before behind : List DeviceState) (q
       runs : IsRunningAt plan (station_in infos n) (run_at (station_in infos n)) (queue-at (station_in infos n) below).0 (ends.all.accounts (station_in infos n))
       runs = ends.all.tells tell (station_in infos n) (queue-at (station_in infos n) below).0 (queue-at (station_in infos n) below).1
 
-      behind-run : slice_get (after_run plan infos (new_stations 0 plan.stations)) (station_in infos n) ≡ run_at (station_in infos n)
-      behind-run =
+      run-at-end : slice_get (after_run plan infos (new_stations 0 plan.stations)) (station_in infos n) ≡ run_at (station_in infos n)
+      run-at-end =
           ap (λ stations. slice_get (map (finished infos) stations) (station_in infos n))
-          (no_events_behind plan infos (length infos) (after_packets plan infos (new_stations 0 plan.stations) (length infos)) ends.none)
+          (no_events_after plan infos (length infos) (after_packets plan infos (new_stations 0 plan.stations) (length infos)) ends.none)
           ∙ (slice_get-map (finished infos) (after_packets plan infos (new_stations 0 plan.stations) (length infos)) (station_in infos n)
           ∙ sym (ends.runs (station_in infos n) below))
 
   is-alone : AllTell (length plan.stations) before → map (λ fate. Some fate) fates ≡ alone plan infos
-  unfolding fates_from
+  unfolding run_fates
   is-alone tell = ends.settled ∙ list_for_each (fate_in (after_run plan infos (new_stations 0 plan.stations)) infos) options (length infos) ends.one_each
       (λ n d inside. let below = ends.of_plan n inside in
       get_or_from_slice_get options n ((ends.all.accounts (station_in infos n)).fates n) d ((own (station_in infos n) below).matches.fates_are.each n inside refl)
       ∙ sym (fate-alone tell n inside))
 
-  asked-are : (unit : ℕ) (device : DeviceState) → unit < unit_count plan → slice_get behind unit ≡ Some device → All (IsCallOfUnit plan infos unit) device.asked
+  asked-are : (unit : ℕ) (device : DeviceState) → unit < unit_count plan → slice_get after unit ≡ Some device → All (IsCallOfUnit plan infos unit) device.asked
   asked-are unit device below here =
       let inside : unit < length plan.stations = subst (λ k. unit < k) units-are below in
       let q = queue-at unit inside in
@@ -194,7 +194,7 @@ module _ (plan : Plan) (infos : List Info) (before behind : List DeviceState) (q
         one_of_its = subst (λ queue. queue < 1) (sym (is.own_queue ∙ ends.first_queue call.packet)) (omega arith);
       }) (device_of q.0).asked (own unit inside).matches.asked)
 
-  pub fates_of_run : AreFatesOf plan infos fates before behind
+  pub fates_of_run : AreFatesOf plan infos fates before after
   fates_of_run = record {
     settled = is-settled;
     complete = complete plan infos fates ends.of_plan is-settled;

@@ -19,12 +19,12 @@ pub cut_before : (xs ys : List FileText) (old new : HostState) → FilesAreCut x
 cut_before [] ys old new same = cut_none ys old new same
 cut_before (x ∷ xs) ys old new cut = elim cut [ inl here ↦ inl here | inr later ↦ inr (cut_before xs ys (file_written old x) new later) ]
 
--- and so is a stop behind files that are whole
-cut_behind : (xs ys : List FileText) (old new : HostState) → FilesAreCut ys (files_written old xs) new → FilesAreCut (xs ++ ys) old new
-cut_behind [] ys old new cut = cut
-cut_behind (x ∷ xs) ys old new cut = inr (cut_behind xs ys (file_written old x) new cut)
+-- and so is a stop after files that are whole
+cut_after : (xs ys : List FileText) (old new : HostState) → FilesAreCut ys (files_written old xs) new → FilesAreCut (xs ++ ys) old new
+cut_after [] ys old new cut = cut
+cut_after (x ∷ xs) ys old new cut = inr (cut_after xs ys (file_written old x) new cut)
 
--- where all are whole it was stopped behind the last one
+-- where all are whole it was stopped after the last one
 pub cut_whole : (xs : List FileText) (old new : HostState) → new ≡ files_written old xs → FilesAreCut xs old new
 cut_whole [] old new whole = whole
 cut_whole (x ∷ xs) old new whole = inr (cut_whole xs (file_written old x) new whole)
@@ -37,7 +37,7 @@ is_cut name text file old new named texted cut =
 
 -- one file more is cut, or whole
 pub cut_next : (xs : List FileText) (x : FileText) (old mid new : HostState) → mid ≡ files_written old xs → FileIsCut x mid new → FilesAreCut (xs ++ x ∷ []) old new
-cut_next xs x old mid new whole cut = cut_behind xs (x ∷ []) old new (subst (λ (m : HostState). FilesAreCut (x ∷ []) m new) whole (inl cut))
+cut_next xs x old mid new whole cut = cut_after xs (x ∷ []) old new (subst (λ (m : HostState). FilesAreCut (x ∷ []) m new) whole (inl cut))
 
 pub whole_next :
     (xs : List FileText) (x : FileText) (old mid new : HostState) → mid ≡ files_written old xs → new ≡ file_written mid x → new ≡ files_written old (xs ++ x ∷ [])

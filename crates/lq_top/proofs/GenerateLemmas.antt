@@ -4,83 +4,80 @@ use Rattle.lq_model.specs.Capture.{Capture, Refusal as CaptureRefusal, capture_o
 use Rattle.lq_model.specs.Device.{DeviceState}
 use Rattle.lq_model.specs.Generated.{generated_capture}
 use Rattle.lq_model.specs.Plan.{Plan, infos_of, unit_count}
-use Rattle.lq_model.specs.Texts.{counts_text}
 use Rattle.lq_model.specs.declared.fate.Fate.{Fate}
 use Rattle.lq_model.specs.declared.fate.Info.{Info}
 use Rattle.lq_host.specs.Host.{HostState, wrote}
-use Rattle.lq_pcapng.specs.File.{as_classic, packets_of}
+use Rattle.lq_pcapng.specs.File.{as_classic, packets_of_file}
 use Rattle.lq_pcapng.specs.declared.file.CaptureFile.TheVariants.{Classic}
 use Rattle.lq_plan.specs.Generated.{generated_plan}
 use Rattle.lq_top.specs.Command.{GenWords}
-use Rattle.lq_top.specs.Decision.{Generates, Verdict, by_generated, by_plan, placed_on, units_of, verdict_of_gen, with_refusal}
+use Rattle.lq_top.specs.Decision.{Generates, Verdict, by_generated, by_plan, placed_on, units_changed_by, verdict_of_gen, with_refusal}
 use Rattle.lq_top.specs.Fates.{AreFatesOf}
-use Rattle.lq_top.specs.Headline.{AreCountsCut, HasCounted, Run, counts_of, generated_file, run_of}
-use Rattle.lq_top.specs.Outcome.{EndsOrStops, Stops}
+use Rattle.lq_top.specs.Headline.{AreCountsCut, HasCounted, Run, counts_text_of, generated_file, run_of}
+use Rattle.lq_top.specs.Outcome.{CompletesOrStops, Stops}
 use Rattle.lq_top.specs.Written.{FileIsCut, OutputHasPrefix, file_written}
 use Rattle.lq_top.specs.declared.refusal.Refusal.{Refusal}
-use Rattle.lq_top.specs.declared.status.Status.{Status}
-use Rattle.lq_top.specs.declared.status.Status.TheVariants as status
-use Rattle.lq_top.specs.declared.stop.Stop.{Stop}
+use Rattle.lq_top.specs.declared.answer.Status.{Status}
+use Rattle.lq_top.specs.declared.answer.Status.TheVariants as status
+use Rattle.lq_top.specs.declared.answer.Stop.{Stop}
 use Rattle.lq_top.proofs.GeneratedVerdict.{is_accepted}
+use Rattle.lq_top.proofs.RunLemmas.{counts_by}
 
 -- it was stopped in its file, or before it
 pub cut_in_file :
-    (out text : List ℕ) (plan : Plan) (r : Result Capture CaptureRefusal) (old new : HostState) (before behind : List DeviceState) → IsOkAnd r (λ _. Unit {0})
-    → FileIsCut (generated_file out text) old new → Stops (by_generated out text plan (with_refusal (as_classic r))) old new before behind
-cut_in_file out text plan (Ok c) old new before behind ok cut = inl (inl cut)
-cut_in_file out text plan (Err r) old new before behind ok cut = absurd ok
+    (out text : List ℕ) (plan : Plan) (r : Result Capture CaptureRefusal) (old new : HostState) (before after : List DeviceState) → IsOkAnd r (λ _. Unit {0})
+    → FileIsCut (generated_file out text) old new → Stops (by_generated out text plan (with_refusal (as_classic r))) old new before after
+cut_in_file out text plan (Ok c) old new before after ok cut = inl (inl cut)
+cut_in_file out text plan (Err r) old new before after ok cut = absurd ok
 
 -- the file is whole, and nothing else was written
-pub cut_behind_file :
-    (out text : List ℕ) (plan : Plan) (r : Result Capture CaptureRefusal) (old new : HostState) (before behind : List DeviceState) → IsOkAnd r (λ _. Unit {0})
-    → new ≡ file_written old (generated_file out text) → Stops (by_generated out text plan (with_refusal (as_classic r))) old new before behind
-cut_behind_file out text plan (Ok c) old new before behind ok whole = inl (inr whole)
-cut_behind_file out text plan (Err r) old new before behind ok whole = absurd ok
+pub cut_after_file :
+    (out text : List ℕ) (plan : Plan) (r : Result Capture CaptureRefusal) (old new : HostState) (before after : List DeviceState) → IsOkAnd r (λ _. Unit {0})
+    → new ≡ file_written old (generated_file out text) → Stops (by_generated out text plan (with_refusal (as_classic r))) old new before after
+cut_after_file out text plan (Ok c) old new before after ok whole = inl (inr whole)
+cut_after_file out text plan (Err r) old new before after ok whole = absurd ok
 
-counted : (out text : List ℕ) (plan : Plan) (c : Capture) (old mid new : HostState) (before behind : List DeviceState) (result : Result Status Stop)
-    → mid ≡ file_written old (generated_file out text) → IfOk result (λ answer. answer ≡ status.Done) → OnOk result (HasCounted (run_of out plan (Classic c)) mid new before behind)
-    → OnErr result (AreCountsCut (run_of out plan (Classic c)) mid new before behind) → EndsOrStops (Generates text (run_of out plan (Classic c))) old new before behind result
-counted out text plan c old mid new before behind (Ok answer) made is whole cut =
-    (is, (whole.0, whole.1, subst (λ (s : HostState). new ≡ wrote s 0 (counts_of (run_of out plan (Classic c)) whole.0)) made whole.2))
-counted out text plan c old mid new before behind (Err stop) made is whole cut = elim cut [
+counted : (out text : List ℕ) (plan : Plan) (c : Capture) (old mid new : HostState) (before after : List DeviceState) (result : Result Status Stop)
+    → mid ≡ file_written old (generated_file out text) → IfOk result (λ answer. answer ≡ status.Done) → OnOk result (HasCounted (run_of out plan (Classic c)) mid new before after)
+    → OnErr result (AreCountsCut (run_of out plan (Classic c)) mid new before after) → CompletesOrStops (Generates text (run_of out plan (Classic c))) old new before after result
+counted out text plan c old mid new before after (Ok answer) made is whole cut =
+    (is, (whole.0, whole.1, subst (λ (s : HostState). new ≡ wrote s 0 (counts_text_of (run_of out plan (Classic c)) whole.0)) made whole.2))
+counted out text plan c old mid new before after (Err stop) made is whole cut = elim cut [
   | inl same ↦ inl (inr (same ∙ made))
-  | inr part ↦ inr (part.0, part.1, subst (λ (s : HostState). OutputHasPrefix (counts_of (run_of out plan (Classic c)) part.0) s new) made part.2)
+  | inr part ↦ inr (part.0, part.1, subst (λ (s : HostState). OutputHasPrefix (counts_text_of (run_of out plan (Classic c)) part.0) s new) made part.2)
 ]
 
 -- the file is whole, and its capture was run
 pub generated_does :
-    (out text : List ℕ) (plan : Plan) (c : Capture) (r : Result Capture CaptureRefusal) (old mid new : HostState) (before behind : List DeviceState) (result : Result Status Stop)
+    (out text : List ℕ) (plan : Plan) (c : Capture) (r : Result Capture CaptureRefusal) (old mid new : HostState) (before after : List DeviceState) (result : Result Status Stop)
     → r ≡ Ok c → mid ≡ file_written old (generated_file out text) → IfOk result (λ answer. answer ≡ status.Done)
-    → OnOk result (HasCounted (run_of out plan (Classic c)) mid new before behind) → OnErr result (AreCountsCut (run_of out plan (Classic c)) mid new before behind)
-    → EndsOrStops (by_generated out text plan (with_refusal (as_classic r))) old new before behind result
-generated_does out text plan c r old mid new before behind result is_c made is whole cut =
-    subst (λ (v : Result Capture CaptureRefusal). EndsOrStops (by_generated out text plan (with_refusal (as_classic v))) old new before behind result) (sym is_c)
-    (counted out text plan c old mid new before behind result made is whole cut)
+    → OnOk result (HasCounted (run_of out plan (Classic c)) mid new before after) → OnErr result (AreCountsCut (run_of out plan (Classic c)) mid new before after)
+    → CompletesOrStops (by_generated out text plan (with_refusal (as_classic r))) old new before after result
+generated_does out text plan c r old mid new before after result is_c made is whole cut =
+    subst (λ (v : Result Capture CaptureRefusal). CompletesOrStops (by_generated out text plan (with_refusal (as_classic v))) old new before after result) (sym is_c)
+    (counted out text plan c old mid new before after result made is whole cut)
 
 -- COUNTS
 
-abbrev counts_by : Run → List Fate → List Info → List ℕ
-counts_by run fates infos = counts_text fates infos (length run.plan.stations) (unit_count run.plan)
-
 -- the counts are told: `given` are the fates as they were lent
 pub has_counted :
-    (run : Run) (infos : List Info) (fates given : List Fate) (old new : HostState) (before behind : List DeviceState) → infos ≡ infos_of run.plan (packets_of run.capture)
-    → given ≡ fates → AreFatesOf run.plan infos fates before behind → new ≡ wrote old 0 (counts_by run given infos) → HasCounted run old new before behind
-has_counted run infos fates given old new before behind known same are done = (
+    (run : Run) (infos : List Info) (fates given : List Fate) (old new : HostState) (before after : List DeviceState) → infos ≡ infos_of run.plan (packets_of_file run.capture)
+    → given ≡ fates → AreFatesOf run.plan infos fates before after → new ≡ wrote old 0 (counts_by run given infos) → HasCounted run old new before after
+has_counted run infos fates given old new before after known same are done = (
   fates,
-  subst (λ (is : List Info). AreFatesOf run.plan is fates before behind) known are,
+  subst (λ (is : List Info). AreFatesOf run.plan is fates before after) known are,
   done ∙ ap (λ (fs : List Fate). wrote old 0 (counts_by run fs infos)) same ∙ ap (λ (is : List Info). wrote old 0 (counts_by run fates is)) known,
 )
 
 -- it was stopped in them, or before them
 pub counts_cut :
-    (run : Run) (infos : List Info) (fates given : List Fate) (old new : HostState) (before behind : List DeviceState) → infos ≡ infos_of run.plan (packets_of run.capture)
-    → given ≡ fates → AreFatesOf run.plan infos fates before behind → (new ≡ old) ⊎ OutputHasPrefix (counts_by run given infos) old new → AreCountsCut run old new before behind
-counts_cut run infos fates given old new before behind known same are cut = elim cut [
+    (run : Run) (infos : List Info) (fates given : List Fate) (old new : HostState) (before after : List DeviceState) → infos ≡ infos_of run.plan (packets_of_file run.capture)
+    → given ≡ fates → AreFatesOf run.plan infos fates before after → (new ≡ old) ⊎ OutputHasPrefix (counts_by run given infos) old new → AreCountsCut run old new before after
+counts_cut run infos fates given old new before after known same are cut = elim cut [
   | inl nothing ↦ inl nothing
   | inr part ↦ inr (
     fates,
-    subst (λ (is : List Info). AreFatesOf run.plan is fates before behind) known are,
+    subst (λ (is : List Info). AreFatesOf run.plan is fates before after) known are,
     subst (λ (is : List Info). OutputHasPrefix (counts_by run fates is) old new) known (subst (λ (fs : List Fate). OutputHasPrefix (counts_by run fs infos) old new) same part),
   )
 ]
@@ -89,14 +86,14 @@ counts_cut run infos fates given old new before behind known same are cut = elim
 
 -- what was stopped, as the exit of a `?` answers it
 pub stops_any :
-    (v : Verdict) (old new : HostState) (before behind : List DeviceState) (r : Result Status Stop) (stop : Stop) → r ≡ Err stop → Stops v old new before behind
-    → EndsOrStops v old new before behind r
-stops_any v old new before behind r stop is left = subst (EndsOrStops v old new before behind) (sym is) left
+    (v : Verdict) (old new : HostState) (before after : List DeviceState) (r : Result Status Stop) (stop : Stop) → r ≡ Err stop → Stops v old new before after
+    → CompletesOrStops v old new before after r
+stops_any v old new before after r stop is left = subst (CompletesOrStops v old new before after) (sym is) left
 
 units_same :
     {X : Type 0} (out text : List ℕ) (plan : Plan) (r : Result Capture CaptureRefusal) (old new : List X) → IsOkAnd r (λ _. Unit {0})
     → drop (unit_count plan) new ≡ drop (unit_count plan) old
-    → drop (units_of (by_generated out text plan (with_refusal (as_classic r)))) new ≡ drop (units_of (by_generated out text plan (with_refusal (as_classic r)))) old
+    → drop (units_changed_by (by_generated out text plan (with_refusal (as_classic r)))) new ≡ drop (units_changed_by (by_generated out text plan (with_refusal (as_classic r)))) old
 units_same out text plan (Ok c) old new ok same = same
 units_same out text plan (Err e) old new ok same = absurd ok
 
@@ -104,9 +101,9 @@ units_same out text plan (Err e) old new ok same = absurd ok
 pub others_of_gen :
     {X : Type 0} (words : GenWords) (have : ℕ) (plan : Plan) (old new : List X) → words.count ≤ 1000000 → Ok plan ≡ placed_on have generated_plan
     → drop (unit_count plan) new ≡ drop (unit_count plan) old
-    → drop (units_of (verdict_of_gen words have)) new ≡ drop (units_of (verdict_of_gen words have)) old
+    → drop (units_changed_by (verdict_of_gen words have)) new ≡ drop (units_changed_by (verdict_of_gen words have)) old
 others_of_gen {X} words have plan old new few is same =
     let text = generated_capture words.number words.count in
     let next : Plan → Verdict = λ p. by_generated words.out text p (with_refusal (as_classic (capture_of text))) in
-    subst (λ (p : Result Plan Refusal). drop (units_of (by_plan (Some p) next)) new ≡ drop (units_of (by_plan (Some p) next)) old) is
+    subst (λ (p : Result Plan Refusal). drop (units_changed_by (by_plan (Some p) next)) new ≡ drop (units_changed_by (by_plan (Some p) next)) old) is
     (units_same words.out text plan (capture_of text) old new (is_accepted words.number words.count few) same)

@@ -9,7 +9,7 @@ use Rattle.lq_pcap.proofs.GeneratedCaptures.{generated_accepted}
 use Rattle.lq_pcapng.specs.File.{as_classic}
 use Rattle.lq_pcapng.specs.declared.file.CaptureFile.TheVariants.{Classic}
 use Rattle.lq_plan.specs.Generated.{generated_plan}
-use Rattle.lq_top.specs.Command.{GenWords, HasFewRecords, OfGen, command_of}
+use Rattle.lq_top.specs.Command.{GenWords, HasFewRecords, OfGen, command_of_words}
 use Rattle.lq_top.specs.Decision.{Generates, by_command, by_generated, placed_on, verdict_of, verdict_of_gen, with_refusal}
 use Rattle.lq_top.specs.Headline.{run_of}
 use Rattle.lq_top.proofs.CommandLemmas.{few_records}
@@ -32,7 +32,7 @@ placed gen have some = elim (cases_Bool (nat_lt have 1)) [
 ]
 
 pub generated_verdict :
-    (words : List (List ℕ)) (gen : GenWords) (files : Files) (have : ℕ) → command_of words ≡ Some (OfGen gen) → 0 < have
+    (words : List (List ℕ)) (gen : GenWords) (files : Files) (have : ℕ) → command_of_words words ≡ Some (OfGen gen) → 0 < have
     → (capture : Capture) × (capture_of (generated_capture gen.number gen.count) ≡ Ok capture)
     × (verdict_of words files have ≡ Generates (generated_capture gen.number gen.count) (run_of gen.out generated_plan (Classic capture)))
 generated_verdict words gen files have command some = go (capture_of text) refl (is_accepted gen.number gen.count few)

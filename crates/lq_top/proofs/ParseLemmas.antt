@@ -60,7 +60,7 @@ module _ (names : Names) (h : Held) (k : ℕ) (word : Text) (other : subcommand_
 
 -- WHAT IS TAKEN
 
--- the word passes, and so do those behind it
+-- the word passes, and so do those after it
 pub passes_more : (s : Shape) (names : Names) (w after : Walk) (word : Text) (rest : List Text) → turn_passes s names w word ≡ true → walked s.rules names w word ≡ after
     → walk_passes s names after rest ≡ true → walk_passes s names w (word ∷ rest) ≡ true
 unfolding walk_passes
@@ -119,9 +119,9 @@ module _ (s : Shape) (names : Names) where
   pub level_fails_below : (h : Held) (words : List Text) (has : Bool) (below : Kinds) → Fails below → Fails (level_fault s names h words has below)
   level_fails_below h words has below f = or_right _ _ (or_left _ _ f)
 
-  pub level_fails_behind : (h : Held) (words : List Text) (has : Bool) (below : Kinds) (w : Walk) → walk s.rules names h words ≡ w → Fails (check_fault s (finished s.rules w.held) has)
+  pub level_fails_after : (h : Held) (words : List Text) (has : Bool) (below : Kinds) (w : Walk) → walk s.rules names h words ≡ w → Fails (check_fault s (finished s.rules w.held) has)
       → Fails (level_fault s names h words has below)
-  level_fails_behind h words has below w walk_is f =
+  level_fails_after h words has below w walk_is f =
       let end = (walk s.rules names h words).held in
       let settles = settle_fault s.rules s.args_override_self end in
       let defaults = defaults_fault (settled s.rules end).rows s.rules in

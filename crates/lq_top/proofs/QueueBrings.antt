@@ -4,14 +4,14 @@ use Rattle.std.specs.List.{slice_set}
 use Rattle.std.proofs.lemmas.List.{length-set}
 use Rattle.std.proofs.lemmas.List.Elements.{All-nil, All-push}
 use Rattle.std.proofs.lemmas.Bool.{cases_eq, true≢false}
-use Rattle.lq_account.proofs.Answers.{IsAnswered, is_answered, slot_behind, with_at_same, with_at_other}
-use Rattle.lq_account.proofs.Offers.{direct_closed, direct_open, queued_full, queued_join, served_behind, through_closed, through_open}
+use Rattle.lq_account.proofs.Answers.{IsAnswered, is_answered, slot_after, with_at_same, with_at_other}
+use Rattle.lq_account.proofs.Offers.{direct_closed, direct_open, queued_full, queued_join, served_after, through_closed, through_open}
 use Rattle.lq_account.proofs.Steps.{at_answer, at_back, at_direct, at_full, at_join}
 use Rattle.lq_account.proofs.Taken.{slot_none}
 use Rattle.lq_account.specs.Progress.{IsAt}
 use Rattle.lq_device.specs.Station.{with_slot}
 use Rattle.lq_model.specs.Account.{Account, Back, Direct, Full, Join, after, held, with_at}
-use Rattle.lq_model.specs.Alone.{Running, answered, gone_direct, gone_through, queued, served}
+use Rattle.lq_model.specs.Alone.{RunningStation, answered, gone_direct, gone_through, joined_or_full, served}
 use Rattle.lq_model.specs.Band.{Band, IsOccupied, MayBeFull, held_of, joined}
 use Rattle.lq_model.specs.Device.{Telling, answer_of, is_busy, told_after}
 use Rattle.lq_model.specs.Plan.{band_in}
@@ -20,7 +20,7 @@ use Rattle.lq_model.specs.declared.device.Tx.TheVariants.{Sent, SentStop, SentHa
 use Rattle.lq_model.specs.declared.fate.Fate.{Fate}
 use Rattle.lq_model.specs.declared.fate.Fate.TheVariants as fate
 use Rattle.lq_top.specs.Bands.{AreBands, held_by}
-use Rattle.lq_top.specs.Queue.{Brings, Goes, IsNextPacket, IsPacketOf, IsUnderway, Matches, MayOffer, Offers, QueueState, SameElsewhere, Serves, Setting, StandsFor, device_of, running, stop_number}
+use Rattle.lq_top.specs.Queue.{Brings, Goes, IsNextPacket, IsStationPacket, IsUnderway, Matches, MayOffer, Offers, QueueState, SameElsewhere, Serves, Setting, StandsFor, device_of, running, stop_number}
 use Rattle.lq_top.specs.declared.queue.bands.Bands.{Bands}
 use Rattle.lq_top.specs.declared.queue.stop_value.StopValue.TheVariants.{Open}
 use Rattle.lq_top.proofs.BandsLemmas.{bands_have}
@@ -42,7 +42,7 @@ module _ (s : Setting) (n rest band : ℕ) (q : QueueState) (bands : Bands) (fat
   -- packet n joined its band
   pub joined_underway : band < 3 → AreBands bands a.len (with_at band (joined (a.bands band) n) a.bands) → held_by bands ≡ held_by q.bands + 1
       → (IsOccupied a.len (a.bands band) → ⊥) → length (held_of (a.bands band)) < a.len
-      → IsUnderway s (n + 1) rest (record q { bands = bands }) fates (queued n band a)
+      → IsUnderway s (n + 1) rest (record q { bands = bands }) fates (joined_or_full n band a)
   joined_underway within are more free room =
       subst (λ (b : Account). IsUnderway s (n + 1) rest (record q { bands = bands }) fates b) (sym (queued_join n band a free)) (record {
         matches = record {
@@ -56,8 +56,8 @@ module _ (s : Setting) (n rest band : ℕ) (q : QueueState) (bands : Bands) (fat
           packets = record {
             in_slot = u.matches.packets.in_slot;
             in_hand = u.matches.packets.in_hand;
-            in_bands = bands_have (IsPacketOf s.infos s.station) a.bands band (joined (a.bands band) n)
-                (drop-push (IsPacketOf s.infos s.station) (a.bands band).taken (a.bands band).line n next.packet (u.matches.packets.in_bands band within)) u.matches.packets.in_bands;
+            in_bands = bands_have (IsStationPacket s.infos s.station) a.bands band (joined (a.bands band) n)
+                (drop-push (IsStationPacket s.infos s.station) (a.bands band).taken (a.bands band).line n next.packet (u.matches.packets.in_bands band within)) u.matches.packets.in_bands;
           };
           hung = u.matches.hung;
           room = record { room = (let room = u.matches.room.room in omega arith); countable = (let countable = u.matches.room.countable in omega arith) };
@@ -75,7 +75,7 @@ module _ (s : Setting) (n rest band : ℕ) (q : QueueState) (bands : Bands) (fat
 
   -- or it was dropped as full
   pub full_underway : (seen : ℕ) → bands ≡ q.bands → IsOccupied a.len (a.bands band) → MayBeFull a.len (a.bands band) seen
-      → IsUnderway s (n + 1) rest (record q { bands = bands }) (slice_set fates n (Some (fate.Full seen))) (queued n band a)
+      → IsUnderway s (n + 1) rest (record q { bands = bands }) (slice_set fates n (Some (fate.Full seen))) (joined_or_full n band a)
   full_underway seen same occupied full =
       subst (λ (b : Account). IsUnderway s (n + 1) rest (record q { bands = bands }) (slice_set fates n (Some (fate.Full seen))) b) (sym (queued_full n band seen a occupied full))
       (subst (λ (bands : Bands). IsUnderway s (n + 1) rest (record q { bands = bands }) (slice_set fates n (Some (fate.Full seen))) (after (Full n seen) a)) (sym same) (record {
@@ -119,14 +119,14 @@ not-true : (b : Bool) → not b ≡ true → b ≡ false
 not-true true e = sym e
 not-true false e = refl
 
-slot-none : (answer : Tx) (n : ℕ) → is_busy answer ≡ false → slot_behind answer n ≡ None
+slot-none : (answer : Tx) (n : ℕ) → is_busy answer ≡ false → slot_after answer n ≡ None
 slot-none Sent n e = refl
 slot-none SentStop n e = refl
 slot-none SentHang n e = refl
 slot-none Busy n e = absurd (true≢false e)
 
 module _ (s : Setting) (n rest : ℕ) (old : QueueState) (fates : List (Option Fate)) (a : Account)
-    (st : StandsFor s n (rest + 1) old fates a) (packet : IsPacketOf s.infos s.station n) (clean : old.clean ≡ true) where
+    (st : StandsFor s n (rest + 1) old fates a) (packet : IsStationPacket s.infos s.station n) (clean : old.clean ≡ true) where
   none-held : held a ≡ []
   none-held = st.served.clean_is_empty clean
 
@@ -167,7 +167,7 @@ module _ (s : Setting) (n rest : ℕ) (old : QueueState) (fates : List (Option F
     does-direct t e =
         let is : answer ≡ answer_of t (length (a.sent a.unit))
         = answer_is answer n t (device_of old) (device_of new) o.answers e ∙ ap (λ xs. answer_of t (length xs)) (sym st.underway.matches.sent.sent) in
-        ap {A = Tx} {B = Running} (λ x. record { account = answered x 0 (after (Direct n) a); clean = not (is_busy x); device = told_after x t }) is
+        ap {A = Tx} {B = RunningStation} (λ x. record { account = answered x 0 (after (Direct n) a); clean = not (is_busy x); device = told_after x t }) is
         ∙ sym (direct_open s.infos n (running a old t) (st.underway.one_queue n) stops-open)
 
     pub direct_brings : Brings (gone_direct s.infos n) s n rest old (record new { clean = not (is_busy answer) }) fates fates' a
@@ -217,19 +217,19 @@ module _ (s : Setting) (n rest : ℕ) (old : QueueState) (fates : List (Option F
 
 module _ (s : Setting) (n rest band : ℕ) (old mid new : QueueState) (fates fates' fates'' : List (Option Fate)) (a : Account)
     (next : IsNextPacket s n band) (frame : mid ≡ record old { bands = mid.bands }) (elsewhere : SameElsewhere s.infos s.station fates fates')
-    (v : Serves s (n + 1) rest mid new fates' fates'' (queued n band a)) where
+    (v : Serves s (n + 1) rest mid new fates' fates'' (joined_or_full n band a)) where
   -- what serving did, where the device tells
   mid-told : (t : Telling) → (device_of old).told ≡ Some t → (device_of mid).told ≡ Some t
   mid-told t e = ap (λ (q : QueueState). (device_of q).told) frame ∙ e
 
   served-is : (t : Telling) (e : (device_of old).told ≡ Some t)
-      → running v.moves.account new (v.moves.tells t (mid-told t e)).device ≡ served_behind s.infos n (running a old t)
+      → running v.moves.account new (v.moves.tells t (mid-told t e)).device ≡ served_after s.infos n (running a old t)
   served-is t e =
       (v.moves.tells t (mid-told t e)).does
-      ∙ ap₂ {A = ℕ} {B = Bool} {C = Running} (λ band clean. served s.infos (record { account = queued n band a; clean = clean; device = t }))
+      ∙ ap₂ {A = ℕ} {B = Bool} {C = RunningStation} (λ band clean. served s.infos (record { account = joined_or_full n band a; clean = clean; device = t }))
       (sym next.band_is) (ap (λ (q : QueueState). q.clean) frame)
 
-  stops-are : (t : Telling) (e : (device_of old).told ≡ Some t) → (served_behind s.infos n (running a old t)).account.stops ≡ stop_number new.stop ∷ []
+  stops-are : (t : Telling) (e : (device_of old).told ≡ Some t) → (served_after s.infos n (running a old t)).account.stops ≡ stop_number new.stop ∷ []
   stops-are t e = ap (λ r. r.account.stops) (sym (served-is t e)) ∙ v.moves.underway.matches.stops
 
   -- the queue is still open
@@ -261,7 +261,7 @@ module _ (s : Setting) (n rest band : ℕ) (old mid new : QueueState) (fates fat
         told = d.told;
         params = d.params;
         does =
-            ap {A = Running} {B = Running} (λ r. record r { clean = false }) (served-is t e)
+            ap {A = RunningStation} {B = RunningStation} (λ r. record r { clean = false }) (served-is t e)
             ∙ sym (through_closed s.infos n (running a old t) (stop_number new.stop) (stops-are t e) (closed_number new.stop closed));
       };
     };
@@ -271,7 +271,7 @@ module _ (s : Setting) (n rest band : ℕ) (old mid new : QueueState) (fates fat
 -- EITHER WAY, AND SERVED
 
 -- the same step under another name
-pub brings_as : (step step' : Running → Running) (s : Setting) (n rest : ℕ) (old new : QueueState) (fates fates' : List (Option Fate)) (a : Account)
+pub brings_as : (step step' : RunningStation → RunningStation) (s : Setting) (n rest : ℕ) (old new : QueueState) (fates fates' : List (Option Fate)) (a : Account)
     → ((t : Telling) → step (running a old t) ≡ step' (running a old t)) → Brings step s n rest old new fates fates' a → Brings step' s n rest old new fates fates' a
 brings_as step step' s n rest old new fates fates' a same b = record {
   moves = record {
@@ -283,7 +283,7 @@ brings_as step step' s n rest old new fates fates' a same b = record {
   is_served = b.is_served;
 }
 
-pub goes_served : (step : Running → Running) (s : Setting) (n rest : ℕ) (old mid new : QueueState) (fates fates' fates'' : List (Option Fate)) (a : Account)
+pub goes_served : (step : RunningStation → RunningStation) (s : Setting) (n rest : ℕ) (old mid new : QueueState) (fates fates' fates'' : List (Option Fate)) (a : Account)
     → (b : Brings step s n rest old mid fates fates' a) → Serves s (n + 1) rest mid new fates' fates'' b.moves.account
     → Goes (λ r. served s.infos (step r)) s (n + 1) rest old new fates fates'' a
 goes_served step s n rest old mid new fates fates' fates'' a b v = record {

@@ -25,7 +25,7 @@ use Rattle.lq_model.specs.declared.fate.Fate.TheVariants as fate
 use Rattle.lq_model.specs.declared.fate.Info.{Info}
 use Rattle.lq_ring_core.specs.Bands.{IsBand}
 use Rattle.lq_ring_core.specs.Ring.{RingState}
-use Rattle.lq_top.specs.Queue.{QueueState, Setting, Matches, IsPacketOf, IsTaken, SameElsewhere, IsUnderway, IsServed, StandsFor, Serves, Goes, Finishes, running, woken, device_of, stop_number, is_hung_value, value_opened}
+use Rattle.lq_top.specs.Queue.{QueueState, Setting, Matches, IsStationPacket, IsTaken, SameElsewhere, IsUnderway, IsServed, StandsFor, Serves, Goes, Finishes, running, woken_and_served, device_of, stop_number, is_hung_value, value_opened}
 use Rattle.lq_top.specs.declared.queue.stop_value.StopValue.{StopValue}
 use Rattle.lq_top.specs.declared.queue.stop_value.StopValue.TheVariants.{Open, Stopped, Hung}
 use Rattle.lq_top.proofs.FateLists.{set_here, set_apart, same_both, same_set}
@@ -54,14 +54,14 @@ settled-matches infos station rest n f q fates a m = record {
       | inr other ↦ set_apart fates n k (Some f) other ∙ m.fates_are.each k within at ∙ ap Some (sym (with_at_other n k (Some f) a.fates other))
     ];
   };
-  packets = record { in_slot = m.packets.in_slot; in_hand = All-nil (IsPacketOf infos station); in_bands = m.packets.in_bands };
+  packets = record { in_slot = m.packets.in_slot; in_hand = All-nil (IsStationPacket infos station); in_bands = m.packets.in_bands };
   hung = m.hung;
   room = record { room = (let room = m.room.room in omega arith); countable = (let countable = m.room.countable in omega arith) };
   rule = m.rule;
   asked = m.asked;
 }
   where
-    packet : IsPacketOf infos station n
+    packet : IsStationPacket infos station n
     packet = in_hand_is infos station rest n q fates a m
 
 -- the packet that comes into the hand was the first of those held
@@ -188,10 +188,10 @@ module _ (infos : List Info) (station rest : ℕ) (q : QueueState) (old fates : 
       each = λ k within at. p.matches.fates_are.each k within at ∙ ap (λ (fates : Fates). Some (fates k)) all_fates;
     };
     packets = record {
-      in_slot = All-nil (IsPacketOf infos station);
-      in_hand = subst (λ hand. All (IsPacketOf infos station) (option_to_list hand)) (sym hand) (All-nil (IsPacketOf infos station));
+      in_slot = All-nil (IsStationPacket infos station);
+      in_hand = subst (λ hand. All (IsStationPacket infos station) (option_to_list hand)) (sym hand) (All-nil (IsStationPacket infos station));
       in_bands = λ band one_of_three.
-          subst (All (IsPacketOf infos station)) (sym (drop_of_length-le (a.bands band).line (omega arith))) (All-nil (IsPacketOf infos station));
+          subst (All (IsStationPacket infos station)) (sym (drop_of_length-le (a.bands band).line (omega arith))) (All-nil (IsStationPacket infos station));
     };
     hung = p.matches.hung;
     room = record { room = p.matches.room.room; countable = p.matches.room.countable };
@@ -238,7 +238,7 @@ emptying_next old q new h is = record {
 
 -- A QUEUE IS WOKEN
 
--- an account whose queue has this stop value, behind a wake
+-- an account whose queue has this stop value, after a wake
 abbrev pub woken_account : StopValue → Account → Account
 woken_account Open a = a
 woken_account Stopped a = after (Wake 0) a
@@ -281,7 +281,7 @@ module _ (s : Setting) (n rest : ℕ) (q : QueueState) (fates : List (Option Fat
   woken-underway Stopped is = with-stops Open (slice_set a.stops 0 0) (ap (λ stops. slice_set stops 0 0) (stops-at Stopped is)) (h.matches.hung ∙ ap is_hung_value is) (at_wake (stops-at Stopped is) h.at)
   woken-underway Hung is = with-stops Hung a.stops (stops-at Hung is) (h.matches.hung ∙ ap is_hung_value is) h.at
 
-  -- what is served behind a wake
+  -- what is served after a wake
   pub wake_opens : (q' : QueueState) → q' ≡ record q { stop = value_opened q.stop } → IsUnderway s n rest q' fates (woken_account q.stop a)
   wake_opens q' is = subst (λ (q' : QueueState). IsUnderway s n rest q' fates (woken_account q.stop a)) (sym is) (woken-underway q.stop refl)
 
@@ -295,9 +295,9 @@ module _ (s : Setting) (n rest : ℕ) (q : QueueState) (fates : List (Option Fat
   served-closed Stopped is was closed = absurd (closed refl)
   served-closed Hung is was closed = record { clean_is_empty = was.clean_is_empty; open_is_clean = λ opens. absurd (closed opens) }
 
-  goes-behind : (new : QueueState) (fates' : List (Option Fate)) → IsServed q a
-      → Serves s n rest (record q { stop = value_opened q.stop }) new fates fates' (woken_account q.stop a) → Goes (woken s.infos) s n rest q new fates fates' a
-  goes-behind new fates' was v = record {
+  goes-after : (new : QueueState) (fates' : List (Option Fate)) → IsServed q a
+      → Serves s n rest (record q { stop = value_opened q.stop }) new fates fates' (woken_account q.stop a) → Goes (woken_and_served s.infos) s n rest q new fates fates' a
+  goes-after new fates' was v = record {
     moves = record {
       account = v.moves.account;
       underway = v.moves.underway;
@@ -309,8 +309,8 @@ module _ (s : Setting) (n rest : ℕ) (q : QueueState) (fates : List (Option Fat
   }
 
   pub wake_goes : (q' new : QueueState) (fates' : List (Option Fate)) → q' ≡ record q { stop = value_opened q.stop } → IsServed q a
-      → Serves s n rest q' new fates fates' (woken_account q.stop a) → Goes (woken s.infos) s n rest q new fates fates' a
-  wake_goes q' new fates' is was v = goes-behind new fates' was (subst (λ (q' : QueueState). Serves s n rest q' new fates fates' (woken_account q.stop a)) is v)
+      → Serves s n rest q' new fates fates' (woken_account q.stop a) → Goes (woken_and_served s.infos) s n rest q new fates fates' a
+  wake_goes q' new fates' is was v = goes-after new fates' was (subst (λ (q' : QueueState). Serves s n rest q' new fates fates' (woken_account q.stop a)) is v)
 
 -- A QUEUE IS FINISHED
 
@@ -357,7 +357,7 @@ module _ (s : Setting) (n rest : ℕ) (q : QueueState) (fates : List (Option Fat
   done-hung : q.stop ≡ Hung → is_done b ≡ true
   done-hung is = one_done b 2 (stops-at s n rest q fates b h Hung is) ∙ ap (λ down. is_some down || true) h.matches.active
 
-  -- behind these there is nothing more to do
+  -- after these there is nothing more to do
   finished-open : (t : Telling) → q.stop ≡ Open → held b ≡ [] → finished s.infos (running b q t) ≡ running b q t
   finished-open t is none = finished_done s.infos h.one_queue (running b q t) (done-open is none) ∙ ap (λ a. running a q t) (one_purged b 0 (stops-at s n rest q fates b h Open is))
 
@@ -366,7 +366,7 @@ module _ (s : Setting) (n rest : ℕ) (q : QueueState) (fates : List (Option Fat
 
 module _ (s : Setting) (n rest : ℕ) (old q : QueueState) (fates fates' : List (Option Fate)) (a : Account) (p : Finishing s n rest old q fates fates' a) where
   -- a wake of a queue that was stopped
-  pub finish_goes_on : (new : QueueState) (fates'' : List (Option Fate)) → q.stop ≡ Stopped → Goes (woken s.infos) s n rest q new fates' fates'' p.account
+  pub finish_goes_on : (new : QueueState) (fates'' : List (Option Fate)) → q.stop ≡ Stopped → Goes (woken_and_served s.infos) s n rest q new fates' fates'' p.account
       → Finishing s n rest old new fates fates'' a
   finish_goes_on new fates'' stopped g = record {
     account = g.moves.account;

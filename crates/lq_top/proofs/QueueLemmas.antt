@@ -4,7 +4,7 @@ use Rattle.std.specs.List.{slice_set}
 use Rattle.std.proofs.lemmas.List.{length-set}
 use Rattle.std.proofs.lemmas.List.Elements.{All-nil, All-cons, All-head, All-push}
 use Rattle.std.proofs.lemmas.Bool.{cases_eq}
-use Rattle.lq_account.proofs.Answers.{IsAnswered, slot_behind, stop_behind}
+use Rattle.lq_account.proofs.Answers.{IsAnswered, slot_after, stop_number_after}
 use Rattle.lq_account.proofs.Taken.{picks, next_is, next_none}
 use Rattle.lq_device.specs.Station.{with_slot}
 use Rattle.lq_model.specs.Account.{Account, Take, Pick, Direct, Back, Fates, after, held, held_in}
@@ -18,7 +18,7 @@ use Rattle.lq_model.specs.declared.fate.Fate.{Fate}
 use Rattle.lq_model.specs.declared.fate.Fate.TheVariants as fate
 use Rattle.lq_model.specs.declared.fate.Info.{Info}
 use Rattle.lq_top.specs.Bands.{HoldNothing, IsFirstTaken, held_by}
-use Rattle.lq_top.specs.Queue.{QueueState, HasFates, HasRoom, IsCallOf, IsPacketOf, IsTaken, Matches, MayOffer, Offers, SameElsewhere, device_of, fates_behind, is_hung_value, laid_back, number_held, stop_number, value_behind}
+use Rattle.lq_top.specs.Queue.{QueueState, HasFates, HasDeviceRoom, IsCallOf, IsStationPacket, IsTaken, Matches, MayOffer, Offers, SameElsewhere, device_of, fates_after, is_hung_value, laid_back, number_held, stop_number, value_after}
 use Rattle.lq_top.specs.declared.queue.bands.Bands.{Bands}
 use Rattle.lq_top.specs.declared.queue.stop_value.StopValue.TheVariants.{Open}
 use Rattle.lq_top.proofs.BandsLemmas.{lowest_turn, first_has, taken_has, bands_have}
@@ -45,7 +45,7 @@ module _ (infos : List Info) (station rest n : ℕ) (q : QueueState) (fates : Li
           stops = m.stops;
           active = m.active;
           fates_are = record { one_each = m.fates_are.one_each; each = m.fates_are.each };
-          packets = record { in_slot = All-nil (IsPacketOf infos station); in_hand = m.packets.in_slot; in_bands = m.packets.in_bands };
+          packets = record { in_slot = All-nil (IsStationPacket infos station); in_hand = m.packets.in_slot; in_bands = m.packets.in_bands };
           hung = m.hung;
           room = record { room = (let room = m.room.room in omega arith); countable = (let countable = m.room.countable in omega arith) };
           rule = m.rule;
@@ -60,7 +60,7 @@ module _ (infos : List Info) (station rest n : ℕ) (q : QueueState) (fates : Li
   took bands m e f less =
       let slot : a.slot ≡ None = sym m.slot ∙ e in
       let none : length (option_to_list q.station.slot) ≡ 0 = ap (λ slot. length (option_to_list slot)) e in
-      let was : All (IsPacketOf infos station) (held_in a f.band) = m.packets.in_bands f.band f.lowest.one_of_three in
+      let was : All (IsStationPacket infos station) (held_in a f.band) = m.packets.in_bands f.band f.lowest.one_of_three in
       record {
         event = Take f.band;
         next = next_is {a = a} (lowest_turn a f.band slot f.lowest);
@@ -74,8 +74,8 @@ module _ (infos : List Info) (station rest n : ℕ) (q : QueueState) (fates : Li
           fates_are = record { one_each = m.fates_are.one_each; each = m.fates_are.each };
           packets = record {
             in_slot = m.packets.in_slot;
-            in_hand = first_has (IsPacketOf infos station) (held_in a f.band) n f.first was;
-            in_bands = bands_have (IsPacketOf infos station) a.bands f.band _ (taken_has (IsPacketOf infos station) (a.bands f.band) was) m.packets.in_bands;
+            in_hand = first_has (IsStationPacket infos station) (held_in a f.band) n f.first was;
+            in_bands = bands_have (IsStationPacket infos station) a.bands f.band _ (taken_has (IsStationPacket infos station) (a.bands f.band) was) m.packets.in_bands;
           };
           hung = m.hung;
           room = record { room = (let room = m.room.room in omega arith); countable = (let countable = m.room.countable in omega arith) };
@@ -103,8 +103,8 @@ module _ (infos : List Info) (station rest : ℕ) (q : QueueState) (fates : List
 -- OFFERS
 
 module _ (infos : List Info) (station rest n : ℕ) (q : QueueState) (fates : List (Option Fate)) (a : Account) where
-  pub in_hand_is : Matches infos station rest (Some n) q fates a → IsPacketOf infos station n
-  in_hand_is m = All-head (IsPacketOf infos station) n [] (subst (λ hand. All (IsPacketOf infos station) (option_to_list hand)) m.hand_is m.packets.in_hand)
+  pub in_hand_is : Matches infos station rest (Some n) q fates a → IsStationPacket infos station n
+  in_hand_is m = All-head (IsStationPacket infos station) n [] (subst (λ hand. All (IsStationPacket infos station) (option_to_list hand)) m.hand_is m.packets.in_hand)
 
   pub may_offer : Matches infos station rest (Some n) q fates a → a.slot ≡ None → q.stop ≡ Open → MayOffer n q fates
   may_offer m slot opens = record {
@@ -115,19 +115,19 @@ module _ (infos : List Info) (station rest n : ℕ) (q : QueueState) (fates : Li
     within = (let within = (in_hand_is m).within in let each = m.fates_are.one_each in omega arith);
   }
 
-laid-same : (answer : Tx) (n : ℕ) → laid_back answer n ≡ slot_behind answer n
+laid-same : (answer : Tx) (n : ℕ) → laid_back answer n ≡ slot_after answer n
 laid-same Sent n = refl
 laid-same SentStop n = refl
 laid-same SentHang n = refl
 laid-same Busy n = refl
 
-value-same : (answer : Tx) → stop_number (value_behind answer) ≡ stop_behind answer
+value-same : (answer : Tx) → stop_number (value_after answer) ≡ stop_number_after answer
 value-same Sent = refl
 value-same SentStop = refl
 value-same SentHang = refl
 value-same Busy = refl
 
-hung-same : (answer : Tx) → is_hang answer ≡ is_hung_value (value_behind answer)
+hung-same : (answer : Tx) → is_hang answer ≡ is_hung_value (value_after answer)
 hung-same Sent = refl
 hung-same SentStop = refl
 hung-same SentHang = refl
@@ -137,7 +137,7 @@ hung-same Busy = refl
 module _ (infos : List Info) (station rest n : ℕ) (answer : Tx) (old new : QueueState) (fates fates' : List (Option Fate)) (a b : Account)
     (m : Matches infos station rest (Some n) old fates a) (slot : a.slot ≡ None) (opens : old.stop ≡ Open)
     (o : Offers answer n old new fates fates') (h : IsAnswered answer n a b) (first : queue_in infos n ≡ 0) where
-  packet : IsPacketOf infos station n
+  packet : IsStationPacket infos station n
   packet = in_hand_is infos station rest n old fates a m
 
   -- it was sent
@@ -164,16 +164,16 @@ module _ (infos : List Info) (station rest n : ℕ) (answer : Tx) (old new : Que
   }
 
   fates-by : (x : Tx) → answer ≡ x → HasFates infos station fates' b
-  fates-by Sent e = sent-fates (ap is_busy e) (o.fates_are ∙ ap (λ x. fates_behind x n old.station fates) e)
-  fates-by SentStop e = sent-fates (ap is_busy e) (o.fates_are ∙ ap (λ x. fates_behind x n old.station fates) e)
-  fates-by SentHang e = sent-fates (ap is_busy e) (o.fates_are ∙ ap (λ x. fates_behind x n old.station fates) e)
-  fates-by Busy e = busy-fates (ap is_busy e) (o.fates_are ∙ ap (λ x. fates_behind x n old.station fates) e)
+  fates-by Sent e = sent-fates (ap is_busy e) (o.fates_are ∙ ap (λ x. fates_after x n old.station fates) e)
+  fates-by SentStop e = sent-fates (ap is_busy e) (o.fates_are ∙ ap (λ x. fates_after x n old.station fates) e)
+  fates-by SentHang e = sent-fates (ap is_busy e) (o.fates_are ∙ ap (λ x. fates_after x n old.station fates) e)
+  fates-by Busy e = busy-fates (ap is_busy e) (o.fates_are ∙ ap (λ x. fates_after x n old.station fates) e)
 
-  slot-has : (x : Tx) → All (IsPacketOf infos station) (option_to_list (slot_behind x n))
-  slot-has Sent = All-nil (IsPacketOf infos station)
-  slot-has SentStop = All-nil (IsPacketOf infos station)
-  slot-has SentHang = All-nil (IsPacketOf infos station)
-  slot-has Busy = All-cons (IsPacketOf infos station) n [] packet (All-nil (IsPacketOf infos station))
+  slot-has : (x : Tx) → All (IsStationPacket infos station) (option_to_list (slot_after x n))
+  slot-has Sent = All-nil (IsStationPacket infos station)
+  slot-has SentStop = All-nil (IsStationPacket infos station)
+  slot-has SentHang = All-nil (IsStationPacket infos station)
+  slot-has Busy = All-cons (IsStationPacket infos station) n [] packet (All-nil (IsStationPacket infos station))
 
   -- one more of these was accepted, or lies in the requeue slot
   one-of-two : (x : Tx) → length (option_to_list (laid_back x n)) + length (taken x n) ≡ 1
@@ -182,7 +182,7 @@ module _ (infos : List Info) (station rest n : ℕ) (answer : Tx) (old new : Que
   one-of-two SentHang = refl
   one-of-two Busy = refl
 
-  room-kept : HasRoom rest None new
+  room-kept : HasDeviceRoom rest None new
   room-kept =
       let one = one-of-two answer in
       let laid : length (option_to_list new.station.slot) ≡ length (option_to_list (laid_back answer n)) = ap (λ slot. length (option_to_list slot)) o.slot in
@@ -209,9 +209,9 @@ module _ (infos : List Info) (station rest n : ℕ) (answer : Tx) (old new : Que
     active = h.down ∙ m.active;
     fates_are = fates-by answer refl;
     packets = record {
-      in_slot = subst (λ slot. All (IsPacketOf infos station) (option_to_list slot)) (sym h.slot) (slot-has answer);
-      in_hand = subst (λ hand. All (IsPacketOf infos station) (option_to_list hand)) (sym h.hand) (All-nil (IsPacketOf infos station));
-      in_bands = subst (λ (bands : ℕ → Band). (band : ℕ) → band < 3 → All (IsPacketOf infos station) (held_of (bands band))) (sym h.bands) m.packets.in_bands;
+      in_slot = subst (λ slot. All (IsStationPacket infos station) (option_to_list slot)) (sym h.slot) (slot-has answer);
+      in_hand = subst (λ hand. All (IsStationPacket infos station) (option_to_list hand)) (sym h.hand) (All-nil (IsStationPacket infos station));
+      in_bands = subst (λ (bands : ℕ → Band). (band : ℕ) → band < 3 → All (IsStationPacket infos station) (held_of (bands band))) (sym h.bands) m.packets.in_bands;
     };
     hung = o.answers.hung ∙ hung-same answer ∙ ap is_hung_value (sym o.stop);
     room = room-kept;
@@ -220,7 +220,7 @@ module _ (infos : List Info) (station rest n : ℕ) (answer : Tx) (old new : Que
         (All-push (IsCallOf infos station) (device_of old).asked (device_call 0 n) m.asked (record { packet = packet; own_queue = sym first }));
   }
 
-  elsewhere-by : (x : Tx) → SameElsewhere infos station fates (fates_behind x n old.station fates)
+  elsewhere-by : (x : Tx) → SameElsewhere infos station fates (fates_after x n old.station fates)
   elsewhere-by Sent = same_set infos station fates n _ packet.of_station
   elsewhere-by SentStop = same_set infos station fates n _ packet.of_station
   elsewhere-by SentHang = same_set infos station fates n _ packet.of_station
@@ -233,7 +233,7 @@ module _ (infos : List Info) (station rest n : ℕ) (answer : Tx) (old new : Que
 
 module _ (infos : List Info) (station rest n : ℕ) (q : QueueState) (fates : List (Option Fate)) (a : Account) where
   -- packet n goes past the bands, while nothing is held
-  pub direct_matches : IsPacketOf infos station n → Matches infos station (rest + 1) None q fates a → Matches infos station rest (Some n) q fates (after (Direct n) a)
+  pub direct_matches : IsStationPacket infos station n → Matches infos station (rest + 1) None q fates a → Matches infos station rest (Some n) q fates (after (Direct n) a)
   direct_matches packet m = record {
     bands = m.bands;
     slot = m.slot;
@@ -244,7 +244,7 @@ module _ (infos : List Info) (station rest n : ℕ) (q : QueueState) (fates : Li
     fates_are = record { one_each = m.fates_are.one_each; each = m.fates_are.each };
     packets = record {
       in_slot = m.packets.in_slot;
-      in_hand = All-cons (IsPacketOf infos station) n [] packet (All-nil (IsPacketOf infos station));
+      in_hand = All-cons (IsStationPacket infos station) n [] packet (All-nil (IsStationPacket infos station));
       in_bands = m.packets.in_bands;
     };
     hung = m.hung;
@@ -264,7 +264,7 @@ module _ (infos : List Info) (station rest n : ℕ) (q : QueueState) (fates : Li
     stops = m.stops;
     active = m.active;
     fates_are = record { one_each = m.fates_are.one_each; each = m.fates_are.each };
-    packets = record { in_slot = m.packets.in_hand; in_hand = All-nil (IsPacketOf infos station); in_bands = m.packets.in_bands };
+    packets = record { in_slot = m.packets.in_hand; in_hand = All-nil (IsStationPacket infos station); in_bands = m.packets.in_bands };
     hung = m.hung;
     room = (
         let none : length (option_to_list q.station.slot) ≡ 0 = ap (λ slot. length (option_to_list slot)) (m.slot ∙ slot) in

@@ -9,7 +9,7 @@ use Rattle.lq_account.proofs.Turns.{HasOneQueue, after_turn, left_open, left_sto
 use Rattle.lq_account.proofs.Turns as turns
 use Rattle.lq_device.specs.Station.{with_slot}
 use Rattle.lq_model.specs.Account.{Account, after, held}
-use Rattle.lq_model.specs.Alone.{Running, answered, cleaned, next_taken, served_turns, turns_of}
+use Rattle.lq_model.specs.Alone.{RunningStation, answered, cleaned, next_taken, served_turns, turns_of}
 use Rattle.lq_model.specs.Device.{Telling, answer_of, is_busy, told_after}
 use Rattle.lq_model.specs.declared.device.Tx.{Tx}
 use Rattle.lq_model.specs.declared.device.Tx.TheVariants.{Sent, SentStop, SentHang, Busy}
@@ -131,7 +131,7 @@ module _ (s : Setting) (n rest m : ℕ) (answer : Tx) (old now mid new : QueueSt
         let mid_told : (device_of mid).told ≡ Some t' = ap (λ d. d.told) same-device ∙ e in
         let is : answer ≡ answer_of t' (length ((after taken.event r.account).sent (after taken.event r.account).unit))
         = answer_is answer m t' (device_of mid) (device_of new) o.answers mid_told ∙ ap (λ xs. answer_of t' (length xs)) (sym taken.matches.sent.sent) in
-        ap₂ {A = Tx} {B = Bool} {C = Running} (λ x clean. record { account = answered x 0 (after taken.event r.account); clean = clean; device = told_after x t' }) is (o.clean ∙ ap (λ (q : QueueState). q.clean) frame)
+        ap₂ {A = Tx} {B = Bool} {C = RunningStation} (λ x clean. record { account = answered x 0 (after taken.event r.account); clean = clean; device = told_after x t' }) is (o.clean ∙ ap (λ (q : QueueState). q.clean) frame)
 
     does-on : (t : Telling) → DoesOn s.infos t old now a r.account → DoesOn s.infos t old new a (answered answer 0 (after taken.event r.account))
     does-on t d = record {
@@ -224,7 +224,7 @@ serves_open s n rest old mid clean fates fates' a u opens iff r = record {
       told = d.told;
       params = d.params;
       does =
-          ap {A = Bool} {B = Running} (λ clean. record { account = r.moves.account; clean = clean; device = d.device })
+          ap {A = Bool} {B = RunningStation} (λ clean. record { account = r.moves.account; clean = clean; device = d.device })
           (open_number mid.stop clean iff ∙ sym (one_clean r.moves.account (stop_number mid.stop) r.moves.underway.matches.stops))
           ∙ ap cleaned d.does
           ∙ sym (served_open s.infos (running a old t) (left_open a u.matches.active (u.matches.stops ∙ ap (λ stop. stop_number stop ∷ []) opens)));

@@ -8,30 +8,28 @@ use Rattle.lq_model.specs.Texts.{counts_text}
 use Rattle.lq_model.specs.declared.fate.Fate.{Fate}
 use Rattle.lq_model.specs.declared.fate.Info.{Info}
 use Rattle.lq_host.specs.Host.{HostState, Contents, wrote}
-use Rattle.lq_pcapng.specs.File.{packets_of}
+use Rattle.lq_pcapng.specs.File.{packets_of_file}
 use Rattle.lq_pcapng.specs.declared.file.CaptureFile.{CaptureFile}
 use Rattle.lq_top.specs.Command.{OfRun, RunWords}
 use Rattle.lq_top.specs.Decision.{Verdict, Generates, IsRunnable, max_units, LacksFile, Refuses, Runs, Traces, by_bytes, by_capture, by_plan, limited_capture_of, plan_for, verdict_of_run}
 use Rattle.lq_top.specs.Fates.{AreFatesOf}
 use Rattle.lq_top.specs.Headline.{Run, run_of, unit_files, fates_file, texts_of, HasRun}
-use Rattle.lq_top.specs.Outcome.{Ends, EndsOrStops, IsAnswerOf, IsCommandStatus, Outcome, Stops}
+use Rattle.lq_top.specs.Outcome.{Completes, CompletesOrStops, IsAnswerOf, IsCommandStatus, Outcome, Stops}
 use Rattle.lq_top.specs.Refusal.{line_of, status_of}
 use Rattle.lq_top.specs.Stop.{status_of_stop}
 use Rattle.lq_top.specs.Written.{FileIsCut, FilesAreCut, OutputHasPrefix, IsCut, file_written, files_written, output_only, written}
 use Rattle.lq_top.specs.declared.refusal.Refusal.{Refusal}
 use Rattle.lq_top.specs.declared.refusal.Refusal.TheVariants as refusal
-use Rattle.lq_top.specs.declared.status.Status.{Status}
-use Rattle.lq_top.specs.declared.status.Status.TheVariants as status
-use Rattle.lq_top.specs.declared.stop.Stop.{Stop}
-use Rattle.lq_top.specs.declared.stop.Stop.TheVariants as stops
+use Rattle.lq_top.specs.declared.answer.Status.{Status}
+use Rattle.lq_top.specs.declared.answer.Status.TheVariants as status
+use Rattle.lq_top.specs.declared.answer.Stop.{Stop}
+use Rattle.lq_top.specs.declared.answer.Stop.TheVariants as stops
 use Rattle.lq_top.proofs.FileLemmas.{cut_before, cut_next, cut_whole, whole_next}
 
 -- WRITING
 
-abbrev counts_of : Run → List Fate → List ℕ
-counts_of run fates = counts_text fates (infos_of run.plan (packets_of run.capture)) (length run.plan.stations) (unit_count run.plan)
-
-abbrev counts_by : Run → List Fate → List Info → List ℕ
+-- the counts of fates, where this is known of the packets
+abbrev pub counts_by : Run → List Fate → List Info → List ℕ
 counts_by run fates infos = counts_text fates infos (length run.plan.stations) (unit_count run.plan)
 
 -- it was stopped in the units' files
@@ -64,7 +62,7 @@ whole_files run fates units old mid all counted whole made =
 
 -- it was stopped in the counts, or before them
 pub stopped_in_counts :
-    (run : Run) (fates : List Fate) (infos : List Info) (units : ℕ) (old mid all new : HostState) → infos ≡ infos_of run.plan (packets_of run.capture) → units ≡ unit_count run.plan
+    (run : Run) (fates : List Fate) (infos : List Info) (units : ℕ) (old mid all new : HostState) → infos ≡ infos_of run.plan (packets_of_file run.capture) → units ≡ unit_count run.plan
     → mid ≡ files_written old (unit_files run.out run.capture fates units) → all ≡ file_written mid (fates_file run.out fates)
     → (new ≡ all) ⊎ OutputHasPrefix (counts_by run fates infos) all new → IsCut (texts_of run fates) old new
 stopped_in_counts run fates infos units old mid all new known counted whole made cut =
@@ -78,7 +76,7 @@ stopped_in_counts run fates infos units old mid all new known counted whole made
 
 -- all is written
 pub all_written :
-    (run : Run) (fates : List Fate) (infos : List Info) (units : ℕ) (old mid all new : HostState) → infos ≡ infos_of run.plan (packets_of run.capture) → units ≡ unit_count run.plan
+    (run : Run) (fates : List Fate) (infos : List Info) (units : ℕ) (old mid all new : HostState) → infos ≡ infos_of run.plan (packets_of_file run.capture) → units ≡ unit_count run.plan
     → mid ≡ files_written old (unit_files run.out run.capture fates units) → all ≡ file_written mid (fates_file run.out fates)
     → new ≡ wrote all 0 (counts_by run fates infos) → new ≡ written (texts_of run fates) old
 all_written run fates infos units old mid all new known counted whole made done =
@@ -89,28 +87,28 @@ all_written run fates infos units old mid all new known counted whole made done 
 
 -- a run that is done: `given` are the fates as they were lent
 pub has_run :
-    (run : Run) (infos : List Info) (fates given : List Fate) (old new : HostState) (before behind : List DeviceState) → infos ≡ infos_of run.plan (packets_of run.capture) → given ≡ fates
-    → AreFatesOf run.plan infos fates before behind → new ≡ written (texts_of run given) old → HasRun run old new before behind
-has_run run infos fates given old new before behind known same are done =
-    (fates, subst (λ (is : List Info). AreFatesOf run.plan is fates before behind) known are, done ∙ ap (λ (fs : List Fate). written (texts_of run fs) old) same)
+    (run : Run) (infos : List Info) (fates given : List Fate) (old new : HostState) (before after : List DeviceState) → infos ≡ infos_of run.plan (packets_of_file run.capture) → given ≡ fates
+    → AreFatesOf run.plan infos fates before after → new ≡ written (texts_of run given) old → HasRun run old new before after
+has_run run infos fates given old new before after known same are done =
+    (fates, subst (λ (is : List Info). AreFatesOf run.plan is fates before after) known are, done ∙ ap (λ (fs : List Fate). written (texts_of run fs) old) same)
 
 -- a run that was stopped while it wrote
 pub run_stops :
-    (run : Run) (infos : List Info) (fates given : List Fate) (old new : HostState) (before behind : List DeviceState) → infos ≡ infos_of run.plan (packets_of run.capture) → given ≡ fates
-    → AreFatesOf run.plan infos fates before behind → IsCut (texts_of run given) old new → Stops (Runs run) old new before behind
-run_stops run infos fates given old new before behind known same are cut =
+    (run : Run) (infos : List Info) (fates given : List Fate) (old new : HostState) (before after : List DeviceState) → infos ≡ infos_of run.plan (packets_of_file run.capture) → given ≡ fates
+    → AreFatesOf run.plan infos fates before after → IsCut (texts_of run given) old new → Stops (Runs run) old new before after
+run_stops run infos fates given old new before after known same are cut =
     inr (
       fates,
-      subst (λ (is : List Info). AreFatesOf run.plan is fates before behind) known are,
+      subst (λ (is : List Info). AreFatesOf run.plan is fates before after) known are,
       subst (λ (fs : List Fate). IsCut (texts_of run fs) old new) same cut,
     )
 
 -- what a run answers and leaves, by whether it was stopped
 pub run_does :
-    (run : Run) (old new : HostState) (before behind : List DeviceState) (r : Result Status Stop) → IfOk r (λ answer. answer ≡ status.Done) → OnOk r (HasRun run old new before behind)
-    → OnErr r (Stops (Runs run) old new before behind) → EndsOrStops (Runs run) old new before behind r
-run_does run old new before behind (Ok answer) is done stopped = (is, done)
-run_does run old new before behind (Err stop) is done stopped = stopped
+    (run : Run) (old new : HostState) (before after : List DeviceState) (r : Result Status Stop) → IfOk r (λ answer. answer ≡ status.Done) → OnOk r (HasRun run old new before after)
+    → OnErr r (Stops (Runs run) old new before after) → CompletesOrStops (Runs run) old new before after r
+run_does run old new before after (Ok answer) is done stopped = (is, done)
+run_does run old new before after (Err stop) is done stopped = stopped
 
 -- DECISIONS
 
@@ -158,40 +156,40 @@ refuses_capture_on words have plan r plan_bytes capture_bytes P is_read is_seen 
     subst P (sym decided) does
 
 -- a host that is as before was stopped before anything was written
-stops_before : (v : Verdict) (old new : HostState) (before behind : List DeviceState) → new ≡ old → Stops v old new before behind
-stops_before LacksFile old new before behind same = same
-stops_before (Refuses r) old new before behind same = inl same
-stops_before (Runs run) old new before behind same = inl same
-stops_before (Generates text run) old new before behind same = inl (inl (inl same))
-stops_before (Traces text) old new before behind same = inl same
+stops_before : (v : Verdict) (old new : HostState) (before after : List DeviceState) → new ≡ old → Stops v old new before after
+stops_before LacksFile old new before after same = same
+stops_before (Refuses r) old new before after same = inl same
+stops_before (Runs run) old new before after same = inl same
+stops_before (Generates text run) old new before after same = inl (inl (inl same))
+stops_before (Traces text) old new before after same = inl same
 
 -- a refusal that was told, or that was stopped on the way
 pub refuse_does :
-    (r : Refusal) (old new : HostState) (before behind : List DeviceState) (result : Result Status Stop) → IfOk result (λ answer. answer ≡ status_of r)
+    (r : Refusal) (old new : HostState) (before after : List DeviceState) (result : Result Status Stop) → IfOk result (λ answer. answer ≡ status_of r)
     → OnOk result (new ≡ written (output_only (line_of r)) old) → OnErr result (IsCut (output_only (line_of r)) old new)
-    → EndsOrStops (Refuses r) old new before behind result
-refuse_does r old new before behind (Ok answer) is whole cut = (is, whole)
-refuse_does r old new before behind (Err stop) is whole cut = cut
+    → CompletesOrStops (Refuses r) old new before after result
+refuse_does r old new before after (Ok answer) is whole cut = (is, whole)
+refuse_does r old new before after (Err stop) is whole cut = cut
 
 -- what came to its end, of a command inside, is the outcome
 pub ends_outcome :
-    (v : Verdict) (old new : HostState) (before behind : List DeviceState) (answer : Status) → IsCommandStatus answer → Ends v old new before behind answer
-    → Outcome v old new before behind answer
-ends_outcome v old new before behind status.Done is ends = ends
-ends_outcome v old new before behind (status.Plan reason) is ends = ends
-ends_outcome v old new before behind (status.Bench need have) is ends = ends
-ends_outcome v old new before behind (status.Capture reason place) is ends = ends
-ends_outcome v old new before behind (status.Trace reason line) is ends = ends
-ends_outcome v old new before behind status.NotBuilt is ends = ends
-ends_outcome v old new before behind status.Usage is ends = absurd is
-ends_outcome v old new before behind status.Fault is ends = absurd is
-ends_outcome v old new before behind status.NoMemory is ends = absurd is
+    (v : Verdict) (old new : HostState) (before after : List DeviceState) (answer : Status) → IsCommandStatus answer → Completes v old new before after answer
+    → Outcome v old new before after answer
+ends_outcome v old new before after status.Done is ends = ends
+ends_outcome v old new before after (status.Plan reason) is ends = ends
+ends_outcome v old new before after (status.Bench need have) is ends = ends
+ends_outcome v old new before after (status.Capture reason place) is ends = ends
+ends_outcome v old new before after (status.Trace reason line) is ends = ends
+ends_outcome v old new before after status.NotBuilt is ends = ends
+ends_outcome v old new before after status.Usage is ends = absurd is
+ends_outcome v old new before after status.Fault is ends = absurd is
+ends_outcome v old new before after status.NoMemory is ends = absurd is
 
 -- and so is what was stopped
 pub stops_outcome :
-    (v : Verdict) (old new : HostState) (before behind : List DeviceState) (stop : Stop) → Stops v old new before behind → Outcome v old new before behind (status_of_stop stop)
-stops_outcome v old new before behind stops.Fault left = left
-stops_outcome v old new before behind stops.NoMemory left = left
+    (v : Verdict) (old new : HostState) (before after : List DeviceState) (stop : Stop) → Stops v old new before after → Outcome v old new before after (status_of_stop stop)
+stops_outcome v old new before after stops.Fault left = left
+stops_outcome v old new before after stops.NoMemory left = left
 
 -- a refusal of a file is no Usage
 pub run_status : (r : Refusal) → r ≢ refusal.Usage → IsCommandStatus (status_of r)
@@ -217,15 +215,15 @@ beyond_units have plan read old new is_read runnable same =
     drop_later (unit_count plan) max_units old new is.few same
 
 -- what came to its end answers what was decided
-answered : (v : Verdict) (old new : HostState) (before behind : List DeviceState) (answer : Status) → Ends v old new before behind answer → IsAnswerOf v answer
-answered LacksFile old new before behind answer ends = absurd ends
-answered (Refuses r) old new before behind answer ends = inl ends.0
-answered (Runs run) old new before behind answer ends = inl ends.0
-answered (Generates text run) old new before behind answer ends = inl ends.0
-answered (Traces text) old new before behind answer ends = inl ends.0
+answered : (v : Verdict) (old new : HostState) (before after : List DeviceState) (answer : Status) → Completes v old new before after answer → IsAnswerOf v answer
+answered LacksFile old new before after answer ends = absurd ends
+answered (Refuses r) old new before after answer ends = inl ends.0
+answered (Runs run) old new before after answer ends = inl ends.0
+answered (Generates text run) old new before after answer ends = inl ends.0
+answered (Traces text) old new before after answer ends = inl ends.0
 
 pub all_answered :
-    (told : Option Contents) (v : Contents → Verdict) (old new : HostState) (before behind : List DeviceState) (answer : Status)
-    → IfSome told (λ c. Ends (v c) old new before behind answer) → IfSome told (λ c. IsAnswerOf (v c) answer)
-all_answered None v old new before behind answer ends = _
-all_answered (Some c) v old new before behind answer ends = answered (v c) old new before behind answer ends
+    (told : Option Contents) (v : Contents → Verdict) (old new : HostState) (before after : List DeviceState) (answer : Status)
+    → IfSome told (λ c. Completes (v c) old new before after answer) → IfSome told (λ c. IsAnswerOf (v c) answer)
+all_answered None v old new before after answer ends = _
+all_answered (Some c) v old new before after answer ends = answered (v c) old new before after answer ends

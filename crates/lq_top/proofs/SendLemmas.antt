@@ -6,7 +6,7 @@ use Rattle.std.proofs.lemmas.List.{map-append}
 use Rattle.std.proofs.lemmas.List.Elements.{All-nil, All-cons, All-get_or}
 use Rattle.std.proofs.lemmas.Option.{slice_get_within, slice_get_cases, get_or_from_slice_get}
 use Rattle.lq_account.proofs.Placed.{decided}
-use Rattle.lq_model.specs.Alone.{Running, after_packets, finished, new_stations}
+use Rattle.lq_model.specs.Alone.{RunningStation, after_packets, finished, new_stations}
 use Rattle.lq_model.specs.Device.{DeviceState}
 use Rattle.lq_model.specs.Plan.{Plan, band_in, queue_in, station_in}
 use Rattle.lq_model.specs.declared.fate.Fate.{Fate}
@@ -41,9 +41,9 @@ some-is None x is = absurd cc
 some-is (Some y) x is = refl
 
 -- devices that were laid back before others stand in their order
-pub laid_back_in_order : {X : Type 0} (state : X → DeviceState) (queues : List QueueState) (bench behind : List X)
-    → map state behind ≡ map device_of queues ++ map state bench → identities_of (map state behind) ≡ map identity_of queues ++ identities_of (map state bench)
-laid_back_in_order state queues bench behind is =
+pub laid_back_in_order : {X : Type 0} (state : X → DeviceState) (queues : List QueueState) (bench after : List X)
+    → map state after ≡ map device_of queues ++ map state bench → identities_of (map state after) ≡ map identity_of queues ++ identities_of (map state bench)
+laid_back_in_order state queues bench after is =
     ap identities_of is ∙ (map-append (λ device. device.identity) (map device_of queues) (map state bench) ∙ ap (λ ids. ids ++ identities_of (map state bench)) (of_queues queues))
   where
     of_queues : (queues : List QueueState) → identities_of (map device_of queues) ≡ map identity_of queues
@@ -78,7 +78,7 @@ module _ (plan : Plan) (infos : List Info) (alone : All (IsInfoWithin plan) info
 -- THE END OF A RUN
 
 -- where the run of one sender leaves its stations
-abbrev pub end_of : Plan → List Info → ℕ → Option Running
+abbrev pub end_of : Plan → List Info → ℕ → Option RunningStation
 end_of plan infos = λ station. option_map (finished infos) (slice_get (after_packets plan infos (new_stations 0 plan.stations) (length infos)) station)
 
 module _ (plan : Plan) (infos : List Info) (before : List DeviceState) (queues : List QueueState) (options : List (Option Fate)) (alone : IsSentAlone plan infos)
@@ -100,8 +100,8 @@ module _ (plan : Plan) (infos : List Info) (before : List DeviceState) (queues :
   pub each_has_fate : All (λ fate. IsSome fate) options
   each_has_fate = all_of (λ fate. IsSome fate) options has-fate
 
-  pub options_of_run : (behind rest : List DeviceState) → behind ≡ map device_of queues ++ rest → AreOptionsOf plan infos options before behind
-  options_of_run behind rest is fates settled = fates_of_run plan infos before behind queues options fates (end_of plan infos) (record {
+  pub options_of_run : (after rest : List DeviceState) → after ≡ map device_of queues ++ rest → AreOptionsOf plan infos options before after
+  options_of_run after rest is fates settled = fates_of_run plan infos before after queues options fates (end_of plan infos) (record {
     none = alone.no_events;
     all = all;
     of_plan = of_plan plan infos alone.within;

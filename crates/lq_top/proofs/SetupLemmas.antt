@@ -9,7 +9,7 @@ use Rattle.std.proofs.lemmas.List.{length-map, length-set, length-replicate}
 use Rattle.std.proofs.lemmas.List.Sums.{count_by-le-length}
 use Rattle.std.proofs.lemmas.Option.{same_Some, slice_get_within, slice_get-map, slice_get_cases}
 use Rattle.lq_account.specs.Progress.{len_of, start_of}
-use Rattle.lq_device.specs.Station.{new_station}
+use Rattle.lq_device.specs.Station.{initial_station}
 use Rattle.lq_model.specs.Account.{new_account}
 use Rattle.lq_model.specs.Alone.{new_device, new_stations, new_station as first_run}
 use Rattle.lq_model.specs.Band.{empty_band}
@@ -22,7 +22,7 @@ use Rattle.lq_model.specs.declared.plan.StationPlan.{StationPlan}
 use Rattle.lq_top.proofs.FateLists.{set_here, set_apart}
 use Rattle.lq_top.specs.Bands.{AreBands}
 use Rattle.lq_top.specs.Fates.{AllTell, identities_of}
-use Rattle.lq_top.specs.Queue.{QueueState, Setting, Begins, StandsFor, device_of, identity_of, new_queue}
+use Rattle.lq_top.specs.Queue.{QueueState, Setting, QueueBegins, StandsFor, device_of, identity_of, new_queue}
 use Rattle.lq_top.specs.Setup.{AreConfigured, AreEmptyBands, IsReady}
 use Rattle.lq_top.specs.Stations.{AllStand, IsRunningAt, StationStands, setting_at, still_to_come}
 use Rattle.lq_top.specs.declared.queue.bands.Bands.{Bands}
@@ -103,9 +103,9 @@ pub record IsOpenedAt (plan : Plan) (bands : List Bands) (devices : List DeviceS
   pub planned : slice_get plan.stations station ≡ Some s
   pub own_bands : slice_get bands station ≡ Some b
   pub own_device : slice_get devices station ≡ Some d
-  pub state : q ≡ new_queue (new_station station d) b s.bypass
+  pub state : q ≡ new_queue (initial_station station d) b s.bypass
   pub stands : (setting : Setting) (rest : ℕ) (fates : List (Option Fate)) → AreBands b (len_of setting.plan setting.station) (λ _. empty_band) → setting.station ≡ station
-      → Begins setting rest d fates → StandsFor setting 0 rest q fates (start_of setting.plan setting.station)
+      → QueueBegins setting rest d fates → StandsFor setting 0 rest q fates (start_of setting.plan setting.station)
 
 -- DEVICES
 
@@ -193,7 +193,7 @@ module _ (plan : Plan) (infos : List Info) (before devices : List DeviceState) (
   len-is : (station : ℕ) (q : QueueState) (here : slice_get queues station ≡ Some q) → (opened station q here).s.len ≡ len_of plan station
   len-is station q here = sym (ap (λ o. option_map_or (λ s. s.len) o 0) (opened station q here).planned)
 
-  begins : (station : ℕ) (q : QueueState) (here : slice_get queues station ≡ Some q) → Begins (setting_at plan infos station) (still_to_come infos station 0) (opened station q here).d fates
+  begins : (station : ℕ) (q : QueueState) (here : slice_get queues station ≡ Some q) → QueueBegins (setting_at plan infos station) (still_to_come infos station 0) (opened station q here).d fates
   begins station q here = record {
     one_queue = ready.one_queue;
     one_each = ap length ready.no_fates ∙ length-replicate (length infos) None;

@@ -1,11 +1,11 @@
--- The causes of what work on a file came to, behind which the file was finished.
+-- The causes of what work on a file came to, after which the file was finished.
 use Rattle.std.proofs.Common.{◌≡◌, ◌≤◌, ℕ, Result, Ok, Err, refl, sym, ◌∙◌, subst, arith}
 use Rattle.lq_host.specs.Host.{HasCause, Rose}
 use Rattle.lq_host.specs.declared.HostError.{HostError}
 use Rattle.lq_host.specs.declared.HostError.TheVariants as host
 use Rattle.lq_top.specs.Stop.{StopsFor, with_end}
-use Rattle.lq_top.specs.declared.stop.Stop.{Stop}
-use Rattle.lq_top.specs.declared.stop.Stop.TheVariants.{Fault, NoMemory}
+use Rattle.lq_top.specs.declared.answer.Stop.{Stop}
+use Rattle.lq_top.specs.declared.answer.Stop.TheVariants.{Fault, NoMemory}
 
 pub end_cause :
     {T U : Type 0} (a b c : ℕ) (work : Result T Stop) (end : Result U HostError) → StopsFor a b work → HasCause b c end → StopsFor a c (with_end work end)

@@ -1,8 +1,8 @@
--- One turn of the run: a packet, the wakes behind it, and serving.
+-- One turn of the run: a packet, the wakes after it, and serving.
 use Rattle.std.proofs.Common.{add-one, ◌≡◌, ℕ, ◌+◌, Bool, true, false, List, [], length, refl, ap, Option, Some, None, sym, ◌∙◌, map}
 use Rattle.std.specs.Prelude.{slice_get, option_map, if◌then◌else◌, ◌==◌, ◌%◌, nat_le, filter}
 use Rattle.std.proofs.lemmas.Option.{slice_get-map}
-use Rattle.lq_model.specs.Alone.{Running, before_of, events_before, events_behind, opened, served, with_events, with_packet, with_turn, with_wakes, after_packets, new_stations}
+use Rattle.lq_model.specs.Alone.{RunningStation, before_of, events_before, events_after, opened, served, with_events, with_packet, with_turn, with_wakes, after_packets, new_stations}
 use Rattle.lq_model.specs.Device.{DeviceState}
 use Rattle.lq_model.specs.Numbers.{first_numbers}
 use Rattle.lq_model.specs.Plan.{Plan, station_in}
@@ -13,35 +13,35 @@ use Rattle.lq_top.proofs.StationLemmas.{changed_there}
 use Rattle.lq_top.specs.Queue.{QueueState}
 use Rattle.lq_top.specs.Stations.{AllStand, SomeStand, IsRunningAt, StationStands, packet_step, setting_at, still_to_come, turn_step, with_change}
 
-both-maps : (f g : Running → Running) (run : Option Running) → option_map f (option_map g run) ≡ option_map (λ s. f (g s)) run
+both-maps : (f g : RunningStation → RunningStation) (run : Option RunningStation) → option_map f (option_map g run) ≡ option_map (λ s. f (g s)) run
 both-maps f g None = refl
 both-maps f g (Some s) = refl
 
 -- wakes or none, and then serving
-woken-or-not : (infos : List Info) (wakes : Bool) (stations : List Running) (j : ℕ)
+woken-or-not : (infos : List Info) (wakes : Bool) (stations : List RunningStation) (j : ℕ)
     → slice_get (map (served infos) (if wakes then map opened stations else stations)) j ≡ option_map (λ s. served infos (if wakes then opened s else s)) (slice_get stations j)
 woken-or-not infos true stations j =
     slice_get-map (served infos) (map opened stations) j ∙ (ap (option_map (served infos)) (slice_get-map opened stations j) ∙ both-maps (served infos) opened (slice_get stations j))
 woken-or-not infos false stations j = slice_get-map (served infos) stations j
 
-no-events-before : (plan : Plan) (infos : List Info) (n : ℕ) (stations : List Running) → plan.events ≡ [] → with_events plan infos (events_before plan n) stations ≡ stations
+no-events-before : (plan : Plan) (infos : List Info) (n : ℕ) (stations : List RunningStation) → plan.events ≡ [] → with_events plan infos (events_before plan n) stations ≡ stations
 no-events-before plan infos n stations none =
     ap (λ events. with_events plan infos (filter (λ event. before_of plan event == n) (first_numbers (length events))) stations) none
 
-pub no_events_behind : (plan : Plan) (infos : List Info) (count : ℕ) (stations : List Running) → plan.events ≡ [] → with_events plan infos (events_behind plan count) stations ≡ stations
-no_events_behind plan infos count stations none =
+pub no_events_after : (plan : Plan) (infos : List Info) (count : ℕ) (stations : List RunningStation) → plan.events ≡ [] → with_events plan infos (events_after plan count) stations ≡ stations
+no_events_after plan infos count stations none =
     ap (λ events. with_events plan infos (filter (λ event. nat_le count (before_of plan event)) (first_numbers (length events))) stations) none
 
-pub turn_is : (plan : Plan) (infos : List Info) (n : ℕ) (stations : List Running) (j : ℕ) → plan.events ≡ []
+pub turn_is : (plan : Plan) (infos : List Info) (n : ℕ) (stations : List RunningStation) (j : ℕ) → plan.events ≡ []
     → option_map (turn_step plan infos n) (with_change (station_in infos n) (packet_step plan infos n) (slice_get stations) j) ≡ slice_get (with_turn plan infos n stations) j
 turn_is plan infos n stations j none =
     sym (ap (λ before. slice_get (map (served infos) (with_wakes plan n (with_packet plan infos n before))) j) (no-events-before plan infos n stations none)
     ∙ (woken-or-not infos ((n + 1) % plan.irq_every == 0) (with_packet plan infos n stations) j
     ∙ ap (option_map (turn_step plan infos n)) (changed_there (station_in infos n) (packet_step plan infos n) stations j)))
 
--- behind a packet with no wakes, serving changes nothing
+-- after a packet with no wakes, serving changes nothing
 pub served_again :
-    (plan : Plan) (infos : List Info) (before : List DeviceState) (n : ℕ) (queues : List QueueState) (fates : List (Option Fate)) (run_at : ℕ → Option Running)
+    (plan : Plan) (infos : List Info) (before : List DeviceState) (n : ℕ) (queues : List QueueState) (fates : List (Option Fate)) (run_at : ℕ → Option RunningStation)
     → AllStand plan infos before n queues fates run_at → AllStand plan infos before n queues fates (λ j. option_map (served infos) (run_at j))
 served_again plan infos before n queues fates run_at all = record {
   accounts = all.accounts;
@@ -61,11 +61,11 @@ served_again plan infos before n queues fates run_at all = record {
     }
 
 -- the turn's step where the plan wakes stations, and where it doesn't
-pub turn_wakes : (plan : Plan) (infos : List Info) (n : ℕ) (run : Option Running) → ((n + 1) % plan.irq_every == 0) ≡ true
+pub turn_wakes : (plan : Plan) (infos : List Info) (n : ℕ) (run : Option RunningStation) → ((n + 1) % plan.irq_every == 0) ≡ true
     → option_map (λ s. served infos (opened s)) run ≡ option_map (turn_step plan infos n) run
 turn_wakes plan infos n run wakes = sym (ap (λ b. option_map (λ s. served infos (if b then opened s else s)) run) wakes)
 
-pub turn_waits : (plan : Plan) (infos : List Info) (n : ℕ) (run : Option Running) → ((n + 1) % plan.irq_every == 0) ≡ false
+pub turn_waits : (plan : Plan) (infos : List Info) (n : ℕ) (run : Option RunningStation) → ((n + 1) % plan.irq_every == 0) ≡ false
     → option_map (served infos) run ≡ option_map (turn_step plan infos n) run
 turn_waits plan infos n run wakes = sym (ap (λ b. option_map (λ s. served infos (if b then opened s else s)) run) wakes)
 
@@ -77,13 +77,13 @@ pub record SentBelow (plan : Plan) (infos : List Info) (n : ℕ) (queues queues'
   pub stand : (before : List DeviceState) → AllStand plan infos before 0 queues fates (slice_get (new_stations 0 plan.stations))
       → AllStand plan infos before n queues' fates' (slice_get (after_packets plan infos (new_stations 0 plan.stations) n))
 
--- a turn: packet n was brought, and stations were woken behind it
+-- a turn: packet n was brought, and stations were woken after it
 pub one_more_sent :
     (plan : Plan) (infos : List Info) (n : ℕ) (start queues brought woken : List QueueState) (fates₀ fates fates₁ fates₂ : List (Option Fate))
     → plan.events ≡ [] → SentBelow plan infos n start queues fates₀ fates
-    → ((before : List DeviceState) (run_at : ℕ → Option Running) → AllStand plan infos before n queues fates run_at
+    → ((before : List DeviceState) (run_at : ℕ → Option RunningStation) → AllStand plan infos before n queues fates run_at
     → AllStand plan infos before (n + 1) brought fates₁ (with_change (station_in infos n) (packet_step plan infos n) run_at))
-    → ((before : List DeviceState) (run_at : ℕ → Option Running) → AllStand plan infos before (n + 1) brought fates₁ run_at
+    → ((before : List DeviceState) (run_at : ℕ → Option RunningStation) → AllStand plan infos before (n + 1) brought fates₁ run_at
     → AllStand plan infos before (n + 1) woken fates₂ (λ station. option_map (turn_step plan infos n) (run_at station)))
     → SentBelow plan infos (n + 1) start woken fates₀ fates₂
 one_more_sent plan infos n start queues brought woken fates₀ fates fates₁ fates₂ none sent bring wake = record {
@@ -100,5 +100,5 @@ one_more_sent plan infos n start queues brought woken fates₀ fates fates₁ fa
       (wake before (with_change (station_in infos n) (packet_step plan infos n) (slice_get (stations n))) (bring before (slice_get (stations n)) (sent.stand before all)));
 }
   where
-    stations : ℕ → List Running
+    stations : ℕ → List RunningStation
     stations k = after_packets plan infos (new_stations 0 plan.stations) k

@@ -51,20 +51,20 @@ command_of_three verb first second third =
     else None
 
 -- the command that the words are, if they are one
-abbrev pub command_of : List (List ℕ) → Option CommandWords
-command_of (verb ∷ file ∷ []) = if is_operand file then command_of_one verb file else None
-command_of (verb ∷ first ∷ second ∷ third ∷ []) =
+abbrev pub command_of_words : List (List ℕ) → Option CommandWords
+command_of_words (verb ∷ file ∷ []) = if is_operand file then command_of_one verb file else None
+command_of_words (verb ∷ first ∷ second ∷ third ∷ []) =
     if is_operand first && (is_operand second && is_operand third) then command_of_three verb first second third else None
-command_of (verb ∷ first ∷ second ∷ third ∷ more ∷ rest) = None
-command_of (verb ∷ first ∷ second ∷ []) = None
-command_of (verb ∷ []) = None
-command_of [] = None
+command_of_words (verb ∷ first ∷ second ∷ third ∷ more ∷ rest) = None
+command_of_words (verb ∷ first ∷ second ∷ []) = None
+command_of_words (verb ∷ []) = None
+command_of_words [] = None
 
 -- WHAT IS READ
 
 -- the words as lists of bytes
-abbrev pub words_of : List (Bor (List ℕ)) → List (List ℕ)
-words_of words = map (λ word. word.now) words
+abbrev pub bytes_of_words : List (Bor (List ℕ)) → List (List ℕ)
+bytes_of_words words = map (λ word. word.now) words
 
 abbrev pub run_words : RunOperands → RunWords
 run_words run = record { plan = run.plan.now; capture = run.capture.now; out = run.out.now }

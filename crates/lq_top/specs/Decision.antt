@@ -16,7 +16,7 @@ use Rattle.lq_run_core.specs.declared.trace_run.TraceRefusal.TheVariants.{Refuse
 use Rattle.lq_host.specs.Host.{Files}
 use Rattle.lq_pcapng.specs.File.{as_classic, capture_file_of}
 use Rattle.lq_pcapng.specs.declared.file.CaptureFile.{CaptureFile}
-use Rattle.lq_top.specs.Command.{CommandWords, GenWords, OfGen, OfRun, OfTrace, RunWords, command_of}
+use Rattle.lq_top.specs.Command.{CommandWords, GenWords, OfGen, OfRun, OfTrace, RunWords, command_of_words}
 use Rattle.lq_top.specs.Headline.{Run, run_of}
 use Rattle.lq_top.specs.declared.refusal.Refusal.{Refusal}
 use Rattle.lq_top.specs.declared.refusal.Refusal.TheVariants as refusal
@@ -136,7 +136,7 @@ by_command (Some command) files have = verdict_of_command command files have
 
 -- `have` is the number of devices on the bench
 abbrev pub verdict_of : List (List ℕ) → Files → ℕ → Verdict
-verdict_of words files have = by_command (command_of words) files have
+verdict_of words files have = by_command (command_of_words words) files have
 
 -- the same where the files that the command reads, in their order, have these bytes: the plan's and the capture's of
 -- `run`, the schedule's of `trace`
@@ -150,16 +150,16 @@ by_bytes None have first second = Refuses refusal.Usage
 by_bytes (Some command) have first second = by_bytes_of command have first second
 
 -- how many devices it may change, the first ones of the bench
-abbrev pub units_of : Verdict → ℕ
-units_of LacksFile = 0
-units_of (Refuses r) = 0
-units_of (Runs run) = unit_count run.plan
-units_of (Generates text run) = unit_count run.plan
-units_of (Traces text) = 0
+abbrev pub units_changed_by : Verdict → ℕ
+units_changed_by LacksFile = 0
+units_changed_by (Refuses r) = 0
+units_changed_by (Runs run) = unit_count run.plan
+units_changed_by (Generates text run) = unit_count run.plan
+units_changed_by (Traces text) = 0
 
 -- and how many at most, whatever its files hold
-abbrev pub most_units_of : Option CommandWords → ℕ
-most_units_of None = 0
-most_units_of (Some (OfRun words)) = max_units
-most_units_of (Some (OfGen words)) = 1
-most_units_of (Some (OfTrace file)) = 0
+abbrev pub most_units_changed_by : Option CommandWords → ℕ
+most_units_changed_by None = 0
+most_units_changed_by (Some (OfRun words)) = max_units
+most_units_changed_by (Some (OfGen words)) = 1
+most_units_changed_by (Some (OfTrace file)) = 0

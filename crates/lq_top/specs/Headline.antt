@@ -8,7 +8,7 @@ use Rattle.lq_model.specs.Sent.{sent_of}
 use Rattle.lq_model.specs.Texts.{counts_text, fates_text}
 use Rattle.lq_model.specs.declared.fate.Fate.{Fate}
 use Rattle.lq_host.specs.Host.{HostState}
-use Rattle.lq_pcapng.specs.File.{packets_of, text_of}
+use Rattle.lq_pcapng.specs.File.{packets_of_file, text_of}
 use Rattle.lq_pcapng.specs.declared.file.CaptureFile.{CaptureFile}
 use Rattle.lq_top.specs.Fates.{AreFatesOf}
 use Rattle.lq_top.specs.Written.{FileText, OutputHasPrefix, Texts, output_only, written}
@@ -49,19 +49,19 @@ fates_file out fates = record { name = fates_name out; text = fates_text fates }
 abbrev pub texts_of : Run → List Fate → Texts
 texts_of run fates = record {
   files = unit_files run.out run.capture fates (unit_count run.plan) ++ fates_file run.out fates ∷ [];
-  output = counts_text fates (infos_of run.plan (packets_of run.capture)) (length run.plan.stations) (unit_count run.plan);
+  output = counts_text fates (infos_of run.plan (packets_of_file run.capture)) (length run.plan.stations) (unit_count run.plan);
 }
 
 -- THE HEADLINE
 
--- these are the fates of a run; `before` and `behind` are the devices of the bench, before the call and behind it
+-- these are the fates of a run; `before` and `after` are the devices of the bench, before the call and after it
 abbrev pub AreFatesIn : Run → List Fate → List DeviceState → List DeviceState → Type 0
-AreFatesIn run fates before behind = AreFatesOf run.plan (infos_of run.plan (packets_of run.capture)) fates before behind
+AreFatesIn run fates before after = AreFatesOf run.plan (infos_of run.plan (packets_of_file run.capture)) fates before after
 
 -- A run that is done: some list of fates tells all of it. Each packet of the capture has exactly one of them, the devices
 -- accepted what they say was sent, and the files and the counts are written of them; all else is as it was.
 abbrev pub HasRun : Run → HostState → HostState → List DeviceState → List DeviceState → Type 0
-HasRun run old new before behind = (fates : List Fate) × AreFatesIn run fates before behind × (new ≡ written (texts_of run fates) old)
+HasRun run old new before after = (fates : List Fate) × AreFatesIn run fates before after × (new ≡ written (texts_of run fates) old)
 
 -- GENERATED RUNS
 
@@ -70,24 +70,24 @@ abbrev pub generated_file : List ℕ → List ℕ → FileText
 generated_file out text = record { name = out; text = text }
 
 -- the counts of a run's fates
-abbrev pub counts_of : Run → List Fate → List ℕ
-counts_of run fates = (texts_of run fates).output
+abbrev pub counts_text_of : Run → List Fate → List ℕ
+counts_text_of run fates = (texts_of run fates).output
 
 -- what is written: the generated capture to OUT, and then the counts of the fates of its run to standard output
 abbrev pub generated_texts_of : List ℕ → Run → List Fate → Texts
-generated_texts_of text run fates = record { files = generated_file run.out text ∷ []; output = counts_of run fates }
+generated_texts_of text run fates = record { files = generated_file run.out text ∷ []; output = counts_text_of run fates }
 
 -- A generated run that is done: as a run, but that its one file is the generated capture, which has this text.
 abbrev pub HasGenerated : List ℕ → Run → HostState → HostState → List DeviceState → List DeviceState → Type 0
-HasGenerated text run old new before behind =
-    (fates : List Fate) × AreFatesIn run fates before behind × (new ≡ written (generated_texts_of text run fates) old)
+HasGenerated text run old new before after =
+    (fates : List Fate) × AreFatesIn run fates before after × (new ≡ written (generated_texts_of text run fates) old)
 
--- the part of it behind the file: what is written is the counts of the fates alone
+-- the part of it after the file: what is written is the counts of the fates alone
 abbrev pub HasCounted : Run → HostState → HostState → List DeviceState → List DeviceState → Type 0
-HasCounted run old new before behind =
-    (fates : List Fate) × AreFatesIn run fates before behind × (new ≡ written (output_only (counts_of run fates)) old)
+HasCounted run old new before after =
+    (fates : List Fate) × AreFatesIn run fates before after × (new ≡ written (output_only (counts_text_of run fates)) old)
 
 -- where it is stopped, nothing was written, or a prefix of the counts of one list of fates
 abbrev pub AreCountsCut : Run → HostState → HostState → List DeviceState → List DeviceState → Type 0
-AreCountsCut run old new before behind =
-    (new ≡ old) ⊎ ((fates : List Fate) × AreFatesIn run fates before behind × OutputHasPrefix (counts_of run fates) old new)
+AreCountsCut run old new before after =
+    (new ≡ old) ⊎ ((fates : List Fate) × AreFatesIn run fates before after × OutputHasPrefix (counts_text_of run fates) old new)

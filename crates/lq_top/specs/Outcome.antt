@@ -5,63 +5,63 @@ use Rattle.lq_model.specs.declared.fate.Fate.{Fate}
 use Rattle.lq_host.specs.Host.{HostState}
 use Rattle.lq_top.specs.Command.{CommandWords}
 use Rattle.lq_top.specs.Decision.{Verdict, Generates, LacksFile, Refuses, Runs, Traces, by_bytes}
-use Rattle.lq_top.specs.Headline.{AreFatesIn, HasGenerated, HasRun, Run, counts_of, generated_file, texts_of}
+use Rattle.lq_top.specs.Headline.{AreFatesIn, HasGenerated, HasRun, Run, counts_text_of, generated_file, texts_of}
 use Rattle.lq_top.specs.Refusal.{line_of, status_of}
 use Rattle.lq_top.specs.Written.{files_written, output_only, written, FilesAreCut, IsCut, OutputHasPrefix}
-use Rattle.lq_top.specs.declared.status.Status.{Status}
-use Rattle.lq_top.specs.declared.status.Status.TheVariants as status
-use Rattle.lq_top.specs.declared.stop.Stop.{Stop}
+use Rattle.lq_top.specs.declared.answer.Status.{Status}
+use Rattle.lq_top.specs.declared.answer.Status.TheVariants as status
+use Rattle.lq_top.specs.declared.answer.Stop.{Stop}
 
 -- THE ANSWER
 
 -- what a call that came to its end answers and leaves: a refusal is a line on standard output and nothing else; where a
 -- file isn't there no call comes to its end
-abbrev pub Ends : Verdict → HostState → HostState → List DeviceState → List DeviceState → Status → Type 0
-Ends LacksFile old new before behind answer = ⊥
-Ends (Refuses refusal) old new before behind answer = (answer ≡ status_of refusal) × (new ≡ written (output_only (line_of refusal)) old)
-Ends (Runs run) old new before behind answer = (answer ≡ status.Done) × HasRun run old new before behind
-Ends (Generates text run) old new before behind answer = (answer ≡ status.Done) × HasGenerated text run old new before behind
-Ends (Traces text) old new before behind answer = (answer ≡ status.Done) × (new ≡ written (output_only text) old)
+abbrev pub Completes : Verdict → HostState → HostState → List DeviceState → List DeviceState → Status → Type 0
+Completes LacksFile old new before after answer = ⊥
+Completes (Refuses refusal) old new before after answer = (answer ≡ status_of refusal) × (new ≡ written (output_only (line_of refusal)) old)
+Completes (Runs run) old new before after answer = (answer ≡ status.Done) × HasRun run old new before after
+Completes (Generates text run) old new before after answer = (answer ≡ status.Done) × HasGenerated text run old new before after
+Completes (Traces text) old new before after answer = (answer ≡ status.Done) × (new ≡ written (output_only text) old)
 
 -- a generated run that was stopped: on its way through its file, or before it; or the file is whole, and standard output
 -- got a prefix of the counts of one list of fates
 abbrev pub HasCutGenerated : List ℕ → Run → HostState → HostState → List DeviceState → List DeviceState → Type 0
-HasCutGenerated text run old new before behind =
+HasCutGenerated text run old new before after =
     let files = generated_file run.out text ∷ [] in
-    FilesAreCut files old new ⊎ ((fates : List Fate) × AreFatesIn run fates before behind × OutputHasPrefix (counts_of run fates) (files_written old files) new)
+    FilesAreCut files old new ⊎ ((fates : List Fate) × AreFatesIn run fates before after × OutputHasPrefix (counts_text_of run fates) (files_written old files) new)
 
 -- what a call leaves that was stopped by a fault or want of memory: nothing, or a part of what it was to write, of a run
 -- by one list of fates
 abbrev pub Stops : Verdict → HostState → HostState → List DeviceState → List DeviceState → Type 0
-Stops LacksFile old new before behind = new ≡ old
-Stops (Refuses refusal) old new before behind = IsCut (output_only (line_of refusal)) old new
-Stops (Runs run) old new before behind = (new ≡ old) ⊎ ((fates : List Fate) × AreFatesIn run fates before behind × IsCut (texts_of run fates) old new)
-Stops (Generates text run) old new before behind = HasCutGenerated text run old new before behind
-Stops (Traces text) old new before behind = IsCut (output_only text) old new
+Stops LacksFile old new before after = new ≡ old
+Stops (Refuses refusal) old new before after = IsCut (output_only (line_of refusal)) old new
+Stops (Runs run) old new before after = (new ≡ old) ⊎ ((fates : List Fate) × AreFatesIn run fates before after × IsCut (texts_of run fates) old new)
+Stops (Generates text run) old new before after = HasCutGenerated text run old new before after
+Stops (Traces text) old new before after = IsCut (output_only text) old new
 
 -- THE OUTCOME, where the host tells its bytes
 abbrev pub Outcome : Verdict → HostState → HostState → List DeviceState → List DeviceState → Status → Type 0
-Outcome verdict old new before behind status.Fault = Stops verdict old new before behind
-Outcome verdict old new before behind status.NoMemory = Stops verdict old new before behind
-Outcome verdict old new before behind status.Done = Ends verdict old new before behind status.Done
-Outcome verdict old new before behind status.Usage = Ends verdict old new before behind status.Usage
-Outcome verdict old new before behind (status.Plan reason) = Ends verdict old new before behind (status.Plan reason)
-Outcome verdict old new before behind (status.Bench need have) = Ends verdict old new before behind (status.Bench need have)
-Outcome verdict old new before behind (status.Capture reason place) = Ends verdict old new before behind (status.Capture reason place)
-Outcome verdict old new before behind (status.Trace reason line) = Ends verdict old new before behind (status.Trace reason line)
-Outcome verdict old new before behind status.NotBuilt = Ends verdict old new before behind status.NotBuilt
+Outcome verdict old new before after status.Fault = Stops verdict old new before after
+Outcome verdict old new before after status.NoMemory = Stops verdict old new before after
+Outcome verdict old new before after status.Done = Completes verdict old new before after status.Done
+Outcome verdict old new before after status.Usage = Completes verdict old new before after status.Usage
+Outcome verdict old new before after (status.Plan reason) = Completes verdict old new before after (status.Plan reason)
+Outcome verdict old new before after (status.Bench need have) = Completes verdict old new before after (status.Bench need have)
+Outcome verdict old new before after (status.Capture reason place) = Completes verdict old new before after (status.Capture reason place)
+Outcome verdict old new before after (status.Trace reason line) = Completes verdict old new before after (status.Trace reason line)
+Outcome verdict old new before after status.NotBuilt = Completes verdict old new before after status.NotBuilt
 
 -- The outcome for every host, also one that doesn't tell what its files hold: that of some bytes of the files that it reads.
 abbrev pub OutcomeOfSome : Option CommandWords → ℕ → HostState → HostState → List DeviceState → List DeviceState → Status → Type 0
-OutcomeOfSome command have old new before behind answer = (first second : List ℕ) × Outcome (by_bytes command have first second) old new before behind answer
+OutcomeOfSome command have old new before after answer = (first second : List ℕ) × Outcome (by_bytes command have first second) old new before after answer
 
 -- the same of a command inside
-abbrev pub EndsOrStops : Verdict → HostState → HostState → List DeviceState → List DeviceState → Result Status Stop → Type 0
-EndsOrStops verdict old new before behind (Ok answer) = Ends verdict old new before behind answer
-EndsOrStops verdict old new before behind (Err stop) = Stops verdict old new before behind
+abbrev pub CompletesOrStops : Verdict → HostState → HostState → List DeviceState → List DeviceState → Result Status Stop → Type 0
+CompletesOrStops verdict old new before after (Ok answer) = Completes verdict old new before after answer
+CompletesOrStops verdict old new before after (Err stop) = Stops verdict old new before after
 
-abbrev pub EndsOrStopsOfSome : Option CommandWords → ℕ → HostState → HostState → List DeviceState → List DeviceState → Result Status Stop → Type 0
-EndsOrStopsOfSome command have old new before behind result = (first second : List ℕ) × EndsOrStops (by_bytes command have first second) old new before behind result
+abbrev pub CompletesOrStopsOfSome : Option CommandWords → ℕ → HostState → HostState → List DeviceState → List DeviceState → Result Status Stop → Type 0
+CompletesOrStopsOfSome command have old new before after result = (first second : List ℕ) × CompletesOrStops (by_bytes command have first second) old new before after result
 
 -- THE CAUSES
 

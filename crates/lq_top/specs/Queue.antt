@@ -3,7 +3,7 @@ use Rattle.std.specs.Prelude.{◌≡◌, ◌≢◌, ◌↔◌, ℕ, ◌+◌, ◌
 use Rattle.lq_account.specs.Progress.{IsAt}
 use Rattle.lq_device.specs.Station.{StationState}
 use Rattle.lq_model.specs.Account.{Account, Event, held, held_in, after}
-use Rattle.lq_model.specs.Alone.{Running, next_taken, served, served_turns, turns_of, brought_in, opened, finished}
+use Rattle.lq_model.specs.Alone.{RunningStation, next_taken, served, served_turns, turns_of, brought_in, opened, finished}
 use Rattle.lq_model.specs.Device.{DeviceCall, DeviceState, Telling, Answers}
 use Rattle.lq_model.specs.Plan.{Plan, station_in, band_in, queue_in}
 use Rattle.lq_model.specs.declared.device.Tx.{Tx}
@@ -86,24 +86,24 @@ pub record IsSentBy (station : StationState) (a : Account) : Type 0 where
   pub sent : a.sent a.unit ≡ station.device.accepted
   pub others : (unit : ℕ) → unit ≢ a.unit → a.sent unit ≡ []
 
-pub record IsPacketOf (infos : List Info) (station n : ℕ) : Type 0 where
+pub record IsStationPacket (infos : List Info) (station n : ℕ) : Type 0 where
   pub within : n < length infos
   pub of_station : station_in infos n ≡ station
 
 -- its device was asked to send a packet of the station, on that packet's own queue
 pub record IsCallOf (infos : List Info) (station : ℕ) (call : DeviceCall) : Type 0 where
-  pub packet : IsPacketOf infos station call.packet
+  pub packet : IsStationPacket infos station call.packet
   pub own_queue : call.queue ≡ queue_in infos call.packet
 
 -- what is held and in hand are packets of the station
 pub record ArePacketsOf (infos : List Info) (station : ℕ) (a : Account) : Type 0 where
-  pub in_slot : All (IsPacketOf infos station) (option_to_list a.slot)
-  pub in_hand : All (IsPacketOf infos station) (option_to_list a.hand)
-  pub in_bands : (band : ℕ) → band < 3 → All (IsPacketOf infos station) (held_in a band)
+  pub in_slot : All (IsStationPacket infos station) (option_to_list a.slot)
+  pub in_hand : All (IsStationPacket infos station) (option_to_list a.hand)
+  pub in_bands : (band : ℕ) → band < 3 → All (IsStationPacket infos station) (held_in a band)
 
 -- The device has room for what is held and in hand, and for so many packets that are still to come; and all that it accepts
 -- can be counted.
-pub record HasRoom (rest : ℕ) (hand : Option ℕ) (q : QueueState) : Type 0 where
+pub record HasDeviceRoom (rest : ℕ) (hand : Option ℕ) (q : QueueState) : Type 0 where
   pub room : rest + (length (option_to_list hand) + number_held q) ≤ (device_of q).spare
   pub countable : length (device_of q).accepted + (rest + (length (option_to_list hand) + number_held q)) ≤ 4294967295
 
@@ -129,7 +129,7 @@ pub record Matches (infos : List Info) (station rest : ℕ) (hand : Option ℕ) 
   pub fates_are : HasFates infos station fates a
   pub packets : ArePacketsOf infos station a
   pub hung : (device_of q).hung ≡ is_hung_value q.stop
-  pub room : HasRoom rest hand q
+  pub room : HasDeviceRoom rest hand q
   pub rule : MeetsRule (device_of q)
   pub asked : All (IsCallOf infos station) (device_of q).asked
 
@@ -166,17 +166,17 @@ laid_back SentStop n = None
 laid_back SentHang n = None
 laid_back Busy n = Some n
 
-abbrev pub value_behind : Tx → StopValue
-value_behind Sent = Open
-value_behind SentStop = Stopped
-value_behind SentHang = Hung
-value_behind Busy = Open
+abbrev pub value_after : Tx → StopValue
+value_after Sent = Open
+value_after SentStop = Stopped
+value_after SentHang = Hung
+value_after Busy = Open
 
-abbrev pub fates_behind : Tx → ℕ → StationState → List (Option Fate) → List (Option Fate)
-fates_behind Sent n station fates = slice_set fates n (Some (fate.Sent station.unit (length station.device.accepted)))
-fates_behind SentStop n station fates = slice_set fates n (Some (fate.Sent station.unit (length station.device.accepted)))
-fates_behind SentHang n station fates = slice_set fates n (Some (fate.Sent station.unit (length station.device.accepted)))
-fates_behind Busy n station fates = fates
+abbrev pub fates_after : Tx → ℕ → StationState → List (Option Fate) → List (Option Fate)
+fates_after Sent n station fates = slice_set fates n (Some (fate.Sent station.unit (length station.device.accepted)))
+fates_after SentStop n station fates = slice_set fates n (Some (fate.Sent station.unit (length station.device.accepted)))
+fates_after SentHang n station fates = slice_set fates n (Some (fate.Sent station.unit (length station.device.accepted)))
+fates_after Busy n station fates = fates
 
 -- the device answered to packet n, and what follows was done
 pub record Offers (answer : Tx) (n : ℕ) (old new : QueueState) (fates fates' : List (Option Fate)) : Type 0 where
@@ -184,10 +184,10 @@ pub record Offers (answer : Tx) (n : ℕ) (old new : QueueState) (fates fates' :
   pub unit : new.station.unit ≡ old.station.unit
   pub slot : new.station.slot ≡ laid_back answer n
   pub bands : new.bands ≡ old.bands
-  pub stop : new.stop ≡ value_behind answer
+  pub stop : new.stop ≡ value_after answer
   pub clean : new.clean ≡ old.clean
   pub bypass : new.bypass ≡ old.bypass
-  pub fates_are : fates' ≡ fates_behind answer n old.station fates
+  pub fates_are : fates' ≡ fates_after answer n old.station fates
 
 -- CALLS
 
@@ -219,19 +219,19 @@ pub record StandsFor (s : Setting) (n rest : ℕ) (q : QueueState) (fates : List
   pub served : IsServed q a
 
 -- the station of the run of one sender that a queue over a device that tells is
-abbrev pub running : Account → QueueState → Telling → Running
+abbrev pub running : Account → QueueState → Telling → RunningStation
 running a q t = record { account = a; clean = q.clean; device = t }
 
 -- where the device tells, this step of the run of one sender was done
-pub record Does (step : Running → Running) (t : Telling) (old new : QueueState) (a b : Account) : Type 0 where
+pub record Does (step : RunningStation → RunningStation) (t : Telling) (old new : QueueState) (a b : Account) : Type 0 where
   pub device : Telling
   pub told : (device_of new).told ≡ Some device
   pub params : device.params ≡ t.params
   pub does : running b new device ≡ step (running a old t)
 
--- What a call makes of a queue and the fates that an account was underway for: another account is, behind n packets; and where
+-- What a call makes of a queue and the fates that an account was underway for: another account is, after n packets; and where
 -- the device tells, the call did this step of the run of one sender.
-pub record Moves (step : Running → Running) (s : Setting) (n rest : ℕ) (old new : QueueState) (fates fates' : List (Option Fate)) (a : Account) : Type 0 where
+pub record QueueMoves (step : RunningStation → RunningStation) (s : Setting) (n rest : ℕ) (old new : QueueState) (fates fates' : List (Option Fate)) (a : Account) : Type 0 where
   pub account : Account
   pub underway : IsUnderway s n rest new fates' account
   pub elsewhere : SameElsewhere s.infos s.station fates fates'
@@ -239,22 +239,22 @@ pub record Moves (step : Running → Running) (s : Setting) (n rest : ℕ) (old 
 
 -- packets were served one after the other, until the queue wasn't open or nothing was held
 pub record Runs (s : Setting) (n rest : ℕ) (old new : QueueState) (fates fates' : List (Option Fate)) (a : Account) : Type 0 where
-  pub moves : Moves (λ r. served_turns s.infos (turns_of r) r) s n rest old new fates fates' a
+  pub moves : QueueMoves (λ r. served_turns s.infos (turns_of r) r) s n rest old new fates fates' a
   pub empty : new.stop ≡ Open → held moves.account ≡ []
 
 -- the station was served: only where its queue is open
 pub record Serves (s : Setting) (n rest : ℕ) (old new : QueueState) (fates fates' : List (Option Fate)) (a : Account) : Type 0 where
-  pub moves : Moves (served s.infos) s n rest old new fates fates' a
+  pub moves : QueueMoves (served s.infos) s n rest old new fates fates' a
   pub is_served : (old.stop ≢ Open → IsServed old a) → IsServed new moves.account
 
 -- packet n was brought to its station, and went past the bands or joined one of them; it may still be held
-pub record Brings (step : Running → Running) (s : Setting) (n rest : ℕ) (old new : QueueState) (fates fates' : List (Option Fate)) (a : Account) : Type 0 where
-  pub moves : Moves step s (n + 1) rest old new fates fates' a
+pub record Brings (step : RunningStation → RunningStation) (s : Setting) (n rest : ℕ) (old new : QueueState) (fates fates' : List (Option Fate)) (a : Account) : Type 0 where
+  pub moves : QueueMoves step s (n + 1) rest old new fates fates' a
   pub is_served : new.stop ≢ Open → IsServed new moves.account
 
 -- what a call makes of a queue and the fates that stand for an account
-pub record Goes (step : Running → Running) (s : Setting) (n rest : ℕ) (old new : QueueState) (fates fates' : List (Option Fate)) (a : Account) : Type 0 where
-  pub moves : Moves step s n rest old new fates fates' a
+pub record Goes (step : RunningStation → RunningStation) (s : Setting) (n rest : ℕ) (old new : QueueState) (fates fates' : List (Option Fate)) (a : Account) : Type 0 where
+  pub moves : QueueMoves step s n rest old new fates fates' a
   pub is_served : IsServed new moves.account
 
 -- The station was finished: nothing is held any more, and only the packets that a hung device left were purged.
@@ -268,11 +268,11 @@ pub record Finishes (s : Setting) (n rest : ℕ) (old new : QueueState) (fates f
   pub purged : (m : ℕ) (why : Cause) → account.fates m ≡ Some (fate.Purged why) → (new.stop ≡ Hung) × (why ≡ cause.Hung account.unit)
 
 -- what a transmit does, and a wake
-abbrev pub transmitted : List Info → Bool → ℕ → Running → Running
+abbrev pub transmitted : List Info → Bool → ℕ → RunningStation → RunningStation
 transmitted infos bypass n r = served infos (brought_in infos bypass n r)
 
-abbrev pub woken : List Info → Running → Running
-woken infos r = served infos (opened r)
+abbrev pub woken_and_served : List Info → RunningStation → RunningStation
+woken_and_served infos r = served infos (opened r)
 
 abbrev pub value_opened : StopValue → StopValue
 value_opened Open = Open
@@ -298,7 +298,7 @@ pub record StandsForSome (q : QueueState) (fates : List (Option Fate)) : Type 0 
 
 -- packet n is of this band and of the station, whose packets below it were brought
 pub record IsNextPacket (s : Setting) (n band : ℕ) : Type 0 where
-  pub packet : IsPacketOf s.infos s.station n
+  pub packet : IsStationPacket s.infos s.station n
   pub band_is : band_in s.infos n ≡ band
 
 pub record MayTransmit (n band : ℕ) (q : QueueState) (fates : List (Option Fate)) : Type 0 where
@@ -314,11 +314,11 @@ pub record MaySendDirect (n : ℕ) (q : QueueState) (fates : List (Option Fate))
   pub rest : ℕ
   pub account : Account
   pub stands : StandsFor setting n (rest + 1) q fates account
-  pub packet : IsPacketOf setting.infos setting.station n
+  pub packet : IsStationPacket setting.infos setting.station n
   pub clean : q.clean ≡ true
 
 -- A station begins: none of its packets has a fate, and its device, which was just configured, has room for all of them.
-pub record Begins (s : Setting) (rest : ℕ) (device : DeviceState) (fates : List (Option Fate)) : Type 0 where
+pub record QueueBegins (s : Setting) (rest : ℕ) (device : DeviceState) (fates : List (Option Fate)) : Type 0 where
   pub one_queue : (m : ℕ) → queue_in s.infos m ≡ 0
   pub one_each : length fates ≡ length s.infos
   pub no_fate : (n : ℕ) → n < length s.infos → station_in s.infos n ≡ s.station → slice_get fates n ≡ Some None

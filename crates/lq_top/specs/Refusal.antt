@@ -9,8 +9,8 @@ use Rattle.lq_run_core.specs.declared.trace_run.TraceReason.{TraceReason}
 use Rattle.lq_run_core.specs.declared.trace_run.TraceReason.TheVariants as trace
 use Rattle.lq_top.specs.declared.refusal.Refusal.{Refusal}
 use Rattle.lq_top.specs.declared.refusal.Refusal.TheVariants.{Usage, Plan, Bench, NotBuilt, Capture, Trace}
-use Rattle.lq_top.specs.declared.status.Status.{Status}
-use Rattle.lq_top.specs.declared.status.Status.TheVariants as status
+use Rattle.lq_top.specs.declared.answer.Status.{Status}
+use Rattle.lq_top.specs.declared.answer.Status.TheVariants as status
 
 -- REASONS
 

@@ -17,10 +17,10 @@ pub record AreEmptyBands (plan : Plan) (bands : List Bands) : Type 0 where
       → AreBands b s.len (λ _. empty_band)
 
 -- the first so many devices were configured, each as its station says and with room for the station's packets
-pub record AreConfigured (plan : Plan) (infos : List Info) (count : ℕ) (before behind : List DeviceState) : Type 0 where
-  pub same_length : length behind ≡ length before
+pub record AreConfigured (plan : Plan) (infos : List Info) (count : ℕ) (before after : List DeviceState) : Type 0 where
+  pub same_length : length after ≡ length before
   pub configured : (station : ℕ) (s : StationPlan) (old new : DeviceState) → station < count → slice_get plan.stations station ≡ Some s
-      → slice_get before station ≡ Some old → slice_get behind station ≡ Some new → IsConfigured s.params (still_to_come infos station 0) old new
+      → slice_get before station ≡ Some old → slice_get after station ≡ Some new → IsConfigured s.params (still_to_come infos station 0) old new
 
 -- No packet has a fate, the packets are of one queue, and the stations' devices were configured for them.
 pub record IsReady (plan : Plan) (infos : List Info) (before devices : List DeviceState) (fates : List (Option Fate)) : Type 0 where

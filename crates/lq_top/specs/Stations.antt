@@ -2,7 +2,7 @@
 use Rattle.std.specs.Prelude.{◌≡◌, ℕ, ◌+◌, ◌%◌, ◌<◌, ◌≤◌, nat_lt, ◌==◌, if◌then◌else◌, List, [], drop, length, count_by, slice_get, Option, Some, None, option_map, All}
 use Rattle.lq_account.specs.Progress.{IsAt}
 use Rattle.lq_model.specs.Account.{Account, held}
-use Rattle.lq_model.specs.Alone.{Running, bypass_of, brought_in, opened, served}
+use Rattle.lq_model.specs.Alone.{RunningStation, bypass_of, brought_in, opened, served}
 use Rattle.lq_model.specs.Device.{DeviceState, Telling}
 use Rattle.lq_model.specs.Plan.{Plan, station_in}
 use Rattle.lq_model.specs.declared.fate.Cause.{Cause}
@@ -23,12 +23,12 @@ still_to_come infos station n = count_by (λ info. info.station == station) (dro
 abbrev pub setting_at : Plan → List Info → ℕ → Setting
 setting_at plan infos station = record { plan = plan; infos = infos; station = station }
 
--- the station's queue stands for an account behind the first n packets
+-- the station's queue stands for an account after the first n packets
 pub record StationStands (plan : Plan) (infos : List Info) (station n : ℕ) (q : QueueState) (fates : List (Option Fate)) (a : Account) : Type 0 where
   pub stands : StandsFor (setting_at plan infos station) n (still_to_come infos station n) q fates a
   pub bypass : q.bypass ≡ bypass_of plan station
 
--- behind the last packet the station holds nothing, and its packets were purged only where its queue hangs
+-- after the last packet the station holds nothing, and its packets were purged only where its queue hangs
 pub record StationFinished (plan : Plan) (infos : List Info) (station : ℕ) (q : QueueState) (fates : List (Option Fate)) (a : Account) : Type 0 where
   pub matches : Matches infos station (still_to_come infos station (length infos)) None q fates a
   pub at : IsAt plan infos station (length infos) a
@@ -36,7 +36,7 @@ pub record StationFinished (plan : Plan) (infos : List Info) (station : ℕ) (q 
   pub purged : (n : ℕ) (why : Cause) → a.fates n ≡ Some (Purged why) → q.stop ≡ stop.Hung
 
 -- the station's device tells, and this is the station of the run of one sender that its queue is
-pub record IsRunningAt (plan : Plan) (station : ℕ) (run : Option Running) (q : QueueState) (a : Account) : Type 0 where
+pub record IsRunningAt (plan : Plan) (station : ℕ) (run : Option RunningStation) (q : QueueState) (a : Account) : Type 0 where
   pub device : Telling
   pub told : (device_of q).told ≡ Some device
   pub params : option_map (λ s. s.params) (slice_get plan.stations station) ≡ Some device.params
@@ -46,48 +46,48 @@ pub record IsRunningAt (plan : Plan) (station : ℕ) (run : Option Running) (q :
 
 -- Each station's queue is so for an account of the station; and where all devices of the bench told before, the stations of the
 -- run of one sender are the queues'.
-pub record AllAt (P : ℕ → QueueState → Account → Type 0) (plan : Plan) (before : List DeviceState) (queues : List QueueState) (run_at : ℕ → Option Running) : Type 0 where
+pub record AllAt (P : ℕ → QueueState → Account → Type 0) (plan : Plan) (before : List DeviceState) (queues : List QueueState) (run_at : ℕ → Option RunningStation) : Type 0 where
   pub accounts : ℕ → Account
   pub one_each : length queues ≡ length plan.stations
   pub each : (station : ℕ) (q : QueueState) → slice_get queues station ≡ Some q → P station q (accounts station)
   pub tells : AllTell (length plan.stations) before → (station : ℕ) (q : QueueState) → slice_get queues station ≡ Some q
       → IsRunningAt plan station (run_at station) q (accounts station)
 
--- each stands for its account behind the first n packets
-abbrev pub AllStand : Plan → List Info → List DeviceState → ℕ → List QueueState → List (Option Fate) → (ℕ → Option Running) → Type 0
+-- each stands for its account after the first n packets
+abbrev pub AllStand : Plan → List Info → List DeviceState → ℕ → List QueueState → List (Option Fate) → (ℕ → Option RunningStation) → Type 0
 AllStand plan infos before n queues fates run_at = AllAt (λ station q a. StationStands plan infos station n q fates a) plan before queues run_at
 
 -- some accounts are stood for
 abbrev pub SomeStand : Plan → List Info → ℕ → List QueueState → List (Option Fate) → Type 0
-SomeStand plan infos n queues fates = (before : List DeviceState) × (run_at : ℕ → Option Running) × AllStand plan infos before n queues fates run_at
+SomeStand plan infos n queues fates = (before : List DeviceState) × (run_at : ℕ → Option RunningStation) × AllStand plan infos before n queues fates run_at
 
--- the first so many stations are finished, and the others stand behind the last packet
+-- the first so many stations are finished, and the others stand after the last packet
 pub record IsFinishedBelow (k : ℕ) (plan : Plan) (infos : List Info) (station : ℕ) (q : QueueState) (fates : List (Option Fate)) (a : Account) : Type 0 where
   pub below : station < k → StationFinished plan infos station q fates a
   pub from_there : k ≤ station → StationStands plan infos station (length infos) q fates a
 
-abbrev pub FirstFinished : ℕ → Plan → List Info → List DeviceState → List QueueState → List (Option Fate) → (ℕ → Option Running) → Type 0
+abbrev pub FirstFinished : ℕ → Plan → List Info → List DeviceState → List QueueState → List (Option Fate) → (ℕ → Option RunningStation) → Type 0
 FirstFinished k plan infos before queues fates run_at = AllAt (λ station q a. IsFinishedBelow k plan infos station q fates a) plan before queues run_at
 
-abbrev pub AllFinished : Plan → List Info → List DeviceState → List QueueState → List (Option Fate) → (ℕ → Option Running) → Type 0
+abbrev pub AllFinished : Plan → List Info → List DeviceState → List QueueState → List (Option Fate) → (ℕ → Option RunningStation) → Type 0
 AllFinished plan infos before queues fates run_at = AllAt (λ station q a. StationFinished plan infos station q fates a) plan before queues run_at
 
 -- STEPS OF THE RUN
 
 -- the same station changed, and the others as they were
-abbrev pub with_change : ℕ → (Running → Running) → (ℕ → Option Running) → ℕ → Option Running
+abbrev pub with_change : ℕ → (RunningStation → RunningStation) → (ℕ → Option RunningStation) → ℕ → Option RunningStation
 with_change i step run_at = λ station. if station == i then option_map step (run_at station) else run_at station
 
 -- packet n is brought to its station, which is served
-abbrev pub packet_step : Plan → List Info → ℕ → Running → Running
+abbrev pub packet_step : Plan → List Info → ℕ → RunningStation → RunningStation
 packet_step plan infos n = λ s. served infos (brought_in infos (bypass_of plan (station_in infos n)) n s)
 
--- behind packet n the station is woken, if the plan wakes stations there, and served
-abbrev pub turn_step : Plan → List Info → ℕ → Running → Running
+-- after packet n the station is woken, if the plan wakes stations there, and served
+abbrev pub turn_step : Plan → List Info → ℕ → RunningStation → RunningStation
 turn_step plan infos n = λ s. served infos (if (n + 1) % plan.irq_every == 0 then opened s else s)
 
 -- the first so many stations changed
-abbrev pub with_first_changed : ℕ → (Running → Running) → (ℕ → Option Running) → ℕ → Option Running
+abbrev pub with_first_changed : ℕ → (RunningStation → RunningStation) → (ℕ → Option RunningStation) → ℕ → Option RunningStation
 with_first_changed k step run_at = λ station. if nat_lt station k then option_map step (run_at station) else run_at station
 
 -- WHAT THE LOOPS ASK
@@ -98,7 +98,7 @@ pub record IsSentAlone (plan : Plan) (infos : List Info) : Type 0 where
   pub few : length infos ≤ 1000000
   pub within : All (IsInfoWithin plan) infos
 
--- some plan's stations stand behind the first n packets
+-- some plan's stations stand after the first n packets
 pub record MayBring (infos : List Info) (n : ℕ) (queues : List QueueState) (fates : List (Option Fate)) : Type 0 where
   pub plan : Plan
   pub alone : IsSentAlone plan infos

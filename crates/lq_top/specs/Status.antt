@@ -1,7 +1,7 @@
 -- The numbers of statuses.
 use Rattle.std.specs.Prelude.{ℕ}
-use Rattle.lq_top.specs.declared.status.Status.{Status}
-use Rattle.lq_top.specs.declared.status.Status.TheVariants.{Done, Usage, Plan, Bench, Capture, Fault, NoMemory, Trace, NotBuilt}
+use Rattle.lq_top.specs.declared.answer.Status.{Status}
+use Rattle.lq_top.specs.declared.answer.Status.TheVariants.{Done, Usage, Plan, Bench, Capture, Fault, NoMemory, Trace, NotBuilt}
 
 -- the exit status of the program
 abbrev pub code_of : Status → ℕ

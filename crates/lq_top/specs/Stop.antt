@@ -3,10 +3,10 @@ use Rattle.std.specs.Prelude.{◌≡◌, ◌≤◌, ℕ, Result, Ok, Err, IsErrO
 use Rattle.lq_host.specs.Host.{Rose}
 use Rattle.lq_host.specs.declared.HostError.{HostError}
 use Rattle.lq_host.specs.declared.HostError.TheVariants as host
-use Rattle.lq_top.specs.declared.status.Status.{Status}
-use Rattle.lq_top.specs.declared.status.Status.TheVariants as status
-use Rattle.lq_top.specs.declared.stop.Stop.{Stop}
-use Rattle.lq_top.specs.declared.stop.Stop.TheVariants.{Fault, NoMemory}
+use Rattle.lq_top.specs.declared.answer.Status.{Status}
+use Rattle.lq_top.specs.declared.answer.Status.TheVariants as status
+use Rattle.lq_top.specs.declared.answer.Stop.{Stop}
+use Rattle.lq_top.specs.declared.answer.Stop.TheVariants.{Fault, NoMemory}
 
 -- what a host's refusal becomes
 abbrev pub IsStopOf : HostError → Stop → Type 0
@@ -17,7 +17,7 @@ abbrev pub status_of_stop : Stop → Status
 status_of_stop Fault = status.Fault
 status_of_stop NoMemory = status.NoMemory
 
--- what work on a file came to, behind which the file was finished: a fault goes before want of memory
+-- what work on a file came to, after which the file was finished: a fault goes before want of memory
 abbrev pub with_end : {T U : Type 0} → Result T Stop → Result U HostError → Result T Stop
 with_end work (Ok done) = work
 with_end work (Err host.Failed) = Err Fault

@@ -46,7 +46,7 @@ abbrev pub FileIsCut : FileText → HostState → HostState → Type 0
 FileIsCut file old new = (new ≡ old) ⊎ FileHasPrefix file.name file.text old new
 
 -- Some of these files are whole; the next one, if there is one, is as before or has a prefix of its text, and those
--- behind it are as before, as is all else.
+-- after it are as before, as is all else.
 abbrev pub FilesAreCut : List FileText → HostState → HostState → Type 0
 FilesAreCut [] old new = new ≡ old
 FilesAreCut (file ∷ files) old new = FileIsCut file old new ⊎ FilesAreCut files (file_written old file) new

@@ -10,7 +10,7 @@ ghost use Rattle.std.specs.List.{list_all};
 ghost use Rattle.clap.specs.Words.{app_of, found_of, with_subcommand, rows_of, rule_of, subcommand_rows_of};
 ghost use Rattle.clap.specs.declared.builder.command.Command.TheViews.{out-Command as fields_of};
 ghost use Rattle.lq_run_core.specs.Schedule.{number_in};
-ghost use Rattle.lq_top.specs.Command.{command_of, command_of_one, command_of_three, command_words, gen_of, words_of, is_operand};
+ghost use Rattle.lq_top.specs.Command.{command_of_words, command_of_one, command_of_three, command_words, gen_of, bytes_of_words, is_operand};
 ghost use Rattle.lq_top.specs.Forms.{bare_app, command_in, form_of_one, form_of_three, one_in, operand_rule, table_app, three_in};
 
 use clap::error::ErrorKind;
@@ -222,7 +222,7 @@ fn command_matched<'a>(matches: &ArgMatches<'a>) -> Option<Command<'a>>
 /// The command that clap makes of words with no dash in front, if it takes them.
 fn parse<'a>(alloc: Global, words: &'a [&'a str]) -> Result<Option<Command<'a>>, NoMemory>
     requires plain { list_all (λ word. is_operand word.now) words.now ≡ true }
-    ensures { IfOk result (λ command. option_map command_words command ≡ command_of (words_of words.now)) }
+    ensures { IfOk result (λ command. option_map command_words command ≡ command_of_words (bytes_of_words words.now)) }
 {
     let Ok(table) = table(alloc) else {
         return Err(NoMemory);
@@ -236,14 +236,14 @@ fn parse<'a>(alloc: Global, words: &'a [&'a str]) -> Result<Option<Command<'a>>,
     }
 }
 
-/// The command that the words behind the program's own name are, if they are one of the table: Usage is the answer
+/// The command that the words after the program's own name are, if they are one of the table: Usage is the answer
 /// exactly where they aren't. The operands are those of clap's matches, and are lent from the words.
 ///
 /// # Errors
 ///
 /// Want of memory: `clap` builds its command, its matches and the text of a refusal.
 pub fn read_words<'a>(alloc: Global, words: &'a [&'a str]) -> Result<Option<Command<'a>>, NoMemory>
-    ensures { IfOk result (λ command. option_map command_words command ≡ command_of (words_of words.now)) }
+    ensures { IfOk result (λ command. option_map command_words command ≡ command_of_words (bytes_of_words words.now)) }
 {
     if are_plain(words) {
         parse(alloc, words)

@@ -5,21 +5,19 @@ ghost use Rattle.lq_model.specs.Generated.{generated_capture};
 ghost use Rattle.lq_model.specs.Plan.{unit_count};
 ghost use Rattle.lq_pcapng.specs.File.{as_classic};
 ghost use Rattle.lq_top.specs.Command.{gen_words};
-ghost use Rattle.lq_top.specs.Decision.{IsRunnable, by_generated, units_of, verdict_of_gen, with_refusal};
+ghost use Rattle.lq_top.specs.Decision.{IsRunnable, by_generated, units_changed_by, verdict_of_gen, with_refusal};
 ghost use Rattle.lq_top.specs.Fates.{identities_of};
 ghost use Rattle.lq_top.specs.Headline.{AreCountsCut, HasCounted, run_of};
-ghost use Rattle.lq_top.specs.Outcome.{EndsOrStops, IsCommandStatus, refuses};
+ghost use Rattle.lq_top.specs.Outcome.{CompletesOrStops, IsCommandStatus, refuses};
 ghost use Rattle.lq_top.specs.Stop.{StopsFor};
 
+use crate::answer::{Status, Stop};
 use crate::command::GenOperands;
-use crate::files::write_counts;
+use crate::decide::place_on;
 use crate::gate::Gate;
-use crate::output::write_file;
-use crate::plan::place_on;
 use crate::refusal::refuse;
 use crate::send::send_packets;
-use crate::status::Status;
-use crate::stop::Stop;
+use crate::write::{write_counts, write_file};
 use lq_device::TxDevice;
 use lq_host::Host;
 use lq_model::NoMemory;
@@ -87,7 +85,7 @@ fn generate<H: Host, G: Gate, D: TxDevice>(
     requires may { H.may_create words.now.out.now }
     requires few { words.now.count ≤ 1000000 }
     requires runnable { IsRunnable (vec_len bench.old) plan.now }
-    ensures does { EndsOrStops (by_generated words.now.out.now (generated_capture words.now.number words.now.count) plan.now
+    ensures does { CompletesOrStops (by_generated words.now.out.now (generated_capture words.now.number words.now.count) plan.now
         (with_refusal (as_classic (capture_of (generated_capture words.now.number words.now.count)))))
         (H.state host.old) (H.state host.new) (map D.state bench.old.items) (map D.state bench.new.items) result }
     ensures answer { IfOk result (λ answer. answer ≡ Status.Done) }
@@ -113,10 +111,10 @@ pub fn gen_command<H: Host, G: Gate, D: TxDevice>(
 ) -> Result<Status, Stop>
     requires may { H.may_create words.now.out.now }
     requires few { words.now.count ≤ 1000000 }
-    ensures does { EndsOrStops (verdict_of_gen (gen_words words.now) (vec_len bench.old))
+    ensures does { CompletesOrStops (verdict_of_gen (gen_words words.now) (vec_len bench.old))
         (H.state host.old) (H.state host.new) (map D.state bench.old.items) (map D.state bench.new.items) result }
     ensures answer { IfOk result IsCommandStatus }
-    ensures others { let units = units_of (verdict_of_gen (gen_words words.now) (vec_len bench.old)) in
+    ensures others { let units = units_changed_by (verdict_of_gen (gen_words words.now) (vec_len bench.old)) in
         drop units bench.new.items ≡ drop units bench.old.items }
     ensures beyond { drop 1 bench.new.items ≡ drop 1 bench.old.items }
     ensures refused { IfOk result (λ answer.

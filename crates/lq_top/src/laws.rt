@@ -9,20 +9,20 @@ ghost use Rattle.lq_model.specs.Legal.{MayTake};
 ghost use Rattle.lq_model.specs.Plan.{infos_of, station_in};
 ghost use Rattle.lq_model.specs.declared.fate.Fate.{Fate};
 ghost use Rattle.lq_model.specs.declared.fate.Fate.TheVariants.{Full};
-ghost use Rattle.lq_pcapng.specs.File.{packets_of};
+ghost use Rattle.lq_pcapng.specs.File.{packets_of_file};
 ghost use Rattle.lq_pcapng.specs.declared.file.CaptureFile.TheVariants.{Classic};
 ghost use Rattle.lq_plan.specs.Generated.{generated_plan};
-ghost use Rattle.lq_top.specs.Command.{GenWords, OfGen, command_of};
+ghost use Rattle.lq_top.specs.Command.{GenWords, OfGen, command_of_words};
 ghost use Rattle.lq_top.specs.Decision.{Generates, verdict_of};
 ghost use Rattle.lq_top.specs.Headline.{AreFatesIn, Run, run_of};
-ghost use Rattle.lq_top.specs.Laws.{SawItsSlot, account_behind};
+ghost use Rattle.lq_top.specs.Laws.{SawItsSlot, account_after};
 
 /// The fates of a run: as many as the capture has packets, so that each packet has exactly one.
 pub fn each_packet_has_one_fate()
-    ensures one_each { (run : Run) (fates : List Fate) (before behind : List DeviceState)
-        → AreFatesIn run fates before behind → length fates ≡ (packets_of run.capture).count }
-    ensures there { (run : Run) (fates : List Fate) (before behind : List DeviceState) (n : ℕ)
-        → AreFatesIn run fates before behind → n < (packets_of run.capture).count
+    ensures one_each { (run : Run) (fates : List Fate) (before after : List DeviceState)
+        → AreFatesIn run fates before after → length fates ≡ (packets_of_file run.capture).count }
+    ensures there { (run : Run) (fates : List Fate) (before after : List DeviceState) (n : ℕ)
+        → AreFatesIn run fates before after → n < (packets_of_file run.capture).count
         → (fate : Fate) × (slice_get fates n ≡ Some fate) }
 {}
 
@@ -30,19 +30,19 @@ pub fn each_packet_has_one_fate()
 /// that other one in the slot of its band. And a packet was taken from a band only while the requeue slot was empty and each
 /// lower band had been found empty: the requeue slot comes first, and then the bands in their order.
 pub fn stations_keep_their_order()
-    ensures full { (run : Run) (fates : List Fate) (before behind : List DeviceState) (station n seen : ℕ)
-        → AreFatesIn run fates before behind → station < length run.plan.stations → n < (packets_of run.capture).count
-        → station_in (infos_of run.plan (packets_of run.capture)) n ≡ station → slice_get fates n ≡ Some (Full seen)
-        → SawItsSlot run.plan (infos_of run.plan (packets_of run.capture)) station n seen }
-    ensures order { (run : Run) (fates : List Fate) (before behind : List DeviceState)
-        → (are : AreFatesIn run fates before behind) (station : ℕ) (below : station < length run.plan.stations)
+    ensures full { (run : Run) (fates : List Fate) (before after : List DeviceState) (station n seen : ℕ)
+        → AreFatesIn run fates before after → station < length run.plan.stations → n < (packets_of_file run.capture).count
+        → station_in (infos_of run.plan (packets_of_file run.capture)) n ≡ station → slice_get fates n ≡ Some (Full seen)
+        → SawItsSlot run.plan (infos_of run.plan (packets_of_file run.capture)) station n seen }
+    ensures order { (run : Run) (fates : List Fate) (before after : List DeviceState)
+        → (are : AreFatesIn run fates before after) (station : ℕ) (below : station < length run.plan.stations)
         → (later earlier : List Event) (band : ℕ) → (are.accounts station below).0 ≡ later ++ Take band ∷ earlier
-        → MayTake earlier (account_behind run.plan station earlier) band }
+        → MayTake earlier (account_after run.plan station earlier) band }
 {}
 
 /// Where there is a device, what the words of `gen` decide is its generated capture, which is one, under its own plan.
 pub fn generated_captures_are_run()
-    ensures { (words : List (List ℕ)) (gen : GenWords) (files : Files) (have : ℕ) → command_of words ≡ Some (OfGen gen) → 0 < have
+    ensures { (words : List (List ℕ)) (gen : GenWords) (files : Files) (have : ℕ) → command_of_words words ≡ Some (OfGen gen) → 0 < have
         → (capture : Capture) × (capture_of (generated_capture gen.number gen.count) ≡ Ok capture)
         × (verdict_of words files have ≡ Generates (generated_capture gen.number gen.count) (run_of gen.out generated_plan (Classic capture))) }
 {}

@@ -3,28 +3,24 @@
 //! All that is promised stands on `lqtx`, and `specs/Headline.antt` says it of a run that is done.
 #![tactic(auto)]
 
-mod capture;
+mod answer;
 mod command;
-mod files;
+mod decide;
 mod gate;
 mod generate;
-mod input;
 pub mod laws;
-mod output;
-mod plan;
 mod program;
 mod queue;
+mod read;
 mod refusal;
 mod run;
 mod send;
 mod setup;
-mod status;
-mod stop;
-mod texts;
 mod top;
 mod trace;
+mod write;
 
+pub use answer::Status;
 pub use gate::{Free, Gate};
 pub use program::run_program;
-pub use status::Status;
 pub use top::lqtx;

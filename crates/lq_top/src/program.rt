@@ -2,7 +2,7 @@
 ghost use Rattle.std.specs.Prelude.{◌≡◌, ◌⊎◌, All, IfErr, IfOk, vec_len};
 ghost use Rattle.std.specs.Process.{exit_status};
 ghost use Rattle.lq_device.specs.Bench.{bench_state, unconfigured};
-ghost use Rattle.lq_top.specs.Command.{command_of, words_of};
+ghost use Rattle.lq_top.specs.Command.{command_of_words, bytes_of_words};
 ghost use Rattle.lq_top.specs.Names.{MayDo};
 ghost use Rattle.lq_top.specs.Program.{IsCodeOfCall, IsExitStatus};
 
@@ -30,7 +30,7 @@ const NO_MEMORY: u8 = 6;
 /// The exit status where the words can't be had for another cause, as one that isn't UTF-8.
 const NO_WORDS: u8 = 9;
 
-/// The words behind the program's own name, or the exit status where they can't be had.
+/// The words after the program's own name, or the exit status where they can't be had.
 fn texts_of<R: Env + AllocGlobal>(rt: &R) -> Result<Vec<String>, u8>
     ensures { IfErr result (λ code. (code ≡ 6) ⊎ (code ≡ 9)) }
 {
@@ -64,9 +64,9 @@ fn code_on<R: Threads + Wait + Sync, H: Host, D: TxDevice>(
     host: &mut H,
     bench: &mut Vec<D>,
 ) -> u8
-    requires may { MayDo H.may_open H.may_create (command_of (words_of words.now)) }
+    requires may { MayDo H.may_open H.may_create (command_of_words (bytes_of_words words.now)) }
     requires devices { vec_len bench.old ≡ 16 }
-    ensures { IsCodeOfCall (command_of (words_of words.now)) result }
+    ensures { IsCodeOfCall (command_of_words (bytes_of_words words.now)) result }
 {
     let status = lqtx(rt, alloc, words, host, bench, &Free);
     status.code()
@@ -115,7 +115,7 @@ fn code<R: Runtime + AllocGlobal + Threads + Wait + Sync>(rt: &R) -> u8
     }
 }
 
-/// All that `main` does: `lqtx` with the words behind the program's own name, over real files, standard output and a bench
+/// All that `main` does: `lqtx` with the words after the program's own name, over real files, standard output and a bench
 /// of 16 built-in devices that were never configured. The exit status is the code of the status that it answers; 6 where
 /// there was no memory for the words, the devices or the host; 9 where the words can't be had for another cause.
 pub fn run_program<R: Runtime + AllocGlobal + Threads + Wait + Sync>(rt: &R) -> ExitCode

@@ -4,16 +4,16 @@
 //! caller lends, with the fate of packet n at place n. All memory is taken where the bands and the device are made.
 ghost use Rattle.std.specs.Prelude.{◌≡◌, ℕ, ◌+◌, ◌<◌, ◌≤◌, ◌&&◌, [], List, Option, None, OnSome, IfSome, IfNone, IsTrue, ◌↔◌, true, false, length};
 ghost use Rattle.lq_account.specs.Progress.{len_of, start_of};
-ghost use Rattle.lq_device.specs.Station.{new_station, with_slot};
+ghost use Rattle.lq_device.specs.Station.{initial_station, with_slot};
 ghost use Rattle.lq_model.specs.Account.{Account, Purge, after};
-ghost use Rattle.lq_model.specs.Alone.{next_taken, gone_direct, gone_through, brought_in, queued};
+ghost use Rattle.lq_model.specs.Alone.{next_taken, gone_direct, gone_through, brought_in, joined_or_full};
 ghost use Rattle.lq_model.specs.Band.{empty_band};
 ghost use Rattle.lq_model.specs.Plan.{station_in};
 ghost use Rattle.lq_model.specs.declared.fate.Cause.TheVariants as cause;
 ghost use Rattle.lq_model.specs.declared.fate.Fate.{Fate};
 ghost use Rattle.lq_model.specs.declared.fate.Info.{Info};
 ghost use Rattle.lq_top.specs.Bands.{AreBands};
-ghost use Rattle.lq_top.specs.Queue.{QueueState, Setting, Matches, MatchesSome, IsPacketOf, IsNextPacket, IsTaken, MayOffer, Offers, SameElsewhere, IsUnderway, IsSomeUnderway, StandsForSome, StandsFor, MayTransmit, MaySendDirect, Begins, Runs, Serves, Brings, Goes, Finishes, transmitted, woken, new_queue, device_of, identity_of, turns_left, work_left, value_opened};
+ghost use Rattle.lq_top.specs.Queue.{QueueState, Setting, Matches, MatchesSome, IsStationPacket, IsNextPacket, IsTaken, MayOffer, Offers, SameElsewhere, IsUnderway, IsSomeUnderway, StandsForSome, StandsFor, MayTransmit, MaySendDirect, QueueBegins, Runs, Serves, Brings, Goes, Finishes, transmitted, woken_and_served, new_queue, device_of, identity_of, turns_left, work_left, value_opened};
 ghost use Rattle.lq_top.specs.declared.queue.stop_value.StopValue.TheVariants.{Open, Stopped, Hung};
 
 mod bands;
@@ -53,10 +53,10 @@ impl<D: TxDevice> Queue<D> {
     pub fn new(unit: u32, device: D, bands: Bands, bypass: bool) -> Queue<D>
         requires fresh { (D.state device).accepted ≡ [] }
         requires alive { (D.state device).hung ≡ false }
-        ensures state { result ≡ new_queue (new_station unit (D.state device)) bands bypass }
+        ensures state { result ≡ new_queue (initial_station unit (D.state device)) bands bypass }
         ensures stands { (s : Setting) (rest : ℕ) (fates : List (Option Fate))
             → AreBands bands (len_of s.plan s.station) (λ _. empty_band) → s.station ≡ unit
-            → Begins s rest (D.state device) fates → StandsFor s 0 rest result fates (start_of s.plan s.station) }
+            → QueueBegins s rest (D.state device) fates → StandsFor s 0 rest result fates (start_of s.plan s.station) }
     {
         Queue {
             station: Station::new(unit, device),
@@ -100,7 +100,7 @@ impl<D: TxDevice> Queue<D> {
     pub fn wake(&mut self, fates: &mut [Option<Fate>])
         requires stands { StandsForSome self.old fates.old }
         ensures goes { (s : Setting) (n rest : ℕ) (a : Account) → StandsFor s n rest self.old fates.old a
-            → Goes (woken s.infos) s n rest self.old self.new fates.old fates.new a }
+            → Goes (woken_and_served s.infos) s n rest self.old self.new fates.old fates.new a }
         ensures less { self.old.stop ≡ Stopped → work_left self.new < work_left self.old }
         ensures bypass { self.new.bypass ≡ self.old.bypass }
         ensures identity { identity_of self.new ≡ identity_of self.old }
@@ -194,7 +194,7 @@ impl<D: TxDevice> Queue<D> {
     fn send_direct(&mut self, n: u32, fates: &mut [Option<Fate>])
         requires may { MaySendDirect n self.old fates.old }
         ensures goes { (s : Setting) (rest : ℕ) (a : Account) → StandsFor s n (rest + 1) self.old fates.old a
-            → IsPacketOf s.infos s.station n → self.old.clean ≡ true
+            → IsStationPacket s.infos s.station n → self.old.clean ≡ true
             → Brings (gone_direct s.infos n) s n rest self.old self.new fates.old fates.new a }
         ensures bypass { self.new.bypass ≡ self.old.bypass }
         ensures identity { identity_of self.new ≡ identity_of self.old }
@@ -233,7 +233,7 @@ impl<D: TxDevice> Queue<D> {
         requires within { n < length fates.old }
         ensures joins { (s : Setting) (rest : ℕ) (a : Account) → IsUnderway s n (rest + 1) self.old fates.old a
             → IsNextPacket s n band
-            → IsUnderway s (n + 1) rest self.new fates.new (queued n band a) }
+            → IsUnderway s (n + 1) rest self.new fates.new (joined_or_full n band a) }
         ensures elsewhere { (infos : List Info) (station : ℕ) → station_in infos n ≡ station
             → SameElsewhere infos station fates.old fates.new }
         ensures rest { self.new ≡ record self.old { bands = self.new.bands } }

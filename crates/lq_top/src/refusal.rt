@@ -4,9 +4,8 @@ ghost use Rattle.lq_top.specs.Refusal.{bench_line, capture_line, capture_reason_
 ghost use Rattle.lq_top.specs.Stop.{StopsFor};
 ghost use Rattle.lq_top.specs.Written.{IsCut, output_only, written};
 
-use crate::output::write_output;
-use crate::status::Status;
-use crate::stop::Stop;
+use crate::answer::{Status, Stop};
+use crate::write::write_output;
 use lq_host::Host;
 use lq_model::{CaptureReason, PlanReason};
 use lq_run_core::TraceReason;

@@ -42,7 +42,7 @@ fn run_stations<D: TxDevice, G: Gate>(
     finish_all(queues, fates);
 }
 
-/// Sends the packets through the configured devices, which are in the bench again behind the last of them. Takes no memory:
+/// Sends the packets through the configured devices, which are in the bench again after the last of them. Takes no memory:
 /// `queues` has the room for the stations.
 fn send_ready<D: TxDevice, G: Gate>(
     plan: &Plan,

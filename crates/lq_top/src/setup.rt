@@ -1,4 +1,4 @@
-//! What a run of one sender needs before its first packet, and what it leaves behind its last.
+//! What a run of one sender needs before its first packet, and what it leaves after its last.
 //!
 //! All memory is taken before a device leaves the bench. The run itself then takes none, so that each device that left comes back.
 ghost use Rattle.std.specs.Prelude.{◌≡◌, ◌≤◌, ◌+◌, ◌++◌, ℕ, [], List, Option, None, All, IfOk, OnOk, IsSome, Some, drop, length, map, replicate, slice_get, vec_len, vec_capacity};

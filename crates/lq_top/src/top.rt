@@ -2,25 +2,23 @@
 ghost use Rattle.std.specs.Prelude.{◌≡◌, ◌≢◌, Some, IfOk, OnOk, OnErr, IfSome, map, drop, vec_len, true};
 ghost use Rattle.lq_host.specs.Host.{Rose};
 ghost use Rattle.lq_model.specs.Plan.{unit_count};
-ghost use Rattle.lq_top.specs.Command.{HasFewRecords, OfRun, command_of, command_words, run_words, words_of};
-ghost use Rattle.lq_top.specs.Decision.{IsRunnable, Refuses, Runs, max_units, most_units_of, units_of, verdict_of, verdict_of_command, verdict_of_run};
+ghost use Rattle.lq_top.specs.Command.{HasFewRecords, OfRun, command_of_words, command_words, run_words, bytes_of_words};
+ghost use Rattle.lq_top.specs.Decision.{IsRunnable, Refuses, Runs, max_units, most_units_changed_by, units_changed_by, verdict_of, verdict_of_command, verdict_of_run};
 ghost use Rattle.lq_top.specs.Fates.{identities_of};
 ghost use Rattle.lq_top.specs.Headline.{HasRun, run_of};
 ghost use Rattle.lq_top.specs.Names.{MayDo, MayDoCommand, MayRun, MayWrite};
-ghost use Rattle.lq_top.specs.Outcome.{Ends, EndsOrStops, EndsOrStopsOfSome, OutcomeOfSome, IsAnswerOf, IsCommandStatus, Outcome, Stops, TellsUsageFor, refuses};
+ghost use Rattle.lq_top.specs.Outcome.{Completes, CompletesOrStops, CompletesOrStopsOfSome, OutcomeOfSome, IsAnswerOf, IsCommandStatus, Outcome, Stops, TellsUsageFor, refuses};
 ghost use Rattle.lq_top.specs.Stop.{StopsFor};
 
-use crate::capture::read_capture_file;
+use crate::answer::{Status, Stop};
 use crate::command::{Command, RunOperands, read_words};
-use crate::files::write_run;
 use crate::gate::Gate;
 use crate::generate::gen_command;
-use crate::plan::read_plan_file;
+use crate::read::{read_capture_file, read_plan_file};
 use crate::refusal::{Refusal, refuse};
 use crate::send::send_packets;
-use crate::status::Status;
-use crate::stop::Stop;
 use crate::trace::trace_command;
+use crate::write::write_run;
 use lq_device::TxDevice;
 use lq_host::Host;
 use lq_model::NoMemory;
@@ -73,13 +71,13 @@ fn run_command<H: Host, G: Gate, D: TxDevice>(
 ) -> Result<Status, Stop>
     requires { MayRun H.may_open H.may_create (run_words words.now) }
     ensures does { IfSome (H.state host.old).told (λ c.
-        EndsOrStops (verdict_of_run (run_words words.now) c.files (vec_len bench.old))
+        CompletesOrStops (verdict_of_run (run_words words.now) c.files (vec_len bench.old))
         (H.state host.old) (H.state host.new) (map D.state bench.old.items) (map D.state bench.new.items) result) }
-    ensures some { EndsOrStopsOfSome (Some (OfRun (run_words words.now))) (vec_len bench.old)
+    ensures some { CompletesOrStopsOfSome (Some (OfRun (run_words words.now))) (vec_len bench.old)
         (H.state host.old) (H.state host.new) (map D.state bench.old.items) (map D.state bench.new.items) result }
     ensures answer { IfOk result IsCommandStatus }
     ensures others { IfSome (H.state host.old).told (λ c.
-        let units = units_of (verdict_of_run (run_words words.now) c.files (vec_len bench.old)) in
+        let units = units_changed_by (verdict_of_run (run_words words.now) c.files (vec_len bench.old)) in
         drop units bench.new.items ≡ drop units bench.old.items) }
     ensures beyond { drop max_units bench.new.items ≡ drop max_units bench.old.items }
     ensures refused { IfOk result (λ answer.
@@ -110,15 +108,15 @@ fn do_command<H: Host, G: Gate, D: TxDevice>(
     requires may { MayDoCommand H.may_open H.may_create (command_words command.now) }
     requires few { HasFewRecords (Some (command_words command.now)) }
     ensures does { IfSome (H.state host.old).told (λ c.
-        EndsOrStops (verdict_of_command (command_words command.now) c.files (vec_len bench.old))
+        CompletesOrStops (verdict_of_command (command_words command.now) c.files (vec_len bench.old))
         (H.state host.old) (H.state host.new) (map D.state bench.old.items) (map D.state bench.new.items) result) }
-    ensures some { EndsOrStopsOfSome (Some (command_words command.now)) (vec_len bench.old)
+    ensures some { CompletesOrStopsOfSome (Some (command_words command.now)) (vec_len bench.old)
         (H.state host.old) (H.state host.new) (map D.state bench.old.items) (map D.state bench.new.items) result }
     ensures answer { IfOk result IsCommandStatus }
     ensures others { IfSome (H.state host.old).told (λ c.
-        let units = units_of (verdict_of_command (command_words command.now) c.files (vec_len bench.old)) in
+        let units = units_changed_by (verdict_of_command (command_words command.now) c.files (vec_len bench.old)) in
         drop units bench.new.items ≡ drop units bench.old.items) }
-    ensures beyond { let units = most_units_of (Some (command_words command.now)) in
+    ensures beyond { let units = most_units_changed_by (Some (command_words command.now)) in
         drop units bench.new.items ≡ drop units bench.old.items }
     ensures refused { IfOk result (λ answer.
         refuses answer ≡ true → bench.new.items ≡ bench.old.items) }
@@ -135,7 +133,7 @@ fn do_command<H: Host, G: Gate, D: TxDevice>(
 }
 
 /// All that the program does: the command that the words are, over the files and the output of a host and the devices
-/// of a bench. The words are those behind the program's own name.
+/// of a bench. The words are those after the program's own name.
 ///
 /// These are the commands, in which no operand is empty or has a dash in front.
 ///
@@ -152,7 +150,7 @@ fn do_command<H: Host, G: Gate, D: TxDevice>(
 /// A refusal is one line on standard output, and makes no file. After a fault or want of memory nothing more is written.
 ///
 /// Plans with more than one sender or an event aren't built. `gate` is passed by sender 0 before each packet, and once
-/// behind the last.
+/// after the last.
 pub fn lqtx<R: Threads + Wait + Sync, H: Host, G: Gate, D: TxDevice>(
     _rt: &R,
     alloc: Global,
@@ -162,25 +160,25 @@ pub fn lqtx<R: Threads + Wait + Sync, H: Host, G: Gate, D: TxDevice>(
     gate: &G,
 ) -> Status
     // Only the files that the words name are opened, and only the outputs are created.
-    requires { MayDo H.may_open H.may_create (command_of (words_of words.now)) }
+    requires { MayDo H.may_open H.may_create (command_of_words (bytes_of_words words.now)) }
 
     // What the words, the files and the bench decide is answered and left, the headline for a run that is done; after a
     // fault or want of memory, a part of what was to be written. Where the host doesn't tell what its files hold, that is
     // so of some bytes of theirs.
     ensures outcome { IfSome (H.state host.old).told (λ c.
-        Outcome (verdict_of (words_of words.now) c.files (vec_len bench.old))
+        Outcome (verdict_of (bytes_of_words words.now) c.files (vec_len bench.old))
         (H.state host.old) (H.state host.new) (map D.state bench.old.items) (map D.state bench.new.items) result) }
 
-    ensures some { OutcomeOfSome (command_of (words_of words.now)) (vec_len bench.old)
+    ensures some { OutcomeOfSome (command_of_words (bytes_of_words words.now)) (vec_len bench.old)
         (H.state host.old) (H.state host.new) (map D.state bench.old.items) (map D.state bench.new.items) result }
 
     // The causes: Usage, also where the host tells nothing; Fault exactly where a call of the host failed; and what comes
     // where neither a fault nor want of memory does.
-    ensures usage { TellsUsageFor (command_of (words_of words.now)) result }
+    ensures usage { TellsUsageFor (command_of_words (bytes_of_words words.now)) result }
     ensures fault { result ≡ Status.Fault → Rose (H.fault_count host.old) (H.fault_count host.new) }
     ensures calm { result ≢ Status.Fault → H.fault_count host.new ≡ H.fault_count host.old }
     ensures complete { IfSome (H.state host.old).told (λ c.
-        IsAnswerOf (verdict_of (words_of words.now) c.files (vec_len bench.old)) result) }
+        IsAnswerOf (verdict_of (bytes_of_words words.now) c.files (vec_len bench.old)) result) }
 
     // No handle is left open, and none is closed.
     ensures handles { (H.state host.new).handles ≡ (H.state host.old).handles }
@@ -190,9 +188,9 @@ pub fn lqtx<R: Threads + Wait + Sync, H: Host, G: Gate, D: TxDevice>(
     ensures len { vec_len bench.new ≡ vec_len bench.old }
     ensures boxes { identities_of (map D.state bench.new.items) ≡ identities_of (map D.state bench.old.items) }
     ensures others { IfSome (H.state host.old).told (λ c.
-        let units = units_of (verdict_of (words_of words.now) c.files (vec_len bench.old)) in
+        let units = units_changed_by (verdict_of (bytes_of_words words.now) c.files (vec_len bench.old)) in
         drop units bench.new.items ≡ drop units bench.old.items) }
-    ensures beyond { let units = most_units_of (command_of (words_of words.now)) in
+    ensures beyond { let units = most_units_changed_by (command_of_words (bytes_of_words words.now)) in
         drop units bench.new.items ≡ drop units bench.old.items }
     ensures refused { refuses result ≡ true → bench.new.items ≡ bench.old.items }
 {

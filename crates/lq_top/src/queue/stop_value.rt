@@ -1,7 +1,7 @@
 //! Whether a queue takes packets.
 ghost use Rattle.std.specs.Prelude.{◌≡◌, not};
 ghost use Rattle.lq_model.specs.Device.{is_busy};
-ghost use Rattle.lq_top.specs.Queue.{value_behind};
+ghost use Rattle.lq_top.specs.Queue.{value_after};
 
 use lq_model::Tx;
 
@@ -18,7 +18,7 @@ pub enum StopValue {
 
 /// The stop value of an open queue once its device answered so.
 pub fn stop_after(answer: Tx) -> StopValue
-    ensures { result ≡ value_behind answer }
+    ensures { result ≡ value_after answer }
 {
     match answer {
         Tx::Sent | Tx::Busy => StopValue::Open,

@@ -7,7 +7,7 @@ use Rattle.lq_pcapng.specs.File.{as_classic}
 use Rattle.lq_top.specs.Decision.{by_generated, with_refusal}
 use Rattle.lq_top.specs.Headline.{generated_file}
 use Rattle.lq_top.specs.Written.{FileIsCut}
-use Rattle.lq_top.proofs.GenerateLemmas.{cut_behind_file, cut_in_file, generated_does, stops_any}
+use Rattle.lq_top.proofs.GenerateLemmas.{cut_after_file, cut_in_file, generated_does, stops_any}
 use Rattle.lq_top.proofs.GeneratedVerdict.{is_accepted}
 use Rattle.lq_top.proofs.generate.generate.Goals as goal
 
@@ -41,7 +41,7 @@ returns-in_err-generated_in-clause-does g c =
     let devices = map g.D.TxDevice.state c.args.bench.now.items in
     let exit = err_from_is_err_and c.from_residual-in_err-generated_in.result c.from_residual-in_err-generated_in.ensures.1 in
     stops_any (by_generated out text plan (with_refusal (as_classic (capture_of text)))) old new devices devices c.from_residual-in_err-generated_in.result exit.0 exit.1
-    (cut_behind_file out text plan (capture_of text) old new devices devices (is_accepted words.number words.count c.requires.few)
+    (cut_after_file out text plan (capture_of text) old new devices devices (is_accepted words.number words.count c.requires.few)
     (c.in_ok-write_file.ensures.ok ∙ ap (λ (t : List ℕ). filed old out t) (c.deref.ensures.value ∙ c.in_ok-text.ensures)))
 
 pub returns-clause-does : goal.returns-clause-does
@@ -52,8 +52,8 @@ returns-clause-does g c =
     let old : HostState = g.H.Host.state c.args.host.now in
     let mid : HostState = g.H.Host.state c.write_file.new.host in
     let before = map g.D.TxDevice.state c.args.bench.now.items in
-    let behind = map g.D.TxDevice.state c.run_and_count.new.bench.items in
-    generated_does out text c.args.plan.now c.in_ok-generated_in.field-0 (capture_of text) old mid (g.H.Host.state c.run_and_count.new.host) before behind c.run_and_count.result
+    let after = map g.D.TxDevice.state c.run_and_count.new.bench.items in
+    generated_does out text c.args.plan.now c.in_ok-generated_in.field-0 (capture_of text) old mid (g.H.Host.state c.run_and_count.new.host) before after c.run_and_count.result
     (ap capture_of (sym c.in_ok-text.ensures) ∙ c.in_ok-generated_in.ensures)
     (c.in_ok-write_file.ensures.ok ∙ ap (λ (t : List ℕ). filed old out t) (c.deref.ensures.value ∙ c.in_ok-text.ensures))
     c.run_and_count.ensures.answer c.run_and_count.ensures.ok c.run_and_count.ensures.err

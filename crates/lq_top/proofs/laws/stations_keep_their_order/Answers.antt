@@ -4,24 +4,24 @@ use Rattle.lq_model.specs.Account.{Account, Event, Take}
 use Rattle.lq_model.specs.Legal.{Comes}
 use Rattle.lq_model.specs.Plan.{infos_of}
 use Rattle.lq_model.specs.declared.fate.Fate.TheVariants as fate
-use Rattle.lq_pcapng.specs.File.{packets_of}
+use Rattle.lq_pcapng.specs.File.{packets_of_file}
 use Rattle.lq_top.proofs.AccountLemmas.{comes_there, saw_its_slot}
 use Rattle.lq_top.proofs.FateLists.{some_is}
 use Rattle.lq_top.proofs.TextLemmas.{length-infos_of}
 use Rattle.lq_top.proofs.laws.stations_keep_their_order.Goals as goal
 
 pub returns-clause-full : goal.returns-clause-full
-returns-clause-full c = λ run fates before behind station n seen are below inside of there.
+returns-clause-full c = λ run fates before after station n seen are below inside of there.
     let has = are.accounts station below in
     let closed = has.2 in
-    let within : n < length (infos_of run.plan (packets_of run.capture)) = subst (λ count. n < count) (sym (length-infos_of run.plan (packets_of run.capture))) inside in
+    let within : n < length (infos_of run.plan (packets_of_file run.capture)) = subst (λ count. n < count) (sym (length-infos_of run.plan (packets_of_file run.capture))) inside in
     let given = closed.decided n within of in
     let same : given.0 ≡ fate.Full seen = some_is (sym given.1 ∙ there) in
-    saw_its_slot run.plan (infos_of run.plan (packets_of run.capture)) station n seen has.0 closed.legal.comes closed.legal.planned
+    saw_its_slot run.plan (infos_of run.plan (packets_of_file run.capture)) station n seen has.0 closed.legal.comes closed.legal.planned
     (ap (λ (a : Account). a.fates n) (sym closed.account) ∙ (given.2 ∙ ap Some same))
 
 pub returns-clause-order : goal.returns-clause-order
-returns-clause-order c = λ run fates before behind are station below later earlier band is.
+returns-clause-order c = λ run fates before after are station below later earlier band is.
     let has = are.accounts station below in
-    comes_there (infos_of run.plan (packets_of run.capture)) station (start_of run.plan station) later earlier (Take band)
-    (subst (Comes (infos_of run.plan (packets_of run.capture)) station (start_of run.plan station)) is has.2.legal.comes)
+    comes_there (infos_of run.plan (packets_of_file run.capture)) station (start_of run.plan station) later earlier (Take band)
+    (subst (Comes (infos_of run.plan (packets_of_file run.capture)) station (start_of run.plan station)) is has.2.legal.comes)

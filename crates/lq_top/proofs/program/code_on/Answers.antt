@@ -1,6 +1,6 @@
 use Rattle.std.proofs.Common.{◌≡◌, ◌∙◌, subst, map, length, arith}
 use Rattle.std.proofs.lemmas.List.{length-map}
-use Rattle.lq_top.specs.Command.{command_of, words_of}
+use Rattle.lq_top.specs.Command.{command_of_words, bytes_of_words}
 use Rattle.lq_top.specs.Outcome.{OutcomeOfSome}
 use Rattle.lq_top.proofs.program.code_on.Goals as goal
 
@@ -9,7 +9,7 @@ returns g c =
     let old = g.H.Host.state c.args.host.now in
     let new = g.H.Host.state c.lqtx-status.new.host in
     let before = map g.D.TxDevice.state c.args.bench.now.items in
-    let behind = map g.D.TxDevice.state c.lqtx-status.new.bench.items in
+    let after = map g.D.TxDevice.state c.lqtx-status.new.bench.items in
     let counted : length c.args.bench.now.items ≡ 16 = (let devices = c.requires.devices in let ok = c.args.bench.now.ok.0 in omega arith) in
     record {
       status = c.lqtx-status.result;
@@ -17,7 +17,7 @@ returns g c =
       old = old;
       new = new;
       before = before;
-      behind = behind;
+      after = after;
       sixteen = length-map c.args.bench.now.items g.D.TxDevice.state ∙ counted;
-      outcome = subst (λ n. OutcomeOfSome (command_of (words_of c.args.words.now)) n old new before behind c.lqtx-status.result) c.requires.devices c.lqtx-status.ensures.some;
+      outcome = subst (λ n. OutcomeOfSome (command_of_words (bytes_of_words c.args.words.now)) n old new before after c.lqtx-status.result) c.requires.devices c.lqtx-status.ensures.some;
     }

@@ -3,7 +3,7 @@ use Rattle.std.specs.Option.{option_map}
 use Rattle.lq_top.specs.Command.{CommandWords, command_words}
 use Rattle.lq_top.specs.Decision.{by_bytes, by_command, verdict_of_command}
 use Rattle.lq_top.specs.Outcome.{IsAnswerOf, Outcome, OutcomeOfSome}
-use Rattle.lq_top.specs.declared.status.Status.{Status}
+use Rattle.lq_top.specs.declared.answer.Status.{Status}
 use Rattle.lq_top.proofs.RunLemmas.{all_answered, ends_outcome, stops_outcome}
 use Rattle.lq_top.proofs.top.lqtx.Goals as goal
 
@@ -22,11 +22,11 @@ returns-in-Ok-clause-some g c =
     let new = g.H.Host.state c.do_command.new.host in
     let have = vec_len c.args.bench.now in
     let before = map g.D.TxDevice.state c.args.bench.now.items in
-    let behind = map g.D.TxDevice.state c.do_command.new.bench.items in
+    let after = map g.D.TxDevice.state c.do_command.new.bench.items in
     let command = command_words c.in-Ok-Some.command in
     let found = c.in-Ok.ensures.some in
-    subst (λ (is : Option CommandWords). OutcomeOfSome is have old new before behind c.in-Ok.status) (ap (option_map command_words) (sym c.in-Ok-Some.field-0-is) ∙ c.in-Ok-Some.ensures)
-    (found.0, found.1, ends_outcome (by_bytes (Some command) have found.0 found.1) old new before behind c.in-Ok.status c.in-Ok.ensures.answer found.2)
+    subst (λ (is : Option CommandWords). OutcomeOfSome is have old new before after c.in-Ok.status) (ap (option_map command_words) (sym c.in-Ok-Some.field-0-is) ∙ c.in-Ok-Some.ensures)
+    (found.0, found.1, ends_outcome (by_bytes (Some command) have found.0 found.1) old new before after c.in-Ok.status c.in-Ok.ensures.answer found.2)
 
 pub returns-in-Err-do_command-clause-some : goal.returns-in-Err-do_command-clause-some
 returns-in-Err-do_command-clause-some g c =
@@ -34,12 +34,12 @@ returns-in-Err-do_command-clause-some g c =
     let new = g.H.Host.state c.do_command.new.host in
     let have = vec_len c.args.bench.now in
     let before = map g.D.TxDevice.state c.args.bench.now.items in
-    let behind = map g.D.TxDevice.state c.do_command.new.bench.items in
+    let after = map g.D.TxDevice.state c.do_command.new.bench.items in
     let command = command_words c.in-Ok-Some.command in
     let found = c.in-Err-do_command.ensures.some in
-    subst (λ (is : Option CommandWords). OutcomeOfSome is have old new before behind c.status.result) (ap (option_map command_words) (sym c.in-Ok-Some.field-0-is) ∙ c.in-Ok-Some.ensures) (
+    subst (λ (is : Option CommandWords). OutcomeOfSome is have old new before after c.status.result) (ap (option_map command_words) (sym c.in-Ok-Some.field-0-is) ∙ c.in-Ok-Some.ensures) (
       found.0,
       found.1,
-      subst (λ (answer : Status). Outcome (by_bytes (Some command) have found.0 found.1) old new before behind answer) (sym c.status.ensures)
-          (stops_outcome (by_bytes (Some command) have found.0 found.1) old new before behind c.in-Err-do_command.stop found.2),
+      subst (λ (answer : Status). Outcome (by_bytes (Some command) have found.0 found.1) old new before after answer) (sym c.status.ensures)
+          (stops_outcome (by_bytes (Some command) have found.0 found.1) old new before after c.in-Err-do_command.stop found.2),
     )

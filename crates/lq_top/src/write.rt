@@ -1,0 +1,219 @@
+//! What a call writes: a text to a file or to standard output, and the files of a run.
+ghost use Rattle.std.specs.Prelude.{◌≡◌, ◌⊎◌, ◌≤◌, ℕ, length, take, OnOk, OnErr, ◌<◌, All, IfOk, string_bytes};
+ghost use Rattle.lq_host.specs.Host.{IsWriter, wrote, filed};
+ghost use Rattle.lq_top.specs.Stop.{StopsFor};
+ghost use Rattle.lq_top.specs.Written.{FileHasPrefix, OutputHasPrefix, FileIsCut, FilesAreCut, IsCut, file_written, files_written, written};
+ghost use Rattle.lq_pcapng.specs.File.{packets_of_file, text_of};
+ghost use Rattle.lq_top.specs.Headline.{capture_name, fates_name, fates_file, run_of, texts_of, unit_file, unit_files};
+ghost use Rattle.lq_model.specs.Plan.{infos_of, unit_count};
+ghost use Rattle.lq_model.specs.Settled.{AreSerials, IsSettled};
+ghost use Rattle.lq_model.specs.Texts.{counts_text};
+ghost use Rattle.lq_top.specs.Names.{MayWrite};
+
+use crate::answer::{Stop, and_finished};
+use lq_fates::{counts_text, fates_text, sent_of};
+use lq_host::Host;
+use lq_model::{Fate, Info, NoMemory};
+use lq_pcapng::CaptureFile;
+use lq_plan::Plan;
+use std::alloc::{AllocError, Global};
+
+/// Bytes that are written at once.
+const PIECE: usize = 65_536;
+
+/// Writes a text to a handle, in pieces of 65,536 bytes, the last one shorter. Where it stops, a prefix was written.
+fn write_text<H: Host>(host: &mut H, h: u32, text: &[u8]) -> Result<(), Stop>
+    requires { IsWriter ((H.state host.old).handles h) }
+    ensures handles { (H.state host.new).handles ≡ (H.state host.old).handles }
+    ensures ok { OnOk result (H.state host.new ≡ wrote (H.state host.old) h text.now) }
+    ensures err { OnErr result ((n : ℕ) × (n ≤ length text.now)
+        × (H.state host.new ≡ wrote (H.state host.old) h (take n text.now))) }
+    ensures cause { StopsFor (H.fault_count host.old) (H.fault_count host.new) result }
+{
+    let mut at = 0;
+    while at < text.len() {
+        let end = at + (text.len() - at).min(PIECE);
+        host.write(h, &text[at..end])?;
+        at = end;
+    }
+    Ok(())
+}
+
+/// Makes a file of a text. Where it stops, the file is as before, or has a prefix of the text.
+pub fn write_file<H: Host>(host: &mut H, name: &str, text: &[u8]) -> Result<(), Stop>
+    requires { H.may_create name.now }
+    ensures handles { (H.state host.new).handles ≡ (H.state host.old).handles }
+    ensures ok { OnOk result (H.state host.new ≡ filed (H.state host.old) name.now text.now) }
+    ensures err { OnErr result ((H.state host.new ≡ H.state host.old)
+        ⊎ FileHasPrefix name.now text.now (H.state host.old) (H.state host.new)) }
+    ensures cause { StopsFor (H.fault_count host.old) (H.fault_count host.new) result }
+{
+    let h = host.create(name)?;
+    let written = write_text(host, h, text);
+    let end = host.finish(h);
+    and_finished(written, end)?;
+    Ok(())
+}
+
+/// Writes a text to standard output.
+pub fn write_output<H: Host>(host: &mut H, text: &[u8]) -> Result<(), Stop>
+    ensures handles { (H.state host.new).handles ≡ (H.state host.old).handles }
+    ensures ok { OnOk result (H.state host.new ≡ wrote (H.state host.old) 0 text.now) }
+    ensures err { OnErr result (OutputHasPrefix text.now (H.state host.old) (H.state host.new)) }
+    ensures cause { StopsFor (H.fault_count host.old) (H.fault_count host.new) result }
+{
+    write_text(host, 0, text)
+}
+
+/// The name of the capture that a unit's packets go to.
+fn name_of_capture(alloc: Global, out: &str, unit: u32) -> Result<String, AllocError>
+    ensures { IfOk result (λ name. string_bytes name ≡ capture_name out.now unit) }
+{
+    format!(in alloc; "{out}.{unit}.pcap")
+}
+
+/// The name of the file that tells each packet's fate.
+fn name_of_fates(alloc: Global, out: &str) -> Result<String, AllocError>
+    ensures { IfOk result (λ name. string_bytes name ≡ fates_name out.now) }
+{
+    format!(in alloc; "{out}.fates")
+}
+
+/// The bytes of some packets of a capture, so that a text of them is made with one reservation.
+fn room_for(capture: &CaptureFile, start: usize, packets: &[u32]) -> usize
+    requires { All (λ n. n < (packets_of_file capture.now).count) packets.now }
+{
+    let mut room = start;
+    for n in packets {
+        room = room.saturating_add(capture.piece_len(*n as usize));
+    }
+    room
+}
+
+/// The capture in the format of another with these of its packets, in the order of the list.
+fn text_of_sent(alloc: Global, capture: &CaptureFile, sent: &[u32]) -> Result<Vec<u8>, NoMemory>
+    requires { All (λ n. n < (packets_of_file capture.now).count) sent.now }
+    ensures { IfOk result (λ text. text.items ≡ text_of capture.now sent.now) }
+{
+    let Ok(mut text) = Vec::with_capacity(alloc, room_for(capture, capture.start_len(), sent))
+    else {
+        return Err(NoMemory);
+    };
+    capture.push_start(&mut text)?;
+    for n in sent {
+        capture.push_packet(&mut text, *n as usize)?;
+    }
+    Ok(text)
+}
+
+/// Makes the file of a unit: the capture of the packets that it sent.
+fn write_unit<H: Host>(
+    alloc: Global,
+    host: &mut H,
+    out: &str,
+    capture: &CaptureFile,
+    fates: &[Fate],
+    unit: u32,
+) -> Result<(), Stop>
+    requires may { H.may_create (capture_name out.now unit) }
+    requires serials { AreSerials fates.now unit }
+    requires known { length fates.now ≤ (packets_of_file capture.now).count }
+    ensures handles { (H.state host.new).handles ≡ (H.state host.old).handles }
+    ensures ok { OnOk result (H.state host.new
+        ≡ file_written (H.state host.old) (unit_file out.now capture.now fates.now unit)) }
+    ensures err { OnErr result (FileIsCut (unit_file out.now capture.now fates.now unit)
+        (H.state host.old) (H.state host.new)) }
+    ensures cause { StopsFor (H.fault_count host.old) (H.fault_count host.new) result }
+{
+    let sent = sent_of(alloc, fates, unit)?;
+    let text = text_of_sent(alloc, capture, &sent)?;
+    let name = name_of_capture(alloc, out, unit)?;
+    write_file(host, name.as_str(), &text)
+}
+
+/// Makes the files of the first so many units, in ascending order.
+fn write_units<H: Host>(
+    alloc: Global,
+    host: &mut H,
+    out: &str,
+    capture: &CaptureFile,
+    fates: &[Fate],
+    units: u32,
+) -> Result<(), Stop>
+    requires may { (unit : ℕ) → unit < units → H.may_create (capture_name out.now unit) }
+    requires serials { (unit : ℕ) → AreSerials fates.now unit }
+    requires known { length fates.now ≤ (packets_of_file capture.now).count }
+    ensures handles { (H.state host.new).handles ≡ (H.state host.old).handles }
+    ensures ok { OnOk result (H.state host.new
+        ≡ files_written (H.state host.old) (unit_files out.now capture.now fates.now units)) }
+    ensures err { OnErr result (FilesAreCut (unit_files out.now capture.now fates.now units)
+        (H.state host.old) (H.state host.new)) }
+    ensures cause { StopsFor (H.fault_count host.old) (H.fault_count host.new) result }
+{
+    for unit in 0..units {
+        write_unit(alloc, host, out, capture, fates, unit)?;
+    }
+    Ok(())
+}
+
+/// Makes the file that tells each packet's fate.
+fn write_fates<H: Host>(alloc: Global, host: &mut H, out: &str, fates: &[Fate]) -> Result<(), Stop>
+    requires { H.may_create (fates_name out.now) }
+    ensures handles { (H.state host.new).handles ≡ (H.state host.old).handles }
+    ensures ok { OnOk result (H.state host.new
+        ≡ file_written (H.state host.old) (fates_file out.now fates.now)) }
+    ensures err { OnErr result (FileIsCut (fates_file out.now fates.now)
+        (H.state host.old) (H.state host.new)) }
+    ensures cause { StopsFor (H.fault_count host.old) (H.fault_count host.new) result }
+{
+    let text = fates_text(alloc, fates)?;
+    let name = name_of_fates(alloc, out)?;
+    write_file(host, name.as_str(), &text)
+}
+
+/// Writes the counts of the fates to standard output.
+pub fn write_counts<H: Host>(
+    alloc: Global,
+    host: &mut H,
+    plan: &Plan,
+    infos: &[Info],
+    fates: &[Fate],
+) -> Result<(), Stop>
+    requires same { length fates.now ≡ length infos.now }
+    ensures handles { (H.state host.new).handles ≡ (H.state host.old).handles }
+    ensures ok { OnOk result (H.state host.new ≡ wrote (H.state host.old) 0
+        (counts_text fates.now infos.now (length plan.now.stations) (unit_count plan.now))) }
+    ensures err { OnErr result ((H.state host.new ≡ H.state host.old) ⊎ OutputHasPrefix
+        (counts_text fates.now infos.now (length plan.now.stations) (unit_count plan.now))
+        (H.state host.old) (H.state host.new)) }
+    ensures cause { StopsFor (H.fault_count host.old) (H.fault_count host.new) result }
+{
+    let text = counts_text(alloc, fates, infos, plan.stations(), plan.units())?;
+    write_output(host, &text)
+}
+
+/// Writes all that tells what became of a run's packets. One text at a time is in memory.
+pub fn write_run<H: Host>(
+    alloc: Global,
+    host: &mut H,
+    out: &str,
+    plan: &Plan,
+    capture: &CaptureFile,
+    infos: &[Info],
+    fates: &[Fate],
+) -> Result<(), Stop>
+    requires may { MayWrite H.may_create out.now (unit_count plan.now) }
+    requires infos { infos.now ≡ infos_of plan.now (packets_of_file capture.now) }
+    requires count { length infos.now ≡ (packets_of_file capture.now).count }
+    requires settled { IsSettled plan.now infos.now fates.now }
+    ensures handles { (H.state host.new).handles ≡ (H.state host.old).handles }
+    ensures ok { OnOk result (H.state host.new
+        ≡ written (texts_of (run_of out.now plan.now capture.now) fates.now) (H.state host.old)) }
+    ensures err { OnErr result (IsCut (texts_of (run_of out.now plan.now capture.now) fates.now)
+        (H.state host.old) (H.state host.new)) }
+    ensures cause { StopsFor (H.fault_count host.old) (H.fault_count host.new) result }
+{
+    write_units(alloc, host, out, capture, fates, plan.units())?;
+    write_fates(alloc, host, out, fates)?;
+    write_counts(alloc, host, plan, infos, fates)
+}
