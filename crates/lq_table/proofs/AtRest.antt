@@ -73,6 +73,7 @@ module _ (k : Setup) (s : table.State (Option StationState) View) (r : Rule k s)
         purged = λ first phase no_purge_. let knows = p.firsts.knows id v at_id first in
             holds_none k.infos (machine_of q s.views) a (ties_now (p.leaves.none_left (sym knows.1 ∙ no_purge_))) (p.machine.kept.purged_holds_nothing (sym knows.0 ∙ phase)).1;
         down = λ first. sym p.ties.down ∙ (p.machine.deactivation ∙ ap is_closed (sym (p.firsts.knows id v at_id first).0));
+        unit = p.sends.unit;
         hung = λ queue two. p.device.hung queue two;
       }
 

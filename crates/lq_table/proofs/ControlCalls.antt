@@ -65,7 +65,7 @@ module _ (k : Setup) where
         given = given_same k s.views id v w here W.turns p.given refl refl refl refl refl;
         stops = p.stops;
         device = p.device;
-        trails = trails_same k.infos s.views id v w here p.trails refl refl refl refl;
+        trails = trails_same k.infos s.views id v w here p.trails refl refl refl refl refl;
       }
 
   pub begins_control : (slots id : ℕ) (m : Sat) → m.0.place.position ≡ Idle → m.0.control.first ≡ true → 0 < m.0.share.shares → Allows (Rule k) slots id m 0 (λ x. x) (control_begun (step slots 0 0 0 none) m)

@@ -1,9 +1,10 @@
 -- The device's room, and when it hangs.
 use Rattle.std.proofs.Common.{◌≡◌, ℕ, ◌+◌, Bool, true, false, true≢false, ◌&&◌, List, set, sym, ap, ap₂, ◌∙◌, subst, arith, refl, Option, Some, None, length, slice_index, get_or, length-set, get_or-set_same, get_or-set_other, eq-eqb, if◌then◌else◌}
-use Rattle.std.specs.Prelude.{nat_lt, ◌==◌, IfSome}
+use Rattle.std.specs.Prelude.{All, nat_lt, ◌==◌, IfSome}
 use Rattle.std.specs.Option.{option_map}
 use Rattle.std.proofs.lemmas.Bool.{lt-ltb}
 use Rattle.std.proofs.lemmas.List.{length-append, get_or_past}
+use Rattle.std.proofs.lemmas.List.Elements.{All-push}
 use Rattle.std.proofs.lemmas.Option.{same_Some}
 use mathlib.Core.Logic.{dite}
 use mathlib.Core.Option.{some}
@@ -11,7 +12,7 @@ use native.Mathlib.Decide.{ℕ_discrete, dec_lt}
 use lib.ListN.{get_elem?}
 use Rattle.atomic_table.specs.Table as table
 use Rattle.lq_device.specs.Station.{StationState}
-use Rattle.lq_model.specs.Device.{DeviceState, Telling, Answers, answer_of, taken, is_hang, is_busy, told_after}
+use Rattle.lq_model.specs.Device.{DeviceState, Telling, Answers, device_call, answer_of, taken, is_hang, is_busy, told_after}
 use Rattle.lq_model.specs.declared.device.Params.{Params}
 use Rattle.lq_model.specs.declared.device.Tx.{Tx}
 use Rattle.lq_model.specs.declared.device.Tx.TheVariants.{Sent, SentStop, SentHang, Busy}
@@ -22,7 +23,7 @@ use Rattle.lq_model.specs.Machine.{is_open}
 use Rattle.lq_model.specs.Positions.{holds_lock}
 use Rattle.lq_model.specs.Plan.{queue_in}
 use Rattle.lq_table.specs.Views.{View, Setup, HolderPart, machine_packet}
-use Rattle.lq_table.specs.Rule.{words_of, is_live, account, holders, bands_now, Holder, HangsWhere, IsDevice, Rule}
+use Rattle.lq_table.specs.Rule.{words_of, is_live, account, holders, bands_now, Holder, HangsWhere, IsCallOf, IsDevice, Rule}
 use Rattle.lq_table.proofs.ByName.{xoff_long}
 use Rattle.lq_table.proofs.Frames.{none_some}
 use Rattle.lq_table.proofs.Facts.{device_open}
@@ -30,20 +31,20 @@ use Rattle.lq_table.proofs.Facts.{device_open}
 -- STOP WORDS
 
 -- a stop word is stored, as 2 only where the device hangs
-pub xoff_stored : (infos : List Info) (station : ℕ) (xoff : List ℕ) (d : DeviceState) (queue x : ℕ) → IsDevice infos station xoff d → (x ≡ 2 → d.hung ≡ true) → IsDevice infos station (set xoff queue x) d
-xoff_stored infos station xoff d queue x i hangs = record {
+pub xoff_stored : (infos : List Info) (station : ℕ) (xoff : List ℕ) (origin d : DeviceState) (queue x : ℕ) → IsDevice infos station xoff origin d → (x ≡ 2 → d.hung ≡ true) → IsDevice infos station (set xoff queue x) origin d
+xoff_stored infos station xoff origin d queue x i hangs = record {
   room = i.room;
   hung = λ c is. dite (ℕ_discrete c queue)
       (λ same. dite (dec_lt queue (length xoff))
       (λ inside. hangs (sym (get_or-set_same xoff queue x 0 inside) ∙ (ap (λ (z : ℕ). get_or (set xoff queue x) z 0) (sym same) ∙ is)))
       (λ past. absurd (let e = get_or_past (set xoff queue x) c 0 (let l = length-set xoff queue x in omega arith) in let is' : get_or (set xoff queue x) c 0 ≡ 2 = is in omega arith)))
       (λ other. i.hung c (sym (get_or-set_other xoff queue c x 0 other) ∙ is));
-  told = i.told;
+  served = i.served;
 }
 
-pub stop_stored : (infos : List Info) (station : ℕ) (xoff : List ℕ) (d : DeviceState) (queue : ℕ) (hung : Bool) → IsDevice infos station xoff d → d.hung ≡ hung → IsDevice infos station (set xoff queue (if hung then 2 else 1)) d
-stop_stored infos station xoff d queue true i is = xoff_stored infos station xoff d queue 2 i (λ _. is)
-stop_stored infos station xoff d queue false i is = xoff_stored infos station xoff d queue 1 i (λ e. absurd (omega arith))
+pub stop_stored : (infos : List Info) (station : ℕ) (xoff : List ℕ) (origin d : DeviceState) (queue : ℕ) (hung : Bool) → IsDevice infos station xoff origin d → d.hung ≡ hung → IsDevice infos station (set xoff queue (if hung then 2 else 1)) origin d
+stop_stored infos station xoff origin d queue true i is = xoff_stored infos station xoff origin d queue 2 i (λ _. is)
+stop_stored infos station xoff origin d queue false i is = xoff_stored infos station xoff origin d queue 1 i (λ e. absurd (omega arith))
 
 -- ANSWERS
 
@@ -79,16 +80,26 @@ hangs_on t tx queue n d d' a alive rule w false e =
           (λ other. let m = w.1 some_ in omega arith),
     )
 
-pub answers_kept : (infos : List Info) (station : ℕ) (xoff : List ℕ) (d d' : DeviceState) (tx : Tx) (queue n : ℕ) → Answers tx queue n d d' → IsDevice infos station xoff d → d.hung ≡ false → IsDevice infos station xoff d'
-answers_kept infos station xoff d d' tx queue n a i alive = record {
+-- an answer changes no parameters
+params_stay : (tx : Tx) (o : Option Telling) → option_map (λ (t : Telling). t.params) (option_map (told_after tx) o) ≡ option_map (λ (t : Telling). t.params) o
+params_stay tx None = refl
+params_stay tx (Some t) = refl
+
+pub answers_kept : (infos : List Info) (station : ℕ) (xoff : List ℕ) (origin d d' : DeviceState) (tx : Tx) (queue n : ℕ) → Answers tx queue n d d' → IsCallOf infos station (device_call queue n) → IsDevice infos station xoff origin d → d.hung ≡ false → IsDevice infos station xoff origin d'
+answers_kept infos station xoff origin d d' tx queue n a call i alive = record {
   room = let l = ap length a.accepted ∙ length-append d.accepted (taken tx n) in let s = a.spare in let m = i.room in omega arith;
   hung = λ c is. absurd (true≢false (sym (i.hung c is) ∙ alive));
-  told = go d.told refl a.told a.rule;
+  served = record {
+    identity = a.identity ∙ i.served.identity;
+    params = ap (option_map (λ (t : Telling). t.params)) a.told ∙ (params_stay tx d.told ∙ i.served.params);
+    asked = subst (All (IsCallOf infos station)) (sym a.asked) (All-push (IsCallOf infos station) d.asked (device_call queue n) i.served.asked call);
+    told = go d.told refl a.told a.rule;
+  };
 }
   where
     go : (o : Option Telling) → d.told ≡ o → d'.told ≡ option_map (told_after tx) o → IfSome o (λ t. tx ≡ answer_of t (length d.accepted)) → (t : Telling) → d'.told ≡ Some t → HangsWhere t.params d'
     go None is is' rule t now = absurd (none_some (sym is' ∙ now))
-    go (Some t) is is' rule t' now = subst (λ (p : Params). HangsWhere p d') (ap (λ (z : Telling). z.params) (same_Some _ _ (sym is' ∙ now))) (hangs_on t tx queue n d d' a alive rule (i.told t is) (is_busy tx) refl)
+    go (Some t) is is' rule t' now = subst (λ (p : Params). HangsWhere p d') (ap (λ (z : Telling). z.params) (same_Some _ _ (sym is' ∙ now))) (hangs_on t tx queue n d d' a alive rule (i.served.told t is) (is_busy tx) refl)
 
 -- WHERE A PACKET IS TO GO TO THE DEVICE
 

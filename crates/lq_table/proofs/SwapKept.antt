@@ -1,10 +1,12 @@
 -- Control exchanges the device, after a purge: the stop word is 0 again, and the new unit has sent nothing.
 use Rattle.std.proofs.Common.{◌≡◌, ℕ, zero, suc, ◌≤◌, Bool, ne_eqb, Contains, ◌-◌, ◌<◌, true, false, true≢false, List, [], ◌∷◌, ◌++◌, map, length, set, refl, sym, ap, ap₂, ◌∙◌, subst, arith, Option, Some, None}
-use Rattle.std.specs.Prelude.{◌&&◌, ◌==◌, is_none, nat_lt, slice_set, slice_get, slice_index}
+use Rattle.std.specs.Prelude.{All, ◌&&◌, ◌==◌, is_none, nat_lt, slice_set, slice_get, slice_index}
 use Rattle.std.proofs.lemmas.Bool.{lt-ltb}
+use Rattle.std.proofs.lemmas.List.Elements.{All-nil}
 use mathlib.Core.Option.{none}
 use Rattle.atomic_table.specs.Table.{step, Allows, keeps}
 use Rattle.lq_device.specs.Station.{StationState}
+use Rattle.lq_model.specs.Device.{DeviceState}
 use Rattle.lq_model.specs.declared.machine.ControlStep.TheVariants.{StoreOpen}
 use Rattle.lq_model.specs.declared.machine.Phase.{Phase}
 use Rattle.lq_model.specs.declared.machine.Phase.TheVariants.{Purged}
@@ -18,10 +20,10 @@ use Rattle.lq_model.specs.Positions.{holds_lock}
 use Rattle.lq_model.specs.Kept.{IsInductive}
 use Rattle.lq_band.proofs.Seats.{each_step}
 use Rattle.lq_table.specs.Views.{View, Setup, State, HolderPart, machine_packet, first_account}
-use Rattle.lq_table.specs.Rule.{IsDevice, Opening, AreStops, xoff_word, station_count, words_of, account, holders, last_sent, units_of, KnowsPackets, Holder, bands_now, Rule}
-use Rattle.lq_table.proofs.UnitsKept.{fewer, BringsNone, gone_same, gone_swap}
+use Rattle.lq_table.specs.Rule.{HasServed, IsCallOf, IsDevice, latest_unit, Opening, AreStops, xoff_word, station_count, words_of, account, holders, last_sent, units_of, KnowsPackets, Holder, bands_now, Rule}
+use Rattle.lq_table.proofs.UnitsKept.{fewer, unit_is_latest, BringsNone, gone_same, gone_swap}
 use Rattle.lq_table.specs.Told.{Sat}
-use Rattle.lq_table.specs.Controls.{IsExchange, shut_after, swapping, swapped, opening_next, next_opened}
+use Rattle.lq_table.specs.Controls.{IsExchange, shut_after, swapping, swapped, opening_next, next_opened, GoesAway}
 use Rattle.lq_table.proofs.StopsKept.{agree, after_open, no_two}
 use Rattle.lq_table.proofs.Frames.{is_locked}
 use Rattle.lq_table.proofs.SettledKept.{settled_same}
@@ -72,11 +74,16 @@ hangs_never zero = refl
 hangs_never (suc h) = ap (λ (b : Bool). nat_lt 0 (suc h) && b) (ne_eqb 0 (suc h) (λ e. absurd (omega arith))) ∙ neither (nat_lt 0 (suc h))
 
 -- a device that has accepted nothing is as its rule says
-exchanged : (infos : List Info) (station : ℕ) (xoff : List ℕ) (st : StationState) → station_count infos station ≤ st.device.spare → st.device.accepted ≡ [] → st.device.hung ≡ false → ((queue : ℕ) → slice_index xoff queue ≡ 2 → ⊥) → IsDevice infos station xoff st.device
-exchanged infos station xoff st room none_ alive no_two = record {
+exchanged : (infos : List Info) (station : ℕ) (xoff : List ℕ) (st : StationState) → station_count infos station ≤ st.device.spare → st.device.asked ≡ [] → st.device.accepted ≡ [] → st.device.hung ≡ false → ((queue : ℕ) → slice_index xoff queue ≡ 2 → ⊥) → IsDevice infos station xoff st.device st.device
+exchanged infos station xoff st room unasked none_ alive no_two = record {
   room = (let l = ap length none_ in omega arith);
   hung = λ queue is. absurd (no_two queue is);
-  told = λ t is. (alive ∙ sym (ap (λ (ls : List ℕ). nat_lt 0 t.params.hang_after && (length ls == t.params.hang_after)) none_ ∙ hangs_never t.params.hang_after), λ some_. (let l = ap length none_ in omega arith));
+  served = record {
+    identity = refl;
+    params = refl;
+    asked = subst (All (IsCallOf infos station)) (sym unasked) (All-nil (IsCallOf infos station));
+    told = λ t is. (alive ∙ sym (ap (λ (ls : List ℕ). nat_lt 0 t.params.hang_after && (length ls == t.params.hang_after)) none_ ∙ hangs_never t.params.hang_after), λ some_. (let l = ap length none_ in omega arith));
+  };
 }
 
 module _ (k : Setup) where
@@ -92,7 +99,7 @@ module _ (k : Setup) where
       let first : v.control.first ≡ true = p.firsts.control id v here live (ap is_control position) in let knows = p.firsts.knows id v here first in
       let phase : q.phase ≡ Purged = sym knows.0 ∙ purged in let purge : q.purge ≡ None = sym knows.1 ∙ no_purge in
       let idle = purged_idle k s r id v here live (p.leaves.none_left purge) phase (map_none (machine_packet k.infos) a.hand (sym at_.in_hand)) in
-      let q' : Qdisc = record q { xoff = slice_set q.xoff 0 0 } in let xs : List ℕ = set W.xoff 0 0 in let n : ℕ = v.share.about.queues in let shut : Option ℕ = shut_after 0 n in let g' : State = record g { past = e ∷ g.past; station = st; shut = shut } in let D' : HolderPart = holders g' a' W.size in
+      let q' : Qdisc = record q { xoff = slice_set q.xoff 0 0 } in let xs : List ℕ = set W.xoff 0 0 in let n : ℕ = v.share.about.queues in let shut : Option ℕ = shut_after 0 n in let g' : State = record g { past = e ∷ g.past; station = st; origin = st.device; shut = shut } in let D' : HolderPart = holders g' a' W.size in
       let at_control : Seat = record v.place { position = Control true } in let is : v.place ≡ at_control = λ j. record v.place { position = position j } in
       let stepped_ = controls_in q mid.before mid.after at_control (StoreOpen 0) true refl refl (ap₂ (λ (o : Option Rattle.lq_model.specs.Machine.Purge) (x : Phase). is_none o && is_purged_phase x) purge phase) (subst (λ (u : Seat). IsInductive (record { qdisc = q; seats = mid.before ++ u ∷ mid.after })) is (opened s.views id v here live q p.machine)) in
       let shut_none : g.shut ≡ None = sym (ap (λ (z : HolderPart). z.shut) at_.is) ∙ no_shut in
@@ -104,6 +111,10 @@ module _ (k : Setup) where
       let new_unit : BringsNone k g.past (Swap st.unit) = (other, λ h. is_new.new (subst (λ (z : HolderPart). Contains z.units st.unit) (sym at_.is) h)) in
       let unit_is : v.holder.station.unit ≡ a.unit = ap (λ (z : HolderPart). z.station.unit) at_.is ∙ sym p.sends.unit in
       let sent_is : a.sent v.holder.station.unit ≡ v.holder.station.device.accepted = ap a.sent unit_is ∙ (p.sends.sent ∙ sym (ap (λ (z : HolderPart). z.station.device.accepted) at_.is)) in
+      let goes_away : GoesAway v = (
+        subst (λ (z : Setup × DeviceState × DeviceState). HasServed z.0.infos z.0.station z.1 z.2) (λ j. (sym known j, sym (p.trails.came id v here first) j, (sym at_.is j).station.device)) p.device.served,
+        unit_is ∙ (unit_is_latest k g.past ∙ (λ j. latest_unit (sym known j).station (sym at_.is j).units)),
+      ) in
       let last_is : last_sent a' ≡ None = ap (λ (ns : List ℕ). slice_get ns (length ns - 1)) unused_ in (
         w,
         keeps,
@@ -133,14 +144,14 @@ module _ (k : Setup) where
           find_nothing = (p.find_nothing, tt);
           gone = gone_swap k s.views id v w here st.unit v.holder.station.unit v.holder.station.device.accepted new_unit p.gone refl unit_is sent_is;
           firsts = firsts_as k s.views id v w here q.phase q.phase q.purge q.purge p.firsts live refl refl refl refl refl refl (λ h. h);
-          sole = sole_step k s.views id v w here q q' g g' p.shares p.sole some_share refl refl (λ e1 e2. (ap (λ (z : Qdisc). record z { xoff = slice_set z.xoff 0 0 }) e1, ap (λ (z : State). record z { past = e ∷ z.past; station = st; shut = shut }) e2));
+          sole = sole_step k s.views id v w here q q' g g' p.shares p.sole some_share refl refl (λ e1 e2. (ap (λ (z : Qdisc). record z { xoff = slice_set z.xoff 0 0 }) e1, ap (λ (z : State). record z { past = e ∷ z.past; station = st; origin = st.device; shut = shut }) e2));
           settled = settled_same s.views id v w here W.fates p.settled refl;
           given = given_same k s.views id v w here W.turns p.given refl refl refl refl refl;
           stops = after_open q.xoff (map (λ _. 0) a.stops) 0 n q.phase q.locked phase locked long some_word (λ c l. absurd (omega arith)) (ap (map (λ _. 0)) (sym was));
-          device = exchanged k.infos k.station (map (λ _. 0) a.stops) st (subst (λ (z : Setup). station_count z.infos z.station ≤ st.device.spare) (p.shares.about id v here live) is_new.room) is_new.accepted is_new.alive (no_two a.stops);
-          trails = trails_own k.infos s.views id v w here e refl p.trails p.firsts.one first refl refl refl;
+          device = exchanged k.infos k.station (map (λ _. 0) a.stops) st (subst (λ (z : Setup). station_count z.infos z.station ≤ st.device.spare) (p.shares.about id v here live) is_new.room) is_new.asked is_new.accepted is_new.alive (no_two a.stops);
+          trails = trails_own k.infos s.views id v w here e refl p.trails p.firsts.one first refl refl refl refl;
         },
-        refl,
+        (refl, goes_away),
       )
 
   -- it stores the next queue's
@@ -193,7 +204,7 @@ module _ (k : Setup) where
           given = given_same k s.views id v w here W.turns p.given refl refl refl refl refl;
           stops = after_open q.xoff a.stops queue n q.phase q.locked phase o.held long within o.opened o.all_open;
           device = p.device;
-          trails = trails_same k.infos s.views id v w here p.trails refl refl refl refl;
+          trails = trails_same k.infos s.views id v w here p.trails refl refl refl refl refl;
         },
         refl,
       )

@@ -92,7 +92,7 @@ module _ (k : Setup) (s : table.State (Option StationState) View) (r : Rule k s)
         given = given;
         stops = p.stops;
         device = p.device;
-        trails = trails_same k.infos s.views id v w here p.trails share (ap (λ z. z.first) control) trail refl;
+        trails = trails_same k.infos s.views id v w here p.trails share (ap (λ z. z.first) control) (ap (λ z. z.origin) control) trail refl;
       }
 
 module _ (k : Setup) where

@@ -1,15 +1,14 @@
 -- The units that exchanges brought, and those that they took away.
 use Rattle.std.specs.Prelude.{if◌then◌else◌}
-use Rattle.std.proofs.Common.{◌≡◌, ℕ, suc, ◌<◌, Bool, true, false, ◌⊎◌, inl, inr, List, [], ◌∷◌, ◌++◌, set, refl, sym, ap, ◌∙◌, subst, arith, ⊎_elim, Option, Some, None, Contains, cond}
+use Rattle.std.proofs.Common.{◌≡◌, ℕ, suc, Bool, true, false, ◌⊎◌, inl, inr, List, [], ◌∷◌, ◌++◌, set, refl, sym, ap, ◌∙◌, subst, arith, ⊎_elim, Option, Some, None, Contains, cond}
 use mathlib.Core.Option.{some}
 use lib.ListN.{get_elem?}
-use Rattle.lq_model.specs.Account.{Account, Event, Join, Full, Refuse, Empty, Take, Pick, Direct, Send, Back, Stop, Wake, Resize, Down, Purge, Swap, Up, sent_from_hand, after, after_all}
+use Rattle.lq_model.specs.Account.{Account, Event, Join, Full, Refuse, Empty, Take, Pick, Direct, Send, Back, Stop, Wake, Resize, Down, Purge, Swap, Up, sent_from_hand, after_all}
 use Rattle.lq_model.specs.declared.fate.Info.{Info}
 use Rattle.lq_account.specs.Trail.{is_own, trail_of}
-use Rattle.lq_band.specs.Seats.{Each}
 use Rattle.lq_band.proofs.Seats.{each_step, each_same}
 use Rattle.lq_table.specs.Views.{View, Setup, FirstPart, first_account}
-use Rattle.lq_table.specs.Rule.{account, units_of, IsGone, Gone}
+use Rattle.lq_table.specs.Rule.{units_of, latest_unit, IsGone, Gone}
 use Rattle.lq_table.proofs.Accounts.{with_at_other}
 use Rattle.lq_table.proofs.SettledKept.{in_front}
 
@@ -96,29 +95,36 @@ gone_next k past (Down x) unit sent new h = record { list = h.list; apart = h.ap
 gone_next k past (Purge c) unit sent new h = record { list = h.list; apart = h.apart; known = h.known }
 gone_next k past Up unit sent new h = record { list = h.list; apart = h.apart; known = h.known }
 
--- the present unit is the first one, or an exchange brought it
-after_hand : (a : Account) (o : Option ℕ) (station : ℕ) (us : List ℕ) → (a.unit ≡ station) ⊎ Contains us a.unit → ((sent_from_hand o a).unit ≡ station) ⊎ Contains us (sent_from_hand o a).unit
-after_hand a None station us h = h
-after_hand a (Some n) station us h = h
+-- the present unit is the latest
+after_hand : (a : Account) (o : Option ℕ) → (sent_from_hand o a).unit ≡ a.unit
+after_hand a None = refl
+after_hand a (Some n) = refl
 
-pub unit_known : (k : Setup) (past : List Event) → ((after_all (first_account k) past).unit ≡ k.station) ⊎ Contains (units_of past) (after_all (first_account k) past).unit
-unit_known k [] = inl refl
-unit_known k (Swap x ∷ past) = inr (0, omega arith, refl)
-unit_known k (Send ∷ past) = let a = after_all (first_account k) past in after_hand a a.hand k.station (units_of past) (unit_known k past)
-unit_known k (Join n b ∷ past) = unit_known k past
-unit_known k (Full n x ∷ past) = unit_known k past
-unit_known k (Refuse n x ∷ past) = unit_known k past
-unit_known k (Empty b ∷ past) = unit_known k past
-unit_known k (Take b ∷ past) = unit_known k past
-unit_known k (Pick ∷ past) = unit_known k past
-unit_known k (Direct n ∷ past) = unit_known k past
-unit_known k (Back ∷ past) = unit_known k past
-unit_known k (Stop x y ∷ past) = unit_known k past
-unit_known k (Wake x ∷ past) = unit_known k past
-unit_known k (Resize x y ∷ past) = unit_known k past
-unit_known k (Down x ∷ past) = unit_known k past
-unit_known k (Purge c ∷ past) = unit_known k past
-unit_known k (Up ∷ past) = unit_known k past
+pub unit_is_latest : (k : Setup) (past : List Event) → (after_all (first_account k) past).unit ≡ latest_unit k.station (units_of past)
+unit_is_latest k [] = refl
+unit_is_latest k (Swap x ∷ past) = refl
+unit_is_latest k (Send ∷ past) = let a = after_all (first_account k) past in after_hand a a.hand ∙ unit_is_latest k past
+unit_is_latest k (Join n b ∷ past) = unit_is_latest k past
+unit_is_latest k (Full n x ∷ past) = unit_is_latest k past
+unit_is_latest k (Refuse n x ∷ past) = unit_is_latest k past
+unit_is_latest k (Empty b ∷ past) = unit_is_latest k past
+unit_is_latest k (Take b ∷ past) = unit_is_latest k past
+unit_is_latest k (Pick ∷ past) = unit_is_latest k past
+unit_is_latest k (Direct n ∷ past) = unit_is_latest k past
+unit_is_latest k (Back ∷ past) = unit_is_latest k past
+unit_is_latest k (Stop x y ∷ past) = unit_is_latest k past
+unit_is_latest k (Wake x ∷ past) = unit_is_latest k past
+unit_is_latest k (Resize x y ∷ past) = unit_is_latest k past
+unit_is_latest k (Down x ∷ past) = unit_is_latest k past
+unit_is_latest k (Purge c ∷ past) = unit_is_latest k past
+unit_is_latest k (Up ∷ past) = unit_is_latest k past
+
+latest_known : (station : ℕ) (us : List ℕ) → (latest_unit station us ≡ station) ⊎ Contains us (latest_unit station us)
+latest_known station [] = inl refl
+latest_known station (u ∷ us) = inr (0, omega arith, refl)
+
+unit_known : (k : Setup) (past : List Event) → ((after_all (first_account k) past).unit ≡ k.station) ⊎ Contains (units_of past) (after_all (first_account k) past).unit
+unit_known k past = subst (λ (u : ℕ). (u ≡ k.station) ⊎ Contains (units_of past) u) (sym (unit_is_latest k past)) (latest_known k.station (units_of past))
 
 -- THE VIEWS
 

@@ -65,7 +65,7 @@ module _ (k : Setup) where
           given = given_same k s.views id v w here W.turns p.given refl refl refl refl refl;
           stops = p.stops;
           device = p.device;
-          trails = trails_same k.infos s.views id v w here p.trails refl refl refl refl;
+          trails = trails_same k.infos s.views id v w here p.trails refl refl refl refl refl;
         },
         refl,
       )

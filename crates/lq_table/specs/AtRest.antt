@@ -35,6 +35,8 @@ pub record IsRest (k : Setup) (v : View) (q : Qdisc) (g : State) (a : Account) :
   -- nor does one that was purged
   pub purged : v.control.first ≡ true → v.control.phase ≡ Purged → v.control.purge ≡ None → held a ≡ []
   pub down : v.control.first ≡ true → is_some a.down ≡ is_closed v.control.phase
+  -- the device is the account's present unit
+  pub unit : a.unit ≡ g.station.unit
   -- no stop word says hung of a device that doesn't hang
   pub hung : (queue : ℕ) → slice_index a.stops queue ≡ 2 → g.station.device.hung ≡ true
 

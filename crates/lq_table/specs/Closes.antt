@@ -1,6 +1,8 @@
 -- What the words and the station say when a table is closed.
-use Rattle.std.specs.Prelude.{◌≡◌, ℕ, ◌+◌, ◌*◌, ◌<◌, ◌≤◌, Bool, true, false, ◌⊎◌, List, [], length, slice_index, slice_get, Option, Some, None, Contains}
+use Rattle.std.specs.Prelude.{◌≡◌, ℕ, ◌+◌, ◌*◌, ◌<◌, ◌≤◌, true, false, ◌⊎◌, List, [], length, slice_index, slice_get, Option, Some, None, Contains}
 use Rattle.lq_device.specs.Station.{StationState}
+use Rattle.lq_model.specs.Device.{DeviceState}
+use Rattle.lq_model.specs.declared.fate.Info.{Info}
 use Rattle.lq_model.specs.Account.{Account, Event, held}
 use Rattle.lq_model.specs.Machine.{Qdisc}
 use Rattle.lq_model.specs.Plan.{owner_in, station_in, rank_in}
@@ -12,10 +14,10 @@ use Rattle.lq_band.specs.Seats.{Each}
 use Rattle.lq_band.specs.Stored.{FateWords}
 use Rattle.lq_band.specs.Three.{at, all_three}
 use Rattle.lq_band.specs.Ring.{unlocked}
-use Rattle.lq_table.specs.Views.{View, Setup, State, first_account}
+use Rattle.lq_table.specs.Views.{View, Setup, State, FirstPart, first_account}
 use Rattle.lq_account.specs.Trail.{IsOrderly, trail_of}
 use Rattle.lq_table.specs.Told.{is_set}
-use Rattle.lq_table.specs.Rule.{Words, words_of, holders, shown, waits, bands_now, AreHung, IsDevice, Accounted, Rings, Sends, Stands, Ties}
+use Rattle.lq_table.specs.Rule.{Words, words_of, holders, shown, waits, bands_now, AreHung, HasServed, IsDevice, Accounted, Rings, Sends, Stands, Ties}
 
 -- SCHED and DEACTIVATED are clear, and the greatest stop word is 0: each queue is open
 pub record AreQuiet (w : Words) : Type 0 where
@@ -43,27 +45,34 @@ FatesStand k words settled = ((n : ℕ) (f : Fate) → Contains settled (n, f) �
 abbrev pub HasAccepted : Account → Option StationState → Type 0
 HasAccepted a home = (st : StationState) × (home ≡ Some st) × (st.unit ≡ a.unit) × (st.device.accepted ≡ a.sent a.unit)
 
+-- the station is at home, and the device that came as `origin` has served it
+abbrev pub IsServed : List Info → ℕ → DeviceState → Option StationState → Type 0
+IsServed infos station origin home = (st : StationState) × (home ≡ Some st) × HasServed infos station origin st.device
+
 -- each unit that an exchange took away has sent what it had sent then
 abbrev pub HaveSent : Account → List (ℕ × List ℕ) → Type 0
 HaveSent a gone = (unit : ℕ) (sent : List ℕ) → Contains gone (unit, sent) → a.sent unit ≡ sent
 
 -- What the words and the slot say at the end, where one seat alone is left, which is in no call: the machine and the state are
--- q and g, and the seat's trail is this, if it is first.
-pub record Ending (k : Setup) (words : List ℕ) (slots : List (Option StationState)) (q : Qdisc) (g : State) (a : Account) (first : Bool) (trail : List Event) : Type 0 where
+-- q and g, and what the seat knows of control and the trail are these, if it is first.
+pub record Ending (k : Setup) (words : List ℕ) (slots : List (Option StationState)) (q : Qdisc) (g : State) (a : Account) (control : FirstPart) (trail : List Event) : Type 0 where
   pub stands : Stands k (words_of k words) q a.down
   pub ties : Ties k.infos q a (bands_now g.left a.bands)
   pub stops : q.xoff ≡ a.stops
   pub home : slice_get slots 0 ≡ Some (Some (shown (holders g a (words_of k words).size)))
   -- the device is the account's unit: what it accepted is what that sent
   pub sends : Sends g.station a
-  pub device : IsDevice k.infos k.station (words_of k words).xoff g.station.device
+  pub device : IsDevice k.infos k.station (words_of k words).xoff g.origin g.station.device
   pub hung : g.station.device.hung ≡ true → AreHung (words_of k words).xoff
   pub hand_empty : a.hand ≡ None
   pub calm : g.resizing ≡ None
   pub account : Accounted k g.past a
   -- each event may come where it stands, and a resize of a deactivated station found nothing held
   pub orderly : IsOrderly k.infos k.station (first_account k) g.past
-  pub trail_is : first ≡ true → trail ≡ trail_of k.infos g.past
+  pub trail_is : control.first ≡ true → trail ≡ trail_of k.infos g.past
+  pub origin_is : control.first ≡ true → control.origin ≡ g.origin
+  -- the first seat knows of a purge that is half done
+  pub none_left : control.first ≡ true → control.purge ≡ None → g.left ≡ None
   -- no packet's fate is owed, but by a purge that is half done
   pub fates : FateWords (length k.infos) (words_of k words).fates (λ n. waits n g.left) a.fates
   -- the rings, where nobody has a producer lock

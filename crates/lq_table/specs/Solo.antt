@@ -162,7 +162,7 @@ abbrev pub stop_loaded_all : ℕ → Step (Option StationState) → Sat → ℕ 
 stop_loaded_all queue s m found m' = stop_loaded s m found m' × SeesStop queue m.0 found
 
 abbrev pub woken_all : ℕ → Step (Option StationState) → Sat → ℕ → Sat → Type 0
-woken_all queue s m found m' = woken queue s m found m' × (IsSole m.0 → m.0.whole.state.shut ≡ None → found ≡ slice_index (account_of m.0).stops queue)
+woken_all queue s m found m' = woken queue s m found m' × (IsSole m.0 → found ≡ slice_index (account_of m.0).stops queue)
 
 -- the lock was held or free as its words say, and after a try it is held; what the holder has is the account's
 abbrev pub tried_all : Step (Option StationState) → Sat → ℕ → Sat → Type 0

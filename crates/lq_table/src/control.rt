@@ -4,10 +4,11 @@ ghost use Rattle.lq_model.specs.Machine.{Purge};
 ghost use Rattle.lq_model.specs.declared.machine.Phase.TheVariants.{Active, Purged};
 ghost use Rattle.lq_model.specs.declared.machine.Position.TheVariants.{Idle as AtIdle, Control as AtControl};
 ghost use Rattle.lq_table.specs.Views.{Left};
+ghost use Rattle.lq_table.specs.Rule.{HasServed, latest_unit};
 ghost use Rattle.lq_table.specs.Sees.{view, position, carried, IsSeatOf, IsElseSame};
 ghost use Rattle.lq_table.specs.AtRest.{IsAlone, KnowsRest};
 ghost use Rattle.lq_table.specs.Told.{at_rest};
-ghost use Rattle.lq_table.specs.Controls.{beginning_control, returning, closing, finding, opening, resetting_missed, resetting_draining, IsExchange, swapping, opening_next};
+ghost use Rattle.lq_table.specs.Controls.{beginning_control, returning, closing, finding, opening, resetting_missed, resetting_draining, IsExchange, GoesAway, swapping, opening_next};
 
 use crate::plays::{
     BeginControl, Close, Event, Find, LoadLock, Named, Open, OpenNext, ResetDraining, ResetMissed,
@@ -154,6 +155,7 @@ impl<'a, D: TxDevice> Shared<'a, D> {
         requires station { IsExchange (view cpu.old).share.about.infos (view cpu.old).share.about.station (view cpu.old).holder.units K.station }
         ensures same { IsElseSame cpu.old cpu.new }
         ensures view { view cpu.new ≡ swapping K.station (view cpu.old) }
+        ensures old { GoesAway (view cpu.old) }
     {
         self.table
             .shared
@@ -162,7 +164,8 @@ impl<'a, D: TxDevice> Shared<'a, D> {
 
     /// Stores 0 in the first queue's stop word of a station whose device was exchanged, as a driver's open does with
     /// `netif_tx_start_all_queues` of include/linux/netdevice.h. The station that the seat carries has the new device, whose
-    /// unit is below 256 and none of those before. With several queues `open_xoff` goes on with the second.
+    /// unit is below 256 and none of those before, and which was asked nothing. The device before it is the one that came with the
+    /// latest unit, and has served the station. With several queues `open_xoff` goes on with the second.
     pub fn exchange(&self, cpu: &mut Cpu<D>)
         requires seat { IsSeatOf self.now cpu.old }
         requires at { (position cpu.old ≡ AtControl true) × ((view cpu.old).holder.shut ≡ None) }
@@ -170,6 +173,8 @@ impl<'a, D: TxDevice> Shared<'a, D> {
         requires station { (is_some cpu.old.station ≡ true) × IsExchange (view cpu.old).share.about.infos (view cpu.old).share.about.station (view cpu.old).holder.units (carried cpu.old) }
         ensures same { IsElseSame cpu.old cpu.new }
         ensures view { view cpu.new ≡ swapping (carried cpu.old) (view cpu.old) }
+        ensures served { HasServed self.now.infos.now self.now.station (view cpu.old).control.origin (view cpu.old).holder.station.device }
+        ensures unit { (view cpu.old).holder.station.unit ≡ latest_unit self.now.station (view cpu.old).holder.units }
     {
         self.exchange_of::<Brand>(cpu);
     }
