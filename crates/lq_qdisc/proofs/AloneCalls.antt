@@ -364,11 +364,11 @@ module _ (k : Setup) (infos : List Info) (old new : View) (about : old.share.abo
   stop_at : slice_index (account_of old).stops 0 ≡ stop_in (first_account k) (solo old)
   stop_at = ap stop_of (sym (account_at k old about))
 
-  wakes_alone : old.whole.state.shut ≡ None → Wakes 0 old new → IsAlone infos (first_account k) (solo new) × (running (first_account k) (solo new) ≡ opened (running (first_account k) (solo old)))
-  wakes_alone shut (inl w) = woken_alone w.0 w.2 (w.3 h.sender.sole) (sym stop_at ∙ w.4 h.sender.sole shut)
-  wakes_alone shut (inr w) = still_alone w.0 (λ z. w.1 h.sender.sole shut (stop_at ∙ z))
+  wakes_alone : Wakes 0 old new → IsAlone infos (first_account k) (solo new) × (running (first_account k) (solo new) ≡ opened (running (first_account k) (solo old)))
+  wakes_alone (inl w) = woken_alone w.0 w.2 (w.3 h.sender.sole) (sym stop_at ∙ w.4 h.sender.sole)
+  wakes_alone (inr w) = still_alone w.0 (λ z. w.1 h.sender.sole (stop_at ∙ z))
 
-pub irq_alone : (k : Setup) (infos : List Info) (queues : ℕ) (old new : View) → queues ≡ 1 → old.share.about ≡ k → old.whole.state.shut ≡ None → WakesBelow queues old new → Does infos (first_account k) opened (solo old) (solo new)
-irq_alone k infos queues old new one about shut w h =
+pub irq_alone : (k : Setup) (infos : List Info) (queues : ℕ) (old new : View) → queues ≡ 1 → old.share.about ≡ k → WakesBelow queues old new → Does infos (first_account k) opened (solo old) (solo new)
+irq_alone k infos queues old new one about w h =
     let t : WakesBelow 1 old new = subst (λ (q : ℕ). WakesBelow q old new) one w in
-    wakes_alone k infos old new about h shut (subst (λ (v : View). Wakes 0 v new) t.1 t.2)
+    wakes_alone k infos old new about h (subst (λ (v : View). Wakes 0 v new) t.1 t.2)

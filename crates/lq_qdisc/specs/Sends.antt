@@ -226,8 +226,8 @@ IsRaisedAgain new = (new.place.raised ≡ false) ⊎ ((was : Bool) × (before : 
 -- the stop word of a queue was exchanged: it was 1, and the table is scheduled, or it wasn't
 abbrev pub Wakes : ℕ → View → View → Type 0
 Wakes queue old new =
-    ((was : Bool) × (new ≡ scheduling was (waking queue old)) × (solo new ≡ sched_set was (heard (Wake queue) (solo old))) × (IsSole old → was ≡ old.whole.qdisc.sched) × (IsSole old → old.whole.state.shut ≡ None → slice_index (account_of old).stops queue ≡ 1))
-    ⊎ ((new ≡ old) × (IsSole old → old.whole.state.shut ≡ None → slice_index (account_of old).stops queue ≢ 1))
+    ((was : Bool) × (new ≡ scheduling was (waking queue old)) × (solo new ≡ sched_set was (heard (Wake queue) (solo old))) × (IsSole old → was ≡ old.whole.qdisc.sched) × (IsSole old → slice_index (account_of old).stops queue ≡ 1))
+    ⊎ ((new ≡ old) × (IsSole old → slice_index (account_of old).stops queue ≢ 1))
 
 -- those of the first so many queues
 abbrev pub WakesBelow : ℕ → View → View → Type 0

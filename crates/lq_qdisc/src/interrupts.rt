@@ -1,5 +1,5 @@
 //! Soft interrupts, and a driver's interrupts.
-ghost use Rattle.std.specs.Prelude.{◌≡◌, ◌<◌, Bool, true, false, None, if◌then◌else◌};
+ghost use Rattle.std.specs.Prelude.{◌≡◌, ◌<◌, Bool, true, false, if◌then◌else◌};
 ghost use Rattle.lq_model.specs.declared.machine.Attempt.TheVariants.{Interrupt};
 ghost use Rattle.lq_model.specs.declared.machine.Position.TheVariants.{Idle, Leave, Soft, Try1};
 ghost use Rattle.lq_model.specs.Alone.{opened};
@@ -70,7 +70,7 @@ pub fn irq<'a, D: TxDevice>(shared: &Shared<'a, D>, cpu: &mut Cpu<D>)
     ensures still { IsStill (view cpu.old) (view cpu.new) }
     ensures settled { (view cpu.new).settled ≡ (view cpu.old).settled }
     ensures wakes { WakesBelow shared.now.queues (view cpu.old) (view cpu.new) }
-    ensures alone { shared.now.queues ≡ 1 → (view cpu.old).whole.state.shut ≡ None → Does shared.now.infos.now (first_account (setup shared.now)) opened (solo (view cpu.old)) (solo (view cpu.new)) }
+    ensures alone { shared.now.queues ≡ 1 → Does shared.now.infos.now (first_account (setup shared.now)) opened (solo (view cpu.old)) (solo (view cpu.new)) }
 {
     for queue in 0..shared.queues() {
         open(shared, cpu, queue);

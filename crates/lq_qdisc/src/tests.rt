@@ -79,7 +79,9 @@ fn table<'a, A: Abort>(
         .configure(&plan.params, infos.len())
         .expect(rt, "memory");
     let station = Station::new(0, device);
-    Shared::make(alloc, infos, 0, plan, queues, 2, station).expect(rt, "memory")
+    Shared::make(alloc, infos, 0, plan, queues, 2, station)
+        .ok()
+        .expect(rt, "memory")
 }
 
 /// The soft interrupt of a seat that is raised.

@@ -1,5 +1,5 @@
 //! A packet is put and taken on one thread: with memory, and where nobody else has a seat, no call refuses.
-ghost use Rattle.std.specs.Prelude.{◌≡◌, ◌<◌, [], None, false};
+ghost use Rattle.std.specs.Prelude.{◌≡◌, ◌<◌, [], None, Ok, false};
 ghost use Rattle.lq_model.specs.declared.machine.Packet.{Packet};
 ghost use Rattle.lq_model.specs.declared.machine.Attempt.TheVariants.{Queued};
 ghost use Rattle.lq_model.specs.declared.machine.Position.TheVariants.{Try1, Deq, Scan};
@@ -12,6 +12,7 @@ use crate::{consume, produce};
 use lq_device::{BenchDevice, Station, StationPlan, TxDevice};
 use lq_model::{Info, Params};
 use lq_table::{Cpu, Shared};
+use std::process::Abort;
 
 const PARAMS: Params = Params {
     burst: 0,
@@ -77,6 +78,13 @@ fn run<'a, D: TxDevice>(shared: &Shared<'a, D>, cpu: &mut Cpu<D>) -> Option<u32>
     dequeue(shared, cpu)
 }
 
+/// What was made, with memory.
+fn with_memory<A: Abort, T, E: Drop>(rt: &A, made: Result<T, E>) -> T
+    ensures { made ≡ Ok result }
+{
+    made.ok().expect(rt, "memory")
+}
+
 #[test]
 fn a_packet_is_put_and_taken(rt: HostRuntime) {
     let infos = [Info {
@@ -89,9 +97,8 @@ fn a_packet_is_put_and_taken(rt: HostRuntime) {
     let mut device = BenchDevice::new(rt.alloc());
     device.configure(&PARAMS, 1).expect(&rt, "memory");
     let station = Station::new(0, device);
-    let (shared, mut cpu) = Shared::make(rt.alloc(), &infos, 0, PLAN, 1, 1, station).expect(
-        &rt, "memory",
-    );
+    let made = Shared::make(rt.alloc(), &infos, 0, PLAN, 1, 1, station);
+    let (shared, mut cpu) = with_memory(&rt, made);
     shared.take_turn(&mut cpu, 0).expect(&rt, "its turn");
     shared.enter(&mut cpu);
     let state = shared.check(&mut cpu, 0);
