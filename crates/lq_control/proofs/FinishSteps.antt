@@ -1,37 +1,37 @@
 -- What a look at the words tells, and what the purge of a hung station leaves.
-use Rattle.std.proofs.Common.{◌≡◌, ◌≢◌, ◌⊎◌, inl, inr, ⊎_elim, ℕ, zero, suc, ◌+◌, ◌*◌, ◌<◌, ◌≤◌, Bool, true, false, true≢false, List, [], ◌∷◌, ◌++◌, length, Contains, Option, Some, None, refl, sym, ap, ◌∙◌, subst, arith, slice_index, slice_get}
-use Rattle.std.specs.Prelude.{is_some, filter, if◌then◌else◌}
+use Rattle.std.proofs.Common.{◌≡◌, ◌⊎◌, inl, inr, ⊎_elim, ℕ, ◌+◌, ◌*◌, ◌<◌, ◌≤◌, Bool, true, false, true≢false, List, [], ◌++◌, length, Option, Some, None, refl, sym, ap, ◌∙◌, subst, arith, slice_index, slice_get}
+use Rattle.std.specs.Prelude.{is_some, if◌then◌else◌}
 use Rattle.std.specs.Option.{option_map_or, option_to_list}
 use Rattle.std.proofs.lemmas.Option.{slice_get_cases}
 use Rattle.lq_account.proofs.Lists.{none-in, fates-cases}
 use Rattle.lq_account.proofs.Purges.{purge_empties, with_fates_in}
-use Rattle.lq_model.specs.Account.{Account, Event, Purge, Join, Full, Refuse, Empty, Take, Pick, Direct, Send, Back, Stop, Wake, Resize, Down, Swap, Up, after, after_all, held}
+use Rattle.lq_model.specs.Account.{Account, Purge, after, after_all, held}
 use Rattle.lq_model.specs.Machine.{is_closed}
 use Rattle.lq_model.specs.Plan.{owner_in, station_in, rank_in}
 use Rattle.lq_model.specs.declared.fate.Cause.{Cause}
-use Rattle.lq_model.specs.declared.fate.Cause.TheVariants as cause
 use Rattle.lq_model.specs.declared.fate.Fate.{Fate}
 use Rattle.lq_model.specs.declared.fate.Fate.TheVariants as fate
 use Rattle.lq_model.specs.declared.fate.Info.{Info}
-use Rattle.lq_model.specs.declared.machine.Phase.{Phase}
 use Rattle.lq_model.specs.declared.machine.Phase.TheVariants.{Active, Purged}
 use Rattle.lq_model.specs.Control.{found_inside, after_purge}
 use Rattle.lq_table.specs.Views.{View, Setup, HolderPart, FirstPart, SharePart, State, first_account}
 use Rattle.lq_table.specs.Controls.{finding, returning, beginning_control}
-use Rattle.lq_table.specs.Rule.{holders, times}
-use Rattle.lq_table.specs.AtRest.{KnowsRest, IsKept}
-use Rattle.lq_table.specs.Solo.{Solo, SeesState, IsSole, IsAccounts, is_heard, solo, account_of, heard, locked_to, missed_to, draining_to, sched_set}
+use Rattle.lq_table.specs.Rule.{times}
+use Rattle.lq_table.specs.AtRest.{KnowsRest}
+use Rattle.lq_table.specs.Solo.{Solo, SeesState, IsSole, IsAccounts, solo, account_of, heard, locked_to, missed_to, draining_to, sched_set}
 use Rattle.lq_table.specs.Told.{is_set, got_in_control, looking, loading}
 use Rattle.lq_table.specs.Sees.{view, IsElseSame}
 use Rattle.lq_table.specs.declared.shared.Cpu.{Cpu}
+use Rattle.lq_qdisc.specs.Alone.{account_in}
 use Rattle.lq_qdisc.specs.Sends.{IsReady}
+use Rattle.lq_qdisc.proofs.AloneSteps.{account_at}
 use Rattle.lq_model.specs.declared.machine.Position.TheVariants.{Control}
 use Rattle.lq_run.specs.Runs.{ended}
 use Rattle.lq_model.specs.Band.{Band, held_of}
-use Rattle.lq_band.specs.Three.{Three, at}
+use Rattle.lq_band.specs.Three.{Three}
 use Rattle.lq_table.specs.Purges.{AreKnown}
 use Rattle.lq_control.specs.Control.{IsIn, IsPurged, IsServed, all_purged}
-use Rattle.lq_control.specs.Finish.{AreFor, AreAllDone, AreKept, IsLook, IsSettled, IsFinished}
+use Rattle.lq_control.specs.Finish.{AreFor, AreAllDone, AreKept, AreStops, IsOver, Hangs, IsLook, IsSettled, IsFinished}
 use Rattle.lq_control.proofs.FinishLemmas.{not_left}
 
 -- LOOKS
@@ -72,17 +72,38 @@ none_some None e = refl
 none_some (Some n) e = absurd (true≢false e)
 
 -- DEACTIVATED was loaded
-pub nothing_down : (v : View) (state : ℕ) → v.control.first ≡ true → IsSettled v → KnowsRest v → SeesState v state → is_set 2 state ≡ true → held (account_of v) ≡ []
+nothing_down : (v : View) (state : ℕ) → v.control.first ≡ true → IsSettled v → KnowsRest v → SeesState v state → is_set 2 state ≡ true → held (account_of v) ≡ []
 nothing_down v state first settled r s down = let p = closed_purged v settled (sym (r.down first) ∙ (sym s.down ∙ down)) in r.purged first p.0 p.1
 
-pub active_up : (v : View) (state : ℕ) → v.control.first ≡ true → IsSettled v → KnowsRest v → SeesState v state → is_set 2 state ≡ false → IsIn Active v
+active_up : (v : View) (state : ℕ) → v.control.first ≡ true → IsSettled v → KnowsRest v → SeesState v state → is_set 2 state ≡ false → IsIn Active v
 active_up v state first settled r s up = open_active v settled (sym (r.down first) ∙ (sym s.down ∙ up))
 
 -- the words are quiet
-pub nothing_quiet : (v : View) (state : ℕ) → KnowsRest v → SeesState v state → is_set 2 state ≡ false → is_set 1 state ≡ false → ((queue : ℕ) → queue < v.share.about.queues → slice_index (account_of v).stops queue ≡ 0) → held (account_of v) ≡ []
+nothing_quiet : (v : View) (state : ℕ) → KnowsRest v → SeesState v state → is_set 2 state ≡ false → is_set 1 state ≡ false → ((queue : ℕ) → queue < v.share.about.queues → slice_index (account_of v).stops queue ≡ 0) → held (account_of v) ≡ []
 nothing_quiet v state r s up unscheduled open_ = r.quiet (sym s.scheduled ∙ unscheduled) (none_some _ (sym s.down ∙ up)) open_
 
+pub over_down : (v : View) (state : ℕ) → v.control.first ≡ true → IsSettled v → KnowsRest v → SeesState v state → is_set 2 state ≡ true → IsOver v
+over_down v state first settled r s down = record { nothing_held = nothing_down v state first settled r s down; over = inl (sym s.down ∙ down) }
+
+pub over_quiet : (v : View) (state : ℕ) → KnowsRest v → SeesState v state → is_set 2 state ≡ false → is_set 1 state ≡ false → AreStops 0 v → IsOver v
+over_quiet v state r s up unscheduled open_ = record { nothing_held = nothing_quiet v state r s up unscheduled open_; over = inr open_ }
+
+pub hangs : (v : View) (state : ℕ) → v.control.first ≡ true → IsSettled v → KnowsRest v → SeesState v state → is_set 2 state ≡ false → 0 < v.share.about.queues → AreStops 2 v → Hangs v
+hangs v state first settled r s up some stops = record {
+  active = active_up v state first settled r s up;
+  up = none_some _ (sym s.down ∙ up);
+  stops = stops;
+  hung = r.hung 0 (stops 0 some);
+  unit = r.unit;
+}
+
+pub is_up : (v : View) (state : ℕ) → SeesState v state → is_set 2 state ≡ false → (account_of v).down ≡ None
+is_up v state s up = none_some _ (sym s.down ∙ up)
+
 -- THE END
+
+pub made_kept : (k : Setup) (v w : View) → w.share ≡ v.share → AreFor k v → AreFor k w
+made_kept k v w share made = record { infos = made.infos; ranks = made.ranks; owners = λ o l. subst (λ (x : SharePart). 0 < times o x.owners) (sym share) (made.owners o l) }
 
 module _ (k : Setup) (v : View) (made : AreFor k v) (done : AreAllDone k v.turns) where
   taken : (n : ℕ) → n < length k.infos → station_in k.infos n ≡ k.station → 2 * rank_in k.infos n + 1 ≤ slice_index v.turns (owner_in k.infos n)
@@ -121,26 +142,6 @@ module _ (k : Setup) (v : View) (made : AreFor k v) (done : AreAllDone k v.turns
 
 -- THE PURGE
 
--- looks that found a band empty changed no account
-heard_past : (start : Account) (past : List Event) → after_all start (filter is_heard past) ≡ after_all start past
-heard_past start [] = refl
-heard_past start (Empty band ∷ past) = heard_past start past
-heard_past start (Join n band ∷ past) = ap (after (Join n band)) (heard_past start past)
-heard_past start (Full n seen ∷ past) = ap (after (Full n seen)) (heard_past start past)
-heard_past start (Refuse n event ∷ past) = ap (after (Refuse n event)) (heard_past start past)
-heard_past start (Take band ∷ past) = ap (after (Take band)) (heard_past start past)
-heard_past start (Pick ∷ past) = ap (after Pick) (heard_past start past)
-heard_past start (Direct n ∷ past) = ap (after (Direct n)) (heard_past start past)
-heard_past start (Send ∷ past) = ap (after Send) (heard_past start past)
-heard_past start (Back ∷ past) = ap (after Back) (heard_past start past)
-heard_past start (Stop queue value ∷ past) = ap (after (Stop queue value)) (heard_past start past)
-heard_past start (Wake queue ∷ past) = ap (after (Wake queue)) (heard_past start past)
-heard_past start (Resize len event ∷ past) = ap (after (Resize len event)) (heard_past start past)
-heard_past start (Down event ∷ past) = ap (after (Down event)) (heard_past start past)
-heard_past start (Purge cause ∷ past) = ap (after (Purge cause)) (heard_past start past)
-heard_past start (Swap unit ∷ past) = ap (after (Swap unit)) (heard_past start past)
-heard_past start (Up ∷ past) = ap (after Up) (heard_past start past)
-
 calm_raised : (s : Solo) → s.whole.missed ≡ false → (ended s).raised ≡ s.raised
 calm_raised s calm = ap (λ (b : Bool). (if b then sched_set s.whole.scheduled (locked_to false s) else locked_to false s).raised) calm
 
@@ -166,12 +167,13 @@ module _ (c : Cause) (lost : List ℕ) (d : HolderPart) (v0 v1 v2 v4 v5 : View) 
   pub sole_four : IsSole v4
   sole_four = (ap (λ (s : _). s.shares) (share_four ∙ share_two) ∙ sole.0, ap (λ (x : View). x.whole.told) purged.is ∙ (purged.told ∙ (ap (λ (x : View). x.whole.told) got ∙ (ap (λ (x : View). x.whole.told) look.1 ∙ sole.1))))
 
+  pub solo_five : solo v5 ≡ locked_to false (missed_to false (draining_to false (heard (Purge c) (solo v0))))
+  solo_five = ends sole_four ∙ ap ended (solo_four ∙ ap (λ (s : Solo). missed_to false (draining_to false (heard (Purge c) s))) (locks ∙ ap (λ (x : View). locked_to true (solo x)) look.1))
+
   pub account_five : account_of v5 ≡ after (Purge c) (account_of v0)
   account_five = let k : Setup = v0.share.about in
-      (λ j. after_all (first_account ((share ∙ (share_four ∙ share_two)) j).about) (state j).past)
-      ∙ (sym (heard_past (first_account k) v4.whole.state.past)
-      ∙ (ap (λ (s : Solo). after_all (first_account k) s.whole.past) solo_four
-      ∙ ap (after (Purge c)) (heard_past (first_account k) v2.whole.state.past ∙ ap (λ (s : State). after_all (first_account k) s.past) state_two)))
+      sym (account_at k v5 (ap (λ (s : SharePart). s.about) (share ∙ (share_four ∙ share_two))))
+      ∙ (ap (λ (s : Solo). account_in (first_account k) s) solo_five ∙ ap (after (Purge c)) (account_at k v0 refl))
 
   -- what was taken is what the account held
   pub lost_is : (bands : Three Band) → AreKnown v2 bands → all_purged v2.holder.slot bands ≡ held (account_of v0)
@@ -197,6 +199,10 @@ pub station_known : (d : HolderPart) (v0 v1 v2 : View) → IsLook v0 v1 → v2 �
 station_known d v0 v1 v2 look got known = ap (λ (h : HolderPart). h.station) known ∙ (ap (λ (x : View). x.whole.state.station) got ∙ ap (λ (x : View). x.whole.state.station) look.1)
 
 -- STEPS OF CONTROL
+
+-- a look in a call of control changes nothing of what the seat knows alone
+pub solo_looked : (v w x : View) → w ≡ beginning_control v → IsLook w x → solo x ≡ solo v
+solo_looked v w x e (p, f) = ap solo f ∙ ap solo e
 
 control_at : (h : Bool) (v : View) → v.place.position ≡ Control h → (f : View → View) → f (record v { place = record v.place { position = Control h } }) ≡ record v { place = record v.place { position = Control h } } → f v ≡ v
 control_at h v e f same = (λ j. f (record v { place = record v.place { position = e j } })) ∙ (same ∙ (λ j. record v { place = record v.place { position = sym e j } }))

@@ -4,3 +4,5 @@ pub mod Served
 pub mod Sole
 pub mod FinishLemmas
 pub mod FinishSteps
+pub mod Alone
+pub mod EndingLemmas

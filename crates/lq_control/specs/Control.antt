@@ -25,6 +25,11 @@ pub record IsKept (v w : View) : Type 0 where
   pub first : w.control.first ≡ v.control.first
   pub told : w.whole.told ≡ v.whole.told
 
+-- the device that came, and those that exchanges took away, are as they were
+pub record KeepsDevice (v w : View) : Type 0 where
+  pub origin : w.control.origin ≡ v.control.origin
+  pub gone : w.control.gone ≡ v.control.gone
+
 -- what soft interrupts leave as it was; the fates that they store come before those stored before
 pub record IsServed (v w : View) : Type 0 where
   pub kept : IsKept v w

@@ -1,6 +1,6 @@
 -- The end of a station: what is left of its packets is sent, and nothing is held afterwards.
-use Rattle.std.specs.Prelude.{◌≡◌, ◌⊎◌, ℕ, ◌+◌, ◌*◌, ◌<◌, ◌≤◌, Bool, true, false, ◌&&◌, ◌==◌, List, [], ◌∷◌, ◌++◌, length, take, count_by, slice_get, slice_index, Contains, Option, Some, None}
-use Rattle.lq_model.specs.Account.{Account, Event, Purge, after, held}
+use Rattle.std.specs.Prelude.{◌≡◌, ◌⊎◌, ℕ, ◌+◌, ◌*◌, ◌<◌, ◌≤◌, Bool, true, ◌&&◌, ◌==◌, List, [], ◌∷◌, ◌++◌, length, take, count_by, slice_get, slice_index, Contains, Some, None, IsSome}
+use Rattle.lq_model.specs.Account.{Event, Purge, after, held}
 use Rattle.lq_model.specs.Legal.{brought}
 use Rattle.lq_model.specs.Plan.{owner_in, station_in, rank_in}
 use Rattle.lq_model.specs.declared.fate.Cause.TheVariants as cause
@@ -11,7 +11,7 @@ use Rattle.lq_model.specs.declared.machine.Phase.TheVariants.{Active, Purged}
 use Rattle.lq_table.specs.Views.{View, Setup}
 use Rattle.lq_table.specs.Rule.{AreInfos, times}
 use Rattle.lq_table.specs.AtRest.{IsKept}
-use Rattle.lq_table.specs.Solo.{IsSole, account_of}
+use Rattle.lq_table.specs.Solo.{account_of}
 use Rattle.lq_control.specs.Control.{IsIn}
 use Rattle.lq_control.specs.declared.finishes.Seen.{Seen}
 use Rattle.lq_control.specs.declared.finishes.Seen.TheVariants as seen
@@ -78,11 +78,28 @@ IsLook v w = (p : Phase) × (w ≡ record v { whole = record v.whole { qdisc = r
 abbrev pub IsSettled : View → Type 0
 IsSettled v = IsIn Active v ⊎ IsIn Purged v
 
+-- each queue has this stop value
+abbrev pub AreStops : ℕ → View → Type 0
+AreStops word v = (queue : ℕ) → queue < v.share.about.queues → slice_index (account_of v).stops queue ≡ word
+
+-- nothing is held, and the station is deactivated, or all its queues are open
+pub record IsOver (v : View) : Type 0 where
+  pub nothing_held : held (account_of v) ≡ []
+  pub over : IsSome (account_of v).down ⊎ AreStops 0 v
+
+-- the station is active, and all its queues are hung, as the device of its present unit is
+pub record Hangs (v : View) : Type 0 where
+  pub active : IsIn Active v
+  pub up : (account_of v).down ≡ None
+  pub stops : AreStops 2 v
+  pub hung : v.whole.state.station.device.hung ≡ true
+  pub unit : (account_of v).unit ≡ v.whole.state.station.unit
+
 -- what a look at the words tells
 abbrev pub Shows : Seen → View → Type 0
-Shows seen.Ended v = held (account_of v) ≡ []
-Shows seen.Hung v = IsIn Active v × (v.whole.state.station.device.hung ≡ true)
-Shows seen.Going v = Unit {0}
+Shows seen.Ended v = IsOver v
+Shows seen.Hung v = Hangs v
+Shows seen.Going v = (account_of v).down ≡ None
 
 -- Nothing is left: nothing is held, and each packet of the station has a fate.
 pub record IsFinished (k : Setup) (v : View) : Type 0 where
@@ -93,6 +110,7 @@ pub record IsFinished (k : Setup) (v : View) : Type 0 where
 -- The purge of what a hung device left when the seat's view was `before`: all that was held has Purged by its unit as its fate.
 pub record PurgesHung (purged : ℕ) (before w : View) : Type 0 where
   pub hung : before.whole.state.station.device.hung ≡ true
+  pub unit : (account_of before).unit ≡ before.whole.state.station.unit
   pub account : account_of w ≡ after (Purge (cause.Hung before.whole.state.station.unit)) (account_of before)
   pub counted : purged ≡ length (held (account_of before))
   pub trail : w.trail ≡ Purge (cause.Hung before.whole.state.station.unit) ∷ before.trail
@@ -104,4 +122,9 @@ pub record Ends (k : Setup) (purged : ℕ) (v w : View) : Type 0 where
   pub sent : View
   pub is_sent : IsSent k v sent
   pub none_sent : AreAllDone k v.turns → sent ≡ v
+  pub turns : w.turns ≡ sent.turns
   pub ends : ((w.trail ≡ sent.trail) × (purged ≡ 0)) ⊎ ((before : View) × (before.trail ≡ sent.trail) × PurgesHung purged before w)
+
+-- Each purge of a hung station on the trail came before, or is by the present unit, whose device hangs.
+abbrev pub ArePurgesHung : View → View → Type 0
+ArePurgesHung v w = (unit : ℕ) → Contains w.trail (Purge (cause.Hung unit)) → Contains v.trail (Purge (cause.Hung unit)) ⊎ (((account_of w).unit ≡ unit) × (w.whole.state.station.device.hung ≡ true))

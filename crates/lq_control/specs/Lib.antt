@@ -4,3 +4,7 @@ pub mod Plain
 pub mod Control
 -- what is left of a station, and its end
 pub mod Finish
+-- what they do of a seat that has the table alone
+pub mod Alone
+-- the end of a station for a seat that has the table alone
+pub mod Ending

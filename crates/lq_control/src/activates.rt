@@ -3,13 +3,16 @@ ghost use Rattle.std.specs.Prelude.{◌≡◌, ℕ, ◌∷◌, true, false, None
 ghost use Rattle.lq_model.specs.Account.{Down, Purge, Up, held};
 ghost use Rattle.lq_model.specs.declared.fate.Cause.TheVariants as cause;
 ghost use Rattle.lq_model.specs.declared.fate.Fate.TheVariants as fate;
+ghost use Rattle.lq_model.specs.declared.plan.EventKind.TheVariants as kind;
 ghost use Rattle.lq_model.specs.declared.machine.Phase.TheVariants.{Active, Purged};
 ghost use Rattle.lq_model.specs.declared.machine.Position.TheVariants.{Idle, Control};
 ghost use Rattle.lq_table.specs.Controls.{opening};
-ghost use Rattle.lq_table.specs.Sees.{view, position, IsSeatOf, IsSameSeat, IsElseSame};
+ghost use Rattle.lq_table.specs.Views.{first_account};
+ghost use Rattle.lq_table.specs.Sees.{view, setup, position, IsSeatOf, IsSameSeat, IsElseSame};
 ghost use Rattle.lq_ring.specs.Fates.{fates_onto};
 ghost use Rattle.lq_qdisc.specs.Sends.{IsReady};
-ghost use Rattle.lq_control.specs.Control.{IsIn, IsKept, Stores, deactivated};
+ghost use Rattle.lq_control.specs.Control.{IsIn, IsKept, KeepsDevice, Stores, deactivated};
+ghost use Rattle.lq_control.specs.Alone.{DoesEvent};
 ghost use Rattle.lq_table.specs.Solo.{IsSole, account_of, solo, heard};
 
 use crate::drains::wait_until_clear;
@@ -28,6 +31,7 @@ pub fn up<'a, D: TxDevice>(shared: &Shared<'a, D>, cpu: &mut Cpu<D>)
     ensures same { IsElseSame cpu.old cpu.new }
     ensures opened { view cpu.new ≡ opening (view cpu.old) }
     ensures step { solo (view cpu.new) ≡ heard Up (solo (view cpu.old)) }
+    ensures alone { shared.now.queues ≡ 1 → (event : ℕ) → DoesEvent shared.now.infos.now (first_account (setup shared.now)) event kind.Up (solo (view cpu.old)) (solo (view cpu.new)) }
 {
     shared.begin_control(cpu);
     shared.clear_deactivated(cpu);
@@ -46,12 +50,13 @@ pub fn down<'a, D: TxDevice, R: Wait>(
     requires seat { IsSeatOf shared.now cpu.old }
     requires at { (position cpu.old ≡ Idle) × ((view cpu.old).control.first ≡ true) × IsReady cpu.old }
     requires active { IsIn Active (view cpu.old) }
-    ensures same { IsSameSeat cpu.old cpu.new × IsKept (view cpu.old) (view cpu.new) × ((view cpu.new).control.gone ≡ (view cpu.old).control.gone) }
+    ensures same { IsSameSeat cpu.old cpu.new × IsKept (view cpu.old) (view cpu.new) × KeepsDevice (view cpu.old) (view cpu.new) }
     ensures at { (position cpu.new ≡ Idle) × IsReady cpu.new × IsIn Purged (view cpu.new) }
     ensures trail { (view cpu.new).trail ≡ Purge (cause.Event event) ∷ Down event ∷ (view cpu.old).trail }
     ensures purged { (lost : List ℕ) × Stores (fate.Purged (cause.Event event)) lost (view cpu.old) (view cpu.new) × (result ≡ length lost) × (IsSole (view cpu.old) → lost ≡ held (account_of (view cpu.old))) }
     ensures raised { (view cpu.new).place.raised ≡ false }
     ensures clear { IsSole (view cpu.new) → (view cpu.new).whole.qdisc.sched ≡ false }
+    ensures alone { shared.now.queues ≡ 1 → DoesEvent shared.now.infos.now (first_account (setup shared.now)) event kind.Down (solo (view cpu.old)) (solo (view cpu.new)) }
 {
     let purged = deactivate(rt, shared, cpu, event);
     wait_until_clear(rt, shared, cpu);
@@ -69,7 +74,7 @@ pub(crate) fn deactivate<'a, D: TxDevice, R: Wait>(
     requires seat { IsSeatOf shared.now cpu.old }
     requires at { (position cpu.old ≡ Idle) × ((view cpu.old).control.first ≡ true) × IsReady cpu.old }
     requires active { IsIn Active (view cpu.old) }
-    ensures same { IsSameSeat cpu.old cpu.new × IsKept (view cpu.old) (view cpu.new) × ((view cpu.new).control.gone ≡ (view cpu.old).control.gone) }
+    ensures same { IsSameSeat cpu.old cpu.new × IsKept (view cpu.old) (view cpu.new) × KeepsDevice (view cpu.old) (view cpu.new) }
     ensures at { (position cpu.new ≡ Control false) × IsReady cpu.new × IsIn Purged (view cpu.new) }
     ensures trail { (view cpu.new).trail ≡ Purge (cause.Event event) ∷ Down event ∷ (view cpu.old).trail }
     ensures purged { (lost : List ℕ) × ((view cpu.new).settled ≡ fates_onto (fate.Purged (cause.Event event)) lost (view cpu.old).settled) × (result ≡ length lost) × (IsSole (view cpu.old) → lost ≡ held (account_of (view cpu.old))) }

@@ -1,10 +1,14 @@
 //! The soft interrupts of control's own seat.
-ghost use Rattle.std.specs.Prelude.{◌≡◌, ℕ, true, false, List};
+ghost use Rattle.std.specs.Prelude.{◌≡◌, ℕ, true, false, List, IsSome};
+ghost use Rattle.lq_model.specs.Alone.{served};
 ghost use Rattle.lq_model.specs.declared.machine.Position.TheVariants.{Idle, Control};
-ghost use Rattle.lq_table.specs.Sees.{view, position, IsSeatOf, IsSameSeat, IsElseSame};
-ghost use Rattle.lq_table.specs.Solo.{IsSole};
+ghost use Rattle.lq_table.specs.Views.{first_account};
+ghost use Rattle.lq_table.specs.Sees.{view, setup, position, IsSeatOf, IsSameSeat, IsElseSame};
+ghost use Rattle.lq_table.specs.Solo.{IsSole, account_of, solo};
+ghost use Rattle.lq_qdisc.specs.Alone.{Does};
 ghost use Rattle.lq_qdisc.specs.Sends.{IsReady};
 ghost use Rattle.lq_control.specs.Control.{IsServed};
+ghost use Rattle.lq_control.specs.Alone.{unmarked};
 
 use crossbeam_utils::Backoff;
 use lq_device::TxDevice;
@@ -15,7 +19,7 @@ use std::sync::Wait;
 const SCHED: u64 = 1;
 
 /// Does soft interrupts as long as the seat is raised, as `net_tx_action` of net/core/dev.c comes again for a CPU whose
-/// `output_queue` isn't empty.
+/// `output_queue` isn't empty. A seat that has the table alone serves the station as the run of one sender does.
 pub fn drain<'a, D: TxDevice, R: Wait>(rt: &R, shared: &Shared<'a, D>, cpu: &mut Cpu<D>)
     requires seat { IsSeatOf shared.now cpu.old }
     requires at { (position cpu.old ≡ Idle) × IsReady cpu.old }
@@ -23,6 +27,7 @@ pub fn drain<'a, D: TxDevice, R: Wait>(rt: &R, shared: &Shared<'a, D>, cpu: &mut
     ensures served { IsServed (view cpu.old) (view cpu.new) }
     ensures at { (position cpu.new ≡ Idle) × IsReady cpu.new }
     ensures raised { (view cpu.new).place.raised ≡ false }
+    ensures alone { shared.now.queues ≡ 1 → Does shared.now.infos.now (first_account (setup shared.now)) (served shared.now.infos.now) (solo (view cpu.old)) (solo (view cpu.new)) }
 {
     for _ in rt.forever() {
         if !cpu.raised() {
@@ -51,6 +56,7 @@ fn serves_or_is_clear<'a, D: TxDevice>(shared: &Shared<'a, D>, cpu: &mut Cpu<D>)
     ensures served { IsServed (view cpu.old) (view cpu.new) }
     ensures at { (position cpu.new ≡ Control false) × IsReady cpu.new }
     ensures clear { result ≡ true → ((view cpu.new).place.raised ≡ false) × (IsSole (view cpu.new) → (view cpu.new).whole.qdisc.sched ≡ false) }
+    ensures off { IsSole (view cpu.old) → IsSome (account_of (view cpu.old)).down → unmarked (solo (view cpu.new)) ≡ unmarked (solo (view cpu.old)) }
 {
     if cpu.raised() {
         softirq(shared, cpu);
@@ -74,6 +80,7 @@ pub(crate) fn wait_until_clear<'a, D: TxDevice, R: Wait>(
     ensures at { (position cpu.new ≡ Control false) × IsReady cpu.new }
     ensures raised { (view cpu.new).place.raised ≡ false }
     ensures clear { IsSole (view cpu.new) → (view cpu.new).whole.qdisc.sched ≡ false }
+    ensures off { IsSole (view cpu.old) → IsSome (account_of (view cpu.old)).down → solo (view cpu.new) ≡ unmarked (solo (view cpu.old)) }
 {
     let backoff = Backoff::new();
     for _ in rt.forever() {

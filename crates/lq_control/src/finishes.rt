@@ -1,19 +1,21 @@
 //! The end of a station, once all its seats are joined.
-ghost use Rattle.std.specs.Prelude.{◌≡◌, ◌⊎◌, ℕ, ◌<◌, ◌≤◌, ◌*◌, true, false, None, Some, List, ◌∷◌, length, slice_index, ◌+◌, if◌then◌else◌};
+ghost use Rattle.std.specs.Prelude.{◌≡◌, ℕ, ◌<◌, ◌*◌, true, false, None, Some, ◌∷◌, length, slice_index, ◌+◌, if◌then◌else◌};
 ghost use Rattle.lq_model.specs.Account.{Purge, after, held};
-ghost use Rattle.lq_model.specs.Plan.{station_in};
 ghost use Rattle.lq_model.specs.declared.fate.Cause.TheVariants as cause;
 ghost use Rattle.lq_model.specs.declared.fate.Fate.TheVariants as fate;
-ghost use Rattle.lq_model.specs.declared.machine.Phase.{Phase};
 ghost use Rattle.lq_model.specs.declared.machine.Phase.TheVariants.{Active};
 ghost use Rattle.lq_model.specs.declared.machine.Position.TheVariants.{Idle, Control};
 ghost use Rattle.lq_table.specs.Sees.{view, setup, position, IsSeatOf, IsSameSeat, IsElseSame};
-ghost use Rattle.lq_table.specs.Solo.{IsSole, account_of};
+ghost use Rattle.lq_table.specs.Solo.{IsSole, account_of, solo};
+ghost use Rattle.lq_table.specs.Views.{first_account};
+ghost use Rattle.lq_qdisc.specs.Alone.{IsAlone};
+ghost use Rattle.lq_qdisc.specs.Calls.{KeepsFates};
 ghost use Rattle.lq_qdisc.specs.Sends.{IsReady};
 ghost use Rattle.lq_ring.specs.Fates.{fates_onto};
 ghost use Rattle.lq_control.specs.declared.finishes.Seen.TheVariants.{Hung, Ended};
 ghost use Rattle.lq_control.specs.Control.{IsIn, IsKept};
-ghost use Rattle.lq_control.specs.Finish.{AreFor, AreTurnsFrom, AreAllDone, AreKept, IsSent, IsLook, IsSettled, Shows, IsFinished, Ends};
+ghost use Rattle.lq_control.specs.Ending.{Finishes, IsEndedAlike, purged_as_hung};
+ghost use Rattle.lq_control.specs.Finish.{AreFor, AreTurnsFrom, AreAllDone, AreKept, IsSent, IsLook, IsSettled, Shows, Hangs, IsFinished, Ends, ArePurgesHung};
 
 use crate::drains::drain;
 use crate::purges::purge_held;
@@ -48,14 +50,17 @@ enum Seen {
 fn send_left<'a, D: TxDevice, R: Wait>(rt: &R, shared: &Shared<'a, D>, cpu: &mut Cpu<D>, n: u32)
     requires seat { IsSeatOf shared.now cpu.old }
     requires at { (position cpu.old ≡ Idle) × IsReady cpu.old }
+    requires raised { (view cpu.old).place.raised ≡ false }
     requires made { AreFor (setup shared.now) (view cpu.old) }
     requires packet { n < length shared.now.infos.now }
     requires turns { AreTurnsFrom (setup shared.now) n (view cpu.old).turns }
     ensures same { IsSameSeat cpu.old cpu.new }
     ensures kept { ((view cpu.new).share ≡ (view cpu.old).share) × ((view cpu.new).control ≡ (view cpu.old).control) × ((view cpu.new).whole.told ≡ (view cpu.old).whole.told) }
     ensures at { (position cpu.new ≡ Idle) × IsReady cpu.new }
+    ensures raised { (view cpu.new).place.raised ≡ false }
     ensures turns { AreTurnsFrom (setup shared.now) (n + 1) (view cpu.new).turns }
     ensures sent { IsSent (setup shared.now) (view cpu.old) (view cpu.new) }
+    ensures fates { KeepsFates (view cpu.old) (view cpu.new) }
     ensures done { AreAllDone (setup shared.now) (view cpu.old).turns → view cpu.new ≡ view cpu.old }
 {
     let info = shared.infos()[n as usize];
@@ -72,13 +77,16 @@ fn send_left<'a, D: TxDevice, R: Wait>(rt: &R, shared: &Shared<'a, D>, cpu: &mut
 fn send_all_left<'a, D: TxDevice, R: Wait>(rt: &R, shared: &Shared<'a, D>, cpu: &mut Cpu<D>)
     requires seat { IsSeatOf shared.now cpu.old }
     requires at { (position cpu.old ≡ Idle) × IsReady cpu.old }
+    requires raised { (view cpu.old).place.raised ≡ false }
     requires made { AreFor (setup shared.now) (view cpu.old) }
     requires turns { AreTurnsFrom (setup shared.now) 0 (view cpu.old).turns }
     ensures same { IsSameSeat cpu.old cpu.new }
     ensures kept { ((view cpu.new).share ≡ (view cpu.old).share) × ((view cpu.new).control ≡ (view cpu.old).control) × ((view cpu.new).whole.told ≡ (view cpu.old).whole.told) }
     ensures at { (position cpu.new ≡ Idle) × IsReady cpu.new }
+    ensures raised { (view cpu.new).place.raised ≡ false }
     ensures turns { AreTurnsFrom (setup shared.now) (length shared.now.infos.now) (view cpu.new).turns }
     ensures sent { IsSent (setup shared.now) (view cpu.old) (view cpu.new) }
+    ensures fates { KeepsFates (view cpu.old) (view cpu.new) }
     ensures done { AreAllDone (setup shared.now) (view cpu.old).turns → view cpu.new ≡ view cpu.old }
 {
     for n in 0..shared.infos().len() {
@@ -129,28 +137,31 @@ fn look<'a, D: TxDevice>(shared: &Shared<'a, D>, cpu: &mut Cpu<D>) -> Seen
     Seen::Ended
 }
 
-/// Wakes the queues and does soft interrupts until the station is deactivated or hung, or its words are quiet. True where it is
-/// hung. The seat is in a call of control afterwards.
+/// Looks at the words of a station that isn't raised; and as long as it isn't deactivated or hung, and its words aren't quiet, wakes
+/// its queues and does soft interrupts. True where it is hung. The seat is in a call of control afterwards.
 fn serve_to_end<'a, D: TxDevice, R: Wait>(rt: &R, shared: &Shared<'a, D>, cpu: &mut Cpu<D>) -> bool
     requires seat { IsSeatOf shared.now cpu.old }
-    requires at { (position cpu.old ≡ Idle) × ((view cpu.old).control.first ≡ true) × IsReady cpu.old }
+    requires at { (position cpu.old ≡ Idle) × ((view cpu.old).control.first ≡ true) × ((view cpu.old).place.raised ≡ false) × IsReady cpu.old }
     requires sole { IsSole (view cpu.old) × IsSettled (view cpu.old) }
     ensures same { IsSameSeat cpu.old cpu.new × IsKept (view cpu.old) (view cpu.new) }
     ensures at { (position cpu.new ≡ Control false) × IsReady cpu.new × ((view cpu.new).place.raised ≡ false) }
     ensures still { ((view cpu.new).control ≡ (view cpu.old).control) × ((view cpu.new).trail ≡ (view cpu.old).trail) }
+    ensures fates { KeepsFates (view cpu.old) (view cpu.new) }
     ensures kept { AreKept (setup shared.now) (view cpu.new) }
     ensures shows { Shows (if result then Hung else Ended) (view cpu.new) }
+    ensures alone { shared.now.queues ≡ 1 → IsAlone shared.now.infos.now (first_account (setup shared.now)) (solo (view cpu.old))
+        → IsEndedAlike shared.now.infos.now (first_account (setup shared.now)) (solo (view cpu.old)) (solo (view cpu.new)) }
 {
     let backoff = Backoff::new();
     for _ in rt.forever() {
-        irq(shared, cpu);
-        drain(rt, shared, cpu);
         shared.begin_control(cpu);
         match look(shared, cpu) {
             Seen::Ended => return false,
             Seen::Hung => return true,
             Seen::Going => shared.end_control(cpu),
         }
+        irq(shared, cpu);
+        drain(rt, shared, cpu);
         backoff.snooze();
     }
     unreachable!()
@@ -179,13 +190,14 @@ fn purge_hung<'a, D: TxDevice, R: Wait>(rt: &R, shared: &Shared<'a, D>, cpu: &mu
     requires seat { IsSeatOf shared.now cpu.old }
     requires at { (position cpu.old ≡ Control false) × ((view cpu.old).control.first ≡ true) × IsReady cpu.old }
     requires sole { IsSole (view cpu.old) }
-    requires hung { Shows Hung (view cpu.old) }
+    requires hung { Hangs (view cpu.old) }
     ensures same { IsSameSeat cpu.old cpu.new × IsKept (view cpu.old) (view cpu.new) }
     ensures at { (position cpu.new ≡ Idle) × IsReady cpu.new × IsIn Active (view cpu.new) }
     ensures raised { (view cpu.new).place.raised ≡ (view cpu.old).place.raised }
     ensures trail { (view cpu.new).trail ≡ Purge (cause.Hung (view cpu.old).whole.state.station.unit) ∷ (view cpu.old).trail }
     ensures control { (view cpu.new).control ≡ (view cpu.old).control }
     ensures purged { ((view cpu.new).settled ≡ fates_onto (fate.Purged (cause.Hung (view cpu.old).whole.state.station.unit)) (held (account_of (view cpu.old))) (view cpu.old).settled) × (result ≡ length (held (account_of (view cpu.old)))) }
+    ensures step { solo (view cpu.new) ≡ purged_as_hung (view cpu.old).whole.state.station.unit (solo (view cpu.old)) }
     ensures account { account_of (view cpu.new) ≡ after (Purge (cause.Hung (view cpu.old).whole.state.station.unit)) (account_of (view cpu.old)) }
     ensures device { (view cpu.new).whole.state.station.device ≡ (view cpu.old).whole.state.station.device }
 {
@@ -204,7 +216,7 @@ fn purge_hung<'a, D: TxDevice, R: Wait>(rt: &R, shared: &Shared<'a, D>, cpu: &mu
 /// Ends a station whose seats are all joined into this one, which isn't raised: transmits what is left of each owner's packets;
 /// then wakes the queues and does soft interrupts until the station is deactivated or hung, or its words are quiet; and where it
 /// is hung, purges it, with the hung unit as the cause. It answers the number purged. Nothing is held afterwards, and each packet
-/// of the station has a fate.
+/// of the station has a fate. Where no packet is left this is the end of the run of one sender.
 pub fn finish<'a, D: TxDevice, R: Wait>(rt: &R, shared: &Shared<'a, D>, cpu: &mut Cpu<D>) -> u32
     requires seat { IsSeatOf shared.now cpu.old }
     requires at { (position cpu.old ≡ Idle) × ((view cpu.old).control.first ≡ true) × ((view cpu.old).place.raised ≡ false) × IsReady cpu.old }
@@ -216,7 +228,11 @@ pub fn finish<'a, D: TxDevice, R: Wait>(rt: &R, shared: &Shared<'a, D>, cpu: &mu
     ensures at { (position cpu.new ≡ Idle) × ((view cpu.new).place.raised ≡ false) × IsReady cpu.new }
     ensures turns { AreAllDone (setup shared.now) (view cpu.new).turns }
     ensures ends { Ends (setup shared.now) result (view cpu.old) (view cpu.new) }
+    ensures hung { ArePurgesHung (view cpu.old) (view cpu.new) }
+    ensures fates { KeepsFates (view cpu.old) (view cpu.new) }
     ensures finished { IsFinished (setup shared.now) (view cpu.new) }
+    ensures alone { shared.now.queues ≡ 1 → AreAllDone (setup shared.now) (view cpu.old).turns
+        → Finishes shared.now.infos.now (first_account (setup shared.now)) (solo (view cpu.old)) (solo (view cpu.new)) }
 {
     send_all_left(rt, shared, cpu);
     if serve_to_end(rt, shared, cpu) {

@@ -2,17 +2,18 @@
 ghost use Rattle.std.specs.Prelude.{◌≡◌, ◌<◌, ◌≤◌, ℕ, ◌∷◌, [], true, false, Some, None, List, length, Contains};
 ghost use Rattle.lq_device.specs.Station.{with_device};
 ghost use Rattle.lq_model.specs.Account.{Down, Purge, Swap, Up, held};
-ghost use Rattle.lq_table.specs.Solo.{IsSole, account_of};
+ghost use Rattle.lq_table.specs.Solo.{IsSole, account_of, solo, heard, locked_to, device_to};
 ghost use Rattle.lq_model.specs.declared.fate.Cause.TheVariants as cause;
 ghost use Rattle.lq_model.specs.declared.fate.Fate.TheVariants as fate;
 ghost use Rattle.lq_model.specs.declared.machine.Phase.TheVariants.{Active, Purged};
 ghost use Rattle.lq_model.specs.declared.machine.Position.TheVariants.{Idle, Control};
-ghost use Rattle.lq_table.specs.Views.{HolderPart, WholePart};
-ghost use Rattle.lq_table.specs.Rule.{shown, units_of, station_count};
+ghost use Rattle.lq_table.specs.Views.{HolderPart, WholePart, first_account};
+ghost use Rattle.lq_table.specs.Rule.{shown, units_of, latest_unit, station_count, HasServed};
 ghost use Rattle.lq_table.specs.Controls.{shut_after};
-ghost use Rattle.lq_table.specs.Sees.{view, position, slot, IsSeatOf, IsSameSeat, IsElseSame};
+ghost use Rattle.lq_table.specs.Sees.{view, setup, position, slot, IsSeatOf, IsSameSeat, IsElseSame};
 ghost use Rattle.lq_qdisc.specs.Sends.{IsReady};
 ghost use Rattle.lq_control.specs.Control.{IsIn, IsKept, Stores, all_opened, IsAfterUnits};
+ghost use Rattle.lq_control.specs.Alone.{DoesSwap};
 
 use crate::activates::deactivate;
 use crate::drains::wait_until_clear;
@@ -41,6 +42,7 @@ fn open_queues<'a, D: TxDevice>(shared: &Shared<'a, D>, cpu: &mut Cpu<D>)
     requires shut { (view cpu.old).holder.shut ≡ shut_after 0 shared.now.queues }
     ensures same { IsElseSame cpu.old cpu.new }
     ensures opened { (w : WholePart) × (view cpu.new ≡ all_opened None w (view cpu.old)) × (w.told ≡ (view cpu.old).whole.told) }
+    ensures step { solo (view cpu.new) ≡ solo (view cpu.old) }
 {
     for queue in 1..shared.queues() {
         shared.open_xoff(cpu, queue);
@@ -59,12 +61,15 @@ fn exchange_device<'a, D: TxDevice, R: Wait>(
     requires at { (position cpu.old ≡ Control false) × ((view cpu.old).control.first ≡ true) × IsReady cpu.old }
     requires purged { IsIn Purged (view cpu.old) }
     requires unit { (unit < 256) × IsAfterUnits shared.now.station (view cpu.old).trail unit }
-    requires device { ((D.state device).accepted ≡ []) × ((D.state device).hung ≡ false) × (station_count shared.now.infos.now shared.now.station ≤ (D.state device).spare) }
+    requires device { ((D.state device).accepted ≡ []) × ((D.state device).hung ≡ false) × (station_count shared.now.infos.now shared.now.station ≤ (D.state device).spare) × ((D.state device).asked ≡ []) }
     ensures same { IsSameSeat cpu.old cpu.new × IsKept (view cpu.old) (view cpu.new) }
     ensures at { (position cpu.new ≡ Control false) × IsReady cpu.new × IsIn Purged (view cpu.new) }
     ensures trail { (view cpu.new).trail ≡ Swap unit ∷ (view cpu.old).trail }
-    ensures gone { (old_unit : ℕ) × ((view cpu.new).control.gone ≡ (old_unit, (D.state result).accepted) ∷ (view cpu.old).control.gone) }
+    ensures gone { (view cpu.new).control.gone ≡ (latest_unit shared.now.station (units_of (view cpu.old).trail), (D.state result).accepted) ∷ (view cpu.old).control.gone }
+    ensures served { HasServed shared.now.infos.now shared.now.station (view cpu.old).control.origin (D.state result) }
+    ensures came { (view cpu.new).control.origin ≡ D.state device }
     ensures none_stored { (view cpu.new).settled ≡ (view cpu.old).settled }
+    ensures sole { IsSole (view cpu.old) → solo (view cpu.new) ≡ locked_to false (device_to (D.state device) (heard (Swap unit) (locked_to true (solo (view cpu.old))))) }
 {
     take_lock(rt, shared, cpu);
     let old = change_device(cpu, unit, device);
@@ -75,8 +80,9 @@ fn exchange_device<'a, D: TxDevice, R: Wait>(
 }
 
 /// Exchanges the device of an active station while it is deactivated: what the station held gets Purged as its fate, by the
-/// plan's event, and its queues are open afterwards. `unit` is above every unit that the station had, and the device has room for
-/// all packets of the station. The old device comes back as it is, and what it has accepted is what the seat knows its unit to have
+/// plan's event, and its queues are open afterwards. `unit` is above every unit that the station had, and the device was asked
+/// nothing and has room for all packets of the station. The old device comes back: the one that came with the latest unit, which was
+/// asked for packets of the station alone and hangs as it told, and what it has accepted is what the seat knows that unit to have
 /// sent.
 pub fn swap<'a, D: TxDevice, R: Wait>(
     rt: &R,
@@ -90,12 +96,15 @@ pub fn swap<'a, D: TxDevice, R: Wait>(
     requires at { (position cpu.old ≡ Idle) × ((view cpu.old).control.first ≡ true) × IsReady cpu.old }
     requires active { IsIn Active (view cpu.old) }
     requires unit { (unit < 256) × IsAfterUnits shared.now.station (view cpu.old).trail unit }
-    requires device { ((D.state device).accepted ≡ []) × ((D.state device).hung ≡ false) × (station_count shared.now.infos.now shared.now.station ≤ (D.state device).spare) }
+    requires device { ((D.state device).accepted ≡ []) × ((D.state device).hung ≡ false) × (station_count shared.now.infos.now shared.now.station ≤ (D.state device).spare) × ((D.state device).asked ≡ []) }
     ensures same { IsSameSeat cpu.old cpu.new × IsKept (view cpu.old) (view cpu.new) }
     ensures at { (position cpu.new ≡ Idle) × IsReady cpu.new × IsIn Active (view cpu.new) }
     ensures trail { (view cpu.new).trail ≡ Up ∷ Swap unit ∷ Purge (cause.Event event) ∷ Down event ∷ (view cpu.old).trail }
     ensures purged { (lost : List ℕ) × Stores (fate.Purged (cause.Event event)) lost (view cpu.old) (view cpu.new) × (IsSole (view cpu.old) → lost ≡ held (account_of (view cpu.old))) }
-    ensures gone { (old_unit : ℕ) × ((view cpu.new).control.gone ≡ (old_unit, (D.state result).accepted) ∷ (view cpu.old).control.gone) }
+    ensures gone { (view cpu.new).control.gone ≡ (latest_unit shared.now.station (units_of (view cpu.old).trail), (D.state result).accepted) ∷ (view cpu.old).control.gone }
+    ensures served { HasServed shared.now.infos.now shared.now.station (view cpu.old).control.origin (D.state result) }
+    ensures came { (view cpu.new).control.origin ≡ D.state device }
+    ensures alone { shared.now.queues ≡ 1 → DoesSwap shared.now.infos.now (first_account (setup shared.now)) event unit (D.state device) (solo (view cpu.old)) (solo (view cpu.new)) }
 {
     deactivate(rt, shared, cpu, event);
     wait_until_clear(rt, shared, cpu);

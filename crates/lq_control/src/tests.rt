@@ -86,7 +86,9 @@ fn table<'a, A: Abort>(
         bypass: true,
         params,
     };
-    Shared::make(alloc, infos, 0, plan, 1, 2, station).expect(rt, "memory")
+    Shared::make(alloc, infos, 0, plan, 1, 2, station)
+        .ok()
+        .expect(rt, "memory")
 }
 
 fn send<'a, A: Abort + Wait, D: TxDevice>(

@@ -1,10 +1,24 @@
-use Rattle.std.proofs.Common.{rules, ap, ◌∙◌}
-use Rattle.lq_table.specs.Views.{FirstPart}
-use Rattle.lq_table.specs.Sees.{view}
+use Rattle.std.proofs.Common.{rules, refl, sym, ap, ◌∙◌}
+use Rattle.lq_table.specs.Views.{FirstPart, first_account}
+use Rattle.lq_table.specs.Sees.{view, setup}
+use Rattle.lq_table.specs.Solo.{solo}
 use Rattle.lq_ring.proofs.Seats.{seat_on}
+use Rattle.lq_qdisc.proofs.AloneRests.{rests_served}
 use Rattle.lq_control.specs.Control.{IsServed}
-use Rattle.lq_control.proofs.Served.{served_then}
+use Rattle.lq_control.proofs.Served.{served_none, served_then}
 use Rattle.lq_control.proofs.drains.drain.Goals as goal
+
+pub loop-init : goal.loop-init
+loop-init g c = record {
+  can = (search rules);
+  ends = (search rules);
+  seat = c.requires.seat;
+  same = (refl, refl);
+  at = c.requires.at.0;
+  ready = c.requires.at.1;
+  served = served_none (view c.args.cpu.now) (view c.args.cpu.now) refl;
+  alone = λ one h. (h, refl);
+}
 
 pub loop-preserved : goal.loop-preserved
 loop-preserved g c =
@@ -22,4 +36,10 @@ loop-preserved g c =
       at = c.softirq.ensures.at;
       ready = c.softirq.ensures.ready;
       served = served_then (view c.args.cpu.now) (view c.loop.cpu) (view c.softirq.new.cpu) i.served one;
+      alone = λ one_queue h. let before = i.alone one_queue h in let now = c.softirq.ensures.alone one_queue before.0 in (now.0, now.1 ∙ before.1);
     }
+
+pub returns-then-not-raised-clause-alone : goal.returns-then-not-raised-clause-alone
+returns-then-not-raised-clause-alone g c = λ one h.
+    let now = c.loop.invariant.alone one h in
+    (now.0, sym (rests_served c.args.shared.now.infos.now (first_account (setup c.args.shared.now)) (solo (view c.loop.cpu)) now.0 (sym c.if-not-raised.ensures)) ∙ now.1)

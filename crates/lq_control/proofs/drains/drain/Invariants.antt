@@ -1,6 +1,9 @@
 use Rattle.std.proofs.Common.{◌≡◌}
 use Rattle.lq_model.specs.declared.machine.Position.TheVariants.{Idle}
-use Rattle.lq_table.specs.Sees.{view, position, IsSeatOf, IsSameSeat}
+use Rattle.lq_table.specs.Views.{first_account}
+use Rattle.lq_table.specs.Sees.{view, setup, position, IsSeatOf, IsSameSeat}
+use Rattle.lq_table.specs.Solo.{solo}
+use Rattle.lq_qdisc.specs.Alone.{Brings}
 use Rattle.lq_qdisc.specs.Sends.{IsReady}
 use Rattle.lq_control.specs.Control.{IsServed}
 use Rattle.lq_control.proofs.drains.drain.Given as goal
@@ -14,4 +17,5 @@ invariant-loop g l = record {
   at : position l.cpu ≡ Idle;
   ready : IsReady l.cpu;
   served : IsServed (view l.fn.cpu) (view l.cpu);
+  alone : l.fn.shared.queues ≡ 1 → Brings l.fn.shared.infos.now (first_account (setup l.fn.shared)) (λ s. s) (solo (view l.fn.cpu)) (solo (view l.cpu));
 }

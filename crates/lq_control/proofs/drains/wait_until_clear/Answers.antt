@@ -1,8 +1,22 @@
-use Rattle.std.proofs.Common.{rules, ◌∙◌}
-use Rattle.lq_table.specs.Sees.{view}
+use Rattle.std.proofs.Common.{rules, refl, ◌∙◌}
+use Rattle.lq_table.specs.Sees.{view, setup}
+use Rattle.lq_table.specs.Solo.{solo}
 use Rattle.lq_ring.proofs.Seats.{seat_on}
-use Rattle.lq_control.proofs.Served.{served_then}
+use Rattle.lq_control.proofs.Alone.{down_kept, marks_clear}
+use Rattle.lq_control.proofs.Served.{served_none, served_then, sole_served}
 use Rattle.lq_control.proofs.drains.wait_until_clear.Goals as goal
+
+pub loop-init : goal.loop-init
+loop-init g c = record {
+  can = (search rules);
+  ends = (search rules);
+  seat = c.requires.seat;
+  same = (refl, refl);
+  at = c.requires.at.0;
+  ready = c.requires.at.2;
+  served = served_none (view c.args.cpu.now) (view c.args.cpu.now) refl;
+  off = λ _ _. refl;
+}
 
 pub loop-preserved : goal.loop-preserved
 loop-preserved g c =
@@ -14,7 +28,17 @@ loop-preserved g c =
       at = step.at.0;
       ready = step.at.1;
       served = served_then (view c.args.cpu.now) (view c.loop.cpu) (view c.serves_or_is_clear.new.cpu) i.served step.served;
+      off = λ sole down. let before = i.off sole down in
+          step.off (sole_served (view c.args.cpu.now) (view c.loop.cpu) i.served sole) (down_kept (setup c.args.shared.now) (view c.args.cpu.now) (view c.loop.cpu) c.requires.seat.2 i.seat.2 before down) ∙ before;
     }
 
 pub returns-then-serves_or_is_clear-clause-served : goal.returns-then-serves_or_is_clear-clause-served
 returns-then-serves_or_is_clear-clause-served g c = served_then (view c.args.cpu.now) (view c.loop.cpu) (view c.serves_or_is_clear.new.cpu) c.loop.invariant.served c.serves_or_is_clear.ensures.served
+
+pub returns-then-serves_or_is_clear-clause-off : goal.returns-then-serves_or_is_clear-clause-off
+returns-then-serves_or_is_clear-clause-off g c = λ sole down.
+    let i = c.loop.invariant in let step = c.serves_or_is_clear.ensures in let before = i.off sole down in
+    let sole_now = sole_served (view c.args.cpu.now) (view c.loop.cpu) i.served sole in
+    let same = step.off sole_now (down_kept (setup c.args.shared.now) (view c.args.cpu.now) (view c.loop.cpu) c.requires.seat.2 i.seat.2 before down) ∙ before in
+    let clear = step.clear c.if-serves_or_is_clear.true in
+    marks_clear (solo (view c.serves_or_is_clear.new.cpu)) (solo (view c.args.cpu.now)) same clear.0 (clear.1 (sole_served (view c.loop.cpu) (view c.serves_or_is_clear.new.cpu) step.served sole_now))

@@ -1,101 +1,145 @@
-use Rattle.std.proofs.Common.{◌≡◌, ◌<◌, ℕ, Bool, ◌∷◌, inl, inr, refl, sym, ap, ◌∙◌, subst}
-use Rattle.std.specs.Prelude.{if◌then◌else◌}
-use Rattle.lq_device.specs.Station.{StationState}
-use Rattle.lq_model.specs.Account.{Account, Purge, after, held}
-use Rattle.lq_model.specs.Device.{DeviceState}
+use Rattle.std.proofs.Common.{◌≡◌, ◌<◌, Bool, List, [], ⊎_elim, inl, inr, refl, sym, ap, ◌∙◌, subst, slice_index}
+use Rattle.std.specs.Prelude.{is_some, if◌then◌else◌}
+use Rattle.lq_model.specs.Account.{Account, held}
 use Rattle.lq_model.specs.declared.fate.Cause.TheVariants as cause
-use Rattle.lq_table.specs.Views.{View, SharePart}
-use Rattle.lq_table.specs.Controls.{returning}
-use Rattle.lq_table.specs.Rule.{times}
+use Rattle.lq_model.specs.declared.fate.Fate.TheVariants as fate
+use Rattle.lq_model.specs.declared.fate.Info.{Info}
+use Rattle.lq_table.specs.Views.{View, Setup, SharePart, first_account}
 use Rattle.lq_table.specs.Sees.{view, setup}
-use Rattle.lq_table.specs.Solo.{account_of}
+use Rattle.lq_table.specs.Solo.{Solo, account_of, solo}
+use Rattle.lq_qdisc.specs.Alone.{IsAlone, account_in}
+use Rattle.lq_qdisc.proofs.AloneSteps.{account_at}
 use Rattle.lq_control.specs.declared.finishes.Seen.TheVariants.{Hung, Ended}
-use Rattle.lq_control.specs.Finish.{AreFor, AreAllDone, IsFinished, Shows}
-use Rattle.lq_control.proofs.FinishLemmas.{all_done}
-use Rattle.lq_control.proofs.FinishSteps.{finished, finished_purged, kept_returned}
+use Rattle.lq_control.specs.Ending.{IsEndedAlike, IsFinishedAlone}
+use Rattle.lq_control.specs.Finish.{AreAllDone, Hangs, IsOver, IsFinished, Shows}
+use Rattle.lq_control.proofs.EndingLemmas.{over_finishes, purged_finishes}
+use Rattle.lq_control.proofs.FinishLemmas.{all_done, purges_hung, keeps_then, fates_before}
+use Rattle.lq_control.proofs.FinishSteps.{finished, finished_purged, made_kept}
+use Rattle.lq_control.proofs.finishes.finish.Given as given
 use Rattle.lq_control.proofs.finishes.finish.Goals as goal
 
+-- what was served to its end, as the run of one sender
+module _ (k : Setup) (infos : List Info) (v0 v1 v2 : View) (about : v2.share.about ≡ k) where
+  abbrev start : Account
+  start = first_account k
+
+  is : account_in start (solo v2) ≡ account_of v2
+  is = account_at k v2 about
+
+  alike_from : v1 ≡ v0 → (IsAlone infos start (solo v1) → IsEndedAlike infos start (solo v1) (solo v2)) → IsAlone infos start (solo v0) → IsEndedAlike infos start (solo v0) (solo v2)
+  alike_from same alike h = subst (λ (x : View). IsEndedAlike infos start (solo x) (solo v2)) same (alike (subst (λ (x : View). IsAlone infos start (solo x)) (sym same) h))
+
+-- where the station hangs
+module _ (g : given.Over) (c : goal.After-purge_hung g) where
+  abbrev k : Setup
+  k = setup c.args.shared.now
+
+  abbrev v0 : View
+  v0 = view c.args.cpu.now
+
+  abbrev v2 : View
+  v2 = view c.serve_to_end.new.cpu
+
+  turns : AreAllDone k v2.turns
+  turns = subst (AreAllDone k) (sym c.serve_to_end.ensures.same.1.turns) (all_done k (view c.send_all_left.new.cpu).turns c.send_all_left.ensures.turns)
+
+  share : v2.share ≡ v0.share
+  share = c.serve_to_end.ensures.same.1.share ∙ c.send_all_left.ensures.kept.0
+
+  shows : Hangs v2
+  shows = subst (λ (b : Bool). Shows (if b then Hung else Ended) v2) c.if-serve_to_end.true c.serve_to_end.ensures.shows
+
 pub returns-then-serve_to_end-clause-kept : goal.returns-then-serve_to_end-clause-kept
-returns-then-serve_to_end-clause-kept g c =
-    let k = setup c.args.shared.now in let v0 = view c.args.cpu.now in let v1 = view c.send_all_left.new.cpu in let v2 = view c.serve_to_end.new.cpu in
-    let s = c.send_all_left.ensures in let t = c.serve_to_end.ensures in
-    let turns2 : AreAllDone k v2.turns = subst (AreAllDone k) (sym t.same.1.turns) (all_done k v1.turns s.turns) in
-    let share2 : v2.share ≡ v0.share = t.same.1.share ∙ s.kept.0 in
-    let made : AreFor k v2 = record { infos = c.requires.made.infos; ranks = c.requires.made.ranks; owners = λ o l. subst (λ (x : SharePart). 0 < times o x.owners) (sym share2) (c.requires.made.owners o l) } in
-    let shows : Shows Hung v2 = subst (λ (b : Bool). Shows (if b then Hung else Ended) v2) c.if-serve_to_end.true t.shows in let p = c.purge_hung.ensures in
-    (p.same.1.share ∙ share2, p.control ∙ (t.still.0 ∙ s.kept.1), p.same.1.told ∙ (t.same.1.told ∙ s.kept.2))
+returns-then-serve_to_end-clause-kept g c = let s = c.send_all_left.ensures in let t = c.serve_to_end.ensures in let p = c.purge_hung.ensures in
+    (p.same.1.share ∙ share g c, p.control ∙ (t.still.0 ∙ s.kept.1), p.same.1.told ∙ (t.same.1.told ∙ s.kept.2))
 
 pub returns-then-serve_to_end-clause-turns : goal.returns-then-serve_to_end-clause-turns
-returns-then-serve_to_end-clause-turns g c =
-    let k = setup c.args.shared.now in let v0 = view c.args.cpu.now in let v1 = view c.send_all_left.new.cpu in let v2 = view c.serve_to_end.new.cpu in
-    let s = c.send_all_left.ensures in let t = c.serve_to_end.ensures in
-    let turns2 : AreAllDone k v2.turns = subst (AreAllDone k) (sym t.same.1.turns) (all_done k v1.turns s.turns) in
-    let share2 : v2.share ≡ v0.share = t.same.1.share ∙ s.kept.0 in
-    let made : AreFor k v2 = record { infos = c.requires.made.infos; ranks = c.requires.made.ranks; owners = λ o l. subst (λ (x : SharePart). 0 < times o x.owners) (sym share2) (c.requires.made.owners o l) } in
-    let shows : Shows Hung v2 = subst (λ (b : Bool). Shows (if b then Hung else Ended) v2) c.if-serve_to_end.true t.shows in let p = c.purge_hung.ensures in
-    subst (AreAllDone k) (sym p.same.1.turns) turns2
+returns-then-serve_to_end-clause-turns g c = subst (AreAllDone (setup c.args.shared.now)) (sym c.purge_hung.ensures.same.1.turns) (turns g c)
 
 pub returns-then-serve_to_end-clause-ends : goal.returns-then-serve_to_end-clause-ends
-returns-then-serve_to_end-clause-ends g c =
-    let k = setup c.args.shared.now in let v0 = view c.args.cpu.now in let v1 = view c.send_all_left.new.cpu in let v2 = view c.serve_to_end.new.cpu in
-    let s = c.send_all_left.ensures in let t = c.serve_to_end.ensures in
-    let turns2 : AreAllDone k v2.turns = subst (AreAllDone k) (sym t.same.1.turns) (all_done k v1.turns s.turns) in
-    let share2 : v2.share ≡ v0.share = t.same.1.share ∙ s.kept.0 in
-    let made : AreFor k v2 = record { infos = c.requires.made.infos; ranks = c.requires.made.ranks; owners = λ o l. subst (λ (x : SharePart). 0 < times o x.owners) (sym share2) (c.requires.made.owners o l) } in
-    let shows : Shows Hung v2 = subst (λ (b : Bool). Shows (if b then Hung else Ended) v2) c.if-serve_to_end.true t.shows in let p = c.purge_hung.ensures in
-    record {
-      sent = v1;
-      is_sent = s.sent;
-      none_sent = s.done;
-      ends = inr (v2, t.still.1, record { hung = shows.1; account = p.account; counted = p.purged.1; trail = p.trail; device = p.device });
-    }
+returns-then-serve_to_end-clause-ends g c = let s = c.send_all_left.ensures in let t = c.serve_to_end.ensures in let p = c.purge_hung.ensures in record {
+  sent = view c.send_all_left.new.cpu;
+  is_sent = s.sent;
+  none_sent = s.done;
+  turns = p.same.1.turns ∙ t.same.1.turns;
+  ends = inr (view c.serve_to_end.new.cpu, t.still.1, record { hung = (shows g c).hung; unit = (shows g c).unit; account = p.account; counted = p.purged.1; trail = p.trail; device = p.device });
+}
+
+pub returns-then-serve_to_end-clause-hung : goal.returns-then-serve_to_end-clause-hung
+returns-then-serve_to_end-clause-hung g c = purges_hung (setup c.args.shared.now) c.purge_hung.result (view c.args.cpu.now) (view c.purge_hung.new.cpu) (returns-then-serve_to_end-clause-ends g c)
+
+pub returns-then-serve_to_end-clause-fates : goal.returns-then-serve_to_end-clause-fates
+returns-then-serve_to_end-clause-fates g c =
+    let v0 = view c.args.cpu.now in let v1 = view c.send_all_left.new.cpu in let v2 = view c.serve_to_end.new.cpu in let v3 = view c.purge_hung.new.cpu in
+    let more = fates_before (fate.Purged (cause.Hung v2.whole.state.station.unit)) (held (account_of v2)) v2.settled in
+    keeps_then v0 v1 v3 c.send_all_left.ensures.fates (keeps_then v1 v2 v3 c.serve_to_end.ensures.fates (more.0, c.purge_hung.ensures.purged.0 ∙ more.1))
 
 pub returns-then-serve_to_end-clause-finished : goal.returns-then-serve_to_end-clause-finished
-returns-then-serve_to_end-clause-finished g c =
-    let k = setup c.args.shared.now in let v0 = view c.args.cpu.now in let v1 = view c.send_all_left.new.cpu in let v2 = view c.serve_to_end.new.cpu in
-    let s = c.send_all_left.ensures in let t = c.serve_to_end.ensures in
-    let turns2 : AreAllDone k v2.turns = subst (AreAllDone k) (sym t.same.1.turns) (all_done k v1.turns s.turns) in
-    let share2 : v2.share ≡ v0.share = t.same.1.share ∙ s.kept.0 in
-    let made : AreFor k v2 = record { infos = c.requires.made.infos; ranks = c.requires.made.ranks; owners = λ o l. subst (λ (x : SharePart). 0 < times o x.owners) (sym share2) (c.requires.made.owners o l) } in
-    let shows : Shows Hung v2 = subst (λ (b : Bool). Shows (if b then Hung else Ended) v2) c.if-serve_to_end.true t.shows in let p = c.purge_hung.ensures in
-    finished_purged k v2 made turns2 (cause.Hung v2.whole.state.station.unit) (view c.purge_hung.new.cpu) t.kept p.account
+returns-then-serve_to_end-clause-finished g c = let v2 = view c.serve_to_end.new.cpu in
+    finished_purged (setup c.args.shared.now) v2 (made_kept (setup c.args.shared.now) (view c.args.cpu.now) v2 (share g c) c.requires.made) (turns g c) (cause.Hung v2.whole.state.station.unit) (view c.purge_hung.new.cpu) c.serve_to_end.ensures.kept c.purge_hung.ensures.account
+
+pub returns-then-serve_to_end-clause-alone : goal.returns-then-serve_to_end-clause-alone
+returns-then-serve_to_end-clause-alone g c = λ one done h.
+    let k = setup c.args.shared.now in let infos = c.args.shared.now.infos.now in let v0 = view c.args.cpu.now in let v1 = view c.send_all_left.new.cpu in let v2 = view c.serve_to_end.new.cpu in
+    let about : v2.share.about ≡ k = ap (λ (x : SharePart). x.about) (share g c) ∙ c.requires.seat.2 in let same = is k infos v0 v1 v2 about in
+    let some : 0 < v2.share.about.queues = subst (λ (x : Setup). 0 < x.queues) (sym about) c.args.shared.now.sized.4 in
+    purged_finishes infos (first_account k) (solo v0) (solo v2) (alike_from k infos v0 v1 v2 about (c.send_all_left.ensures.done done) (c.serve_to_end.ensures.alone one) h) v2.whole.state.station.unit (solo (view c.purge_hung.new.cpu)) c.serve_to_end.ensures.at.2
+    (ap (λ (a : Account). a.down) same ∙ (shows g c).up) (ap (λ (a : Account). slice_index a.stops 0) same ∙ (shows g c).stops 0 some) (ap (λ (a : Account). a.unit) same ∙ (shows g c).unit) c.purge_hung.ensures.step
+
+-- where it doesn't
+module _ (g : given.Over) (c : goal.After-end_control g) where
+  abbrev w0 : View
+  w0 = view c.args.cpu.now
+
+  abbrev w2 : View
+  w2 = view c.serve_to_end.new.cpu
+
+  abbrev w3 : View
+  w3 = view c.end_control.new.cpu
+
+  turns_done : AreAllDone (setup c.args.shared.now) w2.turns
+  turns_done = subst (AreAllDone (setup c.args.shared.now)) (sym c.serve_to_end.ensures.same.1.turns) (all_done (setup c.args.shared.now) (view c.send_all_left.new.cpu).turns c.send_all_left.ensures.turns)
+
+  share_same : w2.share ≡ w0.share
+  share_same = c.serve_to_end.ensures.same.1.share ∙ c.send_all_left.ensures.kept.0
+
+  over : IsOver w2
+  over = subst (λ (b : Bool). Shows (if b then Hung else Ended) w2) c.if-serve_to_end.false c.serve_to_end.ensures.shows
 
 pub returns-clause-kept : goal.returns-clause-kept
-returns-clause-kept g c =
-    let k = setup c.args.shared.now in let v0 = view c.args.cpu.now in let v1 = view c.send_all_left.new.cpu in let v2 = view c.serve_to_end.new.cpu in
-    let s = c.send_all_left.ensures in let t = c.serve_to_end.ensures in
-    let turns2 : AreAllDone k v2.turns = subst (AreAllDone k) (sym t.same.1.turns) (all_done k v1.turns s.turns) in
-    let share2 : v2.share ≡ v0.share = t.same.1.share ∙ s.kept.0 in
-    let made : AreFor k v2 = record { infos = c.requires.made.infos; ranks = c.requires.made.ranks; owners = λ o l. subst (λ (x : SharePart). 0 < times o x.owners) (sym share2) (c.requires.made.owners o l) } in
-    let shows : Shows Ended v2 = subst (λ (b : Bool). Shows (if b then Hung else Ended) v2) c.if-serve_to_end.false t.shows in let v3 = view c.end_control.new.cpu in let e : v3 ≡ returning v2 = c.end_control.ensures.view in
-    (ap (λ (x : View). x.share) e ∙ share2, ap (λ (x : View). x.control) e ∙ (t.still.0 ∙ s.kept.1), ap (λ (x : View). x.whole.told) e ∙ (t.same.1.told ∙ s.kept.2))
+returns-clause-kept g c = let s = c.send_all_left.ensures in let t = c.serve_to_end.ensures in let e = c.end_control.ensures.view in
+    (ap (λ (x : View). x.share) e ∙ share_same g c, ap (λ (x : View). x.control) e ∙ (t.still.0 ∙ s.kept.1), ap (λ (x : View). x.whole.told) e ∙ (t.same.1.told ∙ s.kept.2))
 
 pub returns-clause-turns : goal.returns-clause-turns
-returns-clause-turns g c =
-    let k = setup c.args.shared.now in let v0 = view c.args.cpu.now in let v1 = view c.send_all_left.new.cpu in let v2 = view c.serve_to_end.new.cpu in
-    let s = c.send_all_left.ensures in let t = c.serve_to_end.ensures in
-    let turns2 : AreAllDone k v2.turns = subst (AreAllDone k) (sym t.same.1.turns) (all_done k v1.turns s.turns) in
-    let share2 : v2.share ≡ v0.share = t.same.1.share ∙ s.kept.0 in
-    let made : AreFor k v2 = record { infos = c.requires.made.infos; ranks = c.requires.made.ranks; owners = λ o l. subst (λ (x : SharePart). 0 < times o x.owners) (sym share2) (c.requires.made.owners o l) } in
-    let shows : Shows Ended v2 = subst (λ (b : Bool). Shows (if b then Hung else Ended) v2) c.if-serve_to_end.false t.shows in let v3 = view c.end_control.new.cpu in let e : v3 ≡ returning v2 = c.end_control.ensures.view in
-    subst (λ (x : View). AreAllDone k x.turns) (sym e) turns2
+returns-clause-turns g c = subst (λ (x : View). AreAllDone (setup c.args.shared.now) x.turns) (sym c.end_control.ensures.view) (turns_done g c)
 
 pub returns-clause-ends : goal.returns-clause-ends
-returns-clause-ends g c =
-    let k = setup c.args.shared.now in let v0 = view c.args.cpu.now in let v1 = view c.send_all_left.new.cpu in let v2 = view c.serve_to_end.new.cpu in
-    let s = c.send_all_left.ensures in let t = c.serve_to_end.ensures in
-    let turns2 : AreAllDone k v2.turns = subst (AreAllDone k) (sym t.same.1.turns) (all_done k v1.turns s.turns) in
-    let share2 : v2.share ≡ v0.share = t.same.1.share ∙ s.kept.0 in
-    let made : AreFor k v2 = record { infos = c.requires.made.infos; ranks = c.requires.made.ranks; owners = λ o l. subst (λ (x : SharePart). 0 < times o x.owners) (sym share2) (c.requires.made.owners o l) } in
-    let shows : Shows Ended v2 = subst (λ (b : Bool). Shows (if b then Hung else Ended) v2) c.if-serve_to_end.false t.shows in let v3 = view c.end_control.new.cpu in let e : v3 ≡ returning v2 = c.end_control.ensures.view in
-    record { sent = v1; is_sent = s.sent; none_sent = s.done; ends = inl (ap (λ (x : View). x.trail) e ∙ t.still.1, refl) }
+returns-clause-ends g c = let s = c.send_all_left.ensures in let t = c.serve_to_end.ensures in let e = c.end_control.ensures.view in record {
+  sent = view c.send_all_left.new.cpu;
+  is_sent = s.sent;
+  none_sent = s.done;
+  turns = ap (λ (x : View). x.turns) e ∙ t.same.1.turns;
+  ends = inl (ap (λ (x : View). x.trail) e ∙ t.still.1, refl);
+}
+
+pub returns-clause-hung : goal.returns-clause-hung
+returns-clause-hung g c = purges_hung (setup c.args.shared.now) 0 (view c.args.cpu.now) (view c.end_control.new.cpu) (returns-clause-ends g c)
+
+pub returns-clause-fates : goal.returns-clause-fates
+returns-clause-fates g c =
+    let v0 = view c.args.cpu.now in let v1 = view c.send_all_left.new.cpu in let v2 = view c.serve_to_end.new.cpu in let v3 = view c.end_control.new.cpu in
+    keeps_then v0 v1 v3 c.send_all_left.ensures.fates (keeps_then v1 v2 v3 c.serve_to_end.ensures.fates ([], ap (λ (x : View). x.settled) c.end_control.ensures.view))
 
 pub returns-clause-finished : goal.returns-clause-finished
-returns-clause-finished g c =
-    let k = setup c.args.shared.now in let v0 = view c.args.cpu.now in let v1 = view c.send_all_left.new.cpu in let v2 = view c.serve_to_end.new.cpu in
-    let s = c.send_all_left.ensures in let t = c.serve_to_end.ensures in
-    let turns2 : AreAllDone k v2.turns = subst (AreAllDone k) (sym t.same.1.turns) (all_done k v1.turns s.turns) in
-    let share2 : v2.share ≡ v0.share = t.same.1.share ∙ s.kept.0 in
-    let made : AreFor k v2 = record { infos = c.requires.made.infos; ranks = c.requires.made.ranks; owners = λ o l. subst (λ (x : SharePart). 0 < times o x.owners) (sym share2) (c.requires.made.owners o l) } in
-    let shows : Shows Ended v2 = subst (λ (b : Bool). Shows (if b then Hung else Ended) v2) c.if-serve_to_end.false t.shows in let v3 = view c.end_control.new.cpu in let e : v3 ≡ returning v2 = c.end_control.ensures.view in
-    subst (λ (x : View). IsFinished k x) (sym e) (let f = finished k v2 made turns2 t.kept shows in record { nothing_held = f.nothing_held; hand_empty = f.hand_empty; decided = f.decided })
+returns-clause-finished g c = let k = setup c.args.shared.now in let v2 = view c.serve_to_end.new.cpu in
+    let f = finished k v2 (made_kept k (view c.args.cpu.now) v2 (share_same g c) c.requires.made) (turns_done g c) c.serve_to_end.ensures.kept (over g c).nothing_held in
+    subst (λ (x : View). IsFinished k x) (sym c.end_control.ensures.view) (record { nothing_held = f.nothing_held; hand_empty = f.hand_empty; decided = f.decided })
+
+pub returns-clause-alone : goal.returns-clause-alone
+returns-clause-alone g c = λ one done h.
+    let k = setup c.args.shared.now in let infos = c.args.shared.now.infos.now in let v0 = view c.args.cpu.now in let v1 = view c.send_all_left.new.cpu in let v2 = view c.serve_to_end.new.cpu in
+    let about : v2.share.about ≡ k = ap (λ (x : SharePart). x.about) (share_same g c) ∙ c.requires.seat.2 in let same = is k infos v0 v1 v2 about in
+    let some : 0 < v2.share.about.queues = subst (λ (x : Setup). 0 < x.queues) (sym about) c.args.shared.now.sized.4 in
+    subst (λ (x : Solo). IsFinishedAlone infos (first_account k) (solo v0) x) (sym (ap solo c.end_control.ensures.view))
+    (over_finishes infos (first_account k) (solo v0) (solo v2) (alike_from k infos v0 v1 v2 about (c.send_all_left.ensures.done done) (c.serve_to_end.ensures.alone one) h) (ap held same ∙ (over g c).nothing_held)
+    (⊎_elim (λ down. inl (ap (λ (a : Account). is_some a.down) same ∙ down)) (λ opens. inr (ap (λ (a : Account). slice_index a.stops 0) same ∙ opens 0 some)) (over g c).over))

@@ -1,16 +1,14 @@
-use Rattle.std.proofs.Common.{◌≡◌, ◌<◌, ℕ, false, refl, sym, ap, ◌∙◌, subst, slice_index, true, true≢false}
-use Rattle.std.specs.Prelude.{not, bit_and, ◌==◌}
+use Rattle.std.proofs.Common.{◌≡◌, ◌<◌, false, sym, ap, ◌∙◌, subst, slice_index}
+use Rattle.std.specs.Prelude.{not, bit_and}
 use Rattle.std.proofs.lemmas.Bool.{eq-eqb}
-use Rattle.lq_model.specs.Account.{held}
-use Rattle.lq_table.specs.Views.{View}
+use Rattle.lq_table.specs.Views.{View, Setup}
 use Rattle.lq_table.specs.AtRest.{KnowsRest}
 use Rattle.lq_table.specs.Sees.{view, setup}
 use Rattle.lq_table.specs.Solo.{IsSole, SeesState, account_of}
-use Rattle.lq_table.specs.Told.{at_rest, is_set}
-use Rattle.lq_control.specs.declared.finishes.Seen.TheVariants.{Hung}
-use Rattle.lq_control.specs.Finish.{AreKept, Shows}
+use Rattle.lq_table.specs.Told.{at_rest}
+use Rattle.lq_control.specs.Finish.{AreKept, AreStops, IsOver, Hangs}
 use Rattle.lq_control.proofs.FinishLemmas.{not_eqb}
-use Rattle.lq_control.proofs.FinishSteps.{control_looked, kept_of, look_none, nothing_down, active_up, nothing_quiet}
+use Rattle.lq_control.proofs.FinishSteps.{control_looked, kept_of, look_none, over_down, hangs, is_up}
 use Rattle.lq_control.proofs.finishes.look.Goals as goal
 
 pub returns-then-state-ne0-clause-same : goal.returns-then-state-ne0-clause-same
@@ -39,7 +37,7 @@ returns-then-state-ne0-clause-shows g c =
     let e2 : view c.load_state-state.new.cpu ≡ v0 = c.load_state-state.ensures.view ∙ (control_looked state false v1 (ap (λ (x : View). x.place.position) e1 ∙ c.requires.at.0) ∙ e1) in
     let rest : KnowsRest v0 = c.load_lock-lock.ensures.alone (c.requires.sole.0, ap at_rest c.requires.at.0, c.requires.at.2.1, c.requires.at.2.2) in
     let sees : SeesState v0 state = subst (λ (x : View). SeesState x state) e1 (c.load_state-state.ensures.sole (subst IsSole (sym e1) c.requires.sole.0)) in
-    ap (λ (x : View). held (account_of x)) e2 ∙ nothing_down v0 state c.requires.at.1 c.requires.sole.1 rest sees (ap not (not_eqb (bit_and state 2) 0 c.if-state-ne0.true))
+    subst (λ (x : View). IsOver x) (sym e2) (over_down v0 state c.requires.at.1 c.requires.sole.1 rest sees (ap not (not_eqb (bit_and state 2) 0 c.if-state-ne0.true)))
 
 pub returns-then-are_stops-clause-same : goal.returns-then-are_stops-clause-same
 returns-then-are_stops-clause-same g c =
@@ -68,10 +66,10 @@ returns-then-are_stops-clause-shows g c =
     let e2 : view c.load_state-state.new.cpu ≡ v0 = c.load_state-state.ensures.view ∙ (control_looked state false v1 (ap (λ (x : View). x.place.position) e1 ∙ c.requires.at.0) ∙ e1) in
     let rest : KnowsRest v0 = c.load_lock-lock.ensures.alone (c.requires.sole.0, ap at_rest c.requires.at.0, c.requires.at.2.1, c.requires.at.2.2) in
     let sees : SeesState v0 state = subst (λ (x : View). SeesState x state) e1 (c.load_state-state.ensures.sole (subst IsSole (sym e1) c.requires.sole.0)) in
-    let stop : slice_index (account_of v0).stops 0 ≡ 2 = subst (λ (x : View). slice_index (account_of x).stops 0 ≡ 2) e2
-    (c.are_stops.ensures.sole (subst IsSole (sym e2) c.requires.sole.0) (ap (λ (x : View). x.whole.state.shut) e2 ∙ rest.shut) c.if-are_stops.true 0 c.args.shared.now.sized.4) in
-    subst (λ (x : View). Shows Hung x) (sym (c.are_stops.ensures.same.1 ∙ e2))
-    (active_up v0 state c.requires.at.1 c.requires.sole.1 rest sees (ap not (eq-eqb (bit_and state 2) 0 c.if-state-ne0.false)), rest.hung 0 stop)
+    let stops : AreStops 2 v0 = λ queue below. subst (λ (x : View). slice_index (account_of x).stops queue ≡ 2) e2
+    (c.are_stops.ensures.sole (subst IsSole (sym e2) c.requires.sole.0) (ap (λ (x : View). x.whole.state.shut) e2 ∙ rest.shut) c.if-are_stops.true queue (subst (λ (x : Setup). queue < x.queues) c.requires.seat.2 below)) in
+    let some : 0 < v0.share.about.queues = subst (λ (x : Setup). 0 < x.queues) (sym c.requires.seat.2) c.args.shared.now.sized.4 in
+    subst (λ (x : View). Hangs x) (sym (c.are_stops.ensures.same.1 ∙ e2)) (hangs v0 state c.requires.at.1 c.requires.sole.1 rest sees (ap not (eq-eqb (bit_and state 2) 0 c.if-state-ne0.false)) some stops)
 
 pub returns-then-not-open-clause-same : goal.returns-then-not-open-clause-same
 returns-then-not-open-clause-same g c =
@@ -91,3 +89,11 @@ returns-then-not-open-clause-kept g c =
     let rest : KnowsRest v0 = c.load_lock-lock.ensures.alone (c.requires.sole.0, ap at_rest c.requires.at.0, c.requires.at.2.1, c.requires.at.2.2) in
     let sees : SeesState v0 state = subst (λ (x : View). SeesState x state) e1 (c.load_state-state.ensures.sole (subst IsSole (sym e1) c.requires.sole.0)) in
     subst (λ (x : View). AreKept k x) (sym (c.are_stops-open.ensures.same.1 ∙ (c.are_stops.ensures.same.1 ∙ e2))) (kept_of k v0 c.requires.seat.2 rest)
+
+pub returns-then-not-open-clause-shows : goal.returns-then-not-open-clause-shows
+returns-then-not-open-clause-shows g c =
+    let k = setup c.args.shared.now in let v0 = view c.args.cpu.now in let state = c.load_state-state.result in
+    let v1 = view c.load_lock-lock.new.cpu in let e1 : v1 ≡ v0 = c.load_lock-lock.ensures.view in
+    let e2 : view c.load_state-state.new.cpu ≡ v0 = c.load_state-state.ensures.view ∙ (control_looked state false v1 (ap (λ (x : View). x.place.position) e1 ∙ c.requires.at.0) ∙ e1) in
+    let sees : SeesState v0 state = subst (λ (x : View). SeesState x state) e1 (c.load_state-state.ensures.sole (subst IsSole (sym e1) c.requires.sole.0)) in
+    ap (λ (x : View). (account_of x).down) (c.are_stops-open.ensures.same.1 ∙ (c.are_stops.ensures.same.1 ∙ e2)) ∙ is_up v0 state sees (ap not (eq-eqb (bit_and state 2) 0 c.if-state-ne0.false))

@@ -2,7 +2,7 @@ use Rattle.std.proofs.Common.{◌≡◌, ◌<◌, ℕ, List, ◌∷◌, length, 
 use Rattle.std.specs.Prelude.{IfSome}
 use Rattle.std.proofs.lemmas.Option.{same_Some}
 use Rattle.lq_device.specs.Station.{StationState}
-use Rattle.lq_model.specs.Account.{Purge, after, held}
+use Rattle.lq_model.specs.Account.{Purge, after}
 use Rattle.lq_model.specs.Control.{after_purge}
 use Rattle.lq_model.specs.declared.fate.Cause.TheVariants as cause
 use Rattle.lq_model.specs.declared.fate.Fate.TheVariants as fate
@@ -11,13 +11,16 @@ use Rattle.lq_table.specs.Views.{View, Setup, PacketPart, HolderPart, FirstPart,
 use Rattle.lq_table.specs.Rule.{shown, IsResting}
 use Rattle.lq_table.specs.Purges.{purging, HoldsAtMost, HoldPackets}
 use Rattle.lq_table.specs.Sees.{view, setup}
-use Rattle.lq_table.specs.Solo.{IsSole, account_of}
+use Rattle.lq_table.specs.Solo.{IsSole, account_of, solo}
 use Rattle.lq_ring.proofs.Seats.{seat_on}
 use Rattle.lq_ring.specs.Fates.{fates_onto}
-use Rattle.lq_control.specs.Control.{IsPurged, all_purged}
+use Rattle.lq_table.specs.Told.{got_in_control}
+use Rattle.lq_control.specs.Control.{IsEmptied, IsPurged, all_purged}
+use Rattle.lq_control.specs.Ending.{purged_as_hung}
 use Rattle.lq_control.specs.Finish.{IsLook}
 use Rattle.lq_control.proofs.Purge.{purged_of, slot_within}
-use Rattle.lq_control.proofs.FinishSteps.{control_kept, sole_kept, station_known, lost_is, account_five, device_five, raised_five}
+use Rattle.lq_control.proofs.FinishSteps.{control_kept, sole_kept, station_known, lost_is, account_five, solo_five, device_five, raised_five}
+use Rattle.lq_control.proofs.finishes.purge_hung.Given as given
 use Rattle.lq_control.proofs.finishes.purge_hung.Goals as goal
 
 pub purge_held-purged-requires-clause-slot : goal.purge_held-purged-requires-clause-slot
@@ -66,7 +69,7 @@ end_resize-requires-clause-seat g c _ _ =
     let purged : IsPurged (cause.Hung unit) lost v2 v4 = purged_of (cause.Hung unit) begun.0 lost v2 v3 v4 none_owed e3 done.0 in
     let share4 : v4.share ≡ v0.share = ap (λ (x : View). x.share) purged.is ∙ (ap (λ (x : View). x.share) got.1 ∙ ap (λ (x : View). x.share) look.1) in
     let control2 : v2.control ≡ v0.control = ap (λ (x : View). x.control) got.1 ∙ ap (λ (x : View). x.control) look.1 in
-    let active : v0.control.phase ≡ Active = c.requires.hung.0.0 in let none : v0.control.purge ≡ None = c.requires.hung.0.1 in
+    let active : v0.control.phase ≡ Active = c.requires.hung.active.0 in let none : v0.control.purge ≡ None = c.requires.hung.active.1 in
     let control4 : v4.control ≡ v0.control = control_kept v0.control v4.control active none (ap (λ (x : View). x.control) purged.is ∙ ap (λ (b : FirstPart). record b { phase = after_purge b.phase; purge = None }) control2) in
     let resizing4 : v4.holder.resizing ≡ None = ap (λ (x : View). x.holder.resizing) purged.is ∙ (ap (λ (x : View). x.holder.resizing) got.1 ∙ got.5) in
     let a = c.wait_until_left.ensures.same.0.0 in let b = c.take_lock.ensures.same.0 in let d = c.begin_hung_purge.ensures.same.0 in let e = c.purge_held-purged.ensures.same.0 in
@@ -87,7 +90,7 @@ end_resize-requires-clause-at g c _ _ =
     let purged : IsPurged (cause.Hung unit) lost v2 v4 = purged_of (cause.Hung unit) begun.0 lost v2 v3 v4 none_owed e3 done.0 in
     let share4 : v4.share ≡ v0.share = ap (λ (x : View). x.share) purged.is ∙ (ap (λ (x : View). x.share) got.1 ∙ ap (λ (x : View). x.share) look.1) in
     let control2 : v2.control ≡ v0.control = ap (λ (x : View). x.control) got.1 ∙ ap (λ (x : View). x.control) look.1 in
-    let active : v0.control.phase ≡ Active = c.requires.hung.0.0 in let none : v0.control.purge ≡ None = c.requires.hung.0.1 in
+    let active : v0.control.phase ≡ Active = c.requires.hung.active.0 in let none : v0.control.purge ≡ None = c.requires.hung.active.1 in
     let control4 : v4.control ≡ v0.control = control_kept v0.control v4.control active none (ap (λ (x : View). x.control) purged.is ∙ ap (λ (b : FirstPart). record b { phase = after_purge b.phase; purge = None }) control2) in
     let resizing4 : v4.holder.resizing ≡ None = ap (λ (x : View). x.holder.resizing) purged.is ∙ (ap (λ (x : View). x.holder.resizing) got.1 ∙ got.5) in (
       ap (λ (x : View). x.place.position) purged.is ∙ ap (λ (x : View). x.place.position) got.1,
@@ -111,227 +114,109 @@ end_resize-requires-clause-rests g c _ _ =
     let purged : IsPurged (cause.Hung unit) lost v2 v4 = purged_of (cause.Hung unit) begun.0 lost v2 v3 v4 none_owed e3 done.0 in
     let share4 : v4.share ≡ v0.share = ap (λ (x : View). x.share) purged.is ∙ (ap (λ (x : View). x.share) got.1 ∙ ap (λ (x : View). x.share) look.1) in
     let control2 : v2.control ≡ v0.control = ap (λ (x : View). x.control) got.1 ∙ ap (λ (x : View). x.control) look.1 in
-    let active : v0.control.phase ≡ Active = c.requires.hung.0.0 in let none : v0.control.purge ≡ None = c.requires.hung.0.1 in
+    let active : v0.control.phase ≡ Active = c.requires.hung.active.0 in let none : v0.control.purge ≡ None = c.requires.hung.active.1 in
     let control4 : v4.control ≡ v0.control = control_kept v0.control v4.control active none (ap (λ (x : View). x.control) purged.is ∙ ap (λ (b : FirstPart). record b { phase = after_purge b.phase; purge = None }) control2) in
     let resizing4 : v4.holder.resizing ≡ None = ap (λ (x : View). x.holder.resizing) purged.is ∙ (ap (λ (x : View). x.holder.resizing) got.1 ∙ got.5) in
     (subst (λ (h : HolderPart). IsResting h.size h.ends) (sym (ap (λ (x : View). x.holder) purged.is)) purged.rests, resizing4)
 
+-- what the calls left, up to the end of the run
+module _ (g : given.Over) (c : goal.After-end_resize g) where
+  abbrev v0 : View
+  v0 = view c.args.cpu.now
+
+  abbrev v2 : View
+  v2 = view c.take_lock.new.cpu
+
+  abbrev v4 : View
+  v4 = view c.purge_held-purged.new.cpu
+
+  abbrev unit : ℕ
+  unit = c.unit-unit.result
+
+  abbrev lost : List ℕ
+  lost = all_purged v2.holder.slot c.begin_hung_purge.ensures.begun.0
+
+  look : IsLook v0 (view c.wait_until_left.new.cpu)
+  look = c.wait_until_left.ensures.same.1
+
+  got : v2 ≡ got_in_control c.take_lock.ensures.got.0 (view c.wait_until_left.new.cpu)
+  got = c.take_lock.ensures.got.1
+
+  of_unit : v2.holder.station.unit ≡ unit
+  of_unit = sym (c.unit-unit.ensures ∙ ap (λ (s : StationState). s.unit) (same_Some _ _ (sym c.in-Some.is ∙ c.take_lock.ensures.station.1)))
+
+  begun : view c.begin_hung_purge.new.cpu ≡ purging (cause.Hung unit) c.begin_hung_purge.ensures.begun.0 v2
+  begun = c.begin_hung_purge.ensures.begun.1 ∙ ap (λ (m : ℕ). purging (cause.Hung m) c.begin_hung_purge.ensures.begun.0 v2) of_unit
+
+  emptied : IsEmptied (cause.Hung unit) lost (view c.begin_hung_purge.new.cpu) v4 × (c.purge_held-purged.result ≡ length lost)
+  emptied = c.purge_held-purged.ensures.emptied v2.holder.slot (record { cause = cause.Hung unit; bands = c.begin_hung_purge.ensures.begun.0 }) (ap (λ (x : View). x.packets.owed) begun) (ap (λ (x : View). x.holder.left) begun)
+
+  purged : IsPurged (cause.Hung unit) lost v2 v4
+  purged = purged_of (cause.Hung unit) c.begin_hung_purge.ensures.begun.0 lost v2 (view c.begin_hung_purge.new.cpu) v4
+      (ap (λ (x : View). x.packets.owed) got ∙ (ap (λ (x : View). x.packets.owed) look.1 ∙ ap (λ (p : PacketPart). p.owed) c.requires.at.2.1)) begun emptied.0
+
+  control : v4.control ≡ v0.control
+  control = control_kept v0.control v4.control c.requires.hung.active.0 c.requires.hung.active.1
+      (ap (λ (x : View). x.control) purged.is ∙ ap (λ (b : FirstPart). record b { phase = after_purge b.phase; purge = None }) (ap (λ (x : View). x.control) got ∙ ap (λ (x : View). x.control) look.1))
+
+  share : v4.share ≡ v0.share
+  share = ap (λ (x : View). x.share) purged.is ∙ (ap (λ (x : View). x.share) got ∙ ap (λ (x : View). x.share) look.1)
+
+  sole : IsSole (view c.wait_until_left.new.cpu)
+  sole = sole_kept v0 (view c.wait_until_left.new.cpu) (ap (λ (x : View). x.share) look.1) (ap (λ (x : View). x.whole.told) look.1) c.requires.sole
+
+  -- the unit is the station's
+  of_station : unit ≡ v0.whole.state.station.unit
+  of_station = sym of_unit ∙ ap (λ (s : StationState). s.unit) (station_known c.take_lock.ensures.got.0 v0 (view c.wait_until_left.new.cpu) v2 look got (c.take_lock.ensures.sole sole).1)
+
 pub returns-clause-same : goal.returns-clause-same
 returns-clause-same g c =
-    let v0 = view c.args.cpu.now in let v1 = view c.wait_until_left.new.cpu in let v2 = view c.take_lock.new.cpu in
-    let look : IsLook v0 v1 = c.wait_until_left.ensures.same.1 in let got = c.take_lock.ensures.got in let back = c.take_lock.ensures.station in
-    let about1 : v1.share.about ≡ setup c.args.shared.now = ap (λ (x : View). x.share.about) look.1 ∙ c.requires.seat.2 in
-    let begun = c.begin_hung_purge.ensures.begun in let unit = c.unit-unit.result in let v3 = view c.begin_hung_purge.new.cpu in
-    let u : v2.holder.station.unit ≡ unit = sym (c.unit-unit.ensures ∙ ap (λ (s : StationState). s.unit) (same_Some _ _ (sym c.in-Some.is ∙ back.1))) in
-    let e3 : v3 ≡ purging (cause.Hung unit) begun.0 v2 = begun.1 ∙ ap (λ (m : ℕ). purging (cause.Hung m) begun.0 v2) u in
-    let none_owed : v2.packets.owed ≡ None = ap (λ (x : View). x.packets.owed) got.1 ∙ (ap (λ (x : View). x.packets.owed) look.1 ∙ ap (λ (p : PacketPart). p.owed) c.requires.at.2.1) in
-    let l : Left = record { cause = cause.Hung unit; bands = begun.0 } in let v4 = view c.purge_held-purged.new.cpu in
-    let done = c.purge_held-purged.ensures.emptied v2.holder.slot l (ap (λ (x : View). x.packets.owed) e3) (ap (λ (x : View). x.holder.left) e3) in
-    let lost : List ℕ = all_purged v2.holder.slot begun.0 in
-    let purged : IsPurged (cause.Hung unit) lost v2 v4 = purged_of (cause.Hung unit) begun.0 lost v2 v3 v4 none_owed e3 done.0 in
-    let share4 : v4.share ≡ v0.share = ap (λ (x : View). x.share) purged.is ∙ (ap (λ (x : View). x.share) got.1 ∙ ap (λ (x : View). x.share) look.1) in
-    let control2 : v2.control ≡ v0.control = ap (λ (x : View). x.control) got.1 ∙ ap (λ (x : View). x.control) look.1 in
-    let active : v0.control.phase ≡ Active = c.requires.hung.0.0 in let none : v0.control.purge ≡ None = c.requires.hung.0.1 in
-    let control4 : v4.control ≡ v0.control = control_kept v0.control v4.control active none (ap (λ (x : View). x.control) purged.is ∙ ap (λ (b : FirstPart). record b { phase = after_purge b.phase; purge = None }) control2) in
-    let resizing4 : v4.holder.resizing ≡ None = ap (λ (x : View). x.holder.resizing) purged.is ∙ (ap (λ (x : View). x.holder.resizing) got.1 ∙ got.5) in
-    let v5 = view c.end_resize.new.cpu in let kept = c.end_resize.ensures.kept.0 in
-    let sole1 : IsSole v1 = sole_kept v0 v1 (ap (λ (x : View). x.share) look.1) (ap (λ (x : View). x.whole.told) look.1) c.requires.sole in
-    let solo2 = c.take_lock.ensures.sole sole1 in
-    let told4 : v4.whole.told ≡ v0.whole.told = ap (λ (x : View). x.whole.told) purged.is ∙ (purged.told ∙ (ap (λ (x : View). x.whole.told) got.1 ∙ ap (λ (x : View). x.whole.told) look.1)) in
-    let w : unit ≡ v0.whole.state.station.unit = sym u ∙ ap (λ (s : StationState). s.unit) (station_known got.0 v0 v1 v2 look got.1 solo2.1) in
+    let kept = c.end_resize.ensures.kept.0 in let is = (purged g c).is in let got_ = got g c in let look_ = (look g c).1 in
     let a = c.wait_until_left.ensures.same.0.0 in let b = c.take_lock.ensures.same.0 in let d = c.begin_hung_purge.ensures.same.0 in let e = c.purge_held-purged.ensures.same.0 in let f = kept.0 in (
       (f.0 ∙ (e.0 ∙ (d.0 ∙ (b.0 ∙ a.0))), f.1 ∙ (e.1 ∙ (d.1 ∙ (b.1 ∙ a.1)))),
       record {
-        share = kept.1 ∙ share4;
-        turns = kept.7 ∙ (ap (λ (x : View). x.turns) purged.is ∙ (ap (λ (x : View). x.turns) got.1 ∙ ap (λ (x : View). x.turns) look.1));
-        first = ap (λ (x : FirstPart). x.first) (kept.4 ∙ control4);
-        told = kept.5 ∙ told4;
+        share = kept.1 ∙ share g c;
+        turns = kept.7 ∙ (ap (λ (x : View). x.turns) is ∙ (ap (λ (x : View). x.turns) got_ ∙ ap (λ (x : View). x.turns) look_));
+        first = ap (λ (x : FirstPart). x.first) (kept.4 ∙ control g c);
+        told = kept.5 ∙ (ap (λ (x : View). x.whole.told) is ∙ ((purged g c).told ∙ (ap (λ (x : View). x.whole.told) got_ ∙ ap (λ (x : View). x.whole.told) look_)));
       },
     )
 
 pub returns-clause-at : goal.returns-clause-at
 returns-clause-at g c =
-    let v0 = view c.args.cpu.now in let v1 = view c.wait_until_left.new.cpu in let v2 = view c.take_lock.new.cpu in
-    let look : IsLook v0 v1 = c.wait_until_left.ensures.same.1 in let got = c.take_lock.ensures.got in let back = c.take_lock.ensures.station in
-    let about1 : v1.share.about ≡ setup c.args.shared.now = ap (λ (x : View). x.share.about) look.1 ∙ c.requires.seat.2 in
-    let begun = c.begin_hung_purge.ensures.begun in let unit = c.unit-unit.result in let v3 = view c.begin_hung_purge.new.cpu in
-    let u : v2.holder.station.unit ≡ unit = sym (c.unit-unit.ensures ∙ ap (λ (s : StationState). s.unit) (same_Some _ _ (sym c.in-Some.is ∙ back.1))) in
-    let e3 : v3 ≡ purging (cause.Hung unit) begun.0 v2 = begun.1 ∙ ap (λ (m : ℕ). purging (cause.Hung m) begun.0 v2) u in
-    let none_owed : v2.packets.owed ≡ None = ap (λ (x : View). x.packets.owed) got.1 ∙ (ap (λ (x : View). x.packets.owed) look.1 ∙ ap (λ (p : PacketPart). p.owed) c.requires.at.2.1) in
-    let l : Left = record { cause = cause.Hung unit; bands = begun.0 } in let v4 = view c.purge_held-purged.new.cpu in
-    let done = c.purge_held-purged.ensures.emptied v2.holder.slot l (ap (λ (x : View). x.packets.owed) e3) (ap (λ (x : View). x.holder.left) e3) in
-    let lost : List ℕ = all_purged v2.holder.slot begun.0 in
-    let purged : IsPurged (cause.Hung unit) lost v2 v4 = purged_of (cause.Hung unit) begun.0 lost v2 v3 v4 none_owed e3 done.0 in
-    let share4 : v4.share ≡ v0.share = ap (λ (x : View). x.share) purged.is ∙ (ap (λ (x : View). x.share) got.1 ∙ ap (λ (x : View). x.share) look.1) in
-    let control2 : v2.control ≡ v0.control = ap (λ (x : View). x.control) got.1 ∙ ap (λ (x : View). x.control) look.1 in
-    let active : v0.control.phase ≡ Active = c.requires.hung.0.0 in let none : v0.control.purge ≡ None = c.requires.hung.0.1 in
-    let control4 : v4.control ≡ v0.control = control_kept v0.control v4.control active none (ap (λ (x : View). x.control) purged.is ∙ ap (λ (b : FirstPart). record b { phase = after_purge b.phase; purge = None }) control2) in
-    let resizing4 : v4.holder.resizing ≡ None = ap (λ (x : View). x.holder.resizing) purged.is ∙ (ap (λ (x : View). x.holder.resizing) got.1 ∙ got.5) in
-    let v5 = view c.end_resize.new.cpu in let kept = c.end_resize.ensures.kept.0 in
-    let sole1 : IsSole v1 = sole_kept v0 v1 (ap (λ (x : View). x.share) look.1) (ap (λ (x : View). x.whole.told) look.1) c.requires.sole in
-    let solo2 = c.take_lock.ensures.sole sole1 in
-    let told4 : v4.whole.told ≡ v0.whole.told = ap (λ (x : View). x.whole.told) purged.is ∙ (purged.told ∙ (ap (λ (x : View). x.whole.told) got.1 ∙ ap (λ (x : View). x.whole.told) look.1)) in
-    let w : unit ≡ v0.whole.state.station.unit = sym u ∙ ap (λ (s : StationState). s.unit) (station_known got.0 v0 v1 v2 look got.1 solo2.1) in
-    let at = c.end_resize.ensures.at in (
+    let kept = c.end_resize.ensures.kept.0 in let at = c.end_resize.ensures.at in let is = (purged g c).is in let got_ = got g c in let look_ = (look g c).1 in (
       at.0,
       (
         at.1,
-        kept.2 ∙ (ap (λ (x : View). x.packets) purged.is ∙ (ap (λ (x : View). x.packets) got.1 ∙ (ap (λ (x : View). x.packets) look.1 ∙ c.requires.at.2.1))),
-        kept.3 ∙ (ap (λ (x : View). x.locks) purged.is ∙ (ap (λ (x : View). x.locks) got.1 ∙ (ap (λ (x : View). x.locks) look.1 ∙ c.requires.at.2.2))),
-        ap (λ (h : HolderPart). h.resizing) at.2 ∙ resizing4,
+        kept.2 ∙ (ap (λ (x : View). x.packets) is ∙ (ap (λ (x : View). x.packets) got_ ∙ (ap (λ (x : View). x.packets) look_ ∙ c.requires.at.2.1))),
+        kept.3 ∙ (ap (λ (x : View). x.locks) is ∙ (ap (λ (x : View). x.locks) got_ ∙ (ap (λ (x : View). x.locks) look_ ∙ c.requires.at.2.2))),
+        ap (λ (h : HolderPart). h.resizing) at.2 ∙ (ap (λ (x : View). x.holder.resizing) is ∙ (ap (λ (x : View). x.holder.resizing) got_ ∙ c.take_lock.ensures.got.5)),
       ),
-      (ap (λ (b : FirstPart). b.phase) (kept.4 ∙ control4) ∙ active, ap (λ (b : FirstPart). b.purge) (kept.4 ∙ control4) ∙ none),
+      (ap (λ (b : FirstPart). b.phase) (kept.4 ∙ control g c) ∙ c.requires.hung.active.0, ap (λ (b : FirstPart). b.purge) (kept.4 ∙ control g c) ∙ c.requires.hung.active.1),
     )
 
 pub returns-clause-raised : goal.returns-clause-raised
-returns-clause-raised g c =
-    let v0 = view c.args.cpu.now in let v1 = view c.wait_until_left.new.cpu in let v2 = view c.take_lock.new.cpu in
-    let look : IsLook v0 v1 = c.wait_until_left.ensures.same.1 in let got = c.take_lock.ensures.got in let back = c.take_lock.ensures.station in
-    let about1 : v1.share.about ≡ setup c.args.shared.now = ap (λ (x : View). x.share.about) look.1 ∙ c.requires.seat.2 in
-    let begun = c.begin_hung_purge.ensures.begun in let unit = c.unit-unit.result in let v3 = view c.begin_hung_purge.new.cpu in
-    let u : v2.holder.station.unit ≡ unit = sym (c.unit-unit.ensures ∙ ap (λ (s : StationState). s.unit) (same_Some _ _ (sym c.in-Some.is ∙ back.1))) in
-    let e3 : v3 ≡ purging (cause.Hung unit) begun.0 v2 = begun.1 ∙ ap (λ (m : ℕ). purging (cause.Hung m) begun.0 v2) u in
-    let none_owed : v2.packets.owed ≡ None = ap (λ (x : View). x.packets.owed) got.1 ∙ (ap (λ (x : View). x.packets.owed) look.1 ∙ ap (λ (p : PacketPart). p.owed) c.requires.at.2.1) in
-    let l : Left = record { cause = cause.Hung unit; bands = begun.0 } in let v4 = view c.purge_held-purged.new.cpu in
-    let done = c.purge_held-purged.ensures.emptied v2.holder.slot l (ap (λ (x : View). x.packets.owed) e3) (ap (λ (x : View). x.holder.left) e3) in
-    let lost : List ℕ = all_purged v2.holder.slot begun.0 in
-    let purged : IsPurged (cause.Hung unit) lost v2 v4 = purged_of (cause.Hung unit) begun.0 lost v2 v3 v4 none_owed e3 done.0 in
-    let share4 : v4.share ≡ v0.share = ap (λ (x : View). x.share) purged.is ∙ (ap (λ (x : View). x.share) got.1 ∙ ap (λ (x : View). x.share) look.1) in
-    let control2 : v2.control ≡ v0.control = ap (λ (x : View). x.control) got.1 ∙ ap (λ (x : View). x.control) look.1 in
-    let active : v0.control.phase ≡ Active = c.requires.hung.0.0 in let none : v0.control.purge ≡ None = c.requires.hung.0.1 in
-    let control4 : v4.control ≡ v0.control = control_kept v0.control v4.control active none (ap (λ (x : View). x.control) purged.is ∙ ap (λ (b : FirstPart). record b { phase = after_purge b.phase; purge = None }) control2) in
-    let resizing4 : v4.holder.resizing ≡ None = ap (λ (x : View). x.holder.resizing) purged.is ∙ (ap (λ (x : View). x.holder.resizing) got.1 ∙ got.5) in
-    let v5 = view c.end_resize.new.cpu in let kept = c.end_resize.ensures.kept.0 in
-    let sole1 : IsSole v1 = sole_kept v0 v1 (ap (λ (x : View). x.share) look.1) (ap (λ (x : View). x.whole.told) look.1) c.requires.sole in
-    let solo2 = c.take_lock.ensures.sole sole1 in
-    let told4 : v4.whole.told ≡ v0.whole.told = ap (λ (x : View). x.whole.told) purged.is ∙ (purged.told ∙ (ap (λ (x : View). x.whole.told) got.1 ∙ ap (λ (x : View). x.whole.told) look.1)) in
-    let w : unit ≡ v0.whole.state.station.unit = sym u ∙ ap (λ (s : StationState). s.unit) (station_known got.0 v0 v1 v2 look got.1 solo2.1) in
-    raised_five (cause.Hung unit) lost got.0 v0 v1 v2 v4 v5 look got.1 solo2.0 solo2.1 purged c.end_resize.ensures.kept.1 kept.1 c.end_resize.ensures.sole c.requires.sole
+returns-clause-raised g c = raised_five (cause.Hung (unit g c)) (lost g c) c.take_lock.ensures.got.0 (v0 g c) (view c.wait_until_left.new.cpu) (v2 g c) (v4 g c) (view c.end_resize.new.cpu) (look g c) (got g c) (c.take_lock.ensures.sole (sole g c)).0 (c.take_lock.ensures.sole (sole g c)).1 (purged g c) c.end_resize.ensures.kept.1 c.end_resize.ensures.kept.0.1 c.end_resize.ensures.sole c.requires.sole
 
 pub returns-clause-trail : goal.returns-clause-trail
-returns-clause-trail g c =
-    let v0 = view c.args.cpu.now in let v1 = view c.wait_until_left.new.cpu in let v2 = view c.take_lock.new.cpu in
-    let look : IsLook v0 v1 = c.wait_until_left.ensures.same.1 in let got = c.take_lock.ensures.got in let back = c.take_lock.ensures.station in
-    let about1 : v1.share.about ≡ setup c.args.shared.now = ap (λ (x : View). x.share.about) look.1 ∙ c.requires.seat.2 in
-    let begun = c.begin_hung_purge.ensures.begun in let unit = c.unit-unit.result in let v3 = view c.begin_hung_purge.new.cpu in
-    let u : v2.holder.station.unit ≡ unit = sym (c.unit-unit.ensures ∙ ap (λ (s : StationState). s.unit) (same_Some _ _ (sym c.in-Some.is ∙ back.1))) in
-    let e3 : v3 ≡ purging (cause.Hung unit) begun.0 v2 = begun.1 ∙ ap (λ (m : ℕ). purging (cause.Hung m) begun.0 v2) u in
-    let none_owed : v2.packets.owed ≡ None = ap (λ (x : View). x.packets.owed) got.1 ∙ (ap (λ (x : View). x.packets.owed) look.1 ∙ ap (λ (p : PacketPart). p.owed) c.requires.at.2.1) in
-    let l : Left = record { cause = cause.Hung unit; bands = begun.0 } in let v4 = view c.purge_held-purged.new.cpu in
-    let done = c.purge_held-purged.ensures.emptied v2.holder.slot l (ap (λ (x : View). x.packets.owed) e3) (ap (λ (x : View). x.holder.left) e3) in
-    let lost : List ℕ = all_purged v2.holder.slot begun.0 in
-    let purged : IsPurged (cause.Hung unit) lost v2 v4 = purged_of (cause.Hung unit) begun.0 lost v2 v3 v4 none_owed e3 done.0 in
-    let share4 : v4.share ≡ v0.share = ap (λ (x : View). x.share) purged.is ∙ (ap (λ (x : View). x.share) got.1 ∙ ap (λ (x : View). x.share) look.1) in
-    let control2 : v2.control ≡ v0.control = ap (λ (x : View). x.control) got.1 ∙ ap (λ (x : View). x.control) look.1 in
-    let active : v0.control.phase ≡ Active = c.requires.hung.0.0 in let none : v0.control.purge ≡ None = c.requires.hung.0.1 in
-    let control4 : v4.control ≡ v0.control = control_kept v0.control v4.control active none (ap (λ (x : View). x.control) purged.is ∙ ap (λ (b : FirstPart). record b { phase = after_purge b.phase; purge = None }) control2) in
-    let resizing4 : v4.holder.resizing ≡ None = ap (λ (x : View). x.holder.resizing) purged.is ∙ (ap (λ (x : View). x.holder.resizing) got.1 ∙ got.5) in
-    let v5 = view c.end_resize.new.cpu in let kept = c.end_resize.ensures.kept.0 in
-    let sole1 : IsSole v1 = sole_kept v0 v1 (ap (λ (x : View). x.share) look.1) (ap (λ (x : View). x.whole.told) look.1) c.requires.sole in
-    let solo2 = c.take_lock.ensures.sole sole1 in
-    let told4 : v4.whole.told ≡ v0.whole.told = ap (λ (x : View). x.whole.told) purged.is ∙ (purged.told ∙ (ap (λ (x : View). x.whole.told) got.1 ∙ ap (λ (x : View). x.whole.told) look.1)) in
-    let w : unit ≡ v0.whole.state.station.unit = sym u ∙ ap (λ (s : StationState). s.unit) (station_known got.0 v0 v1 v2 look got.1 solo2.1) in
-    kept.9 ∙ (ap (λ (x : View). x.trail) purged.is ∙ (λ j. Purge (cause.Hung (w j)) ∷ (ap (λ (x : View). x.trail) got.1 ∙ ap (λ (x : View). x.trail) look.1) j))
+returns-clause-trail g c = let w = of_station g c in let is = (purged g c).is in let got_ = got g c in let look_ = (look g c).1 in
+    c.end_resize.ensures.kept.0.9 ∙ (ap (λ (x : View). x.trail) is ∙ (λ j. Purge (cause.Hung (w j)) ∷ (ap (λ (x : View). x.trail) got_ ∙ ap (λ (x : View). x.trail) look_) j))
 
 pub returns-clause-control : goal.returns-clause-control
-returns-clause-control g c =
-    let v0 = view c.args.cpu.now in let v1 = view c.wait_until_left.new.cpu in let v2 = view c.take_lock.new.cpu in
-    let look : IsLook v0 v1 = c.wait_until_left.ensures.same.1 in let got = c.take_lock.ensures.got in let back = c.take_lock.ensures.station in
-    let about1 : v1.share.about ≡ setup c.args.shared.now = ap (λ (x : View). x.share.about) look.1 ∙ c.requires.seat.2 in
-    let begun = c.begin_hung_purge.ensures.begun in let unit = c.unit-unit.result in let v3 = view c.begin_hung_purge.new.cpu in
-    let u : v2.holder.station.unit ≡ unit = sym (c.unit-unit.ensures ∙ ap (λ (s : StationState). s.unit) (same_Some _ _ (sym c.in-Some.is ∙ back.1))) in
-    let e3 : v3 ≡ purging (cause.Hung unit) begun.0 v2 = begun.1 ∙ ap (λ (m : ℕ). purging (cause.Hung m) begun.0 v2) u in
-    let none_owed : v2.packets.owed ≡ None = ap (λ (x : View). x.packets.owed) got.1 ∙ (ap (λ (x : View). x.packets.owed) look.1 ∙ ap (λ (p : PacketPart). p.owed) c.requires.at.2.1) in
-    let l : Left = record { cause = cause.Hung unit; bands = begun.0 } in let v4 = view c.purge_held-purged.new.cpu in
-    let done = c.purge_held-purged.ensures.emptied v2.holder.slot l (ap (λ (x : View). x.packets.owed) e3) (ap (λ (x : View). x.holder.left) e3) in
-    let lost : List ℕ = all_purged v2.holder.slot begun.0 in
-    let purged : IsPurged (cause.Hung unit) lost v2 v4 = purged_of (cause.Hung unit) begun.0 lost v2 v3 v4 none_owed e3 done.0 in
-    let share4 : v4.share ≡ v0.share = ap (λ (x : View). x.share) purged.is ∙ (ap (λ (x : View). x.share) got.1 ∙ ap (λ (x : View). x.share) look.1) in
-    let control2 : v2.control ≡ v0.control = ap (λ (x : View). x.control) got.1 ∙ ap (λ (x : View). x.control) look.1 in
-    let active : v0.control.phase ≡ Active = c.requires.hung.0.0 in let none : v0.control.purge ≡ None = c.requires.hung.0.1 in
-    let control4 : v4.control ≡ v0.control = control_kept v0.control v4.control active none (ap (λ (x : View). x.control) purged.is ∙ ap (λ (b : FirstPart). record b { phase = after_purge b.phase; purge = None }) control2) in
-    let resizing4 : v4.holder.resizing ≡ None = ap (λ (x : View). x.holder.resizing) purged.is ∙ (ap (λ (x : View). x.holder.resizing) got.1 ∙ got.5) in
-    let v5 = view c.end_resize.new.cpu in let kept = c.end_resize.ensures.kept.0 in
-    let sole1 : IsSole v1 = sole_kept v0 v1 (ap (λ (x : View). x.share) look.1) (ap (λ (x : View). x.whole.told) look.1) c.requires.sole in
-    let solo2 = c.take_lock.ensures.sole sole1 in
-    let told4 : v4.whole.told ≡ v0.whole.told = ap (λ (x : View). x.whole.told) purged.is ∙ (purged.told ∙ (ap (λ (x : View). x.whole.told) got.1 ∙ ap (λ (x : View). x.whole.told) look.1)) in
-    let w : unit ≡ v0.whole.state.station.unit = sym u ∙ ap (λ (s : StationState). s.unit) (station_known got.0 v0 v1 v2 look got.1 solo2.1) in
-    kept.4 ∙ control4
+returns-clause-control g c = c.end_resize.ensures.kept.0.4 ∙ control g c
 
 pub returns-clause-purged : goal.returns-clause-purged
-returns-clause-purged g c =
-    let v0 = view c.args.cpu.now in let v1 = view c.wait_until_left.new.cpu in let v2 = view c.take_lock.new.cpu in
-    let look : IsLook v0 v1 = c.wait_until_left.ensures.same.1 in let got = c.take_lock.ensures.got in let back = c.take_lock.ensures.station in
-    let about1 : v1.share.about ≡ setup c.args.shared.now = ap (λ (x : View). x.share.about) look.1 ∙ c.requires.seat.2 in
-    let begun = c.begin_hung_purge.ensures.begun in let unit = c.unit-unit.result in let v3 = view c.begin_hung_purge.new.cpu in
-    let u : v2.holder.station.unit ≡ unit = sym (c.unit-unit.ensures ∙ ap (λ (s : StationState). s.unit) (same_Some _ _ (sym c.in-Some.is ∙ back.1))) in
-    let e3 : v3 ≡ purging (cause.Hung unit) begun.0 v2 = begun.1 ∙ ap (λ (m : ℕ). purging (cause.Hung m) begun.0 v2) u in
-    let none_owed : v2.packets.owed ≡ None = ap (λ (x : View). x.packets.owed) got.1 ∙ (ap (λ (x : View). x.packets.owed) look.1 ∙ ap (λ (p : PacketPart). p.owed) c.requires.at.2.1) in
-    let l : Left = record { cause = cause.Hung unit; bands = begun.0 } in let v4 = view c.purge_held-purged.new.cpu in
-    let done = c.purge_held-purged.ensures.emptied v2.holder.slot l (ap (λ (x : View). x.packets.owed) e3) (ap (λ (x : View). x.holder.left) e3) in
-    let lost : List ℕ = all_purged v2.holder.slot begun.0 in
-    let purged : IsPurged (cause.Hung unit) lost v2 v4 = purged_of (cause.Hung unit) begun.0 lost v2 v3 v4 none_owed e3 done.0 in
-    let share4 : v4.share ≡ v0.share = ap (λ (x : View). x.share) purged.is ∙ (ap (λ (x : View). x.share) got.1 ∙ ap (λ (x : View). x.share) look.1) in
-    let control2 : v2.control ≡ v0.control = ap (λ (x : View). x.control) got.1 ∙ ap (λ (x : View). x.control) look.1 in
-    let active : v0.control.phase ≡ Active = c.requires.hung.0.0 in let none : v0.control.purge ≡ None = c.requires.hung.0.1 in
-    let control4 : v4.control ≡ v0.control = control_kept v0.control v4.control active none (ap (λ (x : View). x.control) purged.is ∙ ap (λ (b : FirstPart). record b { phase = after_purge b.phase; purge = None }) control2) in
-    let resizing4 : v4.holder.resizing ≡ None = ap (λ (x : View). x.holder.resizing) purged.is ∙ (ap (λ (x : View). x.holder.resizing) got.1 ∙ got.5) in
-    let v5 = view c.end_resize.new.cpu in let kept = c.end_resize.ensures.kept.0 in
-    let sole1 : IsSole v1 = sole_kept v0 v1 (ap (λ (x : View). x.share) look.1) (ap (λ (x : View). x.whole.told) look.1) c.requires.sole in
-    let solo2 = c.take_lock.ensures.sole sole1 in
-    let told4 : v4.whole.told ≡ v0.whole.told = ap (λ (x : View). x.whole.told) purged.is ∙ (purged.told ∙ (ap (λ (x : View). x.whole.told) got.1 ∙ ap (λ (x : View). x.whole.told) look.1)) in
-    let w : unit ≡ v0.whole.state.station.unit = sym u ∙ ap (λ (s : StationState). s.unit) (station_known got.0 v0 v1 v2 look got.1 solo2.1) in
-    let all = lost_is (cause.Hung unit) lost got.0 v0 v1 v2 v4 v5 look got.1 solo2.0 solo2.1 purged c.end_resize.ensures.kept.1 kept.1 c.end_resize.ensures.sole c.requires.sole begun.0 begun.4 in (
-      kept.8 ∙ (ap (λ (x : View). x.settled) purged.is ∙ (λ j. fates_onto (fate.Purged (cause.Hung (w j))) (all j) ((ap (λ (x : View). x.settled) got.1 ∙ ap (λ (x : View). x.settled) look.1) j))),
-      done.1 ∙ ap length all,
+returns-clause-purged g c = let w = of_station g c in let is = (purged g c).is in let got_ = got g c in let look_ = (look g c).1 in
+    let all = lost_is (cause.Hung (unit g c)) (lost g c) c.take_lock.ensures.got.0 (v0 g c) (view c.wait_until_left.new.cpu) (v2 g c) (v4 g c) (view c.end_resize.new.cpu) (look g c) (got g c) (c.take_lock.ensures.sole (sole g c)).0 (c.take_lock.ensures.sole (sole g c)).1 (purged g c) c.end_resize.ensures.kept.1 c.end_resize.ensures.kept.0.1 c.end_resize.ensures.sole c.requires.sole c.begin_hung_purge.ensures.begun.0 c.begin_hung_purge.ensures.begun.4 in (
+      c.end_resize.ensures.kept.0.8 ∙ (ap (λ (x : View). x.settled) is ∙ (λ j. fates_onto (fate.Purged (cause.Hung (w j))) (all j) ((ap (λ (x : View). x.settled) got_ ∙ ap (λ (x : View). x.settled) look_) j))),
+      (emptied g c).1 ∙ ap length all,
     )
 
+pub returns-clause-step : goal.returns-clause-step
+returns-clause-step g c = let w = of_station g c in solo_five (cause.Hung (unit g c)) (lost g c) c.take_lock.ensures.got.0 (v0 g c) (view c.wait_until_left.new.cpu) (v2 g c) (v4 g c) (view c.end_resize.new.cpu) (look g c) (got g c) (c.take_lock.ensures.sole (sole g c)).0 (c.take_lock.ensures.sole (sole g c)).1 (purged g c) c.end_resize.ensures.kept.1 c.end_resize.ensures.kept.0.1 c.end_resize.ensures.sole c.requires.sole ∙ (λ j. purged_as_hung (w j) (solo (v0 g c)))
+
 pub returns-clause-account : goal.returns-clause-account
-returns-clause-account g c =
-    let v0 = view c.args.cpu.now in let v1 = view c.wait_until_left.new.cpu in let v2 = view c.take_lock.new.cpu in
-    let look : IsLook v0 v1 = c.wait_until_left.ensures.same.1 in let got = c.take_lock.ensures.got in let back = c.take_lock.ensures.station in
-    let about1 : v1.share.about ≡ setup c.args.shared.now = ap (λ (x : View). x.share.about) look.1 ∙ c.requires.seat.2 in
-    let begun = c.begin_hung_purge.ensures.begun in let unit = c.unit-unit.result in let v3 = view c.begin_hung_purge.new.cpu in
-    let u : v2.holder.station.unit ≡ unit = sym (c.unit-unit.ensures ∙ ap (λ (s : StationState). s.unit) (same_Some _ _ (sym c.in-Some.is ∙ back.1))) in
-    let e3 : v3 ≡ purging (cause.Hung unit) begun.0 v2 = begun.1 ∙ ap (λ (m : ℕ). purging (cause.Hung m) begun.0 v2) u in
-    let none_owed : v2.packets.owed ≡ None = ap (λ (x : View). x.packets.owed) got.1 ∙ (ap (λ (x : View). x.packets.owed) look.1 ∙ ap (λ (p : PacketPart). p.owed) c.requires.at.2.1) in
-    let l : Left = record { cause = cause.Hung unit; bands = begun.0 } in let v4 = view c.purge_held-purged.new.cpu in
-    let done = c.purge_held-purged.ensures.emptied v2.holder.slot l (ap (λ (x : View). x.packets.owed) e3) (ap (λ (x : View). x.holder.left) e3) in
-    let lost : List ℕ = all_purged v2.holder.slot begun.0 in
-    let purged : IsPurged (cause.Hung unit) lost v2 v4 = purged_of (cause.Hung unit) begun.0 lost v2 v3 v4 none_owed e3 done.0 in
-    let share4 : v4.share ≡ v0.share = ap (λ (x : View). x.share) purged.is ∙ (ap (λ (x : View). x.share) got.1 ∙ ap (λ (x : View). x.share) look.1) in
-    let control2 : v2.control ≡ v0.control = ap (λ (x : View). x.control) got.1 ∙ ap (λ (x : View). x.control) look.1 in
-    let active : v0.control.phase ≡ Active = c.requires.hung.0.0 in let none : v0.control.purge ≡ None = c.requires.hung.0.1 in
-    let control4 : v4.control ≡ v0.control = control_kept v0.control v4.control active none (ap (λ (x : View). x.control) purged.is ∙ ap (λ (b : FirstPart). record b { phase = after_purge b.phase; purge = None }) control2) in
-    let resizing4 : v4.holder.resizing ≡ None = ap (λ (x : View). x.holder.resizing) purged.is ∙ (ap (λ (x : View). x.holder.resizing) got.1 ∙ got.5) in
-    let v5 = view c.end_resize.new.cpu in let kept = c.end_resize.ensures.kept.0 in
-    let sole1 : IsSole v1 = sole_kept v0 v1 (ap (λ (x : View). x.share) look.1) (ap (λ (x : View). x.whole.told) look.1) c.requires.sole in
-    let solo2 = c.take_lock.ensures.sole sole1 in
-    let told4 : v4.whole.told ≡ v0.whole.told = ap (λ (x : View). x.whole.told) purged.is ∙ (purged.told ∙ (ap (λ (x : View). x.whole.told) got.1 ∙ ap (λ (x : View). x.whole.told) look.1)) in
-    let w : unit ≡ v0.whole.state.station.unit = sym u ∙ ap (λ (s : StationState). s.unit) (station_known got.0 v0 v1 v2 look got.1 solo2.1) in
-    account_five (cause.Hung unit) lost got.0 v0 v1 v2 v4 v5 look got.1 solo2.0 solo2.1 purged c.end_resize.ensures.kept.1 kept.1 c.end_resize.ensures.sole c.requires.sole ∙ (λ j. after (Purge (cause.Hung (w j))) (account_of v0))
+returns-clause-account g c = let w = of_station g c in account_five (cause.Hung (unit g c)) (lost g c) c.take_lock.ensures.got.0 (v0 g c) (view c.wait_until_left.new.cpu) (v2 g c) (v4 g c) (view c.end_resize.new.cpu) (look g c) (got g c) (c.take_lock.ensures.sole (sole g c)).0 (c.take_lock.ensures.sole (sole g c)).1 (purged g c) c.end_resize.ensures.kept.1 c.end_resize.ensures.kept.0.1 c.end_resize.ensures.sole c.requires.sole ∙ (λ j. after (Purge (cause.Hung (w j))) (account_of (v0 g c)))
 
 pub returns-clause-device : goal.returns-clause-device
-returns-clause-device g c =
-    let v0 = view c.args.cpu.now in let v1 = view c.wait_until_left.new.cpu in let v2 = view c.take_lock.new.cpu in
-    let look : IsLook v0 v1 = c.wait_until_left.ensures.same.1 in let got = c.take_lock.ensures.got in let back = c.take_lock.ensures.station in
-    let about1 : v1.share.about ≡ setup c.args.shared.now = ap (λ (x : View). x.share.about) look.1 ∙ c.requires.seat.2 in
-    let begun = c.begin_hung_purge.ensures.begun in let unit = c.unit-unit.result in let v3 = view c.begin_hung_purge.new.cpu in
-    let u : v2.holder.station.unit ≡ unit = sym (c.unit-unit.ensures ∙ ap (λ (s : StationState). s.unit) (same_Some _ _ (sym c.in-Some.is ∙ back.1))) in
-    let e3 : v3 ≡ purging (cause.Hung unit) begun.0 v2 = begun.1 ∙ ap (λ (m : ℕ). purging (cause.Hung m) begun.0 v2) u in
-    let none_owed : v2.packets.owed ≡ None = ap (λ (x : View). x.packets.owed) got.1 ∙ (ap (λ (x : View). x.packets.owed) look.1 ∙ ap (λ (p : PacketPart). p.owed) c.requires.at.2.1) in
-    let l : Left = record { cause = cause.Hung unit; bands = begun.0 } in let v4 = view c.purge_held-purged.new.cpu in
-    let done = c.purge_held-purged.ensures.emptied v2.holder.slot l (ap (λ (x : View). x.packets.owed) e3) (ap (λ (x : View). x.holder.left) e3) in
-    let lost : List ℕ = all_purged v2.holder.slot begun.0 in
-    let purged : IsPurged (cause.Hung unit) lost v2 v4 = purged_of (cause.Hung unit) begun.0 lost v2 v3 v4 none_owed e3 done.0 in
-    let share4 : v4.share ≡ v0.share = ap (λ (x : View). x.share) purged.is ∙ (ap (λ (x : View). x.share) got.1 ∙ ap (λ (x : View). x.share) look.1) in
-    let control2 : v2.control ≡ v0.control = ap (λ (x : View). x.control) got.1 ∙ ap (λ (x : View). x.control) look.1 in
-    let active : v0.control.phase ≡ Active = c.requires.hung.0.0 in let none : v0.control.purge ≡ None = c.requires.hung.0.1 in
-    let control4 : v4.control ≡ v0.control = control_kept v0.control v4.control active none (ap (λ (x : View). x.control) purged.is ∙ ap (λ (b : FirstPart). record b { phase = after_purge b.phase; purge = None }) control2) in
-    let resizing4 : v4.holder.resizing ≡ None = ap (λ (x : View). x.holder.resizing) purged.is ∙ (ap (λ (x : View). x.holder.resizing) got.1 ∙ got.5) in
-    let v5 = view c.end_resize.new.cpu in let kept = c.end_resize.ensures.kept.0 in
-    let sole1 : IsSole v1 = sole_kept v0 v1 (ap (λ (x : View). x.share) look.1) (ap (λ (x : View). x.whole.told) look.1) c.requires.sole in
-    let solo2 = c.take_lock.ensures.sole sole1 in
-    let told4 : v4.whole.told ≡ v0.whole.told = ap (λ (x : View). x.whole.told) purged.is ∙ (purged.told ∙ (ap (λ (x : View). x.whole.told) got.1 ∙ ap (λ (x : View). x.whole.told) look.1)) in
-    let w : unit ≡ v0.whole.state.station.unit = sym u ∙ ap (λ (s : StationState). s.unit) (station_known got.0 v0 v1 v2 look got.1 solo2.1) in
-    device_five (cause.Hung unit) lost got.0 v0 v1 v2 v4 v5 look got.1 solo2.0 solo2.1 purged c.end_resize.ensures.kept.1 kept.1 c.end_resize.ensures.sole c.requires.sole
+returns-clause-device g c = device_five (cause.Hung (unit g c)) (lost g c) c.take_lock.ensures.got.0 (v0 g c) (view c.wait_until_left.new.cpu) (v2 g c) (v4 g c) (view c.end_resize.new.cpu) (look g c) (got g c) (c.take_lock.ensures.sole (sole g c)).0 (c.take_lock.ensures.sole (sole g c)).1 (purged g c) c.end_resize.ensures.kept.1 c.end_resize.ensures.kept.0.1 c.end_resize.ensures.sole c.requires.sole

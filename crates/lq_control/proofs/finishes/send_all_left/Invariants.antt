@@ -1,8 +1,9 @@
-use Rattle.std.proofs.Common.{◌≡◌}
+use Rattle.std.proofs.Common.{◌≡◌, false}
 use Rattle.lq_model.specs.declared.machine.Position.TheVariants.{Idle}
 use Rattle.lq_table.specs.Sees.{view, setup, position, IsSeatOf, IsSameSeat}
+use Rattle.lq_qdisc.specs.Calls.{KeepsFates}
 use Rattle.lq_qdisc.specs.Sends.{IsReady}
-use Rattle.lq_control.specs.Finish.{AreFor, AreTurnsFrom, AreAllDone, IsSent}
+use Rattle.lq_control.specs.Finish.{AreTurnsFrom, AreAllDone, IsSent}
 use Rattle.lq_control.proofs.finishes.send_all_left.Given as goal
 
 abbrev pub invariant-loop-n : goal.invariant-loop-n
@@ -11,10 +12,12 @@ invariant-loop-n g l = record {
   same : IsSameSeat l.fn.cpu l.cpu;
   at : position l.cpu ≡ Idle;
   ready : IsReady l.cpu;
+  low : (view l.cpu).place.raised ≡ false;
   share : (view l.cpu).share ≡ (view l.fn.cpu).share;
   control : (view l.cpu).control ≡ (view l.fn.cpu).control;
   told : (view l.cpu).whole.told ≡ (view l.fn.cpu).whole.told;
   turns : AreTurnsFrom (setup l.shared) l.n (view l.cpu).turns;
   sent : IsSent (setup l.shared) (view l.fn.cpu) (view l.cpu);
+  fates : KeepsFates (view l.fn.cpu) (view l.cpu);
   done : AreAllDone (setup l.shared) (view l.fn.cpu).turns → view l.cpu ≡ view l.fn.cpu;
 }

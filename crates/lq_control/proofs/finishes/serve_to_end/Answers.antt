@@ -1,32 +1,92 @@
-use Rattle.std.proofs.Common.{rules, [], ap, ◌∙◌}
-use Rattle.lq_table.specs.Views.{View, FirstPart}
-use Rattle.lq_table.specs.Sees.{view}
+use Rattle.std.proofs.Common.{◌≡◌, rules, refl, None, [], sym, ap, ◌∙◌, subst}
+use Rattle.lq_model.specs.Account.{Account}
+use Rattle.lq_table.specs.Views.{View, FirstPart, SharePart, first_account}
+use Rattle.lq_table.specs.Sees.{view, setup}
+use Rattle.lq_table.specs.Solo.{Solo, account_of, solo}
 use Rattle.lq_ring.proofs.Seats.{seat_on}
+use Rattle.lq_qdisc.specs.Alone.{account_in}
+use Rattle.lq_qdisc.proofs.AloneSteps.{account_at}
 use Rattle.lq_control.specs.Control.{IsServed}
-use Rattle.lq_control.proofs.Served.{served_then}
-use Rattle.lq_control.proofs.FinishSteps.{ready_kept, served_begun, served_looked, served_returned}
+use Rattle.lq_control.specs.Ending.{IsEndedAlike}
+use Rattle.lq_control.specs.Finish.{Shows}
+use Rattle.lq_control.specs.declared.finishes.Seen.{Seen}
+use Rattle.lq_control.proofs.EndingLemmas.{alike_further, alike_same}
+use Rattle.lq_control.proofs.Served.{served_none, served_then}
+use Rattle.lq_control.proofs.FinishSteps.{ready_kept, served_begun, served_looked, served_returned, solo_looked}
 use Rattle.lq_control.proofs.finishes.serve_to_end.Goals as goal
+
+pub loop-init : goal.loop-init
+loop-init g c = let v = view c.args.cpu.now in record {
+  can = (search rules);
+  ends = (search rules);
+  seat = c.requires.seat;
+  same = (refl, refl);
+  at = c.requires.at.0;
+  ready = c.requires.at.3;
+  low = c.requires.at.2;
+  served = served_none v v refl;
+  alike = λ one h. alike_same c.args.shared.now.infos.now (first_account (setup c.args.shared.now)) (solo v) h;
+}
+
+pub irq-requires-clause-seat : goal.irq-requires-clause-seat
+irq-requires-clause-seat g c _ _ =
+    let i = c.loop.invariant in let b = c.begin_control.ensures in let p = c.look.ensures.same in let e = c.end_control.ensures in
+    let share = ap (λ (x : View). x.share) e.view ∙ (ap (λ (x : View). x.share) p.1.1 ∙ ap (λ (x : View). x.share) b.view) in
+    seat_on c.args.shared.now c.loop.cpu c.end_control.new.cpu i.seat (e.same.0.0 ∙ (p.0.0.0 ∙ b.same.0.0), e.same.0.1 ∙ (p.0.0.1 ∙ b.same.0.1)) share
+
+pub irq-requires-clause-ready : goal.irq-requires-clause-ready
+irq-requires-clause-ready g c _ _ =
+    let i = c.loop.invariant in let b = c.begin_control.ensures in let p = c.look.ensures.same in let e = c.end_control.ensures in
+    let ready2 = ready_kept c.loop.cpu c.begin_control.new.cpu b.same (ap (λ (x : View). x.packets) b.view) (ap (λ (x : View). x.locks) b.view) (ap (λ (x : View). x.holder.resizing) b.view) i.ready in
+    let ready3 = ready_kept c.begin_control.new.cpu c.look.new.cpu p.0 (ap (λ (x : View). x.packets) p.1.1) (ap (λ (x : View). x.locks) p.1.1) (ap (λ (x : View). x.holder.resizing) p.1.1) ready2 in
+    ready_kept c.look.new.cpu c.end_control.new.cpu e.same (ap (λ (x : View). x.packets) e.view) (ap (λ (x : View). x.locks) e.view) (ap (λ (x : View). x.holder.resizing) e.view) ready3
 
 pub loop-preserved : goal.loop-preserved
 loop-preserved g c =
-    let i = c.loop.invariant in let n = c.irq.ensures in let d = c.drain.ensures in let b = c.begin_control.ensures in let l = c.look.ensures in let e = c.end_control.ensures in
-    let v0 = view c.args.cpu.now in let v1 = view c.loop.cpu in let v2 = view c.irq.new.cpu in let v3 = view c.drain.new.cpu in let v4 = view c.begin_control.new.cpu in let v5 = view c.look.new.cpu in let v6 = view c.end_control.new.cpu in
-    let woken : IsServed v1 v2 = record {
+    let i = c.loop.invariant in let b = c.begin_control.ensures in let l = c.look.ensures in let e = c.end_control.ensures in let n = c.irq.ensures in let d = c.drain.ensures in
+    let v0 = view c.args.cpu.now in let v1 = view c.loop.cpu in let v2 = view c.begin_control.new.cpu in let v3 = view c.look.new.cpu in let v4 = view c.end_control.new.cpu in let v5 = view c.irq.new.cpu in let v6 = view c.drain.new.cpu in
+    let woken : IsServed v4 v5 = record {
       kept = record { share = n.kept.share; turns = n.still.turns; first = ap (λ (x : FirstPart). x.first) n.kept.control; told = n.kept.told };
       control = n.kept.control;
       trail = n.still.trail;
       fates = ([], n.settled);
     } in
-    let more : IsServed v1 v6 = served_then v1 v2 v6 woken (served_then v2 v3 v6 d.served (served_then v3 v4 v6 (served_begun v3 v4 b.view) (served_then v4 v5 v6 (served_looked v4 v5 l.same.1) (served_returned v5 v6 e.view)))) in
-    let look = l.same.1.1 in let p = l.same.0 in
-    let ids = e.same.0.0 ∙ (p.0.0 ∙ (b.same.0.0 ∙ (d.same.0 ∙ n.kept.seat.0))) in let ids1 = e.same.0.1 ∙ (p.0.1 ∙ (b.same.0.1 ∙ (d.same.1 ∙ n.kept.seat.1))) in
-    let ready4 = ready_kept c.drain.new.cpu c.begin_control.new.cpu b.same (ap (λ (x : View). x.packets) b.view) (ap (λ (x : View). x.locks) b.view) (ap (λ (x : View). x.holder.resizing) b.view) d.at.1 in
-    let ready5 = ready_kept c.begin_control.new.cpu c.look.new.cpu p (ap (λ (x : View). x.packets) look) (ap (λ (x : View). x.locks) look) (ap (λ (x : View). x.holder.resizing) look) ready4 in record {
+    let returned : IsServed v1 v4 = served_then v1 v2 v4 (served_begun v1 v2 b.view) (served_then v2 v3 v4 (served_looked v2 v3 l.same.1) (served_returned v3 v4 e.view)) in
+    let more : IsServed v1 v6 = served_then v1 v4 v6 returned (served_then v4 v5 v6 woken d.served) in
+    let p = l.same.0 in
+    let ids = d.same.0 ∙ (n.kept.seat.0 ∙ (e.same.0.0 ∙ (p.0.0 ∙ b.same.0.0))) in let ids1 = d.same.1 ∙ (n.kept.seat.1 ∙ (e.same.0.1 ∙ (p.0.1 ∙ b.same.0.1))) in
+    let k = setup c.args.shared.now in let infos = c.args.shared.now.infos.now in let start : Account = first_account k in
+    let about4 : v4.share.about ≡ k = ap (λ (x : SharePart). x.about) returned.kept.share ∙ i.seat.2 in
+    let same4 : solo v4 ≡ solo v1 = ap solo e.view ∙ solo_looked v1 v2 v3 b.view l.same.1 in
+    let shows : (account_of v3).down ≡ None = subst (λ (x : Seen). Shows x v3) c.in-Going.is l.shows in
+    let active : (account_in start (solo v4)).down ≡ None = ap (λ (a : Account). a.down) (account_at k v4 about4) ∙ (ap (λ (x : View). (account_of x).down) e.view ∙ shows) in record {
       can = (search rules);
       ends = (search rules);
-      seat = seat_on c.args.shared.now c.loop.cpu c.end_control.new.cpu i.seat (ids, ids1) more.kept.share;
+      seat = seat_on c.args.shared.now c.loop.cpu c.drain.new.cpu i.seat (ids, ids1) more.kept.share;
       same = (ids ∙ i.same.0, ids1 ∙ i.same.1);
-      at = ap (λ (x : View). x.place.position) e.view;
-      ready = ready_kept c.look.new.cpu c.end_control.new.cpu e.same (ap (λ (x : View). x.packets) e.view) (ap (λ (x : View). x.locks) e.view) (ap (λ (x : View). x.holder.resizing) e.view) ready5;
+      at = d.at.0;
+      ready = d.at.1;
+      low = d.raised;
       served = served_then v0 v1 v6 i.served more;
+      alike = λ one h. alike_further infos start (solo v0) (solo v4) (subst (λ (s : Solo). IsEndedAlike infos start (solo v0) s) (sym same4) (i.alike one h)) (ap (λ (s : Solo). s.raised) same4 ∙ i.low) (solo v5) (solo v6) active (n.alone one) (d.alone one);
     }
+
+pub returns-in-Ended-clause-fates : goal.returns-in-Ended-clause-fates
+returns-in-Ended-clause-fates g c =
+    let i = c.loop.invariant in let v0 = view c.args.cpu.now in let v1 = view c.loop.cpu in let v2 = view c.begin_control.new.cpu in let v3 = view c.look.new.cpu in
+    (served_then v0 v1 v3 i.served (served_then v1 v2 v3 (served_begun v1 v2 c.begin_control.ensures.view) (served_looked v2 v3 c.look.ensures.same.1))).fates
+
+pub returns-in-Ended-clause-alone : goal.returns-in-Ended-clause-alone
+returns-in-Ended-clause-alone g c = λ one h.
+    let infos = c.args.shared.now.infos.now in let start : Account = first_account (setup c.args.shared.now) in let v0 = view c.args.cpu.now in
+    subst (λ (s : Solo). IsEndedAlike infos start (solo v0) s) (sym (solo_looked (view c.loop.cpu) (view c.begin_control.new.cpu) (view c.look.new.cpu) c.begin_control.ensures.view c.look.ensures.same.1)) (c.loop.invariant.alike one h)
+
+pub returns-in-Hung-clause-fates : goal.returns-in-Hung-clause-fates
+returns-in-Hung-clause-fates g c =
+    let i = c.loop.invariant in let v0 = view c.args.cpu.now in let v1 = view c.loop.cpu in let v2 = view c.begin_control.new.cpu in let v3 = view c.look.new.cpu in
+    (served_then v0 v1 v3 i.served (served_then v1 v2 v3 (served_begun v1 v2 c.begin_control.ensures.view) (served_looked v2 v3 c.look.ensures.same.1))).fates
+
+pub returns-in-Hung-clause-alone : goal.returns-in-Hung-clause-alone
+returns-in-Hung-clause-alone g c = λ one h.
+    let infos = c.args.shared.now.infos.now in let start : Account = first_account (setup c.args.shared.now) in let v0 = view c.args.cpu.now in
+    subst (λ (s : Solo). IsEndedAlike infos start (solo v0) s) (sym (solo_looked (view c.loop.cpu) (view c.begin_control.new.cpu) (view c.look.new.cpu) c.begin_control.ensures.view c.look.ensures.same.1)) (c.loop.invariant.alike one h)

@@ -1,8 +1,12 @@
-use Rattle.std.proofs.Common.{◌≡◌}
+use Rattle.std.proofs.Common.{◌≡◌, false}
 use Rattle.lq_model.specs.declared.machine.Position.TheVariants.{Idle}
-use Rattle.lq_table.specs.Sees.{view, position, IsSeatOf, IsSameSeat}
+use Rattle.lq_table.specs.Views.{first_account}
+use Rattle.lq_table.specs.Sees.{view, setup, position, IsSeatOf, IsSameSeat}
+use Rattle.lq_table.specs.Solo.{solo}
+use Rattle.lq_qdisc.specs.Alone.{IsAlone}
 use Rattle.lq_qdisc.specs.Sends.{IsReady}
 use Rattle.lq_control.specs.Control.{IsServed}
+use Rattle.lq_control.specs.Ending.{IsEndedAlike}
 use Rattle.lq_control.proofs.finishes.serve_to_end.Given as goal
 
 abbrev pub invariant-loop : goal.invariant-loop
@@ -13,5 +17,8 @@ invariant-loop g l = record {
   same : IsSameSeat l.fn.cpu l.cpu;
   at : position l.cpu ≡ Idle;
   ready : IsReady l.cpu;
+  low : (view l.cpu).place.raised ≡ false;
   served : IsServed (view l.fn.cpu) (view l.cpu);
+  alike : l.shared.queues ≡ 1 → IsAlone l.shared.infos.now (first_account (setup l.shared)) (solo (view l.fn.cpu))
+      → IsEndedAlike l.shared.infos.now (first_account (setup l.shared)) (solo (view l.fn.cpu)) (solo (view l.cpu));
 }

@@ -1,14 +1,17 @@
 use Rattle.std.proofs.Common.{◌≡◌, true, sym, ap, ◌∙◌, subst}
 use Rattle.lq_model.specs.Account.{Resize}
+use Rattle.lq_model.specs.Alone.{changed}
+use Rattle.lq_model.specs.declared.plan.EventKind.TheVariants as kind
 use Rattle.lq_model.specs.declared.fate.Fate.TheVariants as fate
-use Rattle.lq_table.specs.Views.{View}
+use Rattle.lq_table.specs.Views.{View, first_account}
 use Rattle.lq_table.specs.Controls.{beginning_control}
-use Rattle.lq_table.specs.Sees.{view}
+use Rattle.lq_table.specs.Sees.{view, setup}
 use Rattle.lq_table.specs.Solo.{IsSole, solo, heard, locked_to}
 use Rattle.lq_table.specs.Told.{got_in_control}
 use Rattle.lq_run.specs.Runs.{ended}
 use Rattle.lq_ring.specs.Fates.{fates_onto}
 use Rattle.lq_ring.specs.Resized.{all_lost, having_resized}
+use Rattle.lq_control.proofs.Alone.{resize_alone, resized_same, stepped_at}
 use Rattle.lq_control.proofs.Sole.{lost_dropped}
 use Rattle.lq_control.proofs.resizes.resize.Goals as goal
 
@@ -30,3 +33,9 @@ returns-clause-sole g c sole =
     let r = c.resize_all-shrunk.ensures.resized in let s1 : solo (view c.begin_control.new.cpu) ≡ solo v = ap solo c.begin_control.ensures.view in
     let s2 = (c.take_lock.ensures.sole (subst IsSole (sym c.begin_control.ensures.view) sole)).0 ∙ ap (locked_to true) s1 in
     c.end_resize.ensures.sole (subst IsSole (sym (r.1 ∙ ap (having_resized c.args.len c.args.event (all_lost c.args.len r.0)) e2)) sole) ∙ ap ended (ap solo r.1 ∙ ap (heard (Resize c.args.len c.args.event)) s2)
+
+pub returns-clause-alone : goal.returns-clause-alone
+returns-clause-alone g c = λ one plan h.
+    let infos = c.args.shared.now.infos.now in let start = first_account (setup c.args.shared.now) in let v = solo (view c.args.cpu.now) in let len = c.args.len in let event = c.args.event in
+    stepped_at infos start (changed plan event (kind.Resize len)) v (heard (Resize len event) v) (solo (view c.end_resize.new.cpu))
+    (returns-clause-sole g c h.sender.sole ∙ resized_same infos start (Resize len event) v h) (resize_alone infos start len event plan v h)

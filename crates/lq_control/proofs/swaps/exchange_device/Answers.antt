@@ -1,11 +1,14 @@
-use Rattle.std.proofs.Common.{◌≡◌, sym, ap, ◌∙◌, subst, arith, ◌∷◌, Option, Contains}
+use Rattle.std.proofs.Common.{◌≡◌, false, sym, ap, ◌∙◌, subst, arith, ◌∷◌, Option, Contains}
 use Rattle.std.specs.Prelude.{is_some}
 use Rattle.std.specs.Option.{unwrap_or}
 use Rattle.lq_device.specs.Station.{StationState}
+use Rattle.lq_model.specs.Device.{DeviceState}
 use Rattle.lq_table.specs.Views.{View, Setup, no_station}
-use Rattle.lq_table.specs.Rule.{station_count}
+use Rattle.lq_table.specs.Rule.{HasServed, latest_unit, station_count, units_of}
 use Rattle.lq_table.specs.Controls.{IsExchange}
 use Rattle.lq_table.specs.Sees.{view}
+use Rattle.lq_table.specs.Solo.{Solo, device_to, heard, locked_to, solo}
+use Rattle.lq_model.specs.Account.{Swap}
 use Rattle.lq_control.proofs.swaps.exchange_device.Goals as goal
 
 pub exchange-requires-clause-station : goal.exchange-requires-clause-station
@@ -17,6 +20,7 @@ exchange-requires-clause-station g c _ _ =
     let above = c.requires.unit.1 in let first = above.first in (
       ap (λ (o : Option StationState). is_some o) changed,
       subst (λ (z : Option StationState). IsExchange (view c.change_device-old.new.cpu).share.about.infos (view c.change_device-old.new.cpu).share.about.station (view c.change_device-old.new.cpu).holder.units (unwrap_or z no_station)) (sym changed) record {
+        asked = c.requires.device.3;
         accepted = c.requires.device.0;
         alive = c.requires.device.1;
         room = (let fits = c.requires.device.2 in let same = ap (λ (k : Setup). station_count k.infos k.station) about in omega arith);
@@ -26,10 +30,30 @@ exchange-requires-clause-station g c _ _ =
       },
     )
 
+pub returns-clause-served : goal.returns-clause-served
+returns-clause-served g c =
+    let h = (view c.take_lock.new.cpu).holder in let old = (c.change_device-old.ensures.changed h c.take_lock.ensures.station.1).1 in let now = c.change_device-old.ensures.same.3 in
+    let origin = ap (λ (x : View). x.control.origin) now ∙ ap (λ (x : View). x.control.origin) c.take_lock.ensures.got.1 in
+    subst (λ (z : DeviceState × DeviceState). HasServed c.args.shared.now.infos.now c.args.shared.now.station z.0 z.1) (λ j. (origin j, (ap (λ (x : View). x.holder.station.device) now ∙ sym old) j)) c.exchange.ensures.served
+
+pub returns-clause-came : goal.returns-clause-came
+returns-clause-came g c =
+    let changed = (c.change_device-old.ensures.changed (view c.take_lock.new.cpu).holder c.take_lock.ensures.station.1).0 in
+    ap (λ (x : View). x.control.origin) c.release.ensures.released ∙ (ap (λ (x : View). x.control.origin) c.open_queues.ensures.opened.1
+    ∙ (ap (λ (x : View). x.control.origin) c.exchange.ensures.view ∙ ap (λ (o : Option StationState). (unwrap_or o no_station).device) changed))
+
 pub returns-clause-gone : goal.returns-clause-gone
 returns-clause-gone g c =
     let h = (view c.take_lock.new.cpu).holder in let old = (c.change_device-old.ensures.changed h c.take_lock.ensures.station.1).1 in let now = c.change_device-old.ensures.same.3 in let before = view c.change_device-old.new.cpu in
-    let exchanged = ap (λ (x : View). x.control.gone) c.release.ensures.released ∙ (ap (λ (x : View). x.control.gone) c.open_queues.ensures.opened.1 ∙ ap (λ (x : View). x.control.gone) c.exchange.ensures.view) in (
-      h.station.unit,
-      exchanged ∙ (λ j. ((now j).holder.station.unit, ((ap (λ (x : View). x.holder.station.device) now ∙ sym old) j).accepted) ∷ (ap (λ (x : View). x.control.gone) now ∙ ap (λ (x : View). x.control.gone) c.take_lock.ensures.got.1) j),
-    )
+    let exchanged = ap (λ (x : View). x.control.gone) c.release.ensures.released ∙ (ap (λ (x : View). x.control.gone) c.open_queues.ensures.opened.1 ∙ ap (λ (x : View). x.control.gone) c.exchange.ensures.view) in
+    let units : before.holder.units ≡ units_of (view c.args.cpu.now).trail = ap (λ (x : View). x.holder.units) now ∙ c.take_lock.ensures.units c.requires.at.1 in
+    let unit = c.exchange.ensures.unit ∙ ap (latest_unit c.args.shared.now.station) units in
+    exchanged ∙ (λ j. (unit j, ((ap (λ (x : View). x.holder.station.device) now ∙ sym old) j).accepted) ∷ (ap (λ (x : View). x.control.gone) now ∙ ap (λ (x : View). x.control.gone) c.take_lock.ensures.got.1) j)
+
+pub returns-clause-sole : goal.returns-clause-sole
+returns-clause-sole g c = λ sole.
+    let h = (view c.take_lock.new.cpu).holder in let changed = (c.change_device-old.ensures.changed h c.take_lock.ensures.station.1).0 in let before = view c.change_device-old.new.cpu in
+    let device = (g.D.TxDevice.state c.args.device) in
+    let exchanged = ap solo c.exchange.ensures.view ∙ ap (λ (o : Option StationState). device_to (unwrap_or o no_station).device (heard (Swap (unwrap_or o no_station).unit) (solo before))) changed in
+    ap solo c.release.ensures.released ∙ (ap (locked_to false) (c.open_queues.ensures.step ∙ exchanged)
+    ∙ ap (λ (s : Solo). locked_to false (device_to device (heard (Swap c.args.unit) s))) (ap solo c.change_device-old.ensures.same.3 ∙ (c.take_lock.ensures.sole sole).0))

@@ -2,6 +2,7 @@ use Rattle.std.proofs.Common.{rules, ◌≡◌, ◌+◌, ◌-◌, refl, ap, ◌�
 use Rattle.lq_table.specs.Views.{View, Setup}
 use Rattle.lq_table.specs.Controls.{shut_after, opening_next}
 use Rattle.lq_table.specs.Sees.{view}
+use Rattle.lq_table.specs.Solo.{solo}
 use Rattle.lq_ring.proofs.Seats.{seat_on}
 use Rattle.lq_control.specs.Control.{all_opened}
 use Rattle.lq_control.proofs.swaps.open_queues.Goals as goal
@@ -11,6 +12,7 @@ loop-queue-init g c = let v = view c.args.cpu.now in record {
   seat = c.requires.seat;
   same = ((refl, refl), refl, refl, refl);
   opened = (v.whole, (λ j. record v { holder = record v.holder { shut = c.requires.shut j } }), refl);
+  step = refl;
 }
 
 pub loop-queue-preserved : goal.loop-queue-preserved
@@ -21,4 +23,5 @@ loop-queue-preserved g c =
       seat = seat_on c.args.shared.now c.args.cpu.now c.open_xoff.new.cpu c.requires.seat (s.0.0 ∙ i.same.0.0, s.0.1 ∙ i.same.0.1) (ap (λ (x : View). x.share) is);
       same = (search rules);
       opened = (y.whole, is ∙ (λ j. all_opened (shut_after ((let q : n ≡ n + 1 - 1 = omega arith in q) j) (at j)) y.whole v), i.opened.2);
+      step = ap solo c.open_xoff.ensures.view ∙ i.step;
     }

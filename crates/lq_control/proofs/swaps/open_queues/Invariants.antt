@@ -2,6 +2,7 @@ use Rattle.std.proofs.Common.{◌≡◌, ◌-◌}
 use Rattle.lq_table.specs.Views.{WholePart}
 use Rattle.lq_table.specs.Controls.{shut_after}
 use Rattle.lq_table.specs.Sees.{view, IsSeatOf, IsElseSame}
+use Rattle.lq_table.specs.Solo.{solo}
 use Rattle.lq_control.specs.Control.{all_opened}
 use Rattle.lq_control.proofs.swaps.open_queues.Given as goal
 
@@ -10,4 +11,5 @@ invariant-loop-queue g l = record {
   seat : IsSeatOf l.shared l.cpu;
   same : IsElseSame l.fn.cpu l.cpu;
   opened : (w : WholePart) × (view l.cpu ≡ all_opened (shut_after (l.queue - 1) l.shared.queues) w (view l.fn.cpu)) × (w.told ≡ (view l.fn.cpu).whole.told);
+  step : solo (view l.cpu) ≡ solo (view l.fn.cpu);
 }

@@ -1,0 +1,15 @@
+use Rattle.std.proofs.Common.{ap, ◌∙◌}
+use Rattle.lq_table.specs.Views.{first_account}
+use Rattle.lq_table.specs.Sees.{view, setup}
+use Rattle.lq_table.specs.Solo.{solo}
+use Rattle.lq_model.specs.Alone.{changed}
+use Rattle.lq_model.specs.declared.plan.EventKind.TheVariants as kind
+use Rattle.lq_control.proofs.Alone.{down_alone, downed, downed_at, stepped_at}
+use Rattle.lq_control.proofs.activates.down.Goals as goal
+
+pub returns-clause-alone : goal.returns-clause-alone
+returns-clause-alone g c = λ one plan h.
+    let infos = c.args.shared.now.infos.now in let start = first_account (setup c.args.shared.now) in let v = solo (view c.args.cpu.now) in let event = c.args.event in
+    let is = ap solo c.end_control.ensures.view
+    ∙ downed_at (setup c.args.shared.now) event (view c.args.cpu.now) (view c.deactivate-purged.new.cpu) (view c.wait_until_clear.new.cpu) c.deactivate-purged.ensures.same.1.share c.requires.seat.2 h.sender.sole (c.deactivate-purged.ensures.sole h.sender.sole) c.wait_until_clear.ensures.off in
+    stepped_at infos start (changed plan event kind.Down) v (downed event v) (solo (view c.end_control.new.cpu)) is (down_alone infos start event plan v h)

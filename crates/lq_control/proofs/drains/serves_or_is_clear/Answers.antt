@@ -1,0 +1,13 @@
+use Rattle.std.proofs.Common.{ap, ◌∙◌}
+use Rattle.lq_table.specs.Sees.{view}
+use Rattle.lq_table.specs.Solo.{solo}
+use Rattle.lq_control.specs.Alone.{unmarked}
+use Rattle.lq_control.proofs.Alone.{off_served}
+use Rattle.lq_control.proofs.drains.serves_or_is_clear.Goals as goal
+
+pub returns-then-raised-clause-off : goal.returns-then-raised-clause-off
+returns-then-raised-clause-off g c = λ sole down. let i = c.softirq.ensures.interrupts in
+    ap (λ v. unmarked (solo v)) c.begin_control.ensures.view ∙ off_served c.args.shared.now.infos.now (view c.args.cpu.now) i.0 (view c.softirq.new.cpu) sole down c.requires.at.2.1 i.1 i.3
+
+pub returns-clause-off : goal.returns-clause-off
+returns-clause-off g c = λ sole down. ap (λ v. unmarked (solo v)) c.is_clear.ensures.same.1
