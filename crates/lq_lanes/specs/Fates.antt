@@ -1,0 +1,99 @@
+-- What the fates of a run are, what its devices did, and what stays of its stations.
+use Rattle.std.specs.Prelude.{◌≡◌, ◌<◌, ℕ, true, List, All, length, map, Some, slice_get, slice_index, Option, IsSome}
+use Rattle.lq_account.specs.Accounts.{IsClosed}
+use Rattle.lq_account.specs.Progress.{start_of}
+use Rattle.lq_model.specs.Account.{Account, Event}
+use Rattle.lq_model.specs.Alone.{alone}
+use Rattle.lq_model.specs.Complete.{IsComplete}
+use Rattle.lq_model.specs.Device.{DeviceCall, DeviceState}
+use Rattle.lq_model.specs.Plan.{Plan, queue_in, station_in, unit_count}
+use Rattle.lq_model.specs.Sent.{sent_of}
+use Rattle.lq_model.specs.Settled.{IsSettled, IsInSenderOrder, IsUnitOf, HangsAsTold, MeetsEvents}
+use Rattle.lq_model.specs.declared.fate.Cause.TheVariants.{Hung}
+use Rattle.lq_model.specs.declared.fate.Fate.{Fate}
+use Rattle.lq_model.specs.declared.fate.Fate.TheVariants.{Purged}
+use Rattle.lq_model.specs.Words.{IsWordOf}
+use Rattle.lq_model.specs.declared.fate.Info.{Info}
+use Rattle.lq_model.specs.declared.plan.StationPlan.{StationPlan}
+use Rattle.lq_device.specs.declared.device.TxDevice.{Ghosts}
+use Rattle.lq_table.specs.Sees.{ended_fates}
+use Rattle.lq_table.specs.declared.ended.Ended.{Ended}
+
+-- each of the first so many devices tells its rule
+abbrev pub AllTell : ℕ → List DeviceState → Type 0
+AllTell units devices = (unit : ℕ) (device : DeviceState) → unit < units → slice_get devices unit ≡ Some device → IsSome device.told
+
+abbrev pub accepted_of : List DeviceState → List (List ℕ)
+accepted_of devices = map (λ device. device.accepted) devices
+
+-- which devices stand on a bench, in their order
+abbrev pub identities_of : List DeviceState → List ℕ
+identities_of devices = map (λ device. device.identity) devices
+
+-- how many queues a station has
+abbrev pub queue_count : Plan → ℕ → ℕ
+queue_count plan station = length (start_of plan station).stops
+
+-- A unit's device was asked to send a packet of the unit's station, on that packet's own queue, which is one of the station's.
+pub record IsCallOfUnit (plan : Plan) (infos : List Info) (unit : ℕ) (call : DeviceCall) : Type 0 where
+  pub packet : call.packet < length infos
+  pub of_station : IsUnitOf plan (station_in infos call.packet) unit
+  pub own_queue : call.queue ≡ queue_in infos call.packet
+  pub one_of_its : call.queue < queue_count plan (station_in infos call.packet)
+
+-- the station's fates are those of a closed account
+abbrev pub HasAccount : Plan → List Info → List Fate → ℕ → Type 0
+HasAccount plan infos fates station = (past : List Event) × (a : Account) × IsClosed plan infos fates station past a
+
+-- The fates of a run over the devices of a bench, as they were before it and are after it; unit u is the device at place u.
+pub record AreFatesOf (plan : Plan) (infos : List Info) (fates : List Fate) (before after : List DeviceState) : Type 0 where
+  -- each packet has exactly one fate, and it is one that the plan allows
+  pub settled : IsSettled plan infos fates
+  -- where nothing deactivates, hangs, shrinks or fills up, each packet is sent
+  pub complete : IsComplete plan infos fates
+  -- each owner's packets of one station and band were sent in ascending number
+  pub in_order : IsInSenderOrder infos fates
+  -- what happened at each station is a legal list of events with all of the plan's events in it, which leaves nothing held and gives
+  -- these fates
+  pub accounts : (station : ℕ) → station < length plan.stations → HasAccount plan infos fates station
+  -- the packets of the first sender meet the plan's events where they stand
+  pub events : MeetsEvents plan infos fates
+  -- each unit's device accepted just the packets that it sent, in order of serial
+  pub devices : (unit : ℕ) → unit < unit_count plan → slice_get (accepted_of after) unit ≡ Some (sent_of fates unit)
+  -- and was asked for nothing but packets of its station, each on the packet's own queue
+  pub asked : (unit : ℕ) (device : DeviceState) → unit < unit_count plan → slice_get after unit ≡ Some device → All (IsCallOfUnit plan infos unit) device.asked
+  -- packets are purged as hung only where the unit's device hangs
+  pub hung : (n unit : ℕ) (device : DeviceState) → slice_get fates n ≡ Some (Purged (Hung unit)) → slice_get after unit ≡ Some device → device.hung ≡ true
+  -- where the devices tell, they hung as they told
+  pub as_told : AllTell (unit_count plan) before → HangsAsTold plan fates
+  -- where they tell and there is one sender, the fates are those of its run
+  pub alone : AllTell (unit_count plan) before → plan.senders ≡ 1 → map (λ fate. Some fate) fates ≡ alone plan infos
+
+-- the same of a list of options, once each is a fate
+abbrev pub AreOptionsOf : Plan → List Info → List (Option Fate) → List DeviceState → List DeviceState → Type 0
+AreOptionsOf plan infos options before after = (fates : List Fate) → map (λ fate. Some fate) fates ≡ options → AreFatesOf plan infos fates before after
+
+-- WHAT STAYS OF A STATION
+
+-- the number of a closed station, the plan that it was opened with, and the fate words of its packets
+pub record EndedState : Type 0 where
+  pub number : ℕ
+  pub plan : StationPlan
+  pub packets : ℕ
+  pub words : List ℕ
+
+module _ {D : Type 0} {g : Ghosts D} where
+  abbrev pub ended_state : Ended D g → EndedState
+  ended_state e = record { number = e.number; plan = e.plan; packets = e.packets; words = ended_fates e }
+
+-- a station of the plan has ended: the fates of its packets are these
+pub record IsEndedAs (plan : Plan) (infos : List Info) (fates : List Fate) (station : ℕ) (e : EndedState) : Type 0 where
+  pub number_is : e.number ≡ station
+  pub plan_is : slice_get plan.stations station ≡ Some e.plan
+  pub packets_are : e.packets ≡ length infos
+  pub fates_are : (n : ℕ) (fate : Fate) → slice_get fates n ≡ Some fate → station_in infos n ≡ station → IsWordOf fate (slice_index e.words n)
+
+-- each station of the plan has, in ascending order
+pub record AreEnded (plan : Plan) (infos : List Info) (fates : List Fate) (ended : List EndedState) : Type 0 where
+  pub one_each : length ended ≡ length plan.stations
+  pub each : (station : ℕ) (e : EndedState) → slice_get ended station ≡ Some e → IsEndedAs plan infos fates station e

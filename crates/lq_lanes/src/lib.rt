@@ -1,0 +1,22 @@
+//! Several sender threads over the stations of a plan.
+#![tactic(auto)]
+
+mod ends;
+mod gate;
+mod lane;
+mod lanes;
+mod laws;
+mod read;
+mod send;
+mod setup;
+mod whole;
+
+pub use ends::end_run;
+pub use gate::{Free, Gate};
+pub use lanes::{Lane, all_send, send_loop};
+pub use laws::{
+    ends_make_fates, runs_are_readable, runs_keep_boxes, runs_leave_stations, runs_make_fates,
+};
+pub use read::read_fates;
+pub use send::send_all;
+pub use whole::run;

@@ -1,0 +1,41 @@
+//! The run of all senders over the stations of a plan.
+ghost use Rattle.std.specs.Prelude.{◌≡◌, ◌≤◌, ◌+◌, ℕ, [], length, map, vec_capacity};
+ghost use Rattle.lq_lanes.specs.Ends.{HasRun, closed_state};
+ghost use Rattle.lq_lanes.specs.Joins.{AreFirst};
+ghost use Rattle.lq_lanes.specs.Lanes.{AreReadyLanes, IsSendable, LaneStands};
+
+use crate::ends::end_run;
+use crate::gate::Gate;
+use crate::lanes::{Lane, all_send};
+use lq_device::TxDevice;
+use lq_model::Info;
+use lq_plan::Plan;
+use lq_table::{Closed, Shared};
+use std::marker::Sync;
+use std::sync::Wait;
+use std::thread::Threads;
+
+/// Sends all packets side by side, and brings each station to its end. Takes no memory: `closed` has the room for the stations.
+pub fn run<'a, R: Threads + Wait + Sync, D: TxDevice, G: Gate>(
+    rt: &R,
+    plan: &Plan,
+    infos: &[Info],
+    shared: Vec<Shared<'a, D>>,
+    first: Lane<D>,
+    others: Vec<Lane<D>>,
+    closed: &mut Vec<Closed<D>>,
+    gate: &G,
+)
+    requires sendable { IsSendable plan.now infos.now }
+    requires owner { first.owner ≡ 0 }
+    requires first { LaneStands plan.now infos.now 0 0 0 shared.items first.cpus.items × AreFirst (length others.items) first.cpus.items }
+    requires others { AreReadyLanes plan.now infos.now shared.items others.items }
+    requires senders { length others.items + 1 ≡ plan.now.senders }
+    requires none_yet { closed.old.items ≡ [] }
+    requires room { length plan.now.stations ≤ vec_capacity closed.old }
+    ensures { HasRun plan.now infos.now (length others.items) first.cpus.items (map closed_state closed.new.items) }
+{
+    plan.stays_within_limits();
+    let (first, others) = all_send(rt, plan, infos, shared.as_slice(), first, others, gate);
+    end_run(rt, plan, infos, shared, first, others, closed);
+}
