@@ -12,7 +12,7 @@ use Rattle.lq_pcapng.specs.declared.file.CaptureFile.TheVariants.{Classic}
 use Rattle.lq_plan.specs.Generated.{generated_plan}
 use Rattle.lq_top.specs.Command.{GenWords}
 use Rattle.lq_top.specs.Decision.{Generates, Verdict, by_generated, by_plan, placed_on, units_changed_by, verdict_of_gen, with_refusal}
-use Rattle.lq_top.specs.Fates.{AreFatesOf}
+use Rattle.lq_lanes.specs.Fates.{AreEnded, AreFatesOf, EndedState}
 use Rattle.lq_top.specs.Headline.{AreCountsCut, HasCounted, Run, counts_text_of, generated_file, run_of}
 use Rattle.lq_top.specs.Outcome.{CompletesOrStops, Stops}
 use Rattle.lq_top.specs.Written.{FileIsCut, OutputHasPrefix, file_written}
@@ -37,35 +37,36 @@ pub cut_after_file :
 cut_after_file out text plan (Ok c) old new before after ok whole = inl (inr whole)
 cut_after_file out text plan (Err r) old new before after ok whole = absurd ok
 
-counted : (out text : List ℕ) (plan : Plan) (c : Capture) (old mid new : HostState) (before after : List DeviceState) (result : Result Status Stop)
-    → mid ≡ file_written old (generated_file out text) → IfOk result (λ answer. answer ≡ status.Done) → OnOk result (HasCounted (run_of out plan (Classic c)) mid new before after)
-    → OnErr result (AreCountsCut (run_of out plan (Classic c)) mid new before after) → CompletesOrStops (Generates text (run_of out plan (Classic c))) old new before after result
-counted out text plan c old mid new before after (Ok answer) made is whole cut =
-    (is, (whole.0, whole.1, subst (λ (s : HostState). new ≡ wrote s 0 (counts_text_of (run_of out plan (Classic c)) whole.0)) made whole.2))
-counted out text plan c old mid new before after (Err stop) made is whole cut = elim cut [
+counted : (out text : List ℕ) (plan : Plan) (c : Capture) (old mid new : HostState) (before after : List DeviceState) (ended : List EndedState) (result : Result Status Stop)
+    → mid ≡ file_written old (generated_file out text) → IfOk result (λ answer. answer ≡ status.Done) → OnOk result (HasCounted (run_of out plan (Classic c)) mid new before after ended)
+    → OnErr result (AreCountsCut (run_of out plan (Classic c)) mid new before after) → CompletesOrStops (Generates text (run_of out plan (Classic c))) old new before after ended result
+counted out text plan c old mid new before after ended (Ok answer) made is whole cut =
+    (is, (whole.0, whole.1, whole.2, subst (λ (s : HostState). new ≡ wrote s 0 (counts_text_of (run_of out plan (Classic c)) whole.0)) made whole.3))
+counted out text plan c old mid new before after ended (Err stop) made is whole cut = elim cut [
   | inl same ↦ inl (inr (same ∙ made))
   | inr part ↦ inr (part.0, part.1, subst (λ (s : HostState). OutputHasPrefix (counts_text_of (run_of out plan (Classic c)) part.0) s new) made part.2)
 ]
 
 -- the file is whole, and its capture was run
 pub generated_does :
-    (out text : List ℕ) (plan : Plan) (c : Capture) (r : Result Capture CaptureRefusal) (old mid new : HostState) (before after : List DeviceState) (result : Result Status Stop)
+    (out text : List ℕ) (plan : Plan) (c : Capture) (r : Result Capture CaptureRefusal) (old mid new : HostState) (before after : List DeviceState) (ended : List EndedState) (result : Result Status Stop)
     → r ≡ Ok c → mid ≡ file_written old (generated_file out text) → IfOk result (λ answer. answer ≡ status.Done)
-    → OnOk result (HasCounted (run_of out plan (Classic c)) mid new before after) → OnErr result (AreCountsCut (run_of out plan (Classic c)) mid new before after)
-    → CompletesOrStops (by_generated out text plan (with_refusal (as_classic r))) old new before after result
-generated_does out text plan c r old mid new before after result is_c made is whole cut =
-    subst (λ (v : Result Capture CaptureRefusal). CompletesOrStops (by_generated out text plan (with_refusal (as_classic v))) old new before after result) (sym is_c)
-    (counted out text plan c old mid new before after result made is whole cut)
+    → OnOk result (HasCounted (run_of out plan (Classic c)) mid new before after ended) → OnErr result (AreCountsCut (run_of out plan (Classic c)) mid new before after)
+    → CompletesOrStops (by_generated out text plan (with_refusal (as_classic r))) old new before after ended result
+generated_does out text plan c r old mid new before after ended result is_c made is whole cut =
+    subst (λ (v : Result Capture CaptureRefusal). CompletesOrStops (by_generated out text plan (with_refusal (as_classic v))) old new before after ended result) (sym is_c)
+    (counted out text plan c old mid new before after ended result made is whole cut)
 
 -- COUNTS
 
 -- the counts are told: `given` are the fates as they were lent
 pub has_counted :
-    (run : Run) (infos : List Info) (fates given : List Fate) (old new : HostState) (before after : List DeviceState) → infos ≡ infos_of run.plan (packets_of_file run.capture)
-    → given ≡ fates → AreFatesOf run.plan infos fates before after → new ≡ wrote old 0 (counts_by run given infos) → HasCounted run old new before after
-has_counted run infos fates given old new before after known same are done = (
+    (run : Run) (infos : List Info) (fates given : List Fate) (old new : HostState) (before after : List DeviceState) (ended : List EndedState) → infos ≡ infos_of run.plan (packets_of_file run.capture)
+    → given ≡ fates → AreFatesOf run.plan infos fates before after → AreEnded run.plan infos fates ended → new ≡ wrote old 0 (counts_by run given infos) → HasCounted run old new before after ended
+has_counted run infos fates given old new before after ended known same are stay done = (
   fates,
   subst (λ (is : List Info). AreFatesOf run.plan is fates before after) known are,
+  subst (λ (is : List Info). AreEnded run.plan is fates ended) known stay,
   done ∙ ap (λ (fs : List Fate). wrote old 0 (counts_by run fs infos)) same ∙ ap (λ (is : List Info). wrote old 0 (counts_by run fates is)) known,
 )
 
@@ -86,9 +87,9 @@ counts_cut run infos fates given old new before after known same are cut = elim 
 
 -- what was stopped, as the exit of a `?` answers it
 pub stops_any :
-    (v : Verdict) (old new : HostState) (before after : List DeviceState) (r : Result Status Stop) (stop : Stop) → r ≡ Err stop → Stops v old new before after
-    → CompletesOrStops v old new before after r
-stops_any v old new before after r stop is left = subst (CompletesOrStops v old new before after) (sym is) left
+    (v : Verdict) (old new : HostState) (before after : List DeviceState) (ended : List EndedState) (r : Result Status Stop) (stop : Stop) → r ≡ Err stop → Stops v old new before after
+    → CompletesOrStops v old new before after ended r
+stops_any v old new before after ended r stop is left = subst (CompletesOrStops v old new before after ended) (sym is) left
 
 units_same :
     {X : Type 0} (out text : List ℕ) (plan : Plan) (r : Result Capture CaptureRefusal) (old new : List X) → IsOkAnd r (λ _. Unit {0})

@@ -12,7 +12,7 @@ use Rattle.lq_pcapng.specs.File.{packets_of_file}
 use Rattle.lq_pcapng.specs.declared.file.CaptureFile.{CaptureFile}
 use Rattle.lq_top.specs.Command.{OfRun, RunWords}
 use Rattle.lq_top.specs.Decision.{Verdict, Generates, IsRunnable, max_units, LacksFile, Refuses, Runs, Traces, by_bytes, by_capture, by_plan, limited_capture_of, plan_for, verdict_of_run}
-use Rattle.lq_top.specs.Fates.{AreFatesOf}
+use Rattle.lq_lanes.specs.Fates.{AreEnded, AreFatesOf, EndedState}
 use Rattle.lq_top.specs.Headline.{Run, run_of, unit_files, fates_file, texts_of, HasRun}
 use Rattle.lq_top.specs.Outcome.{Completes, CompletesOrStops, IsAnswerOf, IsCommandStatus, Outcome, Stops}
 use Rattle.lq_top.specs.Refusal.{line_of, status_of}
@@ -87,10 +87,10 @@ all_written run fates infos units old mid all new known counted whole made done 
 
 -- a run that is done: `given` are the fates as they were lent
 pub has_run :
-    (run : Run) (infos : List Info) (fates given : List Fate) (old new : HostState) (before after : List DeviceState) → infos ≡ infos_of run.plan (packets_of_file run.capture) → given ≡ fates
-    → AreFatesOf run.plan infos fates before after → new ≡ written (texts_of run given) old → HasRun run old new before after
-has_run run infos fates given old new before after known same are done =
-    (fates, subst (λ (is : List Info). AreFatesOf run.plan is fates before after) known are, done ∙ ap (λ (fs : List Fate). written (texts_of run fs) old) same)
+    (run : Run) (infos : List Info) (fates given : List Fate) (old new : HostState) (before after : List DeviceState) (ended : List EndedState) → infos ≡ infos_of run.plan (packets_of_file run.capture) → given ≡ fates
+    → AreFatesOf run.plan infos fates before after → AreEnded run.plan infos fates ended → new ≡ written (texts_of run given) old → HasRun run old new before after ended
+has_run run infos fates given old new before after ended known same are stay done =
+    (fates, subst (λ (is : List Info). AreFatesOf run.plan is fates before after) known are, subst (λ (is : List Info). AreEnded run.plan is fates ended) known stay, done ∙ ap (λ (fs : List Fate). written (texts_of run fs) old) same)
 
 -- a run that was stopped while it wrote
 pub run_stops :
@@ -105,10 +105,10 @@ run_stops run infos fates given old new before after known same are cut =
 
 -- what a run answers and leaves, by whether it was stopped
 pub run_does :
-    (run : Run) (old new : HostState) (before after : List DeviceState) (r : Result Status Stop) → IfOk r (λ answer. answer ≡ status.Done) → OnOk r (HasRun run old new before after)
-    → OnErr r (Stops (Runs run) old new before after) → CompletesOrStops (Runs run) old new before after r
-run_does run old new before after (Ok answer) is done stopped = (is, done)
-run_does run old new before after (Err stop) is done stopped = stopped
+    (run : Run) (old new : HostState) (before after : List DeviceState) (ended : List EndedState) (r : Result Status Stop) → IfOk r (λ answer. answer ≡ status.Done) → OnOk r (HasRun run old new before after ended)
+    → OnErr r (Stops (Runs run) old new before after) → CompletesOrStops (Runs run) old new before after ended r
+run_does run old new before after ended (Ok answer) is done stopped = (is, done)
+run_does run old new before after ended (Err stop) is done stopped = stopped
 
 -- DECISIONS
 
@@ -165,31 +165,31 @@ stops_before (Traces text) old new before after same = inl same
 
 -- a refusal that was told, or that was stopped on the way
 pub refuse_does :
-    (r : Refusal) (old new : HostState) (before after : List DeviceState) (result : Result Status Stop) → IfOk result (λ answer. answer ≡ status_of r)
+    (r : Refusal) (old new : HostState) (before after : List DeviceState) (ended : List EndedState) (result : Result Status Stop) → IfOk result (λ answer. answer ≡ status_of r)
     → OnOk result (new ≡ written (output_only (line_of r)) old) → OnErr result (IsCut (output_only (line_of r)) old new)
-    → CompletesOrStops (Refuses r) old new before after result
-refuse_does r old new before after (Ok answer) is whole cut = (is, whole)
-refuse_does r old new before after (Err stop) is whole cut = cut
+    → CompletesOrStops (Refuses r) old new before after ended result
+refuse_does r old new before after ended (Ok answer) is whole cut = (is, whole)
+refuse_does r old new before after ended (Err stop) is whole cut = cut
 
 -- what came to its end, of a command inside, is the outcome
 pub ends_outcome :
-    (v : Verdict) (old new : HostState) (before after : List DeviceState) (answer : Status) → IsCommandStatus answer → Completes v old new before after answer
-    → Outcome v old new before after answer
-ends_outcome v old new before after status.Done is ends = ends
-ends_outcome v old new before after (status.Plan reason) is ends = ends
-ends_outcome v old new before after (status.Bench need have) is ends = ends
-ends_outcome v old new before after (status.Capture reason place) is ends = ends
-ends_outcome v old new before after (status.Trace reason line) is ends = ends
-ends_outcome v old new before after status.NotBuilt is ends = ends
-ends_outcome v old new before after status.Usage is ends = absurd is
-ends_outcome v old new before after status.Fault is ends = absurd is
-ends_outcome v old new before after status.NoMemory is ends = absurd is
+    (v : Verdict) (old new : HostState) (before after : List DeviceState) (ended : List EndedState) (answer : Status) → IsCommandStatus answer → Completes v old new before after ended answer
+    → Outcome v old new before after ended answer
+ends_outcome v old new before after ended status.Done is ends = ends
+ends_outcome v old new before after ended (status.Plan reason) is ends = ends
+ends_outcome v old new before after ended (status.Bench need have) is ends = ends
+ends_outcome v old new before after ended (status.Capture reason place) is ends = ends
+ends_outcome v old new before after ended (status.Trace reason line) is ends = ends
+ends_outcome v old new before after ended status.NotBuilt is ends = ends
+ends_outcome v old new before after ended status.Usage is ends = absurd is
+ends_outcome v old new before after ended status.Fault is ends = absurd is
+ends_outcome v old new before after ended status.NoMemory is ends = absurd is
 
 -- and so is what was stopped
 pub stops_outcome :
-    (v : Verdict) (old new : HostState) (before after : List DeviceState) (stop : Stop) → Stops v old new before after → Outcome v old new before after (status_of_stop stop)
-stops_outcome v old new before after stops.Fault left = left
-stops_outcome v old new before after stops.NoMemory left = left
+    (v : Verdict) (old new : HostState) (before after : List DeviceState) (ended : List EndedState) (stop : Stop) → Stops v old new before after → Outcome v old new before after ended (status_of_stop stop)
+stops_outcome v old new before after ended stops.Fault left = left
+stops_outcome v old new before after ended stops.NoMemory left = left
 
 -- a refusal of a file is no Usage
 pub run_status : (r : Refusal) → r ≢ refusal.Usage → IsCommandStatus (status_of r)
@@ -215,15 +215,15 @@ beyond_units have plan read old new is_read runnable same =
     drop_later (unit_count plan) max_units old new is.few same
 
 -- what came to its end answers what was decided
-answered : (v : Verdict) (old new : HostState) (before after : List DeviceState) (answer : Status) → Completes v old new before after answer → IsAnswerOf v answer
-answered LacksFile old new before after answer ends = absurd ends
-answered (Refuses r) old new before after answer ends = inl ends.0
-answered (Runs run) old new before after answer ends = inl ends.0
-answered (Generates text run) old new before after answer ends = inl ends.0
-answered (Traces text) old new before after answer ends = inl ends.0
+answered : (v : Verdict) (old new : HostState) (before after : List DeviceState) (ended : List EndedState) (answer : Status) → Completes v old new before after ended answer → IsAnswerOf v answer
+answered LacksFile old new before after ended answer ends = absurd ends
+answered (Refuses r) old new before after ended answer ends = inl ends.0
+answered (Runs run) old new before after ended answer ends = inl ends.0
+answered (Generates text run) old new before after ended answer ends = inl ends.0
+answered (Traces text) old new before after ended answer ends = inl ends.0
 
 pub all_answered :
-    (told : Option Contents) (v : Contents → Verdict) (old new : HostState) (before after : List DeviceState) (answer : Status)
-    → IfSome told (λ c. Completes (v c) old new before after answer) → IfSome told (λ c. IsAnswerOf (v c) answer)
-all_answered None v old new before after answer ends = _
-all_answered (Some c) v old new before after answer ends = answered (v c) old new before after answer ends
+    (told : Option Contents) (v : Contents → Verdict) (old new : HostState) (before after : List DeviceState) (ended : List EndedState) (answer : Status)
+    → IfSome told (λ c. Completes (v c) old new before after ended answer) → IfSome told (λ c. IsAnswerOf (v c) answer)
+all_answered None v old new before after ended answer ends = _
+all_answered (Some c) v old new before after ended answer ends = answered (v c) old new before after ended answer ends

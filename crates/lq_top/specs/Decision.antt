@@ -1,8 +1,8 @@
 -- What a call decides from its words, its files and the number of devices on its bench.
-use Rattle.std.specs.Prelude.{◌≡◌, ◌≤◌, ℕ, Bool, nat_lt, ◌==◌, ◌&&◌, if◌then◌else◌, List, [], length, Option, Some, None, Result, Ok, Err}
+use Rattle.std.specs.Prelude.{◌≡◌, ◌≤◌, ℕ, Bool, nat_lt, ◌==◌, if◌then◌else◌, List, length, count_by, Option, Some, None, Result, Ok, Err}
 use Rattle.std.specs.Option.{option_map}
 use Rattle.lq_model.specs.Capture.{Refusal as CaptureRefusal, capture_of}
-use Rattle.lq_model.specs.Plan.{Plan, unit_count}
+use Rattle.lq_model.specs.Plan.{Plan, is_swap, unit_count}
 use Rattle.lq_model.specs.declared.capture.CaptureReason.TheVariants as capture
 use Rattle.lq_model.specs.declared.plan.PlanReason.{PlanReason}
 use Rattle.lq_model.specs.declared.plan.PlanReason.TheVariants as plan
@@ -27,9 +27,9 @@ use Rattle.lq_top.specs.declared.refusal.Refusal.TheVariants as refusal
 abbrev pub limited_plan_of : List ℕ → Result Plan PlanReason
 limited_plan_of bytes = if nat_lt 65536 (length bytes) then Err plan.TooLong else plan_of bytes
 
--- one sender, and no events
+-- no device is exchanged
 abbrev pub is_built : Plan → Bool
-is_built p = p.senders == 1 && length p.events == 0
+is_built p = count_by is_swap p.events == 0
 
 -- an accepted plan on a bench of so many devices: it may need more of them, and not every plan is built
 abbrev pub placed_on : ℕ → Plan → Result Plan Refusal
@@ -49,8 +49,7 @@ max_units = 72
 
 -- what is known of a plan that is run
 pub record IsRunnable (have : ℕ) (p : Plan) : Type 0 where
-  pub one_sender : p.senders ≡ 1
-  pub no_events : p.events ≡ []
+  pub no_swaps : count_by is_swap p.events ≡ 0
   pub units : unit_count p ≤ have
   pub few : unit_count p ≤ max_units
 

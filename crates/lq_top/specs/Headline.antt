@@ -10,7 +10,7 @@ use Rattle.lq_model.specs.declared.fate.Fate.{Fate}
 use Rattle.lq_host.specs.Host.{HostState}
 use Rattle.lq_pcapng.specs.File.{packets_of_file, text_of}
 use Rattle.lq_pcapng.specs.declared.file.CaptureFile.{CaptureFile}
-use Rattle.lq_top.specs.Fates.{AreFatesOf}
+use Rattle.lq_lanes.specs.Fates.{AreEnded, AreFatesOf, EndedState}
 use Rattle.lq_top.specs.Written.{FileText, OutputHasPrefix, Texts, output_only, written}
 
 -- RUNS
@@ -58,10 +58,15 @@ texts_of run fates = record {
 abbrev pub AreFatesIn : Run → List Fate → List DeviceState → List DeviceState → Type 0
 AreFatesIn run fates before after = AreFatesOf run.plan (infos_of run.plan (packets_of_file run.capture)) fates before after
 
+-- and this is what stays of its stations
+abbrev pub AreEndedIn : Run → List Fate → List EndedState → Type 0
+AreEndedIn run fates ended = AreEnded run.plan (infos_of run.plan (packets_of_file run.capture)) fates ended
+
 -- A run that is done: some list of fates tells all of it. Each packet of the capture has exactly one of them, the devices
--- accepted what they say was sent, and the files and the counts are written of them; all else is as it was.
-abbrev pub HasRun : Run → HostState → HostState → List DeviceState → List DeviceState → Type 0
-HasRun run old new before after = (fates : List Fate) × AreFatesIn run fates before after × (new ≡ written (texts_of run fates) old)
+-- accepted what they say was sent, the stations ended with them, and the files and the counts are written of them; all else is as
+-- it was.
+abbrev pub HasRun : Run → HostState → HostState → List DeviceState → List DeviceState → List EndedState → Type 0
+HasRun run old new before after ended = (fates : List Fate) × AreFatesIn run fates before after × AreEndedIn run fates ended × (new ≡ written (texts_of run fates) old)
 
 -- GENERATED RUNS
 
@@ -78,14 +83,14 @@ abbrev pub generated_texts_of : List ℕ → Run → List Fate → Texts
 generated_texts_of text run fates = record { files = generated_file run.out text ∷ []; output = counts_text_of run fates }
 
 -- A generated run that is done: as a run, but that its one file is the generated capture, which has this text.
-abbrev pub HasGenerated : List ℕ → Run → HostState → HostState → List DeviceState → List DeviceState → Type 0
-HasGenerated text run old new before after =
-    (fates : List Fate) × AreFatesIn run fates before after × (new ≡ written (generated_texts_of text run fates) old)
+abbrev pub HasGenerated : List ℕ → Run → HostState → HostState → List DeviceState → List DeviceState → List EndedState → Type 0
+HasGenerated text run old new before after ended =
+    (fates : List Fate) × AreFatesIn run fates before after × AreEndedIn run fates ended × (new ≡ written (generated_texts_of text run fates) old)
 
 -- the part of it after the file: what is written is the counts of the fates alone
-abbrev pub HasCounted : Run → HostState → HostState → List DeviceState → List DeviceState → Type 0
-HasCounted run old new before after =
-    (fates : List Fate) × AreFatesIn run fates before after × (new ≡ written (output_only (counts_text_of run fates)) old)
+abbrev pub HasCounted : Run → HostState → HostState → List DeviceState → List DeviceState → List EndedState → Type 0
+HasCounted run old new before after ended =
+    (fates : List Fate) × AreFatesIn run fates before after × AreEndedIn run fates ended × (new ≡ written (output_only (counts_text_of run fates)) old)
 
 -- where it is stopped, nothing was written, or a prefix of the counts of one list of fates
 abbrev pub AreCountsCut : Run → HostState → HostState → List DeviceState → List DeviceState → Type 0

@@ -1,5 +1,3 @@
--- what the fates of a run are, and what its devices did
-pub mod Fates
 -- what a run that is done leaves: the headline
 pub mod Headline
 -- what a call writes, and where it may stop
@@ -24,13 +22,5 @@ pub mod Status
 pub mod Stop
 -- what a file gave
 pub mod Input
--- the three bands of a station
-pub mod Bands
--- a station's queue, and the account that it stands for
-pub mod Queue
--- the queues of all stations
-pub mod Stations
--- what is made before a run
-pub mod Setup
 -- what the laws of its words speak of
 pub mod Laws

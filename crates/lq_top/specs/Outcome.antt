@@ -1,8 +1,9 @@
 -- What a call answers and leaves, once it has decided.
-use Rattle.std.specs.Prelude.{◌≡◌, ◌⊎◌, ℕ, Bool, true, false, List, [], ◌∷◌, Option, None, Result, Ok, Err}
+use Rattle.std.specs.Prelude.{◌≡◌, ◌≢◌, ◌⊎◌, ℕ, Bool, true, false, List, [], ◌∷◌, Option, None, Result, Ok, Err}
 use Rattle.lq_model.specs.Device.{DeviceState}
 use Rattle.lq_model.specs.declared.fate.Fate.{Fate}
 use Rattle.lq_host.specs.Host.{HostState}
+use Rattle.lq_lanes.specs.Fates.{EndedState}
 use Rattle.lq_top.specs.Command.{CommandWords}
 use Rattle.lq_top.specs.Decision.{Verdict, Generates, LacksFile, Refuses, Runs, Traces, by_bytes}
 use Rattle.lq_top.specs.Headline.{AreFatesIn, HasGenerated, HasRun, Run, counts_text_of, generated_file, texts_of}
@@ -16,12 +17,12 @@ use Rattle.lq_top.specs.declared.answer.Stop.{Stop}
 
 -- what a call that came to its end answers and leaves: a refusal is a line on standard output and nothing else; where a
 -- file isn't there no call comes to its end
-abbrev pub Completes : Verdict → HostState → HostState → List DeviceState → List DeviceState → Status → Type 0
-Completes LacksFile old new before after answer = ⊥
-Completes (Refuses refusal) old new before after answer = (answer ≡ status_of refusal) × (new ≡ written (output_only (line_of refusal)) old)
-Completes (Runs run) old new before after answer = (answer ≡ status.Done) × HasRun run old new before after
-Completes (Generates text run) old new before after answer = (answer ≡ status.Done) × HasGenerated text run old new before after
-Completes (Traces text) old new before after answer = (answer ≡ status.Done) × (new ≡ written (output_only text) old)
+abbrev pub Completes : Verdict → HostState → HostState → List DeviceState → List DeviceState → List EndedState → Status → Type 0
+Completes LacksFile old new before after ended answer = ⊥
+Completes (Refuses refusal) old new before after ended answer = (answer ≡ status_of refusal) × (new ≡ written (output_only (line_of refusal)) old)
+Completes (Runs run) old new before after ended answer = (answer ≡ status.Done) × HasRun run old new before after ended
+Completes (Generates text run) old new before after ended answer = (answer ≡ status.Done) × HasGenerated text run old new before after ended
+Completes (Traces text) old new before after ended answer = (answer ≡ status.Done) × (ended ≡ []) × (new ≡ written (output_only text) old)
 
 -- a generated run that was stopped: on its way through its file, or before it; or the file is whole, and standard output
 -- got a prefix of the counts of one list of fates
@@ -40,28 +41,28 @@ Stops (Generates text run) old new before after = HasCutGenerated text run old n
 Stops (Traces text) old new before after = IsCut (output_only text) old new
 
 -- THE OUTCOME, where the host tells its bytes
-abbrev pub Outcome : Verdict → HostState → HostState → List DeviceState → List DeviceState → Status → Type 0
-Outcome verdict old new before after status.Fault = Stops verdict old new before after
-Outcome verdict old new before after status.NoMemory = Stops verdict old new before after
-Outcome verdict old new before after status.Done = Completes verdict old new before after status.Done
-Outcome verdict old new before after status.Usage = Completes verdict old new before after status.Usage
-Outcome verdict old new before after (status.Plan reason) = Completes verdict old new before after (status.Plan reason)
-Outcome verdict old new before after (status.Bench need have) = Completes verdict old new before after (status.Bench need have)
-Outcome verdict old new before after (status.Capture reason place) = Completes verdict old new before after (status.Capture reason place)
-Outcome verdict old new before after (status.Trace reason line) = Completes verdict old new before after (status.Trace reason line)
-Outcome verdict old new before after status.NotBuilt = Completes verdict old new before after status.NotBuilt
+abbrev pub Outcome : Verdict → HostState → HostState → List DeviceState → List DeviceState → List EndedState → Status → Type 0
+Outcome verdict old new before after ended status.Fault = Stops verdict old new before after
+Outcome verdict old new before after ended status.NoMemory = Stops verdict old new before after
+Outcome verdict old new before after ended status.Done = Completes verdict old new before after ended status.Done
+Outcome verdict old new before after ended status.Usage = Completes verdict old new before after ended status.Usage
+Outcome verdict old new before after ended (status.Plan reason) = Completes verdict old new before after ended (status.Plan reason)
+Outcome verdict old new before after ended (status.Bench need have) = Completes verdict old new before after ended (status.Bench need have)
+Outcome verdict old new before after ended (status.Capture reason place) = Completes verdict old new before after ended (status.Capture reason place)
+Outcome verdict old new before after ended (status.Trace reason line) = Completes verdict old new before after ended (status.Trace reason line)
+Outcome verdict old new before after ended status.NotBuilt = Completes verdict old new before after ended status.NotBuilt
 
 -- The outcome for every host, also one that doesn't tell what its files hold: that of some bytes of the files that it reads.
-abbrev pub OutcomeOfSome : Option CommandWords → ℕ → HostState → HostState → List DeviceState → List DeviceState → Status → Type 0
-OutcomeOfSome command have old new before after answer = (first second : List ℕ) × Outcome (by_bytes command have first second) old new before after answer
+abbrev pub OutcomeOfSome : Option CommandWords → ℕ → HostState → HostState → List DeviceState → List DeviceState → List EndedState → Status → Type 0
+OutcomeOfSome command have old new before after ended answer = (first second : List ℕ) × Outcome (by_bytes command have first second) old new before after ended answer
 
 -- the same of a command inside
-abbrev pub CompletesOrStops : Verdict → HostState → HostState → List DeviceState → List DeviceState → Result Status Stop → Type 0
-CompletesOrStops verdict old new before after (Ok answer) = Completes verdict old new before after answer
-CompletesOrStops verdict old new before after (Err stop) = Stops verdict old new before after
+abbrev pub CompletesOrStops : Verdict → HostState → HostState → List DeviceState → List DeviceState → List EndedState → Result Status Stop → Type 0
+CompletesOrStops verdict old new before after ended (Ok answer) = Completes verdict old new before after ended answer
+CompletesOrStops verdict old new before after ended (Err stop) = Stops verdict old new before after
 
-abbrev pub CompletesOrStopsOfSome : Option CommandWords → ℕ → HostState → HostState → List DeviceState → List DeviceState → Result Status Stop → Type 0
-CompletesOrStopsOfSome command have old new before after result = (first second : List ℕ) × CompletesOrStops (by_bytes command have first second) old new before after result
+abbrev pub CompletesOrStopsOfSome : Option CommandWords → ℕ → HostState → HostState → List DeviceState → List DeviceState → List EndedState → Result Status Stop → Type 0
+CompletesOrStopsOfSome command have old new before after ended result = (first second : List ℕ) × CompletesOrStops (by_bytes command have first second) old new before after ended result
 
 -- THE CAUSES
 
@@ -93,6 +94,11 @@ refuses status.Fault = false
 refuses status.NoMemory = false
 refuses (status.Trace reason line) = true
 refuses status.NotBuilt = true
+
+-- no station's end is told but by a run that is done
+abbrev pub LeavesNone : {X : Type 0} → Result Status Stop → List X → Type 0
+LeavesNone (Ok answer) ended = answer ≢ status.Done → ended ≡ []
+LeavesNone (Err stop) ended = ended ≡ []
 
 -- what a command answers that isn't stopped
 abbrev pub IsCommandStatus : Status → Type 0

@@ -2,6 +2,7 @@
 use Rattle.std.specs.Prelude.{◌≡◌, ◌⊎◌, ℕ, List, length, Option}
 use Rattle.lq_model.specs.Device.{DeviceState}
 use Rattle.lq_host.specs.Host.{HostState}
+use Rattle.lq_lanes.specs.Fates.{EndedState}
 use Rattle.lq_top.specs.Command.{CommandWords, command_of_words}
 use Rattle.lq_top.specs.Outcome.{OutcomeOfSome}
 use Rattle.lq_top.specs.Status.{code_of}
@@ -15,8 +16,9 @@ pub record IsCodeOfCall (command : Option CommandWords) (number : ℕ) : Type 0 
   pub new : HostState
   pub before : List DeviceState
   pub after : List DeviceState
+  pub ended : List EndedState
   pub sixteen : length before ≡ 16
-  pub outcome : OutcomeOfSome command 16 old new before after status
+  pub outcome : OutcomeOfSome command 16 old new before after ended status
 
 -- An exit status: the code of a call with some words, or 6 where memory was wanting before it, or 9 where there were no words.
 abbrev pub IsExitStatus : ℕ → Type 0

@@ -27,7 +27,7 @@ pub enum Status {
     NoMemory,
     /// The schedule's bytes are refused: the first line that fails, and why.
     Trace { reason: TraceReason, line: u32 },
-    /// The plan has a form that isn't built: more than one sender, or an event.
+    /// The plan has a form that isn't built: a device is exchanged.
     NotBuilt,
 }
 

@@ -24,11 +24,11 @@ pub fn plan_in(alloc: Global, bytes: &[u8]) -> Result<Result<Plan, PlanReason>, 
     }
 }
 
-/// One sender, and no events.
+/// No device is exchanged.
 fn is_built(plan: &Plan) -> bool
     ensures { result ≡ is_built plan.now }
 {
-    plan.senders() == 1 && plan.events() == 0
+    plan.units() == plan.stations()
 }
 
 /// The plan, if a bench of so many devices can run it.

@@ -6,21 +6,16 @@
 mod answer;
 mod command;
 mod decide;
-mod gate;
 mod generate;
 pub mod laws;
 mod program;
-mod queue;
 mod read;
 mod refusal;
-mod run;
-mod send;
-mod setup;
 mod top;
 mod trace;
 mod write;
 
 pub use answer::Status;
-pub use gate::{Free, Gate};
+pub use lq_lanes::{Free, Gate};
 pub use program::run_program;
 pub use top::lqtx;

@@ -6,11 +6,10 @@ ghost use Rattle.lq_top.specs.Command.{command_of_words, bytes_of_words};
 ghost use Rattle.lq_top.specs.Names.{MayDo};
 ghost use Rattle.lq_top.specs.Program.{IsCodeOfCall, IsExitStatus};
 
-use crate::gate::Free;
-use crate::setup::room_for;
 use crate::top::lqtx;
 use lq_device::{BenchDevice, TxDevice};
 use lq_host::{FileHost, Host};
+use lq_lanes::Free;
 use lq_model::NoMemory;
 use std::alloc::Global;
 use std::env;
@@ -49,7 +48,9 @@ fn bench_devices(alloc: Global) -> Result<Vec<BenchDevice>, NoMemory>
     ensures count { IfOk result (λ devices. vec_len devices ≡ 16) }
     ensures new { IfOk result (λ devices. All (λ device. bench_state device ≡ unconfigured) devices.items) }
 {
-    let mut devices = room_for(alloc, DEVICES)?;
+    let Ok(mut devices) = Vec::with_capacity(alloc, DEVICES) else {
+        return Err(NoMemory);
+    };
     while devices.len() < DEVICES {
         devices.push_reserved(BenchDevice::new(alloc));
     }
@@ -68,7 +69,8 @@ fn code_on<R: Threads + Wait + Sync, H: Host, D: TxDevice>(
     requires devices { vec_len bench.old ≡ 16 }
     ensures { IsCodeOfCall (command_of_words (bytes_of_words words.now)) result }
 {
-    let status = lqtx(rt, alloc, words, host, bench, &Free);
+    let mut ended = Vec::new(alloc);
+    let status = lqtx(rt, alloc, words, host, bench, &mut ended, &Free);
     status.code()
 }
 

@@ -1,40 +1,42 @@
 //! The top call.
-ghost use Rattle.std.specs.Prelude.{◌≡◌, ◌≢◌, Some, IfOk, OnOk, OnErr, IfSome, map, drop, vec_len, true};
+ghost use Rattle.std.specs.Prelude.{◌≡◌, ◌≢◌, Some, IfOk, OnOk, OnErr, IfSome, [], map, drop, vec_len, true};
 ghost use Rattle.lq_host.specs.Host.{Rose};
 ghost use Rattle.lq_model.specs.Plan.{unit_count};
 ghost use Rattle.lq_top.specs.Command.{HasFewRecords, OfRun, command_of_words, command_words, run_words, bytes_of_words};
 ghost use Rattle.lq_top.specs.Decision.{IsRunnable, Refuses, Runs, max_units, most_units_changed_by, units_changed_by, verdict_of, verdict_of_command, verdict_of_run};
-ghost use Rattle.lq_top.specs.Fates.{identities_of};
+ghost use Rattle.lq_lanes.specs.Fates.{ended_state, identities_of};
 ghost use Rattle.lq_top.specs.Headline.{HasRun, run_of};
 ghost use Rattle.lq_top.specs.Names.{MayDo, MayDoCommand, MayRun, MayWrite};
-ghost use Rattle.lq_top.specs.Outcome.{Completes, CompletesOrStops, CompletesOrStopsOfSome, OutcomeOfSome, IsAnswerOf, IsCommandStatus, Outcome, Stops, TellsUsageFor, refuses};
+ghost use Rattle.lq_top.specs.Outcome.{Completes, CompletesOrStops, CompletesOrStopsOfSome, OutcomeOfSome, IsAnswerOf, IsCommandStatus, LeavesNone, Outcome, Stops, TellsUsageFor, refuses};
 ghost use Rattle.lq_top.specs.Stop.{StopsFor};
 
 use crate::answer::{Status, Stop};
 use crate::command::{Command, RunOperands, read_words};
-use crate::gate::Gate;
 use crate::generate::gen_command;
 use crate::read::{read_capture_file, read_plan_file};
 use crate::refusal::{Refusal, refuse};
-use crate::send::send_packets;
 use crate::trace::trace_command;
 use crate::write::write_run;
 use lq_device::TxDevice;
 use lq_host::Host;
+use lq_lanes::{Gate, send_all};
 use lq_model::NoMemory;
 use lq_pcap::Frames as _;
 use lq_pcapng::CaptureFile;
 use lq_plan::{Plan, infos};
+use lq_table::Ended;
 use std::alloc::Global;
 use std::marker::Sync;
 use std::sync::Wait;
 use std::thread::Threads;
 
 /// Sends the packets of a capture under a plan, and writes what became of them.
-fn run_capture<H: Host, G: Gate, D: TxDevice>(
+fn run_capture<R: Threads + Wait + Sync, H: Host, G: Gate, D: TxDevice>(
+    rt: &R,
     alloc: Global,
     host: &mut H,
     bench: &mut Vec<D>,
+    ended: &mut Vec<Ended<D>>,
     gate: &G,
     out: &str,
     plan: &Plan,
@@ -42,39 +44,49 @@ fn run_capture<H: Host, G: Gate, D: TxDevice>(
 ) -> Result<Status, Stop>
     requires may { MayWrite H.may_create out.now max_units }
     requires runnable { IsRunnable (vec_len bench.old) plan.now }
+    requires none_yet { ended.old.items ≡ [] }
     ensures answer { IfOk result (λ answer. answer ≡ Status.Done) }
     ensures ok { OnOk result (HasRun (run_of out.now plan.now capture.now)
-        (H.state host.old) (H.state host.new) (map D.state bench.old.items) (map D.state bench.new.items)) }
+        (H.state host.old) (H.state host.new) (map D.state bench.old.items) (map D.state bench.new.items) (map ended_state ended.new.items)) }
     ensures err { OnErr result (Stops (Runs (run_of out.now plan.now capture.now))
         (H.state host.old) (H.state host.new) (map D.state bench.old.items) (map D.state bench.new.items)) }
     ensures others { drop (unit_count plan.now) bench.new.items ≡ drop (unit_count plan.now) bench.old.items }
     ensures len { vec_len bench.new ≡ vec_len bench.old }
     ensures boxes { identities_of (map D.state bench.new.items) ≡ identities_of (map D.state bench.old.items) }
+    ensures none_ended { LeavesNone result ended.new.items }
     ensures handles { (H.state host.new).handles ≡ (H.state host.old).handles }
     ensures cause { StopsFor (H.fault_count host.old) (H.fault_count host.new) result }
 {
     // The proof learns from it that there are at most 1,000,000 packets.
     let _count = capture.len();
     let infos = infos(alloc, plan, capture)?;
-    let fates = send_packets(alloc, plan, &infos, bench, gate)?;
-    write_run(alloc, host, out, plan, capture, &infos, &fates)?;
-    Ok(Status::Done)
+    let fates = send_all(rt, alloc, plan, &infos, bench, ended, gate)?;
+    match write_run(alloc, host, out, plan, capture, &infos, &fates) {
+        Ok(()) => Ok(Status::Done),
+        Err(stop) => {
+            ended.clear();
+            Err(stop)
+        }
+    }
 }
 
 /// Does the command `run`.
-fn run_command<H: Host, G: Gate, D: TxDevice>(
+fn run_command<R: Threads + Wait + Sync, H: Host, G: Gate, D: TxDevice>(
+    rt: &R,
     alloc: Global,
     host: &mut H,
     bench: &mut Vec<D>,
+    ended: &mut Vec<Ended<D>>,
     gate: &G,
     words: &RunOperands<'_>,
 ) -> Result<Status, Stop>
-    requires { MayRun H.may_open H.may_create (run_words words.now) }
+    requires may { MayRun H.may_open H.may_create (run_words words.now) }
+    requires none_yet { ended.old.items ≡ [] }
     ensures does { IfSome (H.state host.old).told (λ c.
         CompletesOrStops (verdict_of_run (run_words words.now) c.files (vec_len bench.old))
-        (H.state host.old) (H.state host.new) (map D.state bench.old.items) (map D.state bench.new.items) result) }
+        (H.state host.old) (H.state host.new) (map D.state bench.old.items) (map D.state bench.new.items) (map ended_state ended.new.items) result) }
     ensures some { CompletesOrStopsOfSome (Some (OfRun (run_words words.now))) (vec_len bench.old)
-        (H.state host.old) (H.state host.new) (map D.state bench.old.items) (map D.state bench.new.items) result }
+        (H.state host.old) (H.state host.new) (map D.state bench.old.items) (map D.state bench.new.items) (map ended_state ended.new.items) result }
     ensures answer { IfOk result IsCommandStatus }
     ensures others { IfSome (H.state host.old).told (λ c.
         let units = units_changed_by (verdict_of_run (run_words words.now) c.files (vec_len bench.old)) in
@@ -84,6 +96,7 @@ fn run_command<H: Host, G: Gate, D: TxDevice>(
         refuses answer ≡ true → bench.new.items ≡ bench.old.items) }
     ensures len { vec_len bench.new ≡ vec_len bench.old }
     ensures boxes { identities_of (map D.state bench.new.items) ≡ identities_of (map D.state bench.old.items) }
+    ensures none_ended { LeavesNone result ended.new.items }
     ensures handles { (H.state host.new).handles ≡ (H.state host.old).handles }
     ensures cause { StopsFor (H.fault_count host.old) (H.fault_count host.new) result }
 {
@@ -92,26 +105,31 @@ fn run_command<H: Host, G: Gate, D: TxDevice>(
         Err(refusal) => return refuse(alloc, host, refusal),
     };
     match read_capture_file(alloc, host, words.capture)? {
-        Ok(capture) => run_capture(alloc, host, bench, gate, words.out, &plan, &capture),
+        Ok(capture) => run_capture(
+            rt, alloc, host, bench, ended, gate, words.out, &plan, &capture,
+        ),
         Err(refusal) => refuse(alloc, host, refusal),
     }
 }
 
 /// Does a command.
-fn do_command<H: Host, G: Gate, D: TxDevice>(
+fn do_command<R: Threads + Wait + Sync, H: Host, G: Gate, D: TxDevice>(
+    rt: &R,
     alloc: Global,
     host: &mut H,
     bench: &mut Vec<D>,
+    ended: &mut Vec<Ended<D>>,
     gate: &G,
     command: &Command<'_>,
 ) -> Result<Status, Stop>
     requires may { MayDoCommand H.may_open H.may_create (command_words command.now) }
     requires few { HasFewRecords (Some (command_words command.now)) }
+    requires none_yet { ended.old.items ≡ [] }
     ensures does { IfSome (H.state host.old).told (λ c.
         CompletesOrStops (verdict_of_command (command_words command.now) c.files (vec_len bench.old))
-        (H.state host.old) (H.state host.new) (map D.state bench.old.items) (map D.state bench.new.items) result) }
+        (H.state host.old) (H.state host.new) (map D.state bench.old.items) (map D.state bench.new.items) (map ended_state ended.new.items) result) }
     ensures some { CompletesOrStopsOfSome (Some (command_words command.now)) (vec_len bench.old)
-        (H.state host.old) (H.state host.new) (map D.state bench.old.items) (map D.state bench.new.items) result }
+        (H.state host.old) (H.state host.new) (map D.state bench.old.items) (map D.state bench.new.items) (map ended_state ended.new.items) result }
     ensures answer { IfOk result IsCommandStatus }
     ensures others { IfSome (H.state host.old).told (λ c.
         let units = units_changed_by (verdict_of_command (command_words command.now) c.files (vec_len bench.old)) in
@@ -122,12 +140,13 @@ fn do_command<H: Host, G: Gate, D: TxDevice>(
         refuses answer ≡ true → bench.new.items ≡ bench.old.items) }
     ensures len { vec_len bench.new ≡ vec_len bench.old }
     ensures boxes { identities_of (map D.state bench.new.items) ≡ identities_of (map D.state bench.old.items) }
+    ensures none_ended { LeavesNone result ended.new.items }
     ensures handles { (H.state host.new).handles ≡ (H.state host.old).handles }
     ensures cause { StopsFor (H.fault_count host.old) (H.fault_count host.new) result }
 {
     match command {
-        Command::Run(words) => run_command(alloc, host, bench, gate, words),
-        Command::Gen(words) => gen_command(alloc, host, bench, gate, words),
+        Command::Run(words) => run_command(rt, alloc, host, bench, ended, gate, words),
+        Command::Gen(words) => gen_command(rt, alloc, host, bench, ended, gate, words),
         Command::Trace(file) => trace_command(alloc, host, file),
     }
 }
@@ -149,28 +168,33 @@ fn do_command<H: Host, G: Gate, D: TxDevice>(
 ///
 /// A refusal is one line on standard output, and makes no file. After a fault or want of memory nothing more is written.
 ///
-/// Plans with more than one sender or an event aren't built. `gate` is passed by sender 0 before each packet, and once
-/// after the last.
+/// The senders of a plan run side by side, or one after another where no further thread can be had. `gate` is passed by
+/// each sender before each of its packets, and once after its last. `ended` gets one for each station of a run that is
+/// done, in ascending order.
+///
+/// Plans that exchange a device aren't built.
 pub fn lqtx<R: Threads + Wait + Sync, H: Host, G: Gate, D: TxDevice>(
-    _rt: &R,
+    rt: &R,
     alloc: Global,
     words: &[&str],
     host: &mut H,
     bench: &mut Vec<D>,
+    ended: &mut Vec<Ended<D>>,
     gate: &G,
 ) -> Status
     // Only the files that the words name are opened, and only the outputs are created.
-    requires { MayDo H.may_open H.may_create (command_of_words (bytes_of_words words.now)) }
+    requires may { MayDo H.may_open H.may_create (command_of_words (bytes_of_words words.now)) }
+    requires none_yet { ended.old.items ≡ [] }
 
     // What the words, the files and the bench decide is answered and left, the headline for a run that is done; after a
     // fault or want of memory, a part of what was to be written. Where the host doesn't tell what its files hold, that is
     // so of some bytes of theirs.
     ensures outcome { IfSome (H.state host.old).told (λ c.
         Outcome (verdict_of (bytes_of_words words.now) c.files (vec_len bench.old))
-        (H.state host.old) (H.state host.new) (map D.state bench.old.items) (map D.state bench.new.items) result) }
+        (H.state host.old) (H.state host.new) (map D.state bench.old.items) (map D.state bench.new.items) (map ended_state ended.new.items) result) }
 
     ensures some { OutcomeOfSome (command_of_words (bytes_of_words words.now)) (vec_len bench.old)
-        (H.state host.old) (H.state host.new) (map D.state bench.old.items) (map D.state bench.new.items) result }
+        (H.state host.old) (H.state host.new) (map D.state bench.old.items) (map D.state bench.new.items) (map ended_state ended.new.items) result }
 
     // The causes: Usage, also where the host tells nothing; Fault exactly where a call of the host failed; and what comes
     // where neither a fault nor want of memory does.
@@ -193,9 +217,12 @@ pub fn lqtx<R: Threads + Wait + Sync, H: Host, G: Gate, D: TxDevice>(
     ensures beyond { let units = most_units_changed_by (command_of_words (bytes_of_words words.now)) in
         drop units bench.new.items ≡ drop units bench.old.items }
     ensures refused { refuses result ≡ true → bench.new.items ≡ bench.old.items }
+
+    // What stays of the stations is laid out where a run is done.
+    ensures none_ended { result ≢ Status.Done → ended.new.items ≡ [] }
 {
     match read_words(alloc, words) {
-        Ok(Some(command)) => match do_command(alloc, host, bench, gate, &command) {
+        Ok(Some(command)) => match do_command(rt, alloc, host, bench, ended, gate, &command) {
             Ok(status) => status,
             Err(stop) => stop.status(),
         },

@@ -1,5 +1,5 @@
 //! The command `trace`: a schedule on the machine of the run lock.
-ghost use Rattle.std.specs.Prelude.{◌≡◌, ℕ, List, IfOk, IfSome, Some};
+ghost use Rattle.std.specs.Prelude.{◌≡◌, [], ℕ, List, IfOk, IfSome, Some};
 ghost use Rattle.lq_model.specs.Device.{DeviceState};
 ghost use Rattle.lq_top.specs.Command.{OfTrace};
 ghost use Rattle.lq_top.specs.Decision.{verdict_of_trace};
@@ -17,9 +17,9 @@ use std::alloc::Global;
 pub fn trace_command<H: Host>(alloc: Global, host: &mut H, file: &str) -> Result<Status, Stop>
     requires { H.may_open file.now }
     ensures does { (before after : List DeviceState) → IfSome (H.state host.old).told (λ c.
-        CompletesOrStops (verdict_of_trace file.now c.files) (H.state host.old) (H.state host.new) before after result) }
+        CompletesOrStops (verdict_of_trace file.now c.files) (H.state host.old) (H.state host.new) before after [] result) }
     ensures some { (have : ℕ) (before after : List DeviceState)
-        → CompletesOrStopsOfSome (Some (OfTrace file.now)) have (H.state host.old) (H.state host.new) before after result }
+        → CompletesOrStopsOfSome (Some (OfTrace file.now)) have (H.state host.old) (H.state host.new) before after [] result }
     ensures answer { IfOk result IsCommandStatus }
     ensures handles { (H.state host.new).handles ≡ (H.state host.old).handles }
     ensures cause { StopsFor (H.fault_count host.old) (H.fault_count host.new) result }

@@ -4,6 +4,7 @@ use Rattle.lq_host.specs.Host.{HostState, filed}
 use Rattle.lq_model.specs.Capture.{capture_of}
 use Rattle.lq_model.specs.Generated.{generated_capture}
 use Rattle.lq_pcapng.specs.File.{as_classic}
+use Rattle.lq_lanes.specs.Fates.{ended_state}
 use Rattle.lq_top.specs.Decision.{by_generated, with_refusal}
 use Rattle.lq_top.specs.Headline.{generated_file}
 use Rattle.lq_top.specs.Written.{FileIsCut}
@@ -21,7 +22,7 @@ returns-in_err-write_file-clause-does g c =
     let new : HostState = g.H.Host.state c.write_file.new.host in
     let devices = map g.D.TxDevice.state c.args.bench.now.items in
     let exit = err_from_is_err_and c.from_residual-in_err-write_file.result c.from_residual-in_err-write_file.ensures.1 in
-    stops_any (by_generated out text plan (with_refusal (as_classic (capture_of text)))) old new devices devices c.from_residual-in_err-write_file.result exit.0 exit.1
+    stops_any (by_generated out text plan (with_refusal (as_classic (capture_of text)))) old new devices devices (map ended_state c.args.ended.now.items) c.from_residual-in_err-write_file.result exit.0 exit.1
     (cut_in_file out text plan (capture_of text) old new devices devices (is_accepted words.number words.count c.requires.few)
     (subst (λ (t : List ℕ). FileIsCut (generated_file out t) old new) (c.deref.ensures.value ∙ c.in_ok-text.ensures) c.in_err-write_file.ensures.err))
 
@@ -40,7 +41,7 @@ returns-in_err-generated_in-clause-does g c =
     let new : HostState = g.H.Host.state c.write_file.new.host in
     let devices = map g.D.TxDevice.state c.args.bench.now.items in
     let exit = err_from_is_err_and c.from_residual-in_err-generated_in.result c.from_residual-in_err-generated_in.ensures.1 in
-    stops_any (by_generated out text plan (with_refusal (as_classic (capture_of text)))) old new devices devices c.from_residual-in_err-generated_in.result exit.0 exit.1
+    stops_any (by_generated out text plan (with_refusal (as_classic (capture_of text)))) old new devices devices (map ended_state c.args.ended.now.items) c.from_residual-in_err-generated_in.result exit.0 exit.1
     (cut_after_file out text plan (capture_of text) old new devices devices (is_accepted words.number words.count c.requires.few)
     (c.in_ok-write_file.ensures.ok ∙ ap (λ (t : List ℕ). filed old out t) (c.deref.ensures.value ∙ c.in_ok-text.ensures)))
 
@@ -53,7 +54,7 @@ returns-clause-does g c =
     let mid : HostState = g.H.Host.state c.write_file.new.host in
     let before = map g.D.TxDevice.state c.args.bench.now.items in
     let after = map g.D.TxDevice.state c.run_and_count.new.bench.items in
-    generated_does out text c.args.plan.now c.in_ok-generated_in.field-0 (capture_of text) old mid (g.H.Host.state c.run_and_count.new.host) before after c.run_and_count.result
+    generated_does out text c.args.plan.now c.in_ok-generated_in.field-0 (capture_of text) old mid (g.H.Host.state c.run_and_count.new.host) before after (map ended_state c.run_and_count.new.ended.items) c.run_and_count.result
     (ap capture_of (sym c.in_ok-text.ensures) ∙ c.in_ok-generated_in.ensures)
     (c.in_ok-write_file.ensures.ok ∙ ap (λ (t : List ℕ). filed old out t) (c.deref.ensures.value ∙ c.in_ok-text.ensures))
     c.run_and_count.ensures.answer c.run_and_count.ensures.ok c.run_and_count.ensures.err

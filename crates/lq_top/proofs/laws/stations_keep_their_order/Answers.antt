@@ -1,4 +1,5 @@
 use Rattle.std.proofs.Common.{◌≡◌, ◌<◌, ◌∷◌, ◌++◌, Some, length, slice_get, subst, sym, ap, ◌∙◌}
+use Rattle.std.proofs.lemmas.Option.{same_Some}
 use Rattle.lq_account.specs.Progress.{start_of}
 use Rattle.lq_model.specs.Account.{Account, Event, Take}
 use Rattle.lq_model.specs.Legal.{Comes}
@@ -6,7 +7,6 @@ use Rattle.lq_model.specs.Plan.{infos_of}
 use Rattle.lq_model.specs.declared.fate.Fate.TheVariants as fate
 use Rattle.lq_pcapng.specs.File.{packets_of_file}
 use Rattle.lq_top.proofs.AccountLemmas.{comes_there, saw_its_slot}
-use Rattle.lq_top.proofs.FateLists.{some_is}
 use Rattle.lq_top.proofs.TextLemmas.{length-infos_of}
 use Rattle.lq_top.proofs.laws.stations_keep_their_order.Goals as goal
 
@@ -16,7 +16,7 @@ returns-clause-full c = λ run fates before after station n seen are below insid
     let closed = has.2 in
     let within : n < length (infos_of run.plan (packets_of_file run.capture)) = subst (λ count. n < count) (sym (length-infos_of run.plan (packets_of_file run.capture))) inside in
     let given = closed.decided n within of in
-    let same : given.0 ≡ fate.Full seen = some_is (sym given.1 ∙ there) in
+    let same : given.0 ≡ fate.Full seen = same_Some _ _ (sym given.1 ∙ there) in
     saw_its_slot run.plan (infos_of run.plan (packets_of_file run.capture)) station n seen has.0 closed.legal.comes closed.legal.planned
     (ap (λ (a : Account). a.fates n) (sym closed.account) ∙ (given.2 ∙ ap Some same))
 

@@ -1,6 +1,7 @@
-use Rattle.std.proofs.Common.{Some, IfSome, map, subst, sym, vec_len}
-use Rattle.lq_top.specs.Command.{command_words}
-use Rattle.lq_top.specs.Decision.{verdict_of_command}
+use Rattle.std.proofs.Common.{◌≡◌, [], List, ap, Some, IfSome, map, subst, sym, vec_len}
+use Rattle.lq_lanes.specs.Fates.{EndedState, ended_state}
+use Rattle.lq_top.specs.Command.{OfTrace, command_words}
+use Rattle.lq_top.specs.Decision.{verdict_of_command, verdict_of_trace}
 use Rattle.lq_top.specs.Outcome.{CompletesOrStops, CompletesOrStopsOfSome}
 use Rattle.lq_top.specs.declared.command.Command.{Command}
 use Rattle.lq_top.proofs.top.do_command.Goals as goal
@@ -11,7 +12,8 @@ returns-in-Run-clause-some g c =
     let new = g.H.Host.state c.run_command.new.host in
     let before = map g.D.TxDevice.state c.args.bench.now.items in
     let after = map g.D.TxDevice.state c.run_command.new.bench.items in
-    subst (λ (command : Command). CompletesOrStopsOfSome (Some (command_words command)) (vec_len c.args.bench.now) old new before after c.run_command.result) (sym c.in-Run.is)
+    let ended = map ended_state c.run_command.new.ended.items in
+    subst (λ (command : Command). CompletesOrStopsOfSome (Some (command_words command)) (vec_len c.args.bench.now) old new before after ended c.run_command.result) (sym c.in-Run.is)
     c.run_command.ensures.some
 
 pub returns-in-Trace-clause-does : goal.returns-in-Trace-clause-does
@@ -19,13 +21,16 @@ returns-in-Trace-clause-does g c =
     let old = g.H.Host.state c.args.host.now in
     let new = g.H.Host.state c.trace_command.new.host in
     let devices = map g.D.TxDevice.state c.args.bench.now.items in
-    subst (λ (command : Command). IfSome old.told (λ k. CompletesOrStops (verdict_of_command (command_words command) k.files (vec_len c.args.bench.now)) old new devices devices c.trace_command.result))
-    (sym c.in-Trace.is) (c.trace_command.ensures.does devices devices)
+    let none : [] ≡ map ended_state c.args.ended.now.items = ap (map ended_state) (sym c.requires.none_yet) in
+    subst (λ (command : Command). IfSome old.told (λ k. CompletesOrStops (verdict_of_command (command_words command) k.files (vec_len c.args.bench.now)) old new devices devices (map ended_state c.args.ended.now.items) c.trace_command.result))
+    (sym c.in-Trace.is)
+    (subst (λ (ended : List EndedState). IfSome old.told (λ k. CompletesOrStops (verdict_of_trace c.in-Trace.file.now k.files) old new devices devices ended c.trace_command.result)) none (c.trace_command.ensures.does devices devices))
 
 pub returns-in-Trace-clause-some : goal.returns-in-Trace-clause-some
 returns-in-Trace-clause-some g c =
     let old = g.H.Host.state c.args.host.now in
     let new = g.H.Host.state c.trace_command.new.host in
     let devices = map g.D.TxDevice.state c.args.bench.now.items in
-    subst (λ (command : Command). CompletesOrStopsOfSome (Some (command_words command)) (vec_len c.args.bench.now) old new devices devices c.trace_command.result) (sym c.in-Trace.is)
-    (c.trace_command.ensures.some (vec_len c.args.bench.now) devices devices)
+    let none : [] ≡ map ended_state c.args.ended.now.items = ap (map ended_state) (sym c.requires.none_yet) in
+    subst (λ (command : Command). CompletesOrStopsOfSome (Some (command_words command)) (vec_len c.args.bench.now) old new devices devices (map ended_state c.args.ended.now.items) c.trace_command.result) (sym c.in-Trace.is)
+    (subst (λ (ended : List EndedState). CompletesOrStopsOfSome (Some (OfTrace c.in-Trace.file.now)) (vec_len c.args.bench.now) old new devices devices ended c.trace_command.result) none (c.trace_command.ensures.some (vec_len c.args.bench.now) devices devices))

@@ -1,5 +1,6 @@
 use Rattle.std.proofs.Common.{◌∙◌, ap, sym, subst, IfSome, Option, Some, map, vec_len}
 use Rattle.std.specs.Option.{option_map}
+use Rattle.lq_lanes.specs.Fates.{ended_state}
 use Rattle.lq_top.specs.Command.{CommandWords, command_words}
 use Rattle.lq_top.specs.Decision.{by_bytes, by_command, verdict_of_command}
 use Rattle.lq_top.specs.Outcome.{IsAnswerOf, Outcome, OutcomeOfSome}
@@ -14,7 +15,7 @@ returns-in-Ok-clause-complete g c =
     let command = command_words c.in-Ok-Some.command in
     subst (λ (is : Option CommandWords). IfSome told (λ k. IsAnswerOf (by_command is k.files have) c.in-Ok.status)) (ap (option_map command_words) (sym c.in-Ok-Some.field-0-is) ∙ c.in-Ok-Some.ensures)
     (all_answered told (λ k. verdict_of_command command k.files have) (g.H.Host.state c.args.host.now) (g.H.Host.state c.do_command.new.host) (map g.D.TxDevice.state c.args.bench.now.items)
-    (map g.D.TxDevice.state c.do_command.new.bench.items) c.in-Ok.status c.in-Ok.ensures.does)
+    (map g.D.TxDevice.state c.do_command.new.bench.items) (map ended_state c.do_command.new.ended.items) c.in-Ok.status c.in-Ok.ensures.does)
 
 pub returns-in-Ok-clause-some : goal.returns-in-Ok-clause-some
 returns-in-Ok-clause-some g c =
@@ -23,10 +24,11 @@ returns-in-Ok-clause-some g c =
     let have = vec_len c.args.bench.now in
     let before = map g.D.TxDevice.state c.args.bench.now.items in
     let after = map g.D.TxDevice.state c.do_command.new.bench.items in
+    let ended = map ended_state c.do_command.new.ended.items in
     let command = command_words c.in-Ok-Some.command in
     let found = c.in-Ok.ensures.some in
-    subst (λ (is : Option CommandWords). OutcomeOfSome is have old new before after c.in-Ok.status) (ap (option_map command_words) (sym c.in-Ok-Some.field-0-is) ∙ c.in-Ok-Some.ensures)
-    (found.0, found.1, ends_outcome (by_bytes (Some command) have found.0 found.1) old new before after c.in-Ok.status c.in-Ok.ensures.answer found.2)
+    subst (λ (is : Option CommandWords). OutcomeOfSome is have old new before after ended c.in-Ok.status) (ap (option_map command_words) (sym c.in-Ok-Some.field-0-is) ∙ c.in-Ok-Some.ensures)
+    (found.0, found.1, ends_outcome (by_bytes (Some command) have found.0 found.1) old new before after ended c.in-Ok.status c.in-Ok.ensures.answer found.2)
 
 pub returns-in-Err-do_command-clause-some : goal.returns-in-Err-do_command-clause-some
 returns-in-Err-do_command-clause-some g c =
@@ -35,11 +37,12 @@ returns-in-Err-do_command-clause-some g c =
     let have = vec_len c.args.bench.now in
     let before = map g.D.TxDevice.state c.args.bench.now.items in
     let after = map g.D.TxDevice.state c.do_command.new.bench.items in
+    let ended = map ended_state c.do_command.new.ended.items in
     let command = command_words c.in-Ok-Some.command in
     let found = c.in-Err-do_command.ensures.some in
-    subst (λ (is : Option CommandWords). OutcomeOfSome is have old new before after c.status.result) (ap (option_map command_words) (sym c.in-Ok-Some.field-0-is) ∙ c.in-Ok-Some.ensures) (
+    subst (λ (is : Option CommandWords). OutcomeOfSome is have old new before after ended c.status.result) (ap (option_map command_words) (sym c.in-Ok-Some.field-0-is) ∙ c.in-Ok-Some.ensures) (
       found.0,
       found.1,
-      subst (λ (answer : Status). Outcome (by_bytes (Some command) have found.0 found.1) old new before after answer) (sym c.status.ensures)
-          (stops_outcome (by_bytes (Some command) have found.0 found.1) old new before after c.in-Err-do_command.stop found.2),
+      subst (λ (answer : Status). Outcome (by_bytes (Some command) have found.0 found.1) old new before after ended answer) (sym c.status.ensures)
+          (stops_outcome (by_bytes (Some command) have found.0 found.1) old new before after ended c.in-Err-do_command.stop found.2),
     )
