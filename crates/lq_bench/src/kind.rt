@@ -21,3 +21,22 @@ impl Kind {
         }
     }
 }
+
+/// What control does in its rounds, which has the table alone.
+#[derive(Clone, Copy, Drop)]
+pub enum Holding {
+    /// The run lock is taken with the station, and both are given back.
+    Lock,
+    /// The station is moved out of its slot and back, under the run lock.
+    Station,
+}
+
+impl Holding {
+    /// What is printed of it.
+    pub fn name(self) -> &'static str {
+        match self {
+            Holding::Lock => "the run lock with the station, taken and given back by control",
+            Holding::Station => "two exchanges of the slot: the station moved out and back",
+        }
+    }
+}

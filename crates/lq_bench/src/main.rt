@@ -3,8 +3,11 @@
 //! and prints nanoseconds a round.
 #![tactic(auto)]
 
+mod four;
+mod holding;
 mod kind;
 mod packets;
+mod path;
 mod paths;
 mod rounds;
 mod senders;

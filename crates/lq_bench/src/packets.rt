@@ -1,6 +1,6 @@
 //! The packets that are sent, and a table of them.
 ghost use Rattle.std.specs.Prelude.{⊤, ◌≡◌, ℕ, ◌<◌, ◌≤◌, true, length, MatchOption};
-ghost use Rattle.lq_bench.specs.Senders.{IsSender, IsTheirs};
+ghost use Rattle.lq_bench.specs.Senders.{IsActive, IsTheirs};
 
 use crate::senders::OWNERS;
 use lq_device::{BenchDevice, Station, StationPlan, TxDevice};
@@ -57,7 +57,7 @@ pub fn table<'a>(
     infos: &'a [Info],
     plan: StationPlan,
 ) -> Option<(Shared<'a, BenchDevice>, Cpu<BenchDevice>)>
-    ensures { MatchOption result ⊤ (λ t. IsSender t.0 0 t.1) }
+    ensures { MatchOption result ⊤ (λ t. IsActive t.0 t.1) }
 {
     if infos.len() > 1000000 || plan.len == 0 {
         return None;

@@ -1,88 +1,69 @@
 //! What the transmit of a packet costs, by the path that it takes.
-ghost use Rattle.lq_bench.specs.Senders.{IsSender};
+ghost use Rattle.lq_bench.specs.Senders.{IsActive, IsFirstSender};
 
+use crate::four::timed_four;
 use crate::packets::{packets, table};
-use crate::senders::{OWNERS, at_most, send_own};
+use crate::path::Path;
+use crate::senders::{Losses, OWNERS, Work, at_most, send_own};
 use crate::table::show;
-use lq_device::{StationPlan, TxDevice};
-use lq_model::{Info, Params};
+use lq_device::TxDevice;
+use lq_model::Info;
 use lq_table::{Cpu, Shared};
 use std::io;
+use std::marker::Sync;
 use std::rt::{Clock, Runtime};
 use std::sync::Wait;
+use std::thread::Threads;
 use std::time::{Duration, Instant};
 
-/// The path of a packet.
-#[derive(Clone, Copy, Drop)]
-enum Path {
-    /// Past the bands, where a sender finds the station empty.
-    Past,
-    /// Through its band.
-    Through,
-    /// Past the bands, to a device that stops its queue; the driver's interrupt opens it, and a soft interrupt follows.
-    Stopped,
-}
-
-impl Path {
-    fn name(self) -> &'static str {
-        match self {
-            Path::Past => "a transmit past the bands",
-            Path::Through => "a transmit through a band",
-            Path::Stopped =>
-                "a transmit that stops the queue, the driver's interrupt and the soft interrupt",
-        }
-    }
-
-    fn bypass(self) -> bool {
-        match self {
-            Path::Past | Path::Stopped => true,
-            Path::Through => false,
-        }
-    }
-
-    fn wakes(self) -> bool {
-        match self {
-            Path::Past | Path::Through => false,
-            Path::Stopped => true,
-        }
-    }
-
-    fn plan(self) -> StationPlan {
-        StationPlan {
-            len: 1000,
-            max_len: 1000,
-            bypass: self.bypass(),
-            params: Params {
-                burst: if self.wakes() { 1 } else { 0 },
-                busy_every: 0,
-                busy_limit: 0,
-                hang_after: 0,
-            },
-        }
+/// Makes the station as the packets of this path are to find it.
+fn prepare<'a, D: TxDevice>(path: Path, shared: &Shared<'a, D>, cpu: &mut Cpu<D>)
+    requires active { IsActive shared.now cpu.old }
+    ensures first { IsFirstSender shared.now cpu.new }
+{
+    if path.deactivated() {
+        shared.set_deactivated(cpu, 0);
+        shared.end_control(cpu);
     }
 }
 
-/// How long one seat takes to send so many packets of owner 0, with nobody else at the table. An error where one isn't taken.
+/// How long one seat takes to send so many packets of owner 0, with nobody else at the table, and what was lost of them.
 fn timed<'a, R: Wait + Clock, D: TxDevice>(
     rt: &R,
     shared: &Shared<'a, D>,
     cpu: &mut Cpu<D>,
-    count: u32,
-    wakes: bool,
-) -> io::Result<Duration>
-    requires sender { IsSender shared.now 0 cpu.old }
+    work: Work,
+) -> io::Result<(Duration, Losses)>
+    requires first { IsFirstSender shared.now cpu.old }
 {
     let start = Instant::now(rt)?;
-    let lost = send_own(rt, shared, cpu, 0, count, wakes);
+    let losses = send_own(rt, shared, cpu, 0, work);
     let time = start.elapsed(rt)?;
-    if lost != 0 {
-        return Err(io::ErrorKind::Other.into());
-    }
-    Ok(time)
+    Ok((time, losses))
 }
 
-/// So many packets on a table of their own.
-fn measure<R: Runtime + AllocGlobal + Wait>(
+/// Lines on what was measured. An error where a packet wasn't sent.
+fn show_sent<R: Runtime>(
+    rt: &R,
+    path: Path,
+    threads: u32,
+    time: Duration,
+    losses: Losses,
+    count: u32,
+    shows: bool,
+) -> io::Result<()> {
+    if losses.unsent != 0 {
+        return Err(io::ErrorKind::Other.into());
+    }
+    show(rt, path.name(), threads, time, count, shows)?;
+    if shows {
+        println!(rt; "    dropped: {}", losses.dropped)?;
+    }
+    Ok(())
+}
+
+/// So many packets of one owner, on a table of their own.
+fn measure_alone<R: Runtime + AllocGlobal + Wait>(
     rt: &R,
     infos: &[Info],
     path: Path,
@@ -92,12 +73,29 @@ fn measure<R: Runtime + AllocGlobal + Wait>(
     let Some((shared, mut cpu)) = table(rt.alloc(), infos, path.plan()) else {
         return Err(io::ErrorKind::OutOfMemory.into());
     };
-    let time = timed(rt, &shared, &mut cpu, count, path.wakes())?;
-    show(rt, path.name(), 1, time, count, shows)
+    prepare(path, &shared, &mut cpu);
+    let (time, losses) = timed(rt, &shared, &mut cpu, path.work(count))?;
+    show_sent(rt, path, 1, time, losses, count, shows)
 }
 
-/// The cost of each path, with so many packets but 250,000 at most.
-pub fn measure_paths<R: Runtime + AllocGlobal + Wait>(
+/// So many packets of each owner, on a table of their own, by four senders at once.
+fn measure_four<R: Runtime + AllocGlobal + Wait + Threads + Sync>(
+    rt: &R,
+    infos: &[Info],
+    path: Path,
+    count: u32,
+    shows: bool,
+) -> io::Result<()> {
+    let Some((shared, mut first)) = table(rt.alloc(), infos, path.plan()) else {
+        return Err(io::ErrorKind::OutOfMemory.into());
+    };
+    prepare(path, &shared, &mut first);
+    let (time, losses) = timed_four(rt, &shared, first, path.work(count))?;
+    show_sent(rt, path, OWNERS, time, losses, count, shows)
+}
+
+/// The cost of each path, with so many packets of an owner but 250,000 at most: by one seat alone, and by four at once.
+pub fn measure_paths<R: Runtime + AllocGlobal + Wait + Threads + Sync>(
     rt: &R,
     count: u32,
     shows: bool,
@@ -106,8 +104,11 @@ pub fn measure_paths<R: Runtime + AllocGlobal + Wait>(
     let Ok(infos) = packets(rt.alloc(), count * OWNERS) else {
         return Err(io::ErrorKind::OutOfMemory.into());
     };
-    for path in [Path::Past, Path::Through, Path::Stopped] {
-        measure(rt, infos.as_slice(), path, count, shows)?;
+    for path in Path::ALL {
+        measure_alone(rt, infos.as_slice(), path, count, shows)?;
+    }
+    for path in Path::ALL {
+        measure_four(rt, infos.as_slice(), path, count, shows)?;
     }
     Ok(())
 }

@@ -1,10 +1,8 @@
 //! Rounds of steps that lead a seat back to where it stood.
-ghost use Rattle.std.specs.Prelude.{◌≡◌};
-ghost use Rattle.lq_bench.specs.Ready.{IsReady, IsFirstReady};
+ghost use Rattle.lq_bench.specs.Ready.{IsReady};
 
 use crate::kind::Kind;
 use lq_device::TxDevice;
-use lq_run::end_resize;
 use lq_table::{Cpu, Shared};
 
 /// Tries to wake an open queue: an exchange that changes nothing.
@@ -53,30 +51,5 @@ pub fn rounds<'a, D: TxDevice>(kind: Kind, shared: &Shared<'a, D>, cpu: &mut Cpu
 {
     for _ in 0..count {
         round(kind, shared, cpu);
-    }
-}
-
-/// Control takes the run lock with the station, and gives both back: two loads, an exchange of the lock's word, two of the
-/// slot, and a store.
-fn hold_run_lock<'a, D: TxDevice>(shared: &Shared<'a, D>, cpu: &mut Cpu<D>)
-    requires ready { IsFirstReady shared.now cpu.old }
-    ensures ready { IsFirstReady shared.now cpu.new }
-{
-    shared.begin_control(cpu);
-    if shared.try_lock(cpu) {
-        shared.move_station(cpu);
-        end_resize(shared, cpu);
-    } else {
-        shared.end_control(cpu);
-    }
-}
-
-/// So many times.
-pub fn run_locks<'a, D: TxDevice>(shared: &Shared<'a, D>, cpu: &mut Cpu<D>, count: u32)
-    requires ready { IsFirstReady shared.now cpu.old }
-    ensures ready { IsFirstReady shared.now cpu.new }
-{
-    for _ in 0..count {
-        hold_run_lock(shared, cpu);
     }
 }

@@ -61,32 +61,71 @@ fn interrupt<'a, D: TxDevice>(shared: &Shared<'a, D>, cpu: &mut Cpu<D>, owner: u
     }
 }
 
-/// Whether a packet that was answered so wasn't taken.
-fn is_lost(sending: Option<Sending>) -> bool {
-    match sending {
-        Some(Sending::Direct | Sending::Queued) => false,
-        Some(Sending::FullSeen(_) | Sending::Refused(_) | Sending::OutOfTurn { .. }) | None => true,
+/// How many packets weren't taken.
+#[derive(Clone, Copy, Drop)]
+pub struct Losses {
+    /// Dropped as full, or refused.
+    pub dropped: u32,
+    /// Not sent, since it wasn't their turn.
+    pub unsent: u32,
+}
+
+impl Losses {
+    /// None yet.
+    pub const NONE: Losses = Losses {
+        dropped: 0,
+        unsent: 0,
+    };
+
+    /// These and others.
+    pub fn and(self, other: Losses) -> Losses {
+        Losses {
+            dropped: self.dropped.saturating_add(other.dropped),
+            unsent: self.unsent.saturating_add(other.unsent),
+        }
+    }
+
+    /// What is lost of one packet that was answered so.
+    fn of(sending: Option<Sending>) -> Losses {
+        match sending {
+            Some(Sending::Direct | Sending::Queued) => Losses::NONE,
+            Some(Sending::FullSeen(_) | Sending::Refused(_)) => Losses {
+                dropped: 1,
+                unsent: 0,
+            },
+            Some(Sending::OutOfTurn { .. }) | None => Losses {
+                dropped: 0,
+                unsent: 1,
+            },
+        }
     }
 }
 
-/// Sends the first so many packets of this owner, with the interrupts after each. It answers how many weren't taken.
+/// What a sender does.
+#[derive(Clone, Copy, Drop)]
+pub struct Work {
+    /// How many packets it sends.
+    pub count: u32,
+    /// Whether the driver's interrupt comes after each.
+    pub wakes: bool,
+}
+
+/// Sends the first packets of this owner, with the interrupts after each. It answers how many weren't taken.
 pub fn send_own<'a, W: Wait, D: TxDevice>(
     rt: &W,
     shared: &Shared<'a, D>,
     cpu: &mut Cpu<D>,
     owner: u32,
-    count: u32,
-    wakes: bool,
-) -> u32
+    work: Work,
+) -> Losses
     requires sender { IsSender shared.now owner cpu.old }
     ensures sender { IsSender shared.now owner cpu.new }
 {
-    let mut lost = 0u32;
-    for k in 0..at_most(count) {
-        if is_lost(send(rt, shared, cpu, owner, k * OWNERS + owner)) {
-            lost = lost.saturating_add(1);
-        }
-        interrupt(shared, cpu, owner, wakes);
+    let mut losses = Losses::NONE;
+    for k in 0..at_most(work.count) {
+        let sending = send(rt, shared, cpu, owner, k * OWNERS + owner);
+        losses = losses.and(Losses::of(sending));
+        interrupt(shared, cpu, owner, work.wakes);
     }
-    lost
+    losses
 }

@@ -2,7 +2,7 @@
 ghost use Rattle.std.specs.Prelude.{All, IfOk, OnOk};
 ghost use Rattle.lq_bench.specs.Ready.{IsReady, IsFirstReady, IsWhole};
 
-use crate::kind::Kind;
+use crate::kind::{Holding, Kind};
 use crate::timing::{timed, timed_alone, timed_control};
 use lq_device::{BenchDevice, Station, StationPlan, TxDevice};
 use lq_model::{NoMemory, Params};
@@ -63,15 +63,11 @@ pub fn show<R: Runtime>(
 fn empty_table<'a>(alloc: Global) -> Result<(Shared<'a, BenchDevice>, Cpu<BenchDevice>), NoMemory>
     ensures { IfOk result (λ t. IsFirstReady t.0 t.1 × IsWhole t.1) }
 {
-    Shared::make(
-        alloc,
-        &[],
-        0,
-        PLAN,
-        1,
-        SEATS,
-        Station::new(0, BenchDevice::new(alloc)),
-    )
+    let station = Station::new(0, BenchDevice::new(alloc));
+    match Shared::make(alloc, &[], 0, PLAN, 1, SEATS, station) {
+        Ok(made) => Ok(made),
+        Err(_) => Err(NoMemory),
+    }
 }
 
 /// One seat more.
@@ -111,6 +107,24 @@ fn four_seats<'a, D: TxDevice>(
     Ok(cpus)
 }
 
+/// Control, with nobody else at the table.
+fn measure_control<'a, R: Runtime, D: TxDevice>(
+    rt: &R,
+    shared: &Shared<'a, D>,
+    cpu: &mut Cpu<D>,
+    count: u32,
+    shows: bool,
+) -> io::Result<()>
+    requires ready { IsFirstReady shared.now cpu.old }
+    ensures { OnOk result (IsFirstReady shared.now cpu.new) }
+{
+    for kind in [Holding::Lock, Holding::Station] {
+        let time = timed_control(rt, kind, shared, cpu, count)?;
+        show(rt, kind.name(), 1, time, count, shows)?;
+    }
+    Ok(())
+}
+
 /// One seat, with nobody else at the table.
 fn measure_alone<'a, R: Runtime, D: TxDevice>(
     rt: &R,
@@ -119,17 +133,8 @@ fn measure_alone<'a, R: Runtime, D: TxDevice>(
     count: u32,
     shows: bool,
 ) -> io::Result<()>
-    requires ready { IsFirstReady shared.now cpu.old }
+    requires ready { IsReady shared.now cpu.old }
 {
-    let time = timed_control(rt, shared, cpu, count)?;
-    show(
-        rt,
-        "the run lock with the station, taken and given back by control",
-        1,
-        time,
-        count,
-        shows,
-    )?;
     for kind in [Kind::Load, Kind::Wake, Kind::Produce] {
         let time = timed_alone(rt, kind, shared, cpu, count)?;
         show(rt, kind.name(), 1, time, count, shows)?;
@@ -163,6 +168,7 @@ pub fn measure_all<R: Runtime + AllocGlobal + Threads + Sync>(
     let Ok((shared, mut cpu)) = empty_table(rt.alloc()) else {
         return Err(io::ErrorKind::OutOfMemory.into());
     };
+    measure_control(rt, &shared, &mut cpu, count, shows)?;
     measure_alone(rt, &shared, &mut cpu, count, shows)?;
     let Ok((shared, first)) = empty_table(rt.alloc()) else {
         return Err(io::ErrorKind::OutOfMemory.into());

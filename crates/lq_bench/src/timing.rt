@@ -2,8 +2,9 @@
 ghost use Rattle.std.specs.Prelude.{All};
 ghost use Rattle.lq_bench.specs.Ready.{IsReady, IsFirstReady};
 
-use crate::kind::Kind;
-use crate::rounds::{rounds, run_locks};
+use crate::holding::hold;
+use crate::kind::{Holding, Kind};
+use crate::rounds::rounds;
 use lq_device::TxDevice;
 use lq_table::{Cpu, Shared};
 use std::marker::Sync;
@@ -69,9 +70,10 @@ pub fn timed_alone<'a, R: Clock, D: TxDevice>(
     start.elapsed(rt)
 }
 
-/// How long it takes control to take the run lock and give it back so many times.
+/// How long it takes control.
 pub fn timed_control<'a, R: Clock, D: TxDevice>(
     rt: &R,
+    kind: Holding,
     shared: &Shared<'a, D>,
     cpu: &mut Cpu<D>,
     count: u32,
@@ -80,6 +82,6 @@ pub fn timed_control<'a, R: Clock, D: TxDevice>(
     ensures ready { IsFirstReady shared.now cpu.new }
 {
     let start = Instant::now(rt)?;
-    run_locks(shared, cpu, count);
+    hold(kind, shared, cpu, count);
     start.elapsed(rt)
 }

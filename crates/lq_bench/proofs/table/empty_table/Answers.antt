@@ -1,4 +1,4 @@
-use Rattle.std.proofs.Common.{ℕ, List, arith, ap, Result, Ok, Err, IfOk}
+use Rattle.std.proofs.Common.{ℕ, List, arith, ap}
 use Rattle.lq_device.specs.Station.{StationState}
 use Rattle.lq_model.specs.declared.fate.Info.{Info}
 use Rattle.lq_model.specs.declared.plan.StationPlan.{StationPlan}
@@ -14,10 +14,5 @@ ready infos number plan station t c m = let queues = m.6 in let senders = m.7 in
   (ap (λ v. v.share.shares) v, ap (λ v. v.share.owners) v, ap (λ v. v.packets) v),
 )
 
-if_ready : {D E : Type 0} (infos : List Info) (number : ℕ) (plan : StationPlan) (station : StationState) (r : Result (Shared D × Cpu D) E)
-    → IfOk r (λ t. IsMadeOf infos number plan 1 4 station t.0 t.1) → IfOk r (λ t. IsFirstReady t.0 t.1 × IsWhole t.1)
-if_ready infos number plan station (Ok t) m = ready infos number plan station t.0 t.1 m
-if_ready infos number plan station (Err e) m = tt
-
-pub returns : goal.returns
-returns c = if_ready _ _ _ _ c.make.result c.make.ensures
+pub returns-in-Ok : goal.returns-in-Ok
+returns-in-Ok c = ready _ _ _ _ c.in-Ok.made.0 c.in-Ok.made.1 c.in-Ok.ensures.ok

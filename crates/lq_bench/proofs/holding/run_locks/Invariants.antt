@@ -1,5 +1,5 @@
 use Rattle.lq_bench.specs.Ready.{IsFirstReady}
-use Rattle.lq_bench.proofs.rounds.run_locks.Given as goal
+use Rattle.lq_bench.proofs.holding.run_locks.Given as goal
 
 abbrev pub invariant-loop : goal.invariant-loop
 invariant-loop g l = IsFirstReady l.shared l.cpu
