@@ -38,7 +38,8 @@ fn two_stations_over_real_files(rt: HostRuntime) -> Result<(), Fail> {
     bench.push(BenchDevice::new(alloc))?;
     bench.push(BenchDevice::new(alloc))?;
     let words = ["run", plan, captured, "lq_faults_files/o"];
-    let status = lqtx(&rt, alloc, &words, &mut host, &mut bench, &Free);
+    let mut ended = Vec::new(alloc);
+    let status = lqtx(&rt, alloc, &words, &mut host, &mut bench, &mut ended, &Free);
     let by_first = fs::read(&rt, first)?;
     let by_second = fs::read(&rt, second)?;
     let fates = fs::read(&rt, told)?;
@@ -82,7 +83,8 @@ fn refuses_a_capture_that_is_too_long(rt: HostRuntime) -> Result<(), Fail> {
     let mut host = FileHost::new(rt.clone()?);
     let mut bench = vec![in alloc; BenchDevice::new(alloc)]?;
     let words = ["run", plan, captured, "lq_faults_long/o"];
-    let status = lqtx(&rt, alloc, &words, &mut host, &mut bench, &Free);
+    let mut ended = Vec::new(alloc);
+    let status = lqtx(&rt, alloc, &words, &mut host, &mut bench, &mut ended, &Free);
     let written = fs::metadata(&rt, first).is_ok();
     fs::remove_dir_all(&rt, "lq_faults_long")?;
 

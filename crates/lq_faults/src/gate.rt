@@ -68,7 +68,8 @@ fn is_passed_while_the_packet_is_still_to_come(rt: HostRuntime) -> Result<(), Fa
             accepted: &accepted,
         },
     ]?;
-    let status = lqtx(&rt, alloc, &RUN, &mut host, &mut bench, &gate);
+    let mut ended = Vec::new(alloc);
+    let status = lqtx(&rt, alloc, &RUN, &mut host, &mut bench, &mut ended, &gate);
     assert_eq!(rt; status, Status::Done);
     assert_eq!(rt; accepted.load(Ordering::SeqCst), 3);
     assert_eq!(rt; gate.wrong.load(Ordering::SeqCst), 0);

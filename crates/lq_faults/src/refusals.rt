@@ -126,13 +126,6 @@ fn refuses_plans_that_it_cannot_run(rt: HostRuntime) -> Result<(), Fail> {
         (SWAPPED, 8, 3, "bench refused: needs 9 units, has 8\n"),
         (PLAN, 0, 3, "bench refused: needs 1 units, has 0\n"),
         (SWAPPED, 9, 8, "not built: plan\n"),
-        (b"senders = 2\n[[station]]\n", 1, 8, "not built: plan\n"),
-        (
-            b"[[station]]\n[[event]]\nbefore = 0\nkind = \"down\"\nstation = 0\n",
-            1,
-            8,
-            "not built: plan\n",
-        ),
     ];
     for (plan, devices, code, line) in rows {
         let mut host = MemHost::new(alloc);

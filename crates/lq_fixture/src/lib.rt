@@ -1,6 +1,9 @@
 //! What the tests of the top call share: captures made by hand, hosts in memory, and the call on a bench of devices.
 #![tactic(auto)]
 
+mod checks;
+
+pub use checks::{Shape, check_run};
 use lq_device::BenchDevice;
 use lq_host::MemHost;
 use lq_top::{Gate, Status, lqtx};
@@ -91,7 +94,8 @@ pub fn call_on<R: Threads + Wait + Sync, G: Gate>(
     for _ in 0..devices {
         bench.push(BenchDevice::new(alloc))?;
     }
-    Ok(lqtx(rt, alloc, words, host, &mut bench, gate))
+    let mut ended = Vec::new(alloc);
+    Ok(lqtx(rt, alloc, words, host, &mut bench, &mut ended, gate))
 }
 
 /// The same on a bench of one device.

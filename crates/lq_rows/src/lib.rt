@@ -5,8 +5,12 @@
 #[cfg(test)]
 mod generated;
 #[cfg(test)]
+mod overlap;
+#[cfg(test)]
 mod pcapng;
 #[cfg(test)]
 mod rows;
 #[cfg(test)]
 mod schedules;
+#[cfg(test)]
+mod senders;

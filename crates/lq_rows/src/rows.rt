@@ -61,7 +61,7 @@ struct Row {
     output: &'static str,
 }
 
-const ROWS: [Row; 7] = [
+const ROWS: [Row; 12] = [
     // every packet goes past the rings
     Row {
         plan: "[[station]]\n",
@@ -116,6 +116,46 @@ const ROWS: [Row; 7] = [
         fates: "0 sent 0 0\n1 sent 0 1\n2 sent 0 2\n3 full 2\n",
         sent: &[0, 1, 2],
         output: "unit 0 sent 3\nstation 0 full 1 shrunk 0 purged 0 refused 0\ntotal 4 sent 3 full 1 shrunk 0 purged 0 refused 0\n",
+    },
+    // a device is busy a thousand times
+    Row {
+        plan: "[[station]]\nbusy_every = 1\nbusy_limit = 1000\n",
+        tos: &[0, 0, 0],
+        fates: "0 sent 0 0\n1 sent 0 1\n2 sent 0 2\n",
+        sent: &[0, 1, 2],
+        output: "unit 0 sent 3\nstation 0 full 0 shrunk 0 purged 0 refused 0\ntotal 3 sent 3 full 0 shrunk 0 purged 0 refused 0\n",
+    },
+    // packet 0 is sent, 1 requeued, and 2 to 6 are held when the ring is shortened
+    Row {
+        plan: "irq_every = 1000\n[[station]]\nlen = 8\nburst = 1\n[[event]]\nbefore = 7\nkind = \"resize\"\nstation = 0\nlen = 3\n",
+        tos: &[0, 0, 0, 0, 0, 0, 0, 0],
+        fates: "0 sent 0 0\n1 sent 0 1\n2 sent 0 2\n3 sent 0 3\n4 sent 0 4\n5 shrunk 0\n6 shrunk 0\n7 full 2\n",
+        sent: &[0, 1, 2, 3, 4],
+        output: "unit 0 sent 5\nstation 0 full 1 shrunk 2 purged 0 refused 0\ntotal 8 sent 5 full 1 shrunk 2 purged 0 refused 0\n",
+    },
+    // while the station is deactivated packets are refused
+    Row {
+        plan: "[[station]]\n[[event]]\nbefore = 0\nkind = \"down\"\nstation = 0\n[[event]]\nbefore = 2\nkind = \"up\"\nstation = 0\n",
+        tos: &[0, 0, 0, 0],
+        fates: "0 refused 0\n1 refused 0\n2 sent 0 0\n3 sent 0 1\n",
+        sent: &[2, 3],
+        output: "unit 0 sent 2\nstation 0 full 0 shrunk 0 purged 0 refused 2\ntotal 4 sent 2 full 0 shrunk 0 purged 0 refused 2\n",
+    },
+    // a deactivation purges what is held
+    Row {
+        plan: "irq_every = 1000\n[[station]]\nburst = 1\n[[event]]\nbefore = 3\nkind = \"down\"\nstation = 0\n",
+        tos: &[0, 0, 0, 0],
+        fates: "0 sent 0 0\n1 purged 0\n2 purged 0\n3 refused 0\n",
+        sent: &[0],
+        output: "unit 0 sent 1\nstation 0 full 0 shrunk 0 purged 2 refused 1\ntotal 4 sent 1 full 0 shrunk 0 purged 2 refused 1\n",
+    },
+    // a change of the queue length purges packets 1 and 2; the queue stays stopped
+    Row {
+        plan: "irq_every = 1000\n[[station]]\nlen = 8\nburst = 1\n[[event]]\nbefore = 3\nkind = \"tx_queue_len\"\nstation = 0\nlen = 2\n",
+        tos: &[0, 0, 0, 0, 0, 0, 0],
+        fates: "0 sent 0 0\n1 purged 0\n2 purged 0\n3 sent 0 1\n4 sent 0 2\n5 sent 0 3\n6 full 4\n",
+        sent: &[0, 3, 4, 5],
+        output: "unit 0 sent 4\nstation 0 full 1 shrunk 0 purged 2 refused 0\ntotal 7 sent 4 full 1 shrunk 0 purged 2 refused 0\n",
     },
 ];
 

@@ -1,17 +1,21 @@
 -- The first seat after a call, and the units that its exchanges brought.
-use Rattle.std.proofs.Common.{◌≡◌, ◌<◌, ◌≤◌, ◌+◌, ℕ, zero, suc, List, length, slice_index_or, Contains, refl, ap, ◌∙◌, subst, arith, Bool, if◌then◌else◌, ◌==◌}
+use Rattle.std.proofs.Common.{◌≡◌, ◌<◌, ◌≤◌, ◌+◌, ℕ, zero, suc, List, length, slice_index_or, Contains, refl, sym, ap, ◌∷◌, ◌∙◌, subst, arith, Bool, if◌then◌else◌, ◌==◌}
 use Rattle.lq_model.specs.declared.machine.Phase.{Phase}
-use Rattle.lq_model.specs.Account.{Event}
+use Rattle.lq_model.specs.Account.{Event, Up, Swap, Purge, Down}
+use Rattle.lq_model.specs.declared.fate.Cause.{Cause}
+use Rattle.lq_model.specs.declared.machine.Phase.TheVariants.{Active}
+use Rattle.lq_model.specs.declared.machine.Position.TheVariants.{Idle}
 use Rattle.lq_model.specs.Machine.{Qdisc}
-use Rattle.lq_table.specs.Views.{FirstPart, View, State}
+use Rattle.lq_table.specs.Views.{FirstPart, SharePart, View, State}
 use Rattle.lq_table.specs.Told.{at_rest, told, together}
 use Rattle.lq_table.specs.Rule.{units_of, station_count}
 use Rattle.lq_model.specs.declared.fate.Info.{Info}
 use Rattle.std.proofs.lemmas.List.Sums.{count_by-le-length}
-use Rattle.lq_table.specs.Sees.{view, position, IsSeatOf, IsElseSame, IsIdle}
+use Rattle.lq_table.specs.Sees.{view, position, IsSeatOf, IsSameSeat, IsElseSame, IsIdle}
 use Rattle.lq_table.specs.declared.shared.Cpu.{Cpu}
 use Rattle.lq_table.specs.declared.shared.Shared.{Shared}
-use Rattle.lq_control.specs.Control.{IsAfterUnits}
+use Rattle.lq_qdisc.specs.Sends.{IsReady}
+use Rattle.lq_control.specs.Control.{IsAfterUnits, IsIn, IsKept}
 use Rattle.lq_senders.specs.Seats.{IsDone, IsFirst, counted}
 
 below_at : (k i : ℕ) (u : ℕ) → i < length (counted k) → slice_index_or (counted k) i u < k + 1
@@ -42,6 +46,17 @@ first_joined p us t b a o q g f seat same e = let r = f.between.ready in let con
   phase_is = (ap (λ (x : FirstPart). x.phase) control ∙ f.phase_is.0, ap (λ (x : FirstPart). x.purge) control ∙ f.phase_is.1);
   brought = ap (λ (v : View). units_of v.trail) e ∙ (ap (λ (x : Bool). units_of (if x then (view b).trail else (view o).trail)) f.first ∙ f.brought);
 }
+
+-- an exchange brings the next unit, and leaves the first seat as it was but for that
+pub first_exchanged : {D : Type 0} (t : Shared D) (b a : Cpu D) (k unit n event : ℕ) (cause : Cause) → IsFirst Active (counted k) t b → IsSameSeat b a → IsKept (view b) (view a) → position a ≡ Idle → IsReady a → IsIn Active (view a)
+    → (view a).trail ≡ Up ∷ Swap unit ∷ Purge cause ∷ Down event ∷ (view b).trail → unit ≡ k + 1 → n ≡ k + 1 → IsFirst Active (counted n) t a
+first_exchanged t b a k unit n event cause f same kept at ready phase trail next more = let seat = f.between.seat in
+    let unit_is : unit ≡ suc k = omega arith in let n_is : n ≡ suc k = omega arith in record {
+      between = record { seat = (same.0 ∙ seat.0, subst (λ (s : SharePart). 0 < s.shares) (sym kept.share) seat.1, ap (λ (s : SharePart). s.about) kept.share ∙ seat.2); at = at; ready = ready };
+      first = kept.first ∙ f.first;
+      phase_is = phase;
+      brought = ap units_of trail ∙ ((λ j. unit_is j ∷ f.brought j) ∙ ap counted (sym n_is));
+    }
 
 -- a station has at most all packets
 pub count_few : (infos : List Info) (station : ℕ) → station_count infos station ≤ length infos

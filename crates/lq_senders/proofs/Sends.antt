@@ -1,8 +1,9 @@
 -- A transmit brings no unit.
-use Rattle.std.proofs.Common.{◌≡◌, ◌≢◌, ℕ, Bool, true, false, List, ◌∷◌, ◌⊎◌, inl, inr, cond, refl, ap, ◌∙◌}
+use Rattle.std.proofs.Common.{◌≡◌, ◌≢◌, ℕ, Bool, true, false, List, ◌∷◌, length, ◌+◌, ◌*◌, ◌⊎◌, inl, inr, cond, refl, ap, ◌∙◌}
+use Rattle.std.proofs.lemmas.List.{length-set}
 use Rattle.lq_model.specs.Account.{Event, Join, Full, Refuse, Direct}
 use Rattle.lq_model.specs.declared.fate.Info.{Info}
-use Rattle.lq_model.specs.Plan.{band_in}
+use Rattle.lq_model.specs.Plan.{band_in, owner_in, rank_in}
 use Rattle.lq_table.specs.Views.{View}
 use Rattle.lq_table.specs.Rule.{units_of}
 use Rattle.lq_qdisc.specs.Sends.{Transmits, came_as, trail_with}
@@ -24,3 +25,8 @@ units_came infos n (sending.OutOfTurn found) v = refl
 pub units_sent : (infos : List Info) (bypass : Bool) (n turn due : ℕ) (a : Sending) (old new : View) → (turn ≡ due) ⊎ (turn ≢ due) → (turn ≡ due → Transmits infos bypass n a old new) → (turn ≢ due → new ≡ old) → units_of new.trail ≡ units_of old.trail
 units_sent infos bypass n turn due a old new (inl same) sent still = ap units_of (sent same).trail ∙ units_came infos n a old
 units_sent infos bypass n turn due a old new (inr other) sent still = ap (λ (v : View). units_of v.trail) (still other)
+
+-- nor does it change how many turn words there are
+pub turns_sent : (infos : List Info) (bypass : Bool) (n turn due : ℕ) (a : Sending) (old new : View) → (turn ≡ due) ⊎ (turn ≢ due) → (turn ≡ due → Transmits infos bypass n a old new) → (turn ≢ due → new ≡ old) → length new.turns ≡ length old.turns
+turns_sent infos bypass n turn due a old new (inl same) sent still = ap (λ (ts : List ℕ). length ts) (sent same).turns ∙ length-set old.turns (owner_in infos n) (2 * rank_in infos n + 2)
+turns_sent infos bypass n turn due a old new (inr other) sent still = ap (λ (v : View). length v.turns) (still other)

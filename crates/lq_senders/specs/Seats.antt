@@ -1,13 +1,16 @@
 -- What the tests know of the packets, and of a seat between two calls.
-use Rattle.std.specs.Prelude.{◌≡◌, ℕ, zero, suc, ◌+◌, ◌<◌, ◌/◌, ◌%◌, true, false, List, [], ◌∷◌}
+use Rattle.std.specs.Prelude.{◌≡◌, ℕ, zero, suc, ◌+◌, ◌<◌, ◌/◌, ◌%◌, true, false, List, [], ◌∷◌, length}
 use Rattle.lq_model.specs.Plan.{band_in, owner_in, queue_in, rank_in, station_in}
 use Rattle.lq_model.specs.declared.fate.Info.{Info}
 use Rattle.lq_model.specs.declared.machine.Phase.{Phase}
+use Rattle.lq_model.specs.declared.machine.Phase.TheVariants.{Active}
 use Rattle.lq_model.specs.declared.machine.Position.TheVariants.{Idle}
 use Rattle.lq_table.specs.Rule.{times, units_of}
 use Rattle.lq_table.specs.Sees.{view, position, IsSeatOf, IsSameSeat}
+use Rattle.lq_table.specs.Solo.{IsSole}
 use Rattle.lq_table.specs.declared.shared.Cpu.{Cpu}
 use Rattle.lq_table.specs.declared.shared.Shared.{Shared}
+use Rattle.lq_qdisc.specs.Plain.{IsPlain}
 use Rattle.lq_qdisc.specs.Sends.{IsReady}
 use Rattle.lq_control.specs.Control.{IsIn}
 
@@ -59,3 +62,18 @@ module _ {D : Type 0} where
     pub share : (view a).share ≡ (view b).share
     pub control : (view a).control ≡ (view b).control
     pub brought : units_of (view a).trail ≡ units_of (view b).trail
+    pub told : (view a).whole.told ≡ (view b).whole.told
+    pub turns : length (view a).turns ≡ length (view b).turns
+
+  -- The seat has the table of one owner's packets alone, and the station is active.
+  pub record IsOnly (t : Shared D) (c : Cpu D) : Type 0 where
+    pub between : IsBetweenCalls t c
+    pub first : (view c).control.first ≡ true
+    pub active : IsIn Active (view c)
+    pub sole : IsSole (view c)
+    pub owners : (view c).share.owners ≡ 1 ∷ 0 ∷ []
+    pub turns : length (view c).turns ≡ 2
+    pub station : t.station ≡ 0
+    pub senders : t.senders ≡ 2
+    pub queues : t.queues ≡ 1
+    pub packets : (n : ℕ) → n < length t.infos.now → IsPlain t.infos.now 1 n

@@ -1,8 +1,11 @@
-//! A test of control beside three senders that transmit on threads of their own.
-//! What a contract says is not tested again; this test shows that the contracts mean what they should, and that the calls come
+//! Tests of control: beside three senders that transmit on threads of their own, and of an exchange and the end of a hung station on
+//! one thread.
+//! What a contract says is not tested again; these tests show that the contracts mean what they should, and that the calls come
 //! to an end beside one another.
 #![tactic(auto)]
 
+#[cfg(test)]
+mod one_thread;
 mod recorder;
 mod seats;
 #[cfg(test)]

@@ -21,7 +21,7 @@ pub struct Recorder {
 impl Recorder {
     /// A device that has room for so many packets.
     pub fn new(alloc: Global, burst: u32, room: usize) -> Result<Recorder, NoMemory>
-        ensures { IfOk result (λ d. ((recorder_state d).accepted ≡ []) × ((recorder_state d).hung ≡ false) × (room ≤ (recorder_state d).spare)) }
+        ensures { IfOk result (λ d. ((recorder_state d).accepted ≡ []) × ((recorder_state d).hung ≡ false) × (room ≤ (recorder_state d).spare) × ((recorder_state d).asked ≡ [])) }
     {
         let Ok(accepted) = Vec::with_capacity(alloc, room) else {
             return Err(NoMemory);

@@ -50,7 +50,7 @@ fn check_packets<A: Abort>(rt: &A, infos: &[Info])
 
 /// A new device, with room for all packets.
 pub fn device<A: Abort>(rt: &A, alloc: Global, burst: u32, infos: &[Info]) -> Recorder
-    ensures { ((recorder_state result).accepted ≡ []) × ((recorder_state result).hung ≡ false) × (length infos.now ≤ (recorder_state result).spare) }
+    ensures { ((recorder_state result).accepted ≡ []) × ((recorder_state result).hung ≡ false) × (length infos.now ≤ (recorder_state result).spare) × ((recorder_state result).asked ≡ []) }
 {
     Recorder::new(alloc, burst, infos.len()).expect(rt, "memory")
 }
@@ -81,7 +81,9 @@ pub fn table<'a, A: Abort>(
         },
     };
     let station = Station::new(0, device(rt, alloc, burst, infos));
-    Shared::make(alloc, infos, 0, plan, 1, SENDERS + 1, station).expect(rt, "memory")
+    Shared::make(alloc, infos, 0, plan, 1, SENDERS + 1, station)
+        .ok()
+        .expect(rt, "memory")
 }
 
 /// Sends packet `n`, which is this owner's, and does the soft interrupts that the seat owes.

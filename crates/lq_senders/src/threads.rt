@@ -45,7 +45,7 @@ fn devices<A: Abort>(rt: &A, alloc: Global, count: u32) -> Vec<Recorder> {
 
 /// The device, begun anew with room for all packets.
 fn begun<A: Abort, D: TxDevice>(rt: &A, device: D, infos: &[Info]) -> D
-    ensures { ((D.state result).accepted ≡ []) × ((D.state result).hung ≡ false) × (length infos.now ≤ (D.state result).spare) }
+    ensures { ((D.state result).accepted ≡ []) × ((D.state result).hung ≡ false) × (length infos.now ≤ (D.state result).spare) × ((D.state result).asked ≡ []) }
 {
     let mut device = device;
     let params = Params {

@@ -1,8 +1,9 @@
 use Rattle.std.proofs.Common.{◌≡◌, ℕ, ◌+◌, List, length, ap, subst, arith, rules}
+use Rattle.std.proofs.lemmas.Grind.{common_steps}
 use Rattle.lq_model.specs.declared.fate.Info.{Info}
 use Rattle.lq_table.specs.Sees.{view}
 use Rattle.lq_control.specs.Control.{IsAfterUnits}
-use Rattle.lq_senders.proofs.Firsts.{count_few, counted_after}
+use Rattle.lq_senders.proofs.Firsts.{count_few, counted_after, first_exchanged}
 use Rattle.lq_senders.proofs.threads.exchange.Goals as goal
 
 pub swap-back-requires-clause-unit : goal.swap-back-requires-clause-unit
@@ -16,4 +17,11 @@ pub swap-back-requires-clause-device : goal.swap-back-requires-clause-device
 swap-back-requires-clause-device g c _ _ =
     let d = c.begun-new.ensures in
     let few = count_few c.args.shared.now.infos.now c.args.shared.now.station in
-    (d.0, d.1, omega (arith, few, d.2, ap (λ (x : List Info). length x) c.infos.ensures))
+    (d.0, d.1, omega (arith, few, d.2, ap (λ (x : List Info). length x) c.infos.ensures), d.3)
+
+pub returns : goal.returns
+returns g c =
+    let many : length c.args.old.now.items ≡ c.len-2.result = omega (arith, c.args.old.now.ok.0) in let s = c.swap-back.ensures in
+    let grown : length c.push.new.self.items ≡ length c.args.old.now.items + 1 = grind (arith, common_steps, c.push.ensures.items, c.expect.ensures) in record {
+      first = first_exchanged c.args.shared.now c.args.cpu.now c.swap-back.new.cpu (length c.args.old.now.items) (c.len-2.result + 1) _ _ _ c.requires.first s.same.0 s.same.1 s.at.0 s.at.1 s.at.2 s.trail (omega arith) grown;
+    }

@@ -1,0 +1,100 @@
+//! Many runs of eight senders over stations that stop, are busy, hang, are shortened, deactivated and activated, each of which is
+//! checked. `lq_stress ROUNDS PACKETS` makes so many rounds of each plan, of so many packets; with no words a few short ones.
+#![tactic(auto)]
+
+mod plans;
+
+use crate::plans::{PLANS, Stress};
+use lq_fixture::{RUN, call_on, check_run, host_of};
+use lq_pcap::gen_capture;
+use lq_top::{Free, Status};
+use std::io::Write;
+use std::marker::Sync;
+use std::rt::Runtime;
+use std::sync::Wait;
+use std::test::Fail;
+use std::thread::Threads;
+use std::{env, io};
+
+/// How many rounds there are where no word says so, and of how many packets.
+const FEW: Size = Size {
+    rounds: 1,
+    packets: 400,
+};
+
+/// How many rounds, and how many packets in each run.
+#[derive(Clone, Copy)]
+struct Size {
+    rounds: u32,
+    packets: u32,
+}
+
+/// The size that the words name.
+fn size_of(rt: &HostRuntime) -> Option<Size> {
+    let mut words = env::args(rt).ok()?;
+    let rounds = words.nth(1)?.parse::<u32>().ok()?;
+    let packets = words.next()?.parse::<u32>().ok()?.min(1_000_000);
+    Some(Size { rounds, packets })
+}
+
+/// One run, which is checked: how many packets were sent.
+fn run_once<R: Runtime + AllocGlobal + Wait + Threads + Sync>(
+    rt: &R,
+    stress: &Stress,
+    number: u32,
+    packets: u32,
+) -> Result<usize, Fail> {
+    let alloc = rt.alloc();
+    let capture = gen_capture(alloc, number, packets.min(1_000_000))?;
+    let mut host = host_of(alloc, stress.plan.as_bytes(), &capture)?;
+    let status = call_on(rt, alloc, &RUN, &mut host, 16, &Free)?;
+    if status != Status::Done {
+        return Err("a run that isn't done".into());
+    }
+    check_run(alloc, &host, &capture, packets, stress.shape)
+}
+
+/// A round: a run of each plan. It answers how many packets were sent.
+fn round<R: Runtime + AllocGlobal + Wait + Threads + Sync>(
+    rt: &R,
+    number: u32,
+    packets: u32,
+) -> Result<u64, Fail> {
+    let mut sent = 0u64;
+    for stress in &PLANS {
+        sent = sent.saturating_add(run_once(rt, stress, number, packets)? as u64);
+    }
+    Ok(sent)
+}
+
+/// All rounds. It answers how many packets were sent.
+fn rounds<R: Runtime + AllocGlobal + Wait + Threads + Sync>(
+    rt: &R,
+    size: Size,
+) -> Result<u64, Fail> {
+    let mut sent = 0u64;
+    for number in 0..size.rounds {
+        sent = sent.saturating_add(round(rt, number, size.packets)?);
+    }
+    Ok(sent)
+}
+
+/// Prints what was done, where a size was named.
+fn show<R: Runtime>(rt: &R, size: Size, sent: u64) -> io::Result<()> {
+    let mut out = io::writer(rt);
+    let runs = (size.rounds as u64).saturating_mul(PLANS.len() as u64);
+    writeln!(
+        out,
+        "{runs} runs of {} packets, {sent} sent: each checked",
+        size.packets
+    )
+}
+
+fn main(rt: HostRuntime) -> Result<(), Fail> {
+    let told = size_of(&rt);
+    let sent = rounds(&rt, told.unwrap_or(FEW))?;
+    if let Some(size) = told {
+        show(&rt, size, sent)?;
+    }
+    Ok(())
+}
