@@ -99,7 +99,7 @@ module _ (plan : Plan) (infos : List Info) (plain : IsPlain plan infos) where
   all-begin = record {
     one_each = length-new 0 plan.stations;
     each = λ j s at. (let new = new-some 0 plan.stations j s at in
-        subst (IsInRun plan infos j 0) (ap (λ k. new_station k new.0) (omega arith) ∙ new.2) (begins_in_run plan infos j new.0 new.1 (plain.have_slots j new.0 new.1)));
+        subst (IsInRun plan infos j 0) (ap (λ k. new_station k new.0) (omega arith) ∙ new.2) (begins_in_run plan infos j new.0 new.1 (plain.have_slots j new.0 new.1) (plain.one_queue j new.0 new.1)));
   }
 
   all-mapped : (f : RunningStation → RunningStation) (n : ℕ) (stations : List RunningStation) → ((j : ℕ) (s : RunningStation) → IsInRun plan infos j n s → IsInRun plan infos j n (f s))

@@ -3,7 +3,7 @@ use Rattle.std.proofs.Common.{◌≡◌, ℕ, ◌<◌, List, [], ◌∷◌, ◌�
 use Rattle.std.proofs.lemmas.Option.{same_Some}
 use Rattle.lq_model.specs.Account.{Account, Event, Join, Full, Refuse, Direct, held, held_in, new_account, after, after_all}
 use Rattle.lq_model.specs.Legal.{brought, brought_by, IsNew, MayCome, IsInTurn, IsLegal}
-use Rattle.lq_model.specs.Plan.{Plan, owner_in, station_in}
+use Rattle.lq_model.specs.Plan.{Plan, queues_at, owner_in, station_in}
 use Rattle.lq_model.specs.declared.fate.Fate.{Fate}
 use Rattle.lq_model.specs.declared.fate.Info.{Info}
 use Rattle.lq_account.specs.Places.{InBand, AreBrought}
@@ -88,7 +88,7 @@ module _ (infos : List Info) (station : ℕ) (past : List Event) (a : Account) (
 
 pub are-brought : (plan : Plan) (infos : List Info) (station : ℕ) (past : List Event) → IsLegal plan infos station (start_of plan station) past
     → AreBrought infos station past (after_all (start_of plan station) past)
-are-brought plan infos station [] legal = brought-start infos station _ station 1
+are-brought plan infos station [] legal = brought-start infos station _ station (queues_at plan.stations station)
 are-brought plan infos station (e ∷ past) legal =
     brought-step infos station past (after_all (start_of plan station) past) (are-brought plan infos station past (legal-before legal)) e legal.comes.1.0
 

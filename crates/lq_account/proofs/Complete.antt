@@ -39,7 +39,7 @@ none-down plan station event never (inr (inr (params, at))) = let no = never eve
 
 -- a unit of a station of the plan is configured
 no-station : StationPlan
-no-station = record { len = 0; max_len = 0; bypass = false; params = record { burst = 0; busy_every = 0; busy_limit = 0; hang_after = 0 } }
+no-station = record { len = 0; max_len = 0; bypass = false; params = record { burst = 0; busy_every = 0; busy_limit = 0; hang_after = 0 }; queues = 1 }
 
 configured : (plan : Plan) (station unit : ℕ) → station < length plan.stations → IsUnitOf plan station unit → (params : Params) × IsConfiguredWith plan unit params
 configured plan station unit inside (inl first) =

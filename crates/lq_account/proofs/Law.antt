@@ -4,7 +4,7 @@ use Rattle.std.proofs.lemmas.Bool.{cases_order}
 use Rattle.std.proofs.lemmas.Option.{same_Some}
 use Rattle.lq_model.specs.Account.{Account, Event, after, after_all}
 use Rattle.lq_model.specs.Legal.{IsLegal}
-use Rattle.lq_model.specs.Plan.{Plan, owner_in, station_in, band_in}
+use Rattle.lq_model.specs.Plan.{Plan, queues_at, owner_in, station_in, band_in}
 use Rattle.lq_model.specs.Settled.{IsFateAt, IsUnitOf}
 use Rattle.lq_model.specs.declared.fate.Cause.TheVariants as cause
 use Rattle.lq_model.specs.declared.fate.Fate.{Fate}
@@ -49,15 +49,15 @@ sound-step plan infos station past a e inside h next = record {
 
 pub sound : (plan : Plan) (infos : List Info) (station : ℕ) (past : List Event) → station < length plan.stations → IsLegal plan infos station (start_of plan station) past
     → IsSound plan infos station past (after_all (start_of plan station) past)
-sound plan infos station [] inside legal = record {
-  known = brought-start infos station (len_of plan station) station 1;
-  order = order-start infos (len_of plan station) station 1;
-  free = undecided-start (len_of plan station) station 1;
-  used = used-start plan station (len_of plan station) 1;
-  sent = sent-start infos (len_of plan station) station 1;
-  seen = seen-start plan infos station 1 inside;
-  shrunk = shrunk-start plan station 1 inside;
-  caused = caused-start plan station (len_of plan station) station 1;
+sound plan infos station [] inside legal = let queues = queues_at plan.stations station in record {
+  known = brought-start infos station (len_of plan station) station queues;
+  order = order-start infos (len_of plan station) station queues;
+  free = undecided-start (len_of plan station) station queues;
+  used = used-start plan station (len_of plan station) queues;
+  sent = sent-start infos (len_of plan station) station queues;
+  seen = seen-start plan infos station queues inside;
+  shrunk = shrunk-start plan station queues inside;
+  caused = caused-start plan station (len_of plan station) station queues;
 }
 sound plan infos station (e ∷ past) inside legal =
     sound-step plan infos station past (after_all (start_of plan station) past) e inside (sound plan infos station past inside (legal-before legal)) (legal-next legal)

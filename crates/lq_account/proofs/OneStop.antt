@@ -1,10 +1,10 @@
 -- With one queue a station's events, its serving and its end are a matter of its one stop value.
 use Rattle.std.proofs.Common.{◌≡◌, ℕ, zero, suc, ◌≤◌, true, List, [], ◌∷◌, ◌⊎◌, ◌↔◌, inl, inr, filter, map, refl, sym, ap, subst, ◌∙◌, arith}
-use Rattle.std.specs.Prelude.{slice_index, slice_set}
+use Rattle.std.specs.Prelude.{replicate, slice_index, slice_set}
 use Rattle.std.proofs.lemmas.Bool.{eq-eqb, eqb-true}
 use Rattle.lq_model.specs.Account.{Account, Event, Join, Full, Refuse, Empty, Take, Pick, Direct, Send, Back, Stop, Wake, Resize, Down, Purge, Swap, Up, after, after_all, is_hung, sent_from_hand}
 use Rattle.lq_model.specs.Legal.{IsLegal, IsQueueSentOn, MayCome, begins_with_hang, begins_with_send, is_after_send, is_hanging_past, is_holders}
-use Rattle.lq_model.specs.Plan.{Plan, queue_in}
+use Rattle.lq_model.specs.Plan.{Plan, queue_in, queues_at}
 use Rattle.lq_model.specs.declared.fate.Info.{Info}
 use Rattle.lq_account.specs.OneQueue.{AreOfOneQueue, MeetsOneStopValue, stop_of}
 use Rattle.lq_account.specs.Progress.{start_of}
@@ -47,10 +47,11 @@ module _ (infos : List Info) (station : ℕ) (past : List Event) (a : Account) (
   one-stop-step (Swap unit) may = record { stop = 0; stops = ap (map (λ _. 0)) h.stops; known = omega arith }
   one-stop-step Up may = record { stop = h.stop; stops = h.stops; known = h.known }
 
-has-one-stop : (plan : Plan) (infos : List Info) (station : ℕ) (past : List Event) → IsLegal plan infos station (start_of plan station) past → HasOneStop (after_all (start_of plan station) past)
-has-one-stop plan infos station [] legal = record { stop = 0; stops = refl; known = omega arith }
-has-one-stop plan infos station (e ∷ past) legal =
-    one-stop-step infos station past (after_all (start_of plan station) past) (has-one-stop plan infos station past (legal-before legal)) e legal.comes.1.0
+has-one-stop : (plan : Plan) (infos : List Info) (station : ℕ) (past : List Event) → queues_at plan.stations station ≡ 1 → IsLegal plan infos station (start_of plan station) past
+    → HasOneStop (after_all (start_of plan station) past)
+has-one-stop plan infos station [] single legal = record { stop = 0; stops = ap (λ (queues : ℕ). replicate queues 0) single; known = omega arith }
+has-one-stop plan infos station (e ∷ past) single legal =
+    one-stop-step infos station past (after_all (start_of plan station) past) (has-one-stop plan infos station past single (legal-before legal)) e legal.comes.1.0
 
 -- AFTER A SEND
 
@@ -82,9 +83,9 @@ hang-after-send (e ∷ past) follows = cc
 
 -- EVENTS
 
-pub meets_one_stop_value : (plan : Plan) (infos : List Info) (station : ℕ) (past : List Event) (a : Account) → AreOfOneQueue infos
+pub meets_one_stop_value : (plan : Plan) (infos : List Info) (station : ℕ) (past : List Event) (a : Account) → AreOfOneQueue infos → queues_at plan.stations station ≡ 1
     → IsLegal plan infos station (start_of plan station) past → a ≡ after_all (start_of plan station) past → MeetsOneStopValue infos station past a
-meets_one_stop_value plan infos station past a one legal is = record {
+meets_one_stop_value plan infos station past a one single legal is = record {
   queues = queues;
   known = subst (λ stop. stop ≤ 2) (sym stop_is) h.known;
   opens = (λ e. stop_is ∙ eqb-true h.stop 0 (sym (one_open a h.stop h.stops) ∙ e), λ e. one_open a h.stop h.stops ∙ eq-eqb h.stop 0 (sym stop_is ∙ e));
@@ -97,7 +98,7 @@ meets_one_stop_value plan infos station past a one legal is = record {
 }
   where
     h : HasOneStop a
-    h = subst HasOneStop (sym is) (has-one-stop plan infos station past legal)
+    h = subst HasOneStop (sym is) (has-one-stop plan infos station past single legal)
 
     stop_is : stop_of a ≡ h.stop
     stop_is = ap (λ stops. slice_index stops 0) h.stops

@@ -16,7 +16,7 @@ use Rattle.lq_model.specs.declared.fate.Cause.TheVariants.{Hung}
 use Rattle.lq_model.specs.declared.fate.Info.{Info}
 use Rattle.lq_model.specs.declared.plan.StationPlan.{StationPlan}
 use Rattle.lq_account.specs.OneQueue.{AreOfOneQueue, IsOfOneQueue, stop_of}
-use Rattle.lq_account.specs.Progress.{IsAt}
+use Rattle.lq_account.specs.Progress.{IsAt, start_of}
 use Rattle.lq_account.specs.Sender.{FitsRing, IsInRun}
 use Rattle.lq_account.proofs.Answers.{IsAnswered, is_answered}
 use Rattle.lq_account.proofs.Lists.{at-cases}
@@ -214,15 +214,25 @@ answer-holds SentHang m a b slot h passes = held-same a b (h.slot ∙ sym slot) 
 answer-holds Busy m a b slot h passes = absurd (true≢false (sym passes))
 
 -- it begins
-pub begins_in_run : (plan : Plan) (infos : List Info) (station : ℕ) (s : StationPlan) → slice_get plan.stations station ≡ Some s → 0 < s.len → IsInRun plan infos station 0 (new_station station s)
-begins_in_run plan infos station s planned some = in-run (record { stop = 0; stops = refl; known = omega arith; hand = refl; busies = omega arith })
+begins-with : (plan : Plan) (infos : List Info) (station : ℕ) (s : StationPlan) → IsAt plan infos station 0 (new_account s.len station 1) → 0 < s.len
+    → IsInRun plan infos station 0 (record (new_station station s) { account = new_account s.len station 1 })
+begins-with plan infos station s at some = in-run (record { stop = 0; stops = refl; known = omega arith; hand = refl; busies = omega arith })
     (record {
-      at = subst (IsAt plan infos station 0) (ap (λ o. new_account (option_map_or (λ (s : StationPlan). s.len) o 0) station 1) planned) (at_start plan infos station);
+      at = at;
       active = refl;
       has_slots = some;
       bands = λ band. record { taken = omega arith; slots = omega (arith, mod-le 0 s.len, mod-le (0 % s.len) (batch s.len)) };
     })
     (λ clean. refl)
+
+pub begins_in_run : (plan : Plan) (infos : List Info) (station : ℕ) (s : StationPlan) → slice_get plan.stations station ≡ Some s → 0 < s.len → s.queues ≡ 1
+    → IsInRun plan infos station 0 (new_station station s)
+begins_in_run plan infos station s planned some one =
+    let begins : start_of plan station ≡ new_account s.len station s.queues =
+    ap (λ o. new_account (option_map_or (λ (s : StationPlan). s.len) o 0) station (option_map_or (λ (s : StationPlan). s.queues) o 1)) planned
+    in
+    let at = subst (IsAt plan infos station 0) (begins ∙ ap (new_account s.len station) one) (at_start plan infos station) in
+    subst (λ queues. IsInRun plan infos station 0 (record (new_station station s) { account = new_account s.len station queues })) (sym one) (begins-with plan infos station s at some)
 
 -- a packet of another station passes it by
 pub passes_in_run : {plan : Plan} {infos : List Info} {station n : ℕ} {s : RunningStation} → station_in infos n ≢ station → IsInRun plan infos station n s → IsInRun plan infos station (n + 1) s

@@ -27,10 +27,11 @@ pub record IsInRun (plan : Plan) (infos : List Info) (station n : ℕ) (s : Runn
   -- where the next packet may go past the bands nothing is held
   pub clean : s.clean ≡ true → held s.account ≡ []
 
--- a plan without events, whose stations have rings, and packets of its stations, of bands below 3 and of queue 0
+-- a plan without events, whose stations have rings and one queue, and packets of its stations, of bands below 3 and of queue 0
 pub record IsPlain (plan : Plan) (infos : List Info) : Type 0 where
   pub no_events : plan.events ≡ []
   pub have_slots : (station : ℕ) (s : StationPlan) → slice_get plan.stations station ≡ Some s → 0 < s.len
+  pub one_queue : (station : ℕ) (s : StationPlan) → slice_get plan.stations station ≡ Some s → s.queues ≡ 1
   pub stations : (n : ℕ) → n < length infos → station_in infos n < length plan.stations
   pub bands : (n : ℕ) → band_in infos n < 3
   pub queues : AreOfOneQueue infos

@@ -5,7 +5,7 @@ ghost use Rattle.lq_model.specs.Device.{DeviceState, IsConfigured, Answers};
 use lq_model::{NoMemory, Params, Tx};
 use std::marker::Send;
 
-/// A device with one queue, which is handed packets by their numbers.
+/// A device with one queue or several, which is handed packets by their numbers.
 pub trait TxDevice: Send + Drop {
     /// What contracts see of it: which device it is, what it was asked, what it accepted, and more. No code reads it.
     ghost state: { Self → DeviceState };

@@ -1,6 +1,6 @@
 //! Network devices, as the transmit path sees them: the trait `TxDevice`, and the device of the built-in bench.
 //!
-//! A device is a driver's `ndo_start_xmit` with the state of its one queue. The layers above rest on one clause of
+//! A device is a driver's `ndo_start_xmit` with the state of its queues. The layers above rest on one clause of
 //! `TxDevice::xmit`: the list of accepted packets grows by exactly the packets that were answered as sent.
 #![tactic(auto)]
 

@@ -219,7 +219,7 @@ with_turn plan infos n stations =
     map (served infos) (with_wakes plan n (with_packet plan infos n (with_events plan infos (events_before plan n) stations)))
 
 abbrev pub new_station : ℕ → StationPlan → RunningStation
-new_station number s = record { account = new_account s.len number 1; clean = true; device = new_device s.params }
+new_station number s = record { account = new_account s.len number s.queues; clean = true; device = new_device s.params }
 
 abbrev pub new_stations : ℕ → List StationPlan → List RunningStation
 new_stations number [] = []

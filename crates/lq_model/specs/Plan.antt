@@ -58,6 +58,14 @@ owner_of plan packets n = split_number plan.split packets n % plan.senders
 abbrev pub station_of : Plan → Packets → ℕ → ℕ
 station_of plan packets n = route_byte_of (packets.link n) (packets.frame n) % length plan.stations
 
+-- the number of transmit queues that share the rings of a station; 1 of no station
+abbrev pub queues_at : List StationPlan → ℕ → ℕ
+queues_at stations station = option_map_or (λ s. s.queues) (slice_get stations station) 1
+
+-- the queue that a packet is offered on
+abbrev pub queue_of : Plan → Packets → ℕ → ℕ
+queue_of plan packets n = source_byte_of (packets.link n) (packets.frame n) % queues_at plan.stations (station_of plan packets n)
+
 abbrev pub packet_band_of : Packets → ℕ → ℕ
 packet_band_of packets n = band_of (priority_of (packets.link n) (packets.frame n))
 
@@ -71,7 +79,7 @@ info_of plan packets n = record {
   owner = owner_of plan packets n;
   station = station_of plan packets n;
   band = packet_band_of packets n;
-  queue = 0;
+  queue = queue_of plan packets n;
   rank = rank_of plan packets n;
 }
 

@@ -1,7 +1,6 @@
 -- Small runs of one sender, and their fates.
-use Rattle.std.specs.Prelude.{◌≡◌, ℕ, Bool, true, List, [], ◌∷◌, map, Some}
-use Rattle.lq_model.specs.Account.{new_account}
-use Rattle.lq_model.specs.Alone.{alone, run_fates, new_device}
+use Rattle.std.specs.Prelude.{◌≡◌, ℕ, Bool, List, [], ◌∷◌, map, Some}
+use Rattle.lq_model.specs.Alone.{alone}
 use Rattle.lq_model.specs.Plan.{Plan}
 use Rattle.lq_model.specs.declared.device.Params.{Params}
 use Rattle.lq_model.specs.declared.fate.Fate.{Fate}
@@ -9,6 +8,7 @@ use Rattle.lq_model.specs.declared.fate.Info.{Info}
 use Rattle.lq_model.specs.declared.plan.EventKind.{EventKind}
 use Rattle.lq_model.specs.declared.plan.EventPlan.{EventPlan}
 use Rattle.lq_model.specs.declared.plan.Split.TheVariants.{Round}
+use Rattle.lq_model.specs.declared.plan.StationPlan.{StationPlan}
 
 -- packets of one station, by their bands; and by their queues and bands
 abbrev pub packet_on : ℕ → ℕ → Info
@@ -24,15 +24,16 @@ packets_on packets = map (λ p. packet_on p.0 p.1) packets
 abbrev pub packets_to : List ℕ → List Info
 packets_to stations = map (λ station. record { owner = 0; station = station; band = 1; queue = 0; rank = 0 }) stations
 
--- a plan of one station
+-- a station with one queue
+abbrev pub station : ℕ → Bool → Params → StationPlan
+station len bypass params = record { len = len; max_len = len; bypass = bypass; params = params; queues = 1 }
+
+-- a plan of these stations
+abbrev pub plan_of_stations : ℕ → List StationPlan → List EventPlan → Plan
+plan_of_stations irq_every stations events = record { senders = 1; split = Round; irq_every = irq_every; stations = stations; events = events }
+
 abbrev pub one_station : ℕ → ℕ → Bool → Params → List EventPlan → Plan
-one_station irq_every len bypass params events = record {
-  senders = 1;
-  split = Round;
-  irq_every = irq_every;
-  stations = record { len = len; max_len = len; bypass = bypass; params = params } ∷ [];
-  events = events;
-}
+one_station irq_every len bypass params events = plan_of_stations irq_every (station len bypass params ∷ []) events
 
 abbrev pub with_burst : ℕ → Params
 with_burst burst = record { burst = burst; busy_every = 0; busy_limit = 0; hang_after = 0 }
@@ -42,11 +43,6 @@ event_at before kind = record { before = before; station = 0; kind = kind }
 
 abbrev pub no_rules : Params
 no_rules = with_burst 0
-
--- two queues share the bands of the station
-abbrev pub HaveFatesOnTwoQueues : Plan → List Info → ℕ → Params → List Fate → Type 0
-HaveFatesOnTwoQueues plan infos len params fates =
-    run_fates plan infos (record { account = new_account len 0 2; clean = true; device = new_device params } ∷ []) ≡ map (λ fate. Some fate) fates
 
 -- the plan and the packets have just these fates
 abbrev pub HaveFates : Plan → List Info → List Fate → Type 0

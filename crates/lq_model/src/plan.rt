@@ -21,6 +21,8 @@ pub struct StationPlan {
     pub bypass: bool,
     /// What its first device is configured with.
     pub params: Params,
+    /// How many transmit queues of its device share its rings.
+    pub queues: u32,
 }
 
 /// What an event does to its station.

@@ -1,6 +1,6 @@
 //! Small runs of one sender, worked out: each clause is computed from the definition of the run.
 ghost use Rattle.std.specs.Prelude.{◌≡◌, [], ◌∷◌, true, false};
-ghost use Rattle.lq_model.specs.Runs.{packets_in_bands, packets_on, packets_to, one_station, no_rules, with_burst, event_at, HaveFates, HaveFatesOnTwoQueues};
+ghost use Rattle.lq_model.specs.Runs.{packets_in_bands, packets_on, packets_to, station, plan_of_stations, one_station, no_rules, with_burst, event_at, HaveFates};
 ghost use Rattle.lq_model.specs.declared.fate.Fate.TheVariants.{Sent, Full, Shrunk, Purged, Refused};
 ghost use Rattle.lq_model.specs.declared.fate.Cause.TheVariants.{Event, Hung};
 ghost use Rattle.lq_model.specs.declared.plan.EventKind.TheVariants as kind;
@@ -8,13 +8,16 @@ ghost use Rattle.lq_model.specs.declared.plan.Split.TheVariants.{Round};
 
 /// A queue that stops at each packet and is woken after each fourth. Packet 0 is sent and stops it; packet 1 goes past
 /// the bands into the requeue slot; packets 2 and 3 go to bands 1 and 0. Where packets may not go past the bands, 1 waits
-/// in band 2.
+/// in band 2. The second of two queues does as one that is alone.
 #[tactic(auto, unfolding(crate::specs::Alone::run_fates))]
 pub fn stopped_queue_requeues()
     ensures with_bypass { HaveFates (one_station 4 1000 true (with_burst 1) []) (packets_in_bands (1 ∷ 2 ∷ 1 ∷ 0 ∷ []))
         (Sent 0 0 ∷ Sent 0 1 ∷ Sent 0 3 ∷ Sent 0 2 ∷ []) }
     ensures without_bypass { HaveFates (one_station 4 1000 false (with_burst 1) []) (packets_in_bands (1 ∷ 2 ∷ 1 ∷ 0 ∷ []))
         (Sent 0 0 ∷ Sent 0 3 ∷ Sent 0 2 ∷ Sent 0 1 ∷ []) }
+    ensures on_the_second_queue { HaveFates (plan_of_stations 4 (record (station 1000 true (with_burst 1)) { queues = 2 } ∷ []) [])
+        (packets_on ((1, 1) ∷ (1, 2) ∷ (1, 1) ∷ (1, 0) ∷ []))
+        (Sent 0 0 ∷ Sent 0 1 ∷ Sent 0 3 ∷ Sent 0 2 ∷ []) }
 {}
 
 /// The device answers each second call Busy, three times at most. The packet is laid into the requeue slot, and sent by
@@ -44,11 +47,7 @@ pub fn full_band_drops()
 /// Two stations, each with a unit of its own.
 #[tactic(auto, unfolding(crate::specs::Alone::run_fates))]
 pub fn each_station_has_its_unit()
-    ensures { HaveFates
-        (record (one_station 1 1000 true no_rules []) {
-          stations = record { len = 1000; max_len = 1000; bypass = true; params = no_rules }
-              ∷ record { len = 1000; max_len = 1000; bypass = true; params = no_rules } ∷ [];
-        })
+    ensures { HaveFates (plan_of_stations 1 (station 1000 true no_rules ∷ station 1000 true no_rules ∷ []) [])
         (packets_to (0 ∷ 1 ∷ 0 ∷ [])) (Sent 0 0 ∷ Sent 1 0 ∷ Sent 0 1 ∷ []) }
 {}
 
@@ -94,7 +93,7 @@ pub fn exchanged_device_begins_anew()
 /// and 6 are sent, 6 stops queue 1, and 7 is laid back; after the third, 7 and 4 are sent.
 #[tactic(auto, unfolding(crate::specs::Alone::run_fates))]
 pub fn stopped_queue_blocks_the_shared_bands()
-    ensures { HaveFatesOnTwoQueues (one_station 1000 1000 true (with_burst 2) [])
-        (packets_on ((0, 1) ∷ (0, 1) ∷ (1, 1) ∷ (0, 1) ∷ (1, 2) ∷ (0, 0) ∷ (1, 0) ∷ (1, 1) ∷ [])) 1000 (with_burst 2)
+    ensures { HaveFates (plan_of_stations 1000 (record (station 1000 true (with_burst 2)) { queues = 2 } ∷ []) [])
+        (packets_on ((0, 1) ∷ (0, 1) ∷ (1, 1) ∷ (0, 1) ∷ (1, 2) ∷ (0, 0) ∷ (1, 0) ∷ (1, 1) ∷ []))
         (Sent 0 0 ∷ Sent 0 1 ∷ Sent 0 2 ∷ Sent 0 3 ∷ Sent 0 7 ∷ Sent 0 4 ∷ Sent 0 5 ∷ Sent 0 6 ∷ []) }
 {}

@@ -6,7 +6,7 @@ use Rattle.toml.specs.View.{table_view}
 use Rattle.toml.specs.declared.value.Value.{Value}
 use Rattle.lq_plan.specs.Document.{Document, has_fault_in}
 use Rattle.lq_plan.specs.Faults.{has_fault}
-use Rattle.lq_plan.specs.Keys.{Key, event_keys, root_keys, station_keys, version_of}
+use Rattle.lq_plan.specs.Keys.{Key, event_keys, root_keys, station_keys}
 use Rattle.lq_plan.specs.Tables.{tables_view}
 use Rattle.lq_plan.specs.declared.faults.Fault.{Fault}
 use Rattle.lq_plan.specs.declared.keys.Version.{Version}
@@ -25,28 +25,28 @@ events_fault fault stations = list_any (λ event. has_fault fault (event_keys (t
 abbrev document : Members → List Table → List Table → Document
 document root stations events = record { root = root; stations = tables_view stations; events = tables_view events }
 
-pub of_root : (fault : Fault) (root : Members) (stations events : List Table) (version : Version) (keys : List Key) → version ≡ version_of root → keys ≡ root_keys version
-    → true ≡ has_fault fault keys root → true ≡ has_fault_in fault (document root stations events)
-of_root fault root stations events version keys same_version same_keys here =
-    let seen : true ≡ has_fault fault (root_keys (version_of root)) root = here ∙ ap (λ ks. has_fault fault ks root) (same_keys ∙ ap root_keys same_version) in
+pub of_root : (fault : Fault) (version : Version) (root : Members) (stations events : List Table) (keys : List Key) → keys ≡ root_keys version
+    → true ≡ has_fault fault keys root → true ≡ has_fault_in version fault (document root stations events)
+of_root fault version root stations events keys same here =
+    let seen : true ≡ has_fault fault (root_keys version) root = here ∙ ap (λ ks. has_fault fault ks root) same in
     rw (← seen) refl
 
-pub of_station : (fault : Fault) (root : Members) (stations events : List Table) (version : Version) (keys : List Key) → version ≡ version_of root → keys ≡ root_keys version
-    → false ≡ has_fault fault keys root → true ≡ stations_fault fault version stations → true ≡ has_fault_in fault (document root stations events)
-of_station fault root stations events version keys same_version same_keys no_root here =
-    let of_root : false ≡ has_fault fault (root_keys (version_of root)) root = no_root ∙ ap (λ ks. has_fault fault ks root) (same_keys ∙ ap root_keys same_version) in
-    let seen : true ≡ list_any (λ station. has_fault fault (station_keys (version_of root) station) station) (tables_view stations) =
-    here ∙ ap (λ v. stations_fault fault v stations) same_version ∙ list_any-map (λ station. has_fault fault (station_keys (version_of root) station) station) (λ (t : Table). table_view t.now) stations
+pub of_station : (fault : Fault) (version : Version) (root : Members) (stations events : List Table) (keys : List Key) → keys ≡ root_keys version
+    → false ≡ has_fault fault keys root → true ≡ stations_fault fault version stations → true ≡ has_fault_in version fault (document root stations events)
+of_station fault version root stations events keys same no_root here =
+    let of_root : false ≡ has_fault fault (root_keys version) root = no_root ∙ ap (λ ks. has_fault fault ks root) same in
+    let seen : true ≡ list_any (λ station. has_fault fault (station_keys version station) station) (tables_view stations) =
+    here ∙ list_any-map (λ station. has_fault fault (station_keys version station) station) (λ (t : Table). table_view t.now) stations
     in
     rw (← of_root, ← seen) refl
 
-pub of_event : (fault : Fault) (root : Members) (stations events : List Table) (version : Version) (keys : List Key) (answer : Bool) → version ≡ version_of root → keys ≡ root_keys version
+pub of_event : (fault : Fault) (version : Version) (root : Members) (stations events : List Table) (keys : List Key) (answer : Bool) → keys ≡ root_keys version
     → false ≡ has_fault fault keys root → false ≡ stations_fault fault version stations → answer ≡ events_fault fault stations events
-    → answer ≡ has_fault_in fault (document root stations events)
-of_event fault root stations events version keys answer same_version same_keys no_root no_station here =
-    let of_root : false ≡ has_fault fault (root_keys (version_of root)) root = no_root ∙ ap (λ ks. has_fault fault ks root) (same_keys ∙ ap root_keys same_version) in
-    let of_stations : false ≡ list_any (λ station. has_fault fault (station_keys (version_of root) station) station) (tables_view stations) =
-    no_station ∙ ap (λ v. stations_fault fault v stations) same_version ∙ list_any-map (λ station. has_fault fault (station_keys (version_of root) station) station) (λ (t : Table). table_view t.now) stations
+    → answer ≡ has_fault_in version fault (document root stations events)
+of_event fault version root stations events keys answer same no_root no_station here =
+    let of_root : false ≡ has_fault fault (root_keys version) root = no_root ∙ ap (λ ks. has_fault fault ks root) same in
+    let of_stations : false ≡ list_any (λ station. has_fault fault (station_keys version station) station) (tables_view stations) =
+    no_station ∙ list_any-map (λ station. has_fault fault (station_keys version station) station) (λ (t : Table). table_view t.now) stations
     in
     let seen : answer ≡ list_any (λ event. has_fault fault (event_keys (tables_view stations) event) event) (tables_view events) =
     here ∙ list_any-map (λ event. has_fault fault (event_keys (tables_view stations) event) event) (λ (t : Table). table_view t.now) events

@@ -1,5 +1,5 @@
 -- A plan that is read from a document without faults is within its limits.
-use Rattle.std.proofs.Common.{◌≡◌, ℕ, ◌-◌, ◌<◌, ◌≤◌, Bool, true, false, ◌||◌, if◌then◌else◌, codes, List, length, map, get_or, Option, Some, None, option_map, slice_get, refl, ap, ◌∙◌, sym, arith}
+use Rattle.std.proofs.Common.{◌≡◌, ℕ, ◌-◌, ◌<◌, ◌≤◌, Bool, true, false, ◌||◌, ◌==◌, if◌then◌else◌, codes, List, length, map, get_or, Option, Some, None, option_map, slice_get, refl, ap, ◌∙◌, sym, arith}
 use Rattle.std.proofs.lemmas.Bool.{or_parts}
 use Rattle.std.proofs.lemmas.List.{length-map}
 use Rattle.std.proofs.lemmas.Option.{slice_get-map, slice_get-get_or}
@@ -10,36 +10,103 @@ use Rattle.lq_model.specs.Plan.{Plan}
 use Rattle.lq_model.specs.declared.plan.StationPlan.{StationPlan}
 use Rattle.lq_plan.specs.Document.{Document, document_of, has_fault_in}
 use Rattle.lq_plan.specs.Faults.{has_fault, has_value_out_of_range, is_missing, is_of_wrong_kind, is_out_of_range}
-use Rattle.lq_plan.specs.Keys.{key, event_keys, event_word_in, len_in, len_presence, max_len_for, max_len_in, params_presence, root_keys, station_keys, version_1, version_of}
-use Rattle.lq_plan.specs.Limits.{AreParamsWithin, IsEventWithin, IsKindWithin, IsStationWithin, IsWithinLimits, is_out_of_order, max_len_at}
+use Rattle.lq_plan.specs.Keys.{key, event_keys, event_word_in, len_in, len_presence, max_len_for, max_len_in, params_presence, root_keys, station_keys, version_of}
+use Rattle.lq_plan.specs.Limits.{AreParamsWithin, IsEventWithin, IsKindWithin, IsPlanOf, IsStationOf, IsStationWithin, IsWithinLimits, is_out_of_order, max_len_at, version_1, version_2}
 use Rattle.lq_plan.specs.Reading.{IsEventSmall, event_in, first_fault, kind_as, params_in, station_plan_in}
 use Rattle.lq_plan.specs.Values.{number_at}
 use Rattle.lq_plan.specs.declared.faults.Fault.{Fault}
 use Rattle.lq_plan.specs.declared.faults.Fault.TheVariants.{UnknownKey, MissingKey, WrongKind, OutOfRange}
 use Rattle.lq_plan.specs.declared.keys.Presence.TheVariants.{Required, Optional}
 use Rattle.lq_plan.specs.declared.keys.Rule.TheVariants.{Tables}
+use Rattle.lq_plan.specs.declared.keys.Version.{Version}
 use Rattle.lq_plan.specs.declared.values.EventWord.{EventWord}
 use Rattle.lq_plan.specs.declared.values.EventWord.TheVariants as word
 use Rattle.lq_plan.proofs.Ranges.{at_false, in_range, tables_few, tables_some}
 
+-- VERSIONS
+
+-- the defaults are within the limits of a version, and these within those of the latest
+pub record IsVersion (version : Version) : Type 0 where
+  pub some_senders : 1 ≤ version.max_senders
+  pub some_len : 1000 ≤ version.max_len
+  pub some_queues : 1 ≤ version.max_queues
+  pub few_senders : version.max_senders ≤ 64
+  pub few_len : version.max_len ≤ 65536
+  pub few_queues : version.max_queues ≤ 8
+
+pub is-version_1 : IsVersion version_1
+is-version_1 = record {
+  some_senders = omega arith;
+  some_len = omega arith;
+  some_queues = omega arith;
+  few_senders = omega arith;
+  few_len = omega arith;
+  few_queues = omega arith;
+}
+
+is-version_2 : IsVersion version_2
+is-version_2 = record {
+  some_senders = omega arith;
+  some_len = omega arith;
+  some_queues = omega arith;
+  few_senders = omega arith;
+  few_len = omega arith;
+  few_queues = omega arith;
+}
+
+of-version : (is_2 : Bool) → IsVersion (if is_2 then version_2 else version_1)
+of-version true = is-version_2
+of-version false = is-version_1
+
+pub is-version : (root : Members) → IsVersion (version_of root)
+is-version root = of-version (number_at (codes "version") 1 root == 2)
+
 -- A STATION
 
-pub station_within : (t : Members) → has_value_out_of_range (station_keys version_1 t) t ≡ false → IsStationWithin (station_plan_in t)
+pub station_within : (version : Version) → IsVersion version → (t : Members) → has_value_out_of_range (station_keys version t) t ≡ false → IsStationOf version (station_plan_in t)
 unfolding station_keys
-station_within t h =
-    let keys = station_keys version_1 t in
-    let len = in_range t keys 0 (codes "len") Optional 1 4096 1000 h refl (omega arith) (omega arith) in
-    let max_len = in_range t keys 1 (codes "max_len") Optional (len_in t) 4096 (len_in t) h refl (omega arith) len.1 in
-    let burst = in_range t keys 3 (codes "burst") Optional 0 1000000 0 h refl (omega arith) (omega arith) in
-    let busy_every = in_range t keys 4 (codes "busy_every") Optional 0 1000000 0 h refl (omega arith) (omega arith) in
-    let busy_limit = in_range t keys 5 (codes "busy_limit") Optional 0 1000000 0 h refl (omega arith) (omega arith) in
-    let hang_after = in_range t keys 6 (codes "hang_after") Optional 0 1000000 0 h refl (omega arith) (omega arith) in
+station_within version is t h =
+    let keys = station_keys version t in
+    let len = in_range t keys 0 (codes "len") Optional 1 version.max_len 1000 h refl (omega arith) is.some_len in
+    let max_len = in_range t keys 1 (codes "max_len") Optional (len_in t) version.max_len (len_in t) h refl (omega arith) len.1 in
+    let queues = in_range t keys 3 (codes "queues") version.queues 1 version.max_queues 1 h refl (omega arith) is.some_queues in
+    let burst = in_range t keys 4 (codes "burst") Optional 0 1000000 0 h refl (omega arith) (omega arith) in
+    let busy_every = in_range t keys 5 (codes "busy_every") Optional 0 1000000 0 h refl (omega arith) (omega arith) in
+    let busy_limit = in_range t keys 6 (codes "busy_limit") Optional 0 1000000 0 h refl (omega arith) (omega arith) in
+    let hang_after = in_range t keys 7 (codes "hang_after") Optional 0 1000000 0 h refl (omega arith) (omega arith) in
     record {
       some = len.0;
       len = max_len.0;
       max_len = max_len.1;
       params = record { burst = burst.1; busy_every = busy_every.1; busy_limit = busy_limit.1; hang_after = hang_after.1 };
+      has_queue = queues.0;
+      queues = queues.1;
     }
+
+-- the limits of the latest version are the widest
+station-widened : (version : Version) → IsVersion version → (s : StationPlan) → IsStationOf version s → IsStationWithin s
+station-widened version is s within = record {
+  some = within.some;
+  len = within.len;
+  max_len = omega (arith, within.max_len, is.few_len);
+  params = within.params;
+  has_queue = within.has_queue;
+  queues = omega (arith, within.queues, is.few_queues);
+}
+
+pub widened : (version : Version) → IsVersion version → (p : Plan) → IsPlanOf version p → IsWithinLimits p
+widened version is p within = record {
+  has_sender = within.has_sender;
+  senders = omega (arith, within.senders, is.few_senders);
+  has_irq_every = within.has_irq_every;
+  irq_every = within.irq_every;
+  has_station = within.has_station;
+  stations = within.stations;
+  events = within.events;
+  each_station = λ j station at. station-widened version is station (within.each_station j station at);
+  each_event = within.each_event;
+  order = within.order;
+}
 
 -- AN EVENT
 
@@ -74,8 +141,11 @@ event_facts stations t h =
       params = record { burst = burst.1; busy_every = busy_every.1; busy_limit = busy_limit.1; hang_after = hang_after.1 };
     }
 
+abbrev pub AreStationsOf : Version → List Members → Type 0
+AreStationsOf version stations = (j : ℕ) (t : Members) → slice_get stations j ≡ Some t → IsStationOf version (station_plan_in t)
+
 abbrev pub AreStationsWithin : List Members → Type 0
-AreStationsWithin stations = (j : ℕ) (t : Members) → slice_get stations j ≡ Some t → IsStationWithin (station_plan_in t)
+AreStationsWithin stations = AreStationsOf version_2 stations
 
 greatest_same : (o : Option Members) → option_map_or (λ (s : StationPlan). s.max_len) (option_map station_plan_in o) 0 ≡ option_map_or max_len_in o 0
 greatest_same None = refl
@@ -88,7 +158,7 @@ max_len_same stations t =
 
 -- the station of an event, if there is one
 max_len_bounds : (stations : List Members) (t : Members) → AreStationsWithin stations → number_at (codes "station") 0 t < length stations
-    → (1 ≤ max_len_for stations t) × (max_len_for stations t ≤ 4096)
+    → (1 ≤ max_len_for stations t) × (max_len_for stations t ≤ 65536)
 max_len_bounds stations t within there =
     let j = number_at (codes "station") 0 t in
     let at = slice_get-get_or stations j no_members there in
@@ -118,7 +188,7 @@ event_small stations t within some few h =
     record {
       before = facts.before;
       station = omega arith;
-      kind = kind_within (event_word_in t) t 4096 (len.0, omega arith) facts.params;
+      kind = kind_within (event_word_in t) t 65536 (len.0, omega arith) facts.params;
     }
 
 -- A DOCUMENT WITHOUT FAULTS
@@ -131,51 +201,56 @@ first_of_four false false true d w x y z h = cc
 first_of_four false false false true w x y z h = cc
 first_of_four false false false false w x y z h = (refl, refl, refl, refl)
 
-record NoFault (fault : Fault) (d : Document) : Type 0 where
-  root : has_fault fault (root_keys (version_of d.root)) d.root ≡ false
-  stations : list_any (λ s. has_fault fault (station_keys (version_of d.root) s) s) d.stations ≡ false
+record NoFault (version : Version) (fault : Fault) (d : Document) : Type 0 where
+  root : has_fault fault (root_keys version) d.root ≡ false
+  stations : list_any (λ s. has_fault fault (station_keys version s) s) d.stations ≡ false
   events : list_any (λ e. has_fault fault (event_keys d.stations e) e) d.events ≡ false
 
-no_fault : (fault : Fault) (d : Document) → has_fault_in fault d ≡ false → NoFault fault d
-no_fault fault d h =
-    let stations_fault = list_any (λ s. has_fault fault (station_keys (version_of d.root) s) s) d.stations in
+no_fault : (version : Version) (fault : Fault) (d : Document) → has_fault_in version fault d ≡ false → NoFault version fault d
+no_fault version fault d h =
+    let stations_fault = list_any (λ s. has_fault fault (station_keys version s) s) d.stations in
     let events_fault = list_any (λ e. has_fault fault (event_keys d.stations e) e) d.events in
-    let parts = or_parts (has_fault fault (root_keys (version_of d.root)) d.root) (stations_fault || events_fault) h in
+    let parts = or_parts (has_fault fault (root_keys version) d.root) (stations_fault || events_fault) h in
     let more = or_parts stations_fault events_fault parts.1 in
     record { root = parts.0; stations = more.0; events = more.1 }
 
-pub record Facts (root : Members) (d : Document) : Type 0 where
-  pub senders : (1 ≤ number_at (codes "senders") 1 root) × (number_at (codes "senders") 1 root ≤ 8)
+pub record Facts (version : Version) (root : Members) (d : Document) : Type 0 where
+  pub senders : (1 ≤ number_at (codes "senders") 1 root) × (number_at (codes "senders") 1 root ≤ version.max_senders)
   pub irq_every : (1 ≤ number_at (codes "irq_every") 1 root) × (number_at (codes "irq_every") 1 root ≤ 1000)
   pub has_station : 0 < length d.stations
   pub few_stations : length d.stations ≤ 8
   pub few_events : length d.events ≤ 64
-  pub stations : AreStationsWithin d.stations
+  pub stations : AreStationsOf version d.stations
   pub events : (e : ℕ) (t : Members) → slice_get d.events e ≡ Some t → has_value_out_of_range (event_keys d.stations t) t ≡ false
+  pub is : IsVersion version
 
-pub root_facts : (root : Members) → None ≡ first_fault (document_of root) → Facts root (document_of root)
+pub root_facts : (version : Version) → IsVersion version → (root : Members) → None ≡ first_fault version (document_of root) → Facts version root (document_of root)
 unfolding root_keys
-root_facts root h =
+root_facts version is root h =
     let d = document_of root in
-    let none = first_of_four (has_fault_in UnknownKey d) (has_fault_in MissingKey d) (has_fault_in WrongKind d) (has_fault_in OutOfRange d) _ _ _ _ h in
-    let missing = no_fault MissingKey d none.1 in
-    let kinds = no_fault WrongKind d none.2 in
-    let ranges = no_fault OutOfRange d none.3 in
-    let keys = root_keys version_1 in
+    let none = first_of_four (has_fault_in version UnknownKey d) (has_fault_in version MissingKey d) (has_fault_in version WrongKind d) (has_fault_in version OutOfRange d) _ _ _ _ h in
+    let missing = no_fault version MissingKey d none.1 in
+    let kinds = no_fault version WrongKind d none.2 in
+    let ranges = no_fault version OutOfRange d none.3 in
+    let keys = root_keys version in
     let station = key (codes "station") Required (Tables 1 8) in
     let event = key (codes "event") Optional (Tables 0 64) in
     record {
-      senders = in_range root keys 1 (codes "senders") Optional 1 8 1 ranges.root refl (omega arith) (omega arith);
+      senders = in_range root keys 1 (codes "senders") Optional 1 version.max_senders 1 ranges.root refl (omega arith) is.some_senders;
       irq_every = in_range root keys 3 (codes "irq_every") Optional 1 1000 1 ranges.root refl (omega arith) (omega arith);
       has_station = tables_some 1 8 (get_member (codes "station") root) (at_false (is_missing root) keys 4 station missing.root refl) (at_false (is_of_wrong_kind root) keys 4 station kinds.root refl) (at_false (is_out_of_range root) keys 4 station ranges.root refl);
       few_stations = tables_few 1 8 (get_member (codes "station") root) (at_false (is_out_of_range root) keys 4 station ranges.root refl);
       few_events = tables_few 0 64 (get_member (codes "event") root) (at_false (is_out_of_range root) keys 5 event ranges.root refl);
-      stations = λ j t at. station_within t (at_false (λ s. has_fault OutOfRange (station_keys version_1 s) s) d.stations j t ranges.stations at);
+      stations = λ j t at. station_within version is t (at_false (λ s. has_fault OutOfRange (station_keys version s) s) d.stations j t ranges.stations at);
       events = λ e t at. at_false (λ x. has_fault OutOfRange (event_keys d.stations x) x) d.events e t ranges.events at;
+      is = is;
     }
 
-pub facts : (root : Members) (d : Document) → d ≡ document_of root → None ≡ first_fault d → Facts root d
-facts root d same h = rw same (root_facts root (h ∙ ap first_fault same))
+pub facts : (root : Members) (d : Document) → d ≡ document_of root → None ≡ first_fault (version_of d.root) d → Facts (version_of root) root d
+facts root d same h = rw same (root_facts (version_of root) (is-version root) root (h ∙ ap (λ (x : Document). first_fault (version_of x.root) x) same))
+
+pub stations-within : (version : Version) (root : Members) (d : Document) → Facts version root d → AreStationsWithin d.stations
+stations-within version root d all = λ j t at. station-widened version all.is (station_plan_in t) (all.stations j t at)
 
 -- THE PLAN
 
@@ -186,9 +261,9 @@ seen_through f (Some x) y h = (x, refl, cc)
 mapped : {X Y : Type 0} (f : X → Y) (xs : List X) (j : ℕ) (y : Y) → slice_get (map f xs) j ≡ Some y → (x : X) × (slice_get xs j ≡ Some x) × (y ≡ f x)
 mapped f xs j y at = seen_through f (slice_get xs j) y (sym (slice_get-map f xs j) ∙ at)
 
-pub within_limits : (root : Members) (d : Document) (p : Plan) → Facts root d → is_out_of_order (map event_in d.events) ≡ false → p.senders ≡ number_at (codes "senders") 1 root
-    → p.irq_every ≡ number_at (codes "irq_every") 1 root → p.stations ≡ map station_plan_in d.stations → p.events ≡ map event_in d.events → IsWithinLimits p
-within_limits root d p all in_order senders irq_every stations events = record {
+pub of_version : (version : Version) (root : Members) (d : Document) (p : Plan) → Facts version root d → is_out_of_order (map event_in d.events) ≡ false → p.senders ≡ number_at (codes "senders") 1 root
+    → p.irq_every ≡ number_at (codes "irq_every") 1 root → p.stations ≡ map station_plan_in d.stations → p.events ≡ map event_in d.events → IsPlanOf version p
+of_version version root d p all in_order senders irq_every stations events = record {
   has_sender = omega (arith, all.senders.0);
   senders = omega (arith, all.senders.1);
   has_irq_every = omega (arith, all.irq_every.0);
@@ -201,6 +276,6 @@ within_limits root d p all in_order senders irq_every stations events = record {
       rw found.2 (all.stations j found.0 found.1);
   each_event = λ e event at.
       let found = mapped event_in d.events e event (ap (λ es. slice_get es e) (sym events) ∙ at) in
-      rw (stations, found.2) (event_within d.stations found.0 all.stations all.has_station (all.events e found.0 found.1));
+      rw (stations, found.2) (event_within d.stations found.0 (stations-within version root d all) all.has_station (all.events e found.0 found.1));
   order = rw events in_order;
 }

@@ -14,6 +14,7 @@ generated_plan = record {
     max_len = 32;
     bypass = true;
     params = record { burst = 48; busy_every = 0; busy_limit = 0; hang_after = 0 };
+    queues = 1;
   } ∷ [];
   events = [];
 }

@@ -1,7 +1,8 @@
 -- The keys of a plan: whether each may or has to be there, and what its value may be. As a table of docs/FORMATS.md.
-use Rattle.std.specs.Prelude.{ℕ, ◌-◌, codes, List, [], ◌∷◌, length, map, Option, Some, None, slice_get}
+use Rattle.std.specs.Prelude.{ℕ, ◌-◌, ◌==◌, if◌then◌else◌, codes, List, [], ◌∷◌, length, map, Option, Some, None, slice_get}
 use Rattle.std.specs.Option.{option_map_or, option_and_then}
 use Rattle.toml.specs.Data.{Members}
+use Rattle.lq_plan.specs.Limits.{version_1, version_2}
 use Rattle.lq_plan.specs.Values.{number_at, text_at, event_word_of}
 use Rattle.lq_plan.specs.declared.keys.Key.{Key as CodeKey}
 use Rattle.lq_plan.specs.declared.keys.Presence.{Presence}
@@ -29,21 +30,15 @@ keys_view = map key_view
 
 -- VERSIONS
 
-abbrev pub latest_version : ℕ
-latest_version = 1
-
-abbrev pub version_1 : Version
-version_1 = record { max_senders = 8; max_len = 4096 }
-
--- the version that the document at this root has; there is one version today
+-- the version of the document at this root: 2 where it says so, else 1
 abbrev pub version_of : Members → Version
-version_of root = version_1
+version_of root = if number_at (codes "version") 1 root == 2 then version_2 else version_1
 
 -- THE ROOT
 
 unfoldable pub root_keys : Version → List Key
 root_keys version =
-    key (codes "version") Optional (Number 1 latest_version)
+    key (codes "version") Optional (Number 1 version.number)
     ∷ key (codes "senders") Optional (Number 1 version.max_senders)
     ∷ key (codes "split") Optional SplitText
     ∷ key (codes "irq_every") Optional (Number 1 1000)
@@ -68,11 +63,15 @@ len_in station = number_at (codes "len") 1000 station
 abbrev pub max_len_in : Members → ℕ
 max_len_in station = number_at (codes "max_len") (len_in station) station
 
+abbrev pub queues_in : Members → ℕ
+queues_in station = number_at (codes "queues") 1 station
+
 unfoldable pub station_keys : Version → Members → List Key
 station_keys version station =
     key (codes "len") Optional (Number 1 version.max_len)
     ∷ key (codes "max_len") Optional (Number (len_in station) version.max_len)
     ∷ key (codes "bypass") Optional Flag
+    ∷ key (codes "queues") version.queues (Number 1 version.max_queues)
     ∷ params_keys Optional
 
 -- EVENTS

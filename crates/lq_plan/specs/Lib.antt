@@ -1,5 +1,7 @@
 -- the value at a key, or its default
 pub mod Values
+-- the limits of a plan's numbers, and the order of its events
+pub mod Limits
 -- the keys of a plan, and what their values may be
 pub mod Keys
 -- the tables that a document lends
@@ -8,8 +10,6 @@ pub mod Tables
 pub mod Faults
 -- a document that was read, and its faults
 pub mod Document
--- the limits of a plan's numbers, and the order of its events
-pub mod Limits
 -- the plan that a text is, or why it is none
 pub mod Reading
 -- what contracts see of a plan in memory

@@ -1,4 +1,4 @@
--- The limits of a plan's numbers, and the order of its events.
+-- The limits of a plan's numbers, by the version of its text, and the order of its events.
 use Rattle.std.specs.Prelude.{◌≡◌, ℕ, ◌<◌, ◌≤◌, Bool, true, false, ◌||◌, nat_lt, ◌==◌, List, [], ◌∷◌, length, map, filter, Option, None, Some, slice_get}
 use Rattle.std.specs.List.{list_any}
 use Rattle.std.specs.Option.{option_map_or}
@@ -8,6 +8,16 @@ use Rattle.lq_model.specs.declared.plan.EventKind.{EventKind}
 use Rattle.lq_model.specs.declared.plan.EventKind.TheVariants.{Down, Up, Resize, TxQueueLen, Swap}
 use Rattle.lq_model.specs.declared.plan.EventPlan.{EventPlan}
 use Rattle.lq_model.specs.declared.plan.StationPlan.{StationPlan}
+use Rattle.lq_plan.specs.declared.keys.Presence.TheVariants.{Optional, Unknown}
+use Rattle.lq_plan.specs.declared.keys.Version.{Version}
+
+-- WHAT DIFFERS BETWEEN THE VERSIONS
+
+abbrev pub version_1 : Version
+version_1 = record { number = 1; max_senders = 8; max_len = 4096; queues = Unknown; max_queues = 1 }
+
+abbrev pub version_2 : Version
+version_2 = record { number = 2; max_senders = 64; max_len = 65536; queues = Optional; max_queues = 8 }
 
 -- THE ORDER OF EVENTS
 
@@ -53,11 +63,13 @@ pub record AreParamsWithin (params : Params) : Type 0 where
   pub busy_limit : params.busy_limit ≤ 1000000
   pub hang_after : params.hang_after ≤ 1000000
 
-pub record IsStationWithin (station : StationPlan) : Type 0 where
+pub record IsStationOf (version : Version) (station : StationPlan) : Type 0 where
   pub some : 0 < station.len
   pub len : station.len ≤ station.max_len
-  pub max_len : station.max_len ≤ 4096
+  pub max_len : station.max_len ≤ version.max_len
   pub params : AreParamsWithin station.params
+  pub has_queue : 0 < station.queues
+  pub queues : station.queues ≤ version.max_queues
 
 -- the length to which a station may be resized; 0 of no station
 abbrev pub max_len_at : List StationPlan → ℕ → ℕ
@@ -75,14 +87,21 @@ pub record IsEventWithin (stations : List StationPlan) (event : EventPlan) : Typ
   pub station : event.station < length stations
   pub kind : IsKindWithin (max_len_at stations event.station) event.kind
 
-pub record IsWithinLimits (plan : Plan) : Type 0 where
+pub record IsPlanOf (version : Version) (plan : Plan) : Type 0 where
   pub has_sender : 0 < plan.senders
-  pub senders : plan.senders ≤ 8
+  pub senders : plan.senders ≤ version.max_senders
   pub has_irq_every : 0 < plan.irq_every
   pub irq_every : plan.irq_every ≤ 1000
   pub has_station : 0 < length plan.stations
   pub stations : length plan.stations ≤ 8
   pub events : length plan.events ≤ 64
-  pub each_station : (j : ℕ) (station : StationPlan) → slice_get plan.stations j ≡ Some station → IsStationWithin station
+  pub each_station : (j : ℕ) (station : StationPlan) → slice_get plan.stations j ≡ Some station → IsStationOf version station
   pub each_event : (e : ℕ) (event : EventPlan) → slice_get plan.events e ≡ Some event → IsEventWithin plan.stations event
   pub order : is_out_of_order plan.events ≡ false
+
+-- The limits of every plan are those of the latest version, which are the widest.
+abbrev pub IsStationWithin : StationPlan → Type 0
+IsStationWithin station = IsStationOf version_2 station
+
+abbrev pub IsWithinLimits : Plan → Type 0
+IsWithinLimits plan = IsPlanOf version_2 plan

@@ -15,10 +15,11 @@ use Rattle.lq_model.specs.declared.plan.Split.{Split}
 use Rattle.lq_model.specs.declared.plan.Split.TheVariants.{Round}
 use Rattle.lq_model.specs.declared.plan.StationPlan.{StationPlan}
 use Rattle.lq_plan.specs.Document.{Document, document_of, has_fault_in}
-use Rattle.lq_plan.specs.Keys.{event_word_in, len_in, max_len_in}
+use Rattle.lq_plan.specs.Keys.{event_word_in, len_in, max_len_in, queues_in, version_of}
 use Rattle.lq_plan.specs.Limits.{IsKindWithin, is_out_of_order}
 use Rattle.lq_plan.specs.Values.{flag_at, number_at, split_of, text_at}
 use Rattle.lq_plan.specs.declared.faults.Fault.TheVariants.{UnknownKey, MissingKey, WrongKind, OutOfRange}
+use Rattle.lq_plan.specs.declared.keys.Version.{Version}
 use Rattle.lq_plan.specs.declared.refusal.PlanRefusal.{PlanRefusal}
 use Rattle.lq_plan.specs.declared.refusal.PlanRefusal.TheVariants.{Refused, NoMemory}
 use Rattle.lq_plan.specs.declared.values.EventWord.{EventWord}
@@ -40,6 +41,7 @@ station_plan_in station = record {
   max_len = max_len_in station;
   bypass = flag_at (codes "bypass") true station;
   params = params_in station;
+  queues = queues_in station;
 }
 
 -- of an event that has these keys; a required key has no default, so those that stand here for one are never read
@@ -74,21 +76,25 @@ plan_in d = record {
 --
 -- The reason with the least number of those that apply.
 
--- of the reasons 2 to 5
-abbrev pub first_fault : Document → Option PlanReason
-first_fault d =
-    if has_fault_in UnknownKey d then Some reason.UnknownKey
-    else if has_fault_in MissingKey d then Some reason.Missing
-    else if has_fault_in WrongKind d then Some reason.Kind
-    else if has_fault_in OutOfRange d then Some reason.Range else None
+-- of the reasons 2 to 5, by the keys of a version
+abbrev pub first_fault : Version → Document → Option PlanReason
+first_fault version d =
+    if has_fault_in version UnknownKey d then Some reason.UnknownKey
+    else if has_fault_in version MissingKey d then Some reason.Missing
+    else if has_fault_in version WrongKind d then Some reason.Kind
+    else if has_fault_in version OutOfRange d then Some reason.Range else None
 
 -- the plan that a document is, if it has none of these faults
 abbrev pub plan_unless : Option PlanReason → Document → Result Plan PlanReason
 plan_unless (Some cause) d = Err cause
 plan_unless None d = if is_out_of_order (plan_in d).events then Err reason.EventOrder else Ok (plan_in d)
 
+abbrev pub plan_by : Version → Members → Result Plan PlanReason
+plan_by version root = plan_unless (first_fault version (document_of root)) (document_of root)
+
+-- by the keys of the version that the document says
 abbrev pub plan_from : Members → Result Plan PlanReason
-plan_from root = plan_unless (first_fault (document_of root)) (document_of root)
+plan_from root = plan_by (version_of root) root
 
 -- the root of the document that a text is
 abbrev pub root_of : List ℕ → Option Members
@@ -104,8 +110,8 @@ abbrev pub IsPlanRefusal : {T : Type 0} → Result T PlanReason → PlanRefusal 
 IsPlanRefusal answer NoMemory = Unit {0}
 IsPlanRefusal answer (Refused cause) = answer ≡ Err cause
 
--- an event of a plan with at most 8 stations, each with rings of at most 4096
+-- an event of a plan with at most 8 stations, each with rings of at most 65,536
 pub record IsEventSmall (event : EventPlan) : Type 0 where
   pub before : event.before ≤ 1000000
   pub station : event.station < 8
-  pub kind : IsKindWithin 4096 event.kind
+  pub kind : IsKindWithin 65536 event.kind

@@ -4,7 +4,7 @@ ghost use Rattle.std.specs.List.{list_any};
 ghost use Rattle.toml.specs.View.{table_view};
 ghost use Rattle.lq_plan.specs.Document.{document_of, document_view, has_fault_in};
 ghost use Rattle.lq_plan.specs.Faults.{has_fault};
-ghost use Rattle.lq_plan.specs.Keys.{event_keys, station_keys};
+ghost use Rattle.lq_plan.specs.Keys.{event_keys, station_keys, version_of};
 ghost use Rattle.lq_plan.specs.Reading.{first_fault};
 ghost use Rattle.lq_plan.specs.Tables.{tables_view};
 ghost use Rattle.lq_plan.specs.Values.{tables_at};
@@ -38,11 +38,10 @@ impl<'a> Document<'a> {
         })
     }
 
-    /// Whether one of the tables has a fault.
-    pub fn has_fault(&self, fault: Fault) -> bool
-        ensures { result ≡ has_fault_in fault (document_view self.now) }
+    /// Whether one of the tables has a fault, by the keys of this version.
+    pub fn has_fault(&self, version: Version, fault: Fault) -> bool
+        ensures { result ≡ has_fault_in version fault (document_view self.now) }
     {
-        let version = version_of(self.root);
         has_fault(fault, &root_keys(version), self.root)
             || a_station_has_fault(fault, version, &self.stations)
             || an_event_has_fault(fault, &self.stations, &self.events)
@@ -50,15 +49,16 @@ impl<'a> Document<'a> {
 
     /// Why the document is no plan, by the keys and values of its tables.
     pub fn first_fault(&self) -> Option<PlanReason>
-        ensures { result ≡ first_fault (document_view self.now) }
+        ensures { result ≡ first_fault (version_of (document_view self.now).root) (document_view self.now) }
     {
-        if self.has_fault(Fault::UnknownKey) {
+        let version = version_of(self.root);
+        if self.has_fault(version, Fault::UnknownKey) {
             Some(PlanReason::UnknownKey)
-        } else if self.has_fault(Fault::MissingKey) {
+        } else if self.has_fault(version, Fault::MissingKey) {
             Some(PlanReason::Missing)
-        } else if self.has_fault(Fault::WrongKind) {
+        } else if self.has_fault(version, Fault::WrongKind) {
             Some(PlanReason::Kind)
-        } else if self.has_fault(Fault::OutOfRange) {
+        } else if self.has_fault(version, Fault::OutOfRange) {
             Some(PlanReason::Range)
         } else {
             None

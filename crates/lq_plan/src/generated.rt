@@ -17,6 +17,7 @@ const STATION: StationPlan = StationPlan {
         busy_limit: 0,
         hang_after: 0,
     },
+    queues: 1,
 };
 
 /// The plan of a generated run, that of the text

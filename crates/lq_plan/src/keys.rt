@@ -3,7 +3,7 @@ ghost use Rattle.std.specs.Prelude.{◌≡◌, map, ◌^◌, ◌<◌, length};
 ghost use Rattle.std.specs.Option.{option_and_then};
 ghost use Rattle.toml.specs.View.{table_view};
 ghost use Rattle.lq_plan.specs.Tables.{tables_view};
-ghost use Rattle.lq_plan.specs.Keys.{event_keys, key, key_view, event_word_in, keys_view, len_in, len_presence, max_len_in, max_len_for, params_keys, params_presence, root_keys, station_keys, version_1, version_of};
+ghost use Rattle.lq_plan.specs.Keys.{event_keys, key, key_view, event_word_in, keys_view, len_in, len_presence, max_len_in, max_len_for, params_keys, params_presence, queues_in, root_keys, station_keys, version_of};
 
 use crate::values::{EventWord, event_word_of, number_at, text_at};
 use toml::Table;
@@ -40,25 +40,42 @@ pub struct Key {
     pub rule: Rule,
 }
 
-/// The limits that a version of the format has.
+/// What differs between the versions of the format.
 #[derive(Clone, Copy, Debug, PartialEq, Eq)]
 pub struct Version {
+    pub number: u64,
     pub max_senders: u64,
     pub max_len: u64,
+    /// Whether a station may say how many queues it has.
+    pub queues: Presence,
+    pub max_queues: u64,
 }
 
-const LATEST_VERSION: u64 = 1;
-
 const VERSION_1: Version = Version {
+    number: 1,
     max_senders: 8,
     max_len: 4096,
+    queues: Presence::Unknown,
+    max_queues: 1,
 };
 
-/// The version of the document at this root.
-pub fn version_of(_root: &Table) -> Version
-    ensures { result ≡ version_of (table_view _root.now) }
+const VERSION_2: Version = Version {
+    number: 2,
+    max_senders: 64,
+    max_len: 65536,
+    queues: Presence::Optional,
+    max_queues: 8,
+};
+
+/// The version of the document at this root: 2 where it says so, else 1.
+pub fn version_of(root: &Table) -> Version
+    ensures { result ≡ version_of (table_view root.now) }
 {
-    VERSION_1
+    if number_at(root, "version", 1) == 2 {
+        VERSION_2
+    } else {
+        VERSION_1
+    }
 }
 
 /// The keys of a document's root.
@@ -67,7 +84,7 @@ pub fn root_keys(version: Version) -> [Key; 6]
     ensures { keys_view result ≡ root_keys version }
 {
     [
-        optional("version", number(1, LATEST_VERSION)),
+        optional("version", number(1, version.number)),
         optional("senders", number(1, version.max_senders)),
         optional("split", Rule::SplitText),
         optional("irq_every", number(1, 1000)),
@@ -89,9 +106,16 @@ pub fn max_len_of(station: &Table) -> u64
     number_at(station, "max_len", len_of(station))
 }
 
+/// How many queues share a station's rings.
+pub fn queues_of(station: &Table) -> u64
+    ensures { result ≡ queues_in (table_view station.now) }
+{
+    number_at(station, "queues", 1)
+}
+
 /// The keys of a station.
 #[tactic(auto, unfolding(crate::specs::Keys::station_keys))]
-pub fn station_keys(version: Version, station: &Table) -> [Key; 7]
+pub fn station_keys(version: Version, station: &Table) -> [Key; 8]
     ensures { keys_view result ≡ station_keys version (table_view station.now) }
 {
     let presence = Presence::Optional;
@@ -99,6 +123,7 @@ pub fn station_keys(version: Version, station: &Table) -> [Key; 7]
         optional("len", number(1, version.max_len)),
         optional("max_len", number(len_of(station), version.max_len)),
         optional("bypass", Rule::Flag),
+        key_of("queues", version.queues, number(1, version.max_queues)),
         param("burst", presence),
         param("busy_every", presence),
         param("busy_limit", presence),

@@ -23,7 +23,7 @@ mod refusal;
 mod values;
 
 pub use generated::generated_plan;
-pub use laws::accepts_within_limits;
+pub use laws::{accepts_within_limits, version_1_stays};
 pub use lq_model::{EventKind, EventPlan, Params, PlanReason, Split, StationPlan};
 pub use packets::infos;
 pub use plan::Plan;

@@ -16,8 +16,8 @@ const MAX_STATIONS: usize = 8;
 ///
 /// The owner is the packet's number modulo the senders, or its source byte modulo the senders, as the plan splits
 /// them. The station is its route byte modulo the stations. Its band is that of its priority, as `pfifo_fast_enqueue`
-/// of net/sched/sch_generic.c chooses it, and its queue is 0. Its rank is how many lower packets have the same owner
-/// and station.
+/// of net/sched/sch_generic.c chooses it. Its queue is its source byte modulo the station's queues. Its rank is how many
+/// lower packets have the same owner and station.
 ///
 /// # NoMemory
 ///
@@ -61,11 +61,12 @@ fn unranked<F: Frames>(plan: &Plan, frames: &F, n: u32) -> Info
         Split::Round => n,
         Split::Source => u32::from(class.source_byte),
     };
+    let station = u32::from(class.route_byte) % plan.stations();
     Info {
         owner: split_number % plan.senders(),
-        station: u32::from(class.route_byte) % plan.stations(),
+        station,
         band: band(class.priority),
-        queue: 0,
+        queue: u32::from(class.source_byte) % plan.station(station).queues,
         rank: 0,
     }
 }
@@ -166,6 +167,7 @@ mod tests {
             max_len: 2,
             bypass: false,
             params,
+            queues: 2,
         };
         Ok(Plan {
             senders: 2,
@@ -176,12 +178,12 @@ mod tests {
         })
     }
 
-    fn info(owner: u32, station: u32, band: u32, rank: u32) -> Info {
+    fn info(owner: u32, station: u32, band: u32, queue: u32, rank: u32) -> Info {
         Info {
             owner,
             station,
             band,
-            queue: 0,
+            queue,
             rank,
         }
     }
@@ -191,11 +193,11 @@ mod tests {
         let capture = five_packets(rt.alloc())?;
         let by_number = infos(rt.alloc(), &two_by_two(rt.alloc(), Split::Round)?, &capture)?;
         let expected = [
-            info(0, 0, 1, 0),
-            info(1, 1, 0, 0),
-            info(0, 1, 2, 0),
-            info(1, 0, 1, 0),
-            info(0, 0, 1, 1),
+            info(0, 0, 1, 1, 0),
+            info(1, 1, 0, 1, 0),
+            info(0, 1, 2, 0, 0),
+            info(1, 0, 1, 1, 0),
+            info(0, 0, 1, 0, 1),
         ];
         assert_eq!(rt; by_number.as_slice(), expected.as_slice());
 
@@ -205,11 +207,11 @@ mod tests {
             &capture,
         )?;
         let expected = [
-            info(1, 0, 1, 0),
-            info(1, 1, 0, 0),
-            info(0, 1, 2, 0),
-            info(1, 0, 1, 1),
-            info(0, 0, 1, 0),
+            info(1, 0, 1, 1, 0),
+            info(1, 1, 0, 1, 0),
+            info(0, 1, 2, 0, 0),
+            info(1, 0, 1, 1, 1),
+            info(0, 0, 1, 0, 0),
         ];
         assert_eq!(rt; by_source.as_slice(), expected.as_slice());
         Ok(())

@@ -32,7 +32,7 @@ impl Plan {
     pub fn senders(&self) -> u32
         ensures senders { result ≡ self.now.senders }
         ensures some { 0 < result }
-        ensures few { result ≤ 8 }
+        ensures few { result ≤ 64 }
     {
         self.senders
     }

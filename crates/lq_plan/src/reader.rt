@@ -8,7 +8,7 @@ ghost use Rattle.lq_plan.specs.Reading.{IsEventSmall, IsPlanRefusal, event_in, k
 ghost use Rattle.lq_plan.specs.Tables.{tables_view};
 
 use crate::document::Document;
-use crate::keys::{event_word, len_of, max_len_of};
+use crate::keys::{event_word, len_of, max_len_of, queues_of};
 use crate::order::is_out_of_order;
 use crate::plan::Plan;
 use crate::refusal::PlanRefusal;
@@ -99,6 +99,7 @@ fn read_station(station: &Table) -> StationPlan
         max_len: max_len_of(station) as u32,
         bypass: flag_at(station, "bypass", true),
         params: read_params(station),
+        queues: queues_of(station) as u32,
     }
 }
 

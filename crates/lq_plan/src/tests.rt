@@ -6,7 +6,7 @@ use crate::{
 
 #[test]
 fn least_reason_of_each_text(rt: HostRuntime) {
-    let rows: [(&[u8], PlanReason); 17] = [
+    let rows: [(&[u8], PlanReason); 19] = [
         (b"len = = 3", PlanReason::NotToml),
         (b"\xff", PlanReason::NotToml),
         (b"[[station]]\nlenght = 5\n", PlanReason::UnknownKey),
@@ -18,6 +18,7 @@ fn least_reason_of_each_text(rt: HostRuntime) {
             b"[[station]]\n[[event]]\nbefore = 0\nkind = \"down\"\nstation = 0\nlen = 3\n",
             PlanReason::UnknownKey,
         ),
+        (b"[[station]]\nqueues = 2\n", PlanReason::UnknownKey),
         (b"senders = 2\n", PlanReason::Missing),
         (b"[[event]]\nbefore = 0\n", PlanReason::Missing),
         (b"[[station]]\nlen = \"a\"\n", PlanReason::Kind),
@@ -25,6 +26,10 @@ fn least_reason_of_each_text(rt: HostRuntime) {
         (b"[[station]]\nlen = 4097\n", PlanReason::Range),
         (b"station = []\n", PlanReason::Range),
         (b"version = 4\n[[station]]\n", PlanReason::Range),
+        (
+            b"version = 2\nsenders = 65\n[[station]]\n",
+            PlanReason::Range,
+        ),
         (b"[[station]]\nmax_len = 10\n", PlanReason::Range),
         (b"senders = 4294967297\n[[station]]\n", PlanReason::Range),
         (
@@ -80,6 +85,7 @@ fn keys_left_out(rt: HostRuntime) {
             max_len: 1000,
             bypass: true,
             params: NO_RULES,
+            queues: 1,
         }
     );
 }
@@ -169,12 +175,14 @@ fn all_keys(rt: HostRuntime) {
                 busy_limit: 3,
                 hang_after: 1_000_000,
             },
+            queues: 1,
         },
         StationPlan {
             len: 4096,
             max_len: 4096,
             bypass: true,
             params: NO_RULES,
+            queues: 1,
         },
     ];
     for j in 0..plan.stations() {
@@ -204,5 +212,23 @@ fn all_keys(rt: HostRuntime) {
         if (e as u32) < plan.events() {
             assert_eq!(rt; plan.event(e as u32), want, "event {e}");
         }
+    }
+}
+
+/// The greatest numbers of version 2, and the queues of a station that doesn't say how many it has.
+#[test]
+fn version_2(rt: HostRuntime) {
+    let text = b"version = 2\nsenders = 64\n[[station]]\nlen = 65536\nqueues = 8\n[[station]]\n";
+    let Ok(plan) = read_plan(rt.alloc(), text) else {
+        panic!(rt; "no plan");
+    };
+    assert_eq!(rt; (plan.senders(), plan.stations()), (64, 2));
+    let station = plan.station(0);
+    assert_eq!(rt;
+        (station.len, station.max_len, station.queues),
+        (65_536, 65_536, 8)
+    );
+    if plan.stations() == 2 {
+        assert_eq!(rt; plan.station(1).queues, 1);
     }
 }

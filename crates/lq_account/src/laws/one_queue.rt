@@ -3,7 +3,7 @@ ghost use Rattle.std.specs.Prelude.{◌≡◌, ℕ, List};
 ghost use Rattle.lq_model.specs.Account.{Account, Event, after_all};
 ghost use Rattle.lq_model.specs.Alone.{RunningStation};
 ghost use Rattle.lq_model.specs.Legal.{IsLegal};
-ghost use Rattle.lq_model.specs.Plan.{Plan};
+ghost use Rattle.lq_model.specs.Plan.{Plan, queues_at};
 ghost use Rattle.lq_model.specs.declared.fate.Info.{Info};
 ghost use Rattle.lq_account.specs.OneQueue.{AreOfOneQueue, IsFinishedByRounds, IsOfOneQueue, IsServedByTurns, MeetsOneStopValue};
 ghost use Rattle.lq_account.specs.Progress.{start_of};
@@ -13,7 +13,7 @@ ghost use Rattle.lq_account.specs.Progress.{start_of};
 /// the queue isn't open, and the station is woken and served until it is done, so the numbers of turns and rounds that the
 /// definitions have are always enough.
 pub fn one_queue_has_one_stop_value()
-    ensures events { (plan : Plan) (infos : List Info) (station : ℕ) (past : List Event) (a : Account) → AreOfOneQueue infos
+    ensures events { (plan : Plan) (infos : List Info) (station : ℕ) (past : List Event) (a : Account) → AreOfOneQueue infos → queues_at plan.stations station ≡ 1
         → IsLegal plan infos station (start_of plan station) past → a ≡ after_all (start_of plan station) past
         → MeetsOneStopValue infos station past a }
     ensures serving { (infos : List Info) (s : RunningStation) → AreOfOneQueue infos → IsOfOneQueue s → IsServedByTurns infos s }

@@ -3,7 +3,7 @@ use Rattle.lq_account.proofs.OneStopRun.{finished_by_rounds, served_by_turns}
 use Rattle.lq_account.proofs.laws.one_queue.one_queue_has_one_stop_value.Goals as goal
 
 pub returns-clause-events : goal.returns-clause-events
-returns-clause-events c plan infos station past a queues legal is = meets_one_stop_value plan infos station past a queues legal is
+returns-clause-events c plan infos station past a queues one legal is = meets_one_stop_value plan infos station past a queues one legal is
 
 pub returns-clause-serving : goal.returns-clause-serving
 returns-clause-serving c infos s queues one = served_by_turns infos s queues one

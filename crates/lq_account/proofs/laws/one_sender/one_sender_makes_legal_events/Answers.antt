@@ -3,7 +3,7 @@ use Rattle.lq_account.proofs.Sender.{begins_in_run, brought_in_run, finished_in_
 use Rattle.lq_account.proofs.laws.one_sender.one_sender_makes_legal_events.Goals as goal
 
 pub returns-clause-begins : goal.returns-clause-begins
-returns-clause-begins c plan infos station s planned some = begins_in_run plan infos station s planned some
+returns-clause-begins c plan infos station s planned some one = begins_in_run plan infos station s planned some one
 
 pub returns-clause-passes : goal.returns-clause-passes
 returns-clause-passes c plan infos station n s other h = passes_in_run other h
