@@ -13,6 +13,7 @@ const PLAN: StationPlan = StationPlan {
         busy_limit: 0,
         hang_after: 0,
     },
+    queues: 1,
 };
 
 #[test]
