@@ -1,13 +1,11 @@
 -- What the calls of a seat alone do: the run of one sender.
-use Rattle.std.proofs.Common.{◌≡◌, ◌≢◌, ℕ, ◌+◌, ◌<◌, ◌≤◌, ◌==◌, Bool, true, false, not, ◌&&◌, ◌||◌, if◌then◌else◌, refl, sym, ap, ap₂, ◌∙◌, subst, arith, List, [], ◌∷◌, length, None, Some, IsSome, Option, inl, inr, ◌⊎◌}
-use Rattle.std.specs.Prelude.{is_some, slice_index, slice_set}
+use Rattle.std.proofs.Common.{length-set, zero, suc, ◌≡◌, ◌≢◌, ℕ, ◌+◌, ◌<◌, ◌==◌, Bool, true, false, not, ◌&&◌, ◌||◌, if◌then◌else◌, refl, sym, ap, ap₂, ◌∙◌, subst, arith, List, [], ◌∷◌, length, None, Some, IsSome, Option, inl, inr, ◌⊎◌}
+use Rattle.std.specs.Prelude.{is_some, nat_lt, slice_index, slice_set}
 use Rattle.std.specs.Option.{option_map}
-use Rattle.std.proofs.lemmas.Bool.{and_from, and_parts, eq-eqb, ne_eqb, true≢false}
-use Rattle.lq_account.specs.OneQueue.{stop_of}
+use Rattle.std.proofs.lemmas.Bool.{and_from, and_parts, cond-true, cond-false, eq-eqb, lt-ltb, ne_eqb, or_left, true≢false}
 use Rattle.lq_account.proofs.Offers.{brought_direct, brought_through, queued_join}
-use Rattle.lq_account.proofs.OneStopRun.{finished_by_rounds}
 use Rattle.lq_model.specs.Account.{Account, Event, Refuse, Join, Full, Direct, Wake, after}
-use Rattle.lq_model.specs.Alone.{RunningStation, brought_in, taken_in, gone_direct, is_occupied, joined_or_full, opened, seen_in, served}
+use Rattle.lq_model.specs.Alone.{RunningStation, brought_in, taken_in, gone_direct, is_occupied, joined_or_full, opened, opened_queue, opened_up_to, seen_in, served}
 use Rattle.lq_model.specs.Band.{IsOccupied}
 use Rattle.lq_model.specs.Positions.{holds_lock}
 use Rattle.lq_model.specs.declared.machine.Position.TheVariants.{Leave, Put, Try1}
@@ -20,17 +18,17 @@ use Rattle.lq_table.specs.Views.{View, Setup, machine_packet, SharePart, first_a
 use Rattle.lq_table.specs.Solo.{Solo, IsSole, SeesState, account_of, solo, heard, locked_to, lowered, sched_cleared, sched_set}
 use Rattle.lq_table.specs.Told.{call_of, entering, going, is_set, looking, seen_by, some_bit, stepped}
 use Rattle.lq_model.specs.declared.machine.Answer.TheVariants.{Plain}
-use Rattle.lq_qdisc.specs.Alone.{Brings, Does, HasAll, IsAlone, IsOneSender, RunsAlone, account_in, is_clean, running, stop_in}
+use Rattle.lq_qdisc.specs.Alone.{Brings, Does, HasAll, IsAlone, IsOneSender, RunsAlone, account_in, is_clean, running}
 use Rattle.lq_qdisc.specs.Sends.{Attempts, Begins, Enqueues, FollowsDirect, Goes, GoesPast, GoesThrough, Interrupts, IsRefused, IsDue, RunsToEnd, Transmits, TriesToPass, Wakes, WakesBelow, transmitting}
 use Rattle.lq_qdisc.specs.declared.answers.Sending.{Sending}
 use Rattle.lq_qdisc.specs.declared.answers.Sending.TheVariants as sending
 use Rattle.lq_qdisc.specs.declared.answers.Through.{Through}
 use Rattle.lq_qdisc.specs.declared.answers.Through.TheVariants as through
 use Rattle.lq_qdisc.proofs.AloneForms.{AttemptsAlone, DirectsAlone, MayRun, ended}
-use Rattle.lq_qdisc.proofs.AlonePast.{past_done}
+use Rattle.lq_qdisc.proofs.AloneOffers.{stops_set}
+use Rattle.lq_qdisc.proofs.AlonePast.{past_left}
 use Rattle.lq_qdisc.proofs.AloneRests.{attempt_done, entered, entered_off, entered_ready, entered_serves, put_ready, put_through, ready_locked}
-use Rattle.lq_qdisc.proofs.AloneServed.{stops_of}
-use Rattle.lq_qdisc.proofs.AloneSteps.{account_at, directs_alone, runs_alone}
+use Rattle.lq_qdisc.proofs.AloneSteps.{KnowsSlot, account_at, accounts_slot, count_of, directs_alone, runs_alone}
 
 -- THE END OF A RUN
 
@@ -67,19 +65,19 @@ pub entering_solo : (v : View) → v.packets ≡ no_packets → solo (entering v
 entering_solo v packets =
     λ j. solo (stepped Plain (seen_by v) (record v { place = begun_as (call_of (option_map (machine_packet v.share.about.infos) (packets j).fresh)) v.place }))
 
-module _ (k : Setup) (one : k.queues ≡ 1) (infos : List Info) where
-  to_end_alone : (old new : View) → old.share.about ≡ k → IsOneSender infos (first_account k) (solo old) → (account_in (first_account k) (solo old)).down ≡ None → RunsToEnd infos old new
+module _ (k : Setup) (infos : List Info) where
+  to_end_alone : (old new : View) → old.share.about ≡ k → IsOneSender (first_account k) (solo old) → (account_in (first_account k) (solo old)).down ≡ None → KnowsSlot old → RunsToEnd infos old new
       → (last : Solo) × RunsAlone infos (first_account k) (solo old) last × (solo new ≡ ended last)
-  to_end_alone old new about sender active e =
-      let r = runs_alone k one infos old about sender active e.ran e.last e.runs in
+  to_end_alone old new about sender active knows e =
+      let r = runs_alone k infos old about sender active (λ _. knows) e.ran e.last e.runs in
       (solo e.last, r, e.ended.sole r.on.sender.sole ∙ ended_is (solo e.last))
 
-  pub attempt_alone : (old new : View) → old.share.about ≡ k → MayRun infos (first_account k) (solo old) → Attempts infos old new → AttemptsAlone infos (first_account k) (solo old) (solo new)
+  pub attempt_alone : (old new : View) → old.share.about ≡ k → MayRun (first_account k) (solo old) → Attempts infos old new → AttemptsAlone infos (first_account k) (solo old) (solo new)
   attempt_alone old new about ready (inl m) = absurd (true≢false (sym (m.sole ready.sender.sole).0 ∙ ready.unlocked))
   attempt_alone old new about ready (inr t) =
       let s = t.1.sole ready.sender.sole in
-      let r = to_end_alone t.0 new (ap (λ (x : SharePart). x.about) t.1.calm.share ∙ about) (subst (IsOneSender infos (first_account k)) (sym s.1) (ready_locked infos (first_account k) (solo old) ready))
-      (ap (λ (v : Solo). (account_in (first_account k) v).down) s.1 ∙ ready.active) t.2 in
+      let r = to_end_alone t.0 new (ap (λ (x : SharePart). x.about) t.1.calm.share ∙ about) (subst (IsOneSender (first_account k)) (sym s.1) (ready_locked (first_account k) (solo old) ready))
+      (ap (λ (v : Solo). (account_in (first_account k) v).down) s.1 ∙ ready.active) (accounts_slot t.0 s.2) t.2 in
       attempt_done infos (first_account k) (solo old) r.0 (solo new) ready (subst (λ (v : Solo). RunsAlone infos (first_account k) v r.0) s.1 r.1) r.2
 
   -- SOFT INTERRUPTS
@@ -93,7 +91,7 @@ module _ (k : Setup) (one : k.queues ≡ 1) (infos : List Info) where
         → IsAlone infos (first_account k) (solo new) × (served infos (running (first_account k) (solo new)) ≡ served infos (running (first_account k) (solo old)))
     serves e share down due =
         let active : (account_in (first_account k) (solo old)).down ≡ None = ap (λ (a : Account). a.down) (account_at k old about) ∙ down in
-        let ready = subst (MayRun infos (first_account k)) (sym e) (entered_ready infos (first_account k) (solo old) h active) in
+        let ready = subst (MayRun (first_account k)) (sym e) (entered_ready infos (first_account k) (solo old) h active) in
         let t = attempt_alone i.cleared before (ap (λ (x : SharePart). x.about) share ∙ about) ready (i.serves due) in
         entered_serves infos (first_account k) (solo old) (solo new) h raised active
         (subst (λ (v : Solo). AttemptsAlone infos (first_account k) (entered (solo old)) v) (sym same) (subst (λ (v : Solo). AttemptsAlone infos (first_account k) v (solo before)) e t))
@@ -153,15 +151,15 @@ enqueues_alone k n band (sending.OutOfTurn found) old put about alone free e = a
 
 -- TRANSMIT
 
-module _ (k : Setup) (one : k.queues ≡ 1) (infos : List Info) (n : ℕ) where
+module _ (k : Setup) (infos : List Info) (n : ℕ) where
   -- through its band, by a seat that doesn't have the run lock
-  pub through_alone : (answer : Sending) (old new : View) → old.share.about ≡ k → holds_lock old.place.position ≡ false → MayRun infos (first_account k) (solo old) → GoesThrough infos n answer old new → new.share ≡ new.share
+  pub through_alone : (answer : Sending) (old new : View) → old.share.about ≡ k → holds_lock old.place.position ≡ false → MayRun (first_account k) (solo old) → GoesThrough infos n answer old new → new.share ≡ new.share
       → IsAlone infos (first_account k) (solo new) × (served infos (running (first_account k) (solo new)) ≡ served infos (Rattle.lq_model.specs.Alone.gone_through infos n (running (first_account k) (solo old))))
   through_alone answer old new about free ready g share =
       let q = enqueues_alone k n (band_in infos n) answer old g.put about ready.sender.sole free g.enqueued in
       let start = first_account k in
       let mid = put_ready infos start n (solo old) (solo g.put) q.0 ready q.1 q.2 in
-      put_through infos start n (solo old) (solo g.put) q.0 ready q.1 q.2 (solo new) (attempt_alone k one infos g.put new (put_about answer old g.put about g.enqueued) mid g.attempted)
+      put_through infos start n (solo old) (solo g.put) q.0 ready q.1 q.2 (solo new) (attempt_alone k infos g.put new (put_about answer old g.put about g.enqueued) mid g.attempted)
     where
       put_about : (answer : Sending) (old put : View) → old.share.about ≡ k → Enqueues n (band_in infos n) answer old put → put.share.about ≡ k
       put_about sending.Queued old put about e = ap (λ (v : View). v.share.about) e.0 ∙ about
@@ -176,8 +174,11 @@ module _ (k : Setup) (one : k.queues ≡ 1) (infos : List Info) (n : ℕ) where
     going_is : solo (going n p.state got) ≡ heard (Direct n) (locked_to true (solo old))
     going_is = p.step ∙ ap (λ (v : Solo). heard (Direct n) v) lock
 
-    handed_is : HasAll (solo (going n p.state got)) → IsSome (solo (going n p.state got)).whole.device.told → DirectsAlone (first_account k) p.handed (solo (going n p.state got)) (solo p.after)
-    handed_is all tells = directs_alone k one (going n p.state got) about all tells p.handed n (queue_in infos n) p.after (h.sender.queues n) p.direct
+    directs : DirectsAlone (first_account k) (queue_in infos n) p.handed (heard (Direct n) (locked_to true (solo old))) (solo p.after)
+    directs = subst (λ (w : Solo). DirectsAlone (first_account k) (queue_in infos n) p.handed w (solo p.after)) going_is (
+        directs_alone k (going n p.state got) about (subst HasAll (sym going_is) h.sender.sole) (subst (λ (w : Solo). IsSome w.whole.device.told) (sym going_is) h.sender.tells)
+        p.handed n (queue_in infos n) p.after p.direct
+        )
 
     follows_is : (t : Through) (last : View) → FollowsDirect t infos last new → HasAll (solo last) → (t ≡ through.Yes → is_clean (solo last) ≡ true) → solo new ≡ ended (solo last)
     follows_is through.Yes last f all still = by_state f.3
@@ -191,15 +192,16 @@ module _ (k : Setup) (one : k.queues ≡ 1) (infos : List Info) (n : ℕ) where
     follows_is (through.Back reason) last f all still = f.sole all ∙ ended_is (solo last)
 
     pub past_alone : IsAlone infos (first_account k) (solo new) × (running (first_account k) (solo new) ≡ gone_direct infos n (running (first_account k) (solo old)))
-    past_alone = past_done infos (first_account k) n (solo old) low active clean h p.handed (solo (going n p.state got)) (solo p.after) (solo p.after) (solo new) going_is handed_is (λ all still. refl)
-        (λ all still. follows_is p.handed p.after p.follows all still)
+    past_alone =
+        let l = past_left infos (first_account k) n (solo old) low active clean h p.handed (solo p.after) directs in
+        subst (λ (v : Solo). IsAlone infos (first_account k) v × (running (first_account k) v ≡ gone_direct infos n (running (first_account k) (solo old)))) (sym (follows_is p.handed p.after p.follows l.1 l.2)) l.0
 
   module _ (bypass : Bool) (answer : Sending) (old new : View) (about : old.share.about ≡ k) (bypass_is : old.share.about.bypass ≡ bypass) (last : View) (goes : Goes infos bypass n answer (transmitting infos n old) last) (step : solo new ≡ solo last) (low : old.place.raised ≡ false)
       (active : (account_in (first_account k) (solo old)).down ≡ None) (h : IsAlone infos (first_account k) (solo old)) where
     sees : SeesState (transmitting infos n old) goes.state
     sees = goes.sees h.sender.sole
 
-    ready : MayRun infos (first_account k) (solo old)
+    ready : MayRun (first_account k) (solo old)
     ready = record { sender = h.sender; active = active; unlocked = h.rests.unlocked; scheduled = h.rests.scheduled }
 
     abbrev pub Ends : Type 0
@@ -279,17 +281,16 @@ module _ (k : Setup) (one : k.queues ≡ 1) (infos : List Info) (n : ℕ) where
         subst (λ (v : Solo). IsAlone infos (first_account k) v × (served infos (running (first_account k) v) ≡ served infos (brought_in infos bypass n (running (first_account k) (solo old))))) (sym is) (
           record {
             sender = record {
-              queues = h.sender.queues;
               sole = h.sender.sole;
               tells = h.sender.tells;
-              one = record { queues = h.sender.one.queues; known = h.sender.one.known; hand = h.sender.one.hand; busies = h.sender.one.busies };
+              station = record { queues = h.sender.station.queues; known = h.sender.station.known; hand = h.sender.station.hand; busies = h.sender.station.busies };
             };
             rests = record {
               unlocked = h.rests.unlocked;
               scheduled = h.rests.scheduled;
               missed = h.rests.missed;
               empty = h.rests.empty;
-              calm = h.rests.calm;
+              waits = h.rests.waits;
               shut = h.rests.shut;
               off = h.rests.off;
             };
@@ -315,20 +316,38 @@ not_or : (r : Bool) → (r || not r) ≡ true
 not_or true = refl
 not_or false = refl
 
-module _ (k : Setup) (infos : List Info) (old new : View) (about : old.share.about ≡ k) (h : IsAlone infos (first_account k) (solo old)) where
-  woken_alone : (was : Bool) → solo new ≡ sched_set was (heard (Wake 0) (solo old)) → was ≡ (solo old).whole.scheduled → stop_in (first_account k) (solo old) ≡ 1
-      → IsAlone infos (first_account k) (solo new) × (running (first_account k) (solo new) ≡ opened (running (first_account k) (solo old)))
-  woken_alone was is sched stop = subst (λ (v : Solo). IsAlone infos (first_account k) v × (running (first_account k) v ≡ opened (running (first_account k) (solo old)))) (sym is) (
+-- a queue that was opened is one of several, or it is the one
+some_open : (stops : List ℕ) (queue : ℕ) → slice_index stops queue ≡ 1 → (nat_lt 1 (length (slice_set stops queue 0)) || (slice_index (slice_set stops queue 0) 0 == 0)) ≡ true
+some_open [] queue e = absurd (omega (arith, e))
+some_open (x ∷ []) zero e = refl
+some_open (x ∷ []) (suc queue) e = absurd (omega (arith, e))
+some_open (x ∷ y ∷ xs) queue e =
+    or_left (nat_lt 1 (length (slice_set (x ∷ y ∷ xs) queue 0))) _
+    (lt-ltb 1 (length (slice_set (x ∷ y ∷ xs) queue 0)) (let same : length (slice_set (x ∷ y ∷ xs) queue 0) ≡ length (x ∷ y ∷ xs) = length-set (x ∷ y ∷ xs) queue 0 in omega arith))
+
+-- the station with another account
+abbrev with_account : Account → RunningStation → RunningStation
+with_account a s = record s { account = a }
+
+module _ (k : Setup) (infos : List Info) (queue : ℕ) (old new : View) (about : old.share.about ≡ k) (h : IsAlone infos (first_account k) (solo old)) where
+  -- this queue was opened where it was stopped
+  abbrev Opens : Solo → Type 0
+  Opens v = IsAlone infos (first_account k) v × (running (first_account k) v ≡ with_account (opened_queue queue (account_in (first_account k) (solo old))) (running (first_account k) (solo old)))
+
+  stop-at : slice_index (account_of old).stops queue ≡ slice_index (account_in (first_account k) (solo old)).stops queue
+  stop-at = ap (λ (a : Account). slice_index a.stops queue) (sym (account_at k old about))
+
+  woken_alone : (was : Bool) → solo new ≡ sched_set was (heard (Wake queue) (solo old)) → was ≡ (solo old).whole.scheduled → slice_index (account_in (first_account k) (solo old)).stops queue ≡ 1 → Opens (solo new)
+  woken_alone was is sched stop = subst Opens (sym is) (
     record {
       sender = record {
-        queues = h.sender.queues;
         sole = h.sender.sole;
         tells = h.sender.tells;
-        one = record {
-          queues = ap (λ (xs : List ℕ). length (slice_set xs 0 0)) stops;
-          known = subst (λ (y : ℕ). y ≤ 2) (sym opens) (omega arith);
-          hand = h.sender.one.hand;
-          busies = h.sender.one.busies;
+        station = record {
+          queues = subst (λ (n : ℕ). 0 < n) (sym (length-set (account_in (first_account k) (solo old)).stops queue 0)) h.sender.station.queues;
+          known = stops_set (account_in (first_account k) (solo old)).stops queue 0 h.sender.station.known (omega (arith, stop)) (omega arith);
+          hand = h.sender.station.hand;
+          busies = h.sender.station.busies;
         };
       };
       rests = record {
@@ -336,39 +355,41 @@ module _ (k : Setup) (infos : List Info) (old new : View) (about : old.share.abo
         scheduled = sym up;
         missed = λ _. up;
         empty = h.rests.empty;
-        calm = λ low _. absurd (true≢false (sym up ∙ low));
-        shut = λ _ _. opens;
+        waits = λ low. absurd (true≢false (sym up ∙ low));
+        shut = λ _ _. some_open (account_in (first_account k) (solo old)).stops queue stop;
         off = h.rests.off;
       };
     },
-    sym ((finished_by_rounds infos (running (first_account k) (solo old)) h.sender.queues h.sender.one).wakes
-        ∙ ap (λ (y : ℕ). if y == 1 then record (running (first_account k) (solo old)) { account = after (Wake 0) (account_in (first_account k) (solo old)) } else running (first_account k) (solo old)) stop),
+    sym (ap (λ (a : Account). with_account a (running (first_account k) (solo old))) (cond-true _ _ _ (eq-eqb _ _ stop))),
   )
     where
-      stops : (account_in (first_account k) (solo old)).stops ≡ 1 ∷ []
-      stops = stops_of (running (first_account k) (solo old)) 1 h.sender.one stop
-
-      opens : stop_in (first_account k) (heard (Wake 0) (solo old)) ≡ 0
-      opens = ap (λ (xs : List ℕ). slice_index (slice_set xs 0 0) 0) stops
-
       up : ((solo old).raised || not was) ≡ true
       up = ap (λ (b : Bool). (solo old).raised || not b) (sched ∙ h.rests.scheduled) ∙ not_or (solo old).raised
 
-  still_alone : new ≡ old → stop_in (first_account k) (solo old) ≢ 1 → IsAlone infos (first_account k) (solo new) × (running (first_account k) (solo new) ≡ opened (running (first_account k) (solo old)))
-  still_alone is other = subst (λ (v : View). IsAlone infos (first_account k) (solo v) × (running (first_account k) (solo v) ≡ opened (running (first_account k) (solo old)))) (sym is) (
+  still_alone : new ≡ old → slice_index (account_in (first_account k) (solo old)).stops queue ≢ 1 → Opens (solo new)
+  still_alone is other = subst (λ (v : View). Opens (solo v)) (sym is) (
     h,
-    sym ((finished_by_rounds infos (running (first_account k) (solo old)) h.sender.queues h.sender.one).wakes
-        ∙ ap (λ (b : Bool). if b then record (running (first_account k) (solo old)) { account = after (Wake 0) (account_in (first_account k) (solo old)) } else running (first_account k) (solo old)) (ne_eqb _ _ other)),
+    sym (ap (λ (a : Account). with_account a (running (first_account k) (solo old))) (cond-false _ _ _ (ne_eqb _ _ other))),
   )
 
-  stop_at : slice_index (account_of old).stops 0 ≡ stop_in (first_account k) (solo old)
-  stop_at = ap stop_of (sym (account_at k old about))
+  wake_alone : Wakes queue old new → Opens (solo new)
+  wake_alone (inl w) = woken_alone w.0 w.2 (w.3 h.sender.sole) (sym stop-at ∙ w.4 h.sender.sole)
+  wake_alone (inr w) = still_alone w.0 (λ z. w.1 h.sender.sole (stop-at ∙ z))
 
-  wakes_alone : Wakes 0 old new → IsAlone infos (first_account k) (solo new) × (running (first_account k) (solo new) ≡ opened (running (first_account k) (solo old)))
-  wakes_alone (inl w) = woken_alone w.0 w.2 (w.3 h.sender.sole) (sym stop_at ∙ w.4 h.sender.sole)
-  wakes_alone (inr w) = still_alone w.0 (λ z. w.1 h.sender.sole (stop_at ∙ z))
+wake_about : (queue : ℕ) (old new : View) → Wakes queue old new → new.share.about ≡ old.share.about
+wake_about queue old new (inl w) = ap (λ (v : View). v.share.about) w.1
+wake_about queue old new (inr w) = ap (λ (v : View). v.share.about) w.0
 
-pub irq_alone : (k : Setup) (infos : List Info) (queues : ℕ) (old new : View) → queues ≡ 1 → old.share.about ≡ k → WakesBelow queues old new → Does infos (first_account k) opened (solo old) (solo new)
-irq_alone k infos queues old new one about w h =
-    let t : WakesBelow 1 old new = subst (λ (q : ℕ). WakesBelow q old new) one w in
-    wakes_alone k infos old new about h (subst (λ (v : View). Wakes 0 v new) t.1 t.2)
+wakes_alone : (k : Setup) (infos : List Info) (queues : ℕ) (old new : View) → old.share.about ≡ k → IsAlone infos (first_account k) (solo old) → WakesBelow queues old new
+    → (new.share.about ≡ k) × (IsAlone infos (first_account k) (solo new) × (running (first_account k) (solo new) ≡ with_account (opened_up_to queues (account_in (first_account k) (solo old))) (running (first_account k) (solo old))))
+wakes_alone k infos zero old new about h w =
+    (ap (λ (v : View). v.share.about) w ∙ about, (subst (λ (v : View). IsAlone infos (first_account k) (solo v)) (sym w) h, ap (λ (v : View). running (first_account k) (solo v)) w))
+wakes_alone k infos (suc queue) old new about h w =
+    let below = wakes_alone k infos queue old w.0 about h w.1 in
+    let here = wake_alone k infos queue w.0 new below.0 below.1.0 w.2 in
+    (wake_about queue w.0 new w.2 ∙ below.0, (here.0, here.1 ∙ ap (λ (s : RunningStation). with_account (opened_queue queue s.account) s) below.1.1))
+
+pub irq_alone : (k : Setup) (infos : List Info) (old new : View) → old.share.about ≡ k → WakesBelow k.queues old new → Does infos (first_account k) opened (solo old) (solo new)
+irq_alone k infos old new about w h =
+    let all = wakes_alone k infos k.queues old new about h w in
+    (all.1.0, all.1.1 ∙ ap (λ (n : ℕ). with_account (opened_up_to n (account_in (first_account k) (solo old))) (running (first_account k) (solo old))) (sym (count_of k (solo old))))

@@ -1,14 +1,16 @@
--- The steps of a call, as a seat sees them that has the table alone, with one queue and a device that tells.
-use Rattle.std.specs.Prelude.{◌≡◌, ◌≢◌, true, false, ◌||◌, ◌&&◌, not, List, Some, None}
+-- The steps of a call, as a seat sees them that has the table alone, over a device that tells.
+use Rattle.std.specs.Prelude.{◌≡◌, ℕ, true, false, ◌||◌, ◌&&◌, not, List, length, Some, None}
 use Rattle.std.specs.Option.{option_map}
-use Rattle.lq_model.specs.Account.{Account, Event, Back, Send, Stop}
+use Rattle.lq_model.specs.Account.{Account, Event, Back, Send, Stop, after, is_open}
 use Rattle.lq_model.specs.Alone.{next_answer, next_taken, served}
 use Rattle.lq_model.specs.Device.{DeviceState, told_after}
 use Rattle.lq_model.specs.declared.device.Tx.{Tx}
 use Rattle.lq_model.specs.declared.device.Tx.TheVariants.{Sent, SentStop, SentHang, Busy}
 use Rattle.lq_model.specs.declared.fate.Info.{Info}
 use Rattle.lq_table.specs.Solo.{Solo, heard, missed_to, draining_to, device_to}
-use Rattle.lq_qdisc.specs.Alone.{IsAlone, IsOneSender, account_in, dirty, running, stop_in}
+use Rattle.lq_qdisc.specs.Direct.{hearing_hung}
+use Rattle.lq_qdisc.specs.Stations.{dirty, is_waiting, may_take}
+use Rattle.lq_qdisc.specs.Alone.{IsAlone, IsOneSender, account_in, running}
 use Rattle.lq_qdisc.specs.declared.answers.Taken.{Taken}
 use Rattle.lq_qdisc.specs.declared.answers.Taken.TheVariants as taken
 use Rattle.lq_qdisc.specs.declared.answers.Through.{Through}
@@ -33,17 +35,24 @@ ended v = record v {
   whole = record v.whole { locked = false; scheduled = v.whole.scheduled || v.whole.missed };
 }
 
-abbrev pub TakesAlone : Account → Taken → Solo → Solo → Type 0
-TakesAlone start taken.Empty old new = (stop_in start old ≡ 0) × (next_taken (account_in start old) ≡ None) × (new ≡ cleaning old)
-TakesAlone start taken.Stopped old new = (stop_in start old ≢ 0) × (new ≡ stopping old)
-TakesAlone start (taken.Packet n) old new = (stop_in start old ≡ 0) × ((event : Event) × (next_taken (account_in start old) ≡ Some event) × (new ≡ heard event old))
+-- the packet n came into the hand
+pub record TakesPacket (start : Account) (n : ℕ) (old new : Solo) : Type 0 where
+  pub event : Event
+  pub next : next_taken (account_in start old) ≡ Some event
+  pub hand : (after event (account_in start old)).hand ≡ Some n
+  pub is : new ≡ heard event old
 
--- what follows an answer of the device
-abbrev pub answering : Tx → DeviceState → Solo → Solo
-answering Sent d v = offering Send d v
-answering SentStop d v = heard (Stop 0 1) (offering Send d v)
-answering SentHang d v = heard (Stop 0 2) (offering Send d v)
-answering Busy d v = missed_to true (offering Back d v)
+abbrev pub TakesAlone : List Info → Account → Taken → Solo → Solo → Type 0
+TakesAlone infos start taken.Empty old new = (may_take (account_in start old) ≡ true) × (next_taken (account_in start old) ≡ None) × (new ≡ cleaning old)
+TakesAlone infos start taken.Stopped old new = (is_waiting infos (account_in start old) ≡ true) × (new ≡ stopping old)
+TakesAlone infos start (taken.Packet n) old new = (may_take (account_in start old) ≡ true) × TakesPacket start n old new
+
+-- what follows an answer of the device to a packet of this queue, where there are so many queues
+abbrev pub answering : Tx → ℕ → ℕ → DeviceState → Solo → Solo
+answering Sent queue queues d v = offering Send d v
+answering SentStop queue queues d v = heard (Stop queue 1) (offering Send d v)
+answering SentHang queue queues d v = hearing_hung queues (offering Send d v)
+answering Busy queue queues d v = missed_to true (offering Back d v)
 
 abbrev pub through_of : Tx → Through
 through_of Sent = through.Yes
@@ -51,20 +60,27 @@ through_of SentStop = through.Yes
 through_of SentHang = through.Yes
 through_of Busy = through.Back why.Busy
 
-pub record SendsAlone (start : Account) (answered : Through) (old new : Solo) : Type 0 where
+-- the packet in hand was offered on this queue, which is open
+pub record SendsAlone (start : Account) (queue : ℕ) (answered : Through) (old new : Solo) : Type 0 where
+  pub opens : is_open (account_in start old) queue ≡ true
   pub answer : Tx
   pub is : answer ≡ next_answer (running start old)
   pub told : new.whole.device.told ≡ option_map (told_after answer) old.whole.device.told
-  pub view_is : new ≡ answering answer new.whole.device old
+  pub view_is : new ≡ answering answer queue (length (account_in start old).stops) new.whole.device old
   pub through : answered ≡ through_of answer
 
-pub record DirectsAlone (start : Account) (answered : Through) (old new : Solo) : Type 0 where
-  pub opens : stop_in start old ≡ 0 → SendsAlone start answered old new
-  pub closed : stop_in start old ≢ 0 → (answered ≡ through.Back why.Stopped) × (new ≡ missed_to true (heard Back (stopping old)))
+-- or it was laid into the requeue slot, since the queue isn't open
+abbrev pub LaysAlone : Account → ℕ → Solo → Solo → Type 0
+LaysAlone start queue old new = (is_open (account_in start old) queue ≡ false) × (new ≡ missed_to true (heard Back (stopping old)))
+
+abbrev pub DirectsAlone : Account → ℕ → Through → Solo → Solo → Type 0
+DirectsAlone start queue through.Yes old new = SendsAlone start queue through.Yes old new
+DirectsAlone start queue (through.Back why.Busy) old new = SendsAlone start queue (through.Back why.Busy) old new
+DirectsAlone start queue (through.Back why.Stopped) old new = LaysAlone start queue old new
 
 -- a station that may be run, in no run
-pub record MayRun (infos : List Info) (start : Account) (v : Solo) : Type 0 where
-  pub sender : IsOneSender infos start v
+pub record MayRun (start : Account) (v : Solo) : Type 0 where
+  pub sender : IsOneSender start v
   pub active : (account_in start v).down ≡ None
   pub unlocked : v.whole.locked ≡ false
   pub scheduled : v.whole.scheduled ≡ v.raised

@@ -1,10 +1,12 @@
 pub mod TakeLemmas
 pub mod DirectLemmas
 pub mod RunLemmas
--- the steps of a call, as a seat alone sees them; what serving makes of a station; the packets of a run; what an attempt leaves;
--- and a packet that goes past the bands
+-- the steps of a call, as a seat alone sees them; what an answer of the device leaves, and serving; a packet that is brought; the
+-- packets of a run; what an attempt leaves; and a packet that goes past the bands
 pub mod AloneForms
+pub mod AloneOffers
 pub mod AloneServed
+pub mod AloneBrought
 pub mod AloneTurns
 pub mod AloneRests
 pub mod AlonePast

@@ -37,7 +37,7 @@ packet_station n (Some m) old new d = ap (λ (x : View). x.holder.station) d.1.i
 
 pub dequeued_station : (t : Taken) (infos : List Info) (old new : View) → Dequeues t infos old new → new.holder.station ≡ old.holder.station
 dequeued_station taken.Empty infos old new d = ap (λ (h : HolderPart). h.station) d.1.holder
-dequeued_station taken.Stopped infos old new d = ap (λ (h : HolderPart). h.station) d.holder
+dequeued_station taken.Stopped infos old new d = ap (λ (h : HolderPart). h.station) d.1.holder
 dequeued_station (taken.Packet n) infos old new d = packet_station n old.holder.slot old new d
 
 pub dequeued_count : (t : Taken) (infos : List Info) (old new : View) → Dequeues t infos old new → count new ≡ count old

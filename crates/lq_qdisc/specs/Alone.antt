@@ -1,12 +1,11 @@
--- What the calls do of a seat that has the table alone, where there is one queue and the device tells its rule: the run of one
--- sender.
-use Rattle.std.specs.Prelude.{◌≡◌, ℕ, Bool, true, false, ◌||◌, not, [], List, Option, Some, None, IsSome}
-use Rattle.lq_account.specs.OneQueue.{AreOfOneQueue, IsOfOneQueue, stop_of}
+-- What the calls do of a seat that has the table alone, where the device tells its rule: the run of one sender.
+use Rattle.std.specs.Prelude.{◌≡◌, Bool, true, false, ◌||◌, not, [], List, Option, Some, None, IsSome}
 use Rattle.lq_model.specs.Account.{Account, after_all, held}
 use Rattle.lq_model.specs.Alone.{RunningStation, served}
 use Rattle.lq_model.specs.Device.{Telling}
 use Rattle.lq_model.specs.declared.fate.Info.{Info}
 use Rattle.lq_table.specs.Solo.{Solo}
+use Rattle.lq_qdisc.specs.Stations.{IsBetweenOffers, dirty, is_waiting, may_take}
 
 -- it has all shares, and was told the state
 abbrev pub HasAll : Solo → Type 0
@@ -17,12 +16,9 @@ abbrev pub telling_of : Option Telling → Telling
 telling_of (Some t) = t
 telling_of None = record { params = record { burst = 0; busy_every = 0; busy_limit = 0; hang_after = 0 }; busies = 0 }
 
--- the station's account, which was this at the start, and its queue's stop value
+-- the station's account, which was this at the start
 abbrev pub account_in : Account → Solo → Account
 account_in start v = after_all start v.whole.past
-
-abbrev pub stop_in : Account → Solo → ℕ
-stop_in start v = stop_of (account_in start v)
 
 -- neither MISSED nor DRAINING is set
 abbrev pub is_clean : Solo → Bool
@@ -32,33 +28,29 @@ is_clean v = not (v.whole.missed || v.whole.draining)
 abbrev pub running : Account → Solo → RunningStation
 running start v = record { account = account_in start v; clean = is_clean v; device = telling_of v.whole.device.told }
 
-abbrev pub dirty : RunningStation → RunningStation
-dirty s = record s { clean = false }
-
 -- the seat has the table alone, the device tells its rule, and nothing is in hand
-pub record IsOneSender (infos : List Info) (start : Account) (v : Solo) : Type 0 where
-  pub queues : AreOfOneQueue infos
+pub record IsOneSender (start : Account) (v : Solo) : Type 0 where
   pub sole : HasAll v
   pub tells : IsSome v.whole.device.told
-  pub one : IsOfOneQueue (running start v)
+  pub station : IsBetweenOffers (running start v)
 
 -- what the bits say between two calls
-pub record RestsAlone (start : Account) (v : Solo) : Type 0 where
+pub record RestsAlone (infos : List Info) (start : Account) (v : Solo) : Type 0 where
   pub unlocked : v.whole.locked ≡ false
   pub scheduled : v.whole.scheduled ≡ v.raised
   pub missed : v.whole.missed ≡ true → v.raised ≡ true
   -- with both bits clear nothing is held
   pub empty : is_clean v ≡ true → held (account_in start v) ≡ []
-  -- an open queue has both bits clear, unless the seat is raised
-  pub calm : v.raised ≡ false → stop_in start v ≡ 0 → is_clean v ≡ true
-  -- a raised seat whose queue isn't open has a bit set
-  pub shut : v.raised ≡ true → is_clean v ≡ true → stop_in start v ≡ 0
+  -- with one set the next packet waits for a queue, unless the seat is raised
+  pub waits : v.raised ≡ false → is_clean v ≡ false → is_waiting infos (account_in start v) ≡ true
+  -- a raised seat has a bit set where no packet may be taken
+  pub shut : v.raised ≡ true → is_clean v ≡ true → may_take (account_in start v) ≡ true
   pub off : IsSome (account_in start v).down → is_clean v ≡ true
 
 -- a seat alone, between two calls
 pub record IsAlone (infos : List Info) (start : Account) (v : Solo) : Type 0 where
-  pub sender : IsOneSender infos start v
-  pub rests : RestsAlone start v
+  pub sender : IsOneSender start v
+  pub rests : RestsAlone infos start v
 
 -- Soft interrupts as long as the seat is raised would leave now what they would have left after this step of the run of one
 -- sender.
@@ -73,19 +65,19 @@ Does infos start step old new = IsAlone infos start old → IsAlone infos start 
 
 -- the packets that were sent so far leave what serving goes on to
 pub record RunsOn (infos : List Info) (start : Account) (old now : Solo) : Type 0 where
-  pub sender : IsOneSender infos start now
+  pub sender : IsOneSender start now
   pub active : (account_in start now).down ≡ None
   pub raised : now.raised ≡ old.raised
   pub scheduled : now.whole.scheduled ≡ old.whole.scheduled
   pub does : served infos (dirty (running start now)) ≡ served infos (dirty (running start old))
 
 -- what the bits say at the end of a run
-pub record IsAtEnd (start : Account) (v : Solo) : Type 0 where
+pub record IsAtEnd (infos : List Info) (start : Account) (v : Solo) : Type 0 where
   pub empty : is_clean v ≡ true → held (account_in start v) ≡ []
-  pub shut : is_clean v ≡ true → stop_in start v ≡ 0
-  pub calm : v.whole.missed ≡ false → stop_in start v ≡ 0 → is_clean v ≡ true
+  pub shut : is_clean v ≡ true → may_take (account_in start v) ≡ true
+  pub waits : v.whole.missed ≡ false → is_clean v ≡ false → is_waiting infos (account_in start v) ≡ true
 
 -- a run serves the station
 pub record RunsAlone (infos : List Info) (start : Account) (old new : Solo) : Type 0 where
   pub on : RunsOn infos start old new
-  pub at_end : IsAtEnd start new
+  pub at_end : IsAtEnd infos start new

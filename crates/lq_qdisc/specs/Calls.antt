@@ -136,10 +136,11 @@ Looks taken.Stopped old new = ⊥
 Looks (taken.Packet n) old new = FindsPacket n old new
 
 -- Where the requeue slot is empty, the bands are looked through; else its packet comes out of it. Both only where the queue
--- isn't stopped.
+-- isn't stopped; but several queues share the bands, which are looked through whatever the stop words say. So the stopped queue
+-- of several is that of the packet in the requeue slot.
 abbrev pub Dequeues : Taken → List Info → View → View → Type 0
 Dequeues taken.Empty infos old new = (old.holder.slot ≡ None) × FindsEmpty old new
-Dequeues taken.Stopped infos old new = FindsStopped (option_map_or (queue_in infos) old.holder.slot 0) old new
+Dequeues taken.Stopped infos old new = (1 < old.share.about.queues → is_some old.holder.slot ≡ true) × FindsStopped (option_map_or (queue_in infos) old.holder.slot 0) old new
 Dequeues (taken.Packet n) infos old new = MatchOption old.holder.slot (FindsPacket n old new) (λ m. (m ≡ n) × Picks n old new)
 
 -- With one queue a dequeue tells a seat that has the table alone that what it has as holder is the account's, and whether the
@@ -149,9 +150,8 @@ IsStopFor taken.Empty stop = stop ≡ 0
 IsStopFor taken.Stopped stop = stop ≢ 0
 IsStopFor (taken.Packet n) stop = stop ≡ 0
 
-abbrev pub SeesOneQueue : Taken → List Info → View → Type 0
-SeesOneQueue t infos v = v.share.about.queues ≡ 1 → IsSole v
-    → IsAccounts v × HasSent v × IsStopFor t (slice_index (account_of v).stops (option_map_or (queue_in infos) v.holder.slot 0))
+abbrev pub SeesOneQueue : Taken → View → Type 0
+SeesOneQueue t v = v.share.about.queues ≡ 1 → IsSole v → IsAccounts v × HasSent v × IsStopFor t (slice_index (account_of v).stops 0)
 
 -- where the seat stands after a dequeue
 abbrev pub after_dequeue : Taken → List Info → Position

@@ -6,6 +6,8 @@ pub mod Direct
 pub mod Runs
 -- what a transmit and a soft interrupt leave
 pub mod Sends
+-- stations of the run of one sender, with one queue or several
+pub mod Stations
 -- what the calls do of a seat that has the table alone
 pub mod Alone
 -- what the tests keep of a seat and of the packets

@@ -20,7 +20,7 @@ pub record Hands (handed : ℕ → ℕ → View → View → Type 0) (infos : Li
   pub packet : ℕ
   pub between : View
   pub dequeued : Dequeues (taken.Packet packet) infos old between
-  pub one : SeesOneQueue (taken.Packet packet) infos old
+  pub one : SeesOneQueue (taken.Packet packet) old
   pub same : between.share ≡ old.share
   pub is : handed packet (queue_in infos packet) between new
   pub share : new.share ≡ old.share
@@ -33,9 +33,9 @@ Sends (suc sent) infos old new = (last : View) × Sends sent infos old last × H
 -- What the last turn of a run did: a dequeue found nothing, or a queue that is stopped; or the packet that was dequeued
 -- was laid into the requeue slot. After the last packet of the quota MISSED is set.
 abbrev pub Ends : RunEnd → List Info → View → View → Type 0
-Ends end.Empty infos old new = Dequeues taken.Empty infos old new × SeesOneQueue taken.Empty infos old
+Ends end.Empty infos old new = Dequeues taken.Empty infos old new × SeesOneQueue taken.Empty old
 Ends end.Quota infos old new = (new ≡ passing old) × (solo new ≡ missed_to true (solo old))
-Ends end.Stopped infos old new = (Dequeues taken.Stopped infos old new × SeesOneQueue taken.Stopped infos old) ⊎ Hands LaysAside infos old new
+Ends end.Stopped infos old new = (Dequeues taken.Stopped infos old new × SeesOneQueue taken.Stopped old) ⊎ Hands LaysAside infos old new
 Ends end.Busy infos old new = Hands IsBusyAt infos old new
 
 -- A run sent so many packets, at most as many as its quota, and came to this end: by the quota exactly where it sent as

@@ -31,7 +31,7 @@ pub fn softirq<'a, D: TxDevice>(shared: &Shared<'a, D>, cpu: &mut Cpu<D>)
     ensures still { IsStill (view cpu.old) (view cpu.new) }
     ensures interrupts { (before : View) × Interrupts shared.now.infos.now (entering (view cpu.old)) before × (view cpu.new ≡ passing before) × (solo (view cpu.new) ≡ solo before) }
     ensures again { IsRaisedAgain (view cpu.new) }
-    ensures alone { shared.now.queues ≡ 1 → Brings shared.now.infos.now (first_account (setup shared.now)) (λ s. s) (solo (view cpu.old)) (solo (view cpu.new)) }
+    ensures alone { Brings shared.now.infos.now (first_account (setup shared.now)) (λ s. s) (solo (view cpu.old)) (solo (view cpu.new)) }
 {
     shared.enter(cpu);
     if is_due(shared, cpu) {
@@ -70,7 +70,7 @@ pub fn irq<'a, D: TxDevice>(shared: &Shared<'a, D>, cpu: &mut Cpu<D>)
     ensures still { IsStill (view cpu.old) (view cpu.new) }
     ensures settled { (view cpu.new).settled ≡ (view cpu.old).settled }
     ensures wakes { WakesBelow shared.now.queues (view cpu.old) (view cpu.new) }
-    ensures alone { shared.now.queues ≡ 1 → Does shared.now.infos.now (first_account (setup shared.now)) opened (solo (view cpu.old)) (solo (view cpu.new)) }
+    ensures alone { Does shared.now.infos.now (first_account (setup shared.now)) opened (solo (view cpu.old)) (solo (view cpu.new)) }
 {
     for queue in 0..shared.queues() {
         open(shared, cpu, queue);

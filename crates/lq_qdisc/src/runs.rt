@@ -4,7 +4,7 @@ ghost use Rattle.lq_model.specs.declared.machine.Position.TheVariants.{Unlock};
 ghost use Rattle.lq_run.specs.Runs.{begins};
 ghost use Rattle.lq_table.specs.Views.{first_account};
 ghost use Rattle.lq_table.specs.Sees.{view, setup, position, IsSeatOf};
-ghost use Rattle.lq_table.specs.Solo.{solo};
+ghost use Rattle.lq_table.specs.Solo.{IsAccounts, solo};
 ghost use Rattle.lq_qdisc.specs.Alone.{IsOneSender, RunsAlone, account_in};
 ghost use Rattle.lq_qdisc.specs.Calls.{IsSlotOf, IsServing, IsKept, KeepsFates};
 ghost use Rattle.lq_qdisc.specs.Direct.{Accepts};
@@ -55,7 +55,8 @@ fn restart<'a, D: TxDevice>(shared: &Shared<'a, D>, cpu: &mut Cpu<D>) -> Option<
 ///
 /// `sent` is how many packets the device accepted in this call, at most 64; the end is Quota exactly where it is 64, and
 /// MISSED is set then. Empty and Stopped come only as the last dequeue of the call answers them, or Stopped and Busy as its
-/// last direct transmit does. A seat that has the table alone serves the station as the run of one sender does.
+/// last direct transmit does. A seat that has the table alone serves the station as the run of one sender
+/// does; with several queues, where what it has as holder is the account's.
 pub fn run<'a, D: TxDevice>(shared: &Shared<'a, D>, cpu: &mut Cpu<D>) -> Ran
     requires seat { IsSeatOf shared.now cpu.old }
     requires at { position cpu.old ≡ begins (view cpu.old) }
@@ -70,7 +71,7 @@ pub fn run<'a, D: TxDevice>(shared: &Shared<'a, D>, cpu: &mut Cpu<D>) -> Ran
     ensures fates { KeepsFates (view cpu.old) (view cpu.new) }
     ensures ran { Runs shared.now.infos.now result (view cpu.old) (view cpu.new) }
     ensures accepted { length (view cpu.new).holder.station.device.accepted ≡ length (view cpu.old).holder.station.device.accepted + result.sent }
-    ensures alone { shared.now.queues ≡ 1 → IsOneSender shared.now.infos.now (first_account (setup shared.now)) (solo (view cpu.old)) → (account_in (first_account (setup shared.now)) (solo (view cpu.old))).down ≡ None → RunsAlone shared.now.infos.now (first_account (setup shared.now)) (solo (view cpu.old)) (solo (view cpu.new)) }
+    ensures alone { (shared.now.queues ≢ 1 → IsAccounts (view cpu.old)) → IsOneSender (first_account (setup shared.now)) (solo (view cpu.old)) → (account_in (first_account (setup shared.now)) (solo (view cpu.old))).down ≡ None → RunsAlone shared.now.infos.now (first_account (setup shared.now)) (solo (view cpu.old)) (solo (view cpu.new)) }
 {
     for sent in 0..QUOTA {
         if let Some(end) = restart(shared, cpu) {

@@ -1,5 +1,5 @@
 //! Taking the packet that is served next.
-ghost use Rattle.std.specs.Prelude.{⊤, ◌≡◌, ◌≢◌, ℕ, ◌<◌, Bool, true, false, if◌then◌else◌, slice_index, length, Option, Some, None, MatchOption};
+ghost use Rattle.std.specs.Prelude.{⊤, ◌≡◌, ◌≢◌, ℕ, ◌<◌, ◌≤◌, Bool, true, false, if◌then◌else◌, slice_index, length, Option, Some, None, MatchOption};
 ghost use Rattle.std.specs.Option.{option_map_or};
 ghost use Rattle.lq_model.specs.Plan.{queue_in};
 ghost use Rattle.lq_model.specs.Steps.{queue_of_blocked};
@@ -40,7 +40,7 @@ pub fn dequeue<'a, D: TxDevice>(shared: &Shared<'a, D>, cpu: &mut Cpu<D>) -> Tak
     ensures at { position cpu.new ≡ after_dequeue result shared.now.infos.now }
     ensures fates { IsSettledSame cpu.old cpu.new }
     ensures taken { Dequeues result shared.now.infos.now (view cpu.old) (view cpu.new) }
-    ensures one { SeesOneQueue result shared.now.infos.now (view cpu.old) }
+    ensures one { SeesOneQueue result (view cpu.old) }
     ensures packet { IsTakenOf (setup shared.now) result }
 {
     if let Some(n) = requeued(cpu) {
@@ -95,7 +95,7 @@ fn dequeue_requeued<'a, D: TxDevice>(shared: &Shared<'a, D>, cpu: &mut Cpu<D>, n
     ensures at { position cpu.new ≡ after_dequeue result shared.now.infos.now }
     ensures fates { IsSettledSame cpu.old cpu.new }
     ensures taken { Dequeues result shared.now.infos.now (view cpu.old) (view cpu.new) }
-    ensures one { SeesOneQueue result shared.now.infos.now (view cpu.old) }
+    ensures one { SeesOneQueue result (view cpu.old) }
     ensures packet { IsTakenOf (setup shared.now) result }
 {
     let queue = queue_of(shared, n);
@@ -113,13 +113,14 @@ fn dequeue_open<'a, D: TxDevice>(shared: &Shared<'a, D>, cpu: &mut Cpu<D>) -> Ta
     requires at { position cpu.old ≡ Deq }
     requires serving { IsServing cpu.old }
     requires slot { (view cpu.old).holder.slot ≡ None }
+    requires one { shared.now.queues ≤ 1 }
     ensures kept { IsKept cpu.old cpu.new }
     ensures run { (view cpu.new).place.run ≡ (view cpu.old).place.run }
     ensures serving { IsServing cpu.new }
     ensures at { position cpu.new ≡ after_dequeue result shared.now.infos.now }
     ensures fates { IsSettledSame cpu.old cpu.new }
     ensures taken { Dequeues result shared.now.infos.now (view cpu.old) (view cpu.new) }
-    ensures one { SeesOneQueue result shared.now.infos.now (view cpu.old) }
+    ensures one { SeesOneQueue result (view cpu.old) }
     ensures packet { IsTakenOf (setup shared.now) result }
 {
     if shared.load_xoff(cpu, 0) != 0 {

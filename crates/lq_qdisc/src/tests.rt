@@ -37,6 +37,7 @@ fn plan(len: u32, bypass: bool, params: Params) -> StationPlan {
         max_len: len,
         bypass,
         params,
+        queues: 1,
     }
 }
 
@@ -79,6 +80,7 @@ fn table<'a, A: Abort>(
         .configure(&plan.params, infos.len())
         .expect(rt, "memory");
     let station = Station::new(0, device);
+    let plan = StationPlan { queues, ..plan };
     Shared::make(alloc, infos, 0, plan, queues, 2, station)
         .ok()
         .expect(rt, "memory")

@@ -46,7 +46,7 @@ pub fn transmit<'a, D: TxDevice, R: Wait>(
     ensures ready { IsReady cpu.new }
     ensures in_turn { slice_index (view cpu.old).turns (owner_in shared.now.infos.now n) ≡ 2 * rank_in shared.now.infos.now n → Transmits shared.now.infos.now shared.now.bypass n result (view cpu.old) (view cpu.new) }
     ensures first { slice_index (view cpu.old).turns (owner_in shared.now.infos.now n) ≡ 2 * rank_in shared.now.infos.now n → (view cpu.old).control.first ≡ true → (event : ℕ) → (result ≡ Refused event) ↔ (down_of (view cpu.old).trail ≡ Some event) }
-    ensures alone { shared.now.queues ≡ 1 → slice_index (view cpu.old).turns (owner_in shared.now.infos.now n) ≡ 2 * rank_in shared.now.infos.now n → (view cpu.old).place.raised ≡ false → Brings shared.now.infos.now (first_account (setup shared.now)) (brought_in shared.now.infos.now shared.now.bypass n) (solo (view cpu.old)) (solo (view cpu.new)) }
+    ensures alone { slice_index (view cpu.old).turns (owner_in shared.now.infos.now n) ≡ 2 * rank_in shared.now.infos.now n → (view cpu.old).place.raised ≡ false → Brings shared.now.infos.now (first_account (setup shared.now)) (brought_in shared.now.infos.now shared.now.bypass n) (solo (view cpu.old)) (solo (view cpu.new)) }
     ensures out_of_turn { slice_index (view cpu.old).turns (owner_in shared.now.infos.now n) ≢ 2 * rank_in shared.now.infos.now n → (result ≡ OutOfTurn (slice_index (view cpu.old).turns (owner_in shared.now.infos.now n))) × (view cpu.new ≡ view cpu.old) }
 {
     if let Err(found) = shared.take_turn(cpu, n) {

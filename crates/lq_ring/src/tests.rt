@@ -26,6 +26,7 @@ const PLAN: StationPlan = StationPlan {
     max_len: 2,
     bypass: false,
     params: PARAMS,
+    queues: 1,
 };
 
 /// Takes from the first two bands.

@@ -18,6 +18,6 @@ returns-clause-interrupts g c =
     ]
 
 pub returns-clause-alone : goal.returns-clause-alone
-returns-clause-alone g c = λ one.
+returns-clause-alone g c =
     let i = returns-clause-interrupts g c in
-    softirq_alone (setup c.args.shared.now) one c.args.shared.now.infos.now (view c.args.cpu.now) i.0 (view c.leave.new.cpu) c.requires.seat.2 c.requires.ready.1 c.requires.raised i.1 i.3
+    softirq_alone (setup c.args.shared.now) c.args.shared.now.infos.now (view c.args.cpu.now) i.0 (view c.leave.new.cpu) c.requires.seat.2 c.requires.ready.1 c.requires.raised i.1 i.3

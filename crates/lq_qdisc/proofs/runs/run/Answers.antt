@@ -6,7 +6,7 @@ use Rattle.lq_qdisc.specs.Runs.{Sends}
 use Rattle.lq_qdisc.proofs.TakeLemmas.{kept_then, seat_in}
 use Rattle.lq_qdisc.proofs.RunLemmas.{count, fates_then, laid_at_quota, sent_more, set_at_quota}
 use Rattle.lq_qdisc.specs.declared.answers.RunEnd.TheVariants.{Quota}
-use Rattle.lq_qdisc.proofs.AloneSteps.{runs_alone}
+use Rattle.lq_qdisc.proofs.AloneSteps.{accounts_slot, runs_alone}
 use Rattle.lq_qdisc.proofs.runs.run.Goals as goal
 
 pub returns-in-Some-clause-accepted : goal.returns-in-Some-clause-accepted
@@ -46,8 +46,8 @@ returns-in-Some-clause-fates g c = fates_then (view c.args.cpu.now) (view c.loop
 
 pub returns-in-Some-clause-alone : goal.returns-in-Some-clause-alone
 returns-in-Some-clause-alone g c =
-    let old = c.loop-sent.invariant in λ one sender active.
-    runs_alone (setup c.args.shared.now) one c.args.shared.now.infos.now (view c.args.cpu.now) c.requires.seat.2 sender active (record { end = c.in-Some.end; sent = c.loop-sent.sent }) (view c.restart.new.cpu)
+    let old = c.loop-sent.invariant in λ knows sender active.
+    runs_alone (setup c.args.shared.now) c.args.shared.now.infos.now (view c.args.cpu.now) c.requires.seat.2 sender active (λ other. accounts_slot (view c.args.cpu.now) (knows other)) (record { end = c.in-Some.end; sent = c.loop-sent.sent }) (view c.restart.new.cpu)
     (record {
       last = view c.loop-sent.cpu;
       sent = old.sent;
@@ -60,8 +60,8 @@ returns-in-Some-clause-alone g c =
 pub returns-clause-alone : goal.returns-clause-alone
 returns-clause-alone g c =
     let old = c.loop-sent.invariant in let m = c.loop-sent.cpu in
-    let all : c.loop-sent.sent ≡ 64 = omega arith in λ one sender active.
-    runs_alone (setup c.args.shared.now) one c.args.shared.now.infos.now (view c.args.cpu.now) c.requires.seat.2 sender active (record { end = Quota; sent = 64 }) (view c.set_missed.new.cpu)
+    let all : c.loop-sent.sent ≡ 64 = omega arith in λ knows sender active.
+    runs_alone (setup c.args.shared.now) c.args.shared.now.infos.now (view c.args.cpu.now) c.requires.seat.2 sender active (λ other. accounts_slot (view c.args.cpu.now) (knows other)) (record { end = Quota; sent = 64 }) (view c.set_missed.new.cpu)
     (record {
       last = view m;
       sent = subst (λ (k : ℕ). Sends k c.args.shared.now.infos.now (view c.args.cpu.now) (view m)) all old.sent;

@@ -10,8 +10,8 @@ use Rattle.lq_qdisc.proofs.AloneCalls.{transmit_alone}
 use Rattle.lq_qdisc.proofs.transmits.transmit.Goals as goal
 
 pub returns-clause-alone : goal.returns-clause-alone
-returns-clause-alone g c = λ one turn low.
-    transmit_alone (setup c.args.shared.now) one c.args.shared.now.infos.now c.args.n c.args.shared.now.bypass c.send-sending.result (view c.args.cpu.now) (view c.give_turn.new.cpu) c.requires.seat.2
+returns-clause-alone g c = λ turn low.
+    transmit_alone (setup c.args.shared.now) c.args.shared.now.infos.now c.args.n c.args.shared.now.bypass c.send-sending.result (view c.args.cpu.now) (view c.give_turn.new.cpu) c.requires.seat.2
     (ap (λ (k : Setup). k.bypass) c.requires.seat.2) (view c.send-sending.new.cpu)
     (subst (λ (v : View). Goes c.args.shared.now.infos.now c.args.shared.now.bypass c.args.n c.send-sending.result v (view c.send-sending.new.cpu)) (c.enter.ensures.view ∙ ap (λ (v : View). entering v) c.in_default.ensures.turn.1) c.send-sending.ensures.goes)
     (ap (λ (v : View). solo v) c.give_turn.ensures.given ∙ c.leave.ensures.step) low
