@@ -1,5 +1,5 @@
 -- What control's calls leave of a station with one sender.
-use Rattle.std.proofs.Common.{◌≡◌, ℕ, zero, suc, Bool, true, false, not, [], ◌∷◌, ◌++◌, List, Option, IsSome, map, drop, take, option_to_list, refl, sym, ap, ap₂, ◌∙◌, subst, arith, ◌≤◌}
+use Rattle.std.proofs.Common.{◌≡◌, ℕ, zero, suc, Bool, true, false, not, [], ◌∷◌, ◌++◌, List, Option, IsSome, map, drop, take, option_to_list, refl, sym, ap, ap₂, ◌∙◌, subst, arith, inl, ◌<◌, ◌≤◌}
 use Rattle.std.specs.Prelude.{is_some, slice_index}
 use Rattle.std.proofs.lemmas.Bool.{true≢false}
 use Rattle.std.proofs.lemmas.List.{length-map}
@@ -32,17 +32,16 @@ pub up_alone : (infos : List Info) (start : Account) (event : ℕ) (plan : Plan)
 up_alone infos start event plan v h = (
   record {
     sender = record {
-      queues = h.sender.queues;
       sole = h.sender.sole;
       tells = h.sender.tells;
-      one = record { queues = h.sender.one.queues; known = h.sender.one.known; hand = h.sender.one.hand; busies = h.sender.one.busies };
+      station = record { queues = h.sender.station.queues; known = h.sender.station.known; hand = h.sender.station.hand; busies = h.sender.station.busies };
     };
     rests = record {
       unlocked = h.rests.unlocked;
       scheduled = h.rests.scheduled;
       missed = h.rests.missed;
       empty = h.rests.empty;
-      calm = h.rests.calm;
+      waits = h.rests.waits;
       shut = h.rests.shut;
       off = λ e. absurd (true≢false (sym e));
     };
@@ -60,17 +59,16 @@ pub down_alone : (infos : List Info) (start : Account) (event : ℕ) (plan : Pla
 down_alone infos start event plan v h = (
   record {
     sender = record {
-      queues = h.sender.queues;
       sole = h.sender.sole;
       tells = h.sender.tells;
-      one = record { queues = h.sender.one.queues; known = h.sender.one.known; hand = h.sender.one.hand; busies = h.sender.one.busies };
+      station = record { queues = h.sender.station.queues; known = h.sender.station.known; hand = h.sender.station.hand; busies = h.sender.station.busies };
     };
     rests = record {
       unlocked = refl;
       scheduled = refl;
       missed = λ e. absurd (true≢false (sym e));
       empty = λ _. purge_empties (cause.Event event) (after (Down event) (account_in start v));
-      calm = λ _ _. refl;
+      waits = λ _ e. absurd (true≢false e);
       shut = λ e. absurd (true≢false (sym e));
       off = λ _. refl;
     };
@@ -127,17 +125,16 @@ pub resize_alone : (infos : List Info) (start : Account) (len event : ℕ) (plan
 resize_alone infos start len event plan v h = (
   record {
     sender = record {
-      queues = h.sender.queues;
       sole = h.sender.sole;
       tells = h.sender.tells;
-      one = record { queues = h.sender.one.queues; known = h.sender.one.known; hand = h.sender.one.hand; busies = h.sender.one.busies };
+      station = record { queues = h.sender.station.queues; known = h.sender.station.known; hand = h.sender.station.hand; busies = h.sender.station.busies };
     };
     rests = record {
       unlocked = h.rests.unlocked;
       scheduled = h.rests.scheduled;
       missed = h.rests.missed;
       empty = λ e. resize_empty len event (account_in start v) (h.rests.empty e);
-      calm = h.rests.calm;
+      waits = h.rests.waits;
       shut = h.rests.shut;
       off = h.rests.off;
     };
@@ -172,13 +169,12 @@ pub swap_alone : (infos : List Info) (start : Account) (event unit : ℕ) (devic
 swap_alone infos start event unit device v plan params is_unit told h = (
   record {
     sender = record {
-      queues = h.sender.queues;
       sole = h.sender.sole;
       tells = ap (λ (o : Option Telling). is_some o) told;
-      one = record {
-        queues = length-map (account_in start v).stops (λ (_ : ℕ). 0) ∙ h.sender.one.queues;
-        known = subst (λ (n : ℕ). n ≤ 2) (sym (zeros (account_in start v).stops)) (omega arith);
-        hand = h.sender.one.hand;
+      station = record {
+        queues = subst (λ (n : ℕ). 0 < n) (sym (length-map (account_in start v).stops (λ (_ : ℕ). 0))) h.sender.station.queues;
+        known = inl (zeros (account_in start v).stops);
+        hand = h.sender.station.hand;
         busies = subst (λ (o : Option Telling). (telling_of o).busies ≤ (telling_of o).params.busy_limit) (sym told) (omega arith);
       };
     };
@@ -187,7 +183,7 @@ swap_alone infos start event unit device v plan params is_unit told h = (
       scheduled = refl;
       missed = λ e. absurd (true≢false (sym e));
       empty = λ _. purge_empties (cause.Event event) (after (Down event) (account_in start v));
-      calm = λ _ _. refl;
+      waits = λ _ e. absurd (true≢false e);
       shut = λ e. absurd (true≢false (sym e));
       off = λ _. refl;
     };
@@ -195,9 +191,10 @@ swap_alone infos start event unit device v plan params is_unit told h = (
   λ j. record (changed plan event (kind.Swap params) (running start v)) { account = after Up (after (Swap (sym is_unit j)) (after (Purge (cause.Event event)) (after (Down event) (account_in start v)))); device = telling_of (told j) },
 )
   where
-    zeros : (xs : List ℕ) → slice_index (map (λ (_ : ℕ). 0) xs) 0 ≡ 0
-    zeros [] = refl
-    zeros (x ∷ xs) = refl
+    zeros : (xs : List ℕ) (queue : ℕ) → slice_index (map (λ (_ : ℕ). 0) xs) queue ≤ 1
+    zeros [] queue = omega arith
+    zeros (x ∷ xs) zero = omega arith
+    zeros (x ∷ xs) (suc queue) = zeros xs queue
 
 -- AT A CALL'S END
 

@@ -5,4 +5,6 @@ pub mod Sole
 pub mod FinishLemmas
 pub mod FinishSteps
 pub mod Alone
+-- the end of a station of the run of one sender
+pub mod Rounds
 pub mod EndingLemmas

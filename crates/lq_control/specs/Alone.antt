@@ -1,5 +1,5 @@
--- What the calls of control do of a seat that has the table alone, where there is one queue and the device tells its rule: the
--- plan's events in the run of one sender.
+-- What the calls of control do of a seat that has the table alone, where the device tells its rule: the plan's events in the run of
+-- one sender.
 use Rattle.std.specs.Prelude.{◌≡◌, ℕ, false, List, Some}
 use Rattle.lq_model.specs.Account.{Account}
 use Rattle.lq_model.specs.Alone.{changed, new_device}

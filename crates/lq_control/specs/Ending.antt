@@ -1,5 +1,4 @@
--- What the end of a station does where a seat has the table alone, with one queue and a device that tells: the end of the run of
--- one sender.
+-- What the end of a station does where a seat has the table alone, over a device that tells: the end of the run of one sender.
 use Rattle.std.specs.Prelude.{◌≡◌, ℕ, ◌||◌, false, List, None}
 use Rattle.lq_model.specs.Account.{Account, Purge, is_hung}
 use Rattle.lq_model.specs.Alone.{RunningStation, finished}

@@ -31,7 +31,7 @@ pub fn up<'a, D: TxDevice>(shared: &Shared<'a, D>, cpu: &mut Cpu<D>)
     ensures same { IsElseSame cpu.old cpu.new }
     ensures opened { view cpu.new ≡ opening (view cpu.old) }
     ensures step { solo (view cpu.new) ≡ heard Up (solo (view cpu.old)) }
-    ensures alone { shared.now.queues ≡ 1 → (event : ℕ) → DoesEvent shared.now.infos.now (first_account (setup shared.now)) event kind.Up (solo (view cpu.old)) (solo (view cpu.new)) }
+    ensures alone { (event : ℕ) → DoesEvent shared.now.infos.now (first_account (setup shared.now)) event kind.Up (solo (view cpu.old)) (solo (view cpu.new)) }
 {
     shared.begin_control(cpu);
     shared.clear_deactivated(cpu);
@@ -56,7 +56,7 @@ pub fn down<'a, D: TxDevice, R: Wait>(
     ensures purged { (lost : List ℕ) × Stores (fate.Purged (cause.Event event)) lost (view cpu.old) (view cpu.new) × (result ≡ length lost) × (IsSole (view cpu.old) → lost ≡ held (account_of (view cpu.old))) }
     ensures raised { (view cpu.new).place.raised ≡ false }
     ensures clear { IsSole (view cpu.new) → (view cpu.new).whole.qdisc.sched ≡ false }
-    ensures alone { shared.now.queues ≡ 1 → DoesEvent shared.now.infos.now (first_account (setup shared.now)) event kind.Down (solo (view cpu.old)) (solo (view cpu.new)) }
+    ensures alone { DoesEvent shared.now.infos.now (first_account (setup shared.now)) event kind.Down (solo (view cpu.old)) (solo (view cpu.new)) }
 {
     let purged = deactivate(rt, shared, cpu, event);
     wait_until_clear(rt, shared, cpu);

@@ -27,7 +27,7 @@ pub fn drain<'a, D: TxDevice, R: Wait>(rt: &R, shared: &Shared<'a, D>, cpu: &mut
     ensures served { IsServed (view cpu.old) (view cpu.new) }
     ensures at { (position cpu.new ≡ Idle) × IsReady cpu.new }
     ensures raised { (view cpu.new).place.raised ≡ false }
-    ensures alone { shared.now.queues ≡ 1 → Does shared.now.infos.now (first_account (setup shared.now)) (served shared.now.infos.now) (solo (view cpu.old)) (solo (view cpu.new)) }
+    ensures alone { Does shared.now.infos.now (first_account (setup shared.now)) (served shared.now.infos.now) (solo (view cpu.old)) (solo (view cpu.new)) }
 {
     for _ in rt.forever() {
         if !cpu.raised() {

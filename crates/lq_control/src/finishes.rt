@@ -149,7 +149,7 @@ fn serve_to_end<'a, D: TxDevice, R: Wait>(rt: &R, shared: &Shared<'a, D>, cpu: &
     ensures fates { KeepsFates (view cpu.old) (view cpu.new) }
     ensures kept { AreKept (setup shared.now) (view cpu.new) }
     ensures shows { Shows (if result then Hung else Ended) (view cpu.new) }
-    ensures alone { shared.now.queues ≡ 1 → IsAlone shared.now.infos.now (first_account (setup shared.now)) (solo (view cpu.old))
+    ensures alone { IsAlone shared.now.infos.now (first_account (setup shared.now)) (solo (view cpu.old))
         → IsEndedAlike shared.now.infos.now (first_account (setup shared.now)) (solo (view cpu.old)) (solo (view cpu.new)) }
 {
     let backoff = Backoff::new();
@@ -231,7 +231,7 @@ pub fn finish<'a, D: TxDevice, R: Wait>(rt: &R, shared: &Shared<'a, D>, cpu: &mu
     ensures hung { ArePurgesHung (view cpu.old) (view cpu.new) }
     ensures fates { KeepsFates (view cpu.old) (view cpu.new) }
     ensures finished { IsFinished (setup shared.now) (view cpu.new) }
-    ensures alone { shared.now.queues ≡ 1 → AreAllDone (setup shared.now) (view cpu.old).turns
+    ensures alone { AreAllDone (setup shared.now) (view cpu.old).turns
         → Finishes shared.now.infos.now (first_account (setup shared.now)) (solo (view cpu.old)) (solo (view cpu.new)) }
 {
     send_all_left(rt, shared, cpu);

@@ -43,7 +43,7 @@ pub fn resize<'a, D: TxDevice, R: Wait>(
     ensures trail { (view cpu.new).trail ≡ Resize len event ∷ (view cpu.old).trail }
     ensures shrunk { (lost : List ℕ) × ((view cpu.new).settled ≡ fates_onto (fate.Shrunk event) lost (view cpu.old).settled) × (result ≡ length lost) × (IsSole (view cpu.old) → lost ≡ all_dropped len (account_of (view cpu.old))) }
     ensures sole { IsSole (view cpu.old) → solo (view cpu.new) ≡ ended (heard (Resize len event) (locked_to true (solo (view cpu.old)))) }
-    ensures alone { shared.now.queues ≡ 1 → DoesEvent shared.now.infos.now (first_account (setup shared.now)) event (kind.Resize len) (solo (view cpu.old)) (solo (view cpu.new)) }
+    ensures alone { DoesEvent shared.now.infos.now (first_account (setup shared.now)) event (kind.Resize len) (solo (view cpu.old)) (solo (view cpu.new)) }
 {
     shared.begin_control(cpu);
     take_lock(rt, shared, cpu);
@@ -93,7 +93,7 @@ pub fn tx_queue_len<'a, D: TxDevice, R: Wait>(
     ensures at { (position cpu.new ≡ Idle) × IsReady cpu.new × IsIn Active (view cpu.new) }
     ensures trail { (view cpu.new).trail ≡ Up ∷ Resize len event ∷ Purge (cause.Event event) ∷ Down event ∷ (view cpu.old).trail }
     ensures purged { (lost : List ℕ) × Stores (fate.Purged (cause.Event event)) lost (view cpu.old) (view cpu.new) × (result ≡ length lost) × (IsSole (view cpu.old) → lost ≡ held (account_of (view cpu.old))) }
-    ensures alone { shared.now.queues ≡ 1 → DoesEvent shared.now.infos.now (first_account (setup shared.now)) event (kind.TxQueueLen len) (solo (view cpu.old)) (solo (view cpu.new)) }
+    ensures alone { DoesEvent shared.now.infos.now (first_account (setup shared.now)) event (kind.TxQueueLen len) (solo (view cpu.old)) (solo (view cpu.new)) }
 {
     let purged = deactivate(rt, shared, cpu, event);
     wait_until_clear(rt, shared, cpu);

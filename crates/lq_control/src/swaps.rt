@@ -104,7 +104,7 @@ pub fn swap<'a, D: TxDevice, R: Wait>(
     ensures gone { (view cpu.new).control.gone ≡ (latest_unit shared.now.station (units_of (view cpu.old).trail), (D.state result).accepted) ∷ (view cpu.old).control.gone }
     ensures served { HasServed shared.now.infos.now shared.now.station (view cpu.old).control.origin (D.state result) }
     ensures came { (view cpu.new).control.origin ≡ D.state device }
-    ensures alone { shared.now.queues ≡ 1 → DoesSwap shared.now.infos.now (first_account (setup shared.now)) event unit (D.state device) (solo (view cpu.old)) (solo (view cpu.new)) }
+    ensures alone { DoesSwap shared.now.infos.now (first_account (setup shared.now)) event unit (D.state device) (solo (view cpu.old)) (solo (view cpu.new)) }
 {
     deactivate(rt, shared, cpu, event);
     wait_until_clear(rt, shared, cpu);

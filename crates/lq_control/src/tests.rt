@@ -85,6 +85,7 @@ fn table<'a, A: Abort>(
         max_len: 8,
         bypass: true,
         params,
+        queues: 1,
     };
     Shared::make(alloc, infos, 0, plan, 1, 2, station)
         .ok()

@@ -8,7 +8,7 @@ use Rattle.lq_control.proofs.Alone.{down_alone, downed, downed_at, stepped_at}
 use Rattle.lq_control.proofs.activates.down.Goals as goal
 
 pub returns-clause-alone : goal.returns-clause-alone
-returns-clause-alone g c = λ one plan h.
+returns-clause-alone g c = λ plan h.
     let infos = c.args.shared.now.infos.now in let start = first_account (setup c.args.shared.now) in let v = solo (view c.args.cpu.now) in let event = c.args.event in
     let is = ap solo c.end_control.ensures.view
     ∙ downed_at (setup c.args.shared.now) event (view c.args.cpu.now) (view c.deactivate-purged.new.cpu) (view c.wait_until_clear.new.cpu) c.deactivate-purged.ensures.same.1.share c.requires.seat.2 h.sender.sole (c.deactivate-purged.ensures.sole h.sender.sole) c.wait_until_clear.ensures.off in

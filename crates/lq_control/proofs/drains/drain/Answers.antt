@@ -17,7 +17,7 @@ loop-init g c = record {
   at = c.requires.at.0;
   ready = c.requires.at.1;
   served = served_none (view c.args.cpu.now) (view c.args.cpu.now) refl;
-  alone = λ one h. (h, refl);
+  alone = λ h. (h, refl);
 }
 
 pub loop-preserved : goal.loop-preserved
@@ -36,10 +36,10 @@ loop-preserved g c =
       at = c.softirq.ensures.at;
       ready = c.softirq.ensures.ready;
       served = served_then (view c.args.cpu.now) (view c.loop.cpu) (view c.softirq.new.cpu) i.served one;
-      alone = λ one_queue h. let before = i.alone one_queue h in let now = c.softirq.ensures.alone one_queue before.0 in (now.0, now.1 ∙ before.1);
+      alone = λ h. let before = i.alone h in let now = c.softirq.ensures.alone before.0 in (now.0, now.1 ∙ before.1);
     }
 
 pub returns-then-not-raised-clause-alone : goal.returns-then-not-raised-clause-alone
-returns-then-not-raised-clause-alone g c = λ one h.
-    let now = c.loop.invariant.alone one h in
+returns-then-not-raised-clause-alone g c = λ h.
+    let now = c.loop.invariant.alone h in
     (now.0, sym (rests_served c.args.shared.now.infos.now (first_account (setup c.args.shared.now)) (solo (view c.loop.cpu)) now.0 (sym c.if-not-raised.ensures)) ∙ now.1)

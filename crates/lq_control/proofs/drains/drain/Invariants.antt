@@ -17,5 +17,5 @@ invariant-loop g l = record {
   at : position l.cpu ≡ Idle;
   ready : IsReady l.cpu;
   served : IsServed (view l.fn.cpu) (view l.cpu);
-  alone : l.fn.shared.queues ≡ 1 → Brings l.fn.shared.infos.now (first_account (setup l.fn.shared)) (λ s. s) (solo (view l.fn.cpu)) (solo (view l.cpu));
+  alone : Brings l.fn.shared.infos.now (first_account (setup l.fn.shared)) (λ s. s) (solo (view l.fn.cpu)) (solo (view l.cpu));
 }

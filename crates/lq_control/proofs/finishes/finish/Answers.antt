@@ -1,4 +1,4 @@
-use Rattle.std.proofs.Common.{◌≡◌, ◌<◌, Bool, List, [], ⊎_elim, inl, inr, refl, sym, ap, ◌∙◌, subst, slice_index}
+use Rattle.std.proofs.Common.{◌≡◌, ℕ, ◌<◌, Bool, List, [], ⊎_elim, inl, inr, refl, sym, ap, ◌∙◌, subst, slice_index}
 use Rattle.std.specs.Prelude.{is_some, if◌then◌else◌}
 use Rattle.lq_model.specs.Account.{Account, held}
 use Rattle.lq_model.specs.declared.fate.Cause.TheVariants as cause
@@ -8,11 +8,11 @@ use Rattle.lq_table.specs.Views.{View, Setup, SharePart, first_account}
 use Rattle.lq_table.specs.Sees.{view, setup}
 use Rattle.lq_table.specs.Solo.{Solo, account_of, solo}
 use Rattle.lq_qdisc.specs.Alone.{IsAlone, account_in}
-use Rattle.lq_qdisc.proofs.AloneSteps.{account_at}
+use Rattle.lq_qdisc.proofs.AloneSteps.{account_at, count_of}
 use Rattle.lq_control.specs.declared.finishes.Seen.TheVariants.{Hung, Ended}
 use Rattle.lq_control.specs.Ending.{IsEndedAlike, IsFinishedAlone}
-use Rattle.lq_control.specs.Finish.{AreAllDone, Hangs, IsOver, IsFinished, Shows}
-use Rattle.lq_control.proofs.EndingLemmas.{over_finishes, purged_finishes}
+use Rattle.lq_control.specs.Finish.{AreAllDone, AreStops, Hangs, IsOver, IsFinished, Shows}
+use Rattle.lq_control.proofs.EndingLemmas.{AreValues, over_finishes, purged_finishes}
 use Rattle.lq_control.proofs.FinishLemmas.{all_done, purges_hung, keeps_then, fates_before}
 use Rattle.lq_control.proofs.FinishSteps.{finished, finished_purged, made_kept}
 use Rattle.lq_control.proofs.finishes.finish.Given as given
@@ -25,6 +25,11 @@ module _ (k : Setup) (infos : List Info) (v0 v1 v2 : View) (about : v2.share.abo
 
   is : account_in start (solo v2) ≡ account_of v2
   is = account_at k v2 about
+
+  values_are : (value : ℕ) → AreStops value v2 → AreValues value (account_in start (solo v2)).stops
+  values_are value stops queue below =
+      ap (λ (a : Account). slice_index a.stops queue) is
+      ∙ stops queue (subst (λ (n : ℕ). queue < n) (count_of k (solo v2) ∙ ap (λ (x : Setup). x.queues) (sym about)) below)
 
   alike_from : v1 ≡ v0 → (IsAlone infos start (solo v1) → IsEndedAlike infos start (solo v1) (solo v2)) → IsAlone infos start (solo v0) → IsEndedAlike infos start (solo v0) (solo v2)
   alike_from same alike h = subst (λ (x : View). IsEndedAlike infos start (solo x) (solo v2)) same (alike (subst (λ (x : View). IsAlone infos start (solo x)) (sym same) h))
@@ -79,12 +84,11 @@ returns-then-serve_to_end-clause-finished g c = let v2 = view c.serve_to_end.new
     finished_purged (setup c.args.shared.now) v2 (made_kept (setup c.args.shared.now) (view c.args.cpu.now) v2 (share g c) c.requires.made) (turns g c) (cause.Hung v2.whole.state.station.unit) (view c.purge_hung.new.cpu) c.serve_to_end.ensures.kept c.purge_hung.ensures.account
 
 pub returns-then-serve_to_end-clause-alone : goal.returns-then-serve_to_end-clause-alone
-returns-then-serve_to_end-clause-alone g c = λ one done h.
+returns-then-serve_to_end-clause-alone g c = λ done h.
     let k = setup c.args.shared.now in let infos = c.args.shared.now.infos.now in let v0 = view c.args.cpu.now in let v1 = view c.send_all_left.new.cpu in let v2 = view c.serve_to_end.new.cpu in
     let about : v2.share.about ≡ k = ap (λ (x : SharePart). x.about) (share g c) ∙ c.requires.seat.2 in let same = is k infos v0 v1 v2 about in
-    let some : 0 < v2.share.about.queues = subst (λ (x : Setup). 0 < x.queues) (sym about) c.args.shared.now.sized.4 in
-    purged_finishes infos (first_account k) (solo v0) (solo v2) (alike_from k infos v0 v1 v2 about (c.send_all_left.ensures.done done) (c.serve_to_end.ensures.alone one) h) v2.whole.state.station.unit (solo (view c.purge_hung.new.cpu)) c.serve_to_end.ensures.at.2
-    (ap (λ (a : Account). a.down) same ∙ (shows g c).up) (ap (λ (a : Account). slice_index a.stops 0) same ∙ (shows g c).stops 0 some) (ap (λ (a : Account). a.unit) same ∙ (shows g c).unit) c.purge_hung.ensures.step
+    purged_finishes infos (first_account k) (solo v0) (solo v2) (alike_from k infos v0 v1 v2 about (c.send_all_left.ensures.done done) c.serve_to_end.ensures.alone h) v2.whole.state.station.unit (solo (view c.purge_hung.new.cpu)) c.serve_to_end.ensures.at.2
+    (ap (λ (a : Account). a.down) same ∙ (shows g c).up) (values_are k infos v0 v1 v2 about 2 (shows g c).stops) (ap (λ (a : Account). a.unit) same ∙ (shows g c).unit) c.purge_hung.ensures.step
 
 -- where it doesn't
 module _ (g : given.Over) (c : goal.After-end_control g) where
@@ -136,10 +140,9 @@ returns-clause-finished g c = let k = setup c.args.shared.now in let v2 = view c
     subst (λ (x : View). IsFinished k x) (sym c.end_control.ensures.view) (record { nothing_held = f.nothing_held; hand_empty = f.hand_empty; decided = f.decided })
 
 pub returns-clause-alone : goal.returns-clause-alone
-returns-clause-alone g c = λ one done h.
+returns-clause-alone g c = λ done h.
     let k = setup c.args.shared.now in let infos = c.args.shared.now.infos.now in let v0 = view c.args.cpu.now in let v1 = view c.send_all_left.new.cpu in let v2 = view c.serve_to_end.new.cpu in
     let about : v2.share.about ≡ k = ap (λ (x : SharePart). x.about) (share_same g c) ∙ c.requires.seat.2 in let same = is k infos v0 v1 v2 about in
-    let some : 0 < v2.share.about.queues = subst (λ (x : Setup). 0 < x.queues) (sym about) c.args.shared.now.sized.4 in
     subst (λ (x : Solo). IsFinishedAlone infos (first_account k) (solo v0) x) (sym (ap solo c.end_control.ensures.view))
-    (over_finishes infos (first_account k) (solo v0) (solo v2) (alike_from k infos v0 v1 v2 about (c.send_all_left.ensures.done done) (c.serve_to_end.ensures.alone one) h) (ap held same ∙ (over g c).nothing_held)
-    (⊎_elim (λ down. inl (ap (λ (a : Account). is_some a.down) same ∙ down)) (λ opens. inr (ap (λ (a : Account). slice_index a.stops 0) same ∙ opens 0 some)) (over g c).over))
+    (over_finishes infos (first_account k) (solo v0) (solo v2) (alike_from k infos v0 v1 v2 about (c.send_all_left.ensures.done done) c.serve_to_end.ensures.alone h) (ap held same ∙ (over g c).nothing_held)
+    (⊎_elim (λ down. inl (ap (λ (a : Account). is_some a.down) same ∙ down)) (λ opens. inr (values_are k infos v0 v1 v2 about 0 opens)) (over g c).over))

@@ -25,7 +25,7 @@ loop-init g c = let v = view c.args.cpu.now in record {
   ready = c.requires.at.3;
   low = c.requires.at.2;
   served = served_none v v refl;
-  alike = λ one h. alike_same c.args.shared.now.infos.now (first_account (setup c.args.shared.now)) (solo v) h;
+  alike = λ h. alike_same c.args.shared.now.infos.now (first_account (setup c.args.shared.now)) (solo v) h;
 }
 
 pub irq-requires-clause-seat : goal.irq-requires-clause-seat
@@ -68,7 +68,7 @@ loop-preserved g c =
       ready = d.at.1;
       low = d.raised;
       served = served_then v0 v1 v6 i.served more;
-      alike = λ one h. alike_further infos start (solo v0) (solo v4) (subst (λ (s : Solo). IsEndedAlike infos start (solo v0) s) (sym same4) (i.alike one h)) (ap (λ (s : Solo). s.raised) same4 ∙ i.low) (solo v5) (solo v6) active (n.alone one) (d.alone one);
+      alike = λ h. alike_further infos start (solo v0) (solo v4) (subst (λ (s : Solo). IsEndedAlike infos start (solo v0) s) (sym same4) (i.alike h)) (ap (λ (s : Solo). s.raised) same4 ∙ i.low) (solo v5) (solo v6) active n.alone d.alone;
     }
 
 pub returns-in-Ended-clause-fates : goal.returns-in-Ended-clause-fates
@@ -77,9 +77,9 @@ returns-in-Ended-clause-fates g c =
     (served_then v0 v1 v3 i.served (served_then v1 v2 v3 (served_begun v1 v2 c.begin_control.ensures.view) (served_looked v2 v3 c.look.ensures.same.1))).fates
 
 pub returns-in-Ended-clause-alone : goal.returns-in-Ended-clause-alone
-returns-in-Ended-clause-alone g c = λ one h.
+returns-in-Ended-clause-alone g c = λ h.
     let infos = c.args.shared.now.infos.now in let start : Account = first_account (setup c.args.shared.now) in let v0 = view c.args.cpu.now in
-    subst (λ (s : Solo). IsEndedAlike infos start (solo v0) s) (sym (solo_looked (view c.loop.cpu) (view c.begin_control.new.cpu) (view c.look.new.cpu) c.begin_control.ensures.view c.look.ensures.same.1)) (c.loop.invariant.alike one h)
+    subst (λ (s : Solo). IsEndedAlike infos start (solo v0) s) (sym (solo_looked (view c.loop.cpu) (view c.begin_control.new.cpu) (view c.look.new.cpu) c.begin_control.ensures.view c.look.ensures.same.1)) (c.loop.invariant.alike h)
 
 pub returns-in-Hung-clause-fates : goal.returns-in-Hung-clause-fates
 returns-in-Hung-clause-fates g c =
@@ -87,6 +87,6 @@ returns-in-Hung-clause-fates g c =
     (served_then v0 v1 v3 i.served (served_then v1 v2 v3 (served_begun v1 v2 c.begin_control.ensures.view) (served_looked v2 v3 c.look.ensures.same.1))).fates
 
 pub returns-in-Hung-clause-alone : goal.returns-in-Hung-clause-alone
-returns-in-Hung-clause-alone g c = λ one h.
+returns-in-Hung-clause-alone g c = λ h.
     let infos = c.args.shared.now.infos.now in let start : Account = first_account (setup c.args.shared.now) in let v0 = view c.args.cpu.now in
-    subst (λ (s : Solo). IsEndedAlike infos start (solo v0) s) (sym (solo_looked (view c.loop.cpu) (view c.begin_control.new.cpu) (view c.look.new.cpu) c.begin_control.ensures.view c.look.ensures.same.1)) (c.loop.invariant.alike one h)
+    subst (λ (s : Solo). IsEndedAlike infos start (solo v0) s) (sym (solo_looked (view c.loop.cpu) (view c.begin_control.new.cpu) (view c.look.new.cpu) c.begin_control.ensures.view c.look.ensures.same.1)) (c.loop.invariant.alike h)

@@ -19,6 +19,6 @@ invariant-loop g l = record {
   ready : IsReady l.cpu;
   low : (view l.cpu).place.raised ≡ false;
   served : IsServed (view l.fn.cpu) (view l.cpu);
-  alike : l.shared.queues ≡ 1 → IsAlone l.shared.infos.now (first_account (setup l.shared)) (solo (view l.fn.cpu))
+  alike : IsAlone l.shared.infos.now (first_account (setup l.shared)) (solo (view l.fn.cpu))
       → IsEndedAlike l.shared.infos.now (first_account (setup l.shared)) (solo (view l.fn.cpu)) (solo (view l.cpu));
 }

@@ -35,7 +35,7 @@ returns-clause-sole g c sole =
     c.end_resize.ensures.sole (subst IsSole (sym (r.1 ∙ ap (having_resized c.args.len c.args.event (all_lost c.args.len r.0)) e2)) sole) ∙ ap ended (ap solo r.1 ∙ ap (heard (Resize c.args.len c.args.event)) s2)
 
 pub returns-clause-alone : goal.returns-clause-alone
-returns-clause-alone g c = λ one plan h.
+returns-clause-alone g c = λ plan h.
     let infos = c.args.shared.now.infos.now in let start = first_account (setup c.args.shared.now) in let v = solo (view c.args.cpu.now) in let len = c.args.len in let event = c.args.event in
     stepped_at infos start (changed plan event (kind.Resize len)) v (heard (Resize len event) v) (solo (view c.end_resize.new.cpu))
     (returns-clause-sole g c h.sender.sole ∙ resized_same infos start (Resize len event) v h) (resize_alone infos start len event plan v h)

@@ -10,7 +10,7 @@ use Rattle.lq_control.proofs.Alone.{downed, downed_at, relength_alone, stepped_a
 use Rattle.lq_control.proofs.resizes.tx_queue_len.Goals as goal
 
 pub returns-clause-alone : goal.returns-clause-alone
-returns-clause-alone g c = λ one plan h.
+returns-clause-alone g c = λ plan h.
     let infos = c.args.shared.now.infos.now in let start = first_account (setup c.args.shared.now) in let v = solo (view c.args.cpu.now) in let len = c.args.len in let event = c.args.event in
     let down = downed_at (setup c.args.shared.now) event (view c.args.cpu.now) (view c.deactivate-purged.new.cpu) (view c.wait_until_clear.new.cpu) c.deactivate-purged.ensures.same.1.share c.requires.seat.2 h.sender.sole (c.deactivate-purged.ensures.sole h.sender.sole) c.wait_until_clear.ensures.off in
     let is = ap solo c.end_control.ensures.view ∙ (ap solo c.clear_deactivated.ensures.view

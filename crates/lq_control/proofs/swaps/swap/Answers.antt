@@ -17,7 +17,7 @@ exchange_device-old-requires-clause-unit g c _ _ =
     (u.0, record { first = u.1.first; later = λ n h. u.1.later n (subst (λ (es : List Event). Contains (units_of es) n) trail h) })
 
 pub returns-clause-alone : goal.returns-clause-alone
-returns-clause-alone g c = λ one plan params is_unit told h.
+returns-clause-alone g c = λ plan params is_unit told h.
     let infos = c.args.shared.now.infos.now in let start = first_account (setup c.args.shared.now) in let v = solo (view c.args.cpu.now) in let unit = c.args.unit in let event = c.args.event in let device = (g.D.TxDevice.state c.args.device) in
     let down = downed_at (setup c.args.shared.now) event (view c.args.cpu.now) (view c.deactivate.new.cpu) (view c.wait_until_clear.new.cpu) c.deactivate.ensures.same.1.share c.requires.seat.2 h.sender.sole (c.deactivate.ensures.sole h.sender.sole) c.wait_until_clear.ensures.off in
     let is = ap solo c.end_control.ensures.view ∙ (ap solo c.clear_deactivated.ensures.view
