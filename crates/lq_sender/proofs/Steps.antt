@@ -107,7 +107,7 @@ event-served t plan event kind old mid new keeps turns trail alone drains = reco
   raised = drains.raised;
   turns = drains.turns ∙ turns;
   trail = drains.trail ∙ trail;
-  alone = λ one. done-served t.infos.now (first_account (setup t)) (changed plan event kind) (solo old) (solo mid) (solo new) (alone one) (drains.alone one);
+  alone = done-served t.infos.now (first_account (setup t)) (changed plan event kind) (solo old) (solo mid) (solo new) alone drains.alone;
 }
 
 pub keeps-control : {old new : View} → IsKept old new → KeepsDevice old new → Keeps old new

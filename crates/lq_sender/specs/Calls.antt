@@ -76,7 +76,7 @@ module _ {D : Type 0} where
 
   -- WAKES AND SOFT INTERRUPTS
 
-  -- the station's queue was woken
+  -- the station's queues were woken
   pub record Wakes (t : Shared D) (old new : View) : Type 0 where
     pub keeps : Keeps old new
     pub turns : new.turns ≡ old.turns
@@ -118,8 +118,8 @@ module _ {D : Type 0} where
     pub trail : EndsTrail old new
     pub is_finished : IsFinished (setup t) new
     pub hung : HasNoHang old.trail → PurgesHungOnly new
-    -- for a seat that has a table of one queue alone and whose device tells, the fates are those of the run of one sender
-    pub alone : t.queues ≡ 1 → HasAlone t old → (running_at t new).account.fates ≡ (finished t.infos.now (running_at t old)).account.fates
+    -- for a seat that has the table alone and whose device tells, the fates are those of the run of one sender
+    pub alone : HasAlone t old → (running_at t new).account.fates ≡ (finished t.infos.now (running_at t old)).account.fates
 
 -- what a sole first seat knows at the close: its events came in order, and the trail is theirs; the device is the one that came,
 -- and accepted what its unit sent, as did each that an exchange took away

@@ -52,7 +52,7 @@ module _ {D : Type 0} where
     pub phase : (view c).control.first ≡ true → IsIn (phase_of (view c).trail) (view c)
     pub units : (view c).control.first ≡ true → AreUnitsSmall t.station (units_of (view c).trail)
 
-  -- the seat has a table of one queue alone, and its device tells
+  -- the seat has the table alone, and its device tells
   abbrev pub HasAlone : Shared D → View → Type 0
   HasAlone t v = IsAlone t.infos.now (first_account (setup t)) (solo v)
 
@@ -60,7 +60,6 @@ module _ {D : Type 0} where
   abbrev pub running_at : Shared D → View → RunningStation
   running_at t v = running (first_account (setup t)) (solo v)
 
-  -- for a seat that has a table of one queue alone and whose device tells, the station is just as after this step of the run of
-  -- one sender
+  -- for a seat that has the table alone and whose device tells, the station is just as after this step of the run of one sender
   abbrev pub DoesAlone : Shared D → (RunningStation → RunningStation) → View → View → Type 0
-  DoesAlone t step old new = t.queues ≡ 1 → Does t.infos.now (first_account (setup t)) step (solo old) (solo new)
+  DoesAlone t step old new = Does t.infos.now (first_account (setup t)) step (solo old) (solo new)

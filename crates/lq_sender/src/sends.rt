@@ -63,7 +63,7 @@ pub fn do_event<'a, R: Wait, D: TxDevice>(
     drain(rt, shared, cpu);
 }
 
-/// Wakes the station's queue, as a driver's interrupt does.
+/// Wakes the station's queues, as a driver's interrupt does.
 pub fn wake<'a, D: TxDevice>(shared: &Shared<'a, D>, cpu: &mut Cpu<D>)
     requires seat { IsSeat shared.now cpu.old }
     ensures seat { IsSeat shared.now cpu.new }

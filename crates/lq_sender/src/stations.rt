@@ -28,13 +28,14 @@ pub fn open_station<'a, D: TxDevice>(
     device: D,
 ) -> Result<(Shared<'a, D>, Cpu<D>), D>
     requires few { length infos.now ≤ 1000000 }
-    requires infos { AreInfos infos.now number senders 1 }
+    requires infos { AreInfos infos.now number senders plan.queues }
     requires senders { 0 < senders }
     requires len { (0 < plan.len) × (plan.len ≤ plan.max_len) × (plan.max_len ≤ 65536) }
+    requires queues { (0 < plan.queues) × (plan.queues ≤ 8) }
     requires number { number < 256 }
     requires device { ((D.state device).accepted ≡ []) × ((D.state device).asked ≡ []) × ((D.state device).hung ≡ false) × (station_count infos.now number ≤ (D.state device).spare) }
-    ensures table { IfOk result (λ t. (t.0.infos.now ≡ infos.now) × (t.0.station ≡ number) × (t.0.plan ≡ plan) × (t.0.queues ≡ 1) × (t.0.senders ≡ senders)
-        × (setup t.0 ≡ record { infos = infos.now; senders = senders; max_len = plan.max_len; bypass = plan.bypass; station = number; len = plan.len; queues = 1 })) }
+    ensures table { IfOk result (λ t. (t.0.infos.now ≡ infos.now) × (t.0.station ≡ number) × (t.0.plan ≡ plan) × (t.0.queues ≡ plan.queues) × (t.0.senders ≡ senders)
+        × (setup t.0 ≡ record { infos = infos.now; senders = senders; max_len = plan.max_len; bypass = plan.bypass; station = number; len = plan.len; queues = plan.queues })) }
     ensures seat { IfOk result (λ t. IsSeat t.0 t.1) }
     ensures view { IfOk result (λ t. (view t.1 ≡ starting (setup t.0) (initial_station number (D.state device))) × (origin_of (view t.1) ≡ D.state device)) }
     ensures back { IfErr result (λ d. D.state d ≡ D.state device) }
@@ -44,7 +45,7 @@ pub fn open_station<'a, D: TxDevice>(
         infos,
         number,
         plan,
-        1,
+        plan.queues,
         senders,
         Station::new(number, device),
     ) {

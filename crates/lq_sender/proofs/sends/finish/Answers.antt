@@ -18,5 +18,5 @@ returns-clause-finishes g c =
       trail = ends-trail (setup t) c.finish-purged.result (view c.args.cpu.now) (view c.finish-purged.new.cpu) done e.ends;
       is_finished = e.finished;
       hung = λ none unit there. ⊎_elim (λ old. absurd (none unit old)) (λ now. (sym now.0, now.1)) (e.hung unit there);
-      alone = λ one alone. (e.alone one done alone).fates;
+      alone = λ alone. (e.alone done alone).fates;
     }

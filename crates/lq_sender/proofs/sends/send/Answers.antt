@@ -43,5 +43,5 @@ returns-clause-sends g c =
       turns = drains.turns ∙ sent.turns;
       came = λ first owner. subst (Came c.args.n old.trail) (sym (drains.trail ∙ sent.trail))
           (came-first t.infos.now c.args.n c.transmit-sending.result old (ap (λ k. owner_in k.infos c.args.n) c.requires.seat.seat.2 ∙ owner) sent.came (c.transmit-sending.ensures.first c.requires.turn first));
-      alone = λ one. brought-served t.infos.now (first_account (setup t)) (brought_in t.infos.now t.bypass c.args.n) (solo old) _ _ (c.transmit-sending.ensures.alone one c.requires.turn c.requires.raised) (drains.alone one);
+      alone = brought-served t.infos.now (first_account (setup t)) (brought_in t.infos.now t.bypass c.args.n) (solo old) _ _ (c.transmit-sending.ensures.alone c.requires.turn c.requires.raised) drains.alone;
     }
