@@ -1,25 +1,25 @@
--- A station at its end: its events are legal; and where the plan exchanges no device, its one unit has its number.
-use Rattle.std.proofs.Common.{◌≡◌, inl, inr, ℕ, zero, suc, ◌<◌, true, false, Bool, cond, List, [], ◌∷◌, length, take, Some, refl, ap, arith, sym, ◌∙◌, subst, All}
+-- A station at its end: its events are legal, and it has its latest unit.
+use Rattle.std.proofs.Common.{◌≡◌, inl, inr, ℕ, zero, suc, ◌<◌, true, Bool, cond, List, [], ◌∷◌, length, take, Some, refl, ap, arith, sym, ◌∙◌, subst}
 use Rattle.std.specs.Prelude.{slice_get, count_by}
 use Rattle.std.proofs.lemmas.List.Sums.{sum_by-cons}
 use Rattle.std.proofs.lemmas.Option.{same_Some, slice_get_within}
-use Rattle.lq_account.proofs.Law.{sound}
 use Rattle.lq_account.proofs.Trails.{are-planned}
 use Rattle.lq_account.specs.Progress.{start_of}
 use Rattle.lq_account.specs.Trail.{trail_of, IsTrail}
 use Rattle.lq_model.specs.Account.{after_all}
-use Rattle.lq_model.specs.Legal.{IsEventAt, IsLegal}
+use Rattle.lq_model.specs.Legal.{IsLegal}
 use Rattle.lq_model.specs.Plan.{Plan, is_swap, is_swap_kind, unit_count}
 use Rattle.lq_model.specs.Settled.{IsConfiguredWith, IsUnitOf}
 use Rattle.lq_model.specs.declared.device.Params.{Params}
 use Rattle.lq_model.specs.declared.fate.Info.{Info}
-use Rattle.lq_model.specs.declared.plan.EventKind.TheVariants as kind
-use Rattle.lq_model.specs.declared.plan.EventPlan.{EventPlan}
-use Rattle.lq_model.specs.declared.plan.StationPlan.{StationPlan}
+use Rattle.lq_table.proofs.UnitsKept.{unit_is_latest, units_trail}
+use Rattle.lq_table.specs.Rule.{latest_unit, units_of}
 use Rattle.lq_table.specs.Solo.{account_of}
 use Rattle.lq_table.specs.Views.{Setup, View, first_account}
 use Rattle.lq_lanes.specs.Ends.{EndsAt}
-use Rattle.lq_lanes.proofs.Seats.{all-at}
+use Rattle.lq_lanes.specs.Lanes.{setup_of}
+use Rattle.lq_lanes.specs.Units.{unit_at}
+use Rattle.lq_lanes.proofs.Turns.{event-there}
 
 -- A STATION AT ITS END
 
@@ -32,6 +32,13 @@ module _ (plan : Plan) (infos : List Info) (station : ℕ) (v : View) (ends : En
 
   pub legal-at : IsLegal plan infos station (start_of plan station) v.whole.state.past
   legal-at = record { comes = ends.sound.orderly.comes; planned = are-planned plan infos station (start_of plan station) refl v.whole.state.past ends.sound.orderly.find_nothing trail-at }
+
+  -- the station has its latest unit
+  pub unit-at-end : (account_of v).unit ≡ unit_at plan station (length plan.events)
+  unit-at-end =
+      ap (λ (k : Setup). (after_all (first_account k) v.whole.state.past).unit) ends.about
+      ∙ (unit_is_latest (setup_of plan infos station) v.whole.state.past
+      ∙ (ap (latest_unit station) (sym (units_trail infos v.whole.state.past) ∙ ap units_of ends.sound.trail) ∙ ends.unit))
 
 -- COUNTS
 
@@ -46,12 +53,6 @@ passes-before test (y ∷ ys) zero x there is =
 passes-before test (y ∷ ys) (suc i) x there is =
     let rest = passes-before test ys i x there is in let sum = sum_by-cons (λ z. cond (test z) 1 0) y ys in let sum' = sum_by-cons (λ z. cond (test z) 1 0) y (take i ys) in omega arith
 
-none-counted : {X : Type 0} (test : X → Bool) (xs : List X) → ((i : ℕ) (x : X) → slice_get xs i ≡ Some x → test x ≡ false) → count_by test xs ≡ 0
-none-counted test [] none = refl
-none-counted test (x ∷ xs) none =
-    let first : one_where (test x) ≡ 0 = ap one_where (none 0 x refl) in let sum = sum_by-cons (λ z. cond (test z) 1 0) x xs in
-    let rest = none-counted test xs (λ i y there. none (suc i) y there) in omega arith
-
 -- UNITS
 
 -- a unit that is configured is one of the plan
@@ -59,26 +60,7 @@ pub configured-below : (plan : Plan) (unit : ℕ) (params : Params) → IsConfig
 configured-below plan unit params (inl (s, there, is)) = let below = slice_get_within plan.stations unit s there in omega arith
 configured-below plan unit params (inr (station, event, at, brings)) = let passes = passes-before is_swap plan.events event at.0 at.1 (ap is_swap_kind at.3) in omega arith
 
--- WITHOUT EXCHANGES
-
-module _ (plan : Plan) (none : All (λ (event : EventPlan). is_swap event ≡ false) plan.events) where
-  no-swap-at : (station event : ℕ) (params : Params) → IsEventAt plan station event (kind.Swap params) → ⊥
-  no-swap-at station event params at =
-      let no = all-at (λ (e : EventPlan). is_swap e ≡ false) plan.events event at.0 none at.1 in let is = ap is_swap_kind at.3 in cc
-
-  pub units-are : unit_count plan ≡ length plan.stations
-  units-are = let zero_th = none-counted is_swap plan.events (λ i x there. all-at (λ (e : EventPlan). is_swap e ≡ false) plan.events i x none there) in omega arith
-
-  unit-of : (station unit : ℕ) → IsUnitOf plan station unit → unit ≡ station
-  unit-of station unit (inl same) = same
-  unit-of station unit (inr (event, params, at, brings)) = absurd (no-swap-at station event params at)
-
-  pub unit-is : (infos : List Info) (station : ℕ) (v : View) → station < length plan.stations → EndsAt plan infos station v → (account_of v).unit ≡ station
-  unit-is infos station v below ends =
-      ap (λ a. a.unit) (account-at plan infos station v ends)
-      ∙ unit-of station _ (sound plan infos station v.whole.state.past below (legal-at plan infos station v ends)).used.unit
-
-  -- a unit is configured as its station
-  pub configured-is : (unit : ℕ) (params : Params) → IsConfiguredWith plan unit params → (s : StationPlan) × (slice_get plan.stations unit ≡ Some s) × (s.params ≡ params)
-  configured-is unit params (inl found) = found
-  configured-is unit params (inr (station, event, at, brings)) = absurd (no-swap-at station event params at)
+-- a unit of a station is configured
+pub unit-configured : (plan : Plan) (station unit : ℕ) → station < length plan.stations → IsUnitOf plan station unit → (params : Params) × IsConfiguredWith plan unit params
+unit-configured plan station unit below (inl first) = let s = event-there plan.stations station below in (s.0.params, inl (s.0, ap (slice_get plan.stations) first ∙ s.1, refl))
+unit-configured plan station unit below (inr (event, params, at, is)) = (params, inr (station, event, at, is))

@@ -16,14 +16,16 @@ use Rattle.lq_model.specs.declared.fate.Info.{Info}
 use Rattle.lq_qdisc.specs.Alone.{IsAlone, running}
 use Rattle.lq_sender.specs.Calls.{EndsTrail, Finishes, IsClosedAs, IsSound}
 use Rattle.lq_sender.specs.Seat.{IsSeat, HasAlone}
+use Rattle.lq_table.specs.Rule.{latest_unit, units_of}
 use Rattle.lq_table.specs.Sees.{view, setup}
 use Rattle.lq_table.specs.Solo.{IsSole, account_of, is_heard, solo}
 use Rattle.lq_table.specs.Views.{Setup, View, first_account}
 use Rattle.lq_table.specs.declared.shared.Cpu.{Cpu}
 use Rattle.lq_table.specs.declared.shared.Shared.{Shared}
-use Rattle.lq_lanes.specs.Ends.{AllMayClose, ClosedState, FirstClosed, HaveFates, IsClosedStation, MayCloseAt, SameOrigins}
+use Rattle.lq_lanes.specs.Ends.{AllMayClose, ClosedState, FirstClosed, HaveFates, IsClosedStation, MayCloseAt}
 use Rattle.lq_lanes.specs.Joins.{IsTakenIn, Joined, JoinedAt, LaneJoined}
 use Rattle.lq_lanes.specs.Lanes.{AllDid, IsSendable, IsTableOf, Runs, setup_of}
+use Rattle.lq_lanes.specs.Units.{SameDevices, unit_at}
 use Rattle.lq_lanes.specs.Way.{IsOnWay}
 use Rattle.lq_lanes.proofs.Seats.{mapped-at}
 use Rattle.lq_lanes.proofs.Turns.{some-there}
@@ -55,15 +57,21 @@ module _ {D : Type 0} where
 
 -- the end of a trail
 ends-trail : (plan : Plan) (station : ℕ) (old new : View) → IsOnWay plan station (length plan.events) old.trail → EndsTrail old new
-    → IsTrail plan station new.trail × HaveCome plan station (length plan.events) new.trail
-ends-trail plan station old new way (inl same) = (subst (IsTrail plan station) (sym same) way.planned, subst (HaveCome plan station (length plan.events)) (sym same) way.come)
+    → IsTrail plan station new.trail × (HaveCome plan station (length plan.events) new.trail × (latest_unit station (units_of new.trail) ≡ unit_at plan station (length plan.events)))
+ends-trail plan station old new way (inl same) = (
+  subst (IsTrail plan station) (sym same) way.planned,
+  (subst (HaveCome plan station (length plan.events)) (sym same) way.come, ap (λ past. latest_unit station (units_of past)) same ∙ way.unit),
+)
 ends-trail plan station old new way (inr is) = (
   subst (IsTrail plan station) (sym is) (way.planned, record { planned = _; ahead = _; meets_down = _; no_hang = _ }),
-  subst (HaveCome plan station (length plan.events)) (sym is) (record {
-    resizes = way.come.resizes;
-    queue_lengths = way.come.queue_lengths;
-    swaps = λ e params below at. there-in (Purge (cause.Hung (account_of new).unit)) old.trail _ (way.come.swaps e params below at);
-  }),
+  (
+    subst (HaveCome plan station (length plan.events)) (sym is) (record {
+      resizes = way.come.resizes;
+      queue_lengths = way.come.queue_lengths;
+      swaps = λ e params below at. there-in (Purge (cause.Hung (account_of new).unit)) old.trail _ (way.come.swaps e params below at);
+    }),
+    ap (λ past. latest_unit station (units_of past)) is ∙ way.unit,
+  ),
 )
 
 -- looks that found a band empty changed no account
@@ -109,7 +117,8 @@ module _ {D : Type 0} where
             finished = subst (λ (k : Setup). IsFinished k (view c)) before.table.setup_is own.1.is_finished;
             hung = own.1.hung before.joined.way.no_hang;
             trail = trail.0;
-            come = trail.1;
+            come = trail.1.0;
+            unit = trail.1.1;
           };
         };
   }
@@ -117,10 +126,10 @@ module _ {D : Type 0} where
   pub may-finished : (plan : Plan) (infos : List Info) (j : ℕ) (t : Shared D) (c : Cpu D) → MayCloseAt plan infos j t c → IsFinished (setup t) (view c)
   may-finished plan infos j t c may = subst (λ (k : Setup). IsFinished k (view c)) (sym may.table.setup_is) may.may.finished
 
-  pub origins-did : (tables : List (Shared D)) (old new : List (Cpu D)) → length old ≡ length tables → AllDid Finishes tables old new → SameOrigins old new
-  origins-did tables old new same did = record {
+  pub devices-did : (tables : List (Shared D)) (old new : List (Cpu D)) → length old ≡ length tables → AllDid Finishes tables old new → SameDevices old new
+  devices-did tables old new same did = record {
     long = did.long;
-    each = λ j c c' at at'. let t = some-there tables old j c (sym same) at in (did.each j t.0 c c' t.1 at at').1.keeps.origin;
+    each = λ j c c' at at'. let t = some-there tables old j c (sym same) at in let keeps = (did.each j t.0 c c' t.1 at at').1.keeps in (keeps.origin, keeps.gone);
   }
 
   -- where the seats had the stations of the run of one sender, the fates are those of that run
@@ -137,7 +146,7 @@ module _ {D : Type 0} where
           let had : HasAlone t (view d) = subst (λ (k : Setup). IsAlone k.infos (first_account k) (solo (view d))) (sym table.setup_is) alone in
           let same : (running (start_of plan j) (solo (view c))).account.fates ≡ (finished infos (running (start_of plan j) (solo (view d)))).account.fates =
           subst (λ (k : Setup). (running (first_account k) (solo (view c))).account.fates ≡ (finished k.infos (running (first_account k) (solo (view d)))).account.fates) table.setup_is
-          (does.alone (ap (λ (k : Setup). k.queues) table.setup_is) had) in
+          (does.alone had) in
           ap (λ (k : Setup). (after_all (first_account k) (view c).whole.state.past).fates) (about-is plan infos j t c table seat)
           ∙ (ap (λ (a : Account). a.fates) (sym (heard-past (start_of plan j) (view c).whole.state.past)) ∙ same)
 
@@ -176,5 +185,6 @@ module _ {D : Type 0} where
       hung = sound.hung may.may.hung;
       trail = may.may.trail;
       come = may.may.come;
+      unit = may.may.unit;
     };
   }

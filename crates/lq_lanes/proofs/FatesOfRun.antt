@@ -17,7 +17,7 @@ use Rattle.lq_fates.proofs.SentLemmas.{count_is, sent_is}
 use Rattle.lq_model.specs.Account.{Account, Event, after_all, held}
 use Rattle.lq_model.specs.Alone.{alone, after_run, fate_in, new_stations, run_fates}
 use Rattle.lq_model.specs.Device.{DeviceState, Telling}
-use Rattle.lq_model.specs.Plan.{Plan, station_in, unit_count}
+use Rattle.lq_model.specs.Plan.{Plan, queues_at, station_in, unit_count}
 use Rattle.lq_model.specs.Sent.{sent_of}
 use Rattle.lq_model.specs.Settled.{IsSettled, IsSentList, IsUnitOf, HangsAsTold, IsConfiguredWith}
 use Rattle.lq_model.specs.declared.device.Params.{Params}
@@ -30,7 +30,7 @@ use Rattle.lq_table.specs.Solo.{account_of}
 use Rattle.lq_table.specs.Views.{View}
 use Rattle.lq_lanes.proofs.AtEnd.{account-at, configured-below, legal-at, trail-at}
 use Rattle.lq_lanes.proofs.Lists.{length-mapped}
-use Rattle.lq_lanes.proofs.Sending.{event-there}
+use Rattle.lq_lanes.proofs.Turns.{event-there}
 use Rattle.lq_lanes.specs.Ends.{RunEnds, UnitEnds}
 use Rattle.lq_lanes.specs.Fates.{AllTell, AreFatesOf, IsCallOfUnit, accepted_of}
 
@@ -106,7 +106,7 @@ module _ (plan : Plan) (infos : List Info) (before after : List DeviceState) (vi
         packet = is.within;
         of_station = subst (λ (s : ℕ). IsUnitOf plan s unit) (sym is.of_station) u.of_station;
         own_queue = is.own_queue;
-        one_of_its = subst (λ queue. queue < 1) (sym is.own_queue) (ends.first_queue call.packet is.within);
+        one_of_its = subst (λ queue. queue < queues_at plan.stations (station_in infos call.packet)) (sym is.own_queue) (ends.queues call.packet is.within);
       }) u.device.asked u.asked)
 
   -- a packet is purged as hung only by its station's latest unit, which hangs

@@ -3,6 +3,7 @@ use Rattle.std.proofs.Common.{◌≡◌, ℕ, ◌+◌, ◌<◌, List, [], ◌∷
 use Rattle.std.specs.Prelude.{slice_get, slice_index, slice_index_or}
 use Rattle.std.proofs.lemmas.Option.{same_Some, slice_get-get_or}
 use Rattle.lq_account.proofs.Lists.{get-push-cases}
+use Rattle.lq_model.specs.Device.{DeviceState}
 use Rattle.lq_model.specs.Plan.{Plan, station_in}
 use Rattle.lq_model.specs.Words.{IsWordOf}
 use Rattle.lq_model.specs.declared.fate.Cause.TheVariants as cause
@@ -17,7 +18,7 @@ use Rattle.lq_lanes.specs.Ends.{ClosedState, FatesRead, HasRun, IsClosedStation,
 use Rattle.lq_lanes.specs.Lanes.{IsSendable}
 use Rattle.lq_lanes.proofs.Lists.{length-mapped}
 use Rattle.lq_lanes.proofs.Seats.{mapped-at, read-at}
-use Rattle.lq_lanes.proofs.Sending.{event-there}
+use Rattle.lq_lanes.proofs.Turns.{event-there}
 use Rattle.lq_lanes.proofs.Sent.{station-is}
 use Rattle.lq_lanes.proofs.Starts.{of-plan}
 
@@ -28,7 +29,7 @@ pub fate-in : (plan : Plan) (infos : List Info) (v : View) (x : ClosedState) (n 
     → (fate : Fate) × ((account_of v).fates n ≡ Some fate) × IsWordOf fate (slice_index x.ended.words n)
 fate-in plan infos v x n inside closed = let decided = closed.ends.finished.decided n inside refl in (decided.0, decided.1, closed.fates n decided.0 inside refl decided.1)
 
-module _ {D : Type 0} (plan : Plan) (infos : List Info) (others : ℕ) (start : List (Cpu D)) (closed : List ClosedState) (ran : HasRun plan infos others start closed) (sendable : IsSendable plan infos) where
+module _ {D : Type 0} (plan : Plan) (infos : List Info) (others : ℕ) (start : List (Cpu D)) (brought : List DeviceState) (closed : List ClosedState) (spares : List DeviceState) (ran : HasRun plan infos others start brought closed spares) (sendable : IsSendable plan infos) where
   as-closed : (n : ℕ) (x : ClosedState) → n < length infos → slice_get closed (station_in infos n) ≡ Some x → (v : View) × IsClosedStation plan infos (station_in infos n) v x
   as-closed n x inside at =
       let c = event-there ran.seats (station_in infos n) (let below = of-plan plan infos sendable n inside in let one = ran.one_each in omega arith) in

@@ -1,8 +1,10 @@
--- Closed stations hand their devices back to the bench.
-use Rattle.std.proofs.Common.{◌≡◌, inl, inr, ℕ, zero, suc, ◌<◌, ◌≤◌, List, [], ◌∷◌, ◌++◌, length, refl, ap, arith, Option, Some, sym, ◌∙◌, subst, map, take, drop, slice_get}
+-- Closed stations are taken apart, and the devices go back to the bench.
+use Rattle.std.proofs.Common.{◌≡◌, inl, inr, ℕ, suc, ◌+◌, ◌<◌, ◌≤◌, List, [], ◌∷◌, ◌++◌, length, refl, ap, arith, Option, Some, sym, ◌∙◌, subst, map, take, drop, slice_get, length-append}
 use Rattle.std.specs.Option.{option_map_or}
-use Rattle.std.proofs.lemmas.List.{length-map, map-append}
+use Rattle.std.proofs.Math.Seq.{drop-append_seam}
+use Rattle.std.proofs.lemmas.List.{append_assoc, length-map, map-append}
 use Rattle.std.proofs.lemmas.Option.{same_Some, slice_get_within, slice_get_cases}
+use Rattle.lq_account.proofs.Lists.{get-push-old}
 use Rattle.lq_device.specs.Station.{StationState}
 use Rattle.lq_model.specs.Device.{DeviceState}
 use Rattle.lq_model.specs.Plan.{Plan}
@@ -10,9 +12,10 @@ use Rattle.lq_model.specs.declared.fate.Fate.{Fate}
 use Rattle.lq_model.specs.declared.fate.Info.{Info}
 use Rattle.lq_table.specs.Views.{no_station}
 use Rattle.lq_table.specs.declared.shared.Cpu.{Cpu}
-use Rattle.lq_lanes.specs.Ends.{AreBack, ClosedState, HasRun}
+use Rattle.lq_lanes.specs.Ends.{AreBack, ClosedState, HasRun, home_device}
 use Rattle.lq_lanes.specs.Fates.{AreEnded, EndedState, IsEndedAs, identities_of}
-use Rattle.lq_lanes.specs.Setup.{AreAtHome, home_device}
+use Rattle.lq_lanes.specs.Setup.{AreAtHome}
+use Rattle.lq_lanes.specs.Units.{by_unit, undone}
 use Rattle.lq_lanes.proofs.Benches.{last-taken}
 use Rattle.lq_lanes.proofs.Seats.{mapped-at}
 
@@ -30,16 +33,28 @@ laid-through f h k all left n a x now first taken len is before =
 pub home-is : (x : ClosedState) (st : StationState) → x.home ≡ Some st → home_device x ≡ st.device
 home-is x st home = ap (λ (h : Option StationState). option_map_or (λ (s : StationState). s.device) h no_station.device) home
 
+-- IN THE ORDER OF UNITS
+
+-- devices of two lists were laid before the others
+module _ {X : Type 0} (homes spares rest bench : List X) (laid : bench ≡ homes ++ (spares ++ rest)) where
+  pub laid-by-unit : (f : X → DeviceState) (plan : Plan) (old_homes old_spares : List DeviceState) → (map f homes, map f spares) ≡ undone plan (length plan.events) (old_homes, old_spares)
+      → map f bench ≡ by_unit plan old_homes old_spares ++ map f rest
+  laid-by-unit f plan old_homes old_spares back =
+      ap (map f) laid
+      ∙ (map-append f homes (spares ++ rest)
+      ∙ (ap (λ l. map f homes ++ l) (map-append f spares rest)
+      ∙ (sym (append_assoc (map f homes) (map f spares) (map f rest))
+      ∙ ap (λ (d : List DeviceState × List DeviceState). (d.0 ++ d.1) ++ map f rest) back)))
+
+  pub laid-before : (n : ℕ) → length homes + length spares ≡ n → drop n bench ≡ rest
+  laid-before n many =
+      ap (λ k. drop k bench) (sym many ∙ sym (length-append homes spares))
+      ∙ (ap (drop (length (homes ++ spares))) (laid ∙ sym (append_assoc homes spares rest)) ∙ drop-append_seam (homes ++ spares) rest)
+
 -- ALL STATIONS
 
-front-at : {X : Type 0} (xs ys : List X) (j : ℕ) (x : X) → slice_get xs j ≡ Some x → slice_get (xs ++ ys) j ≡ Some x
-front-at [] ys j x there = cc
-front-at (z ∷ zs) ys zero x there = there
-front-at (z ∷ zs) ys (suc j) x there = front-at zs ys j x there
-
-pub are-back : (closed : List ClosedState) (after rest : List DeviceState) → after ≡ map home_device closed ++ rest → AreBack closed after
-are-back closed after rest is j x st at home =
-    ap (λ ds. slice_get ds j) is ∙ (front-at (map home_device closed) rest j (home_device x) (mapped-at home_device closed j x at) ∙ ap Some (home-is x st home))
+pub are-back : (plan : Plan) (closed : List ClosedState) (spares after rest : List DeviceState) → after ≡ by_unit plan (map home_device closed) spares ++ rest → AreBack plan closed spares after
+are-back plan closed spares after rest is unit device at = ap (λ ds. slice_get ds unit) is ∙ get-push-old (by_unit plan (map home_device closed) spares) rest device unit at
 
 pub stays-are : (plan : Plan) (infos : List Info) (fates : List Fate) (closed : List ClosedState) (ended : List EndedState) → length closed ≡ length plan.stations
     → ended ≡ map (λ (x : ClosedState). x.ended) closed → ((j : ℕ) (x : ClosedState) → slice_get closed j ≡ Some x → IsEndedAs plan infos fates j x.ended) → AreEnded plan infos fates ended
@@ -61,23 +76,22 @@ same-boxes (d ∷ front) [] within same = absurd (omega arith)
 same-boxes (d ∷ front) (b ∷ before) within same =
     ap (λ i. i ∷ identities_of front) (same 0 b d refl refl) ∙ ap (λ ids. b.identity ∷ ids) (same-boxes front before (omega arith) (λ j. same (suc j)))
 
-pub boxes-kept : (n : ℕ) (closed : List ClosedState) (before rest after : List DeviceState) → length closed ≡ n → n ≤ length before → after ≡ map home_device closed ++ rest
+pub boxes-kept : (n : ℕ) (front before rest after : List DeviceState) → length after ≡ n + length rest → n ≤ length before → after ≡ front ++ rest
     → ((j : ℕ) (old new : DeviceState) → j < n → slice_get before j ≡ Some old → slice_get after j ≡ Some new → new.identity ≡ old.identity)
     → identities_of after ≡ take n (identities_of before) ++ identities_of rest
-boxes-kept n closed before rest after many within is same =
-    let front = map home_device closed in
-    let long : length front ≡ n = length-map closed home_device ∙ many in
+boxes-kept n front before rest after many within is same =
+    let long : length front ≡ n = let both = ap length is in omega (arith, length-append front rest) in
     ap identities_of is ∙ (map-append (λ (d : DeviceState). d.identity) front rest
     ∙ ap (λ ids. ids ++ identities_of rest) (same-boxes front before (omega arith) (λ j old new at at'. same j old new (let inside = slice_get_within front j new at' in omega arith) at
-    (ap (λ ds. slice_get ds j) is ∙ front-at front rest j new at'))
+    (ap (λ ds. slice_get ds j) is ∙ get-push-old front rest new j at'))
     ∙ ap (λ k. take k (identities_of before)) long))
 
-module _ {D : Type 0} where
-  pub closed-many : (plan : Plan) (infos : List Info) (others : ℕ) (start : List (Cpu D)) (closed : List ClosedState) → HasRun plan infos others start closed → length closed ≡ length plan.stations
-  closed-many plan infos others start closed run = run.closed_are.so_many
+module _ {D : Type 0} (plan : Plan) (infos : List Info) (others : ℕ) (start : List (Cpu D)) (brought : List DeviceState) (closed : List ClosedState) (spares : List DeviceState) (run : HasRun plan infos others start brought closed spares) where
+  pub closed-many : length closed ≡ length plan.stations
+  closed-many = run.closed_are.so_many
 
-  pub at-home : (plan : Plan) (infos : List Info) (others : ℕ) (start : List (Cpu D)) (closed : List ClosedState) → HasRun plan infos others start closed → AreAtHome closed
-  at-home plan infos others start closed run j x at = elim (slice_get_cases run.seats j).1 [
+  pub at-home : AreAtHome closed
+  at-home j x at = elim (slice_get_cases run.seats j).1 [
     | inl (c, inside, there, same) ↦ (let home = (run.closed_are.each j c x there at).at_home in (home.0, home.1))
     | inr (past, nothing) ↦ absurd (let inside = slice_get_within closed j x at in let many = run.closed_are.so_many in let one_each = run.one_each in omega arith)
   ]

@@ -1,5 +1,5 @@
 -- Seats of several senders become one.
-use Rattle.std.proofs.Common.{◌≡◌, ◌≢◌, ℕ, suc, ◌+◌, ◌*◌, ◌<◌, ◌≤◌, Bool, if◌then◌else◌, List, [], ◌∷◌, ◌++◌, ◌⊎◌, inl, inr, length, Some, refl, sym, ap, ◌∙◌, subst, slice_get, arith, length-set}
+use Rattle.std.proofs.Common.{◌≡◌, ◌≢◌, ℕ, suc, ◌+◌, ◌*◌, ◌<◌, ◌≤◌, Bool, true, if◌then◌else◌, List, [], ◌∷◌, ◌++◌, ◌⊎◌, inl, inr, length, Some, refl, sym, ap, ◌∙◌, subst, slice_get, arith, length-set}
 use Rattle.std.specs.Prelude.{slice_set, slice_index}
 use Rattle.std.proofs.lemmas.Option.{same_Some, slice_get_within}
 use Rattle.std.proofs.lemmas.Bool.{cases_order}
@@ -14,12 +14,12 @@ use Rattle.lq_sender.specs.Seat.{IsSeat, origin_of}
 use Rattle.lq_table.specs.Rule.{times}
 use Rattle.lq_table.specs.Sees.{view}
 use Rattle.lq_table.specs.Told.{together, told, with_turns}
-use Rattle.lq_table.specs.Views.{State, View}
+use Rattle.lq_table.specs.Views.{FirstPart, State, View}
 use Rattle.lq_table.specs.declared.shared.Cpu.{Cpu}
 use Rattle.lq_table.specs.declared.shared.Shared.{Shared}
-use Rattle.lq_lanes.specs.Ends.{SameOrigins}
 use Rattle.lq_lanes.specs.Joins.{AreFirst, IsOtherDone, IsTakenIn, Joined, JoinedAt, JoinsDown, LaneJoined}
-use Rattle.lq_lanes.specs.Lanes.{IsDoneLane, KeepAll, LaneDone, Stands}
+use Rattle.lq_lanes.specs.Lanes.{IsDoneLane, KeepSeats, LaneDone, Stands}
+use Rattle.lq_lanes.specs.Units.{SameDevices}
 use Rattle.lq_lanes.specs.Way.{IsOnWay}
 use Rattle.lq_lanes.proofs.Lists.{take-all}
 use Rattle.lq_lanes.proofs.Seats.{each-set}
@@ -155,32 +155,36 @@ module _ {D : Type 0} where
       only-first owner (below, inl none) = none
       only-first owner (below, inr above) = absurd (omega arith)
 
-  pub first-keep : (out : ℕ) (old new : List (Cpu D)) → KeepAll old new → AreFirst out old → AreFirst out new
+  pub first-keep : (out : ℕ) (old new : List (Cpu D)) → KeepSeats old new → AreFirst out old → AreFirst out new
   first-keep out old new keeps first j c at =
       let was = some-there old new j c (sym keeps.long) at in let own = keeps.each j was.0 c was.1 at in let before = first j was.0 was.1 in
       (ap (λ s. s.shares + out) own.share ∙ before.0, own.told ∙ before.1)
 
--- THE DEVICES THAT CAME
+-- THE DEVICES
 
 module _ {D : Type 0} where
-  pub same-origins : (cpus : List (Cpu D)) → SameOrigins cpus cpus
-  same-origins cpus = record { long = refl; each = λ j c c' at at'. let same : c ≡ c' = same_Some c c' (sym at ∙ at') in ap (λ (x : Cpu D). origin_of (view x)) (sym same) }
+  pub same-devices : (cpus : List (Cpu D)) → SameDevices cpus cpus
+  same-devices cpus = record {
+    long = refl;
+    each = λ j c c' at at'. let same : c ≡ c' = same_Some c c' (sym at ∙ at') in (ap (λ (x : Cpu D). origin_of (view x)) (sym same), ap (λ (x : Cpu D). (view x).control.gone) (sym same));
+  }
 
-  pub origins-on : (a b c : List (Cpu D)) → SameOrigins a b → SameOrigins b c → SameOrigins a c
-  origins-on a b c one two = record {
+  pub devices-on : (a b c : List (Cpu D)) → SameDevices a b → SameDevices b c → SameDevices a c
+  devices-on a b c one two = record {
     long = two.long ∙ one.long;
-    each = λ j x z at at'. let y = some-there b a j x one.long at in two.each j y.0 z y.1 at' ∙ one.each j x y.0 at y.1;
+    each = λ j x z at at'. let y = some-there b a j x one.long at in let first = one.each j x y.0 at y.1 in let second = two.each j y.0 z y.1 at' in (second.0 ∙ first.0, second.1 ∙ first.1);
   }
 
-  pub origins-kept : (a b : List (Cpu D)) → KeepAll a b → SameOrigins a b
-  origins-kept a b keeps = record { long = keeps.long; each = λ j c c' at at'. (keeps.each j c c' at at').origin }
-
-  -- one seat changed
-  pub origins-set : (n : ℕ) (start now : List (Cpu D)) (d d' : Cpu D) → slice_get now n ≡ Some d → origin_of (view d') ≡ origin_of (view d) → SameOrigins start now → SameOrigins start (slice_set now n d')
-  origins-set n start now d d' at-d origin same = record {
+  -- one seat, which is the first sender's, took in another
+  pub devices-joined : (n : ℕ) (start now : List (Cpu D)) (d c d' : Cpu D) → slice_get now n ≡ Some d → (view d).control.first ≡ true → (q : Qdisc) × (g : State) × (view d' ≡ told q g (together (view d) (view c)))
+      → SameDevices start now → SameDevices start (slice_set now n d')
+  devices-joined n start now d c d' at-d first (q, g, joins) same = record {
     long = length-set now n d' ∙ same.long;
-    each = λ j c x at at'. each-set (λ (j : ℕ) (x : Cpu D). (c : Cpu D) → slice_get start j ≡ Some c → origin_of (view x) ≡ origin_of (view c)) now n d' (slice_get_within now n d at-d)
-        (λ c at. origin ∙ same.each n c d at at-d)
-        (λ j x other at' c at. same.each j c x at at')
-        j x at' c at;
+    each = λ j x y at at'. each-set (λ (j : ℕ) (y : Cpu D). (x : Cpu D) → slice_get start j ≡ Some x → (origin_of (view y) ≡ origin_of (view x)) × ((view y).control.gone ≡ (view x).control.gone)) now n d' (slice_get_within now n d at-d)
+        (λ x at. let was = same.each n x d at at-d in (ap (λ (k : FirstPart). k.origin) control-is ∙ was.0, ap (λ (k : FirstPart). k.gone) control-is ∙ was.1))
+        (λ j y other at' x at. same.each j x y at at')
+        j y at' x at;
   }
+    where
+      control-is : (view d').control ≡ (view d).control
+      control-is = ap (λ (v : View). v.control) joins ∙ ap (λ (b : Bool). if b then (view d).control else (view c).control) first

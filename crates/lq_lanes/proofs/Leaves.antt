@@ -1,35 +1,45 @@
--- The fates that a whole run leaves.
-use Rattle.std.proofs.Common.{◌≡◌, refl, inl, ℕ, ◌<◌, List, length, Option, Some, sym, ap, ◌∙◌, subst, slice_get, arith}
+-- The fates of a whole run, and where its devices are.
+use Rattle.std.proofs.Common.{◌≡◌, refl, inl, inr, ℕ, ◌+◌, ◌-◌, ◌<◌, List, ◌++◌, length, map, count_by, true, Option, Some, sym, ap, ◌∙◌, subst, slice_get, arith, Contains}
 use Rattle.std.specs.Option.{option_and_then, option_map, option_map_or}
 use Rattle.std.specs.Prelude.{slice_index}
+use Rattle.std.proofs.Math.ListN.{drop_of_length-le}
+use Rattle.std.proofs.lemmas.Bool.{cases_lt}
 use Rattle.std.proofs.lemmas.Option.{same_Some, slice_get_within}
+use Rattle.lq_account.proofs.Lists.{get-push-old}
+use Rattle.lq_account.proofs.Units.{one-station}
+use Rattle.lq_device.specs.Station.{StationState}
 use Rattle.lq_model.specs.Alone.{after_run, fate_in, new_stations}
 use Rattle.lq_model.specs.Device.{DeviceState, Telling}
-use Rattle.lq_model.specs.Plan.{Plan, station_in}
-use Rattle.lq_model.specs.Settled.{IsConfiguredWith}
+use Rattle.lq_model.specs.Plan.{Plan, is_swap, station_in, unit_count}
+use Rattle.lq_model.specs.Settled.{IsConfiguredWith, IsUnitOf}
 use Rattle.lq_model.specs.Words.{IsWordOf}
 use Rattle.lq_model.specs.declared.device.Params.{Params}
 use Rattle.lq_model.specs.declared.fate.Fate.{Fate}
 use Rattle.lq_model.specs.declared.fate.Info.{Info}
-use Rattle.lq_table.specs.Rule.{told_params}
+use Rattle.lq_model.specs.declared.plan.EventPlan.{EventPlan}
 use Rattle.lq_sender.specs.Seat.{origin_of}
+use Rattle.lq_table.specs.Rule.{HasServed, told_params}
 use Rattle.lq_table.specs.Sees.{view}
 use Rattle.lq_table.specs.Solo.{account_of}
-use Rattle.lq_table.specs.Views.{View, spent}
+use Rattle.lq_table.specs.Views.{View, no_station, spent}
 use Rattle.lq_table.specs.declared.shared.Cpu.{Cpu}
-use Rattle.lq_lanes.specs.Ends.{AreBack, AreOver, ClosedState, FatesRead, HasRun, IsClosedStation, RunEnds, UnitEnds}
+use Rattle.lq_lanes.specs.Ends.{AreBack, AreOver, ClosedState, EndsAt, FatesRead, HasRun, IsClosedStation, RunEnds, UnitEnds, home_device}
 use Rattle.lq_lanes.specs.Fates.{AllTell, AreFatesOf, IsEndedAs}
 use Rattle.lq_lanes.specs.Lanes.{AllOwn, IsSendable}
-use Rattle.lq_lanes.proofs.AtEnd.{configured-is, unit-is, units-are}
+use Rattle.lq_lanes.specs.Units.{DevicesStand, swaps_before, undone, unit_at}
+use Rattle.lq_lanes.proofs.AtEnd.{configured-below, unit-at-end, unit-configured}
 use Rattle.lq_lanes.proofs.FatesOfRun.{fates_of_run}
 use Rattle.lq_lanes.proofs.FatesRead.{fate-in}
-use Rattle.lq_lanes.proofs.Sending.{event-there}
-use Rattle.lq_lanes.proofs.Turns.{some-there}
-use Rattle.lq_lanes.proofs.Starts.{first-queue, of-plan, origin-tells, starts-run}
+use Rattle.lq_lanes.proofs.Lists.{get-past, length-mapped, take-all}
+use Rattle.lq_lanes.proofs.Present.{unit-left, unit-of-station}
+use Rattle.lq_lanes.proofs.Seats.{mapped-at}
+use Rattle.lq_lanes.proofs.Starts.{of-plan, own-queue, starts-run, unit-tells, units-tell}
+use Rattle.lq_lanes.proofs.Turns.{event-there}
+use Rattle.lq_lanes.proofs.Undone.{LieAt, all-undone}
 
 -- THE CLOSED STATIONS
 
-module _ {D : Type 0} (plan : Plan) (infos : List Info) (others : ℕ) (start : List (Cpu D)) (closed : List ClosedState) (ran : HasRun plan infos others start closed) where
+module _ {D : Type 0} (plan : Plan) (infos : List Info) (others : ℕ) (start : List (Cpu D)) (brought : List DeviceState) (closed : List ClosedState) (spares : List DeviceState) (ran : HasRun plan infos others start brought closed spares) where
   abbrev views : ℕ → View
   views j = option_map_or view (slice_get ran.seats j) spent
 
@@ -45,11 +55,8 @@ module _ {D : Type 0} (plan : Plan) (infos : List Info) (others : ℕ) (start : 
   as-closed : (j : ℕ) (x : ClosedState) → j < length plan.stations → slice_get closed j ≡ Some x → IsClosedStation plan infos j (views j) x
   as-closed j x below at = let c = seat-there j below in subst (λ (v : View). IsClosedStation plan infos j v x) (view-is j c.0 c.1) (ran.closed_are.each j c.0 x c.1 at)
 
-  -- the seat that the station began with, over the same device
-  first-seat : (j : ℕ) → j < length plan.stations → (c : Cpu D) × (slice_get start j ≡ Some c) × (origin_of (views j) ≡ origin_of (view c))
-  first-seat j below =
-      let c = seat-there j below in let c0 = some-there start ran.seats j c.0 (sym ran.origins.long) c.1 in
-      (c0.0, c0.1, ap origin_of (sym (view-is j c.0 c.1)) ∙ ran.origins.each j c0.0 c.0 c0.1 c.1)
+  ends-at : (j : ℕ) → j < length plan.stations → EndsAt plan infos j (views j)
+  ends-at j below = let x = closed-there j below in (as-closed j x.0 below x.1).ends
 
   pub leaves-station : (fates : List Fate) → FatesRead infos closed (length infos) fates → (j : ℕ) (x : ClosedState) → slice_get closed j ≡ Some x → IsEndedAs plan infos fates j x.ended
   leaves-station fates read j x at = let below : j < length plan.stations = (let within = slice_get_within closed j x at in let so_many = ran.closed_are.so_many in omega arith) in
@@ -60,81 +67,197 @@ module _ {D : Type 0} (plan : Plan) (infos : List Info) (others : ℕ) (start : 
         fates_are = λ n fate there of. read.each n x fate (ap (slice_get closed) of ∙ at) there;
       }
 
-  -- THE BENCH
+  -- THE UNITS' DEVICES
 
-  module _ (after : List DeviceState) (back : AreBack closed after) where
-    device-back : (j : ℕ) → j < length plan.stations → slice_get after j ≡ Some (views j).whole.state.station.device
-    device-back j below = let x = closed-there j below in let home = (as-closed j x.0 below x.1).at_home in back j x.0 home.0 x.1 home.1 ∙ ap Some home.2
+  events-at : (e : ℕ) (event : EventPlan) → slice_get plan.events e ≡ Some event → event.station < length plan.stations
+  events-at e event there = (ran.limits.each_event e event there).station
 
-    pub keeps-box : (before : List DeviceState) → AreOver plan infos before others start → (j : ℕ) (old new : DeviceState) → j < length plan.stations → slice_get before j ≡ Some old → slice_get after j ≡ Some new → new.identity ≡ old.identity
-    keeps-box before over j old new below at-old at-new =
-        let x = closed-there j below in let own = (as-closed j x.0 below x.1).ends.sound.device in let c = first-seat j below in let s = event-there plan.stations j below in
-        let is : (views j).whole.state.station.device ≡ new = same_Some _ new (sym (device-back j below) ∙ at-new) in
-        ap (λ (d : DeviceState). d.identity) (sym is) ∙ (own.identity ∙ (ap (λ (d : DeviceState). d.identity) c.2 ∙ (over.configured j s.0 c.0 old s.1 c.1 at-old).1.identity))
+  abbrev homes : List DeviceState
+  homes = map home_device closed
+
+  home-there : (j : ℕ) (device : DeviceState) → slice_get homes j ≡ Some device → (j < length plan.stations) × ((views j).whole.state.station.device ≡ device)
+  home-there j device at =
+      let within = slice_get_within homes j device at in let long = length-mapped home_device closed in let so_many = ran.closed_are.so_many in
+      let below : j < length plan.stations = omega arith in
+      let x = closed-there j below in let home = (as-closed j x.0 below x.1).at_home in
+      let is : home_device x.0 ≡ device = same_Some _ device (sym (mapped-at home_device closed j x.0 x.1) ∙ at) in
+      (below, sym (ap (λ (o : Option StationState). option_map_or (λ (st : StationState). st.device) o no_station.device) home.1 ∙ home.2) ∙ is)
+
+  module _ (units : List DeviceState) (begin : DevicesStand plan infos units 0 start brought) where
+    abbrev last : ℕ
+    last = length plan.events
+
+    stand : DevicesStand plan infos units last ran.seats spares
+    stand = ran.devices units begin
+
+    -- What is known of a unit's device after the run: the unit is one of a station, to which its device came so, and which has that
+    -- it sent what the device accepted; and if it is the latest, its device is the station's.
+    record IsUnit (unit : ℕ) (device : DeviceState) : Type 0 where
+      station : ℕ
+      within : station < length plan.stations
+      of_station : IsUnitOf plan station unit
+      origin : DeviceState
+      came : slice_get units unit ≡ Some origin
+      has_served : HasServed infos station origin device
+      sent : (account_of (views station)).sent unit ≡ device.accepted
+      present : (j : ℕ) → j < length plan.stations → unit_at plan j last ≡ unit → (views j).whole.state.station.device ≡ device
+
+    home-unit : (j : ℕ) (device : DeviceState) → slice_get homes j ≡ Some device → IsUnit (unit_at plan j last) device
+    home-unit j device at =
+        let home = home-there j device at in let ends = ends-at j home.0 in let c = seat-there j home.0 in
+        let unit = unit-at-end plan infos j (views j) ends in record {
+          station = j;
+          within = home.0;
+          of_station = unit-of-station plan j last (omega arith);
+          origin = origin_of (views j);
+          came = stand.home j c.0 c.1 ∙ ap (λ (v : View). Some (origin_of v)) (view-is j c.0 c.1);
+          has_served = subst (λ (d : DeviceState). HasServed infos j (origin_of (views j)) d) home.1 ends.sound.device;
+          sent = ap (account_of (views j)).sent (sym unit) ∙ (ends.sound.sent ∙ ap (λ (d : DeviceState). d.accepted) home.1);
+          present = λ k below same.
+              let is : k ≡ j = one-station plan k j (unit_at plan j last) below home.0 (subst (IsUnitOf plan k) same (unit-of-station plan k last (omega arith))) (unit-of-station plan j last (omega arith)) in
+              ap (λ (i : ℕ). (views i).whole.state.station.device) is ∙ home.1;
+        }
+
+    spares-are : spares ≡ stand.taken
+    spares-are =
+        let long = stand.units_are.long in let all = ap (λ (events : List EventPlan). count_by is_swap events) (take-all plan.events) in
+        stand.spares_are ∙ ap (λ (l : List DeviceState). l ++ stand.taken) (drop_of_length-le units (omega arith))
+
+    pub spares-long : length spares ≡ count_by is_swap plan.events
+    spares-long = ap length spares-are ∙ (stand.so_many ∙ ap (λ (events : List EventPlan). count_by is_swap events) (take-all plan.events))
+
+    taken-unit : (e : ℕ) (event : EventPlan) (device : DeviceState) → e < last → slice_get plan.events e ≡ Some event → is_swap event ≡ true → slice_get spares (swaps_before plan e) ≡ Some device
+        → IsUnit (unit_at plan event.station e) device
+    taken-unit e event device before there swap at =
+        let took = stand.each e event before there swap in let below = events-at e event there in let c = seat-there event.station below in
+        let is : took.device ≡ device = same_Some took.device device (sym took.went ∙ (ap (λ (l : List DeviceState). slice_get l (swaps_before plan e)) (sym spares-are) ∙ at)) in
+        let gone = subst (λ (v : View). Contains v.control.gone (unit_at plan event.station e, took.device.accepted)) (view-is event.station c.0 c.1) (took.gone c.0 c.1) in record {
+          station = event.station;
+          within = below;
+          of_station = unit-of-station plan event.station e (omega arith);
+          origin = took.origin;
+          came = took.came;
+          has_served = subst (λ (d : DeviceState). HasServed infos event.station took.origin d) is took.has_served;
+          sent = (ends-at event.station below).sound.gone (unit_at plan event.station e) took.device.accepted gone ∙ ap (λ (d : DeviceState). d.accepted) is;
+          present = λ k below-k same. absurd (
+              let same-station : k ≡ event.station = one-station plan k event.station (unit_at plan event.station e) below-k below
+              (subst (IsUnitOf plan k) same (unit-of-station plan k last (omega arith))) (unit-of-station plan event.station e (omega arith)) in
+              let last-is : unit_at plan k last ≡ unit_at plan event.station last = ap (λ (i : ℕ). unit_at plan i last) same-station in
+              let left = unit-left plan event.station below last e event (omega arith) before there swap refl in omega arith);
+        }
+
+    lie : LieAt IsUnit plan last homes spares
+    lie = record {
+      stations = length-mapped home_device closed ∙ ran.closed_are.so_many;
+      exchanges = spares-long;
+      home = home-unit;
+      taken = taken-unit;
+      back = λ k device above at. absurd (
+          let within = slice_get_within spares k device at in let long = spares-long in
+          let all : swaps_before plan last ≡ count_by is_swap plan.events = ap (λ (events : List EventPlan). count_by is_swap events) (take-all plan.events) in omega arith);
+    }
+
+    -- THE BENCH
+
+    module _ (after : List DeviceState) (back : AreBack plan closed spares after) where
+      by-units : LieAt IsUnit plan 0 (undone plan last (homes, spares)).0 (undone plan last (homes, spares)).1
+      by-units = all-undone IsUnit plan last (homes, spares) (omega arith) events-at lie
+
+      -- each unit's device is back in its place
+      unit-back : (unit : ℕ) → unit < unit_count plan → (device : DeviceState) × (slice_get after unit ≡ Some device) × IsUnit unit device
+      unit-back unit below = elim (cases_lt unit (length plan.stations)) [
+        | inl station ↦
+            (let x = event-there (undone plan last (homes, spares)).0 unit (let long = by-units.stations in omega arith) in
+            (x.0, back unit x.0 (get-push-old (undone plan last (homes, spares)).0 (undone plan last (homes, spares)).1 x.0 unit x.1), by-units.home unit x.0 x.1))
+        | inr exchange ↦
+            (let k = unit - length plan.stations in let first = by-units.stations in
+            let x = event-there (undone plan last (homes, spares)).1 k (let long = by-units.exchanges in omega arith) in
+            let at : length plan.stations + k ≡ unit = omega arith in let at' : length (undone plan last (homes, spares)).0 + k ≡ unit = omega arith in (
+              x.0,
+              back unit x.0 (ap (slice_get ((undone plan last (homes, spares)).0 ++ (undone plan last (homes, spares)).1)) (sym at') ∙ (get-past (undone plan last (homes, spares)).0 (undone plan last (homes, spares)).1 k ∙ x.1)),
+              subst (λ (u : ℕ). IsUnit u x.0) at (by-units.back k x.0 (omega arith) x.1),
+            ))
+      ]
+
+      unit-is : (unit : ℕ) (device : DeviceState) → unit < unit_count plan → slice_get after unit ≡ Some device → IsUnit unit device
+      unit-is unit device below there = let u = unit-back unit below in subst (IsUnit unit) (same_Some u.0 device (sym u.1 ∙ there)) u.2
+
+      unit-ends : (unit : ℕ) → unit < unit_count plan → UnitEnds plan infos after views unit
+      unit-ends unit below = let u = unit-back unit below in let is = u.2 in record {
+        station = is.station;
+        within = is.within;
+        of_station = is.of_station;
+        device = u.0;
+        there = u.1;
+        sent = is.sent;
+        asked = is.has_served.asked;
+        hangs = is.has_served.told;
+      }
+
+      device-present : (j : ℕ) → j < length plan.stations → slice_get after (account_of (views j)).unit ≡ Some (views j).whole.state.station.device
+      device-present j below =
+          let at-end = unit-at-end plan infos j (views j) (ends-at j below) in
+          let s = unit-configured plan j (unit_at plan j last) below (unit-of-station plan j last (omega arith)) in
+          let u = unit-back (unit_at plan j last) (configured-below plan (unit_at plan j last) s.0 s.1) in
+          ap (slice_get after) at-end ∙ (u.1 ∙ ap Some (sym (u.2.present j below refl)))
+
+-- EACH BOX
+
+module _ {D : Type 0} (plan : Plan) (infos : List Info) (before after : List DeviceState) (others : ℕ) (start : List (Cpu D)) (brought : List DeviceState) (closed : List ClosedState) (spares : List DeviceState)
+    (ran : HasRun plan infos others start brought closed spares) (over : AreOver plan infos before others start brought) (back : AreBack plan closed spares after) where
+  -- a unit's device, as it came and as it went
+  own-unit : (unit : ℕ) (device : DeviceState) → unit < unit_count plan → slice_get after unit ≡ Some device → IsUnit plan infos others start brought closed spares ran over.units over.stand unit device
+  own-unit = unit-is plan infos others start brought closed spares ran over.units over.stand after back
+
+  pub keeps-box : (unit : ℕ) (old new : DeviceState) → unit < unit_count plan → slice_get before unit ≡ Some old → slice_get after unit ≡ Some new → new.identity ≡ old.identity
+  keeps-box unit old new below at-old at-new =
+      let u = own-unit unit new below at-new in let s = unit-configured plan u.station unit u.within u.of_station in
+      u.has_served.identity ∙ (over.configured unit s.0 old u.origin s.1 at-old u.came).1.identity
 
 -- THE FATES
 
-module _ {D : Type 0} (plan : Plan) (infos : List Info) (before after : List DeviceState) (others : ℕ) (start : List (Cpu D)) (closed : List ClosedState) (fates : List Fate)
-    (ran : HasRun plan infos others start closed) (sendable : IsSendable plan infos) (over : AreOver plan infos before others start) (read : FatesRead infos closed (length infos) fates) (back : AreBack closed after)
-    (one-fate : (f g : Fate) (word : ℕ) → IsWordOf f word → IsWordOf g word → f ≡ g) where
+module _ {D : Type 0} (plan : Plan) (infos : List Info) (before after : List DeviceState) (others : ℕ) (start : List (Cpu D)) (brought : List DeviceState) (closed : List ClosedState) (spares : List DeviceState) (fates : List Fate)
+    (ran : HasRun plan infos others start brought closed spares) (sendable : IsSendable plan infos) (over : AreOver plan infos before others start brought) (read : FatesRead infos closed (length infos) fates)
+    (back : AreBack plan closed spares after) (one-fate : (f g : Fate) (word : ℕ) → IsWordOf f word → IsWordOf g word → f ≡ g) where
   abbrev own-views : ℕ → View
-  own-views = views plan infos others start closed ran
+  own-views = views plan infos others start brought closed spares ran
 
   fates-are : (n : ℕ) → n < length infos → slice_get fates n ≡ (account_of (own-views (station_in infos n))).fates n
   fates-are n inside =
-      let below = of-plan plan infos sendable n inside in let x = closed-there plan infos others start closed ran (station_in infos n) below in
-      let own = fate-in plan infos (own-views (station_in infos n)) x.0 n inside (as-closed plan infos others start closed ran (station_in infos n) x.0 below x.1) in
+      let below = of-plan plan infos sendable n inside in let x = closed-there plan infos others start brought closed spares ran (station_in infos n) below in
+      let own = fate-in plan infos (own-views (station_in infos n)) x.0 n inside (as-closed plan infos others start brought closed spares ran (station_in infos n) x.0 below x.1) in
       let there = event-there fates n (let so_many = read.so_many in omega arith) in
       there.1 ∙ (ap Some (one-fate there.0 own.0 (slice_index x.0.ended.words n) (read.each n x.0 there.0 x.1 there.1) own.2) ∙ sym own.1)
 
   all-own : plan.senders ≡ 1 → AllOwn infos
   all-own one n inside = let owner = (sendable.made (station_in infos n) (of-plan plan infos sendable n inside)).owners n inside in omega arith
 
-  fate-alone : AllTell (length plan.stations) before → plan.senders ≡ 1 → (n : ℕ) → n < length infos
+  fate-alone : AllTell (unit_count plan) before → plan.senders ≡ 1 → (n : ℕ) → n < length infos
       → fate_in (after_run plan infos (new_stations 0 plan.stations)) infos n ≡ (account_of (own-views (station_in infos n))).fates n
   fate-alone tell one n inside =
-      let below = of-plan plan infos sendable n inside in let c = seat-there plan infos others start closed ran (station_in infos n) below in
-      let begins = starts-run plan infos before others start (sym ran.origins.long ∙ ran.one_each) sendable over tell one in
-      let ends = ran.alone (over.alone one).0 (all-own one) (new_stations 0 plan.stations) begins (station_in infos n) c.0 c.1 in
+      let below = of-plan plan infos sendable n inside in let c = seat-there plan infos others start brought closed spares ran (station_in infos n) below in
+      let stand = ran.devices over.units over.stand in
+      let begins = starts-run plan infos before others start brought over ran.long ran.limits tell one in
+      let ends = ran.alone (over.alone one).0 (all-own one) over.units over.stand (units-tell plan infos before others start brought over tell) (new_stations 0 plan.stations) begins (station_in infos n) c.0 c.1 in
       ap (option_and_then (λ s. s.account.fates n)) ends.1
-      ∙ (ap (λ fs. fs n) (sym ends.2) ∙ ap (λ (v : View). (account_of v).fates n) (view-is plan infos others start closed ran (station_in infos n) c.0 c.1))
+      ∙ (ap (λ fs. fs n) (sym ends.2) ∙ ap (λ (v : View). (account_of v).fates n) (view-is plan infos others start brought closed spares ran (station_in infos n) c.0 c.1))
 
-  unit-ends : (unit : ℕ) → unit < length plan.stations → UnitEnds plan infos after own-views unit
-  unit-ends unit below =
-      let x = closed-there plan infos others start closed ran unit below in let own = (as-closed plan infos others start closed ran unit x.0 below x.1).ends in
-      record {
-        station = unit;
-        within = below;
-        of_station = inl refl;
-        device = (own-views unit).whole.state.station.device;
-        there = device-back plan infos others start closed ran after back unit below;
-        sent = ap (account_of (own-views unit)).sent (sym (unit-is plan sendable.no_swaps infos unit (own-views unit) below own)) ∙ own.sound.sent;
-        asked = own.sound.device.asked;
-        hangs = own.sound.device.told;
-      }
-
-  device-tells : AllTell (length plan.stations) before → (unit : ℕ) (params : Params) (device : DeviceState) → IsConfiguredWith plan unit params → slice_get after unit ≡ Some device → told_params device ≡ Some params
+  device-tells : AllTell (unit_count plan) before → (unit : ℕ) (params : Params) (device : DeviceState) → IsConfiguredWith plan unit params → slice_get after unit ≡ Some device → told_params device ≡ Some params
   device-tells tell unit params device configured there =
-      let s = configured-is plan sendable.no_swaps unit params configured in let below = slice_get_within plan.stations unit s.0 s.1 in
-      let c = first-seat plan infos others start closed ran unit below in let x = closed-there plan infos others start closed ran unit below in
-      let own = (as-closed plan infos others start closed ran unit x.0 below x.1).ends.sound.device in
-      let is : (own-views unit).whole.state.station.device ≡ device = same_Some _ device (sym (device-back plan infos others start closed ran after back unit below) ∙ there) in
-      ap told_params (sym is) ∙ (own.params ∙ (ap told_params c.2
-      ∙ (ap (option_map (λ (t : Telling). t.params)) (origin-tells plan infos before others start over tell unit s.0 c.0 s.1 c.1) ∙ ap Some s.2)))
+      let below = configured-below plan unit params configured in let u = own-unit plan infos before after others start brought closed spares ran over back unit device below there in
+      u.has_served.params ∙ ap (option_map (λ (t : Telling). t.params)) (unit-tells plan infos before others start brought over tell unit params u.origin below configured u.came)
 
   ends : RunEnds plan infos before after own-views fates
   ends = record {
     of_plan = of-plan plan infos sendable;
-    first_queue = first-queue plan infos sendable;
+    queues = own-queue plan infos sendable;
     one_each = read.so_many;
-    each = λ j below. let x = closed-there plan infos others start closed ran j below in (as-closed plan infos others start closed ran j x.0 below x.1).ends;
+    each = ends-at plan infos others start brought closed spares ran;
     fates_are = fates-are;
-    units = λ unit below. unit-ends unit (subst (λ (k : ℕ). unit < k) (units-are plan sendable.no_swaps) below);
-    present = λ j below.
-        let x = closed-there plan infos others start closed ran j below in let own = (as-closed plan infos others start closed ran j x.0 below x.1).ends in
-        ap (slice_get after) (unit-is plan sendable.no_swaps infos j (own-views j) below own) ∙ device-back plan infos others start closed ran after back j below;
-    tells = λ tell. device-tells (subst (λ (k : ℕ). AllTell k before) (units-are plan sendable.no_swaps) tell);
-    alone = λ tell. fate-alone (subst (λ (k : ℕ). AllTell k before) (units-are plan sendable.no_swaps) tell);
+    units = unit-ends plan infos others start brought closed spares ran over.units over.stand after back;
+    present = device-present plan infos others start brought closed spares ran over.units over.stand after back;
+    tells = device-tells;
+    alone = fate-alone;
   }
 
   pub leaves-fates : AreFatesOf plan infos fates before after

@@ -1,9 +1,15 @@
 -- the plan's events in order
 pub mod Orders
+-- the plan's events and the units that they bring
+pub mod Units
 -- how far the first sender is with the plan's events
 pub mod Ways
 -- a sender's seats, where one or all of them did something
 pub mod Seats
+-- where the units' devices are
+pub mod Devices
+-- the exchanges are undone
+pub mod Undone
 -- a packet was sent
 pub mod Sent
 -- all seats did something in turn
@@ -18,6 +24,8 @@ pub mod Benches
 pub mod Sendable
 -- stations are opened over the devices of a bench
 pub mod Openings
+-- a run begins over the devices of a bench
+pub mod Prepared
 -- the other senders' seats are split off
 pub mod Splits
 -- lists and their parts
@@ -28,6 +36,8 @@ pub mod Joins
 pub mod Closes
 -- the run of one sender at its beginning
 pub mod Starts
+-- the units that a station has in turn
+pub mod Present
 -- a station at its end
 pub mod AtEnd
 -- the fates that the finished stations leave
@@ -36,5 +46,7 @@ pub mod FatesOfRun
 pub mod FatesRead
 -- the fates that a whole run leaves
 pub mod Leaves
--- closed stations hand their devices back
+-- the devices that exchanges bring are configured
+pub mod SpareDevices
+-- closed stations are taken apart, and the devices go back to the bench
 pub mod HandsBack

@@ -1,5 +1,5 @@
 -- Lists and their parts.
-use Rattle.std.proofs.Common.{◌≡◌, ℕ, zero, suc, ◌<◌, List, [], ◌∷◌, length, take, drop, Some, refl, sym, ap, ◌∙◌, slice_get, map}
+use Rattle.std.proofs.Common.{◌≡◌, ℕ, zero, suc, ◌<◌, ◌+◌, List, [], ◌∷◌, ◌++◌, length, take, drop, Some, refl, sym, ap, ◌∙◌, slice_get, map, arith}
 use Rattle.std.specs.Prelude.{slice_index_or}
 use Rattle.lq_lanes.proofs.Seats.{read-at}
 
@@ -19,3 +19,8 @@ drop-first (suc k) (x ∷ xs) = drop-first k xs
 -- what was left begins with the next
 pub next-left : {X : Type 0} (k : ℕ) (xs ys : List X) (x : X) → ys ≡ drop k xs → 0 < length ys → x ≡ slice_index_or ys 0 x → slice_get xs k ≡ Some x
 next-left k xs ys x left some is = sym (ap (λ l. slice_get l 0) left ∙ drop-first k xs) ∙ read-at ys 0 x some is
+
+-- what stands after a first part
+pub get-past : {X : Type 0} (xs ys : List X) (k : ℕ) → slice_get (xs ++ ys) (length xs + k) ≡ slice_get ys k
+get-past [] ys k = let same : 0 + k ≡ k = omega arith in ap (slice_get ys) same
+get-past (x ∷ xs) ys k = let more : suc (length xs) + k ≡ suc (length xs + k) = omega arith in ap (slice_get (x ∷ (xs ++ ys))) more ∙ get-past xs ys k

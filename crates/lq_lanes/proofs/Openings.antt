@@ -37,11 +37,11 @@ pairs-more R (v ∷ xs) (w ∷ ys) x y long each new (suc j) a b at at' = pairs-
 -- ONE STATION
 
 abbrev with-senders : List Info → ℕ → StationPlan → ℕ → Setup
-with-senders infos j s senders = record { infos = infos; senders = senders; max_len = s.max_len; bypass = s.bypass; station = j; len = s.len; queues = 1 }
+with-senders infos j s senders = record { infos = infos; senders = senders; max_len = s.max_len; bypass = s.bypass; station = j; len = s.len; queues = s.queues }
 
 setup-planned : (plan : Plan) (infos : List Info) (j : ℕ) (s : StationPlan) → slice_get plan.stations j ≡ Some s → with-senders infos j s plan.senders ≡ setup_of plan infos j
 setup-planned plan infos j s planned = ap
-    (λ (o : Option StationPlan). record { infos = infos; senders = plan.senders; max_len = option_map_or (λ s. s.max_len) o 0; bypass = option_map_or (λ s. s.bypass) o false; station = j; len = option_map_or (λ s. s.len) o 0; queues = 1 })
+    (λ (o : Option StationPlan). record { infos = infos; senders = plan.senders; max_len = option_map_or (λ s. s.max_len) o 0; bypass = option_map_or (λ s. s.bypass) o false; station = j; len = option_map_or (λ s. s.len) o 0; queues = option_map_or (λ s. s.queues) o 1 })
     (sym planned)
 
 -- what the next device of the bench was configured to be
@@ -56,7 +56,7 @@ fresh-device state plan infos before k all left s device configured planned rest
 module _ {D : Type 0} where
   pub opened-here : (plan : Plan) (infos : List Info) (devices : List DeviceState) (j senders : ℕ) (s : StationPlan) (device : DeviceState) (t : Shared D) (c : Cpu D)
       → slice_get plan.stations j ≡ Some s → slice_get devices j ≡ Some device → t.plan ≡ s → senders ≡ plan.senders
-      → setup t ≡ record { infos = infos; senders = senders; max_len = s.max_len; bypass = s.bypass; station = j; len = s.len; queues = 1 }
+      → setup t ≡ record { infos = infos; senders = senders; max_len = s.max_len; bypass = s.bypass; station = j; len = s.len; queues = s.queues }
       → IsSeat t c → view c ≡ starting (setup t) (initial_station j device) → origin_of (view c) ≡ device → IsOpenedAt plan infos devices j t c
   opened-here plan infos devices j senders s device t c planned there plan_is all made seat view_is origin =
       let setup_is : setup t ≡ setup_of plan infos j = made ∙ (ap (with-senders infos j s) all ∙ setup-planned plan infos j s planned) in
@@ -82,7 +82,7 @@ module _ {D : Type 0} where
 
 -- WHERE THERE WAS NO ROOM
 
-drop-map : {X Y : Type 0} (f : X → Y) (k : ℕ) (xs : List X) → map f (drop k xs) ≡ drop k (map f xs)
+pub drop-map : {X Y : Type 0} (f : X → Y) (k : ℕ) (xs : List X) → map f (drop k xs) ≡ drop k (map f xs)
 drop-map f zero xs = refl
 drop-map f (suc k) [] = refl
 drop-map f (suc k) (x ∷ xs) = drop-map f k xs

@@ -8,12 +8,17 @@ use mathlib.Core.Logic.{dite}
 use native.Mathlib.Decide.{ℕ_discrete}
 use Rattle.lq_account.specs.Progress.{start_of}
 use Rattle.lq_model.specs.Alone.{RunningStation, changed, changed_at, served, with_event}
-use Rattle.lq_model.specs.Plan.{Plan}
+use Rattle.lq_model.specs.Device.{DeviceState}
+use Rattle.lq_model.specs.Plan.{Plan, queues_at}
 use Rattle.lq_model.specs.declared.fate.Info.{Info}
+use Rattle.lq_model.specs.declared.device.Params.{Params}
+use Rattle.lq_model.specs.declared.plan.EventKind.{EventKind}
+use Rattle.lq_model.specs.declared.plan.EventKind.TheVariants.{Swap}
 use Rattle.lq_model.specs.declared.plan.EventPlan.{EventPlan}
 use Rattle.lq_plan.specs.Limits.{is_out_of_order, max_len_at}
 use Rattle.lq_qdisc.specs.Alone.{Does, IsAlone, running}
-use Rattle.lq_sender.specs.Calls.{DoesEvent}
+use Rattle.lq_sender.specs.Calls.{DoesEvent, with_control}
+use Rattle.lq_sender.specs.Exchanges.{Exchanges, KeepsSeat}
 use Rattle.lq_sender.specs.Seat.{DoesAlone, IsSeat, Keeps}
 use Rattle.lq_table.specs.Rule.{times}
 use Rattle.lq_table.specs.Sees.{view, setup}
@@ -21,7 +26,7 @@ use Rattle.lq_table.specs.Solo.{solo}
 use Rattle.lq_table.specs.Views.{Setup, SharePart, View, first_account}
 use Rattle.lq_table.specs.declared.shared.Cpu.{Cpu}
 use Rattle.lq_table.specs.declared.shared.Shared.{Shared}
-use Rattle.lq_lanes.specs.Lanes.{IsTableOf, setup_of, Stands, StandsAt, LaneStands, KeepAll, Runs}
+use Rattle.lq_lanes.specs.Lanes.{IsTableOf, setup_of, Stands, StandsAt, LaneStands, KeepAll, KeepSeats, Runs}
 use Rattle.lq_lanes.specs.Way.{IsOnWay}
 use Rattle.lq_lanes.proofs.Orders.{may-do-next}
 use Rattle.lq_lanes.proofs.Ways.{way-event, way-elsewhere}
@@ -84,12 +89,12 @@ module _ {D : Type 0} (plan : Plan) (infos : List Info) (j : ℕ) (t : Shared D)
   pub max-len-is : t.max_len ≡ max_len_at plan.stations j
   max-len-is = ap (λ (k : Setup). k.max_len) table.setup_is
 
-  pub queues-are : t.queues ≡ 1
+  pub queues-are : t.queues ≡ queues_at plan.stations j
   queues-are = ap (λ (k : Setup). k.queues) table.setup_is
 
   -- a step of a seat alone is one of the plan's station
   pub own-step : (step : Setup → RunningStation → RunningStation) (v w : View) → DoesAlone t (step (setup t)) v w → Does infos (start_of plan j) (step (setup_of plan infos j)) (solo v) (solo w)
-  own-step step v w does = subst (λ (k : Setup). Does k.infos (first_account k) (step k) (solo v) (solo w)) table.setup_is (does queues-are)
+  own-step step v w does = subst (λ (k : Setup). Does k.infos (first_account k) (step k) (solo v) (solo w)) table.setup_is does
 
 -- ONE SEAT
 
@@ -105,12 +110,28 @@ keeps-on a b c one two = record {
   gone = two.gone ∙ one.gone;
 }
 
-pub owner-kept : (sender : ℕ) (v w : View) → Keeps v w → 0 < times sender v.share.owners → 0 < times sender w.share.owners
+pub seat-kept : (v w : View) → Keeps v w → KeepsSeat v w
+seat-kept v w keeps = record { share = keeps.share; first = keeps.first; told = keeps.told }
+
+pub owner-kept : (sender : ℕ) (v w : View) → KeepsSeat v w → 0 < times sender v.share.owners → 0 < times sender w.share.owners
 owner-kept sender v w keeps has = subst (λ (s : SharePart). 0 < times sender s.owners) (sym keeps.share) has
 
-pub stands-event : {D : Type 0} (plan : Plan) (infos : List Info) (t : Shared D) (e n : ℕ) (event : EventPlan) (v w : View) → slice_get plan.events e ≡ Some event
-    → is_out_of_order plan.events ≡ false → DoesEvent t plan e event.kind v w → Stands plan infos 0 event.station e n v → Stands plan infos 0 event.station (suc e) n w
-stands-event plan infos t e n event v w there order does stands = record {
+-- what an event leaves of its station's seat
+pub record Changes (plan : Plan) (e : ℕ) (kind : EventKind) (v w : View) : Type 0 where
+  pub keeps : KeepsSeat v w
+  pub raised : w.place.raised ≡ false
+  pub turns : w.turns ≡ v.turns
+  pub trail : w.trail ≡ with_control plan e kind v.trail
+
+pub event-changes : {D : Type 0} (t : Shared D) (plan : Plan) (e : ℕ) (kind : EventKind) (v w : View) → DoesEvent t plan e kind v w → Changes plan e kind v w
+event-changes t plan e kind v w does = record { keeps = seat-kept v w does.keeps; raised = does.raised; turns = does.turns; trail = does.trail }
+
+pub exchange-changes : {D : Type 0} (t : Shared D) (plan : Plan) (e : ℕ) (kind : EventKind) (params : Params) (came went : DeviceState) (v w : View) → kind ≡ Swap params → Exchanges t plan e params came went v w → Changes plan e kind v w
+exchange-changes t plan e kind params came went v w is does = subst (λ k. Changes plan e k v w) (sym is) (record { keeps = does.keeps; raised = does.raised; turns = does.turns; trail = does.trail })
+
+pub stands-event : (plan : Plan) (infos : List Info) (e n : ℕ) (event : EventPlan) (v w : View) → slice_get plan.events e ≡ Some event
+    → is_out_of_order plan.events ≡ false → Changes plan e event.kind v w → Stands plan infos 0 event.station e n v → Stands plan infos 0 event.station (suc e) n w
+stands-event plan infos e n event v w there order does stands = record {
   is_sender = stands.is_sender;
   owner = owner-kept 0 v w does.keeps stands.owner;
   wide = ap length does.turns ∙ stands.wide;
@@ -146,6 +167,18 @@ module _ {D : Type 0} where
         j d' at' d at;
   }
 
+  pub seats-kept : (old new : List (Cpu D)) → KeepAll old new → KeepSeats old new
+  seats-kept old new keeps = record { long = keeps.long; each = λ j c c' at at'. seat-kept (view c) (view c') (keeps.each j c c' at at') }
+
+  pub seats-set : (cpus : List (Cpu D)) (i : ℕ) (c c' : Cpu D) → slice_get cpus i ≡ Some c → KeepsSeat (view c) (view c') → KeepSeats cpus (slice_set cpus i c')
+  seats-set cpus i c c' there keeps = record {
+    long = length-set cpus i c';
+    each = λ j d d' at at'. each-set (λ (j : ℕ) (x : Cpu D). (d : Cpu D) → slice_get cpus j ≡ Some d → KeepsSeat (view d) (view x)) cpus i c' (slice_get_within cpus i c there)
+        (λ d at. subst (λ (z : Cpu D). KeepsSeat (view z) (view c')) (same_Some c d (sym there ∙ at)) keeps)
+        (λ j x other at d at'. subst (λ (z : Cpu D). KeepsSeat (view d) (view z)) (same_Some d x (sym at' ∙ at)) (seat-kept (view d) (view d) (keeps-itself (view d))))
+        j d' at' d at;
+  }
+
   pub runs-set : (plan : Plan) (infos : List Info) (cpus : List (Cpu D)) (stations : List RunningStation) (i : ℕ) (c c' : Cpu D) (step : RunningStation → RunningStation) → slice_get cpus i ≡ Some c
       → Does infos (start_of plan i) step (solo (view c)) (solo (view c')) → Runs plan infos cpus stations → Runs plan infos (slice_set cpus i c') (changed_at i step stations)
   runs-set plan infos cpus stations i c c' step there does runs =
@@ -161,11 +194,17 @@ module _ {D : Type 0} where
       → (station : ℕ) (c : Cpu D) → station < length plan.stations → c ≡ slice_index_or cpus station c → slice_get cpus station ≡ Some c
   seat-at plan infos sender count n tables cpus lane station c within is = let all = lane.all in let long = lane.long in read-at cpus station c (omega arith) is
 
+  -- how a seat stands that was read from the lane
+  pub stands-at : (plan : Plan) (infos : List Info) (sender count n : ℕ) (tables : List (Shared D)) (cpus : List (Cpu D)) → LaneStands plan infos sender count n tables cpus
+      → (station : ℕ) (t : Shared D) (c : Cpu D) → station < length plan.stations → t ≡ slice_index_or tables station t → c ≡ slice_index_or cpus station c → StandsAt plan infos sender count n station t c
+  stands-at plan infos sender count n tables cpus lane station t c within is-t is-c =
+      lane.each station t c (table-at plan infos sender count n tables cpus lane station t within is-t) (seat-at plan infos sender count n tables cpus lane station c within is-c)
+
   -- an event of the plan
   pub lane-event : (plan : Plan) (infos : List Info) (e n : ℕ) (tables : List (Shared D)) (cpus : List (Cpu D)) (event : EventPlan) (t : Shared D) (c c' : Cpu D)
       → slice_get plan.events e ≡ Some event → is_out_of_order plan.events ≡ false
       → slice_get tables event.station ≡ Some t → slice_get cpus event.station ≡ Some c → IsSeat t c'
-      → DoesEvent t plan e event.kind (view c) (view c')
+      → Changes plan e event.kind (view c) (view c')
       → LaneStands plan infos 0 e n tables cpus → LaneStands plan infos 0 (e + 1) n tables (slice_set cpus event.station c')
   lane-event plan infos e n tables cpus event t c c' there order at-t at-c seat does lane = record {
     long = length-set cpus event.station c' ∙ lane.long;
@@ -181,18 +220,18 @@ module _ {D : Type 0} where
           (λ u at. let was = lane.each event.station t c at-t at-c in subst (λ (z : Shared D). StandsAt plan infos 0 (suc e) n event.station z c') (same_Some t u (sym at-t ∙ at)) (record {
             table = was.table;
             seat = seat;
-            stands = stands-event plan infos t e n event (view c) (view c') there order does was.stands;
+            stands = stands-event plan infos e n event (view c) (view c') there order does was.stands;
           }))
           (λ j x other at u at'. let was = lane.each j u x at' at in record { table = was.table; seat = was.seat; stands = stands-elsewhere plan infos e n j event (view x) there (λ same. other (sym same)) was.stands })
           j d at' u at
 
   pub runs-event : (plan : Plan) (infos : List Info) (e n : ℕ) (tables : List (Shared D)) (cpus : List (Cpu D)) (stations : List RunningStation) (event : EventPlan) (t : Shared D) (c c' : Cpu D)
       → slice_get plan.events e ≡ Some event → slice_get tables event.station ≡ Some t → slice_get cpus event.station ≡ Some c
-      → DoesEvent t plan e event.kind (view c) (view c')
+      → DoesAlone t (λ s. served t.infos.now (changed plan e event.kind s)) (view c) (view c')
       → LaneStands plan infos 0 e n tables cpus → Runs plan infos cpus stations → Runs plan infos (slice_set cpus event.station c') (with_event plan infos e stations)
   runs-event plan infos e n tables cpus stations event t c c' there at-t at-c does lane runs =
       let own : Does infos (start_of plan event.station) (λ s. served infos (changed plan e event.kind s)) (solo (view c)) (solo (view c')) =
-      own-step plan infos event.station t (lane.each event.station t c at-t at-c).table (λ k s. served k.infos (changed plan e event.kind s)) (view c) (view c') does.alone in
+      own-step plan infos event.station t (lane.each event.station t c at-t at-c).table (λ k s. served k.infos (changed plan e event.kind s)) (view c) (view c') does in
       subst (Runs plan infos (slice_set cpus event.station c'))
       (ap (λ o. option_map_or (λ (x : EventPlan). changed_at x.station (λ s. served infos (changed plan e x.kind s)) stations) o stations) (sym there))
       (runs-set plan infos cpus stations event.station c c' (λ s. served infos (changed plan e event.kind s)) at-c own runs)

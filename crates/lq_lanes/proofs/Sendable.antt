@@ -1,17 +1,15 @@
 -- The packets of a capture under a plan are numbered by rank.
-use Rattle.std.proofs.Common.{◌≡◌, inl, inr, ℕ, zero, suc, ◌+◌, ◌<◌, ◌≤◌, ◌&&◌, ◌==◌, Bool, true, false, List, [], ◌∷◌, ◌++◌, length, map, take, Some, All, refl, sym, ap, ◌∙◌, subst, cond, arith, slice_get, count_by, length-append, eq-eqb}
+use Rattle.std.proofs.Common.{◌≡◌, inl, inr, ℕ, zero, suc, ◌+◌, ◌<◌, ◌≤◌, ◌&&◌, ◌==◌, Bool, true, List, [], ◌∷◌, ◌++◌, length, map, take, Some, refl, sym, ap, ◌∙◌, subst, cond, arith, slice_get, count_by, length-append, eq-eqb}
 use Rattle.std.proofs.lemmas.Bool.{and_from, cases_order}
 use Rattle.std.proofs.lemmas.List.{length-map, take-append-le, take-map, take_all}
-use Rattle.std.proofs.lemmas.List.Elements.{All-nil, All-cons}
 use Rattle.std.proofs.lemmas.List.Sums.{sum_by-cons, count_by_more_yes}
 use Rattle.std.proofs.lemmas.Option.{get_or_from_slice_get, same_Some, slice_get_cases, slice_get_within}
 use Rattle.std.specs.Option.{option_map_or}
 use Rattle.lq_control.specs.Finish.{AreRanks, count_below, is_packet_of}
 use Rattle.lq_model.specs.Capture.{Packets}
 use Rattle.lq_model.specs.Numbers.{first_numbers}
-use Rattle.lq_model.specs.Plan.{Plan, AreRanked, info_of, infos_of, is_swap, owner_in, owner_of, rank_in, station_in, station_of}
+use Rattle.lq_model.specs.Plan.{Plan, AreRanked, info_of, infos_of, owner_in, owner_of, queues_at, rank_in, station_in, station_of}
 use Rattle.lq_model.specs.declared.fate.Info.{Info}
-use Rattle.lq_model.specs.declared.plan.EventPlan.{EventPlan}
 use Rattle.lq_plan.specs.Packets.{IsInfoWithin}
 use Rattle.lq_lanes.specs.Lanes.{IsSendable}
 use Rattle.lq_lanes.specs.Setup.{IsRunBy}
@@ -57,7 +55,7 @@ count-map : {X Y : Type 0} (p : Y → Bool) (f : X → Y) (xs : List X) → coun
 count-map p f [] = refl
 count-map p f (x ∷ xs) = sum_by-cons (λ y. cond (p y) 1 0) (f x) (map f xs) ∙ ap (λ n. cond (p (f x)) 1 0 + n) (count-map p f xs) ∙ sym (sum_by-cons (λ y. cond (p (f y)) 1 0) x xs)
 
-count-later : {X : Type 0} (p : X → Bool) (xs : List X) (i n : ℕ) → i ≤ n → count_by p (take i xs) ≤ count_by p (take n xs)
+pub count-later : {X : Type 0} (p : X → Bool) (xs : List X) (i n : ℕ) → i ≤ n → count_by p (take i xs) ≤ count_by p (take n xs)
 count-later p xs zero n le = omega arith
 count-later p [] (suc i) n le = omega arith
 count-later p (x ∷ xs) (suc i) zero le = absurd (omega arith)
@@ -123,19 +121,7 @@ module _ (infos : List Info) (ranks : AreRanks infos) where
 
 -- A RUN
 
-abbrev one-where : Bool → ℕ
-one-where b = cond b 1 0
-
-none-swap : (events : List EventPlan) → count_by is_swap events ≡ 0 → All (λ event. is_swap event ≡ false) events
-none-swap [] none = All-nil (λ (event : EventPlan). is_swap event ≡ false)
-none-swap (event ∷ events) none = go (none-swap events) (is_swap event) refl (sym none ∙ sum_by-cons (λ e. one-where (is_swap e)) event events)
-  where
-    go : (count_by is_swap events ≡ 0 → All (λ event'. is_swap event' ≡ false) events) → (b : Bool) → is_swap event ≡ b
-        → 0 ≡ one-where (is_swap event) + count_by is_swap events → All (λ event'. is_swap event' ≡ false) (event ∷ events)
-    go rest true is both = absurd (let one : one-where (is_swap event) ≡ 1 = ap one-where is in omega arith)
-    go rest false is both = All-cons (λ (event' : EventPlan). is_swap event' ≡ false) event events is (rest (let one : one-where (is_swap event) ≡ 0 = ap one-where is in omega arith))
-
--- the packets of a capture under a plan without swaps can be sent
+-- the packets of a capture under a plan can be sent
 pub sendable : (plan : Plan) (infos : List Info) → IsRunBy plan infos → IsSendable plan infos
 sendable plan infos run = record {
   few = run.few;
@@ -143,12 +129,15 @@ sendable plan infos run = record {
   made = λ j below. record {
     owners = λ n inside. let t = there infos ranks n inside in subst (λ o. o < plan.senders) (sym (owner-at infos ranks n t.0 t.1)) (all-at (IsInfoWithin plan) infos n t.0 run.within t.1).owner;
     bands = λ n inside. let t = there infos ranks n inside in subst (λ b. b < 3) (sym (ap (λ o. option_map_or (λ (i : Info). i.band) o 0) t.1)) (all-at (IsInfoWithin plan) infos n t.0 run.within t.1).band;
-    queues_are = λ n inside of. let t = there infos ranks n inside in subst (λ q. q < 1) (sym (ap (λ o. option_map_or (λ (i : Info). i.queue) o 0) t.1 ∙ (all-at (IsInfoWithin plan) infos n t.0 run.within t.1).queue)) (omega arith);
+    queues_are = λ n inside of.
+        let t = there infos ranks n inside in
+        let own : t.0.station ≡ j = ap (λ o. option_map_or (λ (i : Info). i.station) o 0) (sym t.1) ∙ of in
+        subst (λ q. q < queues_at plan.stations j) (sym (ap (λ o. option_map_or (λ (i : Info). i.queue) o 0) t.1))
+        (subst (λ k. t.0.queue < queues_at plan.stations k) own (all-at (IsInfoWithin plan) infos n t.0 run.within t.1).queue);
     ranked = ranked infos ranks;
     one_rank = one-rank infos ranks;
   };
   ranks = ranks;
-  no_swaps = none-swap plan.events run.no_swaps;
 }
   where
     ranks : AreRanks infos

@@ -7,16 +7,19 @@ use Rattle.std.proofs.lemmas.List.{append-nil}
 use Rattle.std.proofs.lemmas.List.Elements.{filter-append}
 use Rattle.std.proofs.lemmas.Option.{slice_get_within}
 use Rattle.lq_model.specs.Alone.{RunningStation, after_packets, before_of, events_before, events_after, served, with_events, with_packet, with_wakes}
+use Rattle.lq_model.specs.Device.{DeviceState}
 use Rattle.lq_model.specs.Numbers.{first_numbers}
 use Rattle.lq_model.specs.Plan.{Plan}
 use Rattle.lq_model.specs.declared.fate.Info.{Info}
 use Rattle.lq_model.specs.declared.plan.EventPlan.{EventPlan}
 use Rattle.lq_table.specs.declared.shared.Cpu.{Cpu}
 use Rattle.lq_table.specs.declared.shared.Shared.{Shared}
-use Rattle.lq_lanes.specs.Lanes.{LaneStands, KeepAll, Runs, IsSending}
+use Rattle.lq_lanes.specs.Lanes.{LaneStands, KeepSeats, Runs, IsSending}
+use Rattle.lq_lanes.specs.Units.{DevicesStand, DoTell}
 use Rattle.lq_lanes.specs.Way.{numbers_from}
+use Rattle.lq_lanes.proofs.Seats.{seats-kept}
 use Rattle.lq_lanes.proofs.Sent.{lane-past, owner-is}
-use Rattle.lq_lanes.proofs.Turns.{keep-none, keep-on, numbers-more}
+use Rattle.lq_lanes.proofs.Turns.{event-there, keep-none, numbers-more, seats-on}
 
 -- NUMBERS THAT A TEST PASSES
 
@@ -56,11 +59,6 @@ passes-range test (suc n) a b ab b-len below inside above = elim (cases_order b 
   | inr (inr beyond) ↦ absurd (omega arith)
 ]
 
-pub event-there : {X : Type 0} (xs : List X) (j : ℕ) → j < length xs → (x : X) × (slice_get xs j ≡ Some x)
-event-there [] j within = absurd (omega arith)
-event-there (x ∷ xs) zero within = (x, refl)
-event-there (x ∷ xs) (suc j) within = event-there xs j (omega arith)
-
 before-is : (plan : Plan) (j : ℕ) (event : EventPlan) → slice_get plan.events j ≡ Some event → before_of plan j ≡ event.before
 before-is plan j event there = ap (λ o. option_map_or (λ (e : EventPlan). e.before) o 0) there
 
@@ -95,51 +93,59 @@ events-after-are plan n next within earlier left =
 -- ONE PACKET MORE
 
 module _ {D : Type 0} where
-  pub sending-own : (plan : Plan) (infos : List Info) (tables : List (Shared D)) (sender n k next last : ℕ) (start now new : List (Cpu D)) → next ≤ last → last ≤ length plan.events
+  pub sending-own : (plan : Plan) (infos : List Info) (tables : List (Shared D)) (sender n k next last : ℕ) (start : List (Cpu D)) (brought : List DeviceState) (now : List (Cpu D)) (spares : List DeviceState)
+      (new : List (Cpu D)) (left_over : List DeviceState) → next ≤ last → last ≤ length plan.events
       → ((j : ℕ) (event : EventPlan) → j < last → slice_get plan.events j ≡ Some event → event.before ≤ n)
       → (sender ≡ 0 → (j : ℕ) (event : EventPlan) → last ≤ j → slice_get plan.events j ≡ Some event → n < event.before)
-      → LaneStands plan infos sender last (n + 1) tables new → KeepAll now new
-      → ((stations : List RunningStation) → Runs plan infos now stations → Runs plan infos new (map (served infos) (with_wakes plan k (with_packet plan infos n (with_events plan infos (numbers_from next (last - next)) stations)))))
-      → IsSending plan infos tables sender n k next start now → IsSending plan infos tables sender (n + 1) (k + 1) last start new
-  sending-own plan infos tables sender n k next last start now new order within done left stands keeps runs was = record {
+      → LaneStands plan infos sender last (n + 1) tables new → KeepSeats now new
+      → ((units : List DeviceState) → DevicesStand plan infos units next now spares → DevicesStand plan infos units last new left_over)
+      → ((units : List DeviceState) → DevicesStand plan infos units next now spares → DoTell plan units → (stations : List RunningStation) → Runs plan infos now stations
+      → Runs plan infos new (map (served infos) (with_wakes plan k (with_packet plan infos n (with_events plan infos (numbers_from next (last - next)) stations)))))
+      → IsSending plan infos tables sender n k next start brought now spares → IsSending plan infos tables sender (n + 1) (k + 1) last start brought new left_over
+  sending-own plan infos tables sender n k next last start brought now spares new left_over order within done left stands keeps devices runs was = record {
     within = within;
     few = let few = was.few in omega arith;
     stands = stands;
     earlier = λ j event below there. let le = done j event below there in omega arith;
-    keeps = keep-on start now new was.keeps keeps;
-    alone = λ z own from begins. let alone = was.alone z own from begins in let all = alone.0 in (
+    keeps = seats-on start now new was.keeps keeps;
+    devices = λ units stand. devices units (was.devices units stand);
+    alone = λ units stand tell z own from begins. let alone = was.alone units stand tell z own from begins in let all = alone.0 in (
       (omega arith),
       (λ j event above there. let gt = left z j event above there in omega arith),
       subst (λ i. Runs plan infos new (after_packets plan infos from i)) (let more : suc n ≡ n + 1 = omega arith in more)
           (subst (λ l. Runs plan infos new (map (served infos) (with_wakes plan n (with_packet plan infos n (with_events plan infos l (after_packets plan infos from n))))))
           (sym (events-before-are plan n next last order within was.earlier alone.1 done (left z)))
           (subst (λ i. Runs plan infos new (map (served infos) (with_wakes plan i (with_packet plan infos n (with_events plan infos (numbers_from next (last - next)) (after_packets plan infos from n)))))) all
-          (runs (after_packets plan infos from n) alone.2))),
+          (runs units (was.devices units stand) tell (after_packets plan infos from n) alone.2))),
     );
   }
 
-  pub sending-past : (plan : Plan) (infos : List Info) (tables : List (Shared D)) (sender n k next : ℕ) (start now : List (Cpu D)) (info : Info) → slice_get infos n ≡ Some info → info.owner ≢ sender
-      → IsSending plan infos tables sender n k next start now → IsSending plan infos tables sender (n + 1) k next start now
-  sending-past plan infos tables sender n k next start now info there other was = record {
+  pub sending-past : (plan : Plan) (infos : List Info) (tables : List (Shared D)) (sender n k next : ℕ) (start : List (Cpu D)) (brought : List DeviceState) (now : List (Cpu D)) (spares : List DeviceState) (info : Info)
+      → slice_get infos n ≡ Some info → info.owner ≢ sender
+      → IsSending plan infos tables sender n k next start brought now spares → IsSending plan infos tables sender (n + 1) k next start brought now spares
+  sending-past plan infos tables sender n k next start brought now spares info there other was = record {
     within = was.within;
     few = let few = was.few in omega arith;
     stands = lane-past plan infos sender next n tables now info there other was.stands;
     earlier = λ j event below at. let lt = was.earlier j event below at in omega arith;
     keeps = was.keeps;
-    alone = λ z own from begins. absurd (other (sym (owner-is infos n info there) ∙ (own n (slice_get_within infos n info there) ∙ sym z)));
+    devices = was.devices;
+    alone = λ units stand tell z own from begins. absurd (other (sym (owner-is infos n info there) ∙ (own n (slice_get_within infos n info there) ∙ sym z)));
   }
 
-  pub sending-start : (plan : Plan) (infos : List Info) (tables : List (Shared D)) (sender : ℕ) (cpus : List (Cpu D)) → LaneStands plan infos sender 0 0 tables cpus → IsSending plan infos tables sender 0 0 0 cpus cpus
-  sending-start plan infos tables sender cpus lane = record {
+  pub sending-start : (plan : Plan) (infos : List Info) (tables : List (Shared D)) (sender : ℕ) (cpus : List (Cpu D)) (spares : List DeviceState) → LaneStands plan infos sender 0 0 tables cpus
+      → IsSending plan infos tables sender 0 0 0 cpus spares cpus spares
+  sending-start plan infos tables sender cpus spares lane = record {
     within = omega arith;
     few = omega arith;
     stands = lane;
     earlier = λ j event below there. absurd (omega arith);
-    keeps = keep-none cpus;
-    alone = λ z own from begins. (refl, (λ j event above there. omega arith), begins);
+    keeps = seats-kept cpus cpus (keep-none cpus);
+    devices = λ units stand. stand;
+    alone = λ units stand tell z own from begins. (refl, (λ j event above there. omega arith), begins);
   }
 
--- behind the last event of the plan
+-- after the last event of the plan
 pub at-last : (plan : Plan) (last n : ℕ) → last ≤ length plan.events → ((j : ℕ) (event : EventPlan) → last ≤ j → slice_get plan.events j ≡ Some event → n < event.before)
     → ((j : ℕ) (event : EventPlan) → slice_get plan.events j ≡ Some event → event.before ≤ n) → last ≡ length plan.events
 at-last plan last n within left all = elim (cases_order last (length plan.events)) [

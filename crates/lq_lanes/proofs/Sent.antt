@@ -20,7 +20,7 @@ use Rattle.lq_table.specs.declared.shared.Cpu.{Cpu}
 use Rattle.lq_table.specs.declared.shared.Shared.{Shared}
 use Rattle.lq_lanes.specs.Lanes.{Stands, StandsAt, LaneStands, Runs}
 use Rattle.lq_lanes.specs.Way.{IsSplitAt}
-use Rattle.lq_lanes.proofs.Seats.{each-set, infos-are, own-step, owner-kept, runs-set}
+use Rattle.lq_lanes.proofs.Seats.{each-set, infos-are, own-step, owner-kept, runs-set, seat-kept}
 use Rattle.lq_lanes.proofs.Ways.{way-packet}
 
 -- COUNTS
@@ -76,7 +76,7 @@ pub stands-sent : {D : Type 0} (plan : Plan) (infos : List Info) (t : Shared D) 
     → Sends t n v w → Stands plan infos sender station count n v → Stands plan infos sender station count (n + 1) w
 stands-sent plan infos t sender station count n info v w same ranks there owner at split sends stands = record {
   is_sender = stands.is_sender;
-  owner = owner-kept sender v w sends.keeps stands.owner;
+  owner = owner-kept sender v w (seat-kept v w sends.keeps) stands.owner;
   wide = ap length turns ∙ (length-set v.turns sender (2 * rank + 2) ∙ stands.wide);
   turn = ap (λ l. slice_index l sender) turns ∙ (get_or-set_same v.turns sender (2 * rank + 2) 0 (let wide = stands.wide in let is = stands.is_sender in omega arith)
       ∙ (let more = count-own infos n info sender station there owner at in omega arith));

@@ -4,23 +4,22 @@ use Rattle.std.specs.Prelude.{slice_index, eqb, if◌then◌else◌}
 use Rattle.std.proofs.lemmas.Bool.{cases_eq, cases_order}
 use Rattle.std.proofs.lemmas.List.{length-replicate, length-set}
 use Rattle.std.proofs.lemmas.Option.{same_Some, slice_get_within, slice_get_cases}
-use Rattle.lq_device.specs.Station.{StationState, initial_station}
-use Rattle.lq_model.specs.Device.{DeviceState, IsConfigured}
+use Rattle.lq_device.specs.Station.{StationState}
 use Rattle.lq_model.specs.Plan.{Plan}
 use Rattle.lq_model.specs.declared.fate.Info.{Info}
 use Rattle.lq_sender.specs.Seat.{IsSeat, origin_of}
 use Rattle.lq_table.specs.Keyed.{below, starting}
-use Rattle.lq_table.specs.Rule.{station_count, times}
+use Rattle.lq_table.specs.Rule.{times}
 use Rattle.lq_table.specs.Sees.{view}
 use Rattle.lq_table.specs.Told.{keeping, offspring, without}
 use Rattle.lq_table.specs.Views.{View}
 use Rattle.lq_table.specs.declared.shared.Cpu.{Cpu}
 use Rattle.lq_table.specs.declared.shared.Shared.{Shared}
 use Rattle.lq_table.proofs.SeatsKept.{times_one, times_without}
-use Rattle.lq_lanes.specs.Ends.{AreOver, SameOrigins}
 use Rattle.lq_lanes.specs.Joins.{AreFirst}
 use Rattle.lq_lanes.specs.Lanes.{IsReadyLane, LaneStands, Stands, StandsAt, setup_of}
-use Rattle.lq_lanes.specs.Setup.{AreOpened, AreSplitting, IsEmptyLane, IsReady, IsSplitting, SplitsAt}
+use Rattle.lq_lanes.specs.Setup.{AreOpened, AreSplitting, IsEmptyLane, IsSplitting, SplitsAt}
+use Rattle.lq_lanes.specs.Units.{SameDevices}
 use Rattle.lq_lanes.specs.Way.{IsOnWay}
 use Rattle.lq_lanes.specs.declared.lanes.Lane.{Lane}
 use Rattle.lq_lanes.proofs.Seats.{set-here, set-apart}
@@ -169,7 +168,7 @@ module _ {D : Type 0} where
   }
 
   pub splits-more : (plan : Plan) (infos : List Info) (place count : ℕ) (tables : List (Shared D)) (now others : List (Cpu D)) (t : Shared D) (c c' other : Cpu D)
-      → SplitsUp plan infos place count tables now others → place + 1 < plan.senders → plan.senders ≤ 8 → slice_get tables count ≡ Some t → slice_get now count ≡ Some c
+      → SplitsUp plan infos place count tables now others → place + 1 < plan.senders → plan.senders ≤ 64 → slice_get tables count ≡ Some t → slice_get now count ≡ Some c
       → IsSeat t c' → IsSeat t other → view c' ≡ keeping (place + 1) (view c) → view other ≡ offspring (place + 1) (view c)
       → SplitsUp plan infos place (count + 1) tables (slice_set now count c') (others ++ other ∷ [])
   splits-more plan infos place count tables now others t c c' other was sender few at at' seat other_seat is other_is =
@@ -227,26 +226,14 @@ module _ {D : Type 0} where
     ];
   }
 
-  -- ORIGINS
-
-  pub origins-same : (cpus : List (Cpu D)) → SameOrigins cpus cpus
-  origins-same cpus = record { long = refl; each = λ j c c' at at'. ap (λ (x : Cpu D). origin_of (view x)) (same_Some c' c (sym at' ∙ at)) }
-
-  pub origins-on : (a b c : List (Cpu D)) → SameOrigins a b → SameOrigins b c → SameOrigins a c
-  origins-on a b c first second = record {
-    long = second.long ∙ first.long;
-    each = λ j x z at at'. elim (slice_get_cases b j).1 [
-      | inl (y, inside, mid, same) ↦ second.each j y z mid at' ∙ first.each j x y at mid
-      | inr (past, nothing) ↦ absurd (let inside = slice_get_within c j z at' in let long = second.long in omega arith)
-    ];
-  }
-
-  pub origins-set : (cpus : List (Cpu D)) (i : ℕ) (c c' : Cpu D) → slice_get cpus i ≡ Some c → origin_of (view c') ≡ origin_of (view c) → SameOrigins cpus (slice_set cpus i c')
-  origins-set cpus i c c' at same = record {
+  -- a seat that had another split off has the same devices
+  pub devices-split : (cpus : List (Cpu D)) (i owner : ℕ) (c c' : Cpu D) → slice_get cpus i ≡ Some c → view c' ≡ keeping owner (view c) → SameDevices cpus (slice_set cpus i c')
+  devices-split cpus i owner c c' at is = record {
     long = length-set cpus i c';
     each = λ j x y at_j at_j'. elim (cases_eq j i) [
-      | inl here ↦ at-place (λ k a b. origin_of (view b) ≡ origin_of (view a)) cpus (slice_set cpus i c') i j c x c' y here at (set-here cpus i c' (slice_get_within cpus i c at)) at_j at_j' same
-      | inr apart ↦ ap (λ (z : Cpu D). origin_of (view z)) (same_Some y x (sym at_j' ∙ (set-apart cpus i j c' apart ∙ at_j)))
+      | inl here ↦ at-place (λ k a b. (origin_of (view b) ≡ origin_of (view a)) × ((view b).control.gone ≡ (view a).control.gone)) cpus (slice_set cpus i c') i j c x c' y here at (set-here cpus i c' (slice_get_within cpus i c at)) at_j at_j'
+          (ap origin_of is, ap (λ (v : View). v.control.gone) is)
+      | inr apart ↦ (let same : y ≡ x = same_Some y x (sym at_j' ∙ (set-apart cpus i j c' apart ∙ at_j)) in (ap (λ (z : Cpu D). origin_of (view z)) same, ap (λ (z : Cpu D). (view z).control.gone) same))
     ];
   }
 
@@ -273,31 +260,3 @@ module _ {D : Type 0} where
     | inl (t, inside, at, same) ↦ (let here = (split.each j t c at at').splitting in (let shares = here.shares in omega arith, here.told))
     | inr (past, nothing) ↦ absurd (let inside = slice_get_within cpus j c at' in let long = split.long in omega arith)
   ]
-
-  -- the seats are over the devices of the bench
-  pub are-over : (plan : Plan) (infos : List Info) (before : List DeviceState) (others : ℕ) (tables : List (Shared D)) (opened start : List (Cpu D)) → others + 1 ≡ plan.senders
-      → IsReady plan infos before tables opened → SameOrigins opened start → (plan.senders ≡ 1 → start ≡ opened) → AreOver plan infos before others start
-  are-over plan infos before others tables opened start all ready origins alone = record {
-    bench = ready.units;
-    configured = λ j s c device planned at was. (let here = came j c at in (
-      station_count infos j,
-      subst (λ d. IsConfigured s.params (station_count infos j) device d) (sym here.2.1)
-          (ready.configured.configured j s device (origin_of (view here.0)) (slice_get_within plan.stations j s planned) planned was here.2.0),
-    ));
-    alone = λ one. (
-      omega arith,
-      λ j c at. (let here = came j c at in let same : here.0 ≡ c = same_Some here.0 c (sym here.1 ∙ (sym (ap (λ cs. slice_get cs j) (alone one)) ∙ at)) in
-          subst (λ (x : Cpu D). view x ≡ starting (setup_of plan infos j) (initial_station j (origin_of (view x)))) same here.2.2),
-    );
-  }
-    where
-      -- the seat of a station as it was opened
-      came : (j : ℕ) (c : Cpu D) → slice_get start j ≡ Some c → (x : Cpu D) × (slice_get opened j ≡ Some x)
-          × ((slice_get ready.devices j ≡ Some (origin_of (view x))) × (origin_of (view c) ≡ origin_of (view x)) × (view x ≡ starting (setup_of plan infos j) (initial_station j (origin_of (view x)))))
-      came j c at = elim (slice_get_cases opened j).1 [
-        | inl (x, inside, there, same) ↦ (elim (slice_get_cases tables j).1 [
-          | inl (t, inside', at_t, same') ↦ (let here = ready.opened.each j t x at_t there in (x, there, (here.device, origins.each j x c there at, here.view_is)))
-          | inr (past, nothing) ↦ absurd (let long = ready.opened.long in omega arith)
-        ])
-        | inr (past, nothing) ↦ absurd (let inside = slice_get_within start j c at in let long = origins.long in omega arith)
-      ]

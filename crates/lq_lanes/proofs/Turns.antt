@@ -5,6 +5,7 @@ use Rattle.std.proofs.lemmas.Bool.{ne_eqb}
 use Rattle.std.proofs.lemmas.Option.{same_Some, slice_get_within, slice_get-get_or}
 use Rattle.lq_account.specs.Progress.{start_of}
 use Rattle.lq_model.specs.Alone.{RunningStation, opened, served, with_event, with_events, with_wakes}
+use Rattle.lq_model.specs.Device.{DeviceState}
 use Rattle.lq_model.specs.Plan.{Plan}
 use Rattle.lq_model.specs.declared.fate.Info.{Info}
 use Rattle.lq_model.specs.declared.plan.EventPlan.{EventPlan}
@@ -16,10 +17,16 @@ use Rattle.lq_table.specs.Solo.{solo}
 use Rattle.lq_table.specs.Views.{Setup, SharePart, View}
 use Rattle.lq_table.specs.declared.shared.Cpu.{Cpu}
 use Rattle.lq_table.specs.declared.shared.Shared.{Shared}
-use Rattle.lq_lanes.specs.Lanes.{AllDid, AreOthers, AreSeats, IsTableOf, KeepAll, LaneStands, Runs, setup_of, Stands, WokenOrNot}
+use Rattle.lq_lanes.specs.Lanes.{AllDid, AreOthers, AreSeats, IsTableOf, KeepAll, KeepSeats, LaneStands, Runs, setup_of, Stands, WokenOrNot}
+use Rattle.lq_lanes.specs.Units.{DevicesStand, DoTell}
 use Rattle.lq_lanes.specs.Way.{IsOnWay, numbers_from}
-use Rattle.lq_lanes.proofs.Seats.{keeps-itself, keeps-on, mapped-at, own-step, owner-kept}
+use Rattle.lq_lanes.proofs.Seats.{keeps-itself, keeps-on, mapped-at, own-step, owner-kept, seat-kept, seats-kept}
 use Rattle.lq_lanes.proofs.Ways.{below-or-at}
+
+pub event-there : {X : Type 0} (xs : List X) (j : ℕ) → j < length xs → (x : X) × (slice_get xs j ≡ Some x)
+event-there [] j within = absurd (omega arith)
+event-there (x ∷ xs) zero within = (x, refl)
+event-there (x ∷ xs) (suc j) within = event-there xs j (omega arith)
 
 -- another list of the same length has an element there, too
 pub there-too : {X Y : Type 0} (xs : List X) (ys : List Y) (j : ℕ) (x : X) (y : Y) → length xs ≡ length ys → slice_get ys j ≡ Some y → (z : X) × (slice_get xs j ≡ Some z)
@@ -35,7 +42,7 @@ pub stands-still : (plan : Plan) (infos : List Info) (sender station count n : �
     → Stands plan infos sender station count n v → Stands plan infos sender station count n w
 stands-still plan infos sender station count n v w keeps turns trail raised stands = record {
   is_sender = stands.is_sender;
-  owner = owner-kept sender v w keeps stands.owner;
+  owner = owner-kept sender v w (seat-kept v w keeps) stands.owner;
   wide = ap length turns ∙ stands.wide;
   turn = ap (λ l. slice_index l sender) turns ∙ stands.turn;
   raised = raised;
@@ -171,36 +178,51 @@ with-events-next plan infos first e stations le =
     ∙ with-events-more plan infos (numbers_from first (e - first)) e stations))
 
 module _ {D : Type 0} where
-  -- the events from `next` on to `e` were done, each of which stands before packet n
-  pub record FirstEvents (plan : Plan) (infos : List Info) (tables : List (Shared D)) (next n e : ℕ) (start now : List (Cpu D)) : Type 0 where
-    pub done : (k : ℕ) (event : EventPlan) → next ≤ k → k < e → slice_get plan.events k ≡ Some event → event.before ≤ n
-    pub stands : (m : ℕ) → LaneStands plan infos 0 next m tables start → LaneStands plan infos 0 e m tables now
-    pub keeps : KeepAll start now
-    pub runs : (stations : List RunningStation) → Runs plan infos start stations → Runs plan infos now (with_events plan infos (numbers_from next (e - next)) stations)
-
-  pub no-events-yet : (plan : Plan) (infos : List Info) (tables : List (Shared D)) (next n : ℕ) (cpus : List (Cpu D)) → FirstEvents plan infos tables next n next cpus cpus
-  no-events-yet plan infos tables next n cpus = record {
-    done = λ k event above below. absurd (omega arith);
-    stands = λ m lane. lane;
-    keeps = keep-none cpus;
-    runs = λ stations runs. let none : next - next ≡ 0 = omega arith in subst (λ c. Runs plan infos cpus (with_events plan infos (numbers_from next c) stations)) (sym none) runs;
+  pub seats-on : (a b c : List (Cpu D)) → KeepSeats a b → KeepSeats b c → KeepSeats a c
+  seats-on a b c one two = record {
+    long = two.long ∙ one.long;
+    each = λ j x z at at'. let y = some-there b a j x one.long at in
+        let first = one.each j x y.0 at y.1 in let second = two.each j y.0 z y.1 at' in
+        record { share = second.share ∙ first.share; first = second.first ∙ first.first; told = second.told ∙ first.told };
   }
 
-  pub one-event-more : (plan : Plan) (infos : List Info) (tables : List (Shared D)) (next n e : ℕ) (event : EventPlan) (start now new : List (Cpu D)) → next ≤ e → slice_get plan.events e ≡ Some event → event.before ≤ n
-      → ((m : ℕ) → LaneStands plan infos 0 e m tables now → LaneStands plan infos 0 (e + 1) m tables new) → KeepAll now new
-      → ((stations : List RunningStation) → Runs plan infos now stations → Runs plan infos new (with_event plan infos e stations))
-      → FirstEvents plan infos tables next n e start now → FirstEvents plan infos tables next n (e + 1) start new
-  one-event-more plan infos tables next n e event start now new le there before stands keeps runs first = record {
+  -- the events from `next` on to `e` were done, each of which stands before packet n
+  pub record FirstEvents (plan : Plan) (infos : List Info) (tables : List (Shared D)) (next n e : ℕ) (start : List (Cpu D)) (brought : List DeviceState) (now : List (Cpu D)) (spares : List DeviceState) : Type 0 where
+    pub done : (k : ℕ) (event : EventPlan) → next ≤ k → k < e → slice_get plan.events k ≡ Some event → event.before ≤ n
+    pub stands : (m : ℕ) → LaneStands plan infos 0 next m tables start → LaneStands plan infos 0 e m tables now
+    pub keeps : KeepSeats start now
+    pub devices : (units : List DeviceState) → DevicesStand plan infos units next start brought → DevicesStand plan infos units e now spares
+    pub runs : (units : List DeviceState) → DevicesStand plan infos units next start brought → DoTell plan units
+        → (stations : List RunningStation) → Runs plan infos start stations → Runs plan infos now (with_events plan infos (numbers_from next (e - next)) stations)
+
+  pub no-events-yet : (plan : Plan) (infos : List Info) (tables : List (Shared D)) (next n : ℕ) (cpus : List (Cpu D)) (spares : List DeviceState) → FirstEvents plan infos tables next n next cpus spares cpus spares
+  no-events-yet plan infos tables next n cpus spares = record {
+    done = λ k event above below. absurd (omega arith);
+    stands = λ m lane. lane;
+    keeps = seats-kept cpus cpus (keep-none cpus);
+    devices = λ units stand. stand;
+    runs = λ units stand tell stations runs. let none : next - next ≡ 0 = omega arith in subst (λ c. Runs plan infos cpus (with_events plan infos (numbers_from next c) stations)) (sym none) runs;
+  }
+
+  pub one-event-more : (plan : Plan) (infos : List Info) (tables : List (Shared D)) (next n e : ℕ) (event : EventPlan) (start : List (Cpu D)) (brought : List DeviceState) (now : List (Cpu D)) (spares : List DeviceState) (new : List (Cpu D)) (left : List DeviceState)
+      → next ≤ e → slice_get plan.events e ≡ Some event → event.before ≤ n
+      → ((m : ℕ) → LaneStands plan infos 0 e m tables now → LaneStands plan infos 0 (e + 1) m tables new) → KeepSeats now new
+      → ((units : List DeviceState) → DevicesStand plan infos units e now spares → DevicesStand plan infos units (e + 1) new left)
+      → ((units : List DeviceState) → DevicesStand plan infos units e now spares → DoTell plan units → (stations : List RunningStation) → Runs plan infos now stations → Runs plan infos new (with_event plan infos e stations))
+      → FirstEvents plan infos tables next n e start brought now spares → FirstEvents plan infos tables next n (e + 1) start brought new left
+  one-event-more plan infos tables next n e event start brought now spares new left le there before stands keeps devices runs first = record {
     done = λ k late above below at. elim (below-or-at k e (let b : k < e + 1 = below in omega arith)) [
       | inl less ↦ first.done k late above less at
       | inr same ↦ subst (λ (x : EventPlan). x.before ≤ n) (same_Some event late (sym there ∙ (ap (slice_get plan.events) (sym same) ∙ at))) before
     ];
     stands = λ m lane. stands m (first.stands m lane);
-    keeps = keep-on start now new first.keeps keeps;
-    runs = λ stations was. subst (Runs plan infos new) (with-events-next plan infos next e stations le) (runs (with_events plan infos (numbers_from next (e - next)) stations) (first.runs stations was));
+    keeps = seats-on start now new first.keeps keeps;
+    devices = λ units stand. devices units (first.devices units stand);
+    runs = λ units stand tell stations was. subst (Runs plan infos new) (with-events-next plan infos next e stations le)
+        (runs units (first.devices units stand) tell (with_events plan infos (numbers_from next (e - next)) stations) (first.runs units stand tell stations was));
   }
 
-  pub others-keep : (owner : ℕ) (old new : List (Cpu D)) → KeepAll old new → AreOthers owner old → AreOthers owner new
+  pub others-keep : (owner : ℕ) (old new : List (Cpu D)) → KeepSeats old new → AreOthers owner old → AreOthers owner new
   others-keep owner old new keeps others j c at = let was = some-there old new j c (sym keeps.long) at in
       let own = keeps.each j was.0 c was.1 at in let before = others j was.0 was.1 in
       (ap (λ (s : SharePart). s.shares) own.share ∙ before.0, ap (λ (s : SharePart). s.owners) own.share ∙ before.1, own.first ∙ before.2)

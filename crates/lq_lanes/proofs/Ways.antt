@@ -1,9 +1,8 @@
 -- How far the first sender is with the plan's events.
-use Rattle.std.proofs.Common.{◌≡◌, ◌≢◌, ℕ, suc, ◌+◌, ◌<◌, Bool, true, false, List, [], ◌∷◌, ◌⊎◌, inl, inr, Contains, Option, Some, None, refl, sym, ap, ◌∙◌, subst, filter_map, slice_get, arith}
+use Rattle.std.proofs.Common.{◌≡◌, ◌≢◌, ℕ, suc, ◌+◌, ◌<◌, true, false, cond, List, [], ◌∷◌, ◌⊎◌, inl, inr, Contains, Option, Some, None, refl, sym, ap, ◌∙◌, subst, filter_map, slice_get, arith}
 use Rattle.std.specs.List.{cons_option}
 use Rattle.std.proofs.lemmas.Bool.{cases_order}
-use Rattle.std.proofs.lemmas.List.Sums.{count_by_more_yes, count_by_more_no}
-use Rattle.std.proofs.lemmas.Option.{get_or_from_slice_get, same_Some, slice_get_within}
+use Rattle.std.proofs.lemmas.Option.{same_Some}
 use Rattle.lq_model.specs.Account.{Event, Join, Full, Refuse, Direct, Resize, Down, Purge, Swap, Up}
 use Rattle.lq_model.specs.Legal.{IsEventAt, IsNext, brought, brought_by, resize_event, down_event}
 use Rattle.lq_model.specs.Plan.{Plan, is_swap, is_swap_kind, unit_of_swap}
@@ -18,6 +17,8 @@ use Rattle.lq_account.proofs.Brought.{brought-cases}
 use Rattle.lq_account.specs.Trail.{IsTrail, IsTrailNext, MeetsDown, down_of, down_at}
 use Rattle.lq_sender.specs.Calls.{Came, MayDo, refused_by, with_control, with_down}
 use Rattle.lq_lanes.specs.Way.{IsOnWay, IsSplitAt}
+use Rattle.lq_table.specs.Rule.{latest_unit, units_of}
+use Rattle.lq_lanes.proofs.Units.{unit-elsewhere, unit-here, unit-more, unit-rises}
 use Rattle.lq_lanes.proofs.Orders.{down-split, down-here, down-elsewhere}
 
 pub way-start : (plan : Plan) (station : ℕ) → IsOnWay plan station 0 []
@@ -28,6 +29,7 @@ way-start plan station = record {
   downs_below = λ e h. absurd (none-in [] e refl h);
   down = refl;
   ahead = λ m h. absurd (none-in [] m refl h);
+  unit = refl;
   swaps_below = λ u h. absurd (none-in [] (Swap u) refl h);
   no_hang = λ u h. absurd (none-in [] (Purge (cause.Hung u)) refl h);
 }
@@ -53,23 +55,6 @@ in-downs event past x h = there-in (Purge (cause.Event event)) (Down event ∷ p
 swap-is : (u v : ℕ) → Swap u ≡ Swap v → u ≡ v
 swap-is u v same = cc
 
--- the units that the first so many events bring
-abbrev one_where : Bool → ℕ
-one_where true = 1
-one_where false = 0
-
-unit-more : (plan : Plan) (count : ℕ) (event : EventPlan) → slice_get plan.events count ≡ Some event → (b : Bool) → is_swap event ≡ b
-    → unit_of_swap plan (suc count) ≡ unit_of_swap plan count + one_where b
-unit-more plan count event there true is =
-    let test = count_by_more_yes is_swap plan.events count event (slice_get_within plan.events count event there) (ap is_swap (get_or_from_slice_get plan.events count event event there) ∙ is) in
-    let same : suc count ≡ count + 1 = omega arith in ap (unit_of_swap plan) same ∙ omega (arith, test)
-unit-more plan count event there false is =
-    let test = count_by_more_no is_swap plan.events count event (slice_get_within plan.events count event there) (ap is_swap (get_or_from_slice_get plan.events count event event there) ∙ is) in
-    let same : suc count ≡ count + 1 = omega arith in ap (unit_of_swap plan) same ∙ omega (arith, test)
-
-unit-rises : (plan : Plan) (count unit : ℕ) (event : EventPlan) → slice_get plan.events count ≡ Some event → unit < unit_of_swap plan count → unit < unit_of_swap plan (suc count)
-unit-rises plan count unit event there below = let more = unit-more plan count event there (is_swap event) refl in omega arith
-
 module _ (plan : Plan) (station count : ℕ) (event : EventPlan) (there : slice_get plan.events count ≡ Some event) where
   -- an event of the plan at that place is this one
   event-is : (s : ℕ) (k : EventKind) → IsEventAt plan s count k → (event.station ≡ s) × (event.kind ≡ k)
@@ -91,6 +76,7 @@ module _ (plan : Plan) (station count : ℕ) (event : EventPlan) (there : slice_
     downs_below = λ e h. let b = way.downs_below e h in omega arith;
     down = way.down ∙ sym (down-elsewhere plan station count event there other);
     ahead = λ m h k late above at. way.ahead m h k late (omega arith) at;
+    unit = way.unit ∙ sym (unit-elsewhere plan station count event there other);
     swaps_below = λ unit h. unit-rises plan count unit event there (way.swaps_below unit h);
     no_hang = way.no_hang;
   }
@@ -116,9 +102,10 @@ module _ (plan : Plan) (station count : ℕ) (event : EventPlan) (there : slice_
         → ((len : ℕ) → (event.kind ≡ kind.Resize len) ⊎ (event.kind ≡ kind.TxQueueLen len) → Contains (filter_map resize_event new) count)
         → ((params : Params) → event.kind ≡ kind.Swap params → Contains new (Swap (unit_of_swap plan count)))
         → ((unit : ℕ) → Contains new (Swap unit) → Contains old (Swap unit) ⊎ ((unit ≡ unit_of_swap plan count) × (is_swap event ≡ true)))
+        → latest_unit station (units_of new) ≡ cond (is_swap event) (unit_of_swap plan count) (latest_unit station (units_of old))
         → down_of new ≡ down_after event.kind count (down_of old)
         → IsOnWay plan station (suc count) new
-    way-makes new planned kept resized downed same_brought hangs swaps comes swapped swaps_are down = record {
+    way-makes new planned kept resized downed same_brought hangs swaps comes swapped swaps_are unit_is down = record {
       planned = planned;
       come = record {
         resizes = λ e len below at. elim (below-or-at e count below) [
@@ -138,6 +125,7 @@ module _ (plan : Plan) (station count : ℕ) (event : EventPlan) (there : slice_
       downs_below = λ e h. elim (downed e h) [ inl was ↦ (let b = way.downs_below e was in omega arith) | inr same ↦ omega arith ];
       down = down ∙ (ap (down_after event.kind count) way.down ∙ sym (down-here plan station count event there here));
       ahead = λ m h k late above at. way.ahead m (subst (λ l. Contains l m) same_brought h) k late (omega arith) at;
+      unit = unit_is ∙ (ap (λ u. cond (is_swap event) (unit_of_swap plan count) u) way.unit ∙ sym (unit-here plan station count event there here));
       swaps_below = λ unit h. elim (swaps_are unit h) [
         | inl was ↦ unit-rises plan count unit event there (way.swaps_below unit was)
         | inr now ↦ (let more : unit_of_swap plan (suc count) ≡ unit_of_swap plan count + 1 = unit-more plan count event there true now.1 in let same = now.0 in omega arith)
@@ -158,19 +146,19 @@ module _ (plan : Plan) (station count : ℕ) (event : EventPlan) (there : slice_
         (λ e h. h) (λ e h. inl h) (λ e h. elim (cons-in count (filter_map down_event old) e h) [ inl same ↦ inr (sym same) | inr was ↦ inl was ]) refl
         (λ unit h. not-downs count unit old h) (λ unit h. in-downs count old (Swap unit) h)
         (λ len c. absurd (elim c [ inl r ↦ (let e : kind.Down ≡ kind.Resize len = sym is ∙ r in cc) | inr r ↦ (let e : kind.Down ≡ kind.TxQueueLen len = sym is ∙ r in cc) ]))
-        (λ params r. absurd (no-swap _ is refl params r)) (λ unit h. inl (no-swap-in-downs count unit old h)) (ap (λ z. down_after z count (down_of old)) (sym is))
+        (λ params r. absurd (no-swap _ is refl params r)) (λ unit h. inl (no-swap-in-downs count unit old h)) (ap (λ z. cond (is_swap_kind z) (unit_of_swap plan count) (latest_unit station (units_of old))) (sym is)) (ap (λ z. down_after z count (down_of old)) (sym is))
     way-event kind.Up is may = way-makes (with_control plan count kind.Up old)
         (way.planned, record { planned = _; ahead = _; meets_down = _; no_hang = _ })
         (λ e h. h) (λ e h. inl h) (λ e h. inl h) refl
         (λ unit h. not-first Up old (Purge (cause.Hung unit)) (λ same. cc) h) (λ unit h. there-in Up old (Swap unit) h)
         (λ len c. absurd (elim c [ inl r ↦ (let e : kind.Up ≡ kind.Resize len = sym is ∙ r in cc) | inr r ↦ (let e : kind.Up ≡ kind.TxQueueLen len = sym is ∙ r in cc) ]))
-        (λ params r. absurd (no-swap _ is refl params r)) (λ unit h. inl (not-first Up old (Swap unit) (λ same. cc) h)) (ap (λ z. down_after z count (down_of old)) (sym is))
+        (λ params r. absurd (no-swap _ is refl params r)) (λ unit h. inl (not-first Up old (Swap unit) (λ same. cc) h)) (ap (λ z. cond (is_swap_kind z) (unit_of_swap plan count) (latest_unit station (units_of old))) (sym is)) (ap (λ z. down_after z count (down_of old)) (sym is))
     way-event (kind.Resize len) is may = way-makes (with_control plan count (kind.Resize len) old)
         (way.planned, record { planned = inl (at-here (kind.Resize len) is, next); ahead = λ m h. behind m h; meets_down = _; no_hang = _ })
         (λ e h. there-in _ _ _ h) (λ e h. elim (cons-in count (filter_map resize_event old) e h) [ inl same ↦ inr (sym same) | inr was ↦ inl was ]) (λ e h. inl h) refl
         (λ unit h. not-first (Resize len count) old (Purge (cause.Hung unit)) (λ same. cc) h) (λ unit h. there-in (Resize len count) old (Swap unit) h)
         (λ len c. here-in count (filter_map resize_event old))
-        (λ params r. absurd (no-swap _ is refl params r)) (λ unit h. inl (not-first (Resize len count) old (Swap unit) (λ same. cc) h)) (ap (λ z. down_after z count (down_of old)) (sym is))
+        (λ params r. absurd (no-swap _ is refl params r)) (λ unit h. inl (not-first (Resize len count) old (Swap unit) (λ same. cc) h)) (ap (λ z. cond (is_swap_kind z) (unit_of_swap plan count) (latest_unit station (units_of old))) (sym is)) (ap (λ z. down_after z count (down_of old)) (sym is))
     way-event (kind.TxQueueLen len) is may = way-makes (with_control plan count (kind.TxQueueLen len) old)
         ((
           (
@@ -189,7 +177,7 @@ module _ (plan : Plan) (station count : ℕ) (event : EventPlan) (there : slice_
         (λ unit h. not-downs count unit old (not-first (Resize len count) (with_down count old) (Purge (cause.Hung unit)) (λ same. cc) (not-first Up (Resize len count ∷ with_down count old) (Purge (cause.Hung unit)) (λ same. cc) h)))
         (λ unit h. there-in Up (Resize len count ∷ with_down count old) (Swap unit) (there-in (Resize len count) (with_down count old) (Swap unit) (in-downs count old (Swap unit) h)))
         (λ len c. here-in count (filter_map resize_event old))
-        (λ params r. absurd (no-swap _ is refl params r)) (λ unit h. inl (no-swap-in-downs count unit old (not-first (Resize len count) (with_down count old) (Swap unit) (λ same. cc) (not-first Up (Resize len count ∷ with_down count old) (Swap unit) (λ same. cc) h)))) (trans-down)
+        (λ params r. absurd (no-swap _ is refl params r)) (λ unit h. inl (no-swap-in-downs count unit old (not-first (Resize len count) (with_down count old) (Swap unit) (λ same. cc) (not-first Up (Resize len count ∷ with_down count old) (Swap unit) (λ same. cc) h)))) (ap (λ z. cond (is_swap_kind z) (unit_of_swap plan count) (latest_unit station (units_of old))) (sym is)) trans-down
       where
         trans-down : None ≡ down_after event.kind count (down_of old)
         trans-down = sym may ∙ ap (λ z. down_after z count (down_of old)) (sym is)
@@ -214,6 +202,7 @@ module _ (plan : Plan) (station count : ℕ) (event : EventPlan) (there : slice_
           | inl same ↦ inr (sym (swap-is u unit same), ap is_swap_kind is)
           | inr was ↦ inl (no-swap-in-downs count unit old was)
         ])
+        (ap (λ z. cond (is_swap_kind z) (unit_of_swap plan count) (latest_unit station (units_of old))) (sym is))
         (sym may ∙ ap (λ z. down_after z count (down_of old)) (sym is))
       where
         u : ℕ
@@ -230,13 +219,13 @@ meets plan station n e is down = absurd cc
 
 -- what brings a packet is none of control's
 data IsNoControl (e : Event) : Type 0 where
-  no_control : resize_event e ≡ None → down_event e ≡ None → ((trail : List Event) → down_of (e ∷ trail) ≡ down_of trail) → ((unit : ℕ) → e ≡ Purge (cause.Hung unit) → ⊥) → ((unit : ℕ) → e ≡ Swap unit → ⊥) → IsNoControl e
+  no_control : resize_event e ≡ None → down_event e ≡ None → ((trail : List Event) → down_of (e ∷ trail) ≡ down_of trail) → ((unit : ℕ) → e ≡ Purge (cause.Hung unit) → ⊥) → ((unit : ℕ) → e ≡ Swap unit → ⊥) → ((trail : List Event) → units_of (e ∷ trail) ≡ units_of trail) → IsNoControl e
 
 brings-no-control : (e : Event) (n : ℕ) → brought e ≡ Some n → IsNoControl e
-brings-no-control (Join m band) n is = no_control refl refl (λ t. refl) (λ unit same. cc) (λ unit same. cc)
-brings-no-control (Full m seen) n is = no_control refl refl (λ t. refl) (λ unit same. cc) (λ unit same. cc)
-brings-no-control (Refuse m event) n is = no_control refl refl (λ t. refl) (λ unit same. cc) (λ unit same. cc)
-brings-no-control (Direct m) n is = no_control refl refl (λ t. refl) (λ unit same. cc) (λ unit same. cc)
+brings-no-control (Join m band) n is = no_control refl refl (λ t. refl) (λ unit same. cc) (λ unit same. cc) (λ t. refl)
+brings-no-control (Full m seen) n is = no_control refl refl (λ t. refl) (λ unit same. cc) (λ unit same. cc) (λ t. refl)
+brings-no-control (Refuse m event) n is = no_control refl refl (λ t. refl) (λ unit same. cc) (λ unit same. cc) (λ t. refl)
+brings-no-control (Direct m) n is = no_control refl refl (λ t. refl) (λ unit same. cc) (λ unit same. cc) (λ t. refl)
 brings-no-control e n is = absurd cc
 
 pub way-packet : (plan : Plan) (station count n : ℕ) (old new : List Event) → IsOnWay plan station count old → IsSplitAt plan count n → Came n old new → IsOnWay plan station count new
@@ -259,7 +248,7 @@ way-packet plan station count n old new way split came = subst (IsOnWay plan sta
     same-in g none = ap (λ o. cons_option o (filter_map g old)) none
 
     go : IsNoControl e → IsOnWay plan station count (e ∷ old)
-    go (no_control no-resize no-down same-down no-purge no-swap) = record {
+    go (no_control no-resize no-down same-down no-purge no-swap same-units) = record {
       planned = (way.planned, next e came.brings meets-down);
       come = record {
         resizes = λ k len below at. subst (λ l. Contains l k) (sym (same-in resize_event no-resize)) (way.come.resizes k len below at);
@@ -273,6 +262,7 @@ way-packet plan station count n old new way split came = subst (IsOnWay plan sta
         | inl was ↦ way.ahead m was k late above at
         | inr now ↦ subst (λ i. i < late.before) (same_Some n m (sym came.brings ∙ now)) (split.1 k late above at)
       ];
+      unit = ap (latest_unit station) (same-units old) ∙ way.unit;
       swaps_below = λ unit h. elim (cons-in e old (Swap unit) h) [ inl same ↦ absurd (no-swap unit same) | inr was ↦ way.swaps_below unit was ];
       no_hang = λ unit h. elim (cons-in e old (Purge (cause.Hung unit)) h) [ inl same ↦ absurd (no-purge unit same) | inr was ↦ way.no_hang unit was ];
     }

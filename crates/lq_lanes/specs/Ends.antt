@@ -1,4 +1,5 @@
 -- What a run leaves at its end.
+use Rattle.std.specs.Option.{option_map_or}
 use Rattle.std.specs.Prelude.{◌≡◌, ◌<◌, ◌≤◌, ℕ, true, false, List, length, map, slice_get, slice_index, Option, Some, All}
 use Rattle.lq_account.specs.Progress.{start_of}
 use Rattle.lq_account.specs.Trail.{IsTrail, HaveCome}
@@ -7,25 +8,26 @@ use Rattle.lq_device.specs.Station.{StationState, initial_station}
 use Rattle.lq_device.specs.declared.device.TxDevice.{Ghosts}
 use Rattle.lq_model.specs.Alone.{RunningStation, after_run, fate_in, finished, new_stations}
 use Rattle.lq_model.specs.Device.{DeviceState, IsConfigured, Telling}
-use Rattle.lq_model.specs.Plan.{Plan, queue_in, station_in, unit_count}
+use Rattle.lq_model.specs.Plan.{Plan, queue_in, queues_at, station_in, unit_count}
 use Rattle.lq_model.specs.Settled.{IsConfiguredWith, IsUnitOf}
 use Rattle.lq_model.specs.Words.{IsWordOf}
 use Rattle.lq_model.specs.declared.device.Params.{Params}
 use Rattle.lq_model.specs.declared.fate.Fate.{Fate}
 use Rattle.lq_model.specs.declared.fate.Info.{Info}
-use Rattle.lq_model.specs.declared.plan.StationPlan.{StationPlan}
+use Rattle.lq_plan.specs.Limits.{IsWithinLimits}
 use Rattle.lq_sender.specs.Calls.{HungOnly, IsSound, PurgesHungOnly}
 use Rattle.lq_sender.specs.Seat.{IsSeat, origin_of}
 use Rattle.lq_table.specs.Keyed.{starting}
-use Rattle.lq_table.specs.Rule.{HangsWhere, IsCallOf, told_params}
+use Rattle.lq_table.specs.Rule.{HangsWhere, IsCallOf, latest_unit, told_params, units_of}
 use Rattle.lq_table.specs.Sees.{view, closed_home}
 use Rattle.lq_table.specs.Solo.{IsSole, account_of}
-use Rattle.lq_table.specs.Views.{View}
+use Rattle.lq_table.specs.Views.{View, no_station}
 use Rattle.lq_table.specs.declared.ended.Closed.{Closed}
 use Rattle.lq_table.specs.declared.shared.Cpu.{Cpu}
 use Rattle.lq_table.specs.declared.shared.Shared.{Shared}
 use Rattle.lq_lanes.specs.Fates.{AllTell, EndedState, ended_state}
 use Rattle.lq_lanes.specs.Lanes.{AllOwn, IsTableOf, Runs, after_sending, setup_of}
+use Rattle.lq_lanes.specs.Units.{DevicesStand, DoTell, SameDevices, by_unit, unit_at}
 
 -- A STATION AT ITS END
 
@@ -38,6 +40,7 @@ pub record MayClose (plan : Plan) (infos : List Info) (station : ℕ) (v : View)
   pub hung : PurgesHungOnly v
   pub trail : IsTrail plan station v.trail
   pub come : HaveCome plan station (length plan.events) v.trail
+  pub unit : latest_unit station (units_of v.trail) ≡ unit_at plan station (length plan.events)
 
 -- what the sole seat of a finished station knows at the close
 pub record EndsAt (plan : Plan) (infos : List Info) (station : ℕ) (v : View) : Type 0 where
@@ -47,6 +50,7 @@ pub record EndsAt (plan : Plan) (infos : List Info) (station : ℕ) (v : View) :
   pub hung : HungOnly v
   pub trail : IsTrail plan station v.trail
   pub come : HaveCome plan station (length plan.events) v.trail
+  pub unit : latest_unit station (units_of v.trail) ≡ unit_at plan station (length plan.events)
 
 module _ {D : Type 0} where
   pub record MayCloseAt (plan : Plan) (infos : List Info) (j : ℕ) (t : Shared D) (c : Cpu D) : Type 0 where
@@ -70,6 +74,9 @@ module _ {D : Type 0} {g : Ghosts D} where
   abbrev pub closed_state : Closed D g → ClosedState
   closed_state c = record { ended = ended_state c.ended; home = closed_home c }
 
+abbrev pub home_device : ClosedState → DeviceState
+home_device x = option_map_or (λ st. st.device) x.home no_station.device
+
 -- the closed table of a station of the plan, as its seat knew it
 pub record IsClosedStation (plan : Plan) (infos : List Info) (station : ℕ) (v : View) (c : ClosedState) : Type 0 where
   pub number_is : c.ended.number ≡ station
@@ -85,27 +92,30 @@ module _ {D : Type 0} where
     pub so_many : length closed ≡ count
     pub each : (j : ℕ) (c : Cpu D) (x : ClosedState) → slice_get cpus j ≡ Some c → slice_get closed j ≡ Some x → IsClosedStation plan infos j (view c) x
 
-  -- the devices that came to the seats' stations are the same
-  pub record SameOrigins (old new : List (Cpu D)) : Type 0 where
-    pub long : length new ≡ length old
-    pub each : (j : ℕ) (c c' : Cpu D) → slice_get old j ≡ Some c → slice_get new j ≡ Some c' → origin_of (view c') ≡ origin_of (view c)
-
   -- the accounts of these stations have the fates that those of the run of one sender have
   abbrev pub HaveFates : List (Cpu D) → List RunningStation → Type 0
   HaveFates cpus stations = (j : ℕ) (c : Cpu D) → slice_get cpus j ≡ Some c → (s : RunningStation) × (slice_get stations j ≡ Some s) × ((account_of (view c)).fates ≡ s.account.fates)
 
-  -- Each station of the plan is closed, and its account has come to its end. Where no other sender was, the fates are those of
-  -- the run of one sender, in which the packets did this to the stations.
-  pub record HasEnded (plan : Plan) (infos : List Info) (sent : List RunningStation → List RunningStation) (others : ℕ) (start : List (Cpu D)) (closed : List ClosedState) : Type 0 where
+  -- Each station of the plan, of whose seats these were the first sender's, is closed, and its account has come to its end. Where
+  -- no other sender was, the fates are those of the run of one sender.
+  pub record HasEnded (plan : Plan) (infos : List Info) (others : ℕ) (start : List (Cpu D)) (closed : List ClosedState) : Type 0 where
     pub seats : List (Cpu D)
     pub one_each : length seats ≡ length plan.stations
     pub closed_are : FirstClosed plan infos (length plan.stations) seats closed
-    pub origins : SameOrigins start seats
-    pub alone : others ≡ 0 → AllOwn infos → (from : List RunningStation) → Runs plan infos start from → HaveFates seats (map (finished infos) (sent from))
+    pub devices : SameDevices start seats
+    pub alone : others ≡ 0 → (from : List RunningStation) → Runs plan infos start from → HaveFates seats (map (finished infos) from)
 
-  -- all packets were sent, and each station was closed
-  abbrev pub HasRun : Plan → List Info → ℕ → List (Cpu D) → List ClosedState → Type 0
-  HasRun plan infos others start closed = HasEnded plan infos (after_sending plan infos) others start closed
+  -- All packets were sent, and each station was closed: the first sender began with these seats and spare devices, and those are
+  -- the spare devices that it ended with.
+  pub record HasRun (plan : Plan) (infos : List Info) (others : ℕ) (start : List (Cpu D)) (brought : List DeviceState) (closed : List ClosedState) (spares : List DeviceState) : Type 0 where
+    pub limits : IsWithinLimits plan
+    pub long : length start ≡ length plan.stations
+    pub seats : List (Cpu D)
+    pub one_each : length seats ≡ length plan.stations
+    pub closed_are : FirstClosed plan infos (length plan.stations) seats closed
+    pub devices : (units : List DeviceState) → DevicesStand plan infos units 0 start brought → DevicesStand plan infos units (length plan.events) seats spares
+    pub alone : others ≡ 0 → AllOwn infos → (units : List DeviceState) → DevicesStand plan infos units 0 start brought → DoTell plan units
+        → (from : List RunningStation) → Runs plan infos start from → HaveFates seats (map (finished infos) (after_sending plan infos from))
 
 -- READING
 
@@ -123,17 +133,19 @@ pub record FatesRead (infos : List Info) (closed : List ClosedState) (count : �
 -- THE WHOLE RUN
 
 module _ {D : Type 0} where
-  -- the devices of a bench before the run were configured as the plan has it, and the seats are over these; where there is one
-  -- sender, nothing was split off
-  pub record AreOver (plan : Plan) (infos : List Info) (before : List DeviceState) (others : ℕ) (start : List (Cpu D)) : Type 0 where
-    pub bench : length plan.stations ≤ length before
-    pub configured : (j : ℕ) (s : StationPlan) (c : Cpu D) (device : DeviceState) → slice_get plan.stations j ≡ Some s → slice_get start j ≡ Some c → slice_get before j ≡ Some device
-        → (room : ℕ) × IsConfigured s.params room device (origin_of (view c))
+  -- the devices of a bench before the run were configured as the plan has it, and the seats are over these, with those of the
+  -- exchanges to spare; where there is one sender, nothing was split off
+  pub record AreOver (plan : Plan) (infos : List Info) (before : List DeviceState) (others : ℕ) (start : List (Cpu D)) (brought : List DeviceState) : Type 0 where
+    pub bench : unit_count plan ≤ length before
+    pub units : List DeviceState
+    pub configured : (unit : ℕ) (params : Params) (old new : DeviceState) → IsConfiguredWith plan unit params → slice_get before unit ≡ Some old → slice_get units unit ≡ Some new
+        → (room : ℕ) × IsConfigured params room old new
+    pub stand : DevicesStand plan infos units 0 start brought
     pub alone : plan.senders ≡ 1 → (others ≡ 0) × ((j : ℕ) (c : Cpu D) → slice_get start j ≡ Some c → view c ≡ starting (setup_of plan infos j) (initial_station j (origin_of (view c))))
 
--- the devices of the closed tables are back in the bench
-abbrev pub AreBack : List ClosedState → List DeviceState → Type 0
-AreBack closed after = (j : ℕ) (x : ClosedState) (st : StationState) → slice_get closed j ≡ Some x → x.home ≡ Some st → slice_get after j ≡ Some st.device
+-- the devices of the closed tables and the spare ones are back in the bench, each at the place of its unit
+abbrev pub AreBack : Plan → List ClosedState → List DeviceState → List DeviceState → Type 0
+AreBack plan closed spares after = (unit : ℕ) (device : DeviceState) → slice_get (by_unit plan (map home_device closed) spares) unit ≡ Some device → slice_get after unit ≡ Some device
 
 -- What is known of a unit's device after the run: the unit is one of a station, whose account has that it sent what the device
 -- accepted; the device was asked for nothing but packets of the station, and hangs as it tells.
@@ -150,7 +162,7 @@ pub record UnitEnds (plan : Plan) (infos : List Info) (after : List DeviceState)
 -- the run came to its end: what is known of all stations, and of the devices in the bench
 pub record RunEnds (plan : Plan) (infos : List Info) (before after : List DeviceState) (views : ℕ → View) (fates : List Fate) : Type 0 where
   pub of_plan : (n : ℕ) → n < length infos → station_in infos n < length plan.stations
-  pub first_queue : (n : ℕ) → n < length infos → queue_in infos n < 1
+  pub queues : (n : ℕ) → n < length infos → queue_in infos n < queues_at plan.stations (station_in infos n)
   pub one_each : length fates ≡ length infos
   pub each : (station : ℕ) → station < length plan.stations → EndsAt plan infos station (views station)
   pub fates_are : (n : ℕ) → n < length infos → slice_get fates n ≡ (account_of (views (station_in infos n))).fates n

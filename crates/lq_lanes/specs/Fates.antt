@@ -1,12 +1,11 @@
 -- What the fates of a run are, what its devices did, and what stays of its stations.
 use Rattle.std.specs.Prelude.{◌≡◌, ◌<◌, ℕ, true, List, All, length, map, Some, slice_get, slice_index, Option, IsSome}
 use Rattle.lq_account.specs.Accounts.{IsClosed}
-use Rattle.lq_account.specs.Progress.{start_of}
 use Rattle.lq_model.specs.Account.{Account, Event}
 use Rattle.lq_model.specs.Alone.{alone}
 use Rattle.lq_model.specs.Complete.{IsComplete}
 use Rattle.lq_model.specs.Device.{DeviceCall, DeviceState}
-use Rattle.lq_model.specs.Plan.{Plan, queue_in, station_in, unit_count}
+use Rattle.lq_model.specs.Plan.{Plan, queue_in, queues_at, station_in, unit_count}
 use Rattle.lq_model.specs.Sent.{sent_of}
 use Rattle.lq_model.specs.Settled.{IsSettled, IsInSenderOrder, IsUnitOf, HangsAsTold, MeetsEvents}
 use Rattle.lq_model.specs.declared.fate.Cause.TheVariants.{Hung}
@@ -30,16 +29,12 @@ accepted_of devices = map (λ device. device.accepted) devices
 abbrev pub identities_of : List DeviceState → List ℕ
 identities_of devices = map (λ device. device.identity) devices
 
--- how many queues a station has
-abbrev pub queue_count : Plan → ℕ → ℕ
-queue_count plan station = length (start_of plan station).stops
-
 -- A unit's device was asked to send a packet of the unit's station, on that packet's own queue, which is one of the station's.
 pub record IsCallOfUnit (plan : Plan) (infos : List Info) (unit : ℕ) (call : DeviceCall) : Type 0 where
   pub packet : call.packet < length infos
   pub of_station : IsUnitOf plan (station_in infos call.packet) unit
   pub own_queue : call.queue ≡ queue_in infos call.packet
-  pub one_of_its : call.queue < queue_count plan (station_in infos call.packet)
+  pub one_of_its : call.queue < queues_at plan.stations (station_in infos call.packet)
 
 -- the station's fates are those of a closed account
 abbrev pub HasAccount : Plan → List Info → List Fate → ℕ → Type 0

@@ -3,13 +3,15 @@ use Rattle.std.specs.Prelude.{◌≡◌, ◌≢◌, ◌<◌, ◌≤◌, ℕ, ◌
 use Rattle.lq_account.specs.Progress.{len_of, start_of}
 use Rattle.lq_control.specs.Finish.{AreRanks, count_below}
 use Rattle.lq_model.specs.Alone.{RunningStation, after_packets, bypass_of, events_after, with_events}
-use Rattle.lq_model.specs.Plan.{Plan, is_swap, owner_in}
+use Rattle.lq_model.specs.Device.{DeviceState}
+use Rattle.lq_model.specs.Plan.{Plan, owner_in, queues_at}
 use Rattle.lq_model.specs.declared.fate.Info.{Info}
 use Rattle.lq_model.specs.declared.plan.EventPlan.{EventPlan}
 use Rattle.lq_plan.specs.Limits.{max_len_at}
 use Rattle.lq_plan.specs.Packets.{IsInfoWithin}
 use Rattle.lq_qdisc.specs.Alone.{IsAlone, running}
 use Rattle.lq_sender.specs.Calls.{Wakes}
+use Rattle.lq_sender.specs.Exchanges.{KeepsSeat}
 use Rattle.lq_sender.specs.Seat.{IsSeat, Keeps}
 use Rattle.lq_table.specs.Rule.{AreInfos, times}
 use Rattle.lq_table.specs.Sees.{view, setup}
@@ -17,6 +19,7 @@ use Rattle.lq_table.specs.Solo.{solo}
 use Rattle.lq_table.specs.Views.{View, Setup}
 use Rattle.lq_table.specs.declared.shared.Cpu.{Cpu}
 use Rattle.lq_table.specs.declared.shared.Shared.{Shared}
+use Rattle.lq_lanes.specs.Units.{DevicesStand, DoTell}
 use Rattle.lq_lanes.specs.Way.{IsOnWay}
 use Rattle.lq_lanes.specs.declared.lanes.Lane.{Lane}
 
@@ -32,9 +35,13 @@ pub record Stands (plan : Plan) (infos : List Info) (sender station count n : �
   -- control is the first sender's
   pub way : sender ≡ 0 → (v.control.first ≡ true) × IsOnWay plan station count v.trail
 
+-- all packets are the first sender's
+abbrev pub AllOwn : List Info → Type 0
+AllOwn infos = (m : ℕ) → m < length infos → owner_in infos m ≡ 0
+
 -- what the plan asks a station's table to be made of
 abbrev pub setup_of : Plan → List Info → ℕ → Setup
-setup_of plan infos j = record { infos = infos; senders = plan.senders; max_len = max_len_at plan.stations j; bypass = bypass_of plan j; station = j; len = len_of plan j; queues = 1 }
+setup_of plan infos j = record { infos = infos; senders = plan.senders; max_len = max_len_at plan.stations j; bypass = bypass_of plan j; station = j; len = len_of plan j; queues = queues_at plan.stations j }
 
 module _ {D : Type 0} where
   -- the table is that of the plan's station
@@ -54,12 +61,17 @@ module _ {D : Type 0} where
     pub all : length tables ≡ length plan.stations
     pub each : (j : ℕ) (t : Shared D) (c : Cpu D) → slice_get tables j ≡ Some t → slice_get cpus j ≡ Some c → StandsAt plan infos sender count n j t c
 
-  -- the seats are the same
+  -- the seats are the same, with the same devices
   pub record KeepAll (old new : List (Cpu D)) : Type 0 where
     pub long : length new ≡ length old
     pub each : (j : ℕ) (c c' : Cpu D) → slice_get old j ≡ Some c → slice_get new j ≡ Some c' → Keeps (view c) (view c')
 
-  -- Each seat has its table alone and its device tells, and these are the stations of the run of one sender.
+  -- the same, where the devices of some may have been exchanged
+  pub record KeepSeats (old new : List (Cpu D)) : Type 0 where
+    pub long : length new ≡ length old
+    pub each : (j : ℕ) (c c' : Cpu D) → slice_get old j ≡ Some c → slice_get new j ≡ Some c' → KeepsSeat (view c) (view c')
+
+  -- each seat has its table alone and its device tells, and these are the stations of the run of one sender
   abbrev pub Runs : Plan → List Info → List (Cpu D) → List RunningStation → Type 0
   Runs plan infos cpus stations = (j : ℕ) (c : Cpu D) → slice_get cpus j ≡ Some c → IsAlone infos (start_of plan j) (solo (view c)) × (slice_get stations j ≡ Some (running (start_of plan j) (solo (view c))))
 
@@ -87,14 +99,16 @@ module _ {D : Type 0} where
   -- ON THE WAY THROUGH THE PACKETS
 
   -- A sender is before packet n: it sent k packets, and did the events before `next`, each of which stands before a lower packet.
-  pub record IsSending (plan : Plan) (infos : List Info) (tables : List (Shared D)) (sender n k next : ℕ) (start now : List (Cpu D)) : Type 0 where
+  pub record IsSending (plan : Plan) (infos : List Info) (tables : List (Shared D)) (sender n k next : ℕ) (start : List (Cpu D)) (brought : List DeviceState) (now : List (Cpu D)) (spares : List DeviceState) : Type 0 where
     pub within : next ≤ length plan.events
     pub few : k ≤ n
     pub stands : LaneStands plan infos sender next n tables now
     pub earlier : (j : ℕ) (event : EventPlan) → j < next → slice_get plan.events j ≡ Some event → event.before < n
-    pub keeps : KeepAll start now
-    -- where all packets are the first sender's, its seats are the stations of the run of one sender
-    pub alone : sender ≡ 0 → ((m : ℕ) → m < length infos → owner_in infos m ≡ 0) → (from : List RunningStation) → Runs plan infos start from
+    pub keeps : KeepSeats start now
+    pub devices : (units : List DeviceState) → DevicesStand plan infos units 0 start brought → DevicesStand plan infos units next now spares
+    -- where all packets are the first sender's, and the devices that exchanges bring tell, its seats are the stations of the run of
+    -- one sender
+    pub alone : (units : List DeviceState) → DevicesStand plan infos units 0 start brought → DoTell plan units → sender ≡ 0 → AllOwn infos → (from : List RunningStation) → Runs plan infos start from
         → (k ≡ n) × ((j : ℕ) (event : EventPlan) → next ≤ j → slice_get plan.events j ≡ Some event → n ≤ event.before) × Runs plan infos now (after_packets plan infos from n)
 
   -- LANES
@@ -124,17 +138,12 @@ module _ {D : Type 0} where
   abbrev pub AreDoneLanes : Plan → List Info → List (Shared D) → List (Lane D) → Type 0
   AreDoneLanes plan infos tables lanes = (i : ℕ) (l : Lane D) → slice_get lanes i ≡ Some l → IsDoneLane plan infos tables i l.owner l.cpus.items
 
--- packets of the plan's stations and senders, numbered by rank, and a plan without swaps
+-- packets of the plan's stations and senders, numbered by rank
 pub record IsSendable (plan : Plan) (infos : List Info) : Type 0 where
   pub few : length infos ≤ 1000000
   pub within : All (IsInfoWithin plan) infos
-  pub made : (j : ℕ) → j < length plan.stations → AreInfos infos j plan.senders 1
+  pub made : (j : ℕ) → j < length plan.stations → AreInfos infos j plan.senders (queues_at plan.stations j)
   pub ranks : AreRanks infos
-  pub no_swaps : All (λ event. is_swap event ≡ false) plan.events
-
--- all packets are the first sender's
-abbrev pub AllOwn : List Info → Type 0
-AllOwn infos = (m : ℕ) → m < length infos → owner_in infos m ≡ 0
 
 -- the stations of the run of one sender after all packets and events
 abbrev pub after_sending : Plan → List Info → List RunningStation → List RunningStation

@@ -1,3 +1,5 @@
+-- which unit a station has, and where the devices of the others are
+pub mod Units
 -- how far the first sender is with the plan's events at a station
 pub mod Way
 -- a sender's seats, one at each station

@@ -1,11 +1,13 @@
 -- What a run begins with: its packets, its stations over their devices, and a seat there for each sender.
-use Rattle.std.specs.Prelude.{All, ◌≡◌, ◌<◌, ◌≤◌, ℕ, ◌+◌, true, false, List, [], length, map, count_by, slice_get, slice_index, Some, vec_capacity}
-use Rattle.std.specs.Option.{option_map_or}
+use Rattle.std.specs.Prelude.{All, ◌≡◌, ◌<◌, ◌≤◌, ℕ, ◌+◌, true, false, List, [], length, map, take, drop, count_by, slice_get, slice_index, Some, vec_capacity}
 use Rattle.lq_device.specs.Station.{StationState, initial_station}
 use Rattle.lq_model.specs.Capture.{Packets}
 use Rattle.lq_model.specs.Device.{DeviceState, IsConfigured}
-use Rattle.lq_model.specs.Plan.{Plan, infos_of, is_swap}
+use Rattle.lq_model.specs.Plan.{Plan, infos_of, is_swap, unit_count, unit_of_swap}
 use Rattle.lq_model.specs.declared.fate.Info.{Info}
+use Rattle.lq_model.specs.declared.device.Params.{Params}
+use Rattle.lq_model.specs.declared.plan.EventKind.TheVariants as kind
+use Rattle.lq_model.specs.declared.plan.EventPlan.{EventPlan}
 use Rattle.lq_model.specs.declared.plan.StationPlan.{StationPlan}
 use Rattle.lq_plan.specs.Packets.{IsInfoWithin}
 use Rattle.lq_sender.specs.Seat.{IsSeat, origin_of}
@@ -13,7 +15,7 @@ use Rattle.lq_table.specs.Keyed.{starting}
 use Rattle.lq_table.specs.Rule.{station_count, times}
 use Rattle.lq_table.specs.Sees.{view}
 use Rattle.lq_table.specs.Solo.{IsSole}
-use Rattle.lq_table.specs.Views.{View, no_station}
+use Rattle.lq_table.specs.Views.{View}
 use Rattle.lq_table.specs.declared.shared.Cpu.{Cpu}
 use Rattle.lq_table.specs.declared.shared.Shared.{Shared}
 use Rattle.lq_lanes.specs.Ends.{ClosedState}
@@ -22,13 +24,12 @@ use Rattle.lq_lanes.specs.declared.lanes.Lane.{Lane}
 
 -- PACKETS
 
--- these are the packets of a capture under the plan, which exchanges no device
+-- these are the packets of a capture under the plan
 pub record IsRunBy (plan : Plan) (infos : List Info) : Type 0 where
   pub packets : Packets
   pub infos_are : infos ≡ infos_of plan packets
   pub within : All (IsInfoWithin plan) infos
   pub few : length infos ≤ 1000000
-  pub no_swaps : count_by is_swap plan.events ≡ 0
 
 -- DEVICES
 
@@ -37,6 +38,27 @@ pub record AreConfigured (plan : Plan) (infos : List Info) (count : ℕ) (before
   pub same_length : length after ≡ length before
   pub configured : (station : ℕ) (s : StationPlan) (old new : DeviceState) → station < count → slice_get plan.stations station ≡ Some s
       → slice_get before station ≡ Some old → slice_get after station ≡ Some new → IsConfigured s.params (station_count infos station) old new
+
+-- the devices that the first so many events bring were configured, each as its exchange says and with room for its station's packets
+pub record AreSparesConfigured (plan : Plan) (infos : List Info) (count : ℕ) (before after : List DeviceState) : Type 0 where
+  pub same_length : length after ≡ length before
+  pub apart : (unit : ℕ) → unit < length plan.stations → slice_get after unit ≡ slice_get before unit
+  pub later : (unit : ℕ) → unit_of_swap plan count ≤ unit → slice_get after unit ≡ slice_get before unit
+  pub configured : (e : ℕ) (event : EventPlan) (params : Params) (old new : DeviceState) → e < count → slice_get plan.events e ≡ Some event → event.kind ≡ kind.Swap params
+      → slice_get before (unit_of_swap plan e) ≡ Some old → slice_get after (unit_of_swap plan e) ≡ Some new → IsConfigured params (station_count infos event.station) old new
+
+-- each device that an event of the plan brings was configured so
+abbrev pub AreBroughtAsConfigured : Plan → List Info → List DeviceState → List DeviceState → Type 0
+AreBroughtAsConfigured plan infos before after = (e : ℕ) (event : EventPlan) (params : Params) (old new : DeviceState) → slice_get plan.events e ≡ Some event → event.kind ≡ kind.Swap params
+    → slice_get before (unit_of_swap plan e) ≡ Some old → slice_get after (unit_of_swap plan e) ≡ Some new → IsConfigured params (station_count infos event.station) old new
+
+-- the device that this event brings was configured so, if it brings one, and all others are as they were
+pub record ConfiguresSpare (plan : Plan) (infos : List Info) (e : ℕ) (before after : List DeviceState) : Type 0 where
+  pub same_length : length after ≡ length before
+  pub configured : (event : EventPlan) (params : Params) (old new : DeviceState) → slice_get plan.events e ≡ Some event → event.kind ≡ kind.Swap params
+      → slice_get before (unit_of_swap plan e) ≡ Some old → slice_get after (unit_of_swap plan e) ≡ Some new → IsConfigured params (station_count infos event.station) old new
+  pub below : (unit : ℕ) → unit < unit_of_swap plan e → slice_get after unit ≡ slice_get before unit
+  pub from_there : (unit : ℕ) → unit_of_swap plan (e + 1) ≤ unit → slice_get after unit ≡ slice_get before unit
 
 -- STATIONS
 
@@ -106,19 +128,19 @@ module _ {D : Type 0} where
 -- A RUN THAT MAY BEGIN
 
 module _ {D : Type 0} where
-  -- the tables are new, over the devices of a bench, which were configured as they stood there
-  pub record IsReady (plan : Plan) (infos : List Info) (before : List DeviceState) (tables : List (Shared D)) (cpus : List (Cpu D)) : Type 0 where
+  -- The tables are new, over the devices of a bench, which were configured as they stood there; those that exchanges bring are
+  -- to spare.
+  pub record IsReady (plan : Plan) (infos : List Info) (before : List DeviceState) (tables : List (Shared D)) (cpus : List (Cpu D)) (spares : List DeviceState) : Type 0 where
     pub devices : List DeviceState
-    pub units : length plan.stations ≤ length before
+    pub units : unit_count plan ≤ length before
     pub configured : AreConfigured plan infos (length plan.stations) before devices
+    pub brought : AreBroughtAsConfigured plan infos before devices
     pub opened : AreOpened plan infos devices tables cpus
     pub all : length tables ≡ length plan.stations
+    pub spares_are : spares ≡ take (count_by is_swap plan.events) (drop (length plan.stations) devices)
 
 -- WHAT COMES BACK
 
 -- each station lies in its closed table
 abbrev pub AreAtHome : List ClosedState → Type 0
 AreAtHome closed = (j : ℕ) (x : ClosedState) → slice_get closed j ≡ Some x → (st : StationState) × (x.home ≡ Some st)
-
-abbrev pub home_device : ClosedState → DeviceState
-home_device x = option_map_or (λ st. st.device) x.home no_station.device

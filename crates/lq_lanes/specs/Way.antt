@@ -7,6 +7,8 @@ use Rattle.lq_model.specs.Plan.{Plan, unit_of_swap}
 use Rattle.lq_model.specs.Settled.{is_at, down_after}
 use Rattle.lq_model.specs.declared.fate.Cause.TheVariants as cause
 use Rattle.lq_model.specs.declared.plan.EventPlan.{EventPlan}
+use Rattle.lq_table.specs.Rule.{latest_unit, units_of}
+use Rattle.lq_lanes.specs.Units.{unit_at}
 
 -- the event that leaves the station deactivated after these events, numbered from e on
 abbrev pub down_among : ℕ → List EventPlan → ℕ → Option ℕ → Option ℕ
@@ -31,6 +33,7 @@ pub record IsOnWay (plan : Plan) (station count : ℕ) (trail : List Event) : Ty
   pub downs_below : (e : ℕ) → Contains (filter_map down_event trail) e → e < count
   pub down : down_of trail ≡ down_after_events plan station count
   pub ahead : (m : ℕ) → Contains (brought_by trail) m → (k : ℕ) (event : EventPlan) → count ≤ k → slice_get plan.events k ≡ Some event → m < event.before
+  pub unit : latest_unit station (units_of trail) ≡ unit_at plan station count
   pub swaps_below : (unit : ℕ) → Contains trail (Swap unit) → unit < unit_of_swap plan count
   pub no_hang : (unit : ℕ) → Contains trail (Purge (cause.Hung unit)) → ⊥
 

@@ -1,8 +1,9 @@
 //! The end of a run: seats are joined, stations finished and closed.
 ghost use Rattle.std.specs.Prelude.{◌≡◌, ℕ, ◌+◌, ◌≤◌, [], length, map, vec_capacity};
-ghost use Rattle.lq_lanes.specs.Ends.{AllMayClose, FirstClosed, HasEnded, SameOrigins, closed_state};
+ghost use Rattle.lq_lanes.specs.Ends.{AllMayClose, FirstClosed, HasEnded, closed_state};
 ghost use Rattle.lq_lanes.specs.Joins.{AreFirst, LaneJoined};
 ghost use Rattle.lq_lanes.specs.Lanes.{AllDid, AreDoneLanes, IsDoneLane, IsSendable, LaneDone};
+ghost use Rattle.lq_lanes.specs.Units.{SameDevices};
 ghost use Rattle.lq_sender.specs.Calls.{Finishes};
 
 use crate::lanes::Lane;
@@ -26,7 +27,7 @@ fn join_lane<'a, D: TxDevice>(
     requires other { IsDoneLane plan.now infos.now shared.now place lane.owner lane.cpus.items }
     requires few { length plan.now.stations ≤ 256 }
     ensures joined { LaneJoined plan.now infos.now place shared.now cpus.new.items }
-    ensures origins { SameOrigins cpus.old.items cpus.new.items }
+    ensures devices { SameDevices cpus.old.items cpus.new.items }
 {
     let _ = &plan;
     let _ = &infos;
@@ -50,7 +51,7 @@ fn join_all<'a, D: TxDevice>(
     requires others { AreDoneLanes plan.now infos.now shared.now others.items }
     requires few { length plan.now.stations ≤ 256 }
     ensures joined { LaneJoined plan.now infos.now 0 shared.now cpus.new.items }
-    ensures origins { SameOrigins cpus.old.items cpus.new.items }
+    ensures devices { SameDevices cpus.old.items cpus.new.items }
     ensures alone { length others.items ≡ 0 → cpus.new.items ≡ cpus.old.items }
 {
     while let Some(lane) = others.pop() {
@@ -99,26 +100,26 @@ fn close_all<'a, D: TxDevice>(
     }
 }
 
-/// The end of a run after the last packet: each station is finished and closed. Takes no memory.
+/// The end of a run after the last packet: each station, of whose seats `cpus` are the first sender's, is finished and closed. Takes
+/// no memory.
 pub fn end_run<'a, R: Wait, D: TxDevice>(
     rt: &R,
     plan: &Plan,
     infos: &[Info],
     shared: Vec<Shared<'a, D>>,
-    first: Lane<D>,
+    mut cpus: Vec<Cpu<D>>,
     others: Vec<Lane<D>>,
     closed: &mut Vec<Closed<D>>,
 )
     requires sendable { IsSendable plan.now infos.now }
-    requires first { LaneDone plan.now infos.now 0 shared.items first.cpus.items × AreFirst (length others.items) first.cpus.items }
+    requires first { LaneDone plan.now infos.now 0 shared.items cpus.items × AreFirst (length others.items) cpus.items }
     requires others { AreDoneLanes plan.now infos.now shared.items others.items }
     requires senders { length others.items + 1 ≡ plan.now.senders }
     requires few { length plan.now.stations ≤ 256 }
     requires none_yet { closed.old.items ≡ [] }
     requires room { length plan.now.stations ≤ vec_capacity closed.old }
-    ensures { HasEnded plan.now infos.now (λ stations. stations) (length others.items) first.cpus.items (map closed_state closed.new.items) }
+    ensures { HasEnded plan.now infos.now (length others.items) cpus.items (map closed_state closed.new.items) }
 {
-    let mut cpus = first.cpus;
     let tables = shared.as_slice();
     join_all(plan, infos, tables, &mut cpus, others);
     finish_all(rt, plan, infos, tables, &mut cpus);

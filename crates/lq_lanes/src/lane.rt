@@ -1,52 +1,22 @@
 //! What a sender does at its seats.
 ghost use Rattle.std.specs.Prelude.{◌≡◌, ℕ, ◌+◌, ◌<◌, ◌≤◌, ◌-◌, List, map, length, slice_get};
-ghost use Rattle.lq_lanes.specs.Lanes.{AllDid, AreSeats, IsSendable, IsSending, KeepAll, LaneStands, Runs, WokenOrNot};
+ghost use Rattle.lq_lanes.specs.Lanes.{AllDid, AreSeats, IsSendable, IsSending, KeepAll, KeepSeats, LaneStands, Runs, WokenOrNot};
+ghost use Rattle.lq_lanes.specs.Units.{DevicesStand, DoTell};
 ghost use Rattle.lq_lanes.specs.Way.{IsSplitAt, numbers_from};
-ghost use Rattle.lq_model.specs.Alone.{RunningStation, served, with_event, with_events, with_packet, with_wakes};
+ghost use Rattle.lq_model.specs.Alone.{RunningStation, served, with_events, with_packet, with_wakes};
+ghost use Rattle.lq_model.specs.Device.{DeviceState};
 ghost use Rattle.lq_model.specs.Plan.{owner_in};
 ghost use Rattle.lq_model.specs.declared.plan.EventPlan.{EventPlan as AnEvent};
 ghost use Rattle.lq_sender.specs.Calls.{Drains, Wakes};
 
 use crate::gate::Gate;
+use crate::swaps::do_any_event;
 use lq_device::TxDevice;
-use lq_model::{EventPlan, Info};
+use lq_model::Info;
 use lq_plan::Plan;
-use lq_sender::{do_event, drain, send, wake};
+use lq_sender::{drain, send, wake};
 use lq_table::{Cpu, Shared};
 use std::sync::Wait;
-
-/// Does event `e`, the plan's next.
-fn do_next_event<'a, R: Wait, D: TxDevice>(
-    rt: &R,
-    plan: &Plan,
-    infos: &[Info],
-    shared: &[Shared<'a, D>],
-    cpus: &mut Vec<Cpu<D>>,
-    e: u32,
-)
-    requires event { e < length plan.now.events }
-    requires sendable { IsSendable plan.now infos.now }
-    requires stands { (n : ℕ) × LaneStands plan.now infos.now 0 e n shared.now cpus.old.items }
-    ensures stands { (n : ℕ) → LaneStands plan.now infos.now 0 e n shared.now cpus.old.items
-        → LaneStands plan.now infos.now 0 (e + 1) n shared.now cpus.new.items }
-    ensures keeps { KeepAll cpus.old.items cpus.new.items }
-    ensures runs { (stations : List RunningStation) → Runs plan.now infos.now cpus.old.items stations
-        → Runs plan.now infos.now cpus.new.items (with_event plan.now infos.now e stations) }
-{
-    plan.stays_within_limits();
-    let EventPlan {
-        before: _,
-        station,
-        kind,
-    } = plan.event(e);
-    do_event(
-        rt,
-        &shared[station as usize],
-        &mut cpus[station as usize],
-        e,
-        kind,
-    );
-}
 
 /// Sends packet `n`, the next of its owner.
 fn send_packet<'a, R: Wait, D: TxDevice>(
@@ -77,7 +47,7 @@ fn send_packet<'a, R: Wait, D: TxDevice>(
     );
 }
 
-/// Wakes the queue of each station.
+/// Wakes the queues of each station.
 fn wake_all<'a, D: TxDevice>(shared: &[Shared<'a, D>], cpus: &mut Vec<Cpu<D>>)
     requires seats { AreSeats shared.now cpus.old.items }
     ensures { AllDid Wakes shared.now cpus.old.items cpus.new.items }
@@ -142,19 +112,24 @@ fn events_before<'a, R: Wait, D: TxDevice>(
     infos: &[Info],
     shared: &[Shared<'a, D>],
     cpus: &mut Vec<Cpu<D>>,
+    spares: &mut Vec<D>,
     next: u32,
     n: u32,
 ) -> u32
     requires next { next ≤ length plan.now.events }
     requires sendable { IsSendable plan.now infos.now }
     requires stands { (m : ℕ) × LaneStands plan.now infos.now 0 next m shared.now cpus.old.items }
+    requires devices { (units : List DeviceState) × DevicesStand plan.now infos.now units next cpus.old.items (map D.state spares.old.items) }
     ensures within { (next ≤ result) × (result ≤ length plan.now.events) }
     ensures done { (k : ℕ) (event : AnEvent) → next ≤ k → k < result → slice_get plan.now.events k ≡ Some event → event.before ≤ n }
     ensures left { (k : ℕ) (event : AnEvent) → result ≤ k → slice_get plan.now.events k ≡ Some event → n < event.before }
     ensures stands { (m : ℕ) → LaneStands plan.now infos.now 0 next m shared.now cpus.old.items
         → LaneStands plan.now infos.now 0 result m shared.now cpus.new.items }
-    ensures keeps { KeepAll cpus.old.items cpus.new.items }
-    ensures runs { (stations : List RunningStation) → Runs plan.now infos.now cpus.old.items stations
+    ensures keeps { KeepSeats cpus.old.items cpus.new.items }
+    ensures devices { (units : List DeviceState) → DevicesStand plan.now infos.now units next cpus.old.items (map D.state spares.old.items)
+        → DevicesStand plan.now infos.now units result cpus.new.items (map D.state spares.new.items) }
+    ensures runs { (units : List DeviceState) → DevicesStand plan.now infos.now units next cpus.old.items (map D.state spares.old.items) → DoTell plan.now units
+        → (stations : List RunningStation) → Runs plan.now infos.now cpus.old.items stations
         → Runs plan.now infos.now cpus.new.items (with_events plan.now infos.now (numbers_from next (result - next)) stations) }
 {
     plan.stays_within_limits();
@@ -162,7 +137,7 @@ fn events_before<'a, R: Wait, D: TxDevice>(
         if plan.event(e).before > n {
             return e;
         }
-        do_next_event(rt, plan, infos, shared, cpus, e);
+        do_any_event(rt, plan, infos, shared, cpus, spares, e);
     }
     plan.events()
 }
@@ -174,6 +149,7 @@ pub fn events_of<'a, R: Wait, D: TxDevice>(
     infos: &[Info],
     shared: &[Shared<'a, D>],
     cpus: &mut Vec<Cpu<D>>,
+    spares: &mut Vec<D>,
     sender: u32,
     next: u32,
     n: u32,
@@ -181,17 +157,21 @@ pub fn events_of<'a, R: Wait, D: TxDevice>(
     requires next { next ≤ length plan.now.events }
     requires sendable { IsSendable plan.now infos.now }
     requires stands { (m : ℕ) × LaneStands plan.now infos.now sender next m shared.now cpus.old.items }
+    requires devices { sender ≡ 0 → (units : List DeviceState) × DevicesStand plan.now infos.now units next cpus.old.items (map D.state spares.old.items) }
     ensures within { (next ≤ result) × (result ≤ length plan.now.events) }
     ensures done { (k : ℕ) (event : AnEvent) → next ≤ k → k < result → slice_get plan.now.events k ≡ Some event → event.before ≤ n }
     ensures left { sender ≡ 0 → (k : ℕ) (event : AnEvent) → result ≤ k → slice_get plan.now.events k ≡ Some event → n < event.before }
     ensures stands { (m : ℕ) → LaneStands plan.now infos.now sender next m shared.now cpus.old.items
         → LaneStands plan.now infos.now sender result m shared.now cpus.new.items }
-    ensures keeps { KeepAll cpus.old.items cpus.new.items }
-    ensures runs { (stations : List RunningStation) → Runs plan.now infos.now cpus.old.items stations
+    ensures keeps { KeepSeats cpus.old.items cpus.new.items }
+    ensures devices { (units : List DeviceState) → DevicesStand plan.now infos.now units next cpus.old.items (map D.state spares.old.items)
+        → DevicesStand plan.now infos.now units result cpus.new.items (map D.state spares.new.items) }
+    ensures runs { (units : List DeviceState) → DevicesStand plan.now infos.now units next cpus.old.items (map D.state spares.old.items) → DoTell plan.now units
+        → (stations : List RunningStation) → Runs plan.now infos.now cpus.old.items stations
         → Runs plan.now infos.now cpus.new.items (with_events plan.now infos.now (numbers_from next (result - next)) stations) }
 {
     if sender == 0 {
-        events_before(rt, plan, infos, shared, cpus, next, n)
+        events_before(rt, plan, infos, shared, cpus, spares, next, n)
     } else {
         next
     }
@@ -204,6 +184,7 @@ fn bring<'a, R: Wait, D: TxDevice, G: Gate>(
     infos: &[Info],
     shared: &[Shared<'a, D>],
     cpus: &mut Vec<Cpu<D>>,
+    spares: &mut Vec<D>,
     sender: u32,
     next: u32,
     k: u32,
@@ -217,16 +198,20 @@ fn bring<'a, R: Wait, D: TxDevice, G: Gate>(
     requires next { next ≤ length plan.now.events }
     requires earlier { (j : ℕ) (event : AnEvent) → j < next → slice_get plan.now.events j ≡ Some event → event.before < n }
     requires stands { LaneStands plan.now infos.now sender next n shared.now cpus.old.items }
+    requires devices { sender ≡ 0 → (units : List DeviceState) × DevicesStand plan.now infos.now units next cpus.old.items (map D.state spares.old.items) }
     ensures within { (next ≤ result) × (result ≤ length plan.now.events) }
     ensures done { (j : ℕ) (event : AnEvent) → j < result → slice_get plan.now.events j ≡ Some event → event.before ≤ n }
     ensures left { sender ≡ 0 → (j : ℕ) (event : AnEvent) → result ≤ j → slice_get plan.now.events j ≡ Some event → n < event.before }
     ensures stands { LaneStands plan.now infos.now sender result (n + 1) shared.now cpus.new.items }
-    ensures keeps { KeepAll cpus.old.items cpus.new.items }
-    ensures runs { (stations : List RunningStation) → Runs plan.now infos.now cpus.old.items stations
+    ensures keeps { KeepSeats cpus.old.items cpus.new.items }
+    ensures devices { (units : List DeviceState) → DevicesStand plan.now infos.now units next cpus.old.items (map D.state spares.old.items)
+        → DevicesStand plan.now infos.now units result cpus.new.items (map D.state spares.new.items) }
+    ensures runs { (units : List DeviceState) → DevicesStand plan.now infos.now units next cpus.old.items (map D.state spares.old.items) → DoTell plan.now units
+        → (stations : List RunningStation) → Runs plan.now infos.now cpus.old.items stations
         → Runs plan.now infos.now cpus.new.items (map (served infos.now) (with_wakes plan.now k (with_packet plan.now infos.now n
         (with_events plan.now infos.now (numbers_from next (result - next)) stations)))) }
 {
-    let next = events_of(rt, plan, infos, shared, cpus, sender, next, n);
+    let next = events_of(rt, plan, infos, shared, cpus, spares, sender, next, n);
     gate.pass(sender, k);
     send_packet(rt, plan, infos, shared, cpus, n);
     turn(rt, plan, infos, shared, cpus, k);
@@ -247,6 +232,7 @@ pub fn come_to<'a, R: Wait, D: TxDevice, G: Gate>(
     infos: &[Info],
     shared: &[Shared<'a, D>],
     cpus: &mut Vec<Cpu<D>>,
+    spares: &mut Vec<D>,
     sender: u32,
     at: Progress,
     n: u32,
@@ -254,13 +240,16 @@ pub fn come_to<'a, R: Wait, D: TxDevice, G: Gate>(
 ) -> Progress
     requires packet { n < length infos.now }
     requires sendable { IsSendable plan.now infos.now }
-    requires sending { (start : List (Cpu D.row.Denot)) × IsSending plan.now infos.now shared.now sender n at.sent at.next start cpus.old.items }
-    ensures { (start : List (Cpu D.row.Denot)) → IsSending plan.now infos.now shared.now sender n at.sent at.next start cpus.old.items
-        → IsSending plan.now infos.now shared.now sender (n + 1) result.sent result.next start cpus.new.items }
+    requires sending { (start : List (Cpu D.row.Denot)) × (brought : List DeviceState)
+        × IsSending plan.now infos.now shared.now sender n at.sent at.next start brought cpus.old.items (map D.state spares.old.items) }
+    requires devices { sender ≡ 0 → (units : List DeviceState) × DevicesStand plan.now infos.now units at.next cpus.old.items (map D.state spares.old.items) }
+    ensures { (start : List (Cpu D.row.Denot)) (brought : List DeviceState)
+        → IsSending plan.now infos.now shared.now sender n at.sent at.next start brought cpus.old.items (map D.state spares.old.items)
+        → IsSending plan.now infos.now shared.now sender (n + 1) result.sent result.next start brought cpus.new.items (map D.state spares.new.items) }
 {
     if infos[n as usize].owner == sender {
         let next = bring(
-            rt, plan, infos, shared, cpus, sender, at.next, at.sent, n, gate,
+            rt, plan, infos, shared, cpus, spares, sender, at.next, at.sent, n, gate,
         );
         Progress {
             sent: at.sent + 1,

@@ -1,8 +1,10 @@
 //! Senders side by side.
-ghost use Rattle.std.specs.Prelude.{◌≡◌, ℕ, ◌≤◌, ◌-◌, List, length};
-ghost use Rattle.lq_lanes.specs.Lanes.{AllOwn, AreDoneLanes, AreReadyLanes, IsDoneLane, IsReadyLane, IsSendable, KeepAll, LaneDone, LaneStands, Runs, after_sending};
+ghost use Rattle.std.specs.Prelude.{◌≡◌, ℕ, ◌≤◌, ◌-◌, List, length, map};
+ghost use Rattle.lq_lanes.specs.Lanes.{AllOwn, AreDoneLanes, AreReadyLanes, IsDoneLane, IsReadyLane, IsSendable, KeepSeats, LaneDone, LaneStands, Runs, after_sending};
+ghost use Rattle.lq_lanes.specs.Units.{DevicesStand, DoTell};
 ghost use Rattle.lq_lanes.specs.Way.{numbers_from};
 ghost use Rattle.lq_model.specs.Alone.{RunningStation, with_events};
+ghost use Rattle.lq_model.specs.Device.{DeviceState};
 
 use crate::gate::Gate;
 use crate::lane::{Progress, come_to, events_of};
@@ -19,6 +21,8 @@ use std::thread::Threads;
 pub struct Lane<D: TxDevice> {
     pub owner: u32,
     pub cpus: Vec<Cpu<D>>,
+    /// The devices of the exchanges to come, in order, and then those that exchanges took away. They are the first sender's.
+    pub spares: Vec<D>,
 }
 
 /// Does the plan's events from `next` on, if this is the first sender.
@@ -28,20 +32,35 @@ fn events_left<'a, R: Wait, D: TxDevice>(
     infos: &[Info],
     shared: &[Shared<'a, D>],
     cpus: &mut Vec<Cpu<D>>,
+    spares: &mut Vec<D>,
     sender: u32,
     next: u32,
 )
     requires next { next ≤ length plan.now.events }
     requires sendable { IsSendable plan.now infos.now }
     requires stands { (m : ℕ) × LaneStands plan.now infos.now sender next m shared.now cpus.old.items }
+    requires devices { sender ≡ 0 → (units : List DeviceState) × DevicesStand plan.now infos.now units next cpus.old.items (map D.state spares.old.items) }
     ensures stands { (m : ℕ) → LaneStands plan.now infos.now sender next m shared.now cpus.old.items
         → LaneStands plan.now infos.now sender (length plan.now.events) m shared.now cpus.new.items }
-    ensures keeps { KeepAll cpus.old.items cpus.new.items }
-    ensures runs { sender ≡ 0 → (stations : List RunningStation) → Runs plan.now infos.now cpus.old.items stations
+    ensures keeps { KeepSeats cpus.old.items cpus.new.items }
+    ensures devices { sender ≡ 0 → (units : List DeviceState) → DevicesStand plan.now infos.now units next cpus.old.items (map D.state spares.old.items)
+        → DevicesStand plan.now infos.now units (length plan.now.events) cpus.new.items (map D.state spares.new.items) }
+    ensures runs { sender ≡ 0 → (units : List DeviceState) → DevicesStand plan.now infos.now units next cpus.old.items (map D.state spares.old.items) → DoTell plan.now units
+        → (stations : List RunningStation) → Runs plan.now infos.now cpus.old.items stations
         → Runs plan.now infos.now cpus.new.items (with_events plan.now infos.now (numbers_from next (length plan.now.events - next)) stations) }
 {
     plan.stays_within_limits();
-    let _last = events_of(rt, plan, infos, shared, cpus, sender, next, u32::MAX);
+    let _last = events_of(
+        rt,
+        plan,
+        infos,
+        shared,
+        cpus,
+        spares,
+        sender,
+        next,
+        u32::MAX,
+    );
 }
 
 /// Sends a sender's packets. The first sender does the plan's events, each before its packets with that number or a higher one.
@@ -55,18 +74,42 @@ pub fn send_loop<'a, R: Wait, D: TxDevice, G: Gate>(
 )
     requires sendable { IsSendable plan.now infos.now }
     requires stands { LaneStands plan.now infos.now lane.old.owner 0 0 shared.now lane.old.cpus.items }
+    requires devices { lane.old.owner ≡ 0 → (units : List DeviceState) × DevicesStand plan.now infos.now units 0 lane.old.cpus.items (map D.state lane.old.spares.items) }
     ensures owner { lane.new.owner ≡ lane.old.owner }
     ensures stands { LaneDone plan.now infos.now lane.new.owner shared.now lane.new.cpus.items }
-    ensures keeps { KeepAll lane.old.cpus.items lane.new.cpus.items }
-    ensures runs { lane.old.owner ≡ 0 → AllOwn infos.now → (from : List RunningStation) → Runs plan.now infos.now lane.old.cpus.items from
+    ensures keeps { KeepSeats lane.old.cpus.items lane.new.cpus.items }
+    ensures devices { lane.old.owner ≡ 0 → (units : List DeviceState) → DevicesStand plan.now infos.now units 0 lane.old.cpus.items (map D.state lane.old.spares.items)
+        → DevicesStand plan.now infos.now units (length plan.now.events) lane.new.cpus.items (map D.state lane.new.spares.items) }
+    ensures runs { lane.old.owner ≡ 0 → (units : List DeviceState) → DevicesStand plan.now infos.now units 0 lane.old.cpus.items (map D.state lane.old.spares.items) → DoTell plan.now units
+        → AllOwn infos.now → (from : List RunningStation) → Runs plan.now infos.now lane.old.cpus.items from
         → Runs plan.now infos.now lane.new.cpus.items (after_sending plan.now infos.now from) }
 {
     let sender = lane.owner;
     let mut at = Progress { sent: 0, next: 0 };
     for n in 0..infos.len() as u32 {
-        at = come_to(rt, plan, infos, shared, &mut lane.cpus, sender, at, n, gate);
+        at = come_to(
+            rt,
+            plan,
+            infos,
+            shared,
+            &mut lane.cpus,
+            &mut lane.spares,
+            sender,
+            at,
+            n,
+            gate,
+        );
     }
-    events_left(rt, plan, infos, shared, &mut lane.cpus, sender, at.next);
+    events_left(
+        rt,
+        plan,
+        infos,
+        shared,
+        &mut lane.cpus,
+        &mut lane.spares,
+        sender,
+        at.next,
+    );
     gate.pass(sender, at.sent);
 }
 
@@ -126,10 +169,14 @@ fn first_sent<'a, R: Wait, D: TxDevice, G: Gate>(
     requires sendable { IsSendable plan.now infos.now }
     requires owner { lane.owner ≡ 0 }
     requires stands { LaneStands plan.now infos.now 0 0 0 shared.now lane.cpus.items }
+    requires devices { (units : List DeviceState) × DevicesStand plan.now infos.now units 0 lane.cpus.items (map D.state lane.spares.items) }
     ensures owner { result.owner ≡ 0 }
     ensures stands { LaneDone plan.now infos.now 0 shared.now result.cpus.items }
-    ensures keeps { KeepAll lane.cpus.items result.cpus.items }
-    ensures runs { AllOwn infos.now → (from : List RunningStation) → Runs plan.now infos.now lane.cpus.items from
+    ensures keeps { KeepSeats lane.cpus.items result.cpus.items }
+    ensures devices { (units : List DeviceState) → DevicesStand plan.now infos.now units 0 lane.cpus.items (map D.state lane.spares.items)
+        → DevicesStand plan.now infos.now units (length plan.now.events) result.cpus.items (map D.state result.spares.items) }
+    ensures runs { (units : List DeviceState) → DevicesStand plan.now infos.now units 0 lane.cpus.items (map D.state lane.spares.items) → DoTell plan.now units
+        → AllOwn infos.now → (from : List RunningStation) → Runs plan.now infos.now lane.cpus.items from
         → Runs plan.now infos.now result.cpus.items (after_sending plan.now infos.now from) }
 {
     send_loop(rt, plan, infos, shared, &mut lane, gate);
@@ -166,10 +213,14 @@ pub fn all_send<'a, R: Threads + Wait + Sync, D: TxDevice, G: Gate>(
     requires sendable { IsSendable plan.now infos.now }
     requires owner { first.owner ≡ 0 }
     requires first { LaneStands plan.now infos.now 0 0 0 shared.now first.cpus.items }
+    requires devices { (units : List DeviceState) × DevicesStand plan.now infos.now units 0 first.cpus.items (map D.state first.spares.items) }
     requires others { AreReadyLanes plan.now infos.now shared.now others.items }
     ensures first { LaneDone plan.now infos.now 0 shared.now result.0.cpus.items }
-    ensures keeps { KeepAll first.cpus.items result.0.cpus.items }
-    ensures runs { AllOwn infos.now → (from : List RunningStation) → Runs plan.now infos.now first.cpus.items from
+    ensures keeps { KeepSeats first.cpus.items result.0.cpus.items }
+    ensures devices { (units : List DeviceState) → DevicesStand plan.now infos.now units 0 first.cpus.items (map D.state first.spares.items)
+        → DevicesStand plan.now infos.now units (length plan.now.events) result.0.cpus.items (map D.state result.0.spares.items) }
+    ensures runs { (units : List DeviceState) → DevicesStand plan.now infos.now units 0 first.cpus.items (map D.state first.spares.items) → DoTell plan.now units
+        → AllOwn infos.now → (from : List RunningStation) → Runs plan.now infos.now first.cpus.items from
         → Runs plan.now infos.now result.0.cpus.items (after_sending plan.now infos.now from) }
     ensures others { AreDoneLanes plan.now infos.now shared.now result.1.items }
     ensures long { length result.1.items ≡ length others.items }
@@ -177,9 +228,13 @@ pub fn all_send<'a, R: Threads + Wait + Sync, D: TxDevice, G: Gate>(
     thread::join(
         rt,
         move || -> Lane<D>
-            requires { IsSendable plan.now infos.now × (first.owner ≡ 0) × LaneStands plan.now infos.now 0 0 0 shared.now first.cpus.items }
-            ensures { LaneDone plan.entry.now infos.entry.now 0 shared.entry.now result.cpus.items × KeepAll first.cpus.items result.cpus.items
-                × (AllOwn infos.entry.now → (from : List RunningStation) → Runs plan.entry.now infos.entry.now first.cpus.items from
+            requires { IsSendable plan.now infos.now × (first.owner ≡ 0) × LaneStands plan.now infos.now 0 0 0 shared.now first.cpus.items
+                × ((units : List DeviceState) × DevicesStand plan.now infos.now units 0 first.cpus.items (map D.state first.spares.items)) }
+            ensures { LaneDone plan.entry.now infos.entry.now 0 shared.entry.now result.cpus.items × KeepSeats first.cpus.items result.cpus.items
+                × ((units : List DeviceState) → DevicesStand plan.entry.now infos.entry.now units 0 first.cpus.items (map D.state first.spares.items)
+                → DevicesStand plan.entry.now infos.entry.now units (length plan.entry.now.events) result.cpus.items (map D.state result.spares.items))
+                × ((units : List DeviceState) → DevicesStand plan.entry.now infos.entry.now units 0 first.cpus.items (map D.state first.spares.items) → DoTell plan.entry.now units
+                → AllOwn infos.entry.now → (from : List RunningStation) → Runs plan.entry.now infos.entry.now first.cpus.items from
                 → Runs plan.entry.now infos.entry.now result.cpus.items (after_sending plan.entry.now infos.entry.now from)) }
         { first_sent(rt, plan, infos, shared, first, gate) },
         move || -> Vec<Lane<D>>

@@ -7,16 +7,22 @@ mod lane;
 mod lanes;
 mod laws;
 mod read;
+mod ready;
 mod send;
 mod setup;
+mod spares;
+mod swaps;
+mod undo;
 mod whole;
 
 pub use ends::end_run;
 pub use gate::{Free, Gate};
 pub use lanes::{Lane, all_send, send_loop};
 pub use laws::{
-    ends_make_fates, runs_are_readable, runs_keep_boxes, runs_leave_stations, runs_make_fates,
+    ends_make_fates, runs_are_readable, runs_keep_boxes, runs_leave_devices, runs_leave_stations,
+    runs_make_fates,
 };
 pub use read::read_fates;
 pub use send::send_all;
+pub use undo::undo_exchanges;
 pub use whole::run;

@@ -1,19 +1,20 @@
 //! The packets of a capture through the stations of a plan.
-ghost use Rattle.std.specs.Prelude.{◌≡◌, ◌≤◌, ◌+◌, ◌++◌, ℕ, [], List, IfOk, OnErr, drop, take, length, map, vec_capacity, vec_len};
-ghost use Rattle.lq_lanes.specs.Ends.{closed_state};
+ghost use Rattle.std.specs.Prelude.{◌≡◌, ◌≤◌, ◌+◌, ◌++◌, [], List, IfOk, OnErr, drop, take, length, map, vec_capacity, vec_len};
 ghost use Rattle.lq_lanes.specs.Fates.{AreEnded, AreFatesOf, ended_state, identities_of};
 ghost use Rattle.lq_lanes.specs.Lanes.{IsSendable};
-ghost use Rattle.lq_lanes.specs.Setup.{AreAtHome, AreEmptyLanes, IsReady, IsRunBy, home_device};
+ghost use Rattle.lq_lanes.specs.Setup.{AreEmptyLanes, IsReady, IsRunBy};
 ghost use Rattle.lq_model.specs.Device.{DeviceState};
 ghost use Rattle.lq_model.specs.Plan.{unit_count};
 
 use crate::gate::Gate;
 use crate::lanes::Lane;
-use crate::laws::{runs_are_readable, runs_keep_boxes, runs_leave_stations, runs_make_fates};
-use crate::read::read_fates;
-use crate::setup::{
-    Stations, configure_units, lanes_for, may_be_sent, open_all, room_for, split_lanes,
+use crate::laws::{
+    runs_are_readable, runs_keep_boxes, runs_leave_devices, runs_leave_stations, runs_make_fates,
 };
+use crate::read::read_fates;
+use crate::ready::make_ready;
+use crate::setup::{Stations, lanes_for, may_be_sent, room_for, split_lanes};
+use crate::undo::{hand_back, take_apart};
 use crate::whole::run;
 use lq_device::TxDevice;
 use lq_model::{Fate, Info, NoMemory};
@@ -24,73 +25,64 @@ use std::marker::Sync;
 use std::sync::Wait;
 use std::thread::Threads;
 
-/// Lays the devices of closed stations back into the bench, in their order before those that stand there, and lays out
-/// what stays of the stations. Takes no memory.
-fn hand_back<D: TxDevice>(mut closed: Vec<Closed<D>>, bench: &mut Vec<D>, ended: &mut Vec<Ended<D>>)
-    requires home { AreAtHome (map closed_state closed.items) }
-    requires none_yet { ended.old.items ≡ [] }
-    requires room { (vec_len bench.old + vec_len closed ≤ vec_capacity bench.old) × (vec_len closed ≤ vec_capacity ended.old) }
-    ensures states { map D.state bench.new.items ≡ map home_device (map closed_state closed.items) ++ map D.state bench.old.items }
-    ensures ended { map ended_state ended.new.items ≡ map (λ x. x.ended) (map closed_state closed.items) }
-    ensures rest { drop (vec_len closed) bench.new.items ≡ bench.old.items }
-    ensures len { vec_len bench.new ≡ vec_len closed + vec_len bench.old }
-{
-    while let Some(station) = closed.pop() {
-        let (stays, device) = station.into_device();
-        let _laid_back = bench.insert(0, device);
-        let _laid_out = ended.insert(0, stays);
-    }
-}
-
-/// Sends the packets through the opened stations, whose devices are in the bench again after the last of them. Takes no
-/// memory: `others` has the room for the other senders' seats, `closed` and `ended` for the stations and `fates` for the
-/// packets.
+/// Sends the packets through the opened stations, with these spare devices. All devices are in the bench again after the last
+/// of them. Takes no memory: `others` has the room for the other senders' seats, `closed` and `ended` for the stations, `homes`
+/// for their devices and `fates` for the packets.
 fn send_ready<'a, R: Threads + Wait + Sync, D: TxDevice, G: Gate>(
     rt: &R,
     plan: &Plan,
     infos: &'a [Info],
     stations: Stations<'a, D>,
+    spares: Vec<D>,
     mut others: Vec<Lane<D>>,
     mut closed: Vec<Closed<D>>,
+    mut homes: Vec<D>,
     fates: &mut Vec<Fate>,
     bench: &mut Vec<D>,
     ended: &mut Vec<Ended<D>>,
     gate: &G,
 )
     requires sendable { IsSendable plan.now infos.now }
-    requires ready { (before : List DeviceState) × IsReady plan.now infos.now before stations.tables.items stations.cpus.items }
+    requires ready { (before : List DeviceState) × IsReady plan.now infos.now before stations.tables.items stations.cpus.items (map D.state spares.items) }
     requires lanes { AreEmptyLanes plan.now others.items }
-    requires none_yet { (closed.items ≡ []) × (fates.old.items ≡ []) × (ended.old.items ≡ []) }
-    requires room { (length plan.now.stations ≤ vec_capacity closed) × (length infos.now ≤ vec_capacity fates.old) × (length plan.now.stations ≤ vec_capacity ended.old) }
-    requires bench_room { vec_len bench.old + length plan.now.stations ≤ vec_capacity bench.old }
-    ensures fates { (before : List DeviceState) → IsReady plan.now infos.now before stations.entry.tables.items stations.entry.cpus.items
+    requires none_yet { (closed.items ≡ []) × (homes.items ≡ []) × (fates.old.items ≡ []) × (ended.old.items ≡ []) }
+    requires room { (length plan.now.stations ≤ vec_capacity closed) × (length plan.now.stations ≤ vec_capacity homes) × (length infos.now ≤ vec_capacity fates.old) × (length plan.now.stations ≤ vec_capacity ended.old) }
+    requires bench_room { vec_len bench.old + unit_count plan.now ≤ vec_capacity bench.old }
+    ensures fates { (before : List DeviceState) → IsReady plan.now infos.now before stations.entry.tables.items stations.entry.cpus.items (map D.state spares.items)
         → AreFatesOf plan.now infos.now fates.new.items before (map D.state bench.new.items) }
     ensures ended { AreEnded plan.now infos.now fates.new.items (map ended_state ended.new.items) }
-    ensures boxes { (before : List DeviceState) → IsReady plan.now infos.now before stations.entry.tables.items stations.entry.cpus.items
-        → identities_of (map D.state bench.new.items) ≡ take (length plan.now.stations) (identities_of before) ++ identities_of (map D.state bench.old.items) }
-    ensures rest { drop (length plan.now.stations) bench.new.items ≡ bench.old.items }
-    ensures len { vec_len bench.new ≡ length plan.now.stations + vec_len bench.old }
+    ensures boxes { (before : List DeviceState) → IsReady plan.now infos.now before stations.entry.tables.items stations.entry.cpus.items (map D.state spares.items)
+        → identities_of (map D.state bench.new.items) ≡ take (unit_count plan.now) (identities_of before) ++ identities_of (map D.state bench.old.items) }
+    ensures rest { drop (unit_count plan.now) bench.new.items ≡ bench.old.items }
+    ensures len { vec_len bench.new ≡ unit_count plan.now + vec_len bench.old }
 {
     plan.stays_within_limits();
     let Stations { tables, mut cpus } = stations;
     split_lanes(plan, infos, tables.as_slice(), &mut cpus, &mut others);
-    let first = Lane { owner: 0, cpus };
-    run(rt, plan, infos, tables, first, others, &mut closed, gate);
+    let first = Lane {
+        owner: 0,
+        cpus,
+        spares,
+    };
+    let spares = run(rt, plan, infos, tables, first, others, &mut closed, gate);
     runs_are_readable::<D>();
     runs_make_fates::<D>();
     runs_leave_stations::<D>();
+    runs_leave_devices::<D>();
     runs_keep_boxes::<D>();
     read_fates(closed.as_slice(), infos, fates);
-    hand_back(closed, bench, ended);
+    take_apart(closed, &mut homes, ended);
+    hand_back(plan, homes, spares, bench);
 }
 
-/// Sends the packets through the plan's stations, each with the device of the bench at its place, and lays out what stays
-/// of the stations: packet n has the n-th fate.
+/// Sends the packets through the plan's stations, and lays out what stays of them: packet n has the n-th fate. Each station
+/// begins with the device of the bench at its place, and the plan's exchanges bring those after them, in order. All are back
+/// in their places at the end.
 ///
 /// # NoMemory
 ///
-/// There was no room for the fates, a station's table, a sender's seats or a device's packets. All devices are in the
-/// bench again.
+/// There was no room for the fates, a station's table, a sender's seats, the devices or a device's packets. All devices
+/// are in the bench again.
 pub fn send_all<R: Threads + Wait + Sync, D: TxDevice, G: Gate>(
     rt: &R,
     alloc: Global,
@@ -119,10 +111,11 @@ pub fn send_all<R: Threads + Wait + Sync, D: TxDevice, G: Gate>(
     *ended = room_for(alloc, count)?;
     let tables = room_for(alloc, count)?;
     let cpus = room_for(alloc, count)?;
-    configure_units(plan, infos, bench)?;
-    let stations = open_all(alloc, plan, infos, bench, tables, cpus)?;
+    let homes = room_for(alloc, count)?;
+    let mut spares = room_for(alloc, plan.units() as usize - count)?;
+    let stations = make_ready(alloc, plan, infos, bench, tables, cpus, &mut spares)?;
     send_ready(
-        rt, plan, infos, stations, others, closed, &mut fates, bench, ended, gate,
+        rt, plan, infos, stations, spares, others, closed, homes, &mut fates, bench, ended, gate,
     );
     Ok(fates)
 }

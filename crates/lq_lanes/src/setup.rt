@@ -3,10 +3,10 @@
 //! All memory but that of the tables is taken before a device leaves the bench. Where there is none for a table, those
 //! opened before it end, and each device is back in the bench.
 ghost use Rattle.std.specs.Prelude.{◌≡◌, ◌≤◌, ◌<◌, ◌+◌, ◌-◌, ◌++◌, ℕ, [], List, IfOk, OnOk, OnErr, drop, length, map, vec_len, vec_capacity};
-ghost use Rattle.lq_lanes.specs.Ends.{SameOrigins};
 ghost use Rattle.lq_lanes.specs.Fates.{identities_of};
 ghost use Rattle.lq_lanes.specs.Lanes.{AreReadyLanes, IsReadyLane, IsSendable};
 ghost use Rattle.lq_lanes.specs.Setup.{AreConfigured, AreEmptyLanes, AreOpened, AreSplitting, AreWhole, IsEmptyLane, IsRunBy, origins_of};
+ghost use Rattle.lq_lanes.specs.Units.{SameDevices};
 ghost use Rattle.lq_model.specs.Device.{DeviceState};
 ghost use Rattle.lq_table.specs.Rule.{station_count};
 
@@ -29,7 +29,7 @@ pub fn room_for<T>(alloc: Global, count: usize) -> Result<Vec<T>, NoMemory>
     }
 }
 
-/// The packets of a capture under a plan that exchanges no device may be sent.
+/// The packets of a capture under a plan may be sent.
 pub fn may_be_sent(plan: &Plan, infos: &[Info])
     requires { IsRunBy plan.now infos.now }
     ensures { IsSendable plan.now infos.now }
@@ -39,7 +39,7 @@ pub fn may_be_sent(plan: &Plan, infos: &[Info])
 }
 
 /// How many packets go to a station.
-fn packets_of(infos: &[Info], station: u32) -> usize
+pub fn packets_of(infos: &[Info], station: u32) -> usize
     ensures { result ≡ station_count infos.now station }
 {
     infos.iter().filter(|info| info.station == station).count()
@@ -74,7 +74,11 @@ pub fn lanes_for<D: TxDevice>(alloc: Global, plan: &Plan) -> Result<Vec<Lane<D>>
     let mut lanes = room_for(alloc, senders as usize - 1)?;
     for owner in 1..senders {
         let cpus = room_for(alloc, plan.stations() as usize)?;
-        lanes.push_reserved(Lane { owner, cpus });
+        lanes.push_reserved(Lane {
+            owner,
+            cpus,
+            spares: Vec::new(alloc),
+        });
     }
     Ok(lanes)
 }
@@ -207,7 +211,7 @@ fn split_lane<'a, D: TxDevice>(
     requires splitting { AreSplitting plan.now infos.now (place + 1) tables.now cpus.old.items }
     ensures splitting { AreSplitting plan.now infos.now (place + 2) tables.now cpus.new.items }
     ensures ready { IsReadyLane plan.now infos.now tables.now place lane.new.owner lane.new.cpus.items }
-    ensures origins { SameOrigins cpus.old.items cpus.new.items }
+    ensures devices { SameDevices cpus.old.items cpus.new.items }
 {
     plan.stays_within_limits();
     let _ = &infos;
@@ -231,7 +235,7 @@ pub fn split_lanes<'a, D: TxDevice>(
     ensures splitting { AreSplitting plan.now infos.now plan.now.senders tables.now cpus.new.items }
     ensures ready { AreReadyLanes plan.now infos.now tables.now lanes.new.items }
     ensures one_each { length lanes.new.items + 1 ≡ plan.now.senders }
-    ensures origins { SameOrigins cpus.old.items cpus.new.items }
+    ensures devices { SameDevices cpus.old.items cpus.new.items }
     ensures alone { plan.now.senders ≡ 1 → cpus.new.items ≡ cpus.old.items }
 {
     for place in 0..lanes.len() {

@@ -4,14 +4,14 @@ use Rattle.lq_table.specs.declared.shared.Shared.{Shared}
 use Rattle.lq_lanes.specs.Ends.{AllMayClose}
 use Rattle.lq_lanes.specs.Joins.{LaneJoined}
 use Rattle.lq_lanes.specs.Lanes.{AreDoneLanes, Runs}
-use Rattle.lq_lanes.proofs.Closes.{fates-finished, finished-may-close, origins-did}
-use Rattle.lq_lanes.proofs.Joins.{joined-first, origins-on}
+use Rattle.lq_lanes.proofs.Closes.{devices-did, fates-finished, finished-may-close}
+use Rattle.lq_lanes.proofs.Joins.{devices-on, joined-first}
 use Rattle.lq_lanes.proofs.ends.end_run.Goals as goal
 
 pub join_all-requires-clause-first : goal.join_all-requires-clause-first
 join_all-requires-clause-first g c κs within =
-    subst (λ (l : List (Shared g.row.D.Denot)). LaneJoined c.args.plan.now c.args.infos.now (length c.args.others.items) l c.args.first.cpus.items) (sym c.as_slice-tables.ensures.value)
-    (joined-first c.args.plan.now c.args.infos.now (length c.args.others.items) c.args.shared.items c.args.first.cpus.items c.requires.senders c.requires.first.0 c.requires.first.1)
+    subst (λ (l : List (Shared g.row.D.Denot)). LaneJoined c.args.plan.now c.args.infos.now (length c.args.others.items) l c.args.cpus.items) (sym c.as_slice-tables.ensures.value)
+    (joined-first c.args.plan.now c.args.infos.now (length c.args.others.items) c.args.shared.items c.args.cpus.items c.requires.senders c.requires.first.0 c.requires.first.1)
 
 pub join_all-requires-clause-others : goal.join_all-requires-clause-others
 join_all-requires-clause-others g c κs within =
@@ -28,9 +28,9 @@ returns g c =
       seats = c.finish_all.new.cpus.items;
       one_each = c.finish_all.ensures.long ∙ (joined.long ∙ joined.all);
       closed_are = c.close_all.ensures;
-      origins = origins-on c.args.first.cpus.items c.join_all.new.cpus.items c.finish_all.new.cpus.items c.join_all.ensures.origins
-          (origins-did c.as_slice-tables.result.now c.join_all.new.cpus.items c.finish_all.new.cpus.items joined.long c.finish_all.ensures);
-      alone = λ none own from begins.
+      devices = devices-on c.args.cpus.items c.join_all.new.cpus.items c.finish_all.new.cpus.items c.join_all.ensures.devices
+          (devices-did c.as_slice-tables.result.now c.join_all.new.cpus.items c.finish_all.new.cpus.items joined.long c.finish_all.ensures);
+      alone = λ none from begins.
           fates-finished c.args.plan.now c.args.infos.now c.as_slice-tables.result.now c.join_all.new.cpus.items c.finish_all.new.cpus.items from joined c.finish_all.ensures
           (subst (λ (l : List (Cpu g.row.D.Denot)). Runs c.args.plan.now c.args.infos.now l from) (sym (c.join_all.ensures.alone none)) begins);
     }

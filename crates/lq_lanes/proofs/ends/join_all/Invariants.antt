@@ -1,14 +1,14 @@
 use Rattle.std.proofs.Common.{◌≡◌, ◌≤◌}
-use Rattle.lq_lanes.specs.Ends.{SameOrigins}
 use Rattle.lq_lanes.specs.Joins.{LaneJoined}
 use Rattle.lq_lanes.specs.Lanes.{AreDoneLanes}
+use Rattle.lq_lanes.specs.Units.{SameDevices}
 use Rattle.lq_lanes.proofs.ends.join_all.Given as goal
 
 abbrev pub invariant-loop-lane : goal.invariant-loop-lane
 invariant-loop-lane g l = record {
   joined : LaneJoined l.fn.plan l.fn.infos l.others.len l.shared l.cpus.items;
   others : AreDoneLanes l.fn.plan l.fn.infos l.shared l.others.items;
-  origins : SameOrigins l.fn.cpus.items l.cpus.items;
+  devices : SameDevices l.fn.cpus.items l.cpus.items;
   fewer : l.others.len ≤ l.fn.others.len;
   alone : l.fn.others.len ≡ 0 → l.cpus.items ≡ l.fn.cpus.items;
 }

@@ -1,7 +1,7 @@
 use Rattle.std.proofs.Common.{◌≡◌, ℕ, suc, length, sym, subst, arith}
 use Rattle.std.specs.Prelude.{slice_set}
 use Rattle.lq_lanes.specs.Joins.{JoinsDown}
-use Rattle.lq_lanes.proofs.Joins.{joins-start, joins-end, join-one, origins-set, other-next, same-origins}
+use Rattle.lq_lanes.proofs.Joins.{joins-start, joins-end, join-one, devices-joined, other-next, same-devices}
 use Rattle.lq_lanes.proofs.Seats.{read-at}
 use Rattle.lq_lanes.proofs.ends.join_lane.Goals as goal
 
@@ -9,7 +9,7 @@ pub loop-other-init : goal.loop-other-init
 loop-other-init g c = record {
   down = joins-start c.args.plan.now c.args.infos.now c.args.place c.args.lane.owner c.args.shared.now c.args.cpus.now.items c.args.lane.cpus.items c.requires.first c.requires.other
       c.args.lane.cpus.len (sym c.args.lane.cpus.ok.0);
-  origins = same-origins c.args.cpus.now.items;
+  devices = same-devices c.args.cpus.now.items;
 }
 
 pub offset_bounds-shared-j : goal.offset_bounds-shared-j
@@ -58,7 +58,9 @@ loop-other-preserved g c =
           (join-one plan infos place c.len-j.result c.args.shared.now c.loop-other.cpus.items c.loop-other.others.items c.pop.new.self.items c.index-shared-j.result c.index_mut.result.now c.in-Some.other c.join_seats.new.into
           c.in-Some.ensures.items so_many (read-at c.args.shared.now c.len-j.result c.index-shared-j.result (omega arith) c.index-shared-j.is) at-d
           c.join_seats.ensures.seat c.join_seats.ensures.view now);
-      origins = origins-set c.len-j.result c.args.cpus.now.items c.loop-other.cpus.items c.index_mut.result.now c.join_seats.new.into at-d c.join_seats.ensures.origin c.loop-other.invariant.origins;
+      devices = devices-joined c.len-j.result c.args.cpus.now.items c.loop-other.cpus.items c.index_mut.result.now c.in-Some.other c.join_seats.new.into at-d
+          (down.ahead c.len-j.result c.index-shared-j.result c.index_mut.result.now (omega arith) (read-at c.args.shared.now c.len-j.result c.index-shared-j.result (omega arith) c.index-shared-j.is) at-d).joined.first
+          c.join_seats.ensures.view c.loop-other.invariant.devices;
     }
 
 pub returns-clause-joined : goal.returns-clause-joined

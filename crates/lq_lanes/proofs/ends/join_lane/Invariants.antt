@@ -1,11 +1,11 @@
-use Rattle.lq_lanes.specs.Ends.{SameOrigins}
 use Rattle.lq_lanes.specs.Joins.{JoinsDown}
+use Rattle.lq_lanes.specs.Units.{SameDevices}
 use Rattle.lq_lanes.proofs.ends.join_lane.Given as goal
 
 abbrev pub invariant-loop-other : goal.invariant-loop-other
 invariant-loop-other g l = record {
   down : JoinsDown l.fn.plan l.fn.infos l.fn.place l.others.len l.shared l.cpus.items l.others.items;
-  origins : SameOrigins l.fn.cpus.items l.cpus.items;
+  devices : SameDevices l.fn.cpus.items l.cpus.items;
 }
 
 abbrev pub decreases-loop-other : goal.decreases-loop-other

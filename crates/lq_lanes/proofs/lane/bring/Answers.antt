@@ -1,8 +1,10 @@
-use Rattle.std.proofs.Common.{ℕ, ◌+◌, inl, inr, sym, subst, ◌∙◌, arith}
+use Rattle.std.proofs.Common.{ℕ, ◌+◌, inl, inr, map, sym, subst, ◌∙◌, arith}
 use Rattle.std.proofs.lemmas.Bool.{cases_order}
 use Rattle.lq_model.specs.Plan.{owner_in}
 use Rattle.lq_lanes.specs.Lanes.{LaneStands}
-use Rattle.lq_lanes.proofs.Turns.{keep-on}
+use Rattle.lq_lanes.proofs.Devices.{devices-kept}
+use Rattle.lq_lanes.proofs.Seats.{seats-kept}
+use Rattle.lq_lanes.proofs.Turns.{keep-on, seats-on}
 use Rattle.lq_lanes.proofs.lane.bring.Goals as goal
 
 pub send_packet-requires-clause-stands : goal.send_packet-requires-clause-stands
@@ -55,8 +57,15 @@ returns-clause-stands g c =
 
 pub returns-clause-keeps : goal.returns-clause-keeps
 returns-clause-keeps g c =
-    keep-on c.args.cpus.now.items c.events_of-next.new.cpus.items c.turn.new.cpus.items c.events_of-next.ensures.keeps
+    seats-on c.args.cpus.now.items c.events_of-next.new.cpus.items c.turn.new.cpus.items c.events_of-next.ensures.keeps
+    (seats-kept c.events_of-next.new.cpus.items c.turn.new.cpus.items
+    (keep-on c.events_of-next.new.cpus.items c.send_packet.new.cpus.items c.turn.new.cpus.items c.send_packet.ensures.keeps c.turn.ensures.keeps))
+
+pub returns-clause-devices : goal.returns-clause-devices
+returns-clause-devices g c units stand =
+    devices-kept c.args.plan.now c.args.infos.now units c.events_of-next.result c.events_of-next.new.cpus.items c.turn.new.cpus.items (map g.D.TxDevice.state c.events_of-next.new.spares.items)
     (keep-on c.events_of-next.new.cpus.items c.send_packet.new.cpus.items c.turn.new.cpus.items c.send_packet.ensures.keeps c.turn.ensures.keeps)
+    (c.events_of-next.ensures.devices units stand)
 
 pub returns-clause-runs : goal.returns-clause-runs
-returns-clause-runs g c stations runs = c.turn.ensures.runs _ (c.send_packet.ensures.runs _ (c.events_of-next.ensures.runs stations runs))
+returns-clause-runs g c units stand tell stations runs = c.turn.ensures.runs _ (c.send_packet.ensures.runs _ (c.events_of-next.ensures.runs units stand tell stations runs))

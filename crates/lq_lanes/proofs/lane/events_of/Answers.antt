@@ -11,6 +11,6 @@ returns-then-sender-eq0-clause-stands g c m lane =
     (c.events_before.ensures.stands m (subst (λ (s : ℕ). LaneStands c.args.plan.now c.args.infos.now s c.args.next m c.args.shared.now c.args.cpus.now.items) zero lane))
 
 pub returns-else-sender-eq0-clause-runs : goal.returns-else-sender-eq0-clause-runs
-returns-else-sender-eq0-clause-runs g c stations runs =
+returns-else-sender-eq0-clause-runs g c units stand tell stations runs =
     let none : c.args.next - c.args.next ≡ 0 = omega arith in
     subst (λ n. Runs c.args.plan.now c.args.infos.now c.args.cpus.now.items (with_events c.args.plan.now c.args.infos.now (numbers_from c.args.next n) stations)) (sym none) runs

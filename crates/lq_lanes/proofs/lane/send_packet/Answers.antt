@@ -40,13 +40,13 @@ pub send-requires-clause-packet : goal.send-requires-clause-packet
 send-requires-clause-packet g c κs within =
     let infos = c.args.infos.now in let n = c.args.n in let info = info-of infos n in let at = slice_get-get_or infos n no_info c.requires.packet in
     let table = (there g c).table in let t = c.index-shared-station.result in let known = c.requires.sendable.within n no_info c.requires.packet in
-    let queue : queue_in infos n ≡ 0 = ap (λ o. option_map_or (λ (i : Info). i.queue) o 0) at ∙ known.queue in
+    let queue : queue_in infos n ≡ info.queue = ap (λ o. option_map_or (λ (i : Info). i.queue) o 0) at in
     let queues = queues-are c.args.plan.now infos info.station t table in
     subst (λ (is : List Info). (n < length is) × (station_in is n ≡ t.station) × (band_in is n < 3) × (queue_in is n < t.queues)) (sym (same-infos g c)) (
       c.requires.packet,
       station-is infos n info at ∙ sym (number-is c.args.plan.now infos info.station t table),
       subst (λ (b : ℕ). b < 3) (sym (ap (λ o. option_map_or (λ (i : Info). i.band) o 0) at)) known.band,
-      (omega arith),
+      (let below = known.queue in omega arith),
     )
 
 pub send-requires-clause-owner : goal.send-requires-clause-owner

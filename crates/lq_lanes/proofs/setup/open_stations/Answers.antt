@@ -1,4 +1,7 @@
 use Rattle.std.proofs.Common.{◌≡◌, ◌<◌, ◌-◌, ◌++◌, ◌∷◌, [], length, sym, ap, ◌∙◌, subst, arith, drop, drop-drop, map}
+use Rattle.std.specs.Option.{option_map_or}
+use Rattle.lq_model.specs.Plan.{queues_at}
+use Rattle.lq_model.specs.declared.plan.StationPlan.{StationPlan}
 use Rattle.lq_table.specs.Rule.{AreInfos}
 use Rattle.lq_lanes.specs.Setup.{AreOpened, IsOpenedAt}
 use Rattle.lq_lanes.proofs.Benches.{first-left, so-where-ok}
@@ -9,7 +12,11 @@ use Rattle.lq_lanes.proofs.setup.open_stations.Goals as goal
 pub open_station-requires-clause-infos : goal.open_station-requires-clause-infos
 open_station-requires-clause-infos g c κs within =
     let below : c.loop-station.station < length c.args.plan.now.stations = let test = c.loop-station-test.true in let e = c.stations-station-end.ensures.stations in omega arith in
-    subst (λ senders. AreInfos c.args.infos.now c.loop-station.station senders 1) (sym c.senders-senders.ensures.senders) (c.requires.sendable.made c.loop-station.station below)
+    let queues : queues_at c.args.plan.now.stations c.loop-station.station ≡ c.station.result.queues =
+    ap (λ o. option_map_or (λ (s : StationPlan). s.queues) o 1) c.station.ensures.station
+    in
+    subst (λ senders. AreInfos c.args.infos.now c.loop-station.station senders c.station.result.queues) (sym c.senders-senders.ensures.senders)
+    (subst (AreInfos c.args.infos.now c.loop-station.station c.args.plan.now.senders) queues (c.requires.sendable.made c.loop-station.station below))
 
 pub open_station-requires-clause-device : goal.open_station-requires-clause-device
 open_station-requires-clause-device g c κs within =

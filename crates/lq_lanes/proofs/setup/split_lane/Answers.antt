@@ -3,7 +3,8 @@ use Rattle.lq_table.specs.Rule.{times}
 use Rattle.lq_table.specs.Sees.{view}
 use Rattle.lq_table.specs.Told.{keeping, offspring}
 use Rattle.lq_lanes.proofs.Seats.{read-at}
-use Rattle.lq_lanes.proofs.Splits.{SplitsUp, lane-split, origins-on, origins-same, origins-set, splits-all, splits-more, splits-none}
+use Rattle.lq_lanes.proofs.Joins.{devices-on, same-devices}
+use Rattle.lq_lanes.proofs.Splits.{SplitsUp, devices-split, lane-split, splits-all, splits-more, splits-none}
 use Rattle.lq_lanes.proofs.setup.split_lane.Goals as goal
 
 pub loop-j-init : goal.loop-j-init
@@ -12,7 +13,7 @@ loop-j-init g c = record {
   seats = let none = ap length c.requires.empty.none_yet in let ok = c.args.lane.now.cpus.ok.0 in omega arith;
   room = c.requires.empty.room;
   splits = splits-none c.args.plan.now c.args.infos.now c.args.place c.args.tables.now c.args.cpus.now.items c.args.lane.now.cpus.items c.requires.empty.none_yet c.requires.splitting;
-  origins = origins-same c.args.cpus.now.items;
+  devices = same-devices c.args.cpus.now.items;
 }
 
 pub split_seat-other-requires-clause-seat : goal.split_seat-other-requires-clause-seat
@@ -65,7 +66,7 @@ loop-j-preserved g c =
           c.split_seat-other.ensures.seat c.split_seat-other.ensures.other_seat
           (subst (λ o. view new ≡ keeping o (view cpu)) owner_is c.split_seat-other.ensures.view.0)
           (subst (λ o. view other ≡ offspring o (view cpu)) owner_is c.split_seat-other.ensures.other_view));
-      origins = origins-on c.args.cpus.now.items now (slice_set now j new) own.origins (origins-set now j cpu new at' c.split_seat-other.ensures.view.1);
+      devices = devices-on c.args.cpus.now.items now (slice_set now j new) own.devices (devices-split now j c.loop-j.lane.owner cpu new at' c.split_seat-other.ensures.view.0);
     }
 
 pub returns-clause-splitting : goal.returns-clause-splitting

@@ -1,5 +1,5 @@
 use Rattle.std.proofs.Common.{◌≡◌, ◌≤◌, length}
-use Rattle.lq_lanes.specs.Ends.{SameOrigins}
+use Rattle.lq_lanes.specs.Units.{SameDevices}
 use Rattle.lq_lanes.proofs.Splits.{SplitsUp}
 use Rattle.lq_lanes.proofs.setup.split_lane.Given as goal
 
@@ -10,5 +10,5 @@ invariant-loop-j g l = record {
   seats : l.lane.cpus.len ≡ l.j;
   room : length l.plan.stations ≤ l.lane.cpus.cap;
   splits : SplitsUp l.plan l.fn.infos l.place l.j l.tables l.cpus.items l.lane.cpus.items;
-  origins : SameOrigins l.fn.cpus.items l.cpus.items;
+  devices : SameDevices l.fn.cpus.items l.cpus.items;
 }

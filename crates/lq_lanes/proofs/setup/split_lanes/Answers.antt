@@ -2,7 +2,8 @@ use Rattle.std.proofs.Common.{refl, subst, arith}
 use Rattle.std.proofs.lemmas.Option.{slice_get_within}
 use Rattle.lq_lanes.specs.Setup.{AreSplitting}
 use Rattle.lq_lanes.proofs.Seats.{read-at}
-use Rattle.lq_lanes.proofs.Splits.{lanes-more, origins-on, origins-same}
+use Rattle.lq_lanes.proofs.Joins.{devices-on, same-devices}
+use Rattle.lq_lanes.proofs.Splits.{lanes-more}
 use Rattle.lq_lanes.proofs.setup.split_lanes.Goals as goal
 
 pub loop-place-init : goal.loop-place-init
@@ -10,7 +11,7 @@ loop-place-init g c = record {
   len = refl;
   lanes = record { ready = λ i l less. absurd (omega arith); empty = λ i l from. c.requires.empty.each i l };
   splitting = c.requires.splitting;
-  origins = origins-same c.args.cpus.now.items;
+  devices = same-devices c.args.cpus.now.items;
   alone = λ none. refl;
 }
 
@@ -30,7 +31,7 @@ loop-place-preserved g c =
       len = own.len;
       lanes = lanes-more c.args.plan.now c.args.infos.now c.loop-place.place c.args.tables.now c.loop-place.lanes.items c.split_lane.new.lane (omega arith) own.lanes c.split_lane.ensures.ready;
       splitting = subst (λ n. AreSplitting c.args.plan.now c.args.infos.now n c.args.tables.now c.split_lane.new.cpus.items) (omega arith) c.split_lane.ensures.splitting;
-      origins = origins-on c.args.cpus.now.items c.loop-place.cpus.items c.split_lane.new.cpus.items own.origins c.split_lane.ensures.origins;
+      devices = devices-on c.args.cpus.now.items c.loop-place.cpus.items c.split_lane.new.cpus.items own.devices c.split_lane.ensures.devices;
       alone = λ none. absurd (omega arith);
     }
 
@@ -42,6 +43,6 @@ returns g c =
       splitting = subst (λ n. AreSplitting c.args.plan.now c.args.infos.now n c.args.tables.now c.loop-place.cpus.items) (omega arith) own.splitting;
       ready = λ i l at. own.lanes.ready i l (let inside = slice_get_within c.loop-place.lanes.items i l at in omega arith) at;
       one_each = omega arith;
-      origins = own.origins;
+      devices = own.devices;
       alone = λ one. own.alone (omega arith);
     }

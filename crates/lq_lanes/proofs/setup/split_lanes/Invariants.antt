@@ -1,5 +1,5 @@
 use Rattle.std.proofs.Common.{◌≡◌, ◌+◌}
-use Rattle.lq_lanes.specs.Ends.{SameOrigins}
+use Rattle.lq_lanes.specs.Units.{SameDevices}
 use Rattle.lq_lanes.specs.Setup.{AreSplitting}
 use Rattle.lq_lanes.proofs.Splits.{LanesSplit}
 use Rattle.lq_lanes.proofs.setup.split_lanes.Given as goal
@@ -10,6 +10,6 @@ invariant-loop-place g l = record {
   len : l.lanes.len ≡ l.fn.lanes.len;
   lanes : LanesSplit l.plan l.fn.infos l.place l.tables l.lanes.items;
   splitting : AreSplitting l.plan l.fn.infos (l.place + 1) l.tables l.cpus.items;
-  origins : SameOrigins l.fn.cpus.items l.cpus.items;
+  devices : SameDevices l.fn.cpus.items l.cpus.items;
   alone : l.place ≡ 0 → l.cpus.items ≡ l.fn.cpus.items;
 }

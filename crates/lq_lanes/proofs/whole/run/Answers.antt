@@ -1,8 +1,9 @@
-use Rattle.std.proofs.Common.{◌+◌, ◌∙◌, ℕ, List, length, sym, ap, subst}
+use Rattle.std.proofs.Common.{◌+◌, ◌∙◌, ℕ, List, length, map, sym, ap, subst}
 use Rattle.lq_table.specs.declared.shared.Shared.{Shared}
 use Rattle.lq_lanes.specs.Joins.{AreFirst}
 use Rattle.lq_lanes.specs.Lanes.{AreDoneLanes, LaneDone, after_sending}
-use Rattle.lq_lanes.proofs.Joins.{first-keep, origins-kept, origins-on}
+use Rattle.lq_lanes.proofs.Devices.{devices-same}
+use Rattle.lq_lanes.proofs.Joins.{first-keep}
 use Rattle.lq_lanes.proofs.whole.run.Goals as goal
 
 pub end_run-requires-clause-first : goal.end_run-requires-clause-first
@@ -21,10 +22,12 @@ end_run-requires-clause-senders g c κs within = ap (λ (k : ℕ). k + 1) c.all_
 
 pub returns : goal.returns
 returns g c =
-    let end = c.end_run.ensures in record {
-      seats = end.seats;
-      one_each = end.one_each;
-      closed_are = end.closed_are;
-      origins = origins-on c.args.first.cpus.items c.all_send-first.result.0.cpus.items end.seats (origins-kept c.args.first.cpus.items c.all_send-first.result.0.cpus.items c.all_send-first.ensures.keeps) end.origins;
-      alone = λ none own from begins. end.alone (c.all_send-first.ensures.long ∙ none) own (after_sending c.args.plan.now c.args.infos.now from) (c.all_send-first.ensures.runs own from begins);
+    let plan = c.args.plan.now in let infos = c.args.infos.now in let sent = c.all_send-first.ensures in let ended = c.end_run.ensures in let D = g.D.TxDevice.state in record {
+      limits = c.stays_within_limits.ensures;
+      long = c.requires.first.0.long ∙ c.requires.first.0.all;
+      seats = ended.seats;
+      one_each = ended.one_each;
+      closed_are = ended.closed_are;
+      devices = λ units stand. devices-same plan infos units (length plan.events) c.all_send-first.result.0.cpus.items ended.seats (map D c.all_send-first.result.0.spares.items) ended.devices (sent.devices units stand);
+      alone = λ none own units stand tell from begins. ended.alone (sent.long ∙ none) (after_sending plan infos from) (sent.runs units stand tell own from begins);
     }

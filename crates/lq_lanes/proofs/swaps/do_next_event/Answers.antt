@@ -1,11 +1,10 @@
-use Rattle.std.proofs.Common.{◌≡◌, ℕ, false, sym, subst, refl}
-use Rattle.lq_model.specs.Plan.{is_swap}
+use Rattle.std.proofs.Common.{ℕ, sym, subst, refl}
 use Rattle.lq_plan.specs.Limits.{IsKindWithin}
 use Rattle.lq_table.specs.Sees.{view}
 use Rattle.lq_lanes.proofs.Orders.{may-do-next}
-use Rattle.lq_lanes.proofs.Seats.{keep-set, lane-event, runs-event, all-at, max-len-is, table-at, seat-at}
+use Rattle.lq_lanes.proofs.Seats.{event-changes, keep-set, lane-event, runs-event, max-len-is, table-at, seat-at}
 use Rattle.lq_lanes.specs.Lanes.{StandsAt}
-use Rattle.lq_lanes.proofs.lane.do_next_event.Goals as goal
+use Rattle.lq_lanes.proofs.swaps.do_next_event.Goals as goal
 
 there : (g : _) (c : goal.After-index_mut g)
     → StandsAt c.args.plan.now c.args.infos.now 0 c.args.e c.requires.stands.0 c.event-station.result.station c.index-shared-station.result c.index_mut.result.now
@@ -25,7 +24,7 @@ pub do_event-requires-clause-raised : goal.do_event-requires-clause-raised
 do_event-requires-clause-raised g c κs within = (there g c).stands.raised
 
 pub do_event-requires-clause-no_swap : goal.do_event-requires-clause-no_swap
-do_event-requires-clause-no_swap g c κs within = all-at (λ event. is_swap event ≡ false) c.args.plan.now.events c.args.e c.event-station.result c.requires.sendable.no_swaps c.event-station.ensures.event
+do_event-requires-clause-no_swap g c κs within = c.requires.no_swap c.event-station.result c.event-station.ensures.event
 
 pub do_event-requires-clause-within : goal.do_event-requires-clause-within
 do_event-requires-clause-within g c κs within = subst (λ (m : ℕ). IsKindWithin m c.event-station.result.kind) (sym (max-len-is c.args.plan.now c.args.infos.now c.event-station.result.station c.index-shared-station.result (there g c).table)) c.event-station.ensures.within.kind
@@ -43,7 +42,7 @@ returns-clause-stands g c n lane =
     c.stays_within_limits.ensures.order
     (table-at c.args.plan.now c.args.infos.now 0 c.args.e n c.args.shared.now c.args.cpus.now.items lane station c.index-shared-station.result within c.index-shared-station.is)
     (seat-at c.args.plan.now c.args.infos.now 0 c.args.e n c.args.shared.now c.args.cpus.now.items lane station c.index_mut.result.now within c.index_mut.ensures.value)
-    c.do_event.ensures.seat (c.do_event.ensures.does c.args.plan.now) lane
+    c.do_event.ensures.seat (event-changes c.index-shared-station.result c.args.plan.now c.args.e c.event-station.result.kind (view c.index_mut.result.now) (view c.do_event.new.cpu) (c.do_event.ensures.does c.args.plan.now)) lane
 
 pub returns-clause-keeps : goal.returns-clause-keeps
 returns-clause-keeps g c =
@@ -59,4 +58,4 @@ returns-clause-runs g c stations runs =
     c.event-station.ensures.event
     (table-at c.args.plan.now c.args.infos.now 0 c.args.e c.requires.stands.0 c.args.shared.now c.args.cpus.now.items lane station c.index-shared-station.result within c.index-shared-station.is)
     (seat-at c.args.plan.now c.args.infos.now 0 c.args.e c.requires.stands.0 c.args.shared.now c.args.cpus.now.items lane station c.index_mut.result.now within c.index_mut.ensures.value)
-    (c.do_event.ensures.does c.args.plan.now) lane runs
+    (c.do_event.ensures.does c.args.plan.now).alone lane runs
