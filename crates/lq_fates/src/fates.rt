@@ -29,7 +29,12 @@ fn push_fate(text: &mut Vec<u8>, fate: Fate) -> Result<(), NoMemory>
     push_bytes(text, b"\n")
 }
 
-fn push_line(text: &mut Vec<u8>, n: usize, fate: Fate) -> Result<(), NoMemory>
+/// Writes the line that tells packet n's fate to the end of a text.
+///
+/// # NoMemory
+///
+/// There was no room for it, and the text may have the first of its bytes at its end.
+pub fn push_fate_line(text: &mut Vec<u8>, n: usize, fate: Fate) -> Result<(), NoMemory>
     ensures { OnOk result (text.new.items ≡ text.old.items ++ (decimal n ++ fate_words fate)) }
 {
     push_number(text, n as u64)?;
@@ -46,7 +51,7 @@ pub fn fates_text(alloc: Global, fates: &[Fate]) -> Result<Vec<u8>, NoMemory>
 {
     let mut text = Vec::new(alloc);
     for (n, fate) in fates.iter().enumerate() {
-        push_line(&mut text, n, *fate)?;
+        push_fate_line(&mut text, n, *fate)?;
     }
     Ok(text)
 }

@@ -9,7 +9,7 @@ mod sent;
 mod text;
 
 pub use count_lines::counts_text;
-pub use fates::fates_text;
+pub use fates::{fates_text, push_fate_line};
 pub use laws::sent_is_that_list;
 pub use lq_model::{Cause, Fate, Info, NoMemory};
 pub use sent::sent_of;

@@ -3,7 +3,7 @@ use Rattle.std.proofs.Common.{◌≡◌, ℕ, List, [], ◌∷◌, ◌++◌, inl
 use Rattle.lq_account.proofs.Changes.{Gives, fate-cases}
 use Rattle.lq_account.proofs.Changes.Gives.{gives_full}
 use Rattle.lq_account.specs.Progress.{start_of}
-use Rattle.lq_model.specs.Account.{Account, Event, after, after_all}
+use Rattle.lq_model.specs.Account.{Account, Event, after_all}
 use Rattle.lq_model.specs.Legal.{ArePlanned, Comes, MayCome}
 use Rattle.lq_model.specs.Plan.{Plan}
 use Rattle.lq_model.specs.declared.fate.Fate.TheVariants as fate

@@ -1,5 +1,5 @@
 -- What clap makes of the command table and words that aren't empty and have no dash in front.
-use Rattle.std.proofs.Common.{◌≡◌, ◌∙◌, ◌&&◌, ◌≤◌, ℕ, Bool, true, false, refl, sym, ap, true≢false, inl, inr, List, [], ◌∷◌, ◌++◌, Option, Some, None, Bor, subst, codes, if◌then◌else◌, nat_le, arith}
+use Rattle.std.proofs.Common.{◌≡◌, ◌∙◌, ◌&&◌, ℕ, Bool, true, false, refl, sym, ap, true≢false, inl, inr, List, [], ◌∷◌, ◌++◌, Option, Some, None, Bor, subst, codes, if◌then◌else◌}
 use Rattle.std.specs.Prelude.{is_some, option_and_then, option_map, unwrap_or, slice_get}
 use Rattle.std.specs.List.{fold, list_all}
 use Rattle.std.specs.Str.{bytes_eq}
@@ -15,7 +15,7 @@ use Rattle.clap.specs.declared.builder.value_parser.Reading.TheVariants.{AsWritt
 use Rattle.clap.specs.declared.parser.matches.ValueSource.TheVariants.{CommandLine}
 use Rattle.clap.proofs.WalkLemmas.{both, walk_stopped}
 use Rattle.lq_run_core.specs.Schedule.{number_in, number_of, within}
-use Rattle.lq_top.specs.Command.{CommandWords, GenWords, HasFewRecords, OfGen, OfRun, OfTrace, command_of_words, command_of_one, command_of_three, gen_of, is_operand, bytes_of_words}
+use Rattle.lq_top.specs.Command.{CommandWords, HasFewRecords, OfGen, OfTrace, command_of_words, command_of_one, command_of_three, gen_of, is_operand, bytes_of_words}
 use Rattle.lq_top.specs.Forms.{command_in, one_in, table_app, three_in}
 use Rattle.lq_top.proofs.ParseLemmas.{Fails, IsPlain, built_taken, fails_here, fails_later, level_fails_after, level_fails_below, level_fails_in_walk, level_taken, passes_more, passes_none, plain, some_kind, standing, step, step_fails_as, step_is_taken}
 

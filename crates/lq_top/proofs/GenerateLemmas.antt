@@ -1,5 +1,5 @@
 -- What a generated run leaves, from what its calls leave.
-use Rattle.std.proofs.Common.{◌≡◌, ◌≤◌, ◌⊎◌, ◌∷◌, [], ℕ, List, drop, length, Some, Result, Ok, Err, IfOk, IsOkAnd, OnOk, OnErr, ap, sym, ◌∙◌, subst, inl, inr}
+use Rattle.std.proofs.Common.{◌≡◌, ◌≤◌, ◌⊎◌, ℕ, List, drop, Some, Result, Ok, Err, IfOk, IsOkAnd, OnOk, OnErr, ap, sym, ◌∙◌, subst, inl, inr}
 use Rattle.lq_model.specs.Capture.{Capture, Refusal as CaptureRefusal, capture_of}
 use Rattle.lq_model.specs.Device.{DeviceState}
 use Rattle.lq_model.specs.Generated.{generated_capture}

@@ -10,7 +10,7 @@ use Rattle.lq_pcapng.specs.File.{as_classic}
 use Rattle.lq_pcapng.specs.declared.file.CaptureFile.TheVariants.{Classic}
 use Rattle.lq_plan.specs.Generated.{generated_plan}
 use Rattle.lq_top.specs.Command.{GenWords, HasFewRecords, OfGen, command_of_words}
-use Rattle.lq_top.specs.Decision.{Generates, by_command, by_generated, placed_on, verdict_of, verdict_of_gen, with_refusal}
+use Rattle.lq_top.specs.Decision.{Generates, by_command, by_generated, verdict_of, verdict_of_gen, with_refusal}
 use Rattle.lq_top.specs.Headline.{run_of}
 use Rattle.lq_top.proofs.CommandLemmas.{few_records}
 

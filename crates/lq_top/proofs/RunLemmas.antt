@@ -180,7 +180,6 @@ ends_outcome v old new before after ended (status.Plan reason) is ends = ends
 ends_outcome v old new before after ended (status.Bench need have) is ends = ends
 ends_outcome v old new before after ended (status.Capture reason place) is ends = ends
 ends_outcome v old new before after ended (status.Trace reason line) is ends = ends
-ends_outcome v old new before after ended status.NotBuilt is ends = ends
 ends_outcome v old new before after ended status.Usage is ends = absurd is
 ends_outcome v old new before after ended status.Fault is ends = absurd is
 ends_outcome v old new before after ended status.NoMemory is ends = absurd is
@@ -196,7 +195,6 @@ pub run_status : (r : Refusal) → r ≢ refusal.Usage → IsCommandStatus (stat
 run_status refusal.Usage other = absurd (other refl)
 run_status (refusal.Plan reason) other = _
 run_status (refusal.Bench need have) other = _
-run_status refusal.NotBuilt other = _
 run_status (refusal.Capture reason place) other = _
 run_status (refusal.Trace reason line) other = _
 

@@ -1,34 +1,16 @@
--- The text of some packets of a capture, and the packets that a unit sent.
-use Rattle.std.proofs.Common.{◌≡◌, ◌<◌, ◌≤◌, ◌++◌, ◌∷◌, [], ℕ, zero, suc, List, All, length, refl, sym, ap, ◌∙◌, subst, append_assoc, append-nil, length-append, arith, get_or, slice_get, Some}
-use Rattle.std.specs.List.{concat, flat_map}
+-- How many packets a capture has, and the packets that a unit sent.
+use Rattle.std.proofs.Common.{◌≡◌, ◌<◌, ◌≤◌, ◌∷◌, [], ℕ, zero, suc, List, All, length, refl, sym, ◌∙◌, subst, length-append, arith, get_or, slice_get, Some}
 use Rattle.std.proofs.lemmas.List.{length-map}
 use Rattle.std.proofs.lemmas.List.Elements.{All-from_get_or}
 use Rattle.std.proofs.lemmas.Option.{slice_get-get_or, slice_get_within}
-use Rattle.lq_model.specs.Capture.{Packets, header_of, record_of}
+use Rattle.lq_model.specs.Capture.{Packets}
 use Rattle.lq_model.specs.Numbers.{first_numbers}
-use Rattle.lq_model.specs.Pcapng.{packet_block, without_length}
 use Rattle.lq_model.specs.Plan.{Plan, infos_of, info_of}
 use Rattle.lq_model.specs.Sent.{sent_of}
 use Rattle.lq_model.specs.Settled.{AreSerials, IsSentList}
 use Rattle.lq_model.specs.declared.fate.Fate.{Fate}
 use Rattle.lq_model.specs.declared.fate.Fate.TheVariants.{Sent}
-use Rattle.lq_pcapng.specs.File.{piece_of, text_of}
-use Rattle.lq_pcapng.specs.declared.file.CaptureFile.{CaptureFile}
-use Rattle.lq_pcapng.specs.declared.file.CaptureFile.TheVariants.{Classic, Pcapng}
 use Rattle.lq_fates.proofs.SentLemmas.{sent_is}
-
-flat_more : {A : Type 0} (f : A → List ℕ) (xs : List A) (x : A) → flat_map f (xs ++ x ∷ []) ≡ flat_map f xs ++ f x
-flat_more f [] x = append-nil (f x)
-flat_more f (y ∷ ys) x = ap (λ rest. f y ++ rest) (flat_more f ys x) ∙ sym (append_assoc (f y) (flat_map f ys) (f x))
-
--- one piece more behind what stands first
-pieces_more : (start : List ℕ) (f : ℕ → List ℕ) (packets : List ℕ) (n : ℕ) → start ++ flat_map f (packets ++ n ∷ []) ≡ (start ++ flat_map f packets) ++ f n
-pieces_more start f packets n = ap (λ rest. start ++ rest) (flat_more f packets n) ∙ sym (append_assoc start (flat_map f packets) (f n))
-
--- one packet more
-pub text_of_more : (c : CaptureFile) (packets : List ℕ) (n : ℕ) → text_of c (packets ++ n ∷ []) ≡ text_of c packets ++ piece_of c n
-text_of_more (Classic c) packets n = pieces_more (header_of c) (record_of c) packets n
-text_of_more (Pcapng c) packets n = pieces_more (without_length c.section ++ concat c.interfaces) (packet_block c) packets n
 
 length-first_numbers : (n : ℕ) → length (first_numbers n) ≡ n
 length-first_numbers zero = refl

@@ -1,8 +1,8 @@
 -- What a call decides from its words, its files and the number of devices on its bench.
-use Rattle.std.specs.Prelude.{◌≡◌, ◌≤◌, ℕ, Bool, nat_lt, ◌==◌, if◌then◌else◌, List, length, count_by, Option, Some, None, Result, Ok, Err}
+use Rattle.std.specs.Prelude.{◌≤◌, ℕ, nat_lt, if◌then◌else◌, List, length, Option, Some, None, Result, Ok, Err}
 use Rattle.std.specs.Option.{option_map}
 use Rattle.lq_model.specs.Capture.{Refusal as CaptureRefusal, capture_of}
-use Rattle.lq_model.specs.Plan.{Plan, is_swap, unit_count}
+use Rattle.lq_model.specs.Plan.{Plan, unit_count}
 use Rattle.lq_model.specs.declared.capture.CaptureReason.TheVariants as capture
 use Rattle.lq_model.specs.declared.plan.PlanReason.{PlanReason}
 use Rattle.lq_model.specs.declared.plan.PlanReason.TheVariants as plan
@@ -27,13 +27,9 @@ use Rattle.lq_top.specs.declared.refusal.Refusal.TheVariants as refusal
 abbrev pub limited_plan_of : List ℕ → Result Plan PlanReason
 limited_plan_of bytes = if nat_lt 65536 (length bytes) then Err plan.TooLong else plan_of bytes
 
--- no device is exchanged
-abbrev pub is_built : Plan → Bool
-is_built p = count_by is_swap p.events == 0
-
--- an accepted plan on a bench of so many devices: it may need more of them, and not every plan is built
+-- an accepted plan on a bench of so many devices: it may need more of them
 abbrev pub placed_on : ℕ → Plan → Result Plan Refusal
-placed_on have p = if nat_lt have (unit_count p) then Err (refusal.Bench (unit_count p) have) else if is_built p then Ok p else Err refusal.NotBuilt
+placed_on have p = if nat_lt have (unit_count p) then Err (refusal.Bench (unit_count p) have) else Ok p
 
 abbrev pub placed_if_read : ℕ → Result Plan PlanReason → Result Plan Refusal
 placed_if_read have (Err reason) = Err (refusal.Plan reason)
@@ -49,7 +45,6 @@ max_units = 72
 
 -- what is known of a plan that is run
 pub record IsRunnable (have : ℕ) (p : Plan) : Type 0 where
-  pub no_swaps : count_by is_swap p.events ≡ 0
   pub units : unit_count p ≤ have
   pub few : unit_count p ≤ max_units
 

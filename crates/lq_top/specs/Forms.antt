@@ -1,5 +1,5 @@
 -- The command table as clap reads it.
-use Rattle.std.specs.Prelude.{true, if◌then◌else◌, List, Option, None, option_map, option_and_then, codes}
+use Rattle.std.specs.Prelude.{true, if◌then◌else◌, List, Option, option_and_then, codes}
 use Rattle.std.specs.Str.{bytes_eq}
 use Rattle.clap.specs.Words.{App, Row, Rule, first_of, new_app, new_rule, with_rule, with_subcommand}
 use Rattle.clap.specs.Walk.{Text}

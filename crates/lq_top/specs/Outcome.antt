@@ -50,7 +50,6 @@ Outcome verdict old new before after ended (status.Plan reason) = Completes verd
 Outcome verdict old new before after ended (status.Bench need have) = Completes verdict old new before after ended (status.Bench need have)
 Outcome verdict old new before after ended (status.Capture reason place) = Completes verdict old new before after ended (status.Capture reason place)
 Outcome verdict old new before after ended (status.Trace reason line) = Completes verdict old new before after ended (status.Trace reason line)
-Outcome verdict old new before after ended status.NotBuilt = Completes verdict old new before after ended status.NotBuilt
 
 -- The outcome for every host, also one that doesn't tell what its files hold: that of some bytes of the files that it reads.
 abbrev pub OutcomeOfSome : Option CommandWords → ℕ → HostState → HostState → List DeviceState → List DeviceState → List EndedState → Status → Type 0
@@ -93,7 +92,6 @@ refuses (status.Capture reason place) = true
 refuses status.Fault = false
 refuses status.NoMemory = false
 refuses (status.Trace reason line) = true
-refuses status.NotBuilt = true
 
 -- no station's end is told but by a run that is done
 abbrev pub LeavesNone : {X : Type 0} → Result Status Stop → List X → Type 0
@@ -107,7 +105,6 @@ IsCommandStatus (status.Plan reason) = Unit {0}
 IsCommandStatus (status.Bench need have) = Unit {0}
 IsCommandStatus (status.Capture reason place) = Unit {0}
 IsCommandStatus (status.Trace reason line) = Unit {0}
-IsCommandStatus status.NotBuilt = Unit {0}
 IsCommandStatus status.Usage = ⊥
 IsCommandStatus status.Fault = ⊥
 IsCommandStatus status.NoMemory = ⊥

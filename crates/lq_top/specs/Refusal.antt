@@ -8,7 +8,7 @@ use Rattle.lq_model.specs.declared.plan.PlanReason.TheVariants as plan
 use Rattle.lq_run_core.specs.declared.trace_run.TraceReason.{TraceReason}
 use Rattle.lq_run_core.specs.declared.trace_run.TraceReason.TheVariants as trace
 use Rattle.lq_top.specs.declared.refusal.Refusal.{Refusal}
-use Rattle.lq_top.specs.declared.refusal.Refusal.TheVariants.{Usage, Plan, Bench, NotBuilt, Capture, Trace}
+use Rattle.lq_top.specs.declared.refusal.Refusal.TheVariants.{Usage, Plan, Bench, Capture, Trace}
 use Rattle.lq_top.specs.declared.answer.Status.{Status}
 use Rattle.lq_top.specs.declared.answer.Status.TheVariants as status
 
@@ -90,10 +90,6 @@ plan_line reason = codes "plan refused: " ++ (decimal (plan_reason_number reason
 abbrev pub bench_line : ℕ → ℕ → List ℕ
 bench_line need have = codes "bench refused: needs " ++ (decimal need ++ (codes " units, has " ++ (decimal have ++ 10 ∷ [])))
 
--- not built: plan
-abbrev pub not_built_line : List ℕ
-not_built_line = codes "not built: plan" ++ 10 ∷ []
-
 -- capture refused: NUMBER NAME at PLACE
 abbrev pub capture_line : CaptureReason → ℕ → List ℕ
 capture_line reason place =
@@ -111,7 +107,6 @@ abbrev pub line_of : Refusal → List ℕ
 line_of Usage = usage_line
 line_of (Plan reason) = plan_line reason
 line_of (Bench need have) = bench_line need have
-line_of NotBuilt = not_built_line
 line_of (Capture reason place) = capture_line reason place
 line_of (Trace reason line) = trace_line reason line
 
@@ -121,6 +116,5 @@ abbrev pub status_of : Refusal → Status
 status_of Usage = status.Usage
 status_of (Plan reason) = status.Plan reason
 status_of (Bench need have) = status.Bench need have
-status_of NotBuilt = status.NotBuilt
 status_of (Capture reason place) = status.Capture reason place
 status_of (Trace reason line) = status.Trace reason line

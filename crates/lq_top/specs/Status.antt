@@ -1,7 +1,7 @@
 -- The numbers of statuses.
 use Rattle.std.specs.Prelude.{ℕ}
 use Rattle.lq_top.specs.declared.answer.Status.{Status}
-use Rattle.lq_top.specs.declared.answer.Status.TheVariants.{Done, Usage, Plan, Bench, Capture, Fault, NoMemory, Trace, NotBuilt}
+use Rattle.lq_top.specs.declared.answer.Status.TheVariants.{Done, Usage, Plan, Bench, Capture, Fault, NoMemory, Trace}
 
 -- the exit status of the program
 abbrev pub code_of : Status → ℕ
@@ -13,4 +13,3 @@ code_of (Capture reason place) = 4
 code_of Fault = 5
 code_of NoMemory = 6
 code_of (Trace reason line) = 7
-code_of NotBuilt = 8

@@ -27,8 +27,6 @@ pub enum Status {
     NoMemory,
     /// The schedule's bytes are refused: the first line that fails, and why.
     Trace { reason: TraceReason, line: u32 },
-    /// The plan has a form that isn't built: a device is exchanged.
-    NotBuilt,
 }
 
 impl Status {
@@ -48,7 +46,6 @@ impl Status {
             Status::Fault => 5,
             Status::NoMemory => 6,
             Status::Trace { reason: _, line: _ } => 7,
-            Status::NotBuilt => 8,
         }
     }
 }

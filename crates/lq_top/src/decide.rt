@@ -1,7 +1,7 @@
 //! What bytes are, and whether a bench can run a plan, or why they are refused.
 ghost use Rattle.std.specs.Prelude.{◌≡◌, ◌≢◌, ◌≤◌, Err, length, vec_len, IfErr, IfOk};
 ghost use Rattle.std.specs.Result.{result_map_both};
-ghost use Rattle.lq_top.specs.Decision.{IsRunnable, is_built, limited_capture_of, limited_plan_of, limited_trace_of, placed_on};
+ghost use Rattle.lq_top.specs.Decision.{IsRunnable, limited_capture_of, limited_plan_of, limited_trace_of, placed_on};
 
 use crate::answer::Stop;
 use crate::refusal::Refusal;
@@ -24,13 +24,6 @@ pub fn plan_in(alloc: Global, bytes: &[u8]) -> Result<Result<Plan, PlanReason>, 
     }
 }
 
-/// No device is exchanged.
-fn is_built(plan: &Plan) -> bool
-    ensures { result ≡ is_built plan.now }
-{
-    plan.units() == plan.stations()
-}
-
 /// The plan, if a bench of so many devices can run it.
 pub fn place_on(have: usize, plan: Plan) -> Result<Plan, Refusal>
     ensures placed { result ≡ placed_on have plan }
@@ -43,10 +36,8 @@ pub fn place_on(have: usize, plan: Plan) -> Result<Plan, Refusal>
             need,
             have: have as u32,
         })
-    } else if is_built(&plan) {
-        Ok(plan)
     } else {
-        Err(Refusal::NotBuilt)
+        Ok(plan)
     }
 }
 

@@ -8,6 +8,7 @@ mod command;
 mod decide;
 mod generate;
 pub mod laws;
+mod pieces;
 mod program;
 mod read;
 mod refusal;

@@ -1,6 +1,6 @@
 //! Why a call is refused before anything is sent, and the line that tells it.
 ghost use Rattle.std.specs.Prelude.{◌≡◌, IfOk, OnOk, OnErr, string_bytes};
-ghost use Rattle.lq_top.specs.Refusal.{bench_line, capture_line, capture_reason_name, capture_reason_number, line_of, not_built_line, plan_line, plan_reason_name, plan_reason_number, status_of, trace_line, trace_reason_name, trace_reason_number, usage_line};
+ghost use Rattle.lq_top.specs.Refusal.{bench_line, capture_line, capture_reason_name, capture_reason_number, line_of, plan_line, plan_reason_name, plan_reason_number, status_of, trace_line, trace_reason_name, trace_reason_number, usage_line};
 ghost use Rattle.lq_top.specs.Stop.{StopsFor};
 ghost use Rattle.lq_top.specs.Written.{IsCut, output_only, written};
 
@@ -21,8 +21,6 @@ pub enum Refusal {
     Plan(PlanReason),
     /// The plan needs more units than the bench has.
     Bench { need: u32, have: u32 },
-    /// The plan has a form that isn't built.
-    NotBuilt,
     /// The capture's bytes are refused: the first test that they fail, and where.
     Capture { reason: CaptureReason, place: u64 },
     /// The schedule's bytes are refused: the first line that fails, and why.
@@ -38,7 +36,6 @@ impl Refusal {
             Refusal::Usage => Status::Usage,
             Refusal::Plan(reason) => Status::Plan(reason),
             Refusal::Bench { need, have } => Status::Bench { need, have },
-            Refusal::NotBuilt => Status::NotBuilt,
             Refusal::Capture { reason, place } => Status::Capture { reason, place },
             Refusal::Trace { reason, line } => Status::Trace { reason, line },
         }
@@ -52,7 +49,6 @@ impl Refusal {
             Refusal::Usage => line_of_usage(alloc),
             Refusal::Plan(reason) => line_of_plan(alloc, reason),
             Refusal::Bench { need, have } => line_of_bench(alloc, need, have),
-            Refusal::NotBuilt => line_of_not_built(alloc),
             Refusal::Capture { reason, place } => line_of_capture(alloc, reason, place),
             Refusal::Trace { reason, line } => line_of_trace(alloc, reason, line),
         }
@@ -92,12 +88,6 @@ fn line_of_bench(alloc: Global, need: u32, have: u32) -> Result<String, AllocErr
     ensures { IfOk result (λ line. string_bytes line ≡ bench_line need have) }
 {
     format!(in alloc; "bench refused: needs {need} units, has {have}\n")
-}
-
-fn line_of_not_built(alloc: Global) -> Result<String, AllocError>
-    ensures { IfOk result (λ line. string_bytes line ≡ not_built_line) }
-{
-    format!(in alloc; "not built: plan\n")
 }
 
 fn line_of_capture(alloc: Global, reason: CaptureReason, place: u64) -> Result<String, AllocError>

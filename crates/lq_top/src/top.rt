@@ -171,8 +171,6 @@ fn do_command<R: Threads + Wait + Sync, H: Host, G: Gate, D: TxDevice>(
 /// The senders of a plan run side by side, or one after another where no further thread can be had. `gate` is passed by
 /// each sender before each of its packets, and once after its last. `ended` gets one for each station of a run that is
 /// done, in ascending order.
-///
-/// Plans that exchange a device aren't built.
 pub fn lqtx<R: Threads + Wait + Sync, H: Host, G: Gate, D: TxDevice>(
     rt: &R,
     alloc: Global,

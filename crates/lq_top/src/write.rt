@@ -1,5 +1,5 @@
 //! What a call writes: a text to a file or to standard output, and the files of a run.
-ghost use Rattle.std.specs.Prelude.{◌≡◌, ◌⊎◌, ◌≤◌, ℕ, length, take, OnOk, OnErr, ◌<◌, All, IfOk, string_bytes};
+ghost use Rattle.std.specs.Prelude.{◌≡◌, [], ◌⊎◌, ◌≤◌, ℕ, length, take, OnOk, OnErr, ◌<◌, All, IfOk, string_bytes};
 ghost use Rattle.lq_host.specs.Host.{IsWriter, wrote, filed};
 ghost use Rattle.lq_top.specs.Stop.{StopsFor};
 ghost use Rattle.lq_top.specs.Written.{FileHasPrefix, OutputHasPrefix, FileIsCut, FilesAreCut, IsCut, file_written, files_written, written};
@@ -7,37 +7,20 @@ ghost use Rattle.lq_pcapng.specs.File.{packets_of_file, text_of};
 ghost use Rattle.lq_top.specs.Headline.{capture_name, fates_name, fates_file, run_of, texts_of, unit_file, unit_files};
 ghost use Rattle.lq_model.specs.Plan.{infos_of, unit_count};
 ghost use Rattle.lq_model.specs.Settled.{AreSerials, IsSettled};
-ghost use Rattle.lq_model.specs.Texts.{counts_text};
+ghost use Rattle.lq_model.specs.Texts.{counts_text, fates_text};
 ghost use Rattle.lq_top.specs.Names.{MayWrite};
 
 use crate::answer::{Stop, and_finished};
-use lq_fates::{counts_text, fates_text, sent_of};
+use crate::pieces::{PIECE, write_text, write_whole_pieces};
+use lq_fates::{counts_text, push_fate_line, sent_of};
 use lq_host::Host;
-use lq_model::{Fate, Info, NoMemory};
+use lq_model::{Fate, Info};
 use lq_pcapng::CaptureFile;
 use lq_plan::Plan;
 use std::alloc::{AllocError, Global};
 
-/// Bytes that are written at once.
-const PIECE: usize = 65_536;
-
-/// Writes a text to a handle, in pieces of 65,536 bytes, the last one shorter. Where it stops, a prefix was written.
-fn write_text<H: Host>(host: &mut H, h: u32, text: &[u8]) -> Result<(), Stop>
-    requires { IsWriter ((H.state host.old).handles h) }
-    ensures handles { (H.state host.new).handles ≡ (H.state host.old).handles }
-    ensures ok { OnOk result (H.state host.new ≡ wrote (H.state host.old) h text.now) }
-    ensures err { OnErr result ((n : ℕ) × (n ≤ length text.now)
-        × (H.state host.new ≡ wrote (H.state host.old) h (take n text.now))) }
-    ensures cause { StopsFor (H.fault_count host.old) (H.fault_count host.new) result }
-{
-    let mut at = 0;
-    while at < text.len() {
-        let end = at + (text.len() - at).min(PIECE);
-        host.write(h, &text[at..end])?;
-        at = end;
-    }
-    Ok(())
-}
+/// The most bytes of the line of a fate: of the numbers of the packet, the unit and the serial, and between them.
+const LONGEST_LINE: usize = 48;
 
 /// Makes a file of a text. Where it stops, the file is as before, or has a prefix of the text.
 pub fn write_file<H: Host>(host: &mut H, name: &str, text: &[u8]) -> Result<(), Stop>
@@ -79,31 +62,74 @@ fn name_of_fates(alloc: Global, out: &str) -> Result<String, AllocError>
     format!(in alloc; "{out}.fates")
 }
 
-/// The bytes of some packets of a capture, so that a text of them is made with one reservation.
-fn room_for(capture: &CaptureFile, start: usize, packets: &[u32]) -> usize
-    requires { All (λ n. n < (packets_of_file capture.now).count) packets.now }
+/// A buffer for the capture in the format of another with these of its packets. It has room for the whole text, or for what
+/// stands in it at once where that is less: what stands before the packets, or the longest packet behind less than a piece.
+fn make_buffer(alloc: Global, capture: &CaptureFile, sent: &[u32]) -> Result<Vec<u8>, AllocError>
+    requires { All (λ n. n < (packets_of_file capture.now).count) sent.now }
+    ensures { IfOk result (λ buffer. buffer.items ≡ []) }
 {
-    let mut room = start;
-    for n in packets {
-        room = room.saturating_add(capture.piece_len(*n as usize));
+    let start = capture.start_len();
+    let mut whole = start;
+    let mut longest = 0;
+    for n in sent {
+        let len = capture.piece_len(*n as usize);
+        whole = whole.saturating_add(len);
+        longest = longest.max(len);
     }
-    room
+    Vec::with_capacity(alloc, whole.min(start.max(PIECE.saturating_add(longest))))
 }
 
-/// The capture in the format of another with these of its packets, in the order of the list.
-fn text_of_sent(alloc: Global, capture: &CaptureFile, sent: &[u32]) -> Result<Vec<u8>, NoMemory>
-    requires { All (λ n. n < (packets_of_file capture.now).count) sent.now }
-    ensures { IfOk result (λ text. text.items ≡ text_of capture.now sent.now) }
+/// Writes the capture in the format of another with these of its packets, in the order of the list, to a handle. Where it
+/// stops, a prefix was written.
+fn write_packets<H: Host>(
+    host: &mut H,
+    h: u32,
+    capture: &CaptureFile,
+    sent: &[u32],
+    buffer: &mut Vec<u8>,
+) -> Result<(), Stop>
+    requires writer { IsWriter ((H.state host.old).handles h) }
+    requires known { All (λ n. n < (packets_of_file capture.now).count) sent.now }
+    requires empty { buffer.old.items ≡ [] }
+    ensures handles { (H.state host.new).handles ≡ (H.state host.old).handles }
+    ensures ok { OnOk result (H.state host.new ≡ wrote (H.state host.old) h (text_of capture.now sent.now)) }
+    ensures err { OnErr result ((n : ℕ) × (n ≤ length (text_of capture.now sent.now))
+        × (H.state host.new ≡ wrote (H.state host.old) h (take n (text_of capture.now sent.now)))) }
+    ensures cause { StopsFor (H.fault_count host.old) (H.fault_count host.new) result }
 {
-    let Ok(mut text) = Vec::with_capacity(alloc, room_for(capture, capture.start_len(), sent))
-    else {
-        return Err(NoMemory);
-    };
-    capture.push_start(&mut text)?;
+    capture.push_start(buffer)?;
+    write_whole_pieces(host, h, buffer)?;
     for n in sent {
-        capture.push_packet(&mut text, *n as usize)?;
+        capture.push_packet(buffer, *n as usize)?;
+        write_whole_pieces(host, h, buffer)?;
     }
-    Ok(text)
+    write_text(host, h, buffer)
+}
+
+/// Makes a file of the capture in the format of another with these of its packets. Where it stops, the file is as before, or
+/// has a prefix of the text.
+fn write_capture<H: Host>(
+    host: &mut H,
+    name: &str,
+    capture: &CaptureFile,
+    sent: &[u32],
+    buffer: &mut Vec<u8>,
+) -> Result<(), Stop>
+    requires may { H.may_create name.now }
+    requires known { All (λ n. n < (packets_of_file capture.now).count) sent.now }
+    requires empty { buffer.old.items ≡ [] }
+    ensures handles { (H.state host.new).handles ≡ (H.state host.old).handles }
+    ensures ok { OnOk result (H.state host.new
+        ≡ filed (H.state host.old) name.now (text_of capture.now sent.now)) }
+    ensures err { OnErr result ((H.state host.new ≡ H.state host.old)
+        ⊎ FileHasPrefix name.now (text_of capture.now sent.now) (H.state host.old) (H.state host.new)) }
+    ensures cause { StopsFor (H.fault_count host.old) (H.fault_count host.new) result }
+{
+    let h = host.create(name)?;
+    let packets = write_packets(host, h, capture, sent, buffer);
+    let end = host.finish(h);
+    and_finished(packets, end)?;
+    Ok(())
 }
 
 /// Makes the file of a unit: the capture of the packets that it sent.
@@ -126,9 +152,9 @@ fn write_unit<H: Host>(
     ensures cause { StopsFor (H.fault_count host.old) (H.fault_count host.new) result }
 {
     let sent = sent_of(alloc, fates, unit)?;
-    let text = text_of_sent(alloc, capture, &sent)?;
+    let mut buffer = make_buffer(alloc, capture, &sent)?;
     let name = name_of_capture(alloc, out, unit)?;
-    write_file(host, name.as_str(), &text)
+    write_capture(host, name.as_str(), capture, &sent, &mut buffer)
 }
 
 /// Makes the files of the first so many units, in ascending order.
@@ -156,6 +182,51 @@ fn write_units<H: Host>(
     Ok(())
 }
 
+/// Writes the lines that tell each packet's fate to a handle. Where it stops, a prefix was written.
+fn write_lines<H: Host>(
+    host: &mut H,
+    h: u32,
+    fates: &[Fate],
+    buffer: &mut Vec<u8>,
+) -> Result<(), Stop>
+    requires writer { IsWriter ((H.state host.old).handles h) }
+    requires empty { buffer.old.items ≡ [] }
+    ensures handles { (H.state host.new).handles ≡ (H.state host.old).handles }
+    ensures ok { OnOk result (H.state host.new ≡ wrote (H.state host.old) h (fates_text fates.now)) }
+    ensures err { OnErr result ((n : ℕ) × (n ≤ length (fates_text fates.now))
+        × (H.state host.new ≡ wrote (H.state host.old) h (take n (fates_text fates.now)))) }
+    ensures cause { StopsFor (H.fault_count host.old) (H.fault_count host.new) result }
+{
+    for (n, fate) in fates.iter().enumerate() {
+        push_fate_line(buffer, n, *fate)?;
+        write_whole_pieces(host, h, buffer)?;
+    }
+    write_text(host, h, buffer)
+}
+
+/// Makes a file of the lines that tell each packet's fate. Where it stops, the file is as before, or has a prefix of them.
+fn write_fates_file<H: Host>(
+    host: &mut H,
+    name: &str,
+    fates: &[Fate],
+    buffer: &mut Vec<u8>,
+) -> Result<(), Stop>
+    requires may { H.may_create name.now }
+    requires empty { buffer.old.items ≡ [] }
+    ensures handles { (H.state host.new).handles ≡ (H.state host.old).handles }
+    ensures ok { OnOk result (H.state host.new
+        ≡ filed (H.state host.old) name.now (fates_text fates.now)) }
+    ensures err { OnErr result ((H.state host.new ≡ H.state host.old)
+        ⊎ FileHasPrefix name.now (fates_text fates.now) (H.state host.old) (H.state host.new)) }
+    ensures cause { StopsFor (H.fault_count host.old) (H.fault_count host.new) result }
+{
+    let h = host.create(name)?;
+    let lines = write_lines(host, h, fates, buffer);
+    let end = host.finish(h);
+    and_finished(lines, end)?;
+    Ok(())
+}
+
 /// Makes the file that tells each packet's fate.
 fn write_fates<H: Host>(alloc: Global, host: &mut H, out: &str, fates: &[Fate]) -> Result<(), Stop>
     requires { H.may_create (fates_name out.now) }
@@ -166,9 +237,13 @@ fn write_fates<H: Host>(alloc: Global, host: &mut H, out: &str, fates: &[Fate]) 
         (H.state host.old) (H.state host.new)) }
     ensures cause { StopsFor (H.fault_count host.old) (H.fault_count host.new) result }
 {
-    let text = fates_text(alloc, fates)?;
+    let room = fates
+        .len()
+        .saturating_mul(LONGEST_LINE)
+        .min(PIECE + LONGEST_LINE);
+    let mut buffer = Vec::with_capacity(alloc, room)?;
     let name = name_of_fates(alloc, out)?;
-    write_file(host, name.as_str(), &text)
+    write_fates_file(host, name.as_str(), fates, &mut buffer)
 }
 
 /// Writes the counts of the fates to standard output.
@@ -192,7 +267,7 @@ pub fn write_counts<H: Host>(
     write_output(host, &text)
 }
 
-/// Writes all that tells what became of a run's packets. One text at a time is in memory.
+/// Writes all that tells what became of a run's packets. Only the text of the counts is in memory as a whole.
 pub fn write_run<H: Host>(
     alloc: Global,
     host: &mut H,

@@ -1,7 +1,7 @@
-use Rattle.std.proofs.Common.{◌≡◌, ◌<◌, ◌∷◌, ◌++◌, Some, length, slice_get, subst, sym, ap, ◌∙◌}
+use Rattle.std.proofs.Common.{◌≡◌, ◌<◌, Some, length, subst, sym, ap, ◌∙◌}
 use Rattle.std.proofs.lemmas.Option.{same_Some}
 use Rattle.lq_account.specs.Progress.{start_of}
-use Rattle.lq_model.specs.Account.{Account, Event, Take}
+use Rattle.lq_model.specs.Account.{Account, Take}
 use Rattle.lq_model.specs.Legal.{Comes}
 use Rattle.lq_model.specs.Plan.{infos_of}
 use Rattle.lq_model.specs.declared.fate.Fate.TheVariants as fate

@@ -1,8 +1,8 @@
-use Rattle.std.proofs.Common.{◌≡◌, OnOk, Result, take, inr, subst}
-use Rattle.lq_host.specs.Host.{Writes, wrote}
-use Rattle.lq_host.proofs.HostLemmas.{opened-writer, opened-is_some, file_made}
-use Rattle.lq_top.specs.declared.answer.Stop.{Stop}
-use Rattle.lq_top.proofs.MoveLemmas.{on_err_any, made_handles, some_front}
+use Rattle.std.proofs.Common.{inr}
+use Rattle.lq_host.specs.Host.{Writes}
+use Rattle.lq_host.proofs.HostLemmas.{opened-writer, opened-is_some}
+use Rattle.lq_top.proofs.MoveLemmas.{on_err_any, made_handles}
+use Rattle.lq_top.proofs.PieceLemmas.{made_front, made_whole}
 use Rattle.lq_top.proofs.write.write_file.Goals as goal
 
 pub write_text-written-requires : goal.write_text-written-requires
@@ -16,15 +16,10 @@ finish-end-requires-clause-open g c =
 
 pub returns-in_err-and_finished-clause-err : goal.returns-in_err-and_finished-clause-err
 returns-in_err-and_finished-clause-err g c =
-    let part =
-    some_front c.write_text-written.result (g.H.Host.state c.create.new.self) (g.H.Host.state c.write_text-written.new.host) c.in_ok-h.h c.args.text.now c.write_text-written.ensures.ok
-    c.write_text-written.ensures.err in
-    on_err_any c.from_residual-in_err-and_finished.result (inr (
-      part.0,
-      part.1,
-      file_made (g.H.Host.state c.args.host.now) c.args.name.now c.in_ok-h.h (take part.0 c.args.text.now) (g.H.Host.state c.create.new.self)
-          (g.H.Host.state c.write_text-written.new.host) (g.H.Host.state c.finish-end.new.self) c.in_ok-h.ensures.fresh c.in_ok-h.ensures.ok part.2 c.finish-end.ensures.closed,
-    ))
+    on_err_any c.from_residual-in_err-and_finished.result
+    (inr (made_front c.write_text-written.result (g.H.Host.state c.args.host.now) c.args.name.now c.in_ok-h.h c.args.text.now (g.H.Host.state c.create.new.self)
+    (g.H.Host.state c.write_text-written.new.host) (g.H.Host.state c.finish-end.new.self) c.in_ok-h.ensures.fresh c.in_ok-h.ensures.ok c.write_text-written.ensures.ok c.write_text-written.ensures.err
+    c.finish-end.ensures.closed))
 
 pub returns-in_err-and_finished-clause-handles : goal.returns-in_err-and_finished-clause-handles
 returns-in_err-and_finished-clause-handles g c =
@@ -33,12 +28,9 @@ returns-in_err-and_finished-clause-handles g c =
 
 pub returns-clause-ok : goal.returns-clause-ok
 returns-clause-ok g c =
-    let mid = g.H.Host.state c.create.new.self in
-    let written : g.H.Host.state c.write_text-written.new.host ≡ wrote mid c.in_ok-h.h c.args.text.now =
-    subst (λ (r : Result (Unit {0}) Stop). OnOk r (g.H.Host.state c.write_text-written.new.host ≡ wrote mid c.in_ok-h.h c.args.text.now)) c.in_ok-and_finished.ensures.value
-    c.write_text-written.ensures.ok in
-    file_made (g.H.Host.state c.args.host.now) c.args.name.now c.in_ok-h.h c.args.text.now mid (g.H.Host.state c.write_text-written.new.host)
-    (g.H.Host.state c.finish-end.new.self) c.in_ok-h.ensures.fresh c.in_ok-h.ensures.ok written c.finish-end.ensures.closed
+    made_whole c.write_text-written.result _ (g.H.Host.state c.args.host.now) c.args.name.now c.in_ok-h.h c.args.text.now (g.H.Host.state c.create.new.self)
+    (g.H.Host.state c.write_text-written.new.host) (g.H.Host.state c.finish-end.new.self) c.in_ok-h.ensures.fresh c.in_ok-h.ensures.ok c.in_ok-and_finished.ensures.value
+    c.write_text-written.ensures.ok c.finish-end.ensures.closed
 
 pub returns-clause-handles : goal.returns-clause-handles
 returns-clause-handles g c =

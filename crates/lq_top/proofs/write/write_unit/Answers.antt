@@ -6,14 +6,19 @@ use Rattle.lq_top.proofs.FileLemmas.{is_cut}
 use Rattle.lq_top.proofs.TextLemmas.{sent_below}
 use Rattle.lq_top.proofs.write.write_unit.Goals as goal
 
-pub text_of_sent-requires : goal.text_of_sent-requires
-text_of_sent-requires g c =
+pub make_buffer-requires : goal.make_buffer-requires
+make_buffer-requires g c =
     subst (λ (xs : List ℕ). All (λ n. n < (packets_of_file c.args.capture.now).count) xs) (sym (c.deref.ensures.value ∙ c.in_ok-sent.ensures))
+    (sent_below c.args.fates.now c.args.unit (packets_of_file c.args.capture.now).count c.requires.serials c.requires.known)
+
+pub write_capture-requires-clause-known : goal.write_capture-requires-clause-known
+write_capture-requires-clause-known g c =
+    subst (λ (xs : List ℕ). All (λ n. n < (packets_of_file c.args.capture.now).count) xs) (sym (c.deref-2.ensures.value ∙ c.in_ok-sent.ensures))
     (sent_below c.args.fates.now c.args.unit (packets_of_file c.args.capture.now).count c.requires.serials c.requires.known)
 
 pub returns-clause-err : goal.returns-clause-err
 returns-clause-err g c =
-    on_err_weaker c.write_file.result
-    (is_cut c.as_str.result.now c.deref-2.result.now (unit_file c.args.out.now c.args.capture.now c.args.fates.now c.args.unit) (g.H.Host.state c.args.host.now) (g.H.Host.state c.write_file.new.host)
-    (c.as_str.ensures.value ∙ c.in_ok-name.ensures) (c.deref-2.ensures.value ∙ c.in_ok-text.ensures ∙ ap (text_of c.args.capture.now) (c.deref.ensures.value ∙ c.in_ok-sent.ensures)))
-    c.write_file.ensures.err
+    on_err_weaker c.write_capture.result
+    (is_cut c.as_str.result.now (text_of c.args.capture.now c.deref-2.result.now) (unit_file c.args.out.now c.args.capture.now c.args.fates.now c.args.unit) (g.H.Host.state c.args.host.now) (g.H.Host.state c.write_capture.new.host)
+    (c.as_str.ensures.value ∙ c.in_ok-name.ensures) (ap (text_of c.args.capture.now) (c.deref-2.ensures.value ∙ c.in_ok-sent.ensures)))
+    c.write_capture.ensures.err

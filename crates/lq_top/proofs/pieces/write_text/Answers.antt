@@ -2,7 +2,7 @@ use Rattle.std.proofs.Common.{refl, ◌+◌, take, sym, ap, ◌∙◌, arith, ru
 use Rattle.lq_host.specs.Host.{wrote}
 use Rattle.lq_host.proofs.HostLemmas.{wrote-nil, wrote_more}
 use Rattle.lq_top.proofs.MoveLemmas.{front_grows, part_fits, part_grows, on_err_any}
-use Rattle.lq_top.proofs.write.write_text.Goals as goal
+use Rattle.lq_top.proofs.pieces.write_text.Goals as goal
 
 pub loop-at-init : goal.loop-at-init
 loop-at-init g c = record {

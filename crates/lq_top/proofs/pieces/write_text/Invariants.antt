@@ -1,6 +1,6 @@
 use Rattle.std.proofs.Common.{◌≡◌, ◌≤◌, length, take, ◌-◌}
 use Rattle.lq_host.specs.Host.{wrote}
-use Rattle.lq_top.proofs.write.write_text.Given as goal
+use Rattle.lq_top.proofs.pieces.write_text.Given as goal
 
 -- the front of the text was written
 abbrev pub invariant-loop-at : goal.invariant-loop-at
