@@ -2,3 +2,5 @@
 pub mod Ready
 -- the packets that are sent, and their senders
 pub mod Senders
+-- a seat at a word
+pub mod Words

@@ -1,4 +1,4 @@
-//! What the steps on the shared table and the transmits of packets cost, on one thread and on four at once. With no word the
+//! What atomic steps, the calls of the shared table and the transmits of packets cost, on one thread and on four at once. With no word the
 //! loops are short and no time is printed; `lq_bench COUNT` makes COUNT rounds of each kind, or as many as there are packets,
 //! and prints nanoseconds a round.
 #![tactic(auto)]
@@ -13,9 +13,11 @@ mod rounds;
 mod senders;
 mod table;
 mod timing;
+mod words;
 
 use crate::paths::measure_paths;
 use crate::table::measure_all;
+use crate::words::measure_words;
 use std::marker::Sync;
 use std::process::ExitCode;
 use std::rt::Runtime;
@@ -35,12 +37,13 @@ fn count_of(rt: &HostRuntime) -> Option<u32> {
     word.parse::<u32>().ok()
 }
 
-/// The steps, and then the transmits.
+/// The atomic steps themselves, the calls of the table, and then the transmits.
 fn measure<R: Runtime + AllocGlobal + Wait + Threads + Sync>(
     rt: &R,
     count: u32,
     shows: bool,
 ) -> io::Result<()> {
+    measure_words(rt, count, shows)?;
     measure_all(rt, count, shows)?;
     measure_paths(rt, count, shows)
 }

@@ -65,6 +65,9 @@ pub fn table<'a>(
     if plan.max_len < plan.len || plan.max_len > 65536 {
         return None;
     }
+    if plan.queues != 1 {
+        return None;
+    }
     if !are_theirs(infos) {
         return None;
     }

@@ -102,6 +102,7 @@ impl Path {
                 busy_limit: 0,
                 hang_after: self.hang_after(),
             },
+            queues: 1,
         }
     }
 }

@@ -27,6 +27,7 @@ const PLAN: StationPlan = StationPlan {
         busy_limit: 0,
         hang_after: 0,
     },
+    queues: 1,
 };
 
 /// Tenths of a nanosecond that a round took.

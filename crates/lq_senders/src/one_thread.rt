@@ -74,6 +74,7 @@ fn table<'a, A: Abort, D: TxDevice>(
         max_len: 8,
         bypass: true,
         params: PARAMS,
+        queues: 1,
     };
     let station = Station::new(0, device);
     Shared::make(alloc, infos, 0, plan, 1, 2, station)

@@ -79,6 +79,7 @@ pub fn table<'a, A: Abort>(
             busy_limit: 0,
             hang_after: 0,
         },
+        queues: 1,
     };
     let station = Station::new(0, device(rt, alloc, burst, infos));
     Shared::make(alloc, infos, 0, plan, 1, SENDERS + 1, station)
