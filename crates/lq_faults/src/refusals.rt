@@ -73,7 +73,7 @@ fn takes_help_and_version_as_names(rt: HostRuntime) -> Result<(), Fail> {
 }
 
 /// Plans, and the line that refuses each.
-const PLANS: [(&[u8], &str); 10] = [
+const PLANS: [(&[u8], &str); 12] = [
     (b"len = = 3", "plan refused: 1 NotToml\n"),
     (b"[[station]]\nlenght = 5\n", "plan refused: 2 UnknownKey\n"),
     // a key of the document, but under the head of a station
@@ -81,10 +81,15 @@ const PLANS: [(&[u8], &str); 10] = [
         b"[[station]]\nlen = 2\nburst = 1\nbypass = false\nirq_every = 1000\n",
         "plan refused: 2 UnknownKey\n",
     ),
+    (b"[[station]]\nqueues = 2\n", "plan refused: 2 UnknownKey\n"),
     (b"senders = 2\n", "plan refused: 3 Missing\n"),
     (b"", "plan refused: 3 Missing\n"),
     (b"[[station]]\nlen = \"a\"\n", "plan refused: 4 Kind\n"),
     (b"[[station]]\nlen = 4097\n", "plan refused: 5 Range\n"),
+    (
+        b"version = 2\nsenders = 65\n[[station]]\n",
+        "plan refused: 5 Range\n",
+    ),
     (
         b"[[station]]\n[[event]]\nbefore = 0\nkind = \"up\"\nstation = 0\n",
         "plan refused: 6 EventOrder\n",
@@ -112,9 +117,9 @@ fn refuses_plans_with_the_least_reason(rt: HostRuntime) -> Result<(), Fail> {
 const SWAPPED: &[u8] =
     b"[[station]]\n[[station]]\n[[station]]\n[[station]]\n[[station]]\n[[station]]\n[[station]]\n[[station]]\n[[event]]\nbefore = 0\nkind = \"swap\"\nstation = 0\n";
 
-/// Plans that need more units than the bench has, and plans that aren't built. The capture isn't opened: it isn't there.
+/// Plans that need more units than the bench has. The capture isn't opened: it isn't there.
 #[test]
-fn refuses_plans_that_it_cannot_run(rt: HostRuntime) -> Result<(), Fail> {
+fn refuses_plans_that_need_more_units(rt: HostRuntime) -> Result<(), Fail> {
     let alloc = rt.alloc();
     let rows = [
         (
@@ -125,7 +130,6 @@ fn refuses_plans_that_it_cannot_run(rt: HostRuntime) -> Result<(), Fail> {
         ),
         (SWAPPED, 8, 3, "bench refused: needs 9 units, has 8\n"),
         (PLAN, 0, 3, "bench refused: needs 1 units, has 0\n"),
-        (SWAPPED, 9, 8, "not built: plan\n"),
     ];
     for (plan, devices, code, line) in rows {
         let mut host = MemHost::new(alloc);

@@ -1,6 +1,7 @@
 //! What holds of a run's files whatever order its senders' steps took: each packet has one fate, each unit's capture is the
-//! records of its sent packets in order of serial, and each sender's packets of one band are there in that sender's order. The
-//! capture is a generated one, of frames of 34 bytes, and the owners go by the packets' numbers.
+//! records of its sent packets in order of serial, and each sender's packets of one station and band are there in that sender's
+//! order, those of a lower unit first. The capture is a generated one, of frames of 34 bytes, and the owners go by the packets'
+//! numbers.
 use crate::{HEADER, records_of};
 use lq_class::{band, priority, route_byte};
 use lq_host::MemHost;
@@ -8,7 +9,10 @@ use std::alloc::Global;
 use std::test::Fail;
 
 /// The most senders of a plan.
-const SENDERS: usize = 8;
+const SENDERS: usize = 64;
+
+/// And the most stations.
+const STATIONS: usize = 8;
 
 /// The bytes of a generated record, of which the first 16 are its header.
 const RECORD_BYTES: usize = 50;
@@ -84,19 +88,23 @@ fn place_of(capture: &[u8], n: usize, stations: usize) -> Option<(usize, usize)>
     Some((band(priority(ETHERNET, frame)) as usize, station))
 }
 
-/// Whether what a unit sent is of one station, and each sender's packets of one band ascend.
+/// By station, sender and band: the lowest packet that may be sent next.
+type Next = [[[usize; 3]; SENDERS]; STATIONS];
+
+/// Whether what a unit sent is of one station, and each sender's packets of one band ascend, also after those of the station's
+/// lower units.
 fn are_in_order(
     capture: &[u8],
     packets: &[usize],
-    senders: usize,
-    stations: usize,
+    shape: Shape,
+    next: &mut Next,
 ) -> Result<bool, Fail> {
-    let mut next = [[0usize; 3]; SENDERS];
     let mut of = None;
     for n in packets {
-        let (band, station) = place_of(capture, *n, stations).ok_or("no packet")?;
-        let sender = n.checked_rem(senders).ok_or("no sender")?;
-        let row = next.get_mut(sender).ok_or("too many senders")?;
+        let (band, station) = place_of(capture, *n, shape.stations).ok_or("no packet")?;
+        let sender = n.checked_rem(shape.senders).ok_or("no sender")?;
+        let rows = next.get_mut(station).ok_or("too many stations")?;
+        let row = rows.get_mut(sender).ok_or("too many senders")?;
         let lowest = row.get_mut(band).ok_or("no band")?;
         if *n < *lowest || *of.get_or_insert(station) != station {
             return Ok(false);
@@ -122,9 +130,10 @@ fn check_unit(
     shape: Shape,
     fates: &[Told],
     unit: u32,
+    next: &mut Next,
 ) -> Result<usize, Fail> {
     let sent = sent_in_order(alloc, fates, unit)?;
-    if !are_in_order(capture, &sent, shape.senders, shape.stations)? {
+    if !are_in_order(capture, &sent, shape, next)? {
         return Err("a sender's packets out of order, or of another station".into());
     }
     let name = format!(in alloc; "o.{unit}.pcap")?;
@@ -148,8 +157,9 @@ pub fn check_run(
         return Err("another number of fates".into());
     }
     let mut total = 0usize;
+    let mut next = [[[0usize; 3]; SENDERS]; STATIONS];
     for unit in 0..shape.units {
-        let sent = check_unit(alloc, host, capture, shape, &fates, unit)?;
+        let sent = check_unit(alloc, host, capture, shape, &fates, unit, &mut next)?;
         total = total.saturating_add(sent);
     }
     let line = format!(in alloc; "\ntotal {count} sent {total} full ")?;

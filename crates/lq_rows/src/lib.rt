@@ -3,6 +3,8 @@
 #![tactic(auto)]
 
 #[cfg(test)]
+mod exchanges;
+#[cfg(test)]
 mod generated;
 #[cfg(test)]
 mod overlap;

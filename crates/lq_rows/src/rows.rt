@@ -183,6 +183,66 @@ fn tells_the_fate_of_each_packet(rt: HostRuntime) -> Result<(), Fail> {
     Ok(())
 }
 
+/// Two queues share the rings of a station, and each second packet that the device accepts stops its own queue. Packet 3 waits in
+/// the requeue slot for queue 0; 5 is requeued after the first wake, 7 after the second, and 4 is sent last.
+#[test]
+fn two_queues_stop_apart(rt: HostRuntime) -> Result<(), Fail> {
+    let alloc = rt.alloc();
+    let frames = [
+        (0, 0, 0),
+        (0, 0, 0),
+        (0, 1, 0),
+        (0, 0, 0),
+        (8, 1, 0),
+        (0x10, 0, 0),
+        (0x10, 1, 0),
+        (0, 1, 0),
+    ];
+    let capture = capture_of(alloc, &frames)?;
+    let plan = b"version = 2\nirq_every = 1000\n[[station]]\nqueues = 2\nburst = 2\n";
+    let mut host = host_of(alloc, plan, &capture)?;
+    let status = call(&rt, alloc, &RUN, &mut host, &Free)?;
+    assert_eq!(rt; status, Status::Done);
+    assert_eq!(rt;
+        host.file("o.fates").ok_or("no fates")?,
+        b"0 sent 0 0\n1 sent 0 1\n2 sent 0 2\n3 sent 0 3\n4 sent 0 7\n5 sent 0 4\n6 sent 0 5\n7 sent 0 6\n".as_slice()
+    );
+    let sent = records_of(alloc, &capture, &[0, 1, 2, 3, 5, 6, 7, 4])?;
+    assert_eq!(rt; host.file("o.0.pcap").ok_or("no capture")?, sent.as_slice());
+    Ok(())
+}
+
+/// A run in which the device of station 0 is exchanged before packet 2: packet 1, which waits then, is purged, and the others
+/// go to the second unit.
+const EXCHANGES: [&str; 2] = [
+    "irq_every = 1000\n[[station]]\nburst = 1\n[[event]]\nbefore = 2\nkind = \"swap\"\nstation = 0\n",
+    "[[station]]\nhang_after = 1\n[[event]]\nbefore = 2\nkind = \"swap\"\nstation = 0\n",
+];
+
+#[test]
+fn exchanges_the_device(rt: HostRuntime) -> Result<(), Fail> {
+    let alloc = rt.alloc();
+    let capture = capture_of(alloc, &[(0, 1, 0); 4])?;
+    for plan in EXCHANGES {
+        let mut host = host_of(alloc, plan.as_bytes(), &capture)?;
+        let status = call_on(&rt, alloc, &RUN, &mut host, 2, &Free)?;
+        assert_eq!(rt; status, Status::Done, "{plan:?}");
+        assert_eq!(rt;
+            host.file("o.fates").ok_or("no fates")?,
+            b"0 sent 0 0\n1 purged 0\n2 sent 1 0\n3 sent 1 1\n".as_slice()
+        );
+        for (name, packets) in [("o.0.pcap", [0].as_slice()), ("o.1.pcap", &[2, 3])] {
+            let sent = records_of(alloc, &capture, packets)?;
+            assert_eq!(rt; host.file(name).ok_or("no capture")?, sent.as_slice());
+        }
+        assert_eq!(rt;
+            host.output(),
+            b"unit 0 sent 1\nunit 1 sent 2\nstation 0 full 0 shrunk 0 purged 1 refused 0\ntotal 4 sent 3 full 0 shrunk 0 purged 1 refused 0\n".as_slice()
+        );
+    }
+    Ok(())
+}
+
 /// Two stations, each with a device of its own: the destination byte chooses.
 #[test]
 fn splits_a_capture_among_stations(rt: HostRuntime) -> Result<(), Fail> {

@@ -1,5 +1,6 @@
-//! Many runs of eight senders over stations that stop, are busy, hang, are shortened, deactivated and activated, each of which is
-//! checked. `lq_stress ROUNDS PACKETS` makes so many rounds of each plan, of so many packets; with no words a few short ones.
+//! Many runs of eight senders over stations that stop, are busy, hang, are shortened, deactivated and activated, and whose devices
+//! are exchanged, each of which is checked. `lq_stress ROUNDS PACKETS` makes so many rounds of each plan, of so many packets; with
+//! no words a few short ones.
 #![tactic(auto)]
 
 mod plans;

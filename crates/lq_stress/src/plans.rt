@@ -14,7 +14,7 @@ const ONE_STATION: Shape = Shape {
     units: 1,
 };
 
-pub const PLANS: [Stress; 6] = [
+pub const PLANS: [Stress; 8] = [
     // short rings, a queue that stops, no bypass
     Stress {
         plan: "senders = 8\nirq_every = 8\n[[station]]\nlen = 4\nburst = 3\nbypass = false\n",
@@ -46,6 +46,24 @@ pub const PLANS: [Stress; 6] = [
         shape: Shape {
             senders: 8,
             stations: 2,
+            units: 2,
+        },
+    },
+    // devices are exchanged, some of which hang
+    Stress {
+        plan: "senders = 8\nirq_every = 4\n[[station]]\nlen = 8\nburst = 4\nhang_after = 60\n[[event]]\nbefore = 100\nkind = \"swap\"\nstation = 0\nhang_after = 40\n[[event]]\nbefore = 200\nkind = \"swap\"\nstation = 0\nbusy_every = 3\nbusy_limit = 50\n[[event]]\nbefore = 300\nkind = \"swap\"\nstation = 0\nburst = 9\n",
+        shape: Shape {
+            senders: 8,
+            stations: 1,
+            units: 4,
+        },
+    },
+    // three queues share the rings
+    Stress {
+        plan: "version = 2\nsenders = 8\nirq_every = 4\n[[station]]\nlen = 8\nmax_len = 32\nqueues = 3\nburst = 4\nbusy_every = 5\nbusy_limit = 100\n[[event]]\nbefore = 100\nkind = \"down\"\nstation = 0\n[[event]]\nbefore = 130\nkind = \"up\"\nstation = 0\n[[event]]\nbefore = 200\nkind = \"resize\"\nstation = 0\nlen = 32\n[[event]]\nbefore = 300\nkind = \"swap\"\nstation = 0\nburst = 5\nhang_after = 60\n",
+        shape: Shape {
+            senders: 8,
+            stations: 1,
             units: 2,
         },
     },
