@@ -1,5 +1,52 @@
--- seats after a call, and the units of exchanges
-pub mod Firsts
-pub mod Sends
--- a seat that has the table of one owner's packets alone
-pub mod Only
+-- the plan's events in order
+pub mod Orders
+-- the plan's events and the units that they bring
+pub mod Units
+-- how far the first sender is with the plan's events
+pub mod Ways
+-- a sender's seats, where one or all of them did something
+pub mod Seats
+-- where the units' devices are
+pub mod Devices
+-- the exchanges are undone
+pub mod Undone
+-- a packet was sent
+pub mod Sent
+-- all seats did something in turn
+pub mod Rounds
+-- what a sender does after a packet
+pub mod Turns
+-- a sender on its way
+pub mod Sending
+-- the devices of a bench: configured, taken out and laid back
+pub mod Benches
+-- the packets of a capture are numbered by rank
+pub mod Sendable
+-- stations are opened over the devices of a bench
+pub mod Openings
+-- a run begins over the devices of a bench
+pub mod Prepared
+-- the other senders' seats are split off
+pub mod Splits
+-- lists and their parts
+pub mod Lists
+-- seats of several senders become one
+pub mod Joins
+-- stations are closed one by one
+pub mod Closes
+-- the run of one sender at its beginning
+pub mod Starts
+-- the units that a station has in turn
+pub mod Present
+-- a station at its end
+pub mod AtEnd
+-- the fates that the finished stations leave
+pub mod FatesOfRun
+-- each packet's fate can be read
+pub mod FatesRead
+-- the fates that a whole run leaves
+pub mod Leaves
+-- the devices that exchanges bring are configured
+pub mod SpareDevices
+-- closed stations are taken apart, and the devices go back to the bench
+pub mod HandsBack

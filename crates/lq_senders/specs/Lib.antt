@@ -1,3 +1,14 @@
--- what callers see of the tests' device, and what the tests know of seats
-pub mod Recorder
-pub mod Seats
+-- which unit a station has, and where the devices of the others are
+pub mod Units
+-- how far the first sender is with the plan's events at a station
+pub mod Way
+-- a sender's seats, one at each station
+pub mod Lanes
+-- the other senders' seats are joined into the first sender's
+pub mod Joins
+-- what the fates of a run are, what its devices did, and what stays of its stations
+pub mod Fates
+-- what a run leaves at its end
+pub mod Ends
+-- what a run begins with
+pub mod Setup

@@ -1,17 +1,28 @@
-//! Tests of control: beside three senders that transmit on threads of their own, and of an exchange and the end of a hung station on
-//! one thread.
-//! What a contract says is not tested again; these tests show that the contracts mean what they should, and that the calls come
-//! to an end beside one another.
+//! Several sender threads over the stations of a plan.
 #![tactic(auto)]
 
-#[cfg(test)]
-mod one_thread;
-mod recorder;
-mod seats;
-#[cfg(test)]
-mod tables;
-#[cfg(test)]
-mod threads;
+mod ends;
+mod gate;
+mod lane;
+mod lanes;
+mod laws;
+mod read;
+mod ready;
+mod send;
+mod setup;
+mod spares;
+mod swaps;
+mod undo;
+mod whole;
 
-pub use recorder::Recorder;
-pub use seats::Sender;
+pub use ends::end_run;
+pub use gate::{Free, Gate};
+pub use lanes::{Lane, all_send, send_loop};
+pub use laws::{
+    ends_make_fates, runs_are_readable, runs_keep_boxes, runs_leave_devices, runs_leave_stations,
+    runs_make_fates,
+};
+pub use read::read_fates;
+pub use send::send_all;
+pub use undo::undo_exchanges;
+pub use whole::run;

@@ -6,8 +6,8 @@
 mod plans;
 
 use crate::plans::{PLANS, Stress};
-use lq_fixture::{RUN, call_on, check_run, host_of};
 use lq_pcap::gen_capture;
+use lq_test_fixture::{RUN, call_on, check_run, host_of};
 use lq_top::{Free, Status};
 use std::io::Write;
 use std::marker::Sync;

@@ -1,5 +1,5 @@
 //! The plans of the runs.
-use lq_fixture::Shape;
+use lq_test_fixture::Shape;
 
 /// A plan of eight senders, and its shape.
 #[derive(Clone, Copy)]

@@ -12,7 +12,7 @@ use Rattle.lq_pcapng.specs.declared.file.CaptureFile.TheVariants.{Classic}
 use Rattle.lq_plan.specs.Generated.{generated_plan}
 use Rattle.lq_top.specs.Command.{GenWords}
 use Rattle.lq_top.specs.Decision.{Generates, Verdict, by_generated, by_plan, placed_on, units_changed_by, verdict_of_gen, with_refusal}
-use Rattle.lq_lanes.specs.Fates.{AreEnded, AreFatesOf, EndedState}
+use Rattle.lq_senders.specs.Fates.{AreEnded, AreFatesOf, EndedState}
 use Rattle.lq_top.specs.Headline.{AreCountsCut, HasCounted, Run, counts_text_of, generated_file, run_of}
 use Rattle.lq_top.specs.Outcome.{CompletesOrStops, Stops}
 use Rattle.lq_top.specs.Written.{FileIsCut, OutputHasPrefix, file_written}

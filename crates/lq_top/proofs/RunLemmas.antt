@@ -12,7 +12,7 @@ use Rattle.lq_pcapng.specs.File.{packets_of_file}
 use Rattle.lq_pcapng.specs.declared.file.CaptureFile.{CaptureFile}
 use Rattle.lq_top.specs.Command.{OfRun, RunWords}
 use Rattle.lq_top.specs.Decision.{Verdict, Generates, IsRunnable, max_units, LacksFile, Refuses, Runs, Traces, by_bytes, by_capture, by_plan, limited_capture_of, plan_for, verdict_of_run}
-use Rattle.lq_lanes.specs.Fates.{AreEnded, AreFatesOf, EndedState}
+use Rattle.lq_senders.specs.Fates.{AreEnded, AreFatesOf, EndedState}
 use Rattle.lq_top.specs.Headline.{Run, run_of, unit_files, fates_file, texts_of, HasRun}
 use Rattle.lq_top.specs.Outcome.{Completes, CompletesOrStops, IsAnswerOf, IsCommandStatus, Outcome, Stops}
 use Rattle.lq_top.specs.Refusal.{line_of, status_of}

@@ -3,7 +3,7 @@ use Rattle.std.specs.Prelude.{◌≡◌, ◌≢◌, ◌⊎◌, ℕ, Bool, true, 
 use Rattle.lq_model.specs.Device.{DeviceState}
 use Rattle.lq_model.specs.declared.fate.Fate.{Fate}
 use Rattle.lq_host.specs.Host.{HostState}
-use Rattle.lq_lanes.specs.Fates.{EndedState}
+use Rattle.lq_senders.specs.Fates.{EndedState}
 use Rattle.lq_top.specs.Command.{CommandWords}
 use Rattle.lq_top.specs.Decision.{Verdict, Generates, LacksFile, Refuses, Runs, Traces, by_bytes}
 use Rattle.lq_top.specs.Headline.{AreFatesIn, HasGenerated, HasRun, Run, counts_text_of, generated_file, texts_of}

@@ -17,6 +17,6 @@ mod trace;
 mod write;
 
 pub use answer::Status;
-pub use lq_lanes::{Free, Gate};
+pub use lq_senders::{Free, Gate};
 pub use program::run_program;
 pub use top::lqtx;

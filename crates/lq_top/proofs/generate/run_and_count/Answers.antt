@@ -1,5 +1,5 @@
 use Rattle.std.proofs.Common.{List, ◌∙◌, map, subst, sym}
-use Rattle.lq_lanes.specs.Fates.{AreFatesOf}
+use Rattle.lq_senders.specs.Fates.{AreFatesOf}
 use Rattle.lq_model.specs.declared.fate.Info.{Info}
 use Rattle.lq_top.specs.Headline.{run_of}
 use Rattle.lq_top.proofs.GenerateLemmas.{counts_cut}

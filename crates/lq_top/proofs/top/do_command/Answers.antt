@@ -1,5 +1,5 @@
 use Rattle.std.proofs.Common.{◌≡◌, [], List, ap, Some, IfSome, map, subst, sym, vec_len}
-use Rattle.lq_lanes.specs.Fates.{EndedState, ended_state}
+use Rattle.lq_senders.specs.Fates.{EndedState, ended_state}
 use Rattle.lq_top.specs.Command.{OfTrace, command_words}
 use Rattle.lq_top.specs.Decision.{verdict_of_command, verdict_of_trace}
 use Rattle.lq_top.specs.Outcome.{CompletesOrStops, CompletesOrStopsOfSome}

@@ -1,6 +1,6 @@
 use Rattle.std.proofs.Common.{◌∙◌, ap, sym, subst, IfSome, Option, Some, map, vec_len}
 use Rattle.std.specs.Option.{option_map}
-use Rattle.lq_lanes.specs.Fates.{ended_state}
+use Rattle.lq_senders.specs.Fates.{ended_state}
 use Rattle.lq_top.specs.Command.{CommandWords, command_words}
 use Rattle.lq_top.specs.Decision.{by_bytes, by_command, verdict_of_command}
 use Rattle.lq_top.specs.Outcome.{IsAnswerOf, Outcome, OutcomeOfSome}

@@ -1,6 +1,0 @@
-use Rattle.lq_lanes.specs.Lanes.{FirstDid}
-use Rattle.lq_sender.specs.Calls.{Drains}
-use Rattle.lq_lanes.proofs.lane.drain_all.Given as goal
-
-abbrev pub invariant-loop-j : goal.invariant-loop-j
-invariant-loop-j g l = FirstDid Drains l.j l.shared l.fn.cpus.items l.cpus.items

@@ -1,5 +1,0 @@
-use Rattle.lq_lanes.proofs.FatesOfRun.{fates_of_run}
-use Rattle.lq_lanes.proofs.laws.ends_make_fates.Goals as goal
-
-pub returns : goal.returns
-returns c plan infos before after views fates ends = fates_of_run plan infos before after views fates ends

@@ -1,5 +1,0 @@
-use Rattle.lq_lanes.proofs.FatesRead.{readable}
-use Rattle.lq_lanes.proofs.laws.runs_are_readable.Goals as goal
-
-pub returns : goal.returns
-returns g c plan infos others start brought closed spares ran sendable = readable plan infos others start brought closed spares ran sendable

@@ -1,0 +1,97 @@
+-- Closed stations are taken apart, and the devices go back to the bench.
+use Rattle.std.proofs.Common.{◌≡◌, inl, inr, ℕ, suc, ◌+◌, ◌<◌, ◌≤◌, List, [], ◌∷◌, ◌++◌, length, refl, ap, arith, Option, Some, sym, ◌∙◌, subst, map, take, drop, slice_get, length-append}
+use Rattle.std.specs.Option.{option_map_or}
+use Rattle.std.proofs.Math.Seq.{drop-append_seam}
+use Rattle.std.proofs.lemmas.List.{append_assoc, length-map, map-append}
+use Rattle.std.proofs.lemmas.Option.{same_Some, slice_get_within, slice_get_cases}
+use Rattle.lq_account.proofs.Lists.{get-push-old}
+use Rattle.lq_device.specs.Station.{StationState}
+use Rattle.lq_model.specs.Device.{DeviceState}
+use Rattle.lq_model.specs.Plan.{Plan}
+use Rattle.lq_model.specs.declared.fate.Fate.{Fate}
+use Rattle.lq_model.specs.declared.fate.Info.{Info}
+use Rattle.lq_table.specs.Views.{no_station}
+use Rattle.lq_table.specs.declared.shared.Cpu.{Cpu}
+use Rattle.lq_senders.specs.Ends.{AreBack, ClosedState, HasRun, home_device}
+use Rattle.lq_senders.specs.Fates.{AreEnded, EndedState, IsEndedAs, identities_of}
+use Rattle.lq_senders.specs.Setup.{AreAtHome}
+use Rattle.lq_senders.specs.Units.{by_unit, undone}
+use Rattle.lq_senders.proofs.Benches.{last-taken}
+use Rattle.lq_senders.proofs.Seats.{mapped-at}
+
+-- ONE BY ONE
+
+-- the last of those that were left stands before the others
+pub laid-through : {A B C X : Type 0} (f : X → C) (h : A → B) (k : B → C) (all left : List A) (n : ℕ) (a : A) (x : X) (now : List X) (first : List C)
+    → take (suc n) all ≡ left ++ a ∷ [] → length left ≡ n → f x ≡ k (h a)
+    → map f now ≡ map k (map h (drop (suc n) all)) ++ first
+    → map f (x ∷ now) ≡ map k (map h (drop n all)) ++ first
+laid-through f h k all left n a x now first taken len is before =
+    let dropped = (last-taken n all left a taken len).1 in
+    ap (λ c. c ∷ map f now) is ∙ (ap (λ cs. k (h a) ∷ cs) before ∙ ap (λ xs. map k (map h xs) ++ first) (sym dropped))
+
+pub home-is : (x : ClosedState) (st : StationState) → x.home ≡ Some st → home_device x ≡ st.device
+home-is x st home = ap (λ (h : Option StationState). option_map_or (λ (s : StationState). s.device) h no_station.device) home
+
+-- IN THE ORDER OF UNITS
+
+-- devices of two lists were laid before the others
+module _ {X : Type 0} (homes spares rest bench : List X) (laid : bench ≡ homes ++ (spares ++ rest)) where
+  pub laid-by-unit : (f : X → DeviceState) (plan : Plan) (old_homes old_spares : List DeviceState) → (map f homes, map f spares) ≡ undone plan (length plan.events) (old_homes, old_spares)
+      → map f bench ≡ by_unit plan old_homes old_spares ++ map f rest
+  laid-by-unit f plan old_homes old_spares back =
+      ap (map f) laid
+      ∙ (map-append f homes (spares ++ rest)
+      ∙ (ap (λ l. map f homes ++ l) (map-append f spares rest)
+      ∙ (sym (append_assoc (map f homes) (map f spares) (map f rest))
+      ∙ ap (λ (d : List DeviceState × List DeviceState). (d.0 ++ d.1) ++ map f rest) back)))
+
+  pub laid-before : (n : ℕ) → length homes + length spares ≡ n → drop n bench ≡ rest
+  laid-before n many =
+      ap (λ k. drop k bench) (sym many ∙ sym (length-append homes spares))
+      ∙ (ap (drop (length (homes ++ spares))) (laid ∙ sym (append_assoc homes spares rest)) ∙ drop-append_seam (homes ++ spares) rest)
+
+-- ALL STATIONS
+
+pub are-back : (plan : Plan) (closed : List ClosedState) (spares after rest : List DeviceState) → after ≡ by_unit plan (map home_device closed) spares ++ rest → AreBack plan closed spares after
+are-back plan closed spares after rest is unit device at = ap (λ ds. slice_get ds unit) is ∙ get-push-old (by_unit plan (map home_device closed) spares) rest device unit at
+
+pub stays-are : (plan : Plan) (infos : List Info) (fates : List Fate) (closed : List ClosedState) (ended : List EndedState) → length closed ≡ length plan.stations
+    → ended ≡ map (λ (x : ClosedState). x.ended) closed → ((j : ℕ) (x : ClosedState) → slice_get closed j ≡ Some x → IsEndedAs plan infos fates j x.ended) → AreEnded plan infos fates ended
+stays-are plan infos fates closed ended many is each = record {
+  one_each = ap length is ∙ (length-map closed (λ (x : ClosedState). x.ended) ∙ many);
+  each = λ j e at. elim (slice_get_cases closed j).1 [
+    | inl (x, inside, there, same) ↦ (let e_is : x.ended ≡ e = same_Some x.ended e (sym (mapped-at (λ (y : ClosedState). y.ended) closed j x there) ∙ (sym (ap (λ es. slice_get es j) is) ∙ at)) in
+        subst (λ (y : EndedState). IsEndedAs plan infos fates j y) e_is (each j x there))
+    | inr (past, nothing) ↦ absurd (let inside = slice_get_within ended j e at in let long = ap length is ∙ length-map closed (λ (x : ClosedState). x.ended) in omega arith)
+  ];
+}
+
+-- each of the first so many is the same box as the one that stood there
+same-boxes : (front before : List DeviceState) → length front ≤ length before
+    → ((j : ℕ) (old new : DeviceState) → slice_get before j ≡ Some old → slice_get front j ≡ Some new → new.identity ≡ old.identity)
+    → identities_of front ≡ take (length front) (identities_of before)
+same-boxes [] before within same = refl
+same-boxes (d ∷ front) [] within same = absurd (omega arith)
+same-boxes (d ∷ front) (b ∷ before) within same =
+    ap (λ i. i ∷ identities_of front) (same 0 b d refl refl) ∙ ap (λ ids. b.identity ∷ ids) (same-boxes front before (omega arith) (λ j. same (suc j)))
+
+pub boxes-kept : (n : ℕ) (front before rest after : List DeviceState) → length after ≡ n + length rest → n ≤ length before → after ≡ front ++ rest
+    → ((j : ℕ) (old new : DeviceState) → j < n → slice_get before j ≡ Some old → slice_get after j ≡ Some new → new.identity ≡ old.identity)
+    → identities_of after ≡ take n (identities_of before) ++ identities_of rest
+boxes-kept n front before rest after many within is same =
+    let long : length front ≡ n = let both = ap length is in omega (arith, length-append front rest) in
+    ap identities_of is ∙ (map-append (λ (d : DeviceState). d.identity) front rest
+    ∙ ap (λ ids. ids ++ identities_of rest) (same-boxes front before (omega arith) (λ j old new at at'. same j old new (let inside = slice_get_within front j new at' in omega arith) at
+    (ap (λ ds. slice_get ds j) is ∙ get-push-old front rest new j at'))
+    ∙ ap (λ k. take k (identities_of before)) long))
+
+module _ {D : Type 0} (plan : Plan) (infos : List Info) (others : ℕ) (start : List (Cpu D)) (brought : List DeviceState) (closed : List ClosedState) (spares : List DeviceState) (run : HasRun plan infos others start brought closed spares) where
+  pub closed-many : length closed ≡ length plan.stations
+  closed-many = run.closed_are.so_many
+
+  pub at-home : AreAtHome closed
+  at-home j x at = elim (slice_get_cases run.seats j).1 [
+    | inl (c, inside, there, same) ↦ (let home = (run.closed_are.each j c x there at).at_home in (home.0, home.1))
+    | inr (past, nothing) ↦ absurd (let inside = slice_get_within closed j x at in let many = run.closed_are.so_many in let one_each = run.one_each in omega arith)
+  ]

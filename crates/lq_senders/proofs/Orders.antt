@@ -1,0 +1,185 @@
+-- The plan's events in order.
+use Rattle.std.proofs.Common.{◌≡◌, ◌≢◌, ℕ, zero, suc, ◌+◌, ◌<◌, ◌≤◌, ◌&&◌, ◌||◌, ◌==◌, Bool, true, false, List, [], ◌∷◌, inl, inr, map, take, filter, Option, Some, None, is_none, refl, sym, ap, ◌∙◌, subst, cond, slice_get, nat_le, nat_lt, arith, eq-eqb}
+use Rattle.std.specs.List.{list_any}
+use Rattle.std.proofs.lemmas.Option.{same_Some}
+use Rattle.std.proofs.lemmas.Bool.{le-leb, ne_eqb}
+use Rattle.std.proofs.lemmas.Bool.Decides.{leb_tells}
+use Rattle.lq_model.specs.Plan.{Plan}
+use Rattle.lq_model.specs.Settled.{is_at, down_after, down_before}
+use Rattle.lq_model.specs.declared.plan.EventKind.{EventKind}
+use Rattle.lq_model.specs.declared.plan.EventKind.TheVariants.{Down, Up, Resize, TxQueueLen, Swap}
+use Rattle.lq_model.specs.declared.plan.EventPlan.{EventPlan}
+use Rattle.lq_plan.specs.Limits.{falls_below, active_after, is_misplaced, kinds_at, is_out_of_order}
+use Rattle.lq_account.specs.Trail.{down_at, down_of}
+use Rattle.lq_seat.specs.Calls.{MayDo}
+use Rattle.lq_senders.specs.Way.{down_among, down_after_events, IsSplitAt}
+
+not-le : (m n : ℕ) → n < m → nat_le m n ≡ false
+not-le m n h = elim (leb_tells m n) [ inl t ↦ absurd (let le = t.1 in omega arith) | inr t ↦ t.0 ]
+
+-- WHAT IS DEACTIVATED BEFORE A PACKET
+
+abbrev down_with : ℕ → ℕ → EventPlan → Option ℕ → Option ℕ
+down_with station e event down = cond (is_at station event) (down_after event.kind e down) down
+
+-- events behind the packet change nothing
+none-before : (station n : ℕ) (events : List EventPlan) (e : ℕ) (down : Option ℕ)
+    → ((k : ℕ) (event : EventPlan) → slice_get events k ≡ Some event → n < event.before) → down_before station n events e down ≡ down
+none-before station n [] e down behind = refl
+none-before station n (x ∷ xs) e down behind =
+    ap (λ b. down_before station n xs (e + 1) (cond (b && is_at station x) (down_after x.kind e down) down)) (not-le x.before n (behind 0 x refl))
+    ∙ none-before station n xs (e + 1) down (λ k event there. behind (suc k) event there)
+
+split-before : (station n : ℕ) (events : List EventPlan) (count e : ℕ) (down : Option ℕ)
+    → ((k : ℕ) (event : EventPlan) → k < count → slice_get events k ≡ Some event → event.before ≤ n)
+    → ((k : ℕ) (event : EventPlan) → count ≤ k → slice_get events k ≡ Some event → n < event.before)
+    → down_before station n events e down ≡ down_among station (take count events) e down
+split-before station n [] zero e down first rest = refl
+split-before station n [] (suc count) e down first rest = refl
+split-before station n (x ∷ xs) zero e down first rest = none-before station n (x ∷ xs) e down (λ k event there. rest k event (omega arith) there)
+split-before station n (x ∷ xs) (suc count) e down first rest =
+    ap (λ b. down_before station n xs (e + 1) (cond (b && is_at station x) (down_after x.kind e down) down)) (le-leb x.before n (first 0 x (omega arith) refl))
+    ∙ split-before station n xs count (e + 1) (down_with station e x down)
+    (λ k event below there. first (suc k) event (omega arith) there) (λ k event above there. rest (suc k) event (omega arith) there)
+
+pub down-split : (plan : Plan) (station count n : ℕ) → IsSplitAt plan count n → down_at plan station n ≡ down_after_events plan station count
+down-split plan station count n split = split-before station n plan.events count 0 None (λ k event below there. split.0 k event below there) (λ k event above there. split.1 k event above there)
+
+-- one event more
+one-more : (station : ℕ) (events : List EventPlan) (count e : ℕ) (down : Option ℕ) (event : EventPlan) → slice_get events count ≡ Some event
+    → down_among station (take (suc count) events) e down ≡ down_with station (e + count) event (down_among station (take count events) e down)
+one-more station [] count e down event there = absurd cc
+one-more station (x ∷ xs) zero e down event there =
+    let same : x ≡ event = same_Some x event there in let zero_more : e + 0 ≡ e = omega arith in
+    ap (λ (z : EventPlan). down_with station e z down) same ∙ ap (λ i. down_with station i event down) (sym zero_more)
+one-more station (x ∷ xs) (suc count) e down event there =
+    let more : (e + 1) + count ≡ e + suc count = omega arith in
+    one-more station xs count (e + 1) (down_with station e x down) event there
+    ∙ ap (λ i. down_with station i event (down_among station (take count xs) (e + 1) (down_with station e x down))) more
+
+pub down-next : (plan : Plan) (station count : ℕ) (event : EventPlan) → slice_get plan.events count ≡ Some event
+    → down_after_events plan station (suc count) ≡ down_with station count event (down_after_events plan station count)
+down-next plan station count event there =
+    let same : 0 + count ≡ count = omega arith in
+    one-more station plan.events count 0 None event there ∙ ap (λ i. down_with station i event (down_after_events plan station count)) same
+
+pub down-here : (plan : Plan) (station count : ℕ) (event : EventPlan) → slice_get plan.events count ≡ Some event → event.station ≡ station
+    → down_after_events plan station (suc count) ≡ down_after event.kind count (down_after_events plan station count)
+down-here plan station count event there here = down-next plan station count event there
+    ∙ ap (λ b. cond b (down_after event.kind count (down_after_events plan station count)) (down_after_events plan station count)) (eq-eqb event.station station here)
+
+pub down-elsewhere : (plan : Plan) (station count : ℕ) (event : EventPlan) → slice_get plan.events count ≡ Some event → event.station ≢ station
+    → down_after_events plan station (suc count) ≡ down_after_events plan station count
+down-elsewhere plan station count event there other = down-next plan station count event there
+    ∙ ap (λ b. cond b (down_after event.kind count (down_after_events plan station count)) (down_after_events plan station count)) (ne_eqb event.station station other)
+
+-- WHAT MAY BE DONE
+
+or-false : (a b : Bool) → (a || b) ≡ false → (a ≡ false) × (b ≡ false)
+or-false true b h = absurd cc
+or-false false b h = (refl, h)
+
+none-any : {X : Type 0} (test : X → Bool) (xs : List X) (k : ℕ) (x : X) → list_any test xs ≡ false → slice_get xs k ≡ Some x → test x ≡ false
+none-any test [] k x none there = absurd cc
+none-any test (y ∷ ys) zero x none there = subst (λ z. test z ≡ false) (same_Some y x there) (or-false (test y) (list_any test ys) none).0
+none-any test (y ∷ ys) (suc k) x none there = none-any test ys k x (or-false (test y) (list_any test ys) none).1 there
+
+-- a kind may be done to a station that is active, or not
+abbrev MayFollow : Bool → EventKind → Type 0
+MayFollow active kind = (next : Bool) × (active_after active kind ≡ Some next)
+
+first-may : (active : Bool) (kind : EventKind) (kinds : List EventKind) → is_misplaced (Some active) (kind ∷ kinds) ≡ false → MayFollow active kind
+first-may active kind kinds ok = go (active_after active kind) refl
+  where
+    none-ok : (kinds : List EventKind) → is_misplaced None kinds ≡ false → ⊥
+    none-ok [] h = cc
+    none-ok (k ∷ ks) h = cc
+
+    go : (o : Option Bool) → active_after active kind ≡ o → MayFollow active kind
+    go None is = absurd (none-ok kinds (ap (λ o. is_misplaced o kinds) (sym is) ∙ ok))
+    go (Some next) is = (next, is)
+
+-- whether it is active afterwards is whether no event deactivates it
+follows : (active next : Bool) (kind : EventKind) (e : ℕ) (down : Option ℕ) → active ≡ is_none down → active_after active kind ≡ Some next → next ≡ is_none (down_after kind e down)
+follows true next Down e down is after = sym (same_Some false next after)
+follows false next Up e down is after = sym (same_Some true next after)
+follows true next (Resize len) e down is after = sym (same_Some true next after) ∙ is
+follows true next (TxQueueLen len) e down is after = sym (same_Some true next after) ∙ is
+follows true next (Swap params) e down is after = sym (same_Some true next after) ∙ is
+follows true next Up e down is after = absurd cc
+follows false next Down e down is after = absurd cc
+follows false next (Resize len) e down is after = absurd cc
+follows false next (TxQueueLen len) e down is after = absurd cc
+follows false next (Swap params) e down is after = absurd cc
+
+may-follow : (station : ℕ) (events : List EventPlan) (k e : ℕ) (active : Bool) (down : Option ℕ) (event : EventPlan) → active ≡ is_none down → slice_get events k ≡ Some event → event.station ≡ station
+    → is_misplaced (Some active) (kinds_at station events) ≡ false → MayFollow (is_none (down_among station (take k events) e down)) event.kind
+may-follow station [] k e active down event is there here ok = absurd cc
+may-follow station (x ∷ xs) zero e active down event is there here ok =
+    let same : x ≡ event = same_Some x event there in
+    let at : (x.station == station) ≡ true = eq-eqb x.station station (ap (λ (z : EventPlan). z.station) same ∙ here) in
+    subst (λ (z : EventPlan). MayFollow (is_none down) z.kind) same
+    (subst (λ b. MayFollow b x.kind) is (first-may active x.kind (kinds_at station xs)
+    (ap (λ b. is_misplaced (Some active) (map (λ (z : EventPlan). z.kind) (cond b (x ∷ filter (λ (z : EventPlan). z.station == station) xs) (filter (λ (z : EventPlan). z.station == station) xs)))) (sym at) ∙ ok)))
+may-follow station (x ∷ xs) (suc k) e active down event is there here ok = go (λ active down is ok. may-follow station xs k (e + 1) active down event is there here ok) (x.station == station) refl
+  where
+    Rest : Type 0
+    Rest = (active : Bool) (down : Option ℕ) → active ≡ is_none down → is_misplaced (Some active) (kinds_at station xs) ≡ false
+        → MayFollow (is_none (down_among station (take k xs) (e + 1) down)) event.kind
+
+    kinds : Bool → List EventKind
+    kinds b = map (λ (z : EventPlan). z.kind) (cond b (x ∷ filter (λ (z : EventPlan). z.station == station) xs) (filter (λ (z : EventPlan). z.station == station) xs))
+
+    go : Rest → (b : Bool) → (x.station == station) ≡ b → MayFollow (is_none (down_among station (take k xs) (e + 1) (down_with station e x down))) event.kind
+    go after true at =
+        let ok' : is_misplaced (Some active) (x.kind ∷ kinds_at station xs) ≡ false = ap (λ b. is_misplaced (Some active) (kinds b)) (sym at) ∙ ok in
+        let may = first-may active x.kind (kinds_at station xs) ok' in
+        let rest : is_misplaced (Some may.0) (kinds_at station xs) ≡ false = ap (λ o. is_misplaced o (kinds_at station xs)) (sym may.1) ∙ ok' in
+        subst (λ b. MayFollow (is_none (down_among station (take k xs) (e + 1) (cond b (down_after x.kind e down) down))) event.kind) (sym at)
+        (after may.0 (down_after x.kind e down) (follows active may.0 x.kind e down is may.1) rest)
+    go after false at =
+        subst (λ b. MayFollow (is_none (down_among station (take k xs) (e + 1) (cond b (down_after x.kind e down) down))) event.kind) (sym at)
+        (after active down is (ap (λ b. is_misplaced (Some active) (kinds b)) (sym at) ∙ ok))
+
+-- so the plan's next event may be done to its station
+may-do : (kind : EventKind) (down : Option ℕ) (trail : _) → down_of trail ≡ down → MayFollow (is_none down) kind → MayDo kind trail
+may-do Down None trail is may = is
+may-do Down (Some k) trail is may = absurd (let m = may.1 in cc)
+may-do Up None trail is may = absurd (let m = may.1 in cc)
+may-do Up (Some k) trail is may = (k, is)
+may-do (Resize len) None trail is may = is
+may-do (Resize len) (Some k) trail is may = absurd (let m = may.1 in cc)
+may-do (TxQueueLen len) None trail is may = is
+may-do (TxQueueLen len) (Some k) trail is may = absurd (let m = may.1 in cc)
+may-do (Swap params) None trail is may = is
+may-do (Swap params) (Some k) trail is may = absurd (let m = may.1 in cc)
+
+pub may-do-next : (plan : Plan) (count : ℕ) (event : EventPlan) (trail : _) → is_out_of_order plan.events ≡ false → slice_get plan.events count ≡ Some event
+    → down_of trail ≡ down_after_events plan event.station count → MayDo event.kind trail
+may-do-next plan count event trail order there is =
+    let ok = none-any (λ (x : EventPlan). is_misplaced (Some true) (kinds_at x.station plan.events)) plan.events count event (or-false _ _ order).1 there in
+    may-do event.kind (down_after_events plan event.station count) trail is (may-follow event.station plan.events count 0 true None event refl there refl ok)
+
+-- events stand in ascending order
+first-rises : (last : ℕ) (x : EventPlan) (xs : List EventPlan) → falls_below last (x ∷ xs) ≡ false → last ≤ x.before
+first-rises last x xs ok = elim (leb_tells (suc x.before) last) [ inl t ↦ absurd (let is = t.0 in let isn't = (or-false (nat_lt x.before last) (falls_below x.before xs) ok).0 in cc) | inr t ↦ (let lt = t.1 in omega arith) ]
+
+rises : (last : ℕ) (events : List EventPlan) (k : ℕ) (event : EventPlan) → falls_below last events ≡ false → slice_get events k ≡ Some event → last ≤ event.before
+rises last [] k event ok there = absurd cc
+rises last (x ∷ xs) zero event ok there = subst (λ (z : EventPlan). last ≤ z.before) (same_Some x event there) (first-rises last x xs ok)
+rises last (x ∷ xs) (suc k) event ok there = let first : last ≤ x.before = first-rises last x xs ok in let more : x.before ≤ event.before = rises x.before xs k event (or-false (nat_lt x.before last) (falls_below x.before xs) ok).1 there in omega arith
+
+ascending : (last : ℕ) (events : List EventPlan) (i k : ℕ) (early late : EventPlan) → falls_below last events ≡ false → i ≤ k → slice_get events i ≡ Some early → slice_get events k ≡ Some late
+    → early.before ≤ late.before
+ascending last [] i k early late ok le first second = absurd cc
+ascending last (x ∷ xs) zero k early late ok le first second = go k second
+  where
+    go : (k : ℕ) → slice_get (x ∷ xs) k ≡ Some late → early.before ≤ late.before
+    go zero second = let same : early ≡ late = same_Some early late (sym first ∙ second) in subst (λ (z : EventPlan). early.before ≤ z.before) same (omega arith)
+    go (suc k) second = subst (λ (z : EventPlan). z.before ≤ late.before) (same_Some x early first) (rises x.before xs k late (or-false (nat_lt x.before last) (falls_below x.before xs) ok).1 second)
+ascending last (x ∷ xs) (suc i) zero early late ok le first second = absurd (omega arith)
+ascending last (x ∷ xs) (suc i) (suc k) early late ok le first second = ascending x.before xs i k early late (or-false (nat_lt x.before last) (falls_below x.before xs) ok).1 (omega arith) first second
+
+pub in-order : (plan : Plan) (i k : ℕ) (early late : EventPlan) → is_out_of_order plan.events ≡ false → i ≤ k → slice_get plan.events i ≡ Some early → slice_get plan.events k ≡ Some late
+    → early.before ≤ late.before
+in-order plan i k early late order le first second = ascending 0 plan.events i k early late (or-false _ _ order).0 le first second

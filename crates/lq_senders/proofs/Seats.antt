@@ -1,0 +1,237 @@
+-- A sender's seats, where one or all of them did something.
+use Rattle.std.proofs.Common.{◌≡◌, ◌≢◌, ℕ, zero, suc, ◌+◌, ◌<◌, false, List, [], ◌∷◌, length, Some, refl, sym, ap, ◌∙◌, subst, slice_get, map, arith}
+use Rattle.std.specs.Prelude.{slice_set, slice_index, slice_index_or, All}
+use Rattle.std.specs.Option.{option_map, option_map_or}
+use Rattle.std.proofs.lemmas.List.{length-set}
+use Rattle.std.proofs.lemmas.Option.{same_Some, slice_get_read, slice_get_within, slice_get-map, get_or_from_slice_get}
+use mathlib.Core.Logic.{dite}
+use native.Mathlib.Decide.{ℕ_discrete}
+use Rattle.lq_account.specs.Progress.{start_of}
+use Rattle.lq_model.specs.Alone.{RunningStation, changed, changed_at, served, with_event}
+use Rattle.lq_model.specs.Device.{DeviceState}
+use Rattle.lq_model.specs.Plan.{Plan, queues_at}
+use Rattle.lq_model.specs.declared.fate.Info.{Info}
+use Rattle.lq_model.specs.declared.device.Params.{Params}
+use Rattle.lq_model.specs.declared.plan.EventKind.{EventKind}
+use Rattle.lq_model.specs.declared.plan.EventKind.TheVariants.{Swap}
+use Rattle.lq_model.specs.declared.plan.EventPlan.{EventPlan}
+use Rattle.lq_plan.specs.Limits.{is_out_of_order, max_len_at}
+use Rattle.lq_qdisc.specs.Alone.{Does, IsAlone, running}
+use Rattle.lq_seat.specs.Calls.{DoesEvent, with_control}
+use Rattle.lq_seat.specs.Exchanges.{Exchanges, KeepsSeat}
+use Rattle.lq_seat.specs.Seat.{DoesAlone, IsSeat, Keeps}
+use Rattle.lq_table.specs.Rule.{times}
+use Rattle.lq_table.specs.Sees.{view, setup}
+use Rattle.lq_table.specs.Solo.{solo}
+use Rattle.lq_table.specs.Views.{Setup, SharePart, View, first_account}
+use Rattle.lq_table.specs.declared.shared.Cpu.{Cpu}
+use Rattle.lq_table.specs.declared.shared.Shared.{Shared}
+use Rattle.lq_senders.specs.Lanes.{IsTableOf, setup_of, Stands, StandsAt, LaneStands, KeepAll, KeepSeats, Runs}
+use Rattle.lq_senders.specs.Way.{IsOnWay}
+use Rattle.lq_senders.proofs.Orders.{may-do-next}
+use Rattle.lq_senders.proofs.Ways.{way-event, way-elsewhere}
+
+-- LISTS
+
+pub set-here : {X : Type 0} (xs : List X) (i : ℕ) (x : X) → i < length xs → slice_get (slice_set xs i x) i ≡ Some x
+set-here [] i x within = absurd (omega arith)
+set-here (y ∷ ys) zero x within = refl
+set-here (y ∷ ys) (suc i) x within = set-here ys i x (omega arith)
+
+pub set-apart : {X : Type 0} (xs : List X) (i k : ℕ) (x : X) → k ≢ i → slice_get (slice_set xs i x) k ≡ slice_get xs k
+set-apart [] i k x other = refl
+set-apart (y ∷ ys) zero zero x other = absurd (other refl)
+set-apart (y ∷ ys) zero (suc k) x other = refl
+set-apart (y ∷ ys) (suc i) zero x other = refl
+set-apart (y ∷ ys) (suc i) (suc k) x other = set-apart ys i k x (λ e. other (ap suc e))
+
+-- what holds of each element of a list in which one was set
+pub each-set : {X : Type 0} (P : ℕ → X → Type 0) (xs : List X) (i : ℕ) (new : X) → i < length xs → P i new
+    → ((j : ℕ) (x : X) → j ≢ i → slice_get xs j ≡ Some x → P j x) → (j : ℕ) (x : X) → slice_get (slice_set xs i new) j ≡ Some x → P j x
+each-set P xs i new within here others j x there = dite (ℕ_discrete j i)
+    (λ same. let is : new ≡ x = same_Some new x (sym (set-here xs i new within) ∙ (ap (slice_get (slice_set xs i new)) (sym same) ∙ there)) in
+    subst (λ k. P k x) (sym same) (subst (P i) is here))
+    (λ other. others j x other (sym (set-apart xs i j new other) ∙ there))
+
+pub changed-here : {X : Type 0} (i : ℕ) (f : X → X) (xs : List X) (x : X) → slice_get xs i ≡ Some x → slice_get (changed_at i f xs) i ≡ Some (f x)
+changed-here i f [] x there = absurd cc
+changed-here zero f (y ∷ ys) x there = ap (λ z. Some (f z)) (same_Some y x there)
+changed-here (suc i) f (y ∷ ys) x there = changed-here i f ys x there
+
+pub changed-apart : {X : Type 0} (i k : ℕ) (f : X → X) (xs : List X) → k ≢ i → slice_get (changed_at i f xs) k ≡ slice_get xs k
+changed-apart i k f [] other = refl
+changed-apart zero zero f (y ∷ ys) other = absurd (other refl)
+changed-apart zero (suc k) f (y ∷ ys) other = refl
+changed-apart (suc i) zero f (y ∷ ys) other = refl
+changed-apart (suc i) (suc k) f (y ∷ ys) other = changed-apart i k f ys (λ e. other (ap suc e))
+
+pub read-at : {X : Type 0} (xs : List X) (i : ℕ) (x : X) → i < length xs → x ≡ slice_index_or xs i x → slice_get xs i ≡ Some x
+read-at xs i x within is = slice_get_read xs (length xs) i x refl within is
+
+pub mapped-at : {X Y : Type 0} (f : X → Y) (xs : List X) (i : ℕ) (x : X) → slice_get xs i ≡ Some x → slice_get (map f xs) i ≡ Some (f x)
+mapped-at f xs i x there = slice_get-map f xs i ∙ ap (option_map f) there
+
+pub all-at : {X : Type 0} (P : X → Type 0) (xs : List X) (i : ℕ) (x : X) → All P xs → slice_get xs i ≡ Some x → P x
+all-at P xs i x all there = subst P (get_or_from_slice_get xs i x x there) (all i x (slice_get_within xs i x there))
+
+-- THE TABLE
+
+module _ {D : Type 0} (plan : Plan) (infos : List Info) (j : ℕ) (t : Shared D) (table : IsTableOf plan infos j t) where
+  pub infos-are : t.infos.now ≡ infos
+  infos-are = ap (λ (k : Setup). k.infos) table.setup_is
+
+  pub number-is : t.station ≡ j
+  number-is = ap (λ (k : Setup). k.station) table.setup_is
+
+  pub senders-are : t.senders ≡ plan.senders
+  senders-are = ap (λ (k : Setup). k.senders) table.setup_is
+
+  pub max-len-is : t.max_len ≡ max_len_at plan.stations j
+  max-len-is = ap (λ (k : Setup). k.max_len) table.setup_is
+
+  pub queues-are : t.queues ≡ queues_at plan.stations j
+  queues-are = ap (λ (k : Setup). k.queues) table.setup_is
+
+  -- a step of a seat alone is one of the plan's station
+  pub own-step : (step : Setup → RunningStation → RunningStation) (v w : View) → DoesAlone t (step (setup t)) v w → Does infos (start_of plan j) (step (setup_of plan infos j)) (solo v) (solo w)
+  own-step step v w does = subst (λ (k : Setup). Does k.infos (first_account k) (step k) (solo v) (solo w)) table.setup_is does
+
+-- ONE SEAT
+
+pub keeps-itself : (v : View) → Keeps v v
+keeps-itself v = record { share = refl; first = refl; told = refl; origin = refl; gone = refl }
+
+pub keeps-on : (a b c : View) → Keeps a b → Keeps b c → Keeps a c
+keeps-on a b c one two = record {
+  share = two.share ∙ one.share;
+  first = two.first ∙ one.first;
+  told = two.told ∙ one.told;
+  origin = two.origin ∙ one.origin;
+  gone = two.gone ∙ one.gone;
+}
+
+pub seat-kept : (v w : View) → Keeps v w → KeepsSeat v w
+seat-kept v w keeps = record { share = keeps.share; first = keeps.first; told = keeps.told }
+
+pub owner-kept : (sender : ℕ) (v w : View) → KeepsSeat v w → 0 < times sender v.share.owners → 0 < times sender w.share.owners
+owner-kept sender v w keeps has = subst (λ (s : SharePart). 0 < times sender s.owners) (sym keeps.share) has
+
+-- what an event leaves of its station's seat
+pub record Changes (plan : Plan) (e : ℕ) (kind : EventKind) (v w : View) : Type 0 where
+  pub keeps : KeepsSeat v w
+  pub raised : w.place.raised ≡ false
+  pub turns : w.turns ≡ v.turns
+  pub trail : w.trail ≡ with_control plan e kind v.trail
+
+pub event-changes : {D : Type 0} (t : Shared D) (plan : Plan) (e : ℕ) (kind : EventKind) (v w : View) → DoesEvent t plan e kind v w → Changes plan e kind v w
+event-changes t plan e kind v w does = record { keeps = seat-kept v w does.keeps; raised = does.raised; turns = does.turns; trail = does.trail }
+
+pub exchange-changes : {D : Type 0} (t : Shared D) (plan : Plan) (e : ℕ) (kind : EventKind) (params : Params) (came went : DeviceState) (v w : View) → kind ≡ Swap params → Exchanges t plan e params came went v w → Changes plan e kind v w
+exchange-changes t plan e kind params came went v w is does = subst (λ k. Changes plan e k v w) (sym is) (record { keeps = does.keeps; raised = does.raised; turns = does.turns; trail = does.trail })
+
+pub stands-event : (plan : Plan) (infos : List Info) (e n : ℕ) (event : EventPlan) (v w : View) → slice_get plan.events e ≡ Some event
+    → is_out_of_order plan.events ≡ false → Changes plan e event.kind v w → Stands plan infos 0 event.station e n v → Stands plan infos 0 event.station (suc e) n w
+stands-event plan infos e n event v w there order does stands = record {
+  is_sender = stands.is_sender;
+  owner = owner-kept 0 v w does.keeps stands.owner;
+  wide = ap length does.turns ∙ stands.wide;
+  turn = ap (λ l. slice_index l 0) does.turns ∙ stands.turn;
+  raised = does.raised;
+  way = λ z. let way = stands.way refl in (
+    does.keeps.first ∙ way.0,
+    subst (IsOnWay plan event.station (suc e)) (sym does.trail)
+        (way-event plan event.station e event there refl v.trail way.1 event.kind refl (may-do-next plan e event v.trail order there way.1.down)),
+  );
+}
+
+pub stands-elsewhere : (plan : Plan) (infos : List Info) (e n station : ℕ) (event : EventPlan) (v : View) → slice_get plan.events e ≡ Some event → event.station ≢ station
+    → Stands plan infos 0 station e n v → Stands plan infos 0 station (suc e) n v
+stands-elsewhere plan infos e n station event v there other stands = record {
+  is_sender = stands.is_sender;
+  owner = stands.owner;
+  wide = stands.wide;
+  turn = stands.turn;
+  raised = stands.raised;
+  way = λ z. let way = stands.way refl in (way.0, way-elsewhere plan station e event there v.trail other way.1);
+}
+
+-- ALL SEATS
+
+module _ {D : Type 0} where
+  pub keep-set : (cpus : List (Cpu D)) (i : ℕ) (c c' : Cpu D) → slice_get cpus i ≡ Some c → Keeps (view c) (view c') → KeepAll cpus (slice_set cpus i c')
+  keep-set cpus i c c' there keeps = record {
+    long = length-set cpus i c';
+    each = λ j d d' at at'. each-set (λ (j : ℕ) (x : Cpu D). (d : Cpu D) → slice_get cpus j ≡ Some d → Keeps (view d) (view x)) cpus i c' (slice_get_within cpus i c there)
+        (λ d at. subst (λ (z : Cpu D). Keeps (view z) (view c')) (same_Some c d (sym there ∙ at)) keeps)
+        (λ j x other at d at'. subst (λ (z : Cpu D). Keeps (view d) (view z)) (same_Some d x (sym at' ∙ at)) (keeps-itself (view d)))
+        j d' at' d at;
+  }
+
+  pub seats-kept : (old new : List (Cpu D)) → KeepAll old new → KeepSeats old new
+  seats-kept old new keeps = record { long = keeps.long; each = λ j c c' at at'. seat-kept (view c) (view c') (keeps.each j c c' at at') }
+
+  pub seats-set : (cpus : List (Cpu D)) (i : ℕ) (c c' : Cpu D) → slice_get cpus i ≡ Some c → KeepsSeat (view c) (view c') → KeepSeats cpus (slice_set cpus i c')
+  seats-set cpus i c c' there keeps = record {
+    long = length-set cpus i c';
+    each = λ j d d' at at'. each-set (λ (j : ℕ) (x : Cpu D). (d : Cpu D) → slice_get cpus j ≡ Some d → KeepsSeat (view d) (view x)) cpus i c' (slice_get_within cpus i c there)
+        (λ d at. subst (λ (z : Cpu D). KeepsSeat (view z) (view c')) (same_Some c d (sym there ∙ at)) keeps)
+        (λ j x other at d at'. subst (λ (z : Cpu D). KeepsSeat (view d) (view z)) (same_Some d x (sym at' ∙ at)) (seat-kept (view d) (view d) (keeps-itself (view d))))
+        j d' at' d at;
+  }
+
+  pub runs-set : (plan : Plan) (infos : List Info) (cpus : List (Cpu D)) (stations : List RunningStation) (i : ℕ) (c c' : Cpu D) (step : RunningStation → RunningStation) → slice_get cpus i ≡ Some c
+      → Does infos (start_of plan i) step (solo (view c)) (solo (view c')) → Runs plan infos cpus stations → Runs plan infos (slice_set cpus i c') (changed_at i step stations)
+  runs-set plan infos cpus stations i c c' step there does runs =
+      each-set (λ (j : ℕ) (x : Cpu D). IsAlone infos (start_of plan j) (solo (view x)) × (slice_get (changed_at i step stations) j ≡ Some (running (start_of plan j) (solo (view x))))) cpus i c' (slice_get_within cpus i c there)
+      (let was = runs i c there in let now = does was.0 in (now.0, changed-here i step stations _ was.1 ∙ ap Some (sym now.1)))
+      (λ j x other at. let was = runs j x at in (was.0, changed-apart i j step stations other ∙ was.1))
+
+  pub table-at : (plan : Plan) (infos : List Info) (sender count n : ℕ) (tables : List (Shared D)) (cpus : List (Cpu D)) → LaneStands plan infos sender count n tables cpus
+      → (station : ℕ) (t : Shared D) → station < length plan.stations → t ≡ slice_index_or tables station t → slice_get tables station ≡ Some t
+  table-at plan infos sender count n tables cpus lane station t within is = let all = lane.all in read-at tables station t (omega arith) is
+
+  pub seat-at : (plan : Plan) (infos : List Info) (sender count n : ℕ) (tables : List (Shared D)) (cpus : List (Cpu D)) → LaneStands plan infos sender count n tables cpus
+      → (station : ℕ) (c : Cpu D) → station < length plan.stations → c ≡ slice_index_or cpus station c → slice_get cpus station ≡ Some c
+  seat-at plan infos sender count n tables cpus lane station c within is = let all = lane.all in let long = lane.long in read-at cpus station c (omega arith) is
+
+  -- how a seat stands that was read from the lane
+  pub stands-at : (plan : Plan) (infos : List Info) (sender count n : ℕ) (tables : List (Shared D)) (cpus : List (Cpu D)) → LaneStands plan infos sender count n tables cpus
+      → (station : ℕ) (t : Shared D) (c : Cpu D) → station < length plan.stations → t ≡ slice_index_or tables station t → c ≡ slice_index_or cpus station c → StandsAt plan infos sender count n station t c
+  stands-at plan infos sender count n tables cpus lane station t c within is-t is-c =
+      lane.each station t c (table-at plan infos sender count n tables cpus lane station t within is-t) (seat-at plan infos sender count n tables cpus lane station c within is-c)
+
+  -- an event of the plan
+  pub lane-event : (plan : Plan) (infos : List Info) (e n : ℕ) (tables : List (Shared D)) (cpus : List (Cpu D)) (event : EventPlan) (t : Shared D) (c c' : Cpu D)
+      → slice_get plan.events e ≡ Some event → is_out_of_order plan.events ≡ false
+      → slice_get tables event.station ≡ Some t → slice_get cpus event.station ≡ Some c → IsSeat t c'
+      → Changes plan e event.kind (view c) (view c')
+      → LaneStands plan infos 0 e n tables cpus → LaneStands plan infos 0 (e + 1) n tables (slice_set cpus event.station c')
+  lane-event plan infos e n tables cpus event t c c' there order at-t at-c seat does lane = record {
+    long = length-set cpus event.station c' ∙ lane.long;
+    all = lane.all;
+    each = λ j u d at at'. subst (λ (k : ℕ). StandsAt plan infos 0 k n j u d) more (stands j u d at at');
+  }
+    where
+      more : suc e ≡ e + 1
+      more = omega arith
+
+      stands : (j : ℕ) (u : Shared D) (d : Cpu D) → slice_get tables j ≡ Some u → slice_get (slice_set cpus event.station c') j ≡ Some d → StandsAt plan infos 0 (suc e) n j u d
+      stands j u d at at' = each-set (λ (j : ℕ) (x : Cpu D). (u : Shared D) → slice_get tables j ≡ Some u → StandsAt plan infos 0 (suc e) n j u x) cpus event.station c' (slice_get_within cpus event.station c at-c)
+          (λ u at. let was = lane.each event.station t c at-t at-c in subst (λ (z : Shared D). StandsAt plan infos 0 (suc e) n event.station z c') (same_Some t u (sym at-t ∙ at)) (record {
+            table = was.table;
+            seat = seat;
+            stands = stands-event plan infos e n event (view c) (view c') there order does was.stands;
+          }))
+          (λ j x other at u at'. let was = lane.each j u x at' at in record { table = was.table; seat = was.seat; stands = stands-elsewhere plan infos e n j event (view x) there (λ same. other (sym same)) was.stands })
+          j d at' u at
+
+  pub runs-event : (plan : Plan) (infos : List Info) (e n : ℕ) (tables : List (Shared D)) (cpus : List (Cpu D)) (stations : List RunningStation) (event : EventPlan) (t : Shared D) (c c' : Cpu D)
+      → slice_get plan.events e ≡ Some event → slice_get tables event.station ≡ Some t → slice_get cpus event.station ≡ Some c
+      → DoesAlone t (λ s. served t.infos.now (changed plan e event.kind s)) (view c) (view c')
+      → LaneStands plan infos 0 e n tables cpus → Runs plan infos cpus stations → Runs plan infos (slice_set cpus event.station c') (with_event plan infos e stations)
+  runs-event plan infos e n tables cpus stations event t c c' there at-t at-c does lane runs =
+      let own : Does infos (start_of plan event.station) (λ s. served infos (changed plan e event.kind s)) (solo (view c)) (solo (view c')) =
+      own-step plan infos event.station t (lane.each event.station t c at-t at-c).table (λ k s. served k.infos (changed plan e event.kind s)) (view c) (view c') does in
+      subst (Runs plan infos (slice_set cpus event.station c'))
+      (ap (λ o. option_map_or (λ (x : EventPlan). changed_at x.station (λ s. served infos (changed plan e x.kind s)) stations) o stations) (sym there))
+      (runs-set plan infos cpus stations event.station c c' (λ s. served infos (changed plan e event.kind s)) at-c own runs)

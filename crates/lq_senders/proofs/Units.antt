@@ -1,0 +1,103 @@
+-- The plan's events and the units that they bring.
+use Rattle.std.proofs.Common.{◌≡◌, ◌≢◌, ℕ, zero, suc, ◌+◌, ◌<◌, ◌≤◌, ◌&&◌, Bool, true, false, cond, List, [], ◌∷◌, inl, inr, length, take, slice_get, Some, refl, sym, ap, ◌∙◌, subst, arith, eq-eqb, Contains}
+use Rattle.std.proofs.lemmas.Bool.{ne_eqb}
+use Rattle.std.proofs.lemmas.List.Sums.{count_by-le-length, count_by_more_yes, count_by_more_no, sum_by-take-le}
+use Rattle.std.proofs.lemmas.Option.{get_or_from_slice_get, same_Some, slice_get_within}
+use Rattle.lq_account.proofs.Lists.{cons-in, here-in, there-in, none-in}
+use Rattle.lq_model.specs.Account.{Event, Swap}
+use Rattle.lq_model.specs.Plan.{Plan, is_swap, is_swap_kind, unit_count, unit_of_swap}
+use Rattle.lq_model.specs.Settled.{is_at}
+use Rattle.lq_model.specs.declared.device.Params.{Params}
+use Rattle.lq_model.specs.declared.plan.EventKind.{EventKind}
+use Rattle.lq_model.specs.declared.plan.EventKind.TheVariants as kind
+use Rattle.lq_model.specs.declared.plan.EventPlan.{EventPlan}
+use Rattle.lq_table.specs.Rule.{units_of}
+use Rattle.lq_senders.specs.Units.{is_swap_at, unit_among, unit_at}
+
+-- HOW MANY
+
+-- the units that the first so many events bring
+abbrev pub one_where : Bool → ℕ
+one_where true = 1
+one_where false = 0
+
+pub unit-more : (plan : Plan) (count : ℕ) (event : EventPlan) → slice_get plan.events count ≡ Some event → (b : Bool) → is_swap event ≡ b
+    → unit_of_swap plan (suc count) ≡ unit_of_swap plan count + one_where b
+unit-more plan count event there true is =
+    let test = count_by_more_yes is_swap plan.events count event (slice_get_within plan.events count event there) (ap is_swap (get_or_from_slice_get plan.events count event event there) ∙ is) in
+    let same : suc count ≡ count + 1 = omega arith in ap (unit_of_swap plan) same ∙ omega (arith, test)
+unit-more plan count event there false is =
+    let test = count_by_more_no is_swap plan.events count event (slice_get_within plan.events count event there) (ap is_swap (get_or_from_slice_get plan.events count event event there) ∙ is) in
+    let same : suc count ≡ count + 1 = omega arith in ap (unit_of_swap plan) same ∙ omega (arith, test)
+
+pub unit-after : (plan : Plan) (count : ℕ) (event : EventPlan) → slice_get plan.events count ≡ Some event → (b : Bool) → is_swap event ≡ b → unit_of_swap plan (count + 1) ≡ unit_of_swap plan count + one_where b
+unit-after plan count event there b is = let same : suc count ≡ count + 1 = omega arith in ap (unit_of_swap plan) (sym same) ∙ unit-more plan count event there b is
+
+pub unit-rises : (plan : Plan) (count unit : ℕ) (event : EventPlan) → slice_get plan.events count ≡ Some event → unit < unit_of_swap plan count → unit < unit_of_swap plan (suc count)
+unit-rises plan count unit event there below = let more = unit-more plan count event there (is_swap event) refl in omega arith
+
+-- there are as many units, the one that an exchange brings among them
+pub unit-within : (plan : Plan) (count : ℕ) (event : EventPlan) → slice_get plan.events count ≡ Some event → is_swap event ≡ true → unit_of_swap plan count < unit_count plan
+unit-within plan count event there swap =
+    let more : unit_of_swap plan (count + 1) ≡ unit_of_swap plan count + 1 = unit-after plan count event there true swap in
+    let few = sum_by-take-le (λ (x : EventPlan). cond (is_swap x) 1 0) plan.events (count + 1) in omega arith
+
+pub units-few : (plan : Plan) → unit_count plan ≤ length plan.stations + length plan.events
+units-few plan = let few = count_by-le-length is_swap plan.events in omega arith
+
+-- what an exchange is
+pub swap-params : (k : EventKind) → is_swap_kind k ≡ true → (params : Params) × (k ≡ kind.Swap params)
+swap-params (kind.Swap params) is = (params, refl)
+swap-params kind.Down is = absurd cc
+swap-params kind.Up is = absurd cc
+swap-params (kind.Resize len) is = absurd cc
+swap-params (kind.TxQueueLen len) is = absurd cc
+
+-- THE UNIT OF A STATION
+
+one-more : (plan : Plan) (station : ℕ) (events : List EventPlan) (count e unit : ℕ) (event : EventPlan) → slice_get events count ≡ Some event
+    → unit_among plan station (take (suc count) events) e unit ≡ cond (is_swap_at station event) (unit_of_swap plan (e + count)) (unit_among plan station (take count events) e unit)
+one-more plan station [] count e unit event there = absurd cc
+one-more plan station (x ∷ xs) zero e unit event there =
+    let same : x ≡ event = same_Some x event there in let more : e + 0 ≡ e = omega arith in
+    ap (λ (z : EventPlan). cond (is_swap_at station z) (unit_of_swap plan e) unit) same ∙ ap (λ i. cond (is_swap_at station event) (unit_of_swap plan i) unit) (sym more)
+one-more plan station (x ∷ xs) (suc count) e unit event there =
+    let more : (e + 1) + count ≡ e + suc count = omega arith in let now = cond (is_swap_at station x) (unit_of_swap plan e) unit in
+    one-more plan station xs count (e + 1) now event there
+    ∙ ap (λ i. cond (is_swap_at station event) (unit_of_swap plan i) (unit_among plan station (take count xs) (e + 1) now)) more
+
+pub unit-next : (plan : Plan) (station count : ℕ) (event : EventPlan) → slice_get plan.events count ≡ Some event
+    → unit_at plan station (suc count) ≡ cond (is_swap_at station event) (unit_of_swap plan count) (unit_at plan station count)
+unit-next plan station count event there =
+    let same : 0 + count ≡ count = omega arith in
+    one-more plan station plan.events count 0 station event there ∙ ap (λ i. cond (is_swap_at station event) (unit_of_swap plan i) (unit_at plan station count)) same
+
+pub unit-here : (plan : Plan) (station count : ℕ) (event : EventPlan) → slice_get plan.events count ≡ Some event → event.station ≡ station
+    → unit_at plan station (suc count) ≡ cond (is_swap event) (unit_of_swap plan count) (unit_at plan station count)
+unit-here plan station count event there here = unit-next plan station count event there
+    ∙ (ap (λ b. cond (is_swap event && b) (unit_of_swap plan count) (unit_at plan station count)) (eq-eqb event.station station here) ∙ go (is_swap event))
+  where
+    go : (b : Bool) → cond (b && true) (unit_of_swap plan count) (unit_at plan station count) ≡ cond b (unit_of_swap plan count) (unit_at plan station count)
+    go true = refl
+    go false = refl
+
+pub unit-elsewhere : (plan : Plan) (station count : ℕ) (event : EventPlan) → slice_get plan.events count ≡ Some event → event.station ≢ station → unit_at plan station (suc count) ≡ unit_at plan station count
+unit-elsewhere plan station count event there other = unit-next plan station count event there
+    ∙ (ap (λ b. cond (is_swap event && b) (unit_of_swap plan count) (unit_at plan station count)) (ne_eqb event.station station other) ∙ go (is_swap event))
+  where
+    go : (b : Bool) → cond (b && false) (unit_of_swap plan count) (unit_at plan station count) ≡ unit_at plan station count
+    go true = refl
+    go false = refl
+
+pub unit-stays : (plan : Plan) (station count : ℕ) (event : EventPlan) → slice_get plan.events count ≡ Some event → is_swap event ≡ false → unit_at plan station (suc count) ≡ unit_at plan station count
+unit-stays plan station count event there none = unit-next plan station count event there
+    ∙ ap (λ b. cond (b && is_at station event) (unit_of_swap plan count) (unit_at plan station count)) none
+
+-- a unit on the trail was brought by its exchange
+pub unit-on-trail : (trail : List Event) (unit : ℕ) → Contains (units_of trail) unit → Contains trail (Swap unit)
+unit-on-trail [] unit h = absurd (none-in [] unit refl h)
+unit-on-trail (Swap u ∷ trail) unit h = elim (cons-in u (units_of trail) unit h) [
+  | inl same ↦ subst (λ x. Contains (Swap u ∷ trail) (Swap x)) same (here-in (Swap u) trail)
+  | inr was ↦ there-in (Swap u) trail (Swap unit) (unit-on-trail trail unit was)
+]
+unit-on-trail (e ∷ trail) unit h = there-in e trail (Swap unit) (unit-on-trail trail unit h)

@@ -1,0 +1,13 @@
+use Rattle.std.proofs.Common.{◌≡◌, ◌≤◌, ◌+◌, length, drop, map}
+use Rattle.lq_senders.specs.Ends.{FirstClosed, closed_state}
+use Rattle.lq_senders.proofs.ends.close_all.Given as goal
+
+abbrev pub invariant-loop-station : goal.invariant-loop-station
+invariant-loop-station g l = record {
+  tables : l.shared.items ≡ drop l._station l.fn.shared.items;
+  tables_len : l._station + l.shared.len ≡ l.fn.shared.len;
+  seats : l.cpus.items ≡ drop l._station l.fn.cpus.items;
+  seats_len : l._station + l.cpus.len ≡ l.fn.cpus.len;
+  closed : FirstClosed l.fn.plan l.fn.infos l._station l.fn.cpus.items (map closed_state l.closed.items);
+  room : length l.fn.plan.stations ≤ l.closed.cap;
+}

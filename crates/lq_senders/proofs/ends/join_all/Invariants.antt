@@ -1,0 +1,17 @@
+use Rattle.std.proofs.Common.{◌≡◌, ◌≤◌}
+use Rattle.lq_senders.specs.Joins.{LaneJoined}
+use Rattle.lq_senders.specs.Lanes.{AreDoneLanes}
+use Rattle.lq_senders.specs.Units.{SameDevices}
+use Rattle.lq_senders.proofs.ends.join_all.Given as goal
+
+abbrev pub invariant-loop-lane : goal.invariant-loop-lane
+invariant-loop-lane g l = record {
+  joined : LaneJoined l.fn.plan l.fn.infos l.others.len l.shared l.cpus.items;
+  others : AreDoneLanes l.fn.plan l.fn.infos l.shared l.others.items;
+  devices : SameDevices l.fn.cpus.items l.cpus.items;
+  fewer : l.others.len ≤ l.fn.others.len;
+  alone : l.fn.others.len ≡ 0 → l.cpus.items ≡ l.fn.cpus.items;
+}
+
+abbrev pub decreases-loop-lane : goal.decreases-loop-lane
+decreases-loop-lane g l = l.others.len

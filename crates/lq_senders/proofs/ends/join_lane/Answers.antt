@@ -1,0 +1,70 @@
+use Rattle.std.proofs.Common.{◌≡◌, ℕ, suc, length, sym, subst, arith}
+use Rattle.std.specs.Prelude.{slice_set}
+use Rattle.lq_senders.specs.Joins.{JoinsDown}
+use Rattle.lq_senders.proofs.Joins.{joins-start, joins-end, join-one, devices-joined, other-next, same-devices}
+use Rattle.lq_senders.proofs.Seats.{read-at}
+use Rattle.lq_senders.proofs.ends.join_lane.Goals as goal
+
+pub loop-other-init : goal.loop-other-init
+loop-other-init g c = record {
+  down = joins-start c.args.plan.now c.args.infos.now c.args.place c.args.lane.owner c.args.shared.now c.args.cpus.now.items c.args.lane.cpus.items c.requires.first c.requires.other
+      c.args.lane.cpus.len (sym c.args.lane.cpus.ok.0);
+  devices = same-devices c.args.cpus.now.items;
+}
+
+pub offset_bounds-shared-j : goal.offset_bounds-shared-j
+offset_bounds-shared-j g c =
+    let below = c.loop-other.invariant.down.below in let all = c.loop-other.invariant.down.all in let few = c.requires.few in let more = c.in-Some.ensures.len in let j = c.len-j.ensures in omega arith
+
+pub bounds-shared-j : goal.bounds-shared-j
+bounds-shared-j g c = let below = c.loop-other.invariant.down.below in let more = c.in-Some.ensures.len in let j = c.len-j.ensures in omega arith
+
+pub index_mut-requires : goal.index_mut-requires
+index_mut-requires g c =
+    let below = c.loop-other.invariant.down.below in let long = c.loop-other.invariant.down.long in let ok = c.loop-other.cpus.ok.0 in let more = c.in-Some.ensures.len in let j = c.len-j.ensures in omega arith
+
+pub join_seats-requires-clause-seat : goal.join_seats-requires-clause-seat
+join_seats-requires-clause-seat g c κs within =
+    let down = c.loop-other.invariant.down in let below = down.below in let long = down.long in let more = c.in-Some.ensures.len in let j = c.len-j.ensures in
+    (down.ahead c.len-j.result c.index-shared-j.result c.index_mut.result.now (omega arith)
+    (read-at c.args.shared.now c.len-j.result c.index-shared-j.result (omega arith) c.index-shared-j.is)
+    (read-at c.loop-other.cpus.items c.len-j.result c.index_mut.result.now (omega arith) c.index_mut.ensures.value)).seat
+
+pub join_seats-requires-clause-first : goal.join_seats-requires-clause-first
+join_seats-requires-clause-first g c κs within =
+    let down = c.loop-other.invariant.down in let below = down.below in let long = down.long in let more = c.in-Some.ensures.len in let j = c.len-j.ensures in
+    (down.ahead c.len-j.result c.index-shared-j.result c.index_mut.result.now (omega arith)
+    (read-at c.args.shared.now c.len-j.result c.index-shared-j.result (omega arith) c.index-shared-j.is)
+    (read-at c.loop-other.cpus.items c.len-j.result c.index_mut.result.now (omega arith) c.index_mut.ensures.value)).joined.first
+
+pub join_seats-requires-clause-other : goal.join_seats-requires-clause-other
+join_seats-requires-clause-other g c κs within =
+    let down = c.loop-other.invariant.down in let below = down.below in let more = c.in-Some.ensures.len in let j = c.len-j.ensures in
+    let ok = c.pop.new.self.ok.0 in let so_many : length c.pop.new.self.items ≡ c.len-j.result = omega arith in let one_more : c.loop-other.others.len ≡ suc c.len-j.result = omega arith in
+    let now = subst (λ (k : ℕ). JoinsDown c.args.plan.now c.args.infos.now c.args.place k c.args.shared.now c.loop-other.cpus.items c.loop-other.others.items) one_more down in
+    let other = other-next c.args.plan.now c.args.infos.now c.args.place c.len-j.result c.args.shared.now c.loop-other.cpus.items c.loop-other.others.items c.pop.new.self.items c.index-shared-j.result c.in-Some.other
+    c.in-Some.ensures.items so_many (read-at c.args.shared.now c.len-j.result c.index-shared-j.result (omega arith) c.index-shared-j.is) now in
+    (other.seat, other.first, other.stands.raised)
+
+pub loop-other-preserved : goal.loop-other-preserved
+loop-other-preserved g c =
+    let plan = c.args.plan.now in let infos = c.args.infos.now in let place = c.args.place in
+    let down = c.loop-other.invariant.down in let below = down.below in let long = down.long in let more = c.in-Some.ensures.len in let j = c.len-j.ensures in
+    let ok = c.pop.new.self.ok.0 in let so_many : length c.pop.new.self.items ≡ c.len-j.result = omega arith in let one_more : c.loop-other.others.len ≡ suc c.len-j.result = omega arith in
+    let now = subst (λ (k : ℕ). JoinsDown plan infos place k c.args.shared.now c.loop-other.cpus.items c.loop-other.others.items) one_more down in
+    let at-d = read-at c.loop-other.cpus.items c.len-j.result c.index_mut.result.now (omega arith) c.index_mut.ensures.value in
+    record {
+      down = subst (λ (k : ℕ). JoinsDown plan infos place k c.args.shared.now (slice_set c.loop-other.cpus.items c.len-j.result c.join_seats.new.into) c.pop.new.self.items) j
+          (join-one plan infos place c.len-j.result c.args.shared.now c.loop-other.cpus.items c.loop-other.others.items c.pop.new.self.items c.index-shared-j.result c.index_mut.result.now c.in-Some.other c.join_seats.new.into
+          c.in-Some.ensures.items so_many (read-at c.args.shared.now c.len-j.result c.index-shared-j.result (omega arith) c.index-shared-j.is) at-d
+          c.join_seats.ensures.seat c.join_seats.ensures.view now);
+      devices = devices-joined c.len-j.result c.args.cpus.now.items c.loop-other.cpus.items c.index_mut.result.now c.in-Some.other c.join_seats.new.into at-d
+          (down.ahead c.len-j.result c.index-shared-j.result c.index_mut.result.now (omega arith) (read-at c.args.shared.now c.len-j.result c.index-shared-j.result (omega arith) c.index-shared-j.is) at-d).joined.first
+          c.join_seats.ensures.view c.loop-other.invariant.devices;
+    }
+
+pub returns-clause-joined : goal.returns-clause-joined
+returns-clause-joined g c =
+    let none = c.in_default.ensures.cases in let zero_th : c.loop-other.others.len ≡ 0 = none.0 in
+    joins-end c.args.plan.now c.args.infos.now c.args.place c.args.shared.now c.loop-other.cpus.items c.loop-other.others.items
+    (subst (λ (k : ℕ). JoinsDown c.args.plan.now c.args.infos.now c.args.place k c.args.shared.now c.loop-other.cpus.items c.loop-other.others.items) zero_th c.loop-other.invariant.down)

@@ -1,0 +1,12 @@
+use Rattle.lq_senders.specs.Joins.{JoinsDown}
+use Rattle.lq_senders.specs.Units.{SameDevices}
+use Rattle.lq_senders.proofs.ends.join_lane.Given as goal
+
+abbrev pub invariant-loop-other : goal.invariant-loop-other
+invariant-loop-other g l = record {
+  down : JoinsDown l.fn.plan l.fn.infos l.fn.place l.others.len l.shared l.cpus.items l.others.items;
+  devices : SameDevices l.fn.cpus.items l.cpus.items;
+}
+
+abbrev pub decreases-loop-other : goal.decreases-loop-other
+decreases-loop-other g l = l.others.len

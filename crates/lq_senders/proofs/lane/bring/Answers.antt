@@ -1,0 +1,71 @@
+use Rattle.std.proofs.Common.{ℕ, ◌+◌, inl, inr, map, sym, subst, ◌∙◌, arith}
+use Rattle.std.proofs.lemmas.Bool.{cases_order}
+use Rattle.lq_model.specs.Plan.{owner_in}
+use Rattle.lq_senders.specs.Lanes.{LaneStands}
+use Rattle.lq_senders.proofs.Devices.{devices-kept}
+use Rattle.lq_senders.proofs.Seats.{seats-kept}
+use Rattle.lq_senders.proofs.Turns.{keep-on, seats-on}
+use Rattle.lq_senders.proofs.lane.bring.Goals as goal
+
+pub send_packet-requires-clause-stands : goal.send_packet-requires-clause-stands
+send_packet-requires-clause-stands g c κs within = (
+  c.events_of-next.result,
+  subst (λ (s : ℕ). LaneStands c.args.plan.now c.args.infos.now s c.events_of-next.result c.args.n c.args.shared.now c.events_of-next.new.cpus.items) (sym c.requires.own)
+      (c.events_of-next.ensures.stands c.args.n c.requires.stands),
+)
+
+pub turn-requires-clause-stands : goal.turn-requires-clause-stands
+turn-requires-clause-stands g c κs within = (
+  owner_in c.args.infos.now c.args.n,
+  c.events_of-next.result,
+  c.args.n + 1,
+  c.send_packet.ensures.stands c.events_of-next.result
+      (subst (λ (s : ℕ). LaneStands c.args.plan.now c.args.infos.now s c.events_of-next.result c.args.n c.args.shared.now c.events_of-next.new.cpus.items) (sym c.requires.own)
+      (c.events_of-next.ensures.stands c.args.n c.requires.stands))
+      (λ z. (
+        (λ j event below there. elim (cases_order j c.args.next) [
+          | inl same ↦ c.events_of-next.ensures.done j event (omega arith) below there
+          | inr (inl less) ↦ (let lt = c.requires.earlier j event less there in omega arith)
+          | inr (inr more) ↦ c.events_of-next.ensures.done j event (omega arith) below there
+        ]),
+        (λ j event above there. c.events_of-next.ensures.left (sym c.requires.own ∙ z) j event above there),
+      )),
+)
+
+pub returns-clause-done : goal.returns-clause-done
+returns-clause-done g c j event below there = elim (cases_order j c.args.next) [
+  | inl same ↦ c.events_of-next.ensures.done j event (omega arith) below there
+  | inr (inl less) ↦ (let lt = c.requires.earlier j event less there in omega arith)
+  | inr (inr more) ↦ c.events_of-next.ensures.done j event (omega arith) below there
+]
+
+pub returns-clause-stands : goal.returns-clause-stands
+returns-clause-stands g c =
+    c.turn.ensures.stands c.args.sender c.events_of-next.result (c.args.n + 1)
+    (subst (λ (s : ℕ). LaneStands c.args.plan.now c.args.infos.now s c.events_of-next.result (c.args.n + 1) c.args.shared.now c.send_packet.new.cpus.items) c.requires.own
+    (c.send_packet.ensures.stands c.events_of-next.result
+    (subst (λ (s : ℕ). LaneStands c.args.plan.now c.args.infos.now s c.events_of-next.result c.args.n c.args.shared.now c.events_of-next.new.cpus.items) (sym c.requires.own)
+    (c.events_of-next.ensures.stands c.args.n c.requires.stands))
+    (λ z. (
+      (λ j event below there. elim (cases_order j c.args.next) [
+        | inl same ↦ c.events_of-next.ensures.done j event (omega arith) below there
+        | inr (inl less) ↦ (let lt = c.requires.earlier j event less there in omega arith)
+        | inr (inr more) ↦ c.events_of-next.ensures.done j event (omega arith) below there
+      ]),
+      (λ j event above there. c.events_of-next.ensures.left (sym c.requires.own ∙ z) j event above there),
+    ))))
+
+pub returns-clause-keeps : goal.returns-clause-keeps
+returns-clause-keeps g c =
+    seats-on c.args.cpus.now.items c.events_of-next.new.cpus.items c.turn.new.cpus.items c.events_of-next.ensures.keeps
+    (seats-kept c.events_of-next.new.cpus.items c.turn.new.cpus.items
+    (keep-on c.events_of-next.new.cpus.items c.send_packet.new.cpus.items c.turn.new.cpus.items c.send_packet.ensures.keeps c.turn.ensures.keeps))
+
+pub returns-clause-devices : goal.returns-clause-devices
+returns-clause-devices g c units stand =
+    devices-kept c.args.plan.now c.args.infos.now units c.events_of-next.result c.events_of-next.new.cpus.items c.turn.new.cpus.items (map g.D.TxDevice.state c.events_of-next.new.spares.items)
+    (keep-on c.events_of-next.new.cpus.items c.send_packet.new.cpus.items c.turn.new.cpus.items c.send_packet.ensures.keeps c.turn.ensures.keeps)
+    (c.events_of-next.ensures.devices units stand)
+
+pub returns-clause-runs : goal.returns-clause-runs
+returns-clause-runs g c units stand tell stations runs = c.turn.ensures.runs _ (c.send_packet.ensures.runs _ (c.events_of-next.ensures.runs units stand tell stations runs))

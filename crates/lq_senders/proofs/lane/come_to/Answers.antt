@@ -1,0 +1,23 @@
+use Rattle.std.proofs.Common.{get_or, map, ◌∙◌}
+use Rattle.std.proofs.lemmas.Option.{slice_get-get_or}
+use Rattle.lq_model.specs.declared.fate.Info.{Info}
+use Rattle.lq_senders.proofs.Sending.{sending-own, sending-past}
+use Rattle.lq_senders.proofs.Sent.{owner-is}
+use Rattle.lq_senders.proofs.lane.come_to.Goals as goal
+
+abbrev no_info : Info
+no_info = record { owner = 0; station = 0; band = 0; queue = 0; rank = 0 }
+
+pub bring-next-requires-clause-own : goal.bring-next-requires-clause-own
+bring-next-requires-clause-own g c κs within = owner-is c.args.infos.now c.args.n (get_or c.args.infos.now c.args.n no_info) (slice_get-get_or c.args.infos.now c.args.n no_info c.requires.packet) ∙ c.if-infos-n.true
+
+pub returns-then-infos-n : goal.returns-then-infos-n
+returns-then-infos-n g c start brought was =
+    let e = c.bring-next.ensures in let states = map g.D.TxDevice.state in
+    sending-own c.args.plan.now c.args.infos.now c.args.shared.now c.args.sender c.args.n c.args.at.sent c.args.at.next c.bring-next.result start brought c.args.cpus.now.items (states c.args.spares.now.items)
+    c.bring-next.new.cpus.items (states c.bring-next.new.spares.items) e.within.0 e.within.1 e.done e.left e.stands e.keeps e.devices e.runs was
+
+pub returns-else-infos-n : goal.returns-else-infos-n
+returns-else-infos-n g c start brought was =
+    sending-past c.args.plan.now c.args.infos.now c.args.shared.now c.args.sender c.args.n c.args.at.sent c.args.at.next start brought c.args.cpus.now.items (map g.D.TxDevice.state c.args.spares.now.items)
+    (get_or c.args.infos.now c.args.n no_info) (slice_get-get_or c.args.infos.now c.args.n no_info c.requires.packet) c.if-infos-n.false was

@@ -1,0 +1,91 @@
+use Rattle.std.proofs.Common.{◌≡◌, ◌∷◌, ◌++◌, [], suc, ◌+◌, ◌-◌, ◌<◌, length, sym, ap, ◌∙◌, subst, arith, drop, take, map}
+use Rattle.lq_seat.specs.Seat.{origin_of}
+use Rattle.lq_table.specs.Sees.{view}
+use Rattle.lq_table.specs.declared.shared.Cpu.{Cpu}
+use Rattle.lq_senders.specs.Fates.{identities_of}
+use Rattle.lq_senders.specs.Setup.{origins_of}
+use Rattle.lq_senders.proofs.Benches.{boxes-back, last-at, last-taken, so-where-ok}
+use Rattle.lq_senders.proofs.setup.give_all_back.Goals as goal
+
+pub give_back-requires-clause-seat : goal.give_back-requires-clause-seat
+give_back-requires-clause-seat g c κs within =
+    let own = c.loop-table.invariant in
+    let tables = c.args.tables.items in
+    let cpus = c.args.cpus.items in
+    let n = c.pop.new.self.len in
+    let one_more : c.loop-table.tables.len ≡ suc n = let len = c.in-Some.ensures.len in omega arith in
+    let taken : take (suc n) tables ≡ c.pop.new.self.items ++ c.in-Some.table ∷ [] = ap (λ k. take k tables) (sym one_more) ∙ (sym own.left ∙ c.in-Some.ensures.items) in
+    let so_many : length c.pop.new.self.items ≡ n = sym c.pop.new.self.ok.0 in
+    let taken' : take (suc n) cpus ≡ c.pop-in-Some.new.self.items ++ c.in-Some-pop.cpu ∷ [] = ap (λ k. take k cpus) (sym one_more) ∙ (sym own.seats_left ∙ c.in-Some-pop.ensures.items) in
+    let so_many' : length c.pop-in-Some.new.self.items ≡ n = let seats = own.seats in let len = c.in-Some-pop.ensures.len in let ok = c.pop-in-Some.new.self.ok.0 in omega arith in
+    (c.requires.whole.each n c.in-Some.table c.in-Some-pop.cpu (last-at n tables c.pop.new.self.items c.in-Some.table taken so_many) (last-at n cpus c.pop-in-Some.new.self.items c.in-Some-pop.cpu taken' so_many')).seat
+
+pub give_back-requires-clause-raised : goal.give_back-requires-clause-raised
+give_back-requires-clause-raised g c κs within =
+    let own = c.loop-table.invariant in
+    let tables = c.args.tables.items in
+    let cpus = c.args.cpus.items in
+    let n = c.pop.new.self.len in
+    let one_more : c.loop-table.tables.len ≡ suc n = let len = c.in-Some.ensures.len in omega arith in
+    let taken : take (suc n) tables ≡ c.pop.new.self.items ++ c.in-Some.table ∷ [] = ap (λ k. take k tables) (sym one_more) ∙ (sym own.left ∙ c.in-Some.ensures.items) in
+    let so_many : length c.pop.new.self.items ≡ n = sym c.pop.new.self.ok.0 in
+    let taken' : take (suc n) cpus ≡ c.pop-in-Some.new.self.items ++ c.in-Some-pop.cpu ∷ [] = ap (λ k. take k cpus) (sym one_more) ∙ (sym own.seats_left ∙ c.in-Some-pop.ensures.items) in
+    let so_many' : length c.pop-in-Some.new.self.items ≡ n = let seats = own.seats in let len = c.in-Some-pop.ensures.len in let ok = c.pop-in-Some.new.self.ok.0 in omega arith in
+    (c.requires.whole.each n c.in-Some.table c.in-Some-pop.cpu (last-at n tables c.pop.new.self.items c.in-Some.table taken so_many) (last-at n cpus c.pop-in-Some.new.self.items c.in-Some-pop.cpu taken' so_many')).raised
+
+pub give_back-requires-clause-first : goal.give_back-requires-clause-first
+give_back-requires-clause-first g c κs within =
+    let own = c.loop-table.invariant in
+    let tables = c.args.tables.items in
+    let cpus = c.args.cpus.items in
+    let n = c.pop.new.self.len in
+    let one_more : c.loop-table.tables.len ≡ suc n = let len = c.in-Some.ensures.len in omega arith in
+    let taken : take (suc n) tables ≡ c.pop.new.self.items ++ c.in-Some.table ∷ [] = ap (λ k. take k tables) (sym one_more) ∙ (sym own.left ∙ c.in-Some.ensures.items) in
+    let so_many : length c.pop.new.self.items ≡ n = sym c.pop.new.self.ok.0 in
+    let taken' : take (suc n) cpus ≡ c.pop-in-Some.new.self.items ++ c.in-Some-pop.cpu ∷ [] = ap (λ k. take k cpus) (sym one_more) ∙ (sym own.seats_left ∙ c.in-Some-pop.ensures.items) in
+    let so_many' : length c.pop-in-Some.new.self.items ≡ n = let seats = own.seats in let len = c.in-Some-pop.ensures.len in let ok = c.pop-in-Some.new.self.ok.0 in omega arith in
+    (c.requires.whole.each n c.in-Some.table c.in-Some-pop.cpu (last-at n tables c.pop.new.self.items c.in-Some.table taken so_many) (last-at n cpus c.pop-in-Some.new.self.items c.in-Some-pop.cpu taken' so_many')).first
+
+pub give_back-requires-clause-sole : goal.give_back-requires-clause-sole
+give_back-requires-clause-sole g c κs within =
+    let own = c.loop-table.invariant in
+    let tables = c.args.tables.items in
+    let cpus = c.args.cpus.items in
+    let n = c.pop.new.self.len in
+    let one_more : c.loop-table.tables.len ≡ suc n = let len = c.in-Some.ensures.len in omega arith in
+    let taken : take (suc n) tables ≡ c.pop.new.self.items ++ c.in-Some.table ∷ [] = ap (λ k. take k tables) (sym one_more) ∙ (sym own.left ∙ c.in-Some.ensures.items) in
+    let so_many : length c.pop.new.self.items ≡ n = sym c.pop.new.self.ok.0 in
+    let taken' : take (suc n) cpus ≡ c.pop-in-Some.new.self.items ++ c.in-Some-pop.cpu ∷ [] = ap (λ k. take k cpus) (sym one_more) ∙ (sym own.seats_left ∙ c.in-Some-pop.ensures.items) in
+    let so_many' : length c.pop-in-Some.new.self.items ≡ n = let seats = own.seats in let len = c.in-Some-pop.ensures.len in let ok = c.pop-in-Some.new.self.ok.0 in omega arith in
+    (c.requires.whole.each n c.in-Some.table c.in-Some-pop.cpu (last-at n tables c.pop.new.self.items c.in-Some.table taken so_many) (last-at n cpus c.pop-in-Some.new.self.items c.in-Some-pop.cpu taken' so_many')).sole
+
+pub loop-table-preserved : goal.loop-table-preserved
+loop-table-preserved g c =
+    let own = c.loop-table.invariant in
+    let tables = c.args.tables.items in
+    let cpus = c.args.cpus.items in
+    let n = c.pop.new.self.len in
+    let one_more : c.loop-table.tables.len ≡ suc n = let len = c.in-Some.ensures.len in omega arith in
+    let taken : take (suc n) tables ≡ c.pop.new.self.items ++ c.in-Some.table ∷ [] = ap (λ k. take k tables) (sym one_more) ∙ (sym own.left ∙ c.in-Some.ensures.items) in
+    let so_many : length c.pop.new.self.items ≡ n = sym c.pop.new.self.ok.0 in
+    let taken' : take (suc n) cpus ≡ c.pop-in-Some.new.self.items ++ c.in-Some-pop.cpu ∷ [] = ap (λ k. take k cpus) (sym one_more) ∙ (sym own.seats_left ∙ c.in-Some-pop.ensures.items) in
+    let so_many' : length c.pop-in-Some.new.self.items ≡ n = let seats = own.seats in let len = c.in-Some-pop.ensures.len in let ok = c.pop-in-Some.new.self.ok.0 in omega arith in
+    let state = g.D.TxDevice.state in
+    let room : c.loop-table.bench.len < c.loop-table.bench.cap = let len = own.len in let same = own.capacity in let asks = c.requires.room in omega arith in
+    let succeeds = c.insert-laid_back.ensures.succeeds room in
+    let laid : c.insert-laid_back.new.self.items ≡ c.give_back.result ∷ c.loop-table.bench.items =
+    so-where-ok c.insert-laid_back.result _ _ _ succeeds c.insert-laid_back.ensures.items in
+    record {
+      fewer = let fewer = own.fewer in omega arith;
+      left = (last-taken n tables c.pop.new.self.items c.in-Some.table taken so_many).0;
+      seats = let ok = c.pop-in-Some.new.self.ok.0 in omega arith;
+      seats_left = (last-taken n cpus c.pop-in-Some.new.self.items c.in-Some-pop.cpu taken' so_many').0;
+      boxes = ap (λ xs. identities_of (map state xs)) laid
+          ∙ boxes-back state (λ (x : Cpu g.row.D.Denot). (origin_of (view x)).identity) cpus c.pop-in-Some.new.self.items n c.in-Some-pop.cpu c.give_back.result c.loop-table.bench.items c.args.bench.now.items taken' so_many' c.give_back.ensures.device
+          (subst (λ k. identities_of (map state c.loop-table.bench.items) ≡ origins_of (drop k cpus) ++ identities_of (map state c.args.bench.now.items)) one_more own.boxes);
+      rest = let gone : c.args.tables.len - n ≡ suc (c.args.tables.len - c.loop-table.tables.len) = let fewer = own.fewer in omega arith in
+          ap (λ k. drop k c.insert-laid_back.new.self.items) gone ∙ (ap (drop (suc (c.args.tables.len - c.loop-table.tables.len))) laid ∙ own.rest);
+      len = let old = own.len in let new : c.insert-laid_back.new.self.len ≡ c.loop-table.bench.len + 1 =
+          so-where-ok c.insert-laid_back.result _ _ _ succeeds c.insert-laid_back.ensures.len in omega arith;
+      capacity = (c.insert-laid_back.ensures.in_place room).1.0 ∙ own.capacity;
+    }

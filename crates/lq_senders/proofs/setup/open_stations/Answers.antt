@@ -1,0 +1,89 @@
+use Rattle.std.proofs.Common.{◌≡◌, ◌<◌, ◌-◌, ◌++◌, ◌∷◌, [], length, sym, ap, ◌∙◌, subst, arith, drop, drop-drop, map}
+use Rattle.std.specs.Option.{option_map_or}
+use Rattle.lq_model.specs.Plan.{queues_at}
+use Rattle.lq_model.specs.declared.plan.StationPlan.{StationPlan}
+use Rattle.lq_table.specs.Rule.{AreInfos}
+use Rattle.lq_senders.specs.Setup.{AreOpened, IsOpenedAt}
+use Rattle.lq_senders.proofs.Benches.{first-left, so-where-ok}
+use Rattle.lq_senders.proofs.Openings.{fresh-device, opened-here, opened-more, others-back, states-back, states-left}
+use Rattle.lq_senders.proofs.Seats.{mapped-at}
+use Rattle.lq_senders.proofs.setup.open_stations.Goals as goal
+
+pub open_station-requires-clause-infos : goal.open_station-requires-clause-infos
+open_station-requires-clause-infos g c κs within =
+    let below : c.loop-station.station < length c.args.plan.now.stations = let test = c.loop-station-test.true in let e = c.stations-station-end.ensures.stations in omega arith in
+    let queues : queues_at c.args.plan.now.stations c.loop-station.station ≡ c.station.result.queues =
+    ap (λ o. option_map_or (λ (s : StationPlan). s.queues) o 1) c.station.ensures.station
+    in
+    subst (λ senders. AreInfos c.args.infos.now c.loop-station.station senders c.station.result.queues) (sym c.senders-senders.ensures.senders)
+    (subst (AreInfos c.args.infos.now c.loop-station.station c.args.plan.now.senders) queues (c.requires.sendable.made c.loop-station.station below))
+
+pub open_station-requires-clause-device : goal.open_station-requires-clause-device
+open_station-requires-clause-device g c κs within =
+    let own = c.loop-station.invariant in
+    let some : 0 < length c.loop-station.bench.items = let test = c.loop-station-test.true in let e = c.stations-station-end.ensures.stations in let len = own.len in let ok = c.loop-station.bench.ok.0 in let units = c.requires.units in omega arith in
+    fresh-device g.D.TxDevice.state c.args.plan.now c.args.infos.now c.requires.configured.0 c.loop-station.station c.args.bench.now.items c.loop-station.bench.items
+    c.station.result c.remove-device.result c.requires.configured.1 c.station.ensures.station own.rest some c.remove-device.ensures.value
+
+pub returns-in-Err-clause-states : goal.returns-in-Err-clause-states
+returns-in-Err-clause-states g c =
+    let own = c.loop-station.invariant in
+    let state = g.D.TxDevice.state in
+    let some : 0 < length c.loop-station.bench.items = let test = c.loop-station-test.true in let e = c.stations-station-end.ensures.stations in let len = own.len in let ok = c.loop-station.bench.ok.0 in let units = c.requires.units in omega arith in
+    let room : c.remove-device.new.self.len < c.remove-device.new.self.cap = let less = c.remove-device.ensures.len in let ok = c.loop-station.bench.ok.1 in let cap = c.remove-device.ensures.capacity in let fill = c.loop-station.bench.ok.0 in omega arith in
+    let back : c.insert-laid_back.new.self.items ≡ c.in-Err.device ∷ c.remove-device.new.self.items =
+    so-where-ok c.insert-laid_back.result _ _ _ (c.insert-laid_back.ensures.succeeds room) c.insert-laid_back.ensures.items in
+    ap (map state) back
+    ∙ (states-back state c.args.bench.now.items c.loop-station.bench.items c.remove-device.new.self.items c.loop-station.station c.remove-device.result c.in-Err.device
+    own.rest some c.remove-device.ensures.value c.remove-device.ensures.items c.in-Err.ensures.back
+    ∙ ap (λ k. drop k (map state c.args.bench.now.items)) (sym own.so_many))
+
+pub returns-in-Err-clause-others : goal.returns-in-Err-clause-others
+returns-in-Err-clause-others g c =
+    let own = c.loop-station.invariant in
+    let n = length c.args.plan.now.stations in
+    let below : c.loop-station.station < n = let test = c.loop-station-test.true in let e = c.stations-station-end.ensures.stations in omega arith in
+    let room : c.remove-device.new.self.len < c.remove-device.new.self.cap = let less = c.remove-device.ensures.len in let ok = c.loop-station.bench.ok.1 in let cap = c.remove-device.ensures.capacity in let fill = c.loop-station.bench.ok.0 in omega arith in
+    let back : c.insert-laid_back.new.self.items ≡ c.in-Err.device ∷ c.remove-device.new.self.items =
+    so-where-ok c.insert-laid_back.result _ _ _ (c.insert-laid_back.ensures.succeeds room) c.insert-laid_back.ensures.items in
+    ap (λ k. drop (n - k) c.insert-laid_back.new.self.items) own.so_many
+    ∙ (ap (drop (n - c.loop-station.station)) back
+    ∙ others-back c.args.bench.now.items c.loop-station.bench.items c.remove-device.new.self.items c.loop-station.station n c.in-Err.device own.rest c.remove-device.ensures.items below)
+
+pub loop-station-preserved : goal.loop-station-preserved
+loop-station-preserved g c =
+    let state = g.D.TxDevice.state in
+    let own = c.loop-station.invariant in
+    let k = c.loop-station.station in
+    let plan = c.args.plan.now in
+    let infos = c.args.infos.now in
+    let all = c.args.bench.now.items in
+    let device = c.remove-device.result in
+    let t = c.in-Ok.table in
+    let cpu = c.in-Ok.cpu in
+    let some : 0 < length c.loop-station.bench.items = let test = c.loop-station-test.true in let e = c.stations-station-end.ensures.stations in let len = own.len in let ok = c.loop-station.bench.ok.0 in let units = c.requires.units in omega arith in
+    let there = mapped-at state all k device (first-left k all c.loop-station.bench.items device own.rest some c.remove-device.ensures.value) in
+    let made = c.in-Ok.ensures.table in
+    let new : IsOpenedAt plan infos (map state all) k t cpu =
+    opened-here plan infos (map state all) k c.senders-senders.result c.station.result (state device) t cpu c.station.ensures.station there made.2 c.senders-senders.ensures.senders made.5 c.in-Ok.ensures.seat c.in-Ok.ensures.view.0 c.in-Ok.ensures.view.1 in
+    let so_many : length c.loop-station.tables.items ≡ k = let ok = c.loop-station.tables.ok.0 in let e = own.so_many in omega arith in
+    record {
+      rest = c.remove-device.ensures.items ∙ (ap (drop 1) own.rest ∙ drop-drop 1 k all);
+      len = let len = own.len in let less = c.remove-device.ensures.len in omega arith;
+      capacity = c.remove-device.ensures.capacity ∙ own.capacity;
+      so_many = let e = own.so_many in let len = c.push_reserved.ensures.len in omega arith;
+      seats = let e = own.seats in let len = c.push_reserved-in-Ok.ensures.len in omega arith;
+      room = let room = own.room in let same = c.push_reserved.ensures.capacity in omega arith;
+      seats_room = let room = own.seats_room in let same = c.push_reserved-in-Ok.ensures.capacity in omega arith;
+      opened =
+          subst (λ ts. AreOpened plan infos (map state all) ts c.push_reserved-in-Ok.new.self.items) (sym c.push_reserved.ensures.items)
+          (subst (λ cs. AreOpened plan infos (map state all) (c.loop-station.tables.items ++ t ∷ []) cs) (sym c.push_reserved-in-Ok.ensures.items)
+          (opened-more plan infos (map state all) c.loop-station.tables.items c.loop-station.cpus.items t cpu own.opened
+          (subst (λ j. IsOpenedAt plan infos (map state all) j t cpu) (sym so_many) new)));
+    }
+
+pub returns-clause-states : goal.returns-clause-states
+returns-clause-states g c =
+    let own = c.loop-station.invariant in
+    states-left g.D.TxDevice.state c.args.bench.now.items c.loop-station.bench.items c.loop-station.station own.rest
+    ∙ ap (λ k. drop k (map g.D.TxDevice.state c.args.bench.now.items)) (sym own.so_many)

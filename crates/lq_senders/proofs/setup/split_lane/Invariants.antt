@@ -1,0 +1,14 @@
+use Rattle.std.proofs.Common.{◌≡◌, ◌≤◌, length}
+use Rattle.lq_senders.specs.Units.{SameDevices}
+use Rattle.lq_senders.proofs.Splits.{SplitsUp}
+use Rattle.lq_senders.proofs.setup.split_lane.Given as goal
+
+-- a seat was split off at the first stations
+abbrev pub invariant-loop-j : goal.invariant-loop-j
+invariant-loop-j g l = record {
+  owner : l.lane.owner ≡ l.fn.lane.owner;
+  seats : l.lane.cpus.len ≡ l.j;
+  room : length l.plan.stations ≤ l.lane.cpus.cap;
+  splits : SplitsUp l.plan l.fn.infos l.place l.j l.tables l.cpus.items l.lane.cpus.items;
+  devices : SameDevices l.fn.cpus.items l.cpus.items;
+}

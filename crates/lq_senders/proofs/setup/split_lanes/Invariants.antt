@@ -1,0 +1,15 @@
+use Rattle.std.proofs.Common.{◌≡◌, ◌+◌}
+use Rattle.lq_senders.specs.Units.{SameDevices}
+use Rattle.lq_senders.specs.Setup.{AreSplitting}
+use Rattle.lq_senders.proofs.Splits.{LanesSplit}
+use Rattle.lq_senders.proofs.setup.split_lanes.Given as goal
+
+-- the seats of the first lanes were split off
+abbrev pub invariant-loop-place : goal.invariant-loop-place
+invariant-loop-place g l = record {
+  len : l.lanes.len ≡ l.fn.lanes.len;
+  lanes : LanesSplit l.plan l.fn.infos l.place l.tables l.lanes.items;
+  splitting : AreSplitting l.plan l.fn.infos (l.place + 1) l.tables l.cpus.items;
+  devices : SameDevices l.fn.cpus.items l.cpus.items;
+  alone : l.place ≡ 0 → l.cpus.items ≡ l.fn.cpus.items;
+}

@@ -1,0 +1,146 @@
+-- What a run begins with: its packets, its stations over their devices, and a seat there for each sender.
+use Rattle.std.specs.Prelude.{All, ◌≡◌, ◌<◌, ◌≤◌, ℕ, ◌+◌, true, false, List, [], length, map, take, drop, count_by, slice_get, slice_index, Some, vec_capacity}
+use Rattle.lq_device.specs.Station.{StationState, initial_station}
+use Rattle.lq_model.specs.Capture.{Packets}
+use Rattle.lq_model.specs.Device.{DeviceState, IsConfigured}
+use Rattle.lq_model.specs.Plan.{Plan, infos_of, is_swap, unit_count, unit_of_swap}
+use Rattle.lq_model.specs.declared.fate.Info.{Info}
+use Rattle.lq_model.specs.declared.device.Params.{Params}
+use Rattle.lq_model.specs.declared.plan.EventKind.TheVariants as kind
+use Rattle.lq_model.specs.declared.plan.EventPlan.{EventPlan}
+use Rattle.lq_model.specs.declared.plan.StationPlan.{StationPlan}
+use Rattle.lq_plan.specs.Packets.{IsInfoWithin}
+use Rattle.lq_seat.specs.Seat.{IsSeat, origin_of}
+use Rattle.lq_table.specs.Keyed.{starting}
+use Rattle.lq_table.specs.Rule.{station_count, times}
+use Rattle.lq_table.specs.Sees.{view}
+use Rattle.lq_table.specs.Solo.{IsSole}
+use Rattle.lq_table.specs.Views.{View}
+use Rattle.lq_table.specs.declared.shared.Cpu.{Cpu}
+use Rattle.lq_table.specs.declared.shared.Shared.{Shared}
+use Rattle.lq_senders.specs.Ends.{ClosedState}
+use Rattle.lq_senders.specs.Lanes.{IsTableOf, setup_of}
+use Rattle.lq_senders.specs.declared.lanes.Lane.{Lane}
+
+-- PACKETS
+
+-- these are the packets of a capture under the plan
+pub record IsRunBy (plan : Plan) (infos : List Info) : Type 0 where
+  pub packets : Packets
+  pub infos_are : infos ≡ infos_of plan packets
+  pub within : All (IsInfoWithin plan) infos
+  pub few : length infos ≤ 1000000
+
+-- DEVICES
+
+-- the first so many devices were configured, each as its station says and with room for the station's packets
+pub record AreConfigured (plan : Plan) (infos : List Info) (count : ℕ) (before after : List DeviceState) : Type 0 where
+  pub same_length : length after ≡ length before
+  pub configured : (station : ℕ) (s : StationPlan) (old new : DeviceState) → station < count → slice_get plan.stations station ≡ Some s
+      → slice_get before station ≡ Some old → slice_get after station ≡ Some new → IsConfigured s.params (station_count infos station) old new
+
+-- the devices that the first so many events bring were configured, each as its exchange says and with room for its station's packets
+pub record AreSparesConfigured (plan : Plan) (infos : List Info) (count : ℕ) (before after : List DeviceState) : Type 0 where
+  pub same_length : length after ≡ length before
+  pub apart : (unit : ℕ) → unit < length plan.stations → slice_get after unit ≡ slice_get before unit
+  pub later : (unit : ℕ) → unit_of_swap plan count ≤ unit → slice_get after unit ≡ slice_get before unit
+  pub configured : (e : ℕ) (event : EventPlan) (params : Params) (old new : DeviceState) → e < count → slice_get plan.events e ≡ Some event → event.kind ≡ kind.Swap params
+      → slice_get before (unit_of_swap plan e) ≡ Some old → slice_get after (unit_of_swap plan e) ≡ Some new → IsConfigured params (station_count infos event.station) old new
+
+-- each device that an event of the plan brings was configured so
+abbrev pub AreBroughtAsConfigured : Plan → List Info → List DeviceState → List DeviceState → Type 0
+AreBroughtAsConfigured plan infos before after = (e : ℕ) (event : EventPlan) (params : Params) (old new : DeviceState) → slice_get plan.events e ≡ Some event → event.kind ≡ kind.Swap params
+    → slice_get before (unit_of_swap plan e) ≡ Some old → slice_get after (unit_of_swap plan e) ≡ Some new → IsConfigured params (station_count infos event.station) old new
+
+-- the device that this event brings was configured so, if it brings one, and all others are as they were
+pub record ConfiguresSpare (plan : Plan) (infos : List Info) (e : ℕ) (before after : List DeviceState) : Type 0 where
+  pub same_length : length after ≡ length before
+  pub configured : (event : EventPlan) (params : Params) (old new : DeviceState) → slice_get plan.events e ≡ Some event → event.kind ≡ kind.Swap params
+      → slice_get before (unit_of_swap plan e) ≡ Some old → slice_get after (unit_of_swap plan e) ≡ Some new → IsConfigured params (station_count infos event.station) old new
+  pub below : (unit : ℕ) → unit < unit_of_swap plan e → slice_get after unit ≡ slice_get before unit
+  pub from_there : (unit : ℕ) → unit_of_swap plan (e + 1) ≤ unit → slice_get after unit ≡ slice_get before unit
+
+-- STATIONS
+
+module _ {D : Type 0} where
+  -- the station's table is new, over its device of the bench
+  pub record IsOpenedAt (plan : Plan) (infos : List Info) (devices : List DeviceState) (j : ℕ) (t : Shared D) (c : Cpu D) : Type 0 where
+    pub table : IsTableOf plan infos j t
+    pub seat : IsSeat t c
+    pub device : slice_get devices j ≡ Some (origin_of (view c))
+    pub view_is : view c ≡ starting (setup_of plan infos j) (initial_station j (origin_of (view c)))
+
+  pub record AreOpened (plan : Plan) (infos : List Info) (devices : List DeviceState) (tables : List (Shared D)) (cpus : List (Cpu D)) : Type 0 where
+    pub long : length cpus ≡ length tables
+    pub each : (j : ℕ) (t : Shared D) (c : Cpu D) → slice_get tables j ≡ Some t → slice_get cpus j ≡ Some c → IsOpenedAt plan infos devices j t c
+
+  -- each table has one seat alone, which is in no call and may end it
+  pub record IsWhole (t : Shared D) (c : Cpu D) : Type 0 where
+    pub seat : IsSeat t c
+    pub sole : IsSole (view c)
+    pub first : (view c).control.first ≡ true
+    pub raised : (view c).place.raised ≡ false
+
+  pub record AreWhole (tables : List (Shared D)) (cpus : List (Cpu D)) : Type 0 where
+    pub long : length cpus ≡ length tables
+    pub each : (j : ℕ) (t : Shared D) (c : Cpu D) → slice_get tables j ≡ Some t → slice_get cpus j ≡ Some c → IsWhole t c
+
+  -- which devices came to the seats' stations
+  abbrev pub origins_of : List (Cpu D) → List ℕ
+  origins_of cpus = map (λ (c : Cpu D). (origin_of (view c)).identity) cpus
+
+-- SENDERS
+
+-- the first sender's seat, from which those of the senders from `next` on are still to be split off
+pub record IsSplitting (plan : Plan) (next : ℕ) (v : View) : Type 0 where
+  pub shares : v.share.shares + next ≡ 1025
+  pub own : 0 < times 0 v.share.owners
+  pub rest : (owner : ℕ) → next ≤ owner → owner < plan.senders → 0 < times owner v.share.owners
+  pub wide : length v.turns ≡ plan.senders
+  pub turns : (owner : ℕ) → slice_index v.turns owner ≡ 0
+  pub first : v.control.first ≡ true
+  pub raised : v.place.raised ≡ false
+  pub trail : v.trail ≡ []
+  pub told : v.whole.told ≡ true
+
+module _ {D : Type 0} where
+  pub record SplitsAt (plan : Plan) (infos : List Info) (next j : ℕ) (t : Shared D) (c : Cpu D) : Type 0 where
+    pub table : IsTableOf plan infos j t
+    pub seat : IsSeat t c
+    pub splitting : IsSplitting plan next (view c)
+
+  pub record AreSplitting (plan : Plan) (infos : List Info) (next : ℕ) (tables : List (Shared D)) (cpus : List (Cpu D)) : Type 0 where
+    pub long : length cpus ≡ length tables
+    pub all : length tables ≡ length plan.stations
+    pub each : (j : ℕ) (t : Shared D) (c : Cpu D) → slice_get tables j ≡ Some t → slice_get cpus j ≡ Some c → SplitsAt plan infos next j t c
+
+  -- the lane at this place among those of the other senders has no seat yet, and room for one at each station
+  pub record IsEmptyLane (plan : Plan) (place : ℕ) (l : Lane D) : Type 0 where
+    pub owner_is : l.owner ≡ place + 1
+    pub none_yet : l.cpus.items ≡ []
+    pub room : length plan.stations ≤ vec_capacity l.cpus
+
+  -- one for each sender but the first
+  pub record AreEmptyLanes (plan : Plan) (lanes : List (Lane D)) : Type 0 where
+    pub one_each : length lanes + 1 ≡ plan.senders
+    pub each : (i : ℕ) (l : Lane D) → slice_get lanes i ≡ Some l → IsEmptyLane plan i l
+
+-- A RUN THAT MAY BEGIN
+
+module _ {D : Type 0} where
+  -- The tables are new, over the devices of a bench, which were configured as they stood there; those that exchanges bring are
+  -- to spare.
+  pub record IsReady (plan : Plan) (infos : List Info) (before : List DeviceState) (tables : List (Shared D)) (cpus : List (Cpu D)) (spares : List DeviceState) : Type 0 where
+    pub devices : List DeviceState
+    pub units : unit_count plan ≤ length before
+    pub configured : AreConfigured plan infos (length plan.stations) before devices
+    pub brought : AreBroughtAsConfigured plan infos before devices
+    pub opened : AreOpened plan infos devices tables cpus
+    pub all : length tables ≡ length plan.stations
+    pub spares_are : spares ≡ take (count_by is_swap plan.events) (drop (length plan.stations) devices)
+
+-- WHAT COMES BACK
+
+-- each station lies in its closed table
+abbrev pub AreAtHome : List ClosedState → Type 0
+AreAtHome closed = (j : ℕ) (x : ClosedState) → slice_get closed j ≡ Some x → (st : StationState) × (x.home ≡ Some st)

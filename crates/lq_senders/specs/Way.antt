@@ -1,0 +1,43 @@
+-- How far the first sender is with the plan's events at a station.
+use Rattle.std.specs.Prelude.{◌≡◌, ◌<◌, ◌≤◌, ℕ, zero, suc, ◌+◌, if◌then◌else◌, List, [], ◌∷◌, take, slice_get, Option, Some, None, Contains, filter_map}
+use Rattle.lq_account.specs.Trail.{down_of, IsTrail, HaveCome}
+use Rattle.lq_model.specs.Account.{Event, Purge, Swap}
+use Rattle.lq_model.specs.Legal.{brought_by, resize_event, down_event}
+use Rattle.lq_model.specs.Plan.{Plan, unit_of_swap}
+use Rattle.lq_model.specs.Settled.{is_at, down_after}
+use Rattle.lq_model.specs.declared.fate.Cause.TheVariants as cause
+use Rattle.lq_model.specs.declared.plan.EventPlan.{EventPlan}
+use Rattle.lq_table.specs.Rule.{latest_unit, units_of}
+use Rattle.lq_senders.specs.Units.{unit_at}
+
+-- the event that leaves the station deactivated after these events, numbered from e on
+abbrev pub down_among : ℕ → List EventPlan → ℕ → Option ℕ → Option ℕ
+down_among station [] e down = down
+down_among station (event ∷ events) e down = down_among station events (e + 1) (if is_at station event then down_after event.kind e down else down)
+
+-- after the first so many events of the plan
+abbrev pub down_after_events : Plan → ℕ → ℕ → Option ℕ
+down_after_events plan station count = down_among station (take count plan.events) 0 None
+
+-- the first so many events stand before packet n, and the others after it
+abbrev pub IsSplitAt : Plan → ℕ → ℕ → Type 0
+IsSplitAt plan count n =
+    ((k : ℕ) (event : EventPlan) → k < count → slice_get plan.events k ≡ Some event → event.before ≤ n)
+    × ((k : ℕ) (event : EventPlan) → count ≤ k → slice_get plan.events k ≡ Some event → n < event.before)
+
+-- the first so many events of the plan were done, each where the plan has it among the first sender's packets
+pub record IsOnWay (plan : Plan) (station count : ℕ) (trail : List Event) : Type 0 where
+  pub planned : IsTrail plan station trail
+  pub come : HaveCome plan station count trail
+  pub resizes_below : (e : ℕ) → Contains (filter_map resize_event trail) e → e < count
+  pub downs_below : (e : ℕ) → Contains (filter_map down_event trail) e → e < count
+  pub down : down_of trail ≡ down_after_events plan station count
+  pub ahead : (m : ℕ) → Contains (brought_by trail) m → (k : ℕ) (event : EventPlan) → count ≤ k → slice_get plan.events k ≡ Some event → m < event.before
+  pub unit : latest_unit station (units_of trail) ≡ unit_at plan station count
+  pub swaps_below : (unit : ℕ) → Contains trail (Swap unit) → unit < unit_of_swap plan count
+  pub no_hang : (unit : ℕ) → Contains trail (Purge (cause.Hung unit)) → ⊥
+
+-- so many numbers from this one on
+abbrev pub numbers_from : ℕ → ℕ → List ℕ
+numbers_from first zero = []
+numbers_from first (suc count) = first ∷ numbers_from (first + 1) count

@@ -1,0 +1,51 @@
+//! The run of all senders over the stations of a plan.
+ghost use Rattle.std.specs.Prelude.{◌≡◌, ◌≤◌, ◌+◌, ℕ, List, [], length, map, vec_capacity};
+ghost use Rattle.lq_senders.specs.Ends.{HasRun, closed_state};
+ghost use Rattle.lq_senders.specs.Joins.{AreFirst};
+ghost use Rattle.lq_senders.specs.Lanes.{AreReadyLanes, IsSendable, LaneStands};
+ghost use Rattle.lq_senders.specs.Units.{DevicesStand};
+ghost use Rattle.lq_model.specs.Device.{DeviceState};
+
+use crate::ends::end_run;
+use crate::gate::Gate;
+use crate::lanes::{Lane, all_send};
+use lq_device::TxDevice;
+use lq_model::Info;
+use lq_plan::Plan;
+use lq_table::{Closed, Shared};
+use std::marker::Sync;
+use std::sync::Wait;
+use std::thread::Threads;
+
+/// Sends all packets side by side, and brings each station to its end. The devices that exchanges took away come back, in order.
+/// Takes no memory: `closed` has the room for the stations.
+pub fn run<'a, R: Threads + Wait + Sync, D: TxDevice, G: Gate>(
+    rt: &R,
+    plan: &Plan,
+    infos: &[Info],
+    shared: Vec<Shared<'a, D>>,
+    first: Lane<D>,
+    others: Vec<Lane<D>>,
+    closed: &mut Vec<Closed<D>>,
+    gate: &G,
+) -> Vec<D>
+    requires sendable { IsSendable plan.now infos.now }
+    requires owner { first.owner ≡ 0 }
+    requires first { LaneStands plan.now infos.now 0 0 0 shared.items first.cpus.items × AreFirst (length others.items) first.cpus.items }
+    requires devices { (units : List DeviceState) × DevicesStand plan.now infos.now units 0 first.cpus.items (map D.state first.spares.items) }
+    requires others { AreReadyLanes plan.now infos.now shared.items others.items }
+    requires senders { length others.items + 1 ≡ plan.now.senders }
+    requires none_yet { closed.old.items ≡ [] }
+    requires room { length plan.now.stations ≤ vec_capacity closed.old }
+    ensures { HasRun plan.now infos.now (length others.items) first.cpus.items (map D.state first.spares.items) (map closed_state closed.new.items) (map D.state result.items) }
+{
+    plan.stays_within_limits();
+    let (first, others) = all_send(rt, plan, infos, shared.as_slice(), first, others, gate);
+    let Lane {
+        owner: _,
+        cpus,
+        spares,
+    } = first;
+    end_run(rt, plan, infos, shared, cpus, others, closed);
+    spares
+}

@@ -1,0 +1,5 @@
+-- seats after a call, and the units of exchanges
+pub mod Firsts
+pub mod Sends
+-- a seat that has the table of one owner's packets alone
+pub mod Only

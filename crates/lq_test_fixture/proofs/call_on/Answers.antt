@@ -1,0 +1,6 @@
+use Rattle.lq_top.specs.Command.{command_of_words, bytes_of_words}
+use Rattle.lq_top.proofs.NameLemmas.{may_any}
+use Rattle.lq_test_fixture.proofs.call_on.Goals as goal
+
+pub lqtx-requires-clause-may : goal.lqtx-requires-clause-may
+lqtx-requires-clause-may g c κs within = may_any (command_of_words (bytes_of_words c.args.words.now))
