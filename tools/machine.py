@@ -1,6 +1,6 @@
 """A small model of the machine of the run lock, as the schedules of `lqtx trace` work it: one station with one queue.
 
-It is not proved, and nothing that is proved rests on it. `tools/test-machine PROGRAM` compares it with the program's `trace`.
+It is not proved, and nothing that is proved rests on it. `tools/compare PROGRAM` compares it with the program's `trace`.
 What it has beside the program is every step, and the machine with one of five mistakes that were once made
 (crates/lq_run_core/specs/Mistakes.antt). A mistake changes what a step does and not how many steps there are, so that an order
 of steps means the same on both machines.
