@@ -1,0 +1,130 @@
+"""Captures as the program reads them, classic pcap and pcapng: where each packet stands, its length, and its class (docs/RULES.md)."""
+import struct
+from array import array
+
+# As in docs/RULES.md, 'Classification'.
+PRIORITY = [0, 0, 0, 0, 2, 2, 2, 2, 6, 6, 6, 6, 4, 4, 4, 4]
+BAND = [1, 2, 2, 2, 1, 2, 0, 0, 1, 1, 1, 1, 1, 1, 1, 1]
+BAND_OF_SERVICE = bytes(BAND[PRIORITY[(service & 0x1E) // 2]] for service in range(256))
+CLASSIC = {b"\xd4\xc3\xb2\xa1": "<", b"\x4d\x3c\xb2\xa1": "<", b"\xa1\xb2\xc3\xd4": ">", b"\xa1\xb2\x3c\x4d": ">"}
+BLOCK = b"\x0a\x0d\x0d\x0a"
+
+
+class Broken(Exception):
+    """Why bytes are no capture."""
+
+
+class Capture:
+    """The packets of a capture: for each its place and length in the file, its length on the wire, and its class."""
+
+    def __init__(self, data):
+        self.data = data
+        self.starts, self.ends = array("Q"), array("Q")  # of records and of packet blocks
+        self.lengths = array("I")
+        self.bands, self.routes, self.sources = bytearray(), bytearray(), bytearray()
+        self.without_header = 0  # packets with no IPv4 header, whatever they carry
+        self.head = []  # the pieces of the file that stand before the packets in what is written
+        if data[:4] == BLOCK:
+            self.read_blocks()
+        elif data[:4] in CLASSIC:
+            self.read_records(CLASSIC[data[:4]])
+        else:
+            raise Broken("it is neither a pcap nor a pcapng file")
+
+    def __len__(self):
+        return len(self.lengths)
+
+    def read_records(self, order):
+        data, size = self.data, len(self.data)
+        if size < 24:
+            raise Broken("its header is cut off")
+        link, two = struct.unpack_from(order + "I", data, 20)[0], struct.Struct(order + "II").unpack_from
+        self.head.append(bytes(data[:24]))
+        add, at = self.adder(), 24
+        while at < size:
+            if at + 16 > size:
+                raise Broken(f"a record is cut off at {at}")
+            captured, length = two(data, at + 8)
+            end = at + 16 + captured
+            if end > size:
+                raise Broken(f"a record is cut off at {at}")
+            add(link, at, end, at + 16, captured, length)
+            at = end
+
+    def read_blocks(self):
+        data, size = self.data, len(self.data)
+        order = {b"\x4d\x3c\x2b\x1a": "<", b"\x1a\x2b\x3c\x4d": ">"}.get(bytes(data[8:12]))
+        if order is None:
+            raise Broken("its byte order isn't told")
+        two, three = struct.Struct(order + "II").unpack_from, struct.Struct(order + "III").unpack_from
+        links, cuts, add, at = [], [], self.adder(), 0
+        while at < size:
+            if at + 12 > size:
+                raise Broken(f"a block is cut off at {at}")
+            kind, total = two(data, at)
+            end = at + total
+            if total < 12 or total % 4 or end > size:
+                raise Broken(f"a block is cut off at {at}")
+            if kind == 6:
+                interface, _, _ = three(data, at + 8)
+                captured, length = two(data, at + 20)
+                if interface >= len(links):
+                    raise Broken(f"the block at {at} has no interface")
+                add(links[interface], at, end, at + 28, captured, length)
+            elif kind == 3:
+                length = two(data, at + 8)[0]
+                add(links[0] if links else 0, at, end, at + 12, min(length, cuts[0]) if cuts and cuts[0] else length, length)
+            elif kind == 1:
+                links.append(struct.unpack_from(order + "H", data, at + 8)[0])
+                cuts.append(struct.unpack_from(order + "I", data, at + 12)[0])
+                self.head.append(bytes(data[at:end]))
+            elif at == 0:
+                self.head.append(bytes(data[:16]) + b"\xff" * 8 + bytes(data[24:end]))
+            elif data[at : at + 4] == BLOCK:
+                raise Broken(f"a second section begins at {at}")
+            at = end
+
+    def adder(self):
+        """What takes a packet: the link type, its record, its frame's place and captured length, and its length on the wire."""
+        data = self.data
+        starts, ends, lengths = self.starts.append, self.ends.append, self.lengths.append
+        bands, routes, sources = self.bands.append, self.routes.append, self.sources.append
+
+        def add(link, start, end, frame, captured, length):
+            starts(start)
+            ends(end)
+            lengths(length)
+            at = 0
+            if link == 1 and captured >= 34:
+                kind = data[frame + 12 : frame + 14]
+                if kind == b"\x08\x00":
+                    at = frame + 14
+                elif kind == b"\x81\x00" and data[frame + 16 : frame + 18] == b"\x08\x00":
+                    at = frame + 18
+            elif link == 101:
+                at = frame
+            if at and at + 20 <= frame + captured and data[at] >> 4 == 4:
+                bands(BAND_OF_SERVICE[data[at + 1]])
+                sources(data[at + 15])
+                routes(data[at + 19])
+            else:
+                bands(1)
+                sources(0)
+                routes(0)
+                self.without_header += 1
+
+        return add
+
+    def written(self, numbers):
+        """A file of these packets alone, in the format of the capture."""
+        data = self.data
+        return b"".join([*self.head, *(data[self.starts[n] : self.ends[n]] for n in numbers)])
+
+
+def read(name):
+    """The capture of a file; ends with a line where there is none."""
+    with open(name, "rb") as it:
+        data = it.read()
+    if data[:2] == b"\x1f\x8b":
+        raise Broken("it is compressed: zcat makes it readable")
+    return Capture(data)
