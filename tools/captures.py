@@ -8,6 +8,7 @@ BAND = [1, 2, 2, 2, 1, 2, 0, 0, 1, 1, 1, 1, 1, 1, 1, 1]
 BAND_OF_SERVICE = bytes(BAND[PRIORITY[(service & 0x1E) // 2]] for service in range(256))
 CLASSIC = {b"\xd4\xc3\xb2\xa1": "<", b"\x4d\x3c\xb2\xa1": "<", b"\xa1\xb2\xc3\xd4": ">", b"\xa1\xb2\x3c\x4d": ">"}
 BLOCK = b"\x0a\x0d\x0d\x0a"
+IPV4, TAG = b"\x08\x00", b"\x81\x00"
 
 
 class Broken(Exception):
@@ -40,16 +41,38 @@ class Capture:
             raise Broken("its header is cut off")
         link, two = struct.unpack_from(order + "I", data, 20)[0], struct.Struct(order + "II").unpack_from
         self.head.append(bytes(data[:24]))
-        add, at = self.adder(), 24
-        while at < size:
-            if at + 16 > size:
-                raise Broken(f"a record is cut off at {at}")
-            captured, length = two(data, at + 8)
-            end = at + 16 + captured
-            if end > size:
-                raise Broken(f"a record is cut off at {at}")
-            add(link, at, end, at + 16, captured, length)
-            at = end
+        # one loop with nothing called but what it must: a capture may have a million records
+        starts, ends, lengths = self.starts.append, self.ends.append, self.lengths.append
+        bands, routes, sources, service = self.bands.append, self.routes.append, self.sources.append, BAND_OF_SERVICE
+        at, without = 24, 0
+        try:
+            while at < size:
+                captured, length = two(data, at + 8)
+                frame = at + 16
+                end = frame + captured
+                starts(at)
+                ends(end)
+                lengths(length)
+                if link == 1:
+                    kind = data[frame + 12 : frame + 14]
+                    head = frame + 14 if kind == IPV4 else frame + 18 if kind == TAG and data[frame + 16 : frame + 18] == IPV4 else end
+                else:
+                    head = frame if link == 101 else end
+                if head + 20 <= end and data[head] >> 4 == 4:
+                    bands(service[data[head + 1]])
+                    sources(data[head + 15])
+                    routes(data[head + 19])
+                else:
+                    bands(1)
+                    sources(0)
+                    routes(0)
+                    without += 1
+                at = end
+        except (struct.error, IndexError):
+            at = size + 1
+        if at != size:
+            raise Broken(f"a record is cut off at {self.starts[-1] if self.starts else 24}")
+        self.without_header = without
 
     def read_blocks(self):
         data, size = self.data, len(self.data)
@@ -94,19 +117,16 @@ class Capture:
             starts(start)
             ends(end)
             lengths(length)
-            at = 0
-            if link == 1 and captured >= 34:
+            until, head = frame + captured, frame + captured
+            if link == 1:
                 kind = data[frame + 12 : frame + 14]
-                if kind == b"\x08\x00":
-                    at = frame + 14
-                elif kind == b"\x81\x00" and data[frame + 16 : frame + 18] == b"\x08\x00":
-                    at = frame + 18
+                head = frame + 14 if kind == IPV4 else frame + 18 if kind == TAG and data[frame + 16 : frame + 18] == IPV4 else until
             elif link == 101:
-                at = frame
-            if at and at + 20 <= frame + captured and data[at] >> 4 == 4:
-                bands(BAND_OF_SERVICE[data[at + 1]])
-                sources(data[at + 15])
-                routes(data[at + 19])
+                head = frame
+            if head + 20 <= until and data[head] >> 4 == 4:
+                bands(BAND_OF_SERVICE[data[head + 1]])
+                sources(data[head + 15])
+                routes(data[head + 19])
             else:
                 bands(1)
                 sources(0)
