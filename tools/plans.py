@@ -244,6 +244,20 @@ def faults_of_order(root, lines):
         down = down | {station} if kind == "down" else down - {station}
 
 
+def stations_of(root):
+    """The stations that fates and counts number, each with the keys that it has."""
+    return tables_at(root, "station")
+
+
+def places_of(root, capture):
+    """The station and the queue of each packet of a capture."""
+    many = [number_at(it, "queues", 1) for it in stations_of(root)]
+    stations = capture.routes.translate(bytes(it % len(many) for it in range(256)))
+    if max(many) == 1:
+        return stations, bytearray(len(stations))
+    return stations, bytearray(source % many[station] for source, station in zip(capture.sources, stations))
+
+
 def units_of(root):
     """How many devices a plan needs."""
     return len(tables_at(root, "station")) + sum(it.get("kind") == "swap" for it in tables_at(root, "event"))
