@@ -5,6 +5,8 @@ It is not proved; the fates that the program writes are. `tools/show-run` compar
 from array import array
 from collections import deque
 
+import plans
+
 FULL, SHRUNK, PURGED, REFUSED = "full", "shrunk", "purged", "refused"
 
 
@@ -140,7 +142,8 @@ def run(plan, stations, bands, queues):
     """The fate of each packet, and for each station and band how many packets wait after each packet; the slot's counts with its band."""
     count, events = len(stations), plan.get("event", [])
     fates = [None] * count
-    all_of = [Station(unit, it, fates, queues) for unit, it in enumerate(plan["station"])]
+    all_of = [Station(unit, it, fates, queues) for unit, it in enumerate(plans.stations_of(plan))]
+    children = plans.children_of(plan)
     waiting = [[array("I", bytes(4 * count)) for _ in range(3)] for _ in all_of]
     every, next_event, unit = plan.get("irq_every", 1), 0, len(all_of)
     units = []
@@ -150,8 +153,9 @@ def run(plan, stations, bands, queues):
     for n in range(count):
         while next_event < len(events) and events[next_event]["before"] <= n:
             event = events[next_event]
-            all_of[event["station"]].change(next_event, event, units[next_event])
-            all_of[event["station"]].serve()
+            for at in children[event["station"]]:
+                all_of[at].change(next_event, event, units[next_event])
+                all_of[at].serve()
             next_event += 1
         here = all_of[stations[n]]
         here.bring(n, bands[n])
@@ -166,8 +170,9 @@ def run(plan, stations, bands, queues):
                 waiting[at][band][n] = len(it.held[band]) + (it.slot is not None and bands[it.slot] == band)
     for number in range(next_event, len(events)):
         event = events[number]
-        all_of[event["station"]].change(number, event, units[number])
-        all_of[event["station"]].serve()
+        for at in children[event["station"]]:
+            all_of[at].change(number, event, units[number])
+            all_of[at].serve()
     for it in all_of:
         it.finish()
     return fates, waiting

@@ -244,15 +244,43 @@ def faults_of_order(root, lines):
         down = down | {station} if kind == "down" else down - {station}
 
 
+def children_of(root):
+    """The numbers that a plan's stations have in fates and counts: as many as each has qdiscs of its own, one after the other."""
+    found, first = [], 0
+    for it in tables_at(root, "station"):
+        many = number_at(it, "mq", 1)
+        found.append(range(first, first + many))
+        first += many
+    return found
+
+
+def faults_of_groups(root, lines):
+    """What several keys of stations may not be together."""
+    children = children_of(root)
+    if sum(map(len, children)) > 8:
+        yield Fault(RANGE, None, "the top, `station`", f"{sum(map(len, children))} qdiscs in all are more than 8")
+    for at, table in enumerate(tables_at(root, "station")):
+        if len(children[at]) > 1 and number_at(table, "queues", 1) > 1:
+            yield Fault(RANGE, lines.get(("station", at, "mq")), f"station {at}, `mq`", "not beside `queues`: one qdisc over several queues, or a qdisc for each")
+    for at, event in enumerate(tables_at(root, "event")):
+        station = number_at(event, "station", 0)
+        if event.get("kind") == "swap" and station < len(children) and len(children[station]) > 1:
+            yield Fault(RANGE, lines.get(("event", at, "kind")), f"event {at}, `kind`", f"no \"swap\" at station {station}, which has several qdiscs")
+
+
 def stations_of(root):
     """The stations that fates and counts number, each with the keys that it has."""
-    return tables_at(root, "station")
+    return [it for it, children in zip(tables_at(root, "station"), children_of(root)) for _ in children]
 
 
 def places_of(root, capture):
     """The station and the queue of each packet of a capture."""
-    many = [number_at(it, "queues", 1) for it in stations_of(root)]
-    stations = capture.routes.translate(bytes(it % len(many) for it in range(256)))
+    children, many = children_of(root), [number_at(it, "queues", 1) for it in stations_of(root)]
+    routes = [children[it % len(children)] for it in range(256)]
+    if len(many) == len(children):
+        stations = capture.routes.translate(bytes(it[0] for it in routes))
+    else:
+        stations = bytearray(routes[route][source % len(routes[route])] for route, source in zip(capture.routes, capture.sources))
     if max(many) == 1:
         return stations, bytearray(len(stations))
     return stations, bytearray(source % many[station] for source, station in zip(capture.sources, stations))
@@ -260,7 +288,7 @@ def places_of(root, capture):
 
 def units_of(root):
     """How many devices a plan needs."""
-    return len(tables_at(root, "station")) + sum(it.get("kind") == "swap" for it in tables_at(root, "event"))
+    return len(stations_of(root)) + sum(it.get("kind") == "swap" for it in tables_at(root, "event"))
 
 
 def is_too_large(value):
@@ -293,6 +321,8 @@ def judge(data):
     for section in ("station", "event"):
         for at, table in enumerate(tables_at(root, section)):
             faults += faults_of_table(section, at, Place(root, version, table), lines)
+    if version > 2:
+        faults += faults_of_groups(root, lines)
     if not faults:
         faults += faults_of_order(root, lines)
     return root, sorted(faults, key=lambda it: (it.reason, it.line or 0))
