@@ -164,8 +164,8 @@ def run(plan, stations, bands, queues):
             for it in all_of:
                 it.wake()
         for at, it in enumerate(all_of):
-            if it.slot is not None or any(it.held):
-                it.serve()
+            # also where nothing is held: then the next packet may go past the bands again
+            it.serve()
             for band in range(3):
                 waiting[at][band][n] = len(it.held[band]) + (it.slot is not None and bands[it.slot] == band)
     for number in range(next_event, len(events)):
