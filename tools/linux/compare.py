@@ -1,0 +1,94 @@
+"""A guest's answers beside the rules: where they part, and by which known cause."""
+from collections import namedtuple
+from itertools import combinations
+
+from linux.cases import KernelFates, Run, steps_of
+from linux.rules import Linux
+
+Cause = namedtuple("Cause", "name may_come text")
+
+CAUSES = [
+    Cause("same_length", lambda plan: any(it.kind == "tx_queue_len" for it in plan.events),
+          "same length: a change of tx_queue_len to the length that the device has already is nothing to Linux, since "
+          "dev_change_tx_queue_len (net/core/dev.c) compares first; the rules deactivate, purge and activate"),
+    Cause("too_long", lambda plan: any((it.length or 0) > 32767 for it in plan.events),
+          "too long: a tx_queue_len above 32,767 is refused by dev_change_tx_queue_len (net/core/dev.c) since 6.1.189; the "
+          "rules take it"),
+    Cause("bulk", lambda plan: any(it.queues > 1 for it in plan.stations),
+          "bulk dequeue: where several queues share a qdisc, try_bulk_dequeue_skb_slow (net/sched/sch_generic.c) takes up to "
+          "eight more packets of the same queue with one; the rules take one at a time"),
+    Cause("put_ahead", lambda plan: any(it.queues > 1 for it in plan.stations),
+          "put ahead: what bulk dequeue took and the device didn't get goes back ahead of what waits in the requeue list, by "
+          "dev_requeue_skb (net/sched/sch_generic.c) of 6.12.117; 6.1.192 appends it, so that a busy device is given such packets "
+          "out of order"),
+]
+
+# agrees: nothing parts. causes: the fewest that explain all that does, or None. expected: the run that was compared last.
+Verdict = namedtuple("Verdict", "agrees causes kernel here kernel_fates first_step")
+
+
+def equals(answers, fates, run):
+    return not answers.faults and answers.steps == run.steps and answers.last == run.last and fates == run.fates_text()
+
+
+def kernel_fates(plan, packets, answers):
+    try:
+        return KernelFates(plan, packets, answers)
+    except (StopIteration, IndexError, KeyError, ValueError) as it:
+        answers.faults.append(f"! answers that can't be read: {type(it).__name__} {it}")
+        return None
+
+
+def judge(plan, packets, answers):
+    here = Run(plan, packets)
+    kernel = kernel_fates(plan, packets, answers)
+    if kernel is None:
+        return Verdict(False, None, "", here.fates_text(), None, None)
+    text = kernel.text()
+    first = first_difference(plan, packets, answers, here)
+    if equals(answers, text, here):
+        return Verdict(True, [], text, text, kernel, None)
+    may_come = [it for it in CAUSES if it.may_come(plan)]
+    for count in range(1, len(may_come) + 1):
+        for causes in combinations(may_come, count):
+            other = Run(plan, packets, Linux(**{it.name: True for it in causes}))
+            if equals(answers, text, other):
+                return Verdict(False, list(causes), text, here.fates_text(), kernel, first)
+    return Verdict(False, None, text, here.fates_text(), kernel, first)
+
+
+def names_of_steps(plan, packets):
+    yield from (f"station {j} is made" for j in range(len(plan.stations)))
+    for what, number in steps_of(plan, packets):
+        if what == "event":
+            yield f"event {number} ({plan.events[number].kind})"
+        else:
+            yield f"packet {number} is sent" if what == "send" else "the queues are opened"
+    yield "the end"
+
+
+def first_difference(plan, packets, answers, run):
+    """The first step after which the words differ, with both sides, or None."""
+    for name, theirs, ours in zip(names_of_steps(plan, packets), answers.steps, run.steps):
+        if theirs != ours:
+            return name, theirs, ours
+    return None
+
+
+def tell_difference(verdict, most=20):
+    """The lines that tell where the fates part."""
+    pairs = [(ours, theirs) for ours, theirs in zip(verdict.here.splitlines(), verdict.kernel.splitlines()) if ours != theirs]
+    total = len(verdict.here.splitlines())
+    yield f"fates: {total - len(pairs)} of {total} agree"
+    for ours, theirs in pairs[:most]:
+        number, fate = ours.split(" ", 1)
+        yield f"  packet {number}: here {fate}, Linux {theirs.split(' ', 1)[1]}"
+    if len(pairs) > most:
+        yield f"  and {len(pairs) - most} more"
+    if verdict.first_step:
+        name, theirs, ours = verdict.first_step
+        yield f"words: they part first after: {name}"
+        for a, b in zip(ours, theirs):
+            if a != b:
+                yield f"  here  {a}"
+                yield f"  Linux {b}"

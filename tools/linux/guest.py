@@ -1,0 +1,112 @@
+"""A guest that works through cases: its kernel with the module and the sender, and the emulator in which it boots."""
+import lzma
+import re
+import shutil
+import subprocess
+from pathlib import Path
+
+from linux.packages import Missing, run
+
+HERE = Path(__file__).resolve().parent
+# What mounts the shared folder in the guest.
+SHARING = ["virtio_pci", "9pnet_virtio", "9p"]
+
+
+class Kernel:
+    """What a guest told of its kernel."""
+
+    def __init__(self, share):
+        release, version, processors, weight = (share / "kernel").read_text(encoding="utf-8").splitlines()
+        package = re.search(r"Debian (\S+)", version)
+        self.release, self.package = release, package[1] if package else version
+        self.processors, self.weight = int(processors), int(weight)
+
+    def __str__(self):
+        return f"Linux {self.package} ({self.release})"
+
+
+def module_file(folder, name):
+    """A module's file among the kernel's, whatever it is compressed by."""
+    return next(iter(sorted(folder.glob(f"kernel/**/{name}.ko*"))), None)
+
+
+def module_bytes(file):
+    data = file.read_bytes()
+    return lzma.decompress(data) if file.suffix == ".xz" else data
+
+
+def needed_modules(folder, names):
+    """Modules with those that they depend on, in the order in which they load. One that the kernel has built in has no file."""
+    order = {}
+
+    def visit(name):
+        file = module_file(folder, name.replace("-", "_")) or module_file(folder, name.replace("_", "-"))
+        if file is None or file in order:
+            return
+        data = module_bytes(file)
+        depends = re.search(rb"\0depends=([^\0]*)\0", data)
+        for below in depends[1].decode().split(",") if depends else []:
+            if below:
+                visit(below)
+        order[file] = data
+
+    for name in names:
+        visit(name)
+    return {f"{file.name.split('.')[0]}.ko": data for file, data in order.items()}
+
+
+def build(tools, kernel, folder):
+    """Builds the module and the sender, and packs them into the guest's first file system."""
+    made = folder / f"guest-{kernel.version}"
+    sources = [HERE / it for it in ("lqtx_bench.c", "sender.c", "init")]
+    image = made / "image.gz"
+    if image.exists() and all(it.stat().st_mtime < image.stat().st_mtime for it in [*sources, Path(__file__)]):
+        return image
+    shutil.rmtree(made, ignore_errors=True)
+    module, root = made / "module", made / "root"
+    module.mkdir(parents=True)
+    (root / "bin").mkdir(parents=True)
+    (root / "modules").mkdir()
+    shutil.copy(HERE / "lqtx_bench.c", module)
+    (module / "Makefile").write_text("obj-m := lqtx_bench.o\n", encoding="utf-8")
+    environment = tools.environment()
+    # type information of modules would need one more package
+    run(["make", "-s", "-C", str(kernel.headers()), f"M={module}", "CONFIG_DEBUG_INFO_BTF_MODULES=", "modules"],
+        environment=environment)
+    run([*tools.compiler(), "-O2", "-static", "-o", str(root / "sender"), str(HERE / "sender.c"), "-lpthread"],
+        environment=environment)
+    shutil.copy(tools.path("busybox"), root / "bin/busybox")
+    shutil.copy(HERE / "init", root / "init")
+    (root / "init").chmod(0o755)
+    modules = needed_modules(kernel.modules(), SHARING)
+    modules["lqtx_bench.ko"] = (module / "lqtx_bench.ko").read_bytes()
+    for name, data in modules.items():
+        (root / "modules" / name).write_bytes(data)
+    (root / "modules/order").write_text("\n".join(modules) + "\n", encoding="utf-8")
+    names = "\n".join(str(it.relative_to(root)) for it in sorted(root.rglob("*"))) + "\n"
+    packed = subprocess.run(["cpio", "-o", "-H", "newc", "--quiet"], cwd=root, env=environment, input=names.encode(),
+                            capture_output=True, check=False)
+    if packed.returncode:
+        raise Missing(f"cpio failed: {packed.stderr.decode()}")
+    small = subprocess.run(["gzip", "-1"], input=packed.stdout, capture_output=True, check=True)
+    image.write_bytes(small.stdout)
+    return image
+
+
+def boot(tools, kernel, image, share, processors=1, patience=600):
+    """Boots the guest, which works through SHARE/*.cases and leaves an .answers beside each. It is emulated throughout."""
+    words = ["nice", "-n", "19", "qemu-system-x86_64", *tools.firmware(), "-M", "pc", "-accel", "tcg,thread=single",
+             "-cpu", "qemu64", "-smp", str(processors), "-m", "512", "-nographic", "-no-reboot", "-nic", "none",
+             "-kernel", str(kernel.image()), "-initrd", str(image),
+             "-append", "console=ttyS0 quiet ipv6.disable=1 panic=-1",
+             "-virtfs", f"local,path={share},mount_tag=share,security_model=none"]
+    console = share / "console"
+    with open(console, "wb") as it:
+        try:
+            subprocess.run(words, env=tools.environment(), stdin=subprocess.DEVNULL, stdout=it, stderr=it, check=False,
+                           timeout=patience)
+        except subprocess.TimeoutExpired:
+            raise Missing(f"the guest didn't end in {patience} seconds; its console is in {console}") from None
+    if not (share / "kernel").exists():
+        raise Missing(f"the guest didn't come to its cases; its console is in {console}")
+    return Kernel(share)

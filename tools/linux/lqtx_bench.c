@@ -1,0 +1,834 @@
+// SPDX-License-Identifier: GPL-2.0
+/*
+ * lqtx_bench: Ethernet devices that answer as the built-in device of lqtx
+ * does, and the words of their queueing disciplines.
+ *
+ * Each device has one unit, which all of its transmit queues share, or one
+ * unit for each queue.  A unit answers by burst, busy_every, busy_limit and
+ * hang_after (docs/RULES.md, 'Devices') and logs each packet that it accepted.
+ * A queue that was stopped is opened by the command "wake" and by nothing
+ * else.  A probe on the tracepoint kfree_skb logs each packet of these devices
+ * that the kernel drops.
+ *
+ * A packet's mark is its number, with its transmit queue in the upper byte.
+ *
+ * Commands are written to /proc/lqtx_bench, one with each write; the answer is
+ * read from the file's start.
+ */
+#include <linux/crc32.h>
+#include <linux/etherdevice.h>
+#include <linux/irq_work.h>
+#include <linux/kernel_stat.h>
+#include <linux/module.h>
+#include <linux/netdevice.h>
+#include <linux/proc_fs.h>
+#include <linux/rtnetlink.h>
+#include <linux/skb_array.h>
+#include <linux/version.h>
+#include <linux/vmalloc.h>
+#include <net/pkt_sched.h>
+#include <net/sch_generic.h>
+#include <trace/events/skb.h>
+
+#define BENCH_DEVICES	8
+#define BENCH_QUEUES	8
+#define BENCH_RETIRED	64
+#define BENCH_BANDS	3
+#define BENCH_ANSWER	(16 << 20)
+#define BENCH_COMMAND	8192
+#define BENCH_MTU	4096
+#define BENCH_PATIENCE	5000	/* jiffies until a scheduled qdisc is given up */
+
+#define NUMBER_OF(mark)	((mark) & 0xffffff)
+#define QUEUE_OF(mark)	((mark) >> 24)
+
+/* What a slot counts as whose packet was taken and that isn't empty yet. */
+#define STALE		0xffffffffU
+
+/* As in net/sched/sch_generic.c, where it is private. */
+struct pfifo_fast_priv {
+	struct skb_array q[BENCH_BANDS];
+};
+
+struct accepted {
+	u32 mark;
+	u32 priority;
+	u32 crc;
+	u32 queue;
+};
+
+struct dropped {
+	u32 mark;
+	u32 reason;
+	void *where;
+};
+
+struct unit {
+	u32 burst;
+	u32 busy_every;
+	u32 busy_limit;
+	u32 hang_after;
+	u32 calls;
+	u32 busy;
+	u32 accepted;
+	bool hung;
+	struct accepted *log;
+};
+
+/**
+ * struct bench - private part of a device
+ * @number:	number of the device in commands and answers
+ * @queues:	transmit queues
+ * @room:	entries that each log has room for
+ * @shared:	one qdisc and one unit for all queues
+ * @waits:	how often a scheduled qdisc had to be waited for
+ * @overflow:	packets for which a log had no room
+ * @dropped:	packets that the kernel dropped
+ * @drops:	log of these
+ * @unit:	units; the first alone where @shared
+ */
+struct bench {
+	u32 number;
+	u32 queues;
+	u32 room;
+	bool shared;
+	u32 waits;
+	atomic_t overflow;
+	atomic_t dropped;
+	struct dropped *drops;
+	struct unit unit[BENCH_QUEUES];
+};
+
+static struct net_device *devices[BENCH_DEVICES];
+static struct net_device *retired[BENCH_RETIRED];
+static unsigned int retired_count;
+static DEFINE_MUTEX(bench_lock);
+static char *answer;
+static size_t answer_len;
+static u32 softirqs_told;
+
+static __printf(1, 2) void say(const char *format, ...)
+{
+	va_list args;
+
+	va_start(args, format);
+	answer_len += vscnprintf(answer + answer_len, BENCH_ANSWER - answer_len,
+				 format, args);
+	va_end(args);
+}
+
+static u32 unit_count(const struct bench *b)
+{
+	return b->shared ? 1 : b->queues;
+}
+
+static struct unit *unit_of(struct bench *b, u32 queue)
+{
+	return &b->unit[b->shared ? 0 : queue];
+}
+
+/* The device */
+
+static void log_accepted(struct bench *b, struct unit *u, struct sk_buff *skb)
+{
+	struct accepted *entry;
+
+	if (u->accepted < b->room) {
+		entry = &u->log[u->accepted];
+		entry->mark = skb->mark;
+		entry->priority = skb->priority;
+		entry->crc = ~crc32_le(~0, skb->data, skb_headlen(skb));
+		entry->queue = skb_get_queue_mapping(skb);
+	} else {
+		atomic_inc(&b->overflow);
+	}
+	u->accepted++;
+}
+
+static netdev_tx_t bench_start_xmit(struct sk_buff *skb, struct net_device *dev)
+{
+	struct bench *b = netdev_priv(dev);
+	u32 queue = skb_get_queue_mapping(skb);
+	struct unit *u = unit_of(b, queue);
+	u32 i;
+
+	u->calls++;
+	if (u->busy_every && u->calls % u->busy_every == 0 &&
+	    u->busy < u->busy_limit) {
+		u->busy++;
+		return NETDEV_TX_BUSY;
+	}
+
+	log_accepted(b, u, skb);
+	dev_consume_skb_any(skb);
+
+	if (u->hang_after && u->accepted == u->hang_after) {
+		u->hung = true;
+		for (i = 0; i < b->queues; i++)
+			if (b->shared || i == queue)
+				netif_tx_stop_queue(netdev_get_tx_queue(dev, i));
+	} else if (u->burst && u->accepted % u->burst == 0) {
+		netif_tx_stop_queue(netdev_get_tx_queue(dev, queue));
+	}
+	return NETDEV_TX_OK;
+}
+
+static u16 bench_select_queue(struct net_device *dev, struct sk_buff *skb,
+			      struct net_device *sb_dev)
+{
+	return QUEUE_OF(skb->mark) % dev->real_num_tx_queues;
+}
+
+/* A queue stays as it is while the device goes down and up. */
+static int bench_open(struct net_device *dev)
+{
+	return 0;
+}
+
+static int bench_stop(struct net_device *dev)
+{
+	return 0;
+}
+
+static const struct net_device_ops bench_ops = {
+	.ndo_open		= bench_open,
+	.ndo_stop		= bench_stop,
+	.ndo_start_xmit		= bench_start_xmit,
+	.ndo_select_queue	= bench_select_queue,
+};
+
+static void note_drop(struct sk_buff *skb, void *where, u32 reason)
+{
+	struct bench *b;
+	u32 at;
+
+	if (!skb->dev || skb->dev->netdev_ops != &bench_ops)
+		return;
+	b = netdev_priv(skb->dev);
+	at = atomic_inc_return(&b->dropped) - 1;
+	if (at < b->room) {
+		b->drops[at].mark = skb->mark;
+		b->drops[at].reason = reason;
+		b->drops[at].where = where;
+	} else {
+		atomic_inc(&b->overflow);
+	}
+}
+
+#if LINUX_VERSION_CODE >= KERNEL_VERSION(6, 11, 0)
+static void probe_kfree_skb(void *data, struct sk_buff *skb, void *where,
+			    enum skb_drop_reason reason, struct sock *rx_sk)
+#else
+static void probe_kfree_skb(void *data, struct sk_buff *skb, void *where,
+			    enum skb_drop_reason reason)
+#endif
+{
+	note_drop(skb, where, reason);
+}
+
+/* Making and freeing */
+
+static void free_logs(struct bench *b)
+{
+	u32 i;
+
+	for (i = 0; i < BENCH_QUEUES; i++)
+		vfree(b->unit[i].log);
+	vfree(b->drops);
+}
+
+/*
+ * Devices are unregistered many at a time, since each time waits for a grace
+ * period.
+ */
+static void unregister_retired(void)
+{
+	unsigned int i;
+	LIST_HEAD(gone);
+
+	rtnl_lock();
+	for (i = 0; i < retired_count; i++)
+		unregister_netdevice_queue(retired[i], &gone);
+	unregister_netdevice_many(&gone);
+	rtnl_unlock();
+	for (i = 0; i < retired_count; i++) {
+		free_logs(netdev_priv(retired[i]));
+		free_netdev(retired[i]);
+	}
+	retired_count = 0;
+}
+
+static void retire_devices(void)
+{
+	u32 j;
+
+	for (j = 0; j < BENCH_DEVICES; j++) {
+		if (!devices[j])
+			continue;
+		rtnl_lock();
+		dev_close(devices[j]);
+		rtnl_unlock();
+		retired[retired_count++] = devices[j];
+		devices[j] = NULL;
+		if (retired_count == BENCH_RETIRED)
+			unregister_retired();
+	}
+}
+
+static void set_params(struct unit *u, const u32 *params)
+{
+	u->burst = params[0];
+	u->busy_every = params[1];
+	u->busy_limit = params[2];
+	u->hang_after = params[3];
+	u->calls = 0;
+	u->busy = 0;
+	u->accepted = 0;
+	u->hung = false;
+}
+
+static bool make_logs(struct bench *b)
+{
+	u32 i;
+
+	b->drops = vzalloc(array_size(b->room, sizeof(*b->drops)));
+	if (!b->drops)
+		return false;
+	for (i = 0; i < unit_count(b); i++) {
+		b->unit[i].log = vzalloc(array_size(b->room,
+						    sizeof(struct accepted)));
+		if (!b->unit[i].log)
+			return false;
+	}
+	return true;
+}
+
+/* new NUMBER LEN QUEUES SHARED ROOM BURST BUSY_EVERY BUSY_LIMIT HANG_AFTER */
+static int make_device(u32 j, u32 len, u32 queues, bool shared, u32 room,
+		       const u32 *params)
+{
+	struct net_device *dev;
+	struct bench *b;
+	int err = -ENOMEM;
+	u32 i;
+
+	if (devices[j])
+		return -EEXIST;
+	dev = alloc_netdev_mqs(sizeof(*b), "lq%d", NET_NAME_ENUM, ether_setup,
+			       queues, 1);
+	if (!dev)
+		return -ENOMEM;
+	b = netdev_priv(dev);
+	b->number = j;
+	b->queues = queues;
+	b->shared = shared || queues == 1;
+	b->room = room;
+	if (!make_logs(b))
+		goto free;
+	for (i = 0; i < unit_count(b); i++)
+		set_params(&b->unit[i], params);
+
+	dev->netdev_ops = &bench_ops;
+	dev->flags |= IFF_NOARP;
+	dev->tx_queue_len = len;
+	dev->max_mtu = ETH_MAX_MTU;
+	dev->mtu = BENCH_MTU;
+	eth_hw_addr_random(dev);
+	err = register_netdev(dev);
+	if (err)
+		goto free;
+	devices[j] = dev;
+	say("device %s\n", dev->name);
+	return 0;
+
+free:
+	free_logs(b);
+	free_netdev(dev);
+	return err;
+}
+
+/* Waking and waiting */
+
+static struct Qdisc *qdisc_of(struct net_device *dev, u32 queue)
+{
+	struct netdev_queue *txq = netdev_get_tx_queue(dev, queue);
+
+	return rcu_dereference_raw(txq->qdisc_sleeping);
+}
+
+static void wake_queues(struct net_device *dev)
+{
+	struct bench *b = netdev_priv(dev);
+	u32 i;
+
+	for (i = 0; i < b->queues; i++)
+		if (!unit_of(b, i)->hung)
+			netif_tx_wake_queue(netdev_get_tx_queue(dev, i));
+}
+
+struct hard_wake {
+	struct irq_work work;
+	struct net_device *dev;
+};
+
+static void hard_wake_fn(struct irq_work *work)
+{
+	wake_queues(container_of(work, struct hard_wake, work)->dev);
+}
+
+/* From a hard interrupt, as most drivers do, or with soft interrupts off. */
+static void wake_device(struct net_device *dev, bool hard)
+{
+	struct hard_wake wake = {
+		.work = IRQ_WORK_INIT_HARD(hard_wake_fn),
+		.dev = dev,
+	};
+
+	if (hard) {
+		irq_work_queue(&wake.work);
+		irq_work_sync(&wake.work);
+	} else {
+		local_bh_disable();
+		wake_queues(dev);
+		local_bh_enable();
+	}
+}
+
+static bool is_scheduled(struct net_device *dev)
+{
+	u32 i;
+
+	for (i = 0; i < unit_count(netdev_priv(dev)); i++)
+		if (test_bit(__QDISC_STATE_SCHED, &qdisc_of(dev, i)->state))
+			return true;
+	return false;
+}
+
+/* Waits until no soft interrupt of the device is to come. */
+static int settle(struct net_device *dev)
+{
+	struct bench *b = netdev_priv(dev);
+	u32 patience = BENCH_PATIENCE;
+
+	/* what is pending runs where soft interrupts are let in again */
+	local_bh_disable();
+	local_bh_enable();
+	while (is_scheduled(dev)) {
+		if (!patience--)
+			return -ETIME;
+		b->waits++;
+		schedule_timeout_uninterruptible(1);
+	}
+	return 0;
+}
+
+/* Telling */
+
+static u32 softirqs_since_told(void)
+{
+	u32 before = softirqs_told;
+	int cpu;
+
+	softirqs_told = 0;
+	for_each_online_cpu(cpu)
+		softirqs_told += kstat_softirqs_cpu(NET_TX_SOFTIRQ, cpu);
+	return softirqs_told - before;
+}
+
+static void say_list(const struct sk_buff_head *list)
+{
+	const struct sk_buff *skb;
+	const char *before = "";
+
+	say(" ");
+	skb_queue_walk(list, skb) {
+		say("%s%u", before, NUMBER_OF(skb->mark));
+		before = ",";
+	}
+	if (skb_queue_empty(list))
+		say("-");
+}
+
+static u32 held_in(const struct ptr_ring *ring)
+{
+	if (!ring->queue[ring->consumer_head])
+		return 0;
+	if (ring->producer > ring->consumer_head)
+		return ring->producer - ring->consumer_head;
+	return ring->producer + ring->size - ring->consumer_head;
+}
+
+static u32 entry_of(const struct ptr_ring *ring, u32 slot, u32 held)
+{
+	u32 behind = (slot + ring->size - ring->consumer_head) % ring->size;
+	const struct sk_buff *skb = ring->queue[slot];
+
+	if (!skb)
+		return 0;
+	/* a packet that was taken may be freed already */
+	return behind < held ? NUMBER_OF(skb->mark) + 1 : STALE;
+}
+
+/*
+ * producer,head,tail,size,batch,held,sum: the sum is that of all slots, each
+ * times the power of 31 that its number is, in 64 bits.
+ */
+static void say_ring(const struct ptr_ring *ring, bool marks)
+{
+	u32 held = held_in(ring);
+	u64 power = 1;
+	u64 sum = 0;
+	u32 i;
+
+	for (i = 0; i < ring->size; i++) {
+		sum += power * entry_of(ring, i, held);
+		power *= 31;
+	}
+	say(" %d,%d,%d,%d,%d,%u,%llx", ring->producer, ring->consumer_head,
+	    ring->consumer_tail, ring->size, ring->batch, held, sum);
+	if (!marks)
+		return;
+	for (i = 0; i < held; i++)
+		say("%c%u", i ? ',' : ':',
+		    entry_of(ring, (ring->consumer_head + i) % ring->size,
+			     held) - 1);
+}
+
+/*
+ * W NUMBER QDISC STATE LOCK STOPS REQUEUED BAD_TXQ ACCEPTED DROPPED SOFTIRQS and
+ * the three rings.  STOPS has a digit for each queue: open, stopped, hung.
+ * DROPPED is a count of the whole device.
+ */
+static void say_words(struct net_device *dev, bool marks)
+{
+	struct bench *b = netdev_priv(dev);
+	struct pfifo_fast_priv *priv;
+	struct netdev_queue *txq;
+	u32 softirqs = softirqs_since_told();
+	struct Qdisc *q;
+	u32 i, j;
+
+	for (i = 0; i < unit_count(b); i++) {
+		q = qdisc_of(dev, i);
+		say("W %u %u %lu %d ", b->number, i, q->state,
+		    spin_is_locked(&q->seqlock));
+		for (j = 0; j < b->queues; j++) {
+			txq = netdev_get_tx_queue(dev, j);
+			if (!b->shared && j != i)
+				continue;
+			say("%d", !netif_tx_queue_stopped(txq) ? 0 :
+				  unit_of(b, j)->hung ? 2 : 1);
+		}
+		say_list(&q->gso_skb);
+		say_list(&q->skb_bad_txq);
+		say(" %u %u %u", b->unit[i].accepted, atomic_read(&b->dropped),
+		    i ? 0 : softirqs);
+		if (q->ops != &pfifo_fast_ops) {
+			say(" %s\n", q->ops->id);
+			continue;
+		}
+		priv = qdisc_priv(q);
+		for (j = 0; j < BENCH_BANDS; j++)
+			say_ring(&priv->q[j].ring, marks);
+		say("\n");
+	}
+}
+
+/* L NUMBER UNIT CALLS BUSY ACCEPTED HUNG, and each packet that was accepted */
+static void say_units(struct bench *b)
+{
+	struct accepted *entry;
+	struct unit *u;
+	u32 i, k;
+
+	for (i = 0; i < unit_count(b); i++) {
+		u = &b->unit[i];
+		say("L %u %u %u %u %u %d", b->number, i, u->calls, u->busy,
+		    u->accepted, u->hung);
+		for (k = 0; k < min(u->accepted, b->room); k++) {
+			entry = &u->log[k];
+			say(" %u/%u/%x/%u", NUMBER_OF(entry->mark),
+			    entry->priority, entry->crc, entry->queue);
+		}
+		say("\n");
+	}
+}
+
+/* G NUMBER OVERFLOW WAITS, and each packet that was dropped */
+static void say_drops(struct bench *b)
+{
+	u32 count = atomic_read(&b->dropped);
+	u32 i;
+
+	say("G %u %d %u", b->number, atomic_read(&b->overflow), b->waits);
+	for (i = 0; i < min(count, b->room); i++)
+		say(" %u/%ps", NUMBER_OF(b->drops[i].mark), b->drops[i].where);
+	say("\n");
+}
+
+/* Events that a kernel doesn't have as such */
+
+/*
+ * The resize that a change of tx_queue_len does, while the qdisc is active, and
+ * then the end of a run.  Nothing else may use the device meanwhile.
+ */
+static int resize_live(struct net_device *dev, u32 len)
+{
+	struct Qdisc *q;
+	int err = 0;
+	u32 i;
+
+	rtnl_lock();
+	for (i = 0; i < unit_count(netdev_priv(dev)) && !err; i++) {
+		q = qdisc_of(dev, i);
+		err = q->ops->change_tx_queue_len(q, len);
+		if (err)
+			break;
+		local_bh_disable();
+		if (qdisc_run_begin(q))
+			qdisc_run_end(q);
+		local_bh_enable();
+	}
+	if (!err)
+		dev->tx_queue_len = len;
+	rtnl_unlock();
+	return err;
+}
+
+/* Another device in the place of this one, which is down. */
+static void exchange(struct net_device *dev, const u32 *params)
+{
+	struct bench *b = netdev_priv(dev);
+	u32 i;
+
+	say_units(b);
+	for (i = 0; i < unit_count(b); i++)
+		set_params(&b->unit[i], params);
+	for (i = 0; i < b->queues; i++)
+		netif_tx_start_queue(netdev_get_tx_queue(dev, i));
+}
+
+static void forbid_bypass(struct net_device *dev)
+{
+	u32 i;
+
+	for (i = 0; i < unit_count(netdev_priv(dev)); i++)
+		qdisc_of(dev, i)->flags &= ~TCQ_F_CAN_BYPASS;
+}
+
+static bool is_done(struct net_device *dev)
+{
+	struct bench *b = netdev_priv(dev);
+	struct pfifo_fast_priv *priv;
+	struct netdev_queue *txq;
+	struct Qdisc *q;
+	u32 i, j;
+
+	if (!netif_running(dev))
+		return true;
+	for (i = 0; i < b->queues; i++) {
+		txq = netdev_get_tx_queue(dev, i);
+		q = qdisc_of(dev, i);
+		if (unit_of(b, i)->hung)
+			continue;
+		if (netif_tx_queue_stopped(txq) || q->gso_skb.qlen ||
+		    q->skb_bad_txq.qlen)
+			return false;
+		priv = qdisc_priv(q);
+		for (j = 0; j < BENCH_BANDS; j++)
+			if (held_in(&priv->q[j].ring))
+				return false;
+	}
+	return true;
+}
+
+/* Wakes until nothing is held and all is open, but where a unit hangs. */
+static int finish(struct net_device *dev, u32 rounds)
+{
+	u32 done = 0;
+	int err = 0;
+
+	while (!err && !is_done(dev)) {
+		if (done++ == rounds)
+			return -ELOOP;
+		wake_device(dev, false);
+		err = settle(dev);
+	}
+	say("R %u\n", done);
+	return err;
+}
+
+/* receive NUMBER MARK HEX: a frame comes in on the device, as from a wire. */
+static int receive(struct net_device *dev, u32 mark, const char *hex)
+{
+	size_t len = strlen(hex) / 2;
+	struct sk_buff *skb = netdev_alloc_skb(dev, len + NET_IP_ALIGN);
+
+	if (!skb)
+		return -ENOMEM;
+	skb_reserve(skb, NET_IP_ALIGN);
+	if (hex2bin(skb_put(skb, len), hex, len)) {
+		kfree_skb(skb);
+		return -EINVAL;
+	}
+	skb->mark = mark;
+	skb->protocol = eth_type_trans(skb, dev);
+	skb->pkt_type = PACKET_HOST;
+	local_bh_disable();
+	netif_rx(skb);
+	local_bh_enable();
+	return 0;
+}
+
+/* Commands */
+
+/* Commands after which the words are told. */
+static int tell_after(struct net_device *dev, const char *name, u32 value)
+{
+	bool marks = !strcmp(name, "all_words") || !strcmp(name, "finish");
+	int err;
+
+	if (!strcmp(name, "finish")) {
+		err = finish(dev, value);
+	} else {
+		if (!strcmp(name, "wake"))
+			wake_device(dev, value);
+		err = settle(dev);
+	}
+	say_words(dev, marks);
+	return err;
+}
+
+static int on_device(struct net_device *dev, const char *name, char *rest)
+{
+	u32 params[4];
+	u32 value = 0;
+	int at;
+
+	if (!strcmp(name, "words") || !strcmp(name, "all_words"))
+		return tell_after(dev, name, 0);
+	if ((!strcmp(name, "wake") || !strcmp(name, "finish")) &&
+	    sscanf(rest, "%u", &value) == 1)
+		return tell_after(dev, name, value);
+	/* of several senders: without waiting, and without an answer */
+	if (!strcmp(name, "kick") && sscanf(rest, "%u", &value) == 1) {
+		wake_device(dev, value);
+		return 0;
+	}
+	if (!strcmp(name, "logs")) {
+		say_units(netdev_priv(dev));
+		say_drops(netdev_priv(dev));
+		return 0;
+	}
+	if (!strcmp(name, "no_bypass")) {
+		forbid_bypass(dev);
+		return 0;
+	}
+	if (!strcmp(name, "resize") && sscanf(rest, "%u", &value) == 1)
+		return resize_live(dev, value);
+	if (!strcmp(name, "exchange") &&
+	    sscanf(rest, "%u %u %u %u", &params[0], &params[1], &params[2],
+		   &params[3]) == 4) {
+		exchange(dev, params);
+		return 0;
+	}
+	if (!strcmp(name, "receive") && sscanf(rest, "%u %n", &value, &at) == 1)
+		return receive(dev, value, rest + at);
+	return -EINVAL;
+}
+
+static int command(char *text)
+{
+	u32 j, len, queues, shared, room;
+	u32 params[4];
+	char name[16];
+	int at = 0;
+
+	if (!strcmp(text, "free")) {
+		retire_devices();
+		return 0;
+	}
+	if (sscanf(text, "%15s %u%n", name, &j, &at) != 2 || j >= BENCH_DEVICES)
+		return -EINVAL;
+	if (!strcmp(name, "new")) {
+		if (sscanf(text + at, "%u %u %u %u %u %u %u %u", &len, &queues,
+			   &shared, &room, &params[0], &params[1], &params[2],
+			   &params[3]) != 8 ||
+		    !queues || queues > BENCH_QUEUES)
+			return -EINVAL;
+		return make_device(j, len, queues, shared, room, params);
+	}
+	if (!devices[j])
+		return -ENODEV;
+	return on_device(devices[j], name, skip_spaces(text + at));
+}
+
+static ssize_t bench_write(struct file *file, const char __user *from,
+			   size_t len, loff_t *place)
+{
+	char *text;
+	int err;
+
+	if (len >= BENCH_COMMAND)
+		return -EINVAL;
+	text = memdup_user_nul(from, len);
+	if (IS_ERR(text))
+		return PTR_ERR(text);
+	mutex_lock(&bench_lock);
+	answer_len = 0;
+	err = command(strim(text));
+	mutex_unlock(&bench_lock);
+	kfree(text);
+	return err ? err : len;
+}
+
+static ssize_t bench_read(struct file *file, char __user *to, size_t len,
+			  loff_t *place)
+{
+	return simple_read_from_buffer(to, len, place, answer, answer_len);
+}
+
+static const struct proc_ops bench_proc_ops = {
+	.proc_write	= bench_write,
+	.proc_read	= bench_read,
+	.proc_lseek	= default_llseek,
+};
+
+static int __init bench_init(void)
+{
+	int err;
+
+	answer = vzalloc(BENCH_ANSWER);
+	if (!answer)
+		return -ENOMEM;
+	err = register_trace_kfree_skb(probe_kfree_skb, NULL);
+	if (err)
+		goto free;
+	if (!proc_create("lqtx_bench", 0600, NULL, &bench_proc_ops)) {
+		err = -ENOMEM;
+		goto unregister;
+	}
+	return 0;
+
+unregister:
+	unregister_trace_kfree_skb(probe_kfree_skb, NULL);
+	tracepoint_synchronize_unregister();
+free:
+	vfree(answer);
+	return err;
+}
+
+static void __exit bench_exit(void)
+{
+	remove_proc_entry("lqtx_bench", NULL);
+	retire_devices();
+	unregister_retired();
+	unregister_trace_kfree_skb(probe_kfree_skb, NULL);
+	tracepoint_synchronize_unregister();
+	vfree(answer);
+}
+
+module_init(bench_init);
+module_exit(bench_exit);
+MODULE_DESCRIPTION("Devices that answer as the built-in device of lqtx does");
+MODULE_LICENSE("GPL");

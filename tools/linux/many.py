@@ -1,0 +1,191 @@
+"""Many plans in a few boots: random ones, all small ones, all types of service, and several senders."""
+import random
+import shutil
+import time
+from collections import Counter
+from datetime import datetime, timezone
+from pathlib import Path
+
+from linux import classes, guest, plans, together
+from linux.cases import Answers, Run, answers_of, case_of
+from linux.compare import judge, tell_difference
+from linux.rules import Endless
+from linux.wrong import NOT_SHOWN, SHOWN
+
+A_BOOT = 2000
+# How many of the plans are tried with each wrong rule.
+SHARPNESS = 400
+SECONDS_A_PLAN = 3
+
+
+EXAMPLES = Path(__file__).resolve().parent.parent.parent / "examples"
+
+
+def examples():
+    """The repository's own plans of one sender, each with the capture that it is for."""
+    for file in sorted(EXAMPLES.glob("**/*.toml")):
+        plan = plans.read_plan(file.read_text(encoding="utf-8"))
+        capture = "loopback.pcap" if file.parent == EXAMPLES else "linux/four.pcap" if file.stem == "reordered" else "linux/five.pcap"
+        if plan.senders == 1:
+            yield f"example-{file.stem}", plan, plans.frames_of((EXAMPLES / capture).read_bytes())
+
+
+class Many:
+    """One series of runs on one kernel; `tell` says what goes on."""
+
+    def __init__(self, tools, kernel, image, folder, seed, program, tell):
+        self.tools, self.kernel, self.image = tools, kernel, image
+        self.folder, self.seed, self.program, self.tell = folder, seed, program, tell
+        self.kinds, self.counts, self.totals, self.fates = {}, Counter(), Counter(), Counter()
+        self.noticed, self.tried = Counter(), 0
+        self.told, self.unexplained = None, []
+        shutil.rmtree(folder, ignore_errors=True)
+        folder.mkdir(parents=True)
+
+    def boot(self, name, lines, cases, processors=1):
+        share = self.folder / name
+        share.mkdir()
+        (share / "all.cases").write_text("\n".join(lines) + "\n", encoding="utf-8")
+        self.told = guest.boot(self.tools, self.kernel, self.image, share, processors, 300 + SECONDS_A_PLAN * cases)
+        found = answers_of((share / "all.answers").read_text(encoding="utf-8"))
+        shutil.rmtree(share)
+        return found
+
+    def keep(self, name, plan, frames, lines, said):
+        """Keeps what no known cause explains in a folder of its own."""
+        folder = self.folder / name
+        folder.mkdir()
+        (folder / "plan.toml").write_text(plans.text_of_plan(plan), encoding="utf-8")
+        (folder / "capture.pcap").write_bytes(plans.capture_of(frames))
+        (folder / "answers").write_text("\n".join(lines) + "\n", encoding="utf-8")
+        (folder / "difference").write_text("\n".join(said) + "\n", encoding="utf-8")
+        self.unexplained.append(str(folder))
+
+    # One sender
+
+    def plans_of_one_sender(self, count, small):
+        yield from examples()
+        for i, (plan, bare) in enumerate(plans.small_plans() if small else []):
+            yield f"small-{i}", plan, plans.ethernet(bare)
+        chance = random.Random(self.seed)
+        for i in range(count):
+            kind = chance.choices(["one", "long", "mq", "queues"], [60, 5, 15, 20])[0]
+            plan, bare = plans.random_plan(chance, kind)
+            yield f"{kind}-{i}", plan, plans.ethernet(bare)
+
+    def one_sender(self, count, small=True):
+        batch = []
+        for it in self.plans_of_one_sender(count, small):
+            batch.append(it)
+            if len(batch) == A_BOOT:
+                self.do_batch(batch)
+                batch = []
+        if batch:
+            self.do_batch(batch)
+
+    def do_batch(self, batch):
+        cases, lines = {}, []
+        for name, plan, frames in batch:
+            packets = plans.packets_of(plan, frames)
+            cases[name] = plan, frames, packets
+            lines += case_of(name, plan, packets, frames)
+        found = self.boot("boot", lines, len(batch))
+        for name, (plan, frames, packets) in cases.items():
+            self.judge_one(name, plan, frames, packets, found.get(name))
+        self.tell(f"{sum(self.kinds.values())} plans, {len(self.unexplained)} differences without a known cause")
+
+    def judge_one(self, name, plan, frames, packets, lines):
+        kind = name.split("-")[0]
+        self.kinds[kind] = self.kinds.get(kind, 0) + 1
+        if lines is None:
+            self.keep(name, plan, frames, [], ["the guest gave no answer"])
+            return
+        answers = Answers(lines)
+        verdict = judge(plan, packets, answers)
+        if verdict.agrees:
+            self.counts[kind, "agree"] += 1
+        elif verdict.causes:
+            fates = "" if verdict.kernel != verdict.here else ", words alone"
+            self.counts[kind, " and ".join(it.name for it in verdict.causes) + fates] += 1
+        else:
+            self.keep(name, plan, frames, lines, [*answers.faults, *tell_difference(verdict)])
+        if verdict.kernel_fates:
+            self.add_totals(verdict, packets, lines)
+        self.ask_program(name, plan, frames, verdict, lines)
+        if verdict.agrees and kind not in ("small", "example") and self.tried < SHARPNESS:
+            self.try_wrong_rules(plan, packets, answers)
+
+    def add_totals(self, verdict, packets, lines):
+        self.totals["packets"] += len(packets)
+        self.totals["words"] += sum(it.startswith("W ") for it in lines)
+        self.totals["soft interrupts"] += verdict.kernel_fates.softirqs
+        self.totals["purges that took the bands first"] += verdict.kernel_fates.purged_bands_first
+        self.fates.update(line.split(" ")[1] for line in verdict.kernel.splitlines())
+
+    def ask_program(self, name, plan, frames, verdict, lines):
+        if self.program is None:
+            return
+        text = self.program.fates(plans.text_of_plan(plan), plans.capture_of(frames))
+        if text is None:
+            self.totals["plans that the program doesn't take"] += 1
+        elif text == verdict.here:
+            self.totals["texts of fates that are the program's"] += 1
+        else:
+            self.keep(f"{name}-program", plan, frames, lines, ["the program's fates aren't those of the rules:", text])
+
+    def try_wrong_rules(self, plan, packets, answers):
+        self.tried += 1
+        for rule in [*SHOWN, *NOT_SHOWN]:
+            try:
+                run = Run(plan, packets, station=rule, endless=1000)
+                self.noticed[rule] += run.steps != answers.steps or run.last != answers.last
+            except Endless:
+                self.noticed[rule] += 1
+
+    # Classes and several senders
+
+    def types_of_service(self):
+        found = self.boot("classes", classes.case_lines(), 17)
+        self.classes = classes.judge(found)
+
+    def several_senders(self, count):
+        chance, cases, lines = random.Random(self.seed), {}, []
+        for i in range(count):
+            plan, bare = together.random_plan(chance)
+            frames = plans.ethernet(bare)
+            packets = plans.packets_of(plan, frames)
+            cases[f"senders-{i}"] = plan, frames, packets
+            lines += together.case_of(f"senders-{i}", plan, packets, frames)
+        found = self.boot("senders", lines, 10 * count, processors=3)
+        for name, (plan, frames, packets) in cases.items():
+            it = together.Together(plan, packets, found.get(name, ["! no answer"]))
+            self.kinds["senders"] = self.kinds.get("senders", 0) + 1
+            self.counts["senders", "with each property"] += not it.faults
+            self.totals["packets of several senders"] += len(packets)
+            self.totals["quiet queues of several senders"] += it.quiet
+            self.totals["packets sent behind one of a higher number"] += it.overtaking
+            self.totals["packets that bulk dequeue took out of their sender's order"] += it.by_bulk
+            if it.faults:
+                self.keep(name, plan, frames, found.get(name, []), it.faults)
+        self.tell(f"{count} runs of several senders")
+
+    # The summary
+
+    def summary(self, began):
+        yield f"{self.told}, dev_weight {self.told.weight}, seed {self.seed}, {datetime.now(timezone.utc):%Y-%m-%d %H:%M} UTC, " \
+              f"{time.time() - began:.0f} s"
+        for kind, count in self.kinds.items():
+            said = ", ".join(f"{number} {what}" for (of, what), number in sorted(self.counts.items()) if of == kind)
+            yield f"{kind}: {count} plans; {said}"
+        yield from (f"{what}: {number}" for what, number in sorted(self.totals.items()))
+        yield "fates of one sender's packets: " + ", ".join(f"{number} {what}" for what, number in self.fates.most_common())
+        good, total, faults = self.classes
+        yield f"classification: {good} of {total} as the rules say"
+        yield from faults[:10]
+        if self.tried:
+            yield f"wrong rules, of {self.tried} plans that agree each is noticed in:"
+            yield from (f"  {self.noticed[it]:4}  {it.__doc__}" for it in SHOWN)
+            yield "changed rules that one sender can't show:"
+            yield from (f"  {self.noticed[it]:4}  {it.__doc__}" for it in NOT_SHOWN)
+        yield f"differences without a known cause: {len(self.unexplained)}"
+        yield from (f"  kept in {it}" for it in self.unexplained[:50])

@@ -1,0 +1,168 @@
+"""Debian's packages: what the emulator and a kernel need, fetched by name and unpacked into a folder of their own.
+
+Nothing is installed. Programs that the system has are used as they are; the others run from the folder.
+"""
+import os
+import re
+import shutil
+import subprocess
+from pathlib import Path
+
+# A program, and the package that has it.
+PROGRAMS = {
+    "qemu-system-x86_64": "qemu-system-x86",
+    "busybox": "busybox-static",
+    "cpio": "cpio",
+    "gcc": "gcc",
+    "make": "make",
+}
+# What building needs beside programs: a file that shows that it is there, and its package.
+FILES = {"/usr/include/stdio.h": "libc6-dev", "/usr/lib/x86_64-linux-gnu/libelf.so.1": "libelf1"}
+# Stands in a folder into which everything was unpacked.
+COMPLETE = "complete"
+
+
+class Missing(Exception):
+    """A package that can't be had, or a program that failed; the text says which."""
+
+
+def run(words, folder=None, environment=None):
+    """What a program wrote to standard output."""
+    try:
+        done = subprocess.run(words, cwd=folder, env=environment, capture_output=True, text=True, check=False)
+    except FileNotFoundError:
+        raise Missing(f"there is no program '{words[0]}', which Debian has") from None
+    if done.returncode:
+        said = (done.stderr.strip() or done.stdout.strip()).splitlines()
+        raise Missing(f"{' '.join(words[:3])} failed: " + "\n".join(said[-5:]))
+    return done.stdout
+
+
+def newest(line):
+    """The newest kernel of a line, as '6.1' or '6.12': the one that the line's own package depends on."""
+    package = "linux-image-amd64" if line == "6.1" else f"linux-image-{line}-amd64"
+    text = run(["apt-cache", "depends", package])
+    found = re.search(r"Depends: linux-image-(\d[^ ]*-amd64)$", text, flags=re.M)
+    if not found or not found[1].startswith(line):
+        raise Missing(f"the package lists have no kernel {line} ({package}); `apt-get update` as root fetches new ones")
+    return found[1]
+
+
+def kernels():
+    """All kernels of the package lists, oldest first."""
+    text = run(["apt-cache", "search", "--names-only", r"^linux-image-[0-9][0-9.+a-z-]*-amd64$"])
+    names = [line.split()[0].removeprefix("linux-image-") for line in text.splitlines()]
+    plain = [it for it in names if re.fullmatch(r"\d+\.\d+\.\d[0-9.+a-z]*(-\d+)?-amd64", it)]
+    return sorted(plain, key=lambda it: [int(number) for number in re.findall(r"\d+", it)])
+
+
+def fetch(names, folder):
+    """Downloads packages and unpacks them into a folder."""
+    kept = folder / "packages"
+    kept.mkdir(parents=True, exist_ok=True)
+    for name in names:
+        try:
+            run(["apt-get", "download", name], folder=kept)
+        except Missing as it:
+            raise Missing(f"the package {name} can't be had: {it}") from None
+    for package in sorted(kept.glob("*.deb")):
+        run(["dpkg-deb", "-x", str(package), str(folder / "root")])
+        package.unlink()
+    kept.rmdir()
+
+
+def not_installed(names):
+    """The packages that an installation of these would bring, in apt's order."""
+    text = run(["apt-get", "install", "--simulate", "--no-install-recommends", *names])
+    return re.findall(r"^Inst (\S+)", text, flags=re.M)
+
+
+class Tools:
+    """The programs: those of the system, and beside them those that had to be fetched."""
+
+    def __init__(self, folder, tell):
+        self.root = folder / "tools" / "root"
+        if self.root.exists() and not (self.root / COMPLETE).exists():
+            shutil.rmtree(self.root)
+        wanted = [package for name, package in PROGRAMS.items() if not self._found(name)]
+        wanted += [package for file, package in FILES.items() if not self._has(file)]
+        if wanted:
+            names = not_installed(wanted)
+            if not names:
+                raise Missing(f"{' '.join(wanted)}: installed, and yet not found")
+            tell(f"fetching {len(names)} packages for {' '.join(wanted)}")
+            fetch(names, folder / "tools")
+            (self.root / COMPLETE).touch()
+
+    def _has(self, file):
+        return os.path.exists(file) or (self.root / file.lstrip("/")).exists()
+
+    def _folders(self, *below):
+        return [str(self.root / it) for it in below if (self.root / it).is_dir()]
+
+    def _found(self, name):
+        # Debian's busybox isn't always the static one, which the guest needs
+        if name == "busybox":
+            return next((it for it in self._folders("bin", "usr/bin") if Path(it, name).exists()), None)
+        return shutil.which(name, path=self.environment()["PATH"])
+
+    def path(self, name):
+        if name == "busybox":
+            return Path(self._found(name), name)
+        return Path(self._found(name))
+
+    def environment(self):
+        """The environment in which the fetched programs run; the system's own come first."""
+        variables = dict(os.environ, LC_ALL="C")
+        variables["PATH"] = os.pathsep.join([variables.get("PATH", ""), *self._folders("usr/bin", "bin", "usr/sbin", "sbin")])
+        libraries = self._folders("usr/lib/x86_64-linux-gnu", "lib/x86_64-linux-gnu", "usr/lib/x86_64-linux-gnu/pulseaudio")
+        if libraries:
+            variables["LD_LIBRARY_PATH"] = os.pathsep.join(libraries)
+        return variables
+
+    def compiler(self):
+        """The words that call the compiler, with the fetched headers where the system has none."""
+        return ["gcc"] if os.path.exists("/usr/include/stdio.h") else ["gcc", f"--sysroot={self.root}"]
+
+    def firmware(self):
+        """The words that tell the emulator where its firmware is."""
+        folders = self._folders("usr/share/qemu", "usr/share/seabios")
+        return [word for folder in folders for word in ("-L", folder)]
+
+
+class Kernel:
+    """A kernel's image, modules and headers."""
+
+    def __init__(self, version, folder, tell):
+        self.version = version
+        self.root = folder / f"kernel-{version}" / "root"
+        if not (self.root / COMPLETE).exists():
+            tell(f"fetching the kernel {version} and its headers")
+            text = run(["apt-cache", "depends", f"linux-headers-{version}"])
+            below = re.findall(r"Depends: (linux-(?:headers|kbuild)-\S+)", text)
+            fetch([f"linux-image-{version}", f"linux-headers-{version}", *below], self.root.parent)
+            self._mend_headers()
+            (self.root / COMPLETE).touch()
+
+    def _mend_headers(self):
+        """The headers name the places at which they would be installed: those become places in the folder."""
+        for headers in (self.root / "usr/src").glob("linux-headers-*"):
+            for file in [headers, *headers.iterdir()]:
+                if file.is_symlink() and str(file.readlink()).startswith("/"):
+                    target = self.root / str(file.readlink()).lstrip("/")
+                    file.unlink()
+                    file.symlink_to(target)
+            make = headers / "Makefile"
+            if "common" not in headers.name and make.exists():
+                text = make.read_text(encoding="utf-8")
+                make.write_text(re.sub(r"(?<=[ =])/usr/(src|lib)/", rf"{self.root}/usr/\1/", text), encoding="utf-8")
+
+    def image(self):
+        return self.root / "boot" / f"vmlinuz-{self.version}"
+
+    def headers(self):
+        return self.root / "usr/src" / f"linux-headers-{self.version}"
+
+    def modules(self):
+        # the newer packages have no folder /lib of their own
+        return next(it for it in (self.root / "lib/modules", self.root / "usr/lib/modules") if it.is_dir()) / self.version

@@ -1,0 +1,116 @@
+"""Several senders: a guest's answers are judged by properties, since their order of steps isn't known."""
+from collections import Counter
+
+from linux.cases import Answers, device_of, event_line, new_line, read_words, send_line
+from linux.plans import Event, Params, Plan, Refused, StationPlan, firsts, frame, random_length
+from linux.rules import DEACTIVATED, SCHED
+
+
+def steps_of_sender(plan, packets, sender):
+    """The first sender does the events too."""
+    waiting = list(enumerate(plan.events)) if sender == 0 else []
+    own = [n for n, it in enumerate(packets) if it.owner == sender]
+    for k, n in enumerate(own):
+        while waiting and waiting[0][1].before <= n:
+            yield "event", waiting.pop(0)[0]
+        yield "send", n
+        if (k + 1) % plan.irq_every == 0:
+            yield "wake", (k + sender) % 2
+    for e, _ in waiting:
+        yield "event", e
+
+
+def case_of(name, plan, packets, frames):
+    if any(it.kind in ("resize", "swap") for it in plan.events):
+        raise Refused("a kernel has no live resize and no exchange of a device beside running senders; with several senders a "
+                      "plan may have down, up and tx_queue_len")
+    first = firsts(plan)
+    yield f"case {name}"
+    for j in range(len(plan.stations)):
+        yield new_line(plan, j, len(packets))
+    for sender in range(plan.senders):
+        yield f"sender {sender}"
+        for what, number in steps_of_sender(plan, packets, sender):
+            if what == "send":
+                yield send_line(number, packets[number], device_of(packets[number].station, first), first, frames[number])
+            else:
+                yield f"kick {number}" if what == "wake" else event_line(plan.events[number])
+    yield "together"
+    yield f"finish {len(packets) + 2}"
+    yield "end"
+
+
+class Together:
+    """What came of a run of several senders; `faults` are the properties that it hasn't."""
+
+    def __init__(self, plan, packets, lines):
+        self.plan, self.packets = plan, packets
+        self.results = {int(it.split()[1]): int(it.split()[2]) for it in lines if it.startswith("S ")}
+        answers = Answers([it for it in lines if not it.startswith("S ")])
+        self.faults, self.counts, self.quiet, self.overtaking = list(answers.faults), Counter(), 0, 0
+        self.by_bulk = 0
+        self.sent = [[int(it.split("/")[0]) for it in line.split(" ")[7:]] for line in answers.last]
+        self.drops = [n for it in answers.drops.values() for n, _ in it]
+        self.judge_fates()
+        self.judge_order()
+        for step in answers.steps[-2:]:
+            self.judge_quiet(step)
+
+    def judge_fates(self):
+        sent, dropped = Counter(n for it in self.sent for n in it), Counter(self.drops)
+        for n in range(len(self.packets)):
+            result = self.results.get(n)
+            # a packet that meets the qdisc of a device that goes down is dropped, and its sender isn't told
+            allowed = {0: [(1, 0), (0, 1)], 105: [(0, 1)], 100: [(0, 0)]}.get(result, [])
+            if (sent[n], dropped[n]) not in allowed:
+                self.faults.append(f"packet {n}: result {result}, sent {sent[n]} times and dropped {dropped[n]} times")
+            self.counts["sent" if sent[n] else "refused" if result == 100 else "full" if result == 105 else "purged"] += 1
+
+    def judge_order(self):
+        for unit, serials in enumerate(self.sent):
+            last, highest = {}, -1
+            for n in serials:
+                it = self.packets[n]
+                key = it.owner, it.station, it.band
+                if last.get(key, -1) > n and self.may_bulk(it.station):
+                    self.by_bulk += 1
+                elif last.get(key, -1) > n:
+                    self.faults.append(f"unit {unit}: packet {n} after packet {last[key]} of the same sender and band")
+                self.overtaking += n < highest
+                last[key], highest = n, max(highest, n)
+
+    def may_bulk(self, station):
+        """Where several queues share a qdisc, a busy device is given the packets that were taken at once out of order: each one
+        that it doesn't take goes behind the others (dev_requeue_skb of net/sched/sch_generic.c, up to 6.1.192)."""
+        table = self.plan.stations[device_of(station, firsts(self.plan))]
+        return table.queues > 1
+
+    def judge_quiet(self, step):
+        for line in step:
+            if not line.startswith("W "):
+                continue
+            it = read_words(line)
+            if it.state & (SCHED | DEACTIVATED) or it.lock or it.stops.strip("0"):
+                continue
+            self.quiet += 1
+            held = len(it.requeued) + len(it.other_queue) + sum(int(ring["held"]) for ring in it.bands)
+            if held:
+                self.faults.append(f"a quiet queue holds {held} packets: {line}")
+
+
+def random_plan(chance):
+    stations = []
+    for _ in range(chance.choice([1, 1, 2])):
+        mq = chance.choice([1, 1, 1, 2, 3])
+        queues = chance.choice([1, 1, 1, 2, 3]) if mq == 1 else 1
+        params = Params(chance.choice([0, 1, 2, 5, 16, 63]), *chance.choice([(0, 0), (1, 20), (3, 30)]))
+        stations.append(StationPlan(random_length(chance), queues, mq, chance.random() < 0.8, params))
+    count, senders = chance.randint(50, 800), chance.randint(2, 6)
+    events, active = [], [True] * len(stations)
+    for before in sorted(chance.randint(0, count) for _ in range(chance.choice([0, 0, 1, 2, 4]))):
+        j = chance.randrange(len(stations))
+        kind = chance.choice(["down", "tx_queue_len"]) if active[j] else "up"
+        active[j] = kind != "down"
+        events.append(Event(before, kind, j, random_length(chance) if kind == "tx_queue_len" else None, Params()))
+    frames = [frame(chance.choice([0, 8, 16]), chance.randrange(4), chance.randrange(256), i) for i in range(count)]
+    return Plan(senders, "round", chance.choice([1, 2, 3, 10, 50]), stations, events), frames
