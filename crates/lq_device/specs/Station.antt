@@ -48,6 +48,6 @@ abbrev pub with_device : StationState → ℕ → DeviceState → StationState
 with_device station unit device = record station { device = device; unit = unit; last = None }
 
 -- The device answered a packet that was offered on a queue; all else is as it was.
-pub record Transmits (answer : Tx) (queue packet : ℕ) (old new : StationState) : Type 0 where
+pub record HasAnswered (answer : Tx) (queue packet : ℕ) (old new : StationState) : Type 0 where
   pub answers : Answers answer queue packet old.device new.device
   pub rest : new ≡ record old { device = new.device; last = Some answer }

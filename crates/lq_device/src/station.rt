@@ -1,6 +1,6 @@
 //! A station's device, with what the holder of its run lock keeps beside it.
 ghost use Rattle.std.specs.Prelude.{◌≡◌, ◌<◌, ◌≤◌, false, [], length, slice_get, slice_index, Some, None, IsNone, ◌↔◌};
-ghost use Rattle.lq_device.specs.Station.{StationState, Transmits, AreBandEnds, sent_list, initial_station, with_slot, with_device, with_ends};
+ghost use Rattle.lq_device.specs.Station.{StationState, HasAnswered, AreBandEnds, sent_list, initial_station, with_slot, with_device, with_ends};
 
 use crate::device::TxDevice;
 use lq_model::Tx;
@@ -138,7 +138,7 @@ impl<D: TxDevice> Station<D> {
         requires room { 0 < self.old.device.spare }
         requires alive { self.old.device.hung ≡ false }
         requires countable { length (sent_list self.old) < 4294967295 }
-        ensures { Transmits result queue n self.old self.new }
+        ensures { HasAnswered result queue n self.old self.new }
     {
         let answer = self.device.xmit(queue, n);
         self.last = Some(answer);

@@ -1,6 +1,6 @@
 -- The invariant: what holds at every moment of the machine, so that no packet is left behind. `IsKept` has the sentences
 -- that say so, and `IsInductive` those besides that make every move keep it.
-use Rattle.std.specs.Prelude.{◌≡◌, ◌≢◌, ℕ, ◌<◌, Bool, true, false, ◌||◌, not, ◌⊎◌, length, sum_by, Contains, Some, None, is_some}
+use Rattle.std.specs.Prelude.{◌≡◌, ◌≢◌, ℕ, ◌<◌, Bool, true, false, ◌||◌, ◌⊎◌, length, sum_by, Contains, Some, None, is_some}
 use Rattle.lq_model.specs.declared.machine.Packet.{Packet}
 use Rattle.lq_model.specs.declared.machine.Blocked.{Blocked}
 use Rattle.lq_model.specs.declared.machine.Blocked.TheVariants.{NoneTaken}

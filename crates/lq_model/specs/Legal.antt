@@ -95,7 +95,7 @@ MayPurge a (cause.Event event) = a.down ≡ Some event
 MayPurge a (cause.Hung unit) = (a.unit ≡ unit) × (is_hung a ≡ true)
 
 -- deactivated, with no packet anywhere
-pub record IsIdle (a : Account) : Type 0 where
+pub record IsEmptyAndDown (a : Account) : Type 0 where
   pub deactivated : (event : ℕ) × (a.down ≡ Some event)
   pub nothing_held : held a ≡ []
   pub hand_empty : a.hand ≡ None
@@ -138,8 +138,8 @@ MayCome infos station past a (Wake queue) = slice_index a.stops queue ≡ 1
 MayCome infos station past a (Resize len event) = a.hand ≡ None
 MayCome infos station past a (Down event) = a.down ≡ None
 MayCome infos station past a (Purge cause) = (a.hand ≡ None) × MayPurge a cause
-MayCome infos station past a (Swap unit) = IsIdle a
-MayCome infos station past a Up = IsIdle a
+MayCome infos station past a (Swap unit) = IsEmptyAndDown a
+MayCome infos station past a Up = IsEmptyAndDown a
 
 -- WHAT THE PLAN ASKS
 
@@ -204,7 +204,3 @@ ArePlanned plan station start (event ∷ past) = ArePlanned plan station start p
 pub record IsLegal (plan : Plan) (infos : List Info) (station : ℕ) (start : Account) (past : List Event) : Type 0 where
   pub comes : Comes infos station start past
   pub planned : ArePlanned plan station start past
-
--- some legal list of events leaves this account
-abbrev pub IsReached : Plan → List Info → ℕ → Account → Account → Type 0
-IsReached plan infos station start a = (past : List Event) × IsLegal plan infos station start past × (a ≡ after_all start past)

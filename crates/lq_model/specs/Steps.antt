@@ -16,6 +16,7 @@ use Rattle.lq_model.specs.declared.machine.Position.TheVariants.{Idle, Enter, Ch
 use Rattle.lq_model.specs.declared.machine.Seat.{Seat}
 use Rattle.lq_model.specs.Band.{batch}
 use Rattle.lq_model.specs.Machine.{Qdisc, Machine, seat_at, is_non_empty, is_open, is_shared, band_at}
+use Rattle.lq_model.specs.declared.state.TheConstants.{QUOTA}
 
 -- what a step leaves of the shared words and of the seat that made it; it touches no other seat
 pub record After : Type 0 where
@@ -96,7 +97,7 @@ requeues (NoneTaken queue) q s = goes_to q s Unlock
 
 -- how many packets the run has sent with one more, of which its quota is 64
 abbrev pub run_counted : ℕ → ℕ
-run_counted n = if nat_lt n 63 then n + 1 else 64
+run_counted n = if nat_lt n (QUOTA - 1) then n + 1 else QUOTA
 
 abbrev pub accepted : Qdisc → Qdisc
 accepted q = record q { sent = one_more q.sent }
@@ -105,7 +106,7 @@ abbrev pub counted : Seat → Seat
 counted s = record s { run = run_counted s.run }
 
 abbrev pub after_sent : Bool → Qdisc → Seat → Position
-after_sent direct q s = if direct then Post else if s.run == 64 then Quota else dequeue_begins q
+after_sent direct q s = if direct then Post else if s.run == QUOTA then Quota else dequeue_begins q
 
 abbrev pub xmit : Answer → Packet → Bool → Qdisc → Seat → After
 xmit Plain p direct q s = goes_to (accepted q) (counted s) (after_sent direct q (counted s))

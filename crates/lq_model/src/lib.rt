@@ -9,6 +9,7 @@ mod fate;
 mod machine;
 mod plan;
 pub mod runs;
+pub mod state;
 mod words;
 
 pub use band::batch;

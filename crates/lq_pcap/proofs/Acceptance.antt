@@ -3,7 +3,7 @@ use Rattle.std.proofs.Common.{◌≡◌, ◌<◌, ◌≤◌, ◌+◌, ℕ, zero,
 use Rattle.std.proofs.lemmas.Bool.{ltb-false, le-ltb, eqb-true, eq-eqb, not-false}
 use Rattle.lq_model.specs.Capture.{Capture, Refusal, capture_of, with_count, place_of, count_from, is_little_endian, is_big_endian, major_version}
 use Rattle.lq_model.specs.declared.capture.CaptureReason.TheVariants.{ShortHeader, Magic, Version}
-use Rattle.lq_pcap.specs.Laws.{IsWhole, IsCapture}
+use Rattle.lq_pcap.specs.Laws.{IsWholeRecord, IsCapture}
 use Rattle.lq_pcap.proofs.Walk.{counted, counts}
 
 -- three tests of which none refuses
@@ -40,7 +40,7 @@ accepted_is bytes capture e =
     }
   where
     -- a place that is past no end, and where no byte is left, is the end
-    ends_there : (bytes : List ℕ) (n : ℕ) → 24 ≤ length bytes → ((j : ℕ) → 0 ≤ j → j < n → IsWhole bytes (place_of bytes j)) → length bytes ≤ place_of bytes n → place_of bytes n ≡ length bytes
+    ends_there : (bytes : List ℕ) (n : ℕ) → 24 ≤ length bytes → ((j : ℕ) → 0 ≤ j → j < n → IsWholeRecord bytes (place_of bytes j)) → length bytes ≤ place_of bytes n → place_of bytes n ≡ length bytes
     ends_there bytes zero long whole ends = omega arith
     ends_there bytes (suc n) long whole ends = let within = (whole n (omega arith) (omega arith)).has_data in omega arith
 

@@ -8,7 +8,7 @@ use Rattle.std.proofs.lemmas.List.Elements.{All-contains, All-weaker, recursion_
 use Rattle.std.proofs.lemmas.Map.Steps.{length-le_from_distinct_below}
 use Rattle.std.proofs.lemmas.Map.Views.{Contains-from_any}
 use Rattle.lq_model.specs.Capture.{Capture, Refusal, capture_of, capture_text, is_magic, is_little_endian, place_of, end_of, captured_length, header_of, record_of, records_of}
-use Rattle.lq_pcap.specs.Laws.{IsWhole, HasFileHeader, IsCapture}
+use Rattle.lq_pcap.specs.Laws.{IsWholeRecord, HasFileHeader, IsCapture}
 use Rattle.lq_pcap.proofs.Acceptance.{accepted_is, is_accepted}
 use Rattle.lq_pcap.proofs.Written.{IsRecord, IsWritten, is_written, number_here, number_of, same_order, same_version, text_of}
 
@@ -24,7 +24,7 @@ slice_of_slice xs q e a b order within =
     rw (len, dropped) (take-take (b - a) (m - a) (drop (q + a) xs) (omega arith))
 
 -- a whole record of a capture is a record by itself
-is_record : (c : Capture) (i : ℕ) → IsWhole c.bytes (place_of c.bytes i) → IsRecord (is_little_endian c.bytes) (record_of c i)
+is_record : (c : Capture) (i : ℕ) → IsWholeRecord c.bytes (place_of c.bytes i) → IsRecord (is_little_endian c.bytes) (record_of c i)
 is_record c i w =
     let q = place_of c.bytes i in
     let e = end_of c.bytes q in

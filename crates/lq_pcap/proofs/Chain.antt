@@ -42,21 +42,6 @@ pub record Reaches (max : ℕ) (bytes places : List ℕ) (place : ℕ) : Type 0 
   pub few : length places ≤ max + 1
   pub count : count_from bytes (max + 1 - length places) (length places - 1) ≡ count_from bytes max 0
 
-pub reaches_first : (max : ℕ) (bytes : List ℕ) → 24 ≤ length bytes → Reaches max bytes (24 ∷ []) 24
-reaches_first max bytes within =
-    let first : (i : ℕ) → i < 1 → get_or (24 ∷ []) i 0 ≡ place_of bytes i = λ i lt. (let zero_i : i ≡ 0 = omega arith in rw zero_i refl) in
-    let all : max + 1 - 1 ≡ max = omega arith in
-    record {
-      chain = record {
-        some = omega arith;
-        each = first;
-        within = λ i lt. (let zero_i : i ≡ 0 = omega arith in rw zero_i within);
-      };
-      last = refl;
-      few = omega arith;
-      count = rw all refl;
-    }
-
 -- what holds of each item and of one more
 pushed :
     (P : ℕ → ℕ → Type 0) (xs : List ℕ) (y : ℕ) → ((i : ℕ) → i < length xs → P i (get_or xs i 0)) → P (length xs) y → (i : ℕ) → i < length (xs ++ y ∷ []) → P i (get_or (xs ++ y ∷ []) i 0)

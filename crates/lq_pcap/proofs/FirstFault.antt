@@ -4,7 +4,7 @@ use Rattle.std.proofs.lemmas.Bool.{cases_lt, ltb-true, ltb-false, lt-ltb, le-ltb
 use Rattle.lq_model.specs.Capture.{Refusal, capture_of, with_count, refused, place_of, end_of, captured_length, record_fault, count_from, is_little_endian, is_big_endian, major_version}
 use Rattle.lq_model.specs.declared.capture.CaptureReason.{CaptureReason}
 use Rattle.lq_model.specs.declared.capture.CaptureReason.TheVariants.{ShortHeader, Magic, Version, CutRecordHeader, LongRecord, CutData, TooMany}
-use Rattle.lq_pcap.specs.Laws.{IsWhole, HasFileHeader, GoesOnAt, HasFault}
+use Rattle.lq_pcap.specs.Laws.{IsWholeRecord, HasFileHeader, GoesOnAt, HasFault}
 use Rattle.lq_pcap.proofs.Chain.{count_ends, count_goes_on, count_faults, count_full}
 use Rattle.lq_pcap.proofs.Walk.{begins_before, none_from_whole, option_cases, whole_from_none}
 
@@ -53,7 +53,7 @@ fault_of_record bytes i place reason few reached e =
 
 -- the fault that the walk meets from record i on
 fault_of_walk :
-    (bytes : List ℕ) (more i : ℕ) (reason : CaptureReason) (place : ℕ) → i + more ≡ 1000000 → HasFileHeader bytes → ((j : ℕ) → j < i → IsWhole bytes (place_of bytes j))
+    (bytes : List ℕ) (more i : ℕ) (reason : CaptureReason) (place : ℕ) → i + more ≡ 1000000 → HasFileHeader bytes → ((j : ℕ) → j < i → IsWholeRecord bytes (place_of bytes j))
     → count_from bytes more i ≡ Err (record { reason = reason; place = place }) → HasFault bytes reason place
 fault_of_walk bytes zero i reason place most header whole e =
     elim (cases_lt (place_of bytes i) (length bytes)) [
@@ -69,11 +69,11 @@ fault_of_walk bytes (suc more) i reason place most header whole e =
     elim (cases_lt (place_of bytes i) (length bytes)) [
       | inl below ↦ elim (option_cases (record_fault bytes (place_of bytes i))) [
         | inl none ↦
-            let here : IsWhole bytes (place_of bytes i) = whole_from_none bytes (place_of bytes i) none in
+            let here : IsWholeRecord bytes (place_of bytes i) = whole_from_none bytes (place_of bytes i) none in
             fault_of_walk bytes more (suc i) reason place (omega arith) header
             (λ j lt. elim (cases_lt j i) [
               | inl before ↦ whole j before
-              | inr after ↦ (let same : i ≡ j = omega arith in subst (λ k. IsWhole bytes (place_of bytes k)) same here)
+              | inr after ↦ (let same : i ≡ j = omega arith in subst (λ k. IsWholeRecord bytes (place_of bytes k)) same here)
             ]) (sym (count_goes_on bytes more i below none) ∙ e)
         | inr (found, some) ↦
             let here : Refusal = record { reason = found; place = place_of bytes i } in
@@ -104,7 +104,7 @@ first_fault bytes reason place e =
     ]
 
 -- along whole records the walk goes on
-goes_on : (bytes : List ℕ) (more i r : ℕ) → ((j : ℕ) → i ≤ j → j < i + r → IsWhole bytes (place_of bytes j)) → count_from bytes (r + more) i ≡ count_from bytes more (i + r)
+goes_on : (bytes : List ℕ) (more i r : ℕ) → ((j : ℕ) → i ≤ j → j < i + r → IsWholeRecord bytes (place_of bytes j)) → count_from bytes (r + more) i ≡ count_from bytes more (i + r)
 goes_on bytes more i zero whole =
     let same : 0 + more ≡ more = omega arith in
     let here : i + 0 ≡ i = omega arith in
@@ -112,7 +112,7 @@ goes_on bytes more i zero whole =
 goes_on bytes more i (suc r) whole =
     let one : suc r + more ≡ suc (r + more) = omega arith in
     let behind : suc i + r ≡ i + suc r = omega arith in
-    let here : IsWhole bytes (place_of bytes i) = whole i (omega arith) (omega arith) in
+    let here : IsWholeRecord bytes (place_of bytes i) = whole i (omega arith) (omega arith) in
     ap (λ n. count_from bytes n i) one ∙ count_goes_on bytes (r + more) i (begins_before bytes (place_of bytes i) here) (none_from_whole bytes (place_of bytes i) here)
     ∙ goes_on bytes more (suc i) r (λ j low high. whole j (omega arith) (omega arith)) ∙ ap (count_from bytes more) behind
 

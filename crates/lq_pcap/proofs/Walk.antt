@@ -4,7 +4,7 @@ use Rattle.std.proofs.lemmas.Bool.{cases_lt, ltb-false, le-ltb}
 use Rattle.lq_model.specs.Capture.{place_of, end_of, captured_length, record_fault, count_from}
 use Rattle.lq_model.specs.declared.capture.CaptureReason.{CaptureReason}
 use Rattle.lq_model.specs.declared.capture.CaptureReason.TheVariants.{CutRecordHeader, LongRecord, CutData}
-use Rattle.lq_pcap.specs.Laws.{IsWhole}
+use Rattle.lq_pcap.specs.Laws.{IsWholeRecord}
 use Rattle.lq_pcap.proofs.Chain.{count_ends, count_goes_on, count_faults, count_full}
 
 -- a record with no fault is whole, and a whole one has none
@@ -14,7 +14,7 @@ none_of false true c x y z e = cc
 none_of false false true x y z e = cc
 none_of false false false x y z e = (refl, refl, refl)
 
-pub whole_from_none : (bytes : List ℕ) (place : ℕ) → record_fault bytes place ≡ None → IsWhole bytes place
+pub whole_from_none : (bytes : List ℕ) (place : ℕ) → record_fault bytes place ≡ None → IsWholeRecord bytes place
 whole_from_none bytes place e =
     let tests = none_of (ltb (length bytes) (place + 16)) (ltb 262144 (captured_length bytes place)) (ltb (length bytes) (end_of bytes place)) CutRecordHeader LongRecord CutData e in
     record {
@@ -23,12 +23,12 @@ whole_from_none bytes place e =
       has_data = ltb-false (length bytes) (end_of bytes place) tests.2;
     }
 
-pub none_from_whole : (bytes : List ℕ) (place : ℕ) → IsWhole bytes place → record_fault bytes place ≡ None
+pub none_from_whole : (bytes : List ℕ) (place : ℕ) → IsWholeRecord bytes place → record_fault bytes place ≡ None
 none_from_whole bytes place w =
     rw (le-ltb (length bytes) (place + 16) w.has_header, le-ltb 262144 (captured_length bytes place) w.is_short, le-ltb (length bytes) (end_of bytes place) w.has_data) refl
 
 -- a whole record begins before the end of the file
-pub begins_before : (bytes : List ℕ) (place : ℕ) → IsWhole bytes place → place < length bytes
+pub begins_before : (bytes : List ℕ) (place : ℕ) → IsWholeRecord bytes place → place < length bytes
 begins_before bytes place w = let header = w.has_header in omega arith
 
 pub option_cases : {X : Type 0} (o : Option X) → (o ≡ None) ⊎ ((x : X) × (o ≡ Some x))
@@ -39,7 +39,7 @@ option_cases (Some x) = inr (x, refl)
 pub record Counted (bytes : List ℕ) (more i n : ℕ) : Type 0 where
   pub from : i ≤ n
   pub few : n ≤ i + more
-  pub whole : (j : ℕ) → i ≤ j → j < n → IsWhole bytes (place_of bytes j)
+  pub whole : (j : ℕ) → i ≤ j → j < n → IsWholeRecord bytes (place_of bytes j)
   pub ends : length bytes ≤ place_of bytes n
 
 counted_at_once : (bytes : List ℕ) (more i n : ℕ) → length bytes ≤ place_of bytes i → count_from bytes more i ≡ Ok n → Counted bytes more i n
@@ -53,7 +53,7 @@ counted_at_once bytes more i n ends e =
       ends = subst (λ k. length bytes ≤ place_of bytes k) same ends;
     }
 
-one_more : (bytes : List ℕ) (more i n : ℕ) → IsWhole bytes (place_of bytes i) → Counted bytes more (suc i) n → Counted bytes (suc more) i n
+one_more : (bytes : List ℕ) (more i n : ℕ) → IsWholeRecord bytes (place_of bytes i) → Counted bytes more (suc i) n → Counted bytes (suc more) i n
 one_more bytes more i n whole c =
     let from = c.from in
     let few = c.few in
@@ -62,7 +62,7 @@ one_more bytes more i n whole c =
       few = omega arith;
       whole = λ j low high. elim (cases_lt i j) [
         | inl above ↦ c.whole j above high
-        | inr below ↦ (let same : i ≡ j = omega arith in subst (λ k. IsWhole bytes (place_of bytes k)) same whole)
+        | inr below ↦ (let same : i ≡ j = omega arith in subst (λ k. IsWholeRecord bytes (place_of bytes k)) same whole)
       ];
       ends = c.ends;
     }
@@ -83,14 +83,14 @@ counted bytes (suc more) i n e =
     ]
 
 -- along r whole records up to the end the walk counts them
-pub counts : (bytes : List ℕ) (more i r : ℕ) → r ≤ more → ((j : ℕ) → i ≤ j → j < i + r → IsWhole bytes (place_of bytes j)) → length bytes ≤ place_of bytes (i + r) → count_from bytes more i ≡ Ok (i + r)
+pub counts : (bytes : List ℕ) (more i r : ℕ) → r ≤ more → ((j : ℕ) → i ≤ j → j < i + r → IsWholeRecord bytes (place_of bytes j)) → length bytes ≤ place_of bytes (i + r) → count_from bytes more i ≡ Ok (i + r)
 counts bytes more i zero few whole ends =
     let same : i + 0 ≡ i = omega arith in
     count_ends bytes more i (subst (λ k. length bytes ≤ place_of bytes k) same ends) ∙ ap Ok (sym same)
 counts bytes zero i (suc r) few whole ends = absurd (omega arith)
 counts bytes (suc more) i (suc r) few whole ends =
     let same : suc i + r ≡ i + suc r = omega arith in
-    let here : IsWhole bytes (place_of bytes i) = whole i (omega arith) (omega arith) in
+    let here : IsWholeRecord bytes (place_of bytes i) = whole i (omega arith) (omega arith) in
     count_goes_on bytes more i (begins_before bytes (place_of bytes i) here) (none_from_whole bytes (place_of bytes i) here)
     ∙ counts bytes more (suc i) r (omega arith) (λ j low high. whole j (omega arith) (omega arith)) (subst (λ k. length bytes ≤ place_of bytes k) (sym same) ends)
     ∙ ap Ok same

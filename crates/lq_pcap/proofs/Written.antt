@@ -8,7 +8,7 @@ use Rattle.std.proofs.lemmas.List.{take-append-le, drop-append-le, append-nil, m
 use Rattle.std.proofs.Math.Seq.{drop-append-add, take-length, take-append_seam}
 use Rattle.lq_model.specs.Numbers.{first_numbers}
 use Rattle.lq_model.specs.Capture.{Capture, number_at, short_number_at, is_magic, is_little_endian, major_version, place_of, end_of, captured_length, header_of, record_of, records_of}
-use Rattle.lq_pcap.specs.Laws.{IsWhole, HasFileHeader, IsCapture}
+use Rattle.lq_pcap.specs.Laws.{IsWholeRecord, HasFileHeader, IsCapture}
 
 -- the number that four bytes are
 abbrev pub number_of : Bool → List ℕ → ℕ
@@ -41,7 +41,7 @@ same_version text bytes order e = rw (order, e) refl
 
 -- a record behind `front` is whole there, and is this piece
 record StandsAt (text front piece : List ℕ) : Type 0 where
-  whole : IsWhole text (length front)
+  whole : IsWholeRecord text (length front)
   ends : end_of text (length front) ≡ length (front ++ piece)
   same : slice_range text (length front) (end_of text (length front)) ≡ piece
 
@@ -77,7 +77,7 @@ text_of text n = record { bytes = text; count = n }
 -- Behind `front`, where record i begins, these pieces are whole records.
 record AllStand (f : ℕ → List ℕ) (text : List ℕ) (xs : List ℕ) (i : ℕ) : Type 0 where
   ends : place_of text (i + length xs) ≡ length text
-  whole : (j : ℕ) → i ≤ j → j < i + length xs → IsWhole text (place_of text j)
+  whole : (j : ℕ) → i ≤ j → j < i + length xs → IsWholeRecord text (place_of text j)
   same : (n : ℕ) → map (record_of (text_of text n)) (first_numbers (i + length xs)) ≡ map (record_of (text_of text n)) (first_numbers i) ++ map f xs
 
 all_stand :
@@ -96,13 +96,13 @@ all_stand f text front (x ∷ xs) i records begins is =
     let next : place_of text (suc i) ≡ length (front ++ f x) = ap (end_of text) begins ∙ one.ends in
     let rest = all_stand f text (front ++ f x) xs (suc i) records.1 next (is ∙ sym (append_assoc front (f x) back)) in
     let behind : suc i + length xs ≡ i + suc (length xs) = omega arith in
-    let here : IsWhole text (place_of text i) = subst (IsWhole text) (sym begins) one.whole in
+    let here : IsWholeRecord text (place_of text i) = subst (IsWholeRecord text) (sym begins) one.whole in
     let this : slice_range text (place_of text i) (place_of text (suc i)) ≡ f x = subst (λ p. slice_range text p (end_of text p) ≡ f x) (sym begins) one.same in
     record {
       ends = subst (λ k. place_of text k ≡ length text) behind rest.ends;
       whole = λ j low high. elim (cases_lt i j) [
         | inl above ↦ rest.whole j above (omega arith)
-        | inr below ↦ (let same : i ≡ j = omega arith in subst (λ k. IsWhole text (place_of text k)) same here)
+        | inr below ↦ (let same : i ≡ j = omega arith in subst (λ k. IsWholeRecord text (place_of text k)) same here)
       ];
       same = λ n.
           (let g = record_of (text_of text n) in

@@ -8,7 +8,7 @@ use Rattle.lq_model.specs.declared.capture.CaptureReason.{CaptureReason}
 use Rattle.lq_model.specs.declared.capture.CaptureReason.TheVariants.{ShortHeader, Magic, Version, CutRecordHeader, LongRecord, CutData, TooMany}
 
 -- the record at this place has a header, a captured length of at most 262,144, and its data
-pub record IsWhole (bytes : List ℕ) (place : ℕ) : Type 0 where
+pub record IsWholeRecord (bytes : List ℕ) (place : ℕ) : Type 0 where
   pub has_header : place + 16 ≤ length bytes
   pub is_short : captured_length bytes place ≤ 262144
   pub has_data : end_of bytes place ≤ length bytes
@@ -26,13 +26,13 @@ pub record IsCapture (bytes : List ℕ) (capture : Capture) : Type 0 where
   pub same_bytes : capture.bytes ≡ bytes
   pub header : HasFileHeader bytes
   pub few : capture.count ≤ 1000000
-  pub whole : (i : ℕ) → i < capture.count → IsWhole bytes (place_of bytes i)
+  pub whole : (i : ℕ) → i < capture.count → IsWholeRecord bytes (place_of bytes i)
   pub ends : place_of bytes capture.count ≡ length bytes
 
 -- the bytes go on at this place behind the first i records, which are whole
 pub record GoesOnAt (bytes : List ℕ) (i place : ℕ) : Type 0 where
   pub header : HasFileHeader bytes
-  pub whole : (j : ℕ) → j < i → IsWhole bytes (place_of bytes j)
+  pub whole : (j : ℕ) → j < i → IsWholeRecord bytes (place_of bytes j)
   pub begins : place ≡ place_of bytes i
   pub more : place < length bytes
 

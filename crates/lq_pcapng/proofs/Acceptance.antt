@@ -6,7 +6,7 @@ use Rattle.std.proofs.lemmas.Bool.{cases_eq, ltb-false, le-ltb, eqb-true, eq-eqb
 use Rattle.std.proofs.lemmas.List.{append-nil, length-append, length-take-le, take-append-drop}
 use Rattle.std.proofs.Math.Seq.{take-append_seam, drop-append_seam}
 use Rattle.lq_model.specs.Capture.{Refusal}
-use Rattle.lq_model.specs.Pcapng.{NgCapture, block_fault, block_in, blocks_behind, blocks_from, capture_of_blocks, header_fault, interfaces_in, is_big_endian, is_little_endian, length_fault, major_version, number_in, or_else, order_of, packets_in, pcapng_of, section_fault, short_number_in, total_length, unless, with_section}
+use Rattle.lq_pcapng.specs.Pcapng.{NgCapture, block_fault, block_in, blocks_behind, blocks_from, capture_of_blocks, header_fault, interfaces_in, is_big_endian, is_little_endian, length_fault, major_version, number_in, or_else, order_of, packets_in, pcapng_of, section_fault, short_number_in, total_length, unless, with_section}
 use Rattle.lq_model.specs.declared.capture.CaptureReason.TheVariants.{Version, CutBlock, BlockLength, ByteOrder, BlockBody}
 use Rattle.lq_pcapng.specs.Laws.{AllFit, HasLengths, IsBlock, IsPcapng, IsSection}
 use Rattle.lq_pcapng.specs.Reading.{Fits}

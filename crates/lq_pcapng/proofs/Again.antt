@@ -11,7 +11,7 @@ use Rattle.std.proofs.lemmas.Map.Steps.{length-le_from_distinct_below}
 use Rattle.std.proofs.lemmas.Map.Views.{Contains-from_any}
 use Rattle.std.proofs.lemmas.Simd.{map-map}
 use Rattle.std.proofs.Math.Seq.{take-append_seam, drop-append_seam}
-use Rattle.lq_model.specs.Pcapng.{NgCapture, frame_in, frame_of, interfaces_in, is_interface, is_little_endian, is_packet, link_in, link_of, major_version, number_in, order_of, packet_block, packets_in, pcapng_of, pcapng_text, short_number_in, without_length}
+use Rattle.lq_pcapng.specs.Pcapng.{NgCapture, frame_in, frame_of, interfaces_in, is_interface, is_little_endian, is_packet, link_in, link_of, major_version, number_in, order_of, packet_block, packets_in, pcapng_of, pcapng_text, short_number_in, without_length}
 use Rattle.lq_pcapng.specs.Laws.{AllFit, IsBlock, IsPcapng, IsSection, frames_in, links_in, with_packets}
 use Rattle.lq_pcapng.specs.Reading.{IsInterface, IsPacket}
 use Rattle.lq_pcapng.proofs.Acceptance.{accepted_is, is_accepted}

@@ -4,10 +4,10 @@ use Rattle.std.specs.List.{concat}
 use Rattle.std.proofs.lemmas.Bool.{cases_eq, ltb-true, ltb-false, lt-ltb, le-ltb, leb-true, leb-false, le-leb, lt-leb, eqb-true, eqb-false, eq-eqb, ne_eqb, not-true, not-false}
 use Rattle.std.proofs.lemmas.List.{append-nil, length-append, length-take-le, take-append-drop}
 use Rattle.lq_model.specs.Capture.{Refusal}
-use Rattle.lq_model.specs.Pcapng.{at_place, block_fault, block_in, blocks_behind, blocks_from, body_fault, captured_length, data_place, header_fault, interface_number, interfaces_in, is_big_endian, is_interface, is_little_endian, is_packet, is_section, length_fault, major_version, number_in, or_else, packet_fault, packets_in, padded, pcapng_of, section_fault, total_length, unless, with_section}
+use Rattle.lq_pcapng.specs.Pcapng.{at_place, block_fault, block_in, blocks_behind, blocks_from, body_fault, captured_length, data_place, header_fault, interface_number, interfaces_in, is_big_endian, is_interface, is_little_endian, is_packet, is_section, length_fault, major_version, number_in, or_else, packet_fault, packets_in, padded, pcapng_of, section_fault, total_length, unless, with_section}
 use Rattle.lq_model.specs.declared.capture.CaptureReason.{CaptureReason}
 use Rattle.lq_model.specs.declared.capture.CaptureReason.TheVariants.{Version, LongRecord, TooMany, CutBlock, BlockLength, ByteOrder, NoInterface, BlockBody, SecondSection}
-use Rattle.lq_pcapng.specs.Laws.{AllFit, HasBlockFault, HasBodyFault, HasPcapngFault, HasLengthFault, HasPacketFault, HasSectionFault, IsSection, at, no_length, cut_block, other_length, cut_section, no_order, section_lengths, short_section, other_version, short_packet, no_interface, long_record, short_data, second_section, short_interface, too_many, of_packet, cut_rest, block_lengths, of_body, of_section, of_block}
+use Rattle.lq_pcapng.specs.Laws.{AllFit, HasBlockFault, HasBodyFault, HasPcapngFault, HasLengthFault, HasPacketFault, HasSectionFault, IsSection, refuses_at, no_length, cut_block, other_length, cut_section, no_order, section_lengths, short_section, other_version, short_packet, no_interface, long_record, short_data, second_section, short_interface, too_many, of_packet, cut_rest, block_lengths, of_body, of_section, of_block}
 use Rattle.lq_pcapng.specs.Reading.{Fits}
 use Rattle.lq_pcapng.proofs.Acceptance.{begins, begins_with_section, block_from_lengths, is_section_block, lengths_from_none, none_from_lengths, none_from_section, option_cases, section_begins}
 use Rattle.lq_pcapng.proofs.Fits.{no_section_of_interface, no_section_of_packet, none_from_whole, not_interface, whole_from_none}
@@ -53,7 +53,7 @@ length_fault_is o place rest f e =
     let same = eqb (number_in o rest (total - 4)) total in
     let in_order : (short || not aligned) ≡ false → (12 ≤ total) × (total % 4 ≡ 0) =
     λ a. (let n = neither short (not aligned) a in (ltb-false total 12 n.0, eqb-true (total % 4) 0 (not-false aligned n.1))) in
-    pick_of_three (short || not aligned) (ltb (length rest) total) (not same) (at place BlockLength) (at place CutBlock) (at (place + (total - 4)) BlockLength) f e
+    pick_of_three (short || not aligned) (ltb (length rest) total) (not same) (refuses_at place BlockLength) (refuses_at place CutBlock) (refuses_at (place + (total - 4)) BlockLength) f e
     (λ a is. no_length (elim (either short (not aligned) a) [
       | inl s ↦ inl (ltb-true total 12 s)
       | inr n ↦ inr (eqb-false (total % 4) 0 (not-true aligned n))
@@ -101,7 +101,7 @@ section_fault_is bytes f e =
     let magic = o || is_big_endian bytes in
     let total = total_length o bytes in
     let version = eqb (major_version o bytes) 1 in
-    pick_of_section (ltb (length bytes) 12) (not magic) (ltb total 28) (not version) (length_fault o 0 bytes) (at 0 CutBlock) (at 8 ByteOrder) (at 0 BlockBody) (at 12 Version) f e
+    pick_of_section (ltb (length bytes) 12) (not magic) (ltb total 28) (not version) (length_fault o 0 bytes) (refuses_at 0 CutBlock) (refuses_at 8 ByteOrder) (refuses_at 0 BlockBody) (refuses_at 12 Version) f e
     (λ a is. cut_section (ltb-true (length bytes) 12 a) is)
     (λ a b is. no_order (ltb-false (length bytes) 12 a) (not-true magic b) is)
     (λ a b l. section_lengths (ltb-false (length bytes) 12 a) (not-false magic b) (length_fault_is o 0 bytes f l))
@@ -180,7 +180,7 @@ is_body_fault o interfaces packets block reason (of_packet kind few fault) =
 
 pick_of_block :
     {P : Type 0} (a : Bool) (place : ℕ) (lengths : Option Refusal) (body : Option CaptureReason) (x f : Refusal) → cond a (Some x) (or_else lengths (at_place place body)) ≡ Some f
-    → (a ≡ true → f ≡ x → P) → (a ≡ false → lengths ≡ Some f → P) → ((reason : CaptureReason) → a ≡ false → lengths ≡ None → body ≡ Some reason → f ≡ at place reason → P) → P
+    → (a ≡ true → f ≡ x → P) → (a ≡ false → lengths ≡ Some f → P) → ((reason : CaptureReason) → a ≡ false → lengths ≡ None → body ≡ Some reason → f ≡ refuses_at place reason → P) → P
 pick_of_block true place lengths body x f e p q r = p refl cc
 pick_of_block false place (Some g) body x f e p q r = q refl e
 pick_of_block false place None (Some reason) x f e p q r = r reason refl refl refl cc
@@ -190,7 +190,7 @@ pub block_fault_is :
     (o : Bool) (place : ℕ) (before : List (List ℕ)) (rest : List ℕ) (f : Refusal) → block_fault o place (interfaces_in o before) (length (packets_in o before)) rest ≡ Some f → HasBlockFault o place before rest f
 unfolding block_fault
 block_fault_is o place before rest f e =
-    pick_of_block (ltb (length rest) 12) place (length_fault o place rest) (body_fault o (interfaces_in o before) (length (packets_in o before)) (block_in o rest)) (at place CutBlock) f e
+    pick_of_block (ltb (length rest) 12) place (length_fault o place rest) (body_fault o (interfaces_in o before) (length (packets_in o before)) (block_in o rest)) (refuses_at place CutBlock) f e
     (λ a is. cut_rest (ltb-true (length rest) 12 a) is)
     (λ a l. block_lengths (ltb-false (length rest) 12 a) (length_fault_is o place rest f l))
     (λ reason a l b is. of_body reason (ltb-false (length rest) 12 a) (lengths_from_none o place rest l)

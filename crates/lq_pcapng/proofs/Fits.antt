@@ -3,7 +3,7 @@ use Rattle.std.proofs.Common.{◌≡◌, ◌<◌, ◌≤◌, ◌+◌, ◌++◌, 
 use Rattle.std.proofs.lemmas.Bool.{ltb-false, le-ltb, leb-false, lt-leb, eqb-true}
 use Rattle.std.proofs.lemmas.List.{get_or_append_left, length-append}
 use Rattle.lq_model.specs.Capture.{Refusal}
-use Rattle.lq_model.specs.Pcapng.{at_place, block_fault, block_in, block_type, body_fault, captured_length, data_place, interface_at, interface_number, is_interface, is_packet, is_section, length_fault, number_in, or_else, packet_fault, padded}
+use Rattle.lq_pcapng.specs.Pcapng.{at_place, block_fault, block_in, block_type, body_fault, captured_length, data_place, interface_at, interface_number, is_interface, is_packet, is_section, length_fault, number_in, or_else, packet_fault, padded}
 use Rattle.lq_model.specs.declared.capture.CaptureReason.{CaptureReason}
 use Rattle.lq_model.specs.declared.capture.CaptureReason.TheVariants.{LongRecord, TooMany, CutBlock, NoInterface, BlockBody, SecondSection}
 use Rattle.lq_pcapng.specs.Reading.{Fits, IsPacket}

@@ -4,7 +4,7 @@ use Rattle.std.specs.Int.{w32, from_le_bytes}
 use Rattle.std.specs.Prelude.{◌==◌}
 use Rattle.std.specs.List.{slice_range}
 use Rattle.std.proofs.lemmas.List.{drop-take, take-take, get_or-map, get_or_default, length-map, length-take-le}
-use Rattle.lq_model.specs.Pcapng.{NgCapture, captured_length, data_place, frame_in, frame_of, is_little_endian, order_of, packet_block, padded, total_length}
+use Rattle.lq_pcapng.specs.Pcapng.{NgCapture, captured_length, data_place, frame_in, frame_of, is_little_endian, order_of, packet_block, padded, total_length}
 use Rattle.lq_pcapng.specs.Reading.{AreInterfaces, IsPacket, IsWholeAt, block_at, blocks_at}
 use Rattle.lq_pcapng.specs.View.{IsRead, capture_at}
 
@@ -38,9 +38,6 @@ order_seen bytes interfaces packets c little_endian s = s.order ∙ ap order_of 
 
 pub seen_packets : (bytes interfaces packets : List ℕ) (c : NgCapture) (little_endian : Bool) → IsSeen bytes interfaces packets c little_endian → length c.packets ≡ length packets
 seen_packets bytes interfaces packets c little_endian s = ap (λ (k : NgCapture). length k.packets) (sym s.view) ∙ length-map packets (block_at (is_little_endian bytes) bytes)
-
-pub seen_interfaces : (bytes interfaces packets : List ℕ) (c : NgCapture) (little_endian : Bool) → IsSeen bytes interfaces packets c little_endian → length c.interfaces ≡ length interfaces
-seen_interfaces bytes interfaces packets c little_endian s = ap (λ (k : NgCapture). length k.interfaces) (sym s.view) ∙ length-map interfaces (block_at (is_little_endian bytes) bytes)
 
 pub interfaces_seen :
     (bytes interfaces packets : List ℕ) (c : NgCapture) (little_endian : Bool) → IsSeen bytes interfaces packets c little_endian

@@ -5,7 +5,7 @@ use Rattle.std.proofs.lemmas.List.{drop-drop, length-map, length-append, map-app
 use Rattle.std.proofs.lemmas.List.Elements.{filter-append}
 use Rattle.std.proofs.Math.Seq.{take-length}
 use Rattle.lq_model.specs.Capture.{Refusal}
-use Rattle.lq_model.specs.Pcapng.{NgCapture, block_fault, block_in, blocks_behind, blocks_from, interfaces_in, is_interface, is_little_endian, is_packet, number_in, packets_in, pcapng_of, section_fault, total_length}
+use Rattle.lq_pcapng.specs.Pcapng.{NgCapture, block_fault, block_in, blocks_behind, blocks_from, interfaces_in, is_interface, is_little_endian, is_packet, number_in, packets_in, pcapng_of, section_fault, total_length}
 use Rattle.lq_pcap.specs.Reading.{Gives, IsCaptureRefusal}
 use Rattle.lq_pcap.specs.declared.refusal.CaptureRefusal.{CaptureRefusal}
 use Rattle.lq_pcap.specs.declared.refusal.CaptureRefusal.TheVariants.{Refused, NoMemory}

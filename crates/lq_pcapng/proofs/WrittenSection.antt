@@ -3,7 +3,7 @@ use Rattle.std.proofs.Common.{◌≡◌, ◌<◌, ◌+◌, ◌-◌, ◌++◌, �
 use Rattle.std.specs.List.{concat}
 use Rattle.std.proofs.lemmas.List.{append-nil, take_more}
 use Rattle.std.proofs.lemmas.List.Folds.{concat-append}
-use Rattle.lq_model.specs.Pcapng.{interface_at, without_length}
+use Rattle.lq_pcapng.specs.Pcapng.{interface_at, without_length}
 use Rattle.lq_pcapng.proofs.Walk.{slice_from}
 
 pub section_written :

@@ -2,7 +2,7 @@
 use Rattle.std.specs.Prelude.{ℕ, nat_eq, if◌then◌else◌, Bool, List, [], ◌∷◌, Result, Ok, Err}
 use Rattle.std.specs.List.{starts_with}
 use Rattle.lq_model.specs.Capture.{Capture, Packets, Refusal, capture_of, capture_text, packets_of as packets_of_capture, record_of}
-use Rattle.lq_model.specs.Pcapng.{NgCapture, packet_block, packets_of as packets_of_pcapng, pcapng_of, pcapng_text}
+use Rattle.lq_pcapng.specs.Pcapng.{NgCapture, packet_block, packets_of as packets_of_pcapng, pcapng_of, pcapng_text}
 use Rattle.lq_pcapng.specs.declared.file.CaptureFile.{CaptureFile}
 use Rattle.lq_pcapng.specs.declared.file.CaptureFile.TheVariants.{Classic, Pcapng}
 

@@ -2,7 +2,7 @@
 use Rattle.std.specs.Prelude.{◌≡◌, ◌≢◌, ◌↔◌, ℕ, ◌+◌, ◌-◌, ◌%◌, ◌<◌, ◌≤◌, ◌⊎◌, Bool, true, false, ◌||◌, nat_eq, List, [], ◌∷◌, ◌++◌, length, map, All, Ok, Err}
 use Rattle.std.specs.List.{IsDistinct, concat}
 use Rattle.lq_model.specs.Capture.{Refusal}
-use Rattle.lq_model.specs.Pcapng.{NgCapture, block_in, captured_length, data_place, frame_in, frame_of, interface_number, interfaces_in, is_big_endian, is_interface, is_little_endian, is_packet, is_section, link_in, link_of, major_version, number_in, order_of, packet_block, packets_in, padded, pcapng_of, pcapng_text, total_length, without_length}
+use Rattle.lq_pcapng.specs.Pcapng.{NgCapture, block_in, captured_length, data_place, frame_in, frame_of, interface_number, interfaces_in, is_big_endian, is_interface, is_little_endian, is_packet, is_section, link_in, link_of, major_version, number_in, order_of, packet_block, packets_in, padded, pcapng_of, pcapng_text, total_length, without_length}
 use Rattle.lq_model.specs.declared.capture.CaptureReason.{CaptureReason}
 use Rattle.lq_model.specs.declared.capture.CaptureReason.TheVariants.{Version, LongRecord, TooMany, CutBlock, BlockLength, ByteOrder, NoInterface, BlockBody, SecondSection}
 use Rattle.lq_pcapng.specs.Reading.{Fits}
@@ -45,8 +45,8 @@ AcceptsPcapngExactly = (bytes : List ℕ) (c : NgCapture) → (pcapng_of bytes �
 
 -- WHEN BYTES ARE REFUSED
 
-abbrev pub at : ℕ → CaptureReason → Refusal
-at place reason = record { reason = reason; place = place }
+abbrev pub refuses_at : ℕ → CaptureReason → Refusal
+refuses_at place reason = record { reason = reason; place = place }
 
 -- both lengths of the block that the rest of a file begins with are right
 pub record HasLengths (little_endian : Bool) (rest : List ℕ) : Type 0 where
@@ -57,26 +57,26 @@ pub record HasLengths (little_endian : Bool) (rest : List ℕ) : Type 0 where
 
 -- or f tells which of them isn't, where the block stands at this place
 pub data HasLengthFault (little_endian : Bool) (place : ℕ) (rest : List ℕ) (f : Refusal) : Type 0 where
-  no_length : ((total_length little_endian rest < 12) ⊎ (total_length little_endian rest % 4 ≢ 0)) → f ≡ at place BlockLength → HasLengthFault little_endian place rest f
+  no_length : ((total_length little_endian rest < 12) ⊎ (total_length little_endian rest % 4 ≢ 0)) → f ≡ refuses_at place BlockLength → HasLengthFault little_endian place rest f
   cut_block :
-      12 ≤ total_length little_endian rest → total_length little_endian rest % 4 ≡ 0 → length rest < total_length little_endian rest → f ≡ at place CutBlock
+      12 ≤ total_length little_endian rest → total_length little_endian rest % 4 ≡ 0 → length rest < total_length little_endian rest → f ≡ refuses_at place CutBlock
       → HasLengthFault little_endian place rest f
   other_length :
       12 ≤ total_length little_endian rest → total_length little_endian rest % 4 ≡ 0 → total_length little_endian rest ≤ length rest
-      → number_in little_endian rest (total_length little_endian rest - 4) ≢ total_length little_endian rest → f ≡ at (place + (total_length little_endian rest - 4)) BlockLength
+      → number_in little_endian rest (total_length little_endian rest - 4) ≢ total_length little_endian rest → f ≡ refuses_at (place + (total_length little_endian rest - 4)) BlockLength
       → HasLengthFault little_endian place rest f
 
 -- what keeps the bytes from beginning with a section header block
 pub data HasSectionFault (bytes : List ℕ) (f : Refusal) : Type 0 where
-  cut_section : length bytes < 12 → f ≡ at 0 CutBlock → HasSectionFault bytes f
-  no_order : 12 ≤ length bytes → (is_little_endian bytes || is_big_endian bytes) ≡ false → f ≡ at 8 ByteOrder → HasSectionFault bytes f
+  cut_section : length bytes < 12 → f ≡ refuses_at 0 CutBlock → HasSectionFault bytes f
+  no_order : 12 ≤ length bytes → (is_little_endian bytes || is_big_endian bytes) ≡ false → f ≡ refuses_at 8 ByteOrder → HasSectionFault bytes f
   section_lengths : 12 ≤ length bytes → (is_little_endian bytes || is_big_endian bytes) ≡ true → HasLengthFault (is_little_endian bytes) 0 bytes f → HasSectionFault bytes f
   short_section :
-      12 ≤ length bytes → (is_little_endian bytes || is_big_endian bytes) ≡ true → HasLengths (is_little_endian bytes) bytes → total_length (is_little_endian bytes) bytes < 28 → f ≡ at 0 BlockBody
+      12 ≤ length bytes → (is_little_endian bytes || is_big_endian bytes) ≡ true → HasLengths (is_little_endian bytes) bytes → total_length (is_little_endian bytes) bytes < 28 → f ≡ refuses_at 0 BlockBody
       → HasSectionFault bytes f
   other_version :
       12 ≤ length bytes → (is_little_endian bytes || is_big_endian bytes) ≡ true → HasLengths (is_little_endian bytes) bytes → 28 ≤ total_length (is_little_endian bytes) bytes
-      → major_version (is_little_endian bytes) bytes ≢ 1 → f ≡ at 12 Version → HasSectionFault bytes f
+      → major_version (is_little_endian bytes) bytes ≢ 1 → f ≡ refuses_at 12 Version → HasSectionFault bytes f
 
 -- what keeps a packet block from being whole behind these interfaces
 pub data HasPacketFault (little_endian : Bool) (interfaces : List (List ℕ)) (block : List ℕ) (reason : CaptureReason) : Type 0 where
@@ -99,11 +99,11 @@ pub data HasBodyFault (little_endian : Bool) (interfaces : List (List ℕ)) (pac
 
 -- what keeps the rest of a file from beginning with a block that fits behind these, where it stands at this place
 pub data HasBlockFault (little_endian : Bool) (place : ℕ) (before : List (List ℕ)) (rest : List ℕ) (f : Refusal) : Type 0 where
-  cut_rest : length rest < 12 → f ≡ at place CutBlock → HasBlockFault little_endian place before rest f
+  cut_rest : length rest < 12 → f ≡ refuses_at place CutBlock → HasBlockFault little_endian place before rest f
   block_lengths : 12 ≤ length rest → HasLengthFault little_endian place rest f → HasBlockFault little_endian place before rest f
   of_body :
       (reason : CaptureReason) → 12 ≤ length rest → HasLengths little_endian rest
-      → HasBodyFault little_endian (interfaces_in little_endian before) (length (packets_in little_endian before)) (block_in little_endian rest) reason → f ≡ at place reason
+      → HasBodyFault little_endian (interfaces_in little_endian before) (length (packets_in little_endian before)) (block_in little_endian rest) reason → f ≡ refuses_at place reason
       → HasBlockFault little_endian place before rest f
 
 -- the bytes are a section header block and blocks that fit behind it, and go on

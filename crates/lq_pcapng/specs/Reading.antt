@@ -1,7 +1,7 @@
 -- What reading a capture answers, and what it finds on the way.
 use Rattle.std.specs.Prelude.{◌≡◌, ℕ, ◌+◌, ◌≤◌, ◌<◌, Bool, true, false, List, length, map, drop, slice_index, Option, None, Some, Result, Ok, Err}
 use Rattle.lq_model.specs.Capture.{Refusal}
-use Rattle.lq_model.specs.Pcapng.{block_fault, block_in, captured_length, data_place, interface_number, is_interface, is_little_endian, is_packet, is_section, length_fault, padded, section_fault, total_length}
+use Rattle.lq_pcapng.specs.Pcapng.{block_fault, block_in, captured_length, data_place, interface_number, is_interface, is_little_endian, is_packet, is_section, length_fault, padded, section_fault, total_length}
 use Rattle.lq_model.specs.declared.capture.CaptureReason.{CaptureReason}
 use Rattle.lq_pcap.specs.declared.refusal.CaptureRefusal.{CaptureRefusal}
 use Rattle.lq_pcap.specs.declared.refusal.CaptureRefusal.TheVariants.{Refused, NoMemory}

@@ -1,6 +1,6 @@
 -- What contracts see of a capture in memory.
 use Rattle.std.specs.Prelude.{◌≤◌, ℕ, List}
-use Rattle.lq_model.specs.Pcapng.{NgCapture, is_little_endian, total_length}
+use Rattle.lq_pcapng.specs.Pcapng.{NgCapture, is_little_endian, total_length}
 use Rattle.lq_pcapng.specs.Reading.{AreInterfaces, ArePackets, IsWholeAt, block_at, blocks_at}
 use Rattle.lq_pcapng.specs.declared.capture.NgCapture.TheInside.{Inside}
 

@@ -1,6 +1,6 @@
 // Blocks by the places where they stand.
 ghost use Rattle.std.specs.Prelude.{◌≡◌, ◌≤◌, ◌<◌, length};
-ghost use Rattle.lq_model.specs.Pcapng.{interface_at};
+ghost use Rattle.lq_pcapng.specs.Pcapng.{interface_at};
 ghost use Rattle.lq_pcapng.specs.Reading.{AreInterfaces, IsInterface, IsWholeAt, block_at, blocks_at};
 
 use crate::layout::TOTAL_LENGTH;

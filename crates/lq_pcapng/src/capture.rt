@@ -1,6 +1,6 @@
 // A capture in the pcapng format: its blocks, as places in the bytes that were read.
 ghost use Rattle.std.specs.Prelude.{◌≡◌, ◌<◌, ◌≤◌, length};
-ghost use Rattle.lq_model.specs.Pcapng.{frame_of, interface_at, link_of as link_type_of, order_of, packet_block};
+ghost use Rattle.lq_pcapng.specs.Pcapng.{frame_of, interface_at, link_of as link_type_of, order_of, packet_block};
 ghost use Rattle.lq_pcapng.specs.Reading.{IsPacket};
 
 use crate::blocks::{block, interface};
@@ -23,7 +23,7 @@ pub struct NgCapture {
 }
 
 impl Model for NgCapture {
-    ghost use Rattle.lq_model.specs.Pcapng.{NgCapture};
+    ghost use Rattle.lq_pcapng.specs.Pcapng.{NgCapture};
     ghost use Rattle.lq_pcapng.specs.View.{ng_capture_view, ng_capture_invariant};
 
     ghost Value = { NgCapture };
@@ -116,7 +116,7 @@ impl NgCapture {
 }
 
 impl Frames for NgCapture {
-    ghost use Rattle.lq_model.specs.Pcapng.{packets_of};
+    ghost use Rattle.lq_pcapng.specs.Pcapng.{packets_of};
 
     ghost packets = { packets_of };
 

@@ -1,6 +1,6 @@
 // Numbers in the byte order of a section.
 ghost use Rattle.std.specs.Prelude.{◌≡◌, ◌+◌, ◌≤◌, length};
-ghost use Rattle.lq_model.specs.Pcapng.{is_big_endian, is_little_endian, number_in, short_number_in};
+ghost use Rattle.lq_pcapng.specs.Pcapng.{is_big_endian, is_little_endian, number_in, short_number_in};
 
 use crate::layout::{BYTE_ORDER, BYTE_ORDER_MAGIC};
 use byteorder::{BigEndian, ByteOrder as _, LittleEndian};
@@ -22,7 +22,7 @@ pub fn begins_big_endian(section: &[u8]) -> bool
 }
 
 /// The number of four bytes at a place of a block.
-#[tactic(auto, unfolding(lq_model::specs::Pcapng::number_in))]
+#[tactic(auto, unfolding(crate::specs::Pcapng::number_in))]
 pub fn number(block: &[u8], little_endian: bool, place: usize) -> u32
     requires { place + 4 ≤ length block.now }
     ensures { result ≡ number_in little_endian block.now place }
@@ -36,7 +36,7 @@ pub fn number(block: &[u8], little_endian: bool, place: usize) -> u32
 }
 
 /// The number of two bytes at a place of a block.
-#[tactic(auto, unfolding(lq_model::specs::Pcapng::short_number_in))]
+#[tactic(auto, unfolding(crate::specs::Pcapng::short_number_in))]
 pub fn short_number(block: &[u8], little_endian: bool, place: usize) -> u16
     requires { place + 2 ≤ length block.now }
     ensures { result ≡ short_number_in little_endian block.now place }

@@ -1,6 +1,6 @@
 // Reading a capture in the pcapng format: the blocks one after the other, each as its type asks.
 ghost use Rattle.std.specs.Prelude.{◌≡◌, ◌+◌, ◌≤◌, ◌<◌, ◌++◌, ◌∷◌, ◌==◌, ◌||◌, if◌then◌else◌, [], drop, length, IfErr, IfOk, OnOk};
-ghost use Rattle.lq_model.specs.Pcapng.{body_fault, is_little_endian, pcapng_of, section_fault, total_length};
+ghost use Rattle.lq_pcapng.specs.Pcapng.{body_fault, is_little_endian, pcapng_of, section_fault, total_length};
 ghost use Rattle.lq_pcap.specs.Reading.{Gives};
 ghost use Rattle.lq_pcapng.specs.Reading.{AreInterfaces, IsTested, IsWholeLength, blocks_at};
 ghost use Rattle.lq_pcapng.specs.View.{IsRead, capture_at};
@@ -80,7 +80,7 @@ fn places_of(
 }
 
 // How long the block at a place is, or what keeps it from being whole.
-#[tactic(auto, unfolding(lq_model::specs::Pcapng::block_fault))]
+#[tactic(auto, unfolding(crate::specs::Pcapng::block_fault))]
 fn whole_len(
     bytes: &[u8],
     little_endian: bool,
@@ -103,7 +103,7 @@ fn whole_len(
 }
 
 // What keeps a block from being whole behind these, by its type.
-#[tactic(auto, unfolding(lq_model::specs::Pcapng::body_fault))]
+#[tactic(auto, unfolding(crate::specs::Pcapng::body_fault))]
 fn check_body(
     bytes: &[u8],
     little_endian: bool,

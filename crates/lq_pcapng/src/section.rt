@@ -1,6 +1,6 @@
 // The section header block, and the two lengths of any block.
 ghost use Rattle.std.specs.Prelude.{◌≡◌, ◌+◌, ◌≤◌, ◌<◌, ◌^◌, length, OnOk};
-ghost use Rattle.lq_model.specs.Pcapng.{header_fault, total_length};
+ghost use Rattle.lq_pcapng.specs.Pcapng.{header_fault, total_length};
 ghost use Rattle.lq_pcapng.specs.Reading.{IsChecked, IsBlockLength, IsSectionLength};
 
 use crate::layout::{
@@ -20,7 +20,7 @@ pub fn refused_at(reason: CaptureReason, place: usize) -> CaptureRefusal
 }
 
 /// How long the section header block is with which the bytes begin, or what keeps it from being whole.
-#[tactic(auto, unfolding(lq_model::specs::Pcapng::section_fault))]
+#[tactic(auto, unfolding(crate::specs::Pcapng::section_fault))]
 pub fn section_len(bytes: &[u8]) -> Result<usize, CaptureRefusal>
     ensures { IsSectionLength bytes.now result }
 {
@@ -37,7 +37,7 @@ pub fn section_len(bytes: &[u8]) -> Result<usize, CaptureRefusal>
 }
 
 // Whether the section header block has its fields, and a version that is read.
-#[tactic(auto, unfolding(lq_model::specs::Pcapng::header_fault))]
+#[tactic(auto, unfolding(crate::specs::Pcapng::header_fault))]
 fn check_header(bytes: &[u8], little_endian: bool, len: usize) -> Result<(), CaptureRefusal>
     requires len { len ≡ total_length little_endian bytes.now }
     requires within { len ≤ length bytes.now }
@@ -55,7 +55,7 @@ fn check_header(bytes: &[u8], little_endian: bool, len: usize) -> Result<(), Cap
 
 /// How long the block is with which `rest` begins, by both its lengths, or what keeps it from being whole. The block
 /// begins at this place of the file.
-#[tactic(auto, unfolding(lq_model::specs::Pcapng::length_fault))]
+#[tactic(auto, unfolding(crate::specs::Pcapng::length_fault))]
 pub fn block_len(rest: &[u8], little_endian: bool, place: usize) -> Result<usize, CaptureRefusal>
     requires header { 12 ≤ length rest.now }
     requires place { place + length rest.now < 2 ^ 64 }

@@ -1,7 +1,7 @@
 // Writing packets of a capture in the pcapng format again.
 ghost use Rattle.std.specs.Prelude.{◌≡◌, ◌<◌, ◌++◌, OnOk, OnErr, length, take, replicate, drop};
 ghost use Rattle.std.specs.List.{concat};
-ghost use Rattle.lq_model.specs.Pcapng.{packet_block, without_length};
+ghost use Rattle.lq_pcapng.specs.Pcapng.{packet_block, without_length};
 
 use crate::capture::NgCapture;
 use crate::layout::{SECTION_LENGTH, SECTION_OPTIONS};

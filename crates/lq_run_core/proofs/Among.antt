@@ -74,10 +74,6 @@ module _ (before behind : List Seat) (q : Qdisc) (s : Seat) where
 
 -- WHAT A STEP LEAVES ALONE
 
--- the outcome of a step that begins no call
-Outcome : Qdisc → Seat → Answer → Type 0
-Outcome q s answer = Local true (λ _. ⊥) q s s.position (step_at s.position answer q s)
-
 phase-local : {sole : Bool} {free : Packet → Type 0} {q : Qdisc} {s : Seat} {before : Position} {a : After} → Local sole free q s before a → is_control before ≡ false → a.qdisc.phase ≡ q.phase
 phase-local local.enter_interrupt c = refl
 phase-local _ c = cc

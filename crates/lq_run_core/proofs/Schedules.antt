@@ -40,32 +40,13 @@ and_then_some : {A B : Type 0} (f : A → Option B) (o : Option A) (d : A) → i
 and_then_some f (Some x) d e = refl
 and_then_some f None d e = cc
 
-and_then_none : {A B : Type 0} (f : A → Option B) (o : Option A) → is_some o ≡ false → option_and_then f o ≡ None
-and_then_none f (Some x) e = cc
-and_then_none f None e = refl
-
 -- the first of some steps is done
 pub steps_more : (k count seat : ℕ) (a : Answer) (m : Machine) → k < count → is_some (step_of m seat a) ≡ true → steps_of (count - k) seat a m ≡ steps_of (count - (k + 1)) seat a (unwrap_or (step_of m seat a) m)
 steps_more k count seat a m h e =
     let one_more : count - k ≡ suc (count - (k + 1)) = omega arith in
     rw one_more (and_then_some (steps_of (count - (k + 1)) seat a) (step_of m seat a) m e)
 
--- or can't be done
-pub steps_stuck : (k count seat : ℕ) (a : Answer) (m : Machine) → k < count → is_some (step_of m seat a) ≡ false → steps_of (count - k) seat a m ≡ None
-steps_stuck k count seat a m h e =
-    let one_more : count - k ≡ suc (count - (k + 1)) = omega arith in
-    rw one_more (and_then_none (steps_of (count - (k + 1)) seat a) (step_of m seat a) e)
-
--- no step is left
-pub steps_end : (count k seat : ℕ) (a : Answer) (m : Machine) (o : Option Machine) → count ≤ k → steps_of (count - k) seat a m ≡ o → o ≡ Some m
-steps_end count k seat a m o h e = let none_left : count - k ≡ 0 = omega arith in sym (rw none_left at e)
-
 -- LINES IN ORDER
-
--- what fails is not gone on with
-pub fails_on : {A B C D : Type 0} (f : A → B) (g : C → D) (next : B → Result D TraceRefusal) (refusal : TraceRefusal) (wanted : Result B TraceRefusal) → Tells f (Err refusal) wanted → Tells g (Err refusal) (wanted >>= next)
-fails_on f g next (Refused reason line) wanted failed = rw failed refl
-fails_on f g next NoMemory wanted failed = tt
 
 -- one line more
 pub lines_more : (p q : Option Progress) (n : ℕ) (text line behind : List ℕ) (whole : Result (Option Progress) TraceRefusal) → lines text ≡ line ∷ lines behind → line_done p n line ≡ Ok q → lines_done p n (lines text) ≡ whole → lines_done q (n + 1) (lines behind) ≡ whole

@@ -76,8 +76,8 @@ setup_by seats len bypass [] = Some (record { seats = seats; len = len; bypass =
 setup_by seats len bypass (word ∷ more) = None
 
 -- `seats N len L bypass B`
-abbrev pub setup_of : List (List ℕ) → Option Setup
-setup_of line = do
+abbrev pub setup_line_of : List (List ℕ) → Option Setup
+setup_line_of line = do
   seats ← labelled (codes "seats") 1 8 line
   len ← labelled (codes "len") 1 4096 seats.1
   bypass ← labelled (codes "bypass") 0 1 len.1

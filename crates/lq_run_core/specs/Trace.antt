@@ -14,7 +14,7 @@ use Rattle.lq_run_core.specs.declared.trace_run.Progress.{Progress}
 use Rattle.lq_run_core.specs.declared.trace_run.TraceReason.TheVariants.{Syntax, NoSeat, SeatWaits}
 use Rattle.lq_run_core.specs.declared.trace_run.TraceRefusal.{TraceRefusal}
 use Rattle.lq_run_core.specs.declared.trace_run.TraceRefusal.TheVariants.{Refused, NoMemory}
-use Rattle.lq_run_core.specs.Schedule.{lines, is_passed_over, words, setup_of, command_of}
+use Rattle.lq_run_core.specs.Schedule.{lines, is_passed_over, words, setup_line_of, command_of}
 
 -- WORKING A SCHEDULE
 
@@ -50,7 +50,7 @@ command_done p n c =
 
 -- line n: the first sets the machine up, each other tells a seat to do something
 abbrev pub told_line_done : Option Progress → ℕ → List (List ℕ) → Result Progress TraceRefusal
-told_line_done None n line = ok_or (option_map set_up (setup_of line)) (Refused Syntax n)
+told_line_done None n line = ok_or (option_map set_up (setup_line_of line)) (Refused Syntax n)
 told_line_done (Some p) n line = ok_or (command_of line) (Refused Syntax n) >>= command_done p n
 
 -- a line that is passed over changes nothing

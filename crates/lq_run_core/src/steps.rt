@@ -8,10 +8,8 @@ ghost use Rattle.lq_model.specs.Machine.{band_at, is_non_empty, is_open};
 ghost use Rattle.lq_model.specs.Steps.{goes_to, step_at, counted, gives_up, after_band, queue_of_blocked, queue_of_slot, call_ends, enter, dequeue_begins, run_begins, after_sent, try_lock, miss, check, may_answer, after_put, put_answered, xmit, store_xoff, deq, scan, requeues, schedule, wake};
 
 use crate::qdisc::{Qdisc, at};
+use lq_model::state::QUOTA;
 use lq_model::{Answer, Attempt, Blocked, Call, Packet, Position, Seat, batch};
-
-/// A run sends at most so many packets.
-const QUOTA: u32 = 64;
 
 /// How many packets the run has sent with one more.
 fn counted(seat: Seat) -> Seat

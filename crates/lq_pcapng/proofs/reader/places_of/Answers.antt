@@ -1,5 +1,5 @@
 use Rattle.std.proofs.Common.{◌≡◌, ◌+◌, List, ℕ, sym, subst, ap, ◌∙◌, [], ◌∷◌, ◌++◌, cond, eqb}
-use Rattle.lq_model.specs.Pcapng.{number_in, pcapng_of, total_length}
+use Rattle.lq_pcapng.specs.Pcapng.{number_in, pcapng_of, total_length}
 use Rattle.lq_pcapng.specs.View.{capture_at}
 use Rattle.lq_pcapng.specs.declared.reader.Places.{Places}
 use Rattle.lq_pcapng.proofs.Walk.{Walks, handed_on, is_next, is_read, slice_from, walks_end, walks_first, walks_more, walks_refused}

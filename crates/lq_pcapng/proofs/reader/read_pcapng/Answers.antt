@@ -1,5 +1,5 @@
 use Rattle.std.proofs.Common.{List, ℕ, subst}
-use Rattle.lq_model.specs.Pcapng.{NgCapture, pcapng_of}
+use Rattle.lq_pcapng.specs.Pcapng.{NgCapture, pcapng_of}
 use Rattle.lq_pcap.specs.Reading.{IsCaptureRefusal}
 use Rattle.lq_pcapng.proofs.Walk.{first_refused, handed_on}
 use Rattle.lq_pcapng.proofs.reader.read_pcapng.Goals as goal

@@ -1,5 +1,5 @@
 use Rattle.std.proofs.Common.{◌<◌, ◌++◌, length, List, ℕ, ap, ◌∙◌, subst, []}
-use Rattle.lq_model.specs.Pcapng.{without_length}
+use Rattle.lq_pcapng.specs.Pcapng.{without_length}
 use Rattle.lq_pcapng.proofs.WrittenSection.{interface_written, section_written}
 use Rattle.lq_pcapng.proofs.writer.push_section.Goals as goal
 

@@ -1,6 +1,6 @@
 use Rattle.std.proofs.Common.{◌≡◌, ◌++◌, take}
 use Rattle.std.specs.List.{concat}
-use Rattle.lq_model.specs.Pcapng.{without_length}
+use Rattle.lq_pcapng.specs.Pcapng.{without_length}
 use Rattle.lq_pcapng.proofs.writer.push_section.Given as goal
 
 -- the section header block and the first interfaces are written

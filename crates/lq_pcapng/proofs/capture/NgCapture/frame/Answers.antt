@@ -1,5 +1,5 @@
 use Rattle.std.proofs.Common.{◌≤◌, ◌+◌, length, List, ℕ, sym, subst, ◌∙◌, ap, rules}
-use Rattle.lq_model.specs.Pcapng.{captured_length}
+use Rattle.lq_pcapng.specs.Pcapng.{captured_length}
 use Rattle.lq_pcapng.specs.Reading.{AreInterfaces, blocks_at}
 use Rattle.lq_pcapng.proofs.Places.{frame_seen, interfaces_seen}
 use Rattle.lq_pcapng.proofs.capture.NgCapture.frame.Goals as goal

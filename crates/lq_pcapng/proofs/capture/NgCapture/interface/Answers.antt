@@ -1,5 +1,5 @@
 use Rattle.std.proofs.Common.{List, ℕ, sym, subst, ◌∙◌, ap}
-use Rattle.lq_model.specs.Pcapng.{interface_at}
+use Rattle.lq_pcapng.specs.Pcapng.{interface_at}
 use Rattle.lq_pcapng.specs.Reading.{AreInterfaces, blocks_at}
 use Rattle.lq_pcapng.proofs.Places.{interfaces_seen}
 use Rattle.lq_pcapng.proofs.capture.NgCapture.interface.Goals as goal

@@ -1,5 +1,5 @@
 use Rattle.std.proofs.Common.{sym, ◌∙◌, ap}
-use Rattle.lq_model.specs.Pcapng.{is_little_endian, order_of}
+use Rattle.lq_pcapng.specs.Pcapng.{is_little_endian, order_of}
 use Rattle.lq_pcapng.proofs.Places.{order_at}
 use Rattle.lq_pcapng.proofs.capture.NgCapture.is_little_endian.Goals as goal
 
