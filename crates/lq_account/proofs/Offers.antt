@@ -1,20 +1,13 @@
 -- A packet is brought to a station with one queue.
-use Rattle.std.proofs.Common.{◌≡◌, ◌≢◌, ℕ, ◌==◌, Bool, true, false, not, ◌&&◌, ◌||◌, List, [], ◌∷◌, None, if◌then◌else◌, refl, sym, ap, ◌∙◌}
+use Rattle.std.proofs.Common.{◌≡◌, ◌≢◌, ℕ, ◌==◌, Bool, true, false, not, ◌&&◌, ◌||◌, List, [], ◌∷◌, None, if◌then◌else◌, refl, ap, ◌∙◌}
 use Rattle.std.proofs.lemmas.Bool.{cond-true, cond-false, eq-eqb, ne_eqb, and_right}
 use Rattle.lq_model.specs.Band.{IsOccupied, MayBeFull}
-use Rattle.lq_model.specs.Account.{Account, Join, Full, Direct, Back, held, is_open, is_shared, after}
-use Rattle.lq_model.specs.Alone.{RunningStation, brought_in, cleaned, gone_direct, gone_through, next_answer, offered, joined_or_full, served, taken_in, turns_of}
+use Rattle.lq_model.specs.Account.{Account, Join, Full, Direct, Back, is_open, is_shared, after}
+use Rattle.lq_model.specs.Alone.{RunningStation, brought_in, gone_direct, gone_through, next_answer, offered, joined_or_full, served, taken_in}
 use Rattle.lq_model.specs.Device.{is_busy}
 use Rattle.lq_model.specs.Plan.{band_in, queue_in}
 use Rattle.lq_model.specs.declared.fate.Info.{Info}
-use Rattle.lq_account.proofs.OneQueue.{one_clean, one_open, seen_is}
-use Rattle.lq_account.proofs.Turns.{left_open, served_open, turns_none}
-
--- a station that holds nothing is as it was after serving, where its queue is open and the next packet may go past the bands
-pub served_idle : (infos : List Info) (s : RunningStation) → s.account.down ≡ None → s.account.stops ≡ 0 ∷ [] → held s.account ≡ [] → s.clean ≡ true → served infos s ≡ s
-served_idle infos s active stops none clean =
-    served_open infos s (left_open s.account active stops) ∙ ap cleaned (turns_none infos (turns_of s) s none)
-    ∙ ap (λ clean. record s { clean = clean }) (one_clean s.account 0 stops ∙ sym clean)
+use Rattle.lq_account.proofs.OneQueue.{one_open, seen_is}
 
 -- JOIN OR FULL
 

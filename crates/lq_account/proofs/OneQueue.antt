@@ -3,7 +3,7 @@ use Rattle.std.proofs.Common.{◌≡◌, ℕ, ◌==◌, Bool, true, false, not, 
 use Rattle.std.specs.Prelude.{slice_index}
 use Rattle.std.proofs.lemmas.Option.{get_or_from_slice_get}
 use Rattle.lq_model.specs.Band.{MayBeFull}
-use Rattle.lq_model.specs.Account.{Account, Wake, Purge, is_hung, is_all_open, is_open, is_shared, after}
+use Rattle.lq_model.specs.Account.{Account, Wake, Purge, is_hung, is_all_open, is_open, after}
 use Rattle.lq_model.specs.Alone.{RunningStation, is_clean, is_done, is_left, next_taken, opened, opened_up_to, purged_if_hung, seen_in}
 use Rattle.lq_model.specs.declared.fate.Cause.TheVariants.{Hung}
 
@@ -11,14 +11,7 @@ and-true : (b : Bool) → (b && true) ≡ b
 and-true true = refl
 and-true false = refl
 
-or-false : (b : Bool) → (b || false) ≡ b
-or-false true = refl
-or-false false = refl
-
 module _ (a : Account) (stop : ℕ) (stops : a.stops ≡ stop ∷ []) where
-  pub not_shared : is_shared a ≡ false
-  not_shared = ap (λ stops. is_shared (record a { stops = stops })) stops
-
   pub one_open : is_open a 0 ≡ (stop == 0)
   one_open = ap (λ stops. is_open (record a { stops = stops }) 0) stops
 

@@ -5,14 +5,6 @@ use Rattle.lq_model.specs.declared.fate.Cause.{Cause}
 use Rattle.lq_model.specs.declared.fate.Fate.{Fate}
 use Rattle.lq_account.proofs.Lists.{fates-cases}
 
--- one list of packets behind another, and one packet behind a list
-pub with_fates_append : (xs ys : List ℕ) (f : Fate) (fates : Fates) → with_fates (xs ++ ys) f fates ≡ with_fates ys f (with_fates xs f fates)
-with_fates_append [] ys f fates = refl
-with_fates_append (x ∷ xs) ys f fates = with_fates_append xs ys f (with_at x (Some f) fates)
-
-pub with_fates_push : (xs : List ℕ) (n : ℕ) (f : Fate) (fates : Fates) → with_fates (xs ++ n ∷ []) f fates ≡ with_at n (Some f) (with_fates xs f fates)
-with_fates_push xs n f fates = with_fates_append xs (n ∷ []) f fates
-
 -- the packets of the list have the fate, and the others keep theirs
 pub with_fates_in : (xs : List ℕ) (n : ℕ) (f : Fate) (fates : Fates) → Contains xs n → with_fates xs f fates n ≡ Some f
 with_fates_in xs n f fates is_in = fates-cases (λ fate. fate ≡ Some f) xs n f fates (λ h. refl) (λ out. absurd (out is_in))

@@ -51,16 +51,6 @@ turn_of a event next = by_slot a.slot refl next
 holds-none : (a : Account) (band : ℕ) → held_in a band ≡ [] → holds a band ≡ false
 holds-none a band none = ap (λ xs. nat_lt 0 (length xs)) none
 
--- and back to the definition
-pub next_is : {a : Account} {event : Event} → IsTurn a event → next_taken a ≡ Some event
-next_is {a = a} (picks m slot) = ap (λ slot. next_taken (record a { slot = slot })) slot
-next_is {a = a} (takes_0 slot some) = ap (λ slot. next_taken (record a { slot = slot })) slot ∙ cond-true _ _ _ (lt-ltb 0 _ some)
-next_is {a = a} (takes_1 slot empty_0 some) =
-    ap (λ slot. next_taken (record a { slot = slot })) slot ∙ cond-false _ _ _ (holds-none a 0 empty_0) ∙ cond-true _ _ _ (lt-ltb 0 _ some)
-next_is {a = a} (takes_2 slot empty_0 empty_1 some) =
-    ap (λ slot. next_taken (record a { slot = slot })) slot ∙ cond-false _ _ _ (holds-none a 0 empty_0) ∙ cond-false _ _ _ (holds-none a 1 empty_1)
-    ∙ cond-true _ _ _ (lt-ltb 0 _ some)
-
 append-none : (xs ys : List ℕ) → xs ++ ys ≡ [] → (xs ≡ []) × (ys ≡ [])
 append-none [] ys none = (refl, none)
 append-none (x ∷ xs) ys none = cc

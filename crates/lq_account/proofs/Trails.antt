@@ -9,6 +9,7 @@ use Rattle.lq_model.specs.declared.fate.Cause.TheVariants as cause
 use Rattle.lq_model.specs.declared.fate.Info.{Info}
 use Rattle.lq_model.specs.declared.plan.EventKind.{EventKind}
 use Rattle.lq_account.specs.Accounts.{HaveAllCome, NoSwapAfterHang}
+use Rattle.lq_account.specs.Controls.{controls_in, is_by_plan}
 use Rattle.lq_account.proofs.Lists.{here-in, there-in, cons-in}
 use Rattle.lq_account.proofs.Brought.{brought-cases, brought-now, brought-before}
 use Rattle.lq_account.specs.Trail.{is_own, trail_of, down_of, bare, IsTrail, IsTrailNext, HaveCome, FindNothing, FindsNothing}
@@ -52,6 +53,22 @@ same-resizes infos past = kept-in resize_event infos (no-resize-event infos) pas
 
 pub same-downs : (infos : List Info) (past : List Event) → filter_map down_event (trail_of infos past) ≡ filter_map down_event past
 same-downs infos past = kept-in down_event infos (no-down-event infos) past
+
+-- control's events by the plan are the trail's
+by-plan-own : (infos : List Info) (e : Event) → is_own infos e ≡ false → is_by_plan e ≡ false
+by-plan-own infos (Resize len event) other = absurd cc
+by-plan-own infos (Down event) other = absurd cc
+by-plan-own infos (Purge cause) other = absurd cc
+by-plan-own infos (Swap unit) other = absurd cc
+by-plan-own infos Up other = absurd cc
+by-plan-own infos e other = refl
+
+pub same-controls : (infos : List Info) (past : List Event) → controls_in (trail_of infos past) ≡ controls_in past
+same-controls infos [] = refl
+same-controls infos (e ∷ past) = elim (own-or-not infos e) [
+  | inl own ↦ ap controls_in (trail-own infos e past own) ∙ ap (λ l. cond (is_by_plan e) (e ∷ l) l) (same-controls infos past)
+  | inr other ↦ ap controls_in (trail-other infos e past other) ∙ (same-controls infos past ∙ ap (λ b. cond b (e ∷ controls_in past) (controls_in past)) (sym (by-plan-own infos e other)))
+]
 
 pub own-in : (infos : List Info) (x : Event) → is_own infos x ≡ true → (past : List Event) → Contains past x → Contains (trail_of infos past) x
 own-in infos x own [] h = h
@@ -204,4 +221,5 @@ have-all-come plan infos station past come = record {
   resizes = λ event len at. subst (λ l. Contains l event) (same-resizes infos past) (come.resizes event len (event-within plan station event _ at) at);
   queue_lengths = λ event len at. subst (λ l. Contains l event) (same-resizes infos past) (come.queue_lengths event len (event-within plan station event _ at) at);
   swaps = λ event params at. trail-in infos _ past (come.swaps event params (event-within plan station event _ at) at);
+  all = sym (same-controls infos past) ∙ come.all;
 }

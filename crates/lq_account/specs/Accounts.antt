@@ -10,15 +10,18 @@ use Rattle.lq_model.specs.declared.fate.Fate.{Fate}
 use Rattle.lq_model.specs.declared.fate.Fate.TheVariants.{Sent}
 use Rattle.lq_model.specs.declared.fate.Info.{Info}
 use Rattle.lq_model.specs.declared.plan.EventKind.TheVariants as kind
+use Rattle.lq_account.specs.Controls.{planned_controls, controls_in}
 use Rattle.lq_account.specs.Progress.{start_of}
 
 -- THE PLAN'S EVENTS
 
--- each event that the plan has for the station has come, with its resize or its swap
+-- each event that the plan has for the station has come, one that resizes with its resize and an exchange with its swap; and what
+-- control did is just what they ask, in the plan's order
 pub record HaveAllCome (plan : Plan) (station : ℕ) (past : List Event) : Type 0 where
   pub resizes : (event len : ℕ) → IsEventAt plan station event (kind.Resize len) → Contains (filter_map resize_event past) event
   pub queue_lengths : (event len : ℕ) → IsEventAt plan station event (kind.TxQueueLen len) → Contains (filter_map resize_event past) event
   pub swaps : (event : ℕ) (params : Params) → IsEventAt plan station event (kind.Swap params) → Contains past (Swap (unit_of_swap plan event))
+  pub all : controls_in past ≡ planned_controls plan station (length plan.events)
 
 -- no device is exchanged after a purge of a hung one
 abbrev pub NoSwapAfterHang : List Event → Type 0

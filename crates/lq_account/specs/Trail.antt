@@ -8,6 +8,7 @@ use Rattle.lq_model.specs.declared.device.Params.{Params}
 use Rattle.lq_model.specs.declared.fate.Cause.TheVariants as cause
 use Rattle.lq_model.specs.declared.fate.Info.{Info}
 use Rattle.lq_model.specs.declared.plan.EventKind.TheVariants as kind
+use Rattle.lq_account.specs.Controls.{planned_controls, controls_in}
 
 -- EVENTS THAT COME IN ORDER
 
@@ -92,8 +93,10 @@ abbrev pub IsTrail : Plan → ℕ → List Event → Type 0
 IsTrail plan station [] = Unit {0}
 IsTrail plan station (event ∷ trail) = IsTrail plan station trail × IsTrailNext plan station trail event
 
--- each of the first so many events of the plan that resizes the station or exchanges its device has come
+-- each of the first so many events of the plan that resizes the station or exchanges its device has come, and what control did is
+-- just what they all ask of the station, in order
 pub record HaveCome (plan : Plan) (station : ℕ) (count : ℕ) (trail : List Event) : Type 0 where
   pub resizes : (event len : ℕ) → event < count → IsEventAt plan station event (kind.Resize len) → Contains (filter_map resize_event trail) event
   pub queue_lengths : (event len : ℕ) → event < count → IsEventAt plan station event (kind.TxQueueLen len) → Contains (filter_map resize_event trail) event
   pub swaps : (event : ℕ) (params : Params) → event < count → IsEventAt plan station event (kind.Swap params) → Contains trail (Swap (unit_of_swap plan event))
+  pub all : controls_in trail ≡ planned_controls plan station count
