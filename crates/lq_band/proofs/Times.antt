@@ -53,16 +53,6 @@ times_once infos n (x ∷ xs) all = ⊎_elim
     again : n ≡ x → Contains xs n → ⊥
     again e (i, below, is) = never-itself infos n (subst (λ (z : ℕ × ℕ). Precedes infos z.0 z.1) (λ a. (sym e a, is a)) (all 0 (suc i) n (omega arith) (omega arith)))
 
--- the first of what stands from a place on
-pub times_first : (m n t : ℕ) (line : List ℕ) → slice_get (drop t line) 0 ≡ Some n → times m (drop t line) ≡ times m (n ∷ drop (t + 1) line)
-times_first m n t [] e = absurd (none t e)
-  where
-    none : (t : ℕ) → slice_get (drop {A = ℕ} t []) 0 ≡ Some n → ⊥
-    none zero e = cc
-    none (suc t) e = cc
-times_first m n zero (x ∷ xs) e = ap (λ (z : ℕ). times m (z ∷ xs)) (let is : Some x ≡ Some n = e in cc)
-times_first m n (suc t) (x ∷ xs) e = times_first m n t xs e ∙ ap (λ (z : ℕ). times m (n ∷ drop z (x ∷ xs))) (let q : suc (t + 1) ≡ suc t + 1 = omega arith in q)
-
 pub times_drop : (m t : ℕ) (xs : List ℕ) → times m (drop t xs) ≤ times m xs
 times_drop m zero xs = omega arith
 times_drop m (suc t) [] = omega arith

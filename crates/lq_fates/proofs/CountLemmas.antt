@@ -16,10 +16,6 @@ use Rattle.lq_fates.specs.Counts.{AreCounts, AreWithOne, CanCount, CanCountOneMo
 
 -- WHAT A FUNCTION GIVES FOR EACH NUMBER BELOW ONE
 
-pub length_numbers : (n : ℕ) → length (first_numbers n) ≡ n
-length_numbers zero = refl
-length_numbers (suc n) = omega (arith, length-append (first_numbers n) (n ∷ []), length_numbers n)
-
 pub length_for_each : {A : Type 0} (f : ℕ → A) (n : ℕ) → length (map f (first_numbers n)) ≡ n
 length_for_each f zero = refl
 length_for_each f (suc n) = ap length (map-append f (first_numbers n) (n ∷ [])) ∙ omega (arith, length-append (map f (first_numbers n)) (f n ∷ []), length_for_each f n)

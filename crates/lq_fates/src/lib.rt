@@ -5,6 +5,7 @@ mod count_lines;
 mod counts;
 mod fates;
 mod laws;
+mod line;
 mod sent;
 mod text;
 
@@ -13,6 +14,7 @@ pub use fates::{fates_text, push_fate_line};
 pub use laws::sent_is_that_list;
 pub use lq_model::{Cause, Fate, Info, NoMemory};
 pub use sent::sent_of;
+pub use text::{push_bytes, push_counted, push_number};
 
 #[cfg(test)]
 mod tests;

@@ -22,9 +22,6 @@ round-round size p k h = grind (arith, nat_tests)
 pub round-apart : (size p i j : ℕ) → p < size → i < size → j < size → i ≢ j → round size (p + i) ≢ round size (p + j)
 round-apart size p i j hp hi hj e = grind (arith, nat_tests)
 
-pub round-distance : (size head producer : ℕ) → head < size → producer < size → round size (head + distance size head producer) ≡ producer
-round-distance size head producer hh hp = grind (arith, nat_tests)
-
 pub round-count : (slots : List ℕ) (size head producer : ℕ) → head < size → producer < size
     → round size (head + held_count slots size head producer) ≡ producer
 round-count slots size head producer hh hp = grind (arith, nat_tests)
@@ -40,9 +37,6 @@ next_place-round size p place h e = grind (arith, nat_tests)
 
 pub batch-positive : (size : ℕ) → 0 < batch size
 batch-positive size = grind (arith, nat_tests)
-
-pub batch-within : (size : ℕ) → 0 < size → batch size ≤ size
-batch-within size h = grind (arith, nat_tests)
 
 -- THE COUNT
 
@@ -62,11 +56,5 @@ place_before-within size head h = grind (arith, nat_tests)
 pub round-place_before : (size head i : ℕ) → head < size → i < size → round size (place_before size head 1 + (i + 1)) ≡ round size (head + i)
 round-place_before size head i h hi = grind (arith, nat_tests)
 
-pub round-place_before_all : (size head : ℕ) → head < size → round size (place_before size head 1 + size) ≡ place_before size head 1
-round-place_before_all size head h = grind (arith, nat_tests)
-
 pub round-last : (size head : ℕ) → head < size → round size (head + (size - 1)) ≡ place_before size head 1
 round-last size head h = grind (arith, nat_tests)
-
-pub place_before-place_before : (size head k : ℕ) → head < size → k < size → place_before size (place_before size head k) 1 ≡ place_before size head (k + 1)
-place_before-place_before size head k h hk = grind (arith, nat_tests)

@@ -10,4 +10,5 @@ mod tests;
 mod three;
 
 pub use ring::{Full, Ring, RingRefusal};
+pub use slots::{next_place, place_before};
 pub use three::{Dropped, resize_three};

@@ -5,7 +5,7 @@ ghost use Rattle.lq_ring_core.specs.Ring.{next_place, place_before};
 ghost use Rattle.lq_ring_core.specs.Slots.{IsCleared, IsCopied, distance, round, slot_at, entries_from};
 
 /// The place behind another, round a ring of this size.
-pub(crate) fn next_place(place: u32, size: u32) -> u32
+pub fn next_place(place: u32, size: u32) -> u32
     requires { place < size }
     ensures { result ≡ next_place size place }
 {
@@ -26,7 +26,7 @@ pub(crate) fn clear_down(slots: &mut [u32], start: usize, end: usize)
 }
 
 /// The place before another, round a ring of this size.
-pub(crate) fn place_before(place: u32, size: u32) -> u32
+pub fn place_before(place: u32, size: u32) -> u32
     requires { place < size }
     ensures { result ≡ place_before size place 1 }
 {
