@@ -1,2 +1,4 @@
 -- where a try of the run lock leads
 pub mod Runs
+-- the steps of its calls
+pub mod Tries

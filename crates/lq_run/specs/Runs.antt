@@ -39,8 +39,8 @@ run_got run position = run
 -- WHAT A SEAT KNOWS THAT HAS THE TABLE ALONE
 
 -- the lock is held after a try, and MISSED set where it was held before
-abbrev pub begun : Bool → Solo → Solo
-begun got s = locked_to true (if got then s else missed_to true s)
+abbrev pub after_begin : Bool → Solo → Solo
+after_begin got s = locked_to true (if got then s else missed_to true s)
 
 -- the lock is free after the end of a run, and the table scheduled where MISSED is set
 abbrev pub ended : Solo → Solo

@@ -1,19 +1,55 @@
 //! The run lock is tried and released, and what was missed meanwhile is scheduled.
 #![tactic(auto)]
 
-ghost use Rattle.std.specs.Prelude.{◌≡◌, ◌<◌, Bool, true, false, not, None};
+ghost use Rattle.std.specs.Prelude.{◌≡◌, ℕ, ◌<◌, Bool, true, false, not, [], ◌∷◌, Some, None};
 ghost use Rattle.lq_model.specs.declared.machine.Position.TheVariants.{Try1, Unlock as AtUnlock, Leave as AtLeave, Idle as AtIdle, Control as AtControl};
 ghost use Rattle.lq_model.specs.declared.machine.Phase.TheVariants.{Active};
 ghost use Rattle.lq_model.specs.declared.machine.Attempt.{Attempt};
-ghost use Rattle.lq_table.specs.Sees.{view, position, IsSeatOf, IsElseSame};
-ghost use Rattle.lq_table.specs.Told.{IsKnownSlot, schedules, scheduling, clears_sched, passing};
-ghost use Rattle.lq_table.specs.Solo.{IsSole, IsAccounts, solo, sched_set, sched_cleared};
-ghost use Rattle.lq_run.specs.Runs.{after_got, after_missed, run_got, begun, ended, HasStation, HasNone, Rests, IsElseKept, IsEventless, IsRaisedBySched};
+ghost use Rattle.lq_table.specs.Views.{HolderPart};
+ghost use Rattle.lq_table.specs.Rule.{shown, units_of, IsResting};
+ghost use Rattle.lq_table.specs.Sees.{view, steps, position, slot, IsSeatOf, IsSameSeat, IsElseSame};
+ghost use Rattle.lq_table.specs.Told.{IsKnownSlot, tries_lock, got, finding_locked, misses, missing, schedules, scheduling, clears_sched, passing};
+ghost use Rattle.lq_table.specs.Solo.{IsSole, IsAccounts, solo, locked_to, missed_to, sched_set, sched_cleared};
+ghost use Rattle.lq_table.specs.Made.{◌⊳◌, did_clear_sched, did_set_sched};
+ghost use Rattle.lq_run.specs.Tries.{BeginsBy, EndsRun, SetsMissed, TriesOnce};
+ghost use Rattle.lq_run.specs.Runs.{after_got, after_missed, run_got, after_begin, ended, HasStation, HasNone, Rests, IsElseKept, IsEventless, IsRaisedBySched};
 
 use lq_device::TxDevice;
+use lq_model::state::MISSED;
 use lq_table::{Cpu, Shared};
 
-const MISSED: u64 = 4;
+/// Tries the run lock, as `spin_trylock` does (`queued_spin_trylock` of include/asm-generic/qspinlock.h): the word is looked
+/// at first, and exchanged only where it is free. True where the seat has the lock.
+pub fn try_run_lock<'a, D: TxDevice>(shared: &Shared<'a, D>, cpu: &mut Cpu<D>) -> bool
+    requires seat { IsSeatOf shared.now cpu.old }
+    requires at { tries_lock (position cpu.old) ≡ true }
+    ensures seat { IsSameSeat cpu.old cpu.new × (cpu.new.station ≡ cpu.old.station) × (cpu.new.indices ≡ cpu.old.indices) }
+    ensures got { result ≡ true → (d : HolderPart) × (view cpu.new ≡ got d (view cpu.old)) × (slot cpu.new ≡ (0, Some (shown d)) ∷ slot cpu.old) × IsResting d.size d.ends × (0 < d.size) × (d.hand ≡ None) × (d.resizing ≡ None) × (d.shut ≡ None) × IsKnownSlot (view cpu.old).share.about d.slot × ((view cpu.old).control.first ≡ true → d.units ≡ units_of (view cpu.old).trail) }
+    ensures held { result ≡ false → (view cpu.new ≡ finding_locked (view cpu.old)) × (slot cpu.new ≡ slot cpu.old) }
+    ensures sole { IsSole (view cpu.old) → (solo (view cpu.new) ≡ locked_to true (solo (view cpu.old))) × (result ≡ not (view cpu.old).whole.qdisc.locked) × (result ≡ true → IsAccounts (view cpu.new)) }
+    ensures made { TriesOnce result (steps cpu.old) (steps cpu.new) }
+{
+    if shared.look_lock(cpu) {
+        return false;
+    }
+    shared.try_lock(cpu)
+}
+
+/// Sets MISSED after a failed try of the run lock, where a look at the state doesn't find it set. True where it was set before.
+fn note_missed<'a, D: TxDevice>(shared: &Shared<'a, D>, cpu: &mut Cpu<D>) -> bool
+    requires seat { IsSeatOf shared.now cpu.old }
+    requires at { misses (position cpu.old) ≡ true }
+    ensures same { IsElseSame cpu.old cpu.new }
+    ensures view { view cpu.new ≡ missing result (view cpu.old) }
+    ensures step { solo (view cpu.new) ≡ missed_to true (solo (view cpu.old)) }
+    ensures sole { IsSole (view cpu.old) → result ≡ (view cpu.old).whole.qdisc.missed }
+    ensures made { SetsMissed result (steps cpu.old) (steps cpu.new) }
+{
+    if shared.look_missed(cpu) {
+        return true;
+    }
+    shared.miss(cpu)
+}
 
 /// Tries the run lock, as `qdisc_run_begin` of include/net/sch_generic.h does. Where it is held MISSED is set, so that the
 /// holder looks once more, and the lock is tried again unless MISSED was set before. True where the seat has the lock.
@@ -25,17 +61,18 @@ pub fn begin<'a, D: TxDevice>(shared: &Shared<'a, D>, cpu: &mut Cpu<D>) -> bool
     ensures got { result ≡ true → (position cpu.new ≡ after_got (view cpu.new) (position cpu.old)) × HasStation cpu.new × Rests cpu.new × (0 < (view cpu.new).holder.size) × ((view cpu.new).holder.hand ≡ None) × ((view cpu.new).holder.shut ≡ None) × IsKnownSlot (view cpu.new).share.about (view cpu.new).holder.slot }
     ensures missed { result ≡ false → (position cpu.new ≡ after_missed (position cpu.old)) × HasNone cpu.new × ((view cpu.new).holder ≡ (view cpu.old).holder) }
     ensures run { result ≡ true → (view cpu.new).place.run ≡ run_got (view cpu.old).place.run (position cpu.old) }
-    ensures sole { IsSole (view cpu.old) → (result ≡ not (view cpu.old).whole.qdisc.locked) × (solo (view cpu.new) ≡ begun result (solo (view cpu.old))) × (result ≡ true → IsAccounts (view cpu.new)) }
+    ensures sole { IsSole (view cpu.old) → (result ≡ not (view cpu.old).whole.qdisc.locked) × (solo (view cpu.new) ≡ after_begin result (solo (view cpu.old))) × (result ≡ true → IsAccounts (view cpu.new)) }
     ensures mark { (view cpu.new).place.raised ≡ (view cpu.old).place.raised }
+    ensures made { BeginsBy result (steps cpu.old) (steps cpu.new) }
 {
-    if shared.try_lock(cpu) {
+    if try_run_lock(shared, cpu) {
         shared.move_station(cpu);
         return true;
     }
-    if shared.miss(cpu) {
+    if note_missed(shared, cpu) {
         return false;
     }
-    if shared.try_lock(cpu) {
+    if try_run_lock(shared, cpu) {
         shared.move_station(cpu);
         return true;
     }
@@ -54,6 +91,7 @@ pub fn end<'a, D: TxDevice>(shared: &Shared<'a, D>, cpu: &mut Cpu<D>)
     ensures raised { (view cpu.old).place.raised ≡ true → (view cpu.new).place.raised ≡ true }
     ensures sched { IsRaisedBySched (view cpu.old) (view cpu.new) }
     ensures sole { IsSole (view cpu.old) → solo (view cpu.new) ≡ ended (solo (view cpu.old)) }
+    ensures made { EndsRun (steps cpu.old) (steps cpu.new) }
 {
     shared.move_station(cpu);
     shared.unlock(cpu);
@@ -74,6 +112,7 @@ pub fn end_resize<'a, D: TxDevice>(shared: &Shared<'a, D>, cpu: &mut Cpu<D>)
     ensures at { (position cpu.new ≡ AtIdle) × HasNone cpu.new × ((view cpu.new).holder ≡ (view cpu.old).holder) }
     ensures raised { (view cpu.old).place.raised ≡ true → (view cpu.new).place.raised ≡ true }
     ensures sole { IsSole (view cpu.old) → solo (view cpu.new) ≡ ended (solo (view cpu.old)) }
+    ensures made { EndsRun (steps cpu.old) (steps cpu.new) }
 {
     shared.move_station(cpu);
     shared.unlock(cpu);
@@ -88,7 +127,7 @@ pub fn schedule<'a, D: TxDevice>(shared: &Shared<'a, D>, cpu: &mut Cpu<D>)
     requires seat { IsSeatOf shared.now cpu.old }
     requires at { schedules (position cpu.old) ≡ true }
     ensures same { IsElseSame cpu.old cpu.new }
-    ensures view { (was : Bool) × (view cpu.new ≡ scheduling was (view cpu.old)) × (solo (view cpu.new) ≡ sched_set was (solo (view cpu.old))) × (IsSole (view cpu.old) → was ≡ (view cpu.old).whole.qdisc.sched) }
+    ensures view { (was : Bool) × (view cpu.new ≡ scheduling was (view cpu.old)) × (solo (view cpu.new) ≡ sched_set was (solo (view cpu.old))) × (IsSole (view cpu.old) → was ≡ (view cpu.old).whole.qdisc.sched) × (steps cpu.new ≡ steps cpu.old ⊳ did_set_sched was) }
 {
     shared.set_sched(cpu);
 }
@@ -100,6 +139,7 @@ pub fn unschedule<'a, D: TxDevice>(shared: &Shared<'a, D>, cpu: &mut Cpu<D>)
     ensures same { IsElseSame cpu.old cpu.new }
     ensures view { view cpu.new ≡ passing (view cpu.old) }
     ensures step { solo (view cpu.new) ≡ sched_cleared (solo (view cpu.old)) }
+    ensures made { steps cpu.new ≡ steps cpu.old ⊳ did_clear_sched }
 {
     shared.clear_sched(cpu);
 }

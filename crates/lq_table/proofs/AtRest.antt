@@ -14,24 +14,26 @@ use Rattle.lq_model.specs.Machine.{Qdisc, is_closed}
 use Rattle.lq_model.specs.Plan.{owner_in}
 use Rattle.lq_band.specs.Seats.{total}
 use Rattle.lq_account.specs.Places.{IsPlaced}
+use Rattle.lq_table.specs.Places.{lock_place}
 use Rattle.lq_table.specs.Views.{View, Setup, State, PacketPart, Left}
 use Rattle.lq_table.specs.Rule.{words_of, stops_offset, account, machine_of, bands_now, has_turn, is_live, Ties, Rule}
 use Rattle.lq_table.specs.Told.{Sat}
 use Rattle.lq_table.specs.Controls.{unchanged}
-use Rattle.lq_table.specs.AtRest.{IsAlone, IsKept, IsRest, KnowsRest, lock_seen}
-use Rattle.lq_table.proofs.Ends.{live, unlocked, nothing, no_purge, nobody, home, all_bands, none_at_all}
+use Rattle.lq_table.specs.AtRest.{IsSoleAtRest, IsFatedOrHeld, IsRest, KnowsRest, lock_seen}
+use Rattle.lq_table.proofs.AllAtRest.{unlocked, nothing, no_purge, home, all_bands, none_at_all}
+use Rattle.lq_table.proofs.Ends.{live, rests, nobody}
 use Rattle.lq_table.proofs.Decided.{all_placed}
 use Rattle.lq_table.proofs.Loads.{also, loads_any}
 use Rattle.lq_table.proofs.SoleFacts.{knows_qdisc, knows_account, knows_state}
 use Rattle.lq_table.proofs.StopsKept.{agree, free_none}
 use Rattle.lq_table.proofs.Ties.{holds_none}
 
-placed_kept : (a : Account) (n : ℕ) → a.hand ≡ None → IsPlaced a n → IsKept a n
+placed_kept : (a : Account) (n : ℕ) → a.hand ≡ None → IsPlaced a n → IsFatedOrHeld a n
 placed_kept a n empty (inl fate) = inl fate
 placed_kept a n empty (inr (inl is_held)) = inr is_held
 placed_kept a n empty (inr (inr in_hand)) = absurd cc
 
-module _ (k : Setup) (s : table.State (Option StationState) View) (r : Rule k s) (id : ℕ) (v : View) (at_id : get_elem? s.views id ≡ some v) (alone : IsAlone v) (some_queue : 0 < k.queues) where
+module _ (k : Setup) (s : table.State (Option StationState) View) (r : Rule k s) (id : ℕ) (v : View) (at_id : get_elem? s.views id ≡ some v) (alone : IsSoleAtRest v) (some_queue : 0 < k.queues) where
   abbrev all : v.share.shares ≡ 1024
   all = alone.0.0
 
@@ -50,7 +52,7 @@ module _ (k : Setup) (s : table.State (Option StationState) View) (r : Rule k s)
   ties_now left_none = subst (λ (o : Option Left). Ties k.infos r.qdisc a (bands_now o a.bands)) left_none r.parts.ties
 
   shut_none : r.state.shut ≡ None
-  shut_none = free_none r.qdisc.phase r.qdisc.locked r.qdisc.xoff a.stops r.state.shut (unlocked k s r id v at_id all alone.1) r.parts.stops
+  shut_none = free_none r.qdisc.phase r.qdisc.locked r.qdisc.xoff a.stops r.state.shut (unlocked k s r (rests k s r id v at_id all alone.1)) r.parts.stops
 
   stops_are : (queue : ℕ) → slice_index (words_of k s.words).xoff queue ≡ slice_index a.stops queue
   stops_are queue = ap (λ (xs : List ℕ). slice_index xs queue) (sym r.parts.stands.xoff ∙ agree r.qdisc.phase r.qdisc.locked r.qdisc.xoff a.stops r.state.shut shut_none r.parts.stops)
@@ -59,7 +61,7 @@ module _ (k : Setup) (s : table.State (Option StationState) View) (r : Rule k s)
   unfolding lives
   rest = let p = r.parts in let q = r.qdisc in let g = r.state in
       let none_busy = nobody k s r id v at_id all alone.1 alone.2 alone.3 in
-      let hand : a.hand ≡ None = (home k s r id v at_id all alone.1 alone.2 alone.3).hand_empty in
+      let hand : a.hand ≡ None = (home k s r (rests k s r id v at_id all alone.1)).hand_empty in
       record {
         hand_empty = hand;
         shut = shut_none;
@@ -68,8 +70,8 @@ module _ (k : Setup) (s : table.State (Option StationState) View) (r : Rule k s)
             let word = (p.given.words_are id v at_id lives).1 o own in
             placed_kept a n hand (all_placed k g.past (all_bands k.infos r.setup.bands) p.account.comes n (p.given.over n inside st (let e = turn.1 in omega arith)));
         quiet = λ unscheduled up all_zero. let active : q.deactivated ≡ false = p.ties.down ∙ ap is_some up in
-            let left_none : g.left ≡ None = p.leaves.none_left (no_purge k s r id v at_id all alone.1 active) in
-            holds_none k.infos (machine_of q s.views) a (ties_now left_none) (nothing k s r id v at_id all alone.1 unscheduled active (opens (λ queue h. stops_are queue ∙ all_zero queue h)));
+            let left_none : g.left ≡ None = p.leaves.none_left (no_purge k s r (rests k s r id v at_id all alone.1) active) in
+            holds_none k.infos (machine_of q s.views) a (ties_now left_none) (nothing k s r (rests k s r id v at_id all alone.1) unscheduled active (opens (λ queue h. stops_are queue ∙ all_zero queue h)));
         purged = λ first phase no_purge_. let knows = p.firsts.knows id v at_id first in
             holds_none k.infos (machine_of q s.views) a (ties_now (p.leaves.none_left (sym knows.1 ∙ no_purge_))) (p.machine.kept.purged_holds_nothing (sym knows.0 ∙ phase)).1;
         down = λ first. sym p.ties.down ∙ (p.machine.deactivation ∙ ap is_closed (sym (p.firsts.knows id v at_id first).0));
@@ -84,5 +86,5 @@ module _ (k : Setup) (s : table.State (Option StationState) View) (r : Rule k s)
       (λ j. (sym (r.parts.shares.about id v at_id lives) j, sym (knows_qdisc k s r id v at_id some_share alone.0) j, sym (knows_state k s r id v at_id some_share alone.0) j, sym (knows_account k s r id v at_id some_share alone.0) j)) rest
 
 -- what a load of the run lock tells
-pub loads_lock : (k : Setup) (slots id : ℕ) (m : Sat) → 0 < k.queues → Allows (Rule k) slots id m 2 (λ x. x) (lock_seen (step slots 2 0 0 none) m)
-loads_lock k slots id m some_queue = also k slots id m 2 (λ x. x) (unchanged (step slots 2 0 0 none) m) (λ _. IsAlone m.0 → KnowsRest m.0) (λ s r here alone. knows_rest k s r id m.0 here alone some_queue) (loads_any k slots id m 2)
+pub loads_lock : (k : Setup) (slots id : ℕ) (m : Sat) → 0 < k.queues → Allows (Rule k) slots id m lock_place (λ x. x) (lock_seen (step slots lock_place 0 0 none) m)
+loads_lock k slots id m some_queue = also k slots id m lock_place (λ x. x) (unchanged (step slots lock_place 0 0 none) m) (λ _. IsSoleAtRest m.0 → KnowsRest m.0) (λ s r here alone. knows_rest k s r id m.0 here alone some_queue) (loads_any k slots id m lock_place)

@@ -8,6 +8,7 @@ use Rattle.atomic_table.specs.Table as table
 use Rattle.atomic_table.specs.Table.{step, Allows}
 use Rattle.lq_device.specs.Station.{StationState}
 use Rattle.lq_band.proofs.Seats.{total_one}
+use Rattle.lq_table.specs.Places.{inside_place}
 use Rattle.lq_table.specs.Views.{View, Setup}
 use Rattle.lq_table.specs.Rule.{Rule}
 use Rattle.lq_table.specs.Told.{Sat, learned, entered, at_rest, bringing_packet}
@@ -23,8 +24,8 @@ pub learns_all : (k : Setup) (slots id : ℕ) (m : Sat) → 0 < m.0.share.shares
 learns_all k slots id m h = also k slots id m 0 (λ x. x) (λ x m'. learned (step slots 0 0 0 none) m x m') (λ _. m.0.share.shares ≤ 1024) (λ s r here. few_shares k s id m.0 r here) (learns k slots id m h)
 
 pub enters_all : (k : Setup) (slots id : ℕ) (m : Sat) → at_rest m.0.place.position ≡ true → (is_some (bringing_packet m.0) ≡ true) ⊎ ((m.0.place.raised ≡ true) × (m.0.packets.busy ≡ None)) → 0 < m.0.share.shares
-    → Allows (Rule k) slots id m 4 (λ n. (n + 1) % 2 ^ 64) (entered_all (step slots 4 1 0 none) m)
+    → Allows (Rule k) slots id m inside_place (λ n. (n + 1) % 2 ^ 64) (entered_all (step slots inside_place 1 0 none) m)
 enters_all k slots id m rests call h =
-    also k slots id m 4 (λ n. (n + 1) % 2 ^ 64) (λ x m'. entered (step slots 4 1 0 none) m x m') (λ _. (n : ℕ) → m.0.packets.fresh ≡ Some n → m.0.packets.busy ≡ Some n)
+    also k slots id m inside_place (λ n. (n + 1) % 2 ^ 64) (λ x m'. entered (step slots inside_place 1 0 none) m x m') (λ _. (n : ℕ) → m.0.packets.fresh ≡ Some n → m.0.packets.busy ≡ Some n)
     (λ s r here n fresh. (r.parts.turns.knows id m.0 here).fresh n fresh)
     (enters k slots id m rests (⊎_elim (λ (brings : _). inl brings) (λ (soft : _). inr soft.0) call) h)

@@ -16,6 +16,7 @@ use Rattle.lq_model.specs.Machine.{Purge}
 use Rattle.lq_model.specs.Control.{is_control}
 use Rattle.lq_model.specs.Positions.{holds_lock, own_packet}
 use Rattle.lq_model.specs.Kept.{IsInductive}
+use Rattle.lq_table.specs.Places.{state_place}
 use Rattle.lq_table.specs.Views.{View, Setup, HolderPart, Left}
 use Rattle.lq_table.specs.Rule.{words_of, account, holders, bands_now, is_live, Rule}
 use Rattle.lq_table.proofs.UnitsKept.{gone_same}
@@ -94,7 +95,7 @@ module _ (k : Setup) where
 
   -- the two bits after the last packet of a purge
   pub resets_missed : (slots id : ℕ) (m : Sat) (u : Purge) (l : Left) → m.0.place.position ≡ Control true → m.0.control.purge ≡ Some u → not (nat_lt u.band 3) ≡ true → m.0.holder.left ≡ Some l → m.0.holder.resizing ≡ None → 0 < m.0.share.shares
-      → Allows (Rule k) slots id m 1 (λ n. bit_and n 18446744073709551611) (missed_reset (step slots 1 18446744073709551611 0 none) m)
+      → Allows (Rule k) slots id m state_place (λ n. bit_and n 18446744073709551611) (missed_reset (step slots state_place 18446744073709551611 0 none) m)
   resets_missed slots id m u l position purge over left no_resizing some_share =
       ⊎_elim
       (λ (e : u.draining ≡ true). subst Goal (ap (λ (b : Bool). if b then ended else gone_on) (sym e) ∙ told) (ends_missed k slots id m u l position purge over e left no_resizing some_share))
@@ -102,7 +103,7 @@ module _ (k : Setup) where
       (two_ways u.draining)
     where
       Goal : View → Type 0
-      Goal w = Allows (Rule k) slots id m 1 (λ n. bit_and n 18446744073709551611) (λ _ m'. m' ≡ (w, m.1))
+      Goal w = Allows (Rule k) slots id m state_place (λ n. bit_and n 18446744073709551611) (λ _ m'. m' ≡ (w, m.1))
 
       ended : View
       ended = purge_ending no_missed m.0
@@ -114,7 +115,7 @@ module _ (k : Setup) where
       told = ap (λ (o : Option Purge). resetting_missed_in o m.0) (sym purge)
 
   pub resets_draining : (slots id : ℕ) (m : Sat) (u : Purge) (l : Left) → m.0.place.position ≡ Control true → m.0.control.purge ≡ Some u → not (nat_lt u.band 3) ≡ true → m.0.holder.left ≡ Some l → m.0.holder.resizing ≡ None → 0 < m.0.share.shares
-      → Allows (Rule k) slots id m 1 (λ n. bit_and n 18446744073709551607) (draining_reset (step slots 1 18446744073709551607 0 none) m)
+      → Allows (Rule k) slots id m state_place (λ n. bit_and n 18446744073709551607) (draining_reset (step slots state_place 18446744073709551607 0 none) m)
   resets_draining slots id m u l position purge over left no_resizing some_share =
       ⊎_elim
       (λ (e : u.missed ≡ true). subst Goal (ap (λ (b : Bool). if b then ended else gone_on) (sym e) ∙ told) (ends_draining k slots id m u l position purge over e left no_resizing some_share))
@@ -122,7 +123,7 @@ module _ (k : Setup) where
       (two_ways u.missed)
     where
       Goal : View → Type 0
-      Goal w = Allows (Rule k) slots id m 1 (λ n. bit_and n 18446744073709551607) (λ _ m'. m' ≡ (w, m.1))
+      Goal w = Allows (Rule k) slots id m state_place (λ n. bit_and n 18446744073709551607) (λ _ m'. m' ≡ (w, m.1))
 
       ended : View
       ended = purge_ending no_draining m.0

@@ -7,6 +7,7 @@ use Rattle.std.proofs.lemmas.List.{take_more, get_or-drop}
 use Rattle.std.proofs.lemmas.List.Sums.{fold-append}
 use mathlib.Core.Option.{some}
 use lib.ListN.{get_elem?}
+use Rattle.lq_table.specs.Places.{line_of}
 use Rattle.lq_table.proofs.ReadBack.{got}
 
 abbrev pub greatest_from : ℕ → List ℕ → ℕ
@@ -29,10 +30,10 @@ greatest_more a words i below = ap (greatest_from a) (take_more words i 0 below)
 -- THE STOP WORDS, READ ONE BY ONE
 
 abbrev pub stops_of : ℕ → List ℕ → List ℕ
-stops_of others words = slice_index words 3 ∷ drop others words
+stops_of others words = slice_index words (line_of 3) ∷ drop others words
 
-pub reads_first : (words : List ℕ) (others word : ℕ) → get_elem? words 3 ≡ some word → word ≡ greatest_from 0 (take (0 + 1) (stops_of others words))
-reads_first words others word at = sym (got words 3 word 0 at) ∙ sym (zero-max (slice_index words 3))
+pub reads_first : (words : List ℕ) (others word : ℕ) → get_elem? words (line_of 3) ≡ some word → word ≡ greatest_from 0 (take (0 + 1) (stops_of others words))
+reads_first words others word at = sym (got words (line_of 3) word 0 at) ∙ sym (zero-max (slice_index words (line_of 3)))
 
 pub reads_next : (words : List ℕ) (others queue word : ℕ) → others + queue < length words → get_elem? words (others + queue) ≡ some word
     → max (greatest_from 0 (take (queue + 1) (stops_of others words))) word ≡ greatest_from 0 (take (queue + 1 + 1) (stops_of others words))
@@ -40,8 +41,3 @@ reads_next words others queue word inside at =
     let next : queue + 1 ≡ suc queue = omega arith in
     let read : get_or (stops_of others words) (queue + 1) 0 ≡ word = ap (λ (i : ℕ). get_or (stops_of others words) i 0) next ∙ (get_or-drop others words queue 0 ∙ got words (others + queue) word 0 at) in
     sym (greatest_more 0 (stops_of others words) (queue + 1) (let l = length-drop others words in omega arith) ∙ ap (max (greatest_from 0 (take (queue + 1) (stops_of others words)))) read)
-
-pub reads_all : (words : List ℕ) (others queues : ℕ) → 0 < queues → others + queues ≡ length words + 1 → greatest_from 0 (take (queues - 1 + 1) (stops_of others words)) ≡ greatest_from 0 (stops_of others words)
-reads_all words others queues some_queue all =
-    ap (λ (n : ℕ). greatest_from 0 (take n (stops_of others words))) (let l = length-drop others words in let e : queues - 1 + 1 ≡ length (stops_of others words) = omega arith in e)
-    ∙ ap (greatest_from 0) (take-length (stops_of others words))

@@ -16,6 +16,7 @@ use Rattle.lq_band.specs.Ring.{Lock, unlocked, locking, stored_count, index_behi
 use Rattle.lq_band.proofs.Seats.{total_two, total_le}
 use Rattle.lq_band.proofs.Three.{at_all}
 use Rattle.lq_band.proofs.StandsFor.{index_stands}
+use Rattle.lq_table.specs.Places.{producer_place}
 use Rattle.lq_table.specs.Views.{View, Setup, Left}
 use Rattle.lq_table.specs.Rule.{words_of, account, bands_now, locks_at, Leaves, Rule}
 use Rattle.lq_table.specs.Told.{Sat}
@@ -61,7 +62,7 @@ module _ (k : Setup) (s : table.State (Option StationState) View) (r : Rule k s)
       (λ none_. omega arith)
       (cases_lt 0 (total count s.views))
 
-  sees_producer : (b : ℕ) → b < 3 → 0 < v.share.shares → SeesProducer b v (get_or s.words (6 + b) 0)
+  sees_producer : (b : ℕ) → b < 3 → 0 < v.share.shares → SeesProducer b v (get_or s.words (producer_place b) 0)
   sees_producer b below some_share sole free =
       let p = r.parts in let g = r.state in let a = account k g in let W = words_of k s.words in let ls = locks_at b s.views in
       let none_ : total locking ls ≡ 0 = nobody_locks sole.0 b free in
@@ -76,13 +77,13 @@ module _ (k : Setup) (s : table.State (Option StationState) View) (r : Rule k s)
       producer_of k s.words b below ∙ word ∙ ap (λ (n : ℕ). 2 * n) index
 
 module _ (k : Setup) (slots id : ℕ) (m : Sat) (b : ℕ) (below : b < 3) (some_share : 0 < m.0.share.shares) where
-  pub loads_producer : Allows (Rule k) slots id m (6 + b) (λ x. x) (producer_seen_all b (step slots (6 + b) 0 0 none) m)
-  loads_producer = also k slots id m (6 + b) (λ x. x) (unchanged (step slots (6 + b) 0 0 none) m) (SeesProducer b m.0)
+  pub loads_producer : Allows (Rule k) slots id m (producer_place b) (λ x. x) (producer_seen_all b (step slots (producer_place b) 0 0 none) m)
+  loads_producer = also k slots id m (producer_place b) (λ x. x) (unchanged (step slots (producer_place b) 0 0 none) m) (SeesProducer b m.0)
       (λ s r here. sees_producer k s r id m.0 here b below some_share)
-      (loads_any k slots id m (6 + b))
+      (loads_any k slots id m (producer_place b))
 
   pub gets_producer_sole : (i : ℕ) → (at b m.0.locks).holds ≡ false
-      → Allows (Rule k) slots id m (6 + b) (λ n. either (eqb n (2 * i)) (2 * i + 1) n) (got_producer_all b i k.max_len (step slots (6 + b) (2 * i) (2 * i + 1) none) m)
-  gets_producer_sole i free = also k slots id m (6 + b) (λ n. either (eqb n (2 * i)) (2 * i + 1) n) (got_producer b i k.max_len (step slots (6 + b) (2 * i) (2 * i + 1) none) m) (SeesProducer b m.0)
+      → Allows (Rule k) slots id m (producer_place b) (λ n. either (eqb n (2 * i)) (2 * i + 1) n) (got_producer_all b i k.max_len (step slots (producer_place b) (2 * i) (2 * i + 1) none) m)
+  gets_producer_sole i free = also k slots id m (producer_place b) (λ n. either (eqb n (2 * i)) (2 * i + 1) n) (got_producer b i k.max_len (step slots (producer_place b) (2 * i) (2 * i + 1) none) m) (SeesProducer b m.0)
       (λ s r here. sees_producer k s r id m.0 here b below some_share)
       (gets_producer k slots id m b i below free some_share)

@@ -16,6 +16,7 @@ use Rattle.lq_band.specs.HalfResized.{IsHalfResized}
 use Rattle.lq_band.proofs.Three.{at_put_same, at_put_other}
 use Rattle.lq_band.proofs.HalfResizedKept.{half_resized_sized}
 use Rattle.lq_band.proofs.Kept.{locks, sizes_if, gives}
+use Rattle.lq_table.specs.Places.{size_place, producer_place}
 use Rattle.lq_table.specs.Views.{View, Setup, HolderPart}
 use Rattle.lq_table.specs.Rule.{words_of, account, holders, bands_now, locks_at, Rule}
 use Rattle.lq_table.specs.Told.{Sat}
@@ -28,19 +29,19 @@ module _ (k : Setup) where
   -- the word of the producer, and what the seat knows of it, change
   producer_step : (s : table.State (Option StationState) View) (r : Rule k s) (id b x : ℕ) (v : View) (l : Lock) → r.state.resizing ≡ None → b < 3 → get_elem? s.views id ≡ some v → 0 < v.share.shares
       → IsRing (words_of k s.words).size (at b (words_of k s.words).slots) x (set (locks_at b s.views) id l) (bands_now r.state.left (account k r.state).bands b) (at b r.state.ends)
-      → Rule k record { words = set s.words (6 + b) x; homes = s.homes; views = set s.views id (with_lock_at b l v) }
+      → Rule k record { words = set s.words (producer_place b) x; homes = s.homes; views = set s.views id (with_lock_at b l v) }
   producer_step s r id b x v l calm below here some_share ring =
       let p = r.parts in let g = r.state in let a = account k g in let W = words_of k s.words in let w : View = with_lock_at b l v in
-      beside k s r (6 + b) x id v (put b l v.locks) (put b x W.producers) W.slots here (lt-ltb 0 v.share.shares some_share) some_share (set_producer k s.words x b below (let wide = r.wide in omega arith))
+      beside k s r (producer_place b) x id v (put b l v.locks) (put b x W.producers) W.slots here (lt-ltb 0 v.share.shares some_share) some_share (set_producer k s.words x b below (let wide = r.wide in omega arith))
       (rings_step k s.views id v w here k.max_len W.size W.producers (put b x W.producers) W.slots W.slots a.len (bands_now g.left a.bands) (bands_now g.left a.bands) g.ends g.ends g.resizing b p.rings calm
       (subst (λ (z : ℕ × Lock). IsRing W.size (at b W.slots) z.0 (set (locks_at b s.views) id z.1) (bands_now g.left a.bands b) (at b g.ends)) (λ i. (sym (at_put_same b x W.producers) i, sym (at_put_same b l v.locks) i)) ring)
       (λ c h n. (refl, at_put_other b c x W.producers below h n, at_put_other b c l v.locks below h n, refl, refl)))
 
   pub gets_producer : (slots id : ℕ) (m : Sat) (b i : ℕ) → b < 3 → (at b m.0.locks).holds ≡ false → 0 < m.0.share.shares
-      → Allows (Rule k) slots id m (6 + b) (λ n. either (eqb n (2 * i)) (2 * i + 1) n) (got_producer b i k.max_len (step slots (6 + b) (2 * i) (2 * i + 1) none) m)
+      → Allows (Rule k) slots id m (producer_place b) (λ n. either (eqb n (2 * i)) (2 * i + 1) n) (got_producer b i k.max_len (step slots (producer_place b) (2 * i) (2 * i + 1) none) m)
   gets_producer slots id m b i below free some_share s r deep here small =
       let v : View = m.0 in let p = r.parts in let W = words_of k s.words in let word = producer_of k s.words b below in
-      dite (ℕ_discrete (get_or s.words (6 + b) 0) (2 * i))
+      dite (ℕ_discrete (get_or s.words (producer_place b) 0) (2 * i))
       (λ even. let w : View = with_lock_at b (locked_at i) v in
       let is : at b W.producers ≡ 2 * i = sym word ∙ even in
       let calm : r.state.resizing ≡ None = calm_even k.max_len W.size W.producers W.slots _ _ _ r.state.resizing s.views b i p.rings below is in let old = (p.rings.running calm).ring b below in
@@ -48,7 +49,7 @@ module _ (k : Setup) where
         w,
         keeps,
         tt,
-        subst (λ c. Rule k (stepped s (6 + b) (either c (2 * i + 1) (get_or s.words (6 + b) 0)) id m.1 w keeps)) (sym (eq-eqb _ _ even))
+        subst (λ c. Rule k (stepped s (producer_place b) (either c (2 * i + 1) (get_or s.words (producer_place b) 0)) id m.1 w keeps)) (sym (eq-eqb _ _ even))
             (producer_step s r id b (2 * i + 1) v (locked_at i) calm below here some_share (subst (λ (x : ℕ). IsRing W.size (at b W.slots) (x + 1) (set (locks_at b s.views) id (locked_at i)) (bands_now r.state.left (account k r.state).bands b) (at b r.state.ends)) is ring)),
         ((λ _. (refl, let a = old.index_within in let w' = old.word_is in let o = old.one in let h = p.rings.within in omega arith)), λ no_. absurd (no_ even)),
       ))
@@ -56,12 +57,12 @@ module _ (k : Setup) where
         v,
         keeps,
         tt,
-        subst (λ c. Rule k (stepped s (6 + b) (either c (2 * i + 1) (get_or s.words (6 + b) 0)) id m.1 v keeps)) (sym (ne_eqb _ _ odd)) (rule_same k s r (6 + b) id v here),
+        subst (λ c. Rule k (stepped s (producer_place b) (either c (2 * i + 1) (get_or s.words (producer_place b) 0)) id m.1 v keeps)) (sym (ne_eqb _ _ odd)) (rule_same k s r (producer_place b) id v here),
         ((λ even. absurd (odd even)), λ _. refl),
       ))
 
   pub gives_producer : (slots id : ℕ) (m : Sat) (b size i : ℕ) → b < 3 → (at b m.0.locks).holds ≡ true → (at b m.0.locks).size ≡ Some size → i ≡ index_given size (at b m.0.locks) → 0 < m.0.share.shares → m.0.holder.resizing ≡ None
-      → Allows (Rule k) slots id m (6 + b) (λ _. 2 * i) (λ _. producer_given b (step slots (6 + b) (2 * i) 0 none) m (2 * i))
+      → Allows (Rule k) slots id m (producer_place b) (λ _. 2 * i) (λ _. producer_given b (step slots (producer_place b) (2 * i) 0 none) m (2 * i))
   gives_producer slots id m b size i below has knows is some_share no_resizing s r deep here small =
       let v : View = m.0 in let p = r.parts in let g = r.state in let W = words_of k s.words in let D : HolderPart = holders g (account k g) W.size in
       let calm : g.resizing ≡ None = calm_here k.infos k.max_len W.size W.producers W.slots _ _ _ r.qdisc.locked W.xoff r.home g.past D g.resizing s.views id v b p.rings p.lends refl here below has no_resizing in
@@ -90,7 +91,7 @@ module _ (k : Setup) where
       go true e h = e
       go false e h = sym (ap (λ (b : Bool). (if b then sized_at z l else l).holds) e) ∙ h
 
-  pub loads_size : (slots id : ℕ) (m : Sat) → 0 < m.0.share.shares → Allows (Rule k) slots id m 5 (λ n. n) (size_loaded k.max_len (step slots 5 0 0 none) m)
+  pub loads_size : (slots id : ℕ) (m : Sat) → 0 < m.0.share.shares → Allows (Rule k) slots id m size_place (λ n. n) (size_loaded k.max_len (step slots size_place 0 0 none) m)
   loads_size slots id m some_share s r deep here small =
       let v : View = m.0 in let p = r.parts in let g = r.state in let a = account k g in let W = words_of k s.words in let w : View = sized W.size v in let live = lt-ltb 0 v.share.shares some_share in
       let first = p.rings.positive in let few = p.rings.within in
@@ -98,7 +99,7 @@ module _ (k : Setup) where
         w,
         keeps,
         tt,
-        beside k s r 5 W.size id v w.locks W.producers W.slots here live some_share (set_back k s.words 5) record {
+        beside k s r size_place W.size id v w.locks W.producers W.slots here live some_share (set_back k s.words size_place) record {
           positive = p.rings.positive;
           within = p.rings.within;
           running = λ calm. let x = p.rings.running calm in record {

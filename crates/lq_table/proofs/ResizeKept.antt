@@ -39,6 +39,7 @@ use Rattle.lq_band.proofs.StoredKept.{stored_as, decides}
 use Rattle.lq_band.proofs.Three.{at_put_same, at_put_other, at_all, three_cases}
 use Rattle.lq_band.proofs.Times.{in_times, times_append, times_drop}
 use Rattle.lq_band.proofs.HalfResizedKept.{begins, unturned, reindexes, restarts, just_got}
+use Rattle.lq_table.specs.Places.{size_place, producer_place}
 use Rattle.lq_table.specs.Views.{View, Setup, State, HolderPart, HalfResize, Work, Left, machine_packet}
 use Rattle.lq_table.specs.Rule.{words_of, machine_of, account, holders, owes, waiting_of, unstored, bands_of, bands_now, Holder, IsLocker, IsResizing, IsResting, locks_at, KnowsPackets, Parts, Rule}
 use Rattle.lq_table.proofs.UnitsKept.{gone_same, gone_step}
@@ -104,7 +105,7 @@ module _ (k : Setup) where
   -- a resize begins
   pub begins_resize : (slots id : ℕ) (m : Sat) (len event : ℕ) → m.0.place.position ≡ Control true → may_resize m.0.control.phase ≡ true → m.0.control.purge ≡ None → m.0.holder.resizing ≡ None → IsResting m.0.holder.size m.0.holder.ends
       → ((b : ℕ) → b < 3 → ((at b m.0.locks).holds ≡ true) × ((at b m.0.locks).stored ≡ false)) → 0 < len → len ≤ k.max_len → 0 < m.0.share.shares
-      → Allows (Rule k) slots id m 5 (λ n. n) (resize_begun k.infos k.max_len len event (step slots 5 0 0 none) m)
+      → Allows (Rule k) slots id m size_place (λ n. n) (resize_begun k.infos k.max_len len event (step slots size_place 0 0 none) m)
   begins_resize slots id m len event position phase no_purge no_resizing rests locked some_len fits some_share s r2 deep here small =
       let v : View = m.0 in let live = lt-ltb 0 v.share.shares some_share in let holds : holds_lock v.place.position ≡ true = ap holds_lock position in
       let r1 = resizing_rule k s r2 None (resizing_known k s r2 id v None here some_share holds no_resizing) in
@@ -139,7 +140,7 @@ module _ (k : Setup) where
         w,
         keeps,
         tt,
-        rule_after k s r 5 W.size id s.homes r.home w W q' g' a' r.deep (set_back k s.words 5) refl record {
+        rule_after k s r size_place W.size id s.homes r.home w W q' g' a' r.deep (set_back k s.words size_place) refl record {
           shares = shares_same k s.views id v w here live p.shares refl;
           machine = closed s.views id v here live w q' at_control live (λ j. record v.place { position = position j }) stepped_;
           stands = record { state = p.stands.state; lock = p.stands.lock; xoff = p.stands.xoff; inside = p.stands.inside; bypass = p.stands.bypass };
@@ -211,7 +212,7 @@ module _ (k : Setup) where
 
   -- control sets the producer of a band
   pub sets_producer : (slots id : ℕ) (m : Sat) (b i : ℕ) (t : HalfResize) → b < 3 → holds_lock m.0.place.position ≡ true → m.0.holder.resizing ≡ Some t → (at b m.0.locks).holds ≡ true → 0 < m.0.share.shares
-      → Allows (Rule k) slots id m (6 + b) (λ _. 2 * i + 1) (λ _. producer_set b i (step slots (6 + b) (2 * i + 1) 0 none) m (2 * i + 1))
+      → Allows (Rule k) slots id m (producer_place b) (λ _. 2 * i + 1) (λ _. producer_set b i (step slots (producer_place b) (2 * i + 1) 0 none) m (2 * i + 1))
   sets_producer slots id m b i t below holds under_way locked some_share s r1 deep here small =
       let v : View = m.0 in let r = resizing_rule k s r1 (Some t) (resizing_known k s r1 id v (Some t) here some_share holds under_way) in
       let p = r.parts in let g = r.state in let a = account k g in let W = words_of k s.words in let w : View = with_lock_at b (locked_at i) v in let live = lt-ltb 0 v.share.shares some_share in
@@ -220,7 +221,7 @@ module _ (k : Setup) where
         w,
         keeps,
         tt,
-        beside k s r (6 + b) x id v (put b (locked_at i) v.locks) (put b x W.producers) W.slots here live some_share (set_producer k s.words x b below (let wide = r.wide in omega arith)) record {
+        beside k s r (producer_place b) x id v (put b (locked_at i) v.locks) (put b x W.producers) W.slots here live some_share (set_producer k s.words x b below (let wide = r.wide in omega arith)) record {
           positive = p.rings.positive;
           within = p.rings.within;
           running = λ calm. absurd (none_some (sym calm));
@@ -245,7 +246,7 @@ module _ (k : Setup) where
   -- the size is stored, once the slots have what each band keeps, the producers are set and no fate is owed
   pub stores_size : (slots id : ℕ) (m : Sat) (t : HalfResize) → holds_lock m.0.place.position ≡ true → m.0.holder.resizing ≡ Some t → 0 < m.0.share.shares
       → ((b : ℕ) → b < 3 → IsRefilled (at b t.works).slots (at b t.works).kept t.len × (at b m.0.locks ≡ locked_at (round t.len (length (at b t.works).kept))) × ((at b t.works).waiting ≡ []))
-      → Allows (Rule k) slots id m 5 (λ _. t.len) (λ _. size_stored t (step slots 5 t.len 0 none) m t.len)
+      → Allows (Rule k) slots id m size_place (λ _. t.len) (λ _. size_stored t (step slots size_place t.len 0 none) m t.len)
   stores_size slots id m t holds under_way some_share ready s r1 deep here small =
       let v : View = m.0 in let r = resizing_rule k s r1 (Some t) (resizing_known k s r1 id v (Some t) here some_share holds under_way) in let live = lt-ltb 0 v.share.shares some_share in
       let p = r.parts in let g = r.state in let a = account k g in let q = r.qdisc in let W = words_of k s.words in let w : View = restarted t v in
@@ -254,7 +255,7 @@ module _ (k : Setup) where
         w,
         keeps,
         tt,
-        rule_after k s r 5 t.len id s.homes r.home w (record W { size = t.len }) q g' a r.deep (set_size k s.words t.len (let wide = r.wide in omega arith)) refl record {
+        rule_after k s r size_place t.len id s.homes r.home w (record W { size = t.len }) q g' a r.deep (set_size k s.words t.len (let wide = r.wide in omega arith)) refl record {
           shares = shares_same k s.views id v w here live p.shares refl;
           machine = mach.machine;
           stands = record { state = p.stands.state; lock = p.stands.lock; xoff = p.stands.xoff; inside = p.stands.inside; bypass = p.stands.bypass };

@@ -9,6 +9,7 @@ use Rattle.lq_device.specs.Station.{StationState}
 use Rattle.lq_model.specs.Account.{Account}
 use Rattle.lq_model.specs.Machine.{Qdisc, bit, state_word}
 use Rattle.lq_model.specs.Positions.{holds_lock}
+use Rattle.lq_table.specs.Places.{state_place, lock_place}
 use Rattle.lq_table.specs.Views.{View, Setup, State, HolderPart, first_account}
 use Rattle.lq_account.specs.Trail.{down_of}
 use Rattle.lq_account.proofs.Trails.{down-is}
@@ -27,7 +28,7 @@ four_bits : (s d m r : Bool) → bit s + 2 * bit d + 4 * bit m + 8 * bit r < 16
 four_bits s d m r = let a = bit_small s in let b = bit_small d in let c = bit_small m in let e = bit_small r in omega arith
 
 -- what the state word tells the first seat
-pub sees_down : (k : Setup) (s : table.State (Option StationState) View) (r : Rule k s) (id : ℕ) (v : View) → get_elem? s.views id ≡ some v → v.control.first ≡ true → SeesDown v (get_or s.words 1 0)
+pub sees_down : (k : Setup) (s : table.State (Option StationState) View) (r : Rule k s) (id : ℕ) (v : View) → get_elem? s.views id ≡ some v → v.control.first ≡ true → SeesDown v (get_or s.words state_place 0)
 sees_down k s r id v here first = let q = r.qdisc in let t = r.parts.stands in let e : ℕ = event_word (account k r.state).down in
     let down : down_of v.trail ≡ (account k r.state).down = ap down_of (r.parts.trails.knows id v here first) ∙ down-is k.infos (first_account k) refl r.state.past in record {
       down = ap (is_set 2) t.state ∙ has_deactivated q.sched q.deactivated q.missed q.draining e ∙ r.parts.ties.down ∙ sym (ap (λ (o : Option ℕ). is_some o) down);
@@ -44,7 +45,7 @@ module _ (k : Setup) (s : table.State (Option StationState) View) (r : Rule k s)
   pub knows_state : v.whole.state ≡ r.state
   knows_state = (r.parts.sole id v here sole.0 sole.1).1
 
-  pub sees_state : SeesState v (get_or s.words 1 0)
+  pub sees_state : SeesState v (get_or s.words state_place 0)
   sees_state = let q = r.qdisc in let t = r.parts.stands in let e : ℕ = event_word (account k r.state).down in record {
     scheduled = ap (is_set 1) t.state ∙ has_sched q.sched q.deactivated q.missed q.draining e ∙ sym (ap (λ (z : Qdisc). z.sched) knows_qdisc);
     down = ap (is_set 2) t.state ∙ has_deactivated q.sched q.deactivated q.missed q.draining e ∙ r.parts.ties.down ∙ sym (ap (λ (a : Account). is_some a.down) knows_account);
@@ -53,7 +54,7 @@ module _ (k : Setup) (s : table.State (Option StationState) View) (r : Rule k s)
     event = λ event down. (state_word q, four_bits q.sched q.deactivated q.missed q.draining, t.state ∙ ap (λ (o : Option ℕ). state_word q + 256 * event_word o) (ap (λ (a : Account). a.down) (sym knows_account) ∙ down));
   }
 
-  pub sees_lock : get_or s.words 2 0 ≡ bit v.whole.qdisc.locked
+  pub sees_lock : get_or s.words lock_place 0 ≡ bit v.whole.qdisc.locked
   sees_lock = r.parts.stands.lock ∙ sym (ap (λ (z : Qdisc). bit z.locked) knows_qdisc)
 
   pub sees_stop : v.whole.state.shut ≡ None → (queue : ℕ) → get_or s.words (xoff_word k queue) 0 ≡ slice_index (account_of v).stops queue

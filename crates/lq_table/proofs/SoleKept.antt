@@ -23,6 +23,7 @@ use Rattle.atomic_table.specs.Table.{step, Allows}
 use Rattle.lq_model.specs.declared.machine.Position.TheVariants.{Check, Recheck, Scan, Idle}
 use Rattle.lq_model.specs.Machine.{bit}
 use Rattle.std.specs.Prelude.{slice_index}
+use Rattle.lq_table.specs.Places.{state_place, lock_place}
 use Rattle.lq_table.specs.Views.{View, Setup, State, HolderPart, machine_packet}
 use Rattle.lq_table.specs.Rule.{words_of, slot_word, account, xoff_word, Rule}
 use Rattle.lq_table.specs.Told.{Sat, at_rest, loads_state, misses, schedules, tries_lock, loads_stop, stop_queue, looked, checked, rechecked, missed_now, scheduled_now, stop_loaded, woken, tried}
@@ -36,30 +37,31 @@ use Rattle.lq_table.proofs.DirectKept.{rechecks}
 use Rattle.lq_table.proofs.LoadKept.{loads_stop_word}
 use Rattle.lq_table.proofs.LocksKept.{tries_all}
 use Rattle.lq_table.proofs.WakeKept.{wakes}
-use Rattle.lq_table.proofs.Ends.{unlocked}
+use Rattle.lq_table.proofs.AllAtRest.{unlocked}
+use Rattle.lq_table.proofs.Ends.{rests}
 use Rattle.lq_table.proofs.StopsKept.{free_none}
 
 module _ (k : Setup) (slots id : ℕ) (m : Sat) where
   abbrev sees : ℕ → Type 0
   sees x = IsSole m.0 → SeesState m.0 x
 
-  pub looks_sole : loads_state m.0.place.position ≡ true → 0 < m.0.share.shares → Allows (Rule k) slots id m 1 (λ n. n) (looked_all (step slots 1 0 0 none) m)
-  looks_sole at some_share = also k slots id m 1 (λ n. n) (looked (step slots 1 0 0 none) m) sees (λ s r here sole. sees_state k s r id m.0 here some_share sole) (looks_all k slots id m at some_share)
+  pub looks_sole : loads_state m.0.place.position ≡ true → 0 < m.0.share.shares → Allows (Rule k) slots id m state_place (λ n. n) (looked_all (step slots state_place 0 0 none) m)
+  looks_sole at some_share = also k slots id m state_place (λ n. n) (looked (step slots state_place 0 0 none) m) sees (λ s r here sole. sees_state k s r id m.0 here some_share sole) (looks_all k slots id m at some_share)
 
-  pub checks_sole : (n : ℕ) → m.0.place.position ≡ Check (machine_packet k.infos n) → m.0.packets.fresh ≡ Some n → m.0.packets.owed ≡ None → 0 < m.0.share.shares → Allows (Rule k) slots id m 1 (λ x. x) (checked_all n (step slots 1 0 0 none) m)
-  checks_sole n at fresh owed some_share = also k slots id m 1 (λ x. x) (checked n (step slots 1 0 0 none) m) (SeesChecked m.0) (λ s r here. (λ sole. sees_state k s r id m.0 here some_share sole, λ first. sees_down k s r id m.0 here first)) (checks k slots id n m at fresh owed some_share)
+  pub checks_sole : (n : ℕ) → m.0.place.position ≡ Check (machine_packet k.infos n) → m.0.packets.fresh ≡ Some n → m.0.packets.owed ≡ None → 0 < m.0.share.shares → Allows (Rule k) slots id m state_place (λ x. x) (checked_all n (step slots state_place 0 0 none) m)
+  checks_sole n at fresh owed some_share = also k slots id m state_place (λ x. x) (checked n (step slots state_place 0 0 none) m) (SeesChecked m.0) (λ s r here. (λ sole. sees_state k s r id m.0 here some_share sole, λ first. sees_down k s r id m.0 here first)) (checks k slots id n m at fresh owed some_share)
 
-  pub rechecks_sole : (n : ℕ) → m.0.place.position ≡ Recheck (machine_packet k.infos n) → m.0.packets.fresh ≡ Some n → 0 < m.0.share.shares → Allows (Rule k) slots id m 1 (λ x. x) (rechecked_all n (step slots 1 0 0 none) m)
-  rechecks_sole n at fresh some_share = also k slots id m 1 (λ x. x) (rechecked n (step slots 1 0 0 none) m) sees (λ s r here sole. sees_state k s r id m.0 here some_share sole) (rechecks k slots id n m at fresh some_share)
+  pub rechecks_sole : (n : ℕ) → m.0.place.position ≡ Recheck (machine_packet k.infos n) → m.0.packets.fresh ≡ Some n → 0 < m.0.share.shares → Allows (Rule k) slots id m state_place (λ x. x) (rechecked_all n (step slots state_place 0 0 none) m)
+  rechecks_sole n at fresh some_share = also k slots id m state_place (λ x. x) (rechecked n (step slots state_place 0 0 none) m) sees (λ s r here sole. sees_state k s r id m.0 here some_share sole) (rechecks k slots id n m at fresh some_share)
 
-  pub misses_sole : misses m.0.place.position ≡ true → 0 < m.0.share.shares → Allows (Rule k) slots id m 1 (λ n. bit_or n 4) (missed_all (step slots 1 4 0 none) m)
-  misses_sole at some_share = also k slots id m 1 (λ n. bit_or n 4) (missed_now (step slots 1 4 0 none) m) sees (λ s r here sole. sees_state k s r id m.0 here some_share sole) (misses_kept k slots id m at some_share)
+  pub misses_sole : misses m.0.place.position ≡ true → 0 < m.0.share.shares → Allows (Rule k) slots id m state_place (λ n. bit_or n 4) (missed_all (step slots state_place 4 0 none) m)
+  misses_sole at some_share = also k slots id m state_place (λ n. bit_or n 4) (missed_now (step slots state_place 4 0 none) m) sees (λ s r here sole. sees_state k s r id m.0 here some_share sole) (misses_kept k slots id m at some_share)
 
-  pub schedules_sole : schedules m.0.place.position ≡ true → 0 < m.0.share.shares → Allows (Rule k) slots id m 1 (λ n. bit_or n 1) (scheduled_all (step slots 1 1 0 none) m)
-  schedules_sole at some_share = also k slots id m 1 (λ n. bit_or n 1) (scheduled_now (step slots 1 1 0 none) m) sees (λ s r here sole. sees_state k s r id m.0 here some_share sole) (schedules_kept k slots id m at some_share)
+  pub schedules_sole : schedules m.0.place.position ≡ true → 0 < m.0.share.shares → Allows (Rule k) slots id m state_place (λ n. bit_or n 1) (scheduled_all (step slots state_place 1 0 none) m)
+  schedules_sole at some_share = also k slots id m state_place (λ n. bit_or n 1) (scheduled_now (step slots state_place 1 0 none) m) sees (λ s r here sole. sees_state k s r id m.0 here some_share sole) (schedules_kept k slots id m at some_share)
 
-  pub tries_sole : tries_lock m.0.place.position ≡ true → 0 < m.0.share.shares → Allows (Rule k) slots id m 2 (λ n. either (eqb n 0) 1 n) (tried_all (step slots 2 0 1 none) m)
-  tries_sole at some_share = also k slots id m 2 (λ n. either (eqb n 0) 1 n) (tried (step slots 2 0 1 none) m) (λ x. IsSole m.0 → x ≡ bit m.0.whole.qdisc.locked) (λ s r here sole. sees_lock k s r id m.0 here some_share sole) (tries_all k slots id m at some_share)
+  pub tries_sole : tries_lock m.0.place.position ≡ true → 0 < m.0.share.shares → Allows (Rule k) slots id m lock_place (λ n. either (eqb n 0) 1 n) (tried_all (step slots lock_place 0 1 none) m)
+  tries_sole at some_share = also k slots id m lock_place (λ n. either (eqb n 0) 1 n) (tried (step slots lock_place 0 1 none) m) (λ x. IsSole m.0 → x ≡ bit m.0.whole.qdisc.locked) (λ s r here sole. sees_lock k s r id m.0 here some_share sole) (tries_all k slots id m at some_share)
 
   pub loads_stop_sole : (queue : ℕ) → loads_stop m.0.place.position ≡ true → stop_queue k.infos m.0.holder.slot m.0.place.position queue ≡ queue → queue < k.queues → length k.infos ≤ 1000000 → 0 < m.0.share.shares
       → Allows (Rule k) slots id m (xoff_word k queue) (λ x. x) (stop_loaded_all queue (step slots (xoff_word k queue) 0 0 none) m)
@@ -75,7 +77,7 @@ module _ (k : Setup) (slots id : ℕ) (m : Sat) where
       -- no other seat holds the run lock, so no exchange of the device is half done
       none_shut : (s : table.State (Option StationState) View) → Rule k s → get_elem? s.views id ≡ some m.0 → IsSole m.0 → m.0.whole.state.shut ≡ None
       none_shut s r here sole = ap (λ (g : State). g.shut) (knows_state k s r id m.0 here some_share sole)
-          ∙ free_none r.qdisc.phase r.qdisc.locked r.qdisc.xoff (account k r.state).stops r.state.shut (unlocked k s r id m.0 here sole.0 (ap at_rest at)) r.parts.stops
+          ∙ free_none r.qdisc.phase r.qdisc.locked r.qdisc.xoff (account k r.state).stops r.state.shut (unlocked k s r (rests k s r id m.0 here sole.0 (ap at_rest at))) r.parts.stops
 
   -- what stands in the slot at the head of a band whose consumer rests
   sees_first : (b i : ℕ) (second : Bool) → b < 3 → i < k.max_len → m.0.place.position ≡ Scan b second → m.0.holder.resizing ≡ None → is_emptying m.0.holder.size (at b m.0.holder.ends) ≡ false → i ≡ (at b m.0.holder.ends).head → 0 < m.0.share.shares

@@ -91,31 +91,6 @@ clear_sched_leaves _ h = absurd cc
 pub clears_sched_solo : (v : View) → clears_sched v.place.position ≡ true → solo (passing v) ≡ sched_cleared (solo v)
 clears_sched_solo v h = solo_step v (seen_by v) (λ q. record q { sched = false }) (clear_sched_leaves v.place.position h)
 
--- SCHED is set, and the seat raised where it was clear
-raised_or : (a was : Bool) → (if was then a else true) ≡ (a || not was)
-raised_or true true = refl
-raised_or true false = refl
-raised_or false true = refl
-raised_or false false = refl
-
-raised_if : (b : Bool) (x y : After) → (if b then x else y).seat.raised ≡ (if b then x.seat.raised else y.seat.raised)
-raised_if true x y = refl
-raised_if false x y = refl
-
-schedule_raises : (y : Position) → schedules y ≡ true → (seen : Qdisc) (s : Seat) → (step_at y Plain seen s).seat.raised ≡ (s.raised || not seen.sched)
-schedule_raises (at.Sched inside) h seen s =
-    raised_if seen.sched (goes_to seen s (call_ends inside)) (record { qdisc = record seen { sched = true }; seat = record s { position = call_ends inside; raised = true } }) ∙ raised_or s.raised seen.sched
-schedule_raises _ h seen s = absurd cc
-
-schedule_words : (y : Position) → schedules y ≡ true → (q : Qdisc) (s : Seat) → (step_at y Plain q s).qdisc ≡ record q { sched = true }
-schedule_words (at.Sched inside) h q s =
-    either_words q.sched (goes_to q s (call_ends inside)) (record { qdisc = record q { sched = true }; seat = record s { position = call_ends inside; raised = true } }) (record q { sched = true }) (λ e j. record q { sched = e j }) (λ _. refl)
-schedule_words _ h q s = absurd cc
-
-pub schedules_solo : (was : Bool) (v : View) → schedules v.place.position ≡ true → solo (scheduling was v) ≡ sched_set was (solo v)
-schedules_solo was v h = let a = schedule_raises v.place.position h (record (seen_by v) { sched = was }) v.place in let b = schedule_words v.place.position h v.whole.qdisc v.place in
-    λ j. record (solo v) { raised = a j; whole = record (solo v).whole { missed = (b j).missed; draining = (b j).draining; scheduled = (b j).sched; locked = (b j).locked } }
-
 -- MISSED or DRAINING is set by the holder
 record Sets (y : Position) (to : Qdisc → Qdisc) : Type 0 where
   raised : (seen : Qdisc) (s : Seat) → (step_at y Plain seen s).seat.raised ≡ s.raised
@@ -157,29 +132,10 @@ sets_missed_solo v h = set_step v (λ q. record q { missed = true }) (set_leaves
 pub sets_draining_solo : (v : View) → sets_draining v.place.position ≡ true → solo (setting v) ≡ laid v (draining_to true (solo v))
 sets_draining_solo v h = set_step v (λ q. record q { draining = true }) (drain_leaves v.place.position h)
 
--- at a place that the seat knows exactly
-check_leaves : (p : Packet) → Leaves (at.Check p) (λ q. q)
-check_leaves p = record { raised = λ seen s. refl; words = λ q s. refl }
-
-recheck_leaves : (p : Packet) → Leaves (at.Recheck p) (λ q. q)
-recheck_leaves p = record { raised = λ seen s. refl; words = λ q s. refl }
-
 leave_leaves : Leaves at.Leave (λ q. record q { inside = q.inside - 1 })
 leave_leaves = record { raised = λ seen s. refl; words = λ q s. refl }
 
 module _ (v : View) where
-  pub checks_solo : (x : ℕ) (p : Packet) → v.place.position ≡ at.Check p → solo (looking x v) ≡ solo v
-  checks_solo x p is = solo_step v (seen_state (seen_by v) v.share.about.bypass x) (λ q. q) (subst (λ (y : Position). Leaves y (λ q. q)) (sym is) (check_leaves p))
-
-  pub refuses_solo : (x n e : ℕ) (p : Packet) → v.place.position ≡ at.Check p → solo (refusing n e x v) ≡ heard (Refuse n e) (solo v)
-  refuses_solo x n e p is = ap (heard (Refuse n e)) (checks_solo x p is)
-
-  pub rechecks_solo : (x : ℕ) (p : Packet) → v.place.position ≡ at.Recheck p → solo (looking x v) ≡ solo v
-  rechecks_solo x p is = solo_step v (seen_state (seen_by v) v.share.about.bypass x) (λ q. q) (subst (λ (y : Position). Leaves y (λ q. q)) (sym is) (recheck_leaves p))
-
-  pub goes_solo : (x n : ℕ) (p : Packet) → v.place.position ≡ at.Recheck p → solo (going n x v) ≡ heard (DirectEvent n) (solo v)
-  goes_solo x n p is = ap (heard (DirectEvent n)) (rechecks_solo x p is)
-
   pub leaves_solo : v.place.position ≡ at.Leave → solo (passing v) ≡ solo v
   leaves_solo is = solo_step v (seen_by v) (λ q. record q { inside = q.inside - 1 }) (subst (λ (y : Position). Leaves y (λ q. record q { inside = q.inside - 1 })) (sym is) leave_leaves)
 
@@ -217,48 +173,6 @@ module _ (v : View) where
           locked = (step_at y Plain v.whole.qdisc v.place).qdisc.locked;
         };
       }) is)
-
--- after a try of a sole seat the lock is held
-try_words : (attempt : Attempt) (q : Qdisc) (s : Seat) → (lock_got attempt q s).qdisc ≡ q
-try_words (Direct p) q s = refl
-try_words (Queued p) q s = refl
-try_words Interrupt q s = refl
-
-try_raised : (attempt : Attempt) (q : Qdisc) (s : Seat) → (lock_got attempt q s).seat.raised ≡ s.raised
-try_raised (Direct p) q s = refl
-try_raised (Queued p) q s = refl
-try_raised Interrupt q s = refl
-
-try_leaves : (attempt : Attempt) (otherwise : Position) (q : Qdisc) (s : Seat) → ((try_lock attempt otherwise q s).seat.raised ≡ s.raised) × ((try_lock attempt otherwise q s).qdisc ≡ record q { locked = true })
-try_leaves attempt otherwise q s = (
-  either_raised q.locked (goes_to q s otherwise) (lock_got attempt (record q { locked = true }) s) s.raised refl (try_raised attempt (record q { locked = true }) s),
-  either_words q.locked (goes_to q s otherwise) (lock_got attempt (record q { locked = true }) s) (record q { locked = true }) (λ e j. record q { locked = e j }) (λ _. try_words attempt (record q { locked = true }) s),
-)
-
-tries_leaves : (y : Position) → tries_lock y ≡ true → is_control y ≡ false → Leaves y (λ q. record q { locked = true })
-tries_leaves (at.Try1 attempt) h c = record { raised = λ seen s. (try_leaves attempt (at.Miss attempt) seen s).0; words = λ q s. (try_leaves attempt (at.Miss attempt) q s).1 }
-tries_leaves (at.Try2 attempt) h c = record { raised = λ seen s. (try_leaves attempt (gives_up attempt) seen s).0; words = λ q s. (try_leaves attempt (gives_up attempt) q s).1 }
-tries_leaves (at.Control holds) h c = absurd (true≢false c)
-tries_leaves _ h c = absurd cc
-
-module _ (v : View) (at_try : tries_lock v.place.position ≡ true) where
-  pub got_solo : (d : HolderPart) → solo (got d v) ≡ locked_to true (solo v)
-  got_solo d = by (is_control v.place.position) refl
-    where
-      by : (b : Bool) → is_control v.place.position ≡ b → solo (if b then got_in_control d v else got_in_call d v) ≡ locked_to true (solo v)
-      by true e = refl
-      by false e = solo_step v (seen_lock (seen_by (record v { holder = d })) false) (λ q. record q { locked = true }) (tries_leaves v.place.position at_try e)
-
-  pub held_solo : v.whole.qdisc.locked ≡ true → solo (finding_locked v) ≡ locked_to true (solo v)
-  held_solo locked = by (is_control v.place.position) refl
-    where
-      by : (b : Bool) → is_control v.place.position ≡ b → solo (finding_locked v) ≡ locked_to true (solo v)
-      by true e = ⊎_elim (λ (c : _). c) (λ (c : _). absurd (true≢false (sym e ∙ c))) (control_solo v.place.position refl)
-        where
-          control_solo : (y : Position) → v.place.position ≡ y → (solo (finding_locked v) ≡ locked_to true (solo v)) ⊎ (is_control v.place.position ≡ false)
-          control_solo (at.Control holds) is = inl (solo_step v (seen_lock (seen_by v) true) (λ q. q) (subst (λ (y : Position). Leaves y (λ q. q)) (sym is) record { raised = λ seen s. refl; words = λ q s. refl }) ∙ (λ j. locked_to (locked j) (solo v)))
-          control_solo y is = inr (ap is_control is ∙ cc)
-      by false e = solo_step v (seen_lock (seen_by v) true) (λ q. record q { locked = true }) (tries_leaves v.place.position at_try e)
 
 -- the device answered
 abbrev at_device : View → StationState → Position → Answer → Solo

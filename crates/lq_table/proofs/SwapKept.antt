@@ -19,6 +19,7 @@ use Rattle.lq_model.specs.Control.{is_control, is_purged_phase}
 use Rattle.lq_model.specs.Positions.{holds_lock}
 use Rattle.lq_model.specs.Kept.{IsInductive}
 use Rattle.lq_band.proofs.Seats.{each_step}
+use Rattle.lq_table.specs.Places.{line_of}
 use Rattle.lq_table.specs.Views.{View, Setup, State, HolderPart, machine_packet, first_account}
 use Rattle.lq_table.specs.Rule.{HasServed, IsCallOf, IsDevice, latest_unit, Opening, AreStops, xoff_word, station_count, words_of, account, holders, last_sent, units_of, KnowsPackets, Holder, bands_now, Rule}
 use Rattle.lq_table.proofs.UnitsKept.{fewer, unit_is_latest, BringsNone, gone_same, gone_swap}
@@ -90,7 +91,7 @@ module _ (k : Setup) where
   -- it stores the stop word 0, with a device that has accepted nothing and whose unit is new
   pub swaps : (slots id : ℕ) (m : Sat) (st : StationState) → 0 < k.queues → m.0.holder.shut ≡ None → m.0.place.position ≡ Control true → m.0.control.phase ≡ Purged → m.0.control.purge ≡ None
       → IsExchange m.0.share.about.infos m.0.share.about.station m.0.holder.units st → 0 < m.0.share.shares
-      → Allows (Rule k) slots id m 3 (λ _. 0) (swapped st (step slots 3 0 0 none) m)
+      → Allows (Rule k) slots id m (line_of 3) (λ _. 0) (swapped st (step slots (line_of 3) 0 0 none) m)
   swaps slots id m st some_queue no_shut position purged no_purge is_new some_share s r deep here small =
       let v : View = m.0 in
       let q = r.qdisc in let p = r.parts in let g = r.state in let a = account k g in let W = words_of k s.words in let live = lt-ltb 0 v.share.shares some_share in let mid = middle s.views id v here live in let holds : holds_lock v.place.position ≡ true = ap holds_lock position in
@@ -119,7 +120,7 @@ module _ (k : Setup) where
         w,
         keeps,
         tt,
-        rule_after k s r 3 0 id s.homes r.home w (record W { xoff = xs }) q' g' a' r.deep (set_xoff k s.words 0 0 (xoff_within k s.words 0 r.wide (omega arith))) refl record {
+        rule_after k s r (line_of 3) 0 id s.homes r.home w (record W { xoff = xs }) q' g' a' r.deep (set_xoff k s.words 0 0 (xoff_within k s.words 0 r.wide (omega arith))) refl record {
           shares = shares_same k s.views id v w here live p.shares refl;
           machine = closed s.views id v here live w q' at_control live is stepped_;
           stands = record { state = p.stands.state; lock = p.stands.lock; xoff = ap (λ (ls : List ℕ). slice_set ls 0 0) p.stands.xoff; inside = p.stands.inside; bypass = p.stands.bypass };

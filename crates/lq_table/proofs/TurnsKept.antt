@@ -18,6 +18,7 @@ use Rattle.lq_model.specs.Plan.{owner_in, station_in, rank_in}
 use Rattle.lq_model.specs.Legal.{brought_by}
 use Rattle.lq_band.specs.Seats.{total, Each}
 use Rattle.lq_band.proofs.Seats.{total_set, each_step, each_same}
+use Rattle.lq_table.specs.Places.{turn_place}
 use Rattle.lq_table.specs.Views.{View, Setup, SharePart, HolderPart}
 use Rattle.lq_table.specs.Comes.{IsFresh}
 use Rattle.lq_table.specs.Rule.{words_of, times, is_live, account, holders, bands_now, Holder, KnowsPackets, KnowsTurn, KnowsWords, has_turn, Given, Turns, Rule}
@@ -65,10 +66,10 @@ module _ (k : Setup) (s : table.State (Option StationState) View) (r : Rule k s)
   turn_stored : w.share ≡ v.share → w.place ≡ v.place → w.control ≡ v.control → w.locks ≡ v.locks → w.holder ≡ v.holder → w.whole ≡ v.whole → w.settled ≡ v.settled → w.trail ≡ v.trail → w.packets.owed ≡ v.packets.owed
       → KnowsPackets k r.state.past (account k r.state) w.share w.packets
       → Turns k (set (words_of k s.words).turns o x) (set s.views id w) r.state.past → Given k (set (words_of k s.words).turns o x) (set s.views id w) r.state.past
-      → Rule k record { words = set s.words (9 + o) x; homes = s.homes; views = set s.views id w }
+      → Rule k record { words = set s.words (turn_place o) x; homes = s.homes; views = set s.views id w }
   turn_stored share place control locks holder whole settled trail owed packets turns given =
       let p = r.parts in let g = r.state in let a = account k g in let q = r.qdisc in let W = words_of k s.words in let D : HolderPart = holders g a W.size in let mach = stays k s r id v w here live place share control in
-      rule_after k s r (9 + o) x id s.homes r.home w (record W { turns = set W.turns o x }) q g a r.deep (set_turn k s.words x o small) refl record {
+      rule_after k s r (turn_place o) x id s.homes r.home w (record W { turns = set W.turns o x }) q g a r.deep (set_turn k s.words x o small (let wide = r.wide in omega arith)) refl record {
         shares = shares_same k s.views id v w here live p.shares share;
         machine = mach.machine;
         stands = record { state = p.stands.state; lock = p.stands.lock; xoff = p.stands.xoff; inside = p.stands.inside; bypass = p.stands.bypass };
@@ -97,13 +98,13 @@ module _ (k : Setup) (s : table.State (Option StationState) View) (r : Rule k s)
 
 module _ (k : Setup) where
   pub takes_turn : (slots id : ℕ) (m : Sat) (n : ℕ) → n < length k.infos → station_in k.infos n ≡ k.station → 0 < times (owner_in k.infos n) m.0.share.owners → m.0.packets.busy ≡ None → 0 < m.0.share.shares
-      → Allows (Rule k) slots id m (9 + owner_in k.infos n) (λ x. either (eqb x (2 * rank_in k.infos n)) (2 * rank_in k.infos n + 1) x)
-      (turn_taken n (owner_in k.infos n) (rank_in k.infos n) (step slots (9 + owner_in k.infos n) (2 * rank_in k.infos n) (2 * rank_in k.infos n + 1) none) m)
+      → Allows (Rule k) slots id m (turn_place (owner_in k.infos n)) (λ x. either (eqb x (2 * rank_in k.infos n)) (2 * rank_in k.infos n + 1) x)
+      (turn_taken n (owner_in k.infos n) (rank_in k.infos n) (step slots (turn_place (owner_in k.infos n)) (2 * rank_in k.infos n) (2 * rank_in k.infos n + 1) none) m)
   takes_turn slots id m n inside here_station mine idle some_share s r deep here small =
       let v : View = m.0 in let live = lt-ltb 0 v.share.shares some_share in let p = r.parts in let g = r.state in let a = account k g in let W = words_of k s.words in let o : ℕ = owner_in k.infos n in let rank : ℕ = rank_in k.infos n in let t = p.turns in
       let q = p.packets id v here in let o_in = q.own o mine in let word = turn_of_word k s.words o o_in in let known = (p.given.words_are id v here live).1 o mine in
       let w : View = bringing n o rank v in let x : ℕ = 2 * rank + 1 in let gv = p.given in
-      dite (ℕ_discrete (get_or s.words (9 + o) 0) (2 * rank))
+      dite (ℕ_discrete (get_or s.words (turn_place o) 0) (2 * rank))
       (λ free. let is : get_or W.turns o 0 ≡ 2 * rank = sym word ∙ free in let here_new = same_word k s r id v w here live o o_in mine x in let else_new = other_word k s r id v w here live o o_in mine x in
       let nobody : total (λ u. has_turn k.infos o u.packets.busy) s.views ≡ 0 = (let z = gv.turn o o_in in let e = z.1 in let one = gv.one o o_in in omega arith) in
       let mine_now : (y : ℕ) → total (λ u. has_turn k.infos y u.packets.busy) (set s.views id w) ≡ total (λ u. has_turn k.infos y u.packets.busy) s.views + has_turn k.infos y (Some n) =
@@ -118,7 +119,7 @@ module _ (k : Setup) where
         w,
         keeps,
         tt,
-        subst (λ c. Rule k (stepped s (9 + o) (either c (2 * rank + 1) (get_or s.words (9 + o) 0)) id m.1 w keeps)) (sym (eq-eqb _ _ free))
+        subst (λ c. Rule k (stepped s (turn_place o) (either c (2 * rank + 1) (get_or s.words (turn_place o) 0)) id m.1 w keeps)) (sym (eq-eqb _ _ free))
             (turn_stored k s r id v w here live o o_in mine x refl refl refl refl refl refl refl refl refl
             record { own = q.own; fresh = λ l h. subst (λ (y : ℕ). (0 < times (owner_in k.infos y) v.share.owners) × IsFresh k.infos k.station g.past y) (same_Some n l h) (mine, new); owed = q.owed }
             record {
@@ -162,13 +163,13 @@ module _ (k : Setup) where
         v,
         keeps,
         tt,
-        subst (λ c. Rule k (stepped s (9 + o) (either c (2 * rank + 1) (get_or s.words (9 + o) 0)) id m.1 v keeps)) (sym (ne_eqb _ _ other)) (rule_same k s r (9 + o) id v here),
+        subst (λ c. Rule k (stepped s (turn_place o) (either c (2 * rank + 1) (get_or s.words (turn_place o) 0)) id m.1 v keeps)) (sym (ne_eqb _ _ other)) (rule_same k s r (turn_place o) id v here),
         (word ∙ sym known, (λ free. absurd (other free)), λ _. refl),
       ))
 
   pub gives_turn : (slots id : ℕ) (m : Sat) (n : ℕ) → m.0.packets.busy ≡ Some n → m.0.packets.fresh ≡ None → 0 < m.0.share.shares
-      → Allows (Rule k) slots id m (9 + owner_in k.infos n) (λ _. 2 * rank_in k.infos n + 2)
-      (turn_given (owner_in k.infos n) (rank_in k.infos n) (step slots (9 + owner_in k.infos n) (2 * rank_in k.infos n + 2) 0 none) m)
+      → Allows (Rule k) slots id m (turn_place (owner_in k.infos n)) (λ _. 2 * rank_in k.infos n + 2)
+      (turn_given (owner_in k.infos n) (rank_in k.infos n) (step slots (turn_place (owner_in k.infos n)) (2 * rank_in k.infos n + 2) 0 none) m)
   gives_turn slots id m n busy none_fresh some_share s r deep here small =
       let v : View = m.0 in let live = lt-ltb 0 v.share.shares some_share in let p = r.parts in let g = r.state in let a = account k g in let W = words_of k s.words in let o : ℕ = owner_in k.infos n in let rank : ℕ = rank_in k.infos n in let t = p.turns in
       let q = p.packets id v here in let know = (t.knows id v here).busy n busy in let mine = know.0 in let o_in = q.own o mine in let w : View = giving_turn o rank v in let x : ℕ = 2 * rank + 2 in let gv = p.given in
@@ -212,6 +213,6 @@ module _ (k : Setup) where
         refl,
       )
 
-  pub loads_turn : (slots id o : ℕ) (m : Sat) → o < k.senders → 0 < m.0.share.shares → Allows (Rule k) slots id m (9 + o) (λ x. x) (turn_seen o (step slots (9 + o) 0 0 none) m)
+  pub loads_turn : (slots id o : ℕ) (m : Sat) → o < k.senders → 0 < m.0.share.shares → Allows (Rule k) slots id m (turn_place o) (λ x. x) (turn_seen o (step slots (turn_place o) 0 0 none) m)
   loads_turn slots id o m below some_share s r deep here small =
-      let v : View = m.0 in (v, keeps, tt, rule_same k s r (9 + o) id v here, (refl, λ mine. turn_of_word k s.words o below ∙ sym ((r.parts.given.words_are id v here (lt-ltb 0 v.share.shares some_share)).1 o mine)))
+      let v : View = m.0 in (v, keeps, tt, rule_same k s r (turn_place o) id v here, (refl, λ mine. turn_of_word k s.words o below ∙ sym ((r.parts.given.words_are id v here (lt-ltb 0 v.share.shares some_share)).1 o mine)))

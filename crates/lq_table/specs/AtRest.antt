@@ -16,12 +16,12 @@ use Rattle.lq_table.specs.Solo.{IsSole, account_of}
 use Rattle.atomic_table.specs.Table.{Step}
 
 -- it has the table alone, is in no call, and has no packet of its own and no producer lock
-abbrev pub IsAlone : View → Type 0
-IsAlone v = IsSole v × (at_rest v.place.position ≡ true) × (v.packets ≡ no_packets) × (v.locks ≡ all_three unlocked)
+abbrev pub IsSoleAtRest : View → Type 0
+IsSoleAtRest v = IsSole v × (at_rest v.place.position ≡ true) × (v.packets ≡ no_packets) × (v.locks ≡ all_three unlocked)
 
 -- in the account the packet has a fate, or is held
-abbrev pub IsKept : Account → ℕ → Type 0
-IsKept a n = ((f : Fate) × (a.fates n ≡ Some f)) ⊎ Contains (held a) n
+abbrev pub IsFatedOrHeld : Account → ℕ → Type 0
+IsFatedOrHeld a n = ((f : Fate) × (a.fates n ≡ Some f)) ⊎ Contains (held a) n
 
 -- of the machine q, the state g and the account a
 pub record IsRest (k : Setup) (v : View) (q : Qdisc) (g : State) (a : Account) : Type 0 where
@@ -29,7 +29,7 @@ pub record IsRest (k : Setup) (v : View) (q : Qdisc) (g : State) (a : Account) :
   -- no exchange of the device is half done
   pub shut : g.shut ≡ None
   -- each packet of the seat's owners whose turn was taken has a fate or is held
-  pub kept : (n : ℕ) → n < length k.infos → station_in k.infos n ≡ k.station → 0 < times (owner_in k.infos n) v.share.owners → 2 * rank_in k.infos n + 1 ≤ slice_index v.turns (owner_in k.infos n) → IsKept a n
+  pub kept : (n : ℕ) → n < length k.infos → station_in k.infos n ≡ k.station → 0 < times (owner_in k.infos n) v.share.owners → 2 * rank_in k.infos n + 1 ≤ slice_index v.turns (owner_in k.infos n) → IsFatedOrHeld a n
   -- an active station with SCHED clear whose queues are open holds nothing
   pub quiet : q.sched ≡ false → a.down ≡ None → ((queue : ℕ) → queue < k.queues → slice_index a.stops queue ≡ 0) → held a ≡ []
   -- nor does one that was purged
@@ -45,4 +45,4 @@ KnowsRest v = IsRest v.share.about v v.whole.qdisc v.whole.state (account_of v)
 
 -- a load of the run lock
 abbrev pub lock_seen : Step (Option StationState) → Sat → ℕ → Sat → Type 0
-lock_seen step m found m' = unchanged step m found m' × (IsAlone m.0 → KnowsRest m.0)
+lock_seen step m found m' = unchanged step m found m' × (IsSoleAtRest m.0 → KnowsRest m.0)

@@ -8,7 +8,7 @@ use Rattle.lq_model.specs.Machine.{Qdisc}
 use Rattle.lq_model.specs.Plan.{owner_in, station_in, rank_in}
 use Rattle.lq_model.specs.Words.{IsWordOf, word_of}
 use Rattle.lq_model.specs.declared.fate.Fate.{Fate}
-use Rattle.lq_ring_core.specs.Slots.{round}
+use Rattle.lq_ring_core.specs.Slots.{round, slot_at}
 use Rattle.lq_run_core.specs.Numbered.{greatest}
 use Rattle.lq_band.specs.Seats.{Each}
 use Rattle.lq_band.specs.Stored.{FateWords}
@@ -17,7 +17,7 @@ use Rattle.lq_band.specs.Ring.{unlocked}
 use Rattle.lq_table.specs.Views.{View, Setup, State, FirstPart, first_account}
 use Rattle.lq_account.specs.Trail.{IsOrderly, trail_of}
 use Rattle.lq_table.specs.Told.{is_set}
-use Rattle.lq_table.specs.Rule.{Words, words_of, holders, shown, waits, bands_now, AreHung, HasServed, IsDevice, Accounted, Rings, Sends, Stands, Ties}
+use Rattle.lq_table.specs.Rule.{Words, words_of, holders, shown, waits, bands_now, AreHung, HasServed, IsDevice, Accounted, Rings, IsPresentUnit, Stands, Ties}
 
 -- SCHED and DEACTIVATED are clear, and the greatest stop word is 0: each queue is open
 pub record AreQuiet (w : Words) : Type 0 where
@@ -25,11 +25,20 @@ pub record AreQuiet (w : Words) : Type 0 where
   pub active : is_set 2 w.state ≡ false
   pub queues_open : greatest w.xoff ≡ 0
 
--- Nothing is left: the requeue slot is empty, each band's producer index is at the consumer's head, and each packet of the station
--- whose turn was taken has a fate.
+-- Of a ring of so many slots, with the consumer's head and tail: each slot from the head on is 0, once round up to those behind the head
+-- that aren't emptied yet.
+abbrev pub AreSlotsEmpty : ℕ → List ℕ → ℕ → ℕ → Type 0
+AreSlotsEmpty size slots head tail = (place : ℕ) → head ≤ place → place < tail + size → slot_at slots size place ≡ 0
+
+-- An empty ring: so are its slots, and the producer index is at the head, with no producer lock.
+pub record IsEmptyRing (size : ℕ) (slots : List ℕ) (producer head tail : ℕ) : Type 0 where
+  pub slots_empty : AreSlotsEmpty size slots head tail
+  pub producer_is : producer ≡ 2 * round size head
+
+-- Nothing is left: the requeue slot is empty, each band's ring is, and each packet of the station whose turn was taken has a fate.
 pub record IsEmptied (k : Setup) (w : Words) (st : StationState) : Type 0 where
   pub slot_empty : st.slot ≡ None
-  pub rings_empty : (b : ℕ) → b < 3 → at b w.producers ≡ 2 * round w.size (slice_index st.heads b)
+  pub rings_empty : (b : ℕ) → b < 3 → IsEmptyRing w.size (at b w.slots) (at b w.producers) (slice_index st.heads b) (slice_index st.tails b)
   pub decided : (n : ℕ) → n < length k.infos → station_in k.infos n ≡ k.station → 2 * rank_in k.infos n + 1 ≤ slice_index w.turns (owner_in k.infos n) → (f : Fate) × IsWordOf f (slice_index w.fates n)
 
 -- where the words are quiet nothing is left
@@ -46,8 +55,8 @@ abbrev pub HasAccepted : Account → Option StationState → Type 0
 HasAccepted a home = (st : StationState) × (home ≡ Some st) × (st.unit ≡ a.unit) × (st.device.accepted ≡ a.sent a.unit)
 
 -- the station is at home, and the device that came as `origin` has served it
-abbrev pub IsServed : List Info → ℕ → DeviceState → Option StationState → Type 0
-IsServed infos station origin home = (st : StationState) × (home ≡ Some st) × HasServed infos station origin st.device
+abbrev pub IsServedBy : List Info → ℕ → DeviceState → Option StationState → Type 0
+IsServedBy infos station origin home = (st : StationState) × (home ≡ Some st) × HasServed infos station origin st.device
 
 -- each unit that an exchange took away has sent what it had sent then
 abbrev pub HaveSent : Account → List (ℕ × List ℕ) → Type 0
@@ -61,7 +70,7 @@ pub record Ending (k : Setup) (words : List ℕ) (slots : List (Option StationSt
   pub stops : q.xoff ≡ a.stops
   pub home : slice_get slots 0 ≡ Some (Some (shown (holders g a (words_of k words).size)))
   -- the device is the account's unit: what it accepted is what that sent
-  pub sends : Sends g.station a
+  pub sends : IsPresentUnit g.station a
   pub device : IsDevice k.infos k.station (words_of k words).xoff g.origin g.station.device
   pub hung : g.station.device.hung ≡ true → AreHung (words_of k words).xoff
   pub hand_empty : a.hand ≡ None

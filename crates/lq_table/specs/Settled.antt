@@ -1,6 +1,6 @@
 -- When the fate of a packet may be stored, and what the store tells.
 use Rattle.std.specs.Prelude.{◌≡◌, ℕ, ◌<◌, Bool, true, false, List, ◌∷◌, Option, Some, option_map}
-use Rattle.lq_device.specs.Station.{StationState, Transmits}
+use Rattle.lq_device.specs.Station.{StationState, HasAnswered}
 use Rattle.lq_model.specs.Device.{is_busy}
 use Rattle.lq_model.specs.Positions.{holds_lock}
 use Rattle.lq_model.specs.declared.device.Tx.{Tx}
@@ -22,7 +22,7 @@ pub record MaySend (n : ℕ) (fate : Fate) (st : StationState) (v : View) : Type
   pub answer : Tx
   pub position : v.place.position ≡ Xmit packet direct
   pub in_hand : v.holder.hand ≡ Some n
-  pub called : Transmits answer packet.queue n (shown v.holder) st
+  pub called : HasAnswered answer packet.queue n (shown v.holder) st
   pub accepted : is_busy answer ≡ false
   pub fate_is : fate ≡ fate_sent v.holder.station
 

@@ -10,7 +10,7 @@ use Rattle.lq_model.specs.Machine.{bit}
 use Rattle.lq_model.specs.Positions.{holds_lock, in_hand}
 use Rattle.lq_table.specs.Views.{View}
 use Rattle.lq_table.specs.Rule.{account, holders}
-use Rattle.lq_table.specs.Told.{Sat, IsPacketOf, is_dequeue, is_set, looked, checked, rechecked, missed_now, scheduled_now, stop_loaded, woken, tried}
+use Rattle.lq_table.specs.Told.{lock_looked, missed_looked, Sat, IsPacketOf, is_dequeue, is_set, looked, checked, rechecked, missed_now, scheduled_now, stop_loaded, woken, tried}
 use Rattle.lq_table.specs.Rings.{head_seen}
 use Rattle.atomic_table.specs.Table.{Step}
 
@@ -167,6 +167,12 @@ woken_all queue s m found m' = woken queue s m found m' × (IsSole m.0 → found
 -- the lock was held or free as its words say, and after a try it is held; what the holder has is the account's
 abbrev pub tried_all : Step (Option StationState) → Sat → ℕ → Sat → Type 0
 tried_all s m found m' = tried s m found m' × (IsSole m.0 → found ≡ bit m.0.whole.qdisc.locked)
+
+abbrev pub lock_looked_all : Step (Option StationState) → Sat → ℕ → Sat → Type 0
+lock_looked_all s m found m' = lock_looked s m found m' × (IsSole m.0 → found ≡ bit m.0.whole.qdisc.locked)
+
+abbrev pub missed_looked_all : Step (Option StationState) → Sat → ℕ → Sat → Type 0
+missed_looked_all s m found m' = missed_looked s m found m' × (IsSole m.0 → SeesState m.0 found)
 
 -- the first packet of a band, from its slot at the head
 abbrev pub SeesHead : ℕ → View → ℕ → Type 0

@@ -1,28 +1,29 @@
 //! The steps on the count of calls inside.
-ghost use Rattle.std.specs.Prelude.{◌≡◌, ℕ, ◌<◌, ◌⊎◌, true, is_some, None};
+ghost use Rattle.std.specs.Prelude.{◌≡◌, ℕ, ◌<◌, ◌⊎◌, true, is_some, None, ◌∷◌};
 ghost use Rattle.lq_model.specs.declared.machine.Position.TheVariants.{Leave as AtLeave};
 ghost use Rattle.lq_table.specs.Marks.{marks_of};
-ghost use Rattle.lq_table.specs.Sees.{view, position, IsSeatOf, IsElseSame};
+ghost use Rattle.lq_table.specs.Sees.{view, position, IsSeatOf, IsElseSame, steps};
 ghost use Rattle.lq_table.specs.Told.{at_rest, bringing_packet, entering, passing};
 ghost use Rattle.lq_table.specs.Solo.{solo, entered_as};
+ghost use Rattle.lq_table.specs.Made.{did_enter, did_leave};
 
 use crate::marks::Marks;
-use crate::plays::{Enter, Pass};
+use crate::places::INSIDE;
+use crate::plays::{Depart, Enter};
 use crate::shared::{Cpu, Shared};
 use crate::view::Knowledge;
 use atomic_table::Seat;
 use lq_device::{Station, TxDevice};
 
-const INSIDE: usize = 4;
-
 impl<'a, D: TxDevice> Shared<'a, D> {
     fn enter_seat(&self, seat: &mut Seat<Option<Station<D>>, Knowledge>, marks: &mut Marks)
-        requires seat { (seat.old.table_id ≡ self.now.table.shared.table_id) × (0 < seat.old.me.0.share.shares) }
-        requires at { at_rest seat.old.me.0.place.position ≡ true }
-        requires call { (is_some (bringing_packet seat.old.me.0) ≡ true) ⊎ ((seat.old.me.0.place.raised ≡ true) × (seat.old.me.0.packets.busy ≡ None)) }
-        requires told { marks.old ≡ marks_of seat.old.me.0 }
-        ensures seat { (seat.new.table_id ≡ seat.old.table_id) × (seat.new.id ≡ seat.old.id) × (seat.new.me.1 ≡ seat.old.me.1) × (seat.new.me.0 ≡ entering seat.old.me.0) }
-        ensures told { marks.new ≡ marks_of seat.new.me.0 }
+        requires seat { (seat.old.table_id ≡ self.now.table.shared.table_id) × (0 < seat.old.me.0.view.share.shares) }
+        requires at { at_rest seat.old.me.0.view.place.position ≡ true }
+        requires call { (is_some (bringing_packet seat.old.me.0.view) ≡ true) ⊎ ((seat.old.me.0.view.place.raised ≡ true) × (seat.old.me.0.view.packets.busy ≡ None)) }
+        requires told { marks.old ≡ marks_of seat.old.me.0.view }
+        ensures seat { (seat.new.table_id ≡ seat.old.table_id) × (seat.new.id ≡ seat.old.id) × (seat.new.me.1 ≡ seat.old.me.1) × (seat.new.me.0.view ≡ entering seat.old.me.0.view) }
+        ensures told { marks.new ≡ marks_of seat.new.me.0.view }
+        ensures made { seat.new.me.0.steps ≡ did_enter ∷ seat.old.me.0.steps }
     {
         self.table.shared.fetch_add::<Enter>(seat, INSIDE, 1);
         marks.raised = marks.raised && marks.busy;
@@ -38,6 +39,7 @@ impl<'a, D: TxDevice> Shared<'a, D> {
         ensures same { IsElseSame cpu.old cpu.new }
         ensures view { view cpu.new ≡ entering (view cpu.old) }
         ensures step { solo (view cpu.new) ≡ entered_as (is_some (bringing_packet (view cpu.old))) (solo (view cpu.old)) }
+        ensures made { steps cpu.new ≡ did_enter ∷ steps cpu.old }
     {
         self.enter_seat(&mut cpu.known.seat, &mut cpu.known.marks);
     }
@@ -49,9 +51,10 @@ impl<'a, D: TxDevice> Shared<'a, D> {
         ensures same { IsElseSame cpu.old cpu.new }
         ensures view { view cpu.new ≡ passing (view cpu.old) }
         ensures step { solo (view cpu.new) ≡ solo (view cpu.old) }
+        ensures made { steps cpu.new ≡ did_leave ∷ steps cpu.old }
     {
         self.table
             .shared
-            .fetch_sub::<Pass>(&mut cpu.known.seat, INSIDE, 1);
+            .fetch_sub::<Depart>(&mut cpu.known.seat, INSIDE, 1);
     }
 }

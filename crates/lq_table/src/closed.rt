@@ -3,13 +3,14 @@ ghost use Rattle.std.specs.Prelude.{◌≡◌, ◌<◌, Some, IfSome, IfNone, sl
 ghost use Rattle.lq_device.specs.Station.{StationState};
 ghost use Rattle.lq_model.specs.Words.{IsWordOf};
 ghost use Rattle.lq_run_core.specs.Numbered.{greatest};
-ghost use Rattle.lq_table.specs.Sees.{closed_words, closed_stops, closed_fates, closed_home, ended_fates};
+ghost use Rattle.lq_table.specs.Places.{state_place, lock_place, inside_place, size_place};
+ghost use Rattle.lq_table.specs.Sees.{closed_words, closed_stops, closed_fates, closed_home};
+ghost use Rattle.lq_table.specs.Ended.{ended_fates};
 
 use crate::ended::{Closed, Ended};
+use crate::places::{INSIDE, LOCK, SIZE, STATE, XOFF};
 use lq_device::{StationPlan, TxDevice};
 use lq_model::{Fate, word_fate};
-
-const XOFF: usize = 3;
 
 /// The words of a closed table that are no producer's, turn's, slot's or fate's, the stop words as one.
 #[derive(Clone, Copy, Debug, PartialEq, Eq)]
@@ -74,18 +75,18 @@ impl<D: TxDevice> Closed<D> {
 
     /// The words as they are, and the greatest of the stop words.
     pub fn words(&self) -> Words
-        ensures state { result.state ≡ slice_index (closed_words self.now) 1 }
-        ensures lock { result.lock ≡ slice_index (closed_words self.now) 2 }
+        ensures state { result.state ≡ slice_index (closed_words self.now) state_place }
+        ensures lock { result.lock ≡ slice_index (closed_words self.now) lock_place }
         ensures xoff { result.xoff ≡ greatest (closed_stops self.now) }
-        ensures inside { result.inside ≡ slice_index (closed_words self.now) 4 }
-        ensures size { result.size ≡ slice_index (closed_words self.now) 5 }
+        ensures inside { result.inside ≡ slice_index (closed_words self.now) inside_place }
+        ensures size { result.size ≡ slice_index (closed_words self.now) size_place }
     {
         Words {
-            state: self.ended.table.word(1),
-            lock: self.ended.table.word(2),
+            state: self.ended.table.word(STATE),
+            lock: self.ended.table.word(LOCK),
             xoff: self.greatest_stop(),
-            inside: self.ended.table.word(4),
-            size: self.ended.table.word(5),
+            inside: self.ended.table.word(INSIDE),
+            size: self.ended.table.word(SIZE),
         }
     }
 

@@ -1,38 +1,25 @@
 //! The steps of control, which the first seat alone does.
-ghost use Rattle.std.specs.Prelude.{◌≡◌, ◌<◌, ℕ, Bool, true, false, not, nat_lt, Some, None, is_some};
+ghost use Rattle.std.specs.Prelude.{◌≡◌, ◌<◌, ℕ, Bool, true, false, not, nat_lt, Some, None, is_some, ◌∷◌, ◌+◌};
 ghost use Rattle.lq_model.specs.Machine.{Purge};
 ghost use Rattle.lq_model.specs.declared.machine.Phase.TheVariants.{Active, Purged};
 ghost use Rattle.lq_model.specs.declared.machine.Position.TheVariants.{Idle as AtIdle, Control as AtControl};
 ghost use Rattle.lq_table.specs.Views.{Left};
 ghost use Rattle.lq_table.specs.Rule.{HasServed, latest_unit};
-ghost use Rattle.lq_table.specs.Sees.{view, position, carried, IsSeatOf, IsElseSame};
-ghost use Rattle.lq_table.specs.AtRest.{IsAlone, KnowsRest};
+ghost use Rattle.lq_table.specs.Sees.{view, position, carried, IsSeatOf, IsElseSame, steps, setup};
+ghost use Rattle.lq_table.specs.AtRest.{IsSoleAtRest, KnowsRest};
 ghost use Rattle.lq_table.specs.Told.{at_rest};
 ghost use Rattle.lq_table.specs.Controls.{beginning_control, returning, closing, finding, opening, resetting_missed, resetting_draining, IsExchange, GoesAway, swapping, opening_next};
+ghost use Rattle.lq_table.specs.Made.{did_load_inside, did_load_lock, did_store_stop, did_clear_deactivated, did_clear_draining, did_clear_missed, did_load_base, did_set_deactivated};
 
+use crate::places::{BASE, INSIDE, LOCK, STATE, XOFF};
 use crate::plays::{
     BeginControl, Close, Event, Find, LoadLock, Named, Open, OpenNext, ResetDraining, ResetMissed,
     Return, Standing, Swap,
 };
 use crate::shared::{Cpu, Shared};
 use lq_device::TxDevice;
+use lq_model::state::{ACTIVE_BITS, ALL_BUT_DRAINING, ALL_BUT_MISSED};
 use std::marker::Brand;
-
-const BASE: usize = 0;
-
-const STATE: usize = 1;
-
-const LOCK: usize = 2;
-
-const XOFF: usize = 3;
-
-const INSIDE: usize = 4;
-
-const ALL_BITS_BUT_DEACTIVATED: u64 = 13;
-
-const ALL_BUT_MISSED: u64 = 18446744073709551611;
-
-const ALL_BUT_DRAINING: u64 = 18446744073709551607;
 
 impl<'a, D: TxDevice> Shared<'a, D> {
     /// A call of control begins on the first seat.
@@ -41,6 +28,7 @@ impl<'a, D: TxDevice> Shared<'a, D> {
         requires at { (position cpu.old ≡ AtIdle) × ((view cpu.old).control.first ≡ true) }
         ensures same { IsElseSame cpu.old cpu.new }
         ensures view { view cpu.new ≡ beginning_control (view cpu.old) }
+        ensures made { (found : ℕ) × (steps cpu.new ≡ did_load_base found ∷ steps cpu.old) }
     {
         self.table
             .shared
@@ -53,6 +41,7 @@ impl<'a, D: TxDevice> Shared<'a, D> {
         requires at { position cpu.old ≡ AtControl false }
         ensures same { IsElseSame cpu.old cpu.new }
         ensures view { view cpu.new ≡ returning (view cpu.old) }
+        ensures made { (found : ℕ) × (steps cpu.new ≡ did_load_base found ∷ steps cpu.old) }
     {
         self.table.shared.load::<Return>(&mut cpu.known.seat, BASE);
     }
@@ -64,6 +53,7 @@ impl<'a, D: TxDevice> Shared<'a, D> {
         requires active { ((view cpu.old).control.first ≡ true) × ((view cpu.old).control.phase ≡ Active) × ((view cpu.old).control.purge ≡ None) }
         ensures same { IsElseSame cpu.old cpu.new }
         ensures view { view cpu.new ≡ closing K.event (view cpu.old) }
+        ensures made { (was : Bool) × (steps cpu.new ≡ did_set_deactivated event was ∷ steps cpu.old) }
     {
         self.table
             .shared
@@ -78,6 +68,7 @@ impl<'a, D: TxDevice> Shared<'a, D> {
         requires active { ((view cpu.old).control.first ≡ true) × ((view cpu.old).control.phase ≡ Active) × ((view cpu.old).control.purge ≡ None) }
         ensures same { IsElseSame cpu.old cpu.new }
         ensures view { view cpu.new ≡ closing event (view cpu.old) }
+        ensures made { (was : Bool) × (steps cpu.new ≡ did_set_deactivated event was ∷ steps cpu.old) }
     {
         self.set_deactivated_by::<Brand>(cpu, event);
     }
@@ -89,6 +80,7 @@ impl<'a, D: TxDevice> Shared<'a, D> {
         requires at { (holds : Bool) × (position cpu.old ≡ AtControl holds) }
         ensures same { IsElseSame cpu.old cpu.new }
         ensures view { view cpu.new ≡ finding result (view cpu.old) }
+        ensures made { steps cpu.new ≡ did_load_inside result ∷ steps cpu.old }
     {
         self.table.shared.load::<Find>(&mut cpu.known.seat, INSIDE)
     }
@@ -99,7 +91,8 @@ impl<'a, D: TxDevice> Shared<'a, D> {
         requires seat { IsSeatOf self.now cpu.old }
         ensures same { IsElseSame cpu.old cpu.new }
         ensures view { view cpu.new ≡ view cpu.old }
-        ensures alone { IsAlone (view cpu.old) → KnowsRest (view cpu.old) }
+        ensures alone { IsSoleAtRest (view cpu.old) → KnowsRest (view cpu.old) }
+        ensures made { steps cpu.new ≡ did_load_lock result ∷ steps cpu.old }
     {
         self.table
             .shared
@@ -113,10 +106,11 @@ impl<'a, D: TxDevice> Shared<'a, D> {
         requires purged { ((view cpu.old).control.phase ≡ Purged) × ((view cpu.old).control.purge ≡ None) }
         ensures same { IsElseSame cpu.old cpu.new }
         ensures view { view cpu.new ≡ opening (view cpu.old) }
+        ensures made { steps cpu.new ≡ did_clear_deactivated ∷ steps cpu.old }
     {
         self.table
             .shared
-            .fetch_and::<Open>(&mut cpu.known.seat, STATE, ALL_BITS_BUT_DEACTIVATED);
+            .fetch_and::<Open>(&mut cpu.known.seat, STATE, ACTIVE_BITS);
     }
 
     /// Clears MISSED after the last packet of a purge, as `dev_reset_queue` of net/sched/sch_generic.c does. The purge
@@ -127,6 +121,7 @@ impl<'a, D: TxDevice> Shared<'a, D> {
         requires purge { (u : Purge) × (l : Left) × ((view cpu.old).control.purge ≡ Some u) × (not (nat_lt u.band 3) ≡ true) × ((view cpu.old).holder.left ≡ Some l) × ((view cpu.old).holder.resizing ≡ None) }
         ensures same { IsElseSame cpu.old cpu.new }
         ensures view { view cpu.new ≡ resetting_missed (view cpu.old) }
+        ensures made { steps cpu.new ≡ did_clear_missed ∷ steps cpu.old }
     {
         self.table
             .shared
@@ -141,6 +136,7 @@ impl<'a, D: TxDevice> Shared<'a, D> {
         requires purge { (u : Purge) × (l : Left) × ((view cpu.old).control.purge ≡ Some u) × (not (nat_lt u.band 3) ≡ true) × ((view cpu.old).holder.left ≡ Some l) × ((view cpu.old).holder.resizing ≡ None) }
         ensures same { IsElseSame cpu.old cpu.new }
         ensures view { view cpu.new ≡ resetting_draining (view cpu.old) }
+        ensures made { steps cpu.new ≡ did_clear_draining ∷ steps cpu.old }
     {
         self.table
             .shared
@@ -156,6 +152,7 @@ impl<'a, D: TxDevice> Shared<'a, D> {
         ensures same { IsElseSame cpu.old cpu.new }
         ensures view { view cpu.new ≡ swapping K.station (view cpu.old) }
         ensures old { GoesAway (view cpu.old) }
+        ensures made { steps cpu.new ≡ did_store_stop (setup self.now) 0 0 ∷ steps cpu.old }
     {
         self.table
             .shared
@@ -175,6 +172,7 @@ impl<'a, D: TxDevice> Shared<'a, D> {
         ensures view { view cpu.new ≡ swapping (carried cpu.old) (view cpu.old) }
         ensures served { HasServed self.now.infos.now self.now.station (view cpu.old).control.origin (view cpu.old).holder.station.device }
         ensures unit { (view cpu.old).holder.station.unit ≡ latest_unit self.now.station (view cpu.old).holder.units }
+        ensures made { steps cpu.new ≡ did_store_stop (setup self.now) 0 0 ∷ steps cpu.old }
     {
         self.exchange_of::<Brand>(cpu);
     }
@@ -187,6 +185,7 @@ impl<'a, D: TxDevice> Shared<'a, D> {
         requires purged { ((view cpu.old).control.phase ≡ Purged) × ((view cpu.old).control.purge ≡ None) }
         ensures same { IsElseSame cpu.old cpu.new }
         ensures view { view cpu.new ≡ opening_next K.band (view cpu.old) }
+        ensures made { steps cpu.new ≡ did_store_stop (setup self.now) queue 0 ∷ steps cpu.old }
     {
         let word = self.stop_word(queue);
         self.table
@@ -203,6 +202,7 @@ impl<'a, D: TxDevice> Shared<'a, D> {
         requires purged { ((view cpu.old).control.phase ≡ Purged) × ((view cpu.old).control.purge ≡ None) }
         ensures same { IsElseSame cpu.old cpu.new }
         ensures view { view cpu.new ≡ opening_next queue (view cpu.old) }
+        ensures made { steps cpu.new ≡ did_store_stop (setup self.now) queue 0 ∷ steps cpu.old }
     {
         self.open_xoff_of::<Brand>(cpu, queue);
     }

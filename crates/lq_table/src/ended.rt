@@ -1,6 +1,7 @@
 //! What is left of a table that was closed.
 ghost use Rattle.std.specs.Prelude.{◌≡◌, ℕ, ◌+◌, ◌<◌, ◌≤◌, false, slice_index_or};
 ghost use Rattle.std.specs.Mem.Slots.{slots_items, slots_len, slots_filled, IsFull};
+ghost use Rattle.lq_table.specs.Places.{line_of};
 ghost use Rattle.lq_table.specs.Written.{AreWritten};
 
 use atomic_table::Closed as ClosedTable;
@@ -14,7 +15,7 @@ pub struct Ended<D: TxDevice> {
     pub(crate) plan: StationPlan,
     pub(crate) fates_from: usize,
     pub(crate) packets: usize,
-    pub ghost long: { (fates_from + packets ≤ slots_len table.words) × (9 ≤ slots_len table.words) × (packets ≤ 1000000) },
+    pub ghost long: { (fates_from + packets ≤ slots_len table.words) × (line_of 9 ≤ slots_len table.words) × (packets ≤ 1000000) },
     pub ghost full: { IsFull table.words },
     pub ghost written: { AreWritten fates_from packets (slots_items table.words) },
     pub ghost taken: { (k : ℕ) → k < slots_len table.slots → slice_index_or (slots_filled table.slots) k false ≡ false },

@@ -1,10 +1,11 @@
 //! The step on a fate word.
-ghost use Rattle.std.specs.Prelude.{◌≡◌, ◌<◌, length};
+ghost use Rattle.std.specs.Prelude.{◌≡◌, ◌<◌, length, ◌∷◌};
 ghost use Rattle.lq_model.specs.Plan.{band_in};
-ghost use Rattle.lq_model.specs.Words.{HasWord};
-ghost use Rattle.lq_table.specs.Sees.{view, carried, IsSeatOf, IsElseSame};
+ghost use Rattle.lq_model.specs.Words.{HasWord, word_of};
+ghost use Rattle.lq_table.specs.Sees.{view, carried, IsSeatOf, IsElseSame, steps, setup};
 ghost use Rattle.lq_table.specs.Settled.{MaySettle, fated, fate_stored};
 ghost use Rattle.lq_table.specs.Solo.{solo, fated_as};
+ghost use Rattle.lq_table.specs.Made.{Noted, Stores, did_store_fate};
 
 use crate::shared::{Cpu, Shared};
 use crate::view::Knowledge;
@@ -46,7 +47,7 @@ pub(crate) struct Settle<K> {
 }
 
 impl<D: TxDevice, K: Settling> Play<Option<Station<D>>, Knowledge> for Settle<K> {
-    ghost then = { fate_stored K.station K.band K.packet K.fate };
+    ghost then = { Noted Stores (fate_stored K.station K.band K.packet K.fate) };
 }
 
 impl<'a, D: TxDevice> Shared<'a, D> {
@@ -58,8 +59,9 @@ impl<'a, D: TxDevice> Shared<'a, D> {
         ensures same { IsElseSame cpu.old cpu.new }
         ensures settled { view cpu.new ≡ fated K.station K.band n fate (view cpu.old) }
         ensures step { solo (view cpu.new) ≡ fated_as K.station fate (solo (view cpu.old)) }
+        ensures made { steps cpu.new ≡ did_store_fate (setup self.now) n (word_of fate) ∷ steps cpu.old }
     {
-        let word = 9 + self.senders as usize + 3 * self.max_len as usize + n as usize;
+        let word = self.fate_word_of(n);
         self.table
             .shared
             .store::<Settle<K>>(&mut cpu.known.seat, word, fate_word(fate));
@@ -76,6 +78,7 @@ impl<'a, D: TxDevice> Shared<'a, D> {
         ensures same { IsElseSame cpu.old cpu.new }
         ensures settled { view cpu.new ≡ fated (carried cpu.old) (band_in self.now.infos.now n) n fate (view cpu.old) }
         ensures step { solo (view cpu.new) ≡ fated_as (carried cpu.old) fate (solo (view cpu.old)) }
+        ensures made { steps cpu.new ≡ did_store_fate (setup self.now) n (word_of fate) ∷ steps cpu.old }
     {
         self.settle_of::<Brand>(cpu, n, fate);
     }

@@ -11,5 +11,5 @@ use atomic_table::Seat;
 pub struct Marked<S> {
     pub(crate) seat: Seat<S, Knowledge>,
     pub(crate) marks: Marks,
-    pub ghost told: { marks ≡ marks_of seat.me.0 },
+    pub ghost told: { marks ≡ marks_of seat.me.0.view },
 }

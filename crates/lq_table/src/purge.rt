@@ -1,6 +1,6 @@
 //! The steps of a purge by control: `qdisc_reset` of net/sched/sch_generic.c, with `pfifo_fast_reset`, on a station that
 //! is deactivated or whose device hangs. It takes the packets out of the requeue slot and the rings, whose fate is Purged.
-ghost use Rattle.std.specs.Prelude.{◌≡◌, ◌≢◌, ℕ, ◌+◌, ◌*◌, ◌-◌, ◌<◌, ◌≤◌, true, false, [], Some, None, is_some, slice_index};
+ghost use Rattle.std.specs.Prelude.{◌≡◌, ◌≢◌, ℕ, ◌+◌, ◌*◌, ◌-◌, ◌<◌, ◌≤◌, true, false, [], Some, None, is_some, slice_index, ◌∷◌};
 ghost use Rattle.std.specs.List.{slice_get};
 ghost use Rattle.lq_account.specs.Trail.{down_of};
 ghost use Rattle.lq_model.specs.Band.{Band, held_of};
@@ -11,16 +11,16 @@ ghost use Rattle.lq_model.specs.declared.machine.Position.TheVariants.{Control};
 ghost use Rattle.lq_band.specs.Three.{at, Three as Of};
 ghost use Rattle.lq_band.specs.Ring.{is_emptying};
 ghost use Rattle.lq_table.specs.Views.{Left};
-ghost use Rattle.lq_table.specs.Sees.{view, position, carried, ends_at, IsSeatOf, IsElseSame};
+ghost use Rattle.lq_table.specs.Sees.{view, position, carried, ends_at, IsSeatOf, IsElseSame, steps, setup};
 ghost use Rattle.lq_table.specs.Purges.{purging, HoldsAtMost, HoldPackets, AreKnown, purge_begun, hung_purge_begun, taking_purged, passing_band, purge_seen};
+ghost use Rattle.lq_table.specs.Made.{Noted, Loads, did_load_slot, did_load_state};
 
+use crate::places::STATE;
 use crate::shared::{Cpu, Shared};
 use crate::view::Knowledge;
 use atomic_table::Play;
 use lq_device::{Station, TxDevice};
 use std::marker::{Brand, PhantomData};
-
-const STATE: usize = 1;
 
 /// Names a band and the purge that is half done, in the machine and beside it, for the proof of one step.
 pub trait Purging {
@@ -49,13 +49,13 @@ impl Purging for Brand {
 pub(crate) struct BeginPurge;
 
 impl<D: TxDevice> Play<Option<Station<D>>, Knowledge> for BeginPurge {
-    ghost then = { purge_begun };
+    ghost then = { Noted Loads purge_begun };
 }
 
 pub(crate) struct BeginHungPurge;
 
 impl<D: TxDevice> Play<Option<Station<D>>, Knowledge> for BeginHungPurge {
-    ghost then = { hung_purge_begun };
+    ghost then = { Noted Loads hung_purge_begun };
 }
 
 pub(crate) struct SeePurged<K> {
@@ -63,7 +63,7 @@ pub(crate) struct SeePurged<K> {
 }
 
 impl<D: TxDevice, K: Purging> Play<Option<Station<D>>, Knowledge> for SeePurged<K> {
-    ghost then = { purge_seen K.band K.purge K.left };
+    ghost then = { Noted Loads (purge_seen K.band K.purge K.left) };
 }
 
 impl<'a, D: TxDevice> Shared<'a, D> {
@@ -79,6 +79,7 @@ impl<'a, D: TxDevice> Shared<'a, D> {
         ensures same { IsElseSame cpu.old cpu.new }
         ensures begun { (bands : Of Band) × (view cpu.new ≡ purging (cause.Event result) bands (view cpu.old)) × HoldsAtMost (view cpu.old).holder.size bands × HoldPackets (view cpu.old).share.about.infos bands × AreKnown (view cpu.old) bands }
         ensures event { down_of (view cpu.old).trail ≡ Some result }
+        ensures made { (found : ℕ) × (steps cpu.new ≡ did_load_state found ∷ steps cpu.old) }
     {
         let word = self
             .table
@@ -96,6 +97,7 @@ impl<'a, D: TxDevice> Shared<'a, D> {
         requires packets { ((view cpu.old).packets.owed ≡ None) × ((view cpu.old).packets.fresh ≡ None) }
         ensures same { IsElseSame cpu.old cpu.new }
         ensures begun { (bands : Of Band) × (view cpu.new ≡ purging (cause.Hung (view cpu.old).holder.station.unit) bands (view cpu.old)) × HoldsAtMost (view cpu.old).holder.size bands × HoldPackets (view cpu.old).share.about.infos bands × AreKnown (view cpu.old) bands }
+        ensures made { (found : ℕ) × (steps cpu.new ≡ did_load_state found ∷ steps cpu.old) }
     {
         self.table
             .shared
@@ -113,11 +115,9 @@ impl<'a, D: TxDevice> Shared<'a, D> {
         ensures same { IsElseSame cpu.old cpu.new × (result ≤ 1000000) }
         ensures none { result ≡ 0 → (held_of (at band K.left.bands) ≡ []) × (view cpu.new ≡ passing_band K.purge (view cpu.old)) }
         ensures taken { result ≢ 0 → (slice_get (held_of (at band K.left.bands)) 0 ≡ Some (result - 1)) × (view cpu.new ≡ taking_purged band (result - 1) K.left (view cpu.old)) }
+        ensures made { steps cpu.new ≡ did_load_slot (setup self.now) band head result ∷ steps cpu.old }
     {
-        let word = 9
-            + self.senders as usize
-            + band as usize * self.max_len as usize
-            + head as usize;
+        let word = self.slot_word(band, head);
         self.table
             .shared
             .load::<SeePurged<K>>(&mut cpu.known.seat, word)
@@ -137,6 +137,7 @@ impl<'a, D: TxDevice> Shared<'a, D> {
         ensures same { IsElseSame cpu.old cpu.new × (result ≤ 1000000) }
         ensures none { (u : Purge) (l : Left) → (view cpu.old).control.purge ≡ Some u → (view cpu.old).holder.left ≡ Some l → result ≡ 0 → (held_of (at band l.bands) ≡ []) × (view cpu.new ≡ passing_band u (view cpu.old)) }
         ensures taken { (l : Left) → (view cpu.old).holder.left ≡ Some l → result ≢ 0 → (slice_get (held_of (at band l.bands)) 0 ≡ Some (result - 1)) × (view cpu.new ≡ taking_purged band (result - 1) l (view cpu.old)) }
+        ensures made { steps cpu.new ≡ did_load_slot (setup self.now) band (ends_at band cpu.old).head result ∷ steps cpu.old }
     {
         let Some(station) = &cpu.station else {
             unreachable!()

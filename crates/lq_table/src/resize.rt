@@ -13,20 +13,18 @@ ghost use Rattle.lq_band.specs.Ring.{locked_at};
 ghost use Rattle.lq_band.specs.HalfResized.{IsBeforeResize, IsRefilled};
 ghost use Rattle.lq_table.specs.Views.{HalfResize};
 ghost use Rattle.lq_table.specs.Rule.{IsResting};
-ghost use Rattle.lq_table.specs.Sees.{view, position, lock_at, ends_at, IsSeatOf, IsElseSame};
+ghost use Rattle.lq_table.specs.Sees.{view, position, lock_at, ends_at, IsSeatOf, IsElseSame, steps, setup};
 ghost use Rattle.lq_table.specs.Rings.{with_lock_at};
 ghost use Rattle.lq_table.specs.Solo.{IsSole, account_of};
 ghost use Rattle.lq_table.specs.Resizes.{may_resize, resizing_of, beginning, with_resizing, with_work, out_of, into, is_member, restarted, resize_begun, slot_cleared, slot_filled, producer_set, size_stored};
+ghost use Rattle.lq_table.specs.Made.{Noted, did_load_size, Loads, Stores, Swaps, did_set_producer, did_store_size, did_store_slot, did_swap_slot};
 
+use crate::places::{SIZE, producer_word};
 use crate::shared::{Cpu, Shared};
 use crate::view::Knowledge;
 use atomic_table::Play;
 use lq_device::{Station, TxDevice};
 use std::marker::{Brand, PhantomData};
-
-const SIZE: usize = 5;
-
-const PRODUCERS: usize = 6;
 
 /// Names the packets of a resize, the longest ring, the length and the event, for the proof of one step.
 pub trait Resizing {
@@ -90,7 +88,7 @@ pub(crate) struct BeginResize<K> {
 }
 
 impl<D: TxDevice, K: Resizing> Play<Option<Station<D>>, Knowledge> for BeginResize<K> {
-    ghost then = { resize_begun K.infos K.limit K.len K.event };
+    ghost then = { Noted Loads (resize_begun K.infos K.limit K.len K.event) };
 }
 
 pub(crate) struct ClearSlot<K> {
@@ -98,7 +96,7 @@ pub(crate) struct ClearSlot<K> {
 }
 
 impl<D: TxDevice, K: Working> Play<Option<Station<D>>, Knowledge> for ClearSlot<K> {
-    ghost then = { slot_cleared K.band K.index K.resizing };
+    ghost then = { Noted Swaps (slot_cleared K.band K.index K.resizing) };
 }
 
 pub(crate) struct FillSlot<K> {
@@ -106,7 +104,7 @@ pub(crate) struct FillSlot<K> {
 }
 
 impl<D: TxDevice, K: Working> Play<Option<Station<D>>, Knowledge> for FillSlot<K> {
-    ghost then = { slot_filled K.band K.index K.packet K.hand K.resizing };
+    ghost then = { Noted Stores (slot_filled K.band K.index K.packet K.hand K.resizing) };
 }
 
 pub(crate) struct SetProducer<K> {
@@ -114,7 +112,7 @@ pub(crate) struct SetProducer<K> {
 }
 
 impl<D: TxDevice, K: Working> Play<Option<Station<D>>, Knowledge> for SetProducer<K> {
-    ghost then = { producer_set K.band K.index };
+    ghost then = { Noted Stores (producer_set K.band K.index) };
 }
 
 pub(crate) struct StoreSize<K> {
@@ -122,7 +120,7 @@ pub(crate) struct StoreSize<K> {
 }
 
 impl<D: TxDevice, K: Working> Play<Option<Station<D>>, Knowledge> for StoreSize<K> {
-    ghost then = { size_stored K.resizing };
+    ghost then = { Noted Stores (size_stored K.resizing) };
 }
 
 impl<'a, D: TxDevice> Shared<'a, D> {
@@ -139,6 +137,7 @@ impl<'a, D: TxDevice> Shared<'a, D> {
             × ((b n : ℕ) → b < 3 → Contains (held b) n → (band_in K.infos n ≡ b) × (n < length K.infos))
             × ((view cpu.old).control.phase ≡ Purged → (b : ℕ) → b < 3 → held b ≡ [])
             × (IsSole (view cpu.old) → (b : ℕ) → b < 3 → held b ≡ held_in (account_of (view cpu.old)) b) }
+        ensures made { (found : ℕ) × (steps cpu.new ≡ did_load_size found ∷ steps cpu.old) }
     {
         self.table
             .shared
@@ -162,6 +161,7 @@ impl<'a, D: TxDevice> Shared<'a, D> {
             × ((b n : ℕ) → b < 3 → Contains (held b) n → (band_in self.now.infos.now n ≡ b) × (n < length self.now.infos.now))
             × ((view cpu.old).control.phase ≡ Purged → (b : ℕ) → b < 3 → held b ≡ [])
             × (IsSole (view cpu.old) → (b : ℕ) → b < 3 → held b ≡ held_in (account_of (view cpu.old)) b) }
+        ensures made { (found : ℕ) × (steps cpu.new ≡ did_load_size found ∷ steps cpu.old) }
     {
         self.begin_resize_of::<Brand>(cpu, len, event);
     }
@@ -173,8 +173,9 @@ impl<'a, D: TxDevice> Shared<'a, D> {
         requires holder { (holds_lock (position cpu.old) ≡ true) × ((view cpu.old).holder.resizing ≡ Some K.resizing) }
         ensures same { IsElseSame cpu.old cpu.new }
         ensures cleared { (result ≡ slice_index (at band K.resizing.works).slots i) × (view cpu.new ≡ with_resizing (Some (with_work band (out_of i (at band K.resizing.works)) K.resizing)) (view cpu.old)) × (is_member result (at band K.resizing.works) ≡ true → result ≤ 1000000) }
+        ensures made { steps cpu.new ≡ did_swap_slot (setup self.now) band i result ∷ steps cpu.old }
     {
-        let word = 9 + self.senders as usize + band as usize * self.max_len as usize + i as usize;
+        let word = self.slot_word(band, i);
         self.table
             .shared
             .swap::<ClearSlot<K>>(&mut cpu.known.seat, word, 0)
@@ -188,6 +189,7 @@ impl<'a, D: TxDevice> Shared<'a, D> {
         requires holder { (holds_lock (position cpu.old) ≡ true) × ((t : HalfResize) × ((view cpu.old).holder.resizing ≡ Some t)) }
         ensures same { IsElseSame cpu.old cpu.new }
         ensures cleared { (t : HalfResize) → (view cpu.old).holder.resizing ≡ Some t → (result ≡ slice_index (at band t.works).slots i) × (view cpu.new ≡ with_resizing (Some (with_work band (out_of i (at band t.works)) t)) (view cpu.old)) × (is_member result (at band t.works) ≡ true → result ≤ 1000000) }
+        ensures made { steps cpu.new ≡ did_swap_slot (setup self.now) band i result ∷ steps cpu.old }
     {
         self.clear_slot_of::<Brand>(cpu, band, i)
     }
@@ -200,8 +202,9 @@ impl<'a, D: TxDevice> Shared<'a, D> {
         requires hand { ((at band K.resizing.works).hand ≡ n ∷ K.hand) × (slice_index (at band K.resizing.works).slots i ≡ 0) }
         ensures same { IsElseSame cpu.old cpu.new }
         ensures filled { view cpu.new ≡ with_resizing (Some (with_work band (into i n K.hand (at band K.resizing.works)) K.resizing)) (view cpu.old) }
+        ensures made { steps cpu.new ≡ did_store_slot (setup self.now) band i (n + 1) ∷ steps cpu.old }
     {
-        let word = 9 + self.senders as usize + band as usize * self.max_len as usize + i as usize;
+        let word = self.slot_word(band, i);
         self.table
             .shared
             .store::<FillSlot<K>>(&mut cpu.known.seat, word, n as u64 + 1);
@@ -216,6 +219,7 @@ impl<'a, D: TxDevice> Shared<'a, D> {
         requires hand { (t : HalfResize) × (hand : List ℕ) × ((view cpu.old).holder.resizing ≡ Some t) × ((at band t.works).hand ≡ n ∷ hand) × (slice_index (at band t.works).slots i ≡ 0) }
         ensures same { IsElseSame cpu.old cpu.new }
         ensures filled { (t : HalfResize) (hand : List ℕ) → (view cpu.old).holder.resizing ≡ Some t → (at band t.works).hand ≡ n ∷ hand → view cpu.new ≡ with_resizing (Some (with_work band (into i n hand (at band t.works)) t)) (view cpu.old) }
+        ensures made { steps cpu.new ≡ did_store_slot (setup self.now) band i (n + 1) ∷ steps cpu.old }
     {
         self.fill_slot_of::<Brand>(cpu, band, i, n);
     }
@@ -227,12 +231,12 @@ impl<'a, D: TxDevice> Shared<'a, D> {
         requires holder { (holds_lock (position cpu.old) ≡ true) × ((t : HalfResize) × ((view cpu.old).holder.resizing ≡ Some t)) × ((lock_at band cpu.old).holds ≡ true) }
         ensures same { IsElseSame cpu.old cpu.new }
         ensures set { view cpu.new ≡ with_lock_at band (locked_at index) (view cpu.old) }
+        ensures made { steps cpu.new ≡ did_set_producer band index ∷ steps cpu.old }
     {
-        self.table.shared.store::<SetProducer<K>>(
-            &mut cpu.known.seat,
-            PRODUCERS + band as usize,
-            2 * index as u64 + 1,
-        );
+        let word = producer_word(band);
+        self.table
+            .shared
+            .store::<SetProducer<K>>(&mut cpu.known.seat, word, 2 * index as u64 + 1);
     }
 
     /// Sets the index of the band's producer, whose lock control keeps. A store into the producer word, by control of a
@@ -243,6 +247,7 @@ impl<'a, D: TxDevice> Shared<'a, D> {
         requires holder { (holds_lock (position cpu.old) ≡ true) × ((t : HalfResize) × ((view cpu.old).holder.resizing ≡ Some t)) × ((lock_at band cpu.old).holds ≡ true) }
         ensures same { IsElseSame cpu.old cpu.new }
         ensures set { view cpu.new ≡ with_lock_at band (locked_at index) (view cpu.old) }
+        ensures made { steps cpu.new ≡ did_set_producer band index ∷ steps cpu.old }
     {
         self.set_producer_of::<Brand>(cpu, band, index);
     }
@@ -254,6 +259,7 @@ impl<'a, D: TxDevice> Shared<'a, D> {
         requires ready { (b : ℕ) → b < 3 → IsRefilled (at b K.resizing.works).slots (at b K.resizing.works).kept K.resizing.len × (lock_at b cpu.old ≡ locked_at (round K.resizing.len (length (at b K.resizing.works).kept))) × ((at b K.resizing.works).waiting ≡ []) }
         ensures same { IsElseSame cpu.old cpu.new }
         ensures restarted { view cpu.new ≡ restarted K.resizing (view cpu.old) }
+        ensures made { steps cpu.new ≡ did_store_size len ∷ steps cpu.old }
     {
         self.table
             .shared
@@ -270,6 +276,7 @@ impl<'a, D: TxDevice> Shared<'a, D> {
             × ((b : ℕ) → b < 3 → IsRefilled (at b t.works).slots (at b t.works).kept t.len × (lock_at b cpu.old ≡ locked_at (round t.len (length (at b t.works).kept))) × ((at b t.works).waiting ≡ [])) }
         ensures same { IsElseSame cpu.old cpu.new }
         ensures restarted { (t : HalfResize) → (view cpu.old).holder.resizing ≡ Some t → view cpu.new ≡ restarted t (view cpu.old) }
+        ensures made { steps cpu.new ≡ did_store_size len ∷ steps cpu.old }
     {
         self.store_size_of::<Brand>(cpu, len);
     }

@@ -1,22 +1,15 @@
 //! The sets and clears of MISSED and DRAINING by the holder of the run lock.
-ghost use Rattle.std.specs.Prelude.{◌≡◌, true, false};
-ghost use Rattle.lq_table.specs.Sees.{view, position, IsSeatOf, IsElseSame};
+ghost use Rattle.std.specs.Prelude.{◌≡◌, true, false, ◌∷◌, Bool};
+ghost use Rattle.lq_table.specs.Sees.{view, position, IsSeatOf, IsElseSame, steps};
 ghost use Rattle.lq_table.specs.Told.{clears_missed, clears_draining, sets_missed, sets_draining, passing, setting};
 ghost use Rattle.lq_table.specs.Solo.{solo, missed_to, draining_to, laid};
+ghost use Rattle.lq_table.specs.Made.{did_clear_draining, did_clear_missed, did_set_draining, did_set_missed};
 
+use crate::places::STATE;
 use crate::plays::{Pass, Set};
 use crate::shared::{Cpu, Shared};
 use lq_device::TxDevice;
-
-const STATE: usize = 1;
-
-const MISSED: u64 = 4;
-
-const DRAINING: u64 = 8;
-
-const ALL_BUT_MISSED: u64 = 18446744073709551611;
-
-const ALL_BUT_DRAINING: u64 = 18446744073709551607;
+use lq_model::state::{ALL_BUT_DRAINING, ALL_BUT_MISSED, DRAINING, MISSED};
 
 impl<'a, D: TxDevice> Shared<'a, D> {
     /// Clears MISSED: before the bands are looked through once more (`pfifo_fast_dequeue`), or at a stopped queue
@@ -27,6 +20,7 @@ impl<'a, D: TxDevice> Shared<'a, D> {
         ensures same { IsElseSame cpu.old cpu.new }
         ensures view { view cpu.new ≡ passing (view cpu.old) }
         ensures step { solo (view cpu.new) ≡ missed_to false (solo (view cpu.old)) }
+        ensures made { steps cpu.new ≡ did_clear_missed ∷ steps cpu.old }
     {
         self.table
             .shared
@@ -40,6 +34,7 @@ impl<'a, D: TxDevice> Shared<'a, D> {
         ensures same { IsElseSame cpu.old cpu.new }
         ensures view { view cpu.new ≡ passing (view cpu.old) }
         ensures step { solo (view cpu.new) ≡ draining_to false (solo (view cpu.old)) }
+        ensures made { steps cpu.new ≡ did_clear_draining ∷ steps cpu.old }
     {
         self.table
             .shared
@@ -54,6 +49,7 @@ impl<'a, D: TxDevice> Shared<'a, D> {
         ensures same { IsElseSame cpu.old cpu.new }
         ensures view { view cpu.new ≡ setting (view cpu.old) }
         ensures step { solo (view cpu.new) ≡ laid (view cpu.old) (missed_to true (solo (view cpu.old))) }
+        ensures made { (was : Bool) × (steps cpu.new ≡ did_set_missed was ∷ steps cpu.old) }
     {
         self.table
             .shared
@@ -68,6 +64,7 @@ impl<'a, D: TxDevice> Shared<'a, D> {
         ensures same { IsElseSame cpu.old cpu.new }
         ensures view { view cpu.new ≡ setting (view cpu.old) }
         ensures step { solo (view cpu.new) ≡ laid (view cpu.old) (draining_to true (solo (view cpu.old))) }
+        ensures made { (was : Bool) × (steps cpu.new ≡ did_set_draining was ∷ steps cpu.old) }
     {
         self.table
             .shared

@@ -1,20 +1,22 @@
 //! The steps on the turn words, by which the packets of one owner are sent in order.
-ghost use Rattle.std.specs.Prelude.{◌≡◌, ◌≢◌, ℕ, ◌+◌, ◌*◌, ◌<◌, Some, None, length, slice_index, MatchResult};
+ghost use Rattle.std.specs.Prelude.{◌≡◌, ◌≢◌, ℕ, ◌+◌, ◌*◌, ◌<◌, true, Some, None, length, slice_index, MatchResult, ◌∷◌, ◌==◌, is_ok};
 ghost use Rattle.lq_model.specs.Plan.{owner_in, station_in, rank_in};
+ghost use Rattle.lq_band.specs.Ring.{unlocked};
+ghost use Rattle.lq_band.specs.Three.{all_three};
 ghost use Rattle.lq_table.specs.Rule.{times};
 ghost use Rattle.lq_table.specs.Marks.{marks_of};
-ghost use Rattle.lq_table.specs.Sees.{view, IsSeatOf, IsElseSame};
-ghost use Rattle.lq_table.specs.Told.{bringing, giving_turn};
+ghost use Rattle.lq_table.specs.Sees.{view, position, IsSeatOf, IsElseSame, steps};
+ghost use Rattle.lq_table.specs.Told.{at_rest, bringing, giving_turn};
+ghost use Rattle.lq_table.specs.Made.{did_give_turn, did_load_turn, did_take_turn};
 
 use crate::marks::Marks;
+use crate::places::turn_word;
 use crate::plays::{GiveTurn, SeeTurn, TakeTurn, Turned};
 use crate::shared::{Cpu, Shared};
 use crate::view::Knowledge;
 use atomic_table::Seat;
 use lq_device::{Station, TxDevice};
 use std::marker::Brand;
-
-const TURNS: usize = 9;
 
 impl<'a, D: TxDevice> Shared<'a, D> {
     fn take_turn_of<K: Turned>(
@@ -26,22 +28,24 @@ impl<'a, D: TxDevice> Shared<'a, D> {
         rank: u32,
     ) -> u64
         requires named { (n ≡ K.packet) × (owner ≡ K.owner) × (rank ≡ K.rank) }
-        requires seat { (seat.old.table_id ≡ self.now.table.shared.table_id) × (0 < seat.old.me.0.share.shares) }
+        requires seat { (seat.old.table_id ≡ self.now.table.shared.table_id) × (0 < seat.old.me.0.view.share.shares) }
         requires packet { (n < length self.now.infos.now) × (station_in self.now.infos.now n ≡ self.now.station) × (owner ≡ owner_in self.now.infos.now n) × (rank ≡ rank_in self.now.infos.now n) }
-        requires owner { (0 < times owner seat.old.me.0.share.owners) × (owner < self.now.senders) }
-        requires idle { seat.old.me.0.packets.busy ≡ None }
-        requires told { marks.old ≡ marks_of seat.old.me.0 }
+        requires owner { (0 < times owner seat.old.me.0.view.share.owners) × (owner < self.now.senders) }
+        requires idle { seat.old.me.0.view.packets.busy ≡ None }
+        requires told { marks.old ≡ marks_of seat.old.me.0.view }
         ensures same { (seat.new.table_id ≡ seat.old.table_id) × (seat.new.id ≡ seat.old.id) × (seat.new.me.1 ≡ seat.old.me.1) }
-        ensures found { result ≡ slice_index seat.old.me.0.turns K.owner }
-        ensures taken { result ≡ 2 * K.rank → seat.new.me.0 ≡ bringing K.packet K.owner K.rank seat.old.me.0 }
-        ensures other { result ≢ 2 * K.rank → seat.new.me.0 ≡ seat.old.me.0 }
-        ensures told { marks.new ≡ marks_of seat.new.me.0 }
+        ensures found { result ≡ slice_index seat.old.me.0.view.turns K.owner }
+        ensures taken { result ≡ 2 * K.rank → seat.new.me.0.view ≡ bringing K.packet K.owner K.rank seat.old.me.0.view }
+        ensures other { result ≢ 2 * K.rank → seat.new.me.0.view ≡ seat.old.me.0.view }
+        ensures told { marks.new ≡ marks_of seat.new.me.0.view }
+        ensures made { seat.new.me.0.steps ≡ did_take_turn owner rank (result == 2 * rank) ∷ seat.old.me.0.steps }
     {
         let free = 2 * rank as u64;
+        let word = turn_word(owner);
         let found = self
             .table
             .shared
-            .compare_exchange::<TakeTurn<K>>(seat, TURNS + owner as usize, free, free + 1);
+            .compare_exchange::<TakeTurn<K>>(seat, word, free, free + 1);
         marks.busy = found == free;
         found
     }
@@ -56,6 +60,7 @@ impl<'a, D: TxDevice> Shared<'a, D> {
         requires idle { (view cpu.old).packets.busy ≡ None }
         ensures same { IsElseSame cpu.old cpu.new }
         ensures turn { MatchResult result (λ _. (slice_index (view cpu.old).turns (owner_in self.now.infos.now n) ≡ 2 * rank_in self.now.infos.now n) × (view cpu.new ≡ bringing n (owner_in self.now.infos.now n) (rank_in self.now.infos.now n) (view cpu.old))) (λ found. (found ≡ slice_index (view cpu.old).turns (owner_in self.now.infos.now n)) × (found ≢ 2 * rank_in self.now.infos.now n) × (view cpu.new ≡ view cpu.old)) }
+        ensures made { steps cpu.new ≡ did_take_turn (owner_in self.now.infos.now n) (rank_in self.now.infos.now n) (is_ok result) ∷ steps cpu.old }
     {
         let owner = self.infos[n as usize].owner;
         let rank = self.infos[n as usize].rank;
@@ -82,28 +87,31 @@ impl<'a, D: TxDevice> Shared<'a, D> {
         rank: u32,
     )
         requires named { (owner ≡ K.owner) × (rank ≡ K.rank) }
-        requires seat { (seat.old.table_id ≡ self.now.table.shared.table_id) × (0 < seat.old.me.0.share.shares) }
+        requires seat { (seat.old.table_id ≡ self.now.table.shared.table_id) × (0 < seat.old.me.0.view.share.shares) }
         requires packet { (owner ≡ owner_in self.now.infos.now n) × (rank ≡ rank_in self.now.infos.now n) × (owner < self.now.senders) }
-        requires busy { (seat.old.me.0.packets.busy ≡ Some n) × (seat.old.me.0.packets.fresh ≡ None) }
-        requires told { marks.old ≡ marks_of seat.old.me.0 }
+        requires busy { (seat.old.me.0.view.packets.busy ≡ Some n) × (seat.old.me.0.view.packets.fresh ≡ None) }
+        requires told { marks.old ≡ marks_of seat.old.me.0.view }
         ensures same { (seat.new.table_id ≡ seat.old.table_id) × (seat.new.id ≡ seat.old.id) × (seat.new.me.1 ≡ seat.old.me.1) }
-        ensures given { seat.new.me.0 ≡ giving_turn K.owner K.rank seat.old.me.0 }
-        ensures told { marks.new ≡ marks_of seat.new.me.0 }
+        ensures given { seat.new.me.0.view ≡ giving_turn K.owner K.rank seat.old.me.0.view }
+        ensures told { marks.new ≡ marks_of seat.new.me.0.view }
+        ensures made { seat.new.me.0.steps ≡ did_give_turn owner rank ∷ seat.old.me.0.steps }
     {
         let next = 2 * rank as u64 + 2;
-        self.table
-            .shared
-            .store::<GiveTurn<K>>(seat, TURNS + owner as usize, next);
+        let word = turn_word(owner);
+        self.table.shared.store::<GiveTurn<K>>(seat, word, next);
         marks.busy = false;
     }
 
-    /// Gives back the turn of packet `n`, which has left the seat's hand. It is the last step of a transmit.
+    /// Gives back the turn of packet `n`, which has left the seat's hand. It is the last step of a transmit: the seat is in no call and has
+    /// neither the run lock nor a producer lock.
     pub fn give_turn(&self, cpu: &mut Cpu<D>, n: u32)
         requires seat { IsSeatOf self.now cpu.old }
         requires packet { (n < length self.now.infos.now) × (owner_in self.now.infos.now n < self.now.senders) }
         requires busy { ((view cpu.old).packets.busy ≡ Some n) × ((view cpu.old).packets.fresh ≡ None) }
+        requires left { (at_rest (position cpu.old) ≡ true) × ((view cpu.old).locks ≡ all_three unlocked) }
         ensures same { IsElseSame cpu.old cpu.new }
         ensures given { view cpu.new ≡ giving_turn (owner_in self.now.infos.now n) (rank_in self.now.infos.now n) (view cpu.old) }
+        ensures made { steps cpu.new ≡ did_give_turn (owner_in self.now.infos.now n) (rank_in self.now.infos.now n) ∷ steps cpu.old }
     {
         let owner = self.infos[n as usize].owner;
         let rank = self.infos[n as usize].rank;
@@ -116,10 +124,12 @@ impl<'a, D: TxDevice> Shared<'a, D> {
         requires owner { owner < self.now.senders }
         ensures same { IsElseSame cpu.old cpu.new × (view cpu.new ≡ view cpu.old) }
         ensures word { 0 < times K.owner (view cpu.old).share.owners → result ≡ slice_index (view cpu.old).turns K.owner }
+        ensures made { steps cpu.new ≡ did_load_turn owner result ∷ steps cpu.old }
     {
+        let word = turn_word(owner);
         self.table
             .shared
-            .load::<SeeTurn<K>>(&mut cpu.known.seat, TURNS + owner as usize)
+            .load::<SeeTurn<K>>(&mut cpu.known.seat, word)
     }
 
     /// Loads the turn word of `owner`: twice the rank of its next packet, and one more while that packet's turn is taken.
@@ -128,6 +138,7 @@ impl<'a, D: TxDevice> Shared<'a, D> {
         requires owner { owner < self.now.senders }
         ensures same { IsElseSame cpu.old cpu.new × (view cpu.new ≡ view cpu.old) }
         ensures word { 0 < times owner (view cpu.old).share.owners → result ≡ slice_index (view cpu.old).turns owner }
+        ensures made { steps cpu.new ≡ did_load_turn owner result ∷ steps cpu.old }
     {
         self.load_turn_of::<Brand>(cpu, owner)
     }

@@ -1,5 +1,5 @@
-use Rattle.lq_table.proofs.Ends.{stands_for, holds_nothing}
+use Rattle.lq_table.proofs.AllAtRest.{stands_for_nothing}
 use Rattle.lq_table.proofs.laws.quiet_words_hold_nothing.Goals as goal
 
 pub returns : goal.returns
-returns c k s r id v here all rest quiet = (stands_for k s r, (holds_nothing k s r id v here all rest quiet).0)
+returns c k s r quiet = stands_for_nothing k s r quiet

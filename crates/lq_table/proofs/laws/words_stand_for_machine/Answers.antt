@@ -1,4 +1,4 @@
-use Rattle.lq_table.proofs.Ends.{stands_for}
+use Rattle.lq_table.proofs.AllAtRest.{stands_for}
 use Rattle.lq_table.proofs.laws.words_stand_for_machine.Goals as goal
 
 pub returns : goal.returns

@@ -4,4 +4,4 @@ use Rattle.lq_table.specs.Purges.{first_purge}
 use Rattle.lq_table.proofs.shared.Shared.purge_slot.Given as goal
 
 abbrev pub ghosts-purge_slot_of : goal.ghosts-purge_slot_of
-ghosts-purge_slot_of g a = record { band = a.band; purge = unwrap_or a.cpu.now.known.seat.me.0.control.purge first_purge; left = unwrap_or a.cpu.now.known.seat.me.0.holder.left no_left }
+ghosts-purge_slot_of g a = record { band = a.band; purge = unwrap_or a.cpu.now.known.seat.me.0.view.control.purge first_purge; left = unwrap_or a.cpu.now.known.seat.me.0.view.holder.left no_left }

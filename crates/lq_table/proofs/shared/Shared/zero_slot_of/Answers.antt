@@ -1,4 +1,4 @@
-use Rattle.std.proofs.Common.{◌≡◌, ℕ, ◌+◌, ◌*◌, ◌<◌, arith, subst}
+use Rattle.std.proofs.Common.{sym, ◌≡◌, ℕ, ◌<◌, arith, subst}
 use mathlib.Core.Option.{none}
 use Rattle.atomic_table.specs.Table.{step, Allows}
 use Rattle.lq_table.specs.Rule.{Rule, slot_word}
@@ -6,6 +6,8 @@ use Rattle.lq_table.specs.Keyed.{keyed_setup}
 use Rattle.lq_table.proofs.ByName.{slot_within}
 use Rattle.lq_table.specs.Rings.{slot_emptied}
 use Rattle.lq_table.proofs.ZeroKept.{empties_slot}
+use Rattle.lq_table.specs.Made.{seen}
+use Rattle.lq_table.proofs.Lifts.{lifts_store}
 use Rattle.lq_table.proofs.shared.Shared.zero_slot_of.Goals as goal
 
 pub store-requires : goal.store-requires
@@ -13,10 +15,10 @@ store-requires g c =
     let t = c.args.self.now in let k = keyed_setup t.table.shared.key in let slots = t.table.shared.table_id.slots in let seat = c.args.cpu.now.known.seat in let b = c.args.band in
     let h = c.requires.holder in let e = c.requires.edge in let i = c.args.i in
     let inside : i < k.max_len = let x = c.requires.band.1 in let y = t.same.2 in omega arith in
-    let place : slot_word k b i ≡ 9 + t.senders + b * t.max_len + i = λ j. 9 + t.same.1 j + b * t.same.2 j + i in
-    let word : 9 + t.senders + b * t.max_len + i < t.table.shared.table_id.words = let wide = t.sized.0 in let h = slot_within k b i c.requires.band.0 inside in let x = t.same.1 in let y = t.same.2 in let p = place in omega arith in (
+    let place : slot_word k b i ≡ c.slot_word-word.result = sym c.slot_word-word.ensures in
+    let word : c.slot_word-word.result < t.table.shared.table_id.words = let wide = t.sized.0 in let h = slot_within k b i c.requires.band.0 inside in let x = t.same.1 in let y = t.same.2 in let p = place in omega arith in (
       c.requires.seat.0,
       word,
-      subst (λ (z : ℕ × ℕ). Allows (Rule k) slots seat.id seat.me z.0 (λ _. 0) (λ _. slot_emptied z.1 (step slots z.0 0 0 none) seat.me 0)) (λ j. (place j, c.requires.named j))
-          (empties_slot k slots seat.id seat.me b i c.requires.band.0 inside h.0 h.1 e.0 e.1 c.requires.seat.1),
+      lifts_store _ _ _ _ _ _ _ _ _ (subst (λ (z : ℕ × ℕ). Allows (Rule k) slots seat.id (seen seat.me) z.0 (λ _. 0) (λ _. slot_emptied z.1 (step slots z.0 0 0 none) (seen seat.me) 0)) (λ j. (place j, c.requires.named j))
+          (empties_slot k slots seat.id (seen seat.me) b i c.requires.band.0 inside h.0 h.1 e.0 e.1 c.requires.seat.1)),
     )
