@@ -8,11 +8,11 @@ use Rattle.lq_table.specs.Rule.{times}
 use Rattle.lq_table.specs.Sees.{view, position, IsSeatOf}
 use Rattle.lq_table.specs.declared.shared.Cpu.{Cpu}
 use Rattle.lq_table.specs.declared.shared.Shared.{Shared}
-use Rattle.lq_qdisc.specs.Sends.{IsReady}
+use Rattle.lq_qdisc.specs.Sends.{IsReadyToSend}
 use Rattle.lq_bench.specs.Ready.{IsWhole}
 
 -- The packets are the four owners' in turn, all at station 0.
-pub record IsTheirs (infos : List Info) (n : ℕ) : Type 0 where
+pub record AreFourOwners (infos : List Info) (n : ℕ) : Type 0 where
   pub owner : owner_in infos n ≡ n % 4
   pub station : station_in infos n ≡ 0
   pub band : band_in infos n < 3
@@ -21,20 +21,20 @@ pub record IsTheirs (infos : List Info) (n : ℕ) : Type 0 where
 
 module _ {D : Type 0} where
   -- the seat is in no call and has nothing in hand
-  pub record IsBetweenCalls (t : Shared D) (c : Cpu D) : Type 0 where
+  pub record IsBenchSeatAtRest (t : Shared D) (c : Cpu D) : Type 0 where
     pub seat : IsSeatOf t c
     pub at : position c ≡ Idle
-    pub ready : IsReady c
+    pub ready : IsReadyToSend c
 
   -- and has this owner, one of the four
-  pub record IsSender (t : Shared D) (owner : ℕ) (c : Cpu D) : Type 0 where
-    pub between : IsBetweenCalls t c
+  pub record IsBenchSender (t : Shared D) (owner : ℕ) (c : Cpu D) : Type 0 where
+    pub between : IsBenchSeatAtRest t c
     pub owns : 0 < times owner (view c).share.owners
     pub below : owner < 4
 
   -- the first seat as the sender of owner 0, with the table alone
   pub record IsFirstSender (t : Shared D) (c : Cpu D) : Type 0 where
-    pub sender : IsSender t 0 c
+    pub sender : IsBenchSender t 0 c
     pub whole : IsWhole c
 
   -- and the station is active

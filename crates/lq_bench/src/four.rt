@@ -3,7 +3,7 @@ ghost use Rattle.std.specs.Prelude.{◌≡◌, ◌<◌, ◌≤◌};
 ghost use Rattle.lq_table.specs.Rule.{times};
 ghost use Rattle.lq_table.specs.Sees.{view};
 ghost use Rattle.lq_table.specs.Told.{keeping};
-ghost use Rattle.lq_bench.specs.Senders.{IsBetweenCalls, IsFirstSender, IsSender};
+ghost use Rattle.lq_bench.specs.Senders.{IsBenchSeatAtRest, IsFirstSender, IsBenchSender};
 
 use crate::senders::{Losses, Work, send_own};
 use lq_device::TxDevice;
@@ -28,11 +28,11 @@ fn split_sender<'a, D: TxDevice>(
     first: &mut Cpu<D>,
     owner: u32,
 ) -> Sender<D>
-    requires first { IsBetweenCalls shared.now first.old }
+    requires first { IsBenchSeatAtRest shared.now first.old }
     requires owner { (2 ≤ (view first.old).share.shares) × (0 < times owner (view first.old).share.owners) × (0 < owner) × (owner < 4) }
-    ensures first { IsBetweenCalls shared.now first.new }
+    ensures first { IsBenchSeatAtRest shared.now first.new }
     ensures left { view first.new ≡ keeping owner (view first.old) }
-    ensures sender { IsSender shared.now result.owner result.cpu }
+    ensures sender { IsBenchSender shared.now result.owner result.cpu }
 {
     let cpu = shared.split(first, owner);
     Sender { owner, cpu }
@@ -45,7 +45,7 @@ fn send_all<'a, W: Wait, D: TxDevice>(
     sender: Sender<D>,
     work: Work,
 ) -> Losses
-    requires sender { IsSender shared.now sender.owner sender.cpu }
+    requires sender { IsBenchSender shared.now sender.owner sender.cpu }
 {
     let Sender { owner, mut cpu } = sender;
     send_own(rt, shared, &mut cpu, owner, work)
@@ -59,16 +59,16 @@ fn two_send<'a, R: Threads + Wait + Sync, D: TxDevice>(
     other: Sender<D>,
     work: Work,
 ) -> Losses
-    requires one { IsSender shared.now one.owner one.cpu }
-    requires other { IsSender shared.now other.owner other.cpu }
+    requires one { IsBenchSender shared.now one.owner one.cpu }
+    requires other { IsBenchSender shared.now other.owner other.cpu }
 {
     let (ones, others) = thread::join(
         rt,
         move || -> Losses
-            requires { IsSender shared.now one.owner one.cpu }
+            requires { IsBenchSender shared.now one.owner one.cpu }
         { send_all(rt, shared, one, work) },
         move || -> Losses
-            requires { IsSender shared.now other.owner other.cpu }
+            requires { IsBenchSender shared.now other.owner other.cpu }
         { send_all(rt, shared, other, work) },
     );
     ones.and(others)
@@ -82,16 +82,16 @@ fn four_send<'a, R: Threads + Wait + Sync, D: TxDevice>(
     high: (Sender<D>, Sender<D>),
     work: Work,
 ) -> Losses
-    requires low { IsSender shared.now low.0.owner low.0.cpu × IsSender shared.now low.1.owner low.1.cpu }
-    requires high { IsSender shared.now high.0.owner high.0.cpu × IsSender shared.now high.1.owner high.1.cpu }
+    requires low { IsBenchSender shared.now low.0.owner low.0.cpu × IsBenchSender shared.now low.1.owner low.1.cpu }
+    requires high { IsBenchSender shared.now high.0.owner high.0.cpu × IsBenchSender shared.now high.1.owner high.1.cpu }
 {
     let (lows, highs) = thread::join(
         rt,
         move || -> Losses
-            requires { IsSender shared.now low.0.owner low.0.cpu × IsSender shared.now low.1.owner low.1.cpu }
+            requires { IsBenchSender shared.now low.0.owner low.0.cpu × IsBenchSender shared.now low.1.owner low.1.cpu }
         { two_send(rt, shared, low.0, low.1, work) },
         move || -> Losses
-            requires { IsSender shared.now high.0.owner high.0.cpu × IsSender shared.now high.1.owner high.1.cpu }
+            requires { IsBenchSender shared.now high.0.owner high.0.cpu × IsBenchSender shared.now high.1.owner high.1.cpu }
         { two_send(rt, shared, high.0, high.1, work) },
     );
     lows.and(highs)

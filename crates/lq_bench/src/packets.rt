@@ -1,6 +1,6 @@
 //! The packets that are sent, and a table of them.
 ghost use Rattle.std.specs.Prelude.{⊤, ◌≡◌, ℕ, ◌<◌, ◌≤◌, true, length, MatchOption};
-ghost use Rattle.lq_bench.specs.Senders.{IsActive, IsTheirs};
+ghost use Rattle.lq_bench.specs.Senders.{IsActive, AreFourOwners};
 
 use crate::senders::OWNERS;
 use lq_device::{BenchDevice, Station, StationPlan, TxDevice};
@@ -28,7 +28,7 @@ pub fn packets(alloc: Global, count: u32) -> Result<Vec<Info>, NoMemory> {
 
 /// Whether they are the four owners' in turn, all in a band of the station.
 fn are_theirs(infos: &[Info]) -> bool
-    ensures { result ≡ true → (k : ℕ) → k < length infos.now → IsTheirs infos.now k }
+    ensures { result ≡ true → (k : ℕ) → k < length infos.now → AreFourOwners infos.now k }
 {
     for k in 0..infos.len() {
         if infos[k].owner as usize != k % 4 {

@@ -1,6 +1,6 @@
 //! Senders, and what each does with its packets.
 ghost use Rattle.std.specs.Prelude.{◌≤◌};
-ghost use Rattle.lq_bench.specs.Senders.{IsSender};
+ghost use Rattle.lq_bench.specs.Senders.{IsBenchSender};
 
 use lq_device::TxDevice;
 use lq_qdisc::{Sending, irq, softirq, transmit};
@@ -28,8 +28,8 @@ fn send<'a, W: Wait, D: TxDevice>(
     owner: u32,
     n: u32,
 ) -> Option<Sending>
-    requires sender { IsSender shared.now owner cpu.old }
-    ensures sender { IsSender shared.now owner cpu.new }
+    requires sender { IsBenchSender shared.now owner cpu.old }
+    ensures sender { IsBenchSender shared.now owner cpu.new }
 {
     let infos = shared.infos();
     if n as usize >= infos.len() {
@@ -50,8 +50,8 @@ fn send<'a, W: Wait, D: TxDevice>(
 
 /// The interrupt of the driver where it is due, and the soft interrupt of a seat that is raised.
 fn interrupt<'a, D: TxDevice>(shared: &Shared<'a, D>, cpu: &mut Cpu<D>, owner: u32, wakes: bool)
-    requires sender { IsSender shared.now owner cpu.old }
-    ensures sender { IsSender shared.now owner cpu.new }
+    requires sender { IsBenchSender shared.now owner cpu.old }
+    ensures sender { IsBenchSender shared.now owner cpu.new }
 {
     if wakes {
         irq(shared, cpu);
@@ -118,8 +118,8 @@ pub fn send_own<'a, W: Wait, D: TxDevice>(
     owner: u32,
     work: Work,
 ) -> Losses
-    requires sender { IsSender shared.now owner cpu.old }
-    ensures sender { IsSender shared.now owner cpu.new }
+    requires sender { IsBenchSender shared.now owner cpu.old }
+    ensures sender { IsBenchSender shared.now owner cpu.new }
 {
     let mut losses = Losses::NONE;
     for k in 0..at_most(work.count) {

@@ -1,6 +1,6 @@
 //! The atomic steps themselves, on a word of a table of which nothing is known.
 ghost use Rattle.std.specs.Prelude.{◌≡◌, ◌<◌, All, IfOk, OnOk};
-ghost use Rattle.lq_bench.specs.Words.{IsAt};
+ghost use Rattle.lq_bench.specs.Words.{IsStepperAt};
 
 use crate::table::show;
 use atomic_table::{Play, Seat, Shared, Split, Table, TableRule};
@@ -75,8 +75,8 @@ impl Operation {
 
 /// One step of this kind.
 fn step(operation: Operation, table: &Word, stepper: &mut Stepper)
-    requires at { IsAt table.now stepper.old }
-    ensures at { IsAt table.now stepper.new }
+    requires at { IsStepperAt table.now stepper.old }
+    ensures at { IsStepperAt table.now stepper.new }
 {
     match operation {
         Operation::Load => {
@@ -106,8 +106,8 @@ fn step(operation: Operation, table: &Word, stepper: &mut Stepper)
 
 /// So many steps.
 fn steps(operation: Operation, table: &Word, stepper: &mut Stepper, count: u32)
-    requires at { IsAt table.now stepper.old }
-    ensures at { IsAt table.now stepper.new }
+    requires at { IsStepperAt table.now stepper.old }
+    ensures at { IsStepperAt table.now stepper.new }
 {
     for _ in 0..count {
         step(operation, table, stepper);
@@ -122,8 +122,8 @@ fn side_by_side<R: Threads + Sync>(
     steppers: &mut [Stepper],
     count: u32,
 )
-    requires at { All (λ s. IsAt table.now s) steppers.old }
-    ensures at { All (λ s. IsAt table.now s) steppers.new }
+    requires at { All (λ s. IsStepperAt table.now s) steppers.old }
+    ensures at { All (λ s. IsStepperAt table.now s) steppers.new }
 {
     let threads = steppers.len();
     if threads > 0 {
@@ -132,8 +132,8 @@ fn side_by_side<R: Threads + Sync>(
             steppers,
             threads,
             &|_, stepper: &mut Stepper|
-                requires { IsAt table.now stepper.old }
-                ensures { IsAt table.entry.now stepper.new }
+                requires { IsStepperAt table.now stepper.old }
+                ensures { IsStepperAt table.entry.now stepper.new }
             { steps(operation, table, stepper, count) },
         );
     }
@@ -147,8 +147,8 @@ fn timed<R: Threads + Sync + Clock>(
     steppers: &mut [Stepper],
     count: u32,
 ) -> io::Result<Duration>
-    requires at { All (λ s. IsAt table.now s) steppers.old }
-    ensures at { All (λ s. IsAt table.now s) steppers.new }
+    requires at { All (λ s. IsStepperAt table.now s) steppers.old }
+    ensures at { All (λ s. IsStepperAt table.now s) steppers.new }
 {
     let start = Instant::now(rt)?;
     side_by_side(rt, operation, table, steppers, count);
@@ -164,8 +164,8 @@ fn measure_each<R: Runtime + Threads + Sync>(
     count: u32,
     shows: bool,
 ) -> io::Result<()>
-    requires at { All (λ s. IsAt table.now s) steppers.old }
-    ensures { OnOk result (All (λ s. IsAt table.now s) steppers.new) }
+    requires at { All (λ s. IsStepperAt table.now s) steppers.old }
+    ensures { OnOk result (All (λ s. IsStepperAt table.now s) steppers.new) }
 {
     for operation in [
         Operation::Load,
@@ -185,7 +185,7 @@ fn measure_each<R: Runtime + Threads + Sync>(
 
 /// A table of one word, and its first seat.
 fn one_word(alloc: Global) -> Result<(Table<(), (), (), AnyTable, Global>, Stepper), AllocError>
-    ensures { IfOk result (λ t. IsAt t.0.shared t.1) }
+    ensures { IfOk result (λ t. IsStepperAt t.0.shared t.1) }
 {
     let (table, seat) = Table::of_words(alloc, &[0], &())?;
     Ok((table, Stepper { seat }))
@@ -198,8 +198,8 @@ fn seats_of(
     first: Stepper,
     others: u32,
 ) -> Result<Vec<Stepper>, AllocError>
-    requires first { IsAt table.now first }
-    ensures { IfOk result (λ seats. All (λ s. IsAt table.now s) seats.items) }
+    requires first { IsStepperAt table.now first }
+    ensures { IfOk result (λ seats. All (λ s. IsStepperAt table.now s) seats.items) }
 {
     let mut first = first;
     let mut seats = Vec::new(alloc);

@@ -20,7 +20,7 @@ use Rattle.lq_qdisc.specs.Sends.{Interrupts}
 use Rattle.lq_qdisc.proofs.AloneCalls.{entering_solo}
 use Rattle.lq_qdisc.proofs.AloneSteps.{account_at}
 use Rattle.lq_control.specs.Alone.{DoesSwap, unmarked}
-use Rattle.lq_control.specs.Control.{deactivated}
+use Rattle.lq_control.specs.Control.{deactivated_solo}
 
 -- it is alone, and its station is just as after a step
 abbrev pub IsStepped : List Info → Account → (RunningStation → RunningStation) → Solo → Solo → Type 0
@@ -53,7 +53,7 @@ up_alone infos start event plan v h = (
 
 -- purged under DEACTIVATED, with both bits clear, and the seat isn't raised
 abbrev pub downed : ℕ → Solo → Solo
-downed event v = unmarked (deactivated event v)
+downed event v = unmarked (deactivated_solo event v)
 
 pub down_alone : (infos : List Info) (start : Account) (event : ℕ) (plan : Plan) (v : Solo) → IsAlone infos start v → IsStepped infos start (changed plan event kind.Down) v (downed event v)
 down_alone infos start event plan v h = (
@@ -90,11 +90,11 @@ down_kept k v w about about' same down =
     let past : account_in (first_account k) (solo w) ≡ account_in (first_account k) (solo v) = ap (account_in (first_account k)) same in
     ap (λ (a : Account). is_some a.down) (sym (account_at k w about') ∙ (past ∙ account_at k v about)) ∙ down
 
-pub down_deactivated : (k : Setup) (event : ℕ) (s : Solo) (w : View) → w.share.about ≡ k → solo w ≡ deactivated event s → IsSome (account_of w).down
+pub down_deactivated : (k : Setup) (event : ℕ) (s : Solo) (w : View) → w.share.about ≡ k → solo w ≡ deactivated_solo event s → IsSome (account_of w).down
 down_deactivated k event s w about e = ap (λ (a : Account). is_some a.down) (sym (account_at k w about) ∙ ap (account_in (first_account k)) e)
 
 -- after a deactivation, and the wait behind it
-pub downed_at : (k : Setup) (event : ℕ) (old v w : View) → v.share ≡ old.share → old.share.about ≡ k → IsSole old → solo v ≡ deactivated event (solo old) → (IsSole v → IsSome (account_of v).down → solo w ≡ unmarked (solo v)) → solo w ≡ downed event (solo old)
+pub downed_at : (k : Setup) (event : ℕ) (old v w : View) → v.share ≡ old.share → old.share.about ≡ k → IsSole old → solo v ≡ deactivated_solo event (solo old) → (IsSole v → IsSome (account_of v).down → solo w ≡ unmarked (solo v)) → solo w ≡ downed event (solo old)
 downed_at k event old v w share about sole e waits =
     waits (subst HasAll (sym e) sole) (down_deactivated k event (solo old) v (ap (λ (s : SharePart). s.about) share ∙ about) e) ∙ ap unmarked e
 

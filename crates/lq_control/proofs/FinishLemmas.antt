@@ -25,7 +25,7 @@ use Rattle.lq_qdisc.specs.Calls.{KeepsFates}
 use Rattle.lq_qdisc.specs.Sends.{came_as, trail_with}
 use Rattle.lq_qdisc.specs.declared.answers.Sending.{Sending}
 use Rattle.lq_qdisc.specs.declared.answers.Sending.TheVariants as sending
-use Rattle.lq_control.specs.Finish.{is_packet_of, count_below, count_all, IsTurn, AreTurnsFrom, AreAllDone, IsSent, PurgesHung, Ends, ArePurgesHung}
+use Rattle.lq_control.specs.Finish.{is_packet_of, count_below, count_all, IsTurn, AreTurnsFrom, AreAllDone, IsSent, PurgesHung, FinishEnds, ArePurgesHung}
 
 -- THE TRAIL
 
@@ -73,7 +73,7 @@ sent_no_purge k v w unit s there = ⊎_elim
 purged_now : (before w : View) (purged unit : ℕ) → PurgesHung purged before w → Purge (cause.Hung before.whole.state.station.unit) ≡ Purge (cause.Hung unit) → ((account_of w).unit ≡ unit) × (w.whole.state.station.device.hung ≡ true)
 purged_now before w purged unit p e = (ap (λ (a : Account). a.unit) p.account ∙ (p.unit ∙ ap unit_purged e), ap (λ (d : DeviceState). d.hung) p.device ∙ p.hung)
 
-pub purges_hung : (k : Setup) (purged : ℕ) (v w : View) → Ends k purged v w → ArePurgesHung v w
+pub purges_hung : (k : Setup) (purged : ℕ) (v w : View) → FinishEnds k purged v w → ArePurgesHung v w
 purges_hung k purged v w e unit there = ⊎_elim
     (λ none. inl (sent_no_purge k v e.sent unit e.is_sent (subst (λ (es : List Event). Contains es (Purge (cause.Hung unit))) none.0 there)))
     (λ (some : (before : View) × (before.trail ≡ e.sent.trail) × PurgesHung purged before w). let p = some.2 in let before = some.0 in

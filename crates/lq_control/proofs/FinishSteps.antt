@@ -23,7 +23,7 @@ use Rattle.lq_table.specs.Told.{is_set, got_in_control, looking, loading}
 use Rattle.lq_table.specs.Sees.{view, IsElseSame}
 use Rattle.lq_table.specs.declared.shared.Cpu.{Cpu}
 use Rattle.lq_qdisc.specs.Alone.{account_in}
-use Rattle.lq_qdisc.specs.Sends.{IsReady}
+use Rattle.lq_qdisc.specs.Sends.{IsReadyToSend}
 use Rattle.lq_qdisc.proofs.AloneSteps.{account_at}
 use Rattle.lq_model.specs.declared.machine.Position.TheVariants.{Control}
 use Rattle.lq_run.specs.Runs.{ended}
@@ -31,7 +31,7 @@ use Rattle.lq_model.specs.Band.{Band, held_of}
 use Rattle.lq_band.specs.Three.{Three}
 use Rattle.lq_table.specs.Purges.{AreKnown}
 use Rattle.lq_control.specs.Control.{IsIn, IsPurged, IsServed, all_purged}
-use Rattle.lq_control.specs.Finish.{AreFor, AreAllDone, AreKept, AreStops, IsOver, Hangs, IsLook, IsSettled, IsFinished}
+use Rattle.lq_control.specs.Finish.{AreFor, AreAllDone, AreKept, AreAllStops, IsOver, Hangs, IsLook, IsActiveOrPurged, IsFinished}
 use Rattle.lq_control.proofs.FinishLemmas.{not_left}
 
 -- LOOKS
@@ -42,28 +42,11 @@ kept_of k v about r = subst (λ (s : Setup). AreKept s v) about (record { hand_e
 pub look_none : (v w : View) → w ≡ v → IsLook v w
 look_none v w e = (v.whole.qdisc.phase, e)
 
-pub look_then : (v w x : View) → IsLook v w → IsLook w x → IsLook v x
-look_then v w x (p, e) (q, f) = (q, f ∙ ap (λ (y : View). record y { whole = record y.whole { qdisc = record y.whole.qdisc { phase = q } } }) e)
-
-pub kept_looked : (k : Setup) (v w : View) → AreKept k v → IsLook v w → AreKept k w
-kept_looked k v w a (p, e) = subst (λ (x : View). AreKept k x) (sym e) (record { hand_empty = a.hand_empty; kept = a.kept })
-
-pub kept_returned : (k : Setup) (v w : View) → AreKept k v → w ≡ returning v → AreKept k w
-kept_returned k v w a e = subst (λ (x : View). AreKept k x) (sym e) (record { hand_empty = a.hand_empty; kept = a.kept })
-
--- an active station, or a purged one, stays so
-found_same : (n : ℕ) (v : View) → IsSettled v → found_inside n v.control.phase ≡ v.control.phase
-found_same n v (inl active) = ap (found_inside n) active.0 ∙ sym active.0
-found_same n v (inr purged) = ap (found_inside n) purged.0 ∙ sym purged.0
-
-pub look_found : (n : ℕ) (v w : View) → IsSettled v → w ≡ finding n v → IsLook v w
-look_found n v w settled e = (found_inside v.whole.qdisc.inside v.whole.qdisc.phase, e ∙ (λ j. record (finding n v) { control = record v.control { phase = found_same n v settled j } }))
-
-closed_purged : (v : View) → IsSettled v → is_closed v.control.phase ≡ true → IsIn Purged v
+closed_purged : (v : View) → IsActiveOrPurged v → is_closed v.control.phase ≡ true → IsIn Purged v
 closed_purged v (inl active) closed = absurd (true≢false (sym closed ∙ ap is_closed active.0))
 closed_purged v (inr purged) closed = purged
 
-open_active : (v : View) → IsSettled v → is_closed v.control.phase ≡ false → IsIn Active v
+open_active : (v : View) → IsActiveOrPurged v → is_closed v.control.phase ≡ false → IsIn Active v
 open_active v (inl active) open_ = active
 open_active v (inr purged) open_ = absurd (true≢false (sym (ap is_closed purged.0) ∙ open_))
 
@@ -72,23 +55,16 @@ none_some None e = refl
 none_some (Some n) e = absurd (true≢false e)
 
 -- DEACTIVATED was loaded
-nothing_down : (v : View) (state : ℕ) → v.control.first ≡ true → IsSettled v → KnowsRest v → SeesState v state → is_set 2 state ≡ true → held (account_of v) ≡ []
+nothing_down : (v : View) (state : ℕ) → v.control.first ≡ true → IsActiveOrPurged v → KnowsRest v → SeesState v state → is_set 2 state ≡ true → held (account_of v) ≡ []
 nothing_down v state first settled r s down = let p = closed_purged v settled (sym (r.down first) ∙ (sym s.down ∙ down)) in r.purged first p.0 p.1
 
-active_up : (v : View) (state : ℕ) → v.control.first ≡ true → IsSettled v → KnowsRest v → SeesState v state → is_set 2 state ≡ false → IsIn Active v
+active_up : (v : View) (state : ℕ) → v.control.first ≡ true → IsActiveOrPurged v → KnowsRest v → SeesState v state → is_set 2 state ≡ false → IsIn Active v
 active_up v state first settled r s up = open_active v settled (sym (r.down first) ∙ (sym s.down ∙ up))
 
--- the words are quiet
-nothing_quiet : (v : View) (state : ℕ) → KnowsRest v → SeesState v state → is_set 2 state ≡ false → is_set 1 state ≡ false → ((queue : ℕ) → queue < v.share.about.queues → slice_index (account_of v).stops queue ≡ 0) → held (account_of v) ≡ []
-nothing_quiet v state r s up unscheduled open_ = r.quiet (sym s.scheduled ∙ unscheduled) (none_some _ (sym s.down ∙ up)) open_
-
-pub over_down : (v : View) (state : ℕ) → v.control.first ≡ true → IsSettled v → KnowsRest v → SeesState v state → is_set 2 state ≡ true → IsOver v
+pub over_down : (v : View) (state : ℕ) → v.control.first ≡ true → IsActiveOrPurged v → KnowsRest v → SeesState v state → is_set 2 state ≡ true → IsOver v
 over_down v state first settled r s down = record { nothing_held = nothing_down v state first settled r s down; over = inl (sym s.down ∙ down) }
 
-pub over_quiet : (v : View) (state : ℕ) → KnowsRest v → SeesState v state → is_set 2 state ≡ false → is_set 1 state ≡ false → AreStops 0 v → IsOver v
-over_quiet v state r s up unscheduled open_ = record { nothing_held = nothing_quiet v state r s up unscheduled open_; over = inr open_ }
-
-pub hangs : (v : View) (state : ℕ) → v.control.first ≡ true → IsSettled v → KnowsRest v → SeesState v state → is_set 2 state ≡ false → 0 < v.share.about.queues → AreStops 2 v → Hangs v
+pub hangs : (v : View) (state : ℕ) → v.control.first ≡ true → IsActiveOrPurged v → KnowsRest v → SeesState v state → is_set 2 state ≡ false → 0 < v.share.about.queues → AreAllStops 2 v → Hangs v
 hangs v state first settled r s up some stops = record {
   active = active_up v state first settled r s up;
   up = none_some _ (sym s.down ∙ up);
@@ -148,10 +124,6 @@ calm_raised s calm = ap (λ (b : Bool). (if b then sched_set s.whole.scheduled (
 -- from the last look before the lock was taken to the end of the run
 module _ (c : Cause) (lost : List ℕ) (d : HolderPart) (v0 v1 v2 v4 v5 : View) (look : IsLook v0 v1) (got : v2 ≡ got_in_control d v1) (locks : solo v2 ≡ locked_to true (solo v1)) (known : IsAccounts v2) (purged : IsPurged c lost v2 v4)
     (state : v5.whole.state ≡ v4.whole.state) (share : v5.share ≡ v4.share) (ends : IsSole v4 → solo v5 ≡ ended (solo v4)) (sole : IsSole v0) where
-  -- the lock was taken, and the whole state is as it was
-  holds : View → View
-  holds x = got_in_control d x
-
   solo_four : solo v4 ≡ missed_to false (draining_to false (heard (Purge c) (solo v2)))
   solo_four = ap solo purged.is ∙ purged.alone
 
@@ -210,9 +182,6 @@ control_at h v e f same = (λ j. f (record v { place = record v.place { position
 pub control_looked : (n : ℕ) (h : Bool) (v : View) → v.place.position ≡ Control h → looking n v ≡ v
 control_looked n h v e = control_at h v e (looking n) refl
 
-pub control_loaded : (x : ℕ) (h : Bool) (v : View) → v.place.position ≡ Control h → loading x v ≡ v
-control_loaded x h v e = control_at h v e (loading x) refl
-
 pub served_begun : (v w : View) → w ≡ beginning_control v → IsServed v w
 served_begun v w e = record {
   kept = record { share = ap (λ (x : View). x.share) e; turns = ap (λ (x : View). x.turns) e; first = ap (λ (x : View). x.control.first) e; told = ap (λ (x : View). x.whole.told) e };
@@ -237,12 +206,9 @@ served_looked v w (p, e) = record {
   fates = ([], ap (λ (x : View). x.settled) e);
 }
 
-pub settled_kept : (v w : View) → w.control ≡ v.control → IsSettled v → IsSettled w
-settled_kept v w e s = subst (λ (c : FirstPart). ((c.phase ≡ Active) × (c.purge ≡ None)) ⊎ ((c.phase ≡ Purged) × (c.purge ≡ None))) (sym e) s
-
 pub sole_kept : (v w : View) → w.share ≡ v.share → w.whole.told ≡ v.whole.told → IsSole v → IsSole w
 sole_kept v w share told sole = (ap (λ (s : SharePart). s.shares) share ∙ sole.0, told ∙ sole.1)
 
 module _ {D : Type 0} where
-  pub ready_kept : (b a : Cpu D) → IsElseSame b a → (view a).packets ≡ (view b).packets → (view a).locks ≡ (view b).locks → (view a).holder.resizing ≡ (view b).holder.resizing → IsReady b → IsReady a
+  pub ready_kept : (b a : Cpu D) → IsElseSame b a → (view a).packets ≡ (view b).packets → (view a).locks ≡ (view b).locks → (view a).holder.resizing ≡ (view b).holder.resizing → IsReadyToSend b → IsReadyToSend a
   ready_kept b a same packets locks resizing ready = ((same.3 ∙ ready.0.0, same.1 ∙ ready.0.1), packets ∙ ready.1, locks ∙ ready.2, resizing ∙ ready.3)

@@ -8,3 +8,4 @@ pub mod Alone
 -- the end of a station of the run of one sender
 pub mod Rounds
 pub mod EndingLemmas
+pub mod StepLemmas

@@ -21,7 +21,7 @@ use Rattle.lq_ring.specs.Fates.{fates_onto}
 use Rattle.lq_ring.specs.Purged.{purged_by, purged_to, IsBandPurged, going_on}
 use Rattle.lq_ring.proofs.FatesOnto.{fates_append}
 use Rattle.lq_ring.proofs.TakeSteps.{rest_put}
-use Rattle.lq_control.specs.Control.{all_purged, IsEmptied, IsPurged}
+use Rattle.lq_control.specs.Control.{all_purged, IsPurgeDone, IsPurged}
 
 -- what the takes of a purge leave as it was
 pub record IsStill (v w : View) : Type 0 where
@@ -136,7 +136,7 @@ module _ (cause : Cause) (s : Option ℕ) (l : Left) (v v1 v2 v3 v4 v5 v6 : View
   known_is : whole_of (record v { whole = p2.whole }) ≡ whole_of v
   known_is = ap (λ x. x.whole) p2.alone ∙ (known_purged 1 purge1 (left1 l) v2 v3 p1 ∙ (known_purged 0 first_purge l v1 v2 p0 ∙ ap whole_of e1))
 
-  pub emptied : IsEmptied cause (all_purged s l.bands) v v6
+  pub emptied : IsPurgeDone cause (all_purged s l.bands) v v6
   emptied =
       let y : View = ended (step2 (step1 (step0 (paid_slot cause s v)))) in
       let size1 : v1.holder.size ≡ v.holder.size = ap (λ (x : View). x.holder.size) e1 in
@@ -161,7 +161,7 @@ slot_few None = omega arith
 slot_few (Some n) = omega arith
 
 -- with its event
-pub purged_of : (cause : Cause) (bands : Three Band) (lost : List ℕ) (v u w : View) → v.packets.owed ≡ None → u ≡ purging cause bands v → IsEmptied cause lost u w → IsPurged cause lost v w
+pub purged_of : (cause : Cause) (bands : Three Band) (lost : List ℕ) (v u w : View) → v.packets.owed ≡ None → u ≡ purging cause bands v → IsPurgeDone cause lost u w → IsPurged cause lost v w
 purged_of cause bands lost v u w none_owed e p =
     let after = λ (x : View). record x {
       packets = record x.packets { owed = None };

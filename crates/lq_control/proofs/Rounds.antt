@@ -9,7 +9,7 @@ use Rattle.lq_account.proofs.Turns.{served_left, served_open, turns_left, turns_
 use Rattle.lq_model.specs.Account.{Account, Event, Wake, after, held, is_all_open, is_hung, is_open}
 use Rattle.lq_model.specs.Alone.{RunningStation, cleaned, finished, finished_rounds, is_done, next_taken, opened, opened_queue, opened_up_to, purged_if_hung, queue_in_hand, served, served_turns, turns_of}
 use Rattle.lq_model.specs.declared.fate.Info.{Info}
-use Rattle.lq_qdisc.specs.Stations.{AreStops, IsBetweenOffers, may_take}
+use Rattle.lq_qdisc.specs.Stations.{AreStopValues, IsBetweenOffers, may_take}
 use Rattle.lq_qdisc.proofs.AloneOffers.{HoldsSame}
 use Rattle.lq_qdisc.proofs.AloneServed.{IsTurned, is_turned, laid_after, left_if, not_left, offered_on, served_none, turn_laid, turn_on}
 
@@ -141,7 +141,7 @@ turns-serve infos (suc turns) s enough one active = by_take (λ t. turns-serve i
         subst (IsServed s) (sym (turn_laid infos turns s event (not_left s.account active takes) next closed)) (record {
           between = record {
             queues = subst (λ (xs : List ℕ). 0 < length xs) (sym h.stops) one.queues;
-            known = subst AreStops (sym h.stops) one.known;
+            known = subst AreStopValues (sym h.stops) one.known;
             hand = refl;
             busies = one.busies;
           };
@@ -199,7 +199,7 @@ is_woken s one not_done = by_known one.known
     parts : (is_some s.account.down ≡ false) × ((is_hung s.account || (is_all_open s.account && is_none (next_taken s.account))) ≡ false)
     parts = or_parts (is_some s.account.down) _ not_done
 
-    by_known : AreStops s.account.stops → IsWoken s (opened s)
+    by_known : AreStopValues s.account.stops → IsWoken s (opened s)
     by_known (inr hung) = absurd (true≢false (sym (all_of 2 s.account.stops hung) ∙ (or_parts (is_hung s.account) _ parts.1).0))
     by_known (inl low) =
         let h = opened_same (length s.account.stops) s.account in let values = opened_low (length s.account.stops) s.account low in record {

@@ -3,7 +3,7 @@ use Rattle.std.proofs.Common.{◌≡◌, List, [], ◌++◌, sym, ap, ◌∙◌}
 use Rattle.std.proofs.lemmas.List.{append_assoc}
 use Rattle.lq_table.specs.Views.{View, SharePart}
 use Rattle.lq_table.specs.Solo.{IsSole}
-use Rattle.lq_control.specs.Control.{IsKept, IsServed}
+use Rattle.lq_control.specs.Control.{IsKeptByControl, IsServed}
 
 pub served_none : (v w : View) → w ≡ v → IsServed v w
 served_none v w e = record {
@@ -21,7 +21,7 @@ served_then v w x a b = record {
   fates = (b.fates.0 ++ a.fates.0, b.fates.1 ∙ (ap (λ (fs : List _). b.fates.0 ++ fs) a.fates.1 ∙ sym (append_assoc b.fates.0 a.fates.0 v.settled)));
 }
 
-pub sole_kept : (v w : View) → IsKept v w → IsSole v → IsSole w
+pub sole_kept : (v w : View) → IsKeptByControl v w → IsSole v → IsSole w
 sole_kept v w k sole = (ap (λ (s : SharePart). s.shares) k.share ∙ sole.0, k.told ∙ sole.1)
 
 pub sole_served : (v w : View) → IsServed v w → IsSole v → IsSole w

@@ -13,8 +13,8 @@ use Rattle.lq_table.specs.Solo.{Solo}
 use Rattle.lq_qdisc.specs.Alone.{Does}
 
 -- the station is just as this event of any plan leaves it
-abbrev pub DoesEvent : List Info → Account → ℕ → EventKind → Solo → Solo → Type 0
-DoesEvent infos start event kind old new = (plan : Plan) → Does infos start (changed plan event kind) old new
+abbrev pub DoesEventAlone : List Info → Account → ℕ → EventKind → Solo → Solo → Type 0
+DoesEventAlone infos start event kind old new = (plan : Plan) → Does infos start (changed plan event kind) old new
 
 -- the same of an exchange for this unit, whose device was just configured
 abbrev pub DoesSwap : List Info → Account → ℕ → ℕ → DeviceState → Solo → Solo → Type 0

@@ -19,7 +19,7 @@ use Rattle.lq_qdisc.specs.Calls.{KeepsFates}
 use Rattle.lq_ring.specs.Fates.{fates_onto}
 
 -- what each call of control leaves as it was
-pub record IsKept (v w : View) : Type 0 where
+pub record IsKeptByControl (v w : View) : Type 0 where
   pub share : w.share ≡ v.share
   pub turns : w.turns ≡ v.turns
   pub first : w.control.first ≡ v.control.first
@@ -32,7 +32,7 @@ pub record KeepsDevice (v w : View) : Type 0 where
 
 -- what soft interrupts leave as it was; the fates that they store come before those stored before
 pub record IsServed (v w : View) : Type 0 where
-  pub kept : IsKept v w
+  pub kept : IsKeptByControl v w
   pub control : w.control ≡ v.control
   pub trail : w.trail ≡ v.trail
   pub fates : KeepsFates v w
@@ -62,8 +62,8 @@ abbrev pub all_dropped : ℕ → Account → List ℕ
 all_dropped len a = dropped_in len a 0 ++ (dropped_in len a 1 ++ dropped_in len a 2)
 
 -- the station was deactivated and purged
-abbrev pub deactivated : ℕ → Solo → Solo
-deactivated event s = locked_to false (missed_to false (draining_to false (heard (PurgeEvent (cause.Event event)) (locked_to true (heard (Down event) s)))))
+abbrev pub deactivated_solo : ℕ → Solo → Solo
+deactivated_solo event s = locked_to false (missed_to false (draining_to false (heard (PurgeEvent (cause.Event event)) (locked_to true (heard (Down event) s)))))
 
 -- EXCHANGES
 
@@ -84,7 +84,7 @@ all_purged slot bands = option_to_list slot ++ (held_of bands.low ++ (held_of ba
 
 -- A purge is done, whose event came before: each of these packets has Purged as its fate, which is stored, and MISSED and
 -- DRAINING are clear.
-pub record IsEmptied (cause : Cause) (purged : List ℕ) (v w : View) : Type 0 where
+pub record IsPurgeDone (cause : Cause) (purged : List ℕ) (v w : View) : Type 0 where
   pub ends : Three Ends
   pub whole : WholePart
   pub is : w ≡ record v {

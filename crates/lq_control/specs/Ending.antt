@@ -28,5 +28,5 @@ pub record IsFinishedAlone (infos : List Info) (start : Account) (old new : Solo
   pub fates : (account_in start new).fates ≡ (finished infos (running start old)).account.fates
   pub active : (account_in start old).down ≡ None → running start new ≡ cleared_if_hung (finished infos (running start old))
 
-abbrev pub Finishes : List Info → Account → Solo → Solo → Type 0
-Finishes infos start old new = IsAlone infos start old → IsFinishedAlone infos start old new
+abbrev pub FinishesAlone : List Info → Account → Solo → Solo → Type 0
+FinishesAlone infos start old new = IsAlone infos start old → IsFinishedAlone infos start old new

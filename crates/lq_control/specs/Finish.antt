@@ -10,8 +10,9 @@ use Rattle.lq_model.specs.declared.machine.Phase.{Phase}
 use Rattle.lq_model.specs.declared.machine.Phase.TheVariants.{Active, Purged}
 use Rattle.lq_table.specs.Views.{View, Setup}
 use Rattle.lq_table.specs.Rule.{AreInfos, times}
-use Rattle.lq_table.specs.AtRest.{IsKept}
-use Rattle.lq_table.specs.Solo.{account_of}
+use Rattle.lq_table.specs.AtRest.{IsFatedOrHeld}
+use Rattle.lq_table.specs.Solo.{account_of, solo}
+use Rattle.lq_control.specs.Ending.{purged_as_hung}
 use Rattle.lq_control.specs.Control.{IsIn}
 use Rattle.lq_control.specs.declared.finishes.Seen.{Seen}
 use Rattle.lq_control.specs.declared.finishes.Seen.TheVariants as seen
@@ -68,30 +69,30 @@ pub record IsSent (k : Setup) (v w : View) : Type 0 where
 -- the hand is empty, and each packet of the station whose turn was taken has a fate or is held
 pub record AreKept (k : Setup) (v : View) : Type 0 where
   pub hand_empty : (account_of v).hand ≡ None
-  pub kept : (n : ℕ) → n < length k.infos → station_in k.infos n ≡ k.station → 0 < times (owner_in k.infos n) v.share.owners → 2 * rank_in k.infos n + 1 ≤ slice_index v.turns (owner_in k.infos n) → IsKept (account_of v) n
+  pub kept : (n : ℕ) → n < length k.infos → station_in k.infos n ≡ k.station → 0 < times (owner_in k.infos n) v.share.owners → 2 * rank_in k.infos n + 1 ≤ slice_index v.turns (owner_in k.infos n) → IsFatedOrHeld (account_of v) n
 
 -- by a look nothing changes but what the seat knows of the phase
 abbrev pub IsLook : View → View → Type 0
 IsLook v w = (p : Phase) × (w ≡ record v { whole = record v.whole { qdisc = record v.whole.qdisc { phase = p } } })
 
 -- the station is active, or was purged
-abbrev pub IsSettled : View → Type 0
-IsSettled v = IsIn Active v ⊎ IsIn Purged v
+abbrev pub IsActiveOrPurged : View → Type 0
+IsActiveOrPurged v = IsIn Active v ⊎ IsIn Purged v
 
 -- each queue has this stop value
-abbrev pub AreStops : ℕ → View → Type 0
-AreStops word v = (queue : ℕ) → queue < v.share.about.queues → slice_index (account_of v).stops queue ≡ word
+abbrev pub AreAllStops : ℕ → View → Type 0
+AreAllStops word v = (queue : ℕ) → queue < v.share.about.queues → slice_index (account_of v).stops queue ≡ word
 
 -- nothing is held, and the station is deactivated, or all its queues are open
 pub record IsOver (v : View) : Type 0 where
   pub nothing_held : held (account_of v) ≡ []
-  pub over : IsSome (account_of v).down ⊎ AreStops 0 v
+  pub over : IsSome (account_of v).down ⊎ AreAllStops 0 v
 
 -- the station is active, and all its queues are hung, as the device of its present unit is
 pub record Hangs (v : View) : Type 0 where
   pub active : IsIn Active v
   pub up : (account_of v).down ≡ None
-  pub stops : AreStops 2 v
+  pub stops : AreAllStops 2 v
   pub hung : v.whole.state.station.device.hung ≡ true
   pub unit : (account_of v).unit ≡ v.whole.state.station.unit
 
@@ -115,10 +116,12 @@ pub record PurgesHung (purged : ℕ) (before w : View) : Type 0 where
   pub counted : purged ≡ length (held (account_of before))
   pub trail : w.trail ≡ Purge (cause.Hung before.whole.state.station.unit) ∷ before.trail
   pub device : w.whole.state.station.device ≡ before.whole.state.station.device
+  -- so its event is the only one that came after what the seat knew before
+  pub step : solo w ≡ purged_as_hung before.whole.state.station.unit (solo before)
 
 -- What transmits of the seat brought comes on the trail, nothing where all packets were transmitted before; and after it nothing,
 -- or the purge of what the hung device left.
-pub record Ends (k : Setup) (purged : ℕ) (v w : View) : Type 0 where
+pub record FinishEnds (k : Setup) (purged : ℕ) (v w : View) : Type 0 where
   pub sent : View
   pub is_sent : IsSent k v sent
   pub none_sent : AreAllDone k v.turns → sent ≡ v

@@ -8,3 +8,5 @@ pub mod Finish
 pub mod Alone
 -- the end of a station for a seat that has the table alone
 pub mod Ending
+-- the steps of its calls
+pub mod Steps

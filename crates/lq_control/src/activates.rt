@@ -8,11 +8,12 @@ ghost use Rattle.lq_model.specs.declared.machine.Phase.TheVariants.{Active, Purg
 ghost use Rattle.lq_model.specs.declared.machine.Position.TheVariants.{Idle, Control};
 ghost use Rattle.lq_table.specs.Controls.{opening};
 ghost use Rattle.lq_table.specs.Views.{first_account};
-ghost use Rattle.lq_table.specs.Sees.{view, setup, position, IsSeatOf, IsSameSeat, IsElseSame};
+ghost use Rattle.lq_table.specs.Sees.{view, steps, setup, position, IsSeatOf, IsSameSeat, IsElseSame};
 ghost use Rattle.lq_ring.specs.Fates.{fates_onto};
-ghost use Rattle.lq_qdisc.specs.Sends.{IsReady};
-ghost use Rattle.lq_control.specs.Control.{IsIn, IsKept, KeepsDevice, Stores, deactivated};
-ghost use Rattle.lq_control.specs.Alone.{DoesEvent};
+ghost use Rattle.lq_qdisc.specs.Sends.{IsReadyToSend};
+ghost use Rattle.lq_control.specs.Steps.{Deactivates, Downs, Ups};
+ghost use Rattle.lq_control.specs.Control.{IsIn, IsKeptByControl, KeepsDevice, Stores, deactivated_solo};
+ghost use Rattle.lq_control.specs.Alone.{DoesEventAlone};
 ghost use Rattle.lq_table.specs.Solo.{IsSole, account_of, solo, heard};
 
 use crate::drains::wait_until_clear;
@@ -31,7 +32,8 @@ pub fn up<'a, D: TxDevice>(shared: &Shared<'a, D>, cpu: &mut Cpu<D>)
     ensures same { IsElseSame cpu.old cpu.new }
     ensures opened { view cpu.new ≡ opening (view cpu.old) }
     ensures step { solo (view cpu.new) ≡ heard Up (solo (view cpu.old)) }
-    ensures alone { (event : ℕ) → DoesEvent shared.now.infos.now (first_account (setup shared.now)) event kind.Up (solo (view cpu.old)) (solo (view cpu.new)) }
+    ensures made { Ups (steps cpu.old) (steps cpu.new) }
+    ensures alone { (event : ℕ) → DoesEventAlone shared.now.infos.now (first_account (setup shared.now)) event kind.Up (solo (view cpu.old)) (solo (view cpu.new)) }
 {
     shared.begin_control(cpu);
     shared.clear_deactivated(cpu);
@@ -48,15 +50,16 @@ pub fn down<'a, D: TxDevice, R: Wait>(
     event: u32,
 ) -> u32
     requires seat { IsSeatOf shared.now cpu.old }
-    requires at { (position cpu.old ≡ Idle) × ((view cpu.old).control.first ≡ true) × IsReady cpu.old }
+    requires at { (position cpu.old ≡ Idle) × ((view cpu.old).control.first ≡ true) × IsReadyToSend cpu.old }
     requires active { IsIn Active (view cpu.old) }
-    ensures same { IsSameSeat cpu.old cpu.new × IsKept (view cpu.old) (view cpu.new) × KeepsDevice (view cpu.old) (view cpu.new) }
-    ensures at { (position cpu.new ≡ Idle) × IsReady cpu.new × IsIn Purged (view cpu.new) }
+    ensures same { IsSameSeat cpu.old cpu.new × IsKeptByControl (view cpu.old) (view cpu.new) × KeepsDevice (view cpu.old) (view cpu.new) }
+    ensures at { (position cpu.new ≡ Idle) × IsReadyToSend cpu.new × IsIn Purged (view cpu.new) }
     ensures trail { (view cpu.new).trail ≡ Purge (cause.Event event) ∷ Down event ∷ (view cpu.old).trail }
     ensures purged { (lost : List ℕ) × Stores (fate.Purged (cause.Event event)) lost (view cpu.old) (view cpu.new) × (result ≡ length lost) × (IsSole (view cpu.old) → lost ≡ held (account_of (view cpu.old))) }
     ensures raised { (view cpu.new).place.raised ≡ false }
     ensures clear { IsSole (view cpu.new) → (view cpu.new).whole.qdisc.sched ≡ false }
-    ensures alone { DoesEvent shared.now.infos.now (first_account (setup shared.now)) event kind.Down (solo (view cpu.old)) (solo (view cpu.new)) }
+    ensures made { Downs (setup shared.now) event result (steps cpu.old) (steps cpu.new) }
+    ensures alone { DoesEventAlone shared.now.infos.now (first_account (setup shared.now)) event kind.Down (solo (view cpu.old)) (solo (view cpu.new)) }
 {
     let purged = deactivate(rt, shared, cpu, event);
     wait_until_clear(rt, shared, cpu);
@@ -72,13 +75,14 @@ pub(crate) fn deactivate<'a, D: TxDevice, R: Wait>(
     event: u32,
 ) -> u32
     requires seat { IsSeatOf shared.now cpu.old }
-    requires at { (position cpu.old ≡ Idle) × ((view cpu.old).control.first ≡ true) × IsReady cpu.old }
+    requires at { (position cpu.old ≡ Idle) × ((view cpu.old).control.first ≡ true) × IsReadyToSend cpu.old }
     requires active { IsIn Active (view cpu.old) }
-    ensures same { IsSameSeat cpu.old cpu.new × IsKept (view cpu.old) (view cpu.new) × KeepsDevice (view cpu.old) (view cpu.new) }
-    ensures at { (position cpu.new ≡ Control false) × IsReady cpu.new × IsIn Purged (view cpu.new) }
+    ensures same { IsSameSeat cpu.old cpu.new × IsKeptByControl (view cpu.old) (view cpu.new) × KeepsDevice (view cpu.old) (view cpu.new) }
+    ensures at { (position cpu.new ≡ Control false) × IsReadyToSend cpu.new × IsIn Purged (view cpu.new) }
     ensures trail { (view cpu.new).trail ≡ Purge (cause.Event event) ∷ Down event ∷ (view cpu.old).trail }
     ensures purged { (lost : List ℕ) × ((view cpu.new).settled ≡ fates_onto (fate.Purged (cause.Event event)) lost (view cpu.old).settled) × (result ≡ length lost) × (IsSole (view cpu.old) → lost ≡ held (account_of (view cpu.old))) }
-    ensures sole { IsSole (view cpu.old) → solo (view cpu.new) ≡ deactivated event (solo (view cpu.old)) }
+    ensures sole { IsSole (view cpu.old) → solo (view cpu.new) ≡ deactivated_solo event (solo (view cpu.old)) }
+    ensures made { Deactivates (setup shared.now) event result (steps cpu.old) (steps cpu.new) }
 {
     shared.set_deactivated(cpu, event);
     wait_for_calls(rt, shared, cpu);

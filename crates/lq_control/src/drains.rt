@@ -3,30 +3,31 @@ ghost use Rattle.std.specs.Prelude.{◌≡◌, ℕ, true, false, List, IsSome};
 ghost use Rattle.lq_model.specs.Alone.{served};
 ghost use Rattle.lq_model.specs.declared.machine.Position.TheVariants.{Idle, Control};
 ghost use Rattle.lq_table.specs.Views.{first_account};
-ghost use Rattle.lq_table.specs.Sees.{view, setup, position, IsSeatOf, IsSameSeat, IsElseSame};
+ghost use Rattle.lq_table.specs.Sees.{view, steps, setup, position, IsSeatOf, IsSameSeat, IsElseSame};
 ghost use Rattle.lq_table.specs.Solo.{IsSole, account_of, solo};
 ghost use Rattle.lq_qdisc.specs.Alone.{Does};
-ghost use Rattle.lq_qdisc.specs.Sends.{IsReady};
+ghost use Rattle.lq_qdisc.specs.Sends.{IsReadyToSend};
 ghost use Rattle.lq_control.specs.Control.{IsServed};
 ghost use Rattle.lq_control.specs.Alone.{unmarked};
+ghost use Rattle.lq_control.specs.Steps.{DrainsBy, FindsClear, Rounds, WaitsUntilClear};
 
 use crossbeam_utils::Backoff;
 use lq_device::TxDevice;
+use lq_model::state::SCHED;
 use lq_qdisc::softirq;
 use lq_table::{Cpu, Shared};
 use std::sync::Wait;
-
-const SCHED: u64 = 1;
 
 /// Does soft interrupts as long as the seat is raised, as `net_tx_action` of net/core/dev.c comes again for a CPU whose
 /// `output_queue` isn't empty. A seat that has the table alone serves the station as the run of one sender does.
 pub fn drain<'a, D: TxDevice, R: Wait>(rt: &R, shared: &Shared<'a, D>, cpu: &mut Cpu<D>)
     requires seat { IsSeatOf shared.now cpu.old }
-    requires at { (position cpu.old ≡ Idle) × IsReady cpu.old }
+    requires at { (position cpu.old ≡ Idle) × IsReadyToSend cpu.old }
     ensures same { IsSameSeat cpu.old cpu.new }
     ensures served { IsServed (view cpu.old) (view cpu.new) }
-    ensures at { (position cpu.new ≡ Idle) × IsReady cpu.new }
+    ensures at { (position cpu.new ≡ Idle) × IsReadyToSend cpu.new }
     ensures raised { (view cpu.new).place.raised ≡ false }
+    ensures made { DrainsBy (setup shared.now) (steps cpu.old) (steps cpu.new) }
     ensures alone { Does shared.now.infos.now (first_account (setup shared.now)) (served shared.now.infos.now) (solo (view cpu.old)) (solo (view cpu.new)) }
 {
     for _ in rt.forever() {
@@ -44,6 +45,8 @@ fn is_clear<'a, D: TxDevice>(shared: &Shared<'a, D>, cpu: &mut Cpu<D>) -> bool
     requires at { position cpu.old ≡ Control false }
     ensures same { IsElseSame cpu.old cpu.new × (view cpu.new ≡ view cpu.old) }
     ensures sole { IsSole (view cpu.old) → result ≡ true → (view cpu.old).whole.qdisc.sched ≡ false }
+    ensures clear { result ≡ true → FindsClear (steps cpu.old) (steps cpu.new) }
+    ensures again { result ≡ false → Rounds (setup shared.now) (steps cpu.old) (steps cpu.new) }
 {
     shared.load_lock(cpu) == 0 && shared.load_state(cpu) & SCHED == 0
 }
@@ -51,12 +54,14 @@ fn is_clear<'a, D: TxDevice>(shared: &Shared<'a, D>, cpu: &mut Cpu<D>) -> bool
 /// Does the soft interrupt of a raised seat; or else tells whether the run lock is free and SCHED is clear.
 fn serves_or_is_clear<'a, D: TxDevice>(shared: &Shared<'a, D>, cpu: &mut Cpu<D>) -> bool
     requires seat { IsSeatOf shared.now cpu.old }
-    requires at { (position cpu.old ≡ Control false) × ((view cpu.old).control.first ≡ true) × IsReady cpu.old }
+    requires at { (position cpu.old ≡ Control false) × ((view cpu.old).control.first ≡ true) × IsReadyToSend cpu.old }
     ensures same { IsSameSeat cpu.old cpu.new }
     ensures served { IsServed (view cpu.old) (view cpu.new) }
-    ensures at { (position cpu.new ≡ Control false) × IsReady cpu.new }
+    ensures at { (position cpu.new ≡ Control false) × IsReadyToSend cpu.new }
     ensures clear { result ≡ true → ((view cpu.new).place.raised ≡ false) × (IsSole (view cpu.new) → (view cpu.new).whole.qdisc.sched ≡ false) }
     ensures off { IsSole (view cpu.old) → IsSome (account_of (view cpu.old)).down → unmarked (solo (view cpu.new)) ≡ unmarked (solo (view cpu.old)) }
+    ensures found { result ≡ true → FindsClear (steps cpu.old) (steps cpu.new) }
+    ensures again { result ≡ false → Rounds (setup shared.now) (steps cpu.old) (steps cpu.new) }
 {
     if cpu.raised() {
         softirq(shared, cpu);
@@ -74,13 +79,14 @@ pub(crate) fn wait_until_clear<'a, D: TxDevice, R: Wait>(
     cpu: &mut Cpu<D>,
 )
     requires seat { IsSeatOf shared.now cpu.old }
-    requires at { (position cpu.old ≡ Control false) × ((view cpu.old).control.first ≡ true) × IsReady cpu.old }
+    requires at { (position cpu.old ≡ Control false) × ((view cpu.old).control.first ≡ true) × IsReadyToSend cpu.old }
     ensures same { IsSameSeat cpu.old cpu.new }
     ensures served { IsServed (view cpu.old) (view cpu.new) }
-    ensures at { (position cpu.new ≡ Control false) × IsReady cpu.new }
+    ensures at { (position cpu.new ≡ Control false) × IsReadyToSend cpu.new }
     ensures raised { (view cpu.new).place.raised ≡ false }
     ensures clear { IsSole (view cpu.new) → (view cpu.new).whole.qdisc.sched ≡ false }
     ensures off { IsSole (view cpu.old) → IsSome (account_of (view cpu.old)).down → solo (view cpu.new) ≡ unmarked (solo (view cpu.old)) }
+    ensures made { WaitsUntilClear (setup shared.now) (steps cpu.old) (steps cpu.new) }
 {
     let backoff = Backoff::new();
     for _ in rt.forever() {

@@ -10,12 +10,12 @@ ghost use Rattle.lq_table.specs.Solo.{IsSole, account_of, solo};
 ghost use Rattle.lq_table.specs.Views.{first_account};
 ghost use Rattle.lq_qdisc.specs.Alone.{IsAlone};
 ghost use Rattle.lq_qdisc.specs.Calls.{KeepsFates};
-ghost use Rattle.lq_qdisc.specs.Sends.{IsReady};
+ghost use Rattle.lq_qdisc.specs.Sends.{IsReadyToSend};
 ghost use Rattle.lq_ring.specs.Fates.{fates_onto};
 ghost use Rattle.lq_control.specs.declared.finishes.Seen.TheVariants.{Hung, Ended};
-ghost use Rattle.lq_control.specs.Control.{IsIn, IsKept};
-ghost use Rattle.lq_control.specs.Ending.{Finishes, IsEndedAlike, purged_as_hung};
-ghost use Rattle.lq_control.specs.Finish.{AreFor, AreTurnsFrom, AreAllDone, AreKept, IsSent, IsLook, IsSettled, Shows, Hangs, IsFinished, Ends, ArePurgesHung};
+ghost use Rattle.lq_control.specs.Control.{IsIn, IsKeptByControl};
+ghost use Rattle.lq_control.specs.Ending.{FinishesAlone, IsEndedAlike, purged_as_hung};
+ghost use Rattle.lq_control.specs.Finish.{AreFor, AreTurnsFrom, AreAllDone, AreKept, IsSent, IsLook, IsActiveOrPurged, Shows, Hangs, IsFinished, FinishEnds, ArePurgesHung};
 
 use crate::drains::drain;
 use crate::purges::purge_held;
@@ -23,18 +23,11 @@ use crate::waits::take_lock;
 use crossbeam_utils::Backoff;
 use lq_device::TxDevice;
 use lq_model::Cause;
+use lq_model::state::{DEACTIVATED, HUNG, OPEN, SCHED};
 use lq_qdisc::{irq, transmit};
 use lq_run::end_resize;
 use lq_table::{Cpu, Shared};
 use std::sync::Wait;
-
-const SCHED: u64 = 1;
-
-const DEACTIVATED: u64 = 2;
-
-const OPEN: u64 = 0;
-
-const HUNG: u64 = 2;
 
 /// What a look at a station's words shows.
 #[derive(Clone, Copy)]
@@ -49,14 +42,14 @@ enum Seen {
 /// Transmits packet `n` where it is left: where it is one of the station, and its owner's turn word is at most twice its rank.
 fn send_left<'a, D: TxDevice, R: Wait>(rt: &R, shared: &Shared<'a, D>, cpu: &mut Cpu<D>, n: u32)
     requires seat { IsSeatOf shared.now cpu.old }
-    requires at { (position cpu.old ≡ Idle) × IsReady cpu.old }
+    requires at { (position cpu.old ≡ Idle) × IsReadyToSend cpu.old }
     requires raised { (view cpu.old).place.raised ≡ false }
     requires made { AreFor (setup shared.now) (view cpu.old) }
     requires packet { n < length shared.now.infos.now }
     requires turns { AreTurnsFrom (setup shared.now) n (view cpu.old).turns }
     ensures same { IsSameSeat cpu.old cpu.new }
     ensures kept { ((view cpu.new).share ≡ (view cpu.old).share) × ((view cpu.new).control ≡ (view cpu.old).control) × ((view cpu.new).whole.told ≡ (view cpu.old).whole.told) }
-    ensures at { (position cpu.new ≡ Idle) × IsReady cpu.new }
+    ensures at { (position cpu.new ≡ Idle) × IsReadyToSend cpu.new }
     ensures raised { (view cpu.new).place.raised ≡ false }
     ensures turns { AreTurnsFrom (setup shared.now) (n + 1) (view cpu.new).turns }
     ensures sent { IsSent (setup shared.now) (view cpu.old) (view cpu.new) }
@@ -76,13 +69,13 @@ fn send_left<'a, D: TxDevice, R: Wait>(rt: &R, shared: &Shared<'a, D>, cpu: &mut
 /// Transmits the packets that are left, of all owners in one pass in ascending order.
 fn send_all_left<'a, D: TxDevice, R: Wait>(rt: &R, shared: &Shared<'a, D>, cpu: &mut Cpu<D>)
     requires seat { IsSeatOf shared.now cpu.old }
-    requires at { (position cpu.old ≡ Idle) × IsReady cpu.old }
+    requires at { (position cpu.old ≡ Idle) × IsReadyToSend cpu.old }
     requires raised { (view cpu.old).place.raised ≡ false }
     requires made { AreFor (setup shared.now) (view cpu.old) }
     requires turns { AreTurnsFrom (setup shared.now) 0 (view cpu.old).turns }
     ensures same { IsSameSeat cpu.old cpu.new }
     ensures kept { ((view cpu.new).share ≡ (view cpu.old).share) × ((view cpu.new).control ≡ (view cpu.old).control) × ((view cpu.new).whole.told ≡ (view cpu.old).whole.told) }
-    ensures at { (position cpu.new ≡ Idle) × IsReady cpu.new }
+    ensures at { (position cpu.new ≡ Idle) × IsReadyToSend cpu.new }
     ensures raised { (view cpu.new).place.raised ≡ false }
     ensures turns { AreTurnsFrom (setup shared.now) (length shared.now.infos.now) (view cpu.new).turns }
     ensures sent { IsSent (setup shared.now) (view cpu.old) (view cpu.new) }
@@ -113,8 +106,8 @@ fn are_stops<'a, D: TxDevice>(shared: &Shared<'a, D>, cpu: &mut Cpu<D>, word: u6
 /// open.
 fn look<'a, D: TxDevice>(shared: &Shared<'a, D>, cpu: &mut Cpu<D>) -> Seen
     requires seat { IsSeatOf shared.now cpu.old }
-    requires at { (position cpu.old ≡ Control false) × ((view cpu.old).control.first ≡ true) × IsReady cpu.old }
-    requires sole { IsSole (view cpu.old) × IsSettled (view cpu.old) }
+    requires at { (position cpu.old ≡ Control false) × ((view cpu.old).control.first ≡ true) × IsReadyToSend cpu.old }
+    requires sole { IsSole (view cpu.old) × IsActiveOrPurged (view cpu.old) }
     ensures same { IsElseSame cpu.old cpu.new × IsLook (view cpu.old) (view cpu.new) }
     ensures kept { AreKept (setup shared.now) (view cpu.new) }
     ensures shows { Shows result (view cpu.new) }
@@ -141,10 +134,10 @@ fn look<'a, D: TxDevice>(shared: &Shared<'a, D>, cpu: &mut Cpu<D>) -> Seen
 /// its queues and does soft interrupts. True where it is hung. The seat is in a call of control afterwards.
 fn serve_to_end<'a, D: TxDevice, R: Wait>(rt: &R, shared: &Shared<'a, D>, cpu: &mut Cpu<D>) -> bool
     requires seat { IsSeatOf shared.now cpu.old }
-    requires at { (position cpu.old ≡ Idle) × ((view cpu.old).control.first ≡ true) × ((view cpu.old).place.raised ≡ false) × IsReady cpu.old }
-    requires sole { IsSole (view cpu.old) × IsSettled (view cpu.old) }
-    ensures same { IsSameSeat cpu.old cpu.new × IsKept (view cpu.old) (view cpu.new) }
-    ensures at { (position cpu.new ≡ Control false) × IsReady cpu.new × ((view cpu.new).place.raised ≡ false) }
+    requires at { (position cpu.old ≡ Idle) × ((view cpu.old).control.first ≡ true) × ((view cpu.old).place.raised ≡ false) × IsReadyToSend cpu.old }
+    requires sole { IsSole (view cpu.old) × IsActiveOrPurged (view cpu.old) }
+    ensures same { IsSameSeat cpu.old cpu.new × IsKeptByControl (view cpu.old) (view cpu.new) }
+    ensures at { (position cpu.new ≡ Control false) × IsReadyToSend cpu.new × ((view cpu.new).place.raised ≡ false) }
     ensures still { ((view cpu.new).control ≡ (view cpu.old).control) × ((view cpu.new).trail ≡ (view cpu.old).trail) }
     ensures fates { KeepsFates (view cpu.old) (view cpu.new) }
     ensures kept { AreKept (setup shared.now) (view cpu.new) }
@@ -188,11 +181,11 @@ fn wait_until_left<'a, D: TxDevice, R: Wait>(rt: &R, shared: &Shared<'a, D>, cpu
 /// fate, by the hung unit. It answers their number.
 fn purge_hung<'a, D: TxDevice, R: Wait>(rt: &R, shared: &Shared<'a, D>, cpu: &mut Cpu<D>) -> u32
     requires seat { IsSeatOf shared.now cpu.old }
-    requires at { (position cpu.old ≡ Control false) × ((view cpu.old).control.first ≡ true) × IsReady cpu.old }
+    requires at { (position cpu.old ≡ Control false) × ((view cpu.old).control.first ≡ true) × IsReadyToSend cpu.old }
     requires sole { IsSole (view cpu.old) }
     requires hung { Hangs (view cpu.old) }
-    ensures same { IsSameSeat cpu.old cpu.new × IsKept (view cpu.old) (view cpu.new) }
-    ensures at { (position cpu.new ≡ Idle) × IsReady cpu.new × IsIn Active (view cpu.new) }
+    ensures same { IsSameSeat cpu.old cpu.new × IsKeptByControl (view cpu.old) (view cpu.new) }
+    ensures at { (position cpu.new ≡ Idle) × IsReadyToSend cpu.new × IsIn Active (view cpu.new) }
     ensures raised { (view cpu.new).place.raised ≡ (view cpu.old).place.raised }
     ensures trail { (view cpu.new).trail ≡ Purge (cause.Hung (view cpu.old).whole.state.station.unit) ∷ (view cpu.old).trail }
     ensures control { (view cpu.new).control ≡ (view cpu.old).control }
@@ -219,20 +212,20 @@ fn purge_hung<'a, D: TxDevice, R: Wait>(rt: &R, shared: &Shared<'a, D>, cpu: &mu
 /// of the station has a fate. Where no packet is left this is the end of the run of one sender.
 pub fn finish<'a, D: TxDevice, R: Wait>(rt: &R, shared: &Shared<'a, D>, cpu: &mut Cpu<D>) -> u32
     requires seat { IsSeatOf shared.now cpu.old }
-    requires at { (position cpu.old ≡ Idle) × ((view cpu.old).control.first ≡ true) × ((view cpu.old).place.raised ≡ false) × IsReady cpu.old }
-    requires sole { IsSole (view cpu.old) × IsSettled (view cpu.old) }
+    requires at { (position cpu.old ≡ Idle) × ((view cpu.old).control.first ≡ true) × ((view cpu.old).place.raised ≡ false) × IsReadyToSend cpu.old }
+    requires sole { IsSole (view cpu.old) × IsActiveOrPurged (view cpu.old) }
     requires made { AreFor (setup shared.now) (view cpu.old) }
     requires turns { AreTurnsFrom (setup shared.now) 0 (view cpu.old).turns }
     ensures same { IsSameSeat cpu.old cpu.new }
     ensures kept { ((view cpu.new).share ≡ (view cpu.old).share) × ((view cpu.new).control ≡ (view cpu.old).control) × ((view cpu.new).whole.told ≡ (view cpu.old).whole.told) }
-    ensures at { (position cpu.new ≡ Idle) × ((view cpu.new).place.raised ≡ false) × IsReady cpu.new }
+    ensures at { (position cpu.new ≡ Idle) × ((view cpu.new).place.raised ≡ false) × IsReadyToSend cpu.new }
     ensures turns { AreAllDone (setup shared.now) (view cpu.new).turns }
-    ensures ends { Ends (setup shared.now) result (view cpu.old) (view cpu.new) }
+    ensures ends { FinishEnds (setup shared.now) result (view cpu.old) (view cpu.new) }
     ensures hung { ArePurgesHung (view cpu.old) (view cpu.new) }
     ensures fates { KeepsFates (view cpu.old) (view cpu.new) }
     ensures finished { IsFinished (setup shared.now) (view cpu.new) }
     ensures alone { AreAllDone (setup shared.now) (view cpu.old).turns
-        → Finishes shared.now.infos.now (first_account (setup shared.now)) (solo (view cpu.old)) (solo (view cpu.new)) }
+        → FinishesAlone shared.now.infos.now (first_account (setup shared.now)) (solo (view cpu.old)) (solo (view cpu.new)) }
 {
     send_all_left(rt, shared, cpu);
     if serve_to_end(rt, shared, cpu) {

@@ -9,11 +9,12 @@ ghost use Rattle.lq_model.specs.declared.plan.EventKind.TheVariants as kind;
 ghost use Rattle.lq_model.specs.declared.machine.Phase.TheVariants.{Active, Purged};
 ghost use Rattle.lq_model.specs.declared.machine.Position.TheVariants.{Idle, Control};
 ghost use Rattle.lq_table.specs.Views.{first_account};
-ghost use Rattle.lq_table.specs.Sees.{view, setup, position, IsSeatOf, IsSameSeat};
+ghost use Rattle.lq_table.specs.Sees.{view, steps, setup, position, IsSeatOf, IsSameSeat};
+ghost use Rattle.lq_control.specs.Steps.{ChangesLength, Relengths, ResizesLive};
 ghost use Rattle.lq_ring.specs.Fates.{fates_onto};
-ghost use Rattle.lq_qdisc.specs.Sends.{IsReady};
-ghost use Rattle.lq_control.specs.Control.{IsIn, IsKept, KeepsDevice, Stores, all_dropped};
-ghost use Rattle.lq_control.specs.Alone.{DoesEvent};
+ghost use Rattle.lq_qdisc.specs.Sends.{IsReadyToSend};
+ghost use Rattle.lq_control.specs.Control.{IsIn, IsKeptByControl, KeepsDevice, Stores, all_dropped};
+ghost use Rattle.lq_control.specs.Alone.{DoesEventAlone};
 
 use crate::activates::deactivate;
 use crate::drains::wait_until_clear;
@@ -35,15 +36,16 @@ pub fn resize<'a, D: TxDevice, R: Wait>(
     event: u32,
 ) -> u32
     requires seat { IsSeatOf shared.now cpu.old }
-    requires at { (position cpu.old ≡ Idle) × ((view cpu.old).control.first ≡ true) × IsReady cpu.old }
+    requires at { (position cpu.old ≡ Idle) × ((view cpu.old).control.first ≡ true) × IsReadyToSend cpu.old }
     requires active { IsIn Active (view cpu.old) }
     requires len { (0 < len) × (len ≤ shared.now.max_len) }
-    ensures same { IsSameSeat cpu.old cpu.new × IsKept (view cpu.old) (view cpu.new) × KeepsDevice (view cpu.old) (view cpu.new) }
-    ensures at { (position cpu.new ≡ Idle) × IsReady cpu.new × IsIn Active (view cpu.new) }
+    ensures same { IsSameSeat cpu.old cpu.new × IsKeptByControl (view cpu.old) (view cpu.new) × KeepsDevice (view cpu.old) (view cpu.new) }
+    ensures at { (position cpu.new ≡ Idle) × IsReadyToSend cpu.new × IsIn Active (view cpu.new) }
     ensures trail { (view cpu.new).trail ≡ Resize len event ∷ (view cpu.old).trail }
     ensures shrunk { (lost : List ℕ) × ((view cpu.new).settled ≡ fates_onto (fate.Shrunk event) lost (view cpu.old).settled) × (result ≡ length lost) × (IsSole (view cpu.old) → lost ≡ all_dropped len (account_of (view cpu.old))) }
     ensures sole { IsSole (view cpu.old) → solo (view cpu.new) ≡ ended (heard (Resize len event) (locked_to true (solo (view cpu.old)))) }
-    ensures alone { DoesEvent shared.now.infos.now (first_account (setup shared.now)) event (kind.Resize len) (solo (view cpu.old)) (solo (view cpu.new)) }
+    ensures made { ResizesLive (setup shared.now) len (steps cpu.old) (steps cpu.new) }
+    ensures alone { DoesEventAlone shared.now.infos.now (first_account (setup shared.now)) event (kind.Resize len) (solo (view cpu.old)) (solo (view cpu.new)) }
 {
     shared.begin_control(cpu);
     take_lock(rt, shared, cpu);
@@ -61,12 +63,13 @@ fn relength<'a, D: TxDevice, R: Wait>(
     event: u32,
 )
     requires seat { IsSeatOf shared.now cpu.old }
-    requires at { (position cpu.old ≡ Control false) × IsReady cpu.old }
+    requires at { (position cpu.old ≡ Control false) × IsReadyToSend cpu.old }
     requires purged { IsIn Purged (view cpu.old) }
     requires len { (0 < len) × (len ≤ shared.now.max_len) }
-    ensures same { IsSameSeat cpu.old cpu.new × IsKept (view cpu.old) (view cpu.new) × KeepsDevice (view cpu.old) (view cpu.new) }
-    ensures at { (position cpu.new ≡ Control false) × IsReady cpu.new × IsIn Purged (view cpu.new) }
+    ensures same { IsSameSeat cpu.old cpu.new × IsKeptByControl (view cpu.old) (view cpu.new) × KeepsDevice (view cpu.old) (view cpu.new) }
+    ensures at { (position cpu.new ≡ Control false) × IsReadyToSend cpu.new × IsIn Purged (view cpu.new) }
     ensures trail { (view cpu.new).trail ≡ Resize len event ∷ (view cpu.old).trail }
+    ensures made { Relengths (setup shared.now) len (steps cpu.old) (steps cpu.new) }
     ensures none_lost { (view cpu.new).settled ≡ (view cpu.old).settled }
     ensures sole { IsSole (view cpu.old) → solo (view cpu.new) ≡ locked_to false (heard (Resize len event) (locked_to true (solo (view cpu.old)))) }
 {
@@ -86,14 +89,15 @@ pub fn tx_queue_len<'a, D: TxDevice, R: Wait>(
     event: u32,
 ) -> u32
     requires seat { IsSeatOf shared.now cpu.old }
-    requires at { (position cpu.old ≡ Idle) × ((view cpu.old).control.first ≡ true) × IsReady cpu.old }
+    requires at { (position cpu.old ≡ Idle) × ((view cpu.old).control.first ≡ true) × IsReadyToSend cpu.old }
     requires active { IsIn Active (view cpu.old) }
     requires len { (0 < len) × (len ≤ shared.now.max_len) }
-    ensures same { IsSameSeat cpu.old cpu.new × IsKept (view cpu.old) (view cpu.new) × KeepsDevice (view cpu.old) (view cpu.new) }
-    ensures at { (position cpu.new ≡ Idle) × IsReady cpu.new × IsIn Active (view cpu.new) }
+    ensures same { IsSameSeat cpu.old cpu.new × IsKeptByControl (view cpu.old) (view cpu.new) × KeepsDevice (view cpu.old) (view cpu.new) }
+    ensures at { (position cpu.new ≡ Idle) × IsReadyToSend cpu.new × IsIn Active (view cpu.new) }
     ensures trail { (view cpu.new).trail ≡ Up ∷ Resize len event ∷ Purge (cause.Event event) ∷ Down event ∷ (view cpu.old).trail }
     ensures purged { (lost : List ℕ) × Stores (fate.Purged (cause.Event event)) lost (view cpu.old) (view cpu.new) × (result ≡ length lost) × (IsSole (view cpu.old) → lost ≡ held (account_of (view cpu.old))) }
-    ensures alone { DoesEvent shared.now.infos.now (first_account (setup shared.now)) event (kind.TxQueueLen len) (solo (view cpu.old)) (solo (view cpu.new)) }
+    ensures made { ChangesLength (setup shared.now) event len result (steps cpu.old) (steps cpu.new) }
+    ensures alone { DoesEventAlone shared.now.infos.now (first_account (setup shared.now)) event (kind.TxQueueLen len) (solo (view cpu.old)) (solo (view cpu.new)) }
 {
     let purged = deactivate(rt, shared, cpu, event);
     wait_until_clear(rt, shared, cpu);

@@ -2,7 +2,7 @@
 ghost use Rattle.std.specs.Prelude.{◌≡◌, ℕ, ◌<◌, ◌≤◌, length, true};
 ghost use Rattle.lq_model.specs.declared.machine.Phase.TheVariants.{Active, Purged};
 ghost use Rattle.lq_table.specs.Sees.{view};
-ghost use Rattle.lq_qdisc.specs.Plain.{IsBetweenCalls, IsPlain};
+ghost use Rattle.lq_qdisc.specs.Plain.{IsFirstOwnerAtRest, IsPlainPacket};
 ghost use Rattle.lq_control.specs.Control.{IsIn};
 ghost use Rattle.lq_control.specs.Plain.{IsControls};
 
@@ -53,7 +53,7 @@ fn purged(event: u32) -> Option<Fate> {
 }
 
 fn check_packets<A: Abort>(rt: &A, infos: &[Info])
-    ensures { (k : ℕ) → k < length infos.now → IsPlain infos.now 1 k }
+    ensures { (k : ℕ) → k < length infos.now → IsPlainPacket infos.now 1 k }
 {
     for k in 0..infos.len() {
         assert!(rt; infos[k].owner == 1);

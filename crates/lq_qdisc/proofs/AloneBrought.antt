@@ -9,7 +9,7 @@ use Rattle.lq_model.specs.Alone.{RunningStation, gone_direct, gone_through, is_c
 use Rattle.lq_model.specs.Device.{is_busy}
 use Rattle.lq_model.specs.Plan.{band_in, queue_in}
 use Rattle.lq_model.specs.declared.fate.Info.{Info}
-use Rattle.lq_qdisc.specs.Stations.{AreStops, IsBetweenOffers, dirty, is_waiting, may_take}
+use Rattle.lq_qdisc.specs.Stations.{AreStopValues, IsBetweenOffers, dirty, is_waiting, may_take}
 use Rattle.lq_qdisc.proofs.AloneServed.{clean_none, dirty_open, left_if, not_left, served_none, served_twice, served_waiting, waiting_clean}
 
 -- A STATION THAT RESTS
@@ -103,7 +103,7 @@ queued_in infos n s = record s { account = joined_or_full n (band_in infos n) s.
 pub queued_between : (infos : List Info) (n : ℕ) (s : RunningStation) → IsBetweenOffers s → IsBetweenOffers (queued_in infos n s)
 queued_between infos n s one = let k = queued_keeps n (band_in infos n) s.account in record {
   queues = subst (λ (xs : List ℕ). 0 < length xs) (sym k.stops) one.queues;
-  known = subst AreStops (sym k.stops) one.known;
+  known = subst AreStopValues (sym k.stops) one.known;
   hand = k.hand ∙ one.hand;
   busies = one.busies;
 }

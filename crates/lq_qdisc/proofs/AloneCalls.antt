@@ -14,12 +14,13 @@ use Rattle.lq_model.specs.Plan.{band_in, queue_in}
 use Rattle.lq_model.specs.Steps.{begun as begun_as}
 use Rattle.lq_model.specs.declared.fate.Info.{Info}
 use Rattle.lq_run.specs.Runs as runs
+use Rattle.lq_table.specs.Made.{Known, Made}
 use Rattle.lq_table.specs.Views.{View, Setup, machine_packet, SharePart, first_account, no_packets}
 use Rattle.lq_table.specs.Solo.{Solo, IsSole, SeesState, account_of, solo, heard, locked_to, lowered, sched_cleared, sched_set}
 use Rattle.lq_table.specs.Told.{call_of, entering, going, is_set, looking, seen_by, some_bit, stepped}
 use Rattle.lq_model.specs.declared.machine.Answer.TheVariants.{Plain}
-use Rattle.lq_qdisc.specs.Alone.{Brings, Does, HasAll, IsAlone, IsOneSender, RunsAlone, account_in, is_clean, running}
-use Rattle.lq_qdisc.specs.Sends.{Attempts, Begins, Enqueues, FollowsDirect, Goes, GoesPast, GoesThrough, Interrupts, IsRefused, IsDue, RunsToEnd, Transmits, TriesToPass, Wakes, WakesBelow, transmitting}
+use Rattle.lq_qdisc.specs.Alone.{BringsAlone, Does, HasAll, IsAlone, IsOneSender, RunsAlone, account_in, bits_are_clear, running}
+use Rattle.lq_qdisc.specs.Sends.{Attempts, GetsLock, Enqueues, FollowsDirect, Goes, GoesPast, GoesThrough, Interrupts, IsRefused, IsDue, RunsToEnd, Transmits, TriesToPass, Wakes, WakesBelow, transmitting}
 use Rattle.lq_qdisc.specs.declared.answers.Sending.{Sending}
 use Rattle.lq_qdisc.specs.declared.answers.Sending.TheVariants as sending
 use Rattle.lq_qdisc.specs.declared.answers.Through.{Through}
@@ -56,9 +57,6 @@ both_clear : (missed draining : Bool) → not (missed || draining) ≡ true → 
 both_clear true draining clean some = true≢false (sym clean)
 both_clear false true clean some = true≢false (sym clean)
 both_clear false false clean some = true≢false (sym some)
-
-not_both : (b : Bool) → b ≡ true → b ≡ false → ⊥
-not_both b t f = true≢false (sym t ∙ f)
 
 -- as a soft interrupt begins
 pub entering_solo : (v : View) → v.packets ≡ no_packets → solo (entering v) ≡ lowered (solo v)
@@ -115,7 +113,7 @@ module _ (k : Setup) (infos : List Info) where
     softirq_done = by_first (is_set 2 i.begins.first) refl
 
   pub softirq_alone : (old before new : View) → old.share.about ≡ k → old.packets ≡ no_packets → old.place.raised ≡ true → Interrupts infos (entering old) before → solo new ≡ solo before
-      → Brings infos (first_account k) (λ s. s) (solo old) (solo new)
+      → BringsAlone infos (first_account k) (λ s. s) (solo old) (solo new)
   softirq_alone old before new about packets raised i same = λ h. softirq_done old before new about packets raised i same h
 
 -- A PACKET JOINS ITS BAND, OR IS DROPPED AS FULL
@@ -169,7 +167,7 @@ module _ (k : Setup) (infos : List Info) (n : ℕ) where
       put_about (sending.OutOfTurn found) old put about e = absurd e
 
   -- past the bands, under the run lock
-  module _ (old got new : View) (about : got.share.about ≡ k) (low : (solo old).raised ≡ false) (active : (account_in (first_account k) (solo old)).down ≡ None) (clean : is_clean (solo old) ≡ true)
+  module _ (old got new : View) (about : got.share.about ≡ k) (low : (solo old).raised ≡ false) (active : (account_in (first_account k) (solo old)).down ≡ None) (clean : bits_are_clear (solo old) ≡ true)
       (h : IsAlone infos (first_account k) (solo old)) (lock : solo got ≡ locked_to true (solo old)) (p : GoesPast infos n got new) where
     going_is : solo (going n p.state got) ≡ heard (Direct n) (locked_to true (solo old))
     going_is = p.step ∙ ap (λ (v : Solo). heard (Direct n) v) lock
@@ -180,13 +178,13 @@ module _ (k : Setup) (infos : List Info) (n : ℕ) where
         p.handed n (queue_in infos n) p.after p.direct
         )
 
-    follows_is : (t : Through) (last : View) → FollowsDirect t infos last new → HasAll (solo last) → (t ≡ through.Yes → is_clean (solo last) ≡ true) → solo new ≡ ended (solo last)
+    follows_is : (t : Through) (last : View) → FollowsDirect t infos last new → HasAll (solo last) → (t ≡ through.Yes → bits_are_clear (solo last) ≡ true) → solo new ≡ ended (solo last)
     follows_is through.Yes last f all still = by_state f.3
       where
         same_bits : some_bit f.0 ≡ ((solo last).whole.missed || (solo last).whole.draining)
         same_bits = ap₂ (λ (x y : Bool). x || y) (f.1 all).missed (f.1 all).draining
 
-        by_state : (((some_bit f.0 ≡ true) × RunsToEnd infos (looking f.0 last) new) ⊎ ((some_bit f.0 ≡ false) × Rattle.lq_qdisc.specs.Sends.IsEnded (looking f.0 last) new)) → solo new ≡ ended (solo last)
+        by_state : (((some_bit f.0 ≡ true) × RunsToEnd infos (looking f.0 last) new) ⊎ ((some_bit f.0 ≡ false) × Rattle.lq_qdisc.specs.Sends.IsLockReleased (looking f.0 last) new)) → solo new ≡ ended (solo last)
         by_state (inl t) = absurd (both_clear (solo last).whole.missed (solo last).whole.draining (still refl) (sym same_bits ∙ t.0))
         by_state (inr t) = t.1.sole all ∙ (ended_is (solo (looking f.0 last)) ∙ ap ended f.2)
     follows_is (through.Back reason) last f all still = f.sole all ∙ ended_is (solo last)
@@ -210,7 +208,7 @@ module _ (k : Setup) (infos : List Info) (n : ℕ) where
     same_bits : some_bit goes.state ≡ ((solo old).whole.missed || (solo old).whole.draining)
     same_bits = ap₂ (λ (x y : Bool). x || y) sees.missed sees.draining
 
-    same_clean : not (some_bit goes.state) ≡ is_clean (solo old)
+    same_clean : not (some_bit goes.state) ≡ bits_are_clear (solo old)
     same_clean = ap not same_bits
 
     still_active : is_set 2 goes.state ≡ false
@@ -237,7 +235,7 @@ module _ (k : Setup) (infos : List Info) (n : ℕ) where
         both : (bypass ≡ true) × (not (some_bit goes.state) ≡ true)
         both = and_parts bypass (not (some_bit goes.state)) e
 
-        clean : is_clean (solo old) ≡ true
+        clean : bits_are_clear (solo old) ≡ true
         clean = sym same_clean ∙ both.1
 
         lock : solo b.0 ≡ locked_to true (solo old)
@@ -254,7 +252,7 @@ module _ (k : Setup) (infos : List Info) (n : ℕ) where
         by_way (inr p) =
             let g = past_alone old b.0 last about_got low active clean h lock p.1 in
             let done = subst (λ (v : Solo). IsAlone infos (first_account k) v × (running (first_account k) v ≡ gone_direct infos n (running (first_account k) (solo old)))) (sym step) g in
-            (done.0, ap (served infos) (done.1 ∙ sym (brought_direct infos bypass n (running (first_account k) (solo old)) active (and_from bypass (is_clean (solo old)) both.0 clean))))
+            (done.0, ap (served infos) (done.1 ∙ sym (brought_direct infos bypass n (running (first_account k) (solo old)) active (and_from bypass (bits_are_clear (solo old)) both.0 clean))))
 
     by_bits : (c : Bool) → bypass && not (some_bit goes.state) ≡ c → Ends
     by_bits false e = through_bands e
@@ -302,7 +300,7 @@ module _ (k : Setup) (infos : List Info) (n : ℕ) where
     refused_done = let r = goes.refused (seen.down ∙ ap (λ (o : Option ℕ). is_some o) known_down) in by_answer r.0 r.2
 
   pub transmit_alone : (bypass : Bool) (answer : Sending) (old new : View) → old.share.about ≡ k → old.share.about.bypass ≡ bypass → (last : View) → Goes infos bypass n answer (transmitting infos n old) last → solo new ≡ solo last
-      → old.place.raised ≡ false → Brings infos (first_account k) (brought_in infos bypass n) (solo old) (solo new)
+      → old.place.raised ≡ false → BringsAlone infos (first_account k) (brought_in infos bypass n) (solo old) (solo new)
   transmit_alone bypass answer old new about bypass_is last goes step low h = by_down (account_in (first_account k) (solo old)).down refl
     where
       by_down : (o : Option ℕ) → (account_in (first_account k) (solo old)).down ≡ o → IsAlone infos (first_account k) (solo new)
@@ -372,24 +370,24 @@ module _ (k : Setup) (infos : List Info) (queue : ℕ) (old new : View) (about :
     sym (ap (λ (a : Account). with_account a (running (first_account k) (solo old))) (cond-false _ _ _ (ne_eqb _ _ other))),
   )
 
-  wake_alone : Wakes queue old new → Opens (solo new)
-  wake_alone (inl w) = woken_alone w.0 w.2 (w.3 h.sender.sole) (sym stop-at ∙ w.4 h.sender.sole)
-  wake_alone (inr w) = still_alone w.0 (λ z. w.1 h.sender.sole (stop-at ∙ z))
+  wake_alone : (k' : Setup) (steps steps' : List Made) → Wakes k' queue (record { view = old; steps = steps }) (record { view = new; steps = steps' }) → Opens (solo new)
+  wake_alone k' steps steps' (inl w) = woken_alone w.0 w.2 (w.3 h.sender.sole) (sym stop-at ∙ w.4 h.sender.sole)
+  wake_alone k' steps steps' (inr w) = still_alone w.0 (λ z. w.1 h.sender.sole (stop-at ∙ z))
 
-wake_about : (queue : ℕ) (old new : View) → Wakes queue old new → new.share.about ≡ old.share.about
-wake_about queue old new (inl w) = ap (λ (v : View). v.share.about) w.1
-wake_about queue old new (inr w) = ap (λ (v : View). v.share.about) w.0
+wake_about : (k : Setup) (queue : ℕ) (old new : Known) → Wakes k queue old new → new.view.share.about ≡ old.view.share.about
+wake_about k queue old new (inl w) = ap (λ (v : View). v.share.about) w.1
+wake_about k queue old new (inr w) = ap (λ (v : View). v.share.about) w.0
 
-wakes_alone : (k : Setup) (infos : List Info) (queues : ℕ) (old new : View) → old.share.about ≡ k → IsAlone infos (first_account k) (solo old) → WakesBelow queues old new
-    → (new.share.about ≡ k) × (IsAlone infos (first_account k) (solo new) × (running (first_account k) (solo new) ≡ with_account (opened_up_to queues (account_in (first_account k) (solo old))) (running (first_account k) (solo old))))
+wakes_alone : (k : Setup) (infos : List Info) (queues : ℕ) (old new : Known) → old.view.share.about ≡ k → IsAlone infos (first_account k) (solo old.view) → WakesBelow k queues old new
+    → (new.view.share.about ≡ k) × (IsAlone infos (first_account k) (solo new.view) × (running (first_account k) (solo new.view) ≡ with_account (opened_up_to queues (account_in (first_account k) (solo old.view))) (running (first_account k) (solo old.view))))
 wakes_alone k infos zero old new about h w =
-    (ap (λ (v : View). v.share.about) w ∙ about, (subst (λ (v : View). IsAlone infos (first_account k) (solo v)) (sym w) h, ap (λ (v : View). running (first_account k) (solo v)) w))
+    (ap (λ (v : Known). v.view.share.about) w ∙ about, (subst (λ (v : Known). IsAlone infos (first_account k) (solo v.view)) (sym w) h, ap (λ (v : Known). running (first_account k) (solo v.view)) w))
 wakes_alone k infos (suc queue) old new about h w =
     let below = wakes_alone k infos queue old w.0 about h w.1 in
-    let here = wake_alone k infos queue w.0 new below.0 below.1.0 w.2 in
-    (wake_about queue w.0 new w.2 ∙ below.0, (here.0, here.1 ∙ ap (λ (s : RunningStation). with_account (opened_queue queue s.account) s) below.1.1))
+    let here = wake_alone k infos queue w.0.view new.view below.0 below.1.0 k w.0.steps new.steps w.2 in
+    (wake_about k queue w.0 new w.2 ∙ below.0, (here.0, here.1 ∙ ap (λ (s : RunningStation). with_account (opened_queue queue s.account) s) below.1.1))
 
-pub irq_alone : (k : Setup) (infos : List Info) (old new : View) → old.share.about ≡ k → WakesBelow k.queues old new → Does infos (first_account k) opened (solo old) (solo new)
+pub irq_alone : (k : Setup) (infos : List Info) (old new : Known) → old.view.share.about ≡ k → WakesBelow k k.queues old new → Does infos (first_account k) opened (solo old.view) (solo new.view)
 irq_alone k infos old new about w h =
     let all = wakes_alone k infos k.queues old new about h w in
-    (all.1.0, all.1.1 ∙ ap (λ (n : ℕ). with_account (opened_up_to n (account_in (first_account k) (solo old))) (running (first_account k) (solo old))) (sym (count_of k (solo old))))
+    (all.1.0, all.1.1 ∙ ap (λ (n : ℕ). with_account (opened_up_to n (account_in (first_account k) (solo old.view))) (running (first_account k) (solo old.view))) (sym (count_of k (solo old.view))))

@@ -11,12 +11,12 @@ use Rattle.lq_model.specs.Band.{held_of}
 use Rattle.lq_model.specs.Device.{is_busy}
 use Rattle.lq_model.specs.declared.device.Tx.{Tx}
 use Rattle.lq_model.specs.declared.device.Tx.TheVariants.{Sent, SentStop, SentHang, Busy}
-use Rattle.lq_qdisc.specs.Stations.{AreStops}
+use Rattle.lq_qdisc.specs.Stations.{AreStopValues}
 
 -- STOP VALUES
 
 -- a queue is open or stopped now, which wasn't hung
-pub stops_set : (stops : List ℕ) (queue value : ℕ) → AreStops stops → slice_index stops queue ≤ 1 → value ≤ 1 → AreStops (slice_set stops queue value)
+pub stops_set : (stops : List ℕ) (queue value : ℕ) → AreStopValues stops → slice_index stops queue ≤ 1 → value ≤ 1 → AreStopValues (slice_set stops queue value)
 stops_set stops queue value (inl low) here small = inl each
   where
     each : (q : ℕ) → slice_index (slice_set stops queue value) q ≤ 1
@@ -28,7 +28,7 @@ stops_set stops queue value (inl low) here small = inl each
         by_same (inr other) below = subst (λ (x : ℕ). x ≤ 1) (sym (get_or-set_other stops queue q value 0 other)) (low q)
 stops_set stops queue value (inr hung) here small = by_below (cases_lt queue (length stops))
   where
-    by_below : (queue < length stops) ⊎ (length stops ≤ queue) → AreStops (slice_set stops queue value)
+    by_below : (queue < length stops) ⊎ (length stops ≤ queue) → AreStopValues (slice_set stops queue value)
     by_below (inl below) = absurd (let two = hung queue below in omega arith)
     by_below (inr past) = inr (subst (λ (xs : List ℕ). (q : ℕ) → q < length xs → slice_index xs q ≡ 2) (sym (set_past stops queue value past)) hung)
 
@@ -99,18 +99,18 @@ pub record IsOffered (answer : Tx) (m : ℕ) (a b : Account) : Type 0 where
   pub hand : b.hand ≡ None
   pub down : b.down ≡ a.down
   pub count : length b.stops ≡ length a.stops
-  pub known : AreStops b.stops
+  pub known : AreStopValues b.stops
   -- an answer Busy stops no queue
   pub busy : is_busy answer ≡ true → b.stops ≡ a.stops
 
-pub is_offered : (answer : Tx) (queue m : ℕ) (a : Account) → a.hand ≡ Some m → a.slot ≡ None → AreStops a.stops → slice_index a.stops queue ≡ 0 → IsOffered answer m a (answered answer queue a)
+pub is_offered : (answer : Tx) (queue m : ℕ) (a : Account) → a.hand ≡ Some m → a.slot ≡ None → AreStopValues a.stops → slice_index a.stops queue ≡ 0 → IsOffered answer m a (answered answer queue a)
 is_offered Sent queue m a hand empty known opens = let s = sent_same a.hand a in record {
   bands = s.0.bands;
   slot = s.0.slot ∙ empty;
   hand = sent_hand a.hand m a hand;
   down = s.0.down;
   count = s.0.count;
-  known = subst AreStops (sym s.1) known;
+  known = subst AreStopValues (sym s.1) known;
   busy = λ e. cc;
 }
 is_offered SentStop queue m a hand empty known opens = let s = sent_same a.hand a in record {
@@ -119,7 +119,7 @@ is_offered SentStop queue m a hand empty known opens = let s = sent_same a.hand 
   hand = sent_hand a.hand m a hand;
   down = s.0.down;
   count = length-set (after Send a).stops queue 1 ∙ s.0.count;
-  known = subst (λ (xs : List ℕ). AreStops (slice_set xs queue 1)) (sym s.1) (stops_set a.stops queue 1 known (omega arith) (omega arith));
+  known = subst (λ (xs : List ℕ). AreStopValues (slice_set xs queue 1)) (sym s.1) (stops_set a.stops queue 1 known (omega arith) (omega arith));
   busy = λ e. cc;
 }
 is_offered SentHang queue m a hand empty known opens =

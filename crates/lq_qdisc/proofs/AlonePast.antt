@@ -1,7 +1,7 @@
 -- A packet that goes past the bands.
 use Rattle.lq_table.specs.Solo.{Solo, heard, missed_to, locked_to}
-use Rattle.lq_qdisc.specs.Stations.{AreStops, IsBetweenOffers}
-use Rattle.lq_qdisc.specs.Alone.{HasAll, IsAlone, account_in, is_clean, running}
+use Rattle.lq_qdisc.specs.Stations.{AreStopValues, IsBetweenOffers}
+use Rattle.lq_qdisc.specs.Alone.{HasAll, IsAlone, account_in, bits_are_clear, running}
 use Rattle.lq_qdisc.proofs.AloneForms.{DirectsAlone, LaysAlone, SendsAlone, ended, stopping, through_of}
 use Rattle.std.proofs.Common.{◌≡◌, ℕ, ◌+◌, ◌≤◌, ◌<◌, Bool, true, false, not, ◌&&◌, ◌||◌, [], ◌++◌, ◌⊎◌, inl, inr, List, None, length, if◌then◌else◌, option_to_list, refl, sym, ap, ap₂, subst, ◌∙◌, arith}
 use Rattle.std.proofs.lemmas.Bool.{eqb-true, true≢false}
@@ -58,7 +58,7 @@ either SentHang = inl (refl, refl)
 either Busy = inr (refl, refl)
 
 -- the bits, the mark and SCHED were clear, and the seat has the lock
-module _ (infos : List Info) (start : Account) (n : ℕ) (v : Solo) (low : v.raised ≡ false) (active : (account_in start v).down ≡ None) (clean : is_clean v ≡ true) (h : IsAlone infos start v) where
+module _ (infos : List Info) (start : Account) (n : ℕ) (v : Solo) (low : v.raised ≡ false) (active : (account_in start v).down ≡ None) (clean : bits_are_clear v ≡ true) (h : IsAlone infos start v) where
   bits : (v.whole.missed ≡ false) × (v.whole.draining ≡ false)
   bits = both-clear v.whole.missed v.whole.draining clean
 
@@ -106,15 +106,15 @@ module _ (infos : List Info) (start : Account) (n : ℕ) (v : Solo) (low : v.rai
         (now.slot ∙ slot-behind-none s.answer n yes_ ∙ sym slot-empty) now.bands
         ∙ none-held
 
-    clean-is : is_clean new ≡ not (is_busy s.answer)
+    clean-is : bits_are_clear new ≡ not (is_busy s.answer)
     clean-is = by_either (either s.answer)
       where
         by_either : ((through_of s.answer ≡ through.Yes) × (is_busy s.answer ≡ false)) ⊎ ((through_of s.answer ≡ through.Back why.Busy) × (is_busy s.answer ≡ true))
-            → is_clean new ≡ not (is_busy s.answer)
+            → bits_are_clear new ≡ not (is_busy s.answer)
         by_either (inl yes_) = clean-if new.whole.missed new.whole.draining (left.missed yes_.0 ∙ bits.0) (left.draining ∙ bits.1) ∙ sym (ap not yes_.1)
         by_either (inr back) = not-clean new.whole.missed new.whole.draining (left.busy back.0) ∙ sym (ap not back.1)
 
-    not-busy : is_clean new ≡ true → through_of s.answer ≡ through.Yes
+    not-busy : bits_are_clear new ≡ true → through_of s.answer ≡ through.Yes
     not-busy e = by_either (either s.answer)
       where
         by_either : ((through_of s.answer ≡ through.Yes) × (is_busy s.answer ≡ false)) ⊎ ((through_of s.answer ≡ through.Back why.Busy) × (is_busy s.answer ≡ true))
@@ -123,9 +123,9 @@ module _ (infos : List Info) (start : Account) (n : ℕ) (v : Solo) (low : v.rai
         by_either (inr back) = absurd (true≢false (sym e ∙ clean-is ∙ ap not back.1))
 
     between-new : IsBetweenOffers (running start new)
-    between-new = subst IsBetweenOffers (sym (sent_running start (queue_in infos n) answered_ (heard (Direct n) (locked_to true v)) new h.sender.tells s (is_clean new))) (record {
+    between-new = subst IsBetweenOffers (sym (sent_running start (queue_in infos n) answered_ (heard (Direct n) (locked_to true v)) new h.sender.tells s (bits_are_clear new))) (record {
       queues = subst (λ (a : Account). 0 < length a.stops) again (subst (λ (m : ℕ). 0 < m) (sym now.count) h.sender.station.queues);
-      known = subst (λ (a : Account). AreStops a.stops) again now.known;
+      known = subst (λ (a : Account). AreStopValues a.stops) again now.known;
       hand = ap (λ (a : Account). a.hand) (sym again) ∙ now.hand;
       busies = still-within (next_answer (running start v)) (running start v).device.busies (running start v).device.params.busy_limit h.sender.station.busies (busy_answer (running start v).device _);
     })
@@ -134,7 +134,7 @@ module _ (infos : List Info) (start : Account) (n : ℕ) (v : Solo) (low : v.rai
         again = ap {A = Tx} {B = Account} (λ answer. answered answer (queue_in infos n) (after (Direct n) (account_in start v))) s.is
 
     -- after an answer Yes the bits are still clear
-    pub still_clean : answered_ ≡ through.Yes → is_clean new ≡ true
+    pub still_clean : answered_ ≡ through.Yes → bits_are_clear new ≡ true
     still_clean yes_ = clean-if new.whole.missed new.whole.draining (left.missed (sym s.through ∙ yes_) ∙ bits.0) (left.draining ∙ bits.1)
 
     pub sent_sole : HasAll new
@@ -153,7 +153,7 @@ module _ (infos : List Info) (start : Account) (n : ℕ) (v : Solo) (low : v.rai
             (λ missed e. absurd (true≢false (sym (clean-if new.whole.missed new.whole.draining missed (left.draining ∙ bits.1)) ∙ e)))
             (λ up e. absurd (true≢false (sym (missed-up new.raised new.whole.missed (not new.whole.scheduled) (left.raised ∙ low) up) ∙ (both-clear new.whole.missed new.whole.draining e).0)));
       },
-      sent_running start (queue_in infos n) answered_ (heard (Direct n) (locked_to true v)) new h.sender.tells s (is_clean new)
+      sent_running start (queue_in infos n) answered_ (heard (Direct n) (locked_to true v)) new h.sender.tells s (bits_are_clear new)
           ∙ ap (λ (b : Bool). record (offered (queue_in infos n) (record (running start v) { account = after (Direct n) (account_in start v) })) { clean = b })
           (clean-is ∙ ap {A = Tx} {B = Bool} (λ answer. not (is_busy answer)) s.is)
           ∙ sym (direct_open infos n (running start v) s.opens),
@@ -165,7 +165,7 @@ module _ (infos : List Info) (start : Account) (n : ℕ) (v : Solo) (low : v.rai
         missed-up true missed b r up = cc
 
   -- after a direct transmit, and the end of the run
-  pub past_left : (t : Through) (new : Solo) → DirectsAlone start (queue_in infos n) t (heard (Direct n) (locked_to true v)) new → Goes (ended new) × HasAll new × (t ≡ through.Yes → is_clean new ≡ true)
+  pub past_left : (t : Through) (new : Solo) → DirectsAlone start (queue_in infos n) t (heard (Direct n) (locked_to true v)) new → Goes (ended new) × HasAll new × (t ≡ through.Yes → bits_are_clear new ≡ true)
   past_left through.Yes new d = (past-open through.Yes new d, sent_sole through.Yes new d, still_clean through.Yes new d)
   past_left (through.Back why.Busy) new d = (past-open (through.Back why.Busy) new d, sent_sole (through.Back why.Busy) new d, λ e. cc)
   past_left (through.Back why.Stopped) new d = (past-closed new d, subst HasAll (sym d.1) h.sender.sole, λ e. cc)

@@ -1,7 +1,7 @@
 -- What a run attempt leaves, and a station between two calls.
 use Rattle.lq_table.specs.Solo.{Solo, heard, locked_to, lowered, sched_cleared}
 use Rattle.lq_qdisc.specs.Stations.{IsBetweenOffers, dirty, is_waiting, may_take}
-use Rattle.lq_qdisc.specs.Alone.{HasAll, IsAlone, IsOneSender, RestsAlone, RunsAlone, account_in, is_clean, running}
+use Rattle.lq_qdisc.specs.Alone.{HasAll, IsAlone, IsOneSender, RestsAlone, RunsAlone, account_in, bits_are_clear, running}
 use Rattle.lq_qdisc.proofs.AloneForms.{AttemptsAlone, MayRun, ended}
 use Rattle.std.proofs.Common.{◌≡◌, ℕ, Bool, true, false, not, ◌&&◌, ◌||◌, [], List, Option, None, IsSome, refl, sym, ap, subst, ◌∙◌}
 use Rattle.std.proofs.lemmas.Bool.{true≢false}
@@ -36,8 +36,8 @@ not-missed sched raised false e none = refl
 
 -- after the end of a run the station rests
 pub ended_rests : (infos : List Info) (start : Account) (v : Solo) → v.whole.scheduled ≡ v.raised → (account_in start v).down ≡ None
-    → (is_clean v ≡ true → held (account_in start v) ≡ []) → (v.whole.missed ≡ false → is_clean v ≡ false → is_waiting infos (account_in start v) ≡ true)
-    → ((v.raised || (v.whole.missed && not v.whole.scheduled)) ≡ true → is_clean v ≡ true → may_take (account_in start v) ≡ true)
+    → (bits_are_clear v ≡ true → held (account_in start v) ≡ []) → (v.whole.missed ≡ false → bits_are_clear v ≡ false → is_waiting infos (account_in start v) ≡ true)
+    → ((v.raised || (v.whole.missed && not v.whole.scheduled)) ≡ true → bits_are_clear v ≡ true → may_take (account_in start v) ≡ true)
     → RestsAlone infos start (ended v)
 ended_rests infos start v scheduled active empty waits shut = record {
   unlocked = refl;

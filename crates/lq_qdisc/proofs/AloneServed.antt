@@ -12,7 +12,7 @@ use Rattle.lq_model.specs.Plan.{queue_in}
 use Rattle.lq_model.specs.declared.device.Tx.{Tx}
 use Rattle.lq_model.specs.declared.device.Tx.TheVariants.{Sent, SentStop, SentHang, Busy}
 use Rattle.lq_model.specs.declared.fate.Info.{Info}
-use Rattle.lq_qdisc.specs.Stations.{AreStops, IsBetweenOffers, dirty, may_take}
+use Rattle.lq_qdisc.specs.Stations.{AreStopValues, IsBetweenOffers, dirty, may_take}
 use Rattle.lq_qdisc.proofs.AloneOffers.{IsOffered, held_offered, is_offered}
 
 abbrev with_clean : Bool → RunningStation → RunningStation
@@ -138,7 +138,7 @@ is_turned s event queue one next opens =
     let h : IsInHand s.account (after event s.account) = in_hand (turn_of s.account event next) in
     let answer : Tx = next_answer (record s { account = after event s.account }) in
     let h2 : IsOffered answer h.packet (after event s.account) (answered answer queue (after event s.account))
-    = is_offered answer queue h.packet (after event s.account) h.hand h.slot (subst AreStops (sym h.stops) one.known) (eqb-true _ 0 opens) in
+    = is_offered answer queue h.packet (after event s.account) h.hand h.slot (subst AreStopValues (sym h.stops) one.known) (eqb-true _ 0 opens) in
     turned-parts answer h.packet s (after event s.account) _ one h h2 (held_offered answer h.packet _ _ h.slot h2) (busy_answer s.device _)
 
 -- what a turn makes of the turns that are left
@@ -207,9 +207,6 @@ module _ (infos : List Info) (s : RunningStation) (n : ℕ) (opens : is_left s.a
 -- A packet that was taken of a queue that isn't open.
 module _ (infos : List Info) (s : RunningStation) (event : Event) (active : s.account.down ≡ None) (takes : may_take s.account ≡ true) (next : next_taken s.account ≡ Some event) where
   module _ (n : ℕ) (hand : (after event s.account).hand ≡ Some n) (closed : is_open (after event s.account) (queue_in infos n) ≡ false) where
-    laid : RunningStation
-    laid = record s { account = laid_after event s.account }
-
     h : IsInHand s.account (after event s.account)
     h = in_hand (turn_of s.account event next)
 

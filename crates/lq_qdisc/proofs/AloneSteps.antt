@@ -5,7 +5,7 @@ use Rattle.std.specs.Option.{option_map, option_map_or}
 use Rattle.std.proofs.lemmas.List.{length-replicate}
 use Rattle.std.proofs.lemmas.Bool.{cases_eq, cond-true, cond-false, eq-eqb, lt-ltb, ne_eqb, or_right, true≢false}
 use Rattle.lq_account.proofs.Taken.{first_of_some}
-use Rattle.lq_device.specs.Station.{StationState, Transmits}
+use Rattle.lq_device.specs.Station.{StationState, HasAnswered}
 use Rattle.lq_model.specs.Account.{Account, Event, Join, Full, Refuse, Empty, Take, Pick, Direct, Send, Back, Stop, Wake, Resize, Down, Purge, Swap, Up, after, after_all, held_in, is_open, is_shared}
 use Rattle.lq_model.specs.Alone.{next_answer, next_taken}
 use Rattle.lq_model.specs.Device.{DeviceState, Telling, answer_of, is_busy, told_after}
@@ -20,7 +20,7 @@ use Rattle.lq_qdisc.specs.Stations.{is_waiting, may_take}
 use Rattle.lq_qdisc.specs.Alone.{IsOneSender, RunsAlone, RunsOn, account_in, running, telling_of}
 use Rattle.lq_qdisc.specs.Calls.{AreNone, Dequeues, FindsPacket, Picks, SeesOneQueue}
 use Rattle.lq_qdisc.specs.Direct.{Directs, hearing_stops, hung_below, stopped_by}
-use Rattle.lq_qdisc.specs.Runs.{Ends, Hands, Runs, Sends}
+use Rattle.lq_qdisc.specs.Runs.{LastTurn, Hands, Runs, Sends}
 use Rattle.lq_qdisc.specs.declared.answers.Ran.{Ran}
 use Rattle.lq_qdisc.specs.declared.answers.RunEnd.{RunEnd}
 use Rattle.lq_qdisc.specs.declared.answers.RunEnd.TheVariants as end
@@ -213,14 +213,14 @@ answered_as SentHang queue queues count d v w accepted same is dev = is ∙ (ap 
 answered_as Busy queue queues count d v w accepted same is dev = absurd (true≢false accepted)
 
 module _ (k : Setup) (old : View) (about : old.share.about ≡ k) (alone : IsSole old) (tells : IsSome (solo old).whole.device.told) where
-  next_is : (answer : Tx) (queue n : ℕ) (st : StationState) → IsAccounts old → HasSent old → Transmits answer queue n (shown old.holder) st → answer ≡ next_answer (running (first_account k) (solo old))
+  next_is : (answer : Tx) (queue n : ℕ) (st : StationState) → IsAccounts old → HasSent old → HasAnswered answer queue n (shown old.holder) st → answer ≡ next_answer (running (first_account k) (solo old))
   next_is answer queue n st accounts sent called =
       let station = ap (λ (h : HolderPart). h.station) accounts in
       rule_told (solo old).whole.device.told answer (length old.holder.station.device.accepted) tells
       (subst (λ (s : StationState). IfSome s.device.told (λ t. answer ≡ answer_of t (length old.holder.station.device.accepted))) station called.answers.rule)
       ∙ ap (λ (c : ℕ). answer_of (telling_of (solo old).whole.device.told) c) (ap (λ (ns : List ℕ). length ns) (sym sent) ∙ ap (λ (a : Account). length (a.sent a.unit)) (sym (account_at k old about)))
 
-  told_is : (answer : Tx) (queue n : ℕ) (st : StationState) → IsAccounts old → Transmits answer queue n (shown old.holder) st → st.device.told ≡ option_map (told_after answer) (solo old).whole.device.told
+  told_is : (answer : Tx) (queue n : ℕ) (st : StationState) → IsAccounts old → HasAnswered answer queue n (shown old.holder) st → st.device.told ≡ option_map (told_after answer) (solo old).whole.device.told
   told_is answer queue n st accounts called = called.answers.told ∙ ap (λ (h : HolderPart). option_map (told_after answer) h.station.device.told) accounts
 
   open-is : (queue : ℕ) → slice_index (account_of old).stops queue ≡ 0 → is_open (account_in (first_account k) (solo old)) queue ≡ true
@@ -302,7 +302,7 @@ module _ (k : Setup) (infos : List Info) (first : View) (about : first.share.abo
         knows = λ _. accepted_knows s.2.packet (queue_in infos s.2.packet) s.2.between last may.0 (s.2.share ∙ sym s.2.same) s.2.is;
       }
 
-  ends_alone : (e : RunEnd) (last new : View) → KnowsRun k infos first last → Ends e infos last new → RunsAlone infos (first_account k) (solo first) (solo new)
+  ends_alone : (e : RunEnd) (last new : View) → KnowsRun k infos first last → LastTurn e infos last new → RunsAlone infos (first_account k) (solo first) (solo new)
   ends_alone end.Empty last new r d =
       ends_empty infos (first_account k) (solo first) (solo last) (solo new) r.on (takes_alone k infos last new (about_of last r.share) r.on.sender.sole taken.Empty r.on.sender r.knows d.0 d.1)
   ends_alone end.Quota last new r d = ends_quota infos (first_account k) (solo first) (solo last) (solo new) r.on d.1

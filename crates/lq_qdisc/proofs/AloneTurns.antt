@@ -1,6 +1,6 @@
 -- The turns of a run, one by one, and its ends.
 use Rattle.lq_table.specs.Solo.{Solo, heard, missed_to}
-use Rattle.lq_qdisc.specs.Stations.{AreStops, IsBetweenOffers, dirty}
+use Rattle.lq_qdisc.specs.Stations.{AreStopValues, IsBetweenOffers, dirty}
 use Rattle.lq_qdisc.specs.Alone.{HasAll, IsAtEnd, IsOneSender, RunsAlone, RunsOn, account_in, running, telling_of}
 use Rattle.lq_qdisc.proofs.AloneForms.{LaysAlone, SendsAlone, TakesAlone, answering, stopping, through_of}
 use Rattle.std.proofs.Common.{◌≡◌, ℕ, zero, suc, ◌<◌, Bool, true, false, not, ◌||◌, ◌∷◌, List, Option, Some, None, IsSome, length, refl, sym, ap, ap₂, subst, ◌∙◌}
@@ -185,7 +185,7 @@ module _ (infos : List Info) (start : Account) (old now mid new : Solo) (n : ℕ
         tells = r.sender.tells;
         station = record {
           queues = subst (λ (xs : List ℕ). 0 < length xs) (sym h.stops) r.sender.station.queues;
-          known = subst AreStops (sym h.stops) r.sender.station.known;
+          known = subst AreStopValues (sym h.stops) r.sender.station.known;
           hand = refl;
           busies = r.sender.station.busies;
         };

@@ -4,7 +4,7 @@ use Rattle.std.specs.Prelude.{nat_lt, slice_index}
 use Rattle.lq_model.specs.Positions.{holds_lock}
 use Rattle.std.specs.Option.{option_map}
 use Rattle.std.proofs.lemmas.Bool.{lt-ltb, le-ltb, true≢false}
-use Rattle.lq_device.specs.Station.{StationState, Transmits}
+use Rattle.lq_device.specs.Station.{StationState, HasAnswered}
 use Rattle.lq_model.specs.Device.{is_busy}
 use Rattle.lq_model.specs.Words.{HasWord}
 use Rattle.lq_model.specs.declared.device.Tx.{Tx}
@@ -22,7 +22,7 @@ use Rattle.lq_table.specs.Sees.{view, slot, position, carried, packet_at, IsSame
 use Rattle.lq_table.specs.declared.shared.Cpu.{Cpu}
 use Rattle.lq_table.specs.declared.shared.Shared.{Shared}
 use Rattle.lq_model.specs.Plan.{queue_in}
-use Rattle.lq_qdisc.specs.Calls.{IsKept, IsServing, IsSettledSame}
+use Rattle.lq_qdisc.specs.Calls.{IsKeptInRun, IsServing, IsSettledSame}
 use Rattle.lq_table.specs.Settled.{MaySettle}
 use Rattle.lq_table.specs.Told.{HasRoom, and_settled, machine_answer, fate_sent, loading, loading_from, passing, requeuing, seen_by, setting, settling, storing, storing_from}
 use Rattle.lq_table.specs.Solo.{Solo, IsSole, SeesStop, account_of, solo, heard, missed_to, draining_to, device_to}
@@ -38,29 +38,6 @@ moved_to position v = record v { place = record v.place { position = position } 
 
 pub loaded_at_gate : (x : ℕ) (v : View) (p : Packet) (direct : Bool) → v.place.position ≡ Gate p direct → loading x v ≡ moved_to (if x == 0 then Xmit p direct else BlockedClear (InHand p direct)) v
 loaded_at_gate x v p direct here = ap (λ (position : Position). loading_from position v.holder.slot x v) here
-
-pub offers_direct : (t : Through) (n queue : ℕ) (position : Position) (old new : View) → Offers t n queue (moved_to position old) new → Directs t n queue old new
-offers_direct through.Yes n queue position old new o = record {
-  answer = o.answer;
-  station = o.station;
-  called = o.called;
-  accepted = o.accepted;
-  past = o.past;
-  holder = o.holder;
-  settled = o.settled;
-  step = o.step;
-  sole = o.sole;
-}
-offers_direct (through.Back why.Stopped) n queue position old new o = absurd o
-offers_direct (through.Back why.Busy) n queue position old new o = record {
-  station = o.station;
-  called = o.called;
-  past = o.past;
-  holder = o.holder;
-  settled = o.settled;
-  step = o.step;
-  sole = o.sole;
-}
 
 -- STOP WORDS
 
@@ -107,9 +84,6 @@ hung_leads v w queue queues direct many is =
 
 pub if_below : {A : Type 0} (n m : ℕ) (x y : A) → n < m → (if nat_lt n m then x else y) ≡ x
 if_below {A} n m x y h = ap (λ (b : Bool). if b then x else y) (lt-ltb n m h)
-
-pub if_not_below : {A : Type 0} (n m : ℕ) (x y : A) → m ≤ n → (if nat_lt n m then x else y) ≡ y
-if_not_below {A} n m x y h = ap (λ (b : Bool). if b then x else y) (le-ltb n m h)
 
 pub hung_more : (queue : ℕ) (past : List Event) → Stop queue 2 ∷ hung_below queue past ≡ hung_below (queue + 1) past
 hung_more queue past = ap (λ (n : ℕ). hung_below n past) (one queue)
@@ -161,7 +135,7 @@ module _ (n : ℕ) (p : Packet) (direct : Bool) (st : StationState) (v w : View)
   sent_as Busy accepted last is step = absurd (true≢false accepted)
 
 -- the station as the next step wants it, where the device has answered
-pub shown_answered : (answer : Tx) (queue n : ℕ) (hand last : Option ℕ) (h : HolderPart) (st : StationState) → Transmits answer queue n (shown h) st → shown (record h { station = st; hand = hand; last = last }) ≡ st
+pub shown_answered : (answer : Tx) (queue n : ℕ) (hand last : Option ℕ) (h : HolderPart) (st : StationState) → HasAnswered answer queue n (shown h) st → shown (record h { station = st; hand = hand; last = last }) ≡ st
 shown_answered answer queue n hand last h st t =
     ap (λ (s : StationState). record s { slot = h.slot; heads = (shown h).heads; tails = (shown h).tails }) t.rest ∙ sym t.rest
 
@@ -170,7 +144,7 @@ pub sent_has_word : (h : HolderPart) (fate : Fate) → HasRoom h → fate ≡ fa
 sent_has_word h fate room is = subst (λ (f : Fate). HasWord f) (sym is) (room.3, omega (arith, room.1))
 
 pub may_settle : (b n : ℕ) (p : Packet) (direct : Bool) (answer : Tx) (fate : Fate) (st : StationState) (v : View) → v.place.position ≡ Xmit p direct → v.holder.hand ≡ Some n → is_busy answer ≡ false
-    → Transmits answer p.queue n (shown v.holder) st → fate ≡ fate_sent v.holder.station → MaySettle b n fate st v
+    → HasAnswered answer p.queue n (shown v.holder) st → fate ≡ fate_sent v.holder.station → MaySettle b n fate st v
 may_settle b n p direct answer fate st v here hand accepted called is = subst (λ (f : Fate). MaySettle b n f st v) (sym is) (record {
   packet = p;
   direct = direct;
@@ -191,7 +165,7 @@ busy_is Busy e = refl
 -- OFFERS
 
 -- the packet was sent, and what follows the device's answer is stored
-pub accepts : (answer : Tx) (n queue queues : ℕ) (direct : Bool) (st : StationState) (v m w : View) → is_busy answer ≡ false → Transmits answer queue n (shown v.holder) st
+pub accepts : (answer : Tx) (n queue queues : ℕ) (direct : Bool) (st : StationState) (v m w : View) → is_busy answer ≡ false → HasAnswered answer queue n (shown v.holder) st
     → v.share.about.queues ≡ queues → IsSentAs answer n queue direct st v m → StaysAt m w → w.whole.state.past ≡ stopped_by answer queue queues m.whole.state.past
     → solo w ≡ hearing_stops answer queue queues (solo m) → SeesOpen queue v → Accepts n queue v w
 accepts answer n queue queues direct st v m w accepted called many sent stays heard_ step sole = record {
@@ -206,7 +180,7 @@ accepts answer n queue queues direct st v m w accepted called many sent stays he
   sole = sole;
 }
 
-pub busy_at : (n queue : ℕ) (st : StationState) (v w : View) → v.holder.hand ≡ Some n → Transmits Busy queue n (shown v.holder) st → w ≡ requeuing st v
+pub busy_at : (n queue : ℕ) (st : StationState) (v w : View) → v.holder.hand ≡ Some n → HasAnswered Busy queue n (shown v.holder) st → w ≡ requeuing st v
     → solo w ≡ device_to st.device (heard Back (missed_to true (solo v))) → SeesOpen queue v → IsBusyAt n queue v w
 busy_at n queue st v w hand called is step sole = record {
   station = st;
@@ -219,15 +193,15 @@ busy_at n queue st v w hand called is step sole = record {
 }
 
 module _ {D : Type 0} where
-  pub called_at : (t : Shared D) (b m : Cpu D) (n queue : ℕ) (answer : Tx) → queue ≡ queue_in t.infos.now n → view m ≡ view b → Transmits answer queue n (shown (view b).holder) (carried m)
-      → Transmits answer (queue_in t.infos.now n) n (shown (view m).holder) (carried m)
+  pub called_at : (t : Shared D) (b m : Cpu D) (n queue : ℕ) (answer : Tx) → queue ≡ queue_in t.infos.now n → view m ≡ view b → HasAnswered answer queue n (shown (view b).holder) (carried m)
+      → HasAnswered answer (queue_in t.infos.now n) n (shown (view m).holder) (carried m)
   called_at t b m n queue answer queue_is same called =
-      subst (λ (v : View). Transmits answer (queue_in t.infos.now n) n (shown v.holder) (carried m)) (sym same)
-      (subst (λ (q : ℕ). Transmits answer q n (shown (view b).holder) (carried m)) queue_is called)
+      subst (λ (v : View). HasAnswered answer (queue_in t.infos.now n) n (shown v.holder) (carried m)) (sym same)
+      (subst (λ (q : ℕ). HasAnswered answer q n (shown (view b).holder) (carried m)) queue_is called)
 
   pub sent_from : (t : Shared D) (b m s : Cpu D) (n queue : ℕ) (answer : Tx) → queue ≡ queue_in t.infos.now n → view m ≡ view b → is_busy answer ≡ false
-      → Transmits answer queue n (shown (view b).holder) (carried m)
-      → ((a : Tx) → (direct : Bool) → is_busy a ≡ false → Transmits a (queue_in t.infos.now n) n (shown (view m).holder) (carried m) → position m ≡ Xmit (packet_at t n) direct
+      → HasAnswered answer queue n (shown (view b).holder) (carried m)
+      → ((a : Tx) → (direct : Bool) → is_busy a ≡ false → HasAnswered a (queue_in t.infos.now n) n (shown (view m).holder) (carried m) → position m ≡ Xmit (packet_at t n) direct
       → IsSentAs a n (queue_in t.infos.now n) direct (carried m) (view m) (view s))
       → (direct : Bool) → position b ≡ Xmit (packet_at t n) direct → IsSentAs answer n queue direct (carried m) (view b) (view s)
   sent_from t b m s n queue answer queue_is same accepted called sent direct here =
@@ -236,7 +210,7 @@ module _ {D : Type 0} where
       (sent answer direct accepted (called_at t b m n queue answer queue_is same called) (ap (λ (v : View). v.place.position) same ∙ here)))
 
   pub kept_sent : (answer : Tx) (n queue : ℕ) (direct : Bool) (st : StationState) (b m s w : Cpu D) → IsSameSeat b m → m.indices ≡ b.indices → IsElseSame m s → IsElseSame s w
-      → IsSentAs answer n queue direct st (view b) (view s) → StaysAt (view s) (view w) → IsKept b w
+      → IsSentAs answer n queue direct st (view b) (view s) → StaysAt (view s) (view w) → IsKeptInRun b w
   kept_sent answer n queue direct st b m s w seat indices first second sent stays = record {
     seat = (second.0.0 ∙ (first.0.0 ∙ seat.0), second.0.1 ∙ (first.0.1 ∙ seat.1));
     indices = second.2 ∙ (first.2 ∙ indices);
@@ -249,7 +223,7 @@ module _ {D : Type 0} where
     raised = stays.raised ∙ sent.raised;
   }
 
-  pub serves_sent : (answer : Tx) (n queue : ℕ) (direct : Bool) (b m s w : Cpu D) → IsServing b → slot m ≡ slot b → m.station ≡ Some (carried m) → Transmits answer queue n (shown (view b).holder) (carried m)
+  pub serves_sent : (answer : Tx) (n queue : ℕ) (direct : Bool) (b m s w : Cpu D) → IsServing b → slot m ≡ slot b → m.station ≡ Some (carried m) → HasAnswered answer queue n (shown (view b).holder) (carried m)
       → IsElseSame m s → IsElseSame s w → IsSentAs answer n queue direct (carried m) (view b) (view s) → StaysAt (view s) (view w) → IsServing w
   serves_sent answer n queue direct b m s w sv slots station called first second sent stays =
       let holder = stays.holder ∙ sent.holder in (

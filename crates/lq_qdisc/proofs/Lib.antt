@@ -17,3 +17,4 @@ pub mod RaisedLemmas
 -- when the first seat's packet is refused
 pub mod FirstLemmas
 pub mod TransmitLemmas
+pub mod StepLemmas

@@ -31,40 +31,6 @@ use Rattle.std.proofs.lemmas.Bool.{true≢false}
 abbrev pub count : View → ℕ
 count v = length v.holder.station.device.accepted
 
-packet_station : (n : ℕ) (o : Option ℕ) (old new : View) → MatchOption o (FindsPacket n old new) (λ m. (m ≡ n) × Picks n old new) → new.holder.station ≡ old.holder.station
-packet_station n None old new d = ap (λ (h : HolderPart). h.station) d.holder
-packet_station n (Some m) old new d = ap (λ (x : View). x.holder.station) d.1.is
-
-pub dequeued_station : (t : Taken) (infos : List Info) (old new : View) → Dequeues t infos old new → new.holder.station ≡ old.holder.station
-dequeued_station taken.Empty infos old new d = ap (λ (h : HolderPart). h.station) d.1.holder
-dequeued_station taken.Stopped infos old new d = ap (λ (h : HolderPart). h.station) d.1.holder
-dequeued_station (taken.Packet n) infos old new d = packet_station n old.holder.slot old new d
-
-pub dequeued_count : (t : Taken) (infos : List Info) (old new : View) → Dequeues t infos old new → count new ≡ count old
-dequeued_count t infos old new d = ap (λ (s : StationState). length s.device.accepted) (dequeued_station t infos old new d)
-
-taken_count : (answer : Tx) (n : ℕ) → is_busy answer ≡ false → length (taken answer n) ≡ 1
-taken_count Sent n e = refl
-taken_count SentStop n e = refl
-taken_count SentHang n e = refl
-taken_count Busy n e = absurd (true≢false e)
-
-pub accepts_count : (n queue : ℕ) (old new : View) → Accepts n queue old new → count new ≡ count old + 1
-accepts_count n queue old new a =
-    ap (λ (h : HolderPart). length h.station.device.accepted) a.holder
-    ∙ (ap (λ (ns : List ℕ). length ns) a.called.answers.accepted
-    ∙ (length-append (shown old.holder).device.accepted (taken a.answer n)
-    ∙ ap (λ (k : ℕ). count old + k) (taken_count a.answer n a.accepted)))
-
-pub busy_count : (n queue : ℕ) (old new : View) → IsBusyAt n queue old new → count new ≡ count old
-busy_count n queue old new b =
-    ap (λ (h : HolderPart). length h.station.device.accepted) b.holder
-    ∙ (ap (λ (ns : List ℕ). length ns) b.called.answers.accepted
-    ∙ (length-append (shown old.holder).device.accepted [] ∙ add-zero (count old)))
-
-pub aside_count : (n queue : ℕ) (old new : View) → LaysAside n queue old new → count new ≡ count old
-aside_count n queue old new l = ap (λ (h : HolderPart). length h.station.device.accepted) l.holder
-
 -- fates stay
 pub fates_then : (u v w : View) → KeepsFates u v → KeepsFates v w → KeepsFates u w
 fates_then u v w x y = (y.0 ++ x.0, y.1 ∙ (ap (λ (l : List (ℕ × Fate)). y.0 ++ l) x.1 ∙ sym (append_assoc y.0 x.0 u.settled)))

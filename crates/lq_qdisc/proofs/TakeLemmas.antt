@@ -20,7 +20,7 @@ use Rattle.lq_table.specs.Sees.{view, position, slot, IsSeatOf, IsSameSeat}
 use Rattle.lq_table.specs.Solo.{IsSole, SeesStop, account_of}
 use Rattle.lq_table.specs.declared.shared.Cpu.{Cpu}
 use Rattle.lq_table.specs.declared.shared.Shared.{Shared}
-use Rattle.lq_qdisc.specs.Calls.{IsServing, IsKept, AreNone, found_empty, looking_at}
+use Rattle.lq_qdisc.specs.Calls.{IsServing, IsKeptInRun, AreNone, found_empty, looking_at}
 
 pub one : (n : ℕ) → suc n ≡ n + 1
 one n = omega arith
@@ -74,7 +74,7 @@ stop_loaded_again queue found b old m is here s alone shut =
     ∙ ap (λ (v : View). slice_index (account_of v).stops queue) is
 
 module _ {D : Type 0} where
-  pub kept_then : {b m a : Cpu D} → IsKept b m → IsKept m a → IsKept b a
+  pub kept_then : {b m a : Cpu D} → IsKeptInRun b m → IsKeptInRun m a → IsKeptInRun b a
   kept_then x y = record {
     seat = (y.seat.0 ∙ x.seat.0, y.seat.1 ∙ x.seat.1);
     indices = y.indices ∙ x.indices;
@@ -87,7 +87,7 @@ module _ {D : Type 0} where
     raised = y.raised ∙ x.raised;
   }
 
-  pub kept_none : (b : ℕ) (second : Bool) (m a : Cpu D) → position m ≡ Scan b second → IsSameSeat m a → a.indices ≡ m.indices → view a ≡ finding_none b (view m) → IsKept m a
+  pub kept_none : (b : ℕ) (second : Bool) (m a : Cpu D) → position m ≡ Scan b second → IsSameSeat m a → a.indices ≡ m.indices → view a ≡ finding_none b (view m) → IsKeptInRun m a
   kept_none b second m a here seat indices is = let k = seat_kept (seen_band b []) b second (view m) here in record {
     seat = seat;
     indices = indices;
@@ -100,7 +100,7 @@ module _ {D : Type 0} where
     raised = ap (λ (x : View). x.place.raised) is ∙ k.1;
   }
 
-  pub kept_take : (b n : ℕ) (second : Bool) (m a : Cpu D) → position m ≡ Scan b second → IsSameSeat m a → a.indices ≡ m.indices → view a ≡ consuming b n (view m) → IsKept m a
+  pub kept_take : (b n : ℕ) (second : Bool) (m a : Cpu D) → position m ≡ Scan b second → IsSameSeat m a → a.indices ≡ m.indices → view a ≡ consuming b n (view m) → IsKeptInRun m a
   kept_take b n second m a here seat indices is = let k = seat_kept (seen_band b (machine_packet (view m).share.about.infos n ∷ [])) b second (view m) here in record {
     seat = seat;
     indices = indices;
@@ -113,19 +113,11 @@ module _ {D : Type 0} where
     raised = ap (λ (x : View). x.place.raised) is ∙ k.1;
   }
 
-  pub sole_kept : (b a : Cpu D) → IsKept b a → IsSole (view b) → IsSole (view a)
+  pub sole_kept : (b a : Cpu D) → IsKeptInRun b a → IsSole (view b) → IsSole (view a)
   sole_kept b a k s = (ap (λ x. x.shares) k.share ∙ s.0, k.told ∙ s.1)
 
-  pub seat_in : (t : Shared D) (b a : Cpu D) → IsKept b a → IsSeatOf t b → IsSeatOf t a
+  pub seat_in : (t : Shared D) (b a : Cpu D) → IsKeptInRun b a → IsSeatOf t b → IsSeatOf t a
   seat_in t b a k s = (k.seat.0 ∙ s.0, subst (λ (n : ℕ). 0 < n) (sym (ap (λ x. x.shares) k.share)) s.1, ap (λ x. x.about) k.share ∙ s.2)
-
-  pub serving_same : (b a : Cpu D) → IsServing b → IsKept b a → a.station ≡ b.station → slot a ≡ slot b → (view a).holder ≡ (view b).holder → IsServing a
-  serving_same b a s k station slots holder = (
-    (slots ∙ s.0.0, station ∙ (s.0.1 ∙ (λ j. Some (shown (sym holder j))))),
-    subst (λ (h : HolderPart). IsResting h.size h.ends × (h.resizing ≡ None)) (sym holder) s.1,
-    k.locks ∙ s.2,
-    ap (λ (h : HolderPart). h.shut) holder ∙ s.3,
-  )
 
   pub run_none : (b : ℕ) (second : Bool) (m a : Cpu D) → position m ≡ Scan b second → view a ≡ finding_none b (view m) → (view a).place.run ≡ (view m).place.run
   run_none b second m a here is = ap (λ (x : View). x.place.run) is ∙ (seat_kept (seen_band b []) b second (view m) here).0

@@ -21,12 +21,12 @@ abbrev pub account_in : Account → Solo → Account
 account_in start v = after_all start v.whole.past
 
 -- neither MISSED nor DRAINING is set
-abbrev pub is_clean : Solo → Bool
-is_clean v = not (v.whole.missed || v.whole.draining)
+abbrev pub bits_are_clear : Solo → Bool
+bits_are_clear v = not (v.whole.missed || v.whole.draining)
 
 -- the station of the run of one sender: the next packet may go past the bands where neither bit is set
 abbrev pub running : Account → Solo → RunningStation
-running start v = record { account = account_in start v; clean = is_clean v; device = telling_of v.whole.device.told }
+running start v = record { account = account_in start v; clean = bits_are_clear v; device = telling_of v.whole.device.told }
 
 -- the seat has the table alone, the device tells its rule, and nothing is in hand
 pub record IsOneSender (start : Account) (v : Solo) : Type 0 where
@@ -40,12 +40,12 @@ pub record RestsAlone (infos : List Info) (start : Account) (v : Solo) : Type 0 
   pub scheduled : v.whole.scheduled ≡ v.raised
   pub missed : v.whole.missed ≡ true → v.raised ≡ true
   -- with both bits clear nothing is held
-  pub empty : is_clean v ≡ true → held (account_in start v) ≡ []
+  pub empty : bits_are_clear v ≡ true → held (account_in start v) ≡ []
   -- with one set the next packet waits for a queue, unless the seat is raised
-  pub waits : v.raised ≡ false → is_clean v ≡ false → is_waiting infos (account_in start v) ≡ true
+  pub waits : v.raised ≡ false → bits_are_clear v ≡ false → is_waiting infos (account_in start v) ≡ true
   -- a raised seat has a bit set where no packet may be taken
-  pub shut : v.raised ≡ true → is_clean v ≡ true → may_take (account_in start v) ≡ true
-  pub off : IsSome (account_in start v).down → is_clean v ≡ true
+  pub shut : v.raised ≡ true → bits_are_clear v ≡ true → may_take (account_in start v) ≡ true
+  pub off : IsSome (account_in start v).down → bits_are_clear v ≡ true
 
 -- a seat alone, between two calls
 pub record IsAlone (infos : List Info) (start : Account) (v : Solo) : Type 0 where
@@ -54,8 +54,8 @@ pub record IsAlone (infos : List Info) (start : Account) (v : Solo) : Type 0 whe
 
 -- Soft interrupts as long as the seat is raised would leave now what they would have left after this step of the run of one
 -- sender.
-abbrev pub Brings : List Info → Account → (RunningStation → RunningStation) → Solo → Solo → Type 0
-Brings infos start step old new = IsAlone infos start old → IsAlone infos start new × (served infos (running start new) ≡ served infos (step (running start old)))
+abbrev pub BringsAlone : List Info → Account → (RunningStation → RunningStation) → Solo → Solo → Type 0
+BringsAlone infos start step old new = IsAlone infos start old → IsAlone infos start new × (served infos (running start new) ≡ served infos (step (running start old)))
 
 -- the station is just as after this step
 abbrev pub Does : List Info → Account → (RunningStation → RunningStation) → Solo → Solo → Type 0
@@ -73,9 +73,9 @@ pub record RunsOn (infos : List Info) (start : Account) (old now : Solo) : Type 
 
 -- what the bits say at the end of a run
 pub record IsAtEnd (infos : List Info) (start : Account) (v : Solo) : Type 0 where
-  pub empty : is_clean v ≡ true → held (account_in start v) ≡ []
-  pub shut : is_clean v ≡ true → may_take (account_in start v) ≡ true
-  pub waits : v.whole.missed ≡ false → is_clean v ≡ false → is_waiting infos (account_in start v) ≡ true
+  pub empty : bits_are_clear v ≡ true → held (account_in start v) ≡ []
+  pub shut : bits_are_clear v ≡ true → may_take (account_in start v) ≡ true
+  pub waits : v.whole.missed ≡ false → bits_are_clear v ≡ false → is_waiting infos (account_in start v) ≡ true
 
 -- a run serves the station
 pub record RunsAlone (infos : List Info) (start : Account) (old new : Solo) : Type 0 where

@@ -29,7 +29,7 @@ module _ {D : Type 0} where
   IsServing c = HasStation c × Rests c × ((view c).locks ≡ no_locks) × ((view c).holder.shut ≡ None)
 
   -- what the calls between the two ends of a run leave as it was, beside what the holder has
-  pub record IsKept (b a : Cpu D) : Type 0 where
+  pub record IsKeptInRun (b a : Cpu D) : Type 0 where
     pub seat : IsSameSeat b a
     pub indices : a.indices ≡ b.indices
     pub share : (view a).share ≡ (view b).share

@@ -1,6 +1,6 @@
 -- What handing a packet to the device leaves of what the holder of the run lock knows.
 use Rattle.std.specs.Prelude.{◌≡◌, ◌≢◌, ◌==◌, ℕ, zero, suc, Bool, true, false, if◌then◌else◌, slice_index, List, ◌∷◌, Some, None}
-use Rattle.lq_device.specs.Station.{StationState, Transmits}
+use Rattle.lq_device.specs.Station.{StationState, HasAnswered}
 use Rattle.lq_model.specs.Account.{Event, Back, Send, Stop}
 use Rattle.lq_model.specs.Device.{is_busy}
 use Rattle.lq_model.specs.Steps.{run_counted}
@@ -17,6 +17,7 @@ use Rattle.lq_qdisc.specs.Calls.{finding_stopped}
 use Rattle.lq_qdisc.specs.declared.answers.Through.{Through}
 use Rattle.lq_qdisc.specs.declared.answers.Through.TheVariants as through
 use Rattle.lq_qdisc.specs.declared.answers.Why.TheVariants as why
+use Rattle.lq_model.specs.declared.state.TheConstants.{QUOTA}
 
 -- the events of storing in each queue below this one that the device hangs, the latest first, before those that came earlier
 abbrev pub hung_below : ℕ → List Event → List Event
@@ -59,7 +60,7 @@ SeesOpen queue v = IsSole v → (slice_index (account_of v).stops queue ≡ 0) �
 pub record Accepts (n queue : ℕ) (old new : View) : Type 0 where
   pub answer : Tx
   pub station : StationState
-  pub called : Transmits answer queue n (shown old.holder) station
+  pub called : HasAnswered answer queue n (shown old.holder) station
   pub accepted : is_busy answer ≡ false
   pub past : new.whole.state.past ≡ stopped_by answer queue old.share.about.queues (Send ∷ old.whole.state.past)
   pub holder : new.holder ≡ record old.holder { station = station; hand = None; last = Some n }
@@ -70,7 +71,7 @@ pub record Accepts (n queue : ℕ) (old new : View) : Type 0 where
 -- It answered Busy: the packet n lies in the requeue slot, and MISSED is set.
 pub record IsBusyAt (n queue : ℕ) (old new : View) : Type 0 where
   pub station : StationState
-  pub called : Transmits Busy queue n (shown old.holder) station
+  pub called : HasAnswered Busy queue n (shown old.holder) station
   pub past : new.whole.state.past ≡ Back ∷ old.whole.state.past
   pub holder : new.holder ≡ record old.holder { station = station; slot = Some n; hand = None }
   pub settled : new.settled ≡ old.settled
@@ -90,7 +91,7 @@ pub record LaysAside (n queue : ℕ) (old new : View) : Type 0 where
 
 -- where the seat stands after it
 abbrev pub position_after : Through → Bool → View → Position
-position_after through.Yes direct v = if direct then Post else if v.place.run == 64 then Quota else begins v
+position_after through.Yes direct v = if direct then Post else if v.place.run == QUOTA then Quota else begins v
 position_after (through.Back reason) direct v = Unlock
 
 -- where it stands once the fate of a packet of this queue is stored, which the device accepted with this answer

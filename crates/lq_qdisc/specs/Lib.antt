@@ -12,3 +12,5 @@ pub mod Stations
 pub mod Alone
 -- what the tests keep of a seat and of the packets
 pub mod Plain
+-- the steps of its calls
+pub mod Steps

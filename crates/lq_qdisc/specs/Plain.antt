@@ -7,10 +7,10 @@ use Rattle.lq_table.specs.Rule.{times}
 use Rattle.lq_table.specs.Sees.{view, position, IsSeatOf}
 use Rattle.lq_table.specs.declared.shared.Cpu.{Cpu}
 use Rattle.lq_table.specs.declared.shared.Shared.{Shared}
-use Rattle.lq_qdisc.specs.Sends.{IsReady}
+use Rattle.lq_qdisc.specs.Sends.{IsReadyToSend}
 
 -- Packet n is the one of rank n of owner 1 at station 0, and its band and its queue are there.
-pub record IsPlain (infos : List Info) (queues n : ℕ) : Type 0 where
+pub record IsPlainPacket (infos : List Info) (queues n : ℕ) : Type 0 where
   pub owner : owner_in infos n ≡ 1
   pub station : station_in infos n ≡ 0
   pub band : band_in infos n < 3
@@ -19,8 +19,8 @@ pub record IsPlain (infos : List Info) (queues n : ℕ) : Type 0 where
 
 module _ {D : Type 0} where
   -- the seat is in no call, has nothing in hand, and has owner 1
-  pub record IsBetweenCalls (t : Shared D) (c : Cpu D) : Type 0 where
+  pub record IsFirstOwnerAtRest (t : Shared D) (c : Cpu D) : Type 0 where
     pub seat : IsSeatOf t c
     pub at : position c ≡ Idle
-    pub ready : IsReady c
+    pub ready : IsReadyToSend c
     pub owner : 0 < times 1 (view c).share.owners

@@ -14,6 +14,7 @@ use Rattle.lq_qdisc.specs.declared.answers.Taken.TheVariants as taken
 use Rattle.lq_qdisc.specs.declared.answers.Ran.{Ran}
 use Rattle.lq_qdisc.specs.declared.answers.RunEnd.{RunEnd}
 use Rattle.lq_qdisc.specs.declared.answers.RunEnd.TheVariants as end
+use Rattle.lq_model.specs.declared.state.TheConstants.{QUOTA}
 
 -- A packet was dequeued, and then it was handed to the device with this result.
 pub record Hands (handed : ℕ → ℕ → View → View → Type 0) (infos : List Info) (old new : View) : Type 0 where
@@ -32,11 +33,11 @@ Sends (suc sent) infos old new = (last : View) × Sends sent infos old last × H
 
 -- What the last turn of a run did: a dequeue found nothing, or a queue that is stopped; or the packet that was dequeued
 -- was laid into the requeue slot. After the last packet of the quota MISSED is set.
-abbrev pub Ends : RunEnd → List Info → View → View → Type 0
-Ends end.Empty infos old new = Dequeues taken.Empty infos old new × SeesOneQueue taken.Empty old
-Ends end.Quota infos old new = (new ≡ passing old) × (solo new ≡ missed_to true (solo old))
-Ends end.Stopped infos old new = (Dequeues taken.Stopped infos old new × SeesOneQueue taken.Stopped old) ⊎ Hands LaysAside infos old new
-Ends end.Busy infos old new = Hands IsBusyAt infos old new
+abbrev pub LastTurn : RunEnd → List Info → View → View → Type 0
+LastTurn end.Empty infos old new = Dequeues taken.Empty infos old new × SeesOneQueue taken.Empty old
+LastTurn end.Quota infos old new = (new ≡ passing old) × (solo new ≡ missed_to true (solo old))
+LastTurn end.Stopped infos old new = (Dequeues taken.Stopped infos old new × SeesOneQueue taken.Stopped old) ⊎ Hands LaysAside infos old new
+LastTurn end.Busy infos old new = Hands IsBusyAt infos old new
 
 -- A run sent so many packets, at most as many as its quota, and came to this end: by the quota exactly where it sent as
 -- many.
@@ -44,10 +45,10 @@ pub record Runs (infos : List Info) (ran : Ran) (old new : View) : Type 0 where
   pub last : View
   pub sent : Sends ran.sent infos old last
   pub share : last.share ≡ old.share
-  pub ends : Ends ran.end infos last new
-  pub within : ran.sent ≤ 64
-  pub quota : (ran.end ≡ end.Quota) ↔ (ran.sent ≡ 64)
+  pub ends : LastTurn ran.end infos last new
+  pub within : ran.sent ≤ QUOTA
+  pub quota : (ran.end ≡ end.Quota) ↔ (ran.sent ≡ QUOTA)
 
 -- where the seat stands in a run, by how many packets that has sent
 abbrev pub position_in_run : View → Position
-position_in_run v = if v.place.run == 64 then Quota else begins v
+position_in_run v = if v.place.run == QUOTA then Quota else begins v

@@ -5,9 +5,10 @@ use Rattle.lq_model.specs.Plan.{band_in, owner_in, queue_in, rank_in}
 use Rattle.lq_model.specs.declared.fate.Info.{Info}
 use Rattle.lq_model.specs.declared.machine.Attempt.{Attempt}
 use Rattle.lq_model.specs.declared.machine.Attempt.TheVariants as attempt
-use Rattle.lq_run.specs.Runs.{HasNone, after_got, after_missed, begun, ended}
+use Rattle.lq_run.specs.Runs.{HasNone, after_got, after_missed, after_begin, ended}
 use Rattle.lq_ring.specs.Put.{no_locks, putting, dropping_full as dropped}
-use Rattle.lq_table.specs.Views.{View, no_packets}
+use Rattle.lq_table.specs.Views.{View, Setup, no_packets}
+use Rattle.lq_table.specs.Made.{Known, ◌⊳◌, did_wake, did_set_sched}
 use Rattle.lq_table.specs.Told.{some_bit, is_set, looking, going, on_trail, bringing, entering, giving_turn, passing, paying, schedules, scheduling, waking, refusing as refused}
 use Rattle.lq_table.specs.Solo.{IsSole, IsAccounts, account_of, solo, heard, sched_cleared, sched_set, SeesState, SeesDown}
 use Rattle.lq_table.specs.SolePut.{SeesEnd}
@@ -24,8 +25,8 @@ use Rattle.lq_qdisc.specs.declared.answers.Through.TheVariants as through
 
 module _ {D : Type 0} where
   -- it has no packet, no producer lock and no station, and no resize is half done
-  abbrev pub IsReady : Cpu D → Type 0
-  IsReady c = HasNone c × ((view c).packets ≡ no_packets) × ((view c).locks ≡ no_locks) × ((view c).holder.resizing ≡ None)
+  abbrev pub IsReadyToSend : Cpu D → Type 0
+  IsReadyToSend c = HasNone c × ((view c).packets ≡ no_packets) × ((view c).locks ≡ no_locks) × ((view c).holder.resizing ≡ None)
 
   -- what every call leaves as it was
   pub record IsCallKept (b a : Cpu D) : Type 0 where
@@ -36,8 +37,8 @@ module _ {D : Type 0} where
 
 module _ {D : Type 0} where
   -- between the two steps on the calls inside: no producer lock and no station, and no resize is half done
-  abbrev pub IsFree : Cpu D → Type 0
-  IsFree c = HasNone c × ((view c).locks ≡ no_locks) × ((view c).holder.resizing ≡ None)
+  abbrev pub IsFreeInside : Cpu D → Type 0
+  IsFreeInside c = HasNone c × ((view c).locks ≡ no_locks) × ((view c).holder.resizing ≡ None)
 
   -- what serving the bands leaves as it was
   pub record IsInsideKept (b a : Cpu D) : Type 0 where
@@ -89,19 +90,19 @@ pub record IsCalm (old new : View) : Type 0 where
   pub settled : new.settled ≡ old.settled
 
 -- the run lock was got
-pub record Begins (old new : View) : Type 0 where
+pub record GetsLock (old new : View) : Type 0 where
   pub calm : IsCalm old new
   pub place : new.place.position ≡ after_got new old.place.position
-  pub sole : IsSole old → (old.whole.qdisc.locked ≡ false) × (solo new ≡ begun true (solo old)) × IsAccounts new
+  pub sole : IsSole old → (old.whole.qdisc.locked ≡ false) × (solo new ≡ after_begin true (solo old)) × IsAccounts new
 
 -- it wasn't: it was found held, and MISSED is set by this call or was before
 pub record Misses (old new : View) : Type 0 where
   pub calm : IsCalm old new
   pub place : new.place.position ≡ after_missed old.place.position
-  pub sole : IsSole old → (old.whole.qdisc.locked ≡ true) × (solo new ≡ begun false (solo old))
+  pub sole : IsSole old → (old.whole.qdisc.locked ≡ true) × (solo new ≡ after_begin false (solo old))
 
 -- the run lock was released
-pub record IsEnded (old new : View) : Type 0 where
+pub record IsLockReleased (old new : View) : Type 0 where
   pub calm : IsCalm old new
   pub sole : IsSole old → solo new ≡ ended (solo old)
 
@@ -111,11 +112,11 @@ pub record RunsToEnd (infos : List Info) (old new : View) : Type 0 where
   pub last : View
   pub runs : Runs infos ran old last
   pub share : last.share ≡ old.share
-  pub ended : IsEnded last new
+  pub ended : IsLockReleased last new
 
 -- the run lock was tried, and where it was got the bands were served
 abbrev pub Attempts : List Info → View → View → Type 0
-Attempts infos old new = Misses old new ⊎ ((got : View) × Begins old got × RunsToEnd infos got new)
+Attempts infos old new = Misses old new ⊎ ((got : View) × GetsLock old got × RunsToEnd infos got new)
 
 -- TRANSMIT
 
@@ -146,8 +147,8 @@ pub record GoesThroughHeld (infos : List Info) (n : ℕ) (answer : Sending) (old
 -- DRAINING is set then, the bands are served.
 abbrev pub FollowsDirect : Through → List Info → View → View → Type 0
 FollowsDirect through.Yes infos old new = (state : ℕ) × (IsSole old → SeesState old state) × (solo (looking state old) ≡ solo old)
-    × (((some_bit state ≡ true) × RunsToEnd infos (looking state old) new) ⊎ ((some_bit state ≡ false) × IsEnded (looking state old) new))
-FollowsDirect (through.Back reason) infos old new = IsEnded old new
+    × (((some_bit state ≡ true) × RunsToEnd infos (looking state old) new) ⊎ ((some_bit state ≡ false) × IsLockReleased (looking state old) new))
+FollowsDirect (through.Back reason) infos old new = IsLockReleased old new
 
 -- It went past the bands: the state was loaded under the run lock with MISSED and DRAINING clear.
 pub record GoesPast (infos : List Info) (n : ℕ) (old new : View) : Type 0 where
@@ -164,7 +165,7 @@ pub record GoesPast (infos : List Info) (n : ℕ) (old new : View) : Type 0 wher
 abbrev pub TriesToPass : List Info → ℕ → Sending → View → View → Type 0
 TriesToPass infos n answer old new =
     ((missed : View) × Misses old missed × GoesThrough infos n answer missed new)
-    ⊎ ((got : View) × Begins old got × (GoesThroughHeld infos n answer got new ⊎ ((answer ≡ sending.Direct) × GoesPast infos n got new)))
+    ⊎ ((got : View) × GetsLock old got × (GoesThroughHeld infos n answer got new ⊎ ((answer ≡ sending.Direct) × GoesPast infos n got new)))
 
 -- The station is deactivated by the event: the packet is refused, and that is its fate.
 abbrev pub IsRefused : ℕ → ℕ → ℕ → View → View → Type 0
@@ -224,12 +225,12 @@ abbrev pub IsRaisedAgain : View → Type 0
 IsRaisedAgain new = (new.place.raised ≡ false) ⊎ ((was : Bool) × (before : View) × (schedules before.place.position ≡ true) × (new ≡ passing (scheduling was before)))
 
 -- the stop word of a queue was exchanged: it was 1, and the table is scheduled, or it wasn't
-abbrev pub Wakes : ℕ → View → View → Type 0
-Wakes queue old new =
-    ((was : Bool) × (new ≡ scheduling was (waking queue old)) × (solo new ≡ sched_set was (heard (Wake queue) (solo old))) × (IsSole old → was ≡ old.whole.qdisc.sched) × (IsSole old → slice_index (account_of old).stops queue ≡ 1))
-    ⊎ ((new ≡ old) × (IsSole old → slice_index (account_of old).stops queue ≢ 1))
+abbrev pub Wakes : Setup → ℕ → Known → Known → Type 0
+Wakes k queue old new =
+    ((was : Bool) × (new.view ≡ scheduling was (waking queue old.view)) × (solo new.view ≡ sched_set was (heard (Wake queue) (solo old.view))) × (IsSole old.view → was ≡ old.view.whole.qdisc.sched) × (IsSole old.view → slice_index (account_of old.view).stops queue ≡ 1) × (new.steps ≡ old.steps ⊳ did_wake k queue true ⊳ did_set_sched was))
+    ⊎ ((new.view ≡ old.view) × (IsSole old.view → slice_index (account_of old.view).stops queue ≢ 1) × (new.steps ≡ old.steps ⊳ did_wake k queue false))
 
 -- those of the first so many queues
-abbrev pub WakesBelow : ℕ → View → View → Type 0
-WakesBelow zero old new = new ≡ old
-WakesBelow (suc queue) old new = (between : View) × WakesBelow queue old between × Wakes queue between new
+abbrev pub WakesBelow : Setup → ℕ → Known → Known → Type 0
+WakesBelow k zero old new = new ≡ old
+WakesBelow k (suc queue) old new = (between : Known) × WakesBelow k queue old between × Wakes k queue between new

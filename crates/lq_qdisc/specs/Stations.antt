@@ -7,13 +7,13 @@ use Rattle.lq_model.specs.Plan.{queue_in}
 use Rattle.lq_model.specs.declared.fate.Info.{Info}
 
 -- each queue is open or stopped, or each is hung
-abbrev pub AreStops : List ℕ → Type 0
-AreStops stops = ((queue : ℕ) → slice_index stops queue ≤ 1) ⊎ ((queue : ℕ) → queue < length stops → slice_index stops queue ≡ 2)
+abbrev pub AreStopValues : List ℕ → Type 0
+AreStopValues stops = ((queue : ℕ) → slice_index stops queue ≤ 1) ⊎ ((queue : ℕ) → queue < length stops → slice_index stops queue ≡ 2)
 
 -- a station between two offers: nothing is in hand, and there were no more answers Busy than its device may give
 pub record IsBetweenOffers (s : RunningStation) : Type 0 where
   pub queues : 0 < length s.account.stops
-  pub known : AreStops s.account.stops
+  pub known : AreStopValues s.account.stops
   pub hand : s.account.hand ≡ None
   pub busies : s.device.busies ≤ s.device.params.busy_limit
 

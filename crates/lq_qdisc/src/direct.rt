@@ -1,18 +1,21 @@
 //! Handing a packet to the device.
 ghost use Rattle.std.specs.Prelude.{◌≡◌, ◌≢◌, ℕ, ◌<◌, ◌≤◌, Bool, true, false, length, slice_index, [], ◌∷◌, is_some, Some, None};
-ghost use Rattle.lq_device.specs.Station.{StationState, Transmits, with_slot};
+ghost use Rattle.lq_device.specs.Station.{StationState, HasAnswered, with_slot};
 ghost use Rattle.lq_model.specs.Account.{Back};
 ghost use Rattle.lq_model.specs.Device.{is_busy, is_hang};
 ghost use Rattle.lq_model.specs.Plan.{queue_in};
+ghost use Rattle.lq_model.specs.Words.{word_of};
 ghost use Rattle.lq_model.specs.declared.device.Tx.{Tx as Answer};
 ghost use Rattle.lq_model.specs.declared.device.Tx.TheVariants.{Busy as NotSent};
 ghost use Rattle.lq_model.specs.declared.machine.Blocked.TheVariants.{InHand};
 ghost use Rattle.lq_model.specs.declared.machine.Position.TheVariants.{BlockedClear, Gate, StoreXoff, Unlock, Xmit};
 ghost use Rattle.lq_table.specs.Rule.{shown};
-ghost use Rattle.lq_table.specs.Sees.{view, setup, position, slot, packet_at, carried, IsSeatOf, IsSameSeat, IsElseSame};
+ghost use Rattle.lq_table.specs.Sees.{view, steps, setup, position, slot, packet_at, carried, IsSeatOf, IsSameSeat, IsElseSame};
 ghost use Rattle.lq_table.specs.Told.{HasRoom, IsPacketOf, fate_sent, loading, passing, setting, requeuing};
 ghost use Rattle.lq_table.specs.Solo.{IsSole, account_of, solo, heard, missed_to, draining_to, device_to};
-ghost use Rattle.lq_qdisc.specs.Calls.{IsServing, IsKept, IsSettledSame};
+ghost use Rattle.lq_table.specs.Made.{did_set_missed, did_store_fate, ◌⊳◌};
+ghost use Rattle.lq_qdisc.specs.Steps.{DirectsBy, LaysAsideBy, OffersBy, hung_stored, stops_stored};
+ghost use Rattle.lq_qdisc.specs.Calls.{IsServing, IsKeptInRun, IsSettledSame};
 ghost use Rattle.lq_qdisc.specs.Direct.{Directs, IsSentAs, Offers, SeesOpen, StaysAt, hearing_hung, hearing_stops, hung_below, position_after, run_after, sent_leads, stopped_by};
 ghost use Rattle.lq_qdisc.specs.declared.answers.Through.TheVariants.{Yes};
 
@@ -33,13 +36,14 @@ pub fn direct_xmit<'a, D: TxDevice>(shared: &Shared<'a, D>, cpu: &mut Cpu<D>, n:
     requires at { (direct : Bool) × (position cpu.old ≡ Gate (packet_at shared.now n) direct) }
     requires serving { IsServing cpu.old }
     requires hand { (view cpu.old).holder.hand ≡ Some n }
-    ensures kept { IsKept cpu.old cpu.new }
+    ensures kept { IsKeptInRun cpu.old cpu.new }
     ensures serving { IsServing cpu.new }
     ensures at { (direct : Bool) → position cpu.old ≡ Gate (packet_at shared.now n) direct → position cpu.new ≡ position_after result direct (view cpu.new) }
     ensures run { (view cpu.new).place.run ≡ run_after result (view cpu.old).place.run }
     ensures empty { result ≡ Yes → ((view cpu.new).holder.hand ≡ None) × ((view cpu.new).holder.slot ≡ None) }
     ensures trail { (view cpu.new).trail ≡ (view cpu.old).trail }
     ensures handed { Directs result n (queue_in shared.now.infos.now n) (view cpu.old) (view cpu.new) }
+    ensures made { DirectsBy (setup shared.now) result n (queue_in shared.now.infos.now n) (steps cpu.old) (steps cpu.new) }
 {
     let queue = queue_of(shared, n);
     if shared.load_xoff(cpu, queue) != 0 {
@@ -54,6 +58,7 @@ fn put_back<D: TxDevice>(cpu: &mut Cpu<D>, n: u32)
     requires station { (st : StationState) × (cpu.old.station ≡ Some st) × (st.slot ≡ None) }
     ensures same { IsSameSeat cpu.old cpu.new × (cpu.new.indices ≡ cpu.old.indices) × (slot cpu.new ≡ slot cpu.old) × (view cpu.new ≡ view cpu.old) }
     ensures station { (st : StationState) → cpu.old.station ≡ Some st → cpu.new.station ≡ Some (with_slot st (Some n)) }
+    ensures made { steps cpu.new ≡ steps cpu.old }
 {
     let Some(station) = &mut cpu.station else {
         unreachable!()
@@ -68,7 +73,7 @@ fn lay_aside<'a, D: TxDevice>(shared: &Shared<'a, D>, cpu: &mut Cpu<D>, n: u32, 
     requires at { (direct : Bool) × (position cpu.old ≡ BlockedClear (InHand (packet_at shared.now n) direct)) }
     requires serving { IsServing cpu.old }
     requires hand { ((view cpu.old).holder.hand ≡ Some n) × ((view cpu.old).holder.slot ≡ None) }
-    ensures kept { IsKept cpu.old cpu.new }
+    ensures kept { IsKeptInRun cpu.old cpu.new }
     ensures serving { IsServing cpu.new }
     ensures at { position cpu.new ≡ Unlock }
     ensures run { (view cpu.new).place.run ≡ (view cpu.old).place.run }
@@ -77,6 +82,7 @@ fn lay_aside<'a, D: TxDevice>(shared: &Shared<'a, D>, cpu: &mut Cpu<D>, n: u32, 
     ensures heard { (view cpu.new).whole.state.past ≡ Back ∷ (view cpu.old).whole.state.past }
     ensures stopped { (again : ℕ) × (view cpu.new ≡ setting (setting (loading again (passing (view cpu.old))))) }
     ensures sole { IsSole (view cpu.old) → slice_index (account_of (view cpu.old)).stops queue ≢ 0 → solo (view cpu.new) ≡ missed_to true (heard Back (draining_to true (missed_to false (solo (view cpu.old))))) }
+    ensures made { LaysAsideBy (setup shared.now) queue (steps cpu.old) (steps cpu.new) }
 {
     maybe_clear_missed(shared, cpu, queue);
     put_back(cpu, n);
@@ -88,7 +94,8 @@ fn hand_over<D: TxDevice>(cpu: &mut Cpu<D>, queue: u32, n: u32) -> (Tx, Fate)
     requires station { (st : StationState) × (cpu.old.station ≡ Some st) × (0 < st.device.spare) × (st.device.hung ≡ false) × (length st.device.accepted < 1000000) }
     ensures same { IsSameSeat cpu.old cpu.new × (cpu.new.indices ≡ cpu.old.indices) × (slot cpu.new ≡ slot cpu.old) × (view cpu.new ≡ view cpu.old) }
     ensures station { cpu.new.station ≡ Some (carried cpu.new) }
-    ensures handed { (st : StationState) → cpu.old.station ≡ Some st → (result.1 ≡ fate_sent st) × Transmits result.0 queue n st (carried cpu.new) }
+    ensures handed { (st : StationState) → cpu.old.station ≡ Some st → (result.1 ≡ fate_sent st) × HasAnswered result.0 queue n st (carried cpu.new) }
+    ensures made { steps cpu.new ≡ steps cpu.old }
 {
     let Some(station) = &mut cpu.station else {
         unreachable!()
@@ -119,6 +126,7 @@ fn store_hung<'a, D: TxDevice>(shared: &Shared<'a, D>, cpu: &mut Cpu<D>)
     ensures stays { StaysAt (view cpu.old) (view cpu.new) }
     ensures heard { (view cpu.new).whole.state.past ≡ hung_below shared.now.queues (view cpu.old).whole.state.past }
     ensures step { solo (view cpu.new) ≡ hearing_hung shared.now.queues (solo (view cpu.old)) }
+    ensures made { steps cpu.new ≡ hung_stored (setup shared.now) shared.now.queues (steps cpu.old) }
 {
     for queue in 0..shared.queues() {
         shared.store_xoff(cpu, queue, 2);
@@ -131,11 +139,12 @@ fn requeue<'a, D: TxDevice>(shared: &Shared<'a, D>, cpu: &mut Cpu<D>, n: u32)
     requires at { (direct : Bool) × (position cpu.old ≡ Xmit (packet_at shared.now n) direct) }
     requires station { (slot cpu.old ≡ (0, None) ∷ []) × (is_some cpu.old.station ≡ true) }
     requires hand { ((view cpu.old).holder.hand ≡ Some n) × ((view cpu.old).holder.slot ≡ None) }
-    requires called { Transmits NotSent (queue_in shared.now.infos.now n) n (shown (view cpu.old).holder) (carried cpu.old) }
+    requires called { HasAnswered NotSent (queue_in shared.now.infos.now n) n (shown (view cpu.old).holder) (carried cpu.old) }
     ensures same { IsSameSeat cpu.old cpu.new × (cpu.new.indices ≡ cpu.old.indices) × (slot cpu.new ≡ slot cpu.old) }
     ensures view { view cpu.new ≡ requeuing (carried cpu.old) (view cpu.old) }
     ensures station { cpu.new.station ≡ Some (shown (view cpu.new).holder) }
     ensures step { solo (view cpu.new) ≡ device_to (carried cpu.old).device (heard Back (missed_to true (solo (view cpu.old)))) }
+    ensures made { (was : Bool) × (steps cpu.new ≡ steps cpu.old ⊳ did_set_missed was) }
 {
     shared.requeue(cpu);
     put_back(cpu, n);
@@ -148,10 +157,11 @@ fn settle_sent<'a, D: TxDevice>(shared: &Shared<'a, D>, cpu: &mut Cpu<D>, n: u32
     requires at { (direct : Bool) × (position cpu.old ≡ Xmit (packet_at shared.now n) direct) }
     requires hand { (view cpu.old).holder.hand ≡ Some n }
     requires room { HasRoom (view cpu.old).holder }
-    requires accepted { (answer : Answer) × (is_busy answer ≡ false) × Transmits answer (queue_in shared.now.infos.now n) n (shown (view cpu.old).holder) (carried cpu.old) }
+    requires accepted { (answer : Answer) × (is_busy answer ≡ false) × HasAnswered answer (queue_in shared.now.infos.now n) n (shown (view cpu.old).holder) (carried cpu.old) }
     requires fate { fate ≡ fate_sent (view cpu.old).holder.station }
     ensures same { IsElseSame cpu.old cpu.new }
-    ensures sent { (answer : Answer) → (direct : Bool) → is_busy answer ≡ false → Transmits answer (queue_in shared.now.infos.now n) n (shown (view cpu.old).holder) (carried cpu.old) → position cpu.old ≡ Xmit (packet_at shared.now n) direct → IsSentAs answer n (queue_in shared.now.infos.now n) direct (carried cpu.old) (view cpu.old) (view cpu.new) }
+    ensures sent { (answer : Answer) → (direct : Bool) → is_busy answer ≡ false → HasAnswered answer (queue_in shared.now.infos.now n) n (shown (view cpu.old).holder) (carried cpu.old) → position cpu.old ≡ Xmit (packet_at shared.now n) direct → IsSentAs answer n (queue_in shared.now.infos.now n) direct (carried cpu.old) (view cpu.old) (view cpu.new) }
+    ensures made { steps cpu.new ≡ steps cpu.old ⊳ did_store_fate (setup shared.now) n (word_of fate) }
 {
     shared.settle(cpu, n, fate);
 }
@@ -168,6 +178,7 @@ fn stop<'a, D: TxDevice>(shared: &Shared<'a, D>, cpu: &mut Cpu<D>, queue: u32, a
     ensures stays { StaysAt (view cpu.old) (view cpu.new) }
     ensures heard { (view cpu.new).whole.state.past ≡ stopped_by answer queue shared.now.queues (view cpu.old).whole.state.past }
     ensures step { solo (view cpu.new) ≡ hearing_stops answer queue shared.now.queues (solo (view cpu.old)) }
+    ensures made { steps cpu.new ≡ stops_stored (setup shared.now) answer queue (steps cpu.old) }
 {
     match answer {
         Tx::Sent | Tx::Busy => {}
@@ -185,13 +196,14 @@ fn offer<'a, D: TxDevice>(shared: &Shared<'a, D>, cpu: &mut Cpu<D>, n: u32, queu
     requires hand { (view cpu.old).holder.hand ≡ Some n }
     requires room { HasRoom (view cpu.old).holder × ((view cpu.old).holder.station.device.hung ≡ false) }
     requires open { SeesOpen queue (view cpu.old) }
-    ensures kept { IsKept cpu.old cpu.new }
+    ensures kept { IsKeptInRun cpu.old cpu.new }
     ensures serving { IsServing cpu.new }
     ensures at { (direct : Bool) → position cpu.old ≡ Xmit (packet_at shared.now n) direct → position cpu.new ≡ position_after result direct (view cpu.new) }
     ensures run { (view cpu.new).place.run ≡ run_after result (view cpu.old).place.run }
     ensures empty { result ≡ Yes → ((view cpu.new).holder.hand ≡ None) × ((view cpu.new).holder.slot ≡ None) }
     ensures trail { (view cpu.new).trail ≡ (view cpu.old).trail }
     ensures offered { Offers result n queue (view cpu.old) (view cpu.new) }
+    ensures made { OffersBy (setup shared.now) result n queue (steps cpu.old) (steps cpu.new) }
 {
     let (answer, fate) = hand_over(cpu, queue, n);
     if is_refusal(answer) {

@@ -4,12 +4,13 @@ ghost use Rattle.lq_model.specs.declared.machine.Attempt.TheVariants.{Interrupt}
 ghost use Rattle.lq_model.specs.declared.machine.Position.TheVariants.{Idle, Leave, Soft, Try1};
 ghost use Rattle.lq_model.specs.Alone.{opened};
 ghost use Rattle.lq_table.specs.Views.{View, first_account};
-ghost use Rattle.lq_qdisc.specs.Alone.{Brings, Does};
-ghost use Rattle.lq_table.specs.Sees.{view, setup, position, IsSeatOf, IsElseSame};
+ghost use Rattle.lq_qdisc.specs.Alone.{BringsAlone, Does};
+ghost use Rattle.lq_table.specs.Sees.{view, known, steps, setup, position, IsSeatOf, IsElseSame};
 ghost use Rattle.lq_table.specs.Solo.{solo};
 ghost use Rattle.lq_table.specs.Told.{at_rest, entering, passing};
 ghost use Rattle.lq_qdisc.specs.Calls.{KeepsFates};
-ghost use Rattle.lq_qdisc.specs.Sends.{Interrupts, IsCallKept, IsDue, IsRaisedAgain, IsReady, IsStill, Wakes, WakesBelow};
+ghost use Rattle.lq_qdisc.specs.Steps.{InterruptsBy, IsDueBy};
+ghost use Rattle.lq_qdisc.specs.Sends.{Interrupts, IsCallKept, IsDue, IsRaisedAgain, IsReadyToSend, IsStill, Wakes, WakesBelow};
 
 use crate::sends::{attempt, is_deactivated};
 use lq_device::TxDevice;
@@ -23,15 +24,16 @@ pub fn softirq<'a, D: TxDevice>(shared: &Shared<'a, D>, cpu: &mut Cpu<D>)
     requires seat { IsSeatOf shared.now cpu.old }
     requires at { at_rest (position cpu.old) ≡ true }
     requires raised { (view cpu.old).place.raised ≡ true }
-    requires ready { IsReady cpu.old }
+    requires ready { IsReadyToSend cpu.old }
     ensures kept { IsCallKept cpu.old cpu.new }
     ensures fates { KeepsFates (view cpu.old) (view cpu.new) }
     ensures at { position cpu.new ≡ Idle }
-    ensures ready { IsReady cpu.new }
+    ensures ready { IsReadyToSend cpu.new }
     ensures still { IsStill (view cpu.old) (view cpu.new) }
     ensures interrupts { (before : View) × Interrupts shared.now.infos.now (entering (view cpu.old)) before × (view cpu.new ≡ passing before) × (solo (view cpu.new) ≡ solo before) }
     ensures again { IsRaisedAgain (view cpu.new) }
-    ensures alone { Brings shared.now.infos.now (first_account (setup shared.now)) (λ s. s) (solo (view cpu.old)) (solo (view cpu.new)) }
+    ensures alone { BringsAlone shared.now.infos.now (first_account (setup shared.now)) (λ s. s) (solo (view cpu.old)) (solo (view cpu.new)) }
+    ensures made { InterruptsBy (setup shared.now) (steps cpu.old) (steps cpu.new) }
 {
     shared.enter(cpu);
     if is_due(shared, cpu) {
@@ -49,6 +51,7 @@ fn is_due<'a, D: TxDevice>(shared: &Shared<'a, D>, cpu: &mut Cpu<D>) -> bool
     ensures still { IsStill (view cpu.old) (view cpu.new) × ((view cpu.new).locks ≡ (view cpu.old).locks) × ((view cpu.new).holder ≡ (view cpu.old).holder) }
     ensures due { IsDue result (view cpu.old) (view cpu.new) }
     ensures mark { (view cpu.new).place.raised ≡ (view cpu.old).place.raised }
+    ensures made { IsDueBy result (steps cpu.old) (steps cpu.new) }
 {
     let first = shared.load_state(cpu);
     unschedule(shared, cpu);
@@ -63,13 +66,13 @@ fn is_due<'a, D: TxDevice>(shared: &Shared<'a, D>, cpu: &mut Cpu<D>) -> bool
 pub fn irq<'a, D: TxDevice>(shared: &Shared<'a, D>, cpu: &mut Cpu<D>)
     requires seat { IsSeatOf shared.now cpu.old }
     requires at { position cpu.old ≡ Idle }
-    requires ready { IsReady cpu.old }
+    requires ready { IsReadyToSend cpu.old }
     ensures kept { IsCallKept cpu.old cpu.new }
     ensures at { position cpu.new ≡ Idle }
-    ensures ready { IsReady cpu.new }
+    ensures ready { IsReadyToSend cpu.new }
     ensures still { IsStill (view cpu.old) (view cpu.new) }
     ensures settled { (view cpu.new).settled ≡ (view cpu.old).settled }
-    ensures wakes { WakesBelow shared.now.queues (view cpu.old) (view cpu.new) }
+    ensures wakes { WakesBelow (setup shared.now) shared.now.queues (known cpu.old) (known cpu.new) }
     ensures alone { Does shared.now.infos.now (first_account (setup shared.now)) opened (solo (view cpu.old)) (solo (view cpu.new)) }
 {
     for queue in 0..shared.queues() {
@@ -84,7 +87,7 @@ fn open<'a, D: TxDevice>(shared: &Shared<'a, D>, cpu: &mut Cpu<D>, queue: u32)
     requires at { position cpu.old ≡ Idle }
     ensures same { IsElseSame cpu.old cpu.new }
     ensures at { position cpu.new ≡ Idle }
-    ensures wakes { Wakes queue (view cpu.old) (view cpu.new) }
+    ensures wakes { Wakes (setup shared.now) queue (known cpu.old) (known cpu.new) }
 {
     if shared.wake(cpu, queue) {
         schedule(shared, cpu);

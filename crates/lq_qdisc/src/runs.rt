@@ -3,22 +3,22 @@ ghost use Rattle.std.specs.Prelude.{◌≡◌, ◌+◌, ℕ, ◌<◌, ◌≢◌,
 ghost use Rattle.lq_model.specs.declared.machine.Position.TheVariants.{Unlock};
 ghost use Rattle.lq_run.specs.Runs.{begins};
 ghost use Rattle.lq_table.specs.Views.{first_account};
-ghost use Rattle.lq_table.specs.Sees.{view, setup, position, IsSeatOf};
+ghost use Rattle.lq_table.specs.Sees.{view, steps, setup, position, IsSeatOf};
 ghost use Rattle.lq_table.specs.Solo.{IsAccounts, solo};
+ghost use Rattle.lq_qdisc.specs.Steps.{EndsBy, HandsBy, RunsBy};
 ghost use Rattle.lq_qdisc.specs.Alone.{IsOneSender, RunsAlone, account_in};
-ghost use Rattle.lq_qdisc.specs.Calls.{IsSlotOf, IsServing, IsKept, KeepsFates};
+ghost use Rattle.lq_qdisc.specs.Calls.{IsSlotOf, IsServing, IsKeptInRun, KeepsFates};
 ghost use Rattle.lq_qdisc.specs.Direct.{Accepts};
-ghost use Rattle.lq_qdisc.specs.Runs.{Ends, Hands, Runs, position_in_run};
+ghost use Rattle.lq_qdisc.specs.Runs.{LastTurn, Hands, Runs, position_in_run};
+ghost use Rattle.lq_qdisc.specs.declared.answers.Through.TheVariants.{Yes};
 ghost use Rattle.lq_qdisc.specs.declared.answers.RunEnd.TheVariants.{Quota};
 
 use crate::answers::{Ran, RunEnd, Taken, Through, Why};
 use crate::direct::direct_xmit;
 use crate::takes::dequeue;
 use lq_device::TxDevice;
+use lq_model::state::QUOTA;
 use lq_table::{Cpu, Shared};
-
-/// How many packets a run may send: `dev_tx_weight` of net/core/dev.c.
-const QUOTA: u32 = 64;
 
 /// Takes a packet and hands it to the device, as `qdisc_restart` of net/sched/sch_generic.c does. `None` where the device
 /// accepted it; else the end of the run.
@@ -28,16 +28,17 @@ fn restart<'a, D: TxDevice>(shared: &Shared<'a, D>, cpu: &mut Cpu<D>) -> Option<
     requires serving { IsServing cpu.old }
     requires hand { (view cpu.old).holder.hand ≡ None }
     requires slot { IsSlotOf shared.now cpu.old }
-    requires run { (view cpu.old).place.run < 64 }
-    ensures kept { IsKept cpu.old cpu.new }
+    requires run { (view cpu.old).place.run < QUOTA }
+    ensures kept { IsKeptInRun cpu.old cpu.new }
     ensures serving { IsServing cpu.new }
     ensures trail { (view cpu.new).trail ≡ (view cpu.old).trail }
-    ensures sent { MatchOption result (Hands Accepts shared.now.infos.now (view cpu.old) (view cpu.new)) (λ end. Ends end shared.now.infos.now (view cpu.old) (view cpu.new)) }
+    ensures sent { MatchOption result (Hands Accepts shared.now.infos.now (view cpu.old) (view cpu.new)) (λ end. LastTurn end shared.now.infos.now (view cpu.old) (view cpu.new)) }
     ensures at { MatchOption result (position cpu.new ≡ position_in_run (view cpu.new)) (λ end. position cpu.new ≡ Unlock) }
     ensures run { result ≡ None → ((view cpu.new).place.run ≡ (view cpu.old).place.run + 1) × ((view cpu.new).holder.hand ≡ None) × ((view cpu.new).holder.slot ≡ None) }
     ensures quota { MatchOption result ⊤ (λ end. end ≢ Quota) }
     ensures fates { KeepsFates (view cpu.old) (view cpu.new) }
     ensures accepted { length (view cpu.new).holder.station.device.accepted ≡ length (view cpu.old).holder.station.device.accepted + (if is_none result then 1 else 0) }
+    ensures made { MatchOption result (HandsBy (setup shared.now) Yes (steps cpu.old) (steps cpu.new)) (λ end. EndsBy (setup shared.now) end (steps cpu.old) (steps cpu.new)) }
 {
     match dequeue(shared, cpu) {
         Taken::Empty => Some(RunEnd::Empty),
@@ -53,7 +54,7 @@ fn restart<'a, D: TxDevice>(shared: &Shared<'a, D>, cpu: &mut Cpu<D>) -> Option<
 /// Sends packets until none is left, the queue of the next one is stopped, the device is busy, or the quota is reached:
 /// `__qdisc_run` of net/sched/sch_generic.c. The caller has the run lock and no packet in hand.
 ///
-/// `sent` is how many packets the device accepted in this call, at most 64; the end is Quota exactly where it is 64, and
+/// `sent` is how many packets the device accepted in this call, at most QUOTA; the end is Quota exactly where it is that, and
 /// MISSED is set then. Empty and Stopped come only as the last dequeue of the call answers them, or Stopped and Busy as its
 /// last direct transmit does. A seat that has the table alone serves the station as the run of one sender
 /// does; with several queues, where what it has as holder is the account's.
@@ -64,7 +65,7 @@ pub fn run<'a, D: TxDevice>(shared: &Shared<'a, D>, cpu: &mut Cpu<D>) -> Ran
     requires hand { (view cpu.old).holder.hand ≡ None }
     requires slot { IsSlotOf shared.now cpu.old }
     requires begun { (view cpu.old).place.run ≡ 0 }
-    ensures kept { IsKept cpu.old cpu.new }
+    ensures kept { IsKeptInRun cpu.old cpu.new }
     ensures serving { IsServing cpu.new }
     ensures at { position cpu.new ≡ Unlock }
     ensures trail { (view cpu.new).trail ≡ (view cpu.old).trail }
@@ -72,6 +73,7 @@ pub fn run<'a, D: TxDevice>(shared: &Shared<'a, D>, cpu: &mut Cpu<D>) -> Ran
     ensures ran { Runs shared.now.infos.now result (view cpu.old) (view cpu.new) }
     ensures accepted { length (view cpu.new).holder.station.device.accepted ≡ length (view cpu.old).holder.station.device.accepted + result.sent }
     ensures alone { (shared.now.queues ≢ 1 → IsAccounts (view cpu.old)) → IsOneSender (first_account (setup shared.now)) (solo (view cpu.old)) → (account_in (first_account (setup shared.now)) (solo (view cpu.old))).down ≡ None → RunsAlone shared.now.infos.now (first_account (setup shared.now)) (solo (view cpu.old)) (solo (view cpu.new)) }
+    ensures made { RunsBy (setup shared.now) result (steps cpu.old) (steps cpu.new) }
 {
     for sent in 0..QUOTA {
         if let Some(end) = restart(shared, cpu) {

@@ -8,11 +8,12 @@ ghost use Rattle.lq_model.specs.declared.machine.Position.TheVariants.{Check, Ga
 ghost use Rattle.lq_run.specs.Runs.{IsRaisedBySched, begins};
 ghost use Rattle.lq_ring.specs.Put.{no_locks, put_leads_to};
 ghost use Rattle.lq_table.specs.Views.{View};
-ghost use Rattle.lq_table.specs.Sees.{view, setup, position, slot, packet_at, IsSeatOf, IsSameSeat, IsElseSame};
+ghost use Rattle.lq_table.specs.Sees.{view, steps, setup, position, slot, packet_at, IsSeatOf, IsSameSeat, IsElseSame};
 ghost use Rattle.lq_table.specs.Told.{IsPacketOf, is_set, some_bit, paying};
 ghost use Rattle.lq_table.specs.Solo.{solo};
+ghost use Rattle.lq_qdisc.specs.Steps.{AttemptsBy, EnqueuesBy, FollowsBy, GoesBy, GoesHeldBy, GoesLockedBy, GoesPastBy, GoesThroughBy, RefusesBy, RunsToEndBy, TriesToPassBy};
 ghost use Rattle.lq_qdisc.specs.Calls.{IsServing, IsSlotOf, KeepsFates};
-ghost use Rattle.lq_qdisc.specs.Sends.{Attempts, Enqueues, FollowsDirect, IsFree, IsInsideKept, Goes, GoesPast, GoesThrough, GoesThroughHeld, HasCome, IsBringing, IsCallKept, RunsToEnd, TriesToPass, serves_bands};
+ghost use Rattle.lq_qdisc.specs.Sends.{Attempts, Enqueues, FollowsDirect, IsFreeInside, IsInsideKept, Goes, GoesPast, GoesThrough, GoesThroughHeld, HasCome, IsBringing, IsCallKept, RunsToEnd, TriesToPass, serves_bands};
 ghost use Rattle.lq_qdisc.specs.Direct.{Directs, position_after};
 ghost use Rattle.lq_qdisc.specs.declared.answers.Sending.TheVariants as sending;
 ghost use Rattle.lq_qdisc.specs.declared.answers.Through.{Through as Handed};
@@ -23,16 +24,11 @@ use crate::direct::direct_xmit;
 use crate::runs::run;
 use lq_device::TxDevice;
 use lq_model::Fate;
+use lq_model::state::{DEACTIVATED, DRAINING, MISSED};
 use lq_ring::produce;
 use lq_run::{begin, end};
 use lq_table::{Cpu, Shared};
 use std::sync::Wait;
-
-const DEACTIVATED: u64 = 2;
-
-const MISSED: u64 = 4;
-
-const DRAINING: u64 = 8;
 
 /// Whether MISSED or DRAINING is set: `QDISC_STATE_NON_EMPTY` of include/net/sch_generic.h.
 pub(crate) fn is_non_empty(state: u64) -> bool
@@ -60,9 +56,10 @@ fn run_to_end<'a, D: TxDevice>(shared: &Shared<'a, D>, cpu: &mut Cpu<D>)
     ensures kept { IsInsideKept cpu.old cpu.new }
     ensures fates { KeepsFates (view cpu.old) (view cpu.new) }
     ensures at { position cpu.new ≡ Leave }
-    ensures left { IsFree cpu.new }
+    ensures left { IsFreeInside cpu.new }
     ensures served { RunsToEnd shared.now.infos.now (view cpu.old) (view cpu.new) }
     ensures sched { IsRaisedBySched (view cpu.old) (view cpu.new) }
+    ensures made { RunsToEndBy (setup shared.now) (steps cpu.old) (steps cpu.new) }
 {
     run(shared, cpu);
     end(shared, cpu);
@@ -72,13 +69,14 @@ fn run_to_end<'a, D: TxDevice>(shared: &Shared<'a, D>, cpu: &mut Cpu<D>)
 pub(crate) fn attempt<'a, D: TxDevice>(shared: &Shared<'a, D>, cpu: &mut Cpu<D>)
     requires seat { IsSeatOf shared.now cpu.old }
     requires at { (a : Attempt) × (position cpu.old ≡ Try1 a) × (serves_bands a ≡ true) }
-    requires ready { IsFree cpu.old }
+    requires ready { IsFreeInside cpu.old }
     ensures kept { IsInsideKept cpu.old cpu.new }
     ensures fates { KeepsFates (view cpu.old) (view cpu.new) }
     ensures at { position cpu.new ≡ Leave }
-    ensures left { IsFree cpu.new }
+    ensures left { IsFreeInside cpu.new }
     ensures attempted { Attempts shared.now.infos.now (view cpu.old) (view cpu.new) }
     ensures sched { IsRaisedBySched (view cpu.old) (view cpu.new) }
+    ensures made { AttemptsBy (setup shared.now) (steps cpu.old) (steps cpu.new) }
 {
     if begin(shared, cpu) {
         run_to_end(shared, cpu);
@@ -100,6 +98,7 @@ fn enqueue<'a, D: TxDevice, R: Wait>(
     ensures same { IsSameSeat cpu.old cpu.new × (cpu.new.station ≡ cpu.old.station) × (slot cpu.new ≡ slot cpu.old) }
     ensures at { (holds : Bool) → position cpu.old ≡ Put (packet_at shared.now n) holds → position cpu.new ≡ put_leads_to holds (packet_at shared.now n) (view cpu.old) }
     ensures put { Enqueues n (band_in shared.now.infos.now n) result (view cpu.old) (view cpu.new) }
+    ensures made { EnqueuesBy (setup shared.now) n result (steps cpu.old) (steps cpu.new) }
 {
     let band = shared.infos()[n as usize].band;
     match produce(rt, shared, cpu, band, n) {
@@ -121,13 +120,14 @@ fn send_through<'a, D: TxDevice, R: Wait>(
     requires seat { IsSeatOf shared.now cpu.old }
     requires at { position cpu.old ≡ Put (packet_at shared.now n) false }
     requires packet { IsBringing shared.now n cpu.old }
-    requires free { IsFree cpu.old }
+    requires free { IsFreeInside cpu.old }
     ensures kept { IsCallKept cpu.old cpu.new }
     ensures fates { KeepsFates (view cpu.old) (view cpu.new) }
     ensures at { position cpu.new ≡ Leave }
-    ensures free { IsFree cpu.new }
+    ensures free { IsFreeInside cpu.new }
     ensures came { HasCome shared.now.infos.now n result (view cpu.old) (view cpu.new) }
     ensures goes { GoesThrough shared.now.infos.now n result (view cpu.old) (view cpu.new) }
+    ensures made { GoesThroughBy (setup shared.now) n result (steps cpu.old) (steps cpu.new) }
 {
     let sending = enqueue(rt, shared, cpu, n);
     attempt(shared, cpu);
@@ -150,9 +150,10 @@ fn send_held<'a, D: TxDevice, R: Wait>(
     ensures kept { IsCallKept cpu.old cpu.new }
     ensures fates { KeepsFates (view cpu.old) (view cpu.new) }
     ensures at { position cpu.new ≡ Leave }
-    ensures free { IsFree cpu.new }
+    ensures free { IsFreeInside cpu.new }
     ensures came { HasCome shared.now.infos.now n result (view cpu.old) (view cpu.new) }
     ensures goes { (put : View) × Enqueues n (band_in shared.now.infos.now n) result (view cpu.old) put × RunsToEnd shared.now.infos.now put (view cpu.new) }
+    ensures made { GoesHeldBy (setup shared.now) n result (steps cpu.old) (steps cpu.new) }
 {
     let sending = enqueue(rt, shared, cpu, n);
     run_to_end(shared, cpu);
@@ -169,8 +170,9 @@ fn follow<'a, D: TxDevice>(shared: &Shared<'a, D>, cpu: &mut Cpu<D>, through: Th
     ensures kept { IsInsideKept cpu.old cpu.new }
     ensures fates { KeepsFates (view cpu.old) (view cpu.new) }
     ensures at { position cpu.new ≡ Leave }
-    ensures free { IsFree cpu.new }
+    ensures free { IsFreeInside cpu.new }
     ensures follows { FollowsDirect through shared.now.infos.now (view cpu.old) (view cpu.new) }
+    ensures made { FollowsBy (setup shared.now) through (steps cpu.old) (steps cpu.new) }
 {
     if through == Through::Yes && is_non_empty(shared.load_state(cpu)) {
         run_to_end(shared, cpu);
@@ -189,8 +191,9 @@ fn send_past<'a, D: TxDevice>(shared: &Shared<'a, D>, cpu: &mut Cpu<D>, n: u32)
     ensures kept { IsInsideKept cpu.old cpu.new }
     ensures fates { KeepsFates (view cpu.old) (view cpu.new) }
     ensures at { position cpu.new ≡ Leave }
-    ensures free { IsFree cpu.new }
+    ensures free { IsFreeInside cpu.new }
     ensures past { (handed : Handed) × (after : View) × Directs handed n (queue_in shared.now.infos.now n) (view cpu.old) after × FollowsDirect handed shared.now.infos.now after (view cpu.new) }
+    ensures made { GoesPastBy (setup shared.now) n (steps cpu.old) (steps cpu.new) }
 {
     let through = direct_xmit(shared, cpu, n);
     follow(shared, cpu, through);
@@ -213,9 +216,10 @@ fn send_locked<'a, D: TxDevice, R: Wait>(
     ensures kept { IsCallKept cpu.old cpu.new }
     ensures fates { KeepsFates (view cpu.old) (view cpu.new) }
     ensures at { position cpu.new ≡ Leave }
-    ensures free { IsFree cpu.new }
+    ensures free { IsFreeInside cpu.new }
     ensures came { HasCome shared.now.infos.now n result (view cpu.old) (view cpu.new) }
     ensures goes { GoesThroughHeld shared.now.infos.now n result (view cpu.old) (view cpu.new) ⊎ ((result ≡ sending.Direct) × GoesPast shared.now.infos.now n (view cpu.old) (view cpu.new)) }
+    ensures made { GoesLockedBy (setup shared.now) n result (steps cpu.old) (steps cpu.new) }
 {
     let state = shared.recheck(cpu, n);
     if is_non_empty(state) {
@@ -236,13 +240,14 @@ fn send_try<'a, D: TxDevice, R: Wait>(
     requires seat { IsSeatOf shared.now cpu.old }
     requires at { position cpu.old ≡ Try1 (ToPass (packet_at shared.now n)) }
     requires packet { IsBringing shared.now n cpu.old × IsPacketOf (setup shared.now) n }
-    requires free { IsFree cpu.old }
+    requires free { IsFreeInside cpu.old }
     ensures kept { IsCallKept cpu.old cpu.new }
     ensures fates { KeepsFates (view cpu.old) (view cpu.new) }
     ensures at { position cpu.new ≡ Leave }
-    ensures free { IsFree cpu.new }
+    ensures free { IsFreeInside cpu.new }
     ensures came { HasCome shared.now.infos.now n result (view cpu.old) (view cpu.new) }
     ensures goes { TriesToPass shared.now.infos.now n result (view cpu.old) (view cpu.new) }
+    ensures made { TriesToPassBy (setup shared.now) n result (steps cpu.old) (steps cpu.new) }
 {
     if begin(shared, cpu) {
         send_locked(rt, shared, cpu, n)
@@ -260,6 +265,7 @@ fn refuse<'a, D: TxDevice>(shared: &Shared<'a, D>, cpu: &mut Cpu<D>, n: u32, sta
     ensures view { view cpu.new ≡ paying (view cpu.old) }
     ensures event { (event : ℕ) × (bits : ℕ) × (bits < 16) × (state ≡ bits + 256 * (event + 1)) × (result ≡ sending.Refused event) }
     ensures step { solo (view cpu.new) ≡ solo (view cpu.old) }
+    ensures made { RefusesBy (setup shared.now) n result (steps cpu.old) (steps cpu.new) }
 {
     let event = (state / 256 - 1) as u32;
     shared.settle(cpu, n, Fate::Refused { event });
@@ -277,13 +283,14 @@ pub(crate) fn send<'a, D: TxDevice, R: Wait>(
     requires seat { IsSeatOf shared.now cpu.old }
     requires at { position cpu.old ≡ Check (packet_at shared.now n) }
     requires packet { IsBringing shared.now n cpu.old × IsPacketOf (setup shared.now) n }
-    requires free { IsFree cpu.old }
+    requires free { IsFreeInside cpu.old }
     ensures kept { IsCallKept cpu.old cpu.new }
     ensures fates { KeepsFates (view cpu.old) (view cpu.new) }
     ensures at { position cpu.new ≡ Leave }
-    ensures free { IsFree cpu.new }
+    ensures free { IsFreeInside cpu.new }
     ensures came { HasCome shared.now.infos.now n result (view cpu.old) (view cpu.new) }
     ensures goes { Goes shared.now.infos.now shared.now.bypass n result (view cpu.old) (view cpu.new) }
+    ensures made { GoesBy (setup shared.now) n result (steps cpu.old) (steps cpu.new) }
 {
     let state = shared.check(cpu, n);
     if is_deactivated(state) {

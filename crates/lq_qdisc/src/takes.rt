@@ -5,22 +5,21 @@ ghost use Rattle.lq_model.specs.Plan.{queue_in};
 ghost use Rattle.lq_model.specs.Steps.{queue_of_blocked};
 ghost use Rattle.lq_model.specs.declared.machine.Blocked.{Blocked};
 ghost use Rattle.lq_model.specs.declared.machine.Position.TheVariants.{BlockedClear, Scan, Gate, Test, ClearMissed, Unlock, Deq};
-ghost use Rattle.lq_table.specs.Sees.{view, setup, position, slot, packet_at, IsSeatOf, IsSameSeat};
-ghost use Rattle.lq_table.specs.Told.{IsPacketOf, setting, loading, passing};
+ghost use Rattle.lq_table.specs.Sees.{view, steps, setup, position, slot, packet_at, IsSeatOf, IsSameSeat};
+ghost use Rattle.lq_table.specs.Told.{some_bit, IsPacketOf, setting, loading, passing};
 ghost use Rattle.lq_table.specs.Solo.{IsSole, account_of, solo, laid, missed_to, draining_to};
 ghost use Rattle.lq_device.specs.Station.{StationState, with_slot};
 ghost use Rattle.lq_table.specs.Rule.{shown};
 ghost use Rattle.lq_run.specs.Runs.{begins};
-ghost use Rattle.lq_qdisc.specs.Calls.{IsSlotOf, IsTakenOf, Dequeues, IsKept, IsServing, IsSettledSame, FindsNone, Finds, Looks, SeesOneQueue, cleared, after_dequeue, looking_at, laid_aside, with_back, after_blocked};
+ghost use Rattle.lq_table.specs.Made.{◌⊳◌, did_clear_draining, did_clear_missed, did_load_state};
+ghost use Rattle.lq_qdisc.specs.Steps.{ClearsMaybe, DequeuesBy, LooksThrough, Scans};
+ghost use Rattle.lq_qdisc.specs.Calls.{IsSlotOf, IsTakenOf, Dequeues, IsKeptInRun, IsServing, IsSettledSame, FindsNone, Finds, Looks, SeesOneQueue, cleared, after_dequeue, looking_at, laid_aside, with_back, after_blocked};
 
 use crate::answers::Taken;
 use lq_device::TxDevice;
+use lq_model::state::{DRAINING, MISSED};
 use lq_ring::consume;
 use lq_table::{Cpu, Shared};
-
-const MISSED: u64 = 4;
-
-const DRAINING: u64 = 8;
 
 /// Takes the next packet, as `dequeue_skb` of net/sched/sch_generic.c does: that of the requeue slot, or else the first of the
 /// lowest band that holds one. Where the requeue slot is full the queue of its packet must be open; where it is empty and
@@ -34,7 +33,7 @@ pub fn dequeue<'a, D: TxDevice>(shared: &Shared<'a, D>, cpu: &mut Cpu<D>) -> Tak
     requires serving { IsServing cpu.old }
     requires hand { (view cpu.old).holder.hand ≡ None }
     requires slot { IsSlotOf shared.now cpu.old }
-    ensures kept { IsKept cpu.old cpu.new }
+    ensures kept { IsKeptInRun cpu.old cpu.new }
     ensures run { (view cpu.new).place.run ≡ (view cpu.old).place.run }
     ensures serving { IsServing cpu.new }
     ensures at { position cpu.new ≡ after_dequeue result shared.now.infos.now }
@@ -42,6 +41,7 @@ pub fn dequeue<'a, D: TxDevice>(shared: &Shared<'a, D>, cpu: &mut Cpu<D>) -> Tak
     ensures taken { Dequeues result shared.now.infos.now (view cpu.old) (view cpu.new) }
     ensures one { SeesOneQueue result (view cpu.old) }
     ensures packet { IsTakenOf (setup shared.now) result }
+    ensures made { DequeuesBy (setup shared.now) (view cpu.old).holder.slot result (steps cpu.old) (steps cpu.new) }
 {
     if let Some(n) = requeued(cpu) {
         return dequeue_requeued(shared, cpu, n);
@@ -76,6 +76,7 @@ fn take_requeued<D: TxDevice>(cpu: &mut Cpu<D>)
     requires station { (st : StationState) × (cpu.old.station ≡ Some st) }
     ensures same { IsSameSeat cpu.old cpu.new × (cpu.new.indices ≡ cpu.old.indices) × (slot cpu.new ≡ slot cpu.old) × (view cpu.new ≡ view cpu.old) }
     ensures station { (st : StationState) → cpu.old.station ≡ Some st → cpu.new.station ≡ Some (with_slot st None) }
+    ensures made { steps cpu.new ≡ steps cpu.old }
 {
     let Some(station) = &mut cpu.station else {
         unreachable!()
@@ -89,7 +90,7 @@ fn dequeue_requeued<'a, D: TxDevice>(shared: &Shared<'a, D>, cpu: &mut Cpu<D>, n
     requires at { position cpu.old ≡ Deq }
     requires serving { IsServing cpu.old }
     requires slot { ((view cpu.old).holder.slot ≡ Some n) × IsPacketOf (setup shared.now) n }
-    ensures kept { IsKept cpu.old cpu.new }
+    ensures kept { IsKeptInRun cpu.old cpu.new }
     ensures run { (view cpu.new).place.run ≡ (view cpu.old).place.run }
     ensures serving { IsServing cpu.new }
     ensures at { position cpu.new ≡ after_dequeue result shared.now.infos.now }
@@ -97,6 +98,7 @@ fn dequeue_requeued<'a, D: TxDevice>(shared: &Shared<'a, D>, cpu: &mut Cpu<D>, n
     ensures taken { Dequeues result shared.now.infos.now (view cpu.old) (view cpu.new) }
     ensures one { SeesOneQueue result (view cpu.old) }
     ensures packet { IsTakenOf (setup shared.now) result }
+    ensures made { DequeuesBy (setup shared.now) (Some n) result (steps cpu.old) (steps cpu.new) }
 {
     let queue = queue_of(shared, n);
     if shared.load_xoff(cpu, queue) != 0 {
@@ -114,7 +116,7 @@ fn dequeue_open<'a, D: TxDevice>(shared: &Shared<'a, D>, cpu: &mut Cpu<D>) -> Ta
     requires serving { IsServing cpu.old }
     requires slot { (view cpu.old).holder.slot ≡ None }
     requires one { shared.now.queues ≤ 1 }
-    ensures kept { IsKept cpu.old cpu.new }
+    ensures kept { IsKeptInRun cpu.old cpu.new }
     ensures run { (view cpu.new).place.run ≡ (view cpu.old).place.run }
     ensures serving { IsServing cpu.new }
     ensures at { position cpu.new ≡ after_dequeue result shared.now.infos.now }
@@ -122,6 +124,7 @@ fn dequeue_open<'a, D: TxDevice>(shared: &Shared<'a, D>, cpu: &mut Cpu<D>) -> Ta
     ensures taken { Dequeues result shared.now.infos.now (view cpu.old) (view cpu.new) }
     ensures one { SeesOneQueue result (view cpu.old) }
     ensures packet { IsTakenOf (setup shared.now) result }
+    ensures made { DequeuesBy (setup shared.now) None result (steps cpu.old) (steps cpu.new) }
 {
     if shared.load_xoff(cpu, 0) != 0 {
         maybe_clear_missed(shared, cpu, 0);
@@ -136,13 +139,14 @@ fn scan<'a, D: TxDevice>(shared: &Shared<'a, D>, cpu: &mut Cpu<D>) -> Option<u32
     requires seat { IsSeatOf shared.now cpu.old }
     requires at { (second : Bool) × (position cpu.old ≡ Scan 0 second) }
     requires serving { IsServing cpu.old }
-    ensures kept { IsKept cpu.old cpu.new }
+    ensures kept { IsKeptInRun cpu.old cpu.new }
     ensures run { (view cpu.new).place.run ≡ (view cpu.old).place.run }
     ensures serving { IsServing cpu.new }
     ensures at { (second : Bool) → position cpu.old ≡ Scan 0 second → position cpu.new ≡ option_map_or (λ n. Gate (packet_at shared.now n) false) result (looking_at 3 second) }
     ensures fates { IsSettledSame cpu.old cpu.new }
     ensures taken { MatchOption result (FindsNone (view cpu.old) (view cpu.new)) (λ n. Finds n (view cpu.old) (view cpu.new)) }
     ensures packet { MatchOption result ⊤ (λ n. IsPacketOf (setup shared.now) n) }
+    ensures made { Scans (setup shared.now) result (steps cpu.old) (steps cpu.new) }
 {
     for band in 0..3 {
         if let Some(n) = consume(shared, cpu, band) {
@@ -156,13 +160,14 @@ fn scan<'a, D: TxDevice>(shared: &Shared<'a, D>, cpu: &mut Cpu<D>) -> Option<u32
 fn is_non_empty<'a, D: TxDevice>(shared: &Shared<'a, D>, cpu: &mut Cpu<D>) -> bool
     requires seat { IsSeatOf shared.now cpu.old }
     requires at { position cpu.old ≡ Test }
-    ensures kept { IsKept cpu.old cpu.new }
+    ensures kept { IsKeptInRun cpu.old cpu.new }
     ensures run { (view cpu.new).place.run ≡ (view cpu.old).place.run }
     ensures station { (cpu.new.station ≡ cpu.old.station) × (slot cpu.new ≡ slot cpu.old) }
     ensures at { position cpu.new ≡ (if result then ClearMissed else Unlock) }
     ensures fates { IsSettledSame cpu.old cpu.new }
     ensures same { ((view cpu.new).holder ≡ (view cpu.old).holder) × ((view cpu.new).whole.state ≡ (view cpu.old).whole.state) × (solo (view cpu.new) ≡ solo (view cpu.old)) }
     ensures sole { IsSole (view cpu.old) → result ≡ false → solo (view cpu.new) ≡ cleared (solo (view cpu.old)) }
+    ensures made { (state : ℕ) × (result ≡ some_bit state) × (steps cpu.new ≡ steps cpu.old ⊳ did_load_state state) }
 {
     let state = shared.load_state(cpu);
     state & MISSED != 0 || state & DRAINING != 0
@@ -172,12 +177,13 @@ fn is_non_empty<'a, D: TxDevice>(shared: &Shared<'a, D>, cpu: &mut Cpu<D>) -> bo
 fn clear_non_empty<'a, D: TxDevice>(shared: &Shared<'a, D>, cpu: &mut Cpu<D>)
     requires seat { IsSeatOf shared.now cpu.old }
     requires at { position cpu.old ≡ ClearMissed }
-    ensures kept { IsKept cpu.old cpu.new }
+    ensures kept { IsKeptInRun cpu.old cpu.new }
     ensures run { (view cpu.new).place.run ≡ (view cpu.old).place.run }
     ensures station { (cpu.new.station ≡ cpu.old.station) × (slot cpu.new ≡ slot cpu.old) }
     ensures at { position cpu.new ≡ Scan 0 true }
     ensures fates { IsSettledSame cpu.old cpu.new }
     ensures same { ((view cpu.new).holder ≡ (view cpu.old).holder) × ((view cpu.new).whole.state ≡ (view cpu.old).whole.state) × (solo (view cpu.new) ≡ cleared (solo (view cpu.old))) }
+    ensures made { steps cpu.new ≡ steps cpu.old ⊳ did_clear_missed ⊳ did_clear_draining }
 {
     shared.clear_missed(cpu);
     shared.clear_draining(cpu);
@@ -189,13 +195,14 @@ fn dequeue_bands<'a, D: TxDevice>(shared: &Shared<'a, D>, cpu: &mut Cpu<D>) -> T
     requires seat { IsSeatOf shared.now cpu.old }
     requires at { position cpu.old ≡ Scan 0 false }
     requires serving { IsServing cpu.old }
-    ensures kept { IsKept cpu.old cpu.new }
+    ensures kept { IsKeptInRun cpu.old cpu.new }
     ensures run { (view cpu.new).place.run ≡ (view cpu.old).place.run }
     ensures serving { IsServing cpu.new }
     ensures at { position cpu.new ≡ after_dequeue result shared.now.infos.now }
     ensures fates { IsSettledSame cpu.old cpu.new }
     ensures taken { Looks result (view cpu.old) (view cpu.new) }
     ensures packet { IsTakenOf (setup shared.now) result }
+    ensures made { LooksThrough (setup shared.now) result (steps cpu.old) (steps cpu.new) }
 {
     if let Some(n) = scan(shared, cpu) {
         return Taken::Packet(n);
@@ -222,7 +229,7 @@ pub(crate) fn maybe_clear_missed<'a, D: TxDevice>(
     requires at { (b : Blocked) × (position cpu.old ≡ BlockedClear b) × (queue_of_blocked b ≡ queue) }
     requires queue { queue < shared.now.queues }
     requires shut { (view cpu.old).holder.shut ≡ None }
-    ensures kept { IsKept cpu.old cpu.new }
+    ensures kept { IsKeptInRun cpu.old cpu.new }
     ensures run { (view cpu.new).place.run ≡ (view cpu.old).place.run }
     ensures station { (cpu.new.station ≡ cpu.old.station) × (slot cpu.new ≡ slot cpu.old) }
     ensures at { position cpu.new ≡ after_blocked (position cpu.old) }
@@ -231,6 +238,7 @@ pub(crate) fn maybe_clear_missed<'a, D: TxDevice>(
     ensures fates { IsSettledSame cpu.old cpu.new }
     ensures stopped { (again : ℕ) × (view cpu.new ≡ setting (loading again (passing (view cpu.old)))) }
     ensures sole { IsSole (view cpu.old) → slice_index (account_of (view cpu.old)).stops queue ≢ 0 → solo (view cpu.new) ≡ laid (view cpu.old) (draining_to true (missed_to false (solo (view cpu.old)))) }
+    ensures made { ClearsMaybe (setup shared.now) queue (steps cpu.old) (steps cpu.new) }
 {
     shared.clear_missed(cpu);
     if shared.load_xoff(cpu, queue) == 0 {

@@ -1,6 +1,6 @@
 //! Worked rows on one thread: what is answered and what becomes of each packet was told by hand from the rules.
 ghost use Rattle.std.specs.Prelude.{◌≡◌, ℕ, ◌<◌, ◌≤◌, length};
-ghost use Rattle.lq_qdisc.specs.Plain.{IsBetweenCalls, IsPlain};
+ghost use Rattle.lq_qdisc.specs.Plain.{IsFirstOwnerAtRest, IsPlainPacket};
 
 use crate::{Sending, irq, softirq, transmit};
 use lq_device::{BenchDevice, Station, StationPlan, TxDevice};
@@ -47,7 +47,7 @@ fn sent(serial: u32) -> Option<Fate> {
 }
 
 fn check_packets<A: Abort>(rt: &A, infos: &[Info], queues: u32)
-    ensures { (k : ℕ) → k < length infos.now → IsPlain infos.now queues k }
+    ensures { (k : ℕ) → k < length infos.now → IsPlainPacket infos.now queues k }
 {
     for k in 0..infos.len() {
         assert!(rt; infos[k].owner == 1);
@@ -66,7 +66,7 @@ fn table<'a, A: Abort>(
     plan: StationPlan,
     queues: u32,
 ) -> (Shared<'a, BenchDevice>, Cpu<BenchDevice>)
-    ensures { IsBetweenCalls result.0 result.1 }
+    ensures { IsFirstOwnerAtRest result.0 result.1 }
 {
     assert!(rt; infos.len() <= 100);
     assert!(rt; 0 < plan.len);
@@ -88,8 +88,8 @@ fn table<'a, A: Abort>(
 
 /// The soft interrupt of a seat that is raised.
 fn interrupt<'a, D: TxDevice>(shared: &Shared<'a, D>, cpu: &mut Cpu<D>)
-    requires rests { IsBetweenCalls shared.now cpu.old }
-    ensures rests { IsBetweenCalls shared.now cpu.new }
+    requires rests { IsFirstOwnerAtRest shared.now cpu.old }
+    ensures rests { IsFirstOwnerAtRest shared.now cpu.new }
 {
     if cpu.raised() {
         softirq(shared, cpu);
@@ -98,8 +98,8 @@ fn interrupt<'a, D: TxDevice>(shared: &Shared<'a, D>, cpu: &mut Cpu<D>)
 
 /// Soft interrupts while the seat is raised, of which no row here has more than two in a row.
 fn drain<'a, D: TxDevice>(shared: &Shared<'a, D>, cpu: &mut Cpu<D>)
-    requires rests { IsBetweenCalls shared.now cpu.old }
-    ensures rests { IsBetweenCalls shared.now cpu.new }
+    requires rests { IsFirstOwnerAtRest shared.now cpu.old }
+    ensures rests { IsFirstOwnerAtRest shared.now cpu.new }
 {
     interrupt(shared, cpu);
     interrupt(shared, cpu);
@@ -107,8 +107,8 @@ fn drain<'a, D: TxDevice>(shared: &Shared<'a, D>, cpu: &mut Cpu<D>)
 
 /// Interrupts of the driver, with the soft interrupts that they raise.
 fn wake<'a, D: TxDevice>(shared: &Shared<'a, D>, cpu: &mut Cpu<D>, times: u32)
-    requires rests { IsBetweenCalls shared.now cpu.old }
-    ensures rests { IsBetweenCalls shared.now cpu.new }
+    requires rests { IsFirstOwnerAtRest shared.now cpu.old }
+    ensures rests { IsFirstOwnerAtRest shared.now cpu.new }
 {
     for _ in 0..times {
         irq(shared, cpu);
@@ -122,8 +122,8 @@ fn send<'a, A: Abort + Wait, D: TxDevice>(
     cpu: &mut Cpu<D>,
     n: u32,
 ) -> Sending
-    requires rests { IsBetweenCalls shared.now cpu.old }
-    ensures rests { IsBetweenCalls shared.now cpu.new }
+    requires rests { IsFirstOwnerAtRest shared.now cpu.old }
+    ensures rests { IsFirstOwnerAtRest shared.now cpu.new }
 {
     let n = n as usize;
     let infos = shared.infos();
@@ -143,9 +143,9 @@ fn send_all<'a, A: Abort + Wait, D: TxDevice>(
     cpu: &mut Cpu<D>,
     answers: &[Sending],
 )
-    requires rests { IsBetweenCalls shared.now cpu.old }
+    requires rests { IsFirstOwnerAtRest shared.now cpu.old }
     requires few { length answers.now ≤ 100 }
-    ensures rests { IsBetweenCalls shared.now cpu.new }
+    ensures rests { IsFirstOwnerAtRest shared.now cpu.new }
 {
     for n in 0..answers.len() {
         assert_eq!(rt; send(rt, shared, cpu, n as u32), answers[n]);
@@ -160,7 +160,7 @@ fn close<'a, A: Abort, D: TxDevice>(
     cpu: Cpu<D>,
     fates: &[Option<Fate>],
 ) -> Closed<D>
-    requires rests { IsBetweenCalls shared cpu }
+    requires rests { IsFirstOwnerAtRest shared cpu }
 {
     assert!(rt; !cpu.raised());
     let packets = shared.infos().len();

@@ -6,12 +6,13 @@ ghost use Rattle.lq_account.specs.Trail.{down_of};
 ghost use Rattle.lq_model.specs.Alone.{brought_in};
 ghost use Rattle.lq_table.specs.Views.{first_account};
 ghost use Rattle.lq_table.specs.Solo.{solo};
-ghost use Rattle.lq_qdisc.specs.Alone.{Brings};
+ghost use Rattle.lq_qdisc.specs.Steps.{TransmitsBy};
+ghost use Rattle.lq_qdisc.specs.Alone.{BringsAlone};
 ghost use Rattle.lq_table.specs.Rule.{times};
-ghost use Rattle.lq_table.specs.Sees.{view, setup, position, IsSeatOf};
+ghost use Rattle.lq_table.specs.Sees.{view, steps, setup, position, IsSeatOf};
 ghost use Rattle.lq_table.specs.Told.{IsPacketOf};
 ghost use Rattle.lq_qdisc.specs.Calls.{KeepsFates};
-ghost use Rattle.lq_qdisc.specs.Sends.{IsCallKept, IsReady, Transmits};
+ghost use Rattle.lq_qdisc.specs.Sends.{IsCallKept, IsReadyToSend, Transmits};
 ghost use Rattle.lq_qdisc.specs.declared.answers.Sending.TheVariants.{OutOfTurn, Refused};
 
 use crate::answers::Sending;
@@ -37,17 +38,18 @@ pub fn transmit<'a, D: TxDevice, R: Wait>(
 ) -> Sending
     requires seat { IsSeatOf shared.now cpu.old }
     requires at { position cpu.old ≡ Idle }
-    requires ready { IsReady cpu.old }
+    requires ready { IsReadyToSend cpu.old }
     requires packet { IsPacketOf (setup shared.now) n × (station_in shared.now.infos.now n ≡ shared.now.station) × (band_in shared.now.infos.now n < 3) }
     requires owner { (0 < times (owner_in shared.now.infos.now n) (view cpu.old).share.owners) × (owner_in shared.now.infos.now n < shared.now.senders) }
     ensures kept { IsCallKept cpu.old cpu.new }
     ensures fates { KeepsFates (view cpu.old) (view cpu.new) }
     ensures at { position cpu.new ≡ Idle }
-    ensures ready { IsReady cpu.new }
+    ensures ready { IsReadyToSend cpu.new }
     ensures in_turn { slice_index (view cpu.old).turns (owner_in shared.now.infos.now n) ≡ 2 * rank_in shared.now.infos.now n → Transmits shared.now.infos.now shared.now.bypass n result (view cpu.old) (view cpu.new) }
     ensures first { slice_index (view cpu.old).turns (owner_in shared.now.infos.now n) ≡ 2 * rank_in shared.now.infos.now n → (view cpu.old).control.first ≡ true → (event : ℕ) → (result ≡ Refused event) ↔ (down_of (view cpu.old).trail ≡ Some event) }
-    ensures alone { slice_index (view cpu.old).turns (owner_in shared.now.infos.now n) ≡ 2 * rank_in shared.now.infos.now n → (view cpu.old).place.raised ≡ false → Brings shared.now.infos.now (first_account (setup shared.now)) (brought_in shared.now.infos.now shared.now.bypass n) (solo (view cpu.old)) (solo (view cpu.new)) }
+    ensures alone { slice_index (view cpu.old).turns (owner_in shared.now.infos.now n) ≡ 2 * rank_in shared.now.infos.now n → (view cpu.old).place.raised ≡ false → BringsAlone shared.now.infos.now (first_account (setup shared.now)) (brought_in shared.now.infos.now shared.now.bypass n) (solo (view cpu.old)) (solo (view cpu.new)) }
     ensures out_of_turn { slice_index (view cpu.old).turns (owner_in shared.now.infos.now n) ≢ 2 * rank_in shared.now.infos.now n → (result ≡ OutOfTurn (slice_index (view cpu.old).turns (owner_in shared.now.infos.now n))) × (view cpu.new ≡ view cpu.old) }
+    ensures made { TransmitsBy (setup shared.now) n result (steps cpu.old) (steps cpu.new) }
 {
     if let Err(found) = shared.take_turn(cpu, n) {
         return Sending::OutOfTurn { found };

@@ -17,8 +17,8 @@ use Rattle.lq_table.specs.Resizes.{resizing_of, beginning, with_work, restarted}
 use Rattle.lq_table.specs.Rings.{with_lock_at}
 use Rattle.lq_table.specs.Rule.{shown}
 use Rattle.lq_ring.specs.Fates.{fates_onto}
-use Rattle.lq_ring.specs.Work.{work_at, working, having_settled, event_at, IsTurner, IsWhole, IsDone}
-use Rattle.lq_ring.specs.Resized.{IsReady, all_lost, having_resized, having_locks}
+use Rattle.lq_ring.specs.Work.{work_at, working, having_settled, event_of_work, IsTurner, IsWorkBegun, IsWorkDone}
+use Rattle.lq_ring.specs.Resized.{IsReadyToResize, all_lost, having_resized, having_locks}
 use Rattle.lq_ring.proofs.FatesOnto.{fates_append}
 use Rattle.lq_ring.proofs.Works.{turner_after, event_after, event_of, work_of}
 
@@ -26,7 +26,7 @@ pub turn_step : (b : ℕ) (w : Work) (l : Lock) (fates : List (ℕ × Fate)) (v 
 turn_step b w l fates v v' t e e' = ap (λ (x : View). x.holder.resizing) e' ∙ ap (option_map (with_work b w)) e
 
 whole_of : (limit size size' len : ℕ) (held slots : List ℕ) (c : Ends) (head tail : ℕ) (w : Work) → size' ≡ size → head ≡ c.head → tail ≡ c.tail → IsBeforeResize size' limit slots held c
-    → w ≡ record { kept = take len held; waiting = drop len held; slots = slots; hand = [] } → IsWhole limit size tail head len held w
+    → w ≡ record { kept = take len held; waiting = drop len held; slots = slots; hand = [] } → IsWorkBegun limit size tail head len held w
 whole_of limit size size' len held slots c head tail w same head_is tail_is u is = record {
   kept_is = ap (λ (x : Work). x.kept) is;
   waiting_is = ap (λ (x : Work). x.waiting) is;
@@ -34,7 +34,7 @@ whole_of limit size size' len held slots c head tail w same head_is tail_is u is
   unturned = subst (λ (z : ℕ × List ℕ × Ends). IsBeforeResize z.0 limit z.1 held z.2) (λ j. (same j, ap (λ (x : Work). x.slots) (sym is) j, record { head = sym head_is j; tail = sym tail_is j; edge = (u.rests.2 ∙ sym head_is) j })) u;
 }
 
-pub refilled_of : (limit len : ℕ) (before after : Work) → IsDone limit len before after → IsRefilled after.slots after.kept len
+pub refilled_of : (limit len : ℕ) (before after : Work) → IsWorkDone limit len before after → IsRefilled after.slots after.kept len
 refilled_of limit len before after d = subst (λ (ls : List ℕ). IsRefilled after.slots ls len) (sym d.kept_is) d.refilled
 
 -- another band's work
@@ -54,7 +54,7 @@ module _ (limit size len event : ℕ) (infos : List Info) (held : ℕ → List �
   module _ (holds : holds_lock v.place.position ≡ true) (locks : (b : ℕ) → b < 3 → (at b v.locks).holds ≡ true) (size_is : v.holder.size ≡ size)
       (unturned : (b : ℕ) → b < 3 → IsBeforeResize v.holder.size limit (at b slots) (held b) (at b v.holder.ends)) (packets : (b n : ℕ) → b < 3 → Contains (held b) n → (band_in infos n ≡ b) × (n < length infos)) where
     ready_at : (b : ℕ) → b < 3 → at b t0.works ≡ record { kept = take len (held b); waiting = drop len (held b); slots = at b slots; hand = [] } → slice_index (shown v.holder).heads b ≡ (at b v.holder.ends).head
-        → slice_index (shown v.holder).tails b ≡ (at b v.holder.ends).tail → IsReady limit infos (shown v.holder) size len event b v1
+        → slice_index (shown v.holder).tails b ≡ (at b v.holder.ends).tail → IsReadyToResize limit infos (shown v.holder) size len event b v1
     ready_at b h works heads tails = record {
       turner = (ap (λ (x : View). holds_lock x.place.position) begun ∙ holds, (t0, turn0, ap (λ (x : View). x.whole.state.resizing) begun));
       event_is = event_of v1 t0 turn0;
@@ -64,18 +64,18 @@ module _ (limit size len event : ℕ) (infos : List Info) (held : ℕ → List �
       packets = λ n l. packets b n h l;
     }
 
-    pub all_ready : (b : ℕ) → b < 3 → IsReady limit infos (shown v.holder) size len event b v1
-    all_ready = three_cases (λ b. IsReady limit infos (shown v.holder) size len event b v1) (ready_at 0 (omega arith) refl refl refl) (ready_at 1 (omega arith) refl refl refl) (ready_at 2 (omega arith) refl refl refl)
+    pub all_ready : (b : ℕ) → b < 3 → IsReadyToResize limit infos (shown v.holder) size len event b v1
+    all_ready = three_cases (λ b. IsReadyToResize limit infos (shown v.holder) size len event b v1) (ready_at 0 (omega arith) refl refl refl) (ready_at 1 (omega arith) refl refl refl) (ready_at 2 (omega arith) refl refl refl)
 
 -- a band stays as it was while another is turned
 pub ready_step : (limit size len event : ℕ) (infos : List Info) (st : StationState) (b c : ℕ) (w : Work) (l : Lock) (fates : List (ℕ × Fate)) (v v' : View) → b < 3 → c < 3 → c ≢ b → v' ≡ with_lock_at b l (having_settled fates (working b w v))
-    → IsReady limit infos st size len event c v → IsReady limit infos st size len event c v'
+    → IsReadyToResize limit infos st size len event c v → IsReadyToResize limit infos st size len event c v'
 ready_step limit size len event infos st b c w l fates v v' below below' other e r = record {
   turner = subst IsTurner (sym e) (turner_after b w v r.turner);
-  event_is = ap event_at e ∙ (event_after b w v r.turner ∙ r.event_is);
+  event_is = ap event_of_work e ∙ (event_after b w v r.turner ∙ r.event_is);
   lock = ap (λ (x : View). (at c x.locks).holds) e ∙ (ap (λ (x : Lock). x.holds) (at_put_other b c l v.locks below below' other) ∙ r.lock);
   held = r.held;
-  whole = subst (λ (x : Work). IsWhole limit size (slice_index st.tails c) (slice_index st.heads c) len r.held x) (sym (ap (work_at c) e ∙ work_else b c w v r.turner below below' other)) r.whole;
+  whole = subst (λ (x : Work). IsWorkBegun limit size (slice_index st.tails c) (slice_index st.heads c) len r.held x) (sym (ap (work_at c) e ∙ work_else b c w v r.turner below below' other)) r.whole;
   packets = r.packets;
 }
 

@@ -16,7 +16,7 @@ use Rattle.lq_table.specs.Views.{View, HalfResize, Work, no_resizing}
 use Rattle.lq_table.specs.Resizes.{is_word, is_member, hand_with, out_of, into, with_work, with_resizing, settled_work}
 use Rattle.lq_ring.proofs.PutSteps.{put_put}
 use Rattle.lq_table.specs.Settled.{shrinking}
-use Rattle.lq_ring.specs.Work.{having_settled, work_at, working, IsTurner, AreMembers, members_of, back_in, with_slots, exchanged, reversed_to, rotated, zeroed_to, settled_if, dropped_to, event_at, shrunk_if, shrunk_to}
+use Rattle.lq_ring.specs.Work.{having_settled, work_at, working, IsTurner, AreMembers, members_of, back_in, with_slots, exchanged, reversed_to, rotated, zeroed_to, settled_if, dropped_to, event_of_work, shrunk_if, shrunk_to}
 
 -- THE VIEW
 
@@ -338,7 +338,7 @@ pub dropped_step : (from n x : ℕ) (w : Work) → w.hand ≡ [] → x ≡ get_o
 dropped_step from n x w bare found first =
     settled_step (from + n) x (dropped_to from n w) bare found (first ∙ sym (word_drop n w.waiting)) ∙ (λ j. record w { slots = zeroed_next from n w.slots j; waiting = drop_next n w.waiting j })
 
-pub event_after : (b : ℕ) (w : Work) (v : View) → IsTurner v → event_at (working b w v) ≡ event_at v
+pub event_after : (b : ℕ) (w : Work) (v : View) → IsTurner v → event_of_work (working b w v) ≡ event_of_work v
 event_after b w v t = ap (λ (o : Option HalfResize). (unwrap_or (option_map (with_work b w) o) no_resizing).event) t.1.1 ∙ sym (ap (λ (o : Option HalfResize). (unwrap_or o no_resizing).event) t.1.1)
 
 -- the fates of the first packets that wait, and that of the next
@@ -384,7 +384,7 @@ same_again b i v vl v1 v2 x t e0 e1 is e2 plain =
     let x_is : x ≡ get_or w.slots i 0 = is ∙ ap (λ (z : View). get_or (work_at b z).slots i 0) e0 in
     chain b (back_in i x) (out_of i w) v v1 v2 t e1' e2 ∙ ((λ j. working b (back_in i (x_is j) (out_of i w)) v) ∙ (ap (λ (z : Work). working b z v) (out_and_back i w plain) ∙ work_back b v t.1.0 t.1.1 t.1.2))
 
-pub event_of : (v : View) (t : HalfResize) → v.holder.resizing ≡ Some t → event_at v ≡ t.event
+pub event_of : (v : View) (t : HalfResize) → v.holder.resizing ≡ Some t → event_of_work v ≡ t.event
 event_of v t e = ap (λ (o : Option HalfResize). (unwrap_or o no_resizing).event) e
 
 pub member_of_first : (i x : ℕ) (w : Work) → x ≡ get_or w.slots i 0 → x ≡ word_at w.waiting 0 → x ≢ 0 → is_member x w ≡ true

@@ -10,3 +10,7 @@ pub mod Resized
 pub mod Fates
 -- what a purge makes of a band
 pub mod Purged
+-- the steps of its calls
+pub mod Steps
+-- what a purge and a resize do, step by step
+pub mod Changes

@@ -11,15 +11,15 @@ use Rattle.lq_band.specs.Ring.{Lock, at_start, locked_at}
 use Rattle.lq_table.specs.Views.{View}
 use Rattle.lq_model.specs.declared.fate.Fate.TheVariants as fate
 use Rattle.lq_ring.specs.Fates.{fates_onto}
-use Rattle.lq_ring.specs.Work.{work_at, IsTurner, IsWhole, event_at}
+use Rattle.lq_ring.specs.Work.{work_at, IsTurner, IsWorkBegun, event_of_work}
 
 -- the band b in a resize half done, whose work has not begun, where the station has its ends
-pub record IsReady (limit : ℕ) (infos : List Info) (st : StationState) (size len event b : ℕ) (v : View) : Type 0 where
+pub record IsReadyToResize (limit : ℕ) (infos : List Info) (st : StationState) (size len event b : ℕ) (v : View) : Type 0 where
   pub turner : IsTurner v
-  pub event_is : event_at v ≡ event
+  pub event_is : event_of_work v ≡ event
   pub lock : (at b v.locks).holds ≡ true
   pub held : List ℕ
-  pub whole : IsWhole limit size (slice_index st.tails b) (slice_index st.heads b) len held (work_at b v)
+  pub whole : IsWorkBegun limit size (slice_index st.tails b) (slice_index st.heads b) len held (work_at b v)
   pub packets : (n : ℕ) → Contains held n → (band_in infos n ≡ b) × (n < length infos)
 
 -- what the bands held: nothing where the station is deactivated and purged, and for a seat that has the table alone what its

@@ -71,18 +71,18 @@ shrunk_to event n ns fates = fates_onto (fate.Shrunk event) (take n ns) fates
 abbrev pub shrunk_if : ℕ → ℕ → List (ℕ × Fate) → List (ℕ × Fate)
 shrunk_if x event fates = if x == 0 then fates else (x - 1, fate.Shrunk event) ∷ fates
 
-abbrev pub event_at : View → ℕ
-event_at v = (unwrap_or v.holder.resizing no_resizing).event
+abbrev pub event_of_work : View → ℕ
+event_of_work v = (unwrap_or v.holder.resizing no_resizing).event
 
 -- the band at the beginning: what it held is kept up to the new length and dropped from there on
-pub record IsWhole (limit size tail head len : ℕ) (held : List ℕ) (w : Work) : Type 0 where
+pub record IsWorkBegun (limit size tail head len : ℕ) (held : List ℕ) (w : Work) : Type 0 where
   pub kept_is : w.kept ≡ take len held
   pub waiting_is : w.waiting ≡ drop len held
   pub bare : w.hand ≡ []
   pub unturned : IsBeforeResize size limit w.slots held (record { head = head; tail = tail; edge = head })
 
 -- the work on the band is done
-pub record IsDone (limit len : ℕ) (before after : Work) : Type 0 where
+pub record IsWorkDone (limit len : ℕ) (before after : Work) : Type 0 where
   pub kept_is : after.kept ≡ before.kept
   pub waiting_is : after.waiting ≡ []
   pub bare : after.hand ≡ []

@@ -11,7 +11,9 @@ ghost use Rattle.lq_band.specs.Three.{at};
 ghost use Rattle.lq_table.specs.Views.{Left};
 ghost use Rattle.lq_table.specs.Purges.{passing_band};
 ghost use Rattle.lq_table.specs.Rule.{IsResting};
-ghost use Rattle.lq_table.specs.Sees.{view, position, slot, IsSeatOf, IsSameSeat};
+ghost use Rattle.lq_table.specs.Sees.{view, steps, setup, position, slot, IsSeatOf, IsSameSeat};
+ghost use Rattle.lq_table.specs.Made.{◌⊳◌, did_load_slot};
+ghost use Rattle.lq_ring.specs.Changes.{PurgesBand, PurgesOne};
 ghost use Rattle.lq_ring.specs.Put.{no_locks};
 ghost use Rattle.lq_ring.specs.Take.{CarriesStation};
 ghost use Rattle.lq_ring.specs.Purged.{purging_one, IsBandPurged};
@@ -42,6 +44,7 @@ fn purge_one<'a, D: TxDevice>(
     ensures none { result ≡ false → (u : Purge) (l : Left) → (view cpu.old).control.purge ≡ Some u → (view cpu.old).holder.left ≡ Some l → (held_of (at band l.bands) ≡ []) × (view cpu.new ≡ passing_band u (view cpu.old)) }
     ensures taken { result ≡ true → (l : Left) → (view cpu.old).holder.left ≡ Some l → (n : ℕ) × (slice_get (held_of (at band l.bands)) 0 ≡ Some n) × (view cpu.new ≡ purging_one band n l (view cpu.old)) }
     ensures station { CarriesStation cpu.new }
+    ensures made { (result ≡ true → (n : ℕ) × PurgesOne (setup shared.now) band (fate.Purged cause) n (steps cpu.old) (steps cpu.new)) × (result ≡ false → (head : ℕ) × (steps cpu.new ≡ steps cpu.old ⊳ did_load_slot (setup shared.now) band head 0)) }
 {
     let found = shared.purge_slot(cpu, band);
     if found == 0 {
@@ -73,6 +76,7 @@ pub fn purge_band<'a, D: TxDevice>(
     ensures few { result ≤ shared.now.max_len }
     ensures purged { (u : Purge) (l : Left) → (view cpu.old).control.purge ≡ Some u → (view cpu.old).holder.left ≡ Some l → IsBandPurged band u l (view cpu.old) (view cpu.new) × (result ≡ length (held_of (at band l.bands))) }
     ensures station { CarriesStation cpu.new }
+    ensures made { PurgesBand (setup shared.now) band (fate.Purged cause) result (steps cpu.old) (steps cpu.new) }
 {
     let size = shared.load_size(cpu) as u32;
     for n in 0..size + 1 {

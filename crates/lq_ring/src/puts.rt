@@ -6,9 +6,10 @@ ghost use Rattle.lq_ring_core.specs.Ring.{next_place};
 ghost use Rattle.lq_band.specs.Three.{at};
 ghost use Rattle.lq_band.specs.Ring.{unlocked, locked_at};
 ghost use Rattle.lq_table.specs.Rings.{with_lock_at};
-ghost use Rattle.lq_table.specs.Sees.{view, position, slot, packet_at, lock_at, IsSeatOf, IsSameSeat, IsElseSame, Brings};
+ghost use Rattle.lq_table.specs.Sees.{view, steps, setup, position, slot, packet_at, lock_at, IsSeatOf, IsSameSeat, IsElseSame, Brings};
 ghost use Rattle.lq_table.specs.Solo.{solo, heard};
 ghost use Rattle.lq_table.specs.SolePut.{SeesEnd};
+ghost use Rattle.lq_ring.specs.Steps.{FindsFull, FindsFullAt, LocksProducer, Puts, PutsAt};
 ghost use Rattle.lq_ring.specs.Put.{no_locks, just_locked, putting, dropping_full, put_leads_to};
 
 use crossbeam_utils::Backoff;
@@ -29,6 +30,7 @@ pub(crate) fn lock_producer<'a, D: TxDevice, R: Wait>(
     requires idle { lock_at band cpu.old ≡ unlocked }
     ensures same { IsSameSeat cpu.old cpu.new × (cpu.new.station ≡ cpu.old.station) × (slot cpu.new ≡ slot cpu.old) }
     ensures locked { (view cpu.new ≡ with_lock_at band (locked_at result) (view cpu.old)) × (at band cpu.new.indices ≡ result) × (result < shared.now.max_len) }
+    ensures made { LocksProducer band result (steps cpu.old) (steps cpu.new) }
 {
     let backoff = Backoff::new();
     for _ in rt.forever() {
@@ -68,6 +70,7 @@ fn produce_locked<'a, D: TxDevice>(
     ensures same { IsElseSame cpu.old cpu.new }
     ensures put { MatchResult result (λ _. view cpu.new ≡ putting band n (view cpu.old)) (λ full. view cpu.new ≡ dropping_full n full.seen (view cpu.old)) }
     ensures sole { MatchResult result (λ _. SeesEnd band (view cpu.old) 0) (λ full. SeesEnd band (view cpu.old) (full.seen + 1)) }
+    ensures made { MatchResult result (λ _. PutsAt (setup shared.now) band index n (steps cpu.old) (steps cpu.new)) (λ full. FindsFullAt (setup shared.now) band index full.seen (steps cpu.old) (steps cpu.new)) }
 {
     let size = shared.load_size(cpu);
     let found = shared.producer_slot(cpu, band);
@@ -106,6 +109,7 @@ pub fn produce<'a, D: TxDevice, R: Wait>(
     ensures at { (holds : Bool) → position cpu.old ≡ Put (packet_at shared.now n) holds → position cpu.new ≡ put_leads_to holds (packet_at shared.now n) (view cpu.old) }
     ensures step { MatchResult result (λ _. solo (view cpu.new) ≡ heard (Join n band) (solo (view cpu.old))) (λ full. solo (view cpu.new) ≡ heard (FullEvent n full.seen) (solo (view cpu.old))) }
     ensures sole { MatchResult result (λ _. SeesEnd band (view cpu.old) 0) (λ full. SeesEnd band (view cpu.old) (full.seen + 1)) }
+    ensures made { MatchResult result (λ _. Puts (setup shared.now) band n (steps cpu.old) (steps cpu.new)) (λ full. FindsFull (setup shared.now) band full.seen (steps cpu.old) (steps cpu.new)) }
 {
     let index = lock_producer(rt, shared, cpu, band);
     produce_locked(shared, cpu, band, n, index)

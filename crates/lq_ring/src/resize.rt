@@ -10,13 +10,15 @@ ghost use Rattle.lq_band.specs.Ring.{at_start, locked_at};
 ghost use Rattle.lq_table.specs.Views.{HolderPart, Work};
 ghost use Rattle.lq_table.specs.Rings.{with_lock_at};
 ghost use Rattle.lq_table.specs.Rule.{shown, IsResting};
-ghost use Rattle.lq_table.specs.Sees.{view, position, slot, lock_at, IsSeatOf, IsSameSeat, IsElseSame};
+ghost use Rattle.lq_table.specs.Sees.{view, steps, setup, position, slot, lock_at, IsSeatOf, IsSameSeat, IsElseSame};
+ghost use Rattle.lq_table.specs.Made.{Made, ◌⊳◌, did_give_producer, did_load_size, did_store_size};
+ghost use Rattle.lq_ring.specs.Changes.{LocksAll, Resizes, TurnsBand};
 ghost use Rattle.lq_ring.specs.Put.{no_locks};
 ghost use Rattle.lq_ring.specs.Take.{CarriesStation};
 ghost use Rattle.lq_ring.specs.Fates.{fates_onto};
-ghost use Rattle.lq_ring.specs.Work.{work_at, working, having_settled, IsDone};
+ghost use Rattle.lq_ring.specs.Work.{work_at, working, having_settled, IsWorkDone};
 ghost use Rattle.lq_table.specs.Resizes.{may_resize};
-ghost use Rattle.lq_ring.specs.Resized.{IsReady, IsKnownHeld, having_resized, locked_three, having_locks, all_lost};
+ghost use Rattle.lq_ring.specs.Resized.{IsReadyToResize, IsKnownHeld, having_resized, locked_three, having_locks, all_lost};
 
 use crate::puts::lock_producer;
 use crate::takes::{head_of, set_ends, tail_of};
@@ -58,10 +60,11 @@ fn turn_at<'a, D: TxDevice>(
 ) -> Turned
     requires seat { IsSeatOf shared.now cpu.old }
     requires place { (band < 3) × (len ≤ shared.now.max_len) }
-    requires ready { (st : StationState) × (cpu.old.station ≡ Some st) × IsReady shared.now.max_len shared.now.infos.now st size len event band (view cpu.old) }
+    requires ready { (st : StationState) × (cpu.old.station ≡ Some st) × IsReadyToResize shared.now.max_len shared.now.infos.now st size len event band (view cpu.old) }
     ensures same { IsElseSame cpu.old cpu.new }
-    ensures turned { (w : Work) × (view cpu.new ≡ with_lock_at band (locked_at result.index) (having_settled (fates_onto (fate.Shrunk event) (work_at band (view cpu.old)).waiting (view cpu.old).settled) (working band w (view cpu.old)))) × IsDone shared.now.max_len len (work_at band (view cpu.old)) w × (result.index ≡ round len (length w.kept)) }
+    ensures turned { (w : Work) × (view cpu.new ≡ with_lock_at band (locked_at result.index) (having_settled (fates_onto (fate.Shrunk event) (work_at band (view cpu.old)).waiting (view cpu.old).settled) (working band w (view cpu.old)))) × IsWorkDone shared.now.max_len len (work_at band (view cpu.old)) w × (result.index ≡ round len (length w.kept)) }
     ensures count { (result.dropped ≡ length (work_at band (view cpu.old)).waiting) × (result.dropped ≤ size) }
+    ensures made { TurnsBand (setup shared.now) band result.index (steps cpu.old) (steps cpu.new) }
 {
     let tail = tail_of(cpu, band);
     let head = head_of(cpu, band);
@@ -93,6 +96,7 @@ fn turn_all<'a, D: TxDevice>(
         × (result.low.dropped + result.mid.dropped + result.high.dropped ≡ length (all_lost len held))
         × ((b n : ℕ) → b < 3 → Contains (held b) n → (band_in shared.now.infos.now n ≡ b) × (n < length shared.now.infos.now)) × IsKnownHeld (view cpu.old) held }
     ensures few { (result.low.dropped ≤ size) × (result.mid.dropped ≤ size) × (result.high.dropped ≤ size) }
+    ensures made { (begun : ℕ) × (one two three : List Made) × TurnsBand (setup shared.now) 0 result.low.index (steps cpu.old ⊳ did_load_size begun) one × TurnsBand (setup shared.now) 1 result.mid.index one two × TurnsBand (setup shared.now) 2 result.high.index two three × (steps cpu.new ≡ three ⊳ did_store_size len) }
 {
     shared.begin_resize(cpu, len, event);
     let low = turn_at(shared, cpu, 0, size, len, event);
@@ -108,6 +112,7 @@ fn lock_all<'a, D: TxDevice, R: Wait>(rt: &R, shared: &Shared<'a, D>, cpu: &mut 
     requires idle { (view cpu.old).locks ≡ no_locks }
     ensures same { IsSameSeat cpu.old cpu.new × (cpu.new.station ≡ cpu.old.station) × (slot cpu.new ≡ slot cpu.old) }
     ensures locked { (low : ℕ) × (mid : ℕ) × (high : ℕ) × (view cpu.new ≡ having_locks low mid high (view cpu.old)) }
+    ensures made { LocksAll (steps cpu.old) (steps cpu.new) }
 {
     lock_producer(rt, shared, cpu, 0);
     lock_producer(rt, shared, cpu, 1);
@@ -120,6 +125,7 @@ fn unlock_all<'a, D: TxDevice>(shared: &Shared<'a, D>, cpu: &mut Cpu<D>, turned:
     requires locks { ((view cpu.old).locks ≡ locked_three turned.low.index turned.mid.index turned.high.index) × ((view cpu.old).holder.resizing ≡ None) }
     ensures same { IsElseSame cpu.old cpu.new }
     ensures unlocked { view cpu.new ≡ record (view cpu.old) { locks = no_locks } }
+    ensures made { (stored : ℕ) × (steps cpu.new ≡ steps cpu.old ⊳ did_load_size stored ⊳ did_give_producer 0 turned.low.index ⊳ did_give_producer 1 turned.mid.index ⊳ did_give_producer 2 turned.high.index) }
 {
     shared.load_size(cpu);
     shared.give_producer(cpu, 0, turned.low.index);
@@ -132,6 +138,7 @@ fn restart_ends<D: TxDevice>(cpu: &mut Cpu<D>)
     requires station { (h : HolderPart) × (cpu.old.station ≡ Some (shown h)) }
     ensures same { IsSameSeat cpu.old cpu.new × (slot cpu.new ≡ slot cpu.old) × (view cpu.new ≡ view cpu.old) }
     ensures station { (h : HolderPart) → cpu.old.station ≡ Some (shown h) → cpu.new.station ≡ Some (shown (record h { ends = all_three at_start })) }
+    ensures made { steps cpu.new ≡ steps cpu.old }
 {
     set_ends(cpu, 0, 0, 0);
     set_ends(cpu, 1, 0, 0);
@@ -162,6 +169,7 @@ pub fn resize_all<'a, D: TxDevice, R: Wait>(
     ensures resized { (held : ℕ → List ℕ) × (view cpu.new ≡ having_resized len event (all_lost len held) (view cpu.old)) × (result ≡ length (all_lost len held))
         × ((b n : ℕ) → b < 3 → Contains (held b) n → (band_in shared.now.infos.now n ≡ b) × (n < length shared.now.infos.now)) × IsKnownHeld (view cpu.old) held }
     ensures station { CarriesStation cpu.new }
+    ensures made { Resizes (setup shared.now) len (steps cpu.old) (steps cpu.new) }
 {
     lock_all(rt, shared, cpu);
     let size = shared.load_size(cpu) as u32;

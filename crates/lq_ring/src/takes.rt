@@ -10,10 +10,11 @@ ghost use Rattle.lq_band.specs.Ring.{all_empty, is_emptying};
 ghost use Rattle.lq_table.specs.Views.{machine_packet};
 ghost use Rattle.lq_table.specs.Rule.{IsResting};
 ghost use Rattle.lq_table.specs.Rings.{finding_none};
-ghost use Rattle.lq_table.specs.Sees.{view, position, slot, ends_at, IsSeatOf, IsSameSeat, IsElseSame};
+ghost use Rattle.lq_table.specs.Sees.{view, steps, setup, position, slot, ends_at, IsSeatOf, IsSameSeat, IsElseSame};
 ghost use Rattle.lq_table.specs.Told.{IsPacketOf};
 ghost use Rattle.lq_table.specs.Solo.{IsSole, account_of, solo, heard};
 ghost use Rattle.lq_ring.specs.Put.{no_locks};
+ghost use Rattle.lq_ring.specs.Steps.{FindsSlotEmpty, Takes, zeroed};
 ghost use Rattle.lq_ring.specs.Take.{having_ends, emptied_times, consuming, CarriesStation};
 
 use lq_device::TxDevice;
@@ -46,6 +47,7 @@ pub(crate) fn set_ends<D: TxDevice>(cpu: &mut Cpu<D>, band: u32, head: u32, tail
     requires band { (band < 3) × (tail ≤ head) }
     requires station { (st : StationState) × (cpu.old.station ≡ Some st) }
     ensures same { IsSameSeat cpu.old cpu.new × (cpu.new.indices ≡ cpu.old.indices) × (slot cpu.new ≡ slot cpu.old) × (view cpu.new ≡ view cpu.old) }
+    ensures made { steps cpu.new ≡ steps cpu.old }
     ensures station { (st : StationState) → cpu.old.station ≡ Some st → cpu.new.station ≡ Some (with_ends st band head tail) }
 {
     let Some(station) = &mut cpu.station else {
@@ -68,6 +70,7 @@ fn zero_tail<'a, D: TxDevice>(
     requires ends { (ends_at band cpu.old ≡ record { head = head; tail = tail; edge = head }) × (tail < head) × (head ≤ (view cpu.old).holder.size) × (is_emptying (view cpu.old).holder.size (ends_at band cpu.old) ≡ true) }
     ensures same { IsElseSame cpu.old cpu.new }
     ensures emptied { view cpu.new ≡ having_ends band (all_empty (view cpu.old).holder.size (ends_at band cpu.old)) (emptied_times (view cpu.old).holder.size (head - tail) (at band (view cpu.old).whole.state.ends)) (view cpu.old) }
+    ensures made { steps cpu.new ≡ zeroed (setup shared.now) band head (head - tail) (steps cpu.old) }
 {
     for n in 0..head - tail {
         shared.zero_slot(cpu, band, head - 1 - n);
@@ -91,6 +94,7 @@ pub(crate) fn discard_one<'a, D: TxDevice>(
     ensures emptied { is_emptying size (ends_at band cpu.old) ≡ true → view cpu.new ≡ having_ends band (all_empty size (ends_at band cpu.old)) (emptied_times size ((ends_at band cpu.old).head - (ends_at band cpu.old).tail) (at band (view cpu.old).whole.state.ends)) (view cpu.old) }
     ensures rested { is_emptying size (ends_at band cpu.old) ≡ false → view cpu.new ≡ view cpu.old }
     ensures station { (st : StationState) → cpu.old.station ≡ Some st → cpu.new.station ≡ Some (with_ends st band (ends_at band cpu.new).head (ends_at band cpu.new).tail) }
+    ensures made { (zeroes : ℕ) × (steps cpu.new ≡ zeroed (setup shared.now) band (ends_at band cpu.old).head zeroes (steps cpu.old)) }
 {
     let head = head_of(cpu, band) + 1;
     let tail = tail_of(cpu, band);
@@ -124,6 +128,7 @@ pub fn consume<'a, D: TxDevice>(shared: &Shared<'a, D>, cpu: &mut Cpu<D>, band: 
     ensures known { (view cpu.old).whole.state.ends ≡ (view cpu.old).holder.ends → (view cpu.new).whole.state.ends ≡ (view cpu.new).holder.ends }
     ensures step { MatchOption result (solo (view cpu.new) ≡ solo (view cpu.old)) (λ n. solo (view cpu.new) ≡ heard (Take band) (solo (view cpu.old))) }
     ensures sole { IsSole (view cpu.old) → slice_get (held_in (account_of (view cpu.old)) band) 0 ≡ result }
+    ensures made { MatchOption result (FindsSlotEmpty (setup shared.now) band (ends_at band cpu.old).head (steps cpu.old) (steps cpu.new)) (λ n. Takes (setup shared.now) band (ends_at band cpu.old).head n (steps cpu.old) (steps cpu.new)) }
 {
     let size = shared.load_size(cpu);
     let found = shared.head_slot(cpu, band);

@@ -14,17 +14,17 @@ use Rattle.std.proofs.lemmas.List.Sums.{count_by-le-length}
 use Rattle.lq_table.specs.Sees.{view, position, IsSeatOf, IsSameSeat, IsElseSame, IsIdle}
 use Rattle.lq_table.specs.declared.shared.Cpu.{Cpu}
 use Rattle.lq_table.specs.declared.shared.Shared.{Shared}
-use Rattle.lq_qdisc.specs.Sends.{IsReady}
-use Rattle.lq_control.specs.Control.{IsAfterUnits, IsIn, IsKept}
-use Rattle.lq_test_control.specs.Seats.{IsDone, IsFirst, counted}
+use Rattle.lq_qdisc.specs.Sends.{IsReadyToSend}
+use Rattle.lq_control.specs.Control.{IsAfterUnits, IsIn, IsKeptByControl}
+use Rattle.lq_test_control.specs.Seats.{IsDone, IsFirst, units_from_first}
 
-below_at : (k i : ℕ) (u : ℕ) → i < length (counted k) → slice_index_or (counted k) i u < k + 1
+below_at : (k i : ℕ) (u : ℕ) → i < length (units_from_first k) → slice_index_or (units_from_first k) i u < k + 1
 below_at zero i u h = let k : i < 0 = h in (omega arith)
 below_at (suc k) zero u h = (omega arith)
-below_at (suc k) (suc i) u h = let long : length (counted (suc k)) ≡ suc (length (counted k)) = refl in let e : slice_index_or (counted k) i u < k + 1 = below_at k i u (omega arith) in (omega arith)
+below_at (suc k) (suc i) u h = let long : length (units_from_first (suc k)) ≡ suc (length (units_from_first k)) = refl in let e : slice_index_or (units_from_first k) i u < k + 1 = below_at k i u (omega arith) in (omega arith)
 
 -- the next unit is above each that was brought
-pub counted_after : (station k : ℕ) (trail : List Event) → station ≡ 0 → units_of trail ≡ counted k → IsAfterUnits station trail (k + 1)
+pub counted_after : (station k : ℕ) (trail : List Event) → station ≡ 0 → units_of trail ≡ units_from_first k → IsAfterUnits station trail (k + 1)
 counted_after station k trail s e = record {
   first = (omega arith);
   later = λ u c. let d = subst (λ (us : List ℕ). Contains us u) e c in subst (λ (x : ℕ). x < k + 1) d.2 (below_at k d.0 u d.1);
@@ -48,14 +48,14 @@ first_joined p us t b a o q g f seat same e = let r = f.between.ready in let con
 }
 
 -- an exchange brings the next unit, and leaves the first seat as it was but for that
-pub first_exchanged : {D : Type 0} (t : Shared D) (b a : Cpu D) (k unit n event : ℕ) (cause : Cause) → IsFirst Active (counted k) t b → IsSameSeat b a → IsKept (view b) (view a) → position a ≡ Idle → IsReady a → IsIn Active (view a)
-    → (view a).trail ≡ Up ∷ Swap unit ∷ Purge cause ∷ Down event ∷ (view b).trail → unit ≡ k + 1 → n ≡ k + 1 → IsFirst Active (counted n) t a
+pub first_exchanged : {D : Type 0} (t : Shared D) (b a : Cpu D) (k unit n event : ℕ) (cause : Cause) → IsFirst Active (units_from_first k) t b → IsSameSeat b a → IsKeptByControl (view b) (view a) → position a ≡ Idle → IsReadyToSend a → IsIn Active (view a)
+    → (view a).trail ≡ Up ∷ Swap unit ∷ Purge cause ∷ Down event ∷ (view b).trail → unit ≡ k + 1 → n ≡ k + 1 → IsFirst Active (units_from_first n) t a
 first_exchanged t b a k unit n event cause f same kept at ready phase trail next more = let seat = f.between.seat in
     let unit_is : unit ≡ suc k = omega arith in let n_is : n ≡ suc k = omega arith in record {
       between = record { seat = (same.0 ∙ seat.0, subst (λ (s : SharePart). 0 < s.shares) (sym kept.share) seat.1, ap (λ (s : SharePart). s.about) kept.share ∙ seat.2); at = at; ready = ready };
       first = kept.first ∙ f.first;
       phase_is = phase;
-      brought = ap units_of trail ∙ ((λ j. unit_is j ∷ f.brought j) ∙ ap counted (sym n_is));
+      brought = ap units_of trail ∙ ((λ j. unit_is j ∷ f.brought j) ∙ ap units_from_first (sym n_is));
     }
 
 -- a station has at most all packets

@@ -13,9 +13,9 @@ use Rattle.lq_table.specs.Rule.{AreInfos, times}
 use Rattle.lq_table.specs.Sees.{view, setup, position, IsSeatOf, IsSameSeat, IsElseSame}
 use Rattle.lq_table.specs.declared.shared.Cpu.{Cpu}
 use Rattle.lq_table.specs.declared.shared.Shared.{Shared}
-use Rattle.lq_qdisc.specs.Plain.{IsPlain}
-use Rattle.lq_qdisc.specs.Sends.{IsReady}
-use Rattle.lq_control.specs.Control.{IsIn, IsKept}
+use Rattle.lq_qdisc.specs.Plain.{IsPlainPacket}
+use Rattle.lq_qdisc.specs.Sends.{IsReadyToSend}
+use Rattle.lq_control.specs.Control.{IsIn, IsKeptByControl}
 use Rattle.lq_control.specs.Finish.{is_packet_of, count_below, count_all, AreFor, AreTurnsFrom, IsTurn}
 use Rattle.lq_test_control.specs.Seats.{IsBetweenCalls, IsDone, IsKeptFirst, IsOnly, IsSender}
 
@@ -24,7 +24,7 @@ use Rattle.lq_test_control.specs.Seats.{IsBetweenCalls, IsDone, IsKeptFirst, IsO
 yes : (o s : ℕ) → o ≡ 1 → s ≡ 0 → ((o == 1) && (s == 0)) ≡ true
 yes o s e f = subst (λ (a : ℕ). ((a == 1) && (s == 0)) ≡ true) (sym e) (subst (λ (b : ℕ). ((1 == 1) && (b == 0)) ≡ true) (sym f) refl)
 
-module _ (infos : List Info) (plain : (n : ℕ) → n < length infos → IsPlain infos 1 n) where
+module _ (infos : List Info) (plain : (n : ℕ) → n < length infos → IsPlainPacket infos 1 n) where
   owner_at : (n : ℕ) (info : Info) → n < length infos → slice_get infos n ≡ Some info → info.owner ≡ 1
   owner_at n info l here = sym (ap (λ (o : Option Info). option_map_or (λ (i : Info). i.owner) o 0) here) ∙ (plain n l).owner
 
@@ -35,7 +35,7 @@ module _ (infos : List Info) (plain : (n : ℕ) → n < length infos → IsPlain
   rank_at n info l here = sym (ap (λ (o : Option Info). option_map_or (λ (i : Info). i.rank) o 0) here) ∙ (plain n l).rank
 
 -- as many packets of the owner are below n as there are packets
-plain_below : (infos : List Info) → ((n : ℕ) → n < length infos → IsPlain infos 1 n) → (d : Info) (n : ℕ) → n ≤ length infos → count_below infos 1 0 n ≡ n
+plain_below : (infos : List Info) → ((n : ℕ) → n < length infos → IsPlainPacket infos 1 n) → (d : Info) (n : ℕ) → n ≤ length infos → count_below infos 1 0 n ≡ n
 plain_below infos plain d zero le = refl
 plain_below infos plain d (suc n) le =
     let inside : n < length infos = omega (arith, le) in
@@ -48,7 +48,7 @@ plain_below infos plain d (suc n) le =
 no_info : Info
 no_info = record { owner = 0; station = 0; band = 0; queue = 0; rank = 0 }
 
-plain_all : (infos : List Info) → ((n : ℕ) → n < length infos → IsPlain infos 1 n) → (station : ℕ) → station ≡ 0 → count_all infos 1 station ≡ length infos
+plain_all : (infos : List Info) → ((n : ℕ) → n < length infos → IsPlainPacket infos 1 n) → (station : ℕ) → station ≡ 0 → count_all infos 1 station ≡ length infos
 plain_all infos plain station e = ap (λ (s : ℕ). count_all infos 1 s) e ∙ (sym (ap (count_by (is_packet_of 1 0)) (take_all (length infos) infos (omega arith))) ∙ plain_below infos plain no_info (length infos) (omega arith))
 
 both : (o : ℕ) → o < 2 → 0 < times o (1 ∷ 0 ∷ [])
@@ -117,7 +117,7 @@ module _ {D : Type 0} where
   seat_kept : (t : Shared D) (b a : Cpu D) → IsSeatOf t b → IsSameSeat b a → (view a).share ≡ (view b).share → IsSeatOf t a
   seat_kept t b a seat same share = (same.0 ∙ seat.0, subst (λ (s : SharePart). 0 < s.shares) (sym share) seat.1, ap (λ (s : SharePart). s.about) share ∙ seat.2)
 
-  pub only_exchanged : (t : Shared D) (b a : Cpu D) → IsOnly t b → IsSameSeat b a → IsKept (view b) (view a) → position a ≡ Idle → IsReady a → IsIn Active (view a) → IsOnly t a
+  pub only_exchanged : (t : Shared D) (b a : Cpu D) → IsOnly t b → IsSameSeat b a → IsKeptByControl (view b) (view a) → position a ≡ Idle → IsReadyToSend a → IsIn Active (view a) → IsOnly t a
   only_exchanged t b a o same kept at ready active =
       only_kept t b a o (record { seat = seat_kept t b a o.between.seat same kept.share; at = at; ready = ready }) active kept.first kept.share kept.told (ap (λ (ts : List ℕ). length ts) kept.turns)
 
@@ -131,7 +131,7 @@ module _ {D : Type 0} where
       (ap (λ (x : FirstPart). x.phase) control ∙ o.active.0, ap (λ (x : FirstPart). x.purge) control ∙ o.active.1)
       (ap (λ (x : FirstPart). x.first) control) (ap (λ (v : View). v.share) e) (ap (λ (v : View). v.whole.told) e) (ap (λ (v : View). length v.turns) e)
 
-  pub only_ended : (t : Shared D) (b a : Cpu D) → IsOnly t b → IsSameSeat b a → (view a).share ≡ (view b).share → position a ≡ Idle → (view a).place.raised ≡ false → IsReady a → IsDone t a
+  pub only_ended : (t : Shared D) (b a : Cpu D) → IsOnly t b → IsSameSeat b a → (view a).share ≡ (view b).share → position a ≡ Idle → (view a).place.raised ≡ false → IsReadyToSend a → IsDone t a
   only_ended t b a o same share at raised ready = record {
     between = record { seat = seat_kept t b a o.between.seat same share; at = at; ready = ready };
     not_raised = raised;

@@ -10,8 +10,8 @@ use Rattle.lq_table.specs.Sees.{view, position, IsSeatOf, IsSameSeat}
 use Rattle.lq_table.specs.Solo.{IsSole}
 use Rattle.lq_table.specs.declared.shared.Cpu.{Cpu}
 use Rattle.lq_table.specs.declared.shared.Shared.{Shared}
-use Rattle.lq_qdisc.specs.Plain.{IsPlain}
-use Rattle.lq_qdisc.specs.Sends.{IsReady}
+use Rattle.lq_qdisc.specs.Plain.{IsPlainPacket}
+use Rattle.lq_qdisc.specs.Sends.{IsReadyToSend}
 use Rattle.lq_control.specs.Control.{IsIn}
 
 -- The packets are the owners' 1, 2 and 3 in turn, all at station 0.
@@ -23,16 +23,16 @@ pub record IsTheirs (infos : List Info) (n : ℕ) : Type 0 where
   pub rank : rank_in infos n ≡ n / 3
 
 -- the first so many units after 0, the latest first
-abbrev pub counted : ℕ → List ℕ
-counted zero = []
-counted (suc k) = suc k ∷ counted k
+abbrev pub units_from_first : ℕ → List ℕ
+units_from_first zero = []
+units_from_first (suc k) = suc k ∷ units_from_first k
 
 module _ {D : Type 0} where
   -- the seat is in no call and has nothing in hand
   pub record IsBetweenCalls (t : Shared D) (c : Cpu D) : Type 0 where
     pub seat : IsSeatOf t c
     pub at : position c ≡ Idle
-    pub ready : IsReady c
+    pub ready : IsReadyToSend c
 
   -- and owes no soft interrupt
   pub record IsDone (t : Shared D) (c : Cpu D) : Type 0 where
@@ -52,7 +52,7 @@ module _ {D : Type 0} where
     pub brought : units_of (view c).trail ≡ units
 
   -- with each of the four owners, and all shares
-  pub record HasAll (c : Cpu D) : Type 0 where
+  pub record HasAllShares (c : Cpu D) : Type 0 where
     pub shares : (view c).share.shares ≡ 1024
     pub owners : (view c).share.owners ≡ 3 ∷ 2 ∷ 1 ∷ 0 ∷ []
 
@@ -76,4 +76,4 @@ module _ {D : Type 0} where
     pub station : t.station ≡ 0
     pub senders : t.senders ≡ 2
     pub queues : t.queues ≡ 1
-    pub packets : (n : ℕ) → n < length t.infos.now → IsPlain t.infos.now 1 n
+    pub packets : (n : ℕ) → n < length t.infos.now → IsPlainPacket t.infos.now 1 n

@@ -1,7 +1,7 @@
 //! An exchange of the device and the end of a hung station, on one thread: what is answered and what becomes of each packet was
 //! told by hand from the rules.
 ghost use Rattle.std.specs.Prelude.{◌≡◌, ℕ, ◌<◌, ◌≤◌, [], false, length};
-ghost use Rattle.lq_qdisc.specs.Plain.{IsPlain};
+ghost use Rattle.lq_qdisc.specs.Plain.{IsPlainPacket};
 ghost use Rattle.lq_control.specs.Finish.{AreTurnsFrom};
 ghost use Rattle.lq_table.specs.Rule.{units_of};
 ghost use Rattle.lq_table.specs.Sees.{view, setup};
@@ -45,7 +45,7 @@ fn info(rank: u32) -> Info {
 }
 
 fn check_packets<A: Abort>(rt: &A, infos: &[Info])
-    ensures { (k : ℕ) → k < length infos.now → IsPlain infos.now 1 k }
+    ensures { (k : ℕ) → k < length infos.now → IsPlainPacket infos.now 1 k }
 {
     for k in 0..infos.len() {
         assert!(rt; infos[k].owner == 1);

@@ -4,7 +4,7 @@ ghost use Rattle.lq_model.specs.declared.machine.Phase.TheVariants.{Active};
 ghost use Rattle.lq_table.specs.Sees.{view};
 ghost use Rattle.lq_table.specs.Rule.{units_of};
 ghost use Rattle.lq_test_control.specs.Recorder.{recorder_state};
-ghost use Rattle.lq_test_control.specs.Seats.{HasAll, IsBetweenCalls, IsFirst, IsKeptFirst, IsSender, IsTheirs};
+ghost use Rattle.lq_test_control.specs.Seats.{HasAllShares, IsBetweenCalls, IsFirst, IsKeptFirst, IsSender, IsTheirs};
 
 use crate::recorder::Recorder;
 use lq_control::drain;
@@ -63,7 +63,7 @@ pub fn table<'a, A: Abort>(
     len: u32,
     burst: u32,
 ) -> (Shared<'a, Recorder>, Cpu<Recorder>)
-    ensures { IsFirst Active [] result.0 result.1 × HasAll result.1 }
+    ensures { IsFirst Active [] result.0 result.1 × HasAllShares result.1 }
 {
     assert!(rt; infos.len() <= 100000);
     assert!(rt; 0 < len);

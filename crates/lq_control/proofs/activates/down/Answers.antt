@@ -1,6 +1,6 @@
 use Rattle.std.proofs.Common.{ap, ◌∙◌}
 use Rattle.lq_table.specs.Views.{first_account}
-use Rattle.lq_table.specs.Sees.{view, setup}
+use Rattle.lq_table.specs.Sees.{view, steps, setup}
 use Rattle.lq_table.specs.Solo.{solo}
 use Rattle.lq_model.specs.Alone.{changed}
 use Rattle.lq_model.specs.declared.plan.EventKind.TheVariants as kind
@@ -13,3 +13,7 @@ returns-clause-alone g c = λ plan h.
     let is = ap solo c.end_control.ensures.view
     ∙ downed_at (setup c.args.shared.now) event (view c.args.cpu.now) (view c.deactivate-purged.new.cpu) (view c.wait_until_clear.new.cpu) c.deactivate-purged.ensures.same.1.share c.requires.seat.2 h.sender.sole (c.deactivate-purged.ensures.sole h.sender.sole) c.wait_until_clear.ensures.off in
     stepped_at infos start (changed plan event kind.Down) v (downed event v) (solo (view c.end_control.new.cpu)) is (down_alone infos start event plan v h)
+
+pub returns-clause-made : goal.returns-clause-made
+returns-clause-made g c = let base = c.end_control.ensures.made in
+    (steps c.wait_until_clear.new.cpu, base.0, (steps c.deactivate-purged.new.cpu, c.deactivate-purged.ensures.made, c.wait_until_clear.ensures.made), base.1)

@@ -1,7 +1,8 @@
 use Rattle.std.proofs.Common.{ap, ◌∙◌}
-use Rattle.lq_table.specs.Sees.{view}
+use Rattle.lq_table.specs.Sees.{view, setup}
 use Rattle.lq_table.specs.Solo.{solo}
 use Rattle.lq_control.specs.Alone.{unmarked}
+use Rattle.lq_control.proofs.StepLemmas.{round_served}
 use Rattle.lq_control.proofs.Alone.{off_served}
 use Rattle.lq_control.proofs.drains.serves_or_is_clear.Goals as goal
 
@@ -11,3 +12,6 @@ returns-then-raised-clause-off g c = λ sole down. let i = c.softirq.ensures.int
 
 pub returns-clause-off : goal.returns-clause-off
 returns-clause-off g c = λ sole down. ap (λ v. unmarked (solo v)) c.is_clear.ensures.same.1
+
+pub returns-then-raised-clause-again : goal.returns-then-raised-clause-again
+returns-then-raised-clause-again g c = λ _. let e = c.begin_control.ensures.made in round_served (setup c.args.shared.now) _ _ _ e.0 c.softirq.ensures.made e.1

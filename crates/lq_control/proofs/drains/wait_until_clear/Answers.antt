@@ -1,7 +1,9 @@
 use Rattle.std.proofs.Common.{rules, refl, ◌∙◌}
-use Rattle.lq_table.specs.Sees.{view, setup}
+use Rattle.lq_table.specs.Sees.{view, setup, steps}
 use Rattle.lq_table.specs.Solo.{solo}
 use Rattle.lq_ring.proofs.Seats.{seat_on}
+use Rattle.lq_control.specs.Steps.{none_yet}
+use Rattle.lq_control.proofs.StepLemmas.{rounds_then}
 use Rattle.lq_control.proofs.Alone.{down_kept, marks_clear}
 use Rattle.lq_control.proofs.Served.{served_none, served_then, sole_served}
 use Rattle.lq_control.proofs.drains.wait_until_clear.Goals as goal
@@ -16,6 +18,7 @@ loop-init g c = record {
   ready = c.requires.at.2;
   served = served_none (view c.args.cpu.now) (view c.args.cpu.now) refl;
   off = λ _ _. refl;
+  rounds = none_yet;
 }
 
 pub loop-preserved : goal.loop-preserved
@@ -30,7 +33,11 @@ loop-preserved g c =
       served = served_then (view c.args.cpu.now) (view c.loop.cpu) (view c.serves_or_is_clear.new.cpu) i.served step.served;
       off = λ sole down. let before = i.off sole down in
           step.off (sole_served (view c.args.cpu.now) (view c.loop.cpu) i.served sole) (down_kept (setup c.args.shared.now) (view c.args.cpu.now) (view c.loop.cpu) c.requires.seat.2 i.seat.2 before down) ∙ before;
+      rounds = rounds_then (setup c.args.shared.now) _ _ _ i.rounds (step.again c.if-serves_or_is_clear.false);
     }
+
+pub returns-then-serves_or_is_clear-clause-made : goal.returns-then-serves_or_is_clear-clause-made
+returns-then-serves_or_is_clear-clause-made g c = (steps c.loop.cpu, c.loop.invariant.rounds, c.serves_or_is_clear.ensures.found c.if-serves_or_is_clear.true)
 
 pub returns-then-serves_or_is_clear-clause-served : goal.returns-then-serves_or_is_clear-clause-served
 returns-then-serves_or_is_clear-clause-served g c = served_then (view c.args.cpu.now) (view c.loop.cpu) (view c.serves_or_is_clear.new.cpu) c.loop.invariant.served c.serves_or_is_clear.ensures.served

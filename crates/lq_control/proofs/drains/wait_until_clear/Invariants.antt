@@ -1,10 +1,11 @@
 use Rattle.std.proofs.Common.{◌≡◌, false, IsSome}
 use Rattle.lq_model.specs.declared.machine.Position.TheVariants.{Control}
-use Rattle.lq_table.specs.Sees.{view, position, IsSeatOf, IsSameSeat}
+use Rattle.lq_table.specs.Sees.{view, setup, steps, position, IsSeatOf, IsSameSeat}
 use Rattle.lq_table.specs.Solo.{IsSole, account_of, solo}
-use Rattle.lq_qdisc.specs.Sends.{IsReady}
+use Rattle.lq_qdisc.specs.Sends.{IsReadyToSend}
 use Rattle.lq_control.specs.Alone.{unmarked}
 use Rattle.lq_control.specs.Control.{IsServed}
+use Rattle.lq_control.specs.Steps.{Rounds}
 use Rattle.lq_control.proofs.drains.wait_until_clear.Given as goal
 
 abbrev pub invariant-loop : goal.invariant-loop
@@ -14,7 +15,8 @@ invariant-loop g l = record {
   seat : IsSeatOf l.shared l.cpu;
   same : IsSameSeat l.fn.cpu l.cpu;
   at : position l.cpu ≡ Control false;
-  ready : IsReady l.cpu;
+  ready : IsReadyToSend l.cpu;
   served : IsServed (view l.fn.cpu) (view l.cpu);
   off : IsSole (view l.fn.cpu) → IsSome (account_of (view l.fn.cpu)).down → unmarked (solo (view l.cpu)) ≡ unmarked (solo (view l.fn.cpu));
+  rounds : Rounds (setup l.shared) (steps l.fn.cpu) (steps l.cpu);
 }

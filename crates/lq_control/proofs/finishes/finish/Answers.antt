@@ -11,7 +11,7 @@ use Rattle.lq_qdisc.specs.Alone.{IsAlone, account_in}
 use Rattle.lq_qdisc.proofs.AloneSteps.{account_at, count_of}
 use Rattle.lq_control.specs.declared.finishes.Seen.TheVariants.{Hung, Ended}
 use Rattle.lq_control.specs.Ending.{IsEndedAlike, IsFinishedAlone}
-use Rattle.lq_control.specs.Finish.{AreAllDone, AreStops, Hangs, IsOver, IsFinished, Shows}
+use Rattle.lq_control.specs.Finish.{AreAllDone, AreAllStops, Hangs, IsOver, IsFinished, Shows}
 use Rattle.lq_control.proofs.EndingLemmas.{AreValues, over_finishes, purged_finishes}
 use Rattle.lq_control.proofs.FinishLemmas.{all_done, purges_hung, keeps_then, fates_before}
 use Rattle.lq_control.proofs.FinishSteps.{finished, finished_purged, made_kept}
@@ -26,7 +26,7 @@ module _ (k : Setup) (infos : List Info) (v0 v1 v2 : View) (about : v2.share.abo
   is : account_in start (solo v2) ≡ account_of v2
   is = account_at k v2 about
 
-  values_are : (value : ℕ) → AreStops value v2 → AreValues value (account_in start (solo v2)).stops
+  values_are : (value : ℕ) → AreAllStops value v2 → AreValues value (account_in start (solo v2)).stops
   values_are value stops queue below =
       ap (λ (a : Account). slice_index a.stops queue) is
       ∙ stops queue (subst (λ (n : ℕ). queue < n) (count_of k (solo v2) ∙ ap (λ (x : Setup). x.queues) (sym about)) below)
@@ -67,7 +67,7 @@ returns-then-serve_to_end-clause-ends g c = let s = c.send_all_left.ensures in l
   is_sent = s.sent;
   none_sent = s.done;
   turns = p.same.1.turns ∙ t.same.1.turns;
-  ends = inr (view c.serve_to_end.new.cpu, t.still.1, record { hung = (shows g c).hung; unit = (shows g c).unit; account = p.account; counted = p.purged.1; trail = p.trail; device = p.device });
+  ends = inr (view c.serve_to_end.new.cpu, t.still.1, record { hung = (shows g c).hung; unit = (shows g c).unit; account = p.account; counted = p.purged.1; trail = p.trail; device = p.device; step = p.step });
 }
 
 pub returns-then-serve_to_end-clause-hung : goal.returns-then-serve_to_end-clause-hung
@@ -97,9 +97,6 @@ module _ (g : given.Over) (c : goal.After-end_control g) where
 
   abbrev w2 : View
   w2 = view c.serve_to_end.new.cpu
-
-  abbrev w3 : View
-  w3 = view c.end_control.new.cpu
 
   turns_done : AreAllDone (setup c.args.shared.now) w2.turns
   turns_done = subst (AreAllDone (setup c.args.shared.now)) (sym c.serve_to_end.ensures.same.1.turns) (all_done (setup c.args.shared.now) (view c.send_all_left.new.cpu).turns c.send_all_left.ensures.turns)

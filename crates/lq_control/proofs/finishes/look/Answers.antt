@@ -6,7 +6,7 @@ use Rattle.lq_table.specs.AtRest.{KnowsRest}
 use Rattle.lq_table.specs.Sees.{view, setup}
 use Rattle.lq_table.specs.Solo.{IsSole, SeesState, account_of}
 use Rattle.lq_table.specs.Told.{at_rest}
-use Rattle.lq_control.specs.Finish.{AreKept, AreStops, IsOver, Hangs}
+use Rattle.lq_control.specs.Finish.{AreKept, AreAllStops, IsOver, Hangs}
 use Rattle.lq_control.proofs.FinishLemmas.{not_eqb}
 use Rattle.lq_control.proofs.FinishSteps.{control_looked, kept_of, look_none, over_down, hangs, is_up}
 use Rattle.lq_control.proofs.finishes.look.Goals as goal
@@ -66,7 +66,7 @@ returns-then-are_stops-clause-shows g c =
     let e2 : view c.load_state-state.new.cpu ≡ v0 = c.load_state-state.ensures.view ∙ (control_looked state false v1 (ap (λ (x : View). x.place.position) e1 ∙ c.requires.at.0) ∙ e1) in
     let rest : KnowsRest v0 = c.load_lock-lock.ensures.alone (c.requires.sole.0, ap at_rest c.requires.at.0, c.requires.at.2.1, c.requires.at.2.2) in
     let sees : SeesState v0 state = subst (λ (x : View). SeesState x state) e1 (c.load_state-state.ensures.sole (subst IsSole (sym e1) c.requires.sole.0)) in
-    let stops : AreStops 2 v0 = λ queue below. subst (λ (x : View). slice_index (account_of x).stops queue ≡ 2) e2
+    let stops : AreAllStops 2 v0 = λ queue below. subst (λ (x : View). slice_index (account_of x).stops queue ≡ 2) e2
     (c.are_stops.ensures.sole (subst IsSole (sym e2) c.requires.sole.0) (ap (λ (x : View). x.whole.state.shut) e2 ∙ rest.shut) c.if-are_stops.true queue (subst (λ (x : Setup). queue < x.queues) c.requires.seat.2 below)) in
     let some : 0 < v0.share.about.queues = subst (λ (x : Setup). 0 < x.queues) (sym c.requires.seat.2) c.args.shared.now.sized.4 in
     subst (λ (x : View). Hangs x) (sym (c.are_stops.ensures.same.1 ∙ e2)) (hangs v0 state c.requires.at.1 c.requires.sole.1 rest sees (ap not (eq-eqb (bit_and state 2) 0 c.if-state-ne0.false)) some stops)

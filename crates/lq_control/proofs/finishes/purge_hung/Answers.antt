@@ -15,7 +15,7 @@ use Rattle.lq_table.specs.Solo.{IsSole, account_of, solo}
 use Rattle.lq_ring.proofs.Seats.{seat_on}
 use Rattle.lq_ring.specs.Fates.{fates_onto}
 use Rattle.lq_table.specs.Told.{got_in_control}
-use Rattle.lq_control.specs.Control.{IsEmptied, IsPurged, all_purged}
+use Rattle.lq_control.specs.Control.{IsPurgeDone, IsPurged, all_purged}
 use Rattle.lq_control.specs.Ending.{purged_as_hung}
 use Rattle.lq_control.specs.Finish.{IsLook}
 use Rattle.lq_control.proofs.Purge.{purged_of, slot_within}
@@ -148,7 +148,7 @@ module _ (g : given.Over) (c : goal.After-end_resize g) where
   begun : view c.begin_hung_purge.new.cpu ≡ purging (cause.Hung unit) c.begin_hung_purge.ensures.begun.0 v2
   begun = c.begin_hung_purge.ensures.begun.1 ∙ ap (λ (m : ℕ). purging (cause.Hung m) c.begin_hung_purge.ensures.begun.0 v2) of_unit
 
-  emptied : IsEmptied (cause.Hung unit) lost (view c.begin_hung_purge.new.cpu) v4 × (c.purge_held-purged.result ≡ length lost)
+  emptied : IsPurgeDone (cause.Hung unit) lost (view c.begin_hung_purge.new.cpu) v4 × (c.purge_held-purged.result ≡ length lost)
   emptied = c.purge_held-purged.ensures.emptied v2.holder.slot (record { cause = cause.Hung unit; bands = c.begin_hung_purge.ensures.begun.0 }) (ap (λ (x : View). x.packets.owed) begun) (ap (λ (x : View). x.holder.left) begun)
 
   purged : IsPurged (cause.Hung unit) lost v2 v4

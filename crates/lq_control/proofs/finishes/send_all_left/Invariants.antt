@@ -2,7 +2,7 @@ use Rattle.std.proofs.Common.{◌≡◌, false}
 use Rattle.lq_model.specs.declared.machine.Position.TheVariants.{Idle}
 use Rattle.lq_table.specs.Sees.{view, setup, position, IsSeatOf, IsSameSeat}
 use Rattle.lq_qdisc.specs.Calls.{KeepsFates}
-use Rattle.lq_qdisc.specs.Sends.{IsReady}
+use Rattle.lq_qdisc.specs.Sends.{IsReadyToSend}
 use Rattle.lq_control.specs.Finish.{AreTurnsFrom, AreAllDone, IsSent}
 use Rattle.lq_control.proofs.finishes.send_all_left.Given as goal
 
@@ -11,7 +11,7 @@ invariant-loop-n g l = record {
   seat : IsSeatOf l.shared l.cpu;
   same : IsSameSeat l.fn.cpu l.cpu;
   at : position l.cpu ≡ Idle;
-  ready : IsReady l.cpu;
+  ready : IsReadyToSend l.cpu;
   low : (view l.cpu).place.raised ≡ false;
   share : (view l.cpu).share ≡ (view l.fn.cpu).share;
   control : (view l.cpu).control ≡ (view l.fn.cpu).control;

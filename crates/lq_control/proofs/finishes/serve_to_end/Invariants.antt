@@ -4,7 +4,7 @@ use Rattle.lq_table.specs.Views.{first_account}
 use Rattle.lq_table.specs.Sees.{view, setup, position, IsSeatOf, IsSameSeat}
 use Rattle.lq_table.specs.Solo.{solo}
 use Rattle.lq_qdisc.specs.Alone.{IsAlone}
-use Rattle.lq_qdisc.specs.Sends.{IsReady}
+use Rattle.lq_qdisc.specs.Sends.{IsReadyToSend}
 use Rattle.lq_control.specs.Control.{IsServed}
 use Rattle.lq_control.specs.Ending.{IsEndedAlike}
 use Rattle.lq_control.proofs.finishes.serve_to_end.Given as goal
@@ -16,7 +16,7 @@ invariant-loop g l = record {
   seat : IsSeatOf l.shared l.cpu;
   same : IsSameSeat l.fn.cpu l.cpu;
   at : position l.cpu ≡ Idle;
-  ready : IsReady l.cpu;
+  ready : IsReadyToSend l.cpu;
   low : (view l.cpu).place.raised ≡ false;
   served : IsServed (view l.fn.cpu) (view l.cpu);
   alike : IsAlone l.shared.infos.now (first_account (setup l.shared)) (solo (view l.fn.cpu))

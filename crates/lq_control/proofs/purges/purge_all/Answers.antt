@@ -1,10 +1,12 @@
-use Rattle.std.proofs.Common.{ℕ, ◌<◌, refl, sym, ap, ◌∙◌, subst, Some, length}
+use Rattle.std.proofs.Common.{ℕ, ◌<◌, refl, sym, ap, ◌∙◌, subst, Some, length, List}
 use Rattle.std.specs.Prelude.{IfSome}
 use Rattle.lq_model.specs.declared.fate.Cause.TheVariants as cause
 use Rattle.lq_table.specs.Views.{View, Setup, PacketPart}
 use Rattle.lq_table.specs.Rule.{shown}
 use Rattle.lq_table.specs.Purges.{HoldsAtMost, HoldPackets}
-use Rattle.lq_table.specs.Sees.{view}
+use Rattle.lq_table.specs.Sees.{view, setup, steps}
+use Rattle.lq_table.specs.Made.{Made}
+use Rattle.lq_control.specs.Steps.{PurgesHeld}
 use Rattle.lq_control.proofs.Purge.{purged_of, slot_within}
 use Rattle.lq_control.proofs.purges.purge_all.Goals as goal
 
@@ -39,3 +41,7 @@ returns-clause-purged g c =
       done.1,
       b.4,
     )
+
+pub returns-clause-made : goal.returns-clause-made
+returns-clause-made g c = let seen = c.begin_purge-event.ensures.made in let k = setup c.args.shared.now in let event = c.begin_purge-event.result in
+    (event, seen.0, c.begin_purge-event.ensures.event, subst (λ (xs : List Made). PurgesHeld k (cause.Event event) c.purge_held.result xs (steps c.purge_held.new.cpu)) seen.1 c.purge_held.ensures.made)

@@ -1,4 +1,4 @@
-use Rattle.std.proofs.Common.{◌≡◌, refl, sym, ap, ◌∙◌, subst, arith, Option}
+use Rattle.std.proofs.Common.{◌≡◌, ◌+◌, ℕ, refl, sym, ap, ◌∙◌, subst, arith, Option, List}
 use Rattle.std.proofs.lemmas.Option.{same_Some}
 use Rattle.lq_model.specs.Machine.{Purge}
 use Rattle.lq_model.specs.declared.machine.Seat.{Seat}
@@ -6,7 +6,8 @@ use Rattle.lq_table.specs.Controls.{purge_going, no_missed, resetting_missed_in}
 use Rattle.lq_table.specs.Views.{View, Left, PacketPart}
 use Rattle.lq_table.specs.Purges.{first_purge}
 use Rattle.lq_table.specs.Rule.{IsResting}
-use Rattle.lq_table.specs.Sees.{view}
+use Rattle.lq_table.specs.Sees.{view, steps}
+use Rattle.lq_table.specs.Made.{Made, ◌⊳◌, did_clear_draining}
 use Rattle.lq_ring.proofs.Seats.{seat_on}
 use Rattle.lq_control.proofs.Purge.{still_then, still_purged, rests_purged, left1, left2, left3, purge1, purge2, purge3, purge4, emptied, count_all, slot_few}
 use Rattle.lq_control.proofs.purges.purge_held.Goals as goal
@@ -200,3 +201,22 @@ returns-clause-emptied g c s l owed left =
       emptied c.args.cause s l v v1 v2 v3 v4 (view c.reset_missed.new.cpu) (view c.reset_draining.new.cpu) cause_is e low.0 mid.0 high.0 c.reset_missed.ensures.view c.reset_draining.ensures.view,
       omega arith,
     )
+
+pub returns-clause-made : goal.returns-clause-made
+returns-clause-made g c =
+    let s = c.requires.slot in record {
+      slot = s.0;
+      low = c.purge_band-low.result;
+      mid = c.purge_band-mid.result;
+      high = c.purge_band-high.result;
+      emptied = steps c.purge_slot-slot.new.cpu;
+      one = steps c.purge_band-low.new.cpu;
+      two = steps c.purge_band-mid.new.cpu;
+      three = steps c.purge_band-high.new.cpu;
+      requeued = c.purge_slot-slot.ensures.made s.0 s.2;
+      first = c.purge_band-low.ensures.made;
+      second = c.purge_band-mid.ensures.made;
+      third = c.purge_band-high.ensures.made;
+      cleared = c.reset_draining.ensures.made ∙ ap (λ (xs : List Made). xs ⊳ did_clear_draining) c.reset_missed.ensures.made;
+      counted = ap (λ (n : ℕ). n + c.purge_band-low.result + c.purge_band-mid.result + c.purge_band-high.result) (c.purge_slot-slot.ensures.purged s.0 s.2).1;
+    }

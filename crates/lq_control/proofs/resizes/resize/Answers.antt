@@ -1,11 +1,11 @@
-use Rattle.std.proofs.Common.{◌≡◌, true, sym, ap, ◌∙◌, subst}
+use Rattle.std.proofs.Common.{◌≡◌, true, sym, ap, ◌∙◌, subst, List}
 use Rattle.lq_model.specs.Account.{Resize}
 use Rattle.lq_model.specs.Alone.{changed}
 use Rattle.lq_model.specs.declared.plan.EventKind.TheVariants as kind
 use Rattle.lq_model.specs.declared.fate.Fate.TheVariants as fate
 use Rattle.lq_table.specs.Views.{View, first_account}
 use Rattle.lq_table.specs.Controls.{beginning_control}
-use Rattle.lq_table.specs.Sees.{view, setup}
+use Rattle.lq_table.specs.Sees.{view, setup, steps}
 use Rattle.lq_table.specs.Solo.{IsSole, solo, heard, locked_to}
 use Rattle.lq_table.specs.Told.{got_in_control}
 use Rattle.lq_run.specs.Runs.{ended}
@@ -13,6 +13,8 @@ use Rattle.lq_ring.specs.Fates.{fates_onto}
 use Rattle.lq_ring.specs.Resized.{all_lost, having_resized}
 use Rattle.lq_control.proofs.Alone.{resize_alone, resized_same, stepped_at}
 use Rattle.lq_control.proofs.Sole.{lost_dropped}
+use Rattle.lq_table.specs.Made.{Made}
+use Rattle.lq_control.specs.Steps.{TakesLock}
 use Rattle.lq_control.proofs.resizes.resize.Goals as goal
 
 pub returns-clause-shrunk : goal.returns-clause-shrunk
@@ -39,3 +41,7 @@ returns-clause-alone g c = λ plan h.
     let infos = c.args.shared.now.infos.now in let start = first_account (setup c.args.shared.now) in let v = solo (view c.args.cpu.now) in let len = c.args.len in let event = c.args.event in
     stepped_at infos start (changed plan event (kind.Resize len)) v (heard (Resize len event) v) (solo (view c.end_resize.new.cpu))
     (returns-clause-sole g c h.sender.sole ∙ resized_same infos start (Resize len event) v h) (resize_alone infos start len event plan v h)
+
+pub returns-clause-made : goal.returns-clause-made
+returns-clause-made g c = let first = c.begin_control.ensures.made in
+    (first.0, steps c.take_lock.new.cpu, steps c.resize_all-shrunk.new.cpu, subst (λ (xs : List Made). TakesLock xs (steps c.take_lock.new.cpu)) first.1 c.take_lock.ensures.made, c.resize_all-shrunk.ensures.made, c.end_resize.ensures.made)

@@ -1,6 +1,7 @@
-use Rattle.std.proofs.Common.{false, true, sym, ap, ◌∙◌, subst}
+use Rattle.std.proofs.Common.{false, true, sym, ap, ◌∙◌, subst, List}
 use Rattle.lq_table.specs.Views.{first_account}
-use Rattle.lq_table.specs.Sees.{view, setup}
+use Rattle.lq_table.specs.Sees.{view, setup, steps}
+use Rattle.lq_table.specs.Made.{Made, ◌⊳◌, did_load_base}
 use Rattle.lq_table.specs.Solo.{Solo, heard, locked_to, solo}
 use Rattle.lq_model.specs.Account.{Resize, Up}
 use Rattle.lq_model.specs.Alone.{changed}
@@ -16,3 +17,7 @@ returns-clause-alone g c = λ plan h.
     let is = ap solo c.end_control.ensures.view ∙ (ap solo c.clear_deactivated.ensures.view
     ∙ (ap (heard Up) (c.relength.ensures.sole (subst HasAll (sym down) h.sender.sole)) ∙ ap (λ (s : Solo). heard Up (locked_to false (heard (Resize len event) (locked_to true s)))) down)) in
     stepped_at infos start (changed plan event (kind.TxQueueLen len)) v (heard Up (heard (Resize len event) (downed event v))) (solo (view c.end_control.new.cpu)) is (relength_alone infos start len event plan v h)
+
+pub returns-clause-made : goal.returns-clause-made
+returns-clause-made g c = let last = c.end_control.ensures.made in
+    (steps c.wait_until_clear.new.cpu, steps c.relength.new.cpu, (steps c.deactivate-purged.new.cpu, c.deactivate-purged.ensures.made, c.wait_until_clear.ensures.made), c.relength.ensures.made, (last.0, last.1 ∙ ap (λ (xs : List Made). xs ⊳ did_load_base last.0) c.clear_deactivated.ensures.made))

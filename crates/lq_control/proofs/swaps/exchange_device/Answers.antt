@@ -1,4 +1,4 @@
-use Rattle.std.proofs.Common.{◌≡◌, false, sym, ap, ◌∙◌, subst, arith, ◌∷◌, Option, Contains}
+use Rattle.std.proofs.Common.{◌≡◌, false, sym, ap, ◌∙◌, subst, arith, ◌∷◌, Option, Contains, List}
 use Rattle.std.specs.Prelude.{is_some}
 use Rattle.std.specs.Option.{unwrap_or}
 use Rattle.lq_device.specs.Station.{StationState}
@@ -6,7 +6,8 @@ use Rattle.lq_model.specs.Device.{DeviceState}
 use Rattle.lq_table.specs.Views.{View, Setup, no_station}
 use Rattle.lq_table.specs.Rule.{HasServed, latest_unit, station_count, units_of}
 use Rattle.lq_table.specs.Controls.{IsExchange}
-use Rattle.lq_table.specs.Sees.{view}
+use Rattle.lq_table.specs.Sees.{view, setup, steps}
+use Rattle.lq_table.specs.Made.{Made, ◌⊳◌, did_store_stop, did_unlock}
 use Rattle.lq_table.specs.Solo.{Solo, device_to, heard, locked_to, solo}
 use Rattle.lq_model.specs.Account.{Swap}
 use Rattle.lq_control.proofs.swaps.exchange_device.Goals as goal
@@ -57,3 +58,7 @@ returns-clause-sole g c = λ sole.
     let exchanged = ap solo c.exchange.ensures.view ∙ ap (λ (o : Option StationState). device_to (unwrap_or o no_station).device (heard (Swap (unwrap_or o no_station).unit) (solo before))) changed in
     ap solo c.release.ensures.released ∙ (ap (locked_to false) (c.open_queues.ensures.step ∙ exchanged)
     ∙ ap (λ (s : Solo). locked_to false (device_to device (heard (Swap c.args.unit) s))) (ap solo c.change_device-old.ensures.same.3 ∙ (c.take_lock.ensures.sole sole).0))
+
+pub returns-clause-made : goal.returns-clause-made
+returns-clause-made g c = let k = setup c.args.shared.now in
+    (steps c.take_lock.new.cpu, c.take_lock.ensures.made, c.release.ensures.made ∙ ap (λ (xs : List Made). xs ⊳ did_unlock) (c.open_queues.ensures.made (steps c.take_lock.new.cpu) (c.exchange.ensures.made ∙ ap (λ (xs : List Made). xs ⊳ did_store_stop k 0 0) c.change_device-old.ensures.made)))

@@ -4,7 +4,8 @@ use Rattle.lq_model.specs.Alone.{changed}
 use Rattle.lq_model.specs.declared.plan.EventKind.TheVariants as kind
 use Rattle.lq_model.specs.Device.{DeviceState}
 use Rattle.lq_table.specs.Views.{View, FirstPart, first_account}
-use Rattle.lq_table.specs.Sees.{view, setup}
+use Rattle.lq_table.specs.Sees.{view, setup, steps}
+use Rattle.lq_table.specs.Made.{Made, ◌⊳◌, did_load_base}
 use Rattle.lq_table.specs.Solo.{Solo, device_to, heard, locked_to, solo}
 use Rattle.lq_table.specs.Rule.{HasServed, latest_unit, units_of}
 use Rattle.lq_qdisc.specs.Alone.{HasAll}
@@ -39,3 +40,7 @@ returns-clause-served g c =
 
 pub returns-clause-came : goal.returns-clause-came
 returns-clause-came g c = ap (λ (x : View). x.control.origin) c.end_control.ensures.view ∙ (ap (λ (x : View). x.control.origin) c.clear_deactivated.ensures.view ∙ c.exchange_device-old.ensures.came)
+
+pub returns-clause-made : goal.returns-clause-made
+returns-clause-made g c = let last = c.end_control.ensures.made in
+    (steps c.wait_until_clear.new.cpu, steps c.exchange_device-old.new.cpu, c.deactivate.result, (steps c.deactivate.new.cpu, c.deactivate.ensures.made, c.wait_until_clear.ensures.made), c.exchange_device-old.ensures.made, (last.0, last.1 ∙ ap (λ (xs : List Made). xs ⊳ did_load_base last.0) c.clear_deactivated.ensures.made))

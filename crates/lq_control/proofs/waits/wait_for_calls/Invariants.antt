@@ -1,8 +1,9 @@
 use Rattle.std.proofs.Common.{◌≡◌}
 use Rattle.lq_model.specs.declared.machine.Phase.{Phase}
 use Rattle.lq_model.specs.declared.machine.Phase.TheVariants.{Closing}
-use Rattle.lq_table.specs.Sees.{view, IsSeatOf, IsElseSame}
+use Rattle.lq_table.specs.Sees.{view, steps, IsSeatOf, IsElseSame}
 use Rattle.lq_control.specs.Control.{phased}
+use Rattle.lq_control.specs.Steps.{FindsCalls}
 use Rattle.lq_control.proofs.waits.wait_for_calls.Given as goal
 
 abbrev pub invariant-loop : goal.invariant-loop
@@ -12,4 +13,5 @@ invariant-loop g l = record {
   seat : IsSeatOf l.shared l.cpu;
   still : IsElseSame l.fn.cpu l.cpu;
   phased : (p : Phase) × (view l.cpu ≡ phased Closing p (view l.fn.cpu));
+  made : FindsCalls (steps l.fn.cpu) (steps l.cpu);
 }

@@ -2,7 +2,7 @@ use Rattle.std.proofs.Common.{ℕ, ◌<◌, true, ap, sym, ◌∙◌, subst, is_
 use Rattle.lq_device.specs.Station.{StationState}
 use Rattle.lq_model.specs.declared.device.Tx.{Tx}
 use Rattle.lq_model.specs.declared.device.Tx.TheVariants.{Busy}
-use Rattle.lq_device.specs.Station.{Transmits}
+use Rattle.lq_device.specs.Station.{HasAnswered}
 use Rattle.lq_table.specs.Views.{View, HolderPart, Setup}
 use Rattle.lq_table.specs.Rule.{shown}
 use Rattle.lq_table.specs.Sees.{view, carried}
@@ -20,7 +20,7 @@ requeue-requires-clause-called g c κs within =
     let h = c.hand_over-answer.ensures.handed (shown (view c.args.cpu.now).holder) c.requires.serving.0.1 in
     let busy = busy_is c.hand_over-answer.result.0 (sym c.is_refusal.ensures ∙ c.if-is_refusal.true) in
     called_at c.args.shared.now c.args.cpu.now c.hand_over-answer.new.cpu c.args.n c.args.queue Busy c.requires.packet.1 c.hand_over-answer.ensures.same.3
-    (subst (λ (a : Tx). Transmits a c.args.queue c.args.n (shown (view c.args.cpu.now).holder) (carried c.hand_over-answer.new.cpu)) busy h.1)
+    (subst (λ (a : Tx). HasAnswered a c.args.queue c.args.n (shown (view c.args.cpu.now).holder) (carried c.hand_over-answer.new.cpu)) busy h.1)
 
 pub returns-then-is_refusal-clause-offered : goal.returns-then-is_refusal-clause-offered
 returns-then-is_refusal-clause-offered g c =
@@ -28,7 +28,7 @@ returns-then-is_refusal-clause-offered g c =
     let busy = busy_is c.hand_over-answer.result.0 (sym c.is_refusal.ensures ∙ c.if-is_refusal.true) in
     let st = carried c.hand_over-answer.new.cpu in
     busy_at c.args.n c.args.queue st (view c.args.cpu.now) (view c.requeue.new.cpu) c.requires.hand
-    (subst (λ (a : Tx). Transmits a c.args.queue c.args.n (shown (view c.args.cpu.now).holder) st) busy h.1)
+    (subst (λ (a : Tx). HasAnswered a c.args.queue c.args.n (shown (view c.args.cpu.now).holder) st) busy h.1)
     (c.requeue.ensures.view ∙ ap (λ (v : View). requeuing st v) c.hand_over-answer.ensures.same.3)
     (c.requeue.ensures.step ∙ ap (λ (v : View). device_to st.device (heard Back (missed_to true (solo v)))) c.hand_over-answer.ensures.same.3)
     c.requires.open

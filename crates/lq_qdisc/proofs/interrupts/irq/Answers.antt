@@ -1,10 +1,25 @@
-use Rattle.std.proofs.Common.{◌≡◌, ℕ, subst, arith}
+use Rattle.std.proofs.Common.{sym, ap, ◌∙◌, refl, ◌<◌, ◌≡◌, ℕ, subst, arith}
 use Rattle.lq_qdisc.specs.Sends.{WakesBelow}
-use Rattle.lq_table.specs.Sees.{view, setup}
+use Rattle.lq_table.specs.Views.{SharePart}
+use Rattle.lq_qdisc.proofs.StepLemmas.{wakes_more, wake_keeps}
+use Rattle.lq_table.specs.Sees.{known, setup}
 use Rattle.lq_qdisc.proofs.AloneCalls.{irq_alone}
 use Rattle.lq_qdisc.proofs.interrupts.irq.Goals as goal
 
 pub returns-clause-alone : goal.returns-clause-alone
 returns-clause-alone g c =
     let q : c.loop-queue.queue ≡ c.args.shared.now.queues = omega arith in
-    irq_alone (setup c.args.shared.now) c.args.shared.now.infos.now (view c.args.cpu.now) (view c.loop-queue.cpu) c.requires.seat.2 (subst (λ (n : ℕ). WakesBelow n (view c.args.cpu.now) (view c.loop-queue.cpu)) q c.loop-queue.invariant.wakes)
+    irq_alone (setup c.args.shared.now) c.args.shared.now.infos.now (known c.args.cpu.now) (known c.loop-queue.cpu) c.requires.seat.2 (subst (λ (n : ℕ). WakesBelow (setup c.args.shared.now) n (known c.args.cpu.now) (known c.loop-queue.cpu)) q c.loop-queue.invariant.wakes)
+
+pub loop-queue-preserved : goal.loop-queue-preserved
+loop-queue-preserved g c =
+    let q = c.loop-queue.queue in let old = c.loop-queue.invariant in let m = known c.loop-queue.cpu in let n = known c.open.new.cpu in let k = setup c.args.shared.now in let same = c.open.ensures.same in let w = c.open.ensures.wakes in
+    let share = wake_keeps (λ v. v.share) k q m n (λ _. refl) w in let packets = wake_keeps (λ v. v.packets) k q m n (λ _. refl) w in record {
+      seat = (same.0.0 ∙ old.seat.0, subst (λ (s : SharePart). 0 < s.shares) (sym share) old.seat.1, ap (λ (s : SharePart). s.about) share ∙ old.seat.2);
+      kept = record { seat = (same.0.0 ∙ old.kept.seat.0, same.0.1 ∙ old.kept.seat.1); share = share ∙ old.kept.share; control = wake_keeps (λ v. v.control) k q m n (λ _. refl) w ∙ old.kept.control; told = wake_keeps (λ v. v.whole.told) k q m n (λ _. refl) w ∙ old.kept.told };
+      at = c.open.ensures.at;
+      ready = ((same.3 ∙ old.ready.0.0, same.1 ∙ old.ready.0.1), packets ∙ old.ready.1, wake_keeps (λ v. v.locks) k q m n (λ _. refl) w ∙ old.ready.2, wake_keeps (λ v. v.holder.resizing) k q m n (λ _. refl) w ∙ old.ready.3);
+      still = record { share = share ∙ old.still.share; packets = packets ∙ old.still.packets; turns = wake_keeps (λ v. v.turns) k q m n (λ _. refl) w ∙ old.still.turns; trail = wake_keeps (λ v. v.trail) k q m n (λ _. refl) w ∙ old.still.trail };
+      settled = wake_keeps (λ v. v.settled) k q m n (λ _. refl) w ∙ old.settled;
+      wakes = wakes_more k q _ _ _ old.wakes w;
+    }

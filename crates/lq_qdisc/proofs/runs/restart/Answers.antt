@@ -16,3 +16,6 @@ returns-in-Yes-clause-fates g c =
     fates_then (view c.args.cpu.now) (view c.dequeue.new.cpu) (view c.direct_xmit.new.cpu)
     (fates_same (view c.args.cpu.now) (view c.dequeue.new.cpu) c.dequeue.ensures.fates.0)
     (directs_fates Yes c.in-Packet.n (queue_in c.args.shared.now.infos.now c.in-Packet.n) (view c.dequeue.new.cpu) (view c.direct_xmit.new.cpu) c.in-Yes.ensures.handed)
+
+pub returns-in-Empty-clause-made : goal.returns-in-Empty-clause-made
+returns-in-Empty-clause-made g c = ((view c.args.cpu.now).holder.slot, c.in-Empty.ensures.made)

@@ -1,7 +1,9 @@
 use Rattle.std.proofs.Common.{◌≡◌, ℕ, ◌+◌, ap, sym, ◌∙◌, subst, arith, add-zero, Option, refl}
 use Rattle.std.specs.Prelude.{is_none, if◌then◌else◌}
-use Rattle.lq_table.specs.Sees.{view, setup}
+use Rattle.lq_table.specs.Sees.{view, setup, steps}
 use Rattle.lq_table.specs.Told.{IsKnownSlot}
+use Rattle.lq_qdisc.specs.Steps.{SendsBy}
+use Rattle.lq_qdisc.proofs.StepLemmas.{sends_more_by}
 use Rattle.lq_qdisc.specs.Runs.{Sends}
 use Rattle.lq_qdisc.proofs.TakeLemmas.{kept_then, seat_in}
 use Rattle.lq_qdisc.proofs.RunLemmas.{count, fates_then, laid_at_quota, sent_more, set_at_quota}
@@ -27,7 +29,15 @@ loop-sent-preserved g c =
       fates = fates_then (view c.args.cpu.now) (view m) (view a) old.fates c.restart.ensures.fates;
       sent = sent_more s c.args.shared.now.infos.now (view c.args.cpu.now) (view m) (view a) old.sent c.in_default.ensures.sent;
       accepted = (let e : count (view a) ≡ count (view m) + 1 = c.in_default.ensures.accepted in let f : count (view m) ≡ count (view c.args.cpu.now) + s = old.accepted in omega arith);
+      made = sends_more_by (setup c.args.shared.now) s _ _ _ old.made c.in_default.ensures.made;
     }
+
+pub returns-in-Some-clause-made : goal.returns-in-Some-clause-made
+returns-in-Some-clause-made g c = (steps c.loop-sent.cpu, c.loop-sent.invariant.made, c.in-Some.ensures.made)
+
+pub returns-clause-made : goal.returns-clause-made
+returns-clause-made g c = let all : c.loop-sent.sent ≡ 64 = omega arith in
+    (steps c.loop-sent.cpu, subst (λ (n : ℕ). SendsBy (setup c.args.shared.now) n (steps c.args.cpu.now) (steps c.loop-sent.cpu)) all c.loop-sent.invariant.made, c.set_missed.ensures.made)
 
 pub returns-clause-ran : goal.returns-clause-ran
 returns-clause-ran g c =

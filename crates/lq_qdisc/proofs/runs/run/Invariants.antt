@@ -1,13 +1,14 @@
 use Rattle.std.proofs.Common.{◌≡◌, ◌+◌, None, length}
-use Rattle.lq_table.specs.Sees.{view, position, IsSeatOf}
-use Rattle.lq_qdisc.specs.Calls.{KeepsFates, IsKept, IsServing, IsSlotOf}
+use Rattle.lq_table.specs.Sees.{view, setup, steps, position, IsSeatOf}
+use Rattle.lq_qdisc.specs.Calls.{KeepsFates, IsKeptInRun, IsServing, IsSlotOf}
 use Rattle.lq_qdisc.specs.Runs.{Sends, position_in_run}
+use Rattle.lq_qdisc.specs.Steps.{SendsBy}
 use Rattle.lq_qdisc.proofs.runs.run.Given as goal
 
 abbrev pub invariant-loop-sent : goal.invariant-loop-sent
 invariant-loop-sent g l = record {
   seat : IsSeatOf l.shared l.cpu;
-  kept : IsKept l.fn.cpu l.cpu;
+  kept : IsKeptInRun l.fn.cpu l.cpu;
   serving : IsServing l.cpu;
   at : position l.cpu ≡ position_in_run (view l.cpu);
   run : (view l.cpu).place.run ≡ l.sent;
@@ -17,4 +18,5 @@ invariant-loop-sent g l = record {
   fates : KeepsFates (view l.fn.cpu) (view l.cpu);
   sent : Sends l.sent l.shared.infos.now (view l.fn.cpu) (view l.cpu);
   accepted : length (view l.cpu).holder.station.device.accepted ≡ length (view l.fn.cpu).holder.station.device.accepted + l.sent;
+  made : SendsBy (setup l.shared) l.sent (steps l.fn.cpu) (steps l.cpu);
 }

@@ -1,9 +1,11 @@
-use Rattle.std.proofs.Common.{ℕ, ◌<◌, sym, ap, ◌∙◌, subst, List, ◌∷◌}
+use Rattle.std.proofs.Common.{◌≡◌, arith, ℕ, ◌<◌, sym, ap, ◌∙◌, subst, List, ◌∷◌}
 use Rattle.std.specs.Prelude.{slice_get}
 use Rattle.lq_model.specs.Account.{Account, Event, Empty, held_in}
 use Rattle.lq_table.specs.Views.{View, Setup}
 use Rattle.lq_table.specs.Told.{IsPacketOf}
-use Rattle.lq_table.specs.Sees.{view}
+use Rattle.lq_table.specs.Sees.{view, setup, steps}
+use Rattle.lq_qdisc.specs.Steps.{EmptyBelow}
+use Rattle.lq_qdisc.proofs.StepLemmas.{bands_more}
 use Rattle.lq_table.specs.Solo.{account_of}
 use Rattle.lq_qdisc.proofs.TakeLemmas.{none_more, empty_more, looking_here, lead_more, account_same, kept_then, kept_none, kept_take, run_none, run_take, sole_kept}
 use Rattle.lq_qdisc.proofs.takes.scan.Goals as goal
@@ -46,4 +48,12 @@ loop-band-preserved g c =
       sole = λ alone. let same = account_same b (view c.args.cpu.now) (view m) old.kept.share old.past in
           none_more (account_of (view c.args.cpu.now)) b (old.sole alone)
           (ap (λ (x : Account). slice_get (held_in x b) 0) (sym same) ∙ (c.consume.ensures.sole (sole_kept c.args.cpu.now m old.kept alone) ∙ c.in_default.is));
+      made = bands_more (setup c.args.shared.now) b _ _ _ _ old.made c.in_default.ensures.made;
     }
+
+pub returns-in-Some-clause-made : goal.returns-in-Some-clause-made
+returns-in-Some-clause-made g c = let found = c.in-Some.ensures.made in (c.loop-band.band, steps c.loop-band.cpu, _, c.loop-band.invariant.made, found)
+
+pub returns-clause-made : goal.returns-clause-made
+returns-clause-made g c = let three : c.loop-band.band ≡ 3 = omega arith in
+    subst (λ (n : ℕ). EmptyBelow (setup c.args.shared.now) n (steps c.args.cpu.now) (steps c.loop-band.cpu)) three c.loop-band.invariant.made

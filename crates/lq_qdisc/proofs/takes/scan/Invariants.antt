@@ -1,14 +1,15 @@
 use Rattle.std.proofs.Common.{◌≡◌, Bool}
 use Rattle.lq_model.specs.declared.machine.Position.TheVariants.{Scan}
-use Rattle.lq_table.specs.Sees.{view, position, IsSeatOf}
+use Rattle.lq_table.specs.Sees.{view, setup, steps, position, IsSeatOf}
 use Rattle.lq_table.specs.Solo.{IsSole, account_of, solo}
-use Rattle.lq_qdisc.specs.Calls.{IsKept, IsServing, IsSettledSame, AreNone, found_empty, looking_at}
+use Rattle.lq_qdisc.specs.Calls.{IsKeptInRun, IsServing, IsSettledSame, AreNone, found_empty, looking_at}
+use Rattle.lq_qdisc.specs.Steps.{EmptyBelow}
 use Rattle.lq_qdisc.proofs.takes.scan.Given as goal
 
 abbrev pub invariant-loop-band : goal.invariant-loop-band
 invariant-loop-band g l = record {
   seat : IsSeatOf l.shared l.cpu;
-  kept : IsKept l.fn.cpu l.cpu;
+  kept : IsKeptInRun l.fn.cpu l.cpu;
   serving : IsServing l.cpu;
   run : (view l.cpu).place.run ≡ (view l.fn.cpu).place.run;
   settled : IsSettledSame l.fn.cpu l.cpu;
@@ -17,4 +18,5 @@ invariant-loop-band g l = record {
   holder : (view l.cpu).holder ≡ (view l.fn.cpu).holder;
   step : solo (view l.cpu) ≡ solo (view l.fn.cpu);
   sole : IsSole (view l.fn.cpu) → AreNone (account_of (view l.fn.cpu)) l.band;
+  made : EmptyBelow (setup l.shared) l.band (steps l.fn.cpu) (steps l.cpu);
 }

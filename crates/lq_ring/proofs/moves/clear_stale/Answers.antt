@@ -1,13 +1,15 @@
 use Rattle.std.proofs.Common.{rules, ◌≡◌, ◌+◌, arith, ℕ, get_or, inr, sym, ap, ◌∙◌, List, refl, false}
 use Rattle.lq_table.specs.Views.{Work}
 use Rattle.lq_table.specs.Resizes.{is_member, out_of, hand_with}
-use Rattle.lq_table.specs.Sees.{view}
+use Rattle.lq_table.specs.Sees.{view, setup, steps}
 use Rattle.lq_ring.specs.Work.{work_at, working, with_slots, zeroed_to}
 use Rattle.lq_ring.proofs.Works.{turner_chain, chain, work_back, zeroed_out, zeroed_next}
+use Rattle.lq_ring.specs.Changes.{not_yet}
+use Rattle.lq_ring.proofs.StepLemmas.{turns_out}
 use Rattle.lq_ring.proofs.moves.clear_stale.Goals as goal
 
 pub loop-n-init : goal.loop-n-init
-loop-n-init g c = let t = c.requires.turner in record { seat = c.requires.seat; same = ((refl, refl), refl, refl, refl); view_is = sym (work_back c.args.band (view c.args.cpu.now) t.1.0 t.1.1 t.1.2) }
+loop-n-init g c = let t = c.requires.turner in record { seat = c.requires.seat; same = ((refl, refl), refl, refl, refl); view_is = sym (work_back c.args.band (view c.args.cpu.now) t.1.0 t.1.1 t.1.2); made = not_yet }
 
 pub take_out-requires-clause-turner : goal.take_out-requires-clause-turner
 take_out-requires-clause-turner g c _ _ = let b = c.args.band in let v = view c.args.cpu.now in let w : Work = work_at b v in turner_chain b (with_slots (zeroed_to c.args.tail c.loop-n.n w.slots) w) v _ c.requires.turner c.loop-n.invariant.view_is
@@ -22,4 +24,5 @@ loop-n-preserved g c =
       seat = (search rules);
       same = (search rules);
       view_is = e ∙ ap (λ (x : Work). working b x v) is;
+      made = turns_out (setup c.args.shared.now) c.args.band (steps c.args.cpu.now) (steps c.loop-n.cpu) (steps c.take_out.new.cpu) (tail + n) c.take_out.result i.made c.take_out.ensures.made;
     }

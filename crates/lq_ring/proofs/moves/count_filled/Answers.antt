@@ -2,9 +2,11 @@ use Rattle.std.proofs.Common.{rules, ◌≡◌, ◌≢◌, arith, ℕ, get_or, s
 use Rattle.std.proofs.lemmas.Bool.{cases_eq}
 use Rattle.lq_table.specs.Views.{View, Work}
 use Rattle.lq_table.specs.Resizes.{is_member, out_of}
-use Rattle.lq_table.specs.Sees.{view}
+use Rattle.lq_table.specs.Sees.{view, setup, steps}
 use Rattle.lq_ring.specs.Work.{work_at, working}
 use Rattle.lq_ring.proofs.Works.{at_chain, turner_chain, single_back, same_again}
+use Rattle.lq_ring.specs.Changes.{TurnsRing, not_yet}
+use Rattle.lq_ring.proofs.StepLemmas.{turns_out, turns_then}
 use Rattle.lq_ring.proofs.moves.count_filled.Goals as goal
 
 pub put_back-requires-clause-turner : goal.put_back-requires-clause-turner
@@ -36,4 +38,11 @@ loop-i-preserved g c =
       same = (search rules);
       view_is = is;
       filled = λ j h z. ⊎_elim (λ (e : j ≡ i). some_ (x_is ∙ (ap (λ (y : ℕ). get_or (work_at b v).slots y 0) (sym e) ∙ z))) (λ (n : j ≢ i). old j (omega arith) z) (cases_eq j i);
+      made = turns_then (setup c.args.shared.now) c.args.band (steps c.args.cpu.now) (steps c.take_out-x.new.cpu) (steps c.put_back.new.cpu) (turns_out (setup c.args.shared.now) c.args.band (steps c.args.cpu.now) (steps c.loop-i.cpu) (steps c.take_out-x.new.cpu) c.loop-i.i c.take_out-x.result c.loop-i.invariant.made c.take_out-x.ensures.made) c.put_back.ensures.made;
     }
+
+pub returns-then-x-eq0-clause-made : goal.returns-then-x-eq0-clause-made
+returns-then-x-eq0-clause-made g c = turns_then (setup c.args.shared.now) c.args.band (steps c.args.cpu.now) (steps c.take_out-x.new.cpu) (steps c.put_back.new.cpu) (turns_out (setup c.args.shared.now) c.args.band (steps c.args.cpu.now) (steps c.loop-i.cpu) (steps c.take_out-x.new.cpu) c.loop-i.i c.take_out-x.result c.loop-i.invariant.made c.take_out-x.ensures.made) c.put_back.ensures.made
+
+pub loop-i-init : goal.loop-i-init
+loop-i-init g c = let turned : TurnsRing (setup c.args.shared.now) c.args.band (steps c.args.cpu.now) (steps c.args.cpu.now) = not_yet in search rules

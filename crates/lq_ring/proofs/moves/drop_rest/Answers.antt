@@ -3,14 +3,16 @@ use Rattle.lq_account.proofs.Lists.{drop-in, here-in}
 use Rattle.lq_band.specs.Ring.{word_at}
 use Rattle.lq_table.specs.Views.{View, Work}
 use Rattle.lq_table.specs.Resizes.{is_member, out_of}
-use Rattle.lq_table.specs.Sees.{view}
+use Rattle.lq_table.specs.Sees.{view, setup, steps}
 use Rattle.lq_model.specs.declared.fate.Fate.{Fate}
-use Rattle.lq_ring.specs.Work.{work_at, working, event_at, having_settled, shrunk_to, shrunk_if, settled_if, dropped_to}
+use Rattle.lq_ring.specs.Work.{work_at, working, event_of_work, having_settled, shrunk_to, shrunk_if, settled_if, dropped_to}
 use Rattle.lq_ring.proofs.Works.{at_chain, turner_chain, chain, work_back, zeroed_out, word_drop, work_of, event_of, first_waits, dropped_step, event_after, member_of_first, shrunk_next, count_next}
+use Rattle.lq_ring.specs.Changes.{not_yet}
+use Rattle.lq_ring.proofs.StepLemmas.{turns_out, turns_then}
 use Rattle.lq_ring.proofs.moves.drop_rest.Goals as goal
 
 pub loop-n-init : goal.loop-n-init
-loop-n-init g c = let t = c.requires.turner.0 in record { seat = c.requires.seat; same = ((refl, refl), refl, refl, refl); view_is = sym (work_back c.args.band (view c.args.cpu.now) t.1.0 t.1.1 t.1.2); count_is = omega arith; few = (search rules) }
+loop-n-init g c = let t = c.requires.turner.0 in record { seat = c.requires.seat; same = ((refl, refl), refl, refl, refl); view_is = sym (work_back c.args.band (view c.args.cpu.now) t.1.0 t.1.1 t.1.2); count_is = omega arith; few = (search rules); made = not_yet }
 
 pub take_out-x-requires-clause-turner : goal.take_out-x-requires-clause-turner
 take_out-x-requires-clause-turner g c _ _ =
@@ -33,7 +35,7 @@ settle_word-count-requires-clause-word g c _ _ = λ some_.
     let in_it : Contains wn.waiting (x - 1) = subst (λ (z : List ℕ). Contains z (x - 1)) (sym f.1) (here-in (x - 1) f.0) in
     let packet = c.requires.packets (x - 1) (drop-in n w.waiting (x - 1) in_it) in
     let at_t = work_of b v1 t1.1.0 t1.1.1 in
-    let event : (t1.1.0).event ≡ c.args.event = sym (event_of v1 t1.1.0 t1.1.1) ∙ (ap event_at e1 ∙ (event_after b (out_of (from + n) wn) u t ∙ c.requires.turner.1)) in
+    let event : (t1.1.0).event ≡ c.args.event = sym (event_of v1 t1.1.0 t1.1.1) ∙ (ap event_of_work e1 ∙ (event_after b (out_of (from + n) wn) u t ∙ c.requires.turner.1)) in
     let small = c.take_out-x.ensures.found.1 (ap (λ (z : Work). is_member x z) at0 ∙ member_of_first (from + n) x wn found first some_) in (
       record {
         holds = t1.0;
@@ -66,4 +68,5 @@ loop-n-preserved g c =
       view_is = c.settle_word-count.ensures.settled ∙ (λ j. having_settled (stored j) ((e2 ∙ ap (λ (z : Work). working b z u) (dropped_step from n x w c.requires.rest.0 found first)) j));
       count_is = count_next w.waiting n x c.loop-n.count c.settle_word-count.result first c.settle_word-count.ensures.count c.loop-n.invariant.count_is;
       few = (search rules);
+      made = turns_then (setup c.args.shared.now) c.args.band (steps c.args.cpu.now) (steps c.take_out-x.new.cpu) (steps c.settle_word-count.new.cpu) (turns_out (setup c.args.shared.now) c.args.band (steps c.args.cpu.now) (steps c.loop-n.cpu) (steps c.take_out-x.new.cpu) (from + n) x c.loop-n.invariant.made c.take_out-x.ensures.made) c.settle_word-count.ensures.made;
     }

@@ -1,9 +1,11 @@
 use Rattle.std.proofs.Common.{◌≡◌, ◌≢◌, ℕ, arith, set, get_or, true, ap, ◌∙◌}
 use Rattle.lq_table.specs.Views.{Work}
 use Rattle.lq_table.specs.Resizes.{is_member, out_of}
-use Rattle.lq_table.specs.Sees.{view}
+use Rattle.lq_table.specs.Sees.{view, setup, steps}
 use Rattle.lq_ring.specs.Work.{work_at, working, back_in}
 use Rattle.lq_ring.proofs.Works.{at_chain, turner_chain, chain, zero_or, hand_before, first_back, second_back, exchange_is}
+use Rattle.lq_ring.specs.Changes.{not_yet}
+use Rattle.lq_ring.proofs.StepLemmas.{turns_out, turns_then}
 use Rattle.lq_ring.proofs.moves.exchange.Goals as goal
 
 pub take_out-y-requires-clause-turner : goal.take_out-y-requires-clause-turner
@@ -55,3 +57,10 @@ returns-clause-exchanged g c =
     let at1 : work_at b (view c.take_out-x.new.cpu) ≡ out_of i w = at_chain b (out_of i w) v _ t e1 in
     let y_is : c.take_out-y.result ≡ get_or (set w.slots i 0) j 0 = c.take_out-y.ensures.found.0 ∙ ap (λ (z : Work). get_or z.slots j 0) at1 in
     e4 ∙ ap (λ (z : Work). working b z v) (exchange_is i j w c.take_out-x.result c.take_out-y.result apart c.take_out-x.ensures.found.0 y_is (c.requires.slots.1 i) (c.requires.slots.1 j))
+
+pub returns-clause-made : goal.returns-clause-made
+returns-clause-made g c =
+    let old = steps c.args.cpu.now in let x = steps c.take_out-x.new.cpu in let y = steps c.take_out-y.new.cpu in let back = steps c.put_back.new.cpu in let k = setup c.args.shared.now in let b = c.args.band in
+    turns_then k b old back (steps c.put_back-2.new.cpu)
+    (turns_then k b old y back (turns_out k b old x y c.args.j c.take_out-y.result (turns_out k b old old x c.args.i c.take_out-x.result not_yet c.take_out-x.ensures.made) c.take_out-y.ensures.made) c.put_back.ensures.made)
+    c.put_back-2.ensures.made

@@ -1,10 +1,12 @@
-use Rattle.std.proofs.Common.{◌-◌, sym, ap, ◌∙◌}
+use Rattle.std.proofs.Common.{◌+◌, ◌-◌, sym, ap, ◌∙◌}
 use Rattle.std.specs.Prelude.{slice_index}
 use Rattle.lq_table.specs.Views.{Work}
 use Rattle.lq_table.specs.Resizes.{into}
-use Rattle.lq_table.specs.Sees.{view}
+use Rattle.lq_table.specs.Sees.{view, setup, steps}
 use Rattle.lq_ring.specs.Work.{work_at, working}
 use Rattle.lq_ring.proofs.Works.{back_zero, work_back, work_of, told_work, into_is}
+use Rattle.lq_ring.specs.Changes.{not_yet}
+use Rattle.lq_ring.proofs.StepLemmas.{turns_back}
 use Rattle.lq_ring.proofs.moves.put_back.Goals as goal
 
 pub fill_slot-requires-clause-hand : goal.fill_slot-requires-clause-hand
@@ -22,3 +24,9 @@ pub returns-else-x-ne0-clause-put : goal.returns-else-x-ne0-clause-put
 returns-else-x-ne0-clause-put g c =
     let b = c.args.band in let v = view c.args.cpu.now in let t = c.requires.turner in
     sym (ap (λ (w : Work). working b w v) (back_zero c.args.i c.args.x (work_at b v) c.if-x-ne0.false) ∙ work_back b v t.1.0 t.1.1 t.1.2)
+
+pub returns-then-x-ne0-clause-made : goal.returns-then-x-ne0-clause-made
+returns-then-x-ne0-clause-made g c = turns_back (setup c.args.shared.now) c.args.band (steps c.args.cpu.now) (steps c.fill_slot.new.cpu) c.args.i (c.args.x - 1 + 1) c.fill_slot.ensures.made
+
+pub returns-else-x-ne0-clause-made : goal.returns-else-x-ne0-clause-made
+returns-else-x-ne0-clause-made g c = not_yet

@@ -1,8 +1,9 @@
 use Rattle.std.proofs.Common.{◌-◌, ◌/◌, arith, ℕ, sym, ap, ◌∙◌, subst, length, List}
 use Rattle.lq_table.specs.Views.{Work}
-use Rattle.lq_table.specs.Sees.{view}
+use Rattle.lq_table.specs.Sees.{view, setup, steps}
 use Rattle.lq_ring.specs.Work.{work_at, AreMembers, members_of, with_slots, reversed_to}
 use Rattle.lq_ring.proofs.Works.{at_chain, turner_chain, chain, reversed_long, reversed_members}
+use Rattle.lq_ring.proofs.StepLemmas.{turns_then}
 use Rattle.lq_ring.proofs.moves.rotate.Goals as goal
 
 pub reverse-requires-2-clause-turner : goal.reverse-requires-2-clause-turner
@@ -39,3 +40,8 @@ returns-clause-rotated g c =
     let b = c.args.band in let v = view c.args.cpu.now in let w : Work = work_at b v in let head = c.args.head in let size = c.args.size in let one : List ℕ = reversed_to 0 head ((head - 0) / 2) w.slots in
     let e2 = chain b (λ (z : Work). with_slots (reversed_to head size ((size - head) / 2) z.slots) z) (with_slots one w) v _ _ c.requires.turner c.reverse.ensures.reversed c.reverse-2.ensures.reversed in
     chain b (λ (z : Work). with_slots (reversed_to 0 size ((size - 0) / 2) z.slots) z) (with_slots (reversed_to head size ((size - head) / 2) one) w) v _ _ c.requires.turner e2 c.reverse-3.ensures.reversed
+
+pub returns-clause-made : goal.returns-clause-made
+returns-clause-made g c =
+    let old = steps c.args.cpu.now in let one = steps c.reverse.new.cpu in let two = steps c.reverse-2.new.cpu in let k = setup c.args.shared.now in let b = c.args.band in
+    turns_then k b old two (steps c.reverse-3.new.cpu) (turns_then k b old one two c.reverse.ensures.made c.reverse-2.ensures.made) c.reverse-3.ensures.made

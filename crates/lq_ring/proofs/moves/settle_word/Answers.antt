@@ -3,9 +3,11 @@ use Rattle.std.specs.Prelude.{if◌then◌else◌}
 use Rattle.lq_model.specs.declared.fate.Fate.TheVariants as fate
 use Rattle.lq_table.specs.Views.{Work}
 use Rattle.lq_table.specs.Settled.{MayShrink}
-use Rattle.lq_table.specs.Sees.{view}
+use Rattle.lq_table.specs.Sees.{view, setup, steps}
 use Rattle.lq_ring.specs.Work.{work_at, working, having_settled}
 use Rattle.lq_ring.proofs.Works.{settled_none, work_back, shrunk_is}
+use Rattle.lq_ring.specs.Changes.{not_yet}
+use Rattle.lq_ring.proofs.StepLemmas.{turns_dropped}
 use Rattle.lq_ring.proofs.moves.settle_word.Goals as goal
 
 pub returns-then-x-eq0-clause-settled : goal.returns-then-x-eq0-clause-settled
@@ -23,3 +25,9 @@ pub returns-clause-settled : goal.returns-clause-settled
 returns-clause-settled g c =
     let w = c.requires.word c.if-x-eq0.false in let t = c.requires.turner.1 in
     c.settle.ensures.settled ∙ shrunk_is c.args.band _ c.args.x c.args.event (view c.args.cpu.now) t.0 t.1 w.2 c.if-x-eq0.false
+
+pub returns-then-x-eq0-clause-made : goal.returns-then-x-eq0-clause-made
+returns-then-x-eq0-clause-made g c = not_yet
+
+pub returns-clause-made : goal.returns-clause-made
+returns-clause-made g c = turns_dropped (setup c.args.shared.now) c.args.band (steps c.args.cpu.now) (steps c.settle.new.cpu) (c.args.x - 1) (fate.Shrunk c.args.event) c.settle.ensures.made

@@ -2,7 +2,11 @@ use Rattle.std.proofs.Common.{◌≡◌, sym, ap, ◌∙◌, subst, arith, Some}
 use Rattle.lq_model.specs.Positions.{holds_lock}
 use Rattle.lq_table.specs.Views.{View, Left}
 use Rattle.lq_table.specs.Rule.{shown, IsResting}
-use Rattle.lq_table.specs.Sees.{view}
+use Rattle.lq_table.specs.Sees.{view, setup, steps}
+use Rattle.lq_table.specs.Made.{◌⊳◌, did_load_size}
+use Rattle.lq_model.specs.declared.fate.Fate.TheVariants as fate
+use Rattle.lq_ring.specs.Changes.{one_more}
+use Rattle.lq_ring.proofs.StepLemmas.{purges_none}
 use Rattle.lq_ring.specs.Purged.{purged_by, IsPurgedTo}
 use Rattle.lq_ring.proofs.Seats.{seat_on}
 use Rattle.lq_ring.proofs.TakeSteps.{sized_none, rest_at, rest_put}
@@ -17,6 +21,7 @@ loop-n-init g c =
       slot = s.3;
       station = s.1 ∙ (c.requires.station ∙ ap (λ (x : View). Some (shown x.holder)) (sym loaded));
       purged = λ f left. subst (λ (x : View). IsPurgedTo c.args.band 0 f v x) (sym loaded) (none_purged c.args.band f v c.requires.band left (rest_at _ c.args.band _ c.requires.rests.0));
+      made = (c.load_size-size.result, purges_none (setup c.args.shared.now) c.args.band (fate.Purged c.args.cause) (steps c.args.cpu.now ⊳ did_load_size c.load_size-size.result) (steps c.load_size-size.new.cpu) c.load_size-size.ensures.made);
     }
 
 pub purge_one-requires-clause-at : goal.purge_one-requires-clause-at
@@ -54,9 +59,16 @@ loop-n-preserved g c =
       slot = s.1 ∙ i.slot;
       station = c.purge_one.ensures.station;
       purged = next;
+      made = let one = c.purge_one.ensures.made.0 c.if-not-purge_one.false in
+          (i.made.0, one_more k one.0 (steps c.loop-n.cpu) (steps c.purge_one.new.cpu) i.made.1 one.1);
     }
 
 pub unreachable-requires : goal.unreachable-requires
 unreachable-requires g c =
     let at = c.requires.at in let few = (c.loop-n.invariant.purged at.1 at.5).few in let most = at.8 in let past = c.loop-n-test.false in
     let size : c.load_size-size.result ≡ (view c.args.cpu.now).holder.size = c.load_size-size.ensures.holder (ap holds_lock at.2) in absurd (omega arith)
+
+pub returns-then-not-purge_one-clause-made : goal.returns-then-not-purge_one-clause-made
+returns-then-not-purge_one-clause-made g c =
+    let none_ = c.purge_one.ensures.made.1 c.if-not-purge_one.true in let i = c.loop-n.invariant.made in
+    (i.0, steps c.loop-n.cpu, none_.0, i.1, none_.1)

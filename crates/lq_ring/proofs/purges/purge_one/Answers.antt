@@ -13,7 +13,10 @@ use Rattle.lq_table.specs.Views.{View, no_station}
 use Rattle.lq_table.specs.Rule.{shown}
 use Rattle.lq_table.specs.Purges.{taking_purged}
 use Rattle.lq_table.specs.Told.{paying}
-use Rattle.lq_table.specs.Sees.{view}
+use Rattle.lq_table.specs.Sees.{view, setup, steps}
+use Rattle.lq_table.specs.Made.{◌⊳◌, did_load_slot, did_store_fate}
+use Rattle.lq_model.specs.Words.{word_of}
+use Rattle.lq_ring.specs.Steps.{zeroed}
 use Rattle.lq_ring.proofs.TakeSteps.{heads_at, tails_at, rest_at, takes_end}
 use Rattle.lq_ring.proofs.Seats.{seat_on}
 use Rattle.lq_ring.proofs.PurgeSteps.{purged_station}
@@ -102,3 +105,19 @@ discard_one-requires-clause-seat g c _ _ =
     let at = c.requires.at in let took = c.settle.ensures.settled ∙ ap paying (c.purge_slot-found.ensures.taken at.1 at.5 c.if-found-eq0.false).1 in
     let a = c.purge_slot-found.ensures.same.0.0 in let b = c.settle.ensures.same.0 in
     seat_on c.args.shared.now c.args.cpu.now c.settle.new.cpu c.requires.seat (b.0 ∙ a.0, b.1 ∙ a.1) (ap (λ (x : View). x.share) took)
+
+pub returns-then-found-eq0-clause-made : goal.returns-then-found-eq0-clause-made
+returns-then-found-eq0-clause-made g c =
+    let b = c.args.band in let k = setup c.args.shared.now in let zero_ = c.if-found-eq0.true in let head = (at_ b (view c.args.cpu.now)).head in
+    (λ e. cc, λ _. (head, c.purge_slot-found.ensures.made ∙ (λ j. steps c.args.cpu.now ⊳ did_load_slot k b head (zero_ j))))
+
+pub returns-clause-made : goal.returns-clause-made
+returns-clause-made g c =
+    let b = c.args.band in let v = view c.args.cpu.now in let own : Ends = at_ b v in let k = setup c.args.shared.now in let found = c.purge_slot-found.result in let n = found - 1 in let old = steps c.args.cpu.now in
+    let some_ = c.if-found-eq0.false in let back : found ≡ n + 1 = omega arith in let at = c.requires.at in
+    let took = c.settle.ensures.settled ∙ ap paying (c.purge_slot-found.ensures.taken at.1 at.5 c.if-found-eq0.false).1 in
+    let ends : at_ b (view c.settle.new.cpu) ≡ taken_on own = ap (λ (x : View). at_ b x) took ∙ at_put_same b (taken_on own) v.holder.ends in
+    let stored : steps c.settle.new.cpu ≡ old ⊳ did_load_slot k b own.head (n + 1) ⊳ did_store_fate k n (word_of (fate.Purged c.args.cause)) =
+    c.settle.ensures.made ∙ ((λ j. c.purge_slot-found.ensures.made j ⊳ did_store_fate k n (word_of (fate.Purged c.args.cause))) ∙ (λ j. old ⊳ did_load_slot k b own.head (back j) ⊳ did_store_fate k n (word_of (fate.Purged c.args.cause)))) in
+    let zeroes = c.discard_one.ensures.made in
+    (λ _. (n, (own.head, zeroes.0, zeroes.1 ∙ (λ j. zeroed k b (ends j).head zeroes.0 (stored j)))), λ e. cc)

@@ -1,5 +1,6 @@
 use Rattle.std.proofs.Common.{◌≡◌}
-use Rattle.lq_table.specs.Sees.{view, slot, IsSeatOf, IsSameSeat}
+use Rattle.lq_table.specs.Sees.{view, steps, slot, IsSeatOf, IsSameSeat}
+use Rattle.lq_ring.specs.Steps.{Spins}
 use Rattle.lq_ring.proofs.puts.lock_producer.Given as goal
 
 abbrev pub invariant-loop : goal.invariant-loop
@@ -11,4 +12,5 @@ invariant-loop g l = record {
   same : view l.cpu ≡ view l.fn.cpu;
   slot : slot l.cpu ≡ slot l.fn.cpu;
   station : l.cpu.station ≡ l.fn.cpu.station;
+  spins : Spins l.band (steps l.fn.cpu) (steps l.cpu);
 }

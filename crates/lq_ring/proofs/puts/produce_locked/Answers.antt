@@ -5,7 +5,9 @@ use Rattle.lq_table.specs.Views.{View}
 use Rattle.lq_band.specs.Ring.{with_room}
 use Rattle.lq_table.specs.Rings.{with_lock_at, joining, dropping}
 use Rattle.lq_table.specs.SolePut.{SeesEnd}
-use Rattle.lq_table.specs.Sees.{view}
+use Rattle.lq_table.specs.Sees.{view, setup, steps}
+use Rattle.lq_table.specs.Made.{Made, ◌⊳◌, did_load_slot, did_store_slot, did_give_producer}
+use Rattle.lq_ring_core.specs.Ring.{next_place}
 use Rattle.lq_ring.proofs.PutSteps.{lock1, lock2, lock3, ends_full, ends_put}
 use Rattle.lq_ring.proofs.puts.produce_locked.Goals as goal
 
@@ -77,3 +79,17 @@ returns-clause-put g c =
     let b = c.args.band in let locked = c.requires.locked in let v1 = view c.load_size-size.new.cpu in let v2 = view c.producer_slot-found.new.cpu in
     ends_put b c.load_size-size.result c.args.index c.args.n (view c.args.cpu.now) v1 locked.0 c.load_size-size.ensures.size.0 v2 (c.producer_slot-found.ensures.room c.if-found-ne0.false) (view c.store_slot.new.cpu) c.store_slot.ensures.joined
     (view c.give_producer-2.new.cpu) c.give_producer-2.ensures.given
+
+pub returns-clause-made : goal.returns-clause-made
+returns-clause-made g c =
+    let b = c.args.band in let locked = c.requires.locked in let v1 = view c.load_size-size.new.cpu in let v2 = view c.producer_slot-found.new.cpu in let z = c.load_size-size.result in let k = setup c.args.shared.now in let i = c.args.index in
+    let empty = c.if-found-ne0.false in
+    let at1 : (at b v1.locks).index ≡ i = ap (λ (x : Lock). x.index) (lock1 b z i c.args.n (view c.args.cpu.now) v1 locked.0 c.load_size-size.ensures.size.0) in
+    let at2 : (at b v2.locks).index ≡ i = ap (λ (x : Lock). x.index) (lock2 b z i c.args.n (view c.args.cpu.now) v1 locked.0 c.load_size-size.ensures.size.0 v2 (c.producer_slot-found.ensures.room c.if-found-ne0.false)) in (
+      z,
+      c.give_producer-2.ensures.made
+          ∙ ((λ j. steps c.store_slot.new.cpu ⊳ did_give_producer b (c.next_index-next.ensures j))
+          ∙ ((λ j. c.store_slot.ensures.made j ⊳ did_give_producer b (next_place z i))
+          ∙ ((λ j. c.producer_slot-found.ensures.made j ⊳ did_store_slot k b (at2 j) (c.args.n + 1) ⊳ did_give_producer b (next_place z i))
+          ∙ (λ j. c.load_size-size.ensures.made j ⊳ did_load_slot k b (at1 j) (empty j) ⊳ did_store_slot k b i (c.args.n + 1) ⊳ did_give_producer b (next_place z i))))),
+    )

@@ -1,4 +1,4 @@
-use Rattle.std.proofs.Common.{◌≡◌, ◌+◌, ◌++◌, ℕ, [], drop, length, refl, ap, ◌∙◌, arith}
+use Rattle.std.proofs.Common.{◌≡◌, ◌+◌, ◌++◌, ℕ, [], drop, length, refl, ap, ◌∙◌, arith, subst, List}
 use Rattle.std.proofs.lemmas.List.{length-append}
 use Rattle.lq_ring_core.specs.Slots.{round}
 use Rattle.lq_band.specs.Three.{at}
@@ -9,9 +9,11 @@ use Rattle.lq_model.specs.Positions.{holds_lock}
 use Rattle.lq_table.specs.Views.{View, HalfResize}
 use Rattle.lq_table.specs.Resizes.{resizing_of, with_work}
 use Rattle.lq_table.specs.Rule.{shown}
-use Rattle.lq_table.specs.Sees.{view}
+use Rattle.lq_table.specs.Sees.{view, setup, steps}
 use Rattle.lq_ring.specs.Resized.{all_lost}
 use Rattle.lq_ring.proofs.InTurn.{all_ready, ready_step, refilled_of, resize_is, turns4, waits0, waits1, waits2}
+use Rattle.lq_table.specs.Made.{Made}
+use Rattle.lq_ring.specs.Changes.{TurnsBand}
 use Rattle.lq_ring.proofs.resize.turn_all.Goals as goal
 
 pub turn_at-low-requires-clause-ready : goal.turn_at-low-requires-clause-ready
@@ -65,4 +67,17 @@ returns-clause-resized g c =
       omega arith,
       b.4,
       (b.5, b.6),
+    )
+
+pub returns-clause-made : goal.returns-clause-made
+returns-clause-made g c =
+    let k = setup c.args.shared.now in let begun = c.begin_resize.ensures.made in (
+      begun.0,
+      steps c.turn_at-low.new.cpu,
+      steps c.turn_at-mid.new.cpu,
+      steps c.turn_at-high.new.cpu,
+      subst (λ (xs : List Made). TurnsBand k 0 c.turn_at-low.result.index xs (steps c.turn_at-low.new.cpu)) begun.1 c.turn_at-low.ensures.made,
+      c.turn_at-mid.ensures.made,
+      c.turn_at-high.ensures.made,
+      c.store_size.ensures.made,
     )

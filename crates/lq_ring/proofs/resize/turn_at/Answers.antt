@@ -7,14 +7,14 @@ use Rattle.lq_band.specs.Ring.{locked_at}
 use Rattle.lq_table.specs.Views.{View}
 use Rattle.lq_table.specs.Rings.{with_lock_at}
 use Rattle.lq_table.specs.Sees.{view}
-use Rattle.lq_ring.specs.Work.{work_at, IsTurner, IsWhole}
+use Rattle.lq_ring.specs.Work.{work_at, IsTurner, IsWorkBegun}
 use Rattle.lq_ring.proofs.Works.{turner_after}
 use Rattle.lq_ring.proofs.resize.turn_at.Goals as goal
 
 pub turn_band-done-requires-clause-whole : goal.turn_band-done-requires-clause-whole
 turn_band-done-requires-clause-whole g c _ _ =
     let r = c.requires.ready in let tail = c.tail_of-tail.ensures r.0 r.1 in let head = c.head_of-head.ensures r.0 r.1 in
-    (r.2.held, subst (λ (z : ℕ × ℕ). IsWhole c.args.shared.now.max_len c.args.size z.0 z.1 c.args.len r.2.held (work_at c.args.band (view c.args.cpu.now))) (λ j. (sym tail j, sym head j)) r.2.whole)
+    (r.2.held, subst (λ (z : ℕ × ℕ). IsWorkBegun c.args.shared.now.max_len c.args.size z.0 z.1 c.args.len r.2.held (work_at c.args.band (view c.args.cpu.now))) (λ j. (sym tail j, sym head j)) r.2.whole)
 
 pub turn_band-done-requires-clause-packets : goal.turn_band-done-requires-clause-packets
 turn_band-done-requires-clause-packets g c _ _ = λ n l. let r = c.requires.ready.2 in r.packets n (drop-in c.args.len r.held n (subst (λ (ls : List ℕ). Contains ls n) r.whole.waiting_is l))

@@ -1,4 +1,4 @@
-use Rattle.std.proofs.Common.{◌≡◌, ℕ, ◌+◌, ◌-◌, ◌<◌, ◌≤◌, refl, sym, ap, ◌∙◌, subst, arith}
+use Rattle.std.proofs.Common.{◌≡◌, ℕ, ◌+◌, ◌-◌, ◌<◌, ◌≤◌, refl, sym, ap, ◌∙◌, subst, arith, List}
 use Rattle.lq_model.specs.Positions.{holds_lock}
 use Rattle.lq_band.specs.Three.{at}
 use Rattle.lq_band.specs.Ring.{Ends, taken_on}
@@ -6,7 +6,9 @@ use Rattle.lq_band.proofs.Three.{at_put_same}
 use Rattle.lq_table.specs.Views.{View}
 use Rattle.lq_table.specs.Rule.{shown}
 use Rattle.lq_table.specs.Rings.{finding_none, taking}
-use Rattle.lq_table.specs.Sees.{view}
+use Rattle.lq_table.specs.Sees.{view, setup, steps}
+use Rattle.lq_table.specs.Made.{Made, ◌⊳◌, did_load_slot}
+use Rattle.lq_ring.specs.Steps.{zeroed}
 use Rattle.lq_table.specs.Told.{IsPacketOf}
 use Rattle.lq_table.specs.Solo.{solo}
 use Rattle.lq_ring.proofs.TakeSteps.{sized_none, none_leads, none_heard, take_leads, take_heard, heads_at, tails_at, rest_at, consumes, rests_after, station_after, known_after}
@@ -92,3 +94,19 @@ pub returns-clause-step : goal.returns-clause-step
 returns-clause-step g c =
     let at_ = c.requires.at in
     ap (λ (x : View). solo x) (returns-clause-taken g c) ∙ take_heard c.args.band at_.0 (view c.args.cpu.now) at_.1 (c.head_slot-found.result - 1)
+
+pub returns-clause-made : goal.returns-clause-made
+returns-clause-made g c =
+    let b = c.args.band in let v = view c.args.cpu.now in let found = c.head_slot-found.result in let n = found - 1 in let own : Ends = at b v.holder.ends in let k = setup c.args.shared.now in
+    let loaded = c.load_size-size.ensures.size.0 ∙ sized_none c.load_size-size.result v c.requires.idle in
+    let took = c.head_slot-found.ensures.taken c.if-found-eq0.false ∙ ap (λ (x : View). taking b n x) loaded in
+    let ends : at b (view c.head_slot-found.new.cpu).holder.ends ≡ taken_on own = ap (λ (x : View). at b x.holder.ends) took ∙ at_put_same b (taken_on own) v.holder.ends in
+    let some_ = c.if-found-eq0.false in let back : found ≡ n + 1 = omega arith in
+    let head = ap (λ (x : View). (at b x.holder.ends).head) loaded in
+    let looked : steps c.head_slot-found.new.cpu ≡ steps c.load_size-size.new.cpu ⊳ did_load_slot k b own.head (n + 1) =
+    c.head_slot-found.ensures.made ∙ (λ j. steps c.load_size-size.new.cpu ⊳ did_load_slot k b (head j) (back j)) in
+    let z = c.discard_one.ensures.made in (
+      c.load_size-size.result,
+      z.0,
+      z.1 ∙ (λ j. zeroed k b (ends j).head z.0 (steps c.head_slot-found.new.cpu)) ∙ (λ j. zeroed k b (own.head + 1) z.0 (looked j)) ∙ (λ j. zeroed k b (own.head + 1) z.0 (c.load_size-size.ensures.made j ⊳ did_load_slot k b own.head (n + 1))),
+    )

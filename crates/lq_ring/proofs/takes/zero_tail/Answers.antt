@@ -1,10 +1,12 @@
-use Rattle.std.proofs.Common.{◌≡◌, ℕ, suc, ◌+◌, ◌<◌, sym, ap, ◌∙◌, subst, arith}
+use Rattle.std.proofs.Common.{◌≡◌, ℕ, suc, ◌+◌, ◌-◌, ◌<◌, List, sym, ap, ◌∙◌, subst, arith}
 use Rattle.lq_band.specs.Three.{at}
 use Rattle.lq_band.specs.Ring.{Ends, emptied_down}
 use Rattle.lq_band.proofs.Kept.{down_more}
 use Rattle.lq_table.specs.Rings.{emptying}
-use Rattle.lq_table.specs.Sees.{view, ends_at}
+use Rattle.lq_table.specs.Sees.{view, steps, setup, ends_at}
 use Rattle.lq_table.specs.Views.{View}
+use Rattle.lq_table.specs.Made.{Made, ◌⊳◌, did_store_slot}
+use Rattle.lq_ring.specs.Steps.{zeroed}
 use Rattle.lq_ring.specs.Take.{having_ends, emptied_times}
 use Rattle.lq_ring.proofs.TakeSteps.{emptying_having}
 use Rattle.lq_ring.proofs.takes.zero_tail.Goals as goal
@@ -23,4 +25,5 @@ loop-n-preserved g c =
       seat = (same.0.0 ∙ old.seat.0, subst (λ (x : ℕ). 0 < x) (sym (ap (λ (x : View). x.share.shares) is)) c.requires.seat.1, ap (λ (x : View). x.share.about) is ∙ c.requires.seat.2);
       same = ((same.0.0 ∙ old.same.0.0, same.0.1 ∙ old.same.0.1), same.1 ∙ old.same.1, same.2 ∙ old.same.2, same.3 ∙ old.same.3);
       view_is = is;
+      made = c.zero_slot.ensures.made ∙ ap (λ (xs : List Made). xs ⊳ did_store_slot (setup c.args.shared.now) b (c.args.head - 1 - n) 0) old.made ∙ ap (λ (m : ℕ). zeroed (setup c.args.shared.now) b c.args.head m (steps c.args.cpu.now)) (sym one);
     }

@@ -5,16 +5,17 @@ use Rattle.lq_band.specs.Ring.{word_at}
 use Rattle.lq_band.specs.HalfResized.{IsRefilled}
 use Rattle.lq_table.specs.Views.{View, Work}
 use Rattle.lq_table.specs.Resizes.{is_word}
-use Rattle.lq_table.specs.Sees.{view}
+use Rattle.lq_table.specs.Sees.{view, setup, steps}
 use Rattle.lq_model.specs.declared.fate.Fate.TheVariants as fate
 use Rattle.lq_ring.specs.Fates.{fates_onto}
-use Rattle.lq_ring.specs.Work.{work_at, working, event_at, AreMembers, members_of, having_settled, shrunk_to, with_slots, rotated, zeroed_to, dropped_to, IsWhole}
+use Rattle.lq_ring.specs.Work.{work_at, working, event_of_work, AreMembers, members_of, having_settled, shrunk_to, with_slots, rotated, zeroed_to, dropped_to, IsWorkBegun}
 use Rattle.lq_ring.proofs.Works.{at_chain, turner_chain, chain, event_after, zeroed_long}
 use Rattle.lq_ring.proofs.Turned.{stale_other, cleared_members, turned_members, long3, dropped_in, none_left, drop_none-take, refilled, counted}
+use Rattle.lq_ring.proofs.StepLemmas.{turns_then}
 use Rattle.lq_ring.proofs.turns.turn_band.Goals as goal
 
 -- the words of the band's packets
-same_members : (limit size tail head len : ℕ) (held : List ℕ) (w : Work) → IsWhole limit size tail head len held w → take len held ++ drop len held ≡ members_of w
+same_members : (limit size tail head len : ℕ) (held : List ℕ) (w : Work) → IsWorkBegun limit size tail head len held w → take len held ++ drop len held ≡ members_of w
 same_members limit size tail head len held w h = λ j. sym h.kept_is j ++ sym h.waiting_is j
 
 pub clear_stale-requires-clause-stale : goal.clear_stale-requires-clause-stale
@@ -53,7 +54,7 @@ drop_rest-dropped-requires-clause-turner g c _ _ =
     let b = c.args.band in let v = view c.args.cpu.now in let w : Work = work_at b v in let z : List ℕ = zeroed_to c.args.tail (c.args.head - c.args.tail) w.slots in let t = c.requires.turner.0 in
     let r : Work = with_slots (rotated c.args.head c.args.size z) w in
     let e = c.count_filled-kept.ensures.same.1 ∙ chain b (λ (x : Work). with_slots (rotated c.args.head c.args.size x.slots) x) (with_slots z w) v _ _ t c.clear_stale.ensures.cleared c.rotate.ensures.rotated in
-    (turner_chain b r v _ t e, ap event_at e ∙ (event_after b r v t ∙ c.requires.turner.1))
+    (turner_chain b r v _ t e, ap event_of_work e ∙ (event_after b r v t ∙ c.requires.turner.1))
 
 less_of : (m len size : ℕ) → (len < size → m ≡ len) → (size ≤ len → m ≡ size) → ((m ≡ len) × (len < size)) ⊎ ((m ≡ size) × (size ≤ len))
 less_of m len size a b = ⊎_elim (λ (h : len < size). inl (a h, h)) (λ (h : size ≤ len). inr (b h, h)) (cases_lt len size)
@@ -77,7 +78,7 @@ drop_rest-dropped-requires-clause-packets g c _ _ = λ n l.
     c.requires.packets n (subst (λ (ls : List ℕ). Contains ls n) (ap (λ (x : Work). x.waiting) (at_chain b r v _ t e)) l)
 
 -- all of the dropped packets were settled
-none_waits : (limit size tail head len m : ℕ) (held : List ℕ) (w : Work) → IsWhole limit size tail head len held w → ((m ≡ len) × (len < size)) ⊎ ((m ≡ size) × (size ≤ len)) → drop (size - m) w.waiting ≡ []
+none_waits : (limit size tail head len m : ℕ) (held : List ℕ) (w : Work) → IsWorkBegun limit size tail head len held w → ((m ≡ len) × (len < size)) ⊎ ((m ≡ size) × (size ≤ len)) → drop (size - m) w.waiting ≡ []
 none_waits limit size tail head len m held w h less = ap (drop (size - m)) h.waiting_is ∙ none_left size limit w.slots held tail head len h.unturned m less
 
 pub returns-clause-turned : goal.returns-clause-turned
@@ -119,3 +120,8 @@ returns-clause-kept g c =
           ∙ ap length (sym h.kept_is),
       (let q : c.drop_rest-dropped.result ≡ length (work_at b (view c.count_filled-kept.new.cpu)).waiting = omega arith in q) ∙ ap length waits,
     )
+
+pub returns-clause-made : goal.returns-clause-made
+returns-clause-made g c =
+    let old = steps c.args.cpu.now in let one = steps c.clear_stale.new.cpu in let two = steps c.rotate.new.cpu in let three = steps c.count_filled-kept.new.cpu in let k = setup c.args.shared.now in let b = c.args.band in
+    turns_then k b old three (steps c.drop_rest-dropped.new.cpu) (turns_then k b old two three (turns_then k b old one two c.clear_stale.ensures.made c.rotate.ensures.made) c.count_filled-kept.ensures.made) c.drop_rest-dropped.ensures.made

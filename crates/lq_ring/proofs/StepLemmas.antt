@@ -1,0 +1,37 @@
+-- Steps one after another: of the wait for a producer lock, of a band that is turned, and of a purge.
+use Rattle.std.proofs.Common.{◌≡◌, ℕ, ◌+◌, List, refl, sym, subst, ap, ◌∙◌, false}
+use Rattle.lq_model.specs.Words.{word_of}
+use Rattle.lq_model.specs.declared.fate.Fate.{Fate}
+use Rattle.lq_table.specs.Views.{Setup}
+use Rattle.lq_table.specs.Made.{Made, ◌⊳◌, did_load_producer, did_take_producer, did_store_fate, did_store_slot, did_swap_slot}
+use Rattle.lq_ring.specs.Steps.{Spins, held, lost}
+use Rattle.lq_ring.specs.Changes.{TurnsRing, not_yet as unturned, took_out, put_back, dropped, PurgesEach, none_yet}
+
+pub spins_held : (band seen : ℕ) (old a b : List Made) → Spins band old a → b ≡ a ⊳ did_load_producer band seen → Spins band old b
+spins_held band seen old a b h e = subst (Spins band old) (sym e) (held a seen h)
+
+pub spins_lost : (band seen : ℕ) (old a b c : List Made) → Spins band old a → b ≡ a ⊳ did_load_producer band seen → c ≡ b ⊳ did_take_producer band seen false → Spins band old c
+spins_lost band seen old a b c h e f = subst (Spins band old) (sym (f ∙ ap (λ (xs : List Made). xs ⊳ did_take_producer band seen false) e)) (lost a seen h)
+
+-- A BAND IS TURNED
+
+module _ (k : Setup) (band : ℕ) where
+  pub turns_then : (old mid new : List Made) → TurnsRing k band old mid → TurnsRing k band mid new → TurnsRing k band old new
+  turns_then old mid _ h unturned = h
+  turns_then old mid _ h (took_out steps i found t) = took_out steps i found (turns_then old mid steps h t)
+  turns_then old mid _ h (put_back steps i word t) = put_back steps i word (turns_then old mid steps h t)
+  turns_then old mid _ h (dropped steps n fate t) = dropped steps n fate (turns_then old mid steps h t)
+
+  pub turns_out : (old a b : List Made) (i found : ℕ) → TurnsRing k band old a → b ≡ a ⊳ did_swap_slot k band i found → TurnsRing k band old b
+  turns_out old a b i found h e = subst (TurnsRing k band old) (sym e) (took_out a i found h)
+
+  pub turns_back : (old new : List Made) (i word : ℕ) → new ≡ old ⊳ did_store_slot k band i word → TurnsRing k band old new
+  turns_back old new i word e = subst (TurnsRing k band old) (sym e) (put_back old i word unturned)
+
+  pub turns_dropped : (old new : List Made) (n : ℕ) (fate : Fate) → new ≡ old ⊳ did_store_fate k n (word_of fate) → TurnsRing k band old new
+  turns_dropped old new n fate e = subst (TurnsRing k band old) (sym e) (dropped old n fate unturned)
+
+-- A PURGE
+
+pub purges_none : (k : Setup) (band : ℕ) (fate : Fate) (old new : List Made) → new ≡ old → PurgesEach k band fate old 0 new
+purges_none k band fate old new e = subst (PurgesEach k band fate old 0) (sym e) none_yet

@@ -1,0 +1,59 @@
+-- What a purge and a resize of the rings do, step by step.
+use Rattle.std.specs.Prelude.{◌≡◌, ◌+◌, ℕ, List}
+use Rattle.lq_model.specs.Words.{word_of}
+use Rattle.lq_model.specs.declared.fate.Fate.{Fate}
+use Rattle.lq_table.specs.Views.{Setup}
+use Rattle.lq_table.specs.Made.{Made, ◌⊳◌, did_give_producer, did_set_producer, did_load_size, did_store_size, did_load_slot, did_store_slot, did_swap_slot, did_store_fate}
+use Rattle.lq_ring.specs.Steps.{LocksProducer, zeroed}
+
+-- PURGES
+
+-- The packet n was taken from the slot at the head, its fate was stored, and the slots taken are emptied as after a take.
+abbrev pub PurgesOne : Setup → ℕ → Fate → ℕ → List Made → List Made → Type 0
+PurgesOne k band fate n old new = (head : ℕ) × (zeroes : ℕ) × (new ≡ zeroed k band (head + 1) zeroes (old ⊳ did_load_slot k band head (n + 1) ⊳ did_store_fate k n (word_of fate)))
+
+-- so were these packets, in order, up to one that is not
+pub data PurgesEach (k : Setup) (band : ℕ) (fate : Fate) (old : List Made) : ℕ → List Made → Type 0 where
+  none_yet : PurgesEach k band fate old 0 old
+  one_more : (count n : ℕ) (steps next : List Made) → PurgesEach k band fate old count steps → PurgesOne k band fate n steps next → PurgesEach k band fate old (count + 1) next
+
+-- `pfifo_fast_reset` of net/sched/sch_generic.c, at one band: so many packets were purged, and then the slot at the head was loaded as 0
+abbrev pub PurgesBand : Setup → ℕ → Fate → ℕ → List Made → List Made → Type 0
+PurgesBand k band fate count old new = (size : ℕ) × (steps : List Made) × (head : ℕ) × PurgesEach k band fate (old ⊳ did_load_size size) count steps × (new ≡ steps ⊳ did_load_slot k band head 0)
+
+-- A RESIZE
+
+-- A band is turned: its slots are exchanged for 0 and stored, and fates of packets that it drops are stored.
+pub data TurnsRing (k : Setup) (band : ℕ) (old : List Made) : List Made → Type 0 where
+  not_yet : TurnsRing k band old old
+  took_out : (steps : List Made) (i found : ℕ) → TurnsRing k band old steps → TurnsRing k band old (steps ⊳ did_swap_slot k band i found)
+  put_back : (steps : List Made) (i word : ℕ) → TurnsRing k band old steps → TurnsRing k band old (steps ⊳ did_store_slot k band i word)
+  dropped : (steps : List Made) (n : ℕ) (fate : Fate) → TurnsRing k band old steps → TurnsRing k band old (steps ⊳ did_store_fate k n (word_of fate))
+
+-- and then its producer is set, whose lock stays taken
+abbrev pub TurnsBand : Setup → ℕ → ℕ → List Made → List Made → Type 0
+TurnsBand k band index old new = (turned : List Made) × TurnsRing k band old turned × (new ≡ turned ⊳ did_set_producer band index)
+
+-- the producer locks of bands 0, 1 and 2, in this order
+abbrev pub LocksAll : List Made → List Made → Type 0
+LocksAll old new = (low mid high : ℕ) × (one two : List Made) × LocksProducer 0 low old one × LocksProducer 1 mid one two × LocksProducer 2 high two new
+
+-- `ptr_ring_resize_multiple` of include/linux/ptr_ring.h: the three producer locks are taken, the bands are turned, the size is stored, and
+-- the locks are given back with the new indices.
+pub record Resizes (k : Setup) (len : ℕ) (old new : List Made) : Type 0 where
+  pub locked : List Made
+  pub locks : LocksAll old locked
+  -- two loads of the size, at the second of which the resize begins
+  pub size : ℕ
+  pub begun : ℕ
+  pub low : ℕ
+  pub mid : ℕ
+  pub high : ℕ
+  pub one : List Made
+  pub two : List Made
+  pub three : List Made
+  pub first : TurnsBand k 0 low (locked ⊳ did_load_size size ⊳ did_load_size begun) one
+  pub second : TurnsBand k 1 mid one two
+  pub third : TurnsBand k 2 high two three
+  pub stored : ℕ
+  pub ends : new ≡ three ⊳ did_store_size len ⊳ did_load_size stored ⊳ did_give_producer 0 low ⊳ did_give_producer 1 mid ⊳ did_give_producer 2 high
