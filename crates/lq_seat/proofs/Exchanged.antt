@@ -1,13 +1,14 @@
 -- An exchange of the device, and the soft interrupts after it.
 use Rattle.std.proofs.Common.{◌≡◌, ℕ, ◌<◌, List, ◌∷◌, inl, inr, Some, ◌∙◌, subst}
 use Rattle.lq_account.proofs.Lists.{cons-in}
-use Rattle.lq_control.specs.Control.{IsKept}
+use Rattle.lq_control.specs.Control.{IsKeptByControl}
 use Rattle.lq_model.specs.Alone.{changed, new_device}
 use Rattle.lq_model.specs.Device.{DeviceState}
 use Rattle.lq_model.specs.Plan.{Plan}
 use Rattle.lq_model.specs.declared.device.Params.{Params}
 use Rattle.lq_model.specs.declared.plan.EventKind.TheVariants as kind
-use Rattle.lq_seat.specs.Calls.{Drains, with_control}
+use Rattle.lq_account.specs.Controls.{with_control}
+use Rattle.lq_seat.specs.Calls.{Drains}
 use Rattle.lq_seat.specs.Exchanges.{Exchanges}
 use Rattle.lq_seat.specs.Seat.{AreUnitsSmall, DoesAlone}
 use Rattle.lq_table.specs.Rule.{HasServed, latest_unit, units_of}
@@ -23,7 +24,7 @@ one-unit-more station unit units small were = record {
   later = λ u h. elim (cons-in unit units u h) [ inl same ↦ subst (λ x. x < 256) same small | inr was ↦ were.later u was ];
 }
 
-pub exchange-served : {D : Type 0} (t : Shared D) (plan : Plan) (event : ℕ) (params : Params) (came went : DeviceState) (old mid new : View) → IsKept old mid → mid.trail ≡ with_control plan event (kind.Swap params) old.trail
+pub exchange-served : {D : Type 0} (t : Shared D) (plan : Plan) (event : ℕ) (params : Params) (came went : DeviceState) (old mid new : View) → IsKeptByControl old mid → mid.trail ≡ with_control plan event (kind.Swap params) old.trail
     → mid.control.origin ≡ came → HasServed t.infos.now t.station old.control.origin went
     → mid.control.gone ≡ (latest_unit t.station (units_of old.trail), went.accepted) ∷ old.control.gone
     → (came.told ≡ Some (new_device params) → DoesAlone t (changed plan event (kind.Swap params)) old mid) → Drains t mid new → Exchanges t plan event params came went old new

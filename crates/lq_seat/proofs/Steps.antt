@@ -2,19 +2,20 @@
 use Rattle.std.proofs.Common.{◌≡◌, ℕ, Bool, true, false, cond, List, ◌∷◌, inl, inr, ⊎_elim, Option, Some, None, refl, sym, ap, ap₂, ◌∙◌, is_some}
 use Rattle.std.specs.Prelude.{◌↔◌, ◌==◌}
 use Rattle.lq_account.specs.Trail.{down_of, is_own}
-use Rattle.lq_control.specs.Control.{IsKept, KeepsDevice}
-use Rattle.lq_control.specs.Finish.{AreAllDone, Ends, PurgesHung}
+use Rattle.lq_control.specs.Control.{IsKeptByControl, KeepsDevice}
+use Rattle.lq_control.specs.Finish.{AreAllDone, FinishEnds, PurgesHung}
 use Rattle.lq_model.specs.Account.{Account, Event, Join, Full, Refuse, Direct, Purge}
 use Rattle.lq_model.specs.Alone.{RunningStation, changed, served}
 use Rattle.lq_model.specs.Plan.{Plan, owner_in, band_in}
 use Rattle.lq_model.specs.declared.fate.Cause.TheVariants as cause
 use Rattle.lq_model.specs.declared.fate.Info.{Info}
 use Rattle.lq_model.specs.declared.plan.EventKind.{EventKind}
-use Rattle.lq_qdisc.specs.Alone.{Brings, Does}
+use Rattle.lq_qdisc.specs.Alone.{BringsAlone, Does}
 use Rattle.lq_qdisc.specs.Sends.{came_as, trail_with}
 use Rattle.lq_qdisc.specs.declared.answers.Sending.{Sending}
 use Rattle.lq_qdisc.specs.declared.answers.Sending.TheVariants as sending
-use Rattle.lq_seat.specs.Calls.{Came, DoesEvent, Drains, EndsTrail, with_control}
+use Rattle.lq_account.specs.Controls.{with_control}
+use Rattle.lq_seat.specs.Calls.{Came, DoesEvent, Drains, EndsTrail}
 use Rattle.lq_seat.specs.Seat.{DoesAlone, Keeps}
 use Rattle.lq_table.specs.Controls.{opening}
 use Rattle.lq_table.specs.Rule.{units_of}
@@ -32,7 +33,7 @@ keeps-both a b = record { share = b.share ∙ a.share; first = b.first ∙ a.fir
 
 -- what a call brings is there once the soft interrupts are done
 pub brought-served : (infos : List Info) (start : Account) (step : RunningStation → RunningStation) (old mid new : Solo)
-    → Brings infos start step old mid → Does infos start (served infos) mid new → Does infos start (λ s. served infos (step s)) old new
+    → BringsAlone infos start step old mid → Does infos start (served infos) mid new → Does infos start (λ s. served infos (step s)) old new
 brought-served infos start step old mid new brings serves = λ alone. let now = brings alone in let end = serves now.0 in (end.0, end.1 ∙ now.1)
 
 pub done-served : (infos : List Info) (start : Account) (step : RunningStation → RunningStation) (old mid new : Solo)
@@ -110,13 +111,13 @@ event-served t plan event kind old mid new keeps turns trail alone drains = reco
   alone = done-served t.infos.now (first_account (setup t)) (changed plan event kind) (solo old) (solo mid) (solo new) alone drains.alone;
 }
 
-pub keeps-control : {old new : View} → IsKept old new → KeepsDevice old new → Keeps old new
+pub keeps-control : {old new : View} → IsKeptByControl old new → KeepsDevice old new → Keeps old new
 keeps-control kept device = record { share = kept.share; first = kept.first; told = kept.told; origin = device.origin; gone = device.gone }
 
 -- THE END
 
 -- a station all of whose packets were sent gets at most the purge of what a hung device left
-pub ends-trail : (k : Setup) (purged : ℕ) (old new : View) → AreAllDone k old.turns → Ends k purged old new → EndsTrail old new
+pub ends-trail : (k : Setup) (purged : ℕ) (old new : View) → AreAllDone k old.turns → FinishEnds k purged old new → EndsTrail old new
 ends-trail k purged old new done ends = ⊎_elim
     (λ same. inl (same.0 ∙ unsent))
     (λ (hung : (before : View) × (before.trail ≡ ends.sent.trail) × PurgesHung purged before new).

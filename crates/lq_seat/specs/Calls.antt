@@ -1,12 +1,13 @@
 -- What a sender's calls leave of its seat at a station, and what is known of a station at its end.
 use Rattle.std.specs.Prelude.{◌≡◌, ◌⊎◌, ℕ, ◌+◌, ◌*◌, ◌<◌, true, false, List, ◌∷◌, length, slice_index, slice_set, Option, Some, None, Contains}
+use Rattle.lq_account.specs.Controls.{with_control}
 use Rattle.lq_account.specs.Trail.{down_of, IsOrderly, trail_of}
 use Rattle.lq_control.specs.Finish.{IsFinished}
 use Rattle.lq_device.specs.Station.{StationState}
-use Rattle.lq_model.specs.Account.{Event, Down, Purge, Refuse, Resize, Swap, Up, Account}
+use Rattle.lq_model.specs.Account.{Event, Purge, Refuse, Account}
 use Rattle.lq_model.specs.Alone.{brought_in, changed, finished, opened, served}
 use Rattle.lq_model.specs.Legal.{brought}
-use Rattle.lq_model.specs.Plan.{Plan, owner_in, rank_in, station_in, unit_of_swap}
+use Rattle.lq_model.specs.Plan.{Plan, owner_in, rank_in, station_in}
 use Rattle.lq_model.specs.Words.{IsWordOf}
 use Rattle.lq_model.specs.declared.fate.Cause.TheVariants as cause
 use Rattle.lq_model.specs.declared.fate.Fate.{Fate}
@@ -14,8 +15,10 @@ use Rattle.lq_model.specs.declared.fate.Fate.TheVariants as fate
 use Rattle.lq_model.specs.declared.fate.Info.{Info}
 use Rattle.lq_model.specs.declared.plan.EventKind.{EventKind}
 use Rattle.lq_model.specs.declared.plan.EventKind.TheVariants as kind
+use Rattle.lq_qdisc.specs.Sends.{WakesBelow}
 use Rattle.lq_seat.specs.Seat.{Keeps, DoesAlone, HasAlone, origin_of, running_at}
 use Rattle.lq_table.specs.Closes.{HaveSent}
+use Rattle.lq_table.specs.Made.{Known}
 use Rattle.lq_table.specs.Rule.{HasServed}
 use Rattle.lq_table.specs.Sees.{setup}
 use Rattle.lq_table.specs.Solo.{account_of}
@@ -37,7 +40,7 @@ pub record Came (n : ℕ) (old new : List Event) : Type 0 where
 
 module _ {D : Type 0} where
   -- a packet whose turn it is was sent, and then the seat was drained
-  pub record Sends (t : Shared D) (n : ℕ) (old new : View) : Type 0 where
+  pub record SendsPacket (t : Shared D) (n : ℕ) (old new : View) : Type 0 where
     pub keeps : Keeps old new
     pub raised : new.place.raised ≡ false
     pub turns : new.turns ≡ slice_set old.turns (owner_in t.infos.now n) (2 * rank_in t.infos.now n + 2)
@@ -46,24 +49,13 @@ module _ {D : Type 0} where
 
 -- EVENTS
 
-abbrev pub with_down : ℕ → List Event → List Event
-with_down event trail = Purge (cause.Event event) ∷ Down event ∷ trail
-
--- the trail after an event of the plan
-abbrev pub with_control : Plan → ℕ → EventKind → List Event → List Event
-with_control plan event kind.Down trail = with_down event trail
-with_control plan event kind.Up trail = Up ∷ trail
-with_control plan event (kind.Resize len) trail = Resize len event ∷ trail
-with_control plan event (kind.TxQueueLen len) trail = Up ∷ Resize len event ∷ with_down event trail
-with_control plan event (kind.Swap params) trail = Up ∷ Swap (unit_of_swap plan event) ∷ with_down event trail
-
 -- where each event may come: an activation where the station is deactivated, and every other where it is active
-abbrev pub MayDo : EventKind → List Event → Type 0
-MayDo kind.Down trail = down_of trail ≡ None
-MayDo kind.Up trail = (event : ℕ) × (down_of trail ≡ Some event)
-MayDo (kind.Resize len) trail = down_of trail ≡ None
-MayDo (kind.TxQueueLen len) trail = down_of trail ≡ None
-MayDo (kind.Swap params) trail = down_of trail ≡ None
+abbrev pub MayDoEvent : EventKind → List Event → Type 0
+MayDoEvent kind.Down trail = down_of trail ≡ None
+MayDoEvent kind.Up trail = (event : ℕ) × (down_of trail ≡ Some event)
+MayDoEvent (kind.Resize len) trail = down_of trail ≡ None
+MayDoEvent (kind.TxQueueLen len) trail = down_of trail ≡ None
+MayDoEvent (kind.Swap params) trail = down_of trail ≡ None
 
 module _ {D : Type 0} where
   -- an event that is no exchange of the device was done, and then the seat was drained
@@ -76,9 +68,14 @@ module _ {D : Type 0} where
 
   -- WAKES AND SOFT INTERRUPTS
 
-  -- the station's queues were woken
-  pub record Wakes (t : Shared D) (old new : View) : Type 0 where
+  -- the stop word of each of its queues was exchanged, from what the seat then knew to what it knew after
+  abbrev pub ExchangesStops : Shared D → View → View → Type 0
+  ExchangesStops t old new = (before : Known) × (after : Known) × (before.view ≡ old) × (after.view ≡ new) × WakesBelow (setup t) t.queues before after
+
+  -- the station's queues were woken: the stop word of each was exchanged
+  pub record WakesQueues (t : Shared D) (old new : View) : Type 0 where
     pub keeps : Keeps old new
+    pub woken : ExchangesStops t old new
     pub turns : new.turns ≡ old.turns
     pub trail : new.trail ≡ old.trail
     pub alone : DoesAlone t opened old new
@@ -123,7 +120,7 @@ module _ {D : Type 0} where
 
 -- what a sole first seat knows at the close: its events came in order, and the trail is theirs; the device is the one that came,
 -- and accepted what its unit sent, as did each that an exchange took away
-pub record IsSound (infos : List Info) (station : ℕ) (start : Account) (v : View) : Type 0 where
+pub record IsSoundAtClose (infos : List Info) (station : ℕ) (start : Account) (v : View) : Type 0 where
   pub orderly : IsOrderly infos station start v.whole.state.past
   pub trail : trail_of infos v.whole.state.past ≡ v.trail
   pub sent : (account_of v).sent (account_of v).unit ≡ v.whole.state.station.device.accepted

@@ -5,7 +5,7 @@ use Rattle.lq_model.specs.Device.{DeviceState}
 use Rattle.lq_model.specs.Plan.{Plan}
 use Rattle.lq_model.specs.declared.device.Params.{Params}
 use Rattle.lq_model.specs.declared.plan.EventKind.TheVariants as kind
-use Rattle.lq_seat.specs.Calls.{with_control}
+use Rattle.lq_account.specs.Controls.{with_control}
 use Rattle.lq_seat.specs.Seat.{DoesAlone, origin_of}
 use Rattle.lq_table.specs.Rule.{HasServed, latest_unit, units_of}
 use Rattle.lq_table.specs.Views.{View}

@@ -9,7 +9,7 @@ use Rattle.lq_model.specs.declared.machine.Phase.{Phase}
 use Rattle.lq_model.specs.declared.machine.Phase.TheVariants.{Active, Purged}
 use Rattle.lq_model.specs.declared.machine.Position.TheVariants.{Idle}
 use Rattle.lq_qdisc.specs.Alone.{Does, IsAlone, running}
-use Rattle.lq_qdisc.specs.Sends.{IsReady}
+use Rattle.lq_qdisc.specs.Sends.{IsReadyToSend}
 use Rattle.lq_table.specs.Rule.{units_of}
 use Rattle.lq_table.specs.Sees.{view, setup, position, IsSeatOf}
 use Rattle.lq_table.specs.Solo.{solo}
@@ -48,7 +48,7 @@ module _ {D : Type 0} where
   pub record IsSeat (t : Shared D) (c : Cpu D) : Type 0 where
     pub seat : IsSeatOf t c
     pub at : position c ≡ Idle
-    pub ready : IsReady c
+    pub ready : IsReadyToSend c
     pub phase : (view c).control.first ≡ true → IsIn (phase_of (view c).trail) (view c)
     pub units : (view c).control.first ≡ true → AreUnitsSmall t.station (units_of (view c).trail)
 

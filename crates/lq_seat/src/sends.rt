@@ -3,10 +3,11 @@ ghost use Rattle.std.specs.Prelude.{◌≡◌, ◌<◌, ◌≤◌, ◌*◌, true
 ghost use Rattle.lq_control.specs.Finish.{AreAllDone, AreFor};
 ghost use Rattle.lq_model.specs.Plan.{Plan as PlanRecord, band_in, is_swap_kind, owner_in, queue_in, rank_in, station_in};
 ghost use Rattle.lq_plan.specs.Limits.{IsKindWithin};
-ghost use Rattle.lq_seat.specs.Calls.{DoesEvent, Drains, Finishes, MayDo, Sends, Wakes};
+ghost use Rattle.lq_qdisc.specs.Sends.{WakesBelow};
+ghost use Rattle.lq_seat.specs.Calls.{DoesEvent, Drains, Finishes, MayDoEvent, SendsPacket, WakesQueues};
 ghost use Rattle.lq_seat.specs.Seat.{IsSeat};
 ghost use Rattle.lq_table.specs.Rule.{times};
-ghost use Rattle.lq_table.specs.Sees.{view, setup};
+ghost use Rattle.lq_table.specs.Sees.{view, setup, known};
 ghost use Rattle.lq_table.specs.Solo.{IsSole};
 
 use lq_control::{down, resize, tx_queue_len, up};
@@ -24,7 +25,7 @@ pub fn send<'a, R: Wait, D: TxDevice>(rt: &R, shared: &Shared<'a, D>, cpu: &mut 
     requires owner { (0 < times (owner_in shared.now.infos.now n) (view cpu.old).share.owners) × (owner_in shared.now.infos.now n < shared.now.senders) }
     requires turn { slice_index (view cpu.old).turns (owner_in shared.now.infos.now n) ≡ 2 * rank_in shared.now.infos.now n }
     ensures seat { IsSeat shared.now cpu.new }
-    ensures sends { Sends shared.now n (view cpu.old) (view cpu.new) }
+    ensures sends { SendsPacket shared.now n (view cpu.old) (view cpu.new) }
 {
     let _sending = transmit(rt, shared, cpu, n);
     drain(rt, shared, cpu);
@@ -43,7 +44,7 @@ pub fn do_event<'a, R: Wait, D: TxDevice>(
     requires raised { (view cpu.old).place.raised ≡ false }
     requires no_swap { is_swap_kind kind ≡ false }
     requires within { IsKindWithin shared.now.max_len kind }
-    requires may { MayDo kind (view cpu.old).trail }
+    requires may { MayDoEvent kind (view cpu.old).trail }
     ensures seat { IsSeat shared.now cpu.new }
     ensures does { (plan : PlanRecord) → DoesEvent shared.now plan event kind (view cpu.old) (view cpu.new) }
 {
@@ -63,11 +64,12 @@ pub fn do_event<'a, R: Wait, D: TxDevice>(
     drain(rt, shared, cpu);
 }
 
-/// Wakes the station's queues, as a driver's interrupt does.
+/// Wakes the station's queues, as a driver's interrupt does: the stop word of each is exchanged in this call.
 pub fn wake<'a, D: TxDevice>(shared: &Shared<'a, D>, cpu: &mut Cpu<D>)
     requires seat { IsSeat shared.now cpu.old }
     ensures seat { IsSeat shared.now cpu.new }
-    ensures wakes { Wakes shared.now (view cpu.old) (view cpu.new) }
+    ensures wakes { WakesQueues shared.now (view cpu.old) (view cpu.new) }
+    ensures opens { WakesBelow (setup shared.now) shared.now.queues (known cpu.old) (known cpu.new) }
 {
     irq(shared, cpu);
 }

@@ -3,7 +3,7 @@ ghost use Rattle.std.specs.Prelude.{◌≡◌, ℕ, ◌<◌, ◌≤◌, true, fa
 ghost use Rattle.lq_control.specs.Finish.{IsFinished};
 ghost use Rattle.lq_device.specs.Station.{initial_station};
 ghost use Rattle.lq_model.specs.Machine.{Qdisc};
-ghost use Rattle.lq_seat.specs.Calls.{IsClosedAs, IsSound};
+ghost use Rattle.lq_seat.specs.Calls.{IsClosedAs, IsSoundAtClose};
 ghost use Rattle.lq_seat.specs.Seat.{IsSeat, origin_of};
 ghost use Rattle.lq_table.specs.Keyed.{starting};
 ghost use Rattle.lq_table.specs.Rule.{AreInfos, station_count, times};
@@ -88,7 +88,7 @@ pub fn close_station<'a, D: TxDevice>(shared: Shared<'a, D>, cpu: Cpu<D>) -> Clo
     requires finished { IsFinished (setup shared) (view cpu) }
     ensures closed { IsClosedAs shared.entry (view cpu) result.ended.number result.ended.packets (closed_fates result) (closed_home result) }
     ensures plan { result.ended.plan ≡ shared.entry.plan }
-    ensures sound { IsSound shared.entry.infos.now shared.entry.station (first_account (setup shared.entry)) (view cpu) }
+    ensures sound { IsSoundAtClose shared.entry.infos.now shared.entry.station (first_account (setup shared.entry)) (view cpu) }
 {
     shared.close(cpu)
 }

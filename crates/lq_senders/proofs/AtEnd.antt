@@ -1,17 +1,20 @@
 -- A station at its end: its events are legal, and it has its latest unit.
-use Rattle.std.proofs.Common.{◌≡◌, inl, inr, ℕ, zero, suc, ◌<◌, true, Bool, cond, List, [], ◌∷◌, length, take, Some, refl, ap, arith, sym, ◌∙◌, subst}
+use Rattle.std.proofs.Common.{◌≡◌, inl, inr, ℕ, zero, suc, ◌<◌, true, Bool, cond, List, [], ◌∷◌, length, take, filter, Some, refl, ap, arith, sym, ◌∙◌, subst}
 use Rattle.std.specs.Prelude.{slice_get, count_by}
 use Rattle.std.proofs.lemmas.List.Sums.{sum_by-cons}
 use Rattle.std.proofs.lemmas.Option.{same_Some, slice_get_within}
-use Rattle.lq_account.proofs.Trails.{are-planned}
-use Rattle.lq_account.specs.Progress.{start_of}
-use Rattle.lq_account.specs.Trail.{trail_of, IsTrail}
-use Rattle.lq_model.specs.Account.{after_all}
+use Rattle.lq_account.proofs.Controlled.{len-after-controls, len-by-controls}
+use Rattle.lq_account.proofs.Trails.{are-planned, down-is}
+use Rattle.lq_account.specs.Controls.{controls_in, planned_controls}
+use Rattle.lq_account.specs.Progress.{len_of, start_of}
+use Rattle.lq_account.specs.Trail.{trail_of, down_of, IsTrail}
+use Rattle.lq_model.specs.Account.{Account, Event, after_all}
 use Rattle.lq_model.specs.Legal.{IsLegal}
 use Rattle.lq_model.specs.Plan.{Plan, is_swap, is_swap_kind, unit_count}
-use Rattle.lq_model.specs.Settled.{IsConfiguredWith, IsUnitOf}
+use Rattle.lq_model.specs.Settled.{IsConfiguredWith, IsUnitOf, is_at, length_after}
 use Rattle.lq_model.specs.declared.device.Params.{Params}
 use Rattle.lq_model.specs.declared.fate.Info.{Info}
+use Rattle.lq_model.specs.declared.plan.EventPlan.{EventPlan}
 use Rattle.lq_table.proofs.UnitsKept.{unit_is_latest, units_trail}
 use Rattle.lq_table.specs.Rule.{latest_unit, units_of}
 use Rattle.lq_table.specs.Solo.{account_of}
@@ -19,6 +22,8 @@ use Rattle.lq_table.specs.Views.{Setup, View, first_account}
 use Rattle.lq_senders.specs.Ends.{EndsAt}
 use Rattle.lq_senders.specs.Lanes.{setup_of}
 use Rattle.lq_senders.specs.Units.{unit_at}
+use Rattle.lq_senders.specs.Way.{EndsAsPlanned}
+use Rattle.lq_senders.proofs.Lists.{take-all}
 use Rattle.lq_senders.proofs.Turns.{event-there}
 
 -- A STATION AT ITS END
@@ -39,6 +44,18 @@ module _ (plan : Plan) (infos : List Info) (station : ℕ) (v : View) (ends : En
       ap (λ (k : Setup). (after_all (first_account k) v.whole.state.past).unit) ends.about
       ∙ (unit_is_latest (setup_of plan infos station) v.whole.state.past
       ∙ (ap (latest_unit station) (sym (units_trail infos v.whole.state.past) ∙ ap units_of ends.sound.trail) ∙ ends.unit))
+
+  -- and all of its settings are as the plan's events leave them
+  pub as-planned : controls_in v.whole.state.past ≡ planned_controls plan station (length plan.events) → EndsAsPlanned plan station (after_all (start_of plan station) v.whole.state.past)
+  as-planned controls = record {
+    down = sym (down-is infos (start_of plan station) refl v.whole.state.past) ∙ (ap down_of ends.sound.trail ∙ ends.down);
+    unit = ap (λ (a : Account). a.unit) (sym account-at) ∙ unit-at-end;
+    len =
+        len-by-controls (start_of plan station) v.whole.state.past
+        ∙ (ap (λ (l : List Event). (after_all (start_of plan station) l).len) controls
+        ∙ (len-after-controls plan station (start_of plan station) (take (length plan.events) plan.events) 0 []
+        ∙ ap (λ (events : List EventPlan). length_after (filter (is_at station) events) (len_of plan station)) (take-all plan.events)));
+  }
 
 -- COUNTS
 

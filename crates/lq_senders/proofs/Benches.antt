@@ -94,15 +94,6 @@ configured-more state plan infos k first mid s old new configured rest planned t
 
 -- BACK IN THE BENCH
 
--- one that was taken out comes back before the others, with what came back before it
-pub laid-back : {X A B : Type 0} (f : X → B) (g : A → B) (all left : List A) (n : ℕ) (a : A) (device : X) (bench first : List X)
-    → take (suc n) all ≡ left ++ a ∷ [] → length left ≡ n → f device ≡ g a
-    → map f bench ≡ map g (drop (suc n) all) ++ map f first
-    → map f (device ∷ bench) ≡ map g (drop n all) ++ map f first
-laid-back f g all left n a device bench first taken len is before =
-    let dropped = (last-taken n all left a taken len).1 in
-    ap (λ d. d ∷ map f bench) is ∙ (ap (λ ds. g a ∷ ds) before ∙ ap (λ xs. map g xs ++ map f first) (sym dropped))
-
 -- the same of which device it is
 pub boxes-back : {X A : Type 0} (state : X → DeviceState) (g : A → ℕ) (all left : List A) (n : ℕ) (a : A) (device : X) (bench first : List X)
     → take (suc n) all ≡ left ++ a ∷ [] → length left ≡ n → (state device).identity ≡ g a

@@ -4,7 +4,7 @@ use Rattle.std.specs.Prelude.{slice_index}
 use Rattle.std.proofs.lemmas.Option.{same_Some}
 use Rattle.lq_account.proofs.Lists.{get-push-cases, there-in}
 use Rattle.lq_account.specs.Progress.{start_of}
-use Rattle.lq_account.specs.Trail.{IsTrail, HaveCome}
+use Rattle.lq_account.specs.Trail.{IsTrail, HaveCome, down_of}
 use Rattle.lq_control.specs.Finish.{AreAllDone, AreFor, IsFinished}
 use Rattle.lq_model.specs.Account.{Account, Event, Join, Full, Refuse, Take, Pick, Direct, Send, Back, Empty, Stop, Wake, Resize, Down, Purge, Swap, Up, after, after_all}
 use Rattle.lq_model.specs.Alone.{RunningStation, finished}
@@ -14,7 +14,7 @@ use Rattle.lq_model.specs.Words.{IsWordOf}
 use Rattle.lq_model.specs.declared.fate.Fate.{Fate}
 use Rattle.lq_model.specs.declared.fate.Info.{Info}
 use Rattle.lq_qdisc.specs.Alone.{IsAlone, running}
-use Rattle.lq_seat.specs.Calls.{EndsTrail, Finishes, IsClosedAs, IsSound}
+use Rattle.lq_seat.specs.Calls.{EndsTrail, Finishes, IsClosedAs, IsSoundAtClose}
 use Rattle.lq_seat.specs.Seat.{IsSeat, HasAlone}
 use Rattle.lq_table.specs.Rule.{latest_unit, units_of}
 use Rattle.lq_table.specs.Sees.{view, setup}
@@ -22,11 +22,11 @@ use Rattle.lq_table.specs.Solo.{IsSole, account_of, is_heard, solo}
 use Rattle.lq_table.specs.Views.{Setup, View, first_account}
 use Rattle.lq_table.specs.declared.shared.Cpu.{Cpu}
 use Rattle.lq_table.specs.declared.shared.Shared.{Shared}
-use Rattle.lq_senders.specs.Ends.{AllMayClose, ClosedState, FirstClosed, HaveFates, IsClosedStation, MayCloseAt}
+use Rattle.lq_senders.specs.Ends.{AllMayClose, ClosedState, FirstClosed, HaveFatesAlone, IsClosedStation, MayCloseAt}
 use Rattle.lq_senders.specs.Joins.{IsTakenIn, Joined, JoinedAt, LaneJoined}
-use Rattle.lq_senders.specs.Lanes.{AllDid, IsSendable, IsTableOf, Runs, setup_of}
+use Rattle.lq_senders.specs.Lanes.{AllDid, IsSendable, IsTableOf, AreRunAlone, setup_of}
 use Rattle.lq_senders.specs.Units.{SameDevices, unit_at}
-use Rattle.lq_senders.specs.Way.{IsOnWay}
+use Rattle.lq_senders.specs.Way.{IsOnWay, down_after_events}
 use Rattle.lq_senders.proofs.Seats.{mapped-at}
 use Rattle.lq_senders.proofs.Turns.{some-there}
 
@@ -69,10 +69,16 @@ ends-trail plan station old new way (inr is) = (
       resizes = way.come.resizes;
       queue_lengths = way.come.queue_lengths;
       swaps = λ e params below at. there-in (Purge (cause.Hung (account_of new).unit)) old.trail _ (way.come.swaps e params below at);
+      all = way.come.all;
     }),
     ap (λ past. latest_unit station (units_of past)) is ∙ way.unit,
   ),
 )
+
+-- the purge of a hung device activates nothing, and deactivates nothing
+ends-down : (plan : Plan) (station : ℕ) (old new : View) → IsOnWay plan station (length plan.events) old.trail → EndsTrail old new → down_of new.trail ≡ down_after_events plan station (length plan.events)
+ends-down plan station old new way (inl same) = ap down_of same ∙ way.down
+ends-down plan station old new way (inr is) = ap down_of is ∙ way.down
 
 -- looks that found a band empty changed no account
 heard-past : (start : Account) (past : List Event) → after_all start (filter is_heard past) ≡ after_all start past
@@ -118,6 +124,7 @@ module _ {D : Type 0} where
             hung = own.1.hung before.joined.way.no_hang;
             trail = trail.0;
             come = trail.1.0;
+            down = ends-down plan j (view was.0) (view c) before.joined.way own.1.trail;
             unit = trail.1.1;
           };
         };
@@ -134,7 +141,7 @@ module _ {D : Type 0} where
 
   -- where the seats had the stations of the run of one sender, the fates are those of that run
   pub fates-finished : (plan : Plan) (infos : List Info) (tables : List (Shared D)) (old new : List (Cpu D)) (from : List RunningStation) → LaneJoined plan infos 0 tables old → AllDid Finishes tables old new
-      → Runs plan infos old from → HaveFates new (map (finished infos) from)
+      → AreRunAlone plan infos old from → HaveFatesAlone new (map (finished infos) from)
   fates-finished plan infos tables old new from lane did runs j c at =
       let was = some-there old new j c (sym did.long) at in let t = some-there tables old j was.0 (sym lane.long) was.1 in
       let own = did.each j t.0 was.0 c t.1 was.1 at in let before = runs j was.0 was.1 in let table = (lane.each j t.0 was.0 t.1 was.1).table in
@@ -170,7 +177,7 @@ module _ {D : Type 0} where
   }
 
   pub closes-as : (plan : Plan) (infos : List Info) (k : ℕ) (t : Shared D) (c : Cpu D) (x : ClosedState) → MayCloseAt plan infos k t c
-      → IsClosedAs t (view c) x.ended.number x.ended.packets x.ended.words x.home → x.ended.plan ≡ t.plan → IsSound t.infos.now t.station (first_account (setup t)) (view c)
+      → IsClosedAs t (view c) x.ended.number x.ended.packets x.ended.words x.home → x.ended.plan ≡ t.plan → IsSoundAtClose t.infos.now t.station (first_account (setup t)) (view c)
       → IsClosedStation plan infos k (view c) x
   closes-as plan infos k t c x may closed plan_is sound = record {
     number_is = closed.number_is ∙ ap (λ (k : Setup). k.station) may.table.setup_is;
@@ -180,11 +187,12 @@ module _ {D : Type 0} where
     at_home = (closed.at_home.0, closed.at_home.1, closed.at_home.2);
     ends = record {
       about = about-is plan infos k t c may.table may.seat;
-      sound = subst (λ (k : Setup). IsSound k.infos k.station (first_account k) (view c)) may.table.setup_is sound;
+      sound = subst (λ (k : Setup). IsSoundAtClose k.infos k.station (first_account k) (view c)) may.table.setup_is sound;
       finished = may.may.finished;
       hung = sound.hung may.may.hung;
       trail = may.may.trail;
       come = may.may.come;
+      down = may.may.down;
       unit = may.may.unit;
     };
   }

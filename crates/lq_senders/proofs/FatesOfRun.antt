@@ -3,7 +3,7 @@ use Rattle.std.proofs.Common.{◌≡◌, ℕ, ◌<◌, ◌==◌, nat_lt, true, L
 use Rattle.std.proofs.lemmas.Bool.{and_parts, ltb-true, eqb-true}
 use Rattle.std.proofs.lemmas.List.Elements.{All-weaker}
 use Rattle.std.proofs.lemmas.Option.{same_Some, slice_get_within, slice_get-map, get_or_from_slice_get}
-use Rattle.std.specs.Prelude.{slice_get, option_map}
+use Rattle.std.specs.Prelude.{IsSome, slice_get, option_map}
 use Rattle.lq_account.proofs.Complete.{complete}
 use Rattle.lq_account.proofs.Law.{law_of_accounts}
 use Rattle.lq_account.proofs.Meets.{all-meet, meets-at}
@@ -28,11 +28,11 @@ use Rattle.lq_model.specs.declared.fate.Info.{Info}
 use Rattle.lq_table.specs.Rule.{HangsWhere, IsCallOf, told_params}
 use Rattle.lq_table.specs.Solo.{account_of}
 use Rattle.lq_table.specs.Views.{View}
-use Rattle.lq_senders.proofs.AtEnd.{account-at, configured-below, legal-at, trail-at}
+use Rattle.lq_senders.proofs.AtEnd.{account-at, as-planned, configured-below, legal-at, trail-at}
 use Rattle.lq_senders.proofs.Lists.{length-mapped}
 use Rattle.lq_senders.proofs.Turns.{event-there}
 use Rattle.lq_senders.specs.Ends.{RunEnds, UnitEnds}
-use Rattle.lq_senders.specs.Fates.{AllTell, AreFatesOf, IsCallOfUnit, accepted_of}
+use Rattle.lq_senders.specs.Fates.{AllTell, AreFatesOf, HangsAfter, IsCallOfUnit, accepted_of}
 
 -- DEVICES
 
@@ -40,6 +40,10 @@ use Rattle.lq_senders.specs.Fates.{AllTell, AreFatesOf, IsCallOfUnit, accepted_o
 told-some : (d : DeviceState) (o : Option Telling) (params : Params) → d.told ≡ o → told_params d ≡ Some params → (t : Telling) × (d.told ≡ Some t) × (t.params ≡ params)
 told-some d None params is told = absurd (let e = ap (option_map (λ (t : Telling). t.params)) is in cc)
 told-some d (Some t) params is told = (t, is, same_Some t.params params (sym (ap (option_map (λ (u : Telling). u.params)) is) ∙ told))
+
+known : (params : Params) (o : Option Telling) → IsSome o → option_map (λ (_ : Telling). params) o ≡ Some params
+known params (Some t) some = refl
+known params None some = absurd cc
 
 hangs-at : (params : Params) (d : DeviceState) → HangsWhere params d → d.hung ≡ true → (0 < params.hang_after) × (length d.accepted ≡ params.hang_after)
 hangs-at params d hangs hung =
@@ -118,21 +122,30 @@ module _ (plan : Plan) (infos : List Info) (before after : List DeviceState) (vi
       let same : v.whole.state.station.device ≡ device = same_Some _ device (sym (ends.present (station_in infos n) below) ∙ (ap (slice_get after) (sym by.0) ∙ here)) in
       ap (λ d. d.hung) (sym same) ∙ by.1
 
-  -- a unit's device hangs as it was configured
-  hangs-of : AllTell (unit_count plan) before → (unit : ℕ) (params : Params) → IsConfiguredWith plan unit params → (u : UnitEnds plan infos after views unit) → HangsWhere params u.device
-  hangs-of tell unit params configured u =
-      let told = told-some u.device u.device.told params refl (ends.tells tell unit params u.device configured u.there) in
+  -- a unit's device that tells hangs as it was configured
+  hangs-of : (unit : ℕ) (params : Params) (old : DeviceState) → IsConfiguredWith plan unit params → slice_get before unit ≡ Some old → IsSome old.told → (u : UnitEnds plan infos after views unit) → HangsWhere params u.device
+  hangs-of unit params old configured was tells u =
+      let told = told-some u.device u.device.told params refl (ends.tells unit params old u.device configured was u.there ∙ known params old.told tells) in
       subst (λ (p : Params). HangsWhere p u.device) told.2 (u.hangs told.0 told.1)
+
+  hangs-after : (unit : ℕ) (params : Params) (old : DeviceState) → IsConfiguredWith plan unit params → slice_get before unit ≡ Some old → IsSome old.told → HangsAfter fates unit params
+  hangs-after unit params old configured was tells =
+      let u = ends.units unit (configured-below plan unit params configured) in let hangs = hangs-of unit params old configured was tells u in
+      let count = count_is fates unit u.device.accepted (sent-list unit u) in record {
+        at_most = λ some. let most = hangs.1 some in omega arith;
+        purged = λ n there. let at = hangs-at params u.device hangs (hung-is n unit u.device there u.there) in (at.0, count ∙ at.1);
+      }
+
+  -- a unit of the plan stood in the bench
+  stood : AllTell (unit_count plan) before → (unit : ℕ) (params : Params) → IsConfiguredWith plan unit params → HangsAfter fates unit params
+  stood tell unit params configured =
+      let below = configured-below plan unit params configured in let old = event-there before unit (let bench = ends.bench in omega arith) in
+      hangs-after unit params old.0 configured old.1 (tell unit old.0 below old.1)
 
   as-told : AllTell (unit_count plan) before → HangsAsTold plan fates
   as-told tell = record {
-    at_most = λ unit params configured some.
-        let u = ends.units unit (configured-below plan unit params configured) in
-        let count = count_is fates unit u.device.accepted (sent-list unit u) in let most = (hangs-of tell unit params configured u).1 some in omega arith;
-    purged = λ n unit params there configured.
-        let u = ends.units unit (configured-below plan unit params configured) in
-        let count = count_is fates unit u.device.accepted (sent-list unit u) in
-        let hangs = hangs-at params u.device (hangs-of tell unit params configured u) (hung-is n unit u.device there u.there) in (hangs.0, count ∙ hangs.1);
+    at_most = λ unit params configured some. (stood tell unit params configured).at_most some;
+    purged = λ n unit params there configured. (stood tell unit params configured).purged n there;
   }
 
   options-length : length (map (λ (fate : Fate). Some fate) fates) ≡ length infos
@@ -151,11 +164,13 @@ module _ (plan : Plan) (infos : List Info) (before after : List DeviceState) (vi
     settled = is-settled;
     complete = complete plan infos fates ends.of_plan is-settled;
     in_order = accounts_are_in_order plan infos fates accounts settled-stations;
-    accounts = λ station below. (pasts station, accounts station, closed station below);
+    accounts = λ station below. (pasts station, accounts station, closed station below, as-planned plan infos station (views station) (ends.each station below) (closed station below).events.all);
     events = all-meet plan infos fates ends.one_each ends.of_plan (λ station below. meets-at plan infos station below fates (pasts station) (accounts station) (closed station below) (trails station below));
     devices = devices-are;
     asked = asked-are;
     hung = hung-is;
+    configured = ends.tells;
+    hangs = hangs-after;
     as_told = as-told;
     alone = is-alone;
   }

@@ -14,7 +14,7 @@ use Rattle.lq_table.specs.Sees.{view}
 use Rattle.lq_table.specs.Solo.{account_of}
 use Rattle.lq_table.specs.Views.{View}
 use Rattle.lq_table.specs.declared.shared.Cpu.{Cpu}
-use Rattle.lq_senders.specs.Ends.{ClosedState, FatesRead, HasRun, IsClosedStation, IsReadable}
+use Rattle.lq_senders.specs.Ends.{ClosedState, FatesRead, HasSentAll, IsClosedStation, IsReadable}
 use Rattle.lq_senders.specs.Lanes.{IsSendable}
 use Rattle.lq_senders.proofs.Lists.{length-mapped}
 use Rattle.lq_senders.proofs.Seats.{mapped-at, read-at}
@@ -29,7 +29,7 @@ pub fate-in : (plan : Plan) (infos : List Info) (v : View) (x : ClosedState) (n 
     → (fate : Fate) × ((account_of v).fates n ≡ Some fate) × IsWordOf fate (slice_index x.ended.words n)
 fate-in plan infos v x n inside closed = let decided = closed.ends.finished.decided n inside refl in (decided.0, decided.1, closed.fates n decided.0 inside refl decided.1)
 
-module _ {D : Type 0} (plan : Plan) (infos : List Info) (others : ℕ) (start : List (Cpu D)) (brought : List DeviceState) (closed : List ClosedState) (spares : List DeviceState) (ran : HasRun plan infos others start brought closed spares) (sendable : IsSendable plan infos) where
+module _ {D : Type 0} (plan : Plan) (infos : List Info) (others : ℕ) (start : List (Cpu D)) (brought : List DeviceState) (closed : List ClosedState) (spares : List DeviceState) (ran : HasSentAll plan infos others start brought closed spares) (sendable : IsSendable plan infos) where
   as-closed : (n : ℕ) (x : ClosedState) → n < length infos → slice_get closed (station_in infos n) ≡ Some x → (v : View) × IsClosedStation plan infos (station_in infos n) v x
   as-closed n x inside at =
       let c = event-there ran.seats (station_in infos n) (let below = of-plan plan infos sendable n inside in let one = ran.one_each in omega arith) in

@@ -18,7 +18,7 @@ use Rattle.lq_table.specs.Views.{FirstPart, State, View}
 use Rattle.lq_table.specs.declared.shared.Cpu.{Cpu}
 use Rattle.lq_table.specs.declared.shared.Shared.{Shared}
 use Rattle.lq_senders.specs.Joins.{AreFirst, IsOtherDone, IsTakenIn, Joined, JoinedAt, JoinsDown, LaneJoined}
-use Rattle.lq_senders.specs.Lanes.{IsDoneLane, KeepSeats, LaneDone, Stands}
+use Rattle.lq_senders.specs.Lanes.{IsDoneLane, KeepSeats, LaneDone, StandsInRun}
 use Rattle.lq_senders.specs.Units.{SameDevices}
 use Rattle.lq_senders.specs.Way.{IsOnWay}
 use Rattle.lq_senders.proofs.Lists.{take-all}
@@ -31,7 +31,7 @@ use Rattle.lq_senders.proofs.Turns.{some-there}
 all-counted : (infos : List Info) (owner station : ℕ) → count_below infos owner station (length infos) ≡ count_all infos owner station
 all-counted infos owner station = ap (λ l. count_all l owner station) (take-all infos)
 
-done-all : (plan : Plan) (infos : List Info) (owner station count : ℕ) (v : View) → Stands plan infos owner station count (length infos) v → slice_index v.turns owner ≡ 2 * count_all infos owner station
+done-all : (plan : Plan) (infos : List Info) (owner station count : ℕ) (v : View) → StandsInRun plan infos owner station count (length infos) v → slice_index v.turns owner ≡ 2 * count_all infos owner station
 done-all plan infos owner station count v stands = stands.turn ∙ ap (λ k. 2 * k) (all-counted infos owner station)
 
 -- the owner that is taken in now, or one that was before
@@ -47,7 +47,7 @@ not-same : (plan : Plan) (place owner : ℕ) → IsTakenIn plan (place + 1) owne
 not-same plan place owner (below, inl none) same = absurd (omega arith)
 not-same plan place owner (below, inr above) same = absurd (omega arith)
 
-module _ (plan : Plan) (infos : List Info) (station place : ℕ) (v w : View) (was : Joined plan infos station (place + 1) v) (other : Stands plan infos (place + 1) station (length plan.events) (length infos) w)
+module _ (plan : Plan) (infos : List Info) (station place : ℕ) (v w : View) (was : Joined plan infos station (place + 1) v) (other : StandsInRun plan infos (place + 1) station (length plan.events) (length infos) w)
     (one : w.share.shares ≡ 1) (owned : w.share.owners ≡ (place + 1) ∷ []) where
   turns-are : (together v w).turns ≡ slice_set v.turns (place + 1) (slice_index w.turns (place + 1))
   turns-are = ap (λ (os : List ℕ). with_turns os w.turns v.turns) owned

@@ -1,5 +1,5 @@
 -- The fates of a whole run, and where its devices are.
-use Rattle.std.proofs.Common.{◌≡◌, refl, inl, inr, ℕ, ◌+◌, ◌-◌, ◌<◌, List, ◌++◌, length, map, count_by, true, Option, Some, sym, ap, ◌∙◌, subst, slice_get, arith, Contains}
+use Rattle.std.proofs.Common.{◌≡◌, refl, inl, inr, ℕ, ◌+◌, ◌-◌, ◌<◌, List, ◌++◌, length, map, count_by, true, Option, Some, None, sym, ap, ◌∙◌, subst, slice_get, arith, Contains}
 use Rattle.std.specs.Option.{option_and_then, option_map, option_map_or}
 use Rattle.std.specs.Prelude.{slice_index}
 use Rattle.std.proofs.Math.ListN.{drop_of_length-le}
@@ -8,7 +8,7 @@ use Rattle.std.proofs.lemmas.Option.{same_Some, slice_get_within}
 use Rattle.lq_account.proofs.Lists.{get-push-old}
 use Rattle.lq_account.proofs.Units.{one-station}
 use Rattle.lq_device.specs.Station.{StationState}
-use Rattle.lq_model.specs.Alone.{after_run, fate_in, new_stations}
+use Rattle.lq_model.specs.Alone.{after_run, fate_in, new_device, new_stations}
 use Rattle.lq_model.specs.Device.{DeviceState, Telling}
 use Rattle.lq_model.specs.Plan.{Plan, is_swap, station_in, unit_count}
 use Rattle.lq_model.specs.Settled.{IsConfiguredWith, IsUnitOf}
@@ -23,7 +23,7 @@ use Rattle.lq_table.specs.Sees.{view}
 use Rattle.lq_table.specs.Solo.{account_of}
 use Rattle.lq_table.specs.Views.{View, no_station, spent}
 use Rattle.lq_table.specs.declared.shared.Cpu.{Cpu}
-use Rattle.lq_senders.specs.Ends.{AreBack, AreOver, ClosedState, EndsAt, FatesRead, HasRun, IsClosedStation, RunEnds, UnitEnds, home_device}
+use Rattle.lq_senders.specs.Ends.{AreBack, AreOver, ClosedState, EndsAt, FatesRead, HasSentAll, IsClosedStation, RunEnds, UnitEnds, home_device}
 use Rattle.lq_senders.specs.Fates.{AllTell, AreFatesOf, IsEndedAs}
 use Rattle.lq_senders.specs.Lanes.{AllOwn, IsSendable}
 use Rattle.lq_senders.specs.Units.{DevicesStand, swaps_before, undone, unit_at}
@@ -33,13 +33,13 @@ use Rattle.lq_senders.proofs.FatesRead.{fate-in}
 use Rattle.lq_senders.proofs.Lists.{get-past, length-mapped, take-all}
 use Rattle.lq_senders.proofs.Present.{unit-left, unit-of-station}
 use Rattle.lq_senders.proofs.Seats.{mapped-at}
-use Rattle.lq_senders.proofs.Starts.{of-plan, own-queue, starts-run, unit-tells, units-tell}
+use Rattle.lq_senders.proofs.Starts.{of-plan, own-queue, starts-run, units-tell}
 use Rattle.lq_senders.proofs.Turns.{event-there}
 use Rattle.lq_senders.proofs.Undone.{LieAt, all-undone}
 
 -- THE CLOSED STATIONS
 
-module _ {D : Type 0} (plan : Plan) (infos : List Info) (others : ℕ) (start : List (Cpu D)) (brought : List DeviceState) (closed : List ClosedState) (spares : List DeviceState) (ran : HasRun plan infos others start brought closed spares) where
+module _ {D : Type 0} (plan : Plan) (infos : List Info) (others : ℕ) (start : List (Cpu D)) (brought : List DeviceState) (closed : List ClosedState) (spares : List DeviceState) (ran : HasSentAll plan infos others start brought closed spares) where
   abbrev views : ℕ → View
   views j = option_map_or view (slice_get ran.seats j) spent
 
@@ -204,7 +204,7 @@ module _ {D : Type 0} (plan : Plan) (infos : List Info) (others : ℕ) (start : 
 -- EACH BOX
 
 module _ {D : Type 0} (plan : Plan) (infos : List Info) (before after : List DeviceState) (others : ℕ) (start : List (Cpu D)) (brought : List DeviceState) (closed : List ClosedState) (spares : List DeviceState)
-    (ran : HasRun plan infos others start brought closed spares) (over : AreOver plan infos before others start brought) (back : AreBack plan closed spares after) where
+    (ran : HasSentAll plan infos others start brought closed spares) (over : AreOver plan infos before others start brought) (back : AreBack plan closed spares after) where
   -- a unit's device, as it came and as it went
   own-unit : (unit : ℕ) (device : DeviceState) → unit < unit_count plan → slice_get after unit ≡ Some device → IsUnit plan infos others start brought closed spares ran over.units over.stand unit device
   own-unit = unit-is plan infos others start brought closed spares ran over.units over.stand after back
@@ -214,10 +214,15 @@ module _ {D : Type 0} (plan : Plan) (infos : List Info) (before after : List Dev
       let u = own-unit unit new below at-new in let s = unit-configured plan u.station unit u.within u.of_station in
       u.has_served.identity ∙ (over.configured unit s.0 old u.origin s.1 at-old u.came).1.identity
 
+-- what a configured device tells, if it told anything before
+told-as : (params : Params) (o : Option Telling) → option_map (λ (t : Telling). t.params) (option_map (λ (_ : Telling). new_device params) o) ≡ option_map (λ (_ : Telling). params) o
+told-as params None = refl
+told-as params (Some t) = refl
+
 -- THE FATES
 
 module _ {D : Type 0} (plan : Plan) (infos : List Info) (before after : List DeviceState) (others : ℕ) (start : List (Cpu D)) (brought : List DeviceState) (closed : List ClosedState) (spares : List DeviceState) (fates : List Fate)
-    (ran : HasRun plan infos others start brought closed spares) (sendable : IsSendable plan infos) (over : AreOver plan infos before others start brought) (read : FatesRead infos closed (length infos) fates)
+    (ran : HasSentAll plan infos others start brought closed spares) (sendable : IsSendable plan infos) (over : AreOver plan infos before others start brought) (read : FatesRead infos closed (length infos) fates)
     (back : AreBack plan closed spares after) (one-fate : (f g : Fate) (word : ℕ) → IsWordOf f word → IsWordOf g word → f ≡ g) where
   abbrev own-views : ℕ → View
   own-views = views plan infos others start brought closed spares ran
@@ -242,16 +247,18 @@ module _ {D : Type 0} (plan : Plan) (infos : List Info) (before after : List Dev
       ap (option_and_then (λ s. s.account.fates n)) ends.1
       ∙ (ap (λ fs. fs n) (sym ends.2) ∙ ap (λ (v : View). (account_of v).fates n) (view-is plan infos others start brought closed spares ran (station_in infos n) c.0 c.1))
 
-  device-tells : AllTell (unit_count plan) before → (unit : ℕ) (params : Params) (device : DeviceState) → IsConfiguredWith plan unit params → slice_get after unit ≡ Some device → told_params device ≡ Some params
-  device-tells tell unit params device configured there =
+  device-tells : (unit : ℕ) (params : Params) (old device : DeviceState) → IsConfiguredWith plan unit params → slice_get before unit ≡ Some old → slice_get after unit ≡ Some device
+      → told_params device ≡ option_map (λ _. params) old.told
+  device-tells unit params old device configured was there =
       let below = configured-below plan unit params configured in let u = own-unit plan infos before after others start brought closed spares ran over back unit device below there in
-      u.has_served.params ∙ ap (option_map (λ (t : Telling). t.params)) (unit-tells plan infos before others start brought over tell unit params u.origin below configured u.came)
+      u.has_served.params ∙ (ap (option_map (λ (t : Telling). t.params)) (over.configured unit params old u.origin configured was u.came).1.told ∙ told-as params old.told)
 
   ends : RunEnds plan infos before after own-views fates
   ends = record {
     of_plan = of-plan plan infos sendable;
     queues = own-queue plan infos sendable;
     one_each = read.so_many;
+    bench = over.bench;
     each = ends-at plan infos others start brought closed spares ran;
     fates_are = fates-are;
     units = unit-ends plan infos others start brought closed spares ran over.units over.stand after back;

@@ -16,6 +16,8 @@ pub mod Sent
 pub mod Rounds
 -- what a sender does after a packet
 pub mod Turns
+-- a sender wakes its stations after some of its packets
+pub mod Woken
 -- a sender on its way
 pub mod Sending
 -- the devices of a bench: configured, taken out and laid back

@@ -74,12 +74,6 @@ module _ {D : Type 0} where
     each = pairs-more (IsOpenedAt plan infos devices) tables cpus t c opened.long opened.each new;
   }
 
-  pub none-opened : (plan : Plan) (infos : List Info) (devices : List DeviceState) (tables : List (Shared D)) (cpus : List (Cpu D)) → tables ≡ [] → cpus ≡ [] → AreOpened plan infos devices tables cpus
-  none-opened plan infos devices tables cpus no_tables no_cpus = record {
-    long = ap length no_cpus ∙ sym (ap length no_tables);
-    each = λ j t c at at'. let past : slice_get {X = Shared D} [] j ≡ Some t = sym (ap (λ ts. slice_get ts j) no_tables) ∙ at in cc;
-  }
-
 -- WHERE THERE WAS NO ROOM
 
 pub drop-map : {X Y : Type 0} (f : X → Y) (k : ℕ) (xs : List X) → map f (drop k xs) ≡ drop k (map f xs)

@@ -4,14 +4,16 @@ use Rattle.std.specs.List.{list_any}
 use Rattle.std.proofs.lemmas.Option.{same_Some}
 use Rattle.std.proofs.lemmas.Bool.{le-leb, ne_eqb}
 use Rattle.std.proofs.lemmas.Bool.Decides.{leb_tells}
+use Rattle.lq_model.specs.Account.{Event}
 use Rattle.lq_model.specs.Plan.{Plan}
 use Rattle.lq_model.specs.Settled.{is_at, down_after, down_before}
 use Rattle.lq_model.specs.declared.plan.EventKind.{EventKind}
 use Rattle.lq_model.specs.declared.plan.EventKind.TheVariants.{Down, Up, Resize, TxQueueLen, Swap}
 use Rattle.lq_model.specs.declared.plan.EventPlan.{EventPlan}
 use Rattle.lq_plan.specs.Limits.{falls_below, active_after, is_misplaced, kinds_at, is_out_of_order}
+use Rattle.lq_account.specs.Controls.{planned_controls, with_control, with_controls}
 use Rattle.lq_account.specs.Trail.{down_at, down_of}
-use Rattle.lq_seat.specs.Calls.{MayDo}
+use Rattle.lq_seat.specs.Calls.{MayDoEvent}
 use Rattle.lq_senders.specs.Way.{down_among, down_after_events, IsSplitAt}
 
 not-le : (m n : ℕ) → n < m → nat_le m n ≡ false
@@ -72,6 +74,38 @@ pub down-elsewhere : (plan : Plan) (station count : ℕ) (event : EventPlan) →
     → down_after_events plan station (suc count) ≡ down_after_events plan station count
 down-elsewhere plan station count event there other = down-next plan station count event there
     ∙ ap (λ b. cond b (down_after event.kind count (down_after_events plan station count)) (down_after_events plan station count)) (ne_eqb event.station station other)
+
+-- WHAT CONTROL DOES
+
+abbrev controls_with : Plan → ℕ → ℕ → EventPlan → List Event → List Event
+controls_with plan station e event past = cond (is_at station event) (with_control plan e event.kind past) past
+
+one-more-control : (plan : Plan) (station : ℕ) (events : List EventPlan) (count e : ℕ) (past : List Event) (event : EventPlan) → slice_get events count ≡ Some event
+    → with_controls plan station (take (suc count) events) e past ≡ controls_with plan station (e + count) event (with_controls plan station (take count events) e past)
+one-more-control plan station [] count e past event there = absurd cc
+one-more-control plan station (x ∷ xs) zero e past event there =
+    let same : x ≡ event = same_Some x event there in let zero_more : e + 0 ≡ e = omega arith in
+    ap (λ (z : EventPlan). controls_with plan station e z past) same ∙ ap (λ i. controls_with plan station i event past) (sym zero_more)
+one-more-control plan station (x ∷ xs) (suc count) e past event there =
+    let more : (e + 1) + count ≡ e + suc count = omega arith in
+    one-more-control plan station xs count (e + 1) (controls_with plan station e x past) event there
+    ∙ ap (λ i. controls_with plan station i event (with_controls plan station (take count xs) (e + 1) (controls_with plan station e x past))) more
+
+controls-next : (plan : Plan) (station count : ℕ) (event : EventPlan) → slice_get plan.events count ≡ Some event
+    → planned_controls plan station (suc count) ≡ controls_with plan station count event (planned_controls plan station count)
+controls-next plan station count event there =
+    let same : 0 + count ≡ count = omega arith in
+    one-more-control plan station plan.events count 0 [] event there ∙ ap (λ i. controls_with plan station i event (planned_controls plan station count)) same
+
+pub controls-here : (plan : Plan) (station count : ℕ) (event : EventPlan) → slice_get plan.events count ≡ Some event → event.station ≡ station
+    → planned_controls plan station (suc count) ≡ with_control plan count event.kind (planned_controls plan station count)
+controls-here plan station count event there here = controls-next plan station count event there
+    ∙ ap (λ b. cond b (with_control plan count event.kind (planned_controls plan station count)) (planned_controls plan station count)) (eq-eqb event.station station here)
+
+pub controls-elsewhere : (plan : Plan) (station count : ℕ) (event : EventPlan) → slice_get plan.events count ≡ Some event → event.station ≢ station
+    → planned_controls plan station (suc count) ≡ planned_controls plan station count
+controls-elsewhere plan station count event there other = controls-next plan station count event there
+    ∙ ap (λ b. cond b (with_control plan count event.kind (planned_controls plan station count)) (planned_controls plan station count)) (ne_eqb event.station station other)
 
 -- WHAT MAY BE DONE
 
@@ -142,7 +176,7 @@ may-follow station (x ∷ xs) (suc k) e active down event is there here ok = go 
         (after active down is (ap (λ b. is_misplaced (Some active) (kinds b)) (sym at) ∙ ok))
 
 -- so the plan's next event may be done to its station
-may-do : (kind : EventKind) (down : Option ℕ) (trail : _) → down_of trail ≡ down → MayFollow (is_none down) kind → MayDo kind trail
+may-do : (kind : EventKind) (down : Option ℕ) (trail : _) → down_of trail ≡ down → MayFollow (is_none down) kind → MayDoEvent kind trail
 may-do Down None trail is may = is
 may-do Down (Some k) trail is may = absurd (let m = may.1 in cc)
 may-do Up None trail is may = absurd (let m = may.1 in cc)
@@ -155,7 +189,7 @@ may-do (Swap params) None trail is may = is
 may-do (Swap params) (Some k) trail is may = absurd (let m = may.1 in cc)
 
 pub may-do-next : (plan : Plan) (count : ℕ) (event : EventPlan) (trail : _) → is_out_of_order plan.events ≡ false → slice_get plan.events count ≡ Some event
-    → down_of trail ≡ down_after_events plan event.station count → MayDo event.kind trail
+    → down_of trail ≡ down_after_events plan event.station count → MayDoEvent event.kind trail
 may-do-next plan count event trail order there is =
     let ok = none-any (λ (x : EventPlan). is_misplaced (Some true) (kinds_at x.station plan.events)) plan.events count event (or-false _ _ order).1 there in
     may-do event.kind (down_after_events plan event.station count) trail is (may-follow event.station plan.events count 0 true None event refl there refl ok)

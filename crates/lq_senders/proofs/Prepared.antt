@@ -17,7 +17,7 @@ use Rattle.lq_table.specs.declared.shared.Cpu.{Cpu}
 use Rattle.lq_table.specs.declared.shared.Shared.{Shared}
 use Rattle.lq_senders.specs.Ends.{AreOver}
 use Rattle.lq_senders.specs.Lanes.{setup_of}
-use Rattle.lq_senders.specs.Setup.{AreBroughtAsConfigured, AreConfigured, AreSparesConfigured, IsReady}
+use Rattle.lq_senders.specs.Setup.{AreBroughtAsConfigured, AreConfigured, AreSparesConfigured, AreTablesReady}
 use Rattle.lq_senders.specs.Units.{AreUnits, DevicesStand, SameDevices}
 use Rattle.lq_senders.proofs.Benches.{drop-later, get-drop}
 use Rattle.lq_senders.proofs.Turns.{event-there}
@@ -64,7 +64,7 @@ brought-configured state plan infos first mid after rest spares e event params o
 -- OVER THE BENCH
 
 module _ {D : Type 0} (plan : Plan) (infos : List Info) (before : List DeviceState) (tables : List (Shared D)) (opened : List (Cpu D)) (spares : List DeviceState)
-    (ready : IsReady plan infos before tables opened spares) where
+    (ready : AreTablesReady plan infos before tables opened spares) where
   -- the devices of the plan's units
   abbrev units : List DeviceState
   units = take (unit_count plan) ready.devices

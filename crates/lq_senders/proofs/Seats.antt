@@ -17,7 +17,8 @@ use Rattle.lq_model.specs.declared.plan.EventKind.TheVariants.{Swap}
 use Rattle.lq_model.specs.declared.plan.EventPlan.{EventPlan}
 use Rattle.lq_plan.specs.Limits.{is_out_of_order, max_len_at}
 use Rattle.lq_qdisc.specs.Alone.{Does, IsAlone, running}
-use Rattle.lq_seat.specs.Calls.{DoesEvent, with_control}
+use Rattle.lq_account.specs.Controls.{with_control}
+use Rattle.lq_seat.specs.Calls.{DoesEvent}
 use Rattle.lq_seat.specs.Exchanges.{Exchanges, KeepsSeat}
 use Rattle.lq_seat.specs.Seat.{DoesAlone, IsSeat, Keeps}
 use Rattle.lq_table.specs.Rule.{times}
@@ -26,7 +27,7 @@ use Rattle.lq_table.specs.Solo.{solo}
 use Rattle.lq_table.specs.Views.{Setup, SharePart, View, first_account}
 use Rattle.lq_table.specs.declared.shared.Cpu.{Cpu}
 use Rattle.lq_table.specs.declared.shared.Shared.{Shared}
-use Rattle.lq_senders.specs.Lanes.{IsTableOf, setup_of, Stands, StandsAt, LaneStands, KeepAll, KeepSeats, Runs}
+use Rattle.lq_senders.specs.Lanes.{IsTableOf, setup_of, StandsInRun, StandsAt, LaneStands, KeepAll, KeepSeats, AreRunAlone}
 use Rattle.lq_senders.specs.Way.{IsOnWay}
 use Rattle.lq_senders.proofs.Orders.{may-do-next}
 use Rattle.lq_senders.proofs.Ways.{way-event, way-elsewhere}
@@ -130,7 +131,7 @@ pub exchange-changes : {D : Type 0} (t : Shared D) (plan : Plan) (e : ℕ) (kind
 exchange-changes t plan e kind params came went v w is does = subst (λ k. Changes plan e k v w) (sym is) (record { keeps = does.keeps; raised = does.raised; turns = does.turns; trail = does.trail })
 
 pub stands-event : (plan : Plan) (infos : List Info) (e n : ℕ) (event : EventPlan) (v w : View) → slice_get plan.events e ≡ Some event
-    → is_out_of_order plan.events ≡ false → Changes plan e event.kind v w → Stands plan infos 0 event.station e n v → Stands plan infos 0 event.station (suc e) n w
+    → is_out_of_order plan.events ≡ false → Changes plan e event.kind v w → StandsInRun plan infos 0 event.station e n v → StandsInRun plan infos 0 event.station (suc e) n w
 stands-event plan infos e n event v w there order does stands = record {
   is_sender = stands.is_sender;
   owner = owner-kept 0 v w does.keeps stands.owner;
@@ -145,7 +146,7 @@ stands-event plan infos e n event v w there order does stands = record {
 }
 
 pub stands-elsewhere : (plan : Plan) (infos : List Info) (e n station : ℕ) (event : EventPlan) (v : View) → slice_get plan.events e ≡ Some event → event.station ≢ station
-    → Stands plan infos 0 station e n v → Stands plan infos 0 station (suc e) n v
+    → StandsInRun plan infos 0 station e n v → StandsInRun plan infos 0 station (suc e) n v
 stands-elsewhere plan infos e n station event v there other stands = record {
   is_sender = stands.is_sender;
   owner = stands.owner;
@@ -180,7 +181,7 @@ module _ {D : Type 0} where
   }
 
   pub runs-set : (plan : Plan) (infos : List Info) (cpus : List (Cpu D)) (stations : List RunningStation) (i : ℕ) (c c' : Cpu D) (step : RunningStation → RunningStation) → slice_get cpus i ≡ Some c
-      → Does infos (start_of plan i) step (solo (view c)) (solo (view c')) → Runs plan infos cpus stations → Runs plan infos (slice_set cpus i c') (changed_at i step stations)
+      → Does infos (start_of plan i) step (solo (view c)) (solo (view c')) → AreRunAlone plan infos cpus stations → AreRunAlone plan infos (slice_set cpus i c') (changed_at i step stations)
   runs-set plan infos cpus stations i c c' step there does runs =
       each-set (λ (j : ℕ) (x : Cpu D). IsAlone infos (start_of plan j) (solo (view x)) × (slice_get (changed_at i step stations) j ≡ Some (running (start_of plan j) (solo (view x))))) cpus i c' (slice_get_within cpus i c there)
       (let was = runs i c there in let now = does was.0 in (now.0, changed-here i step stations _ was.1 ∙ ap Some (sym now.1)))
@@ -228,10 +229,10 @@ module _ {D : Type 0} where
   pub runs-event : (plan : Plan) (infos : List Info) (e n : ℕ) (tables : List (Shared D)) (cpus : List (Cpu D)) (stations : List RunningStation) (event : EventPlan) (t : Shared D) (c c' : Cpu D)
       → slice_get plan.events e ≡ Some event → slice_get tables event.station ≡ Some t → slice_get cpus event.station ≡ Some c
       → DoesAlone t (λ s. served t.infos.now (changed plan e event.kind s)) (view c) (view c')
-      → LaneStands plan infos 0 e n tables cpus → Runs plan infos cpus stations → Runs plan infos (slice_set cpus event.station c') (with_event plan infos e stations)
+      → LaneStands plan infos 0 e n tables cpus → AreRunAlone plan infos cpus stations → AreRunAlone plan infos (slice_set cpus event.station c') (with_event plan infos e stations)
   runs-event plan infos e n tables cpus stations event t c c' there at-t at-c does lane runs =
       let own : Does infos (start_of plan event.station) (λ s. served infos (changed plan e event.kind s)) (solo (view c)) (solo (view c')) =
       own-step plan infos event.station t (lane.each event.station t c at-t at-c).table (λ k s. served k.infos (changed plan e event.kind s)) (view c) (view c') does in
-      subst (Runs plan infos (slice_set cpus event.station c'))
+      subst (AreRunAlone plan infos (slice_set cpus event.station c'))
       (ap (λ o. option_map_or (λ (x : EventPlan). changed_at x.station (λ s. served infos (changed plan e x.kind s)) stations) o stations) (sym there))
       (runs-set plan infos cpus stations event.station c c' (λ s. served infos (changed plan e event.kind s)) at-c own runs)

@@ -1,6 +1,7 @@
 -- A sender on its way through the packets.
-use Rattle.std.proofs.Common.{◌≡◌, ◌≢◌, ℕ, zero, suc, ◌+◌, ◌-◌, ◌<◌, ◌≤◌, ◌==◌, Bool, true, false, List, [], ◌∷◌, ◌++◌, ◌⊎◌, inl, inr, length, Some, refl, sym, ap, ◌∙◌, subst, cond, filter, slice_get, map, nat_le, arith, eq-eqb}
+use Rattle.std.proofs.Common.{◌≡◌, ◌≢◌, ℕ, zero, suc, ◌+◌, ◌-◌, ◌/◌, ◌<◌, ◌≤◌, ◌==◌, Bool, true, false, List, [], ◌∷◌, ◌++◌, ◌⊎◌, inl, inr, length, Some, refl, sym, ap, ◌∙◌, subst, cond, filter, slice_get, map, nat_le, arith, eq-eqb}
 use Rattle.std.specs.Option.{option_map_or}
+use Rattle.std.proofs.Math.Nat.{div-eq_of_lt}
 use Rattle.std.proofs.lemmas.Bool.{ne_eqb, le-leb, cases_order}
 use Rattle.std.proofs.lemmas.Bool.Decides.{leb_tells}
 use Rattle.std.proofs.lemmas.List.{append-nil}
@@ -14,12 +15,14 @@ use Rattle.lq_model.specs.declared.fate.Info.{Info}
 use Rattle.lq_model.specs.declared.plan.EventPlan.{EventPlan}
 use Rattle.lq_table.specs.declared.shared.Cpu.{Cpu}
 use Rattle.lq_table.specs.declared.shared.Shared.{Shared}
-use Rattle.lq_senders.specs.Lanes.{LaneStands, KeepSeats, Runs, IsSending}
+use Rattle.lq_senders.specs.Lanes.{LaneStands, KeepSeats, AreRunAlone, IsSending}
 use Rattle.lq_senders.specs.Units.{DevicesStand, DoTell}
 use Rattle.lq_senders.specs.Way.{numbers_from}
+use Rattle.lq_senders.specs.Woken.{AllWoke}
 use Rattle.lq_senders.proofs.Seats.{seats-kept}
 use Rattle.lq_senders.proofs.Sent.{lane-past, owner-is}
 use Rattle.lq_senders.proofs.Turns.{event-there, keep-none, numbers-more, seats-on}
+use Rattle.lq_senders.proofs.Woken.{count-sent-other, count-sent-own, woke-none}
 
 -- NUMBERS THAT A TEST PASSES
 
@@ -97,14 +100,17 @@ module _ {D : Type 0} where
       (new : List (Cpu D)) (left_over : List DeviceState) → next ≤ last → last ≤ length plan.events
       → ((j : ℕ) (event : EventPlan) → j < last → slice_get plan.events j ≡ Some event → event.before ≤ n)
       → (sender ≡ 0 → (j : ℕ) (event : EventPlan) → last ≤ j → slice_get plan.events j ≡ Some event → n < event.before)
-      → LaneStands plan infos sender last (n + 1) tables new → KeepSeats now new
+      → LaneStands plan infos sender last (n + 1) tables new → KeepSeats now new → (info : Info) → slice_get infos n ≡ Some info → info.owner ≡ sender
+      → (AllWoke tables (k / plan.irq_every) start now → AllWoke tables ((k + 1) / plan.irq_every) start new)
       → ((units : List DeviceState) → DevicesStand plan infos units next now spares → DevicesStand plan infos units last new left_over)
-      → ((units : List DeviceState) → DevicesStand plan infos units next now spares → DoTell plan units → (stations : List RunningStation) → Runs plan infos now stations
-      → Runs plan infos new (map (served infos) (with_wakes plan k (with_packet plan infos n (with_events plan infos (numbers_from next (last - next)) stations)))))
+      → ((units : List DeviceState) → DevicesStand plan infos units next now spares → DoTell plan units → (stations : List RunningStation) → AreRunAlone plan infos now stations
+      → AreRunAlone plan infos new (map (served infos) (with_wakes plan k (with_packet plan infos n (with_events plan infos (numbers_from next (last - next)) stations)))))
       → IsSending plan infos tables sender n k next start brought now spares → IsSending plan infos tables sender (n + 1) (k + 1) last start brought new left_over
-  sending-own plan infos tables sender n k next last start brought now spares new left_over order within done left stands keeps devices runs was = record {
+  sending-own plan infos tables sender n k next last start brought now spares new left_over order within done left stands keeps info there own woke devices runs was = record {
     within = within;
     few = let few = was.few in omega arith;
+    sent = ap (λ i. i + 1) was.sent ∙ sym (count-sent-own infos sender n info there own);
+    woke = woke was.woke;
     stands = stands;
     earlier = λ j event below there. let le = done j event below there in omega arith;
     keeps = seats-on start now new was.keeps keeps;
@@ -112,10 +118,10 @@ module _ {D : Type 0} where
     alone = λ units stand tell z own from begins. let alone = was.alone units stand tell z own from begins in let all = alone.0 in (
       (omega arith),
       (λ j event above there. let gt = left z j event above there in omega arith),
-      subst (λ i. Runs plan infos new (after_packets plan infos from i)) (let more : suc n ≡ n + 1 = omega arith in more)
-          (subst (λ l. Runs plan infos new (map (served infos) (with_wakes plan n (with_packet plan infos n (with_events plan infos l (after_packets plan infos from n))))))
+      subst (λ i. AreRunAlone plan infos new (after_packets plan infos from i)) (let more : suc n ≡ n + 1 = omega arith in more)
+          (subst (λ l. AreRunAlone plan infos new (map (served infos) (with_wakes plan n (with_packet plan infos n (with_events plan infos l (after_packets plan infos from n))))))
           (sym (events-before-are plan n next last order within was.earlier alone.1 done (left z)))
-          (subst (λ i. Runs plan infos new (map (served infos) (with_wakes plan i (with_packet plan infos n (with_events plan infos (numbers_from next (last - next)) (after_packets plan infos from n)))))) all
+          (subst (λ i. AreRunAlone plan infos new (map (served infos) (with_wakes plan i (with_packet plan infos n (with_events plan infos (numbers_from next (last - next)) (after_packets plan infos from n)))))) all
           (runs units (was.devices units stand) tell (after_packets plan infos from n) alone.2))),
     );
   }
@@ -126,6 +132,8 @@ module _ {D : Type 0} where
   sending-past plan infos tables sender n k next start brought now spares info there other was = record {
     within = was.within;
     few = let few = was.few in omega arith;
+    sent = was.sent ∙ sym (count-sent-other infos sender n info there other);
+    woke = was.woke;
     stands = lane-past plan infos sender next n tables now info there other was.stands;
     earlier = λ j event below at. let lt = was.earlier j event below at in omega arith;
     keeps = was.keeps;
@@ -134,10 +142,12 @@ module _ {D : Type 0} where
   }
 
   pub sending-start : (plan : Plan) (infos : List Info) (tables : List (Shared D)) (sender : ℕ) (cpus : List (Cpu D)) (spares : List DeviceState) → LaneStands plan infos sender 0 0 tables cpus
-      → IsSending plan infos tables sender 0 0 0 cpus spares cpus spares
-  sending-start plan infos tables sender cpus spares lane = record {
+      → 0 < plan.irq_every → IsSending plan infos tables sender 0 0 0 cpus spares cpus spares
+  sending-start plan infos tables sender cpus spares lane some = record {
     within = omega arith;
     few = omega arith;
+    sent = refl;
+    woke = subst (λ count. AllWoke tables count cpus cpus) (sym (div-eq_of_lt some)) (woke-none tables cpus);
     stands = lane;
     earlier = λ j event below there. absurd (omega arith);
     keeps = seats-kept cpus cpus (keep-none cpus);

@@ -11,14 +11,14 @@ use Rattle.lq_model.specs.Alone.{RunningStation, bypass_of, brought_in, changed_
 use Rattle.lq_model.specs.Plan.{Plan, owner_in, rank_in, station_in}
 use Rattle.lq_model.specs.declared.fate.Info.{Info}
 use Rattle.lq_qdisc.specs.Alone.{Does}
-use Rattle.lq_seat.specs.Calls.{Sends}
+use Rattle.lq_seat.specs.Calls.{SendsPacket}
 use Rattle.lq_seat.specs.Seat.{IsSeat}
 use Rattle.lq_table.specs.Sees.{view}
 use Rattle.lq_table.specs.Solo.{solo}
 use Rattle.lq_table.specs.Views.{View}
 use Rattle.lq_table.specs.declared.shared.Cpu.{Cpu}
 use Rattle.lq_table.specs.declared.shared.Shared.{Shared}
-use Rattle.lq_senders.specs.Lanes.{Stands, StandsAt, LaneStands, Runs}
+use Rattle.lq_senders.specs.Lanes.{StandsInRun, StandsAt, LaneStands, AreRunAlone}
 use Rattle.lq_senders.specs.Way.{IsSplitAt}
 use Rattle.lq_senders.proofs.Seats.{each-set, infos-are, own-step, owner-kept, runs-set, seat-kept}
 use Rattle.lq_senders.proofs.Ways.{way-packet}
@@ -57,7 +57,7 @@ count-other infos n info sender station there other = count_by_more_no (is_packe
 -- ONE SEAT
 
 pub stands-past : (plan : Plan) (infos : List Info) (sender station count n : ℕ) (info : Info) (v : View) → slice_get infos n ≡ Some info → (info.owner ≢ sender) ⊎ (info.station ≢ station)
-    → Stands plan infos sender station count n v → Stands plan infos sender station count (n + 1) v
+    → StandsInRun plan infos sender station count n v → StandsInRun plan infos sender station count (n + 1) v
 stands-past plan infos sender station count n info v there other stands = record {
   is_sender = stands.is_sender;
   owner = stands.owner;
@@ -73,7 +73,7 @@ rank-is infos n info ranks there = ap (λ o. option_map_or (λ (i : Info). i.ran
 
 pub stands-sent : {D : Type 0} (plan : Plan) (infos : List Info) (t : Shared D) (sender station count n : ℕ) (info : Info) (v w : View) → t.infos.now ≡ infos → AreRanks infos → slice_get infos n ≡ Some info
     → info.owner ≡ sender → info.station ≡ station → (sender ≡ 0 → IsSplitAt plan count n)
-    → Sends t n v w → Stands plan infos sender station count n v → Stands plan infos sender station count (n + 1) w
+    → SendsPacket t n v w → StandsInRun plan infos sender station count n v → StandsInRun plan infos sender station count (n + 1) w
 stands-sent plan infos t sender station count n info v w same ranks there owner at split sends stands = record {
   is_sender = stands.is_sender;
   owner = owner-kept sender v w (seat-kept v w sends.keeps) stands.owner;
@@ -110,7 +110,7 @@ module _ {D : Type 0} where
 
   pub lane-sent : (plan : Plan) (infos : List Info) (sender count n : ℕ) (tables : List (Shared D)) (cpus : List (Cpu D)) (info : Info) (t : Shared D) (c c' : Cpu D) → AreRanks infos → slice_get infos n ≡ Some info
       → info.owner ≡ sender → slice_get tables info.station ≡ Some t → slice_get cpus info.station ≡ Some c → (sender ≡ 0 → IsSplitAt plan count n)
-      → IsSeat t c' → Sends t n (view c) (view c')
+      → IsSeat t c' → SendsPacket t n (view c) (view c')
       → LaneStands plan infos sender count n tables cpus → LaneStands plan infos sender count (n + 1) tables (slice_set cpus info.station c')
   lane-sent plan infos sender count n tables cpus info t c c' ranks there owner at-t at-c split seat sends lane = record {
     long = length-set cpus info.station c' ∙ lane.long;
@@ -132,10 +132,10 @@ module _ {D : Type 0} where
           j d at' u at
 
   pub runs-sent : (plan : Plan) (infos : List Info) (sender count n : ℕ) (tables : List (Shared D)) (cpus : List (Cpu D)) (stations : List RunningStation) (info : Info) (t : Shared D) (c c' : Cpu D) → slice_get infos n ≡ Some info
-      → slice_get tables info.station ≡ Some t → slice_get cpus info.station ≡ Some c → Sends t n (view c) (view c')
-      → LaneStands plan infos sender count n tables cpus → Runs plan infos cpus stations → Runs plan infos (slice_set cpus info.station c') (with_packet plan infos n stations)
+      → slice_get tables info.station ≡ Some t → slice_get cpus info.station ≡ Some c → SendsPacket t n (view c) (view c')
+      → LaneStands plan infos sender count n tables cpus → AreRunAlone plan infos cpus stations → AreRunAlone plan infos (slice_set cpus info.station c') (with_packet plan infos n stations)
   runs-sent plan infos sender count n tables cpus stations info t c c' there at-t at-c sends lane runs =
       let own : Does infos (start_of plan info.station) (λ s. served infos (brought_in infos (bypass_of plan info.station) n s)) (solo (view c)) (solo (view c')) =
       own-step plan infos info.station t (lane.each info.station t c at-t at-c).table (λ k s. served k.infos (brought_in k.infos k.bypass n s)) (view c) (view c') sends.alone in
-      subst (λ (k : ℕ). Runs plan infos (slice_set cpus info.station c') (changed_at k (λ s. served infos (brought_in infos (bypass_of plan k) n s)) stations)) (sym (station-is infos n info there))
+      subst (λ (k : ℕ). AreRunAlone plan infos (slice_set cpus info.station c') (changed_at k (λ s. served infos (brought_in infos (bypass_of plan k) n s)) stations)) (sym (station-is infos n info there))
       (runs-set plan infos cpus stations info.station c c' (λ s. served infos (brought_in infos (bypass_of plan info.station) n s)) at-c own runs)

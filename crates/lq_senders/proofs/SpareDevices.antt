@@ -22,14 +22,6 @@ units-rise plan i j le = let more = count-later is_swap plan.events i j le in om
 swap-of : (event : EventPlan) (params : Params) → event.kind ≡ kind.Swap params → is_swap event ≡ true
 swap-of event params is = ap is_swap_kind is
 
-pub none-configured : (plan : Plan) (infos : List Info) (states : List DeviceState) → AreSparesConfigured plan infos 0 states states
-none-configured plan infos states = record {
-  same_length = refl;
-  apart = λ unit less. refl;
-  later = λ unit from. refl;
-  configured = λ e event params old new less. absurd (omega arith);
-}
-
 pub spares-more : (plan : Plan) (infos : List Info) (e : ℕ) (first mid new : List DeviceState) → AreSparesConfigured plan infos e first mid → ConfiguresSpare plan infos e mid new
     → AreSparesConfigured plan infos (e + 1) first new
 spares-more plan infos e first mid new was step = record {
@@ -70,12 +62,3 @@ spare-configured state plan infos e event params bench old new planned swaps the
       below = λ unit less. slice_get-map state (slice_set bench u new) unit ∙ (ap (option_map state) (set-apart bench u unit new (λ same. absurd (omega arith))) ∙ sym (slice_get-map state bench unit));
       from_there = λ unit from. slice_get-map state (slice_set bench u new) unit ∙ (ap (option_map state) (set-apart bench u unit new (λ same. absurd (omega arith))) ∙ sym (slice_get-map state bench unit));
     }
-
--- the event brings none
-pub none-to-configure : (plan : Plan) (infos : List Info) (e : ℕ) (event : EventPlan) (states : List DeviceState) → slice_get plan.events e ≡ Some event → is_swap event ≡ false → ConfiguresSpare plan infos e states states
-none-to-configure plan infos e event states planned none = record {
-  same_length = refl;
-  configured = λ other params a b planned' swaps. absurd (let event_is : event ≡ other = same_Some event other (sym planned ∙ planned') in let swap : is_swap event ≡ true = ap is_swap event_is ∙ swap-of other params swaps in cc);
-  below = λ unit less. refl;
-  from_there = λ unit from. refl;
-}

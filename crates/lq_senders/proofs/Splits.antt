@@ -17,7 +17,7 @@ use Rattle.lq_table.specs.declared.shared.Cpu.{Cpu}
 use Rattle.lq_table.specs.declared.shared.Shared.{Shared}
 use Rattle.lq_table.proofs.SeatsKept.{times_one, times_without}
 use Rattle.lq_senders.specs.Joins.{AreFirst}
-use Rattle.lq_senders.specs.Lanes.{IsReadyLane, LaneStands, Stands, StandsAt, setup_of}
+use Rattle.lq_senders.specs.Lanes.{IsReadyLane, LaneStands, StandsInRun, StandsAt, setup_of}
 use Rattle.lq_senders.specs.Setup.{AreOpened, AreSplitting, IsEmptyLane, IsSplitting, SplitsAt}
 use Rattle.lq_senders.specs.Units.{SameDevices}
 use Rattle.lq_senders.specs.Way.{IsOnWay}
@@ -81,7 +81,7 @@ splitting-next plan next v w some sender few was is = subst (IsSplitting plan (n
 })
 
 -- the first sender's seat, once all others were split off
-first-stands : (plan : Plan) (infos : List Info) (j : ℕ) (v : View) → 0 < plan.senders → IsSplitting plan plan.senders v → Stands plan infos 0 j 0 0 v
+first-stands : (plan : Plan) (infos : List Info) (j : ℕ) (v : View) → 0 < plan.senders → IsSplitting plan plan.senders v → StandsInRun plan infos 0 j 0 0 v
 first-stands plan infos j v some split = record {
   is_sender = some;
   owner = split.own;
@@ -92,7 +92,7 @@ first-stands plan infos j v some split = record {
 }
 
 -- a seat that was split off
-other-stands : (plan : Plan) (infos : List Info) (j owner : ℕ) (v : View) → 0 < owner → owner < plan.senders → IsSplitting plan owner v → Stands plan infos owner j 0 0 (offspring owner v)
+other-stands : (plan : Plan) (infos : List Info) (j owner : ℕ) (v : View) → 0 < owner → owner < plan.senders → IsSplitting plan owner v → StandsInRun plan infos owner j 0 0 (offspring owner v)
 other-stands plan infos j owner v some sender split = record {
   is_sender = sender;
   owner = times-itself owner [];
@@ -179,7 +179,7 @@ module _ {D : Type 0} where
         splitting = subst (λ n. IsSplitting plan n (view c')) (omega arith) (splitting-next plan (place + 1) (view c) (view c') (omega arith) sender (omega arith) here.splitting is);
       } in
       let split : IsOtherAt plan infos (place + 1) count t other = record {
-        stands = record { table = here.table; seat = other_seat; stands = subst (Stands plan infos (place + 1) count 0 0) (sym other_is) (other-stands plan infos count (place + 1) (view c) (omega arith) sender here.splitting) };
+        stands = record { table = here.table; seat = other_seat; stands = subst (StandsInRun plan infos (place + 1) count 0 0) (sym other_is) (other-stands plan infos count (place + 1) (view c) (omega arith) sender here.splitting) };
         shares = ap (λ (v : View). v.share.shares) other_is;
         owners = ap (λ (v : View). v.share.owners) other_is;
         first = ap (λ (v : View). v.control.first) other_is;

@@ -25,7 +25,7 @@ use Rattle.lq_table.specs.Views.{View}
 use Rattle.lq_table.specs.declared.shared.Cpu.{Cpu}
 use Rattle.lq_senders.specs.Ends.{AreOver}
 use Rattle.lq_senders.specs.Fates.{AllTell}
-use Rattle.lq_senders.specs.Lanes.{IsSendable, Runs, setup_of}
+use Rattle.lq_senders.specs.Lanes.{IsSendable, AreRunAlone, setup_of}
 use Rattle.lq_senders.specs.Units.{DoTell}
 use Rattle.lq_senders.proofs.Seats.{all-at}
 use Rattle.lq_senders.proofs.Turns.{event-there, some-there}
@@ -118,7 +118,7 @@ module _ {D : Type 0} (plan : Plan) (infos : List Info) (before : List DeviceSta
   origin-tells : AllTell (unit_count plan) before → (j : ℕ) (s : StationPlan) (c : Cpu D) → slice_get plan.stations j ≡ Some s → slice_get start j ≡ Some c → (origin_of (view c)).told ≡ Some (new_device s.params)
   origin-tells tell j s c there at = unit-tells tell j s.params (origin_of (view c)) (let below = slice_get_within plan.stations j s there in omega arith) (inl (s, there, refl)) (over.stand.home j c at)
 
-  pub starts-run : length start ≡ length plan.stations → IsWithinLimits plan → AllTell (unit_count plan) before → plan.senders ≡ 1 → Runs plan infos start (new_stations 0 plan.stations)
+  pub starts-run : length start ≡ length plan.stations → IsWithinLimits plan → AllTell (unit_count plan) before → plan.senders ≡ 1 → AreRunAlone plan infos start (new_stations 0 plan.stations)
   starts-run same limits tell one j c at =
       let s = some-there plan.stations start j c (sym same) at in
       let is = (over.alone one).1 j c at in let told = origin-tells tell j s.0 c s.1 at in let some = (limits.each_station j s.0 s.1).has_queue in

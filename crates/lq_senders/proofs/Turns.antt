@@ -10,14 +10,14 @@ use Rattle.lq_model.specs.Plan.{Plan}
 use Rattle.lq_model.specs.declared.fate.Info.{Info}
 use Rattle.lq_model.specs.declared.plan.EventPlan.{EventPlan}
 use Rattle.lq_qdisc.specs.Alone.{Does}
-use Rattle.lq_seat.specs.Calls.{Drains, Wakes}
+use Rattle.lq_seat.specs.Calls.{Drains, WakesQueues}
 use Rattle.lq_seat.specs.Seat.{DoesAlone, Keeps}
 use Rattle.lq_table.specs.Sees.{view, setup}
 use Rattle.lq_table.specs.Solo.{solo}
 use Rattle.lq_table.specs.Views.{Setup, SharePart, View}
 use Rattle.lq_table.specs.declared.shared.Cpu.{Cpu}
 use Rattle.lq_table.specs.declared.shared.Shared.{Shared}
-use Rattle.lq_senders.specs.Lanes.{AllDid, AreOthers, AreSeats, IsTableOf, KeepAll, KeepSeats, LaneStands, Runs, setup_of, Stands, WokenOrNot}
+use Rattle.lq_senders.specs.Lanes.{AllDid, AreOthers, AreSeats, IsTableOf, KeepAll, KeepSeats, LaneStands, AreRunAlone, setup_of, StandsInRun, WokenOrNot}
 use Rattle.lq_senders.specs.Units.{DevicesStand, DoTell}
 use Rattle.lq_senders.specs.Way.{IsOnWay, numbers_from}
 use Rattle.lq_senders.proofs.Seats.{keeps-itself, keeps-on, mapped-at, own-step, owner-kept, seat-kept, seats-kept}
@@ -39,7 +39,7 @@ some-there (x ∷ xs) ys j y same there = there-too (x ∷ xs) ys j x y same the
 
 -- a seat at which nothing that its sender knows has changed
 pub stands-still : (plan : Plan) (infos : List Info) (sender station count n : ℕ) (v w : View) → Keeps v w → w.turns ≡ v.turns → w.trail ≡ v.trail → w.place.raised ≡ false
-    → Stands plan infos sender station count n v → Stands plan infos sender station count n w
+    → StandsInRun plan infos sender station count n v → StandsInRun plan infos sender station count n w
 stands-still plan infos sender station count n v w keeps turns trail raised stands = record {
   is_sender = stands.is_sender;
   owner = owner-kept sender v w (seat-kept v w keeps) stands.owner;
@@ -73,7 +73,7 @@ module _ {D : Type 0} where
   }
 
   pub seats-or-not : (plan : Plan) (k : ℕ) (tables : List (Shared D)) (old new : List (Cpu D)) → AreSeats tables old → WokenOrNot plan k tables old new → AreSeats tables new
-  seats-or-not plan k tables old new seats (inl woken) = still-seats Wakes tables old new seats woken.1
+  seats-or-not plan k tables old new seats (inl woken) = still-seats WakesQueues tables old new seats woken.1
   seats-or-not plan k tables old new seats (inr same) = subst (AreSeats tables) (sym same.1) seats
 
   pub keep-did : (R : Shared D → View → View → Type 0) → ((t : Shared D) (v w : View) → R t v w → Keeps v w) → (tables : List (Shared D)) (old new : List (Cpu D)) → length old ≡ length tables
@@ -85,7 +85,7 @@ module _ {D : Type 0} where
 
   pub keep-turn : (plan : Plan) (k : ℕ) (tables : List (Shared D)) (old mid new : List (Cpu D)) → AreSeats tables old → WokenOrNot plan k tables old mid → AllDid Drains tables mid new → KeepAll old new
   keep-turn plan k tables old mid new seats (inl woken) drained = keep-on old mid new
-      (keep-did Wakes (λ t v w did. did.keeps) tables old mid seats.long woken.1)
+      (keep-did WakesQueues (λ t v w did. did.keeps) tables old mid seats.long woken.1)
       (keep-did Drains (λ t v w did. did.keeps) tables mid new (woken.1.long ∙ seats.long) drained)
   keep-turn plan k tables old mid new seats (inr same) drained = subst (λ l. KeepAll l new) same.1
       (keep-did Drains (λ t v w did. did.keeps) tables mid new (ap length same.1 ∙ seats.long) drained)
@@ -129,7 +129,7 @@ module _ {D : Type 0} where
       → ((j : ℕ) → step (setup_of plan infos j) ≡ own) → ((t : Shared D) (v w : View) → R t v w → DoesAlone t (step (setup t)) v w)
       → (tables : List (Shared D)) (old new : List (Cpu D)) (stations : List RunningStation) → length old ≡ length tables
       → ((j : ℕ) (t : Shared D) → slice_get tables j ≡ Some t → IsTableOf plan infos j t)
-      → AllDid R tables old new → Runs plan infos old stations → Runs plan infos new (map own stations)
+      → AllDid R tables old new → AreRunAlone plan infos old stations → AreRunAlone plan infos new (map own stations)
   all-step plan infos step own R is does tables old new stations same tables-are did runs j c at =
       let was = some-there old new j c (sym did.long) at in let t = some-there tables old j was.0 (sym same) was.1 in
       let before = runs j was.0 was.1 in
@@ -141,20 +141,20 @@ module _ {D : Type 0} where
 
   drained-runs : (plan : Plan) (infos : List Info) (tables : List (Shared D)) (old new : List (Cpu D)) (stations : List RunningStation) → length old ≡ length tables
       → ((j : ℕ) (t : Shared D) → slice_get tables j ≡ Some t → IsTableOf plan infos j t)
-      → AllDid Drains tables old new → Runs plan infos old stations → Runs plan infos new (map (served infos) stations)
+      → AllDid Drains tables old new → AreRunAlone plan infos old stations → AreRunAlone plan infos new (map (served infos) stations)
   drained-runs plan infos tables old new stations same is did runs =
       all-step plan infos (λ k. served k.infos) (served infos) Drains (λ j. refl) (λ t v w drains. drains.alone) tables old new stations same is did runs
 
   pub runs-turned : (plan : Plan) (infos : List Info) (sender count n k : ℕ) (tables : List (Shared D)) (old mid new : List (Cpu D)) (stations : List RunningStation) → LaneStands plan infos sender count n tables old
-      → WokenOrNot plan k tables old mid → AllDid Drains tables mid new → Runs plan infos old stations → Runs plan infos new (map (served infos) (with_wakes plan k stations))
+      → WokenOrNot plan k tables old mid → AllDid Drains tables mid new → AreRunAlone plan infos old stations → AreRunAlone plan infos new (map (served infos) (with_wakes plan k stations))
   runs-turned plan infos sender count n k tables old mid new stations lane (inl woken) did runs =
       let is = table-of plan infos sender count n tables old lane in
-      subst (λ b. Runs plan infos new (map (served infos) (cond b (map opened stations) stations))) (sym (eq-eqb ((k + 1) % plan.irq_every) 0 woken.0))
+      subst (λ b. AreRunAlone plan infos new (map (served infos) (cond b (map opened stations) stations))) (sym (eq-eqb ((k + 1) % plan.irq_every) 0 woken.0))
       (drained-runs plan infos tables mid new (map opened stations) (woken.1.long ∙ lane.long) is did
-      (all-step plan infos (λ k. opened) opened Wakes (λ j. refl) (λ t v w wakes. wakes.alone) tables old mid stations lane.long is woken.1 runs))
+      (all-step plan infos (λ k. opened) opened WakesQueues (λ j. refl) (λ t v w wakes. wakes.alone) tables old mid stations lane.long is woken.1 runs))
   runs-turned plan infos sender count n k tables old mid new stations lane (inr same) did runs =
       let is = table-of plan infos sender count n tables old lane in
-      subst (λ b. Runs plan infos new (map (served infos) (cond b (map opened stations) stations))) (sym (ne_eqb ((k + 1) % plan.irq_every) 0 same.0))
+      subst (λ b. AreRunAlone plan infos new (map (served infos) (cond b (map opened stations) stations))) (sym (ne_eqb ((k + 1) % plan.irq_every) 0 same.0))
       (drained-runs plan infos tables old new stations lane.long is (subst (λ l. AllDid Drains tables l new) same.1 did) runs)
 
 -- EVENTS ONE BY ONE
@@ -193,7 +193,7 @@ module _ {D : Type 0} where
     pub keeps : KeepSeats start now
     pub devices : (units : List DeviceState) → DevicesStand plan infos units next start brought → DevicesStand plan infos units e now spares
     pub runs : (units : List DeviceState) → DevicesStand plan infos units next start brought → DoTell plan units
-        → (stations : List RunningStation) → Runs plan infos start stations → Runs plan infos now (with_events plan infos (numbers_from next (e - next)) stations)
+        → (stations : List RunningStation) → AreRunAlone plan infos start stations → AreRunAlone plan infos now (with_events plan infos (numbers_from next (e - next)) stations)
 
   pub no-events-yet : (plan : Plan) (infos : List Info) (tables : List (Shared D)) (next n : ℕ) (cpus : List (Cpu D)) (spares : List DeviceState) → FirstEvents plan infos tables next n next cpus spares cpus spares
   no-events-yet plan infos tables next n cpus spares = record {
@@ -201,14 +201,14 @@ module _ {D : Type 0} where
     stands = λ m lane. lane;
     keeps = seats-kept cpus cpus (keep-none cpus);
     devices = λ units stand. stand;
-    runs = λ units stand tell stations runs. let none : next - next ≡ 0 = omega arith in subst (λ c. Runs plan infos cpus (with_events plan infos (numbers_from next c) stations)) (sym none) runs;
+    runs = λ units stand tell stations runs. let none : next - next ≡ 0 = omega arith in subst (λ c. AreRunAlone plan infos cpus (with_events plan infos (numbers_from next c) stations)) (sym none) runs;
   }
 
   pub one-event-more : (plan : Plan) (infos : List Info) (tables : List (Shared D)) (next n e : ℕ) (event : EventPlan) (start : List (Cpu D)) (brought : List DeviceState) (now : List (Cpu D)) (spares : List DeviceState) (new : List (Cpu D)) (left : List DeviceState)
       → next ≤ e → slice_get plan.events e ≡ Some event → event.before ≤ n
       → ((m : ℕ) → LaneStands plan infos 0 e m tables now → LaneStands plan infos 0 (e + 1) m tables new) → KeepSeats now new
       → ((units : List DeviceState) → DevicesStand plan infos units e now spares → DevicesStand plan infos units (e + 1) new left)
-      → ((units : List DeviceState) → DevicesStand plan infos units e now spares → DoTell plan units → (stations : List RunningStation) → Runs plan infos now stations → Runs plan infos new (with_event plan infos e stations))
+      → ((units : List DeviceState) → DevicesStand plan infos units e now spares → DoTell plan units → (stations : List RunningStation) → AreRunAlone plan infos now stations → AreRunAlone plan infos new (with_event plan infos e stations))
       → FirstEvents plan infos tables next n e start brought now spares → FirstEvents plan infos tables next n (e + 1) start brought new left
   one-event-more plan infos tables next n e event start brought now spares new left le there before stands keeps devices runs first = record {
     done = λ k late above below at. elim (below-or-at k e (let b : k < e + 1 = below in omega arith)) [
@@ -218,7 +218,7 @@ module _ {D : Type 0} where
     stands = λ m lane. stands m (first.stands m lane);
     keeps = seats-on start now new first.keeps keeps;
     devices = λ units stand. devices units (first.devices units stand);
-    runs = λ units stand tell stations was. subst (Runs plan infos new) (with-events-next plan infos next e stations le)
+    runs = λ units stand tell stations was. subst (AreRunAlone plan infos new) (with-events-next plan infos next e stations le)
         (runs units (first.devices units stand) tell (with_events plan infos (numbers_from next (e - next)) stations) (first.runs units stand tell stations was));
   }
 

@@ -15,16 +15,17 @@ use Rattle.lq_model.specs.declared.plan.EventPlan.{EventPlan}
 use Rattle.lq_account.proofs.Lists.{none-in, here-in, there-in, cons-in}
 use Rattle.lq_account.proofs.Brought.{brought-cases}
 use Rattle.lq_account.specs.Trail.{IsTrail, IsTrailNext, MeetsDown, down_of, down_at}
-use Rattle.lq_seat.specs.Calls.{Came, MayDo, refused_by, with_control, with_down}
+use Rattle.lq_account.specs.Controls.{controls_in, is_by_plan, with_control, with_down}
+use Rattle.lq_seat.specs.Calls.{Came, MayDoEvent, refused_by}
 use Rattle.lq_senders.specs.Way.{IsOnWay, IsSplitAt}
 use Rattle.lq_table.specs.Rule.{latest_unit, units_of}
 use Rattle.lq_senders.proofs.Units.{unit-elsewhere, unit-here, unit-more, unit-rises}
-use Rattle.lq_senders.proofs.Orders.{down-split, down-here, down-elsewhere}
+use Rattle.lq_senders.proofs.Orders.{controls-elsewhere, controls-here, down-split, down-here, down-elsewhere}
 
 pub way-start : (plan : Plan) (station : ℕ) → IsOnWay plan station 0 []
 way-start plan station = record {
   planned = _;
-  come = record { resizes = λ e len below. absurd (omega arith); queue_lengths = λ e len below. absurd (omega arith); swaps = λ e params below. absurd (omega arith) };
+  come = record { resizes = λ e len below. absurd (omega arith); queue_lengths = λ e len below. absurd (omega arith); swaps = λ e params below. absurd (omega arith); all = refl };
   resizes_below = λ e h. absurd (none-in [] e refl h);
   downs_below = λ e h. absurd (none-in [] e refl h);
   down = refl;
@@ -71,6 +72,7 @@ module _ (plan : Plan) (station count : ℕ) (event : EventPlan) (there : slice_
       resizes = λ e len below at. elim (below-or-at e count below) [ inl less ↦ way.come.resizes e len less at | inr same ↦ absurd (other (here-at station e (kind.Resize len) same at).0) ];
       queue_lengths = λ e len below at. elim (below-or-at e count below) [ inl less ↦ way.come.queue_lengths e len less at | inr same ↦ absurd (other (here-at station e (kind.TxQueueLen len) same at).0) ];
       swaps = λ e params below at. elim (below-or-at e count below) [ inl less ↦ way.come.swaps e params less at | inr same ↦ absurd (other (here-at station e (kind.Swap params) same at).0) ];
+      all = way.come.all ∙ sym (controls-elsewhere plan station count event there other);
     };
     resizes_below = λ e h. let b = way.resizes_below e h in omega arith;
     downs_below = λ e h. let b = way.downs_below e h in omega arith;
@@ -104,8 +106,9 @@ module _ (plan : Plan) (station count : ℕ) (event : EventPlan) (there : slice_
         → ((unit : ℕ) → Contains new (Swap unit) → Contains old (Swap unit) ⊎ ((unit ≡ unit_of_swap plan count) × (is_swap event ≡ true)))
         → latest_unit station (units_of new) ≡ cond (is_swap event) (unit_of_swap plan count) (latest_unit station (units_of old))
         → down_of new ≡ down_after event.kind count (down_of old)
+        → controls_in new ≡ with_control plan count event.kind (controls_in old)
         → IsOnWay plan station (suc count) new
-    way-makes new planned kept resized downed same_brought hangs swaps comes swapped swaps_are unit_is down = record {
+    way-makes new planned kept resized downed same_brought hangs swaps comes swapped swaps_are unit_is down controls = record {
       planned = planned;
       come = record {
         resizes = λ e len below at. elim (below-or-at e count below) [
@@ -120,6 +123,7 @@ module _ (plan : Plan) (station count : ℕ) (event : EventPlan) (there : slice_
           | inl less ↦ swaps (unit_of_swap plan e) (way.come.swaps e params less at)
           | inr same ↦ subst (λ i. Contains new (Swap (unit_of_swap plan i))) (sym same) (swapped params (here-at station e (kind.Swap params) same at).1)
         ];
+        all = controls ∙ (ap (with_control plan count event.kind) way.come.all ∙ sym (controls-here plan station count event there here));
       };
       resizes_below = λ e h. elim (resized e h) [ inl was ↦ (let b = way.resizes_below e was in omega arith) | inr same ↦ omega arith ];
       downs_below = λ e h. elim (downed e h) [ inl was ↦ (let b = way.downs_below e was in omega arith) | inr same ↦ omega arith ];
@@ -140,25 +144,25 @@ module _ (plan : Plan) (station count : ℕ) (event : EventPlan) (there : slice_
     no-swap k is none params r = (let e : true ≡ false = sym (ap is_swap_kind r) ∙ (ap is_swap_kind is ∙ none) in cc)
 
     -- an event of this station
-    pub way-event : (k : EventKind) → event.kind ≡ k → MayDo k old → IsOnWay plan station (suc count) (with_control plan count k old)
+    pub way-event : (k : EventKind) → event.kind ≡ k → MayDoEvent k old → IsOnWay plan station (suc count) (with_control plan count k old)
     way-event kind.Down is may = way-makes (with_control plan count kind.Down old)
         (trail-down (record { planned = (next, inl (at-here kind.Down is)); ahead = _; meets_down = _; no_hang = _ }))
         (λ e h. h) (λ e h. inl h) (λ e h. elim (cons-in count (filter_map down_event old) e h) [ inl same ↦ inr (sym same) | inr was ↦ inl was ]) refl
         (λ unit h. not-downs count unit old h) (λ unit h. in-downs count old (Swap unit) h)
         (λ len c. absurd (elim c [ inl r ↦ (let e : kind.Down ≡ kind.Resize len = sym is ∙ r in cc) | inr r ↦ (let e : kind.Down ≡ kind.TxQueueLen len = sym is ∙ r in cc) ]))
-        (λ params r. absurd (no-swap _ is refl params r)) (λ unit h. inl (no-swap-in-downs count unit old h)) (ap (λ z. cond (is_swap_kind z) (unit_of_swap plan count) (latest_unit station (units_of old))) (sym is)) (ap (λ z. down_after z count (down_of old)) (sym is))
+        (λ params r. absurd (no-swap _ is refl params r)) (λ unit h. inl (no-swap-in-downs count unit old h)) (ap (λ z. cond (is_swap_kind z) (unit_of_swap plan count) (latest_unit station (units_of old))) (sym is)) (ap (λ z. down_after z count (down_of old)) (sym is)) (ap (λ z. with_control plan count z (controls_in old)) (sym is))
     way-event kind.Up is may = way-makes (with_control plan count kind.Up old)
         (way.planned, record { planned = _; ahead = _; meets_down = _; no_hang = _ })
         (λ e h. h) (λ e h. inl h) (λ e h. inl h) refl
         (λ unit h. not-first Up old (Purge (cause.Hung unit)) (λ same. cc) h) (λ unit h. there-in Up old (Swap unit) h)
         (λ len c. absurd (elim c [ inl r ↦ (let e : kind.Up ≡ kind.Resize len = sym is ∙ r in cc) | inr r ↦ (let e : kind.Up ≡ kind.TxQueueLen len = sym is ∙ r in cc) ]))
-        (λ params r. absurd (no-swap _ is refl params r)) (λ unit h. inl (not-first Up old (Swap unit) (λ same. cc) h)) (ap (λ z. cond (is_swap_kind z) (unit_of_swap plan count) (latest_unit station (units_of old))) (sym is)) (ap (λ z. down_after z count (down_of old)) (sym is))
+        (λ params r. absurd (no-swap _ is refl params r)) (λ unit h. inl (not-first Up old (Swap unit) (λ same. cc) h)) (ap (λ z. cond (is_swap_kind z) (unit_of_swap plan count) (latest_unit station (units_of old))) (sym is)) (ap (λ z. down_after z count (down_of old)) (sym is)) (ap (λ z. with_control plan count z (controls_in old)) (sym is))
     way-event (kind.Resize len) is may = way-makes (with_control plan count (kind.Resize len) old)
         (way.planned, record { planned = inl (at-here (kind.Resize len) is, next); ahead = λ m h. behind m h; meets_down = _; no_hang = _ })
         (λ e h. there-in _ _ _ h) (λ e h. elim (cons-in count (filter_map resize_event old) e h) [ inl same ↦ inr (sym same) | inr was ↦ inl was ]) (λ e h. inl h) refl
         (λ unit h. not-first (Resize len count) old (Purge (cause.Hung unit)) (λ same. cc) h) (λ unit h. there-in (Resize len count) old (Swap unit) h)
         (λ len c. here-in count (filter_map resize_event old))
-        (λ params r. absurd (no-swap _ is refl params r)) (λ unit h. inl (not-first (Resize len count) old (Swap unit) (λ same. cc) h)) (ap (λ z. cond (is_swap_kind z) (unit_of_swap plan count) (latest_unit station (units_of old))) (sym is)) (ap (λ z. down_after z count (down_of old)) (sym is))
+        (λ params r. absurd (no-swap _ is refl params r)) (λ unit h. inl (not-first (Resize len count) old (Swap unit) (λ same. cc) h)) (ap (λ z. cond (is_swap_kind z) (unit_of_swap plan count) (latest_unit station (units_of old))) (sym is)) (ap (λ z. down_after z count (down_of old)) (sym is)) (ap (λ z. with_control plan count z (controls_in old)) (sym is))
     way-event (kind.TxQueueLen len) is may = way-makes (with_control plan count (kind.TxQueueLen len) old)
         ((
           (
@@ -177,7 +181,7 @@ module _ (plan : Plan) (station count : ℕ) (event : EventPlan) (there : slice_
         (λ unit h. not-downs count unit old (not-first (Resize len count) (with_down count old) (Purge (cause.Hung unit)) (λ same. cc) (not-first Up (Resize len count ∷ with_down count old) (Purge (cause.Hung unit)) (λ same. cc) h)))
         (λ unit h. there-in Up (Resize len count ∷ with_down count old) (Swap unit) (there-in (Resize len count) (with_down count old) (Swap unit) (in-downs count old (Swap unit) h)))
         (λ len c. here-in count (filter_map resize_event old))
-        (λ params r. absurd (no-swap _ is refl params r)) (λ unit h. inl (no-swap-in-downs count unit old (not-first (Resize len count) (with_down count old) (Swap unit) (λ same. cc) (not-first Up (Resize len count ∷ with_down count old) (Swap unit) (λ same. cc) h)))) (ap (λ z. cond (is_swap_kind z) (unit_of_swap plan count) (latest_unit station (units_of old))) (sym is)) trans-down
+        (λ params r. absurd (no-swap _ is refl params r)) (λ unit h. inl (no-swap-in-downs count unit old (not-first (Resize len count) (with_down count old) (Swap unit) (λ same. cc) (not-first Up (Resize len count ∷ with_down count old) (Swap unit) (λ same. cc) h)))) (ap (λ z. cond (is_swap_kind z) (unit_of_swap plan count) (latest_unit station (units_of old))) (sym is)) trans-down (ap (λ z. with_control plan count z (controls_in old)) (sym is))
       where
         trans-down : None ≡ down_after event.kind count (down_of old)
         trans-down = sym may ∙ ap (λ z. down_after z count (down_of old)) (sym is)
@@ -203,7 +207,7 @@ module _ (plan : Plan) (station count : ℕ) (event : EventPlan) (there : slice_
           | inr was ↦ inl (no-swap-in-downs count unit old was)
         ])
         (ap (λ z. cond (is_swap_kind z) (unit_of_swap plan count) (latest_unit station (units_of old))) (sym is))
-        (sym may ∙ ap (λ z. down_after z count (down_of old)) (sym is))
+        (sym may ∙ ap (λ z. down_after z count (down_of old)) (sym is)) (ap (λ z. with_control plan count z (controls_in old)) (sym is))
       where
         u : ℕ
         u = unit_of_swap plan count
@@ -219,13 +223,13 @@ meets plan station n e is down = absurd cc
 
 -- what brings a packet is none of control's
 data IsNoControl (e : Event) : Type 0 where
-  no_control : resize_event e ≡ None → down_event e ≡ None → ((trail : List Event) → down_of (e ∷ trail) ≡ down_of trail) → ((unit : ℕ) → e ≡ Purge (cause.Hung unit) → ⊥) → ((unit : ℕ) → e ≡ Swap unit → ⊥) → ((trail : List Event) → units_of (e ∷ trail) ≡ units_of trail) → IsNoControl e
+  no_control : resize_event e ≡ None → down_event e ≡ None → ((trail : List Event) → down_of (e ∷ trail) ≡ down_of trail) → ((unit : ℕ) → e ≡ Purge (cause.Hung unit) → ⊥) → ((unit : ℕ) → e ≡ Swap unit → ⊥) → ((trail : List Event) → units_of (e ∷ trail) ≡ units_of trail) → is_by_plan e ≡ false → IsNoControl e
 
 brings-no-control : (e : Event) (n : ℕ) → brought e ≡ Some n → IsNoControl e
-brings-no-control (Join m band) n is = no_control refl refl (λ t. refl) (λ unit same. cc) (λ unit same. cc) (λ t. refl)
-brings-no-control (Full m seen) n is = no_control refl refl (λ t. refl) (λ unit same. cc) (λ unit same. cc) (λ t. refl)
-brings-no-control (Refuse m event) n is = no_control refl refl (λ t. refl) (λ unit same. cc) (λ unit same. cc) (λ t. refl)
-brings-no-control (Direct m) n is = no_control refl refl (λ t. refl) (λ unit same. cc) (λ unit same. cc) (λ t. refl)
+brings-no-control (Join m band) n is = no_control refl refl (λ t. refl) (λ unit same. cc) (λ unit same. cc) (λ t. refl) refl
+brings-no-control (Full m seen) n is = no_control refl refl (λ t. refl) (λ unit same. cc) (λ unit same. cc) (λ t. refl) refl
+brings-no-control (Refuse m event) n is = no_control refl refl (λ t. refl) (λ unit same. cc) (λ unit same. cc) (λ t. refl) refl
+brings-no-control (Direct m) n is = no_control refl refl (λ t. refl) (λ unit same. cc) (λ unit same. cc) (λ t. refl) refl
 brings-no-control e n is = absurd cc
 
 pub way-packet : (plan : Plan) (station count n : ℕ) (old new : List Event) → IsOnWay plan station count old → IsSplitAt plan count n → Came n old new → IsOnWay plan station count new
@@ -248,12 +252,13 @@ way-packet plan station count n old new way split came = subst (IsOnWay plan sta
     same-in g none = ap (λ o. cons_option o (filter_map g old)) none
 
     go : IsNoControl e → IsOnWay plan station count (e ∷ old)
-    go (no_control no-resize no-down same-down no-purge no-swap same-units) = record {
+    go (no_control no-resize no-down same-down no-purge no-swap same-units no-plan) = record {
       planned = (way.planned, next e came.brings meets-down);
       come = record {
         resizes = λ k len below at. subst (λ l. Contains l k) (sym (same-in resize_event no-resize)) (way.come.resizes k len below at);
         queue_lengths = λ k len below at. subst (λ l. Contains l k) (sym (same-in resize_event no-resize)) (way.come.queue_lengths k len below at);
         swaps = λ k params below at. there-in e old _ (way.come.swaps k params below at);
+        all = ap (λ b. cond b (e ∷ controls_in old) (controls_in old)) no-plan ∙ way.come.all;
       };
       resizes_below = λ k h. way.resizes_below k (subst (λ l. Contains l k) (same-in resize_event no-resize) h);
       downs_below = λ k h. way.downs_below k (subst (λ l. Contains l k) (same-in down_event no-down) h);

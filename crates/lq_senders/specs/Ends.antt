@@ -1,8 +1,8 @@
 -- What a run leaves at its end.
-use Rattle.std.specs.Option.{option_map_or}
+use Rattle.std.specs.Option.{option_map, option_map_or}
 use Rattle.std.specs.Prelude.{◌≡◌, ◌<◌, ◌≤◌, ℕ, true, false, List, length, map, slice_get, slice_index, Option, Some, All}
 use Rattle.lq_account.specs.Progress.{start_of}
-use Rattle.lq_account.specs.Trail.{IsTrail, HaveCome}
+use Rattle.lq_account.specs.Trail.{IsTrail, HaveCome, down_of}
 use Rattle.lq_control.specs.Finish.{IsFinished}
 use Rattle.lq_device.specs.Station.{StationState, initial_station}
 use Rattle.lq_device.specs.declared.device.TxDevice.{Ghosts}
@@ -15,7 +15,7 @@ use Rattle.lq_model.specs.declared.device.Params.{Params}
 use Rattle.lq_model.specs.declared.fate.Fate.{Fate}
 use Rattle.lq_model.specs.declared.fate.Info.{Info}
 use Rattle.lq_plan.specs.Limits.{IsWithinLimits}
-use Rattle.lq_seat.specs.Calls.{HungOnly, IsSound, PurgesHungOnly}
+use Rattle.lq_seat.specs.Calls.{HungOnly, IsSoundAtClose, PurgesHungOnly}
 use Rattle.lq_seat.specs.Seat.{IsSeat, origin_of}
 use Rattle.lq_table.specs.Keyed.{starting}
 use Rattle.lq_table.specs.Rule.{HangsWhere, IsCallOf, latest_unit, told_params, units_of}
@@ -25,9 +25,11 @@ use Rattle.lq_table.specs.Views.{View, no_station}
 use Rattle.lq_table.specs.declared.ended.Closed.{Closed}
 use Rattle.lq_table.specs.declared.shared.Cpu.{Cpu}
 use Rattle.lq_table.specs.declared.shared.Shared.{Shared}
-use Rattle.lq_senders.specs.Fates.{AllTell, EndedState, ended_state}
-use Rattle.lq_senders.specs.Lanes.{AllOwn, IsTableOf, Runs, after_sending, setup_of}
+use Rattle.lq_senders.specs.Fates.{AllTell}
+use Rattle.lq_table.specs.Ended.{EndedState, ended_state}
+use Rattle.lq_senders.specs.Lanes.{AllOwn, IsTableOf, AreRunAlone, after_sending, setup_of}
 use Rattle.lq_senders.specs.Units.{DevicesStand, DoTell, SameDevices, by_unit, unit_at}
+use Rattle.lq_senders.specs.Way.{down_after_events}
 
 -- A STATION AT ITS END
 
@@ -40,16 +42,18 @@ pub record MayClose (plan : Plan) (infos : List Info) (station : ℕ) (v : View)
   pub hung : PurgesHungOnly v
   pub trail : IsTrail plan station v.trail
   pub come : HaveCome plan station (length plan.events) v.trail
+  pub down : down_of v.trail ≡ down_after_events plan station (length plan.events)
   pub unit : latest_unit station (units_of v.trail) ≡ unit_at plan station (length plan.events)
 
 -- what the sole seat of a finished station knows at the close
 pub record EndsAt (plan : Plan) (infos : List Info) (station : ℕ) (v : View) : Type 0 where
   pub about : v.share.about ≡ setup_of plan infos station
-  pub sound : IsSound infos station (start_of plan station) v
+  pub sound : IsSoundAtClose infos station (start_of plan station) v
   pub finished : IsFinished (setup_of plan infos station) v
   pub hung : HungOnly v
   pub trail : IsTrail plan station v.trail
   pub come : HaveCome plan station (length plan.events) v.trail
+  pub down : down_of v.trail ≡ down_after_events plan station (length plan.events)
   pub unit : latest_unit station (units_of v.trail) ≡ unit_at plan station (length plan.events)
 
 module _ {D : Type 0} where
@@ -93,8 +97,8 @@ module _ {D : Type 0} where
     pub each : (j : ℕ) (c : Cpu D) (x : ClosedState) → slice_get cpus j ≡ Some c → slice_get closed j ≡ Some x → IsClosedStation plan infos j (view c) x
 
   -- the accounts of these stations have the fates that those of the run of one sender have
-  abbrev pub HaveFates : List (Cpu D) → List RunningStation → Type 0
-  HaveFates cpus stations = (j : ℕ) (c : Cpu D) → slice_get cpus j ≡ Some c → (s : RunningStation) × (slice_get stations j ≡ Some s) × ((account_of (view c)).fates ≡ s.account.fates)
+  abbrev pub HaveFatesAlone : List (Cpu D) → List RunningStation → Type 0
+  HaveFatesAlone cpus stations = (j : ℕ) (c : Cpu D) → slice_get cpus j ≡ Some c → (s : RunningStation) × (slice_get stations j ≡ Some s) × ((account_of (view c)).fates ≡ s.account.fates)
 
   -- Each station of the plan, of whose seats these were the first sender's, is closed, and its account has come to its end. Where
   -- no other sender was, the fates are those of the run of one sender.
@@ -103,11 +107,11 @@ module _ {D : Type 0} where
     pub one_each : length seats ≡ length plan.stations
     pub closed_are : FirstClosed plan infos (length plan.stations) seats closed
     pub devices : SameDevices start seats
-    pub alone : others ≡ 0 → (from : List RunningStation) → Runs plan infos start from → HaveFates seats (map (finished infos) from)
+    pub alone : others ≡ 0 → (from : List RunningStation) → AreRunAlone plan infos start from → HaveFatesAlone seats (map (finished infos) from)
 
   -- All packets were sent, and each station was closed: the first sender began with these seats and spare devices, and those are
   -- the spare devices that it ended with.
-  pub record HasRun (plan : Plan) (infos : List Info) (others : ℕ) (start : List (Cpu D)) (brought : List DeviceState) (closed : List ClosedState) (spares : List DeviceState) : Type 0 where
+  pub record HasSentAll (plan : Plan) (infos : List Info) (others : ℕ) (start : List (Cpu D)) (brought : List DeviceState) (closed : List ClosedState) (spares : List DeviceState) : Type 0 where
     pub limits : IsWithinLimits plan
     pub long : length start ≡ length plan.stations
     pub seats : List (Cpu D)
@@ -115,7 +119,7 @@ module _ {D : Type 0} where
     pub closed_are : FirstClosed plan infos (length plan.stations) seats closed
     pub devices : (units : List DeviceState) → DevicesStand plan infos units 0 start brought → DevicesStand plan infos units (length plan.events) seats spares
     pub alone : others ≡ 0 → AllOwn infos → (units : List DeviceState) → DevicesStand plan infos units 0 start brought → DoTell plan units
-        → (from : List RunningStation) → Runs plan infos start from → HaveFates seats (map (finished infos) (after_sending plan infos from))
+        → (from : List RunningStation) → AreRunAlone plan infos start from → HaveFatesAlone seats (map (finished infos) (after_sending plan infos from))
 
 -- READING
 
@@ -164,13 +168,15 @@ pub record RunEnds (plan : Plan) (infos : List Info) (before after : List Device
   pub of_plan : (n : ℕ) → n < length infos → station_in infos n < length plan.stations
   pub queues : (n : ℕ) → n < length infos → queue_in infos n < queues_at plan.stations (station_in infos n)
   pub one_each : length fates ≡ length infos
+  pub bench : unit_count plan ≤ length before
   pub each : (station : ℕ) → station < length plan.stations → EndsAt plan infos station (views station)
   pub fates_are : (n : ℕ) → n < length infos → slice_get fates n ≡ (account_of (views (station_in infos n))).fates n
   pub units : (unit : ℕ) → unit < unit_count plan → UnitEnds plan infos after views unit
   -- each station's device stands at the place of its latest unit
   pub present : (station : ℕ) → station < length plan.stations → slice_get after (account_of (views station)).unit ≡ Some (views station).whole.state.station.device
-  pub tells : AllTell (unit_count plan) before → (unit : ℕ) (params : Params) (device : DeviceState) → IsConfiguredWith plan unit params → slice_get after unit ≡ Some device
-      → told_params device ≡ Some params
+  -- each unit's device tells what the plan configures it with, where it told anything before
+  pub tells : (unit : ℕ) (params : Params) (old device : DeviceState) → IsConfiguredWith plan unit params → slice_get before unit ≡ Some old → slice_get after unit ≡ Some device
+      → told_params device ≡ option_map (λ _. params) old.told
   -- where the devices tell and there is one sender, each packet's fate is that of the run of one sender
   pub alone : AllTell (unit_count plan) before → plan.senders ≡ 1 → (n : ℕ) → n < length infos
       → fate_in (after_run plan infos (new_stations 0 plan.stations)) infos n ≡ (account_of (views (station_in infos n))).fates n

@@ -1,5 +1,6 @@
 -- What the fates of a run are, what its devices did, and what stays of its stations.
-use Rattle.std.specs.Prelude.{◌≡◌, ◌<◌, ℕ, true, List, All, length, map, Some, slice_get, slice_index, Option, IsSome}
+use Rattle.std.specs.Prelude.{◌≡◌, ◌<◌, ◌≤◌, ℕ, true, List, All, length, map, count_by, Some, slice_get, slice_index, Option, IsSome}
+use Rattle.std.specs.Option.{option_map}
 use Rattle.lq_account.specs.Accounts.{IsClosed}
 use Rattle.lq_model.specs.Account.{Account, Event}
 use Rattle.lq_model.specs.Alone.{alone}
@@ -7,7 +8,9 @@ use Rattle.lq_model.specs.Complete.{IsComplete}
 use Rattle.lq_model.specs.Device.{DeviceCall, DeviceState}
 use Rattle.lq_model.specs.Plan.{Plan, queue_in, queues_at, station_in, unit_count}
 use Rattle.lq_model.specs.Sent.{sent_of}
-use Rattle.lq_model.specs.Settled.{IsSettled, IsInSenderOrder, IsUnitOf, HangsAsTold, MeetsEvents}
+use Rattle.lq_model.specs.Settled.{IsConfiguredWith, IsSettled, IsInSenderOrder, IsUnitOf, HangsAsTold, MeetsEvents}
+use Rattle.lq_model.specs.Texts.{is_sent_by}
+use Rattle.lq_model.specs.declared.device.Params.{Params}
 use Rattle.lq_model.specs.declared.fate.Cause.TheVariants.{Hung}
 use Rattle.lq_model.specs.declared.fate.Fate.{Fate}
 use Rattle.lq_model.specs.declared.fate.Fate.TheVariants.{Purged}
@@ -15,8 +18,9 @@ use Rattle.lq_model.specs.Words.{IsWordOf}
 use Rattle.lq_model.specs.declared.fate.Info.{Info}
 use Rattle.lq_model.specs.declared.plan.StationPlan.{StationPlan}
 use Rattle.lq_device.specs.declared.device.TxDevice.{Ghosts}
-use Rattle.lq_table.specs.Sees.{ended_fates}
-use Rattle.lq_table.specs.declared.ended.Ended.{Ended}
+use Rattle.lq_senders.specs.Way.{EndsAsPlanned}
+use Rattle.lq_table.specs.Rule.{told_params}
+use Rattle.lq_table.specs.Ended.{EndedState}
 
 -- each of the first so many devices tells its rule
 abbrev pub AllTell : ℕ → List DeviceState → Type 0
@@ -29,6 +33,11 @@ accepted_of devices = map (λ device. device.accepted) devices
 abbrev pub identities_of : List DeviceState → List ℕ
 identities_of devices = map (λ device. device.identity) devices
 
+-- a unit that hangs after so many packets sent no more, and packets are purged because it hangs only where it sent so many
+pub record HangsAfter (fates : List Fate) (unit : ℕ) (params : Params) : Type 0 where
+  pub at_most : 0 < params.hang_after → count_by (is_sent_by unit) fates ≤ params.hang_after
+  pub purged : (n : ℕ) → slice_get fates n ≡ Some (Purged (Hung unit)) → (0 < params.hang_after) × (count_by (is_sent_by unit) fates ≡ params.hang_after)
+
 -- A unit's device was asked to send a packet of the unit's station, on that packet's own queue, which is one of the station's.
 pub record IsCallOfUnit (plan : Plan) (infos : List Info) (unit : ℕ) (call : DeviceCall) : Type 0 where
   pub packet : call.packet < length infos
@@ -36,9 +45,10 @@ pub record IsCallOfUnit (plan : Plan) (infos : List Info) (unit : ℕ) (call : D
   pub own_queue : call.queue ≡ queue_in infos call.packet
   pub one_of_its : call.queue < queues_at plan.stations (station_in infos call.packet)
 
--- the station's fates are those of a closed account
+-- the station's fates are those of a closed account, which the plan's events leave as they leave the station
 abbrev pub HasAccount : Plan → List Info → List Fate → ℕ → Type 0
-HasAccount plan infos fates station = (past : List Event) × (a : Account) × IsClosed plan infos fates station past a
+HasAccount plan infos fates station =
+    (past : List Event) × (a : Account) × IsClosed plan infos fates station past a × EndsAsPlanned plan station a
 
 -- The fates of a run over the devices of a bench, as they were before it and are after it; unit u is the device at place u.
 pub record AreFatesOf (plan : Plan) (infos : List Info) (fates : List Fate) (before after : List DeviceState) : Type 0 where
@@ -48,8 +58,8 @@ pub record AreFatesOf (plan : Plan) (infos : List Info) (fates : List Fate) (bef
   pub complete : IsComplete plan infos fates
   -- each owner's packets of one station and band were sent in ascending number
   pub in_order : IsInSenderOrder infos fates
-  -- what happened at each station is a legal list of events with all of the plan's events in it, which leaves nothing held and gives
-  -- these fates
+  -- each station's fates can be told by a legal list of events, which leaves nothing held: it has the plan's events for the station,
+  -- in their order and no other, and leaves the station as they do
   pub accounts : (station : ℕ) → station < length plan.stations → HasAccount plan infos fates station
   -- the packets of the first sender meet the plan's events where they stand
   pub events : MeetsEvents plan infos fates
@@ -59,27 +69,18 @@ pub record AreFatesOf (plan : Plan) (infos : List Info) (fates : List Fate) (bef
   pub asked : (unit : ℕ) (device : DeviceState) → unit < unit_count plan → slice_get after unit ≡ Some device → All (IsCallOfUnit plan infos unit) device.asked
   -- packets are purged as hung only where the unit's device hangs
   pub hung : (n unit : ℕ) (device : DeviceState) → slice_get fates n ≡ Some (Purged (Hung unit)) → slice_get after unit ≡ Some device → device.hung ≡ true
-  -- where the devices tell, they hung as they told
+  -- each unit was configured as its station or its exchange says: its device tells these parameters, if it told any before
+  pub configured : (unit : ℕ) (params : Params) (old new : DeviceState) → IsConfiguredWith plan unit params → slice_get before unit ≡ Some old → slice_get after unit ≡ Some new
+      → told_params new ≡ option_map (λ _. params) old.told
+  -- a device that tells hung as it told, whatever the others do
+  pub hangs : (unit : ℕ) (params : Params) (old : DeviceState) → IsConfiguredWith plan unit params → slice_get before unit ≡ Some old → IsSome old.told
+      → HangsAfter fates unit params
+  -- where they all tell, they all did
   pub as_told : AllTell (unit_count plan) before → HangsAsTold plan fates
   -- where they tell and there is one sender, the fates are those of its run
   pub alone : AllTell (unit_count plan) before → plan.senders ≡ 1 → map (λ fate. Some fate) fates ≡ alone plan infos
 
--- the same of a list of options, once each is a fate
-abbrev pub AreOptionsOf : Plan → List Info → List (Option Fate) → List DeviceState → List DeviceState → Type 0
-AreOptionsOf plan infos options before after = (fates : List Fate) → map (λ fate. Some fate) fates ≡ options → AreFatesOf plan infos fates before after
-
 -- WHAT STAYS OF A STATION
-
--- the number of a closed station, the plan that it was opened with, and the fate words of its packets
-pub record EndedState : Type 0 where
-  pub number : ℕ
-  pub plan : StationPlan
-  pub packets : ℕ
-  pub words : List ℕ
-
-module _ {D : Type 0} {g : Ghosts D} where
-  abbrev pub ended_state : Ended D g → EndedState
-  ended_state e = record { number = e.number; plan = e.plan; packets = e.packets; words = ended_fates e }
 
 -- a station of the plan has ended: the fates of its packets are these
 pub record IsEndedAs (plan : Plan) (infos : List Info) (fates : List Fate) (station : ℕ) (e : EndedState) : Type 0 where

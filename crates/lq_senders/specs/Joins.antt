@@ -9,7 +9,7 @@ use Rattle.lq_table.specs.Sees.{view}
 use Rattle.lq_table.specs.Views.{View}
 use Rattle.lq_table.specs.declared.shared.Cpu.{Cpu}
 use Rattle.lq_table.specs.declared.shared.Shared.{Shared}
-use Rattle.lq_senders.specs.Lanes.{IsTableOf, Stands}
+use Rattle.lq_senders.specs.Lanes.{IsTableOf, StandsInRun}
 use Rattle.lq_senders.specs.Way.{IsOnWay}
 
 -- The senders whose seats are one: the first, and of the others all but so many. (The last lane is taken in first.)
@@ -45,7 +45,7 @@ module _ {D : Type 0} where
   -- another sender's seat at a station, which was through with all packets
   pub record IsOtherDone (plan : Plan) (infos : List Info) (owner j : ℕ) (t : Shared D) (c : Cpu D) : Type 0 where
     pub seat : IsSeat t c
-    pub stands : Stands plan infos owner j (length plan.events) (length infos) (view c)
+    pub stands : StandsInRun plan infos owner j (length plan.events) (length infos) (view c)
     pub shares : (view c).share.shares ≡ 1
     pub owners : (view c).share.owners ≡ owner ∷ []
     pub first : (view c).control.first ≡ false

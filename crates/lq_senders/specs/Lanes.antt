@@ -1,5 +1,5 @@
 -- A sender's lane: its seats, one at each station.
-use Rattle.std.specs.Prelude.{◌≡◌, ◌≢◌, ◌<◌, ◌≤◌, ℕ, ◌+◌, ◌*◌, ◌%◌, ◌⊎◌, All, true, false, List, [], ◌∷◌, length, slice_get, slice_index, Some}
+use Rattle.std.specs.Prelude.{◌≡◌, ◌≢◌, ◌<◌, ◌≤◌, ℕ, ◌+◌, ◌*◌, ◌/◌, ◌%◌, ◌⊎◌, All, true, false, List, [], ◌∷◌, length, slice_get, slice_index, Some}
 use Rattle.lq_account.specs.Progress.{len_of, start_of}
 use Rattle.lq_control.specs.Finish.{AreRanks, count_below}
 use Rattle.lq_model.specs.Alone.{RunningStation, after_packets, bypass_of, events_after, with_events}
@@ -10,7 +10,7 @@ use Rattle.lq_model.specs.declared.plan.EventPlan.{EventPlan}
 use Rattle.lq_plan.specs.Limits.{max_len_at}
 use Rattle.lq_plan.specs.Packets.{IsInfoWithin}
 use Rattle.lq_qdisc.specs.Alone.{IsAlone, running}
-use Rattle.lq_seat.specs.Calls.{Wakes}
+use Rattle.lq_seat.specs.Calls.{WakesQueues}
 use Rattle.lq_seat.specs.Exchanges.{KeepsSeat}
 use Rattle.lq_seat.specs.Seat.{IsSeat, Keeps}
 use Rattle.lq_table.specs.Rule.{AreInfos, times}
@@ -21,12 +21,13 @@ use Rattle.lq_table.specs.declared.shared.Cpu.{Cpu}
 use Rattle.lq_table.specs.declared.shared.Shared.{Shared}
 use Rattle.lq_senders.specs.Units.{DevicesStand, DoTell}
 use Rattle.lq_senders.specs.Way.{IsOnWay}
+use Rattle.lq_senders.specs.Woken.{AllWoke, count_sent}
 use Rattle.lq_senders.specs.declared.lanes.Lane.{Lane}
 
 -- ONE SEAT
 
 -- a sender's seat at a station, where its packets below n were sent and the first so many events of the plan done
-pub record Stands (plan : Plan) (infos : List Info) (sender station count n : ℕ) (v : View) : Type 0 where
+pub record StandsInRun (plan : Plan) (infos : List Info) (sender station count n : ℕ) (v : View) : Type 0 where
   pub is_sender : sender < plan.senders
   pub owner : 0 < times sender v.share.owners
   pub wide : length v.turns ≡ plan.senders
@@ -52,7 +53,7 @@ module _ {D : Type 0} where
   pub record StandsAt (plan : Plan) (infos : List Info) (sender count n j : ℕ) (t : Shared D) (c : Cpu D) : Type 0 where
     pub table : IsTableOf plan infos j t
     pub seat : IsSeat t c
-    pub stands : Stands plan infos sender j count n (view c)
+    pub stands : StandsInRun plan infos sender j count n (view c)
 
   -- ALL SEATS OF A SENDER
 
@@ -72,8 +73,8 @@ module _ {D : Type 0} where
     pub each : (j : ℕ) (c c' : Cpu D) → slice_get old j ≡ Some c → slice_get new j ≡ Some c' → KeepsSeat (view c) (view c')
 
   -- each seat has its table alone and its device tells, and these are the stations of the run of one sender
-  abbrev pub Runs : Plan → List Info → List (Cpu D) → List RunningStation → Type 0
-  Runs plan infos cpus stations = (j : ℕ) (c : Cpu D) → slice_get cpus j ≡ Some c → IsAlone infos (start_of plan j) (solo (view c)) × (slice_get stations j ≡ Some (running (start_of plan j) (solo (view c))))
+  abbrev pub AreRunAlone : Plan → List Info → List (Cpu D) → List RunningStation → Type 0
+  AreRunAlone plan infos cpus stations = (j : ℕ) (c : Cpu D) → slice_get cpus j ≡ Some c → IsAlone infos (start_of plan j) (solo (view c)) × (slice_get stations j ≡ Some (running (start_of plan j) (solo (view c))))
 
   -- IN TURN AT ALL STATIONS
 
@@ -94,22 +95,25 @@ module _ {D : Type 0} where
 
   -- the queues were woken, where the plan wakes them after a sender's packet k, or all is as it was
   abbrev pub WokenOrNot : Plan → ℕ → List (Shared D) → List (Cpu D) → List (Cpu D) → Type 0
-  WokenOrNot plan k tables old new = (((k + 1) % plan.irq_every ≡ 0) × AllDid Wakes tables old new) ⊎ (((k + 1) % plan.irq_every ≢ 0) × (new ≡ old))
+  WokenOrNot plan k tables old new = (((k + 1) % plan.irq_every ≡ 0) × AllDid WakesQueues tables old new) ⊎ (((k + 1) % plan.irq_every ≢ 0) × (new ≡ old))
 
   -- ON THE WAY THROUGH THE PACKETS
 
-  -- A sender is before packet n: it sent k packets, and did the events before `next`, each of which stands before a lower packet.
+  -- A sender is before packet n: it sent its k packets below that, woke its stations after each `irq_every` of them, and did the events
+  -- before `next`, each of which stands before a lower packet.
   pub record IsSending (plan : Plan) (infos : List Info) (tables : List (Shared D)) (sender n k next : ℕ) (start : List (Cpu D)) (brought : List DeviceState) (now : List (Cpu D)) (spares : List DeviceState) : Type 0 where
     pub within : next ≤ length plan.events
     pub few : k ≤ n
+    pub sent : k ≡ count_sent infos sender n
+    pub woke : AllWoke tables (k / plan.irq_every) start now
     pub stands : LaneStands plan infos sender next n tables now
     pub earlier : (j : ℕ) (event : EventPlan) → j < next → slice_get plan.events j ≡ Some event → event.before < n
     pub keeps : KeepSeats start now
     pub devices : (units : List DeviceState) → DevicesStand plan infos units 0 start brought → DevicesStand plan infos units next now spares
     -- where all packets are the first sender's, and the devices that exchanges bring tell, its seats are the stations of the run of
     -- one sender
-    pub alone : (units : List DeviceState) → DevicesStand plan infos units 0 start brought → DoTell plan units → sender ≡ 0 → AllOwn infos → (from : List RunningStation) → Runs plan infos start from
-        → (k ≡ n) × ((j : ℕ) (event : EventPlan) → next ≤ j → slice_get plan.events j ≡ Some event → n ≤ event.before) × Runs plan infos now (after_packets plan infos from n)
+    pub alone : (units : List DeviceState) → DevicesStand plan infos units 0 start brought → DoTell plan units → sender ≡ 0 → AllOwn infos → (from : List RunningStation) → AreRunAlone plan infos start from
+        → (k ≡ n) × ((j : ℕ) (event : EventPlan) → next ≤ j → slice_get plan.events j ≡ Some event → n ≤ event.before) × AreRunAlone plan infos now (after_packets plan infos from n)
 
   -- LANES
 

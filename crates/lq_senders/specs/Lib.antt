@@ -2,6 +2,8 @@
 pub mod Units
 -- how far the first sender is with the plan's events at a station
 pub mod Way
+-- how often a sender woke its stations
+pub mod Woken
 -- a sender's seats, one at each station
 pub mod Lanes
 -- the other senders' seats are joined into the first sender's

@@ -75,7 +75,7 @@ module _ {D : Type 0} where
     pub each : (j : ℕ) (t : Shared D) (c : Cpu D) → slice_get tables j ≡ Some t → slice_get cpus j ≡ Some c → IsOpenedAt plan infos devices j t c
 
   -- each table has one seat alone, which is in no call and may end it
-  pub record IsWhole (t : Shared D) (c : Cpu D) : Type 0 where
+  pub record HasOneSeat (t : Shared D) (c : Cpu D) : Type 0 where
     pub seat : IsSeat t c
     pub sole : IsSole (view c)
     pub first : (view c).control.first ≡ true
@@ -83,7 +83,7 @@ module _ {D : Type 0} where
 
   pub record AreWhole (tables : List (Shared D)) (cpus : List (Cpu D)) : Type 0 where
     pub long : length cpus ≡ length tables
-    pub each : (j : ℕ) (t : Shared D) (c : Cpu D) → slice_get tables j ≡ Some t → slice_get cpus j ≡ Some c → IsWhole t c
+    pub each : (j : ℕ) (t : Shared D) (c : Cpu D) → slice_get tables j ≡ Some t → slice_get cpus j ≡ Some c → HasOneSeat t c
 
   -- which devices came to the seats' stations
   abbrev pub origins_of : List (Cpu D) → List ℕ
@@ -130,7 +130,7 @@ module _ {D : Type 0} where
 module _ {D : Type 0} where
   -- The tables are new, over the devices of a bench, which were configured as they stood there; those that exchanges bring are
   -- to spare.
-  pub record IsReady (plan : Plan) (infos : List Info) (before : List DeviceState) (tables : List (Shared D)) (cpus : List (Cpu D)) (spares : List DeviceState) : Type 0 where
+  pub record AreTablesReady (plan : Plan) (infos : List Info) (before : List DeviceState) (tables : List (Shared D)) (cpus : List (Cpu D)) (spares : List DeviceState) : Type 0 where
     pub devices : List DeviceState
     pub units : unit_count plan ≤ length before
     pub configured : AreConfigured plan infos (length plan.stations) before devices

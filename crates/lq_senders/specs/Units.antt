@@ -35,7 +35,7 @@ swaps_before plan count = count_by is_swap (take count plan.events)
 -- DEVICES
 
 -- a device that may come to the station: it was just configured, and has room for all of its packets
-pub record MayCome (infos : List Info) (station : ℕ) (device : DeviceState) : Type 0 where
+pub record MayBeBrought (infos : List Info) (station : ℕ) (device : DeviceState) : Type 0 where
   pub accepted : device.accepted ≡ []
   pub asked : device.asked ≡ []
   pub hung : device.hung ≡ false
@@ -45,7 +45,7 @@ pub record MayCome (infos : List Info) (station : ℕ) (device : DeviceState) : 
 pub record AreUnits (plan : Plan) (infos : List Info) (units : List DeviceState) : Type 0 where
   pub long : length units ≡ unit_count plan
   pub may_come : (e : ℕ) (event : EventPlan) (device : DeviceState) → slice_get plan.events e ≡ Some event → is_swap event ≡ true → slice_get units (unit_of_swap plan e) ≡ Some device
-      → MayCome infos event.station device
+      → MayBeBrought infos event.station device
 
 -- those that exchanges bring tell what the plan configures them with
 abbrev pub DoTell : Plan → List DeviceState → Type 0

@@ -1,10 +1,11 @@
 -- How far the first sender is with the plan's events at a station.
-use Rattle.std.specs.Prelude.{◌≡◌, ◌<◌, ◌≤◌, ℕ, zero, suc, ◌+◌, if◌then◌else◌, List, [], ◌∷◌, take, slice_get, Option, Some, None, Contains, filter_map}
+use Rattle.std.specs.Prelude.{◌≡◌, ◌<◌, ◌≤◌, ℕ, zero, suc, ◌+◌, if◌then◌else◌, List, [], ◌∷◌, take, length, filter, slice_get, Option, Some, None, Contains, filter_map}
+use Rattle.lq_account.specs.Progress.{len_of}
 use Rattle.lq_account.specs.Trail.{down_of, IsTrail, HaveCome}
-use Rattle.lq_model.specs.Account.{Event, Purge, Swap}
+use Rattle.lq_model.specs.Account.{Account, Event, Purge, Swap}
 use Rattle.lq_model.specs.Legal.{brought_by, resize_event, down_event}
 use Rattle.lq_model.specs.Plan.{Plan, unit_of_swap}
-use Rattle.lq_model.specs.Settled.{is_at, down_after}
+use Rattle.lq_model.specs.Settled.{is_at, down_after, length_after}
 use Rattle.lq_model.specs.declared.fate.Cause.TheVariants as cause
 use Rattle.lq_model.specs.declared.plan.EventPlan.{EventPlan}
 use Rattle.lq_table.specs.Rule.{latest_unit, units_of}
@@ -18,6 +19,13 @@ down_among station (event ∷ events) e down = down_among station events (e + 1)
 -- after the first so many events of the plan
 abbrev pub down_after_events : Plan → ℕ → ℕ → Option ℕ
 down_after_events plan station count = down_among station (take count plan.events) 0 None
+
+-- the account is as the plan's events leave the station: deactivated by the one that they leave, with its unit and the length of its
+-- rings
+pub record EndsAsPlanned (plan : Plan) (station : ℕ) (a : Account) : Type 0 where
+  pub down : a.down ≡ down_after_events plan station (length plan.events)
+  pub unit : a.unit ≡ unit_at plan station (length plan.events)
+  pub len : a.len ≡ length_after (filter (is_at station) plan.events) (len_of plan station)
 
 -- the first so many events stand before packet n, and the others after it
 abbrev pub IsSplitAt : Plan → ℕ → ℕ → Type 0

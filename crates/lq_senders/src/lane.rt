@@ -1,17 +1,18 @@
 //! What a sender does at its seats.
-ghost use Rattle.std.specs.Prelude.{◌≡◌, ℕ, ◌+◌, ◌<◌, ◌≤◌, ◌-◌, List, map, length, slice_get};
-ghost use Rattle.lq_senders.specs.Lanes.{AllDid, AreSeats, IsSendable, IsSending, KeepAll, KeepSeats, LaneStands, Runs, WokenOrNot};
+ghost use Rattle.std.specs.Prelude.{◌≡◌, ℕ, ◌+◌, ◌<◌, ◌≤◌, ◌-◌, ◌/◌, List, map, length, slice_get};
+ghost use Rattle.lq_senders.specs.Lanes.{AllDid, AreSeats, IsSendable, IsSending, KeepAll, KeepSeats, LaneDone, LaneStands, AreRunAlone, WokenOrNot};
 ghost use Rattle.lq_senders.specs.Units.{DevicesStand, DoTell};
 ghost use Rattle.lq_senders.specs.Way.{IsSplitAt, numbers_from};
+ghost use Rattle.lq_senders.specs.Woken.{AllWoke, count_sent};
 ghost use Rattle.lq_model.specs.Alone.{RunningStation, served, with_events, with_packet, with_wakes};
 ghost use Rattle.lq_model.specs.Device.{DeviceState};
 ghost use Rattle.lq_model.specs.Plan.{owner_in};
 ghost use Rattle.lq_model.specs.declared.plan.EventPlan.{EventPlan as AnEvent};
-ghost use Rattle.lq_seat.specs.Calls.{Drains, Wakes};
+ghost use Rattle.lq_seat.specs.Calls.{Drains, WakesQueues};
 
-use crate::gate::Gate;
 use crate::swaps::do_any_event;
 use lq_device::TxDevice;
+use lq_gate::Gate;
 use lq_model::Info;
 use lq_plan::Plan;
 use lq_seat::{drain, send, wake};
@@ -34,8 +35,8 @@ fn send_packet<'a, R: Wait, D: TxDevice>(
         → (owner_in infos.now n ≡ 0 → IsSplitAt plan.now count n)
         → LaneStands plan.now infos.now (owner_in infos.now n) count (n + 1) shared.now cpus.new.items }
     ensures keeps { KeepAll cpus.old.items cpus.new.items }
-    ensures runs { (stations : List RunningStation) → Runs plan.now infos.now cpus.old.items stations
-        → Runs plan.now infos.now cpus.new.items (with_packet plan.now infos.now n stations) }
+    ensures runs { (stations : List RunningStation) → AreRunAlone plan.now infos.now cpus.old.items stations
+        → AreRunAlone plan.now infos.now cpus.new.items (with_packet plan.now infos.now n stations) }
 {
     let station = infos[n as usize].station;
     let _ = &plan;
@@ -50,7 +51,7 @@ fn send_packet<'a, R: Wait, D: TxDevice>(
 /// Wakes the queues of each station.
 fn wake_all<'a, D: TxDevice>(shared: &[Shared<'a, D>], cpus: &mut Vec<Cpu<D>>)
     requires seats { AreSeats shared.now cpus.old.items }
-    ensures { AllDid Wakes shared.now cpus.old.items cpus.new.items }
+    ensures { AllDid WakesQueues shared.now cpus.old.items cpus.new.items }
 {
     for j in 0..shared.len() {
         wake(&shared[j], &mut cpus[j]);
@@ -97,10 +98,13 @@ fn turn<'a, R: Wait, D: TxDevice>(
     ensures stands { (sender count n : ℕ) → LaneStands plan.now infos.now sender count n shared.now cpus.old.items
         → LaneStands plan.now infos.now sender count n shared.now cpus.new.items }
     ensures keeps { KeepAll cpus.old.items cpus.new.items }
-    ensures runs { (stations : List RunningStation) → Runs plan.now infos.now cpus.old.items stations
-        → Runs plan.now infos.now cpus.new.items (map (served infos.now) (with_wakes plan.now k stations)) }
+    ensures runs { (stations : List RunningStation) → AreRunAlone plan.now infos.now cpus.old.items stations
+        → AreRunAlone plan.now infos.now cpus.new.items (map (served infos.now) (with_wakes plan.now k stations)) }
+    ensures woke { (start : List (Cpu D.row.Denot)) → AllWoke shared.now (k / plan.now.irq_every) start cpus.old.items
+        → AllWoke shared.now ((k + 1) / plan.now.irq_every) start cpus.new.items }
 {
     let _ = &infos;
+    plan.stays_within_limits();
     wake_after(plan, shared, cpus, k);
     drain_all(rt, shared, cpus);
 }
@@ -129,8 +133,8 @@ fn events_before<'a, R: Wait, D: TxDevice>(
     ensures devices { (units : List DeviceState) → DevicesStand plan.now infos.now units next cpus.old.items (map D.state spares.old.items)
         → DevicesStand plan.now infos.now units result cpus.new.items (map D.state spares.new.items) }
     ensures runs { (units : List DeviceState) → DevicesStand plan.now infos.now units next cpus.old.items (map D.state spares.old.items) → DoTell plan.now units
-        → (stations : List RunningStation) → Runs plan.now infos.now cpus.old.items stations
-        → Runs plan.now infos.now cpus.new.items (with_events plan.now infos.now (numbers_from next (result - next)) stations) }
+        → (stations : List RunningStation) → AreRunAlone plan.now infos.now cpus.old.items stations
+        → AreRunAlone plan.now infos.now cpus.new.items (with_events plan.now infos.now (numbers_from next (result - next)) stations) }
 {
     plan.stays_within_limits();
     for e in next..plan.events() {
@@ -167,14 +171,60 @@ pub fn events_of<'a, R: Wait, D: TxDevice>(
     ensures devices { (units : List DeviceState) → DevicesStand plan.now infos.now units next cpus.old.items (map D.state spares.old.items)
         → DevicesStand plan.now infos.now units result cpus.new.items (map D.state spares.new.items) }
     ensures runs { (units : List DeviceState) → DevicesStand plan.now infos.now units next cpus.old.items (map D.state spares.old.items) → DoTell plan.now units
-        → (stations : List RunningStation) → Runs plan.now infos.now cpus.old.items stations
-        → Runs plan.now infos.now cpus.new.items (with_events plan.now infos.now (numbers_from next (result - next)) stations) }
+        → (stations : List RunningStation) → AreRunAlone plan.now infos.now cpus.old.items stations
+        → AreRunAlone plan.now infos.now cpus.new.items (with_events plan.now infos.now (numbers_from next (result - next)) stations) }
 {
     if sender == 0 {
         events_before(rt, plan, infos, shared, cpus, spares, next, n)
     } else {
         next
     }
+}
+
+/// Passes the gate before packet `n`, with the sender's own number and the packet's among the sender's. The plan's events that
+/// stand before the packet were done, and it isn't sent yet.
+fn pass_before<'a, D: TxDevice, G: Gate>(
+    plan: &Plan,
+    infos: &[Info],
+    shared: &[Shared<'a, D>],
+    cpus: &Vec<Cpu<D>>,
+    sender: u32,
+    next: u32,
+    k: u32,
+    n: u32,
+    gate: &G,
+)
+    requires own { owner_in infos.now n ≡ sender }
+    requires number { k ≡ count_sent infos.now sender n }
+    requires events { sender ≡ 0 → IsSplitAt plan.now next n }
+    requires stands { LaneStands plan.now infos.now sender next n shared.now cpus.now.items }
+{
+    let _ = &plan;
+    let _ = &infos;
+    let _tables = shared.len();
+    let _seats = cpus.len();
+    let _ = (next, n);
+    gate.pass(sender, k);
+}
+
+/// Passes the gate after a sender's last packet, with how many it sent. All of the plan's events were done.
+pub fn pass_last<'a, D: TxDevice, G: Gate>(
+    plan: &Plan,
+    infos: &[Info],
+    shared: &[Shared<'a, D>],
+    cpus: &Vec<Cpu<D>>,
+    sender: u32,
+    k: u32,
+    gate: &G,
+)
+    requires number { k ≡ count_sent infos.now sender (length infos.now) }
+    requires done { LaneDone plan.now infos.now sender shared.now cpus.now.items }
+{
+    let _ = &plan;
+    let _ = &infos;
+    let _tables = shared.len();
+    let _seats = cpus.len();
+    gate.pass(sender, k);
 }
 
 /// Brings packet `n`, the sender's packet `k`: the event that is next then.
@@ -194,6 +244,7 @@ fn bring<'a, R: Wait, D: TxDevice, G: Gate>(
     requires own { owner_in infos.now n ≡ sender }
     requires packet { n < length infos.now }
     requires few { k ≤ n }
+    requires sent { k ≡ count_sent infos.now sender n }
     requires sendable { IsSendable plan.now infos.now }
     requires next { next ≤ length plan.now.events }
     requires earlier { (j : ℕ) (event : AnEvent) → j < next → slice_get plan.now.events j ≡ Some event → event.before < n }
@@ -207,12 +258,14 @@ fn bring<'a, R: Wait, D: TxDevice, G: Gate>(
     ensures devices { (units : List DeviceState) → DevicesStand plan.now infos.now units next cpus.old.items (map D.state spares.old.items)
         → DevicesStand plan.now infos.now units result cpus.new.items (map D.state spares.new.items) }
     ensures runs { (units : List DeviceState) → DevicesStand plan.now infos.now units next cpus.old.items (map D.state spares.old.items) → DoTell plan.now units
-        → (stations : List RunningStation) → Runs plan.now infos.now cpus.old.items stations
-        → Runs plan.now infos.now cpus.new.items (map (served infos.now) (with_wakes plan.now k (with_packet plan.now infos.now n
+        → (stations : List RunningStation) → AreRunAlone plan.now infos.now cpus.old.items stations
+        → AreRunAlone plan.now infos.now cpus.new.items (map (served infos.now) (with_wakes plan.now k (with_packet plan.now infos.now n
         (with_events plan.now infos.now (numbers_from next (result - next)) stations)))) }
+    ensures woke { (start : List (Cpu D.row.Denot)) → AllWoke shared.now (k / plan.now.irq_every) start cpus.old.items
+        → AllWoke shared.now ((k + 1) / plan.now.irq_every) start cpus.new.items }
 {
     let next = events_of(rt, plan, infos, shared, cpus, spares, sender, next, n);
-    gate.pass(sender, k);
+    pass_before(plan, infos, shared, cpus, sender, next, k, n, gate);
     send_packet(rt, plan, infos, shared, cpus, n);
     turn(rt, plan, infos, shared, cpus, k);
     next

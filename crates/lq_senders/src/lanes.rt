@@ -1,14 +1,15 @@
 //! Senders side by side.
-ghost use Rattle.std.specs.Prelude.{◌≡◌, ℕ, ◌≤◌, ◌-◌, List, length, map};
-ghost use Rattle.lq_senders.specs.Lanes.{AllOwn, AreDoneLanes, AreReadyLanes, IsDoneLane, IsReadyLane, IsSendable, KeepSeats, LaneDone, LaneStands, Runs, after_sending};
+ghost use Rattle.std.specs.Prelude.{◌≡◌, ℕ, ◌≤◌, ◌-◌, ◌/◌, List, length, map};
+ghost use Rattle.lq_senders.specs.Lanes.{AllOwn, AreDoneLanes, AreReadyLanes, IsDoneLane, IsReadyLane, IsSendable, KeepSeats, LaneDone, LaneStands, AreRunAlone, after_sending};
 ghost use Rattle.lq_senders.specs.Units.{DevicesStand, DoTell};
 ghost use Rattle.lq_senders.specs.Way.{numbers_from};
+ghost use Rattle.lq_senders.specs.Woken.{AllWoke, count_sent};
 ghost use Rattle.lq_model.specs.Alone.{RunningStation, with_events};
 ghost use Rattle.lq_model.specs.Device.{DeviceState};
 
-use crate::gate::Gate;
-use crate::lane::{Progress, come_to, events_of};
+use crate::lane::{Progress, come_to, events_of, pass_last};
 use lq_device::TxDevice;
+use lq_gate::Gate;
 use lq_model::Info;
 use lq_plan::Plan;
 use lq_table::{Cpu, Shared};
@@ -46,8 +47,8 @@ fn events_left<'a, R: Wait, D: TxDevice>(
     ensures devices { sender ≡ 0 → (units : List DeviceState) → DevicesStand plan.now infos.now units next cpus.old.items (map D.state spares.old.items)
         → DevicesStand plan.now infos.now units (length plan.now.events) cpus.new.items (map D.state spares.new.items) }
     ensures runs { sender ≡ 0 → (units : List DeviceState) → DevicesStand plan.now infos.now units next cpus.old.items (map D.state spares.old.items) → DoTell plan.now units
-        → (stations : List RunningStation) → Runs plan.now infos.now cpus.old.items stations
-        → Runs plan.now infos.now cpus.new.items (with_events plan.now infos.now (numbers_from next (length plan.now.events - next)) stations) }
+        → (stations : List RunningStation) → AreRunAlone plan.now infos.now cpus.old.items stations
+        → AreRunAlone plan.now infos.now cpus.new.items (with_events plan.now infos.now (numbers_from next (length plan.now.events - next)) stations) }
 {
     plan.stays_within_limits();
     let _last = events_of(
@@ -64,6 +65,7 @@ fn events_left<'a, R: Wait, D: TxDevice>(
 }
 
 /// Sends a sender's packets. The first sender does the plan's events, each before its packets with that number or a higher one.
+/// After each `irq_every` packets the sender wakes the stopped queues of all stations.
 pub fn send_loop<'a, R: Wait, D: TxDevice, G: Gate>(
     rt: &R,
     plan: &Plan,
@@ -81,9 +83,11 @@ pub fn send_loop<'a, R: Wait, D: TxDevice, G: Gate>(
     ensures devices { lane.old.owner ≡ 0 → (units : List DeviceState) → DevicesStand plan.now infos.now units 0 lane.old.cpus.items (map D.state lane.old.spares.items)
         → DevicesStand plan.now infos.now units (length plan.now.events) lane.new.cpus.items (map D.state lane.new.spares.items) }
     ensures runs { lane.old.owner ≡ 0 → (units : List DeviceState) → DevicesStand plan.now infos.now units 0 lane.old.cpus.items (map D.state lane.old.spares.items) → DoTell plan.now units
-        → AllOwn infos.now → (from : List RunningStation) → Runs plan.now infos.now lane.old.cpus.items from
-        → Runs plan.now infos.now lane.new.cpus.items (after_sending plan.now infos.now from) }
+        → AllOwn infos.now → (from : List RunningStation) → AreRunAlone plan.now infos.now lane.old.cpus.items from
+        → AreRunAlone plan.now infos.now lane.new.cpus.items (after_sending plan.now infos.now from) }
+    ensures woke { AllWoke shared.now (count_sent infos.now lane.old.owner (length infos.now) / plan.now.irq_every) lane.old.cpus.items lane.new.cpus.items }
 {
+    plan.stays_within_limits();
     let sender = lane.owner;
     let mut at = Progress { sent: 0, next: 0 };
     for n in 0..infos.len() as u32 {
@@ -110,7 +114,7 @@ pub fn send_loop<'a, R: Wait, D: TxDevice, G: Gate>(
         sender,
         at.next,
     );
-    gate.pass(sender, at.sent);
+    pass_last(plan, infos, shared, &lane.cpus, sender, at.sent, gate);
 }
 
 /// Sends the packets of a sender that isn't the first.
@@ -176,8 +180,8 @@ fn first_sent<'a, R: Wait, D: TxDevice, G: Gate>(
     ensures devices { (units : List DeviceState) → DevicesStand plan.now infos.now units 0 lane.cpus.items (map D.state lane.spares.items)
         → DevicesStand plan.now infos.now units (length plan.now.events) result.cpus.items (map D.state result.spares.items) }
     ensures runs { (units : List DeviceState) → DevicesStand plan.now infos.now units 0 lane.cpus.items (map D.state lane.spares.items) → DoTell plan.now units
-        → AllOwn infos.now → (from : List RunningStation) → Runs plan.now infos.now lane.cpus.items from
-        → Runs plan.now infos.now result.cpus.items (after_sending plan.now infos.now from) }
+        → AllOwn infos.now → (from : List RunningStation) → AreRunAlone plan.now infos.now lane.cpus.items from
+        → AreRunAlone plan.now infos.now result.cpus.items (after_sending plan.now infos.now from) }
 {
     send_loop(rt, plan, infos, shared, &mut lane, gate);
     lane
@@ -220,8 +224,8 @@ pub fn all_send<'a, R: Threads + Wait + Sync, D: TxDevice, G: Gate>(
     ensures devices { (units : List DeviceState) → DevicesStand plan.now infos.now units 0 first.cpus.items (map D.state first.spares.items)
         → DevicesStand plan.now infos.now units (length plan.now.events) result.0.cpus.items (map D.state result.0.spares.items) }
     ensures runs { (units : List DeviceState) → DevicesStand plan.now infos.now units 0 first.cpus.items (map D.state first.spares.items) → DoTell plan.now units
-        → AllOwn infos.now → (from : List RunningStation) → Runs plan.now infos.now first.cpus.items from
-        → Runs plan.now infos.now result.0.cpus.items (after_sending plan.now infos.now from) }
+        → AllOwn infos.now → (from : List RunningStation) → AreRunAlone plan.now infos.now first.cpus.items from
+        → AreRunAlone plan.now infos.now result.0.cpus.items (after_sending plan.now infos.now from) }
     ensures others { AreDoneLanes plan.now infos.now shared.now result.1.items }
     ensures long { length result.1.items ≡ length others.items }
 {
@@ -234,8 +238,8 @@ pub fn all_send<'a, R: Threads + Wait + Sync, D: TxDevice, G: Gate>(
                 × ((units : List DeviceState) → DevicesStand plan.entry.now infos.entry.now units 0 first.cpus.items (map D.state first.spares.items)
                 → DevicesStand plan.entry.now infos.entry.now units (length plan.entry.now.events) result.cpus.items (map D.state result.spares.items))
                 × ((units : List DeviceState) → DevicesStand plan.entry.now infos.entry.now units 0 first.cpus.items (map D.state first.spares.items) → DoTell plan.entry.now units
-                → AllOwn infos.entry.now → (from : List RunningStation) → Runs plan.entry.now infos.entry.now first.cpus.items from
-                → Runs plan.entry.now infos.entry.now result.cpus.items (after_sending plan.entry.now infos.entry.now from)) }
+                → AllOwn infos.entry.now → (from : List RunningStation) → AreRunAlone plan.entry.now infos.entry.now first.cpus.items from
+                → AreRunAlone plan.entry.now infos.entry.now result.cpus.items (after_sending plan.entry.now infos.entry.now from)) }
         { first_sent(rt, plan, infos, shared, first, gate) },
         move || -> Vec<Lane<D>>
             requires { IsSendable plan.now infos.now × AreReadyLanes plan.now infos.now shared.now others.items }

@@ -2,7 +2,6 @@
 #![tactic(auto)]
 
 mod ends;
-mod gate;
 mod lane;
 mod lanes;
 mod laws;
@@ -16,12 +15,12 @@ mod undo;
 mod whole;
 
 pub use ends::end_run;
-pub use gate::{Free, Gate};
 pub use lanes::{Lane, all_send, send_loop};
 pub use laws::{
     ends_make_fates, runs_are_readable, runs_keep_boxes, runs_leave_devices, runs_leave_stations,
     runs_make_fates,
 };
+pub use lq_gate::{Free, Gate};
 pub use read::read_fates;
 pub use send::send_all;
 pub use undo::undo_exchanges;

@@ -2,7 +2,7 @@
 ghost use Rattle.std.specs.Prelude.{◌≡◌, ◌≤◌, ◌+◌, [], IfOk, OnOk, OnErr, count_by, drop, length, map, vec_len, vec_capacity};
 ghost use Rattle.lq_senders.specs.Fates.{identities_of};
 ghost use Rattle.lq_senders.specs.Lanes.{IsSendable};
-ghost use Rattle.lq_senders.specs.Setup.{IsReady};
+ghost use Rattle.lq_senders.specs.Setup.{AreTablesReady};
 ghost use Rattle.lq_model.specs.Plan.{is_swap, unit_count};
 
 use crate::setup::{Stations, configure_units, open_all};
@@ -32,7 +32,7 @@ pub fn make_ready<'a, D: TxDevice>(
     requires units { unit_count plan.now ≤ vec_len bench.old }
     requires none_yet { (tables.items ≡ []) × (cpus.items ≡ []) × (spares.old.items ≡ []) }
     requires room { (length plan.now.stations ≤ vec_capacity tables) × (length plan.now.stations ≤ vec_capacity cpus) × (count_by is_swap plan.now.events ≤ vec_capacity spares.old) }
-    ensures ready { IfOk result (λ s. IsReady plan.now infos.now (map D.state bench.old.items) s.tables.items s.cpus.items (map D.state spares.new.items)) }
+    ensures ready { IfOk result (λ s. AreTablesReady plan.now infos.now (map D.state bench.old.items) s.tables.items s.cpus.items (map D.state spares.new.items)) }
     ensures rest { OnOk result (bench.new.items ≡ drop (unit_count plan.now) bench.old.items) }
     ensures less { OnOk result (unit_count plan.now + vec_len bench.new ≡ vec_len bench.old) }
     ensures back_room { OnOk result (vec_len bench.new + unit_count plan.now ≤ vec_capacity bench.new) }

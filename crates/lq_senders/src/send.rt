@@ -1,12 +1,12 @@
 //! The packets of a capture through the stations of a plan.
 ghost use Rattle.std.specs.Prelude.{◌≡◌, ◌≤◌, ◌+◌, ◌++◌, [], List, IfOk, OnErr, drop, take, length, map, vec_capacity, vec_len};
-ghost use Rattle.lq_senders.specs.Fates.{AreEnded, AreFatesOf, ended_state, identities_of};
+ghost use Rattle.lq_senders.specs.Fates.{AreEnded, AreFatesOf, identities_of};
+ghost use Rattle.lq_table.specs.Ended.{ended_state};
 ghost use Rattle.lq_senders.specs.Lanes.{IsSendable};
-ghost use Rattle.lq_senders.specs.Setup.{AreEmptyLanes, IsReady, IsRunBy};
+ghost use Rattle.lq_senders.specs.Setup.{AreEmptyLanes, AreTablesReady, IsRunBy};
 ghost use Rattle.lq_model.specs.Device.{DeviceState};
 ghost use Rattle.lq_model.specs.Plan.{unit_count};
 
-use crate::gate::Gate;
 use crate::lanes::Lane;
 use crate::laws::{
     runs_are_readable, runs_keep_boxes, runs_leave_devices, runs_leave_stations, runs_make_fates,
@@ -17,6 +17,7 @@ use crate::setup::{Stations, lanes_for, may_be_sent, room_for, split_lanes};
 use crate::undo::{hand_back, take_apart};
 use crate::whole::run;
 use lq_device::TxDevice;
+use lq_gate::Gate;
 use lq_model::{Fate, Info, NoMemory};
 use lq_plan::Plan;
 use lq_table::{Closed, Ended};
@@ -43,15 +44,15 @@ fn send_ready<'a, R: Threads + Wait + Sync, D: TxDevice, G: Gate>(
     gate: &G,
 )
     requires sendable { IsSendable plan.now infos.now }
-    requires ready { (before : List DeviceState) × IsReady plan.now infos.now before stations.tables.items stations.cpus.items (map D.state spares.items) }
+    requires ready { (before : List DeviceState) × AreTablesReady plan.now infos.now before stations.tables.items stations.cpus.items (map D.state spares.items) }
     requires lanes { AreEmptyLanes plan.now others.items }
     requires none_yet { (closed.items ≡ []) × (homes.items ≡ []) × (fates.old.items ≡ []) × (ended.old.items ≡ []) }
     requires room { (length plan.now.stations ≤ vec_capacity closed) × (length plan.now.stations ≤ vec_capacity homes) × (length infos.now ≤ vec_capacity fates.old) × (length plan.now.stations ≤ vec_capacity ended.old) }
     requires bench_room { vec_len bench.old + unit_count plan.now ≤ vec_capacity bench.old }
-    ensures fates { (before : List DeviceState) → IsReady plan.now infos.now before stations.entry.tables.items stations.entry.cpus.items (map D.state spares.items)
+    ensures fates { (before : List DeviceState) → AreTablesReady plan.now infos.now before stations.entry.tables.items stations.entry.cpus.items (map D.state spares.items)
         → AreFatesOf plan.now infos.now fates.new.items before (map D.state bench.new.items) }
     ensures ended { AreEnded plan.now infos.now fates.new.items (map ended_state ended.new.items) }
-    ensures boxes { (before : List DeviceState) → IsReady plan.now infos.now before stations.entry.tables.items stations.entry.cpus.items (map D.state spares.items)
+    ensures boxes { (before : List DeviceState) → AreTablesReady plan.now infos.now before stations.entry.tables.items stations.entry.cpus.items (map D.state spares.items)
         → identities_of (map D.state bench.new.items) ≡ take (unit_count plan.now) (identities_of before) ++ identities_of (map D.state bench.old.items) }
     ensures rest { drop (unit_count plan.now) bench.new.items ≡ bench.old.items }
     ensures len { vec_len bench.new ≡ unit_count plan.now + vec_len bench.old }

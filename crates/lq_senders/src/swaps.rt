@@ -1,6 +1,6 @@
 //! The plan's events, exchanges of a device among them.
 ghost use Rattle.std.specs.Prelude.{◌≡◌, ℕ, ◌+◌, ◌<◌, ◌≤◌, List, true, false, map, length, slice_get};
-ghost use Rattle.lq_senders.specs.Lanes.{IsSendable, KeepAll, KeepSeats, LaneStands, Runs};
+ghost use Rattle.lq_senders.specs.Lanes.{IsSendable, KeepAll, KeepSeats, LaneStands, AreRunAlone};
 ghost use Rattle.lq_senders.specs.Units.{DevicesStand, DoTell};
 ghost use Rattle.lq_model.specs.Alone.{RunningStation, with_event};
 ghost use Rattle.lq_model.specs.Device.{DeviceState};
@@ -52,8 +52,8 @@ fn do_next_event<'a, R: Wait, D: TxDevice>(
     ensures stands { (n : ℕ) → LaneStands plan.now infos.now 0 e n shared.now cpus.old.items
         → LaneStands plan.now infos.now 0 (e + 1) n shared.now cpus.new.items }
     ensures keeps { KeepAll cpus.old.items cpus.new.items }
-    ensures runs { (stations : List RunningStation) → Runs plan.now infos.now cpus.old.items stations
-        → Runs plan.now infos.now cpus.new.items (with_event plan.now infos.now e stations) }
+    ensures runs { (stations : List RunningStation) → AreRunAlone plan.now infos.now cpus.old.items stations
+        → AreRunAlone plan.now infos.now cpus.new.items (with_event plan.now infos.now e stations) }
 {
     plan.stays_within_limits();
     let EventPlan {
@@ -91,8 +91,8 @@ fn exchange_next<'a, R: Wait, D: TxDevice>(
     ensures devices { (units : List DeviceState) → DevicesStand plan.now infos.now units e cpus.old.items (map D.state spares.old.items)
         → DevicesStand plan.now infos.now units (e + 1) cpus.new.items (map D.state spares.new.items) }
     ensures runs { (units : List DeviceState) → DevicesStand plan.now infos.now units e cpus.old.items (map D.state spares.old.items) → DoTell plan.now units
-        → (stations : List RunningStation) → Runs plan.now infos.now cpus.old.items stations
-        → Runs plan.now infos.now cpus.new.items (with_event plan.now infos.now e stations) }
+        → (stations : List RunningStation) → AreRunAlone plan.now infos.now cpus.old.items stations
+        → AreRunAlone plan.now infos.now cpus.new.items (with_event plan.now infos.now e stations) }
 {
     plan.stays_within_limits();
     let station = plan.event(e).station;
@@ -129,8 +129,8 @@ pub fn do_any_event<'a, R: Wait, D: TxDevice>(
     ensures devices { (units : List DeviceState) → DevicesStand plan.now infos.now units e cpus.old.items (map D.state spares.old.items)
         → DevicesStand plan.now infos.now units (e + 1) cpus.new.items (map D.state spares.new.items) }
     ensures runs { (units : List DeviceState) → DevicesStand plan.now infos.now units e cpus.old.items (map D.state spares.old.items) → DoTell plan.now units
-        → (stations : List RunningStation) → Runs plan.now infos.now cpus.old.items stations
-        → Runs plan.now infos.now cpus.new.items (with_event plan.now infos.now e stations) }
+        → (stations : List RunningStation) → AreRunAlone plan.now infos.now cpus.old.items stations
+        → AreRunAlone plan.now infos.now cpus.new.items (with_event plan.now infos.now e stations) }
 {
     if is_exchange(plan.event(e).kind) {
         exchange_next(rt, plan, infos, shared, cpus, spares, e);

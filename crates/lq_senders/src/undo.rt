@@ -1,7 +1,7 @@
 //! The devices go back to where they came from.
 ghost use Rattle.std.specs.Prelude.{◌≡◌, ◌<◌, ◌≤◌, ◌+◌, ◌++◌, [], drop, length, map, count_by, slice_get, vec_capacity, vec_len};
 ghost use Rattle.lq_senders.specs.Ends.{closed_state, home_device};
-ghost use Rattle.lq_senders.specs.Fates.{ended_state};
+ghost use Rattle.lq_table.specs.Ended.{ended_state};
 ghost use Rattle.lq_senders.specs.Setup.{AreAtHome};
 ghost use Rattle.lq_senders.specs.Units.{by_unit, undone, undone_event};
 ghost use Rattle.lq_model.specs.Plan.{is_swap, unit_count};

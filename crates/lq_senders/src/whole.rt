@@ -1,15 +1,15 @@
 //! The run of all senders over the stations of a plan.
 ghost use Rattle.std.specs.Prelude.{◌≡◌, ◌≤◌, ◌+◌, ℕ, List, [], length, map, vec_capacity};
-ghost use Rattle.lq_senders.specs.Ends.{HasRun, closed_state};
+ghost use Rattle.lq_senders.specs.Ends.{HasSentAll, closed_state};
 ghost use Rattle.lq_senders.specs.Joins.{AreFirst};
 ghost use Rattle.lq_senders.specs.Lanes.{AreReadyLanes, IsSendable, LaneStands};
 ghost use Rattle.lq_senders.specs.Units.{DevicesStand};
 ghost use Rattle.lq_model.specs.Device.{DeviceState};
 
 use crate::ends::end_run;
-use crate::gate::Gate;
 use crate::lanes::{Lane, all_send};
 use lq_device::TxDevice;
+use lq_gate::Gate;
 use lq_model::Info;
 use lq_plan::Plan;
 use lq_table::{Closed, Shared};
@@ -37,7 +37,7 @@ pub fn run<'a, R: Threads + Wait + Sync, D: TxDevice, G: Gate>(
     requires senders { length others.items + 1 ≡ plan.now.senders }
     requires none_yet { closed.old.items ≡ [] }
     requires room { length plan.now.stations ≤ vec_capacity closed.old }
-    ensures { HasRun plan.now infos.now (length others.items) first.cpus.items (map D.state first.spares.items) (map closed_state closed.new.items) (map D.state result.items) }
+    ensures { HasSentAll plan.now infos.now (length others.items) first.cpus.items (map D.state first.spares.items) (map closed_state closed.new.items) (map D.state result.items) }
 {
     plan.stays_within_limits();
     let (first, others) = all_send(rt, plan, infos, shared.as_slice(), first, others, gate);

@@ -3,7 +3,7 @@ use Rattle.lq_table.specs.declared.shared.Cpu.{Cpu}
 use Rattle.lq_table.specs.declared.shared.Shared.{Shared}
 use Rattle.lq_senders.specs.Ends.{AllMayClose}
 use Rattle.lq_senders.specs.Joins.{LaneJoined}
-use Rattle.lq_senders.specs.Lanes.{AreDoneLanes, Runs}
+use Rattle.lq_senders.specs.Lanes.{AreDoneLanes, AreRunAlone}
 use Rattle.lq_senders.proofs.Closes.{devices-did, fates-finished, finished-may-close}
 use Rattle.lq_senders.proofs.Joins.{devices-on, joined-first}
 use Rattle.lq_senders.proofs.ends.end_run.Goals as goal
@@ -32,5 +32,5 @@ returns g c =
           (devices-did c.as_slice-tables.result.now c.join_all.new.cpus.items c.finish_all.new.cpus.items joined.long c.finish_all.ensures);
       alone = λ none from begins.
           fates-finished c.args.plan.now c.args.infos.now c.as_slice-tables.result.now c.join_all.new.cpus.items c.finish_all.new.cpus.items from joined c.finish_all.ensures
-          (subst (λ (l : List (Cpu g.row.D.Denot)). Runs c.args.plan.now c.args.infos.now l from) (sym (c.join_all.ensures.alone none)) begins);
+          (subst (λ (l : List (Cpu g.row.D.Denot)). AreRunAlone c.args.plan.now c.args.infos.now l from) (sym (c.join_all.ensures.alone none)) begins);
     }

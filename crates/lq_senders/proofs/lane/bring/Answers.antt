@@ -1,10 +1,11 @@
-use Rattle.std.proofs.Common.{ℕ, ◌+◌, inl, inr, map, sym, subst, ◌∙◌, arith}
+use Rattle.std.proofs.Common.{ℕ, ◌+◌, ◌/◌, inl, inr, map, sym, subst, ◌∙◌, arith}
 use Rattle.std.proofs.lemmas.Bool.{cases_order}
 use Rattle.lq_model.specs.Plan.{owner_in}
 use Rattle.lq_senders.specs.Lanes.{LaneStands}
 use Rattle.lq_senders.proofs.Devices.{devices-kept}
 use Rattle.lq_senders.proofs.Seats.{seats-kept}
 use Rattle.lq_senders.proofs.Turns.{keep-on, seats-on}
+use Rattle.lq_senders.proofs.Woken.{woke-kept}
 use Rattle.lq_senders.proofs.lane.bring.Goals as goal
 
 pub send_packet-requires-clause-stands : goal.send_packet-requires-clause-stands
@@ -69,3 +70,24 @@ returns-clause-devices g c units stand =
 
 pub returns-clause-runs : goal.returns-clause-runs
 returns-clause-runs g c units stand tell stations runs = c.turn.ensures.runs _ (c.send_packet.ensures.runs _ (c.events_of-next.ensures.runs units stand tell stations runs))
+
+pub pass_before-requires-clause-stands : goal.pass_before-requires-clause-stands
+pass_before-requires-clause-stands g c κs within = c.events_of-next.ensures.stands c.args.n c.requires.stands
+
+pub pass_before-requires-clause-events : goal.pass_before-requires-clause-events
+pass_before-requires-clause-events g c κs within zero_th = (
+  (λ j event below there. elim (cases_order j c.args.next) [
+    | inl same ↦ c.events_of-next.ensures.done j event (omega arith) below there
+    | inr (inl less) ↦ (let lt = c.requires.earlier j event less there in omega arith)
+    | inr (inr more) ↦ c.events_of-next.ensures.done j event (omega arith) below there
+  ]),
+  (λ j event above there. c.events_of-next.ensures.left zero_th j event above there),
+)
+
+pub returns-clause-woke : goal.returns-clause-woke
+returns-clause-woke g c start woke =
+    let times = c.args.k / c.args.plan.now.irq_every in
+    c.turn.ensures.woke start
+    (woke-kept c.args.shared.now times start c.events_of-next.new.cpus.items c.send_packet.new.cpus.items
+    (woke-kept c.args.shared.now times start c.args.cpus.now.items c.events_of-next.new.cpus.items woke c.events_of-next.ensures.keeps)
+    (seats-kept c.events_of-next.new.cpus.items c.send_packet.new.cpus.items c.send_packet.ensures.keeps))

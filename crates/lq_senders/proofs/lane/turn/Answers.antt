@@ -1,4 +1,5 @@
 use Rattle.lq_senders.proofs.Turns.{seats-or-not, keep-turn, lane-seats, lane-turned, runs-turned}
+use Rattle.lq_senders.proofs.Woken.{woke-turned}
 use Rattle.lq_senders.proofs.lane.turn.Goals as goal
 
 pub wake_after-requires-clause-seats : goal.wake_after-requires-clause-seats
@@ -21,3 +22,8 @@ returns-clause-keeps g c = let s = c.requires.stands in
 pub returns-clause-runs : goal.returns-clause-runs
 returns-clause-runs g c stations runs = let s = c.requires.stands in
     runs-turned c.args.plan.now c.args.infos.now s.0 s.1 s.2 c.args.k c.args.shared.now c.args.cpus.now.items c.wake_after.new.cpus.items c.drain_all.new.cpus.items stations s.3 c.wake_after.ensures c.drain_all.ensures runs
+
+pub returns-clause-woke : goal.returns-clause-woke
+returns-clause-woke g c start woke = let s = c.requires.stands in
+    woke-turned c.args.plan.now c.args.k c.args.shared.now start c.args.cpus.now.items c.wake_after.new.cpus.items c.drain_all.new.cpus.items c.stays_within_limits.ensures.has_irq_every
+    (lane-seats c.args.plan.now c.args.infos.now s.0 s.1 s.2 c.args.shared.now c.args.cpus.now.items s.3) c.wake_after.ensures c.drain_all.ensures woke

@@ -2,7 +2,7 @@ use Rattle.std.proofs.Common.{ℕ, ◌-◌, length, map, subst, arith}
 use mathlib.Core.Logic.{dite}
 use native.Mathlib.Decide.{ℕ_discrete}
 use Rattle.lq_model.specs.Alone.{with_events}
-use Rattle.lq_senders.specs.Lanes.{LaneStands, Runs}
+use Rattle.lq_senders.specs.Lanes.{LaneStands, AreRunAlone}
 use Rattle.lq_senders.specs.Units.{DevicesStand}
 use Rattle.lq_senders.specs.Way.{numbers_from}
 use Rattle.lq_senders.proofs.Sending.{at-last, lane-any}
@@ -28,7 +28,7 @@ returns-clause-devices g c zero_th units stand =
 pub returns-clause-runs : goal.returns-clause-runs
 returns-clause-runs g c zero_th units stand tell stations runs =
     let e = c.events_of-last.ensures in
-    subst (λ (k : ℕ). Runs c.args.plan.now c.args.infos.now c.events_of-last.new.cpus.items (with_events c.args.plan.now c.args.infos.now (numbers_from c.args.next (k - c.args.next)) stations))
+    subst (λ (k : ℕ). AreRunAlone c.args.plan.now c.args.infos.now c.events_of-last.new.cpus.items (with_events c.args.plan.now c.args.infos.now (numbers_from c.args.next (k - c.args.next)) stations))
     (at-last c.args.plan.now c.events_of-last.result 4294967295 e.within.1 (e.left zero_th)
     (λ j event there. let within = (c.stays_within_limits.ensures.each_event j event there).before in omega arith))
     (e.runs units stand tell stations runs)

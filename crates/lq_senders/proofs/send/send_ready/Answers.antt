@@ -3,7 +3,7 @@ use Rattle.std.proofs.lemmas.List.{length-map}
 use Rattle.lq_model.specs.Plan.{unit_count}
 use Rattle.lq_table.specs.declared.shared.Shared.{Shared}
 use Rattle.lq_senders.specs.Ends.{FatesRead, IsReadable, closed_state, home_device}
-use Rattle.lq_senders.specs.Fates.{ended_state}
+use Rattle.lq_table.specs.Ended.{ended_state}
 use Rattle.lq_senders.specs.Lanes.{AreReadyLanes}
 use Rattle.lq_senders.specs.Setup.{AreSplitting}
 use Rattle.lq_senders.specs.Units.{by_unit}

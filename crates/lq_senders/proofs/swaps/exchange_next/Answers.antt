@@ -3,14 +3,14 @@ use Rattle.std.specs.Prelude.{slice_set}
 use Rattle.lq_model.specs.Alone.{changed, served}
 use Rattle.lq_model.specs.declared.device.Params.{Params}
 use Rattle.lq_model.specs.declared.plan.EventKind.{EventKind}
-use Rattle.lq_seat.specs.Calls.{MayDo}
+use Rattle.lq_seat.specs.Calls.{MayDoEvent}
 use Rattle.lq_seat.specs.Exchanges.{Exchanges}
 use Rattle.lq_seat.specs.Seat.{DoesAlone, origin_of}
 use Rattle.lq_table.specs.Rule.{HasServed, latest_unit, station_count, units_of}
 use Rattle.lq_table.specs.Sees.{view}
 use Rattle.lq_table.specs.Views.{Setup}
 use Rattle.lq_senders.specs.Lanes.{StandsAt}
-use Rattle.lq_senders.specs.Units.{DevicesStand, MayCome}
+use Rattle.lq_senders.specs.Units.{DevicesStand, MayBeBrought}
 use Rattle.lq_senders.proofs.Orders.{may-do-next}
 use Rattle.lq_senders.proofs.Seats.{exchange-changes, lane-event, number-is, runs-event, seat-at, seats-set, stands-at, table-at}
 use Rattle.lq_senders.proofs.Devices.{devices-exchanged, first-comes, some-spare, spares-turned}
@@ -40,7 +40,7 @@ exchange-old-requires-clause-raised g c κs within = (there g c).stands.raised
 pub exchange-old-requires-clause-active : goal.exchange-old-requires-clause-active
 exchange-old-requires-clause-active g c κs within =
     let event = c.event-station.result in let at = c.event-station.ensures.event in let swap = swap-params event.kind (c.requires.swap event at) in
-    subst (λ (k : EventKind). MayDo k (view c.index_mut.result.now).trail) swap.1
+    subst (λ (k : EventKind). MayDoEvent k (view c.index_mut.result.now).trail) swap.1
     (may-do-next c.args.plan.now c.args.e event (view c.index_mut.result.now).trail c.stays_within_limits.ensures.order at ((there g c).stands.way refl).1.down)
 
 pub exchange-old-requires-clause-unit : goal.exchange-old-requires-clause-unit
@@ -57,7 +57,7 @@ exchange-old-requires-clause-unit g c κs within =
 pub exchange-old-requires-clause-device : goal.exchange-old-requires-clause-device
 exchange-old-requires-clause-device g c κs within =
     let event = c.event-station.result in let at = c.event-station.ensures.event in let units = c.requires.devices.0 in let stand = c.requires.devices.1 in
-    let may : MayCome c.args.infos.now event.station (g.D.TxDevice.state c.remove-device.result) =
+    let may : MayBeBrought c.args.infos.now event.station (g.D.TxDevice.state c.remove-device.result) =
     stand.units_are.may_come c.args.e event (g.D.TxDevice.state c.remove-device.result) at (c.requires.swap event at)
     (first-comes c.args.plan.now c.args.infos.now units g.D.TxDevice.state c.args.e event c.args.cpus.now.items c.args.spares.now.items c.remove-device.result at (c.requires.swap event at) c.remove-device.ensures.value stand) in
     let room = subst (λ (k : Setup). station_count k.infos k.station ≤ (g.D.TxDevice.state c.remove-device.result).spare) (sym (there g c).table.setup_is) may.room in

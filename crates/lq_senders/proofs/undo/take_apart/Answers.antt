@@ -1,6 +1,6 @@
 use Rattle.std.proofs.Common.{◌≡◌, ◌∷◌, ◌++◌, [], suc, ◌+◌, ◌<◌, length, sym, ap, ◌∙◌, subst, arith, drop, take, map}
 use Rattle.lq_senders.specs.Ends.{ClosedState, closed_state, home_device}
-use Rattle.lq_senders.specs.Fates.{ended_state}
+use Rattle.lq_table.specs.Ended.{ended_state}
 use Rattle.lq_senders.proofs.Benches.{last-at, last-taken, so-where-ok}
 use Rattle.lq_senders.proofs.HandsBack.{home-is, laid-through}
 use Rattle.lq_senders.proofs.Seats.{mapped-at}

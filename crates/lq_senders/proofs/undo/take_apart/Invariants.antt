@@ -1,6 +1,6 @@
 use Rattle.std.proofs.Common.{◌≡◌, ◌≤◌, ◌+◌, ◌++◌, [], drop, take, map}
 use Rattle.lq_senders.specs.Ends.{ClosedState, closed_state, home_device}
-use Rattle.lq_senders.specs.Fates.{ended_state}
+use Rattle.lq_table.specs.Ended.{ended_state}
 use Rattle.lq_senders.proofs.undo.take_apart.Given as goal
 
 -- the last stations were taken apart
