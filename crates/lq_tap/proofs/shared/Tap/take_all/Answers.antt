@@ -1,0 +1,46 @@
+use Rattle.std.proofs.Common.{◌≡◌, ℕ, ◌+◌, ◌<◌, false, List, [], ◌∷◌, ◌++◌, length, take, set, All, refl, sym, ap, ◌∙◌, subst, arith, length-set}
+use Rattle.std.proofs.lemmas.List.{take_more_set, drop-set-lt}
+use Rattle.std.proofs.lemmas.List.Elements.{All-nil, All-push}
+use Rattle.lq_band.specs.Ring.{after_take}
+use Rattle.lq_tap.specs.Views.{View, Setup}
+use Rattle.lq_tap.specs.Told.{after_takes}
+use Rattle.lq_tap.specs.Plays.{rest_at, having_taken_one}
+use Rattle.lq_tap.specs.Steps.{took, took_all}
+use Rattle.lq_tap.specs.Sees.{view, steps}
+use Rattle.lq_tap.proofs.BatchSteps.{taken_so_far, none_taken_yet, one_more_taken, took_one_more, drop_further}
+use Rattle.lq_tap.proofs.shared.Tap.take_all.Goals as goal
+
+pub loop-taken-init : goal.loop-taken-init
+loop-taken-init c =
+    let v : View = view c.args.seat.now in record {
+      seat = c.requires.seat;
+      same = ((refl, refl), refl);
+      room = omega arith;
+      long = refl;
+      others = refl;
+      view_is = (v.reader.drained, sym (none_taken_yet v c.requires.begins), λ h. absurd (omega arith));
+      made = refl;
+      packets = All-nil (λ n. n < c.args.self.now.packets);
+      ends = c.requires.ends;
+    }
+
+pub loop-taken-preserved : goal.loop-taken-preserved
+loop-taken-preserved c =
+    let inv = c.loop-taken.invariant in let v : View = view c.args.seat.now in let w : View = view c.loop-taken.seat in let len = c.args.self.now.len in
+    let t = c.loop-taken.taken in let out = c.loop-taken.out in let n = c.in-Some.n in let batch : List ℕ = take t out in let same = c.take_one.ensures.same in let took_it = c.in-Some.ensures.taken in let more_ends = c.in-Some.ensures.ends in
+    let inside : t < length out = c.loop-taken-test.true in let fits = inv.long in
+    let more : take (t + 1) (set out t n) ≡ batch ++ n ∷ [] = take_more_set out t n inside in
+    let now : view c.take_one.new.seat ≡ taken_so_far false (take (t + 1) (set out t n)) v = took_it.0 ∙ (ap (having_taken_one n) inv.view_is.1 ∙ (one_more_taken inv.view_is.0 batch n v ∙ ap (λ (xs : List ℕ). taken_so_far false xs v) (sym more))) in
+    let len_is : v.about.len ≡ len = ap (λ (x : Setup). x.len) c.requires.seat.0.1 in
+    let old_len : w.about.len ≡ len = ap (λ (x : Setup). x.len) inv.seat.0.1 in
+    let ends_are : rest_at c.loop-taken.ends ≡ after_takes len (length batch) (rest_at c.args.first) = sym inv.ends.0 ∙ (ap (λ (x : View). x.reader.ends) inv.view_is.1 ∙ (λ j. after_takes (len_is j) (length batch) (c.requires.ends.0 j))) in record {
+      seat = ((same.0.0 ∙ inv.seat.0.0, ap (λ (x : View). x.about) now ∙ c.requires.seat.0.1), ap (λ (x : View). x.reader.reads) now ∙ c.requires.seat.1, ap (λ (x : View). x.reader.holds) now ∙ c.requires.seat.2);
+      same = ((same.0.0 ∙ inv.same.0.0, same.0.1 ∙ inv.same.0.1), same.1 ∙ inv.same.1);
+      room = omega arith;
+      long = length-set out t n ∙ inv.long;
+      others = drop-set-lt (t + 1) out t n (omega arith) ∙ drop_further t out c.args.out.now inv.others;
+      view_is = (false, now, λ _. refl);
+      made = took_it.1 ∙ ((λ j. took len (ends_are j) n (inv.made j)) ∙ (sym (took_one_more len (rest_at c.args.first) batch n (steps c.args.seat.now)) ∙ ap (λ (xs : List ℕ). took_all len (rest_at c.args.first) xs (steps c.args.seat.now)) (sym more)));
+      packets = subst (All (λ n. n < c.args.self.now.packets)) (sym more) (All-push (λ n. n < c.args.self.now.packets) batch n inv.packets took_it.2);
+      ends = (ap (λ (x : View). x.reader.ends) took_it.0 ∙ ((λ j. after_take (old_len j) (inv.ends.0 j)) ∙ sym more_ends.0), more_ends.1);
+    }

@@ -1,0 +1,20 @@
+-- what a seat knows
+pub mod Views
+-- what each call makes of a seat's view
+pub mod Told
+-- the steps that a seat made
+pub mod Made
+-- the steps of each call
+pub mod Steps
+-- what is so once all seats are joined
+pub mod Settled
+-- what a clause says of a tap and its seats
+pub mod Sees
+-- the rule
+pub mod Rule
+-- the rule over seats that know their steps
+pub mod Noted
+-- the rule's setup, from the key
+pub mod Keyed
+-- what each step on a word tells
+pub mod Plays

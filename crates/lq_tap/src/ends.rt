@@ -1,0 +1,43 @@
+//! The end of a sender, and what the reader sees of it.
+ghost use Rattle.std.specs.Prelude.{◌≡◌, ℕ, true, ◌==◌};
+ghost use Rattle.lq_tap.specs.Told.{having_ended, having_seen_ended};
+ghost use Rattle.lq_tap.specs.Made.{◌⊳◌, Noted, Rises, Loads, did_end, did_load_ended};
+ghost use Rattle.lq_tap.specs.Sees.{view, steps, IsReaderOf, IsSenderOf};
+ghost use Rattle.lq_tap.specs.Plays.{end_noted, ended_seen};
+
+use crate::shared::{Tap, TapSeat};
+use crate::view::{Consumer, Knowledge};
+use atomic_table::Play;
+
+const ENDED: usize = 24;
+
+pub(crate) struct End;
+
+impl Play<Consumer, Knowledge> for End {
+    ghost then = { Noted Rises end_noted };
+}
+
+pub(crate) struct SeeEnded;
+
+impl Play<Consumer, Knowledge> for SeeEnded {
+    ghost then = { Noted Loads ended_seen };
+}
+
+/// The sender of this seat puts no more packets. It adds 1 to the number of senders that have ended.
+pub fn end_sender(tap: &Tap, seat: &mut TapSeat)
+    requires seat { IsSenderOf tap.now seat.old × ((view seat.old).sender.going ≡ true) }
+    ensures seat { IsSenderOf tap.now seat.new }
+    ensures view { view seat.new ≡ having_ended (view seat.old) }
+    ensures steps { steps seat.new ≡ steps seat.old ⊳ did_end }
+{
+    tap.table.shared.fetch_add::<End>(&mut seat.seat, ENDED, 1);
+}
+
+/// Whether all senders have ended: true exactly where this call's load found as many ended senders as there are.
+pub fn ended(tap: &Tap, seat: &mut TapSeat) -> bool
+    requires seat { IsReaderOf tap.now seat.old }
+    ensures seat { IsReaderOf tap.now seat.new }
+    ensures found { (found : ℕ) × (result ≡ (found == tap.now.senders)) × (view seat.new ≡ having_seen_ended found (view seat.old)) × (steps seat.new ≡ steps seat.old ⊳ did_load_ended found) }
+{
+    tap.table.shared.load::<SeeEnded>(&mut seat.seat, ENDED) == tap.senders as u64
+}

@@ -1,0 +1,228 @@
+//! The two locks of a `ptr_ring`: `producer_lock`, whose word has the producer index too, and `consumer_lock`.
+ghost use Rattle.std.specs.Prelude.{◌≡◌, ◌*◌, ◌/◌, ◌%◌, ◌<◌, true, false, [], ◌∷◌};
+ghost use Rattle.lq_band.specs.Ring.{unlocked, locked_at, index_given, IsAtRest};
+ghost use Rattle.lq_tap.specs.Made.{◌⊳◌, Noted, Loads, Stores, Exchanges, did_load_producer, did_take_producer, did_give_producer, did_take_consumer, did_give_consumer};
+ghost use Rattle.lq_tap.specs.Plays.{with_lock, producer_seen, producer_taken, producer_given, with_consumer, beginning, consumer_taken, consumer_given, done_giving, return_ended};
+ghost use Rattle.lq_tap.specs.Rule.{consumer_of};
+ghost use Rattle.lq_tap.specs.Steps.{LocksProducer, LocksConsumer};
+ghost use Rattle.lq_tap.specs.Sees.{view, steps, slot, IsSeatOf, IsSameSeat, IsElseSame};
+
+use crate::shared::{Tap, TapSeat};
+use crate::view::{Consumer, Knowledge};
+use atomic_table::Play;
+use crossbeam_utils::Backoff;
+use std::sync::Wait;
+
+/// The word of the producer lock, apart from those of the consumer, of the ends and of the slots by a cache line.
+const PRODUCER: usize = 8;
+
+const CONSUMER: usize = 16;
+
+pub(crate) struct SeeProducer;
+
+impl Play<Consumer, Knowledge> for SeeProducer {
+    ghost then = { Noted Loads producer_seen };
+}
+
+pub(crate) struct GetProducer;
+
+impl Play<Consumer, Knowledge> for GetProducer {
+    ghost then = { Noted Exchanges producer_taken };
+}
+
+pub(crate) struct GiveProducer;
+
+impl Play<Consumer, Knowledge> for GiveProducer {
+    ghost then = { Noted Stores producer_given };
+}
+
+/// The consumer lock is got for a batch.
+pub(crate) struct BeginBatch;
+
+impl Play<Consumer, Knowledge> for BeginBatch {
+    ghost then = { Noted Exchanges (consumer_taken beginning) };
+}
+
+/// It is got to give packets back.
+pub(crate) struct BeginReturn;
+
+impl Play<Consumer, Knowledge> for BeginReturn {
+    ghost then = { Noted Exchanges (consumer_taken (with_consumer true)) };
+}
+
+pub(crate) struct EndBatch;
+
+impl Play<Consumer, Knowledge> for EndBatch {
+    ghost then = { Noted Stores consumer_given };
+}
+
+pub(crate) struct EndReturn;
+
+impl Play<Consumer, Knowledge> for EndReturn {
+    ghost then = { Noted Stores return_ended };
+}
+
+impl Tap {
+    /// Twice the producer index, plus 1 while the producer lock is held: a load of the producer word.
+    fn load_producer(&self, seat: &mut TapSeat) -> u64
+        requires seat { IsSeatOf self.now seat.old }
+        ensures same { IsElseSame seat.old seat.new × (view seat.new ≡ view seat.old) }
+        ensures steps { steps seat.new ≡ steps seat.old ⊳ did_load_producer result }
+    {
+        self.table
+            .shared
+            .load::<SeeProducer>(&mut seat.seat, PRODUCER)
+    }
+
+    /// Takes the producer lock where its word is still `seen`, which is even: an exchange of the producer word.
+    fn take_producer(&self, seat: &mut TapSeat, seen: u64) -> bool
+        requires seat { IsSeatOf self.now seat.old }
+        requires even { seen % 2 ≡ 0 }
+        requires free { (view seat.old).lock.holds ≡ false }
+        ensures same { IsElseSame seat.old seat.new }
+        ensures got { result ≡ true → (view seat.new ≡ with_lock (locked_at (seen / 2)) (view seat.old)) × (seen / 2 < self.now.len) }
+        ensures missed { result ≡ false → view seat.new ≡ view seat.old }
+        ensures steps { steps seat.new ≡ steps seat.old ⊳ did_take_producer seen result }
+    {
+        self.table
+            .shared
+            .compare_exchange::<GetProducer>(&mut seat.seat, PRODUCER, seen, seen + 1)
+            == seen
+    }
+
+    /// Gives the producer lock back, with the index for the next packet: a store into the producer word.
+    pub(crate) fn give_producer(&self, seat: &mut TapSeat, index: u32)
+        requires seat { IsSeatOf self.now seat.old }
+        requires lock { (view seat.old).lock.holds ≡ true }
+        requires index { index ≡ index_given self.now.len (view seat.old).lock }
+        ensures same { IsElseSame seat.old seat.new }
+        ensures given { view seat.new ≡ with_lock unlocked (view seat.old) }
+        ensures steps { steps seat.new ≡ steps seat.old ⊳ did_give_producer index }
+    {
+        self.table
+            .shared
+            .store::<GiveProducer>(&mut seat.seat, PRODUCER, 2 * index as u64);
+    }
+
+    /// Waits for the producer lock, and gives the producer index under it.
+    pub(crate) fn lock_producer<R: Wait>(&self, rt: &R, seat: &mut TapSeat) -> u32
+        requires seat { IsSeatOf self.now seat.old }
+        requires free { (view seat.old).lock ≡ unlocked }
+        ensures same { IsElseSame seat.old seat.new }
+        ensures locked { (view seat.new ≡ with_lock (locked_at result) (view seat.old)) × (result < self.now.len) }
+        ensures steps { LocksProducer result (steps seat.old) (steps seat.new) }
+    {
+        let backoff = Backoff::new();
+        for _ in rt.forever() {
+            let seen = self.load_producer(seat);
+            if seen % 2 == 0 {
+                if self.take_producer(seat, seen) {
+                    return (seen / 2) as u32;
+                }
+            }
+            backoff.snooze();
+        }
+        unreachable!()
+    }
+
+    /// Takes the consumer lock for a new batch, where it is free: an exchange of the consumer word. The slot with the ends comes
+    /// with it.
+    fn take_for_batch(&self, seat: &mut TapSeat) -> bool
+        requires seat { IsSeatOf self.now seat.old × ((view seat.old).reader.reads ≡ true) }
+        ensures same { IsSameSeat seat.old seat.new }
+        ensures got { result ≡ true → (view seat.new ≡ beginning (view seat.old)) × (slot seat.new ≡ (0, consumer_of (view seat.old).reader.ends) ∷ slot seat.old) × IsAtRest self.now.len (view seat.old).reader.ends }
+        ensures missed { result ≡ false → (view seat.new ≡ view seat.old) × (slot seat.new ≡ slot seat.old) }
+        ensures steps { steps seat.new ≡ steps seat.old ⊳ did_take_consumer result }
+    {
+        self.table
+            .shared
+            .compare_exchange::<BeginBatch>(&mut seat.seat, CONSUMER, 0, 1)
+            == 0
+    }
+
+    /// Takes it to give packets back.
+    fn take_to_return(&self, seat: &mut TapSeat) -> bool
+        requires seat { IsSeatOf self.now seat.old × ((view seat.old).reader.reads ≡ true) }
+        ensures same { IsSameSeat seat.old seat.new }
+        ensures got { result ≡ true → (view seat.new ≡ with_consumer true (view seat.old)) × (slot seat.new ≡ (0, consumer_of (view seat.old).reader.ends) ∷ slot seat.old) × IsAtRest self.now.len (view seat.old).reader.ends }
+        ensures missed { result ≡ false → (view seat.new ≡ view seat.old) × (slot seat.new ≡ slot seat.old) }
+        ensures steps { steps seat.new ≡ steps seat.old ⊳ did_take_consumer result }
+    {
+        self.table
+            .shared
+            .compare_exchange::<BeginReturn>(&mut seat.seat, CONSUMER, 0, 1)
+            == 0
+    }
+
+    /// Waits for the consumer lock for a new batch.
+    pub(crate) fn lock_for_batch<R: Wait>(&self, rt: &R, seat: &mut TapSeat)
+        requires seat { IsSeatOf self.now seat.old × ((view seat.old).reader.reads ≡ true) }
+        ensures same { IsSameSeat seat.old seat.new }
+        ensures locked { (view seat.new ≡ beginning (view seat.old)) × (slot seat.new ≡ (0, consumer_of (view seat.old).reader.ends) ∷ slot seat.old) × IsAtRest self.now.len (view seat.old).reader.ends }
+        ensures steps { LocksConsumer (steps seat.old) (steps seat.new) }
+    {
+        let backoff = Backoff::new();
+        for _ in rt.forever() {
+            if self.take_for_batch(seat) {
+                return;
+            }
+            backoff.snooze();
+        }
+        unreachable!()
+    }
+
+    /// Waits for the consumer lock to give packets back.
+    pub(crate) fn lock_to_return<R: Wait>(&self, rt: &R, seat: &mut TapSeat)
+        requires seat { IsSeatOf self.now seat.old × ((view seat.old).reader.reads ≡ true) }
+        ensures same { IsSameSeat seat.old seat.new }
+        ensures locked { (view seat.new ≡ with_consumer true (view seat.old)) × (slot seat.new ≡ (0, consumer_of (view seat.old).reader.ends) ∷ slot seat.old) × IsAtRest self.now.len (view seat.old).reader.ends }
+        ensures steps { LocksConsumer (steps seat.old) (steps seat.new) }
+    {
+        let backoff = Backoff::new();
+        for _ in rt.forever() {
+            if self.take_to_return(seat) {
+                return;
+            }
+            backoff.snooze();
+        }
+        unreachable!()
+    }
+
+    /// Gives the consumer lock back after a batch, and the ends with it: a store of 0 into the consumer word.
+    pub(crate) fn give_after_batch(&self, seat: &mut TapSeat)
+        requires seat { IsSeatOf self.now seat.old × ((view seat.old).reader.reads ≡ true) }
+        requires lock { (view seat.old).reader.holds ≡ true }
+        requires ends { (slot seat.old ≡ (0, consumer_of (view seat.old).reader.ends) ∷ []) × IsAtRest self.now.len (view seat.old).reader.ends }
+        ensures same { IsSameSeat seat.old seat.new × (slot seat.new ≡ []) }
+        ensures given { view seat.new ≡ with_consumer false (view seat.old) }
+        ensures steps { steps seat.new ≡ steps seat.old ⊳ did_give_consumer }
+    {
+        self.table
+            .shared
+            .store::<EndBatch>(&mut seat.seat, CONSUMER, 0);
+    }
+
+    /// The same after packets were given back.
+    pub(crate) fn give_after_return(&self, seat: &mut TapSeat)
+        requires seat { IsSeatOf self.now seat.old × ((view seat.old).reader.reads ≡ true) }
+        requires lock { (view seat.old).reader.holds ≡ true }
+        requires ends { (slot seat.old ≡ (0, consumer_of (view seat.old).reader.ends) ∷ []) × IsAtRest self.now.len (view seat.old).reader.ends }
+        ensures same { IsSameSeat seat.old seat.new × (slot seat.new ≡ []) }
+        ensures given { view seat.new ≡ done_giving (view seat.old) }
+        ensures steps { steps seat.new ≡ steps seat.old ⊳ did_give_consumer }
+    {
+        self.table
+            .shared
+            .store::<EndReturn>(&mut seat.seat, CONSUMER, 0);
+    }
+
+    /// Reads and writes the ends in the slot, which is out with the consumer lock.
+    pub(crate) fn exchange_ends(&self, seat: &mut TapSeat, ends: Consumer) -> Consumer
+        requires seat { seat.old.seat.table_id ≡ self.now.table.shared.table_id }
+        requires lock { (was : Consumer) × (slot seat.old ≡ (0, was) ∷ []) }
+        ensures same { IsSameSeat seat.old seat.new × (view seat.new ≡ view seat.old) × (steps seat.new ≡ steps seat.old) }
+        ensures ends { (slot seat.old ≡ (0, result) ∷ []) × (slot seat.new ≡ (0, ends) ∷ []) }
+    {
+        self.table.shared.exchange(&mut seat.seat, 0, ends)
+    }
+}

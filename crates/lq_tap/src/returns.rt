@@ -1,0 +1,85 @@
+//! Giving back: `ptr_ring_unconsume` of include/linux/ptr_ring.h, which `vhost_net_buf_unproduce` of drivers/vhost/net.c calls.
+ghost use Rattle.std.specs.Prelude.{◌≡◌, ◌≢◌, ◌+◌, ◌-◌, ◌<◌, ◌≤◌, ℕ, true, false, List, [], ◌∷◌, ◌++◌, length, drop};
+ghost use Rattle.lq_ring_core.specs.Ring.{place_before};
+ghost use Rattle.lq_band.specs.Ring.{cleared_at};
+ghost use Rattle.lq_tap.specs.Made.{◌⊳◌, did_load_slot, did_store_slot};
+ghost use Rattle.lq_tap.specs.Told.{having_given_back, place_back};
+ghost use Rattle.lq_tap.specs.Plays.{destroying, having_put_back, without_batch, IsFresh};
+ghost use Rattle.lq_tap.specs.Steps.{GivesBack, PutsBack};
+ghost use Rattle.lq_tap.specs.Sees.{view, steps, IsReaderOf, IsSeatOf, IsElseSame};
+
+use crate::shared::{Tap, TapSeat};
+use crate::view::Consumer;
+use lq_ring_core::place_before;
+use std::sync::Wait;
+
+impl Tap {
+    /// Puts a packet before the head, unless the slot there is not empty: then this packet and those before it are destroyed.
+    fn put_one_back(&self, seat: &mut TapSeat, place: u32, n: u32, left: usize) -> bool
+        requires seat { IsSeatOf self.now seat.old × ((view seat.old).reader.reads ≡ true) × ((view seat.old).reader.holds ≡ true) }
+        requires lock { IsFresh (view seat.old).lock }
+        requires clear { ((view seat.old).reader.ends.tail ≡ (view seat.old).reader.ends.head) × ((view seat.old).reader.ends.edge ≡ (view seat.old).reader.ends.head) }
+        requires place { (place ≡ place_before self.now.len (view seat.old).reader.ends.head 1) × (place < self.now.len) }
+        requires left { (0 < left) × (left ≤ length (view seat.old).reader.batch) }
+        requires last { (rest : List ℕ) × ((view seat.old).reader.batch ≡ rest ++ n ∷ []) }
+        ensures same { IsElseSame seat.old seat.new }
+        ensures put { result ≡ true → (view seat.new ≡ having_put_back (view seat.old)) × (steps seat.new ≡ steps seat.old ⊳ did_load_slot place 0 ⊳ did_store_slot place (n + 1)) }
+        ensures lost { result ≡ false → (view seat.new ≡ destroying left (view seat.old)) × ((found : ℕ) × (found ≢ 0) × (steps seat.new ≡ steps seat.old ⊳ did_load_slot place found)) }
+    {
+        if self.slot_before(seat, place, left) != 0 {
+            return false;
+        }
+        self.store_before(seat, place, n);
+        true
+    }
+
+    /// Puts the packets back from the last one to the first, and answers how many are destroyed, and where the head is.
+    fn put_all_back(&self, seat: &mut TapSeat, first: u32, batch: &[u32]) -> (usize, u32)
+        requires seat { IsSeatOf self.now seat.old × ((view seat.old).reader.reads ≡ true) × ((view seat.old).reader.holds ≡ true) }
+        requires lock { IsFresh (view seat.old).lock }
+        requires clear { ((view seat.old).reader.ends ≡ cleared_at first) × (first < self.now.len) }
+        requires batch { (read : List ℕ) × ((view seat.old).reader.batch ≡ read ++ batch.now) }
+        ensures same { IsElseSame seat.old seat.new × ((view seat.new).lock ≡ (view seat.old).lock) }
+        ensures count { result.0 ≤ length batch.now }
+        ensures head { (result.1 ≡ place_back self.now.len first (length batch.now - result.0)) × (result.1 < self.now.len) × ((view seat.new).reader.ends ≡ cleared_at result.1) }
+        ensures view { without_batch (view seat.new) ≡ having_given_back batch.now result.0 (view seat.old) }
+        ensures steps { PutsBack self.now.len first (drop result.0 batch.now) result.0 (steps seat.old) (steps seat.new) }
+    {
+        let mut head = first;
+        let mut left = batch.len();
+        while left > 0 {
+            let place = place_before(head, self.len);
+            if !self.put_one_back(seat, place, batch[left - 1], left) {
+                return (left, head);
+            }
+            head = place;
+            left -= 1;
+        }
+        (0, head)
+    }
+}
+
+/// Puts back what was not read of the last batch, as `ptr_ring_unconsume`, under the consumer lock and then the producer lock, for
+/// which it may wait: the last packet first, so that those which find no slot are at the front of `batch`. They are destroyed; it
+/// answers how many.
+///
+/// Some are destroyed only where, once all slots of packets that were taken are empty, the slot before the head was loaded and was
+/// not 0. The head stands then at the first packet that was put back, if any.
+pub fn give_back<R: Wait>(rt: &R, tap: &Tap, seat: &mut TapSeat, batch: &[u32]) -> usize
+    requires seat { IsReaderOf tap.now seat.old }
+    requires batch { (read : List ℕ) × ((view seat.old).reader.batch ≡ read ++ batch.now) }
+    ensures seat { IsReaderOf tap.now seat.new }
+    ensures count { result ≤ length batch.now }
+    ensures view { view seat.new ≡ having_given_back batch.now result (view seat.old) }
+    ensures steps { GivesBack tap.now.len (view seat.old).reader.ends (drop result batch.now) result (steps seat.old) (steps seat.new) }
+{
+    tap.lock_to_return(rt, seat);
+    let index = tap.lock_producer(rt, seat);
+    let ends = tap.exchange_ends(seat, Consumer { head: 0, tail: 0 });
+    tap.zero_down(seat, ends.tail, ends.head);
+    let (lost, head) = tap.put_all_back(seat, ends.head, batch);
+    tap.exchange_ends(seat, Consumer { head, tail: head });
+    tap.give_producer(seat, index);
+    tap.give_after_return(seat);
+    lost
+}

@@ -1,0 +1,90 @@
+//! Making a sender's seat, and taking one in.
+ghost use Rattle.std.specs.Prelude.{◌≡◌, ◌<◌, ℕ, true, false, []};
+ghost use Rattle.lq_band.specs.Times.{times};
+ghost use Rattle.lq_tap.specs.Views.{sender_view};
+ghost use Rattle.lq_tap.specs.Told.{having_split, having_joined};
+ghost use Rattle.lq_tap.specs.Settled.{IsSettled};
+ghost use Rattle.lq_tap.specs.Sees.{view, steps, setup, IsReaderOf, IsSenderOf};
+ghost use Rattle.lq_tap.specs.Plays.{keeping, offspring, together, learned};
+ghost use Rattle.lq_tap.specs.Made.{spent};
+
+use crate::shared::{Tap, TapSeat};
+use crate::view::{Consumer, Knowledge};
+use atomic_table::{Join, Play, Split};
+use std::marker::{Brand, PhantomData};
+
+/// Names a sender, for the proof of one step: the call picks it.
+pub trait Sending {
+    ghost sender: { ℕ };
+}
+
+impl Sending for Brand {
+    ghost sender = { 0 };
+}
+
+pub(crate) struct Cut<K> {
+    of: PhantomData<K>,
+}
+
+impl<K: Sending> Split<Knowledge> for Cut<K> {
+    ghost left = { keeping K.sender };
+
+    ghost right = { offspring K.sender };
+}
+
+pub(crate) struct Glue;
+
+impl Join<Knowledge> for Glue {
+    ghost both = { λ m from. together m from };
+
+    ghost spent = { spent };
+}
+
+pub(crate) struct Learn;
+
+impl Play<Consumer, Knowledge> for Learn {
+    ghost then = { learned };
+}
+
+impl Tap {
+    fn split_of<K: Sending>(&self, seat: &mut TapSeat, sender: u32) -> TapSeat
+        requires named { sender ≡ K.sender }
+        requires seat { IsReaderOf self.now seat.old }
+        requires sender { (sender < self.now.senders) × (0 < times sender (view seat.old).reader.seatless) }
+        ensures seat { IsReaderOf self.now seat.new }
+        ensures view { view seat.new ≡ having_split sender (view seat.old) }
+        ensures steps { steps seat.new ≡ steps seat.old }
+        ensures other { IsSenderOf self.now result × (view result ≡ sender_view (setup self.now) sender) × (steps result ≡ []) }
+    {
+        TapSeat {
+            seat: self.table.shared.split_seat::<Cut<K>>(&mut seat.seat),
+        }
+    }
+
+    /// The seat of one sender, which has put nothing yet. No seat of that sender was made before.
+    pub fn split(&self, seat: &mut TapSeat, sender: u32) -> TapSeat
+        requires seat { IsReaderOf self.now seat.old }
+        requires sender { (sender < self.now.senders) × (0 < times sender (view seat.old).reader.seatless) }
+        ensures seat { IsReaderOf self.now seat.new }
+        ensures view { view seat.new ≡ having_split sender (view seat.old) }
+        ensures steps { steps seat.new ≡ steps seat.old }
+        ensures other { IsSenderOf self.now result × (view result ≡ sender_view (setup self.now) sender) × (steps result ≡ []) }
+    {
+        self.split_of::<Brand>(seat, sender)
+    }
+
+    /// Takes in the seat of a sender that has ended. Once all seats are joined, and a batch was empty that was asked for after
+    /// all senders were found to have ended, each packet that was put is one that the reader took, or one that was destroyed.
+    pub fn join(&self, into: &mut TapSeat, from: TapSeat)
+        requires seat { IsReaderOf self.now into.old }
+        requires other { IsSenderOf self.now from × ((view from).sender.going ≡ false) }
+        ensures seat { IsReaderOf self.now into.new }
+        ensures view { view into.new ≡ having_joined (view from) (view into.old) }
+        ensures steps { steps into.new ≡ steps into.old }
+        ensures settled { (view into.new).reader.out ≡ 0 → (view into.new).reader.drained ≡ true → IsSettled (view into.new) }
+    {
+        let TapSeat { seat } = from;
+        self.table.shared.join_seat::<Glue>(&mut into.seat, seat);
+        self.table.shared.load::<Learn>(&mut into.seat, 0);
+    }
+}

@@ -1,0 +1,188 @@
+//! The steps on the slots of the ring.
+ghost use Rattle.std.specs.Prelude.{◌≡◌, ◌≢◌, ℕ, ◌+◌, ◌-◌, ◌<◌, ◌≤◌, true, false, List, [], ◌∷◌, ◌++◌, length};
+ghost use Rattle.lq_band.specs.Ring.{with_room, having_stored, all_empty, IsAtRest};
+ghost use Rattle.lq_ring_core.specs.Ring.{place_before};
+ghost use Rattle.lq_tap.specs.Made.{◌⊳◌, Noted, Loads, Stores, did_load_slot, did_store_slot};
+ghost use Rattle.lq_tap.specs.Told.{having_put, having_found_full};
+ghost use Rattle.lq_tap.specs.Plays.{with_lock, with_ends, producer_slot_seen, producer_slot_stored, finding_none, taking, head_slot_seen, emptying, slot_emptied, destroying, slot_before_seen, putting_back, slot_before_stored};
+ghost use Rattle.lq_tap.specs.Steps.{emptied_below};
+ghost use Rattle.lq_tap.specs.Sees.{view, steps, IsSeatOf, IsElseSame};
+
+use crate::shared::{Tap, TapSeat};
+use crate::view::{Consumer, Knowledge};
+use atomic_table::Play;
+use std::marker::{Brand, PhantomData};
+
+/// The word of the first slot.
+const SLOTS: usize = 32;
+
+pub(crate) struct SeeSlot;
+
+impl Play<Consumer, Knowledge> for SeeSlot {
+    ghost then = { Noted Loads producer_slot_seen };
+}
+
+pub(crate) struct StoreSlot;
+
+impl Play<Consumer, Knowledge> for StoreSlot {
+    ghost then = { Noted Stores producer_slot_stored };
+}
+
+pub(crate) struct SeeHead;
+
+impl Play<Consumer, Knowledge> for SeeHead {
+    ghost then = { Noted Loads head_slot_seen };
+}
+
+pub(crate) struct EmptySlot;
+
+impl Play<Consumer, Knowledge> for EmptySlot {
+    ghost then = { Noted Stores slot_emptied };
+}
+
+/// Names how many packets are left to be put back, for the proof of one step: the call picks it.
+pub trait Returning {
+    ghost left: { ℕ };
+}
+
+impl Returning for Brand {
+    ghost left = { 0 };
+}
+
+pub(crate) struct SeeBefore<K> {
+    of: PhantomData<K>,
+}
+
+impl<K: Returning> Play<Consumer, Knowledge> for SeeBefore<K> {
+    ghost then = { Noted Loads (slot_before_seen K.left) };
+}
+
+pub(crate) struct StoreBefore;
+
+impl Play<Consumer, Knowledge> for StoreBefore {
+    ghost then = { Noted Stores slot_before_stored };
+}
+
+impl Tap {
+    /// What stands in the slot at the producer index: the look of `__ptr_ring_produce` at `queue[producer]`. Where it is not 0 the
+    /// sender's next packet is full.
+    pub(crate) fn producer_slot(&self, seat: &mut TapSeat, index: u32) -> u64
+        requires seat { IsSeatOf self.now seat.old }
+        requires packet { ((view seat.old).sender.going ≡ true) × ((view seat.old).sender.next < self.now.packets) }
+        requires lock { ((view seat.old).lock.holds ≡ true) × ((view seat.old).lock.stored ≡ false) × (index ≡ (view seat.old).lock.index) × (index < self.now.len) }
+        ensures same { IsElseSame seat.old seat.new }
+        ensures room { result ≡ 0 → view seat.new ≡ with_lock (with_room (view seat.old).lock) (view seat.old) }
+        ensures full { result ≢ 0 → (view seat.new ≡ having_found_full (view seat.old).sender.next (result - 1) (view seat.old)) × (result - 1 ≢ (view seat.old).sender.next) × (result ≤ self.now.packets) }
+        ensures steps { steps seat.new ≡ steps seat.old ⊳ did_load_slot index result }
+    {
+        self.table
+            .shared
+            .load::<SeeSlot>(&mut seat.seat, SLOTS + index as usize)
+    }
+
+    /// Stores the sender's next packet there, where it was loaded as 0 under the producer lock.
+    pub(crate) fn store_slot(&self, seat: &mut TapSeat, index: u32, n: u32)
+        requires seat { IsSeatOf self.now seat.old }
+        requires packet { ((view seat.old).sender.going ≡ true) × ((view seat.old).sender.next ≡ n) × (n < self.now.packets) }
+        requires lock { ((view seat.old).lock.holds ≡ true) × ((view seat.old).lock.stored ≡ false) × (index ≡ (view seat.old).lock.index) × (index < self.now.len) }
+        requires room { (view seat.old).lock.room ≡ true }
+        ensures same { IsElseSame seat.old seat.new }
+        ensures put { view seat.new ≡ with_lock (having_stored (view seat.old).lock) (having_put n (view seat.old)) }
+        ensures steps { steps seat.new ≡ steps seat.old ⊳ did_store_slot index (n + 1) }
+    {
+        self.table
+            .shared
+            .store::<StoreSlot>(&mut seat.seat, SLOTS + index as usize, n as u64 + 1);
+    }
+
+    /// What stands in the slot at the head: the look of `__ptr_ring_consume` at `queue[consumer_head]`. Where it is not 0 its packet
+    /// is taken.
+    pub(crate) fn head_slot(&self, seat: &mut TapSeat, head: u32) -> u64
+        requires seat { IsSeatOf self.now seat.old × ((view seat.old).reader.reads ≡ true) × ((view seat.old).reader.holds ≡ true) }
+        requires rests { IsAtRest self.now.len (view seat.old).reader.ends × (head ≡ (view seat.old).reader.ends.head) }
+        ensures same { IsElseSame seat.old seat.new }
+        ensures none { result ≡ 0 → view seat.new ≡ finding_none (view seat.old) }
+        ensures taken { result ≢ 0 → (view seat.new ≡ taking (result - 1) (view seat.old)) × (result ≤ self.now.packets) }
+        ensures steps { steps seat.new ≡ steps seat.old ⊳ did_load_slot head result }
+    {
+        self.table
+            .shared
+            .load::<SeeHead>(&mut seat.seat, SLOTS + head as usize)
+    }
+
+    /// Empties the slot below the edge.
+    fn zero_slot(&self, seat: &mut TapSeat, place: u32)
+        requires seat { IsSeatOf self.now seat.old × ((view seat.old).reader.reads ≡ true) × ((view seat.old).reader.holds ≡ true) }
+        requires edge { ((view seat.old).reader.ends.tail < (view seat.old).reader.ends.edge) × (place + 1 ≡ (view seat.old).reader.ends.edge) × (place < self.now.len) }
+        ensures same { IsElseSame seat.old seat.new }
+        ensures emptied { view seat.new ≡ emptying (view seat.old) }
+        ensures steps { steps seat.new ≡ steps seat.old ⊳ did_store_slot place 0 }
+    {
+        self.table
+            .shared
+            .store::<EmptySlot>(&mut seat.seat, SLOTS + place as usize, 0);
+    }
+
+    /// Empties the slots below the head, down to the tail: the loop of `__ptr_ring_discard_one` after a batch was taken, and that of
+    /// `ptr_ring_unconsume`.
+    pub(crate) fn zero_down(&self, seat: &mut TapSeat, tail: u32, head: u32)
+        requires seat { IsSeatOf self.now seat.old × ((view seat.old).reader.reads ≡ true) × ((view seat.old).reader.holds ≡ true) }
+        requires ends { ((view seat.old).reader.ends ≡ record { head = head; tail = tail; edge = head }) × (tail ≤ head) × (tail < self.now.len) × (head ≤ self.now.len) }
+        ensures same { IsElseSame seat.old seat.new }
+        ensures emptied { view seat.new ≡ with_ends (all_empty self.now.len (view seat.old).reader.ends) (view seat.old) }
+        ensures steps { steps seat.new ≡ emptied_below head (head - tail) (steps seat.old) }
+    {
+        for n in 0..head - tail {
+            self.zero_slot(seat, head - 1 - n);
+        }
+    }
+
+    fn slot_before_of<K: Returning>(&self, seat: &mut TapSeat, place: u32, left: usize) -> u64
+        requires named { left ≡ K.left }
+        requires seat { IsSeatOf self.now seat.old × ((view seat.old).reader.reads ≡ true) × ((view seat.old).reader.holds ≡ true) }
+        requires lock { ((view seat.old).lock.holds ≡ true) × ((view seat.old).lock.stored ≡ false) }
+        requires clear { ((view seat.old).reader.ends.tail ≡ (view seat.old).reader.ends.head) × ((view seat.old).reader.ends.edge ≡ (view seat.old).reader.ends.head) }
+        requires place { (place ≡ place_before self.now.len (view seat.old).reader.ends.head 1) × (place < self.now.len) }
+        requires left { (0 < left) × (left ≤ length (view seat.old).reader.batch) }
+        ensures same { IsElseSame seat.old seat.new }
+        ensures room { result ≡ 0 → view seat.new ≡ with_lock (with_room (view seat.old).lock) (view seat.old) }
+        ensures full { result ≢ 0 → view seat.new ≡ destroying left (view seat.old) }
+        ensures steps { steps seat.new ≡ steps seat.old ⊳ did_load_slot place result }
+    {
+        self.table
+            .shared
+            .load::<SeeBefore<K>>(&mut seat.seat, SLOTS + place as usize)
+    }
+
+    /// What stands in the slot before the head, once no slot of a packet that was taken has anything. Where it is not 0 the packets
+    /// that are left to be put back are destroyed.
+    pub(crate) fn slot_before(&self, seat: &mut TapSeat, place: u32, left: usize) -> u64
+        requires seat { IsSeatOf self.now seat.old × ((view seat.old).reader.reads ≡ true) × ((view seat.old).reader.holds ≡ true) }
+        requires lock { ((view seat.old).lock.holds ≡ true) × ((view seat.old).lock.stored ≡ false) }
+        requires clear { ((view seat.old).reader.ends.tail ≡ (view seat.old).reader.ends.head) × ((view seat.old).reader.ends.edge ≡ (view seat.old).reader.ends.head) }
+        requires place { (place ≡ place_before self.now.len (view seat.old).reader.ends.head 1) × (place < self.now.len) }
+        requires left { (0 < left) × (left ≤ length (view seat.old).reader.batch) }
+        ensures same { IsElseSame seat.old seat.new }
+        ensures room { result ≡ 0 → view seat.new ≡ with_lock (with_room (view seat.old).lock) (view seat.old) }
+        ensures full { result ≢ 0 → view seat.new ≡ destroying left (view seat.old) }
+        ensures steps { steps seat.new ≡ steps seat.old ⊳ did_load_slot place result }
+    {
+        self.slot_before_of::<Brand>(seat, place, left)
+    }
+
+    /// Puts the last packet of the batch there, where it was loaded as 0 under both locks.
+    pub(crate) fn store_before(&self, seat: &mut TapSeat, place: u32, n: u32)
+        requires seat { IsSeatOf self.now seat.old × ((view seat.old).reader.reads ≡ true) × ((view seat.old).reader.holds ≡ true) }
+        requires lock { ((view seat.old).lock.holds ≡ true) × ((view seat.old).lock.stored ≡ false) × ((view seat.old).lock.room ≡ true) }
+        requires clear { ((view seat.old).reader.ends.tail ≡ (view seat.old).reader.ends.head) × ((view seat.old).reader.ends.edge ≡ (view seat.old).reader.ends.head) }
+        requires place { (place ≡ place_before self.now.len (view seat.old).reader.ends.head 1) × (place < self.now.len) }
+        requires last { (rest : List ℕ) × ((view seat.old).reader.batch ≡ rest ++ n ∷ []) }
+        ensures same { IsElseSame seat.old seat.new }
+        ensures put { view seat.new ≡ putting_back (view seat.old) }
+        ensures steps { steps seat.new ≡ steps seat.old ⊳ did_store_slot place (n + 1) }
+    {
+        self.table
+            .shared
+            .store::<StoreBefore>(&mut seat.seat, SLOTS + place as usize, n as u64 + 1);
+    }
+}

@@ -1,0 +1,108 @@
+//! Batches: `ptr_ring_consume_batched` of include/linux/ptr_ring.h, which `vhost_net_buf_produce` of drivers/vhost/net.c calls.
+ghost use Rattle.std.specs.Prelude.{◌≡◌, ◌+◌, ◌<◌, ◌≤◌, true, [], length, take, drop, All, IfSome, IfNone};
+ghost use Rattle.lq_band.specs.Ring.{taken_on, after_take, IsAtRest};
+ghost use Rattle.lq_tap.specs.Made.{◌⊳◌, did_load_slot};
+ghost use Rattle.lq_tap.specs.Told.{having_taken};
+ghost use Rattle.lq_tap.specs.Plays.{with_ends, finding_none, having_taken_one, rest_at};
+ghost use Rattle.lq_tap.specs.Rule.{consumer_of};
+ghost use Rattle.lq_tap.specs.Steps.{GetsBatch, TakesAll, took, emptied_below, emptied_after};
+ghost use Rattle.lq_tap.specs.Sees.{view, steps, IsReaderOf, IsSeatOf, IsElseSame};
+
+use crate::shared::{Tap, TapSeat};
+use crate::view::Consumer;
+use lq_model::batch;
+use std::sync::Wait;
+
+impl Tap {
+    /// What `__ptr_ring_discard_one` does after a take from these ends: where a batch was taken, or the last slot, the slots are
+    /// emptied. It answers the new ends.
+    fn discard_one(&self, seat: &mut TapSeat, ends: Consumer) -> Consumer
+        requires seat { IsSeatOf self.now seat.old × ((view seat.old).reader.reads ≡ true) × ((view seat.old).reader.holds ≡ true) }
+        requires ends { ((view seat.old).reader.ends ≡ taken_on (rest_at ends)) × IsAtRest self.now.len (rest_at ends) }
+        ensures same { IsElseSame seat.old seat.new }
+        ensures view { view seat.new ≡ with_ends (after_take self.now.len (rest_at ends)) (view seat.old) }
+        ensures steps { steps seat.new ≡ emptied_below (ends.head + 1) (emptied_after self.now.len (rest_at ends)) (steps seat.old) }
+        ensures ends { (result ≡ consumer_of (after_take self.now.len (rest_at ends))) × IsAtRest self.now.len (after_take self.now.len (rest_at ends)) }
+    {
+        let head = ends.head + 1;
+        if ends.tail + batch(self.len) <= head || head == self.len {
+            self.zero_down(seat, ends.tail, head);
+            let end = if head == self.len { 0 } else { head };
+            Consumer {
+                head: end,
+                tail: end,
+            }
+        } else {
+            Consumer {
+                head,
+                tail: ends.tail,
+            }
+        }
+    }
+
+    /// Takes the packet at the head, or finds none.
+    fn take_one(&self, seat: &mut TapSeat, ends: Consumer) -> Option<(u32, Consumer)>
+        requires seat { IsSeatOf self.now seat.old × ((view seat.old).reader.reads ≡ true) × ((view seat.old).reader.holds ≡ true) }
+        requires ends { ((view seat.old).reader.ends ≡ rest_at ends) × IsAtRest self.now.len (rest_at ends) }
+        ensures same { IsElseSame seat.old seat.new }
+        ensures none { IfNone result ((view seat.new ≡ finding_none (view seat.old)) × (steps seat.new ≡ steps seat.old ⊳ did_load_slot ends.head 0)) }
+        ensures taken { IfSome result (λ r. (view seat.new ≡ having_taken_one r.0 (view seat.old)) × (steps seat.new ≡ took self.now.len (rest_at ends) r.0 (steps seat.old)) × (r.0 < self.now.packets)) }
+        ensures ends { IfSome result (λ r. (rest_at r.1 ≡ after_take self.now.len (rest_at ends)) × IsAtRest self.now.len (rest_at r.1)) }
+    {
+        let found = self.head_slot(seat, ends.head);
+        if found == 0 {
+            return None;
+        }
+        let next = self.discard_one(seat, ends);
+        Some(((found - 1) as u32, next))
+    }
+
+    /// Takes packets to the front of `out`, until it is full or none is there. It answers how many, and the new ends.
+    fn take_all(&self, seat: &mut TapSeat, first: Consumer, out: &mut [u32]) -> (usize, Consumer)
+        requires seat { IsSeatOf self.now seat.old × ((view seat.old).reader.reads ≡ true) × ((view seat.old).reader.holds ≡ true) }
+        requires begins { (view seat.old).reader.batch ≡ [] }
+        requires ends { ((view seat.old).reader.ends ≡ rest_at first) × IsAtRest self.now.len (rest_at first) }
+        requires out { 0 < length out.old }
+        ensures same { IsElseSame seat.old seat.new }
+        ensures count { result.0 ≤ length out.old }
+        ensures out { (length out.new ≡ length out.old) × (drop result.0 out.new ≡ drop result.0 out.old) }
+        ensures view { view seat.new ≡ having_taken (take result.0 out.new) (view seat.old) }
+        ensures steps { TakesAll self.now.len (rest_at first) (take result.0 out.new) (length out.old) (steps seat.old) (steps seat.new) }
+        ensures packets { All (λ n. n < self.now.packets) (take result.0 out.new) }
+        ensures ends { ((view seat.new).reader.ends ≡ rest_at result.1) × IsAtRest self.now.len (rest_at result.1) }
+    {
+        let mut ends = first;
+        let mut taken = 0;
+        while taken < out.len() {
+            let Some((n, next)) = self.take_one(seat, ends) else {
+                return (taken, ends);
+            };
+            out[taken] = n;
+            ends = next;
+            taken += 1;
+        }
+        (taken, ends)
+    }
+}
+
+/// Takes the oldest packets of the ring to the front of `out`, until it is full or nothing is in the ring, as
+/// `ptr_ring_consume_batched`, under the consumer lock, for which it may wait. It answers how many.
+///
+/// Fewer than `out` has places come only where the slot at the head, behind the packets taken, was loaded as 0 in this call.
+pub fn get_batch<R: Wait>(rt: &R, tap: &Tap, seat: &mut TapSeat, out: &mut [u32]) -> usize
+    requires seat { IsReaderOf tap.now seat.old }
+    requires out { (0 < length out.old) × (length out.old ≤ 64) }
+    ensures seat { IsReaderOf tap.now seat.new }
+    ensures count { result ≤ length out.old }
+    ensures out { (length out.new ≡ length out.old) × (drop result out.new ≡ drop result out.old) }
+    ensures view { view seat.new ≡ having_taken (take result out.new) (view seat.old) }
+    ensures steps { GetsBatch tap.now.len (view seat.old).reader.ends (take result out.new) (length out.old) (steps seat.old) (steps seat.new) }
+    ensures packets { All (λ n. n < tap.now.packets) (take result out.new) }
+{
+    tap.lock_for_batch(rt, seat);
+    let first = tap.exchange_ends(seat, Consumer { head: 0, tail: 0 });
+    let (taken, ends) = tap.take_all(seat, first, out);
+    tap.exchange_ends(seat, ends);
+    tap.give_after_batch(seat);
+    taken
+}

@@ -1,0 +1,29 @@
+use Rattle.std.proofs.Common.{◌≡◌, ◌≤◌, ◌-◌, ◌/◌, ◌∙◌, ◌++◌, List, ℕ, length, take, drop, length-take, arith}
+use Rattle.lq_tap.specs.Sees.{view}
+use Rattle.lq_tap_run.proofs.Reading.{few_on, in_two, taken_on}
+use Rattle.lq_tap_run.proofs.reader.read_half.Goals as goal
+
+pub give_back-lost-requires-clause-batch : goal.give_back-lost-requires-clause-batch
+give_back-lost-requires-clause-batch g c =
+    let batch : List ℕ = c.args.batch.now in
+    let half = length batch - length batch / 2 in
+    (take half batch, c.requires.taken.1 ∙ in_two batch half (omega arith))
+
+pub returns-clause-read : goal.returns-clause-read
+returns-clause-read g c =
+    let batch : List ℕ = c.args.batch.now in
+    let half = length batch - length batch / 2 in
+    let mine : List ℕ = take half batch in
+    let given : List ℕ = take (length batch - half) (drop half batch) in
+    let parts : batch ≡ mine ++ given = in_two batch half (omega arith) in
+    let less : length given ≤ length mine = omega (arith, length-take half batch, length-take (length batch - half) (drop half batch)) in
+    let old = view c.args.seat.now in
+    let new = view c.give_back-lost.new.seat in
+    let read : List ℕ = c.args.read.now.items in
+    let now : List ℕ = c.extend_from_slice.new.self.items in
+    let lost = c.give_back-lost.result in
+    record {
+      reader = c.give_back-lost.ensures.seat;
+      taken = taken_on old new read batch mine given now lost c.requires.taken.0 parts c.give_back-lost.ensures.view c.in-Ok.ensures.items;
+      few = few_on old new read batch mine given now lost c.requires.taken.0 parts c.give_back-lost.ensures.view c.in-Ok.ensures.items c.requires.few less;
+    }

@@ -1,0 +1,12 @@
+use Rattle.std.proofs.Common.{◌≡◌, ◌≤◌, vec_len, vec_capacity}
+use Rattle.lq_tap_run.specs.Lanes.{AreReady}
+use Rattle.lq_tap_run.specs.Runs.{IsSplittingTap}
+use Rattle.lq_tap_run.proofs.run.make_lanes.Given as goal
+
+abbrev pub invariant-loop-sender : goal.invariant-loop-sender
+invariant-loop-sender l = record {
+  splitting : IsSplittingTap l.tap l.senders l.sender l.seat;
+  ready : AreReady l.tap l.packets l.senders l.lanes.items;
+  long : vec_len l.lanes ≡ l.sender;
+  room : l.senders ≤ vec_capacity l.lanes;
+}

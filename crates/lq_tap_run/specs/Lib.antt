@@ -1,0 +1,8 @@
+-- what a sender has put
+pub mod Lanes
+-- what the reader has read
+pub mod Reads
+-- which fates are known
+pub mod Marks
+-- the seats of a run
+pub mod Runs

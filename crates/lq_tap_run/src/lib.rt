@@ -1,0 +1,12 @@
+//! A run of a tap: senders put packets into one ring, and a reader takes them out in batches and gives back what it
+//! doesn't read.
+#![tactic(auto)]
+
+mod fates;
+mod lanes;
+mod reader;
+mod run;
+
+pub use lq_gate::{Free, Gate};
+pub use lq_tap_fates::TapFate;
+pub use run::{Tapped, tap_all};

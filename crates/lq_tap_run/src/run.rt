@@ -1,0 +1,198 @@
+//! The whole run: its memory is taken first, then the senders and the reader run side by side, and then their seats are joined.
+ghost use Rattle.std.specs.Prelude.{◌≡◌, ◌+◌, ◌<◌, ◌≤◌, ◌-◌, ℕ, [], true, IfOk, length, vec_capacity, vec_len};
+ghost use Rattle.lq_tap.specs.Sees.{IsMadeFor, IsReaderOf, setup, view};
+ghost use Rattle.lq_tap.specs.Settled.{IsSettled};
+ghost use Rattle.lq_tap.specs.Views.{counting, first_view};
+ghost use Rattle.lq_tap_fates.specs.Fates.{IsTapRun, IsTapWithin};
+ghost use Rattle.lq_tap_run.specs.Lanes.{AreDone, AreReady};
+ghost use Rattle.lq_tap_run.specs.Marks.{AreMarked, AreMarkedFull};
+ghost use Rattle.lq_tap_run.specs.Reads.{HasRead, IsReaderDone, ReadsOn};
+ghost use Rattle.lq_tap_run.specs.Runs.{AreSplit, HasJoined};
+
+use crate::fates::{mark_full, mark_read, unknown};
+use crate::lanes::{Lane, all_put};
+use crate::reader::{Reader, all_read};
+use lq_gate::Gate;
+use lq_model::NoMemory;
+use lq_tap::{Tap, TapSeat, senders_in_order};
+use lq_tap_fates::TapFate;
+use std::alloc::Global;
+use std::marker::Sync;
+use std::sync::Wait;
+use std::thread;
+use std::thread::Threads;
+
+/// What a run leaves.
+#[derive(Drop)]
+pub struct Tapped {
+    /// The fate of packet n at place n.
+    pub fates: Vec<TapFate>,
+    /// The packets that were read, in order.
+    pub read: Vec<u32>,
+}
+
+/// An empty list with room for so many.
+fn room_for<T>(alloc: Global, count: usize) -> Result<Vec<T>, NoMemory>
+    ensures empty { IfOk result (λ list. list.items ≡ []) }
+    ensures room { IfOk result (λ list. count ≤ vec_capacity list) }
+{
+    match Vec::with_capacity(alloc, count) {
+        Ok(list) => Ok(list),
+        Err(_) => Err(NoMemory),
+    }
+}
+
+/// A lane for each sender, with its seat and room for all of its packets.
+fn make_lanes(
+    alloc: Global,
+    tap: &Tap,
+    packets: u32,
+    senders: u32,
+    seat: &mut TapSeat,
+) -> Result<Vec<Lane>, NoMemory>
+    requires made { (len : ℕ) × IsMadeFor packets len senders tap.now }
+    requires few { (packets ≤ 1000000) × (0 < senders) × (senders ≤ 8) }
+    requires seat { IsReaderOf tap.now seat.old × (view seat.old ≡ first_view (setup tap.now)) }
+    ensures ready { IfOk result (λ lanes. AreReady tap.now packets senders lanes.items × (length lanes.items ≡ senders)) }
+    ensures split { IfOk result (λ _. AreSplit tap.now senders senders seat.new) }
+    ensures fresh { IfOk result (λ _. ((view seat.new).reader.taken ≡ []) × ((view seat.new).reader.destroyed ≡ [])) }
+{
+    senders_in_order();
+    let room = packets as usize / senders as usize + 1;
+    let mut lanes = room_for(alloc, senders as usize)?;
+    for sender in 0..senders {
+        let full = room_for(alloc, room)?;
+        lanes.push_reserved(Lane {
+            seat: tap.split(seat, sender),
+            full,
+        });
+    }
+    Ok(lanes)
+}
+
+/// The reader, with room for all packets and for a batch.
+fn make_reader(alloc: Global, packets: u32, batch: u32, seat: TapSeat) -> Result<Reader, NoMemory>
+    requires batch { (0 < batch) × (batch ≤ 64) }
+    ensures seat { IfOk result (λ reader. reader.seat ≡ seat) }
+    ensures read { IfOk result (λ reader. reader.read.items ≡ []) }
+    ensures batch { IfOk result (λ reader. vec_len reader.batch ≡ batch) }
+{
+    let read = room_for(alloc, packets as usize)?;
+    let batch = vec![in alloc; 0u32; batch as usize].map_err(|_| NoMemory)?;
+    Ok(Reader { seat, read, batch })
+}
+
+/// The senders and the reader side by side, or the senders first where no further thread can be had.
+fn put_and_read<R: Threads + Wait + Sync, G: Gate>(
+    rt: &R,
+    tap: &Tap,
+    packets: u32,
+    senders: u32,
+    lanes: Vec<Lane>,
+    reader: Reader,
+    gate: &G,
+) -> (Vec<Lane>, Result<Reader, NoMemory>)
+    requires made { (len : ℕ) × IsMadeFor packets len senders tap.now }
+    requires few { (packets ≤ 1000000) × (senders ≤ 8) × (0 < senders) }
+    requires count { length lanes.items ≡ senders }
+    requires ready { AreReady tap.now packets senders lanes.items }
+    requires read { HasRead tap.now reader.seat reader.read.items }
+    requires batch { (0 < vec_len reader.batch) × (vec_len reader.batch ≤ 64) }
+    ensures lanes { AreDone tap.now packets senders result.0.items × (length result.0.items ≡ senders) }
+    ensures reader { IfOk result.1 (λ done. HasRead tap.now done.seat done.read.items × IsReaderDone done.seat × ReadsOn reader.seat done.seat) }
+{
+    thread::join(
+        rt,
+        move || -> Vec<Lane>
+            requires { ((len : ℕ) × IsMadeFor packets len senders tap.now) × (packets ≤ 1000000) × (senders ≤ 8) × (0 < senders)
+                × (length lanes.items ≡ senders) × AreReady tap.now packets senders lanes.items }
+            ensures { AreDone tap.entry.now packets senders result.items × (length result.items ≡ senders) }
+        { all_put(rt, tap, packets, senders, lanes, gate) },
+        move || -> Result<Reader, NoMemory>
+            requires { HasRead tap.now reader.seat reader.read.items × (0 < vec_len reader.batch) × (vec_len reader.batch ≤ 64) }
+            ensures { IfOk result (λ done. HasRead tap.entry.now done.seat done.read.items × IsReaderDone done.seat × ReadsOn reader.seat done.seat) }
+        { all_read(rt, tap, senders, reader, gate) },
+    )
+}
+
+/// Joins all senders' seats into the reader's, and marks what they found full.
+fn join_all(
+    tap: &Tap,
+    packets: u32,
+    senders: u32,
+    seat: &mut TapSeat,
+    mut lanes: Vec<Lane>,
+    fates: &mut Vec<TapFate>,
+)
+    requires senders { 0 < senders }
+    requires seat { AreSplit tap.now senders senders seat.old × IsReaderDone seat.old }
+    requires lanes { AreDone tap.now packets senders lanes.items × (length lanes.items ≡ senders) }
+    requires fates { AreMarkedFull packets [] fates.old.items }
+    ensures joined { HasJoined tap.now packets senders 0 seat.new × IsSettled (view seat.new) }
+    ensures reader { ((view seat.new).reader.taken ≡ (view seat.old).reader.taken) × ((view seat.new).reader.destroyed ≡ (view seat.old).reader.destroyed) }
+    ensures fates { AreMarkedFull packets (view seat.new).sender.fulls fates.new.items }
+{
+    while let Some(lane) = lanes.pop() {
+        let Lane { seat: from, full } = lane;
+        mark_full(fates, &full);
+        tap.join(seat, from);
+    }
+}
+
+/// The fates, once the senders and the reader are done.
+fn decide(
+    tap: &Tap,
+    packets: u32,
+    senders: u32,
+    len: u32,
+    reader: Reader,
+    lanes: Vec<Lane>,
+    mut fates: Vec<TapFate>,
+) -> Tapped
+    requires made { IsMadeFor packets len senders tap.now }
+    requires few { (packets ≤ 1000000) × (0 < senders) }
+    requires read { HasRead tap.now reader.seat reader.read.items }
+    requires over { IsReaderDone reader.seat }
+    requires split { AreSplit tap.now senders senders reader.seat }
+    requires lanes { AreDone tap.now packets senders lanes.items × (length lanes.items ≡ senders) }
+    requires fates { AreMarkedFull packets [] fates.items }
+    ensures { IsTapRun packets senders len result.fates.items result.read.items }
+{
+    let _ = len;
+    let Reader {
+        mut seat,
+        read,
+        batch: _,
+    } = reader;
+    join_all(tap, packets, senders, &mut seat, lanes, &mut fates);
+    mark_read(&mut fates, &read);
+    Tapped { fates, read }
+}
+
+/// Puts so many packets into a ring, packet n by sender n modulo `senders`, while a reader reads. Once it has its memory it
+/// takes no more.
+///
+/// # NoMemory
+///
+/// There was no room for the ring, for the seats or for the fates. Nothing was put then.
+pub fn tap_all<R: Threads + Wait + Sync, G: Gate>(
+    rt: &R,
+    alloc: Global,
+    packets: u32,
+    senders: u32,
+    len: u32,
+    batch: u32,
+    gate: &G,
+) -> Result<Tapped, NoMemory>
+    requires packets { packets ≤ 1000000 }
+    requires within { IsTapWithin senders len batch }
+    ensures { IfOk result (λ tapped. IsTapRun packets senders len tapped.fates.items tapped.read.items) }
+{
+    let fates = unknown(alloc, packets)?;
+    let (tap, mut seat) = Tap::make(alloc, packets, len, senders)?;
+    let lanes = make_lanes(alloc, &tap, packets, senders, &mut seat)?;
+    let reader = make_reader(alloc, packets, batch, seat)?;
+    let (lanes, reader) = put_and_read(rt, &tap, packets, senders, lanes, reader, gate);
+    let tapped = decide(&tap, packets, senders, len, reader?, lanes, fates);
+    Ok(tapped)
+}
