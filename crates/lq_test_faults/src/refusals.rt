@@ -7,7 +7,7 @@ use lq_top::{Free, Status};
 use std::test::Fail;
 
 const USAGE: &[u8] =
-    b"usage: lqtx run PLAN CAPTURE OUT | lqtx gen NUMBER COUNT OUT | lqtx trace FILE\n";
+    b"usage: lqtx run PLAN CAPTURE OUT | lqtx gen NUMBER COUNT OUT | lqtx trace FILE | lqtx tap SENDERS LEN BATCH CAPTURE OUT\n";
 
 /// Command lines that aren't of the table, with the program's own name in front.
 const COMMANDS: [&str; 29] = [

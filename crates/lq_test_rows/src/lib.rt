@@ -16,3 +16,5 @@ mod rows;
 mod schedules;
 #[cfg(test)]
 mod senders;
+#[cfg(test)]
+mod tap;

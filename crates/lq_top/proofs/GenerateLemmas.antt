@@ -1,5 +1,5 @@
 -- What a generated run leaves, from what its calls leave.
-use Rattle.std.proofs.Common.{◌≡◌, ◌≤◌, ◌⊎◌, ℕ, List, drop, Some, Result, Ok, Err, IfOk, IsOkAnd, OnOk, OnErr, ap, sym, ◌∙◌, subst, inl, inr}
+use Rattle.std.proofs.Common.{◌≡◌, ◌≤◌, ◌⊎◌, ℕ, List, drop, Some, Result, Ok, Err, IfOk, IsOkAnd, OnOk, OnErr, sym, ◌∙◌, subst, inl, inr}
 use Rattle.lq_model.specs.Capture.{Capture, Refusal as CaptureRefusal, capture_of}
 use Rattle.lq_model.specs.Device.{DeviceState}
 use Rattle.lq_model.specs.Generated.{generated_capture}
@@ -12,7 +12,8 @@ use Rattle.lq_pcapng.specs.declared.file.CaptureFile.TheVariants.{Classic}
 use Rattle.lq_plan.specs.Generated.{generated_plan}
 use Rattle.lq_top.specs.Command.{GenWords}
 use Rattle.lq_top.specs.Decision.{Generates, Verdict, by_generated, by_plan, placed_on, units_changed_by, verdict_of_gen, with_refusal}
-use Rattle.lq_senders.specs.Fates.{AreEnded, AreFatesOf, EndedState}
+use Rattle.lq_senders.specs.Fates.{AreFatesOf}
+use Rattle.lq_table.specs.Ended.{EndedState}
 use Rattle.lq_top.specs.Headline.{AreCountsCut, HasCounted, Run, counts_text_of, generated_file, run_of}
 use Rattle.lq_top.specs.Outcome.{CompletesOrStops, Stops}
 use Rattle.lq_top.specs.Written.{FileIsCut, OutputHasPrefix, file_written}
@@ -58,17 +59,6 @@ generated_does out text plan c r old mid new before after ended result is_c made
     (counted out text plan c old mid new before after ended result made is whole cut)
 
 -- COUNTS
-
--- the counts are told: `given` are the fates as they were lent
-pub has_counted :
-    (run : Run) (infos : List Info) (fates given : List Fate) (old new : HostState) (before after : List DeviceState) (ended : List EndedState) → infos ≡ infos_of run.plan (packets_of_file run.capture)
-    → given ≡ fates → AreFatesOf run.plan infos fates before after → AreEnded run.plan infos fates ended → new ≡ wrote old 0 (counts_by run given infos) → HasCounted run old new before after ended
-has_counted run infos fates given old new before after ended known same are stay done = (
-  fates,
-  subst (λ (is : List Info). AreFatesOf run.plan is fates before after) known are,
-  subst (λ (is : List Info). AreEnded run.plan is fates ended) known stay,
-  done ∙ ap (λ (fs : List Fate). wrote old 0 (counts_by run fs infos)) same ∙ ap (λ (is : List Info). wrote old 0 (counts_by run fates is)) known,
-)
 
 -- it was stopped in them, or before them
 pub counts_cut :

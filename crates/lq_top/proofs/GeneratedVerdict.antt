@@ -9,10 +9,10 @@ use Rattle.lq_pcap.proofs.GeneratedCaptures.{generated_accepted}
 use Rattle.lq_pcapng.specs.File.{as_classic}
 use Rattle.lq_pcapng.specs.declared.file.CaptureFile.TheVariants.{Classic}
 use Rattle.lq_plan.specs.Generated.{generated_plan}
-use Rattle.lq_top.specs.Command.{GenWords, HasFewRecords, OfGen, command_of_words}
+use Rattle.lq_top.specs.Command.{GenWords, AreOperandsWithin, OfGen, command_of_words}
 use Rattle.lq_top.specs.Decision.{Generates, by_command, by_generated, verdict_of, verdict_of_gen, with_refusal}
 use Rattle.lq_top.specs.Headline.{run_of}
-use Rattle.lq_top.proofs.CommandLemmas.{few_records}
+use Rattle.lq_top.proofs.CommandLemmas.{within_limits}
 
 accepted_at_all : (P : Capture → Type 0) (r : Result Capture CaptureRefusal) → IsOkAnd r P → IsOkAnd r (λ _. Unit {0})
 accepted_at_all P (Ok c) ok = _
@@ -41,7 +41,7 @@ generated_verdict words gen files have command some = go (capture_of text) refl 
     text = generated_capture gen.number gen.count
 
     few : gen.count ≤ 1000000
-    few = subst HasFewRecords command (few_records words)
+    few = subst AreOperandsWithin command (within_limits words)
 
     go : (r : Result Capture CaptureRefusal) → capture_of text ≡ r → IsOkAnd r (λ _. Unit {0})
         → (capture : Capture) × (capture_of text ≡ Ok capture) × (verdict_of words files have ≡ Generates text (run_of gen.out generated_plan (Classic capture)))

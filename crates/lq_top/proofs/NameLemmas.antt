@@ -1,7 +1,7 @@
 -- Hosts on which every name may be opened and created.
 use Rattle.std.proofs.Common.{Option, Some, None}
 use Rattle.lq_host.specs.Host.{any_name}
-use Rattle.lq_top.specs.Command.{CommandWords, OfGen, OfRun, OfTrace}
+use Rattle.lq_top.specs.Command.{CommandWords, OfGen, OfRun, OfTap, OfTrace}
 use Rattle.lq_top.specs.Names.{MayDo}
 
 pub may_any : (command : Option CommandWords) → MayDo any_name any_name command
@@ -9,3 +9,4 @@ may_any None = _
 may_any (Some (OfRun words)) = record { plan = _; capture = _; outputs = record { units = λ unit below. _; fates = _ } }
 may_any (Some (OfGen words)) = _
 may_any (Some (OfTrace file)) = _
+may_any (Some (OfTap words)) = record { capture = _; read = _; fates = _ }

@@ -1,5 +1,5 @@
 -- A parse by clap of words that aren't empty and have no dash in front, for any command whose arguments are operands.
-use Rattle.std.proofs.Common.{◌≡◌, ◌∙◌, ◌&&◌, ℕ, Bool, true, false, not, refl, sym, ap, true≢false, List, [], ◌∷◌, Option, Some, None, Bor, option_map, subst}
+use Rattle.std.proofs.Common.{◌≡◌, ◌∙◌, ◌&&◌, ℕ, Bool, true, false, not, refl, sym, ap, true≢false, List, [], ◌∷◌, Option, None, Bor, option_map, subst}
 use Rattle.std.specs.Prelude.{is_some}
 use Rattle.std.specs.List.{list_all}
 use Rattle.std.specs.Str.{bytes_eq}
@@ -14,9 +14,6 @@ use Rattle.clap.specs.declared.error.kind.ErrorKind.{ErrorKind}
 use Rattle.clap.specs.declared.parser.matches.Found.{Found}
 use Rattle.clap.proofs.WalkLemmas.{first_value-rows}
 use Rattle.lq_top.specs.Command.{is_operand}
-
-pub some≢none : {X : Type 0} (x : X) → Some x ≡ None → ⊥
-some≢none x e = true≢false (ap is_some e)
 
 -- WORDS WITHOUT A DASH
 

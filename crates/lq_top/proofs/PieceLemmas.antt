@@ -5,11 +5,10 @@ use Rattle.std.specs.List.{flat_map}
 use Rattle.std.proofs.lemmas.List.{at_drop_more, take-append-drop, take_at}
 use Rattle.lq_host.specs.Host.{HostState, Writes, closed, filed, opened_handle, wrote}
 use Rattle.lq_host.proofs.HostLemmas.{file_made, wrote-nil, wrote_more}
-use Rattle.lq_model.specs.Texts.{fate_lines, fate_words}
-use Rattle.lq_model.specs.declared.fate.Fate.{Fate}
 use Rattle.lq_pcapng.specs.File.{piece_of, text_of}
 use Rattle.lq_pcapng.specs.declared.file.CaptureFile.{CaptureFile}
 use Rattle.lq_pcapng.specs.declared.file.CaptureFile.TheVariants.{Classic, Pcapng}
+use Rattle.lq_top.specs.Lines.{lines_of}
 use Rattle.lq_top.specs.Written.{FileHasPrefix}
 use Rattle.lq_top.proofs.MoveLemmas.{some_front}
 
@@ -97,18 +96,18 @@ packet_pushed old h mid c packets i buffer pushed text within s pushed_is =
 -- THE LINES OF FATES
 
 -- the lines from packet n on
-abbrev pub lines_from : List Fate → ℕ → List ℕ
-lines_from fates n = fate_lines n (drop n fates)
+abbrev pub lines_from : {F : Type 0} → (F → List ℕ) → List F → ℕ → List ℕ
+lines_from words fates n = lines_of words n (drop n fates)
 
 -- the next line is in the buffer
 pub line_pushed :
-    (old : HostState) (h : ℕ) (mid : HostState) (fates : List Fate) (n : ℕ) (d : Fate) (buffer pushed text : List ℕ) → n < length fates
-    → IsStreamed old h mid buffer (lines_from fates n) text → pushed ≡ buffer ++ (decimal n ++ fate_words (get_or fates n d)) → IsStreamed old h mid pushed (lines_from fates (n + 1)) text
-line_pushed old h mid fates n d buffer pushed text within s pushed_is =
-    let line = decimal n ++ fate_words (get_or fates n d) in
-    let next : lines_from fates n ≡ line ++ lines_from fates (n + 1) = at_drop_more (fate_lines n) fates n d within in
-    streamed_pushed old h mid buffer (lines_from fates n) pushed (lines_from fates (n + 1)) text s
-    (ap (λ b. b ++ lines_from fates (n + 1)) pushed_is ∙ append_assoc buffer line (lines_from fates (n + 1)) ∙ ap (λ b. buffer ++ b) (sym next))
+    {F : Type 0} (old : HostState) (h : ℕ) (mid : HostState) (words : F → List ℕ) (fates : List F) (n : ℕ) (d : F) (buffer pushed text : List ℕ) → n < length fates
+    → IsStreamed old h mid buffer (lines_from words fates n) text → pushed ≡ buffer ++ (decimal n ++ words (get_or fates n d)) → IsStreamed old h mid pushed (lines_from words fates (n + 1)) text
+line_pushed old h mid words fates n d buffer pushed text within s pushed_is =
+    let line = decimal n ++ words (get_or fates n d) in
+    let next : lines_from words fates n ≡ line ++ lines_from words fates (n + 1) = at_drop_more (lines_of words n) fates n d within in
+    streamed_pushed old h mid buffer (lines_from words fates n) pushed (lines_from words fates (n + 1)) text s
+    (ap (λ b. b ++ lines_from words fates (n + 1)) pushed_is ∙ append_assoc buffer line (lines_from words fates (n + 1)) ∙ ap (λ b. buffer ++ b) (sym next))
 
 -- FILES
 

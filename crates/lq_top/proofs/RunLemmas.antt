@@ -1,5 +1,5 @@
 -- What a run leaves, from what its calls leave.
-use Rattle.std.proofs.Common.{◌≡◌, ◌≢◌, ◌⊎◌, ◌∷◌, [], ℕ, List, length, Option, Some, None, Result, Ok, Err, IfOk, OnOk, OnErr, IfSome, refl, sym, ap, ◌∙◌, subst, inl, inr, ◌≤◌, ◌+◌, ◌-◌, drop, arith}
+use Rattle.std.proofs.Common.{◌≡◌, ◌⊎◌, ◌∷◌, [], ℕ, List, length, Option, Some, None, Result, Ok, Err, IfOk, OnOk, OnErr, IfSome, sym, ap, ◌∙◌, subst, inl, inr, ◌≤◌, ◌+◌, ◌-◌, drop, arith}
 use Rattle.std.specs.Option.{option_map}
 use Rattle.std.proofs.lemmas.List.{drop-drop}
 use Rattle.lq_model.specs.Device.{DeviceState}
@@ -11,15 +11,15 @@ use Rattle.lq_host.specs.Host.{HostState, Contents, wrote}
 use Rattle.lq_pcapng.specs.File.{packets_of_file}
 use Rattle.lq_pcapng.specs.declared.file.CaptureFile.{CaptureFile}
 use Rattle.lq_top.specs.Command.{OfRun, RunWords}
-use Rattle.lq_top.specs.Decision.{Verdict, Generates, IsRunnable, max_units, LacksFile, Refuses, Runs, Traces, by_bytes, by_capture, by_plan, limited_capture_of, plan_for, verdict_of_run}
-use Rattle.lq_senders.specs.Fates.{AreEnded, AreFatesOf, EndedState}
+use Rattle.lq_top.specs.Decision.{Verdict, Generates, IsRunnable, max_units, LacksFile, Refuses, Runs, Taps, Traces, by_bytes, by_capture, by_plan, limited_capture_of, plan_for, verdict_of_run}
+use Rattle.lq_senders.specs.Fates.{AreFatesOf}
+use Rattle.lq_table.specs.Ended.{EndedState}
 use Rattle.lq_top.specs.Headline.{Run, run_of, unit_files, fates_file, texts_of, HasRun}
 use Rattle.lq_top.specs.Outcome.{Completes, CompletesOrStops, IsAnswerOf, IsCommandStatus, Outcome, Stops}
-use Rattle.lq_top.specs.Refusal.{line_of, status_of}
+use Rattle.lq_top.specs.Refusal.{refusal_line, status_of}
 use Rattle.lq_top.specs.Stop.{status_of_stop}
 use Rattle.lq_top.specs.Written.{FileIsCut, FilesAreCut, OutputHasPrefix, IsCut, file_written, files_written, output_only, written}
 use Rattle.lq_top.specs.declared.refusal.Refusal.{Refusal}
-use Rattle.lq_top.specs.declared.refusal.Refusal.TheVariants as refusal
 use Rattle.lq_top.specs.declared.answer.Status.{Status}
 use Rattle.lq_top.specs.declared.answer.Status.TheVariants as status
 use Rattle.lq_top.specs.declared.answer.Stop.{Stop}
@@ -85,13 +85,6 @@ all_written run fates infos units old mid all new known counted whole made done 
 
 -- RUNS
 
--- a run that is done: `given` are the fates as they were lent
-pub has_run :
-    (run : Run) (infos : List Info) (fates given : List Fate) (old new : HostState) (before after : List DeviceState) (ended : List EndedState) → infos ≡ infos_of run.plan (packets_of_file run.capture) → given ≡ fates
-    → AreFatesOf run.plan infos fates before after → AreEnded run.plan infos fates ended → new ≡ written (texts_of run given) old → HasRun run old new before after ended
-has_run run infos fates given old new before after ended known same are stay done =
-    (fates, subst (λ (is : List Info). AreFatesOf run.plan is fates before after) known are, subst (λ (is : List Info). AreEnded run.plan is fates ended) known stay, done ∙ ap (λ (fs : List Fate). written (texts_of run fs) old) same)
-
 -- a run that was stopped while it wrote
 pub run_stops :
     (run : Run) (infos : List Info) (fates given : List Fate) (old new : HostState) (before after : List DeviceState) → infos ≡ infos_of run.plan (packets_of_file run.capture) → given ≡ fates
@@ -137,14 +130,6 @@ does_run_on words have plan capture plan_bytes capture_bytes P is_read is_seen d
     ap (λ (r : Result Plan Refusal). by_plan (Some r) next) is_read ∙ ap (λ (r : Result CaptureFile Refusal). by_capture words.out plan (Some r)) is_seen in
     subst P (sym decided) does
 
--- a refusal of a plan was decided by its bytes
-pub refuses_plan_on :
-    (words : RunWords) (have : ℕ) (r : Refusal) (plan_bytes capture_bytes : List ℕ) (P : Verdict → Type 0) → plan_for have plan_bytes ≡ Err r → P (Refuses r)
-    → P (by_bytes (Some (OfRun words)) have plan_bytes capture_bytes)
-refuses_plan_on words have r plan_bytes capture_bytes P is_read does =
-    let next : Plan → Verdict = λ p. by_capture words.out p (Some (limited_capture_of capture_bytes)) in
-    subst P (sym (ap (λ (read : Result Plan Refusal). by_plan (Some read) next) is_read)) does
-
 -- and a refusal of a capture by its bytes and the plan's
 pub refuses_capture_on :
     (words : RunWords) (have : ℕ) (plan : Plan) (r : Refusal) (plan_bytes capture_bytes : List ℕ) (P : Verdict → Type 0) → plan_for have plan_bytes ≡ Ok plan
@@ -156,17 +141,18 @@ refuses_capture_on words have plan r plan_bytes capture_bytes P is_read is_seen 
     subst P (sym decided) does
 
 -- a host that is as before was stopped before anything was written
-stops_before : (v : Verdict) (old new : HostState) (before after : List DeviceState) → new ≡ old → Stops v old new before after
+pub stops_before : (v : Verdict) (old new : HostState) (before after : List DeviceState) → new ≡ old → Stops v old new before after
 stops_before LacksFile old new before after same = same
 stops_before (Refuses r) old new before after same = inl same
 stops_before (Runs run) old new before after same = inl same
 stops_before (Generates text run) old new before after same = inl (inl (inl same))
 stops_before (Traces text) old new before after same = inl same
+stops_before (Taps words capture) old new before after same = inl same
 
 -- a refusal that was told, or that was stopped on the way
 pub refuse_does :
     (r : Refusal) (old new : HostState) (before after : List DeviceState) (ended : List EndedState) (result : Result Status Stop) → IfOk result (λ answer. answer ≡ status_of r)
-    → OnOk result (new ≡ written (output_only (line_of r)) old) → OnErr result (IsCut (output_only (line_of r)) old new)
+    → OnOk result (new ≡ written (output_only (refusal_line r)) old) → OnErr result (IsCut (output_only (refusal_line r)) old new)
     → CompletesOrStops (Refuses r) old new before after ended result
 refuse_does r old new before after ended (Ok answer) is whole cut = (is, whole)
 refuse_does r old new before after ended (Err stop) is whole cut = cut
@@ -190,14 +176,6 @@ pub stops_outcome :
 stops_outcome v old new before after ended stops.Fault left = left
 stops_outcome v old new before after ended stops.NoMemory left = left
 
--- a refusal of a file is no Usage
-pub run_status : (r : Refusal) → r ≢ refusal.Usage → IsCommandStatus (status_of r)
-run_status refusal.Usage other = absurd (other refl)
-run_status (refusal.Plan reason) other = _
-run_status (refusal.Bench need have) other = _
-run_status (refusal.Capture reason place) other = _
-run_status (refusal.Trace reason line) other = _
-
 -- what is as it was from place m on is so from any later place on
 drop_later : {X : Type 0} (m n : ℕ) (old new : List X) → m ≤ n → drop m new ≡ drop m old → drop n new ≡ drop n old
 drop_later m n old new le same =
@@ -219,6 +197,7 @@ answered (Refuses r) old new before after ended answer ends = inl ends.0
 answered (Runs run) old new before after ended answer ends = inl ends.0
 answered (Generates text run) old new before after ended answer ends = inl ends.0
 answered (Traces text) old new before after ended answer ends = inl ends.0
+answered (Taps words capture) old new before after ended answer ends = inl ends.0
 
 pub all_answered :
     (told : Option Contents) (v : Contents → Verdict) (old new : HostState) (before after : List DeviceState) (ended : List EndedState) (answer : Status)

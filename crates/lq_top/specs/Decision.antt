@@ -16,7 +16,7 @@ use Rattle.lq_run_core.specs.declared.trace_run.TraceRefusal.TheVariants.{Refuse
 use Rattle.lq_host.specs.Host.{Files}
 use Rattle.lq_pcapng.specs.File.{as_classic, capture_file_of}
 use Rattle.lq_pcapng.specs.declared.file.CaptureFile.{CaptureFile}
-use Rattle.lq_top.specs.Command.{CommandWords, GenWords, OfGen, OfRun, OfTrace, RunWords, command_of_words}
+use Rattle.lq_top.specs.Command.{CommandWords, GenWords, OfGen, OfRun, OfTap, OfTrace, RunWords, TapWords, command_of_words}
 use Rattle.lq_top.specs.Headline.{Run, run_of}
 use Rattle.lq_top.specs.declared.refusal.Refusal.{Refusal}
 use Rattle.lq_top.specs.declared.refusal.Refusal.TheVariants as refusal
@@ -76,13 +76,14 @@ limited_trace_of bytes = if nat_lt 65536 (length bytes) then Err (refusal.Trace 
 -- THE DECISION
 
 -- what a call is to do: give up where a file isn't there, tell a refusal, run a capture under a plan, write a generated
--- capture and run it, or tell what a schedule leaves
+-- capture and run it, tell what a schedule leaves, or run a capture through a tap
 pub data Verdict : Type 0 where
   LacksFile : Verdict
   Refuses : Refusal → Verdict
   Runs : Run → Verdict
   Generates : List ℕ → Run → Verdict
   Traces : List ℕ → Verdict
+  Taps : TapWords → CaptureFile → Verdict
 
 -- `run`: first the words are judged, then the plan and the bench, then the capture
 abbrev pub by_capture : List ℕ → Plan → Option (Result CaptureFile Refusal) → Verdict
@@ -118,11 +119,21 @@ by_trace (Some (Ok text)) = Traces text
 abbrev pub verdict_of_trace : List ℕ → Files → Verdict
 verdict_of_trace file files = by_trace (option_map limited_trace_of (files file))
 
+-- `tap`: first the words are judged, then the capture
+abbrev pub by_tap : TapWords → Option (Result CaptureFile Refusal) → Verdict
+by_tap words None = LacksFile
+by_tap words (Some (Err r)) = Refuses r
+by_tap words (Some (Ok c)) = Taps words c
+
+abbrev pub verdict_of_tap : TapWords → Files → Verdict
+verdict_of_tap words files = by_tap words (option_map limited_capture_of (files words.capture))
+
 -- of a command
 abbrev pub verdict_of_command : CommandWords → Files → ℕ → Verdict
 verdict_of_command (OfRun words) files have = verdict_of_run words files have
 verdict_of_command (OfGen words) files have = verdict_of_gen words have
 verdict_of_command (OfTrace file) files have = verdict_of_trace file files
+verdict_of_command (OfTap words) files have = verdict_of_tap words files
 
 abbrev pub by_command : Option CommandWords → Files → ℕ → Verdict
 by_command None files have = Refuses refusal.Usage
@@ -133,11 +144,12 @@ abbrev pub verdict_of : List (List ℕ) → Files → ℕ → Verdict
 verdict_of words files have = by_command (command_of_words words) files have
 
 -- the same where the files that the command reads, in their order, have these bytes: the plan's and the capture's of
--- `run`, the schedule's of `trace`
+-- `run`, the schedule's of `trace`, the capture's of `tap`
 abbrev pub by_bytes_of : CommandWords → ℕ → List ℕ → List ℕ → Verdict
 by_bytes_of (OfRun words) have first second = by_plan (Some (plan_for have first)) (λ p. by_capture words.out p (Some (limited_capture_of second)))
 by_bytes_of (OfGen words) have first second = verdict_of_gen words have
 by_bytes_of (OfTrace file) have first second = by_trace (Some (limited_trace_of first))
+by_bytes_of (OfTap words) have first second = by_tap words (Some (limited_capture_of first))
 
 abbrev pub by_bytes : Option CommandWords → ℕ → List ℕ → List ℕ → Verdict
 by_bytes None have first second = Refuses refusal.Usage
@@ -150,6 +162,7 @@ units_changed_by (Refuses r) = 0
 units_changed_by (Runs run) = unit_count run.plan
 units_changed_by (Generates text run) = unit_count run.plan
 units_changed_by (Traces text) = 0
+units_changed_by (Taps words capture) = 0
 
 -- and how many at most, whatever its files hold
 abbrev pub most_units_changed_by : Option CommandWords → ℕ
@@ -157,3 +170,4 @@ most_units_changed_by None = 0
 most_units_changed_by (Some (OfRun words)) = max_units
 most_units_changed_by (Some (OfGen words)) = 1
 most_units_changed_by (Some (OfTrace file)) = 0
+most_units_changed_by (Some (OfTap words)) = 0

@@ -10,7 +10,8 @@ use Rattle.lq_model.specs.declared.fate.Fate.{Fate}
 use Rattle.lq_host.specs.Host.{HostState}
 use Rattle.lq_pcapng.specs.File.{packets_of_file, text_of}
 use Rattle.lq_pcapng.specs.declared.file.CaptureFile.{CaptureFile}
-use Rattle.lq_senders.specs.Fates.{AreEnded, AreFatesOf, EndedState}
+use Rattle.lq_senders.specs.Fates.{AreEnded, AreFatesOf}
+use Rattle.lq_table.specs.Ended.{EndedState}
 use Rattle.lq_top.specs.Written.{FileText, OutputHasPrefix, Texts, output_only, written}
 
 -- RUNS

@@ -4,6 +4,10 @@ pub mod Headline
 pub mod Written
 -- the command line
 pub mod Command
+-- a line for each fate
+pub mod Lines
+-- what a tap that is done leaves
+pub mod Tapped
 -- the command table as clap reads it
 pub mod Forms
 -- the statuses and the lines of refusals

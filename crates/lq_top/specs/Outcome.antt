@@ -3,11 +3,12 @@ use Rattle.std.specs.Prelude.{◌≡◌, ◌≢◌, ◌⊎◌, ℕ, Bool, true, 
 use Rattle.lq_model.specs.Device.{DeviceState}
 use Rattle.lq_model.specs.declared.fate.Fate.{Fate}
 use Rattle.lq_host.specs.Host.{HostState}
-use Rattle.lq_senders.specs.Fates.{EndedState}
+use Rattle.lq_table.specs.Ended.{EndedState}
 use Rattle.lq_top.specs.Command.{CommandWords}
-use Rattle.lq_top.specs.Decision.{Verdict, Generates, LacksFile, Refuses, Runs, Traces, by_bytes}
+use Rattle.lq_top.specs.Decision.{Verdict, Generates, LacksFile, Refuses, Runs, Taps, Traces, by_bytes}
 use Rattle.lq_top.specs.Headline.{AreFatesIn, HasGenerated, HasRun, Run, counts_text_of, generated_file, texts_of}
-use Rattle.lq_top.specs.Refusal.{line_of, status_of}
+use Rattle.lq_top.specs.Refusal.{refusal_line, status_of}
+use Rattle.lq_top.specs.Tapped.{HasCutTap, HasTapped}
 use Rattle.lq_top.specs.Written.{files_written, output_only, written, FilesAreCut, IsCut, OutputHasPrefix}
 use Rattle.lq_top.specs.declared.answer.Status.{Status}
 use Rattle.lq_top.specs.declared.answer.Status.TheVariants as status
@@ -19,10 +20,11 @@ use Rattle.lq_top.specs.declared.answer.Stop.{Stop}
 -- file isn't there no call comes to its end
 abbrev pub Completes : Verdict → HostState → HostState → List DeviceState → List DeviceState → List EndedState → Status → Type 0
 Completes LacksFile old new before after ended answer = ⊥
-Completes (Refuses refusal) old new before after ended answer = (answer ≡ status_of refusal) × (new ≡ written (output_only (line_of refusal)) old)
+Completes (Refuses refusal) old new before after ended answer = (answer ≡ status_of refusal) × (new ≡ written (output_only (refusal_line refusal)) old)
 Completes (Runs run) old new before after ended answer = (answer ≡ status.Done) × HasRun run old new before after ended
 Completes (Generates text run) old new before after ended answer = (answer ≡ status.Done) × HasGenerated text run old new before after ended
 Completes (Traces text) old new before after ended answer = (answer ≡ status.Done) × (ended ≡ []) × (new ≡ written (output_only text) old)
+Completes (Taps words capture) old new before after ended answer = (answer ≡ status.Done) × (ended ≡ []) × HasTapped words capture old new
 
 -- a generated run that was stopped: on its way through its file, or before it; or the file is whole, and standard output
 -- got a prefix of the counts of one list of fates
@@ -35,10 +37,11 @@ HasCutGenerated text run old new before after =
 -- by one list of fates
 abbrev pub Stops : Verdict → HostState → HostState → List DeviceState → List DeviceState → Type 0
 Stops LacksFile old new before after = new ≡ old
-Stops (Refuses refusal) old new before after = IsCut (output_only (line_of refusal)) old new
+Stops (Refuses refusal) old new before after = IsCut (output_only (refusal_line refusal)) old new
 Stops (Runs run) old new before after = (new ≡ old) ⊎ ((fates : List Fate) × AreFatesIn run fates before after × IsCut (texts_of run fates) old new)
 Stops (Generates text run) old new before after = HasCutGenerated text run old new before after
 Stops (Traces text) old new before after = IsCut (output_only text) old new
+Stops (Taps words capture) old new before after = HasCutTap words capture old new
 
 -- THE OUTCOME, where the host tells its bytes
 abbrev pub Outcome : Verdict → HostState → HostState → List DeviceState → List DeviceState → List EndedState → Status → Type 0
@@ -81,6 +84,7 @@ IsAnswerOf (Refuses refusal) answer = ComesUnlessStopped (status_of refusal) ans
 IsAnswerOf (Runs run) answer = ComesUnlessStopped status.Done answer
 IsAnswerOf (Generates text run) answer = ComesUnlessStopped status.Done answer
 IsAnswerOf (Traces text) answer = ComesUnlessStopped status.Done answer
+IsAnswerOf (Taps words capture) answer = ComesUnlessStopped status.Done answer
 
 -- a refusal
 abbrev pub refuses : Status → Bool

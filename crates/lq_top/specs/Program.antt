@@ -2,7 +2,7 @@
 use Rattle.std.specs.Prelude.{◌≡◌, ◌⊎◌, ℕ, List, length, Option}
 use Rattle.lq_model.specs.Device.{DeviceState}
 use Rattle.lq_host.specs.Host.{HostState}
-use Rattle.lq_senders.specs.Fates.{EndedState}
+use Rattle.lq_table.specs.Ended.{EndedState}
 use Rattle.lq_top.specs.Command.{CommandWords, command_of_words}
 use Rattle.lq_top.specs.Outcome.{OutcomeOfSome}
 use Rattle.lq_top.specs.Status.{code_of}

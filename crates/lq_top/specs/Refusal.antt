@@ -80,7 +80,7 @@ trace_reason_name trace.TooLong = codes "TooLong"
 
 -- usage: lqtx run PLAN CAPTURE OUT | ..
 abbrev pub usage_line : List ℕ
-usage_line = codes "usage: lqtx run PLAN CAPTURE OUT | lqtx gen NUMBER COUNT OUT | lqtx trace FILE" ++ 10 ∷ []
+usage_line = codes "usage: lqtx run PLAN CAPTURE OUT | lqtx gen NUMBER COUNT OUT | lqtx trace FILE | lqtx tap SENDERS LEN BATCH CAPTURE OUT" ++ 10 ∷ []
 
 -- plan refused: NUMBER NAME
 abbrev pub plan_line : PlanReason → List ℕ
@@ -103,12 +103,12 @@ trace_line reason line =
     ++ (decimal (trace_reason_number reason) ++ (codes " " ++ (trace_reason_name reason ++ (codes " at line " ++ (decimal line ++ 10 ∷ [])))))
 
 -- the line on standard output that tells a refusal
-abbrev pub line_of : Refusal → List ℕ
-line_of Usage = usage_line
-line_of (Plan reason) = plan_line reason
-line_of (Bench need have) = bench_line need have
-line_of (Capture reason place) = capture_line reason place
-line_of (Trace reason line) = trace_line reason line
+abbrev pub refusal_line : Refusal → List ℕ
+refusal_line Usage = usage_line
+refusal_line (Plan reason) = plan_line reason
+refusal_line (Bench need have) = bench_line need have
+refusal_line (Capture reason place) = capture_line reason place
+refusal_line (Trace reason line) = trace_line reason line
 
 -- STATUSES
 

@@ -26,8 +26,8 @@ pub fn each_packet_has_one_fate()
         → (fate : Fate) × (slice_get fates n ≡ Some fate) }
 {}
 
-/// What the stations of a run did with their packets, whatever the devices answered. A packet that was dropped as full saw
-/// that other one in the slot of its band. And a packet was taken from a band only while the requeue slot was empty and each
+/// How the stations' fates are told by their lists of events, whatever the devices answered. A packet that was dropped as full
+/// saw that other one in the slot of its band. And a packet is taken from a band only while the requeue slot was empty and each
 /// lower band had been found empty: the requeue slot comes first, and then the bands in their order.
 pub fn stations_keep_their_order()
     ensures full { (run : Run) (fates : List Fate) (before after : List DeviceState) (station n seen : ℕ)

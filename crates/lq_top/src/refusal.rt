@@ -1,6 +1,6 @@
 //! Why a call is refused before anything is sent, and the line that tells it.
 ghost use Rattle.std.specs.Prelude.{◌≡◌, IfOk, OnOk, OnErr, string_bytes};
-ghost use Rattle.lq_top.specs.Refusal.{bench_line, capture_line, capture_reason_name, capture_reason_number, line_of, plan_line, plan_reason_name, plan_reason_number, status_of, trace_line, trace_reason_name, trace_reason_number, usage_line};
+ghost use Rattle.lq_top.specs.Refusal.{bench_line, capture_line, capture_reason_name, capture_reason_number, refusal_line, plan_line, plan_reason_name, plan_reason_number, status_of, trace_line, trace_reason_name, trace_reason_number, usage_line};
 ghost use Rattle.lq_top.specs.Stop.{StopsFor};
 ghost use Rattle.lq_top.specs.Written.{IsCut, output_only, written};
 
@@ -43,7 +43,7 @@ impl Refusal {
 
     /// The line that tells it on standard output.
     pub fn line(self, alloc: Global) -> Result<String, AllocError>
-        ensures { IfOk result (λ line. string_bytes line ≡ line_of self) }
+        ensures { IfOk result (λ line. string_bytes line ≡ refusal_line self) }
     {
         match self {
             Refusal::Usage => line_of_usage(alloc),
@@ -58,8 +58,8 @@ impl Refusal {
 /// Tells a refusal on standard output.
 pub fn refuse<H: Host>(alloc: Global, host: &mut H, refusal: Refusal) -> Result<Status, Stop>
     ensures answer { IfOk result (λ answer. answer ≡ status_of refusal) }
-    ensures ok { OnOk result (H.state host.new ≡ written (output_only (line_of refusal)) (H.state host.old)) }
-    ensures err { OnErr result (IsCut (output_only (line_of refusal)) (H.state host.old) (H.state host.new)) }
+    ensures ok { OnOk result (H.state host.new ≡ written (output_only (refusal_line refusal)) (H.state host.old)) }
+    ensures err { OnErr result (IsCut (output_only (refusal_line refusal)) (H.state host.old) (H.state host.new)) }
     ensures handles { (H.state host.new).handles ≡ (H.state host.old).handles }
     ensures cause { StopsFor (H.fault_count host.old) (H.fault_count host.new) result }
 {
@@ -72,7 +72,7 @@ fn line_of_usage(alloc: Global) -> Result<String, AllocError>
     ensures { IfOk result (λ line. string_bytes line ≡ usage_line) }
 {
     format!(in alloc;
-        "usage: lqtx run PLAN CAPTURE OUT | lqtx gen NUMBER COUNT OUT | lqtx trace FILE\n"
+        "usage: lqtx run PLAN CAPTURE OUT | lqtx gen NUMBER COUNT OUT | lqtx trace FILE | lqtx tap SENDERS LEN BATCH CAPTURE OUT\n"
     )
 }
 

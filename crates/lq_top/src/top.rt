@@ -2,9 +2,10 @@
 ghost use Rattle.std.specs.Prelude.{◌≡◌, ◌≢◌, Some, IfOk, OnOk, OnErr, IfSome, [], map, drop, vec_len, true};
 ghost use Rattle.lq_host.specs.Host.{Rose};
 ghost use Rattle.lq_model.specs.Plan.{unit_count};
-ghost use Rattle.lq_top.specs.Command.{HasFewRecords, OfRun, command_of_words, command_words, run_words, bytes_of_words};
+ghost use Rattle.lq_top.specs.Command.{AreOperandsWithin, OfRun, command_of_words, command_words, run_words, bytes_of_words};
 ghost use Rattle.lq_top.specs.Decision.{IsRunnable, Refuses, Runs, max_units, most_units_changed_by, units_changed_by, verdict_of, verdict_of_command, verdict_of_run};
-ghost use Rattle.lq_senders.specs.Fates.{ended_state, identities_of};
+ghost use Rattle.lq_senders.specs.Fates.{identities_of};
+ghost use Rattle.lq_table.specs.Ended.{ended_state};
 ghost use Rattle.lq_top.specs.Headline.{HasRun, run_of};
 ghost use Rattle.lq_top.specs.Names.{MayDo, MayDoCommand, MayRun, MayWrite};
 ghost use Rattle.lq_top.specs.Outcome.{Completes, CompletesOrStops, CompletesOrStopsOfSome, OutcomeOfSome, IsAnswerOf, IsCommandStatus, LeavesNone, Outcome, Stops, TellsUsageFor, refuses};
@@ -15,6 +16,7 @@ use crate::command::{Command, RunOperands, read_words};
 use crate::generate::gen_command;
 use crate::read::{read_capture_file, read_plan_file};
 use crate::refusal::{Refusal, refuse};
+use crate::tap::tap_command;
 use crate::trace::trace_command;
 use crate::write::write_run;
 use lq_device::TxDevice;
@@ -123,7 +125,7 @@ fn do_command<R: Threads + Wait + Sync, H: Host, G: Gate, D: TxDevice>(
     command: &Command<'_>,
 ) -> Result<Status, Stop>
     requires may { MayDoCommand H.may_open H.may_create (command_words command.now) }
-    requires few { HasFewRecords (Some (command_words command.now)) }
+    requires within { AreOperandsWithin (Some (command_words command.now)) }
     requires none_yet { ended.old.items ≡ [] }
     ensures does { IfSome (H.state host.old).told (λ c.
         CompletesOrStops (verdict_of_command (command_words command.now) c.files (vec_len bench.old))
@@ -148,6 +150,7 @@ fn do_command<R: Threads + Wait + Sync, H: Host, G: Gate, D: TxDevice>(
         Command::Run(words) => run_command(rt, alloc, host, bench, ended, gate, words),
         Command::Gen(words) => gen_command(rt, alloc, host, bench, ended, gate, words),
         Command::Trace(file) => trace_command(alloc, host, file),
+        Command::Tap(words) => tap_command(rt, alloc, host, gate, words),
     }
 }
 
@@ -165,11 +168,17 @@ fn do_command<R: Threads + Wait + Sync, H: Host, G: Gate, D: TxDevice>(
 ///   decimal digits without a leading zero.
 /// - `trace FILE` works the schedule that FILE is on the machine of the run lock, and writes to standard output what it
 ///   leaves. It makes no file, and no device is asked.
+/// - `tap SENDERS LEN BATCH CAPTURE OUT` reads the capture, and puts its packets into one ring of LEN slots: packet n by
+///   sender n modulo SENDERS. A reader takes batches of up to BATCH packets out of the ring, reads the first half of each,
+///   rounded up, and gives the rest back. It makes `OUT.pcap` of the packets that were read and `OUT.fates`, and writes the
+///   counts to standard output. SENDERS is 1 to 8, LEN 1 to 4,096 and BATCH 1 to 64, written as the numbers of `gen`. No
+///   device is asked.
 ///
 /// A refusal is one line on standard output, and makes no file. After a fault or want of memory nothing more is written.
 ///
 /// The senders of a plan run side by side, or one after another where no further thread can be had. `gate` is passed by
-/// each sender before each of its packets, and once after its last. `ended` gets one for each station of a run that is
+/// each sender before each of its packets, and once after its last. In `tap` the reader passes it too, as the sender behind
+/// the last, before each batch; a sender doesn't pass it after its last packet. `ended` gets one for each station of a run that is
 /// done, in ascending order.
 pub fn lqtx<R: Threads + Wait + Sync, H: Host, G: Gate, D: TxDevice>(
     rt: &R,

@@ -4,15 +4,17 @@ ghost use Rattle.lq_host.specs.Host.{IsWriter, wrote, filed};
 ghost use Rattle.lq_top.specs.Stop.{StopsFor};
 ghost use Rattle.lq_top.specs.Written.{FileHasPrefix, OutputHasPrefix, FileIsCut, FilesAreCut, IsCut, file_written, files_written, written};
 ghost use Rattle.lq_pcapng.specs.File.{packets_of_file, text_of};
-ghost use Rattle.lq_top.specs.Headline.{capture_name, fates_name, fates_file, run_of, texts_of, unit_file, unit_files};
+ghost use Rattle.lq_top.specs.Headline.{capture_name, fates_name, run_of, texts_of, unit_file, unit_files};
 ghost use Rattle.lq_model.specs.Plan.{infos_of, unit_count};
 ghost use Rattle.lq_model.specs.Settled.{AreSerials, IsSettled};
-ghost use Rattle.lq_model.specs.Texts.{counts_text, fates_text};
+ghost use Rattle.lq_model.specs.Texts.{counts_text};
+ghost use Rattle.lq_top.specs.Lines.{lines_file, lines_of};
 ghost use Rattle.lq_top.specs.Names.{MayWrite};
 
 use crate::answer::{Stop, and_finished};
+use crate::lines::Line;
 use crate::pieces::{PIECE, write_text, write_whole_pieces};
-use lq_fates::{counts_text, push_fate_line, sent_of};
+use lq_fates::{counts_text, sent_of};
 use lq_host::Host;
 use lq_model::{Fate, Info};
 use lq_pcapng::CaptureFile;
@@ -132,6 +134,27 @@ fn write_capture<H: Host>(
     Ok(())
 }
 
+/// Makes a file of the capture in the format of another with these of its packets, through a buffer of its own.
+pub fn write_packets_file<H: Host>(
+    alloc: Global,
+    host: &mut H,
+    name: &str,
+    capture: &CaptureFile,
+    packets: &[u32],
+) -> Result<(), Stop>
+    requires may { H.may_create name.now }
+    requires known { All (λ n. n < (packets_of_file capture.now).count) packets.now }
+    ensures handles { (H.state host.new).handles ≡ (H.state host.old).handles }
+    ensures ok { OnOk result (H.state host.new
+        ≡ filed (H.state host.old) name.now (text_of capture.now packets.now)) }
+    ensures err { OnErr result ((H.state host.new ≡ H.state host.old)
+        ⊎ FileHasPrefix name.now (text_of capture.now packets.now) (H.state host.old) (H.state host.new)) }
+    ensures cause { StopsFor (H.fault_count host.old) (H.fault_count host.new) result }
+{
+    let mut buffer = make_buffer(alloc, capture, packets)?;
+    write_capture(host, name, capture, packets, &mut buffer)
+}
+
 /// Makes the file of a unit: the capture of the packets that it sent.
 fn write_unit<H: Host>(
     alloc: Global,
@@ -152,9 +175,8 @@ fn write_unit<H: Host>(
     ensures cause { StopsFor (H.fault_count host.old) (H.fault_count host.new) result }
 {
     let sent = sent_of(alloc, fates, unit)?;
-    let mut buffer = make_buffer(alloc, capture, &sent)?;
     let name = name_of_capture(alloc, out, unit)?;
-    write_capture(host, name.as_str(), capture, &sent, &mut buffer)
+    write_packets_file(alloc, host, name.as_str(), capture, &sent)
 }
 
 /// Makes the files of the first so many units, in ascending order.
@@ -183,41 +205,41 @@ fn write_units<H: Host>(
 }
 
 /// Writes the lines that tell each packet's fate to a handle. Where it stops, a prefix was written.
-fn write_lines<H: Host>(
+fn write_lines<H: Host, F: Line>(
     host: &mut H,
     h: u32,
-    fates: &[Fate],
+    fates: &[F],
     buffer: &mut Vec<u8>,
 ) -> Result<(), Stop>
     requires writer { IsWriter ((H.state host.old).handles h) }
     requires empty { buffer.old.items ≡ [] }
     ensures handles { (H.state host.new).handles ≡ (H.state host.old).handles }
-    ensures ok { OnOk result (H.state host.new ≡ wrote (H.state host.old) h (fates_text fates.now)) }
-    ensures err { OnErr result ((n : ℕ) × (n ≤ length (fates_text fates.now))
-        × (H.state host.new ≡ wrote (H.state host.old) h (take n (fates_text fates.now)))) }
+    ensures ok { OnOk result (H.state host.new ≡ wrote (H.state host.old) h (lines_of F.words 0 fates.now)) }
+    ensures err { OnErr result ((n : ℕ) × (n ≤ length (lines_of F.words 0 fates.now))
+        × (H.state host.new ≡ wrote (H.state host.old) h (take n (lines_of F.words 0 fates.now)))) }
     ensures cause { StopsFor (H.fault_count host.old) (H.fault_count host.new) result }
 {
     for (n, fate) in fates.iter().enumerate() {
-        push_fate_line(buffer, n, *fate)?;
+        fate.push_line(buffer, n)?;
         write_whole_pieces(host, h, buffer)?;
     }
     write_text(host, h, buffer)
 }
 
 /// Makes a file of the lines that tell each packet's fate. Where it stops, the file is as before, or has a prefix of them.
-fn write_fates_file<H: Host>(
+fn write_fates_file<H: Host, F: Line>(
     host: &mut H,
     name: &str,
-    fates: &[Fate],
+    fates: &[F],
     buffer: &mut Vec<u8>,
 ) -> Result<(), Stop>
     requires may { H.may_create name.now }
     requires empty { buffer.old.items ≡ [] }
     ensures handles { (H.state host.new).handles ≡ (H.state host.old).handles }
     ensures ok { OnOk result (H.state host.new
-        ≡ filed (H.state host.old) name.now (fates_text fates.now)) }
+        ≡ filed (H.state host.old) name.now (lines_of F.words 0 fates.now)) }
     ensures err { OnErr result ((H.state host.new ≡ H.state host.old)
-        ⊎ FileHasPrefix name.now (fates_text fates.now) (H.state host.old) (H.state host.new)) }
+        ⊎ FileHasPrefix name.now (lines_of F.words 0 fates.now) (H.state host.old) (H.state host.new)) }
     ensures cause { StopsFor (H.fault_count host.old) (H.fault_count host.new) result }
 {
     let h = host.create(name)?;
@@ -228,12 +250,17 @@ fn write_fates_file<H: Host>(
 }
 
 /// Makes the file that tells each packet's fate.
-fn write_fates<H: Host>(alloc: Global, host: &mut H, out: &str, fates: &[Fate]) -> Result<(), Stop>
+pub fn write_fates<H: Host, F: Line>(
+    alloc: Global,
+    host: &mut H,
+    out: &str,
+    fates: &[F],
+) -> Result<(), Stop>
     requires { H.may_create (fates_name out.now) }
     ensures handles { (H.state host.new).handles ≡ (H.state host.old).handles }
     ensures ok { OnOk result (H.state host.new
-        ≡ file_written (H.state host.old) (fates_file out.now fates.now)) }
-    ensures err { OnErr result (FileIsCut (fates_file out.now fates.now)
+        ≡ file_written (H.state host.old) (lines_file out.now F.words fates.now)) }
+    ensures err { OnErr result (FileIsCut (lines_file out.now F.words fates.now)
         (H.state host.old) (H.state host.new)) }
     ensures cause { StopsFor (H.fault_count host.old) (H.fault_count host.new) result }
 {

@@ -4,7 +4,7 @@ use Rattle.lq_host.specs.Host.{HostState, filed}
 use Rattle.lq_model.specs.Capture.{capture_of}
 use Rattle.lq_model.specs.Generated.{generated_capture}
 use Rattle.lq_pcapng.specs.File.{as_classic}
-use Rattle.lq_senders.specs.Fates.{ended_state}
+use Rattle.lq_table.specs.Ended.{ended_state}
 use Rattle.lq_top.specs.Decision.{by_generated, with_refusal}
 use Rattle.lq_top.specs.Headline.{generated_file}
 use Rattle.lq_top.specs.Written.{FileIsCut}

@@ -1,6 +1,6 @@
 use Rattle.std.proofs.Common.{◌≡◌, ◌∙◌, subst, map, length, arith}
 use Rattle.std.proofs.lemmas.List.{length-map}
-use Rattle.lq_senders.specs.Fates.{ended_state}
+use Rattle.lq_table.specs.Ended.{ended_state}
 use Rattle.lq_top.specs.Command.{command_of_words, bytes_of_words}
 use Rattle.lq_top.specs.Outcome.{OutcomeOfSome}
 use Rattle.lq_top.proofs.program.code_on.Goals as goal

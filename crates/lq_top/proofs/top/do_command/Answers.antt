@@ -1,7 +1,7 @@
 use Rattle.std.proofs.Common.{◌≡◌, [], List, ap, Some, IfSome, map, subst, sym, vec_len}
-use Rattle.lq_senders.specs.Fates.{EndedState, ended_state}
-use Rattle.lq_top.specs.Command.{OfTrace, command_words}
-use Rattle.lq_top.specs.Decision.{verdict_of_command, verdict_of_trace}
+use Rattle.lq_table.specs.Ended.{EndedState, ended_state}
+use Rattle.lq_top.specs.Command.{OfTap, OfTrace, command_words, tap_words}
+use Rattle.lq_top.specs.Decision.{verdict_of_command, verdict_of_tap, verdict_of_trace}
 use Rattle.lq_top.specs.Outcome.{CompletesOrStops, CompletesOrStopsOfSome}
 use Rattle.lq_top.specs.declared.command.Command.{Command}
 use Rattle.lq_top.proofs.top.do_command.Goals as goal
@@ -34,3 +34,22 @@ returns-in-Trace-clause-some g c =
     let none : [] ≡ map ended_state c.args.ended.now.items = ap (map ended_state) (sym c.requires.none_yet) in
     subst (λ (command : Command). CompletesOrStopsOfSome (Some (command_words command)) (vec_len c.args.bench.now) old new devices devices (map ended_state c.args.ended.now.items) c.trace_command.result) (sym c.in-Trace.is)
     (subst (λ (ended : List EndedState). CompletesOrStopsOfSome (Some (OfTrace c.in-Trace.file.now)) (vec_len c.args.bench.now) old new devices devices ended c.trace_command.result) none (c.trace_command.ensures.some (vec_len c.args.bench.now) devices devices))
+
+pub returns-in-Tap-clause-does : goal.returns-in-Tap-clause-does
+returns-in-Tap-clause-does g c =
+    let old = g.H.Host.state c.args.host.now in
+    let new = g.H.Host.state c.tap_command.new.host in
+    let devices = map g.D.TxDevice.state c.args.bench.now.items in
+    let none : [] ≡ map ended_state c.args.ended.now.items = ap (map ended_state) (sym c.requires.none_yet) in
+    subst (λ (command : Command). IfSome old.told (λ k. CompletesOrStops (verdict_of_command (command_words command) k.files (vec_len c.args.bench.now)) old new devices devices (map ended_state c.args.ended.now.items) c.tap_command.result))
+    (sym c.in-Tap.is)
+    (subst (λ (ended : List EndedState). IfSome old.told (λ k. CompletesOrStops (verdict_of_tap (tap_words c.in-Tap.words) k.files) old new devices devices ended c.tap_command.result)) none (c.tap_command.ensures.does devices devices))
+
+pub returns-in-Tap-clause-some : goal.returns-in-Tap-clause-some
+returns-in-Tap-clause-some g c =
+    let old = g.H.Host.state c.args.host.now in
+    let new = g.H.Host.state c.tap_command.new.host in
+    let devices = map g.D.TxDevice.state c.args.bench.now.items in
+    let none : [] ≡ map ended_state c.args.ended.now.items = ap (map ended_state) (sym c.requires.none_yet) in
+    subst (λ (command : Command). CompletesOrStopsOfSome (Some (command_words command)) (vec_len c.args.bench.now) old new devices devices (map ended_state c.args.ended.now.items) c.tap_command.result) (sym c.in-Tap.is)
+    (subst (λ (ended : List EndedState). CompletesOrStopsOfSome (Some (OfTap (tap_words c.in-Tap.words))) (vec_len c.args.bench.now) old new devices devices ended c.tap_command.result) none (c.tap_command.ensures.some (vec_len c.args.bench.now) devices devices))

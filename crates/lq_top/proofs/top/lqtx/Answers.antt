@@ -1,10 +1,11 @@
 use Rattle.std.proofs.Common.{◌∙◌, ap, sym, subst, IfSome, Option, Some, map, vec_len}
 use Rattle.std.specs.Option.{option_map}
-use Rattle.lq_senders.specs.Fates.{ended_state}
-use Rattle.lq_top.specs.Command.{CommandWords, command_words}
+use Rattle.lq_table.specs.Ended.{ended_state}
+use Rattle.lq_top.specs.Command.{CommandWords, AreOperandsWithin, bytes_of_words, command_words}
 use Rattle.lq_top.specs.Decision.{by_bytes, by_command, verdict_of_command}
 use Rattle.lq_top.specs.Outcome.{IsAnswerOf, Outcome, OutcomeOfSome}
 use Rattle.lq_top.specs.declared.answer.Status.{Status}
+use Rattle.lq_top.proofs.CommandLemmas.{within_limits}
 use Rattle.lq_top.proofs.RunLemmas.{all_answered, ends_outcome, stops_outcome}
 use Rattle.lq_top.proofs.top.lqtx.Goals as goal
 
@@ -46,3 +47,7 @@ returns-in-Err-do_command-clause-some g c =
       subst (λ (answer : Status). Outcome (by_bytes (Some command) have found.0 found.1) old new before after ended answer) (sym c.status.ensures)
           (stops_outcome (by_bytes (Some command) have found.0 found.1) old new before after ended c.in-Err-do_command.stop found.2),
     )
+
+pub do_command-requires-clause-within : goal.do_command-requires-clause-within
+do_command-requires-clause-within g c κs within =
+    subst AreOperandsWithin (sym (ap (option_map command_words) (sym c.in-Ok-Some.field-0-is) ∙ c.in-Ok-Some.ensures)) (within_limits (bytes_of_words c.args.words.now))

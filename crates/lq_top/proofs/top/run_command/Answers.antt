@@ -1,7 +1,7 @@
 use Rattle.std.proofs.Common.{◌≡◌, List, ℕ, ◌∙◌, IfSome, Some, map, subst, vec_len}
 use Rattle.std.specs.Option.{option_map}
 use Rattle.lq_host.specs.Host.{HostState}
-use Rattle.lq_senders.specs.Fates.{ended_state}
+use Rattle.lq_table.specs.Ended.{ended_state}
 use Rattle.lq_top.specs.Command.{run_words}
 use Rattle.lq_top.specs.Decision.{Refuses, Runs, limited_capture_of, plan_for}
 use Rattle.lq_top.specs.Headline.{run_of}

@@ -1,7 +1,7 @@
 use Rattle.std.proofs.Common.{inr}
 use Rattle.lq_host.specs.Host.{Writes}
 use Rattle.lq_host.proofs.HostLemmas.{opened-writer, opened-is_some}
-use Rattle.lq_model.specs.Texts.{fates_text}
+use Rattle.lq_top.specs.Lines.{lines_of}
 use Rattle.lq_top.proofs.MoveLemmas.{on_err_any, made_handles}
 use Rattle.lq_top.proofs.PieceLemmas.{made_front, made_whole}
 use Rattle.lq_top.proofs.write.write_fates_file.Goals as goal
@@ -18,7 +18,7 @@ finish-end-requires-clause-open g c =
 pub returns-in_err-and_finished-clause-err : goal.returns-in_err-and_finished-clause-err
 returns-in_err-and_finished-clause-err g c =
     on_err_any c.from_residual-in_err-and_finished.result
-    (inr (made_front c.write_lines-lines.result (g.H.Host.state c.args.host.now) c.args.name.now c.in_ok-h.h (fates_text c.args.fates.now) (g.H.Host.state c.create.new.self)
+    (inr (made_front c.write_lines-lines.result (g.H.Host.state c.args.host.now) c.args.name.now c.in_ok-h.h (lines_of g.F.Line.words 0 c.args.fates.now) (g.H.Host.state c.create.new.self)
     (g.H.Host.state c.write_lines-lines.new.host) (g.H.Host.state c.finish-end.new.self) c.in_ok-h.ensures.fresh c.in_ok-h.ensures.ok c.write_lines-lines.ensures.ok c.write_lines-lines.ensures.err
     c.finish-end.ensures.closed))
 
@@ -29,7 +29,7 @@ returns-in_err-and_finished-clause-handles g c =
 
 pub returns-clause-ok : goal.returns-clause-ok
 returns-clause-ok g c =
-    made_whole c.write_lines-lines.result _ (g.H.Host.state c.args.host.now) c.args.name.now c.in_ok-h.h (fates_text c.args.fates.now) (g.H.Host.state c.create.new.self)
+    made_whole c.write_lines-lines.result _ (g.H.Host.state c.args.host.now) c.args.name.now c.in_ok-h.h (lines_of g.F.Line.words 0 c.args.fates.now) (g.H.Host.state c.create.new.self)
     (g.H.Host.state c.write_lines-lines.new.host) (g.H.Host.state c.finish-end.new.self) c.in_ok-h.ensures.fresh c.in_ok-h.ensures.ok c.in_ok-and_finished.ensures.value
     c.write_lines-lines.ensures.ok c.finish-end.ensures.closed
 
