@@ -1,8 +1,8 @@
 -- What control does by the plan, and the length of the rings that it leaves.
 use Rattle.std.proofs.Common.{◌≡◌, ℕ, ◌+◌, Bool, true, false, cond, List, [], ◌∷◌, filter, Option, Some, None, refl, ap, ◌∙◌}
 use Rattle.lq_model.specs.Account.{Account, Event, Join, Full, Refuse, Empty, Take, Pick, Direct, Send, Back, Stop, Wake, Resize, Down, Purge, Swap, Up, sent_from_hand, after_all}
-use Rattle.lq_model.specs.Plan.{Plan}
-use Rattle.lq_model.specs.Settled.{is_at, length_after, length_after_event}
+use Rattle.lq_model.specs.Plan.{Plan, is_at}
+use Rattle.lq_model.specs.Settled.{length_after, length_after_event}
 use Rattle.lq_model.specs.declared.fate.Cause.TheVariants as cause
 use Rattle.lq_model.specs.declared.plan.EventKind.{EventKind}
 use Rattle.lq_model.specs.declared.plan.EventKind.TheVariants as kind

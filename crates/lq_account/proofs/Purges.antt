@@ -1,6 +1,6 @@
 -- A purge settles the fate of each packet that is held, and leaves nothing held.
-use Rattle.std.proofs.Common.{◌≡◌, ℕ, List, [], ◌∷◌, ◌++◌, Some, Contains, refl, ap₂, arith, drop_of_length-le}
-use Rattle.lq_model.specs.Account.{Account, Fates, Purge, held, held_in, after, with_at, with_fates}
+use Rattle.std.proofs.Common.{◌≡◌, ℕ, List, [], ◌++◌, Some, Contains, refl, ap₂, arith, drop_of_length-le}
+use Rattle.lq_model.specs.Account.{Account, Fates, Purge, held, held_in, after, with_fates}
 use Rattle.lq_model.specs.declared.fate.Cause.{Cause}
 use Rattle.lq_model.specs.declared.fate.Fate.{Fate}
 use Rattle.lq_account.proofs.Lists.{fates-cases}

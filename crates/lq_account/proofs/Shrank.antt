@@ -1,13 +1,12 @@
 -- Which events shrank a band: resizes to a length below the one before, in the plan's order.
-use Rattle.std.proofs.Common.{◌≡◌, ℕ, ◌+◌, ◌<◌, ◌≤◌, zero, suc, Bool, true, false, List, [], ◌∷◌, ◌++◌, ◌⊎◌, inl, inr, take, filter, filter_map, length, Contains, Option, Some, None, refl, sym, ap, ◌∙◌, subst, slice_get, arith, cond, eq-eqb, eqb-true, length-drop, length-take}
-use Rattle.std.specs.Prelude.{◌==◌}
+use Rattle.std.proofs.Common.{◌≡◌, ℕ, ◌+◌, ◌<◌, ◌≤◌, zero, suc, Bool, true, false, List, [], ◌∷◌, ◌++◌, ◌⊎◌, inl, inr, take, filter, filter_map, length, Contains, Option, Some, None, refl, sym, ap, ◌∙◌, subst, slice_get, arith, cond, length-drop, length-take}
 use Rattle.std.proofs.lemmas.Option.{same_Some}
 use Rattle.std.proofs.lemmas.List.{length_push}
 use Rattle.lq_model.specs.Band.{Band, held_of, joined, taken_by}
 use Rattle.lq_model.specs.Account.{Account, Event, Join, Take, Send, Resize, Purge, held, held_in, dropped_in, sent_from_hand, new_account, after}
 use Rattle.lq_model.specs.Legal.{resize_event, MayCome, IsPlanned, IsEventAt}
-use Rattle.lq_model.specs.Plan.{Plan}
-use Rattle.lq_model.specs.Settled.{is_at, length_after_event, length_after, LengthBefore, IsShrinking}
+use Rattle.lq_model.specs.Plan.{Plan, is_at}
+use Rattle.lq_model.specs.Settled.{length_after_event, length_after, LengthBefore, IsShrinking}
 use Rattle.lq_model.specs.declared.fate.Fate.TheVariants as fate
 use Rattle.lq_model.specs.declared.fate.Info.{Info}
 use Rattle.lq_model.specs.declared.plan.EventKind.{EventKind}
@@ -34,34 +33,34 @@ keeps-length (kind.Swap params) no_resize no_change len = refl
 
 -- the station's events among these that stand below a place keep the length
 abbrev AllKeep : List EventPlan → ℕ → ℕ → Type 0
-AllKeep events station end = (e : ℕ) (x : EventPlan) → e < end → slice_get events e ≡ Some x → x.station ≡ station → KeepsLength x.kind
+AllKeep events station end = (e : ℕ) (x : EventPlan) → e < end → slice_get events e ≡ Some x → is_at station x ≡ true → KeepsLength x.kind
 
 all-keep : (station : ℕ) (events : List EventPlan) (end len : ℕ) → AllKeep events station end → length_after (filter (is_at station) (take end events)) len ≡ len
 all-keep station events zero len keep = refl
 all-keep station [] (suc end) len keep = refl
-all-keep station (x ∷ events) (suc end) len keep = go (λ len. all-keep station events end len (λ e y below there. keep (suc e) y (omega arith) there)) (x.station == station) refl
+all-keep station (x ∷ events) (suc end) len keep = go (λ len. all-keep station events end len (λ e y below there. keep (suc e) y (omega arith) there)) (is_at station x) refl
   where
-    go : ((len : ℕ) → length_after (filter (is_at station) (take end events)) len ≡ len) → (b : Bool) → (x.station == station) ≡ b
+    go : ((len : ℕ) → length_after (filter (is_at station) (take end events)) len ≡ len) → (b : Bool) → is_at station x ≡ b
         → length_after (cond b (x ∷ filter (is_at station) (take end events)) (filter (is_at station) (take end events))) len ≡ len
-    go rest true at = rest (length_after_event x.kind len) ∙ keep 0 x (omega arith) refl (eqb-true x.station station at) len
+    go rest true at = rest (length_after_event x.kind len) ∙ keep 0 x (omega arith) refl at len
     go rest false at = rest len
 
 -- after the last of them that sets the length
-last-sets : (station : ℕ) (events : List EventPlan) (k end start len : ℕ) (x : EventPlan) → k < end → slice_get events k ≡ Some x → x.station ≡ station → ((l : ℕ) → length_after_event x.kind l ≡ len)
-    → ((e : ℕ) (y : EventPlan) → k < e → e < end → slice_get events e ≡ Some y → y.station ≡ station → KeepsLength y.kind)
+last-sets : (station : ℕ) (events : List EventPlan) (k end start len : ℕ) (x : EventPlan) → k < end → slice_get events k ≡ Some x → is_at station x ≡ true → ((l : ℕ) → length_after_event x.kind l ≡ len)
+    → ((e : ℕ) (y : EventPlan) → k < e → e < end → slice_get events e ≡ Some y → is_at station y ≡ true → KeepsLength y.kind)
     → length_after (filter (is_at station) (take end events)) start ≡ len
 last-sets station events k zero start len x below there at sets keep = absurd (omega arith)
 last-sets station [] k (suc end) start len x below there at sets keep = absurd cc
-last-sets station (y ∷ events) zero (suc end) start len x below there at sets keep = go (y.station == station) refl
+last-sets station (y ∷ events) zero (suc end) start len x below there at sets keep = go (is_at station y) refl
   where
     is : y ≡ x
     is = same_Some y x there
 
-    go : (b : Bool) → (y.station == station) ≡ b → length_after (cond b (y ∷ filter (is_at station) (take end events)) (filter (is_at station) (take end events))) start ≡ len
+    go : (b : Bool) → is_at station y ≡ b → length_after (cond b (y ∷ filter (is_at station) (take end events)) (filter (is_at station) (take end events))) start ≡ len
     go true here = all-keep station events end (length_after_event y.kind start) (λ e z under is_there. keep (suc e) z (omega arith) (omega arith) is_there) ∙ (ap (λ (w : EventPlan). length_after_event w.kind start) is ∙ sets start)
-    go false here = absurd (let yes : (y.station == station) ≡ true = eq-eqb y.station station (ap (λ (w : EventPlan). w.station) is ∙ at) in cc)
+    go false here = absurd (let yes : is_at station y ≡ true = ap (is_at station) is ∙ at in cc)
 last-sets station (y ∷ events) (suc k) (suc end) start len x below there at sets keep =
-    go (λ start. last-sets station events k end start len x (omega arith) there at sets (λ e z above under. keep (suc e) z (omega arith) (omega arith))) (y.station == station)
+    go (λ start. last-sets station events k end start len x (omega arith) there at sets (λ e z above under. keep (suc e) z (omega arith) (omega arith))) (is_at station y)
   where
     go : ((start : ℕ) → length_after (filter (is_at station) (take end events)) start ≡ len) → (b : Bool)
         → length_after (cond b (y ∷ filter (is_at station) (take end events)) (filter (is_at station) (take end events))) start ≡ len
@@ -102,7 +101,7 @@ is-resize (Resize len event) k h = (len, ap (Resize len) (same_Some event k h))
 is-resize e k h = absurd cc
 
 -- an event that sets no length keeps it
-still : (plan : Plan) (station e : ℕ) (x : EventPlan) → slice_get plan.events e ≡ Some x → x.station ≡ station → ((len : ℕ) → SetsLength plan station e len → ⊥) → KeepsLength x.kind
+still : (plan : Plan) (station e : ℕ) (x : EventPlan) → slice_get plan.events e ≡ Some x → is_at station x ≡ true → ((len : ℕ) → SetsLength plan station e len → ⊥) → KeepsLength x.kind
 still plan station e x there at none = keeps-length x.kind (λ len is. none len (inl (x, there, at, is))) (λ len is. none len (inr (x, there, at, is)))
 
 pub shrunk-start : (plan : Plan) (station queues : ℕ) → station < length plan.stations → AreShrunk plan station [] (new_account (len_of plan station) station queues)
@@ -138,7 +137,7 @@ module _ (plan : Plan) (infos : List Info) (station : ℕ) (past : List Event) (
   holds-step e may b = h.holds b
 
   -- what a planned resize is: its event, which sets that length, and those that came before it
-  sets-length : (len event : ℕ) → IsPlanned plan station past a (Resize len event) → (x : EventPlan) × (slice_get plan.events event ≡ Some x) × (x.station ≡ station) × ((l : ℕ) → length_after_event x.kind l ≡ len)
+  sets-length : (len event : ℕ) → IsPlanned plan station past a (Resize len event) → (x : EventPlan) × (slice_get plan.events event ≡ Some x) × (is_at station x ≡ true) × ((l : ℕ) → length_after_event x.kind l ≡ len)
   sets-length len event (inl plans) = let at = plans.0 in (at.0, at.1, at.2, λ l. ap (λ k. length_after_event k l) at.3)
   sets-length len event (inr change) = let at = change.planned in (at.0, at.1, at.2, λ l. ap (λ k. length_after_event k l) at.3)
 

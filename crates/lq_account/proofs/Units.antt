@@ -2,6 +2,7 @@
 use Rattle.std.proofs.Common.{◌≡◌, ◌≢◌, ℕ, zero, suc, ◌<◌, Bool, true, ◌⊎◌, inl, inr, List, [], ◌∷◌, length, refl, ap, arith, Some, sym, ◌∙◌}
 use Rattle.std.specs.Prelude.{cond, slice_get, count_by, take}
 use Rattle.std.proofs.lemmas.List.Sums.{sum_by-cons}
+use Rattle.lq_model.proofs.Reach.{at-swap}
 use Rattle.lq_model.specs.Legal.{IsEventAt}
 use Rattle.lq_model.specs.Plan.{Plan, is_swap, is_swap_kind, unit_of_swap}
 use Rattle.lq_model.specs.Settled.{IsUnitOf}
@@ -48,7 +49,7 @@ same-swap plan j k d e p q one other same = elim (order d e) [
 same-station : (plan : Plan) (j k d e : ℕ) (p q : Params) → IsEventAt plan j d (kind.Swap p) → IsEventAt plan k e (kind.Swap q) → d ≡ e → j ≡ k
 same-station plan j k d e p q (x, there, at, is) (y, there', at', is') same =
     let both : Some x ≡ Some y = sym there ∙ (ap (slice_get plan.events) same ∙ there') in
-    sym at ∙ (ap (λ z. z.station) (some-injective x y both) ∙ at')
+    at-swap j x (ap is_swap_kind is) at ∙ (ap (λ z. z.station) (some-injective x y both) ∙ sym (at-swap k y (ap is_swap_kind is') at'))
 
 pub one-station : (plan : Plan) (j k unit : ℕ) → j < length plan.stations → k < length plan.stations → IsUnitOf plan j unit → IsUnitOf plan k unit → j ≡ k
 one-station plan j k unit jn kn (inl a) (inl b) = sym a ∙ b

@@ -5,7 +5,7 @@ use Rattle.lq_model.specs.Account.{Account, Event, Join, Full, Refuse, Take, Pic
 use Rattle.lq_model.specs.Band.{Band, held_of, stale_count}
 use Rattle.lq_model.specs.Device.{Telling, answer_of, told_after, is_busy}
 use Rattle.lq_model.specs.Numbers.{first_numbers}
-use Rattle.lq_model.specs.Plan.{Plan, unit_of_swap, station_in, band_in, queue_in}
+use Rattle.lq_model.specs.Plan.{Plan, is_at, unit_of_swap, station_in, band_in, queue_in}
 use Rattle.lq_model.specs.declared.device.Params.{Params}
 use Rattle.lq_model.specs.declared.device.Tx.{Tx}
 use Rattle.lq_model.specs.declared.device.Tx.TheVariants as tx
@@ -182,10 +182,15 @@ changed_at i f [] = []
 changed_at zero f (x ∷ xs) = f x ∷ xs
 changed_at (suc i) f (x ∷ xs) = x ∷ changed_at i f xs
 
--- an event of the plan, after which its station is served
+-- the list where each element whose place passes the test was changed
+abbrev pub changed_where : {X : Type 0} → (ℕ → Bool) → (X → X) → List X → List X
+changed_where test f [] = []
+changed_where test f (x ∷ xs) = (if test 0 then f x else x) ∷ changed_where (λ i. test (suc i)) f xs
+
+-- an event of the plan, after which each of its stations is served
 abbrev pub with_event : Plan → List Info → ℕ → List RunningStation → List RunningStation
 with_event plan infos event stations =
-    option_map_or (λ e. changed_at e.station (λ s. served infos (changed plan event e.kind s)) stations) (slice_get plan.events event) stations
+    option_map_or (λ e. changed_where (λ station. is_at station e) (λ s. served infos (changed plan event e.kind s)) stations) (slice_get plan.events event) stations
 
 abbrev pub with_events : Plan → List Info → List ℕ → List RunningStation → List RunningStation
 with_events plan infos [] stations = stations

@@ -28,6 +28,10 @@ pub record DeviceState : Type 0 where
   pub hung : Bool
   pub told : Option Telling
 
+-- the parameters that it tells, if it tells
+abbrev pub told_params : DeviceState → Option Params
+told_params d = option_map (λ (t : Telling). t.params) d.told
+
 -- THE RULE OF A DEVICE THAT TELLS
 
 -- a multiple of a number that isn't 0

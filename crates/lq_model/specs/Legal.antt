@@ -2,7 +2,7 @@
 use Rattle.std.specs.Prelude.{◌≡◌, ◌⊎◌, ◌<◌, ℕ, ◌-◌, Bool, true, false, ◌&&◌, ◌||◌, ◌==◌, List, [], ◌∷◌, length, Option, Some, None, slice_get, slice_index, Contains, filter, filter_map}
 use Rattle.lq_model.specs.Band.{MayBeFull}
 use Rattle.lq_model.specs.Account.{Account, Event, Join, Full, Refuse, Empty, Take, Pick, Direct, Send, Back, Stop, Wake, Resize, Down, Purge, Swap, Up, held, held_in, is_hung, after_all}
-use Rattle.lq_model.specs.Plan.{Plan, unit_of_swap, owner_in, station_in, band_in, queue_in}
+use Rattle.lq_model.specs.Plan.{Plan, is_at, unit_of_swap, owner_in, station_in, band_in, queue_in}
 use Rattle.lq_model.specs.declared.fate.Cause.{Cause}
 use Rattle.lq_model.specs.declared.fate.Cause.TheVariants as cause
 use Rattle.lq_model.specs.declared.device.Params.{Params}
@@ -145,7 +145,7 @@ MayCome infos station past a Up = IsEmptyAndDown a
 
 -- this event of the plan is of the station, and is of this kind
 abbrev pub IsEventAt : Plan → ℕ → ℕ → EventKind → Type 0
-IsEventAt plan station event kind = (e : EventPlan) × (slice_get plan.events event ≡ Some e) × (e.station ≡ station) × (e.kind ≡ kind)
+IsEventAt plan station event kind = (e : EventPlan) × (slice_get plan.events event ≡ Some e) × (is_at station e ≡ true) × (e.kind ≡ kind)
 
 -- no event of the plan that came before is this one or a later one
 pub record IsNext (past : List Event) (event : ℕ) : Type 0 where

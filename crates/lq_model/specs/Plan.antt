@@ -1,5 +1,5 @@
 -- Plans, and what each packet of a capture is to the rules.
-use Rattle.std.specs.Prelude.{◌≡◌, ◌<◌, ℕ, ◌+◌, ◌%◌, Bool, true, false, ◌&&◌, ◌==◌, List, length, take, map, count_by, slice_get}
+use Rattle.std.specs.Prelude.{◌≡◌, ◌<◌, ℕ, ◌+◌, ◌%◌, Bool, true, false, ◌&&◌, ◌==◌, nat_le, nat_lt, if◌then◌else◌, List, length, take, map, sum, count_by, slice_get}
 use Rattle.std.specs.Option.{option_map_or}
 use Rattle.lq_model.specs.Numbers.{first_numbers}
 use Rattle.lq_model.specs.Capture.{Packets}
@@ -20,7 +20,9 @@ pub record Plan : Type 0 where
   pub split : Split
   -- after so many packets of a sender it wakes the stopped queues
   pub irq_every : ℕ
+  -- the stations, group by group; and how many of them each group has
   pub stations : List StationPlan
+  pub groups : List ℕ
   -- what is done to stations on the way, each event numbered by its place
   pub events : List EventPlan
 
@@ -45,6 +47,27 @@ unit_count plan = length plan.stations + count_by is_swap plan.events
 abbrev pub unit_of_swap : Plan → ℕ → ℕ
 unit_of_swap plan event = length plan.stations + count_by is_swap (take event plan.events)
 
+-- GROUPS
+--
+-- A station of a plan's text is a multi-queue root over the transmit queues of one device: a group of stations, its children, one for
+-- each queue, as `mq_init` and `mq_attach` of net/sched/sch_mq.c have it. Most groups have one child, which is the station.
+
+-- how many children group j has; 0 of no group
+abbrev pub mq_at : List ℕ → ℕ → ℕ
+mq_at groups j = option_map_or (λ mq. mq) (slice_get groups j) 0
+
+-- the number of its first child
+abbrev pub first_at : List ℕ → ℕ → ℕ
+first_at groups j = sum (take j groups)
+
+-- to how many stations, from its own on, an event is done: to all children of its group; a swap to the one station alone
+abbrev pub reach : EventPlan → ℕ
+reach event = if is_swap event then 1 else event.mq
+
+-- whether an event is one of this station
+abbrev pub is_at : ℕ → EventPlan → Bool
+is_at station event = nat_le event.station station && nat_lt station (event.station + reach event)
+
 -- WHAT A PACKET IS TO THE RULES
 
 -- by what packet n is split: its number, or its source byte
@@ -55,8 +78,13 @@ split_number Source packets n = source_byte_of (packets.link n) (packets.frame n
 abbrev pub owner_of : Plan → Packets → ℕ → ℕ
 owner_of plan packets n = split_number plan.split packets n % plan.senders
 
+-- the group that its route leads to, and the child of that which its source byte chooses
+abbrev pub group_of : Plan → Packets → ℕ → ℕ
+group_of plan packets n = route_byte_of (packets.link n) (packets.frame n) % length plan.groups
+
 abbrev pub station_of : Plan → Packets → ℕ → ℕ
-station_of plan packets n = route_byte_of (packets.link n) (packets.frame n) % length plan.stations
+station_of plan packets n =
+    first_at plan.groups (group_of plan packets n) + source_byte_of (packets.link n) (packets.frame n) % mq_at plan.groups (group_of plan packets n)
 
 -- the number of transmit queues that share the rings of a station; 1 of no station
 abbrev pub queues_at : List StationPlan → ℕ → ℕ

@@ -30,7 +30,18 @@ station len bypass params = record { len = len; max_len = len; bypass = bypass; 
 
 -- a plan of these stations
 abbrev pub plan_of_stations : ℕ → List StationPlan → List EventPlan → Plan
-plan_of_stations irq_every stations events = record { senders = 1; split = Round; irq_every = irq_every; stations = stations; events = events }
+plan_of_stations irq_every stations events = record {
+  senders = 1;
+  split = Round;
+  irq_every = irq_every;
+  stations = stations;
+  groups = map (λ s. 1) stations;
+  events = events;
+}
+
+-- a plan of one group of two of these stations
+abbrev pub group_of_two : StationPlan → List EventPlan → Plan
+group_of_two s events = record (plan_of_stations 1 (s ∷ s ∷ []) events) { groups = 2 ∷ [] }
 
 abbrev pub one_station : ℕ → ℕ → Bool → Params → List EventPlan → Plan
 one_station irq_every len bypass params events = plan_of_stations irq_every (station len bypass params ∷ []) events
@@ -39,7 +50,11 @@ abbrev pub with_burst : ℕ → Params
 with_burst burst = record { burst = burst; busy_every = 0; busy_limit = 0; hang_after = 0 }
 
 abbrev pub event_at : ℕ → EventKind → EventPlan
-event_at before kind = record { before = before; station = 0; kind = kind }
+event_at before kind = record { before = before; station = 0; mq = 1; kind = kind }
+
+-- the same of both stations of a group
+abbrev pub group_event_at : ℕ → EventKind → EventPlan
+group_event_at before kind = record (event_at before kind) { mq = 2 }
 
 abbrev pub no_rules : Params
 no_rules = with_burst 0

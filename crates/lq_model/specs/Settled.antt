@@ -3,7 +3,7 @@ use Rattle.std.specs.Prelude.{◌≡◌, ◌≢◌, ◌⊎◌, ◌↔◌, ◌<�
 use Rattle.std.specs.List.{zip}
 use Rattle.lq_model.specs.Band.{batch}
 use Rattle.lq_model.specs.Legal.{IsEventAt, IsPlannedDown}
-use Rattle.lq_model.specs.Plan.{Plan, unit_of_swap, owner_in, station_in, band_in}
+use Rattle.lq_model.specs.Plan.{Plan, is_at, unit_of_swap, owner_in, station_in, band_in}
 use Rattle.lq_model.specs.Texts.{is_full, is_refused, is_sent_by}
 use Rattle.lq_model.specs.declared.device.Params.{Params}
 use Rattle.lq_model.specs.declared.fate.Cause.TheVariants.{Event, Hung}
@@ -26,9 +26,6 @@ abbrev pub AreSerials : List Fate → ℕ → Type 0
 AreSerials fates unit = (sent : List ℕ) × IsSentList fates unit sent
 
 -- WHAT THE PLAN GIVES A STATION
-
-abbrev pub is_at : ℕ → EventPlan → Bool
-is_at station event = event.station == station
 
 -- the lengths of a station's rings: that of its table, and those of its events
 abbrev pub GivesLength : Plan → ℕ → ℕ → Type 0

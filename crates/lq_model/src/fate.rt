@@ -1,15 +1,15 @@
 //! Fates, and what a packet is to the rules.
 
-/// What a packet is to the rules.
+/// What a packet is to the rules, in eight bytes: each of a capture's packets has one.
 #[derive(Clone, Copy, Debug, PartialEq, Eq)]
 pub struct Info {
-    /// The sender that transmits it.
-    pub owner: u32,
-    pub station: u32,
-    pub band: u32,
-    pub queue: u32,
     /// How many lower packets have the same owner and station.
     pub rank: u32,
+    /// The sender that transmits it.
+    pub owner: u8,
+    pub station: u8,
+    pub band: u8,
+    pub queue: u8,
 }
 
 /// Why a packet was purged.

@@ -10,7 +10,7 @@ pub enum Split {
     Source,
 }
 
-/// A station: a queueing discipline with its queue and its first device.
+/// A station: a queueing discipline with its queue and its first device. Each child of a multi-queue root is one.
 #[derive(Clone, Copy, Debug, PartialEq, Eq)]
 pub struct StationPlan {
     /// How many packets each of its three rings has slots for, at first.
@@ -40,12 +40,15 @@ pub enum EventKind {
     Swap { params: Params },
 }
 
-/// An event: what is done to which station, before which packet.
+/// An event: what is done to which stations, before which packet.
 #[derive(Clone, Copy, Debug, PartialEq, Eq)]
 pub struct EventPlan {
     /// The number of that packet.
     pub before: u32,
+    /// The first of these stations.
     pub station: u32,
+    /// How many they are: the children of one multi-queue root, or the one station that stands alone.
+    pub mq: u32,
     pub kind: EventKind,
 }
 

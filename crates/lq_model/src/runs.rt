@@ -1,6 +1,6 @@
 //! Small runs of one sender, worked out: each clause is computed from the definition of the run.
 ghost use Rattle.std.specs.Prelude.{◌≡◌, [], ◌∷◌, true, false};
-ghost use Rattle.lq_model.specs.Runs.{packets_in_bands, packets_on, packets_to, station, plan_of_stations, one_station, no_rules, with_burst, event_at, HaveFates};
+ghost use Rattle.lq_model.specs.Runs.{packets_in_bands, packets_on, packets_to, station, plan_of_stations, group_of_two, group_event_at, one_station, no_rules, with_burst, event_at, HaveFates};
 ghost use Rattle.lq_model.specs.declared.fate.Fate.TheVariants.{Sent, Full, Shrunk, Purged, Refused};
 ghost use Rattle.lq_model.specs.declared.fate.Cause.TheVariants.{Event, Hung};
 ghost use Rattle.lq_model.specs.declared.plan.EventKind.TheVariants as kind;
@@ -96,4 +96,14 @@ pub fn stopped_queue_blocks_the_shared_bands()
     ensures { HaveFates (plan_of_stations 1000 (record (station 1000 true (with_burst 2)) { queues = 2 } ∷ []) [])
         (packets_on ((0, 1) ∷ (0, 1) ∷ (1, 1) ∷ (0, 1) ∷ (1, 2) ∷ (0, 0) ∷ (1, 0) ∷ (1, 1) ∷ []))
         (Sent 0 0 ∷ Sent 0 1 ∷ Sent 0 2 ∷ Sent 0 3 ∷ Sent 0 7 ∷ Sent 0 4 ∷ Sent 0 5 ∷ Sent 0 6 ∷ []) }
+{}
+
+/// Two stations are the children of one multi-queue root. An event is done to each of them: deactivated before packet 2, both
+/// refuse.
+#[tactic(auto, unfolding(crate::specs::Alone::run_fates))]
+pub fn each_child_is_a_station()
+    ensures without_events { HaveFates (group_of_two (station 1000 true no_rules) []) (packets_to (1 ∷ 0 ∷ 1 ∷ []))
+        (Sent 1 0 ∷ Sent 0 0 ∷ Sent 1 1 ∷ []) }
+    ensures deactivated { HaveFates (group_of_two (station 1000 true no_rules) (group_event_at 2 kind.Down ∷ [])) (packets_to (1 ∷ 0 ∷ 1 ∷ 0 ∷ []))
+        (Sent 1 0 ∷ Sent 0 0 ∷ Refused 0 ∷ Refused 0 ∷ []) }
 {}

@@ -1,0 +1,2 @@
+-- which stations an event is one of
+pub mod Reach
