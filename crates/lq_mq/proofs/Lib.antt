@@ -1,0 +1,2 @@
+-- one serial more
+pub mod Serials
