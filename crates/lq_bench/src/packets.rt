@@ -13,7 +13,7 @@ pub fn packets(alloc: Global, count: u32) -> Result<Vec<Info>, NoMemory> {
     let mut infos = Vec::new(alloc);
     for n in 0..count {
         let info = Info {
-            owner: n % OWNERS,
+            owner: (n % OWNERS) as u8,
             station: 0,
             band: 1,
             queue: 0,

@@ -36,13 +36,13 @@ fn send<'a, W: Wait, D: TxDevice>(
         return None;
     }
     let info = infos[n as usize];
-    if info.owner != owner || owner >= shared.senders() {
+    if info.owner as u32 != owner || owner >= shared.senders() {
         return None;
     }
-    if info.station != shared.number() {
+    if info.station as u32 != shared.number() {
         return None;
     }
-    if info.band >= 3 || info.queue >= shared.queues() {
+    if info.band >= 3 || info.queue as u32 >= shared.queues() {
         return None;
     }
     Some(transmit(rt, shared, cpu, n))

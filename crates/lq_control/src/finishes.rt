@@ -57,10 +57,10 @@ fn send_left<'a, D: TxDevice, R: Wait>(rt: &R, shared: &Shared<'a, D>, cpu: &mut
     ensures done { AreAllDone (setup shared.now) (view cpu.old).turns → view cpu.new ≡ view cpu.old }
 {
     let info = shared.infos()[n as usize];
-    if info.station != shared.number() {
+    if info.station as u32 != shared.number() {
         return;
     }
-    if shared.load_turn(cpu, info.owner) <= 2 * info.rank as u64 {
+    if shared.load_turn(cpu, info.owner as u32) <= 2 * info.rank as u64 {
         let _sending = transmit(rt, shared, cpu, n);
         drain(rt, shared, cpu);
     }

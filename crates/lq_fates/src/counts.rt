@@ -118,7 +118,7 @@ pub fn counts_of(
 {
     let mut counts = no_counts(alloc, stations, units)?;
     for (n, fate) in fates.iter().enumerate() {
-        count_packet(&mut counts, fate, infos[n].station);
+        count_packet(&mut counts, fate, infos[n].station as u32);
     }
     Ok(counts)
 }

@@ -18,7 +18,7 @@ const FATES: [Fate; 9] = [
     Fate::Sent { unit: 0, serial: 1 },
 ];
 
-fn at(station: u32) -> Info {
+fn at(station: u8) -> Info {
     Info {
         owner: 0,
         station,

@@ -100,7 +100,7 @@ fn enqueue<'a, D: TxDevice, R: Wait>(
     ensures put { Enqueues n (band_in shared.now.infos.now n) result (view cpu.old) (view cpu.new) }
     ensures made { EnqueuesBy (setup shared.now) n result (steps cpu.old) (steps cpu.new) }
 {
-    let band = shared.infos()[n as usize].band;
+    let band = shared.infos()[n as usize].band as u32;
     match produce(rt, shared, cpu, band, n) {
         Ok(()) => Sending::Queued,
         Err(full) => {

@@ -57,7 +57,7 @@ pub(crate) fn queue_of<'a, D: TxDevice>(shared: &Shared<'a, D>, n: u32) -> u32
     requires { n < length shared.now.infos.now }
     ensures { result ≡ queue_in shared.now.infos.now n }
 {
-    shared.infos()[n as usize].queue
+    shared.infos()[n as usize].queue as u32
 }
 
 /// The packet in the requeue slot.

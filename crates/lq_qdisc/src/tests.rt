@@ -21,7 +21,7 @@ const PARAMS: Params = Params {
 const STOPPING: Params = Params { burst: 1, ..PARAMS };
 
 /// Packet `rank` of the sender.
-fn info(rank: u32, band: u32, queue: u32) -> Info {
+fn info(rank: u32, band: u8, queue: u8) -> Info {
     Info {
         owner: 1,
         station: 0,
@@ -130,9 +130,9 @@ fn send<'a, A: Abort + Wait, D: TxDevice>(
     assert!(rt; n < infos.len());
     assert!(rt; infos[n].owner == 1);
     assert!(rt; shared.senders() == 2);
-    assert!(rt; infos[n].station == shared.number());
+    assert!(rt; infos[n].station as u32 == shared.number());
     assert!(rt; infos[n].band < 3);
-    assert!(rt; infos[n].queue < shared.queues());
+    assert!(rt; (infos[n].queue as u32) < shared.queues());
     transmit(rt, shared, cpu, n as u32)
 }
 

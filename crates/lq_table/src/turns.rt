@@ -62,7 +62,7 @@ impl<'a, D: TxDevice> Shared<'a, D> {
         ensures turn { MatchResult result (λ _. (slice_index (view cpu.old).turns (owner_in self.now.infos.now n) ≡ 2 * rank_in self.now.infos.now n) × (view cpu.new ≡ bringing n (owner_in self.now.infos.now n) (rank_in self.now.infos.now n) (view cpu.old))) (λ found. (found ≡ slice_index (view cpu.old).turns (owner_in self.now.infos.now n)) × (found ≢ 2 * rank_in self.now.infos.now n) × (view cpu.new ≡ view cpu.old)) }
         ensures made { steps cpu.new ≡ did_take_turn (owner_in self.now.infos.now n) (rank_in self.now.infos.now n) (is_ok result) ∷ steps cpu.old }
     {
-        let owner = self.infos[n as usize].owner;
+        let owner = self.infos[n as usize].owner as u32;
         let rank = self.infos[n as usize].rank;
         let found = self.take_turn_of::<Brand>(
             &mut cpu.known.seat,
@@ -113,7 +113,7 @@ impl<'a, D: TxDevice> Shared<'a, D> {
         ensures given { view cpu.new ≡ giving_turn (owner_in self.now.infos.now n) (rank_in self.now.infos.now n) (view cpu.old) }
         ensures made { steps cpu.new ≡ did_give_turn (owner_in self.now.infos.now n) (rank_in self.now.infos.now n) ∷ steps cpu.old }
     {
-        let owner = self.infos[n as usize].owner;
+        let owner = self.infos[n as usize].owner as u32;
         let rank = self.infos[n as usize].rank;
         self.give_turn_of::<Brand>(&mut cpu.known.seat, &mut cpu.known.marks, n, owner, rank);
     }

@@ -25,9 +25,9 @@ pub fn packets<A: Abort>(rt: &A, alloc: Global, count: u32, mixed: bool) -> Vec<
     for n in 0..count {
         let rank = n / SENDERS;
         let info = Info {
-            owner: n % SENDERS + 1,
+            owner: (n % SENDERS + 1) as u8,
             station: 0,
-            band: if mixed { rank % 3 } else { 1 },
+            band: if mixed { (rank % 3) as u8 } else { 1 },
             queue: 0,
             rank,
         };

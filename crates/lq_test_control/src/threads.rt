@@ -157,7 +157,7 @@ fn send_own<'a, A: Abort + Wait, D: TxDevice>(
 {
     let infos = shared.infos();
     for n in 0..infos.len() {
-        if infos[n].owner == owner {
+        if infos[n].owner as u32 == owner {
             let sending = send(rt, shared, cpu, owner, n as u32);
             assert!(rt; !matches!(sending, Sending::OutOfTurn { .. }));
         }
