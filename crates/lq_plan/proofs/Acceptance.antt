@@ -1,34 +1,42 @@
 -- What text is accepted, by the keys and limits of which version.
-use Rattle.std.proofs.Common.{◌≡◌, ◌≢◌, ℕ, pos, negsuc, Bool, true, false, ◌==◌, if◌then◌else◌, codes, List, map, Option, Some, None, Ok, Err, refl, sym, ap, ◌∙◌, inl, inr, arith}
+use Rattle.std.proofs.Common.{◌≡◌, ◌≢◌, ◌<◌, ◌%◌, ℕ, zero, suc, pos, negsuc, Bool, true, false, ◌==◌, if◌then◌else◌, codes, List, [], ◌∷◌, length, map, take, get_or, slice_get, Option, Some, None, Ok, Err, refl, sym, ap, ◌∙◌, subst, arith}
+use Rattle.std.specs.Prelude.{sum}
+use Rattle.std.proofs.Math.Nat.{mod-one}
+use Rattle.std.proofs.lemmas.List.Sums.{sum_by-cons}
+use Rattle.std.proofs.lemmas.Nat.{mod_below}
+use Rattle.std.proofs.lemmas.Option.{slice_get-get_or}
 use Rattle.std.specs.Option.{option_map_or}
-use Rattle.std.proofs.lemmas.Bool.{cases_Bool, eqb-true}
+use Rattle.std.proofs.lemmas.Bool.{ne_eqb}
 use Rattle.toml.specs.Data.{Data, Members, get_member, string, integer, float, boolean, datetime, array, table}
-use Rattle.lq_model.specs.Plan.{Plan}
+use Rattle.lq_model.proofs.Reach.{at-within, reach-few}
+use Rattle.lq_model.specs.Class.{route_byte_of, source_byte_of}
+use Rattle.lq_model.specs.Plan.{Plan, first_at, mq_at, station_of}
 use Rattle.lq_model.specs.declared.plan.PlanReason.{PlanReason}
 use Rattle.lq_model.specs.declared.plan.PlanReason.TheVariants.{NotToml, EventOrder}
-use Rattle.lq_plan.specs.Document.{document_of}
-use Rattle.lq_plan.specs.Keys.{version_of}
-use Rattle.lq_plan.specs.Laws.{HasNoVersion2}
-use Rattle.lq_plan.specs.Limits.{IsPlanOf, IsWithinLimits, is_out_of_order, version_1, version_2}
+use Rattle.lq_plan.specs.Document.{document_of, groups_in}
+use Rattle.lq_plan.specs.Keys.{version_numbered, version_of}
+use Rattle.lq_plan.specs.Laws.{HasNoVersion, IsUngrouped}
+use Rattle.lq_plan.specs.Limits.{IsPlanOf, IsWithinLimits, is_out_of_order, version_1, version_2, version_3}
 use Rattle.lq_plan.specs.Reading.{event_in, first_fault, plan_by, plan_from, plan_in, plan_of, plan_unless, root_of}
 use Rattle.lq_plan.specs.Values.{number_at, number_or}
 use Rattle.lq_plan.specs.declared.keys.Version.{Version}
-use Rattle.lq_plan.proofs.Within.{IsVersion, is-version, is-version_1, of_version, root_facts, widened}
+use Rattle.lq_plan.proofs.Groups.{mq-read}
+use Rattle.lq_plan.proofs.Within.{IsVersion, is-version, is-version_1, is-version_2, of_version, root_facts, widened}
 
 -- ACCEPTED TEXTS
 
 ordered_within : (version : Version) → IsVersion version → (root : Members) (plan : Plan) (out_of_order : Bool) → None ≡ first_fault version (document_of root)
-    → out_of_order ≡ is_out_of_order (map event_in (document_of root).events)
+    → out_of_order ≡ is_out_of_order (map (event_in (groups_in (document_of root).stations)) (document_of root).events)
     → (if out_of_order then Err EventOrder else Ok (plan_in (document_of root))) ≡ Ok plan → IsPlanOf version plan
 ordered_within version is root plan true none order answer = cc
 ordered_within version is root plan false none order answer =
     let same : plan ≡ plan_in (document_of root) = cc in
-    rw same (of_version version root (document_of root) (plan_in (document_of root)) (root_facts version is root none) (sym order) refl refl refl refl)
+    rw same (of_version version root (document_of root) (plan_in (document_of root)) (root_facts version is root none) (sym order) refl refl refl refl refl)
 
 faultless_within : (version : Version) → IsVersion version → (root : Members) (plan : Plan) (fault : Option PlanReason) → fault ≡ first_fault version (document_of root)
     → plan_unless fault (document_of root) ≡ Ok plan → IsPlanOf version plan
 faultless_within version is root plan (Some reason) same answer = cc
-faultless_within version is root plan None same answer = ordered_within version is root plan (is_out_of_order (map event_in (document_of root).events)) same refl answer
+faultless_within version is root plan None same answer = ordered_within version is root plan (is_out_of_order (map (event_in (groups_in (document_of root).stations)) (document_of root).events)) same refl answer
 
 accepted_by : (version : Version) → IsVersion version → (root : Members) (plan : Plan) → plan_by version root ≡ Ok plan → IsPlanOf version plan
 accepted_by version is root plan answer = faultless_within version is root plan (first_fault version (document_of root)) refl answer
@@ -55,24 +63,119 @@ other_number default n (Some (datetime time)) other is = absurd (other is)
 other_number default n (Some (array items)) other is = absurd (other is)
 other_number default n (Some (table inside)) other is = absurd (other is)
 
-is_version_1 : (root : Members) → get_member (codes "version") root ≢ Some (integer (pos 2)) → version_of root ≡ version_1
-is_version_1 root absent = elim (cases_Bool (number_at (codes "version") 1 root == 2)) [
-  | inl two ↦ absurd (absent (other_number 1 2 (get_member (codes "version") root) (λ same. omega arith) (eqb-true (number_at (codes "version") 1 root) 2 two)))
-  | inr other ↦ ap (λ is_2. if is_2 then version_2 else version_1) other
-]
+numbered-1 : (number : ℕ) → number ≢ 2 → number ≢ 3 → version_numbered number ≡ version_1
+numbered-1 number not_2 not_3 = ap (λ is_3. if is_3 then version_3 else if number == 2 then version_2 else version_1) (ne_eqb number 3 not_3)
+    ∙ ap (λ is_2. if is_2 then version_2 else version_1) (ne_eqb number 2 not_2)
+
+no-number : (root : Members) (number : ℕ) → 1 ≢ number → get_member (codes "version") root ≢ Some (integer (pos number)) → number_at (codes "version") 1 root ≢ number
+no-number root number other absent is = absent (other_number 1 number (get_member (codes "version") root) other is)
 
 reads_root : (o : Option Members) → ((root : Members) → o ≡ Some root → get_member (codes "version") root ≢ Some (integer (pos 2)))
+    → ((root : Members) → o ≡ Some root → get_member (codes "version") root ≢ Some (integer (pos 3)))
     → option_map_or plan_from o (Err NotToml) ≡ option_map_or (plan_by version_1) o (Err NotToml)
-reads_root None absent = refl
-reads_root (Some root) absent = ap (λ version. plan_by version root) (is_version_1 root (absent root refl))
+reads_root None not_2 not_3 = refl
+reads_root (Some root) not_2 not_3 =
+    ap (λ version. plan_by version root) (numbered-1 (number_at (codes "version") 1 root) (no-number root 2 (omega arith) (not_2 root refl)) (no-number root 3 (omega arith) (not_3 root refl)))
 
-pub reads_version_1 : (text : List ℕ) → HasNoVersion2 text → plan_of text ≡ option_map_or (plan_by version_1) (root_of text) (Err NotToml)
+pub reads_version_1 : (text : List ℕ) → HasNoVersion 2 text → HasNoVersion 3 text → plan_of text ≡ option_map_or (plan_by version_1) (root_of text) (Err NotToml)
 unfolding plan_of
-reads_version_1 text absent = reads_root (root_of text) absent
+reads_version_1 text not_2 not_3 = reads_root (root_of text) not_2 not_3
 
 root_keeps : (plan : Plan) (o : Option Members) → option_map_or (plan_by version_1) o (Err NotToml) ≡ Ok plan → IsPlanOf version_1 plan
 root_keeps plan None answer = cc
 root_keeps plan (Some root) answer = accepted_by version_1 is-version_1 root plan answer
 
-pub keeps_version_1 : (text : List ℕ) (plan : Plan) → HasNoVersion2 text → plan_of text ≡ Ok plan → IsPlanOf version_1 plan
-keeps_version_1 text plan absent answer = root_keeps plan (root_of text) (sym (reads_version_1 text absent) ∙ answer)
+pub keeps_version_1 : (text : List ℕ) (plan : Plan) → HasNoVersion 2 text → HasNoVersion 3 text → plan_of text ≡ Ok plan → IsPlanOf version_1 plan
+keeps_version_1 text plan not_2 not_3 answer = root_keeps plan (root_of text) (sym (reads_version_1 text not_2 not_3) ∙ answer)
+
+-- TEXTS OF VERSION 2 OR 1
+
+before-3 : ℕ → Version
+before-3 number = if number == 2 then version_2 else version_1
+
+numbered-2 : (number : ℕ) → number ≢ 3 → version_numbered number ≡ (if number == 2 then version_2 else version_1)
+numbered-2 number not_3 = ap (λ is_3. if is_3 then version_3 else if number == 2 then version_2 else version_1) (ne_eqb number 3 not_3)
+
+reads_root_2 : (o : Option Members) → ((root : Members) → o ≡ Some root → get_member (codes "version") root ≢ Some (integer (pos 3)))
+    → option_map_or plan_from o (Err NotToml) ≡ option_map_or (λ root. plan_by (if number_at (codes "version") 1 root == 2 then version_2 else version_1) root) o (Err NotToml)
+reads_root_2 None not_3 = refl
+reads_root_2 (Some root) not_3 = ap (λ version. plan_by version root) (numbered-2 (number_at (codes "version") 1 root) (no-number root 3 (omega arith) (not_3 root refl)))
+
+pub reads_version_2 : (text : List ℕ) → HasNoVersion 3 text
+    → plan_of text ≡ option_map_or (λ root. plan_by (if number_at (codes "version") 1 root == 2 then version_2 else version_1) root) (root_of text) (Err NotToml)
+unfolding plan_of
+reads_version_2 text not_3 = reads_root_2 (root_of text) not_3
+
+-- groups of one station each
+ones-first : (groups : List ℕ) (j : ℕ) → ((k mq : ℕ) → slice_get groups k ≡ Some mq → mq ≡ 1) → j < length groups → first_at groups j ≡ j
+ones-first [] j each below = absurd (omega arith)
+ones-first (mq ∷ groups) zero each below = omega arith
+ones-first (mq ∷ groups) (suc j) each below =
+    let rest = ones-first groups j (λ k m at. each (suc k) m at) (omega arith) in let one = each 0 mq refl in let more = sum_by-cons (λ (x : ℕ). x) mq (take j groups) in omega arith
+
+ones-sum : (groups : List ℕ) → ((k mq : ℕ) → slice_get groups k ≡ Some mq → mq ≡ 1) → sum groups ≡ length groups
+ones-sum [] each = omega arith
+ones-sum (mq ∷ groups) each =
+    let rest = ones-sum groups (λ k m at. each (suc k) m at) in let one = each 0 mq refl in let more = sum_by-cons (λ (x : ℕ). x) mq groups in omega arith
+
+one-at : (groups : List ℕ) (j : ℕ) → ((k mq : ℕ) → slice_get groups k ≡ Some mq → mq ≡ 1) → j < length groups → mq_at groups j ≡ 1
+one-at groups j each below = mq-read groups j below ∙ each j (get_or groups j 0) (slice_get-get_or groups j 0 below)
+
+ungrouped : (plan : Plan) → IsPlanOf version_2 plan → IsUngrouped plan
+ungrouped plan within = record {
+  groups = all;
+  routes = λ packets n.
+      let route = route_byte_of (packets.link n) (packets.frame n) in let j = route % length plan.groups in
+      let below : j < length plan.groups = mod_below route (length plan.groups) within.has_group in
+      let first = ones-first plan.groups j ones below in let one = one-at plan.groups j ones below in
+      let rest : source_byte_of (packets.link n) (packets.frame n) % mq_at plan.groups j ≡ 0 = ap (λ m. source_byte_of (packets.link n) (packets.frame n) % m) one ∙ mod-one (source_byte_of (packets.link n) (packets.frame n)) in
+      (let whole : station_of plan packets n ≡ j = omega arith in whole) ∙ ap (λ (m : ℕ). route % m) all;
+  events = λ e event station there at. let mq = within.each_event e event there in let inside = at-within station event at in let few = reach-few event mq.some in
+      let own = within.each_reach e event there in let one = own.children ∙ one-at plan.groups own.group ones own.there in omega arith;
+}
+  where
+    ones : (k mq : ℕ) → slice_get plan.groups k ≡ Some mq → mq ≡ 1
+    ones k mq at = let each = within.each_group k mq at in omega (arith, each.0, each.1)
+
+    all : length plan.groups ≡ length plan.stations
+    all = sym (ones-sum plan.groups ones) ∙ within.children
+
+of-2 : (version : Version) → (is_2 : Bool) → version ≡ (if is_2 then version_2 else version_1) → (plan : Plan) → IsPlanOf version plan → IsPlanOf version_2 plan
+of-2 version true is plan within = subst (λ v. IsPlanOf v plan) is within
+of-2 version false is plan within = let one = subst (λ v. IsPlanOf v plan) is within in record {
+  has_sender = one.has_sender;
+  senders = omega (arith, one.senders);
+  has_irq_every = one.has_irq_every;
+  irq_every = one.irq_every;
+  has_station = one.has_station;
+  stations = one.stations;
+  has_group = one.has_group;
+  children = one.children;
+  each_group = one.each_group;
+  events = one.events;
+  each_station = λ j station at. let s = one.each_station j station at in record {
+    some = s.some;
+    len = s.len;
+    max_len = omega (arith, s.max_len);
+    params = s.params;
+    has_queue = s.has_queue;
+    queues = omega (arith, s.queues);
+  };
+  each_event = one.each_event;
+  each_reach = one.each_reach;
+  order = one.order;
+}
+
+root_keeps_2 : (plan : Plan) (o : Option Members) → option_map_or (λ root. plan_by (if number_at (codes "version") 1 root == 2 then version_2 else version_1) root) o (Err NotToml) ≡ Ok plan → IsPlanOf version_2 plan
+root_keeps_2 plan None answer = cc
+root_keeps_2 plan (Some root) answer = go (number_at (codes "version") 1 root == 2) answer
+  where
+    is : (is_2 : Bool) → IsVersion (if is_2 then version_2 else version_1)
+    is true = is-version_2
+    is false = is-version_1
+
+    go : (is_2 : Bool) → plan_by (if is_2 then version_2 else version_1) root ≡ Ok plan → IsPlanOf version_2 plan
+    go is_2 answer = of-2 (if is_2 then version_2 else version_1) is_2 refl plan (accepted_by (if is_2 then version_2 else version_1) (is is_2) root plan answer)
+
+pub keeps_version_2 : (text : List ℕ) (plan : Plan) → HasNoVersion 3 text → plan_of text ≡ Ok plan → IsPlanOf version_2 plan × IsUngrouped plan
+keeps_version_2 text plan not_3 answer = let within = root_keeps_2 plan (root_of text) (sym (reads_version_2 text not_3) ∙ answer) in (within, ungrouped plan within)

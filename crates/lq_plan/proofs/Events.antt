@@ -1,7 +1,7 @@
 -- An event that finds its station active or deactivated where it can't be.
-use Rattle.std.proofs.Common.{◌≡◌, ℕ, ◌+◌, ◌<◌, Bool, true, ◌==◌, List, [], ◌∷◌, length, drop, get_or, Some, None, refl, ap, ◌∙◌, sym, arith}
-use Rattle.std.proofs.lemmas.Bool.Decides.{nat_tests}
+use Rattle.std.proofs.Common.{◌≡◌, ℕ, ◌+◌, ◌<◌, Bool, true, List, [], ◌∷◌, length, drop, get_or, Some, None, refl, ap, ◌∙◌, sym}
 use Rattle.std.proofs.lemmas.List.{drop_more}
+use Rattle.lq_model.specs.Plan.{is_at}
 use Rattle.lq_model.specs.declared.plan.EventKind.{EventKind}
 use Rattle.lq_model.specs.declared.plan.EventPlan.{EventPlan}
 use Rattle.lq_plan.specs.Limits.{active_after, is_misplaced, kinds_at}
@@ -10,13 +10,12 @@ once_misplaced : (kinds : List EventKind) → is_misplaced None kinds ≡ true
 once_misplaced [] = refl
 once_misplaced (kind ∷ kinds) = refl
 
-first_misplaced : (event : EventPlan) (rest : List EventPlan) (station : ℕ) (active : Bool) → event.station ≡ station → None ≡ active_after active event.kind
+first_misplaced : (event : EventPlan) (rest : List EventPlan) (station : ℕ) (active : Bool) → is_at station event ≡ true → None ≡ active_after active event.kind
     → true ≡ is_misplaced (Some active) (kinds_at station (event ∷ rest))
 first_misplaced event rest station active at never =
-    let same : (event.station == station) ≡ true = grind (arith, nat_tests) in
-    rw same (sym (once_misplaced (kinds_at station rest)) ∙ ap (λ state. is_misplaced state (kinds_at station rest)) never)
+    rw at (sym (once_misplaced (kinds_at station rest)) ∙ ap (λ state. is_misplaced state (kinds_at station rest)) never)
 
-pub misplaced_here : (events : List EventPlan) (i station : ℕ) (active : Bool) (d : EventPlan) → i < length events → (get_or events i d).station ≡ station
+pub misplaced_here : (events : List EventPlan) (i station : ℕ) (active : Bool) (d : EventPlan) → i < length events → is_at station (get_or events i d) ≡ true
     → None ≡ active_after active (get_or events i d).kind
     → true ≡ is_misplaced (Some active) (kinds_at station (drop i events))
 misplaced_here events i station active d within at never =

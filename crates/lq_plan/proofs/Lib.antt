@@ -10,6 +10,8 @@ pub mod Known
 pub mod Tables
 -- the faults of a document
 pub mod Documents
+-- the stations, group by group
+pub mod Groups
 -- misplaced events
 pub mod Events
 -- a value within its range

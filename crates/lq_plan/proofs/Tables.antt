@@ -1,15 +1,15 @@
 -- The tables among the elements of an array.
 use Rattle.std.proofs.Common.{◌≡◌, ℕ, ◌+◌, ◌<◌, List, [], ◌∷◌, ◌++◌, length, map, take, get_or, Some, None, String, BTreeMap, Global, Bor, ap, ◌∙◌, sym, option_map, slice_get}
-use Rattle.std.proofs.lemmas.List.{take_more, map-append, append-nil}
+use Rattle.std.proofs.lemmas.List.{take_more, flat_map_more, map-append, append-nil}
 use Rattle.std.proofs.lemmas.List.Elements.{filter_map-append}
 use Rattle.std.proofs.lemmas.Option.{get_or_from_slice_get, slice_get-map, slice_get-get_or, slice_get_within}
-use Rattle.std.specs.List.{filter_map, cons_option}
+use Rattle.std.specs.List.{filter_map, flat_map, cons_option}
 use Rattle.toml.specs.Data.{Members, as_table}
 use Rattle.toml.specs.View.{view, table_view}
 use Rattle.toml.specs.declared.value.Value.{Value}
 use Rattle.lq_plan.specs.Tables.{tables_view}
 
-abbrev Table : Type 0
+abbrev pub Table : Type 0
 Table = Bor (BTreeMap (String Global) Value)
 
 seen_more : (xs : List Value) (i : ℕ) (x : Value) → i < length xs → x ≡ get_or xs i x
@@ -56,3 +56,15 @@ read_more read tables i t ys within is before =
     take_more ms i m (slice_get_within ms i m at) ∙ ap (λ x. take i ms ++ x ∷ []) (get_or_from_slice_get ms i m m at)
     in
     ap (λ front. front ++ read m ∷ []) before ∙ sym (map-append read (take i ms) (m ∷ [])) ∙ ap (map read) (sym more)
+
+-- the same, where several are read of each
+pub spread_more : {Y : Type 0} (read : Members → List Y) (tables : List Table) (i : ℕ) (t : Table) (ys : List Y) → i < length tables → t ≡ get_or tables i t
+    → ys ≡ flat_map read (take i (tables_view tables)) → ys ++ read (table_view t.now) ≡ flat_map read (take (i + 1) (tables_view tables))
+spread_more read tables i t ys within is before =
+    let ms = tables_view tables in
+    let m = table_view t.now in
+    let at = table_at tables i t within is in
+    let more : take (i + 1) ms ≡ take i ms ++ m ∷ [] =
+    take_more ms i m (slice_get_within ms i m at) ∙ ap (λ x. take i ms ++ x ∷ []) (get_or_from_slice_get ms i m m at)
+    in
+    ap (λ front. front ++ read m) before ∙ flat_map_more read [] (take i ms) m ∙ ap (flat_map read) (sym more)

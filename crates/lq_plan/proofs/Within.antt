@@ -1,18 +1,21 @@
 -- A plan that is read from a document without faults is within its limits.
-use Rattle.std.proofs.Common.{◌≡◌, ℕ, ◌-◌, ◌<◌, ◌≤◌, Bool, true, false, ◌||◌, ◌==◌, if◌then◌else◌, codes, List, length, map, get_or, Option, Some, None, option_map, slice_get, refl, ap, ◌∙◌, sym, arith}
-use Rattle.std.proofs.lemmas.Bool.{or_parts}
+use Rattle.std.proofs.Common.{◌≡◌, ℕ, ◌+◌, ◌-◌, ◌<◌, ◌≤◌, Bool, true, false, ◌||◌, ◌==◌, if◌then◌else◌, codes, List, length, map, get_or, Option, Some, None, option_map, slice_get, refl, ap, ◌∙◌, sym, subst, arith}
+use Rattle.std.specs.Prelude.{nat_lt, sum}
+use Rattle.std.proofs.lemmas.Bool.{ltb-false, or_parts}
 use Rattle.std.proofs.lemmas.List.{length-map}
 use Rattle.std.proofs.lemmas.Option.{slice_get-map, slice_get-get_or}
-use Rattle.std.specs.List.{list_any}
+use Rattle.std.specs.List.{flat_map, list_any}
 use Rattle.std.specs.Option.{option_map_or}
 use Rattle.toml.specs.Data.{Members, no_members, get_member}
-use Rattle.lq_model.specs.Plan.{Plan}
+use Rattle.lq_model.proofs.Reach.{at-within, reach-few}
+use Rattle.lq_model.specs.Plan.{Plan, first_at, is_at, mq_at}
+use Rattle.lq_model.specs.declared.plan.EventPlan.{EventPlan}
 use Rattle.lq_model.specs.declared.plan.StationPlan.{StationPlan}
-use Rattle.lq_plan.specs.Document.{Document, document_of, has_fault_in}
+use Rattle.lq_plan.specs.Document.{Document, document_of, groups_in, has_fault_in, has_group_fault}
 use Rattle.lq_plan.specs.Faults.{has_fault, has_value_out_of_range, is_missing, is_of_wrong_kind, is_out_of_range}
-use Rattle.lq_plan.specs.Keys.{key, event_keys, event_word_in, len_in, len_presence, max_len_for, max_len_in, params_presence, root_keys, station_keys, version_of}
-use Rattle.lq_plan.specs.Limits.{AreParamsWithin, IsEventWithin, IsKindWithin, IsPlanOf, IsStationOf, IsStationWithin, IsWithinLimits, is_out_of_order, max_len_at, version_1, version_2}
-use Rattle.lq_plan.specs.Reading.{IsEventSmall, event_in, first_fault, kind_as, params_in, station_plan_in}
+use Rattle.lq_plan.specs.Keys.{key, event_keys, event_word_in, group_in, len_in, len_presence, max_len_for, max_len_in, max_queues_in, mq_in, params_presence, root_keys, station_keys, version_of}
+use Rattle.lq_plan.specs.Limits.{AreParamsWithin, IsEventOfGroup, IsEventWithin, IsKindWithin, IsPlanOf, IsStationOf, IsStationWithin, IsWithinLimits, is_out_of_order, max_len_at, version_1, version_2, version_3}
+use Rattle.lq_plan.specs.Reading.{IsEventSmall, children_in, event_in, first_fault, kind_as, params_in, station_plan_in}
 use Rattle.lq_plan.specs.Values.{number_at}
 use Rattle.lq_plan.specs.declared.faults.Fault.{Fault}
 use Rattle.lq_plan.specs.declared.faults.Fault.TheVariants.{UnknownKey, MissingKey, WrongKind, OutOfRange}
@@ -21,6 +24,7 @@ use Rattle.lq_plan.specs.declared.keys.Rule.TheVariants.{Tables}
 use Rattle.lq_plan.specs.declared.keys.Version.{Version}
 use Rattle.lq_plan.specs.declared.values.EventWord.{EventWord}
 use Rattle.lq_plan.specs.declared.values.EventWord.TheVariants as word
+use Rattle.lq_plan.proofs.Groups.{child-at, each-child, group-within, length-children}
 use Rattle.lq_plan.proofs.Ranges.{at_false, in_range, tables_few, tables_some}
 
 -- VERSIONS
@@ -30,38 +34,66 @@ pub record IsVersion (version : Version) : Type 0 where
   pub some_senders : 1 ≤ version.max_senders
   pub some_len : 1000 ≤ version.max_len
   pub some_queues : 1 ≤ version.max_queues
+  pub some_mq : 1 ≤ version.max_mq
   pub few_senders : version.max_senders ≤ 64
   pub few_len : version.max_len ≤ 65536
   pub few_queues : version.max_queues ≤ 8
+  pub few_mq : version.max_mq ≤ 8
 
 pub is-version_1 : IsVersion version_1
 is-version_1 = record {
   some_senders = omega arith;
   some_len = omega arith;
   some_queues = omega arith;
+  some_mq = omega arith;
   few_senders = omega arith;
   few_len = omega arith;
   few_queues = omega arith;
+  few_mq = omega arith;
 }
 
-is-version_2 : IsVersion version_2
+pub is-version_2 : IsVersion version_2
 is-version_2 = record {
   some_senders = omega arith;
   some_len = omega arith;
   some_queues = omega arith;
+  some_mq = omega arith;
   few_senders = omega arith;
   few_len = omega arith;
   few_queues = omega arith;
+  few_mq = omega arith;
 }
 
-of-version : (is_2 : Bool) → IsVersion (if is_2 then version_2 else version_1)
-of-version true = is-version_2
-of-version false = is-version_1
+pub is-version_3 : IsVersion version_3
+is-version_3 = record {
+  some_senders = omega arith;
+  some_len = omega arith;
+  some_queues = omega arith;
+  some_mq = omega arith;
+  few_senders = omega arith;
+  few_len = omega arith;
+  few_queues = omega arith;
+  few_mq = omega arith;
+}
+
+of-version : (is_3 is_2 : Bool) → IsVersion (if is_3 then version_3 else if is_2 then version_2 else version_1)
+of-version true is_2 = is-version_3
+of-version false true = is-version_2
+of-version false false = is-version_1
 
 pub is-version : (root : Members) → IsVersion (version_of root)
-is-version root = of-version (number_at (codes "version") 1 root == 2)
+is-version root = of-version (number_at (codes "version") 1 root == 3) (number_at (codes "version") 1 root == 2)
 
 -- A STATION
+
+-- the queues that a station may have
+some-queues : (version : Version) → IsVersion version → (several : Bool) → (1 ≤ (if several then 1 else version.max_queues)) × ((if several then 1 else version.max_queues) ≤ version.max_queues)
+some-queues version is true = (omega arith, is.some_queues)
+some-queues version is false = (is.some_queues, omega arith)
+
+pub mq_within : (version : Version) → IsVersion version → (t : Members) → has_value_out_of_range (station_keys version t) t ≡ false → (1 ≤ mq_in t) × (mq_in t ≤ version.max_mq)
+unfolding station_keys
+mq_within version is t h = in_range t (station_keys version t) 4 (codes "mq") version.mq 1 version.max_mq 1 h refl (omega arith) is.some_mq
 
 pub station_within : (version : Version) → IsVersion version → (t : Members) → has_value_out_of_range (station_keys version t) t ≡ false → IsStationOf version (station_plan_in t)
 unfolding station_keys
@@ -69,18 +101,19 @@ station_within version is t h =
     let keys = station_keys version t in
     let len = in_range t keys 0 (codes "len") Optional 1 version.max_len 1000 h refl (omega arith) is.some_len in
     let max_len = in_range t keys 1 (codes "max_len") Optional (len_in t) version.max_len (len_in t) h refl (omega arith) len.1 in
-    let queues = in_range t keys 3 (codes "queues") version.queues 1 version.max_queues 1 h refl (omega arith) is.some_queues in
-    let burst = in_range t keys 4 (codes "burst") Optional 0 1000000 0 h refl (omega arith) (omega arith) in
-    let busy_every = in_range t keys 5 (codes "busy_every") Optional 0 1000000 0 h refl (omega arith) (omega arith) in
-    let busy_limit = in_range t keys 6 (codes "busy_limit") Optional 0 1000000 0 h refl (omega arith) (omega arith) in
-    let hang_after = in_range t keys 7 (codes "hang_after") Optional 0 1000000 0 h refl (omega arith) (omega arith) in
+    let most = some-queues version is (nat_lt 1 (mq_in t)) in
+    let queues = in_range t keys 3 (codes "queues") version.queues 1 (max_queues_in version t) 1 h refl (omega arith) most.0 in
+    let burst = in_range t keys 5 (codes "burst") Optional 0 1000000 0 h refl (omega arith) (omega arith) in
+    let busy_every = in_range t keys 6 (codes "busy_every") Optional 0 1000000 0 h refl (omega arith) (omega arith) in
+    let busy_limit = in_range t keys 7 (codes "busy_limit") Optional 0 1000000 0 h refl (omega arith) (omega arith) in
+    let hang_after = in_range t keys 8 (codes "hang_after") Optional 0 1000000 0 h refl (omega arith) (omega arith) in
     record {
       some = len.0;
       len = max_len.0;
       max_len = max_len.1;
       params = record { burst = burst.1; busy_every = busy_every.1; busy_limit = busy_limit.1; hang_after = hang_after.1 };
       has_queue = queues.0;
-      queues = queues.1;
+      queues = omega (arith, queues.1, most.1);
     }
 
 -- the limits of the latest version are the widest
@@ -102,9 +135,13 @@ widened version is p within = record {
   irq_every = within.irq_every;
   has_station = within.has_station;
   stations = within.stations;
+  has_group = within.has_group;
+  children = within.children;
+  each_group = λ j mq at. let each = within.each_group j mq at in (each.0, omega (arith, each.1, is.few_mq));
   events = within.events;
   each_station = λ j station at. station-widened version is station (within.each_station j station at);
   each_event = within.each_event;
+  each_reach = within.each_reach;
   order = within.order;
 }
 
@@ -145,16 +182,11 @@ abbrev pub AreStationsOf : Version → List Members → Type 0
 AreStationsOf version stations = (j : ℕ) (t : Members) → slice_get stations j ≡ Some t → IsStationOf version (station_plan_in t)
 
 abbrev pub AreStationsWithin : List Members → Type 0
-AreStationsWithin stations = AreStationsOf version_2 stations
+AreStationsWithin stations = AreStationsOf version_3 stations
 
-greatest_same : (o : Option Members) → option_map_or (λ (s : StationPlan). s.max_len) (option_map station_plan_in o) 0 ≡ option_map_or max_len_in o 0
-greatest_same None = refl
-greatest_same (Some s) = refl
-
-max_len_same : (stations : List Members) (t : Members) → max_len_at (map station_plan_in stations) (number_at (codes "station") 0 t) ≡ max_len_for stations t
-max_len_same stations t =
-    let j = number_at (codes "station") 0 t in
-    ap (λ o. option_map_or (λ (s : StationPlan). s.max_len) o 0) (slice_get-map station_plan_in stations j) ∙ greatest_same (slice_get stations j)
+-- each group is of some stations
+abbrev pub AreGroupsWithin : List Members → Type 0
+AreGroupsWithin stations = (j : ℕ) (t : Members) → slice_get stations j ≡ Some t → 0 < mq_in t
 
 -- the station of an event, if there is one
 max_len_bounds : (stations : List Members) (t : Members) → AreStationsWithin stations → number_at (codes "station") 0 t < length stations
@@ -166,40 +198,68 @@ max_len_bounds stations t within there =
     let same : max_len_for stations t ≡ max_len_in (get_or stations j no_members) = ap (λ o. option_map_or max_len_in o 0) at in
     (omega arith, omega arith)
 
-pub event_within : (stations : List Members) (t : Members) → AreStationsWithin stations → 0 < length stations → has_value_out_of_range (event_keys stations t) t ≡ false
-    → IsEventWithin (map station_plan_in stations) (event_in t)
-event_within stations t within some h =
-    let facts = event_facts stations t h in
-    let there : number_at (codes "station") 0 t < length stations = omega (arith, facts.station) in
-    let bounds = max_len_bounds stations t within there in
-    record {
-      before = facts.before;
-      station = omega (arith, length-map stations station_plan_in);
-      kind = rw (max_len_same stations t) (kind_within (event_word_in t) t (max_len_for stations t) (facts.len bounds.0) facts.params);
-    }
+-- a station that an event is done to is a child of the event's group
+child-of : (mq first c : ℕ) (event : EventPlan) → event.station ≡ first → event.mq ≡ mq → 0 < mq → is_at c event ≡ true → (i : ℕ) × (i < mq) × (c ≡ first + i)
+child-of mq first c event is_first is_mq some at =
+    let within = at-within c event at in let few = reach-few event (omega arith) in (c - first, omega arith, omega arith)
 
-pub event_small : (stations : List Members) (t : Members) → AreStationsWithin stations → 0 < length stations → length stations ≤ 8
-    → has_value_out_of_range (event_keys stations t) t ≡ false → IsEventSmall (event_in t)
-event_small stations t within some few h =
+pub event_within : (stations : List Members) (t : Members) → AreStationsWithin stations → AreGroupsWithin stations → 0 < length stations → has_value_out_of_range (event_keys stations t) t ≡ false
+    → IsEventWithin (flat_map children_in stations) (event_in (groups_in stations) t)
+event_within stations t within some_mq some h =
     let facts = event_facts stations t h in
-    let there : number_at (codes "station") 0 t < length stations = omega (arith, facts.station) in
+    let j = group_in t in
+    let groups = groups_in stations in
+    let there : j < length stations = omega (arith, facts.station) in
+    let long = length-map stations mq_in in
+    let below : j < length groups = omega arith in
     let bounds = max_len_bounds stations t within there in
-    let len = facts.len bounds.0 in
+    let s = get_or stations j no_members in
+    let at = slice_get-get_or stations j no_members there in
+    let mq : mq_at groups j ≡ mq_in s = ap (λ o. option_map_or (λ mq. mq) o 0) (slice_get-map mq_in stations j ∙ ap (option_map mq_in) at) in
+    let has : 0 < mq_at groups j = let known = some_mq j s at in omega arith in
+    let inside = group-within groups j below in
+    let all = length-children stations in
     record {
       before = facts.before;
       station = omega arith;
+      some = has;
+      within = omega arith;
+      kind = λ c at-c. let child = child-of (mq_at groups j) (first_at groups j) c (event_in groups t) refl refl has at-c in
+          let is : max_len_at (flat_map children_in stations) c ≡ max_len_for stations t =
+          ap (max_len_at (flat_map children_in stations)) child.2 ∙ (ap (λ o. option_map_or (λ (x : StationPlan). x.max_len) o 0) (child-at stations j child.0 s at (omega arith))
+          ∙ sym (ap (λ o. option_map_or max_len_in o 0) at)) in
+          subst (λ most. IsKindWithin most (kind_as (event_word_in t) t)) (sym is) (kind_within (event_word_in t) t (max_len_for stations t) (facts.len bounds.0) facts.params);
+    }
+
+pub event_group : (stations : List Members) (t : Members) → 0 < length stations → has_value_out_of_range (event_keys stations t) t ≡ false → IsEventOfGroup (groups_in stations) (event_in (groups_in stations) t)
+event_group stations t some h =
+    let facts = event_facts stations t h in let long = length-map stations mq_in in
+    record { group = group_in t; there = omega (arith, facts.station); first = refl; children = refl }
+
+pub event_small : (stations : List Members) (t : Members) → AreStationsWithin stations → 0 < length stations
+    → has_value_out_of_range (event_keys stations t) t ≡ false → IsEventSmall (length (groups_in stations)) t
+event_small stations t within some h =
+    let facts = event_facts stations t h in
+    let there : group_in t < length stations = omega (arith, facts.station) in
+    let bounds = max_len_bounds stations t within there in
+    let len = facts.len bounds.0 in
+    let long = length-map stations mq_in in
+    record {
+      before = facts.before;
+      group = omega arith;
       kind = kind_within (event_word_in t) t 65536 (len.0, omega arith) facts.params;
     }
 
 -- A DOCUMENT WITHOUT FAULTS
 
-first_of_four : {X : Type 0} (a b c d : Bool) (w x y z : X) → None ≡ (if a then Some w else if b then Some x else if c then Some y else if d then Some z else None)
-    → (a ≡ false) × (b ≡ false) × (c ≡ false) × (d ≡ false)
-first_of_four true b c d w x y z h = cc
-first_of_four false true c d w x y z h = cc
-first_of_four false false true d w x y z h = cc
-first_of_four false false false true w x y z h = cc
-first_of_four false false false false w x y z h = (refl, refl, refl, refl)
+first_of_five : {X : Type 0} (a b c d e : Bool) (v w x y z : X) → None ≡ (if a then Some v else if b then Some w else if c then Some x else if d then Some y else if e then Some z else None)
+    → (a ≡ false) × (b ≡ false) × (c ≡ false) × (d ≡ false) × (e ≡ false)
+first_of_five true b c d e v w x y z h = cc
+first_of_five false true c d e v w x y z h = cc
+first_of_five false false true d e v w x y z h = cc
+first_of_five false false false true e v w x y z h = cc
+first_of_five false false false false true v w x y z h = cc
+first_of_five false false false false false v w x y z h = (refl, refl, refl, refl, refl)
 
 record NoFault (version : Version) (fault : Fault) (d : Document) : Type 0 where
   root : has_fault fault (root_keys version) d.root ≡ false
@@ -221,6 +281,8 @@ pub record Facts (version : Version) (root : Members) (d : Document) : Type 0 wh
   pub few_stations : length d.stations ≤ 8
   pub few_events : length d.events ≤ 64
   pub stations : AreStationsOf version d.stations
+  pub mq : (j : ℕ) (t : Members) → slice_get d.stations j ≡ Some t → (1 ≤ mq_in t) × (mq_in t ≤ version.max_mq)
+  pub few_children : sum (groups_in d.stations) ≤ 8
   pub events : (e : ℕ) (t : Members) → slice_get d.events e ≡ Some t → has_value_out_of_range (event_keys d.stations t) t ≡ false
   pub is : IsVersion version
 
@@ -228,10 +290,11 @@ pub root_facts : (version : Version) → IsVersion version → (root : Members) 
 unfolding root_keys
 root_facts version is root h =
     let d = document_of root in
-    let none = first_of_four (has_fault_in version UnknownKey d) (has_fault_in version MissingKey d) (has_fault_in version WrongKind d) (has_fault_in version OutOfRange d) _ _ _ _ h in
+    let none = first_of_five (has_fault_in version UnknownKey d) (has_fault_in version MissingKey d) (has_fault_in version WrongKind d) (has_fault_in version OutOfRange d) (has_group_fault d) _ _ _ _ _ h in
     let missing = no_fault version MissingKey d none.1 in
     let kinds = no_fault version WrongKind d none.2 in
     let ranges = no_fault version OutOfRange d none.3 in
+    let groups = or_parts (nat_lt 8 (sum (groups_in d.stations))) _ none.4 in
     let keys = root_keys version in
     let station = key (codes "station") Required (Tables 1 8) in
     let event = key (codes "event") Optional (Tables 0 64) in
@@ -242,12 +305,18 @@ root_facts version is root h =
       few_stations = tables_few 1 8 (get_member (codes "station") root) (at_false (is_out_of_range root) keys 4 station ranges.root refl);
       few_events = tables_few 0 64 (get_member (codes "event") root) (at_false (is_out_of_range root) keys 5 event ranges.root refl);
       stations = λ j t at. station_within version is t (at_false (λ s. has_fault OutOfRange (station_keys version s) s) d.stations j t ranges.stations at);
+      mq = λ j t at. mq_within version is t (at_false (λ s. has_fault OutOfRange (station_keys version s) s) d.stations j t ranges.stations at);
+      few_children = ltb-false 8 (sum (groups_in d.stations)) groups.0;
       events = λ e t at. at_false (λ x. has_fault OutOfRange (event_keys d.stations x) x) d.events e t ranges.events at;
       is = is;
     }
 
 pub facts : (root : Members) (d : Document) → d ≡ document_of root → None ≡ first_fault (version_of d.root) d → Facts (version_of root) root d
 facts root d same h = rw same (root_facts (version_of root) (is-version root) root (h ∙ ap (λ (x : Document). first_fault (version_of x.root) x) same))
+
+-- what the groups of a document without faults are
+pub few-mq : (root : Members) (d : Document) → d ≡ document_of root → None ≡ first_fault (version_of d.root) d → (j : ℕ) (t : Members) → slice_get d.stations j ≡ Some t → mq_in t ≤ 8
+few-mq root d same h j t at = let all = facts root d same h in let mq = all.mq j t at in omega (arith, mq.1, all.is.few_mq)
 
 pub stations-within : (version : Version) (root : Members) (d : Document) → Facts version root d → AreStationsWithin d.stations
 stations-within version root d all = λ j t at. station-widened version all.is (station_plan_in t) (all.stations j t at)
@@ -261,21 +330,41 @@ seen_through f (Some x) y h = (x, refl, cc)
 mapped : {X Y : Type 0} (f : X → Y) (xs : List X) (j : ℕ) (y : Y) → slice_get (map f xs) j ≡ Some y → (x : X) × (slice_get xs j ≡ Some x) × (y ≡ f x)
 mapped f xs j y at = seen_through f (slice_get xs j) y (sym (slice_get-map f xs j) ∙ at)
 
-pub of_version : (version : Version) (root : Members) (d : Document) (p : Plan) → Facts version root d → is_out_of_order (map event_in d.events) ≡ false → p.senders ≡ number_at (codes "senders") 1 root
-    → p.irq_every ≡ number_at (codes "irq_every") 1 root → p.stations ≡ map station_plan_in d.stations → p.events ≡ map event_in d.events → IsPlanOf version p
-of_version version root d p all in_order senders irq_every stations events = record {
-  has_sender = omega (arith, all.senders.0);
-  senders = omega (arith, all.senders.1);
-  has_irq_every = omega (arith, all.irq_every.0);
-  irq_every = omega (arith, all.irq_every.1);
-  has_station = rw stations (omega (arith, length-map d.stations station_plan_in, all.has_station));
-  stations = rw stations (omega (arith, length-map d.stations station_plan_in, all.few_stations));
-  events = rw events (omega (arith, length-map d.events event_in, all.few_events));
-  each_station = λ j station at.
-      let found = mapped station_plan_in d.stations j station (ap (λ ss. slice_get ss j) (sym stations) ∙ at) in
-      rw found.2 (all.stations j found.0 found.1);
-  each_event = λ e event at.
-      let found = mapped event_in d.events e event (ap (λ es. slice_get es e) (sym events) ∙ at) in
-      rw (stations, found.2) (event_within d.stations found.0 (stations-within version root d all) all.has_station (all.events e found.0 found.1));
-  order = rw events in_order;
-}
+pub groups-within : (version : Version) (root : Members) (d : Document) → Facts version root d → AreGroupsWithin d.stations
+groups-within version root d all = λ j t at. let mq = all.mq j t at in omega (arith, mq.0)
+
+-- some stations are some children
+some-children : (version : Version) (root : Members) (d : Document) → Facts version root d → 0 < sum (groups_in d.stations)
+some-children version root d all =
+    let long = length-map d.stations mq_in in let has = all.has_station in let first : 0 < length (groups_in d.stations) = omega arith in
+    let at = slice_get-get_or d.stations 0 no_members has in
+    let mq : mq_at (groups_in d.stations) 0 ≡ mq_in (get_or d.stations 0 no_members) = ap (λ o. option_map_or (λ mq. mq) o 0) (slice_get-map mq_in d.stations 0 ∙ ap (option_map mq_in) at) in
+    let some = groups-within version root d all 0 (get_or d.stations 0 no_members) at in let inside = group-within (groups_in d.stations) 0 first in omega arith
+
+pub of_version : (version : Version) (root : Members) (d : Document) (p : Plan) → Facts version root d → is_out_of_order (map (event_in (groups_in d.stations)) d.events) ≡ false → p.senders ≡ number_at (codes "senders") 1 root
+    → p.irq_every ≡ number_at (codes "irq_every") 1 root → p.stations ≡ flat_map children_in d.stations → p.groups ≡ groups_in d.stations → p.events ≡ map (event_in (groups_in d.stations)) d.events → IsPlanOf version p
+of_version version root d p all in_order senders irq_every stations groups events =
+    let count = length-children d.stations in record {
+      has_sender = omega (arith, all.senders.0);
+      senders = omega (arith, all.senders.1);
+      has_irq_every = omega (arith, all.irq_every.0);
+      irq_every = omega (arith, all.irq_every.1);
+      has_station = rw stations (omega (arith, count, some-children version root d all));
+      stations = rw stations (omega (arith, count, all.few_children));
+      has_group = rw groups (omega (arith, length-map d.stations mq_in, all.has_station));
+      children = rw (groups, stations) (sym count);
+      each_group = λ j mq at.
+          let found = mapped mq_in d.stations j mq (ap (λ gs. slice_get gs j) (sym groups) ∙ at) in
+          let known = all.mq j found.0 found.1 in (omega (arith, found.2, known.0), omega (arith, found.2, known.1));
+      events = rw events (omega (arith, length-map d.events (event_in (groups_in d.stations)), all.few_events));
+      each_station = λ j station at.
+          let found = each-child d.stations j station (ap (λ ss. slice_get ss j) (sym stations) ∙ at) in
+          rw found.2 (all.stations found.1.0 found.0 found.1.1);
+      each_event = λ e event at.
+          let found = mapped (event_in (groups_in d.stations)) d.events e event (ap (λ es. slice_get es e) (sym events) ∙ at) in
+          rw (stations, found.2) (event_within d.stations found.0 (stations-within version root d all) (groups-within version root d all) all.has_station (all.events e found.0 found.1));
+      each_reach = λ e event at.
+          let found = mapped (event_in (groups_in d.stations)) d.events e event (ap (λ es. slice_get es e) (sym events) ∙ at) in
+          rw (groups, found.2) (event_group d.stations found.0 all.has_station (all.events e found.0 found.1));
+      order = rw events in_order;
+    }

@@ -16,5 +16,6 @@ generated_plan = record {
     params = record { burst = 48; busy_every = 0; busy_limit = 0; hang_after = 0 };
     queues = 1;
   } ∷ [];
+  groups = 1 ∷ [];
   events = [];
 }

@@ -1,8 +1,8 @@
 -- The keys of a plan: whether each may or has to be there, and what its value may be. As a table of docs/FORMATS.md.
-use Rattle.std.specs.Prelude.{ℕ, ◌-◌, ◌==◌, if◌then◌else◌, codes, List, [], ◌∷◌, length, map, Option, Some, None, slice_get}
+use Rattle.std.specs.Prelude.{ℕ, ◌-◌, ◌==◌, nat_lt, if◌then◌else◌, codes, List, [], ◌∷◌, length, map, Option, Some, None, slice_get}
 use Rattle.std.specs.Option.{option_map_or, option_and_then}
 use Rattle.toml.specs.Data.{Members}
-use Rattle.lq_plan.specs.Limits.{version_1, version_2}
+use Rattle.lq_plan.specs.Limits.{version_1, version_2, version_3}
 use Rattle.lq_plan.specs.Values.{number_at, text_at, event_word_of}
 use Rattle.lq_plan.specs.declared.keys.Key.{Key as CodeKey}
 use Rattle.lq_plan.specs.declared.keys.Presence.{Presence}
@@ -30,9 +30,13 @@ keys_view = map key_view
 
 -- VERSIONS
 
--- the version of the document at this root: 2 where it says so, else 1
+-- the version of this number: 1 of any other number
+abbrev pub version_numbered : ℕ → Version
+version_numbered number = if number == 3 then version_3 else if number == 2 then version_2 else version_1
+
+-- the version of the document at this root: 3 or 2 where it says so, else 1
 abbrev pub version_of : Members → Version
-version_of root = if number_at (codes "version") 1 root == 2 then version_2 else version_1
+version_of root = version_numbered (number_at (codes "version") 1 root)
 
 -- THE ROOT
 
@@ -66,12 +70,21 @@ max_len_in station = number_at (codes "max_len") (len_in station) station
 abbrev pub queues_in : Members → ℕ
 queues_in station = number_at (codes "queues") 1 station
 
+-- of how many stations it is the group
+abbrev pub mq_in : Members → ℕ
+mq_in station = number_at (codes "mq") 1 station
+
+-- each of several has one queue
+abbrev pub max_queues_in : Version → Members → ℕ
+max_queues_in version station = if nat_lt 1 (mq_in station) then 1 else version.max_queues
+
 unfoldable pub station_keys : Version → Members → List Key
 station_keys version station =
     key (codes "len") Optional (Number 1 version.max_len)
     ∷ key (codes "max_len") Optional (Number (len_in station) version.max_len)
     ∷ key (codes "bypass") Optional Flag
-    ∷ key (codes "queues") version.queues (Number 1 version.max_queues)
+    ∷ key (codes "queues") version.queues (Number 1 (max_queues_in version station))
+    ∷ key (codes "mq") version.mq (Number 1 version.max_mq)
     ∷ params_keys Optional
 
 -- EVENTS
@@ -96,9 +109,13 @@ params_presence (Some Resize) = Unknown
 params_presence (Some TxQueueLen) = Unknown
 params_presence (Some Swap) = Optional
 
--- the greatest length of an event's station; 0 where there is no such station
+-- the station of the text to which an event is done
+abbrev pub group_in : Members → ℕ
+group_in event = number_at (codes "station") 0 event
+
+-- its greatest length; 0 where there is no such station
 abbrev pub max_len_for : List Members → Members → ℕ
-max_len_for stations event = option_map_or max_len_in (slice_get stations (number_at (codes "station") 0 event)) 0
+max_len_for stations event = option_map_or max_len_in (slice_get stations (group_in event)) 0
 
 unfoldable pub event_keys : List Members → Members → List Key
 event_keys stations event =

@@ -1,8 +1,9 @@
 -- The limits of a plan's numbers, by the version of its text, and the order of its events.
-use Rattle.std.specs.Prelude.{◌≡◌, ℕ, ◌<◌, ◌≤◌, Bool, true, false, ◌||◌, nat_lt, ◌==◌, List, [], ◌∷◌, length, map, filter, Option, None, Some, slice_get}
+use Rattle.std.specs.Prelude.{◌≡◌, ℕ, ◌+◌, ◌<◌, ◌≤◌, Bool, true, false, ◌||◌, nat_lt, List, [], ◌∷◌, length, map, sum, filter, Option, None, Some, slice_get}
 use Rattle.std.specs.List.{list_any}
 use Rattle.std.specs.Option.{option_map_or}
-use Rattle.lq_model.specs.Plan.{Plan}
+use Rattle.lq_model.specs.Numbers.{first_numbers}
+use Rattle.lq_model.specs.Plan.{Plan, first_at, is_at, mq_at}
 use Rattle.lq_model.specs.declared.device.Params.{Params}
 use Rattle.lq_model.specs.declared.plan.EventKind.{EventKind}
 use Rattle.lq_model.specs.declared.plan.EventKind.TheVariants.{Down, Up, Resize, TxQueueLen, Swap}
@@ -14,10 +15,13 @@ use Rattle.lq_plan.specs.declared.keys.Version.{Version}
 -- WHAT DIFFERS BETWEEN THE VERSIONS
 
 abbrev pub version_1 : Version
-version_1 = record { number = 1; max_senders = 8; max_len = 4096; queues = Unknown; max_queues = 1 }
+version_1 = record { number = 1; max_senders = 8; max_len = 4096; queues = Unknown; max_queues = 1; mq = Unknown; max_mq = 1 }
 
 abbrev pub version_2 : Version
-version_2 = record { number = 2; max_senders = 64; max_len = 65536; queues = Optional; max_queues = 8 }
+version_2 = record { number = 2; max_senders = 64; max_len = 65536; queues = Optional; max_queues = 8; mq = Unknown; max_mq = 1 }
+
+abbrev pub version_3 : Version
+version_3 = record { number = 3; max_senders = 64; max_len = 65536; queues = Optional; max_queues = 8; mq = Optional; max_mq = 8 }
 
 -- THE ORDER OF EVENTS
 
@@ -49,11 +53,15 @@ is_misplaced (Some active) (kind ∷ kinds) = is_misplaced (active_after active 
 
 -- what is done to a station
 abbrev pub kinds_at : ℕ → List EventPlan → List EventKind
-kinds_at station events = map (λ event. event.kind) (filter (λ event. event.station == station) events)
+kinds_at station events = map (λ event. event.kind) (filter (is_at station) events)
+
+-- no plan has more stations than this
+abbrev pub max_stations : ℕ
+max_stations = 8
 
 -- each station is active at first
 abbrev pub is_out_of_order : List EventPlan → Bool
-is_out_of_order events = falls_below 0 events || list_any (λ event. is_misplaced (Some true) (kinds_at event.station events)) events
+is_out_of_order events = falls_below 0 events || list_any (λ station. is_misplaced (Some true) (kinds_at station events)) (first_numbers max_stations)
 
 -- LIMITS
 
@@ -85,7 +93,17 @@ IsKindWithin max_len (Swap params) = AreParamsWithin params
 pub record IsEventWithin (stations : List StationPlan) (event : EventPlan) : Type 0 where
   pub before : event.before ≤ 1000000
   pub station : event.station < length stations
-  pub kind : IsKindWithin (max_len_at stations event.station) event.kind
+  -- all stations that it is done to are stations of the plan, each of which allows its kind
+  pub some : 0 < event.mq
+  pub within : event.station + event.mq ≤ length stations
+  pub kind : (station : ℕ) → is_at station event ≡ true → IsKindWithin (max_len_at stations station) event.kind
+
+-- the event is one of a group: of all its children
+pub record IsEventOfGroup (groups : List ℕ) (event : EventPlan) : Type 0 where
+  pub group : ℕ
+  pub there : group < length groups
+  pub first : event.station ≡ first_at groups group
+  pub children : event.mq ≡ mq_at groups group
 
 pub record IsPlanOf (version : Version) (plan : Plan) : Type 0 where
   pub has_sender : 0 < plan.senders
@@ -93,15 +111,20 @@ pub record IsPlanOf (version : Version) (plan : Plan) : Type 0 where
   pub has_irq_every : 0 < plan.irq_every
   pub irq_every : plan.irq_every ≤ 1000
   pub has_station : 0 < length plan.stations
-  pub stations : length plan.stations ≤ 8
+  pub stations : length plan.stations ≤ max_stations
+  -- the stations are the children of the groups
+  pub has_group : 0 < length plan.groups
+  pub children : sum plan.groups ≡ length plan.stations
+  pub each_group : (j mq : ℕ) → slice_get plan.groups j ≡ Some mq → (0 < mq) × (mq ≤ version.max_mq)
   pub events : length plan.events ≤ 64
   pub each_station : (j : ℕ) (station : StationPlan) → slice_get plan.stations j ≡ Some station → IsStationOf version station
   pub each_event : (e : ℕ) (event : EventPlan) → slice_get plan.events e ≡ Some event → IsEventWithin plan.stations event
+  pub each_reach : (e : ℕ) (event : EventPlan) → slice_get plan.events e ≡ Some event → IsEventOfGroup plan.groups event
   pub order : is_out_of_order plan.events ≡ false
 
 -- The limits of every plan are those of the latest version, which are the widest.
 abbrev pub IsStationWithin : StationPlan → Type 0
-IsStationWithin station = IsStationOf version_2 station
+IsStationWithin station = IsStationOf version_3 station
 
 abbrev pub IsWithinLimits : Plan → Type 0
-IsWithinLimits plan = IsPlanOf version_2 plan
+IsWithinLimits plan = IsPlanOf version_3 plan

@@ -1,10 +1,11 @@
 -- The plan that a text is, or why it is none.
-use Rattle.std.specs.Prelude.{◌≡◌, ℕ, ◌<◌, ◌≤◌, true, if◌then◌else◌, codes, List, map, Option, Some, None, Result, Ok, Err, option_and_then, unwrap_or}
+use Rattle.std.specs.Prelude.{◌≡◌, ℕ, ◌<◌, ◌≤◌, true, if◌then◌else◌, codes, List, map, replicate, Option, Some, None, Result, Ok, Err, option_and_then, unwrap_or}
+use Rattle.std.specs.List.{flat_map}
 use Rattle.std.specs.Option.{option_map_or}
 use Rattle.std.specs.Str.{is_utf8}
 use Rattle.toml.specs.Data.{Members}
 use Rattle.toml.specs.Parse.{parse_document}
-use Rattle.lq_model.specs.Plan.{Plan}
+use Rattle.lq_model.specs.Plan.{Plan, first_at, mq_at}
 use Rattle.lq_model.specs.declared.device.Params.{Params}
 use Rattle.lq_model.specs.declared.plan.EventKind.{EventKind}
 use Rattle.lq_model.specs.declared.plan.EventKind.TheVariants.{Down, Up, Resize, TxQueueLen, Swap}
@@ -14,8 +15,8 @@ use Rattle.lq_model.specs.declared.plan.PlanReason.TheVariants as reason
 use Rattle.lq_model.specs.declared.plan.Split.{Split}
 use Rattle.lq_model.specs.declared.plan.Split.TheVariants.{Round}
 use Rattle.lq_model.specs.declared.plan.StationPlan.{StationPlan}
-use Rattle.lq_plan.specs.Document.{Document, document_of, has_fault_in}
-use Rattle.lq_plan.specs.Keys.{event_word_in, len_in, max_len_in, queues_in, version_of}
+use Rattle.lq_plan.specs.Document.{Document, document_of, groups_in, has_fault_in, has_group_fault}
+use Rattle.lq_plan.specs.Keys.{event_word_in, group_in, len_in, max_len_in, mq_in, queues_in, version_of}
 use Rattle.lq_plan.specs.Limits.{IsKindWithin, is_out_of_order}
 use Rattle.lq_plan.specs.Values.{flag_at, number_at, split_of, text_at}
 use Rattle.lq_plan.specs.declared.faults.Fault.TheVariants.{UnknownKey, MissingKey, WrongKind, OutOfRange}
@@ -53,10 +54,16 @@ kind_as (Some word.Resize) event = Resize (number_at (codes "len") 1 event)
 kind_as (Some word.TxQueueLen) event = TxQueueLen (number_at (codes "len") 1 event)
 kind_as (Some word.Swap) event = Swap (params_in event)
 
-abbrev pub event_in : Members → EventPlan
-event_in event = record {
+-- the stations of the group that it is, which are all alike
+abbrev pub children_in : Members → List StationPlan
+children_in station = replicate (mq_in station) (station_plan_in station)
+
+-- an event, where the stations of the text are these groups
+abbrev pub event_in : List ℕ → Members → EventPlan
+event_in groups event = record {
   before = number_at (codes "before") 0 event;
-  station = number_at (codes "station") 0 event;
+  station = first_at groups (group_in event);
+  mq = mq_at groups (group_in event);
   kind = kind_as (event_word_in event) event;
 }
 
@@ -68,8 +75,9 @@ plan_in d = record {
   senders = number_at (codes "senders") 1 d.root;
   split = split_in d.root;
   irq_every = number_at (codes "irq_every") 1 d.root;
-  stations = map station_plan_in d.stations;
-  events = map event_in d.events;
+  stations = flat_map children_in d.stations;
+  groups = groups_in d.stations;
+  events = map (event_in (groups_in d.stations)) d.events;
 }
 
 -- WHY IT IS NO PLAN
@@ -82,7 +90,8 @@ first_fault version d =
     if has_fault_in version UnknownKey d then Some reason.UnknownKey
     else if has_fault_in version MissingKey d then Some reason.Missing
     else if has_fault_in version WrongKind d then Some reason.Kind
-    else if has_fault_in version OutOfRange d then Some reason.Range else None
+    else if has_fault_in version OutOfRange d then Some reason.Range
+    else if has_group_fault d then Some reason.Range else None
 
 -- the plan that a document is, if it has none of these faults
 abbrev pub plan_unless : Option PlanReason → Document → Result Plan PlanReason
@@ -110,8 +119,8 @@ abbrev pub IsPlanRefusal : {T : Type 0} → Result T PlanReason → PlanRefusal 
 IsPlanRefusal answer NoMemory = Unit {0}
 IsPlanRefusal answer (Refused cause) = answer ≡ Err cause
 
--- an event of a plan with at most 8 stations, each with rings of at most 65,536
-pub record IsEventSmall (event : EventPlan) : Type 0 where
-  pub before : event.before ≤ 1000000
-  pub station : event.station < 8
-  pub kind : IsKindWithin 65536 event.kind
+-- an event of one of so many groups, whose rings have at most 65,536 slots
+pub record IsEventSmall (groups : ℕ) (event : Members) : Type 0 where
+  pub before : number_at (codes "before") 0 event ≤ 1000000
+  pub group : group_in event < groups
+  pub kind : IsKindWithin 65536 (kind_as (event_word_in event) event)

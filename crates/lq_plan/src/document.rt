@@ -1,17 +1,21 @@
 // A document and its faults.
-ghost use Rattle.std.specs.Prelude.{◌≡◌, map, IfOk};
+ghost use Rattle.std.specs.Prelude.{◌≡◌, map, nat_lt, sum, IfOk};
 ghost use Rattle.std.specs.List.{list_any};
 ghost use Rattle.toml.specs.View.{table_view};
-ghost use Rattle.lq_plan.specs.Document.{document_of, document_view, has_fault_in};
+ghost use Rattle.lq_model.specs.Plan.{mq_at};
+ghost use Rattle.lq_plan.specs.Document.{document_of, document_view, groups_in, has_fault_in, has_group_fault, swaps_group};
 ghost use Rattle.lq_plan.specs.Faults.{has_fault};
-ghost use Rattle.lq_plan.specs.Keys.{event_keys, station_keys, version_of};
+ghost use Rattle.lq_plan.specs.Keys.{event_keys, group_in, station_keys, version_of};
 ghost use Rattle.lq_plan.specs.Reading.{first_fault};
 ghost use Rattle.lq_plan.specs.Tables.{tables_view};
 ghost use Rattle.lq_plan.specs.Values.{tables_at};
 
 use crate::faults::{Fault, has_fault};
-use crate::keys::{Version, event_keys, root_keys, station_keys, version_of};
-use crate::values::elements_at;
+use crate::keys::{
+    Version, event_keys, event_word, group_of, mq_of, root_keys, station_keys, version_of,
+};
+use crate::plan::MAX_STATIONS;
+use crate::values::{EventWord, elements_at};
 use lq_model::PlanReason;
 use std::alloc::{AllocError, Global};
 use toml::{Table, Value};
@@ -60,9 +64,56 @@ impl<'a> Document<'a> {
             Some(PlanReason::Kind)
         } else if self.has_fault(version, Fault::OutOfRange) {
             Some(PlanReason::Range)
+        } else if self.has_group_fault() {
+            Some(PlanReason::Range)
         } else {
             None
         }
+    }
+
+    /// Whether there are too many stations, or an event exchanges the device of a group of several.
+    fn has_group_fault(&self) -> bool
+        ensures { result ≡ has_group_fault (document_view self.now) }
+    {
+        are_too_many(&self.stations) || swaps_a_group(&self.stations, &self.events)
+    }
+}
+
+// Whether the groups are more stations than a plan may have.
+fn are_too_many(stations: &[&Table]) -> bool
+    ensures { result ≡ nat_lt 8 (sum (groups_in (tables_view stations.now))) }
+{
+    let mut room = u64::from(MAX_STATIONS);
+    for station in stations {
+        let mq = mq_of(station);
+        if mq > room {
+            return true;
+        }
+        room -= mq;
+    }
+    false
+}
+
+fn swaps_a_group(stations: &[&Table], events: &[&Table]) -> bool
+    ensures { result ≡ list_any (λ event. swaps_group (groups_in (tables_view stations.now)) (table_view event.now)) events.now }
+{
+    events.iter().any(|event| swaps_group(stations, event))
+}
+
+// Whether an event exchanges the device of a group of several.
+fn swaps_group(stations: &[&Table], event: &Table) -> bool
+    ensures { result ≡ swaps_group (groups_in (tables_view stations.now)) (table_view event.now) }
+{
+    event_word(event) == Some(EventWord::Swap) && mq_for(stations, event) > 1
+}
+
+// Of how many stations the group of an event is; 0 of no group.
+fn mq_for(stations: &[&Table], event: &Table) -> u64
+    ensures { result ≡ mq_at (groups_in (tables_view stations.now)) (group_in (table_view event.now)) }
+{
+    match stations.get(group_of(event) as usize) {
+        Some(station) => mq_of(station),
+        None => 0,
     }
 }
 

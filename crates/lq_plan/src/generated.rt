@@ -32,7 +32,8 @@ pub fn generated_plan(alloc: Global) -> Result<Plan, NoMemory>
     ensures { IfOk result (λ plan. plan ≡ generated_plan) }
 {
     let mut stations = Vec::new(alloc);
-    if stations.push(STATION).is_err() {
+    let mut groups = Vec::new(alloc);
+    if stations.push(STATION).is_err() || groups.push(1).is_err() {
         return Err(NoMemory);
     }
     Ok(Plan {
@@ -40,6 +41,7 @@ pub fn generated_plan(alloc: Global) -> Result<Plan, NoMemory>
         split: Split::Round,
         irq_every: 64,
         stations,
+        groups,
         events: Vec::new(alloc),
     })
 }

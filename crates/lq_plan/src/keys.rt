@@ -3,7 +3,7 @@ ghost use Rattle.std.specs.Prelude.{◌≡◌, map, ◌^◌, ◌<◌, length};
 ghost use Rattle.std.specs.Option.{option_and_then};
 ghost use Rattle.toml.specs.View.{table_view};
 ghost use Rattle.lq_plan.specs.Tables.{tables_view};
-ghost use Rattle.lq_plan.specs.Keys.{event_keys, key, key_view, event_word_in, keys_view, len_in, len_presence, max_len_in, max_len_for, params_keys, params_presence, queues_in, root_keys, station_keys, version_of};
+ghost use Rattle.lq_plan.specs.Keys.{event_keys, key, key_view, event_word_in, keys_view, len_in, len_presence, max_len_in, max_len_for, max_queues_in, mq_in, group_in, params_keys, params_presence, queues_in, root_keys, station_keys, version_of};
 
 use crate::values::{EventWord, event_word_of, number_at, text_at};
 use toml::Table;
@@ -49,6 +49,9 @@ pub struct Version {
     /// Whether a station may say how many queues it has.
     pub queues: Presence,
     pub max_queues: u64,
+    /// Whether it may say of how many stations it is the group.
+    pub mq: Presence,
+    pub max_mq: u64,
 }
 
 const VERSION_1: Version = Version {
@@ -57,6 +60,8 @@ const VERSION_1: Version = Version {
     max_len: 4096,
     queues: Presence::Unknown,
     max_queues: 1,
+    mq: Presence::Unknown,
+    max_mq: 1,
 };
 
 const VERSION_2: Version = Version {
@@ -65,16 +70,25 @@ const VERSION_2: Version = Version {
     max_len: 65536,
     queues: Presence::Optional,
     max_queues: 8,
+    mq: Presence::Unknown,
+    max_mq: 1,
 };
 
-/// The version of the document at this root: 2 where it says so, else 1.
+const VERSION_3: Version = Version {
+    number: 3,
+    mq: Presence::Optional,
+    max_mq: 8,
+    ..VERSION_2
+};
+
+/// The version of the document at this root: 3 or 2 where it says so, else 1.
 pub fn version_of(root: &Table) -> Version
     ensures { result ≡ version_of (table_view root.now) }
 {
-    if number_at(root, "version", 1) == 2 {
-        VERSION_2
-    } else {
-        VERSION_1
+    match number_at(root, "version", 1) {
+        3 => VERSION_3,
+        2 => VERSION_2,
+        _ => VERSION_1,
     }
 }
 
@@ -113,9 +127,34 @@ pub fn queues_of(station: &Table) -> u64
     number_at(station, "queues", 1)
 }
 
+/// Of how many stations it is the group.
+pub fn mq_of(station: &Table) -> u64
+    ensures { result ≡ mq_in (table_view station.now) }
+{
+    number_at(station, "mq", 1)
+}
+
+// Each station of a group of several has one queue.
+fn max_queues_of(version: Version, station: &Table) -> u64
+    ensures { result ≡ max_queues_in version (table_view station.now) }
+{
+    if mq_of(station) > 1 {
+        1
+    } else {
+        version.max_queues
+    }
+}
+
+/// The station of the text to which an event is done.
+pub fn group_of(event: &Table) -> u64
+    ensures { result ≡ group_in (table_view event.now) }
+{
+    number_at(event, "station", 0)
+}
+
 /// The keys of a station.
 #[tactic(auto, unfolding(crate::specs::Keys::station_keys))]
-pub fn station_keys(version: Version, station: &Table) -> [Key; 8]
+pub fn station_keys(version: Version, station: &Table) -> [Key; 9]
     ensures { keys_view result ≡ station_keys version (table_view station.now) }
 {
     let presence = Presence::Optional;
@@ -123,7 +162,12 @@ pub fn station_keys(version: Version, station: &Table) -> [Key; 8]
         optional("len", number(1, version.max_len)),
         optional("max_len", number(len_of(station), version.max_len)),
         optional("bypass", Rule::Flag),
-        key_of("queues", version.queues, number(1, version.max_queues)),
+        key_of(
+            "queues",
+            version.queues,
+            number(1, max_queues_of(version, station)),
+        ),
+        key_of("mq", version.mq, number(1, version.max_mq)),
         param("burst", presence),
         param("busy_every", presence),
         param("busy_limit", presence),
@@ -164,7 +208,7 @@ fn params_presence(word: Option<EventWord>) -> Presence
 fn max_len_for(stations: &[&Table], event: &Table) -> u64
     ensures { result ≡ max_len_for (tables_view stations.now) (table_view event.now) }
 {
-    match stations.get(number_at(event, "station", 0) as usize) {
+    match stations.get(group_of(event) as usize) {
         Some(station) => max_len_of(station),
         None => 0,
     }

@@ -23,8 +23,9 @@ mod refusal;
 mod values;
 
 pub use generated::generated_plan;
-pub use laws::{accepts_within_limits, version_1_stays};
+pub use laws::{accepts_within_limits, version_1_stays, version_2_stays};
 pub use lq_model::{EventKind, EventPlan, Params, PlanReason, Split, StationPlan};
+pub use order::is_at;
 pub use packets::infos;
 pub use plan::Plan;
 pub use reader::read_plan;

@@ -3,19 +3,17 @@ ghost use Rattle.std.specs.Prelude.{◌≡◌, ◌+◌, ◌*◌, ◌<◌, All, I
 ghost use Rattle.lq_model.specs.Plan.{info_of, infos_of};
 ghost use Rattle.lq_plan.specs.Packets.{IsInfoWithin};
 
-use crate::plan::Plan;
+use crate::plan::{MAX_STATIONS, Plan};
 use lq_class::{band, classify};
 use lq_model::{Info, NoMemory, Split};
 use lq_pcap::Frames;
 use std::alloc::{AllocError, Global};
 
-/// A plan has no more stations than this.
-const MAX_STATIONS: usize = 8;
-
 /// Of each packet, in the capture's order, its owner, station, band, queue and rank.
 ///
 /// The owner is the packet's number modulo the senders, or its source byte modulo the senders, as the plan splits
-/// them. The station is its route byte modulo the stations. Its band is that of its priority, as `pfifo_fast_enqueue`
+/// them. Its group is its route byte modulo the groups, and its station the child of that which its source byte chooses, modulo
+/// the group's children. Its band is that of its priority, as `pfifo_fast_enqueue`
 /// of net/sched/sch_generic.c chooses it. Its queue is its source byte modulo the station's queues. Its rank is how many
 /// lower packets have the same owner and station.
 ///
@@ -36,7 +34,7 @@ pub fn infos<F: Frames>(alloc: Global, plan: &Plan, frames: &F) -> Result<Vec<In
     let counts: &mut [u32] = &mut counts;
     for n in 0..frames.len() as u32 {
         let mut info = unranked(plan, frames, n);
-        info.rank = next_rank(counts, info.owner, info.station);
+        info.rank = next_rank(counts, info.owner as u32, info.station as u32);
         infos.push_reserved(info);
     }
     Ok(infos)
@@ -46,7 +44,7 @@ pub fn infos<F: Frames>(alloc: Global, plan: &Plan, frames: &F) -> Result<Vec<In
 fn no_packets(alloc: Global, senders: u32) -> Result<Vec<u32>, AllocError>
     ensures { IfOk result (λ counts. counts.items ≡ replicate (senders * 8) 0) }
 {
-    vec![in alloc; 0; senders as usize * MAX_STATIONS]
+    vec![in alloc; 0; senders as usize * MAX_STATIONS as usize]
 }
 
 // What packet n is to the rules, but for its rank.
@@ -61,12 +59,13 @@ fn unranked<F: Frames>(plan: &Plan, frames: &F, n: u32) -> Info
         Split::Round => n,
         Split::Source => u32::from(class.source_byte),
     };
-    let station = u32::from(class.route_byte) % plan.stations();
+    let group = u32::from(class.route_byte) % plan.groups();
+    let station = plan.first(group) + u32::from(class.source_byte) % plan.mq(group);
     Info {
-        owner: split_number % plan.senders(),
-        station,
-        band: band(class.priority),
-        queue: u32::from(class.source_byte) % plan.station(station).queues,
+        owner: (split_number % plan.senders()) as u8,
+        station: station as u8,
+        band: band(class.priority) as u8,
+        queue: (u32::from(class.source_byte) % plan.station(station).queues) as u8,
         rank: 0,
     }
 }
@@ -78,7 +77,7 @@ fn next_rank(counts: &mut [u32], owner: u32, station: u32) -> u32
     ensures rank { result ≡ slice_index counts.old (owner * 8 + station) }
     ensures counted { counts.new ≡ slice_set counts.old (owner * 8 + station) (result + 1) }
 {
-    let count = &mut counts[owner as usize * MAX_STATIONS + station as usize];
+    let count = &mut counts[owner as usize * MAX_STATIONS as usize + station as usize];
     let rank = *count;
     *count += 1;
     rank
@@ -174,11 +173,12 @@ mod tests {
             split,
             irq_every: 1,
             stations: vec![in alloc; station; 2]?,
+            groups: vec![in alloc; 1; 2]?,
             events: Vec::new(alloc),
         })
     }
 
-    fn info(owner: u32, station: u32, band: u32, queue: u32, rank: u32) -> Info {
+    fn info(owner: u8, station: u8, band: u8, queue: u8, rank: u32) -> Info {
         Info {
             owner,
             station,

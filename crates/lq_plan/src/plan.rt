@@ -1,10 +1,13 @@
 //! A plan that was read.
-ghost use Rattle.std.specs.Prelude.{◌≡◌, ◌<◌, ◌≤◌, Some, length, slice_get};
-ghost use Rattle.lq_model.specs.Plan.{is_swap, unit_count};
+ghost use Rattle.std.specs.Prelude.{◌≡◌, ◌<◌, ◌≤◌, ◌+◌, Some, length, slice_get, sum};
+ghost use Rattle.lq_model.specs.Plan.{first_at, is_swap, mq_at, unit_count};
 ghost use Rattle.lq_plan.specs.Limits.{IsWithinLimits, IsStationWithin, IsEventWithin};
 
 use lq_model::{EventKind, EventPlan, Split, StationPlan};
 use std::marker::Model;
+
+/// A plan has no more stations than this.
+pub const MAX_STATIONS: u32 = 8;
 
 /// A plan that was read. Contracts see the record `Plan` of `lq_model`.
 #[derive(Drop)]
@@ -13,6 +16,7 @@ pub struct Plan {
     pub(crate) split: Split,
     pub(crate) irq_every: u32,
     pub(crate) stations: Vec<StationPlan>,
+    pub(crate) groups: Vec<u32>,
     pub(crate) events: Vec<EventPlan>,
 }
 
@@ -53,7 +57,7 @@ impl Plan {
         self.irq_every
     }
 
-    /// How many stations there are.
+    /// How many stations there are: the children of all groups.
     pub fn stations(&self) -> u32
         ensures stations { result ≡ length self.now.stations }
         ensures some { 0 < result }
@@ -69,6 +73,43 @@ impl Plan {
         ensures within { IsStationWithin result }
     {
         self.stations[j as usize]
+    }
+
+    /// How many stations the text has: each is a group, the children of a multi-queue root or one station alone.
+    pub fn groups(&self) -> u32
+        ensures groups { result ≡ length self.now.groups }
+        ensures some { 0 < result }
+        ensures few { result ≤ 8 }
+    {
+        self.groups.len() as u32
+    }
+
+    /// How many children group `j` has.
+    pub fn mq(&self, j: u32) -> u32
+        requires { j < length self.now.groups }
+        ensures mq { result ≡ mq_at self.now.groups j }
+        ensures some { 0 < result }
+        ensures few { result ≤ 8 }
+    {
+        self.groups[j as usize]
+    }
+
+    /// The number of the first child of group `j`. The others follow it.
+    pub fn first(&self, j: u32) -> u32
+        requires { j < length self.now.groups }
+        ensures first { result ≡ first_at self.now.groups j }
+        ensures children { first_at self.now.groups j + mq_at self.now.groups j ≤ length self.now.stations }
+        ensures few { result + mq_at self.now.groups j ≤ 8 }
+    {
+        first_child(&self.groups, j)
+    }
+
+    /// How many children all groups have, which is how many stations there are.
+    pub fn children(&self) -> u32
+        ensures children { result ≡ sum self.now.groups }
+        ensures stations { result ≡ length self.now.stations }
+    {
+        self.stations.len() as u32
     }
 
     /// How many events there are.
@@ -113,4 +154,18 @@ fn is_swap(event: &EventPlan) -> bool
     ensures { result ≡ is_swap event.now }
 {
     matches!(event.kind, EventKind::Swap { .. })
+}
+
+/// The number of the first child of group `j` among groups that have so many children.
+pub(crate) fn first_child(groups: &[u32], j: u32) -> u32
+    requires group { j < length groups.now }
+    requires few { sum groups.now ≤ 8 }
+    ensures first { result ≡ first_at groups.now j }
+    ensures within { result + mq_at groups.now j ≤ sum groups.now }
+{
+    let mut first = 0;
+    for k in 0..j {
+        first += groups[k as usize];
+    }
+    first
 }

@@ -1,16 +1,18 @@
 // Reading a text as a plan.
-ghost use Rattle.std.specs.Prelude.{◌≡◌, ℕ, map, IfOk, IfErr, Ok, Some, slice_get};
+ghost use Rattle.std.specs.Prelude.{◌≡◌, ◌≤◌, ◌++◌, ℕ, map, length, replicate, sum, IfOk, IfErr, OnOk, Ok, Some, slice_get};
+ghost use Rattle.std.specs.List.{flat_map};
 ghost use Rattle.toml.specs.Data.{Members};
 ghost use Rattle.toml.specs.View.{table_view};
-ghost use Rattle.lq_plan.specs.Limits.{AreParamsWithin, IsStationWithin};
-ghost use Rattle.lq_plan.specs.Keys.{event_word_in};
-ghost use Rattle.lq_plan.specs.Reading.{IsEventSmall, IsPlanRefusal, event_in, kind_as, params_in, plan_from, plan_of, split_in, station_plan_in};
+ghost use Rattle.lq_plan.specs.Limits.{AreParamsWithin, IsKindWithin, IsStationWithin};
+ghost use Rattle.lq_plan.specs.Document.{groups_in};
+ghost use Rattle.lq_plan.specs.Keys.{event_word_in, mq_in};
+ghost use Rattle.lq_plan.specs.Reading.{IsEventSmall, IsPlanRefusal, children_in, event_in, kind_as, params_in, plan_from, plan_of, split_in, station_plan_in};
 ghost use Rattle.lq_plan.specs.Tables.{tables_view};
 
 use crate::document::Document;
-use crate::keys::{event_word, len_of, max_len_of, queues_of};
+use crate::keys::{event_word, group_of, len_of, max_len_of, mq_of, queues_of};
 use crate::order::is_out_of_order;
-use crate::plan::Plan;
+use crate::plan::{Plan, first_child};
 use crate::refusal::PlanRefusal;
 use crate::values::{EventWord, flag_at, number_at, split_of, text_at};
 use lq_model::{EventKind, EventPlan, Params, PlanReason, Split, StationPlan};
@@ -57,7 +59,8 @@ fn read_root(alloc: Global, root: &Table) -> Result<Plan, PlanRefusal>
         return Err(refused(reason));
     }
     let stations = read_stations(alloc, &document.stations)?;
-    let events = read_events(alloc, &document.events)?;
+    let groups = read_groups(alloc, &document.stations)?;
+    let events = read_events(alloc, &groups, &document.events)?;
     if is_out_of_order(&events) {
         return Err(refused(PlanReason::EventOrder));
     }
@@ -66,6 +69,7 @@ fn read_root(alloc: Global, root: &Table) -> Result<Plan, PlanRefusal>
         split: read_split(root),
         irq_every: number_at(root, "irq_every", 1) as u32,
         stations,
+        groups,
         events,
     })
 }
@@ -80,14 +84,42 @@ fn read_split(root: &Table) -> Split
 }
 
 fn read_stations(alloc: Global, stations: &[&Table]) -> Result<Vec<StationPlan>, AllocError>
-    requires { (j : ℕ) (station : Members) → slice_get (tables_view stations.now) j ≡ Some station → IsStationWithin (station_plan_in station) }
-    ensures { IfOk result (λ plans. plans.items ≡ map station_plan_in (tables_view stations.now)) }
+    requires within { (j : ℕ) (station : Members) → slice_get (tables_view stations.now) j ≡ Some station → IsStationWithin (station_plan_in station) }
+    requires few { (j : ℕ) (station : Members) → slice_get (tables_view stations.now) j ≡ Some station → mq_in station ≤ 8 }
+    ensures { IfOk result (λ plans. plans.items ≡ flat_map children_in (tables_view stations.now)) }
 {
     let mut plans = Vec::with_capacity(alloc, stations.len())?;
     for station in stations {
-        plans.push(read_station(station))?;
+        push_children(&mut plans, read_station(station), mq_of(station) as u32)?;
     }
     Ok(plans)
+}
+
+// So many stations more, all alike.
+fn push_children(
+    plans: &mut Vec<StationPlan>,
+    station: StationPlan,
+    mq: u32,
+) -> Result<(), AllocError>
+    ensures { OnOk result (plans.new.items ≡ plans.old.items ++ replicate mq station) }
+{
+    for child in 0..mq {
+        let _ = child;
+        plans.push(station)?;
+    }
+    Ok(())
+}
+
+// Of how many stations each is the group.
+fn read_groups(alloc: Global, stations: &[&Table]) -> Result<Vec<u32>, AllocError>
+    requires { (j : ℕ) (station : Members) → slice_get (tables_view stations.now) j ≡ Some station → mq_in station ≤ 8 }
+    ensures { IfOk result (λ groups. groups.items ≡ groups_in (tables_view stations.now)) }
+{
+    let mut groups = Vec::with_capacity(alloc, stations.len())?;
+    for station in stations {
+        groups.push(mq_of(station) as u32)?;
+    }
+    Ok(groups)
 }
 
 fn read_station(station: &Table) -> StationPlan
@@ -115,30 +147,38 @@ fn read_params(table: &Table) -> Params
     }
 }
 
-fn read_events(alloc: Global, events: &[&Table]) -> Result<Vec<EventPlan>, AllocError>
-    requires { (j : ℕ) (event : Members) → slice_get (tables_view events.now) j ≡ Some event → IsEventSmall (event_in event) }
-    ensures { IfOk result (λ plans. plans.items ≡ map event_in (tables_view events.now)) }
+fn read_events(
+    alloc: Global,
+    groups: &[u32],
+    events: &[&Table],
+) -> Result<Vec<EventPlan>, AllocError>
+    requires few { (length groups.now ≤ 8) × (sum groups.now ≤ 8) }
+    requires each { (j : ℕ) (event : Members) → slice_get (tables_view events.now) j ≡ Some event → IsEventSmall (length groups.now) event }
+    ensures { IfOk result (λ plans. plans.items ≡ map (event_in groups.now) (tables_view events.now)) }
 {
     let mut plans = Vec::with_capacity(alloc, events.len())?;
     for event in events {
-        plans.push(read_event(event))?;
+        plans.push(read_event(groups, event))?;
     }
     Ok(plans)
 }
 
-fn read_event(event: &Table) -> EventPlan
-    requires { IsEventSmall (event_in (table_view event.now)) }
-    ensures { result ≡ event_in (table_view event.now) }
+fn read_event(groups: &[u32], event: &Table) -> EventPlan
+    requires few { (length groups.now ≤ 8) × (sum groups.now ≤ 8) }
+    requires small { IsEventSmall (length groups.now) (table_view event.now) }
+    ensures { result ≡ event_in groups.now (table_view event.now) }
 {
+    let group = group_of(event) as u32;
     EventPlan {
         before: number_at(event, "before", 0) as u32,
-        station: number_at(event, "station", 0) as u32,
+        station: first_child(groups, group),
+        mq: groups[group as usize],
         kind: read_kind(event),
     }
 }
 
 fn read_kind(event: &Table) -> EventKind
-    requires { IsEventSmall (event_in (table_view event.now)) }
+    requires { IsKindWithin 65536 (kind_as (event_word_in (table_view event.now)) (table_view event.now)) }
     ensures { result ≡ kind_as (event_word_in (table_view event.now)) (table_view event.now) }
 {
     match event_word(event) {

@@ -6,7 +6,7 @@ use crate::{
 
 #[test]
 fn least_reason_of_each_text(rt: HostRuntime) {
-    let rows: [(&[u8], PlanReason); 19] = [
+    let rows: [(&[u8], PlanReason); 25] = [
         (b"len = = 3", PlanReason::NotToml),
         (b"\xff", PlanReason::NotToml),
         (b"[[station]]\nlenght = 5\n", PlanReason::UnknownKey),
@@ -31,6 +31,24 @@ fn least_reason_of_each_text(rt: HostRuntime) {
             PlanReason::Range,
         ),
         (b"[[station]]\nmax_len = 10\n", PlanReason::Range),
+        (
+            b"version = 2\n[[station]]\nmq = 2\n",
+            PlanReason::UnknownKey,
+        ),
+        (b"version = 3\n[[station]]\nmq = 9\n", PlanReason::Range),
+        (b"version = 3\n[[station]]\nmq = 0\n", PlanReason::Range),
+        (
+            b"version = 3\n[[station]]\nmq = 5\n[[station]]\nmq = 4\n",
+            PlanReason::Range,
+        ),
+        (
+            b"version = 3\n[[station]]\nmq = 2\nqueues = 2\n",
+            PlanReason::Range,
+        ),
+        (
+            b"version = 3\n[[station]]\nmq = 2\n[[event]]\nbefore = 0\nkind = \"swap\"\nstation = 0\n",
+            PlanReason::Range,
+        ),
         (b"senders = 4294967297\n[[station]]\n", PlanReason::Range),
         (
             b"[[station]]\n[[event]]\nbefore = 0\nkind = \"sway\"\nstation = 0\nlen = 1\n",
@@ -207,6 +225,7 @@ fn all_keys(rt: HostRuntime) {
         let want = EventPlan {
             before: *before,
             station: *station,
+            mq: 1,
             kind: *kind,
         };
         if (e as u32) < plan.events() {
@@ -230,5 +249,43 @@ fn version_2(rt: HostRuntime) {
     );
     if plan.stations() == 2 {
         assert_eq!(rt; plan.station(1).queues, 1);
+    }
+}
+
+/// Groups: their children are the stations, in order, and an event is done to all children of its group; a station alone may
+/// have several queues, and its device may be exchanged.
+#[test]
+fn version_3(rt: HostRuntime) {
+    let text =
+        b"version = 3\n[[station]]\nlen = 2\nqueues = 4\n[[station]]\nlen = 3\nmq = 7\n[[event]]\nbefore = 1\nkind = \"down\"\nstation = 1\n[[event]]\nbefore = 1\nkind = \"swap\"\nstation = 0\n";
+    let Ok(plan) = read_plan(rt.alloc(), text) else {
+        panic!(rt; "no plan");
+    };
+    assert_eq!(rt;
+        (
+            plan.groups(),
+            plan.stations(),
+            plan.children(),
+            plan.units()
+        ),
+        (2, 8, 8, 9)
+    );
+    if plan.groups() == 2 {
+        assert_eq!(rt; (plan.first(0), plan.mq(0)), (0, 1));
+        assert_eq!(rt; (plan.first(1), plan.mq(1)), (1, 7));
+    }
+    for j in 0..plan.stations() {
+        let station = plan.station(j);
+        let expected = if j == 0 { (2, 4) } else { (3, 1) };
+        assert_eq!(rt; (station.len, station.queues), expected, "station {j}");
+    }
+    let reached = [(1, 7), (0, 1)];
+    for e in 0..plan.events() {
+        let event = plan.event(e);
+        assert_eq!(rt;
+            Some(&(event.station, event.mq)),
+            reached.get(e as usize),
+            "event {e}"
+        );
     }
 }
