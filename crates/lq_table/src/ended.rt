@@ -10,10 +10,15 @@ use std::alloc::Global;
 
 /// What stays of a closed station when its device is handed out: its number, its plan and its packets' fates.
 pub struct Ended<D: TxDevice> {
+    /// The words as the last seat left them.
     pub(crate) table: ClosedTable<Option<Station<D>>, Global>,
+    /// The number of the station.
     pub(crate) number: u32,
+    /// What the plan says of the station.
     pub(crate) plan: StationPlan,
+    /// The place of the first packet's fate among the words.
     pub(crate) fates_from: usize,
+    /// How many packets the capture has, each with a fate word.
     pub(crate) packets: usize,
     pub ghost long: { (fates_from + packets ≤ slots_len table.words) × (line_of 9 ≤ slots_len table.words) × (packets ≤ 1000000) },
     pub ghost full: { IsFull table.words },
@@ -24,8 +29,11 @@ pub struct Ended<D: TxDevice> {
 /// A closed table, with its station where it was at home.
 #[derive(Drop)]
 pub struct Closed<D: TxDevice> {
+    /// All but the station.
     pub(crate) ended: Ended<D>,
+    /// The station, with its device; none where it wasn't in the slot.
     pub(crate) station: Option<Station<D>>,
+    /// How many queues its device has.
     pub(crate) queues: usize,
     pub ghost stopped: { (0 < queues) × (ended.fates_from + ended.packets + queues ≡ slots_len ended.table.words + 1) },
 }

@@ -9,7 +9,9 @@ use atomic_table::Seat;
 /// A seat of the table, and what can be told of its view at run time.
 #[derive(Drop)]
 pub struct Marked<S> {
+    /// The seat of the kit's table. Its view and its steps are for contracts alone.
     pub(crate) seat: Seat<S, Knowledge>,
+    /// What of the view can be told at run time.
     pub(crate) marks: Marks,
     pub ghost told: { marks ≡ marks_of seat.me.0.view },
 }
