@@ -10,8 +10,8 @@ use Rattle.lq_account.specs.Progress.{len_of, start_of}
 use Rattle.lq_account.specs.Trail.{trail_of, down_of, IsTrail}
 use Rattle.lq_model.specs.Account.{Account, Event, after_all}
 use Rattle.lq_model.specs.Legal.{IsLegal}
-use Rattle.lq_model.specs.Plan.{Plan, is_swap, is_swap_kind, unit_count}
-use Rattle.lq_model.specs.Settled.{IsConfiguredWith, IsUnitOf, is_at, length_after}
+use Rattle.lq_model.specs.Plan.{Plan, is_at, is_swap, is_swap_kind, unit_count}
+use Rattle.lq_model.specs.Settled.{IsConfiguredWith, IsUnitOf, length_after}
 use Rattle.lq_model.specs.declared.device.Params.{Params}
 use Rattle.lq_model.specs.declared.fate.Info.{Info}
 use Rattle.lq_model.specs.declared.plan.EventPlan.{EventPlan}

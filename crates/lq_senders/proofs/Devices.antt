@@ -7,6 +7,7 @@ use mathlib.Core.Logic.{dite}
 use native.Mathlib.Decide.{ℕ_discrete}
 use Rattle.lq_account.proofs.Lists.{get-push-old, get-push-new, here-in, there-in}
 use Rattle.lq_model.specs.Device.{DeviceState}
+use Rattle.lq_model.proofs.Reach.{at-own-swap, swap-apart}
 use Rattle.lq_model.specs.Plan.{Plan, is_swap, unit_of_swap}
 use Rattle.lq_model.specs.declared.fate.Info.{Info}
 use Rattle.lq_model.specs.declared.plan.EventPlan.{EventPlan}
@@ -113,8 +114,8 @@ module _ {D : Type 0} (plan : Plan) (infos : List Info) (units : List DeviceStat
   devices-exchanged count event cpus spares c c' came went there swap at-c brought origin has_served gone stand = record {
     units_are = stand.units_are;
     home = each-set (λ (j : ℕ) (x : Cpu D). slice_get units (unit_at plan j (suc count)) ≡ Some (origin_of (view x))) cpus event.station c' (slice_get_within cpus event.station c at-c)
-        (ap (slice_get units) (unit-here plan event.station count event there refl ∙ ap (λ b. cond b (unit_of_swap plan count) (unit_at plan event.station count)) swap) ∙ (brought ∙ ap Some (sym origin)))
-        (λ j x other at. ap (slice_get units) (unit-elsewhere plan j count event there (λ same. other (sym same))) ∙ stand.home j x at);
+        (ap (slice_get units) (unit-here plan event.station count event there (at-own-swap event swap) ∙ ap (λ b. cond b (unit_of_swap plan count) (unit_at plan event.station count)) swap) ∙ (brought ∙ ap Some (sym origin)))
+        (λ j x other at. ap (slice_get units) (unit-elsewhere plan j count event there (swap-apart j event swap other)) ∙ stand.home j x at);
     taken = stand.taken ++ went ∷ [];
     so_many = length-append stand.taken (went ∷ []) ∙ (let more : swaps_before plan (suc count) ≡ swaps_before plan count + 1 = swaps-more plan count event there true swap in let so_many = stand.so_many in omega arith);
     spares_are = spares-are;

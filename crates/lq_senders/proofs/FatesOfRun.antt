@@ -16,7 +16,7 @@ use Rattle.lq_fates.proofs.CountLemmas.{list_for_each}
 use Rattle.lq_fates.proofs.SentLemmas.{count_is, sent_is}
 use Rattle.lq_model.specs.Account.{Account, Event, after_all, held}
 use Rattle.lq_model.specs.Alone.{alone, after_run, fate_in, new_stations, run_fates}
-use Rattle.lq_model.specs.Device.{DeviceState, Telling}
+use Rattle.lq_model.specs.Device.{DeviceState, Telling, told_params}
 use Rattle.lq_model.specs.Plan.{Plan, queues_at, station_in, unit_count}
 use Rattle.lq_model.specs.Sent.{sent_of}
 use Rattle.lq_model.specs.Settled.{IsSettled, IsSentList, IsUnitOf, HangsAsTold, IsConfiguredWith}
@@ -25,7 +25,7 @@ use Rattle.lq_model.specs.declared.fate.Cause.TheVariants.{Hung}
 use Rattle.lq_model.specs.declared.fate.Fate.{Fate}
 use Rattle.lq_model.specs.declared.fate.Fate.TheVariants.{Purged}
 use Rattle.lq_model.specs.declared.fate.Info.{Info}
-use Rattle.lq_table.specs.Rule.{HangsWhere, IsCallOf, told_params}
+use Rattle.lq_table.specs.Rule.{HangsWhere, IsCallOf}
 use Rattle.lq_table.specs.Solo.{account_of}
 use Rattle.lq_table.specs.Views.{View}
 use Rattle.lq_senders.proofs.AtEnd.{account-at, as-planned, configured-below, legal-at, trail-at}

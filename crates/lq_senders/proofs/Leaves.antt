@@ -9,7 +9,8 @@ use Rattle.lq_account.proofs.Lists.{get-push-old}
 use Rattle.lq_account.proofs.Units.{one-station}
 use Rattle.lq_device.specs.Station.{StationState}
 use Rattle.lq_model.specs.Alone.{after_run, fate_in, new_device, new_stations}
-use Rattle.lq_model.specs.Device.{DeviceState, Telling}
+use Rattle.lq_model.specs.Device.{DeviceState, Telling, told_params}
+use Rattle.lq_model.proofs.Reach.{at-own-swap}
 use Rattle.lq_model.specs.Plan.{Plan, is_swap, station_in, unit_count}
 use Rattle.lq_model.specs.Settled.{IsConfiguredWith, IsUnitOf}
 use Rattle.lq_model.specs.Words.{IsWordOf}
@@ -18,7 +19,7 @@ use Rattle.lq_model.specs.declared.fate.Fate.{Fate}
 use Rattle.lq_model.specs.declared.fate.Info.{Info}
 use Rattle.lq_model.specs.declared.plan.EventPlan.{EventPlan}
 use Rattle.lq_seat.specs.Seat.{origin_of}
-use Rattle.lq_table.specs.Rule.{HasServed, told_params}
+use Rattle.lq_table.specs.Rule.{HasServed}
 use Rattle.lq_table.specs.Sees.{view}
 use Rattle.lq_table.specs.Solo.{account_of}
 use Rattle.lq_table.specs.Views.{View, no_station, spent}
@@ -143,7 +144,7 @@ module _ {D : Type 0} (plan : Plan) (infos : List Info) (others : ℕ) (start : 
               let same-station : k ≡ event.station = one-station plan k event.station (unit_at plan event.station e) below-k below
               (subst (IsUnitOf plan k) same (unit-of-station plan k last (omega arith))) (unit-of-station plan event.station e (omega arith)) in
               let last-is : unit_at plan k last ≡ unit_at plan event.station last = ap (λ (i : ℕ). unit_at plan i last) same-station in
-              let left = unit-left plan event.station below last e event (omega arith) before there swap refl in omega arith);
+              let left = unit-left plan event.station below last e event (omega arith) before there swap (at-own-swap event swap) in omega arith);
         }
 
     lie : LieAt IsUnit plan last homes spares

@@ -14,6 +14,8 @@ pub mod Undone
 pub mod Sent
 -- all seats did something in turn
 pub mod Rounds
+-- an event of the plan, at each of its stations
+pub mod Events
 -- what a sender does after a packet
 pub mod Turns
 -- a sender wakes its stations after some of its packets

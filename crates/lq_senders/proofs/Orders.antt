@@ -1,12 +1,12 @@
 -- The plan's events in order.
-use Rattle.std.proofs.Common.{◌≡◌, ◌≢◌, ℕ, zero, suc, ◌+◌, ◌<◌, ◌≤◌, ◌&&◌, ◌||◌, ◌==◌, Bool, true, false, List, [], ◌∷◌, inl, inr, map, take, filter, Option, Some, None, is_none, refl, sym, ap, ◌∙◌, subst, cond, slice_get, nat_le, nat_lt, arith, eq-eqb}
-use Rattle.std.specs.List.{list_any}
+use Rattle.std.proofs.Common.{◌≡◌, ℕ, zero, suc, ◌+◌, ◌<◌, ◌≤◌, ◌&&◌, ◌||◌, Bool, true, false, List, [], ◌∷◌, inl, inr, map, take, filter, Option, Some, None, is_none, refl, sym, ap, ◌∙◌, subst, cond, slice_get, nat_le, nat_lt, arith}
 use Rattle.std.proofs.lemmas.Option.{same_Some}
-use Rattle.std.proofs.lemmas.Bool.{le-leb, ne_eqb}
+use Rattle.std.proofs.lemmas.Bool.{le-leb}
 use Rattle.std.proofs.lemmas.Bool.Decides.{leb_tells}
 use Rattle.lq_model.specs.Account.{Event}
-use Rattle.lq_model.specs.Plan.{Plan}
-use Rattle.lq_model.specs.Settled.{is_at, down_after, down_before}
+use Rattle.lq_model.specs.Plan.{Plan, is_at}
+use Rattle.lq_model.specs.Settled.{down_after, down_before}
+use Rattle.lq_plan.proofs.Groups.{none-first}
 use Rattle.lq_model.specs.declared.plan.EventKind.{EventKind}
 use Rattle.lq_model.specs.declared.plan.EventKind.TheVariants.{Down, Up, Resize, TxQueueLen, Swap}
 use Rattle.lq_model.specs.declared.plan.EventPlan.{EventPlan}
@@ -65,15 +65,15 @@ down-next plan station count event there =
     let same : 0 + count ≡ count = omega arith in
     one-more station plan.events count 0 None event there ∙ ap (λ i. down_with station i event (down_after_events plan station count)) same
 
-pub down-here : (plan : Plan) (station count : ℕ) (event : EventPlan) → slice_get plan.events count ≡ Some event → event.station ≡ station
+pub down-here : (plan : Plan) (station count : ℕ) (event : EventPlan) → slice_get plan.events count ≡ Some event → is_at station event ≡ true
     → down_after_events plan station (suc count) ≡ down_after event.kind count (down_after_events plan station count)
 down-here plan station count event there here = down-next plan station count event there
-    ∙ ap (λ b. cond b (down_after event.kind count (down_after_events plan station count)) (down_after_events plan station count)) (eq-eqb event.station station here)
+    ∙ ap (λ b. cond b (down_after event.kind count (down_after_events plan station count)) (down_after_events plan station count)) here
 
-pub down-elsewhere : (plan : Plan) (station count : ℕ) (event : EventPlan) → slice_get plan.events count ≡ Some event → event.station ≢ station
+pub down-elsewhere : (plan : Plan) (station count : ℕ) (event : EventPlan) → slice_get plan.events count ≡ Some event → is_at station event ≡ false
     → down_after_events plan station (suc count) ≡ down_after_events plan station count
 down-elsewhere plan station count event there other = down-next plan station count event there
-    ∙ ap (λ b. cond b (down_after event.kind count (down_after_events plan station count)) (down_after_events plan station count)) (ne_eqb event.station station other)
+    ∙ ap (λ b. cond b (down_after event.kind count (down_after_events plan station count)) (down_after_events plan station count)) other
 
 -- WHAT CONTROL DOES
 
@@ -97,26 +97,21 @@ controls-next plan station count event there =
     let same : 0 + count ≡ count = omega arith in
     one-more-control plan station plan.events count 0 [] event there ∙ ap (λ i. controls_with plan station i event (planned_controls plan station count)) same
 
-pub controls-here : (plan : Plan) (station count : ℕ) (event : EventPlan) → slice_get plan.events count ≡ Some event → event.station ≡ station
+pub controls-here : (plan : Plan) (station count : ℕ) (event : EventPlan) → slice_get plan.events count ≡ Some event → is_at station event ≡ true
     → planned_controls plan station (suc count) ≡ with_control plan count event.kind (planned_controls plan station count)
 controls-here plan station count event there here = controls-next plan station count event there
-    ∙ ap (λ b. cond b (with_control plan count event.kind (planned_controls plan station count)) (planned_controls plan station count)) (eq-eqb event.station station here)
+    ∙ ap (λ b. cond b (with_control plan count event.kind (planned_controls plan station count)) (planned_controls plan station count)) here
 
-pub controls-elsewhere : (plan : Plan) (station count : ℕ) (event : EventPlan) → slice_get plan.events count ≡ Some event → event.station ≢ station
+pub controls-elsewhere : (plan : Plan) (station count : ℕ) (event : EventPlan) → slice_get plan.events count ≡ Some event → is_at station event ≡ false
     → planned_controls plan station (suc count) ≡ planned_controls plan station count
 controls-elsewhere plan station count event there other = controls-next plan station count event there
-    ∙ ap (λ b. cond b (with_control plan count event.kind (planned_controls plan station count)) (planned_controls plan station count)) (ne_eqb event.station station other)
+    ∙ ap (λ b. cond b (with_control plan count event.kind (planned_controls plan station count)) (planned_controls plan station count)) other
 
 -- WHAT MAY BE DONE
 
 or-false : (a b : Bool) → (a || b) ≡ false → (a ≡ false) × (b ≡ false)
 or-false true b h = absurd cc
 or-false false b h = (refl, h)
-
-none-any : {X : Type 0} (test : X → Bool) (xs : List X) (k : ℕ) (x : X) → list_any test xs ≡ false → slice_get xs k ≡ Some x → test x ≡ false
-none-any test [] k x none there = absurd cc
-none-any test (y ∷ ys) zero x none there = subst (λ z. test z ≡ false) (same_Some y x there) (or-false (test y) (list_any test ys) none).0
-none-any test (y ∷ ys) (suc k) x none there = none-any test ys k x (or-false (test y) (list_any test ys) none).1 there
 
 -- a kind may be done to a station that is active, or not
 abbrev MayFollow : Bool → EventKind → Type 0
@@ -146,25 +141,25 @@ follows false next (Resize len) e down is after = absurd cc
 follows false next (TxQueueLen len) e down is after = absurd cc
 follows false next (Swap params) e down is after = absurd cc
 
-may-follow : (station : ℕ) (events : List EventPlan) (k e : ℕ) (active : Bool) (down : Option ℕ) (event : EventPlan) → active ≡ is_none down → slice_get events k ≡ Some event → event.station ≡ station
+may-follow : (station : ℕ) (events : List EventPlan) (k e : ℕ) (active : Bool) (down : Option ℕ) (event : EventPlan) → active ≡ is_none down → slice_get events k ≡ Some event → is_at station event ≡ true
     → is_misplaced (Some active) (kinds_at station events) ≡ false → MayFollow (is_none (down_among station (take k events) e down)) event.kind
 may-follow station [] k e active down event is there here ok = absurd cc
 may-follow station (x ∷ xs) zero e active down event is there here ok =
     let same : x ≡ event = same_Some x event there in
-    let at : (x.station == station) ≡ true = eq-eqb x.station station (ap (λ (z : EventPlan). z.station) same ∙ here) in
+    let at : is_at station x ≡ true = ap (is_at station) same ∙ here in
     subst (λ (z : EventPlan). MayFollow (is_none down) z.kind) same
     (subst (λ b. MayFollow b x.kind) is (first-may active x.kind (kinds_at station xs)
-    (ap (λ b. is_misplaced (Some active) (map (λ (z : EventPlan). z.kind) (cond b (x ∷ filter (λ (z : EventPlan). z.station == station) xs) (filter (λ (z : EventPlan). z.station == station) xs)))) (sym at) ∙ ok)))
-may-follow station (x ∷ xs) (suc k) e active down event is there here ok = go (λ active down is ok. may-follow station xs k (e + 1) active down event is there here ok) (x.station == station) refl
+    (ap (λ b. is_misplaced (Some active) (map (λ (z : EventPlan). z.kind) (cond b (x ∷ filter (is_at station) xs) (filter (is_at station) xs)))) (sym at) ∙ ok)))
+may-follow station (x ∷ xs) (suc k) e active down event is there here ok = go (λ active down is ok. may-follow station xs k (e + 1) active down event is there here ok) (is_at station x) refl
   where
     Rest : Type 0
     Rest = (active : Bool) (down : Option ℕ) → active ≡ is_none down → is_misplaced (Some active) (kinds_at station xs) ≡ false
         → MayFollow (is_none (down_among station (take k xs) (e + 1) down)) event.kind
 
     kinds : Bool → List EventKind
-    kinds b = map (λ (z : EventPlan). z.kind) (cond b (x ∷ filter (λ (z : EventPlan). z.station == station) xs) (filter (λ (z : EventPlan). z.station == station) xs))
+    kinds b = map (λ (z : EventPlan). z.kind) (cond b (x ∷ filter (is_at station) xs) (filter (is_at station) xs))
 
-    go : Rest → (b : Bool) → (x.station == station) ≡ b → MayFollow (is_none (down_among station (take k xs) (e + 1) (down_with station e x down))) event.kind
+    go : Rest → (b : Bool) → is_at station x ≡ b → MayFollow (is_none (down_among station (take k xs) (e + 1) (down_with station e x down))) event.kind
     go after true at =
         let ok' : is_misplaced (Some active) (x.kind ∷ kinds_at station xs) ≡ false = ap (λ b. is_misplaced (Some active) (kinds b)) (sym at) ∙ ok in
         let may = first-may active x.kind (kinds_at station xs) ok' in
@@ -188,11 +183,11 @@ may-do (TxQueueLen len) (Some k) trail is may = absurd (let m = may.1 in cc)
 may-do (Swap params) None trail is may = is
 may-do (Swap params) (Some k) trail is may = absurd (let m = may.1 in cc)
 
-pub may-do-next : (plan : Plan) (count : ℕ) (event : EventPlan) (trail : _) → is_out_of_order plan.events ≡ false → slice_get plan.events count ≡ Some event
-    → down_of trail ≡ down_after_events plan event.station count → MayDoEvent event.kind trail
-may-do-next plan count event trail order there is =
-    let ok = none-any (λ (x : EventPlan). is_misplaced (Some true) (kinds_at x.station plan.events)) plan.events count event (or-false _ _ order).1 there in
-    may-do event.kind (down_after_events plan event.station count) trail is (may-follow event.station plan.events count 0 true None event refl there refl ok)
+pub may-do-next : (plan : Plan) (station count : ℕ) (event : EventPlan) (trail : _) → is_out_of_order plan.events ≡ false → slice_get plan.events count ≡ Some event
+    → station < 8 → is_at station event ≡ true → down_of trail ≡ down_after_events plan station count → MayDoEvent event.kind trail
+may-do-next plan station count event trail order there few at is =
+    let ok = none-first (λ (j : ℕ). is_misplaced (Some true) (kinds_at j plan.events)) 8 station few (or-false _ _ order).1 in
+    may-do event.kind (down_after_events plan station count) trail is (may-follow station plan.events count 0 true None event refl there at ok)
 
 -- events stand in ascending order
 first-rises : (last : ℕ) (x : EventPlan) (xs : List EventPlan) → falls_below last (x ∷ xs) ≡ false → last ≤ x.before

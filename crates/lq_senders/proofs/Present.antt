@@ -1,8 +1,8 @@
 -- Which units a station has in turn: each is one of its own, and a later one has a higher number.
 use Rattle.std.proofs.Common.{◌≡◌, ℕ, zero, suc, ◌+◌, ◌<◌, ◌≤◌, Bool, true, false, cond, inl, inr, length, slice_get, Some, refl, sym, ap, ◌∙◌, subst, arith}
-use Rattle.std.proofs.lemmas.Bool.{and_parts, eqb-true}
-use Rattle.lq_model.specs.Plan.{Plan, is_swap, unit_of_swap}
-use Rattle.lq_model.specs.Settled.{IsUnitOf, is_at}
+use Rattle.std.proofs.lemmas.Bool.{and_parts}
+use Rattle.lq_model.specs.Plan.{Plan, is_at, is_swap, unit_of_swap}
+use Rattle.lq_model.specs.Settled.{IsUnitOf}
 use Rattle.lq_model.specs.declared.plan.EventPlan.{EventPlan}
 use Rattle.lq_senders.specs.Units.{is_swap_at, unit_at}
 use Rattle.lq_senders.proofs.Turns.{event-there}
@@ -15,7 +15,7 @@ module _ (plan : Plan) (station : ℕ) where
   one-of-its count event there false is was = was
   one-of-its count event there true is was =
       let both = and_parts (is_swap event) (is_at station event) is in let params = swap-params event.kind both.0 in
-      inr (count, params.0, (event, there, eqb-true event.station station both.1, params.1), refl)
+      inr (count, params.0, (event, there, both.1, params.1), refl)
 
   -- each is one of the station's
   pub unit-of-station : (count : ℕ) → count ≤ length plan.events → IsUnitOf plan station (unit_at plan station count)
@@ -46,7 +46,7 @@ module _ (plan : Plan) (station : ℕ) where
         subst (λ (u : ℕ). unit_at plan station count ≤ u) (sym (unit-next plan station count next.0 next.1)) (next-under count next.0 next.1 (is_swap_at station next.0) refl (unit-under count (omega arith))).0
 
     -- one that an exchange took away never comes back
-    pub unit-left : (count e : ℕ) (event : EventPlan) → count ≤ length plan.events → e < count → slice_get plan.events e ≡ Some event → is_swap event ≡ true → event.station ≡ station
+    pub unit-left : (count e : ℕ) (event : EventPlan) → count ≤ length plan.events → e < count → slice_get plan.events e ≡ Some event → is_swap event ≡ true → is_at station event ≡ true
         → unit_at plan station e < unit_at plan station count
     unit-left zero e event within less there swap here = absurd (omega arith)
     unit-left (suc count) e event within less there swap here = elim (below-or-at e count less) [

@@ -1,5 +1,5 @@
 -- A sender's seats, where one or all of them did something.
-use Rattle.std.proofs.Common.{◌≡◌, ◌≢◌, ℕ, zero, suc, ◌+◌, ◌<◌, false, List, [], ◌∷◌, length, Some, refl, sym, ap, ◌∙◌, subst, slice_get, map, arith}
+use Rattle.std.proofs.Common.{◌≡◌, ◌≢◌, ℕ, zero, suc, ◌+◌, ◌<◌, Bool, true, false, cond, List, [], ◌∷◌, length, Some, refl, sym, ap, ◌∙◌, subst, slice_get, map, arith}
 use Rattle.std.specs.Prelude.{slice_set, slice_index, slice_index_or, All}
 use Rattle.std.specs.Option.{option_map, option_map_or}
 use Rattle.std.proofs.lemmas.List.{length-set}
@@ -7,9 +7,10 @@ use Rattle.std.proofs.lemmas.Option.{same_Some, slice_get_read, slice_get_within
 use mathlib.Core.Logic.{dite}
 use native.Mathlib.Decide.{ℕ_discrete}
 use Rattle.lq_account.specs.Progress.{start_of}
-use Rattle.lq_model.specs.Alone.{RunningStation, changed, changed_at, served, with_event}
+use Rattle.lq_model.specs.Alone.{RunningStation, changed, changed_at, changed_where, served, with_event}
 use Rattle.lq_model.specs.Device.{DeviceState}
-use Rattle.lq_model.specs.Plan.{Plan, queues_at}
+use Rattle.lq_model.proofs.Reach.{at-own-swap, swap-apart}
+use Rattle.lq_model.specs.Plan.{Plan, is_at, is_swap, queues_at}
 use Rattle.lq_model.specs.declared.fate.Info.{Info}
 use Rattle.lq_model.specs.declared.device.Params.{Params}
 use Rattle.lq_model.specs.declared.plan.EventKind.{EventKind}
@@ -65,6 +66,22 @@ changed-apart zero zero f (y ∷ ys) other = absurd (other refl)
 changed-apart zero (suc k) f (y ∷ ys) other = refl
 changed-apart (suc i) zero f (y ∷ ys) other = refl
 changed-apart (suc i) (suc k) f (y ∷ ys) other = changed-apart i k f ys (λ e. other (ap suc e))
+
+pub where-here : {X : Type 0} (test : ℕ → Bool) (i : ℕ) (f : X → X) (xs : List X) (x : X) → test i ≡ true → slice_get xs i ≡ Some x → slice_get (changed_where test f xs) i ≡ Some (f x)
+where-here test i f [] x passes there = absurd cc
+where-here test zero f (y ∷ ys) x passes there = ap (λ b. Some (cond b (f y) y)) passes ∙ ap (λ z. Some (f z)) (same_Some y x there)
+where-here test (suc i) f (y ∷ ys) x passes there = where-here (λ k. test (suc k)) i f ys x passes there
+
+pub where-apart : {X : Type 0} (test : ℕ → Bool) (i : ℕ) (f : X → X) (xs : List X) → test i ≡ false → slice_get (changed_where test f xs) i ≡ slice_get xs i
+where-apart test i f [] fails = refl
+where-apart test zero f (y ∷ ys) fails = ap (λ b. Some (cond b (f y) y)) fails
+where-apart test (suc i) f (y ∷ ys) fails = where-apart (λ k. test (suc k)) i f ys fails
+
+-- the run's step of an event
+pub with-event : (plan : Plan) (infos : List Info) (e : ℕ) (event : EventPlan) (stations : List RunningStation) → slice_get plan.events e ≡ Some event
+    → with_event plan infos e stations ≡ changed_where (λ k. is_at k event) (λ s. served infos (changed plan e event.kind s)) stations
+with-event plan infos e event stations there =
+    ap (λ o. option_map_or (λ (x : EventPlan). changed_where (λ k. is_at k x) (λ s. served infos (changed plan e x.kind s)) stations) o stations) there
 
 pub read-at : {X : Type 0} (xs : List X) (i : ℕ) (x : X) → i < length xs → x ≡ slice_index_or xs i x → slice_get xs i ≡ Some x
 read-at xs i x within is = slice_get_read xs (length xs) i x refl within is
@@ -130,9 +147,9 @@ event-changes t plan e kind v w does = record { keeps = seat-kept v w does.keeps
 pub exchange-changes : {D : Type 0} (t : Shared D) (plan : Plan) (e : ℕ) (kind : EventKind) (params : Params) (came went : DeviceState) (v w : View) → kind ≡ Swap params → Exchanges t plan e params came went v w → Changes plan e kind v w
 exchange-changes t plan e kind params came went v w is does = subst (λ k. Changes plan e k v w) (sym is) (record { keeps = does.keeps; raised = does.raised; turns = does.turns; trail = does.trail })
 
-pub stands-event : (plan : Plan) (infos : List Info) (e n : ℕ) (event : EventPlan) (v w : View) → slice_get plan.events e ≡ Some event
-    → is_out_of_order plan.events ≡ false → Changes plan e event.kind v w → StandsInRun plan infos 0 event.station e n v → StandsInRun plan infos 0 event.station (suc e) n w
-stands-event plan infos e n event v w there order does stands = record {
+pub stands-event : (plan : Plan) (infos : List Info) (e n station : ℕ) (event : EventPlan) (v w : View) → slice_get plan.events e ≡ Some event → is_at station event ≡ true → station < 8
+    → is_out_of_order plan.events ≡ false → Changes plan e event.kind v w → StandsInRun plan infos 0 station e n v → StandsInRun plan infos 0 station (suc e) n w
+stands-event plan infos e n station event v w there at few order does stands = record {
   is_sender = stands.is_sender;
   owner = owner-kept 0 v w does.keeps stands.owner;
   wide = ap length does.turns ∙ stands.wide;
@@ -140,12 +157,12 @@ stands-event plan infos e n event v w there order does stands = record {
   raised = does.raised;
   way = λ z. let way = stands.way refl in (
     does.keeps.first ∙ way.0,
-    subst (IsOnWay plan event.station (suc e)) (sym does.trail)
-        (way-event plan event.station e event there refl v.trail way.1 event.kind refl (may-do-next plan e event v.trail order there way.1.down)),
+    subst (IsOnWay plan station (suc e)) (sym does.trail)
+        (way-event plan station e event there at v.trail way.1 event.kind refl (may-do-next plan station e event v.trail order there few at way.1.down)),
   );
 }
 
-pub stands-elsewhere : (plan : Plan) (infos : List Info) (e n station : ℕ) (event : EventPlan) (v : View) → slice_get plan.events e ≡ Some event → event.station ≢ station
+pub stands-elsewhere : (plan : Plan) (infos : List Info) (e n station : ℕ) (event : EventPlan) (v : View) → slice_get plan.events e ≡ Some event → is_at station event ≡ false
     → StandsInRun plan infos 0 station e n v → StandsInRun plan infos 0 station (suc e) n v
 stands-elsewhere plan infos e n station event v there other stands = record {
   is_sender = stands.is_sender;
@@ -201,13 +218,13 @@ module _ {D : Type 0} where
   stands-at plan infos sender count n tables cpus lane station t c within is-t is-c =
       lane.each station t c (table-at plan infos sender count n tables cpus lane station t within is-t) (seat-at plan infos sender count n tables cpus lane station c within is-c)
 
-  -- an event of the plan
+  -- an exchange of the plan, at its one station
   pub lane-event : (plan : Plan) (infos : List Info) (e n : ℕ) (tables : List (Shared D)) (cpus : List (Cpu D)) (event : EventPlan) (t : Shared D) (c c' : Cpu D)
-      → slice_get plan.events e ≡ Some event → is_out_of_order plan.events ≡ false
+      → slice_get plan.events e ≡ Some event → is_swap event ≡ true → event.station < 8 → is_out_of_order plan.events ≡ false
       → slice_get tables event.station ≡ Some t → slice_get cpus event.station ≡ Some c → IsSeat t c'
       → Changes plan e event.kind (view c) (view c')
       → LaneStands plan infos 0 e n tables cpus → LaneStands plan infos 0 (e + 1) n tables (slice_set cpus event.station c')
-  lane-event plan infos e n tables cpus event t c c' there order at-t at-c seat does lane = record {
+  lane-event plan infos e n tables cpus event t c c' there swap few order at-t at-c seat does lane = record {
     long = length-set cpus event.station c' ∙ lane.long;
     all = lane.all;
     each = λ j u d at at'. subst (λ (k : ℕ). StandsAt plan infos 0 k n j u d) more (stands j u d at at');
@@ -221,18 +238,21 @@ module _ {D : Type 0} where
           (λ u at. let was = lane.each event.station t c at-t at-c in subst (λ (z : Shared D). StandsAt plan infos 0 (suc e) n event.station z c') (same_Some t u (sym at-t ∙ at)) (record {
             table = was.table;
             seat = seat;
-            stands = stands-event plan infos e n event (view c) (view c') there order does was.stands;
+            stands = stands-event plan infos e n event.station event (view c) (view c') there (at-own-swap event swap) few order does was.stands;
           }))
-          (λ j x other at u at'. let was = lane.each j u x at' at in record { table = was.table; seat = was.seat; stands = stands-elsewhere plan infos e n j event (view x) there (λ same. other (sym same)) was.stands })
+          (λ j x other at u at'. let was = lane.each j u x at' at in record { table = was.table; seat = was.seat; stands = stands-elsewhere plan infos e n j event (view x) there (swap-apart j event swap other) was.stands })
           j d at' u at
 
   pub runs-event : (plan : Plan) (infos : List Info) (e n : ℕ) (tables : List (Shared D)) (cpus : List (Cpu D)) (stations : List RunningStation) (event : EventPlan) (t : Shared D) (c c' : Cpu D)
-      → slice_get plan.events e ≡ Some event → slice_get tables event.station ≡ Some t → slice_get cpus event.station ≡ Some c
+      → slice_get plan.events e ≡ Some event → is_swap event ≡ true → slice_get tables event.station ≡ Some t → slice_get cpus event.station ≡ Some c
       → DoesAlone t (λ s. served t.infos.now (changed plan e event.kind s)) (view c) (view c')
       → LaneStands plan infos 0 e n tables cpus → AreRunAlone plan infos cpus stations → AreRunAlone plan infos (slice_set cpus event.station c') (with_event plan infos e stations)
-  runs-event plan infos e n tables cpus stations event t c c' there at-t at-c does lane runs =
-      let own : Does infos (start_of plan event.station) (λ s. served infos (changed plan e event.kind s)) (solo (view c)) (solo (view c')) =
+  runs-event plan infos e n tables cpus stations event t c c' there swap at-t at-c does lane runs =
+      let step : RunningStation → RunningStation = λ s. served infos (changed plan e event.kind s) in
+      let own : Does infos (start_of plan event.station) step (solo (view c)) (solo (view c')) =
       own-step plan infos event.station t (lane.each event.station t c at-t at-c).table (λ k s. served k.infos (changed plan e event.kind s)) (view c) (view c') does in
-      subst (AreRunAlone plan infos (slice_set cpus event.station c'))
-      (ap (λ o. option_map_or (λ (x : EventPlan). changed_at x.station (λ s. served infos (changed plan e x.kind s)) stations) o stations) (sym there))
-      (runs-set plan infos cpus stations event.station c c' (λ s. served infos (changed plan e event.kind s)) at-c own runs)
+      subst (AreRunAlone plan infos (slice_set cpus event.station c')) (sym (with-event plan infos e event stations there))
+      (each-set (λ (j : ℕ) (x : Cpu D). IsAlone infos (start_of plan j) (solo (view x)) × (slice_get (changed_where (λ k. is_at k event) step stations) j ≡ Some (running (start_of plan j) (solo (view x)))))
+      cpus event.station c' (slice_get_within cpus event.station c at-c)
+      (let was = runs event.station c at-c in let now = own was.0 in (now.0, where-here (λ k. is_at k event) event.station step stations _ (at-own-swap event swap) was.1 ∙ ap Some (sym now.1)))
+      (λ j x other at. let was = runs j x at in (was.0, where-apart (λ k. is_at k event) j step stations (swap-apart j event swap other) ∙ was.1)))

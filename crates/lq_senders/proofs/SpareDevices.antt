@@ -1,5 +1,5 @@
 -- The devices that exchanges bring are configured.
-use Rattle.std.proofs.Common.{◌≡◌, inl, inr, ℕ, ◌+◌, ◌≤◌, true, false, List, refl, ap, arith, Some, sym, ◌∙◌, subst, slice_get, map}
+use Rattle.std.proofs.Common.{◌≡◌, inl, inr, ℕ, ◌+◌, ◌≤◌, true, List, ap, arith, Some, sym, ◌∙◌, subst, slice_get, map}
 use Rattle.std.specs.Prelude.{slice_set, option_map}
 use Rattle.std.proofs.lemmas.Bool.{cases_eq}
 use Rattle.std.proofs.lemmas.List.{length-map, length-set}

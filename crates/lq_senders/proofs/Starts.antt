@@ -9,6 +9,7 @@ use Rattle.lq_device.specs.Station.{initial_station}
 use Rattle.lq_model.specs.Alone.{new_device, new_station, new_stations}
 use Rattle.lq_model.specs.Account.{new_account}
 use Rattle.lq_model.specs.Device.{DeviceState, IsConfigured, Telling}
+use Rattle.lq_model.proofs.Reach.{at-own-swap}
 use Rattle.lq_model.specs.Plan.{Plan, is_swap_kind, queue_in, queues_at, station_in, unit_count, unit_of_swap}
 use Rattle.lq_model.specs.Settled.{IsConfiguredWith}
 use Rattle.lq_model.specs.declared.device.Params.{Params}
@@ -112,7 +113,7 @@ module _ {D : Type 0} (plan : Plan) (infos : List Info) (before : List DeviceSta
 
   pub units-tell : AllTell (unit_count plan) before → DoTell plan over.units
   units-tell tell e event params device there brings came =
-      unit-tells tell (unit_of_swap plan e) params device (unit-within plan e event there (ap is_swap_kind brings)) (inr (event.station, e, (event, there, refl, brings), refl)) came
+      unit-tells tell (unit_of_swap plan e) params device (unit-within plan e event there (ap is_swap_kind brings)) (inr (event.station, e, (event, there, at-own-swap event (ap is_swap_kind brings), brings), refl)) came
 
   -- the device that came to a station is the one that stood there, configured
   origin-tells : AllTell (unit_count plan) before → (j : ℕ) (s : StationPlan) (c : Cpu D) → slice_get plan.stations j ≡ Some s → slice_get start j ≡ Some c → (origin_of (view c)).told ≡ Some (new_device s.params)

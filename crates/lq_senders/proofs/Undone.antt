@@ -3,6 +3,7 @@ use Rattle.std.proofs.Common.{◌≡◌, ℕ, zero, suc, ◌+◌, ◌<◌, ◌�
 use Rattle.std.specs.Prelude.{slice_set}
 use Rattle.std.proofs.lemmas.List.{length-set, map-set}
 use Rattle.std.proofs.lemmas.Option.{slice_get_within}
+use Rattle.lq_model.proofs.Reach.{at-own-swap, swap-apart}
 use Rattle.lq_model.specs.Plan.{Plan, is_swap, unit_of_swap}
 use Rattle.lq_model.specs.declared.plan.EventPlan.{EventPlan}
 use Rattle.lq_senders.specs.Units.{swaps_before, traded, undone, undone_event, unit_at}
@@ -74,11 +75,11 @@ module _ {X : Type 0} (P : ℕ → X → Type 0) (plan : Plan) where
         exchanges = length-set spares (swaps_before plan count) x.0 ∙ lie.exchanges;
         home = each-set (λ (j : ℕ) (z : X). P (unit_at plan j count) z) homes event.station y.0 (slice_get_within homes event.station x.0 x.1)
             (lie.taken count event y.0 (omega arith) there swap y.1)
-            (λ j z other at. subst (λ u. P u z) (unit-elsewhere plan j count event there (λ same. other (sym same))) (lie.home j z at));
+            (λ j z other at. subst (λ u. P u z) (unit-elsewhere plan j count event there (swap-apart j event swap other)) (lie.home j z at));
         taken = λ e late z below at is go. lie.taken e late z (omega arith) at is
             (sym (set-apart spares (swaps_before plan count) (swaps_before plan e) x.0 (λ same. let lower = swaps-rise plan count e late (omega arith) below at is in absurd (omega arith))) ∙ go);
         back = λ k z above at. each-set (λ (k : ℕ) (z : X). swaps_before plan count ≤ k → P (length plan.stations + k) z) spares (swaps_before plan count) x.0 (slice_get_within spares (swaps_before plan count) y.0 y.1)
-            (λ above. subst (λ u. P u x.0) (unit-here plan event.station count event there refl ∙ ap (λ b. cond b (unit_of_swap plan count) (unit_at plan event.station count)) swap) (lie.home event.station x.0 x.1))
+            (λ above. subst (λ u. P u x.0) (unit-here plan event.station count event there (at-own-swap event swap) ∙ ap (λ b. cond b (unit_of_swap plan count) (unit_at plan event.station count)) swap) (lie.home event.station x.0 x.1))
             (λ k z other at above. lie.back k z (let more : swaps_before plan (suc count) ≡ swaps_before plan count + 1 = swaps-more plan count event there true swap in omega (arith, other, above)) at)
             k z at above;
       })

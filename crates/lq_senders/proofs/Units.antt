@@ -1,12 +1,10 @@
 -- The plan's events and the units that they bring.
-use Rattle.std.proofs.Common.{◌≡◌, ◌≢◌, ℕ, zero, suc, ◌+◌, ◌<◌, ◌≤◌, ◌&&◌, Bool, true, false, cond, List, [], ◌∷◌, inl, inr, length, take, slice_get, Some, refl, sym, ap, ◌∙◌, subst, arith, eq-eqb, Contains}
-use Rattle.std.proofs.lemmas.Bool.{ne_eqb}
+use Rattle.std.proofs.Common.{◌≡◌, ℕ, zero, suc, ◌+◌, ◌<◌, ◌≤◌, ◌&&◌, Bool, true, false, cond, List, [], ◌∷◌, inl, inr, length, take, slice_get, Some, refl, sym, ap, ◌∙◌, subst, arith, Contains}
 use Rattle.std.proofs.lemmas.List.Sums.{count_by-le-length, count_by_more_yes, count_by_more_no, sum_by-take-le}
 use Rattle.std.proofs.lemmas.Option.{get_or_from_slice_get, same_Some, slice_get_within}
 use Rattle.lq_account.proofs.Lists.{cons-in, here-in, there-in, none-in}
 use Rattle.lq_model.specs.Account.{Event, Swap}
-use Rattle.lq_model.specs.Plan.{Plan, is_swap, is_swap_kind, unit_count, unit_of_swap}
-use Rattle.lq_model.specs.Settled.{is_at}
+use Rattle.lq_model.specs.Plan.{Plan, is_at, is_swap, is_swap_kind, unit_count, unit_of_swap}
 use Rattle.lq_model.specs.declared.device.Params.{Params}
 use Rattle.lq_model.specs.declared.plan.EventKind.{EventKind}
 use Rattle.lq_model.specs.declared.plan.EventKind.TheVariants as kind
@@ -72,18 +70,18 @@ unit-next plan station count event there =
     let same : 0 + count ≡ count = omega arith in
     one-more plan station plan.events count 0 station event there ∙ ap (λ i. cond (is_swap_at station event) (unit_of_swap plan i) (unit_at plan station count)) same
 
-pub unit-here : (plan : Plan) (station count : ℕ) (event : EventPlan) → slice_get plan.events count ≡ Some event → event.station ≡ station
+pub unit-here : (plan : Plan) (station count : ℕ) (event : EventPlan) → slice_get plan.events count ≡ Some event → is_at station event ≡ true
     → unit_at plan station (suc count) ≡ cond (is_swap event) (unit_of_swap plan count) (unit_at plan station count)
 unit-here plan station count event there here = unit-next plan station count event there
-    ∙ (ap (λ b. cond (is_swap event && b) (unit_of_swap plan count) (unit_at plan station count)) (eq-eqb event.station station here) ∙ go (is_swap event))
+    ∙ (ap (λ b. cond (is_swap event && b) (unit_of_swap plan count) (unit_at plan station count)) here ∙ go (is_swap event))
   where
     go : (b : Bool) → cond (b && true) (unit_of_swap plan count) (unit_at plan station count) ≡ cond b (unit_of_swap plan count) (unit_at plan station count)
     go true = refl
     go false = refl
 
-pub unit-elsewhere : (plan : Plan) (station count : ℕ) (event : EventPlan) → slice_get plan.events count ≡ Some event → event.station ≢ station → unit_at plan station (suc count) ≡ unit_at plan station count
+pub unit-elsewhere : (plan : Plan) (station count : ℕ) (event : EventPlan) → slice_get plan.events count ≡ Some event → is_at station event ≡ false → unit_at plan station (suc count) ≡ unit_at plan station count
 unit-elsewhere plan station count event there other = unit-next plan station count event there
-    ∙ (ap (λ b. cond (is_swap event && b) (unit_of_swap plan count) (unit_at plan station count)) (ne_eqb event.station station other) ∙ go (is_swap event))
+    ∙ (ap (λ b. cond (is_swap event && b) (unit_of_swap plan count) (unit_at plan station count)) other ∙ go (is_swap event))
   where
     go : (b : Bool) → cond (b && false) (unit_of_swap plan count) (unit_at plan station count) ≡ unit_at plan station count
     go true = refl

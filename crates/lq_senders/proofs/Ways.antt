@@ -1,11 +1,11 @@
 -- How far the first sender is with the plan's events.
-use Rattle.std.proofs.Common.{◌≡◌, ◌≢◌, ℕ, suc, ◌+◌, ◌<◌, true, false, cond, List, [], ◌∷◌, ◌⊎◌, inl, inr, Contains, Option, Some, None, refl, sym, ap, ◌∙◌, subst, filter_map, slice_get, arith}
+use Rattle.std.proofs.Common.{◌≡◌, ℕ, suc, ◌+◌, ◌<◌, true, false, cond, List, [], ◌∷◌, ◌⊎◌, inl, inr, Contains, Option, Some, None, refl, sym, ap, ◌∙◌, subst, filter_map, slice_get, arith}
 use Rattle.std.specs.List.{cons_option}
-use Rattle.std.proofs.lemmas.Bool.{cases_order}
+use Rattle.std.proofs.lemmas.Bool.{cases_order, false≢true}
 use Rattle.std.proofs.lemmas.Option.{same_Some}
 use Rattle.lq_model.specs.Account.{Event, Join, Full, Refuse, Direct, Resize, Down, Purge, Swap, Up}
 use Rattle.lq_model.specs.Legal.{IsEventAt, IsNext, brought, brought_by, resize_event, down_event}
-use Rattle.lq_model.specs.Plan.{Plan, is_swap, is_swap_kind, unit_of_swap}
+use Rattle.lq_model.specs.Plan.{Plan, is_at, is_swap, is_swap_kind, unit_of_swap}
 use Rattle.lq_model.specs.Settled.{IsBehind, down_after}
 use Rattle.lq_model.specs.declared.device.Params.{Params}
 use Rattle.lq_model.specs.declared.fate.Cause.TheVariants as cause
@@ -58,20 +58,20 @@ swap-is u v same = cc
 
 module _ (plan : Plan) (station count : ℕ) (event : EventPlan) (there : slice_get plan.events count ≡ Some event) where
   -- an event of the plan at that place is this one
-  event-is : (s : ℕ) (k : EventKind) → IsEventAt plan s count k → (event.station ≡ s) × (event.kind ≡ k)
-  event-is s k at = let same : event ≡ at.0 = same_Some event at.0 (sym there ∙ at.1) in (ap (λ (e : EventPlan). e.station) same ∙ at.2, ap (λ (e : EventPlan). e.kind) same ∙ at.3)
+  event-is : (s : ℕ) (k : EventKind) → IsEventAt plan s count k → (is_at s event ≡ true) × (event.kind ≡ k)
+  event-is s k at = let same : event ≡ at.0 = same_Some event at.0 (sym there ∙ at.1) in (ap (is_at s) same ∙ at.2, ap (λ (e : EventPlan). e.kind) same ∙ at.3)
 
-  here-at : (s e : ℕ) (k : EventKind) → e ≡ count → IsEventAt plan s e k → (event.station ≡ s) × (event.kind ≡ k)
+  here-at : (s e : ℕ) (k : EventKind) → e ≡ count → IsEventAt plan s e k → (is_at s event ≡ true) × (event.kind ≡ k)
   here-at s e k same at = event-is s k (subst (λ i. IsEventAt plan s i k) same at)
 
   -- an event of another station
-  pub way-elsewhere : (trail : List Event) → event.station ≢ station → IsOnWay plan station count trail → IsOnWay plan station (suc count) trail
+  pub way-elsewhere : (trail : List Event) → is_at station event ≡ false → IsOnWay plan station count trail → IsOnWay plan station (suc count) trail
   way-elsewhere trail other way = record {
     planned = way.planned;
     come = record {
-      resizes = λ e len below at. elim (below-or-at e count below) [ inl less ↦ way.come.resizes e len less at | inr same ↦ absurd (other (here-at station e (kind.Resize len) same at).0) ];
-      queue_lengths = λ e len below at. elim (below-or-at e count below) [ inl less ↦ way.come.queue_lengths e len less at | inr same ↦ absurd (other (here-at station e (kind.TxQueueLen len) same at).0) ];
-      swaps = λ e params below at. elim (below-or-at e count below) [ inl less ↦ way.come.swaps e params less at | inr same ↦ absurd (other (here-at station e (kind.Swap params) same at).0) ];
+      resizes = λ e len below at. elim (below-or-at e count below) [ inl less ↦ way.come.resizes e len less at | inr same ↦ absurd (false≢true (sym other ∙ (here-at station e (kind.Resize len) same at).0)) ];
+      queue_lengths = λ e len below at. elim (below-or-at e count below) [ inl less ↦ way.come.queue_lengths e len less at | inr same ↦ absurd (false≢true (sym other ∙ (here-at station e (kind.TxQueueLen len) same at).0)) ];
+      swaps = λ e params below at. elim (below-or-at e count below) [ inl less ↦ way.come.swaps e params less at | inr same ↦ absurd (false≢true (sym other ∙ (here-at station e (kind.Swap params) same at).0)) ];
       all = way.come.all ∙ sym (controls-elsewhere plan station count event there other);
     };
     resizes_below = λ e h. let b = way.resizes_below e h in omega arith;
@@ -83,7 +83,7 @@ module _ (plan : Plan) (station count : ℕ) (event : EventPlan) (there : slice_
     no_hang = way.no_hang;
   }
 
-  module _ (here : event.station ≡ station) (old : List Event) (way : IsOnWay plan station count old) where
+  module _ (here : is_at station event ≡ true) (old : List Event) (way : IsOnWay plan station count old) where
     at-here : (k : EventKind) → event.kind ≡ k → IsEventAt plan station count k
     at-here k is = (event, there, here, is)
 

@@ -1,5 +1,5 @@
 -- A sender wakes its stations after some of its packets.
-use Rattle.std.proofs.Common.{◌≡◌, ◌≢◌, ◌⊎◌, ℕ, zero, suc, ◌+◌, ◌*◌, ◌/◌, ◌%◌, ◌<◌, ◌≤◌, ◌==◌, List, inl, inr, length, Some, refl, sym, ap, ◌∙◌, subst, slice_get, arith, eq-eqb}
+use Rattle.std.proofs.Common.{◌≡◌, ◌≢◌, ◌⊎◌, ℕ, zero, suc, ◌+◌, ◌*◌, ◌/◌, ◌%◌, ◌<◌, ◌==◌, List, inl, inr, length, Some, refl, sym, ap, ◌∙◌, subst, slice_get, arith, eq-eqb}
 use Rattle.std.proofs.Math.Nat.{add-mul, div-eq_of_lt-le, mod-lt}
 use Rattle.std.proofs.lemmas.Bool.{cases_lt, ne_eqb}
 use Rattle.std.proofs.lemmas.List.Sums.{count_by_more_yes, count_by_more_no}

@@ -7,7 +7,7 @@ use Rattle.lq_control.specs.Finish.{IsFinished}
 use Rattle.lq_device.specs.Station.{StationState, initial_station}
 use Rattle.lq_device.specs.declared.device.TxDevice.{Ghosts}
 use Rattle.lq_model.specs.Alone.{RunningStation, after_run, fate_in, finished, new_stations}
-use Rattle.lq_model.specs.Device.{DeviceState, IsConfigured, Telling}
+use Rattle.lq_model.specs.Device.{DeviceState, IsConfigured, Telling, told_params}
 use Rattle.lq_model.specs.Plan.{Plan, queue_in, queues_at, station_in, unit_count}
 use Rattle.lq_model.specs.Settled.{IsConfiguredWith, IsUnitOf}
 use Rattle.lq_model.specs.Words.{IsWordOf}
@@ -18,7 +18,7 @@ use Rattle.lq_plan.specs.Limits.{IsWithinLimits}
 use Rattle.lq_seat.specs.Calls.{HungOnly, IsSoundAtClose, PurgesHungOnly}
 use Rattle.lq_seat.specs.Seat.{IsSeat, origin_of}
 use Rattle.lq_table.specs.Keyed.{starting}
-use Rattle.lq_table.specs.Rule.{HangsWhere, IsCallOf, latest_unit, told_params, units_of}
+use Rattle.lq_table.specs.Rule.{HangsWhere, IsCallOf, latest_unit, units_of}
 use Rattle.lq_table.specs.Sees.{view, closed_home}
 use Rattle.lq_table.specs.Solo.{IsSole, account_of}
 use Rattle.lq_table.specs.Views.{View, no_station}

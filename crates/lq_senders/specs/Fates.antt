@@ -1,11 +1,11 @@
 -- What the fates of a run are, what its devices did, and what stays of its stations.
-use Rattle.std.specs.Prelude.{◌≡◌, ◌<◌, ◌≤◌, ℕ, true, List, All, length, map, count_by, Some, slice_get, slice_index, Option, IsSome}
+use Rattle.std.specs.Prelude.{◌≡◌, ◌<◌, ◌≤◌, ℕ, true, List, All, length, map, count_by, Some, slice_get, slice_index, IsSome}
 use Rattle.std.specs.Option.{option_map}
 use Rattle.lq_account.specs.Accounts.{IsClosed}
 use Rattle.lq_model.specs.Account.{Account, Event}
 use Rattle.lq_model.specs.Alone.{alone}
 use Rattle.lq_model.specs.Complete.{IsComplete}
-use Rattle.lq_model.specs.Device.{DeviceCall, DeviceState}
+use Rattle.lq_model.specs.Device.{DeviceCall, DeviceState, told_params}
 use Rattle.lq_model.specs.Plan.{Plan, queue_in, queues_at, station_in, unit_count}
 use Rattle.lq_model.specs.Sent.{sent_of}
 use Rattle.lq_model.specs.Settled.{IsConfiguredWith, IsSettled, IsInSenderOrder, IsUnitOf, HangsAsTold, MeetsEvents}
@@ -16,10 +16,7 @@ use Rattle.lq_model.specs.declared.fate.Fate.{Fate}
 use Rattle.lq_model.specs.declared.fate.Fate.TheVariants.{Purged}
 use Rattle.lq_model.specs.Words.{IsWordOf}
 use Rattle.lq_model.specs.declared.fate.Info.{Info}
-use Rattle.lq_model.specs.declared.plan.StationPlan.{StationPlan}
-use Rattle.lq_device.specs.declared.device.TxDevice.{Ghosts}
 use Rattle.lq_senders.specs.Way.{EndsAsPlanned}
-use Rattle.lq_table.specs.Rule.{told_params}
 use Rattle.lq_table.specs.Ended.{EndedState}
 
 -- each of the first so many devices tells its rule

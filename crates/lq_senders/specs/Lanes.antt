@@ -4,13 +4,13 @@ use Rattle.lq_account.specs.Progress.{len_of, start_of}
 use Rattle.lq_control.specs.Finish.{AreRanks, count_below}
 use Rattle.lq_model.specs.Alone.{RunningStation, after_packets, bypass_of, events_after, with_events}
 use Rattle.lq_model.specs.Device.{DeviceState}
-use Rattle.lq_model.specs.Plan.{Plan, owner_in, queues_at}
+use Rattle.lq_model.specs.Plan.{Plan, is_at, owner_in, queues_at}
 use Rattle.lq_model.specs.declared.fate.Info.{Info}
 use Rattle.lq_model.specs.declared.plan.EventPlan.{EventPlan}
-use Rattle.lq_plan.specs.Limits.{max_len_at}
+use Rattle.lq_plan.specs.Limits.{IsKindWithin, max_len_at}
 use Rattle.lq_plan.specs.Packets.{IsInfoWithin}
 use Rattle.lq_qdisc.specs.Alone.{IsAlone, running}
-use Rattle.lq_seat.specs.Calls.{WakesQueues}
+use Rattle.lq_seat.specs.Calls.{DoesEvent, MayDoEvent, WakesQueues}
 use Rattle.lq_seat.specs.Exchanges.{KeepsSeat}
 use Rattle.lq_seat.specs.Seat.{IsSeat, Keeps}
 use Rattle.lq_table.specs.Rule.{AreInfos, times}
@@ -92,6 +92,16 @@ module _ {D : Type 0} where
   pub record AllDid (R : Shared D → View → View → Type 0) (tables : List (Shared D)) (old new : List (Cpu D)) : Type 0 where
     pub long : length new ≡ length old
     pub each : (j : ℕ) (t : Shared D) (c c' : Cpu D) → slice_get tables j ≡ Some t → slice_get old j ≡ Some c → slice_get new j ≡ Some c' → IsSeat t c' × R t (view c) (view c')
+
+  -- an event that may be done to a station is done, if it is one of it
+  pub record MayDoAt (t : Shared D) (event : EventPlan) (v : View) : Type 0 where
+    pub first : v.control.first ≡ true
+    pub raised : v.place.raised ≡ false
+    pub within : IsKindWithin t.max_len event.kind
+    pub may : MayDoEvent event.kind v.trail
+
+  abbrev pub DoesEventAt : ℕ → EventPlan → Shared D → View → View → Type 0
+  DoesEventAt e event t old new = ((is_at t.station event ≡ true) × ((plan : Plan) → DoesEvent t plan e event.kind old new)) ⊎ ((is_at t.station event ≡ false) × (new ≡ old))
 
   -- the queues were woken, where the plan wakes them after a sender's packet k, or all is as it was
   abbrev pub WokenOrNot : Plan → ℕ → List (Shared D) → List (Cpu D) → List (Cpu D) → Type 0

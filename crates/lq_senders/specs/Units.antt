@@ -2,8 +2,7 @@
 use Rattle.std.specs.Prelude.{◌≡◌, ◌<◌, ◌≤◌, ℕ, zero, suc, ◌+◌, Bool, true, false, ◌&&◌, if◌then◌else◌, List, [], ◌∷◌, ◌++◌, take, drop, length, count_by, slice_get, slice_set, Option, Some, None, Contains}
 use Rattle.lq_model.specs.Alone.{new_device}
 use Rattle.lq_model.specs.Device.{DeviceState}
-use Rattle.lq_model.specs.Plan.{Plan, is_swap, unit_count, unit_of_swap}
-use Rattle.lq_model.specs.Settled.{is_at}
+use Rattle.lq_model.specs.Plan.{Plan, is_at, is_swap, unit_count, unit_of_swap}
 use Rattle.lq_model.specs.declared.device.Params.{Params}
 use Rattle.lq_model.specs.declared.fate.Info.{Info}
 use Rattle.lq_model.specs.declared.plan.EventKind.TheVariants as kind

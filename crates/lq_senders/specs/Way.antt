@@ -4,8 +4,8 @@ use Rattle.lq_account.specs.Progress.{len_of}
 use Rattle.lq_account.specs.Trail.{down_of, IsTrail, HaveCome}
 use Rattle.lq_model.specs.Account.{Account, Event, Purge, Swap}
 use Rattle.lq_model.specs.Legal.{brought_by, resize_event, down_event}
-use Rattle.lq_model.specs.Plan.{Plan, unit_of_swap}
-use Rattle.lq_model.specs.Settled.{is_at, down_after, length_after}
+use Rattle.lq_model.specs.Plan.{Plan, is_at, unit_of_swap}
+use Rattle.lq_model.specs.Settled.{down_after, length_after}
 use Rattle.lq_model.specs.declared.fate.Cause.TheVariants as cause
 use Rattle.lq_model.specs.declared.plan.EventPlan.{EventPlan}
 use Rattle.lq_table.specs.Rule.{latest_unit, units_of}

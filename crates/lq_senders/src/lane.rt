@@ -300,7 +300,7 @@ pub fn come_to<'a, R: Wait, D: TxDevice, G: Gate>(
         → IsSending plan.now infos.now shared.now sender n at.sent at.next start brought cpus.old.items (map D.state spares.old.items)
         → IsSending plan.now infos.now shared.now sender (n + 1) result.sent result.next start brought cpus.new.items (map D.state spares.new.items) }
 {
-    if infos[n as usize].owner == sender {
+    if infos[n as usize].owner as u32 == sender {
         let next = bring(
             rt, plan, infos, shared, cpus, spares, sender, at.next, at.sent, n, gate,
         );

@@ -42,7 +42,10 @@ pub fn may_be_sent(plan: &Plan, infos: &[Info])
 pub fn packets_of(infos: &[Info], station: u32) -> usize
     ensures { result ≡ station_count infos.now station }
 {
-    infos.iter().filter(|info| info.station == station).count()
+    infos
+        .iter()
+        .filter(|info| info.station as u32 == station)
+        .count()
 }
 
 /// Configures the device of each station where it stands in the bench, with room for the station's packets.

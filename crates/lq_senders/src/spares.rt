@@ -28,6 +28,7 @@ fn configure_spare<D: TxDevice>(
     let EventPlan {
         before: _,
         station,
+        mq: _,
         kind,
     } = plan.event(e);
     match kind {

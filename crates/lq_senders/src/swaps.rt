@@ -1,15 +1,17 @@
 //! The plan's events, exchanges of a device among them.
 ghost use Rattle.std.specs.Prelude.{◌≡◌, ℕ, ◌+◌, ◌<◌, ◌≤◌, List, true, false, map, length, slice_get};
-ghost use Rattle.lq_senders.specs.Lanes.{IsSendable, KeepAll, KeepSeats, LaneStands, AreRunAlone};
+ghost use Rattle.lq_senders.specs.Lanes.{DoesEventAt, IsSendable, KeepAll, KeepSeats, LaneStands, MayDoAt, AreRunAlone};
 ghost use Rattle.lq_senders.specs.Units.{DevicesStand, DoTell};
 ghost use Rattle.lq_model.specs.Alone.{RunningStation, with_event};
 ghost use Rattle.lq_model.specs.Device.{DeviceState};
-ghost use Rattle.lq_model.specs.Plan.{is_swap, is_swap_kind, unit_of_swap};
+ghost use Rattle.lq_model.specs.Plan.{is_at, is_swap, is_swap_kind, unit_of_swap};
 ghost use Rattle.lq_model.specs.declared.plan.EventPlan.{EventPlan as AnEvent};
+ghost use Rattle.lq_seat.specs.Seat.{IsSeat};
+ghost use Rattle.lq_table.specs.Sees.{view};
 
 use lq_device::TxDevice;
 use lq_model::{EventKind, EventPlan, Info};
-use lq_plan::Plan;
+use lq_plan::{Plan, is_at};
 use lq_seat::{do_event, exchange};
 use lq_table::{Cpu, Shared};
 use std::sync::Wait;
@@ -36,7 +38,29 @@ pub fn brought_unit(plan: &Plan, e: u32) -> u32
     unit
 }
 
-/// Does event `e`, the plan's next, which isn't an exchange of the device.
+/// Does event `e` of the plan at this station and drains its seat, if it is an event of the station.
+fn event_at<'a, R: Wait, D: TxDevice>(
+    rt: &R,
+    shared: &Shared<'a, D>,
+    cpu: &mut Cpu<D>,
+    station: u32,
+    e: u32,
+    event: EventPlan,
+)
+    requires seat { IsSeat shared.now cpu.old }
+    requires number { station ≡ shared.now.station }
+    requires no_swap { is_swap event ≡ false }
+    requires may { is_at shared.now.station event ≡ true → MayDoAt shared.now event (view cpu.old) }
+    ensures seat { IsSeat shared.now cpu.new }
+    ensures does { DoesEventAt e event shared.now (view cpu.old) (view cpu.new) }
+{
+    if is_at(&event, station) {
+        do_event(rt, shared, cpu, e, event.kind);
+    }
+}
+
+/// Does event `e`, the plan's next, which isn't an exchange of a device: at each of its stations, the children of one group, in
+/// ascending order.
 fn do_next_event<'a, R: Wait, D: TxDevice>(
     rt: &R,
     plan: &Plan,
@@ -56,18 +80,11 @@ fn do_next_event<'a, R: Wait, D: TxDevice>(
         → AreRunAlone plan.now infos.now cpus.new.items (with_event plan.now infos.now e stations) }
 {
     plan.stays_within_limits();
-    let EventPlan {
-        before: _,
-        station,
-        kind,
-    } = plan.event(e);
-    do_event(
-        rt,
-        &shared[station as usize],
-        &mut cpus[station as usize],
-        e,
-        kind,
-    );
+    let _ = &infos;
+    let event = plan.event(e);
+    for j in 0..shared.len() {
+        event_at(rt, &shared[j], &mut cpus[j], j as u32, e, event);
+    }
 }
 
 /// Does event `e`, the plan's next, which exchanges a device: the first of the spare ones comes, and the one that goes is the last

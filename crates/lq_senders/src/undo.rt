@@ -47,6 +47,7 @@ fn undo_event<D: TxDevice>(plan: &Plan, homes: &mut Vec<D>, spares: &mut Vec<D>,
     let EventPlan {
         before: _,
         station,
+        mq: _,
         kind,
     } = plan.event(e);
     if is_exchange(kind) {

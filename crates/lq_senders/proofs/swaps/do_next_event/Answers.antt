@@ -1,61 +1,59 @@
-use Rattle.std.proofs.Common.{ℕ, sym, subst, refl}
-use Rattle.lq_plan.specs.Limits.{IsKindWithin}
-use Rattle.lq_table.specs.Sees.{view}
-use Rattle.lq_senders.proofs.Orders.{may-do-next}
-use Rattle.lq_senders.proofs.Seats.{event-changes, keep-set, lane-event, runs-event, max-len-is, table-at, seat-at}
-use Rattle.lq_senders.specs.Lanes.{StandsAt}
+use Rattle.std.proofs.Common.{sym, ◌∙◌, arith}
+use Rattle.lq_senders.specs.Lanes.{AllDid, DoesEventAt, StandsAt}
+use Rattle.lq_senders.proofs.Events.{all-keep, all-run, all-stand, may-do-at}
+use Rattle.lq_senders.proofs.Rounds.{all-did, none-did, one-more-did}
+use Rattle.lq_senders.proofs.Seats.{number-is, read-at}
 use Rattle.lq_senders.proofs.swaps.do_next_event.Goals as goal
 
+pub loop-j-init : goal.loop-j-init
+loop-j-init g c = none-did (DoesEventAt c.args.e c.event-event.result) c.args.shared.now c.args.cpus.now.items
+
+-- how the seat that is next stands
 there : (g : _) (c : goal.After-index_mut g)
-    → StandsAt c.args.plan.now c.args.infos.now 0 c.args.e c.requires.stands.0 c.event-station.result.station c.index-shared-station.result c.index_mut.result.now
+    → StandsAt c.args.plan.now c.args.infos.now 0 c.args.e c.requires.stands.0 c.loop-j.j c.index-shared-j.result c.index_mut.result.now
 there g c =
-    let lane = c.requires.stands.1 in let station = c.event-station.result.station in let within = c.event-station.ensures.within.station in
-    lane.each station c.index-shared-station.result c.index_mut.result.now
-    (table-at c.args.plan.now c.args.infos.now 0 c.args.e c.requires.stands.0 c.args.shared.now c.args.cpus.now.items lane station c.index-shared-station.result within c.index-shared-station.is)
-    (seat-at c.args.plan.now c.args.infos.now 0 c.args.e c.requires.stands.0 c.args.shared.now c.args.cpus.now.items lane station c.index_mut.result.now within c.index_mut.ensures.value)
+    let lane = c.requires.stands.1 in let first = c.loop-j.invariant in let long = first.long in let same = lane.long in let test = c.loop-j-test.true in
+    lane.each c.loop-j.j c.index-shared-j.result c.index_mut.result.now
+    (read-at c.args.shared.now c.loop-j.j c.index-shared-j.result test c.index-shared-j.is)
+    (sym (first.rest c.loop-j.j (omega arith)) ∙ read-at c.loop-j.cpus.items c.loop-j.j c.index_mut.result.now (omega arith) c.index_mut.ensures.value)
 
-pub do_event-requires-clause-seat : goal.do_event-requires-clause-seat
-do_event-requires-clause-seat g c κs within = (there g c).seat
+pub event_at-requires-clause-seat : goal.event_at-requires-clause-seat
+event_at-requires-clause-seat g c κs within = (there g c).seat
 
-pub do_event-requires-clause-first : goal.do_event-requires-clause-first
-do_event-requires-clause-first g c κs within = ((there g c).stands.way refl).0
+pub event_at-requires-clause-number : goal.event_at-requires-clause-number
+event_at-requires-clause-number g c κs within = sym (number-is c.args.plan.now c.args.infos.now c.loop-j.j c.index-shared-j.result (there g c).table)
 
-pub do_event-requires-clause-raised : goal.do_event-requires-clause-raised
-do_event-requires-clause-raised g c κs within = (there g c).stands.raised
+pub event_at-requires-clause-no_swap : goal.event_at-requires-clause-no_swap
+event_at-requires-clause-no_swap g c κs within = c.requires.no_swap c.event-event.result c.event-event.ensures.event
 
-pub do_event-requires-clause-no_swap : goal.do_event-requires-clause-no_swap
-do_event-requires-clause-no_swap g c κs within = c.requires.no_swap c.event-station.result c.event-station.ensures.event
+pub event_at-requires-clause-may : goal.event_at-requires-clause-may
+event_at-requires-clause-may g c κs within at =
+    let all = c.requires.stands.1.all in let test = c.loop-j-test.true in
+    may-do-at c.args.plan.now c.args.infos.now c.args.e c.event-event.result c.event-event.ensures.event c.stays_within_limits.ensures.order c.stays_within_limits.ensures.stations
+    c.requires.stands.0 c.loop-j.j c.index-shared-j.result c.index_mut.result.now (omega arith) c.event-event.ensures.within (there g c) at
 
-pub do_event-requires-clause-within : goal.do_event-requires-clause-within
-do_event-requires-clause-within g c κs within = subst (λ (m : ℕ). IsKindWithin m c.event-station.result.kind) (sym (max-len-is c.args.plan.now c.args.infos.now c.event-station.result.station c.index-shared-station.result (there g c).table)) c.event-station.ensures.within.kind
+pub loop-j-preserved : goal.loop-j-preserved
+loop-j-preserved g c =
+    let first = c.loop-j.invariant in let long = first.long in let same = c.requires.stands.1.long in let test = c.loop-j-test.true in
+    one-more-did (DoesEventAt c.args.e c.event-event.result) c.loop-j.j c.args.shared.now c.args.cpus.now.items c.loop-j.cpus.items c.index-shared-j.result c.index_mut.result.now c.event_at.new.cpu
+    (read-at c.args.shared.now c.loop-j.j c.index-shared-j.result test c.index-shared-j.is)
+    (read-at c.loop-j.cpus.items c.loop-j.j c.index_mut.result.now (omega arith) c.index_mut.ensures.value)
+    c.event_at.ensures.seat c.event_at.ensures.does first
 
-pub do_event-requires-clause-may : goal.do_event-requires-clause-may
-do_event-requires-clause-may g c κs within =
-    may-do-next c.args.plan.now c.args.e c.event-station.result (view c.index_mut.result.now).trail c.stays_within_limits.ensures.order c.event-station.ensures.event
-    ((there g c).stands.way refl).1.down
+did : (g : _) (c : goal.After-loop-j g) → AllDid (DoesEventAt c.args.e c.event-event.result) c.args.shared.now c.args.cpus.now.items c.loop-j.cpus.items
+did g c = let test = c.loop-j-test.false in all-did (DoesEventAt c.args.e c.event-event.result) c.loop-j.j c.args.shared.now c.args.cpus.now.items c.loop-j.cpus.items (omega arith) c.loop-j.invariant
 
 pub returns-clause-stands : goal.returns-clause-stands
 returns-clause-stands g c n lane =
-    let station = c.event-station.result.station in let within = c.event-station.ensures.within.station in
-    lane-event c.args.plan.now c.args.infos.now c.args.e n c.args.shared.now c.args.cpus.now.items c.event-station.result c.index-shared-station.result c.index_mut.result.now c.do_event.new.cpu
-    c.event-station.ensures.event
-    c.stays_within_limits.ensures.order
-    (table-at c.args.plan.now c.args.infos.now 0 c.args.e n c.args.shared.now c.args.cpus.now.items lane station c.index-shared-station.result within c.index-shared-station.is)
-    (seat-at c.args.plan.now c.args.infos.now 0 c.args.e n c.args.shared.now c.args.cpus.now.items lane station c.index_mut.result.now within c.index_mut.ensures.value)
-    c.do_event.ensures.seat (event-changes c.index-shared-station.result c.args.plan.now c.args.e c.event-station.result.kind (view c.index_mut.result.now) (view c.do_event.new.cpu) (c.do_event.ensures.does c.args.plan.now)) lane
+    all-stand c.args.plan.now c.args.infos.now c.args.e c.event-event.result c.event-event.ensures.event c.stays_within_limits.ensures.order c.stays_within_limits.ensures.stations
+    c.args.shared.now c.args.cpus.now.items c.loop-j.cpus.items (did g c) n lane
 
 pub returns-clause-keeps : goal.returns-clause-keeps
 returns-clause-keeps g c =
-    let does = c.do_event.ensures.does c.args.plan.now in let station = c.event-station.result.station in let within = c.event-station.ensures.within.station in
-    keep-set c.args.cpus.now.items station c.index_mut.result.now c.do_event.new.cpu
-    (seat-at c.args.plan.now c.args.infos.now 0 c.args.e c.requires.stands.0 c.args.shared.now c.args.cpus.now.items c.requires.stands.1 station c.index_mut.result.now within c.index_mut.ensures.value)
-    does.keeps
+    all-keep c.args.plan.now c.args.infos.now c.args.e c.event-event.result c.event-event.ensures.event c.stays_within_limits.ensures.order c.stays_within_limits.ensures.stations
+    c.args.shared.now c.args.cpus.now.items c.loop-j.cpus.items (did g c) c.requires.stands.0 c.requires.stands.1
 
 pub returns-clause-runs : goal.returns-clause-runs
 returns-clause-runs g c stations runs =
-    let station = c.event-station.result.station in let within = c.event-station.ensures.within.station in let lane = c.requires.stands.1 in
-    runs-event c.args.plan.now c.args.infos.now c.args.e c.requires.stands.0 c.args.shared.now c.args.cpus.now.items stations c.event-station.result c.index-shared-station.result c.index_mut.result.now c.do_event.new.cpu
-    c.event-station.ensures.event
-    (table-at c.args.plan.now c.args.infos.now 0 c.args.e c.requires.stands.0 c.args.shared.now c.args.cpus.now.items lane station c.index-shared-station.result within c.index-shared-station.is)
-    (seat-at c.args.plan.now c.args.infos.now 0 c.args.e c.requires.stands.0 c.args.shared.now c.args.cpus.now.items lane station c.index_mut.result.now within c.index_mut.ensures.value)
-    (c.do_event.ensures.does c.args.plan.now).alone lane runs
+    all-run c.args.plan.now c.args.infos.now c.args.e c.event-event.result c.event-event.ensures.event c.stays_within_limits.ensures.order c.stays_within_limits.ensures.stations
+    c.args.shared.now c.args.cpus.now.items c.loop-j.cpus.items (did g c) c.requires.stands.0 stations c.requires.stands.1 runs

@@ -1,5 +1,6 @@
 use Rattle.std.proofs.Common.{◌≡◌, ℕ, suc, ◌+◌, ◌≤◌, [], ◌∷◌, ◌++◌, map, refl, sym, ap, ◌∙◌, subst, arith}
 use Rattle.std.specs.Prelude.{slice_set}
+use Rattle.lq_model.proofs.Reach.{at-own-swap}
 use Rattle.lq_model.specs.Alone.{changed, served}
 use Rattle.lq_model.specs.declared.device.Params.{Params}
 use Rattle.lq_model.specs.declared.plan.EventKind.{EventKind}
@@ -41,7 +42,8 @@ pub exchange-old-requires-clause-active : goal.exchange-old-requires-clause-acti
 exchange-old-requires-clause-active g c κs within =
     let event = c.event-station.result in let at = c.event-station.ensures.event in let swap = swap-params event.kind (c.requires.swap event at) in
     subst (λ (k : EventKind). MayDoEvent k (view c.index_mut.result.now).trail) swap.1
-    (may-do-next c.args.plan.now c.args.e event (view c.index_mut.result.now).trail c.stays_within_limits.ensures.order at ((there g c).stands.way refl).1.down)
+    (may-do-next c.args.plan.now event.station c.args.e event (view c.index_mut.result.now).trail c.stays_within_limits.ensures.order at
+    (let below = c.event-station.ensures.within.station in let few = c.stays_within_limits.ensures.stations in omega arith) (at-own-swap event (c.requires.swap event at)) ((there g c).stands.way refl).1.down)
 
 pub exchange-old-requires-clause-unit : goal.exchange-old-requires-clause-unit
 exchange-old-requires-clause-unit g c κs within =
@@ -73,7 +75,7 @@ returns-clause-stands g c n lane =
     let event = c.event-station.result in let station = event.station in let within = c.event-station.ensures.within.station in let at = c.event-station.ensures.event in
     let swap = swap-params event.kind (c.requires.swap event at) in
     lane-event c.args.plan.now c.args.infos.now c.args.e n c.args.shared.now c.args.cpus.now.items event c.index-shared-station.result c.index_mut.result.now c.exchange-old.new.cpu
-    at c.stays_within_limits.ensures.order
+    at (c.requires.swap event at) (let few = c.stays_within_limits.ensures.stations in omega arith) c.stays_within_limits.ensures.order
     (table-at c.args.plan.now c.args.infos.now 0 c.args.e n c.args.shared.now c.args.cpus.now.items lane station c.index-shared-station.result within c.index-shared-station.is)
     (seat-at c.args.plan.now c.args.infos.now 0 c.args.e n c.args.shared.now c.args.cpus.now.items lane station c.index_mut.result.now within c.index_mut.ensures.value)
     c.exchange-old.ensures.seat
@@ -114,7 +116,7 @@ returns-clause-runs g c units stand tell stations runs =
     let event = c.event-station.result in let station = event.station in let within = c.event-station.ensures.within.station in let at = c.event-station.ensures.event in let lane = c.requires.stands.1 in
     let swap = swap-params event.kind (c.requires.swap event at) in let t = c.index-shared-station.result in
     runs-event c.args.plan.now c.args.infos.now c.args.e c.requires.stands.0 c.args.shared.now c.args.cpus.now.items stations event t c.index_mut.result.now c.exchange-old.new.cpu
-    at
+    at (c.requires.swap event at)
     (table-at c.args.plan.now c.args.infos.now 0 c.args.e c.requires.stands.0 c.args.shared.now c.args.cpus.now.items lane station t within c.index-shared-station.is)
     (seat-at c.args.plan.now c.args.infos.now 0 c.args.e c.requires.stands.0 c.args.shared.now c.args.cpus.now.items lane station c.index_mut.result.now within c.index_mut.ensures.value)
     (subst (λ (k : EventKind). DoesAlone t (λ s. served t.infos.now (changed c.args.plan.now c.args.e k s)) (view c.index_mut.result.now) (view c.exchange-old.new.cpu)) (sym swap.1)
