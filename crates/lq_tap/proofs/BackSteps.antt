@@ -1,12 +1,12 @@
 -- What the steps of giving back make of the view and of the list of steps.
-use Rattle.std.proofs.Common.{◌≡◌, ℕ, zero, suc, ◌+◌, ◌-◌, ◌<◌, ◌≤◌, false, List, [], ◌∷◌, ◌++◌, length, take, drop, refl, sym, ap, ◌∙◌, arith, get_or, length-drop, length-append}
-use Rattle.std.proofs.lemmas.List.{append-nil, append_assoc, take-append-drop, length-take-le}
+use Rattle.std.proofs.Common.{◌≡◌, ℕ, zero, suc, ◌+◌, ◌-◌, ◌<◌, ◌≤◌, List, [], ◌∷◌, ◌++◌, length, take, drop, refl, sym, ap, ◌∙◌, arith, get_or, length-drop, length-append}
+use Rattle.std.proofs.lemmas.List.{append_assoc, take-append-drop, length-take-le}
 use Rattle.std.proofs.Math.Seq.{drop-append_seam}
-use Rattle.lq_band.specs.Ring.{Ends, cleared_at, with_room}
+use Rattle.lq_band.specs.Ring.{cleared_at}
 use Rattle.lq_tap.specs.Views.{View}
 use Rattle.lq_tap.specs.Made.{Made, ◌⊳◌, did_load_slot, did_store_slot}
 use Rattle.lq_tap.specs.Told.{place_back, without_last, having_given_back}
-use Rattle.lq_tap.specs.Plays.{with_lock, destroying, putting_back, having_put_back, without_batch}
+use Rattle.lq_tap.specs.Plays.{destroying, having_put_back, without_batch}
 use Rattle.lq_tap.specs.Steps.{put_back}
 use Rattle.lq_tap.proofs.BackKept.{without_last_is}
 

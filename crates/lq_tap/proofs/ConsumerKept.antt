@@ -1,5 +1,5 @@
 -- The reader's steps keep the rule: the consumer lock, takes, and the emptying of slots.
-use Rattle.std.proofs.Common.{◌≡◌, ◌⊎◌, inl, inr, ℕ, zero, suc, ◌+◌, ◌-◌, ◌%◌, ◌<◌, ◌≤◌, Bool, true, false, true≢false, eqb, List, [], ◌∷◌, ◌++◌, set, take, drop, refl, sym, ap, ◌∙◌, subst, ⊎_elim, arith, length, get_or, Some, eq-eqb, ne_eqb}
+use Rattle.std.proofs.Common.{◌≡◌, ◌⊎◌, inl, inr, ℕ, zero, suc, ◌+◌, ◌-◌, ◌%◌, ◌<◌, ◌≤◌, Bool, true, false, true≢false, eqb, List, [], ◌∷◌, ◌++◌, set, take, drop, refl, sym, ap, ◌∙◌, subst, ⊎_elim, arith, length, get_or, Some, eq-eqb, ne_eqb, length-append}
 use Rattle.std.specs.Prelude.{if◌then◌else◌, ◌==◌, ◌&&◌}
 use Rattle.std.specs.List.{slice_get}
 use Rattle.std.proofs.lemmas.Bool.Decides.{nat_tests}
@@ -22,10 +22,10 @@ use Rattle.lq_band.proofs.HoldsKept.{finds_none_held, takes_held, empties_held}
 use Rattle.lq_tap.specs.Views.{View, Setup, ReaderPart}
 use Rattle.lq_tap.specs.Made.{Sat, slot_word}
 use Rattle.lq_tap.specs.Plays.{with_consumer, beginning, consumer_taken, consumer_given, return_ended, taking, finding_none, head_slot_seen, emptying, slot_emptied}
-use Rattle.lq_tap.specs.Rule.{Words, words_of, one_if, reading, IsSeat, KnowsReads, locks_of, band_of, consumer_of, holding, Ordered, Lends, Parts, Rule}
+use Rattle.lq_tap.specs.Rule.{Words, words_of, one_if, reading, IsSeat, ArePuts, KnowsReads, locks_of, band_of, consumer_of, holding, Ordered, Lends, Parts, Rule}
 use Rattle.lq_tap.specs.declared.view.Consumer.{Consumer}
 use Rattle.lq_tap.proofs.ByName.{set_consumer, set_slot, slot_of}
-use Rattle.lq_tap.proofs.Orders.{times_self}
+use Rattle.lq_tap.proofs.Orders.{times_self, no_more}
 use Rattle.lq_tap.proofs.Frames.{seats_same, puts_same, reads_step, locks_same, ring_same, lends_held, rule_after, rule_load, rule_same}
 
 -- LISTS
@@ -75,6 +75,14 @@ rebatch k ended line passed ends q holds batch which h =
       ended_is = h.ended_is;
       drained = λ d. let z = h.drained d in (z.0, z.1, ⊎_elim (λ (e : batch ≡ q.batch). e ∙ z.2) (λ (e : batch ≡ []). e) which);
     }
+
+-- all that the reader took, or destroyed, was put
+few_read : (k : Setup) (ended : ℕ) (line full : List ℕ) (views : List View) (passed : ℕ) (ends : Ends) (q : ReaderPart) → ArePuts k line full views → KnowsReads k ended line passed ends q → length q.taken + length q.destroyed ≤ k.packets
+few_read k ended line full views passed ends q p h =
+    let few = no_more k.packets (q.taken ++ q.destroyed)
+    (λ m some_. p.within m (let a = times_append m q.taken q.destroyed in let b = h.counts m in omega arith))
+    (λ m. let a = times_append m q.taken q.destroyed in let b = h.counts m in let c = p.one m in omega arith) in
+    let both = length-append q.taken q.destroyed in omega arith
 
 -- THE READER'S OWN STEPS
 
@@ -200,52 +208,52 @@ module _ (k : Setup) where
       let at_head : found ≡ get_or W.slots g.ends.head 0 = slot_of s.words i ∙ ap (λ (j : ℕ). get_or W.slots j 0) (place ∙ ap (λ (c : Ends). c.head) h.ends_are) in
       dite (ℕ_discrete found 0)
       (λ none_. let w : View = finding_none v in
-      let nothing = finds_none_held k.len W.slots W.producer (locks_of s.views) (band_of g) g.ends p.ring rests.2 rests.1 (sym at_head ∙ none_) in (
+      let nothing = finds_none_held k.len W.slots W.producer (locks_of s.views) (band_of g) g.ends p.ring rests.2 rests.1 (sym at_head ∙ none_) in
+      let knows : KnowsReads k W.ended g.line g.passed g.ends w.reader = record {
+        ends_are = h.ends_are;
+        counts = h.counts;
+        earlier = h.earlier;
+        batch = h.batch;
+        kept = h.kept;
+        taken = h.taken;
+        in_order = h.in_order;
+        lost = h.lost;
+        ended_is = h.ended_is;
+        drained = λ d. let b = both_true v.reader.ended (length v.reader.batch == 0) d in (b.0, nothing, none_left v.reader.batch b.1);
+      } in (
         w,
         keeps,
         tt,
-        rule_load k s r (slot_word i) id w g (own_parts k s r id v here reads w.reader v.lock W.consumer W.slots r.home g.passed g.ends reads refl refl
-            record {
-              ends_are = h.ends_are;
-              counts = h.counts;
-              earlier = h.earlier;
-              batch = h.batch;
-              kept = h.kept;
-              taken = h.taken;
-              in_order = h.in_order;
-              lost = h.lost;
-              ended_is = h.ended_is;
-              drained = λ d. let b = both_true v.reader.ended (length v.reader.batch == 0) d in (b.0, nothing, none_left v.reader.batch b.1);
-            }
+        rule_load k s r (slot_word i) id w g (own_parts k s r id v here reads w.reader v.lock W.consumer W.slots r.home g.passed g.ends reads refl refl knows
             (ring_same k s.views id v w here W.slots W.producer g p.ring refl)
             (lends_held k s.views id v w here W.consumer r.home g.ends g.ends p.lends has refl (λ _. reads))),
-        ((λ _. refl), λ some_. absurd (some_ none_)),
+        ((λ _. refl), (λ some_. absurd (some_ none_)), subst (λ (x : Setup). length w.reader.taken + length w.reader.destroyed ≤ x.packets) (sym about) (few_read k W.ended g.line g.full s.views g.passed g.ends w.reader p.puts knows)),
       ))
       (λ some_. let n : ℕ = found - 1 in let w : View = taking n v in
       let full : 0 < get_or W.slots g.ends.head 0 = let e = at_head in omega arith in
       let took = takes_held k.len W.slots W.producer (locks_of s.views) (band_of g) g.ends p.ring rests.2 rests.1 few full in
       let first : slice_get (drop g.passed g.line) 0 ≡ Some n = took.1 ∙ ap (λ (x : ℕ). Some (x - 1)) (sym at_head) in
       let rest_is = drop_first g.passed n g.line first in
-      let in_line : 0 < times n g.line = let a = ap (times n) rest_is in let b = times_self n (drop (g.passed + 1) g.line) in let c = times_drop n g.passed g.line in omega arith in (
+      let in_line : 0 < times n g.line = let a = ap (times n) rest_is in let b = times_self n (drop (g.passed + 1) g.line) in let c = times_drop n g.passed g.line in omega arith in
+      let knows : KnowsReads k W.ended g.line (g.passed + 1) (taken_on g.ends) w.reader = record {
+        ends_are = ap taken_on h.ends_are;
+        counts = λ x. let a = times_append x v.reader.taken (n ∷ []) in let b = ap (times x) rest_is in let c = times_append x (n ∷ []) (drop (g.passed + 1) g.line) in let d = h.counts x in omega arith;
+        earlier = h.earlier;
+        batch = take_more g.passed n g.line first ∙ (ap (λ (xs : List ℕ). xs ++ n ∷ []) h.batch ∙ append_assoc h.earlier v.reader.batch (n ∷ []));
+        kept = h.kept;
+        taken = ap (λ (xs : List ℕ). xs ++ n ∷ []) h.taken ∙ append_assoc h.kept v.reader.batch (n ∷ []);
+        in_order = subst (Ordered k.senders) (ap (λ (xs : List ℕ). v.reader.taken ++ xs) rest_is ∙ sym (append_assoc v.reader.taken (n ∷ []) (drop (g.passed + 1) g.line))) h.in_order;
+        lost = h.lost;
+        ended_is = h.ended_is;
+        drained = λ e. absurd (true≢false (sym e));
+      } in (
         w,
         keeps,
         tt,
-        rule_load k s r (slot_word i) id w (record g { passed = g.passed + 1; ends = taken_on g.ends }) (own_parts k s r id v here reads w.reader v.lock W.consumer W.slots r.home (g.passed + 1) (taken_on g.ends) reads refl refl
-            record {
-              ends_are = ap taken_on h.ends_are;
-              counts = λ x. let a = times_append x v.reader.taken (n ∷ []) in let b = ap (times x) rest_is in let c = times_append x (n ∷ []) (drop (g.passed + 1) g.line) in let d = h.counts x in omega arith;
-              earlier = h.earlier;
-              batch = take_more g.passed n g.line first ∙ (ap (λ (xs : List ℕ). xs ++ n ∷ []) h.batch ∙ append_assoc h.earlier v.reader.batch (n ∷ []));
-              kept = h.kept;
-              taken = ap (λ (xs : List ℕ). xs ++ n ∷ []) h.taken ∙ append_assoc h.kept v.reader.batch (n ∷ []);
-              in_order = subst (Ordered k.senders) (ap (λ (xs : List ℕ). v.reader.taken ++ xs) rest_is ∙ sym (append_assoc v.reader.taken (n ∷ []) (drop (g.passed + 1) g.line))) h.in_order;
-              lost = h.lost;
-              ended_is = h.ended_is;
-              drained = λ e. absurd (true≢false (sym e));
-            }
+        rule_load k s r (slot_word i) id w (record g { passed = g.passed + 1; ends = taken_on g.ends }) (own_parts k s r id v here reads w.reader v.lock W.consumer W.slots r.home (g.passed + 1) (taken_on g.ends) reads refl refl knows
             (subst (λ (ls : List Lock). HoldsBand k.len W.slots W.producer ls (record { line = g.line; taken = g.passed + 1 }) (taken_on g.ends)) (sym (locks_same k s.views id v w here refl)) took.0)
             (lends_held k s.views id v w here W.consumer r.home g.ends (taken_on g.ends) p.lends has refl (λ _. reads))),
-        ((λ none_. absurd (some_ none_)), λ _. (refl, subst (λ (x : Setup). found ≤ x.packets) (sym about) (let b = p.puts.within n (omega arith) in omega arith))),
+        ((λ none_. absurd (some_ none_)), (λ _. (refl, subst (λ (x : Setup). found ≤ x.packets) (sym about) (let b = p.puts.within n (omega arith) in omega arith))), subst (λ (x : Setup). length w.reader.taken + length w.reader.destroyed ≤ x.packets) (sym about) (few_read k W.ended g.line g.full s.views (g.passed + 1) (taken_on g.ends) w.reader p.puts knows)),
       ))
 
   -- THE SLOT BELOW THE EDGE IS EMPTIED

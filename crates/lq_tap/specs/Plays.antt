@@ -3,7 +3,7 @@ use Rattle.std.specs.Prelude.{◌≡◌, ◌≢◌, ℕ, ◌-◌, ◌/◌, ◌<�
 use Rattle.atomic_table.specs.Table.{Me, Step}
 use Rattle.lq_band.specs.Ring.{Ends, Lock, unlocked, locked_at, with_room, without_room, having_stored, cleared_at, taken_on, after_take, emptied_on, IsAtRest}
 use Rattle.lq_ring_core.specs.Ring.{place_before}
-use Rattle.lq_tap.specs.Views.{View, sender_view}
+use Rattle.lq_tap.specs.Views.{View, AreFew, sender_view}
 use Rattle.lq_tap.specs.Made.{Known, Sat}
 use Rattle.lq_tap.specs.Told.{having_put, having_found_full, having_split, having_joined, having_ended, having_seen_ended, without_last}
 use Rattle.lq_tap.specs.Settled.{IsSettled}
@@ -86,7 +86,7 @@ abbrev pub finding_none : View → View
 finding_none v = record v { reader = record v.reader { drained = v.reader.ended && (length v.reader.batch == 0) } }
 
 abbrev pub head_slot_seen : Step Consumer → Sat → ℕ → Sat → Type 0
-head_slot_seen _ m found m' = (found ≡ 0 → m' ≡ (finding_none m.0, m.1)) × (found ≢ 0 → (m' ≡ (taking (found - 1) m.0, m.1)) × (found ≤ m.0.about.packets))
+head_slot_seen _ m found m' = (found ≡ 0 → m' ≡ (finding_none m.0, m.1)) × (found ≢ 0 → (m' ≡ (taking (found - 1) m.0, m.1)) × (found ≤ m.0.about.packets)) × AreFew m'.0
 
 abbrev pub with_ends : Ends → View → View
 with_ends ends v = record v { reader = record v.reader { ends = ends } }

@@ -1,5 +1,5 @@
 -- What a seat of a tap knows, a record for each part of the rule.
-use Rattle.std.specs.Prelude.{ℕ, zero, suc, ◌+◌, Bool, true, false, List, [], ◌∷◌}
+use Rattle.std.specs.Prelude.{ℕ, zero, suc, ◌+◌, ◌≤◌, Bool, true, false, List, [], ◌∷◌, length}
 use Rattle.lq_band.specs.Ring.{Ends, at_start, Lock, unlocked}
 
 -- what the tap was made for: how many packets there are, how many slots its ring has, and how many senders put packets
@@ -43,6 +43,10 @@ pub record View : Type 0 where
   pub reader : ReaderPart
   -- what it knows of the producer lock
   pub lock : Lock
+
+-- the reader has taken, or destroyed, no more packets than there are
+abbrev pub AreFew : View → Type 0
+AreFew v = length v.reader.taken + length v.reader.destroyed ≤ v.about.packets
 
 abbrev pub no_setup : Setup
 no_setup = record { packets = 0; len = 0; senders = 0 }

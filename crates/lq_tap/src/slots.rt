@@ -4,6 +4,7 @@ ghost use Rattle.lq_band.specs.Ring.{with_room, having_stored, all_empty, IsAtRe
 ghost use Rattle.lq_ring_core.specs.Ring.{place_before};
 ghost use Rattle.lq_tap.specs.Made.{◌⊳◌, Noted, Loads, Stores, did_load_slot, did_store_slot};
 ghost use Rattle.lq_tap.specs.Told.{having_put, having_found_full};
+ghost use Rattle.lq_tap.specs.Views.{AreFew};
 ghost use Rattle.lq_tap.specs.Plays.{with_lock, with_ends, producer_slot_seen, producer_slot_stored, finding_none, taking, head_slot_seen, emptying, slot_emptied, destroying, slot_before_seen, putting_back, slot_before_stored};
 ghost use Rattle.lq_tap.specs.Steps.{emptied_below};
 ghost use Rattle.lq_tap.specs.Sees.{view, steps, IsSeatOf, IsElseSame};
@@ -103,6 +104,7 @@ impl Tap {
         ensures same { IsElseSame seat.old seat.new }
         ensures none { result ≡ 0 → view seat.new ≡ finding_none (view seat.old) }
         ensures taken { result ≢ 0 → (view seat.new ≡ taking (result - 1) (view seat.old)) × (result ≤ self.now.packets) }
+        ensures few { AreFew (view seat.new) }
         ensures steps { steps seat.new ≡ steps seat.old ⊳ did_load_slot head result }
     {
         self.table

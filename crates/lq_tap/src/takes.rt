@@ -3,6 +3,7 @@ ghost use Rattle.std.specs.Prelude.{◌≡◌, ◌+◌, ◌<◌, ◌≤◌, true
 ghost use Rattle.lq_band.specs.Ring.{taken_on, after_take, IsAtRest};
 ghost use Rattle.lq_tap.specs.Made.{◌⊳◌, did_load_slot};
 ghost use Rattle.lq_tap.specs.Told.{having_taken};
+ghost use Rattle.lq_tap.specs.Views.{AreFew};
 ghost use Rattle.lq_tap.specs.Plays.{with_ends, finding_none, having_taken_one, rest_at};
 ghost use Rattle.lq_tap.specs.Rule.{consumer_of};
 ghost use Rattle.lq_tap.specs.Steps.{GetsBatch, TakesAll, took, emptied_below, emptied_after};
@@ -47,6 +48,7 @@ impl Tap {
         ensures same { IsElseSame seat.old seat.new }
         ensures none { IfNone result ((view seat.new ≡ finding_none (view seat.old)) × (steps seat.new ≡ steps seat.old ⊳ did_load_slot ends.head 0)) }
         ensures taken { IfSome result (λ r. (view seat.new ≡ having_taken_one r.0 (view seat.old)) × (steps seat.new ≡ took self.now.len (rest_at ends) r.0 (steps seat.old)) × (r.0 < self.now.packets)) }
+        ensures few { AreFew (view seat.new) }
         ensures ends { IfSome result (λ r. (rest_at r.1 ≡ after_take self.now.len (rest_at ends)) × IsAtRest self.now.len (rest_at r.1)) }
     {
         let found = self.head_slot(seat, ends.head);
@@ -69,6 +71,7 @@ impl Tap {
         ensures view { view seat.new ≡ having_taken (take result.0 out.new) (view seat.old) }
         ensures steps { TakesAll self.now.len (rest_at first) (take result.0 out.new) (length out.old) (steps seat.old) (steps seat.new) }
         ensures packets { All (λ n. n < self.now.packets) (take result.0 out.new) }
+        ensures few { AreFew (view seat.new) }
         ensures ends { ((view seat.new).reader.ends ≡ rest_at result.1) × IsAtRest self.now.len (rest_at result.1) }
     {
         let mut ends = first;
@@ -98,6 +101,7 @@ pub fn get_batch<R: Wait>(rt: &R, tap: &Tap, seat: &mut TapSeat, out: &mut [u32]
     ensures view { view seat.new ≡ having_taken (take result out.new) (view seat.old) }
     ensures steps { GetsBatch tap.now.len (view seat.old).reader.ends (take result out.new) (length out.old) (steps seat.old) (steps seat.new) }
     ensures packets { All (λ n. n < tap.now.packets) (take result out.new) }
+    ensures few { AreFew (view seat.new) }
 {
     tap.lock_for_batch(rt, seat);
     let first = tap.exchange_ends(seat, Consumer { head: 0, tail: 0 });

@@ -1,4 +1,4 @@
-use Rattle.std.proofs.Common.{◌≡◌, ◌<◌, ◌≤◌, ⊎_elim, arith, length}
+use Rattle.std.proofs.Common.{◌<◌, ⊎_elim, arith, length}
 use Rattle.std.proofs.lemmas.Bool.{cases_lt}
 use Rattle.lq_tap.proofs.laws.room_for_all.Goals as goal
 

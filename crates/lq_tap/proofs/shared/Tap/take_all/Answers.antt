@@ -21,6 +21,7 @@ loop-taken-init c =
       view_is = (v.reader.drained, sym (none_taken_yet v c.requires.begins), λ h. absurd (omega arith));
       made = refl;
       packets = All-nil (λ n. n < c.args.self.now.packets);
+      few = λ h. absurd (omega arith);
       ends = c.requires.ends;
     }
 
@@ -42,5 +43,6 @@ loop-taken-preserved c =
       view_is = (false, now, λ _. refl);
       made = took_it.1 ∙ ((λ j. took len (ends_are j) n (inv.made j)) ∙ (sym (took_one_more len (rest_at c.args.first) batch n (steps c.args.seat.now)) ∙ ap (λ (xs : List ℕ). took_all len (rest_at c.args.first) xs (steps c.args.seat.now)) (sym more)));
       packets = subst (All (λ n. n < c.args.self.now.packets)) (sym more) (All-push (λ n. n < c.args.self.now.packets) batch n inv.packets took_it.2);
+      few = λ _. c.take_one.ensures.few;
       ends = (ap (λ (x : View). x.reader.ends) took_it.0 ∙ ((λ j. after_take (old_len j) (inv.ends.0 j)) ∙ sym more_ends.0), more_ends.1);
     }

@@ -1,5 +1,6 @@
 use Rattle.std.proofs.Common.{length, ◌-◌, ◌≡◌, ◌<◌, ◌≤◌, Bool, true, false, take, drop, All}
 use Rattle.lq_band.specs.Ring.{IsAtRest}
+use Rattle.lq_tap.specs.Views.{AreFew}
 use Rattle.lq_tap.specs.Plays.{rest_at}
 use Rattle.lq_tap.specs.Steps.{took_all}
 use Rattle.lq_tap.specs.Sees.{view, steps, IsSeatOf, IsElseSame}
@@ -16,6 +17,7 @@ invariant-loop-taken l = record {
   view_is : (d : Bool) × (view l.seat ≡ taken_so_far d (take l.taken l.out) (view l.fn.seat)) × (0 < l.taken → d ≡ false);
   made : steps l.seat ≡ took_all l.self.len (rest_at l.fn.first) (take l.taken l.out) (steps l.fn.seat);
   packets : All (λ n. n < l.self.packets) (take l.taken l.out);
+  few : 0 < l.taken → AreFew (view l.seat);
   ends : ((view l.seat).reader.ends ≡ rest_at l.ends) × IsAtRest l.self.len (rest_at l.ends);
 }
 
