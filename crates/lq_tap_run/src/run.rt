@@ -75,6 +75,7 @@ fn make_reader(alloc: Global, packets: u32, batch: u32, seat: TapSeat) -> Result
     requires batch { (0 < batch) × (batch ≤ 64) }
     ensures seat { IfOk result (λ reader. reader.seat ≡ seat) }
     ensures read { IfOk result (λ reader. reader.read.items ≡ []) }
+    ensures room { IfOk result (λ reader. packets ≤ vec_capacity reader.read) }
     ensures batch { IfOk result (λ reader. vec_len reader.batch ≡ batch) }
 {
     let read = room_for(alloc, packets as usize)?;
@@ -91,15 +92,16 @@ fn put_and_read<R: Threads + Wait + Sync, G: Gate>(
     lanes: Vec<Lane>,
     reader: Reader,
     gate: &G,
-) -> (Vec<Lane>, Result<Reader, NoMemory>)
+) -> (Vec<Lane>, Reader)
     requires made { (len : ℕ) × IsMadeFor packets len senders tap.now }
     requires few { (packets ≤ 1000000) × (senders ≤ 8) × (0 < senders) }
     requires count { length lanes.items ≡ senders }
     requires ready { AreReady tap.now packets senders lanes.items }
     requires read { HasRead tap.now reader.seat reader.read.items }
+    requires room { packets ≤ vec_capacity reader.read }
     requires batch { (0 < vec_len reader.batch) × (vec_len reader.batch ≤ 64) }
     ensures lanes { AreDone tap.now packets senders result.0.items × (length result.0.items ≡ senders) }
-    ensures reader { IfOk result.1 (λ done. HasRead tap.now done.seat done.read.items × IsReaderDone done.seat × ReadsOn reader.seat done.seat) }
+    ensures reader { HasRead tap.now result.1.seat result.1.read.items × IsReaderDone result.1.seat × ReadsOn reader.seat result.1.seat }
 {
     thread::join(
         rt,
@@ -108,9 +110,10 @@ fn put_and_read<R: Threads + Wait + Sync, G: Gate>(
                 × (length lanes.items ≡ senders) × AreReady tap.now packets senders lanes.items }
             ensures { AreDone tap.entry.now packets senders result.items × (length result.items ≡ senders) }
         { all_put(rt, tap, packets, senders, lanes, gate) },
-        move || -> Result<Reader, NoMemory>
-            requires { HasRead tap.now reader.seat reader.read.items × (0 < vec_len reader.batch) × (vec_len reader.batch ≤ 64) }
-            ensures { IfOk result (λ done. HasRead tap.entry.now done.seat done.read.items × IsReaderDone done.seat × ReadsOn reader.seat done.seat) }
+        move || -> Reader
+            requires { HasRead tap.now reader.seat reader.read.items × ((view reader.seat).about.packets ≤ vec_capacity reader.read)
+                × (0 < vec_len reader.batch) × (vec_len reader.batch ≤ 64) }
+            ensures { HasRead tap.entry.now result.seat result.read.items × IsReaderDone result.seat × ReadsOn reader.seat result.seat }
         { all_read(rt, tap, senders, reader, gate) },
     )
 }
@@ -193,6 +196,6 @@ pub fn tap_all<R: Threads + Wait + Sync, G: Gate>(
     let lanes = make_lanes(alloc, &tap, packets, senders, &mut seat)?;
     let reader = make_reader(alloc, packets, batch, seat)?;
     let (lanes, reader) = put_and_read(rt, &tap, packets, senders, lanes, reader, gate);
-    let tapped = decide(&tap, packets, senders, len, reader?, lanes, fates);
+    let tapped = decide(&tap, packets, senders, len, reader, lanes, fates);
     Ok(tapped)
 }

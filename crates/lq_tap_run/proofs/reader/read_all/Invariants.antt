@@ -1,4 +1,6 @@
-use Rattle.std.proofs.Common.{◌≡◌, length}
+use Rattle.std.proofs.Common.{◌≡◌, ◌≤◌, length}
+use Rattle.std.specs.Prelude.{vec_capacity}
+use Rattle.lq_tap.specs.Sees.{view}
 use Rattle.lq_tap_run.specs.Reads.{HasRead, ReadsOn}
 use Rattle.lq_tap_run.proofs.reader.read_all.Given as goal
 
@@ -6,5 +8,6 @@ abbrev pub invariant-loop : goal.invariant-loop
 invariant-loop g l = record {
   read : HasRead l.tap l.seat l.read.items;
   on : ReadsOn l.fn.seat l.seat;
+  room : (view l.fn.seat).about.packets ≤ vec_capacity l.read;
   long : length l.batch ≡ length l.fn.batch;
 }

@@ -20,10 +20,10 @@ returns-clause-read g c =
     let old = view c.args.seat.now in
     let new = view c.give_back-lost.new.seat in
     let read : List ℕ = c.args.read.now.items in
-    let now : List ℕ = c.extend_from_slice.new.self.items in
+    let now : List ℕ = c.read_these.new.read.items in
     let lost = c.give_back-lost.result in
     record {
       reader = c.give_back-lost.ensures.seat;
-      taken = taken_on old new read batch mine given now lost c.requires.taken.0 parts c.give_back-lost.ensures.view c.in-Ok.ensures.items;
-      few = few_on old new read batch mine given now lost c.requires.taken.0 parts c.give_back-lost.ensures.view c.in-Ok.ensures.items c.requires.few less;
+      taken = taken_on old new read batch mine given now lost c.requires.taken.0 parts c.give_back-lost.ensures.view c.read_these.ensures.read;
+      few = few_on old new read batch mine given now lost c.requires.taken.0 parts c.give_back-lost.ensures.view c.read_these.ensures.read c.requires.few less;
     }
