@@ -8,6 +8,7 @@ use crate::layout::{
     VERSION,
 };
 use crate::numbers::{begins_big_endian, begins_little_endian, major, number};
+use crate::places::Places;
 use crate::records::Capture;
 use crate::refusal::CaptureRefusal;
 use lq_model::CaptureReason;
@@ -22,7 +23,7 @@ use std::alloc::Global;
 ///
 /// # NoMemory
 ///
-/// There was no room for the places of the records, 8 bytes each. The bytes are dropped.
+/// There was no room for the places of the records, 4 bytes each, and 8 behind 4 GiB. The bytes are dropped.
 pub fn read_capture(alloc: Global, bytes: Vec<u8>) -> Result<Capture, CaptureRefusal>
     ensures { Gives (λ capture. capture) result (capture_of bytes.items) }
 {
@@ -50,13 +51,13 @@ fn refused_at(reason: CaptureReason, place: usize) -> CaptureRefusal
 }
 
 // Where the records begin and the last one ends.
-fn places_of(alloc: Global, bytes: &[u8], little_endian: bool) -> Result<Vec<usize>, CaptureRefusal>
+fn places_of(alloc: Global, bytes: &[u8], little_endian: bool) -> Result<Places, CaptureRefusal>
     requires header { 24 ≤ length bytes.now }
     requires order { little_endian ≡ is_little_endian bytes.now }
-    ensures places { IfOk result (λ places. ArePlaces bytes.now places.items) }
-    ensures count { Gives (λ places. length places.items - 1) result (count_from bytes.now 1000000 0) }
+    ensures places { IfOk result (λ places. ArePlaces bytes.now places) }
+    ensures count { Gives (λ places. length places - 1) result (count_from bytes.now 1000000 0) }
 {
-    let mut places = Vec::new(alloc);
+    let mut places = Places::new(alloc);
     let mut place = HEADER;
     places.push(place)?;
     while place < bytes.len() {

@@ -4,6 +4,7 @@ ghost use Rattle.lq_model.specs.Capture.{frame_of, header_of, link_of, record_of
 
 use crate::layout::{HEADER, LINK, RECORD_HEADER};
 use crate::numbers::{begins_little_endian, number};
+use crate::places::Places;
 use std::marker::Model;
 
 /// A capture that was read. Contracts see the bytes of its file and the number of its records.
@@ -12,7 +13,7 @@ pub struct Capture {
     /// A file header and whole records, as they were read.
     pub(crate) bytes: Vec<u8>,
     /// Where each record begins and, at the end, where the last one ends.
-    pub(crate) places: Vec<usize>,
+    pub(crate) places: Places,
 }
 
 impl Model for Capture {
@@ -49,7 +50,7 @@ impl Capture {
         ensures record { result.now ≡ record_of self.now i }
         ensures header { 16 ≤ length result.now }
     {
-        &self.bytes[self.places[i]..self.places[i + 1]]
+        &self.bytes[self.places.at(i)..self.places.at(i + 1)]
     }
 
     /// The 24 bytes of the file header.

@@ -1,5 +1,7 @@
 //! Captures cut at each length, in both byte orders, and generated.
-use crate::{CaptureReason, CaptureRefusal, gen_capture, push_header, push_record, read_capture};
+use crate::{
+    CaptureReason, CaptureRefusal, Places, gen_capture, push_header, push_record, read_capture,
+};
 use std::process::Abort;
 
 // Little-endian, microseconds, Ethernet.
@@ -120,4 +122,18 @@ fn two_generated_packets(rt: HostRuntime) {
     assert_eq!(rt; text.get(..24).unwrap_or(&[]), &HEADER[..]);
     assert_eq!(rt; text.get(24..).unwrap_or(&[]), &GENERATED[..]);
     assert_eq!(rt; answer(&rt, &text), Ok(2));
+}
+
+#[test]
+fn places_on_both_sides_of_4_gib(rt: HostRuntime) {
+    let last_near = u32::MAX as usize;
+    let given = [24, last_near, last_near + 1, 30, usize::MAX];
+    let mut places = Places::new(rt.alloc());
+    for place in given {
+        assert_eq!(rt; places.push(place), Ok(()));
+    }
+    assert_eq!(rt; places.len(), given.len());
+    for (i, place) in given.into_iter().enumerate() {
+        assert_eq!(rt; places.at(i), place);
+    }
 }

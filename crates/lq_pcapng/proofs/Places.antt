@@ -3,7 +3,7 @@ use Rattle.std.proofs.Common.{◌≡◌, ◌<◌, ◌≤◌, ◌+◌, ◌-◌, [
 use Rattle.std.specs.Int.{w32, from_le_bytes}
 use Rattle.std.specs.Prelude.{◌==◌}
 use Rattle.std.specs.List.{slice_range}
-use Rattle.std.proofs.lemmas.List.{drop-take, take-take, get_or-map, get_or_default, length-map, length-take-le}
+use Rattle.std.proofs.lemmas.List.{drop-take, take-take, get_or-map, length-map, length-take-le}
 use Rattle.lq_pcapng.specs.Pcapng.{NgCapture, captured_length, data_place, frame_in, frame_of, is_little_endian, order_of, packet_block, padded, total_length}
 use Rattle.lq_pcapng.specs.Reading.{AreInterfaces, IsPacket, IsWholeAt, block_at, blocks_at}
 use Rattle.lq_pcapng.specs.View.{IsRead, capture_at}
@@ -49,12 +49,12 @@ interfaces_seen bytes interfaces packets c little_endian s =
     )
 
 pub packet_seen :
-    (bytes interfaces packets : List ℕ) (c : NgCapture) (little_endian : Bool) (i place : ℕ) → IsSeen bytes interfaces packets c little_endian → i < length c.packets → place ≡ get_or packets i place
+    (bytes interfaces packets : List ℕ) (c : NgCapture) (little_endian : Bool) (i place : ℕ) → IsSeen bytes interfaces packets c little_endian → i < length c.packets → place ≡ get_or packets i 0
     → IsWholeAt little_endian bytes place × (block_at little_endian bytes place ≡ packet_block c i) × IsPacket little_endian c.interfaces (block_at little_endian bytes place)
 packet_seen bytes interfaces packets c little_endian i place s below is =
     let order = order_seen bytes interfaces packets c little_endian s in
     let within : i < length packets = (let same = seen_packets bytes interfaces packets c little_endian s in omega arith) in
-    let here : get_or packets i 0 ≡ place = sym (is ∙ get_or_default packets i place 0 within) in
+    let here : get_or packets i 0 ≡ place = sym is in
     let block : block_at (is_little_endian bytes) bytes (get_or packets i 0) ≡ block_at little_endian bytes place =
     ap (block_at (is_little_endian bytes) bytes) here ∙ ap (λ o. block_at o bytes place) (sym order) in (
       subst (λ o. IsWholeAt o bytes place) (sym order) (subst (IsWholeAt (is_little_endian bytes) bytes) here (s.read.packets_are.whole i within)),

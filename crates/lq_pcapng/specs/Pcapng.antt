@@ -1,7 +1,7 @@
 -- Captures in the pcapng format (draft-ietf-opsawg-pcapng), of one section. A capture is blocks to the end of the file:
 -- a section header block, and then interface description blocks, packet blocks and blocks of other types, which are
 -- passed over. All numbers of a section have one byte order, which its header shows. Options are never read.
-use Rattle.std.specs.Prelude.{ℕ, zero, suc, ◌+◌, ◌-◌, ◌*◌, ◌/◌, ◌%◌, Bool, ◌||◌, not, nat_lt, nat_le, ◌==◌, if◌then◌else◌, List, [], ◌∷◌, ◌++◌, length, take, drop, map, filter, replicate, slice_range, slice_index_or, Option, Some, None, Result, Ok, Err}
+use Rattle.std.specs.Prelude.{ℕ, zero, suc, ◌+◌, ◌-◌, ◌*◌, ◌/◌, ◌%◌, Bool, ◌||◌, not, nat_lt, nat_le, ◌==◌, if◌then◌else◌, List, [], ◌∷◌, ◌++◌, length, take, drop, filter, replicate, slice_range, slice_index_or, Option, Some, None, Result, Ok, Err}
 use Rattle.std.specs.Int.{w16, w32, from_le_bytes, from_be_bytes}
 use Rattle.std.specs.List.{concat, flat_map}
 use Rattle.lq_model.specs.Capture.{Packets, Refusal}

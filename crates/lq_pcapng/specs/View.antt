@@ -13,7 +13,7 @@ capture_at bytes interfaces packets = record {
 }
 
 abbrev pub ng_capture_view : Inside → NgCapture
-ng_capture_view c = capture_at c.bytes.items c.interfaces.items c.packets.items
+ng_capture_view c = capture_at c.bytes.items c.interfaces.items c.packets
 
 pub record IsRead (bytes interfaces packets : List ℕ) : Type 0 where
   pub section : IsWholeAt (is_little_endian bytes) bytes 0
@@ -22,4 +22,4 @@ pub record IsRead (bytes interfaces packets : List ℕ) : Type 0 where
   pub packets_are : ArePackets (is_little_endian bytes) bytes (blocks_at (is_little_endian bytes) bytes interfaces) packets
 
 abbrev pub ng_capture_invariant : Inside → Type 0
-ng_capture_invariant c = IsRead c.bytes.items c.interfaces.items c.packets.items
+ng_capture_invariant c = IsRead c.bytes.items c.interfaces.items c.packets

@@ -7,7 +7,7 @@ use crate::blocks::{block, interface};
 use crate::layout::LINK;
 use crate::numbers::{begins_little_endian, short_number};
 use crate::packets::{captured_length, data_place, interface_number};
-use lq_pcap::Frames;
+use lq_pcap::{Frames, Places};
 use std::marker::Model;
 
 /// A capture that was read. Contracts see its section header block, its interface description blocks and its packet
@@ -19,7 +19,7 @@ pub struct NgCapture {
     /// Where each interface description block begins.
     pub(crate) interfaces: Vec<usize>,
     /// Where each packet block begins.
-    pub(crate) packets: Vec<usize>,
+    pub(crate) packets: Places,
 }
 
 impl Model for NgCapture {
@@ -70,7 +70,7 @@ impl NgCapture {
         ensures block { result.now ≡ packet_block self.now i }
         ensures is { IsPacket (order_of self.now) self.now.interfaces result.now }
     {
-        block(&self.bytes, self.is_little_endian(), self.packets[i])
+        block(&self.bytes, self.is_little_endian(), self.packets.at(i))
     }
 
     /// How many interfaces the capture has.

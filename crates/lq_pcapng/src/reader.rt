@@ -13,14 +13,14 @@ use crate::numbers::{begins_little_endian, number};
 use crate::packets::check_packet;
 use crate::section::{block_len, refused_at, section_len};
 use lq_model::CaptureReason;
-use lq_pcap::CaptureRefusal;
+use lq_pcap::{CaptureRefusal, Places};
 use std::alloc::Global;
 
 /// Where the blocks of interfaces and of packets begin that were read so far.
 #[derive(Drop)]
-struct Places {
+struct BlockPlaces {
     interfaces: Vec<usize>,
-    packets: Vec<usize>,
+    packets: Places,
 }
 
 /// The capture that the bytes are, whose first four are the type of a section header block. It keeps them, and the
@@ -36,7 +36,7 @@ struct Places {
 ///
 /// # NoMemory
 ///
-/// There was no room for the places of the interfaces and of the packets, 8 bytes each. The bytes are dropped.
+/// There was no room for the places of the interfaces, 8 bytes each, and of the packets, 4 bytes each, and 8 behind 4 GiB. The bytes are dropped.
 pub fn read_pcapng(alloc: Global, bytes: Vec<u8>) -> Result<NgCapture, CaptureRefusal>
     ensures { Gives (λ capture. capture) result (pcapng_of bytes.items) }
 {
@@ -56,18 +56,18 @@ fn places_of(
     bytes: &[u8],
     little_endian: bool,
     first: usize,
-) -> Result<Places, CaptureRefusal>
+) -> Result<BlockPlaces, CaptureRefusal>
     requires order { little_endian ≡ is_little_endian bytes.now }
     requires section { section_fault bytes.now ≡ None }
     requires len { first ≡ total_length little_endian bytes.now }
     requires long { 28 ≤ first }
     requires within { first ≤ length bytes.now }
-    ensures read { IfOk result (λ places. IsRead bytes.now places.interfaces.items places.packets.items) }
-    ensures capture { Gives (λ places. capture_at bytes.now places.interfaces.items places.packets.items) result (pcapng_of bytes.now) }
+    ensures read { IfOk result (λ places. IsRead bytes.now places.interfaces.items places.packets) }
+    ensures capture { Gives (λ places. capture_at bytes.now places.interfaces.items places.packets) result (pcapng_of bytes.now) }
 {
-    let mut places = Places {
+    let mut places = BlockPlaces {
         interfaces: Vec::new(alloc),
-        packets: Vec::new(alloc),
+        packets: Places::new(alloc),
     };
     let mut place = first;
     while place < bytes.len() {
@@ -84,12 +84,12 @@ fn places_of(
 fn whole_len(
     bytes: &[u8],
     little_endian: bool,
-    places: &Places,
+    places: &BlockPlaces,
     place: usize,
 ) -> Result<usize, CaptureRefusal>
     requires within { place ≤ length bytes.now }
     requires interfaces { AreInterfaces little_endian bytes.now places.now.interfaces.items }
-    ensures { IsWholeLength little_endian place (blocks_at little_endian bytes.now places.now.interfaces.items) (length places.now.packets.items) (drop place bytes.now) result }
+    ensures { IsWholeLength little_endian place (blocks_at little_endian bytes.now places.now.interfaces.items) (length places.now.packets) (drop place bytes.now) result }
 {
     let rest = &bytes[place..];
     if rest.len() < MIN_BLOCK {
@@ -107,12 +107,12 @@ fn whole_len(
 fn check_body(
     bytes: &[u8],
     little_endian: bool,
-    places: &Places,
+    places: &BlockPlaces,
     block: &[u8],
 ) -> Result<(), CaptureReason>
     requires long { 12 ≤ length block.now }
     requires interfaces { AreInterfaces little_endian bytes.now places.now.interfaces.items }
-    ensures { IsTested (body_fault little_endian (blocks_at little_endian bytes.now places.now.interfaces.items) (length places.now.packets.items) block.now) result }
+    ensures { IsTested (body_fault little_endian (blocks_at little_endian bytes.now places.now.interfaces.items) (length places.now.packets) block.now) result }
 {
     match number(block, little_endian, TYPE) {
         SECTION => Err(CaptureReason::SecondSection),
@@ -123,11 +123,11 @@ fn check_body(
     }
 }
 
-impl Places {
+impl BlockPlaces {
     // Keeps the place of a block of this type, if it is one of an interface or of a packet.
     fn note(&mut self, block_type: u32, place: usize) -> Result<(), CaptureRefusal>
         ensures interfaces { OnOk result (self.new.interfaces.items ≡ self.old.interfaces.items ++ (if block_type == 1 then place ∷ [] else [])) }
-        ensures packets { OnOk result (self.new.packets.items ≡ self.old.packets.items ++ (if (block_type == 6) || (block_type == 3) then place ∷ [] else [])) }
+        ensures packets { OnOk result (self.new.packets ≡ self.old.packets ++ (if (block_type == 6) || (block_type == 3) then place ∷ [] else [])) }
         ensures err { IfErr result (λ refusal. refusal ≡ CaptureRefusal.NoMemory) }
     {
         match block_type {
