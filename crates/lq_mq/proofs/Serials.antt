@@ -1,6 +1,5 @@
 -- The joint list, serial by serial.
-use Rattle.std.proofs.Common.{◌≡◌, ◌⊎◌, inl, inr, ℕ, zero, suc, ◌+◌, ◌<◌, ◌≤◌, ◌==◌, Bool, true, false, cond, List, [], ◌∷◌, ◌++◌, length, map, take, Option, Some, None, slice_get, slice_index_or, count_by, refl, sym, ap, ap₂, ◌∙◌, subst, arith}
-use Rattle.std.specs.Prelude.{max}
+use Rattle.std.proofs.Common.{◌≡◌, inl, inr, ℕ, zero, suc, ◌+◌, ◌<◌, ◌≤◌, Bool, true, cond, List, [], ◌∷◌, ◌++◌, length, map, take, Option, Some, None, slice_get, slice_index_or, count_by, refl, sym, ap, ap₂, ◌∙◌, subst, arith}
 use Rattle.std.proofs.Math.Nat.{le-max_left, le-max_right}
 use Rattle.std.specs.List.{cons_option, filter_map, flat_map, sum_by}
 use Rattle.std.proofs.lemmas.Grind.{flat_map-append}
@@ -24,7 +23,7 @@ take-one (x ∷ xs) zero = refl
 take-one (x ∷ xs) (suc k) = ap (λ ys. x ∷ ys) (take-one xs k)
 
 -- the joint list of the first serials
-abbrev of-first : List (List ℕ) → ℕ → List ℕ
+abbrev pub of-first : List (List ℕ) → ℕ → List ℕ
 of-first lists k = flat_map (at_serial lists) (first_numbers k)
 
 pub first-more : (lists : List (List ℕ)) (k : ℕ) → of-first lists (suc k) ≡ of-first lists k ++ at_serial lists k
@@ -78,10 +77,7 @@ subsequences lists i list at =
 
 -- COUNTS
 
-module _ (n : ℕ) where
-  abbrev test : ℕ → Bool
-  test m = m == n
-
+module _ (test : ℕ → Bool) where
   count-append : (xs ys : List ℕ) → count_by test (xs ++ ys) ≡ count_by test xs + count_by test ys
   count-append xs ys = sum_by-append (λ (m : ℕ). cond (test m) 1 0) xs ys
 
@@ -117,10 +113,18 @@ module _ (n : ℕ) where
   sums-same f g [] each = refl
   sums-same f g (l ∷ lists) each = sum_by-cons f l lists ∙ (ap₂ (λ a b. a + b) (each 0 l refl) (sums-same f g lists (λ i x at. each (suc i) x at)) ∙ sym (sum_by-cons g l lists))
 
-  pub counts : (lists : List (List ℕ)) → count_by (λ m. m == n) (joint lists) ≡ sum_by (λ list. count_by (λ m. m == n) list) lists
+  pub counts : (lists : List (List ℕ)) → count_by test (joint lists) ≡ sum_by (λ list. count_by test list) lists
   counts lists = count-first lists (longest lists)
       ∙ sums-same (λ list. count_by test (take (longest lists) list)) (λ list. count_by test list) lists
       (λ i l at. ap (count_by test) (take_all (longest lists) l (within-longest lists i l at)))
+
+-- every element counts
+count-all : (xs : List ℕ) → count_by (λ m. true) xs ≡ length xs
+count-all [] = refl
+count-all (x ∷ xs) = let more = sum_by-cons (λ (m : ℕ). 1) x xs in let rest = count-all xs in omega arith
+
+pub joint-length : (lists : List (List ℕ)) → length (joint lists) ≡ sum_by length lists
+joint-length lists = sym (count-all (joint lists)) ∙ (counts (λ m. true) lists ∙ sums-same (λ m. true) (λ list. count_by (λ m. true) list) length lists (λ i l at. count-all l))
 
 -- ON THE WAY THROUGH THE LISTS
 

@@ -1,5 +1,5 @@
 -- What follows from the definition of the joint list.
-use Rattle.std.specs.Prelude.{◌≡◌, ◌⊎◌, ℕ, ◌==◌, List, [], ◌∷◌, slice_get, Some, count_by}
+use Rattle.std.specs.Prelude.{◌≡◌, ◌<◌, ◌⊎◌, ℕ, ◌==◌, List, [], ◌∷◌, length, slice_get, Some, All, AllPairs, count_by}
 use Rattle.std.specs.List.{sum_by}
 use Rattle.lq_mq.specs.Joint.{joint}
 
@@ -16,3 +16,23 @@ EachListIsSubsequence = (lists : List (List ℕ)) (i : ℕ) (list : List ℕ) �
 -- each packet stands in it as often as in the lists: once, where it is in one of them once
 abbrev pub HasAsManyAsTheLists : Type 0
 HasAsManyAsTheLists = (lists : List (List ℕ)) (n : ℕ) → count_by (λ m. m == n) (joint lists) ≡ sum_by (λ list. count_by (λ m. m == n) list) lists
+
+-- so it is as long as they are together
+abbrev pub IsAsLongAsTheLists : Type 0
+IsAsLongAsTheLists = (lists : List (List ℕ)) → length (joint lists) ≡ sum_by length lists
+
+-- child i sent packet n with this serial
+abbrev pub IsSentAs : List (List ℕ) → ℕ → ℕ → ℕ → Type 0
+IsSentAs lists i serial n = (list : List ℕ) × (slice_get lists i ≡ Some list) × (slice_get list serial ≡ Some n)
+
+-- it has nothing else
+abbrev pub HasNothingElse : Type 0
+HasNothingElse = (lists : List (List ℕ)) → All (λ n. (i : ℕ) × (serial : ℕ) × IsSentAs lists i serial n) (joint lists)
+
+-- packet m was sent with a lower serial than packet n, or with the same one by a lower child
+abbrev pub IsBefore : List (List ℕ) → ℕ → ℕ → Type 0
+IsBefore lists m n = (i k s t : ℕ) × IsSentAs lists i s m × IsSentAs lists k t n × ((s < t) ⊎ ((s ≡ t) × (i < k)))
+
+-- each packet of it stands before all those after it: by serial, and at one serial by child
+abbrev pub IsInOrder : Type 0
+IsInOrder = (lists : List (List ℕ)) → AllPairs (IsBefore lists) (joint lists)
