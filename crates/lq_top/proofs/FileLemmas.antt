@@ -20,7 +20,7 @@ cut_before [] ys old new same = cut_none ys old new same
 cut_before (x ∷ xs) ys old new cut = elim cut [ inl here ↦ inl here | inr later ↦ inr (cut_before xs ys (file_written old x) new later) ]
 
 -- and so is a stop after files that are whole
-cut_after : (xs ys : List FileText) (old new : HostState) → FilesAreCut ys (files_written old xs) new → FilesAreCut (xs ++ ys) old new
+pub cut_after : (xs ys : List FileText) (old new : HostState) → FilesAreCut ys (files_written old xs) new → FilesAreCut (xs ++ ys) old new
 cut_after [] ys old new cut = cut
 cut_after (x ∷ xs) ys old new cut = inr (cut_after xs ys (file_written old x) new cut)
 
@@ -43,6 +43,19 @@ pub whole_next :
     (xs : List FileText) (x : FileText) (old mid new : HostState) → mid ≡ files_written old xs → new ≡ file_written mid x → new ≡ files_written old (xs ++ x ∷ [])
 whole_next xs x old mid new whole made = made ∙ ap (λ (m : HostState). file_written m x) whole ∙ sym (files_written-append old xs (x ∷ []))
 
+-- files of which more come with each number: a stop in the first of them is a stop in all
+module _ (files more : ℕ → List FileText) (grows : (n : ℕ) → files (suc n) ≡ files n ++ more n) (old new : HostState) where
+  pub cut_more : (m n : ℕ) → m ≤ n → FilesAreCut (files m) old new → FilesAreCut (files n) old new
+  cut_more m zero le cut = let same : m ≡ 0 = omega arith in subst (λ k. FilesAreCut (files k) old new) same cut
+  cut_more m (suc n) le cut =
+      elim (cases_lt m (suc n)) [
+        | inl below ↦ (
+            let most : FilesAreCut (files n) old new = cut_more m n (omega arith) cut in
+            subst (λ (fs : List FileText). FilesAreCut fs old new) (sym (grows n)) (cut_before (files n) (more n) old new most)
+            )
+        | inr above ↦ (let same : m ≡ suc n = omega arith in subst (λ k. FilesAreCut (files k) old new) same cut)
+      ]
+
 -- NUMBERED FILES
 
 abbrev pub numbered : (ℕ → FileText) → ℕ → List FileText
@@ -51,17 +64,6 @@ numbered file n = map file (first_numbers n)
 pub numbered-more : (file : ℕ → FileText) (n : ℕ) → numbered file (suc n) ≡ numbered file n ++ file n ∷ []
 numbered-more file n = map-append file (first_numbers n) (n ∷ [])
 
-pub cut_more : (file : ℕ → FileText) (m n : ℕ) (old new : HostState) → m ≤ n → FilesAreCut (numbered file m) old new → FilesAreCut (numbered file n) old new
-cut_more file m zero old new le cut = let same : m ≡ 0 = omega arith in subst (λ k. FilesAreCut (numbered file k) old new) same cut
-cut_more file m (suc n) old new le cut =
-    elim (cases_lt m (suc n)) [
-      | inl below ↦ (
-          let most : FilesAreCut (numbered file n) old new = cut_more file m n old new (omega arith) cut in
-          subst (λ (fs : List FileText). FilesAreCut fs old new) (sym (numbered-more file n)) (cut_before (numbered file n) (file n ∷ []) old new most)
-          )
-      | inr above ↦ (let same : m ≡ suc n = omega arith in subst (λ k. FilesAreCut (numbered file k) old new) same cut)
-    ]
-
 -- file number n is cut, and those below it are whole
 pub cut_at :
     (file : ℕ → FileText) (n count : ℕ) (old mid new : HostState) → n < count → mid ≡ files_written old (numbered file n) → FileIsCut (file n) mid new
@@ -69,7 +71,7 @@ pub cut_at :
 cut_at file n count old mid new lt whole cut =
     let here : FilesAreCut (numbered file (suc n)) old new =
     subst (λ (fs : List FileText). FilesAreCut fs old new) (sym (numbered-more file n)) (cut_next (numbered file n) (file n) old mid new whole cut) in
-    cut_more file (suc n) count old new (omega arith) here
+    cut_more (numbered file) (λ k. file k ∷ []) (numbered-more file) old new (suc n) count (omega arith) here
 
 pub whole_more :
     (file : ℕ → FileText) (n : ℕ) (old mid new : HostState) → mid ≡ files_written old (numbered file n) → new ≡ file_written mid (file n)

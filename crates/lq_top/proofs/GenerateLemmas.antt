@@ -1,5 +1,5 @@
 -- What a generated run leaves, from what its calls leave.
-use Rattle.std.proofs.Common.{◌≡◌, ◌≤◌, ◌⊎◌, ℕ, List, drop, Some, Result, Ok, Err, IfOk, IsOkAnd, OnOk, OnErr, sym, ◌∙◌, subst, inl, inr}
+use Rattle.std.proofs.Common.{◌≡◌, ◌≤◌, ◌⊎◌, ℕ, List, drop, Some, Result, Ok, Err, IfOk, IsOkAnd, OnOk, OnErr, sym, ap, ap₂, ◌∙◌, subst, inl, inr}
 use Rattle.lq_model.specs.Capture.{Capture, Refusal as CaptureRefusal, capture_of}
 use Rattle.lq_model.specs.Device.{DeviceState}
 use Rattle.lq_model.specs.Generated.{generated_capture}
@@ -12,9 +12,9 @@ use Rattle.lq_pcapng.specs.declared.file.CaptureFile.TheVariants.{Classic}
 use Rattle.lq_plan.specs.Generated.{generated_plan}
 use Rattle.lq_top.specs.Command.{GenWords}
 use Rattle.lq_top.specs.Decision.{Generates, Verdict, by_generated, by_plan, placed_on, units_changed_by, verdict_of_gen, with_refusal}
-use Rattle.lq_senders.specs.Fates.{AreFatesOf}
+use Rattle.lq_senders.specs.Fates.{AreEnded, AreFatesOf}
 use Rattle.lq_table.specs.Ended.{EndedState}
-use Rattle.lq_top.specs.Headline.{AreCountsCut, HasCounted, Run, counts_text_of, generated_file, run_of}
+use Rattle.lq_top.specs.Headline.{AreCountsCut, AreFatesIn, HasCounted, Run, counts_output, counts_text_of, generated_file, run_of}
 use Rattle.lq_top.specs.Outcome.{CompletesOrStops, Stops}
 use Rattle.lq_top.specs.Written.{FileIsCut, OutputHasPrefix, file_written}
 use Rattle.lq_top.specs.declared.refusal.Refusal.{Refusal}
@@ -22,7 +22,7 @@ use Rattle.lq_top.specs.declared.answer.Status.{Status}
 use Rattle.lq_top.specs.declared.answer.Status.TheVariants as status
 use Rattle.lq_top.specs.declared.answer.Stop.{Stop}
 use Rattle.lq_top.proofs.GeneratedVerdict.{is_accepted}
-use Rattle.lq_top.proofs.RunLemmas.{counts_by}
+use Rattle.lq_top.proofs.RunLemmas.{known_fates}
 
 -- it was stopped in its file, or before it
 pub cut_in_file :
@@ -60,18 +60,24 @@ generated_does out text plan c r old mid new before after ended result is_c made
 
 -- COUNTS
 
--- it was stopped in them, or before them
-pub counts_cut :
-    (run : Run) (infos : List Info) (fates given : List Fate) (old new : HostState) (before after : List DeviceState) → infos ≡ infos_of run.plan (packets_of_file run.capture)
-    → given ≡ fates → AreFatesOf run.plan infos fates before after → (new ≡ old) ⊎ OutputHasPrefix (counts_by run given infos) old new → AreCountsCut run old new before after
-counts_cut run infos fates given old new before after known same are cut = elim cut [
-  | inl nothing ↦ inl nothing
-  | inr part ↦ inr (
-    fates,
-    subst (λ (is : List Info). AreFatesOf run.plan is fates before after) known are,
-    subst (λ (is : List Info). OutputHasPrefix (counts_by run fates is) old new) known (subst (λ (fs : List Fate). OutputHasPrefix (counts_by run fs infos) old new) same part),
-  )
-]
+module _ (run : Run) (infos : List Info) (fates given : List Fate) (old new : HostState) (before after : List DeviceState) (known : infos ≡ infos_of run.plan (packets_of_file run.capture))
+    (same : given ≡ fates) (are : AreFatesOf run.plan infos fates before after) where
+  are_in : AreFatesIn run fates before after
+  are_in = known_fates run infos fates given old new before after known same are
+
+  counts-same : counts_output run.plan infos given ≡ counts_text_of run fates
+  counts-same = ap₂ (λ (is : List Info) (fs : List Fate). counts_output run.plan is fs) known same
+
+  -- it was stopped in them, or before them
+  pub counts_cut : (new ≡ old) ⊎ OutputHasPrefix (counts_output run.plan infos given) old new → AreCountsCut run old new before after
+  counts_cut cut = elim cut [
+    | inl nothing ↦ inl nothing
+    | inr part ↦ inr (fates, are_in, subst (λ (text : List ℕ). OutputHasPrefix text old new) counts-same part)
+  ]
+
+  -- all are written
+  pub counts_done : (ended : List EndedState) → AreEnded run.plan infos fates ended → new ≡ wrote old 0 (counts_output run.plan infos given) → HasCounted run old new before after ended
+  counts_done ended ends done = (fates, are_in, subst (λ (is : List Info). AreEnded run.plan is fates ended) known ends, done ∙ ap (wrote old 0) counts-same)
 
 -- DECISIONS
 

@@ -1,10 +1,9 @@
 -- What a run leaves, from what its calls leave.
-use Rattle.std.proofs.Common.{◌≡◌, ◌⊎◌, ◌∷◌, [], ℕ, List, length, Option, Some, None, Result, Ok, Err, IfOk, OnOk, OnErr, IfSome, sym, ap, ◌∙◌, subst, inl, inr, ◌≤◌, ◌+◌, ◌-◌, drop, arith}
+use Rattle.std.proofs.Common.{◌≡◌, ◌⊎◌, ◌++◌, ◌∷◌, [], ℕ, List, length, Option, Some, None, Result, Ok, Err, IfOk, OnOk, OnErr, IfSome, sym, ap, ◌∙◌, subst, inl, inr, ◌≤◌, ◌+◌, ◌-◌, drop, arith}
 use Rattle.std.specs.Option.{option_map}
 use Rattle.std.proofs.lemmas.List.{drop-drop}
 use Rattle.lq_model.specs.Device.{DeviceState}
 use Rattle.lq_model.specs.Plan.{Plan, infos_of, unit_count}
-use Rattle.lq_model.specs.Texts.{counts_text}
 use Rattle.lq_model.specs.declared.fate.Fate.{Fate}
 use Rattle.lq_model.specs.declared.fate.Info.{Info}
 use Rattle.lq_host.specs.Host.{HostState, Contents, wrote}
@@ -12,89 +11,106 @@ use Rattle.lq_pcapng.specs.File.{packets_of_file}
 use Rattle.lq_pcapng.specs.declared.file.CaptureFile.{CaptureFile}
 use Rattle.lq_top.specs.Command.{OfRun, RunWords}
 use Rattle.lq_top.specs.Decision.{Verdict, Generates, IsRunnable, max_units, LacksFile, Refuses, Runs, Taps, Traces, by_bytes, by_capture, by_plan, limited_capture_of, plan_for, verdict_of_run}
-use Rattle.lq_senders.specs.Fates.{AreFatesOf}
+use Rattle.lq_senders.specs.Fates.{AreEnded, AreFatesOf}
 use Rattle.lq_table.specs.Ended.{EndedState}
-use Rattle.lq_top.specs.Headline.{Run, run_of, unit_files, fates_file, texts_of, HasRun}
+use Rattle.lq_top.specs.Groups.{group_files}
+use Rattle.lq_top.specs.Headline.{AreFatesIn, Run, counts_output, run_of, unit_files, fates_file, texts_of, HasRun}
 use Rattle.lq_top.specs.Outcome.{Completes, CompletesOrStops, IsAnswerOf, IsCommandStatus, Outcome, Stops}
 use Rattle.lq_top.specs.Refusal.{refusal_line, status_of}
 use Rattle.lq_top.specs.Stop.{status_of_stop}
-use Rattle.lq_top.specs.Written.{FileIsCut, FilesAreCut, OutputHasPrefix, IsCut, file_written, files_written, output_only, written}
+use Rattle.lq_top.specs.Written.{FileText, FileIsCut, FilesAreCut, OutputHasPrefix, IsCut, file_written, files_written, output_only, written}
 use Rattle.lq_top.specs.declared.refusal.Refusal.{Refusal}
 use Rattle.lq_top.specs.declared.answer.Status.{Status}
 use Rattle.lq_top.specs.declared.answer.Status.TheVariants as status
 use Rattle.lq_top.specs.declared.answer.Stop.{Stop}
 use Rattle.lq_top.specs.declared.answer.Stop.TheVariants as stops
-use Rattle.lq_top.proofs.FileLemmas.{cut_before, cut_next, cut_whole, whole_next}
+use Rattle.lq_top.proofs.GroupPackets.{of_group}
+use Rattle.lq_top.proofs.FileLemmas.{cut_after, cut_before, cut_next, cut_whole, files_written-append, whole_next}
 
 -- WRITING
 
--- the counts of fates, where this is known of the packets
-abbrev pub counts_by : Run → List Fate → List Info → List ℕ
-counts_by run fates infos = counts_text fates infos (length run.plan.stations) (unit_count run.plan)
+-- the files of the units, of as many as the plan needs, and of the multi-queue roots
+abbrev files_of_units : Run → List Fate → ℕ → List FileText
+files_of_units run fates units = unit_files run.out run.capture fates units
+
+abbrev files_of_groups : Run → List Fate → List FileText
+files_of_groups run fates = group_files run.out run.capture run.plan fates
 
 -- it was stopped in the units' files
 pub stopped_in_units :
-    (run : Run) (fates : List Fate) (units : ℕ) (old new : HostState) → units ≡ unit_count run.plan → FilesAreCut (unit_files run.out run.capture fates units) old new
+    (run : Run) (fates : List Fate) (units : ℕ) (old new : HostState) → units ≡ unit_count run.plan → FilesAreCut (files_of_units run fates units) old new
     → IsCut (texts_of run fates) old new
 stopped_in_units run fates units old new counted cut =
-    let all = unit_files run.out run.capture fates in
-    inl (cut_before (all (unit_count run.plan)) (fates_file run.out fates ∷ []) old new (subst (λ n. FilesAreCut (all n) old new) counted cut))
+    inl (cut_before (files_of_units run fates (unit_count run.plan)) (files_of_groups run fates ++ fates_file run.out fates ∷ []) old new
+    (subst (λ n. FilesAreCut (files_of_units run fates n) old new) counted cut))
 
-whole_units :
-    (run : Run) (fates : List Fate) (units : ℕ) (old mid : HostState) → units ≡ unit_count run.plan
-    → mid ≡ files_written old (unit_files run.out run.capture fates units) → mid ≡ files_written old (unit_files run.out run.capture fates (unit_count run.plan))
-whole_units run fates units old mid counted whole = whole ∙ ap (λ n. files_written old (unit_files run.out run.capture fates n)) counted
+-- those are whole
+module _ (run : Run) (fates : List Fate) (units : ℕ) (old mid : HostState) (counted : units ≡ unit_count run.plan) (whole : mid ≡ files_written old (files_of_units run fates units)) where
+  whole_units : mid ≡ files_written old (files_of_units run fates (unit_count run.plan))
+  whole_units = whole ∙ ap (λ n. files_written old (files_of_units run fates n)) counted
 
--- it was stopped in the file of the fates
-pub stopped_in_fates :
-    (run : Run) (fates : List Fate) (units : ℕ) (old mid new : HostState) → units ≡ unit_count run.plan
-    → mid ≡ files_written old (unit_files run.out run.capture fates units) → FileIsCut (fates_file run.out fates) mid new → IsCut (texts_of run fates) old new
-stopped_in_fates run fates units old mid new counted whole cut =
-    inl (cut_next (unit_files run.out run.capture fates (unit_count run.plan)) (fates_file run.out fates) old mid new (whole_units run fates units old mid counted whole) cut)
+  after_units : (files : List FileText) (new : HostState) → FilesAreCut files mid new → FilesAreCut (files_of_units run fates (unit_count run.plan) ++ files) old new
+  after_units files new cut = cut_after (files_of_units run fates (unit_count run.plan)) files old new (subst (λ (s : HostState). FilesAreCut files s new) whole_units cut)
 
--- all files are whole
-whole_files :
-    (run : Run) (fates : List Fate) (units : ℕ) (old mid all : HostState) → units ≡ unit_count run.plan
-    → mid ≡ files_written old (unit_files run.out run.capture fates units) → all ≡ file_written mid (fates_file run.out fates)
-    → all ≡ files_written old (texts_of run fates).files
-whole_files run fates units old mid all counted whole made =
-    whole_next (unit_files run.out run.capture fates (unit_count run.plan)) (fates_file run.out fates) old mid all (whole_units run fates units old mid counted whole) made
+  -- it was stopped in the files of the multi-queue roots
+  pub stopped_in_groups : (new : HostState) → FilesAreCut (files_of_groups run fates) mid new → IsCut (texts_of run fates) old new
+  stopped_in_groups new cut =
+      inl (after_units (files_of_groups run fates ++ fates_file run.out fates ∷ []) new (cut_before (files_of_groups run fates) (fates_file run.out fates ∷ []) mid new cut))
 
--- it was stopped in the counts, or before them
-pub stopped_in_counts :
-    (run : Run) (fates : List Fate) (infos : List Info) (units : ℕ) (old mid all new : HostState) → infos ≡ infos_of run.plan (packets_of_file run.capture) → units ≡ unit_count run.plan
-    → mid ≡ files_written old (unit_files run.out run.capture fates units) → all ≡ file_written mid (fates_file run.out fates)
-    → (new ≡ all) ⊎ OutputHasPrefix (counts_by run fates infos) all new → IsCut (texts_of run fates) old new
-stopped_in_counts run fates infos units old mid all new known counted whole made cut =
-    let files = (texts_of run fates).files in
-    let all_is : all ≡ files_written old files = whole_files run fates units old mid all counted whole made in
-    elim cut [
-      | inl same ↦ inl (cut_whole files old new (same ∙ all_is))
-      | inr part ↦
-          inr (subst (λ (is : List Info). OutputHasPrefix (counts_by run fates is) (files_written old files) new) known (subst (λ (s : HostState). OutputHasPrefix (counts_by run fates infos) s new) all_is part))
-    ]
+  -- these are whole, too
+  module _ (next : HostState) (joined : next ≡ files_written mid (files_of_groups run fates)) where
+    -- it was stopped in the file of the fates
+    pub stopped_in_fates : (new : HostState) → FileIsCut (fates_file run.out fates) next new → IsCut (texts_of run fates) old new
+    stopped_in_fates new cut =
+        inl (after_units (files_of_groups run fates ++ fates_file run.out fates ∷ []) new (cut_next (files_of_groups run fates) (fates_file run.out fates) mid next new joined cut))
 
--- all is written
-pub all_written :
-    (run : Run) (fates : List Fate) (infos : List Info) (units : ℕ) (old mid all new : HostState) → infos ≡ infos_of run.plan (packets_of_file run.capture) → units ≡ unit_count run.plan
-    → mid ≡ files_written old (unit_files run.out run.capture fates units) → all ≡ file_written mid (fates_file run.out fates)
-    → new ≡ wrote all 0 (counts_by run fates infos) → new ≡ written (texts_of run fates) old
-all_written run fates infos units old mid all new known counted whole made done =
-    done ∙ ap (λ (s : HostState). wrote s 0 (counts_by run fates infos)) (whole_files run fates units old mid all counted whole made)
-    ∙ ap (λ (is : List Info). wrote (files_written old (texts_of run fates).files) 0 (counts_by run fates is)) known
+    -- all files are whole
+    module _ (all : HostState) (made : all ≡ file_written next (fates_file run.out fates)) (infos : List Info) (known : infos ≡ infos_of run.plan (packets_of_file run.capture)) where
+      whole_files : all ≡ files_written old (texts_of run fates).files
+      whole_files =
+          whole_next (files_of_groups run fates) (fates_file run.out fates) mid next all joined made
+          ∙ (ap (λ (s : HostState). files_written s (files_of_groups run fates ++ fates_file run.out fates ∷ [])) whole_units
+          ∙ sym (files_written-append old (files_of_units run fates (unit_count run.plan)) (files_of_groups run fates ++ fates_file run.out fates ∷ [])))
+
+      -- it was stopped in the counts, or before them
+      pub stopped_in_counts : (new : HostState) → (new ≡ all) ⊎ OutputHasPrefix (counts_output run.plan infos fates) all new → IsCut (texts_of run fates) old new
+      stopped_in_counts new cut =
+          let files = (texts_of run fates).files in
+          elim cut [
+            | inl same ↦ inl (cut_whole files old new (same ∙ whole_files))
+            | inr part ↦
+                inr (subst (λ (is : List Info). OutputHasPrefix (counts_output run.plan is fates) (files_written old files) new) known
+                (subst (λ (s : HostState). OutputHasPrefix (counts_output run.plan infos fates) s new) whole_files part))
+          ]
+
+      -- all is written
+      pub all_written : (new : HostState) → new ≡ wrote all 0 (counts_output run.plan infos fates) → new ≡ written (texts_of run fates) old
+      all_written new done =
+          done ∙ ap (λ (s : HostState). wrote s 0 (counts_output run.plan infos fates)) whole_files
+          ∙ ap (λ (is : List Info). wrote (files_written old (texts_of run fates).files) 0 (counts_output run.plan is fates)) known
 
 -- RUNS
 
--- a run that was stopped while it wrote
-pub run_stops :
-    (run : Run) (infos : List Info) (fates given : List Fate) (old new : HostState) (before after : List DeviceState) → infos ≡ infos_of run.plan (packets_of_file run.capture) → given ≡ fates
-    → AreFatesOf run.plan infos fates before after → IsCut (texts_of run given) old new → Stops (Runs run) old new before after
-run_stops run infos fates given old new before after known same are cut =
-    inr (
-      fates,
-      subst (λ (is : List Info). AreFatesOf run.plan is fates before after) known are,
-      subst (λ (fs : List Fate). IsCut (texts_of run fs) old new) same cut,
-    )
+-- the fates of a run, with what its groups sent
+pub fates_in : (run : Run) (fates : List Fate) (before after : List DeviceState) → AreFatesOf run.plan (infos_of run.plan (packets_of_file run.capture)) fates before after
+    → AreFatesIn run fates before after
+fates_in run fates before after are = record { of_run = are; groups = λ j. of_group run.plan fates j are.settled.serials }
+
+-- what was sent under another name for the packets
+module _ (run : Run) (infos : List Info) (fates given : List Fate) (old new : HostState) (before after : List DeviceState) (known : infos ≡ infos_of run.plan (packets_of_file run.capture))
+    (same : given ≡ fates) (are : AreFatesOf run.plan infos fates before after) where
+  pub known_fates : AreFatesIn run fates before after
+  known_fates = fates_in run fates before after (subst (λ (is : List Info). AreFatesOf run.plan is fates before after) known are)
+
+  -- a run that was stopped while it wrote
+  pub run_stops : IsCut (texts_of run given) old new → Stops (Runs run) old new before after
+  run_stops cut = inr (fates, known_fates, subst (λ (fs : List Fate). IsCut (texts_of run fs) old new) same cut)
+
+  -- and one that is done
+  pub run_done : (ended : List EndedState) → AreEnded run.plan infos fates ended → new ≡ written (texts_of run given) old → HasRun run old new before after ended
+  run_done ended ends done = (
+    fates, known_fates, subst (λ (is : List Info). AreEnded run.plan is fates ended) known ends, done ∙ ap (λ (fs : List Fate). written (texts_of run fs) old) same,
+  )
 
 -- what a run answers and leaves, by whether it was stopped
 pub run_does :

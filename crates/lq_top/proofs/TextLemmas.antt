@@ -12,7 +12,7 @@ use Rattle.lq_model.specs.declared.fate.Fate.{Fate}
 use Rattle.lq_model.specs.declared.fate.Fate.TheVariants.{Sent}
 use Rattle.lq_fates.proofs.SentLemmas.{sent_is}
 
-length-first_numbers : (n : ℕ) → length (first_numbers n) ≡ n
+pub length-first_numbers : (n : ℕ) → length (first_numbers n) ≡ n
 length-first_numbers zero = refl
 length-first_numbers (suc n) = omega (arith, length-append (first_numbers n) (n ∷ []), length-first_numbers n)
 

@@ -43,6 +43,10 @@ plan_for have bytes = placed_if_read have (limited_plan_of bytes)
 abbrev pub max_units : ℕ
 max_units = 72
 
+-- and no plan has more groups of stations
+abbrev pub max_groups : ℕ
+max_groups = 8
+
 -- what is known of a plan that is run
 pub record IsRunnable (have : ℕ) (p : Plan) : Type 0 where
   pub units : unit_count p ≤ have

@@ -7,11 +7,13 @@ use Rattle.lq_model.specs.Plan.{Plan, infos_of, unit_count}
 use Rattle.lq_model.specs.Sent.{sent_of}
 use Rattle.lq_model.specs.Texts.{counts_text, fates_text}
 use Rattle.lq_model.specs.declared.fate.Fate.{Fate}
+use Rattle.lq_model.specs.declared.fate.Info.{Info}
 use Rattle.lq_host.specs.Host.{HostState}
 use Rattle.lq_pcapng.specs.File.{packets_of_file, text_of}
 use Rattle.lq_pcapng.specs.declared.file.CaptureFile.{CaptureFile}
 use Rattle.lq_senders.specs.Fates.{AreEnded, AreFatesOf}
 use Rattle.lq_table.specs.Ended.{EndedState}
+use Rattle.lq_top.specs.Groups.{AreOfGroup, group_files, mq_lines, sent_by_group}
 use Rattle.lq_top.specs.Written.{FileText, OutputHasPrefix, Texts, output_only, written}
 
 -- RUNS
@@ -46,18 +48,25 @@ unit_files out capture fates units = map (unit_file out capture fates) (first_nu
 abbrev pub fates_file : List ℕ → List Fate → FileText
 fates_file out fates = record { name = fates_name out; text = fates_text fates }
 
--- what is written: a file for each unit, one with each packet's fate, and then the counts of the fates to standard output
+-- the counts of the fates, and a line for each multi-queue root
+abbrev pub counts_output : Plan → List Info → List Fate → List ℕ
+counts_output plan infos fates = counts_text fates infos (length plan.stations) (unit_count plan) ++ mq_lines plan fates
+
+-- what is written: a file for each unit, one for each multi-queue root and one with each packet's fate, and then the counts to
+-- standard output
 abbrev pub texts_of : Run → List Fate → Texts
 texts_of run fates = record {
-  files = unit_files run.out run.capture fates (unit_count run.plan) ++ fates_file run.out fates ∷ [];
-  output = counts_text fates (infos_of run.plan (packets_of_file run.capture)) (length run.plan.stations) (unit_count run.plan);
+  files = unit_files run.out run.capture fates (unit_count run.plan) ++ (group_files run.out run.capture run.plan fates ++ fates_file run.out fates ∷ []);
+  output = counts_output run.plan (infos_of run.plan (packets_of_file run.capture)) fates;
 }
 
 -- THE HEADLINE
 
 -- these are the fates of a run; `before` and `after` are the devices of the bench, before the call and after it
-abbrev pub AreFatesIn : Run → List Fate → List DeviceState → List DeviceState → Type 0
-AreFatesIn run fates before after = AreFatesOf run.plan (infos_of run.plan (packets_of_file run.capture)) fates before after
+pub record AreFatesIn (run : Run) (fates : List Fate) (before after : List DeviceState) : Type 0 where
+  pub of_run : AreFatesOf run.plan (infos_of run.plan (packets_of_file run.capture)) fates before after
+  -- what stands in the capture of each group is what its children sent
+  pub groups : (j : ℕ) → AreOfGroup run.plan fates j (sent_by_group run.plan fates j)
 
 -- and this is what stays of its stations
 abbrev pub AreEndedIn : Run → List Fate → List EndedState → Type 0

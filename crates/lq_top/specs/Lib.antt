@@ -1,5 +1,7 @@
 -- what a run that is done leaves: the headline
 pub mod Headline
+-- what the children of a multi-queue root sent together
+pub mod Groups
 -- what a call writes, and where it may stop
 pub mod Written
 -- the command line

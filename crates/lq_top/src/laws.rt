@@ -36,7 +36,7 @@ pub fn stations_keep_their_order()
         → SawItsSlot run.plan (infos_of run.plan (packets_of_file run.capture)) station n seen }
     ensures order { (run : Run) (fates : List Fate) (before after : List DeviceState)
         → (are : AreFatesIn run fates before after) (station : ℕ) (below : station < length run.plan.stations)
-        → (later earlier : List Event) (band : ℕ) → (are.accounts station below).0 ≡ later ++ Take band ∷ earlier
+        → (later earlier : List Event) (band : ℕ) → (are.of_run.accounts station below).0 ≡ later ++ Take band ∷ earlier
         → MayTake earlier (account_after run.plan station earlier) band }
 {}
 

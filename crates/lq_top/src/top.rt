@@ -18,7 +18,7 @@ use crate::read::{read_capture_file, read_plan_file};
 use crate::refusal::{Refusal, refuse};
 use crate::tap::tap_command;
 use crate::trace::trace_command;
-use crate::write::write_run;
+use crate::outputs::write_run;
 use lq_device::TxDevice;
 use lq_host::Host;
 use lq_model::NoMemory;

@@ -1,24 +1,20 @@
-//! What a call writes: a text to a file or to standard output, and the files of a run.
+//! What a call writes: a text to a file or to standard output, and the files of units and fates.
 ghost use Rattle.std.specs.Prelude.{◌≡◌, [], ◌⊎◌, ◌≤◌, ℕ, length, take, OnOk, OnErr, ◌<◌, All, IfOk, string_bytes};
 ghost use Rattle.lq_host.specs.Host.{IsWriter, wrote, filed};
 ghost use Rattle.lq_top.specs.Stop.{StopsFor};
-ghost use Rattle.lq_top.specs.Written.{FileHasPrefix, OutputHasPrefix, FileIsCut, FilesAreCut, IsCut, file_written, files_written, written};
+ghost use Rattle.lq_top.specs.Written.{FileHasPrefix, OutputHasPrefix, FileIsCut, FilesAreCut, file_written, files_written};
 ghost use Rattle.lq_pcapng.specs.File.{packets_of_file, text_of};
-ghost use Rattle.lq_top.specs.Headline.{capture_name, fates_name, run_of, texts_of, unit_file, unit_files};
-ghost use Rattle.lq_model.specs.Plan.{infos_of, unit_count};
-ghost use Rattle.lq_model.specs.Settled.{AreSerials, IsSettled};
-ghost use Rattle.lq_model.specs.Texts.{counts_text};
+ghost use Rattle.lq_top.specs.Headline.{capture_name, fates_name, unit_file, unit_files};
+ghost use Rattle.lq_model.specs.Settled.{AreSerials};
 ghost use Rattle.lq_top.specs.Lines.{lines_file, lines_of};
-ghost use Rattle.lq_top.specs.Names.{MayWrite};
 
 use crate::answer::{Stop, and_finished};
 use crate::lines::Line;
 use crate::pieces::{PIECE, write_text, write_whole_pieces};
-use lq_fates::{counts_text, sent_of};
+use lq_fates::sent_of;
 use lq_host::Host;
-use lq_model::{Fate, Info};
+use lq_model::Fate;
 use lq_pcapng::CaptureFile;
-use lq_plan::Plan;
 use std::alloc::{AllocError, Global};
 
 /// The most bytes of the line of a fate: of the numbers of the packet, the unit and the serial, and between them.
@@ -180,7 +176,7 @@ fn write_unit<H: Host>(
 }
 
 /// Makes the files of the first so many units, in ascending order.
-fn write_units<H: Host>(
+pub fn write_units<H: Host>(
     alloc: Global,
     host: &mut H,
     out: &str,
@@ -271,51 +267,4 @@ pub fn write_fates<H: Host, F: Line>(
     let mut buffer = Vec::with_capacity(alloc, room)?;
     let name = name_of_fates(alloc, out)?;
     write_fates_file(host, name.as_str(), fates, &mut buffer)
-}
-
-/// Writes the counts of the fates to standard output.
-pub fn write_counts<H: Host>(
-    alloc: Global,
-    host: &mut H,
-    plan: &Plan,
-    infos: &[Info],
-    fates: &[Fate],
-) -> Result<(), Stop>
-    requires same { length fates.now ≡ length infos.now }
-    ensures handles { (H.state host.new).handles ≡ (H.state host.old).handles }
-    ensures ok { OnOk result (H.state host.new ≡ wrote (H.state host.old) 0
-        (counts_text fates.now infos.now (length plan.now.stations) (unit_count plan.now))) }
-    ensures err { OnErr result ((H.state host.new ≡ H.state host.old) ⊎ OutputHasPrefix
-        (counts_text fates.now infos.now (length plan.now.stations) (unit_count plan.now))
-        (H.state host.old) (H.state host.new)) }
-    ensures cause { StopsFor (H.fault_count host.old) (H.fault_count host.new) result }
-{
-    let text = counts_text(alloc, fates, infos, plan.stations(), plan.units())?;
-    write_output(host, &text)
-}
-
-/// Writes all that tells what became of a run's packets. Only the text of the counts is in memory as a whole.
-pub fn write_run<H: Host>(
-    alloc: Global,
-    host: &mut H,
-    out: &str,
-    plan: &Plan,
-    capture: &CaptureFile,
-    infos: &[Info],
-    fates: &[Fate],
-) -> Result<(), Stop>
-    requires may { MayWrite H.may_create out.now (unit_count plan.now) }
-    requires infos { infos.now ≡ infos_of plan.now (packets_of_file capture.now) }
-    requires count { length infos.now ≡ (packets_of_file capture.now).count }
-    requires settled { IsSettled plan.now infos.now fates.now }
-    ensures handles { (H.state host.new).handles ≡ (H.state host.old).handles }
-    ensures ok { OnOk result (H.state host.new
-        ≡ written (texts_of (run_of out.now plan.now capture.now) fates.now) (H.state host.old)) }
-    ensures err { OnErr result (IsCut (texts_of (run_of out.now plan.now capture.now) fates.now)
-        (H.state host.old) (H.state host.new)) }
-    ensures cause { StopsFor (H.fault_count host.old) (H.fault_count host.new) result }
-{
-    write_units(alloc, host, out, capture, fates, plan.units())?;
-    write_fates(alloc, host, out, fates)?;
-    write_counts(alloc, host, plan, infos, fates)
 }

@@ -5,11 +5,11 @@ use Rattle.lq_top.proofs.TextLemmas.{length-infos_of}
 use Rattle.lq_top.proofs.laws.each_packet_has_one_fate.Goals as goal
 
 pub returns-clause-one_each : goal.returns-clause-one_each
-returns-clause-one_each c = λ run fates before after are. are.settled.one_each ∙ length-infos_of run.plan (packets_of_file run.capture)
+returns-clause-one_each c = λ run fates before after are. are.of_run.settled.one_each ∙ length-infos_of run.plan (packets_of_file run.capture)
 
 pub returns-clause-there : goal.returns-clause-there
 returns-clause-there c = λ run fates before after n are lt. (
-    let count = are.settled.one_each ∙ length-infos_of run.plan (packets_of_file run.capture) in
+    let count = are.of_run.settled.one_each ∙ length-infos_of run.plan (packets_of_file run.capture) in
     let within : n < length fates = subst (λ len. n < len) (sym count) lt in
     elim (slice_get_cases fates n).1 [ inl there ↦ (there.0, there.2) | inr past ↦ absurd (omega arith) ]
     )

@@ -12,7 +12,7 @@ use Rattle.lq_top.proofs.laws.stations_keep_their_order.Goals as goal
 
 pub returns-clause-full : goal.returns-clause-full
 returns-clause-full c = λ run fates before after station n seen are below inside of there.
-    let has = are.accounts station below in
+    let has = are.of_run.accounts station below in
     let closed = has.2 in
     let within : n < length (infos_of run.plan (packets_of_file run.capture)) = subst (λ count. n < count) (sym (length-infos_of run.plan (packets_of_file run.capture))) inside in
     let given = closed.decided n within of in
@@ -22,6 +22,6 @@ returns-clause-full c = λ run fates before after station n seen are below insid
 
 pub returns-clause-order : goal.returns-clause-order
 returns-clause-order c = λ run fates before after are station below later earlier band is.
-    let has = are.accounts station below in
+    let has = are.of_run.accounts station below in
     comes_there (infos_of run.plan (packets_of_file run.capture)) station (start_of run.plan station) later earlier (Take band)
     (subst (Comes (infos_of run.plan (packets_of_file run.capture)) station (start_of run.plan station)) is has.2.legal.comes)
