@@ -2,6 +2,7 @@
 #![tactic(auto)]
 
 mod checks;
+mod taps;
 
 pub use checks::{Shape, check_run};
 use lq_device::BenchDevice;
@@ -12,6 +13,7 @@ use std::marker::Sync;
 use std::sync::Wait;
 use std::test::Fail;
 use std::thread::Threads;
+pub use taps::{TapCounts, TapShape, check_tap};
 
 /// The header of a capture in little-endian order: microseconds, version 2.4, snapshot length 262,144, Ethernet.
 pub const HEADER: [u8; 24] = [

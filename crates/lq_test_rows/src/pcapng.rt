@@ -5,27 +5,27 @@ use std::alloc::{AllocError, Global};
 use std::test::Fail;
 
 /// A section header block in little-endian order that says nothing of its section's length.
-const SECTION: [u8; 28] = [
+pub const SECTION: [u8; 28] = [
     0x0a, 0x0d, 0x0d, 0x0a, 28, 0, 0, 0, 0x4d, 0x3c, 0x2b, 0x1a, 1, 0, 0, 0, 0xff, 0xff, 0xff,
     0xff, 0xff, 0xff, 0xff, 0xff, 28, 0, 0, 0,
 ];
 
 /// Interfaces of Ethernet and of raw IP with a snapshot length of 262,144.
-const ETHERNET: [u8; 20] = [1, 0, 0, 0, 20, 0, 0, 0, 1, 0, 0, 0, 0, 0, 4, 0, 20, 0, 0, 0];
+pub const ETHERNET: [u8; 20] = [1, 0, 0, 0, 20, 0, 0, 0, 1, 0, 0, 0, 0, 0, 4, 0, 20, 0, 0, 0];
 
-const RAW_IP: [u8; 20] = [
+pub const RAW_IP: [u8; 20] = [
     1, 0, 0, 0, 20, 0, 0, 0, 101, 0, 0, 0, 0, 0, 4, 0, 20, 0, 0, 0,
 ];
 
 /// An enhanced packet block of interface 0: an Ethernet frame of 34 bytes from 10.0.0.1 to 10.0.1.0.
-const FRAME: [u8; 68] = [
+pub const FRAME: [u8; 68] = [
     6, 0, 0, 0, 68, 0, 0, 0, 0, 0, 0, 0, 0, 0, 0, 0, 0, 0, 0, 0, 34, 0, 0, 0, 34, 0, 0, 0, 2, 0, 0,
     0, 0, 2, 2, 0, 0, 0, 0, 1, 8, 0, 0x45, 0, 0, 20, 0, 0, 0, 0, 0x40, 0xfd, 0, 0, 10, 0, 0, 1, 10,
     0, 1, 0, 0, 0, 68, 0, 0, 0,
 ];
 
 /// An enhanced packet block of interface 1: an IPv4 header from 10.0.0.2 to 10.0.1.1.
-const PACKET: [u8; 52] = [
+pub const PACKET: [u8; 52] = [
     6, 0, 0, 0, 52, 0, 0, 0, 1, 0, 0, 0, 0, 0, 0, 0, 0, 0, 0, 0, 20, 0, 0, 0, 20, 0, 0, 0, 0x45,
     0x10, 0, 20, 0, 0, 0, 0, 0x40, 0xfd, 0, 0, 10, 0, 0, 2, 10, 0, 1, 1, 52, 0, 0, 0,
 ];
@@ -33,7 +33,7 @@ const PACKET: [u8; 52] = [
 /// A block of name resolutions, which is passed over.
 const NAMES: [u8; 16] = [4, 0, 0, 0, 16, 0, 0, 0, 0, 0, 0, 0, 16, 0, 0, 0];
 
-fn joined(alloc: Global, blocks: &[&[u8]]) -> Result<Vec<u8>, AllocError> {
+pub fn joined(alloc: Global, blocks: &[&[u8]]) -> Result<Vec<u8>, AllocError> {
     let mut bytes = Vec::new(alloc);
     for block in blocks {
         bytes.extend_from_slice(block)?;
