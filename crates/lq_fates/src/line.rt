@@ -9,7 +9,8 @@ use lq_model::{Cause, Fate};
 /// Room for the longest line: `N sent U S` with numbers of 20, 10 and 10 digits.
 pub(crate) const LINE: usize = 64;
 
-// Writes the words so that they end where `end` is, and gives where they start.
+// Writes the words so that they end where `end` is, and gives where they start. It is inlined so that words of a known length are stored and not copied by a call.
+#[inline(always)]
 fn lay_words(line: &mut [u8], words: &[u8], end: usize) -> usize
     requires { (length words.now ≤ end) × (end ≤ length line.old) }
     ensures start { result + length words.now ≡ end }
@@ -33,6 +34,7 @@ fn lay_number(line: &mut [u8], n: u32, end: usize) -> usize
 }
 
 // Words, and a number behind them.
+#[inline(always)]
 fn lay_counted(line: &mut [u8], words: &[u8], n: u32, end: usize) -> usize
     requires { (10 + length words.now ≤ end) × (end ≤ length line.old) }
     ensures start { end ≤ result + 10 + length words.now }

@@ -1,5 +1,5 @@
 //! What each packet of a capture is to the rules.
-ghost use Rattle.std.specs.Prelude.{◌≡◌, ◌+◌, ◌*◌, ◌<◌, All, IfOk, length, replicate, slice_index, slice_set, vec_len};
+ghost use Rattle.std.specs.Prelude.{◌≡◌, ◌+◌, ◌*◌, ◌%◌, ◌<◌, All, IfOk, length, replicate, slice_index, slice_set, vec_len};
 ghost use Rattle.lq_model.specs.Plan.{info_of, infos_of};
 ghost use Rattle.lq_plan.specs.Packets.{IsInfoWithin};
 
@@ -59,15 +59,23 @@ fn unranked<F: Frames>(plan: &Plan, frames: &F, n: u32) -> Info
         Split::Round => n,
         Split::Source => u32::from(class.source_byte),
     };
-    let group = u32::from(class.route_byte) % plan.groups();
-    let station = plan.first(group) + u32::from(class.source_byte) % plan.mq(group);
+    let group = rest(u32::from(class.route_byte), plan.groups());
+    let station = plan.first(group) + rest(u32::from(class.source_byte), plan.mq(group));
     Info {
-        owner: (split_number % plan.senders()) as u8,
+        owner: rest(split_number, plan.senders()) as u8,
         station: station as u8,
         band: band(class.priority) as u8,
-        queue: (u32::from(class.source_byte) % plan.station(station).queues) as u8,
+        queue: rest(u32::from(class.source_byte), plan.station(station).queues) as u8,
         rank: 0,
     }
+}
+
+// The rest of a division. One by 1 is not made: each packet has four, and they are what takes the time.
+fn rest(n: u32, by: u32) -> u32
+    requires { 0 < by }
+    ensures { result ≡ n % by }
+{
+    if by == 1 { 0 } else { n % by }
 }
 
 // The rank of the next packet of this owner and station, which is counted then.
