@@ -28,6 +28,8 @@ use Rattle.lq_model.specs.declared.fate.Info.{Info}
 use Rattle.lq_table.specs.Rule.{HangsWhere, IsCallOf}
 use Rattle.lq_table.specs.Solo.{account_of}
 use Rattle.lq_table.specs.Views.{View}
+use Rattle.lq_senders.specs.OwnPackets.{alone_at}
+use Rattle.lq_senders.proofs.OwnPackets.{own_fates}
 use Rattle.lq_senders.proofs.AtEnd.{account-at, as-planned, configured-below, legal-at, trail-at}
 use Rattle.lq_senders.proofs.Lists.{length-mapped}
 use Rattle.lq_senders.proofs.Turns.{event-there}
@@ -159,6 +161,10 @@ module _ (plan : Plan) (infos : List Info) (before after : List DeviceState) (vi
       get_or_from_slice_get (map (λ (fate : Fate). Some fate) fates) n (Some there.0) d (slice_get-map (λ (fate : Fate). Some fate) fates n ∙ ap (option_map (λ (fate : Fate). Some fate)) there.1)
       ∙ (sym there.1 ∙ (ends.fates_are n inside ∙ sym (ends.alone tell one n inside))))
 
+  is-apart : AllTell (unit_count plan) before → plan.senders ≡ 1 → (n : ℕ) (fate : Fate) → slice_get fates n ≡ Some fate → slice_get (alone_at plan infos (station_in infos n)) n ≡ Some (Some fate)
+  is-apart tell one n fate there =
+      own_fates plan infos n ∙ (ap (λ (l : List (Option Fate)). slice_get l n) (sym (is-alone tell one)) ∙ (slice_get-map (λ (f : Fate). Some f) fates n ∙ ap (option_map (λ (f : Fate). Some f)) there))
+
   pub fates_of_run : AreFatesOf plan infos fates before after
   fates_of_run = record {
     settled = is-settled;
@@ -173,4 +179,5 @@ module _ (plan : Plan) (infos : List Info) (before after : List DeviceState) (vi
     hangs = hangs-after;
     as_told = as-told;
     alone = is-alone;
+    apart = is-apart;
   }

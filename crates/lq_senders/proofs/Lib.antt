@@ -44,6 +44,10 @@ pub mod Starts
 pub mod Present
 -- a station at its end
 pub mod AtEnd
+-- in the run of one sender no station meets another's packets
+pub mod OwnPackets
+-- a station to which no packet is offered
+pub mod Untouched
 -- the fates that the finished stations leave
 pub mod FatesOfRun
 -- each packet's fate can be read

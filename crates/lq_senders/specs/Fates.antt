@@ -16,6 +16,7 @@ use Rattle.lq_model.specs.declared.fate.Fate.{Fate}
 use Rattle.lq_model.specs.declared.fate.Fate.TheVariants.{Purged}
 use Rattle.lq_model.specs.Words.{IsWordOf}
 use Rattle.lq_model.specs.declared.fate.Info.{Info}
+use Rattle.lq_senders.specs.OwnPackets.{alone_at}
 use Rattle.lq_senders.specs.Way.{EndsAsPlanned}
 use Rattle.lq_table.specs.Ended.{EndedState}
 
@@ -76,6 +77,9 @@ pub record AreFatesOf (plan : Plan) (infos : List Info) (fates : List Fate) (bef
   pub as_told : AllTell (unit_count plan) before → HangsAsTold plan fates
   -- where they tell and there is one sender, the fates are those of its run
   pub alone : AllTell (unit_count plan) before → plan.senders ≡ 1 → map (λ fate. Some fate) fates ≡ alone plan infos
+  -- and each packet's fate is that of the run in which only the packets of its station are offered
+  pub apart : AllTell (unit_count plan) before → plan.senders ≡ 1 → (n : ℕ) (fate : Fate) → slice_get fates n ≡ Some fate
+      → slice_get (alone_at plan infos (station_in infos n)) n ≡ Some (Some fate)
 
 -- WHAT STAYS OF A STATION
 

@@ -1,12 +1,17 @@
 //! The laws of runs, each the contract of a function that does nothing.
-ghost use Rattle.std.specs.Prelude.{◌≡◌, ◌<◌, ℕ, List, Some, count_by, length, slice_get};
+ghost use Rattle.std.specs.Prelude.{◌≡◌, ◌≢◌, ◌<◌, ℕ, List, [], ◌∷◌, Some, None, true, count_by, length, slice_get};
 ghost use Rattle.lq_senders.specs.Ends.{AreBack, AreOver, ClosedState, FatesRead, HasSentAll, IsReadable, RunEnds};
 ghost use Rattle.lq_senders.specs.Fates.{AreFatesOf, IsEndedAs};
 ghost use Rattle.lq_senders.specs.Lanes.{IsSendable};
+ghost use Rattle.lq_senders.specs.OwnPackets.{alone_at};
+ghost use Rattle.lq_model.specs.Alone.{alone};
 ghost use Rattle.lq_model.specs.Device.{DeviceState};
-ghost use Rattle.lq_model.specs.Plan.{Plan, is_swap, unit_count};
+ghost use Rattle.lq_model.specs.Plan.{Plan, is_swap, station_in, unit_count};
+ghost use Rattle.lq_model.specs.Runs.{group_event_at, group_of_two, no_rules, packets_to, station};
 ghost use Rattle.lq_model.specs.declared.fate.Fate.{Fate};
+ghost use Rattle.lq_model.specs.declared.fate.Fate.TheVariants.{Refused, Sent};
 ghost use Rattle.lq_model.specs.declared.fate.Info.{Info};
+ghost use Rattle.lq_model.specs.declared.plan.EventKind.TheVariants as kind;
 ghost use Rattle.lq_table.specs.Views.{View};
 ghost use Rattle.lq_table.specs.declared.shared.Cpu.{Cpu};
 
@@ -53,4 +58,24 @@ pub fn runs_leave_devices<D: TxDevice>()
     ensures { (plan : Plan) (infos : List Info) (before : List DeviceState) (others : ℕ) (start : List (Cpu D.row.Denot)) (brought : List DeviceState) (closed : List ClosedState) (spares : List DeviceState)
         → HasSentAll plan infos others start brought closed spares → AreOver plan infos before others start brought
         → (length closed ≡ length plan.stations) × (length spares ≡ count_by is_swap plan.events) }
+{}
+
+/// In the run of one sender the stations are apart: a packet has the fate that it has where only the packets of its station are
+/// offered, with all numbers kept. The others have no fate there.
+#[tactic(auto, using(crate::proofs::OwnPackets::own_fates, crate::proofs::Untouched::other_fates))]
+pub fn stations_run_apart()
+    ensures own { (plan : Plan) (infos : List Info) (n : ℕ)
+        → slice_get (alone_at plan infos (station_in infos n)) n ≡ slice_get (alone plan infos) n }
+    ensures others { (plan : Plan) (infos : List Info) (station n : ℕ) → n < length infos → station_in infos n ≢ station
+        → slice_get (alone_at plan infos station) n ≡ Some None }
+{}
+
+/// Two stations are the children of one multi-queue root, and the packets of only one are offered. The event before packet 2 stays
+/// there, whichever they are.
+#[tactic(auto, unfolding(crate::specs::OwnPackets::alone_at))]
+pub fn one_child_is_offered()
+    ensures first { alone_at (group_of_two (station 1000 true no_rules) (group_event_at 2 kind.Down ∷ []))
+        (packets_to (1 ∷ 0 ∷ 1 ∷ 0 ∷ [])) 0 ≡ None ∷ Some (Sent 0 0) ∷ None ∷ Some (Refused 0) ∷ [] }
+    ensures second { alone_at (group_of_two (station 1000 true no_rules) (group_event_at 2 kind.Down ∷ []))
+        (packets_to (1 ∷ 0 ∷ 1 ∷ 0 ∷ [])) 1 ≡ Some (Sent 1 0) ∷ None ∷ Some (Refused 0) ∷ None ∷ [] }
 {}

@@ -17,8 +17,8 @@ mod whole;
 pub use ends::end_run;
 pub use lanes::{Lane, all_send, send_loop};
 pub use laws::{
-    ends_make_fates, runs_are_readable, runs_keep_boxes, runs_leave_devices, runs_leave_stations,
-    runs_make_fates,
+    ends_make_fates, one_child_is_offered, runs_are_readable, runs_keep_boxes, runs_leave_devices,
+    runs_leave_stations, runs_make_fates, stations_run_apart,
 };
 pub use lq_gate::{Free, Gate};
 pub use read::read_fates;
