@@ -5,7 +5,7 @@
 
 mod plans;
 
-use crate::plans::{PLANS, Stress};
+use crate::plans::PLANS;
 use lq_pcap::gen_capture;
 use lq_test_fixture::{RUN, call_on, check_run, host_of};
 use lq_top::{Free, Status};
@@ -41,18 +41,18 @@ fn size_of(rt: &HostRuntime) -> Option<Size> {
 /// One run, which is checked: how many packets were sent.
 fn run_once<R: Runtime + AllocGlobal + Wait + Threads + Sync>(
     rt: &R,
-    stress: &Stress,
+    plan: &str,
     number: u32,
     packets: u32,
 ) -> Result<usize, Fail> {
     let alloc = rt.alloc();
     let capture = gen_capture(alloc, number, packets.min(1_000_000))?;
-    let mut host = host_of(alloc, stress.plan.as_bytes(), &capture)?;
+    let mut host = host_of(alloc, plan.as_bytes(), &capture)?;
     let status = call_on(rt, alloc, &RUN, &mut host, 16, &Free)?;
     if status != Status::Done {
         return Err("a run that isn't done".into());
     }
-    check_run(alloc, &host, &capture, packets, stress.shape)
+    Ok(check_run(alloc, &host, plan.as_bytes(), &capture)?)
 }
 
 /// A round: a run of each plan. It answers how many packets were sent.
@@ -62,8 +62,8 @@ fn round<R: Runtime + AllocGlobal + Wait + Threads + Sync>(
     packets: u32,
 ) -> Result<u64, Fail> {
     let mut sent = 0u64;
-    for stress in &PLANS {
-        sent = sent.saturating_add(run_once(rt, stress, number, packets)? as u64);
+    for plan in PLANS {
+        sent = sent.saturating_add(run_once(rt, plan, number, packets)? as u64);
     }
     Ok(sent)
 }

@@ -1,171 +1,240 @@
-//! What holds of a run's files whatever order its senders' steps took: each packet has one fate, each unit's capture is the
-//! records of its sent packets in order of serial, and each sender's packets of one station and band are there in that sender's
-//! order, those of a lower unit first. The capture is a generated one, of frames of 34 bytes, and the owners go by the packets'
-//! numbers.
-use crate::{HEADER, records_of};
-use lq_class::{band, priority, route_byte};
+//! What holds of a run's files whatever order its senders' steps took: each packet has one fate, and it is one that the plan
+//! allows; each unit's capture is the records of its sent packets in order of serial, and that of a multi-queue root those of its
+//! children; each sender's packets of one station and band are there in that sender's order, those of a lower unit first; and the
+//! counts are the fates'.
+use crate::allowed::{Run, Tally, check_fates, sent_lists};
+use crate::fates::{Told, fates_told};
+use crate::flaw::{Flaw, demand};
 use lq_host::MemHost;
-use std::alloc::Global;
-use std::test::Fail;
+use lq_pcap::{Capture, Frames as _, read_capture};
+use lq_plan::{Plan, infos, read_plan};
+use std::alloc::{AllocError, Global};
 
-/// The most senders of a plan.
-const SENDERS: usize = 64;
-
-/// And the most stations.
-const STATIONS: usize = 8;
-
-/// The bytes of a generated record, of which the first 16 are its header.
-const RECORD_BYTES: usize = 50;
-
-const RECORD_HEADER: usize = 16;
-
-const ETHERNET: u32 = 1;
-
-/// A fate, as far as it is read here: by which unit the packet was sent, and its place in what that sent.
-#[derive(Clone, Copy, Debug, PartialEq, Eq)]
-enum Told {
-    Sent { unit: u32, serial: u32 },
-    Lost,
+/// How many packets came to each end.
+#[derive(Clone, Copy)]
+struct Counts {
+    sent: usize,
+    full: usize,
+    shrunk: usize,
+    purged: usize,
+    refused: usize,
 }
 
-/// What a line of the text of fates tells, which must be that of packet `n`.
-fn told_by(line: &str, n: usize) -> Option<Told> {
-    let mut words = line.split(' ');
-    if words.next()?.parse::<usize>().ok()? != n {
-        return None;
+impl Counts {
+    fn count(&mut self, fate: Told) {
+        let count = match fate {
+            Told::Sent { unit: _, serial: _ } => &mut self.sent,
+            Told::Full { seen: _ } => &mut self.full,
+            Told::Shrunk { event: _ } => &mut self.shrunk,
+            Told::Purged { event: _ } | Told::PurgedHung => &mut self.purged,
+            Told::Refused { event: _ } => &mut self.refused,
+        };
+        *count = count.saturating_add(1);
     }
-    if words.next()? != "sent" {
-        return Some(Told::Lost);
+}
+
+/// The counts of a station, or of all stations.
+fn counts_of(run: &Run<'_>, station: Option<u32>) -> Counts {
+    let mut counts = Counts {
+        sent: 0,
+        full: 0,
+        shrunk: 0,
+        purged: 0,
+        refused: 0,
+    };
+    for (packet, fate) in run.packets.iter().zip(run.fates) {
+        if station.is_none_or(|j| u32::from(packet.station) == j) {
+            counts.count(*fate);
+        }
     }
-    let unit = words.next()?.parse::<u32>().ok()?;
-    let serial = words.next()?.parse::<u32>().ok()?;
-    Some(Told::Sent { unit, serial })
+    counts
 }
 
-/// The fates that a text tells, one a line, the packets in their order.
-fn fates_told(alloc: Global, text: &[u8]) -> Result<Vec<Told>, Fail> {
-    let text = std::str::from_utf8(text).ok().ok_or("no text")?;
-    let mut fates = Vec::new(alloc);
-    for line in text.lines() {
-        let fate = told_by(line, fates.len()).ok_or("a line that tells no fate")?;
-        fates.push(fate)?;
+fn push_units(
+    alloc: Global,
+    text: &mut String,
+    run: &Run<'_>,
+    tally: &Tally,
+) -> Result<(), AllocError> {
+    for unit in 0..run.plan.units() {
+        let sent = tally.sent_by(unit);
+        text.push_str(&format!(in alloc; "unit {unit} sent {sent}\n")?)?;
     }
-    Ok(fates)
+    Ok(())
 }
 
-/// How many packets a unit sent.
-fn count_sent(fates: &[Told], by: u32) -> usize {
-    fates
-        .iter()
-        .filter(|fate| matches!(fate, Told::Sent { unit, serial: _ } if *unit == by))
-        .count()
+fn push_stations(alloc: Global, text: &mut String, run: &Run<'_>) -> Result<(), AllocError> {
+    for station in 0..run.plan.stations() {
+        let Counts {
+            sent: _,
+            full,
+            shrunk,
+            purged,
+            refused,
+        } = counts_of(run, Some(station));
+        text.push_str(&format!(in alloc;
+            "station {station} full {full} shrunk {shrunk} purged {purged} refused {refused}\n"
+        )?)?;
+    }
+    Ok(())
 }
 
-/// The packets that a unit sent, in order of serial: each serial below their number stands once.
-fn sent_in_order(alloc: Global, fates: &[Told], by: u32) -> Result<Vec<usize>, Fail> {
-    let mut packets = vec![in alloc; usize::MAX; count_sent(fates, by)]?;
-    for (n, fate) in fates.iter().enumerate() {
-        if let Told::Sent { unit, serial } = fate {
-            if *unit == by {
-                let place = packets
-                    .get_mut(*serial as usize)
-                    .ok_or("a serial too high")?;
-                if *place != usize::MAX {
-                    return Err("a serial twice".into());
-                }
-                *place = n;
+fn push_total(alloc: Global, text: &mut String, run: &Run<'_>) -> Result<(), AllocError> {
+    let Counts {
+        sent,
+        full,
+        shrunk,
+        purged,
+        refused,
+    } = counts_of(run, None);
+    let packets = run.packets.len();
+    text.push_str(&format!(in alloc;
+        "total {packets} sent {sent} full {full} shrunk {shrunk} purged {purged} refused {refused}\n"
+    )?)
+}
+
+/// A line for each root with several children.
+fn push_roots(
+    alloc: Global,
+    text: &mut String,
+    plan: &Plan,
+    tally: &Tally,
+) -> Result<(), AllocError> {
+    for j in 0..plan.groups() {
+        let queues = plan.mq(j);
+        if queues > 1 {
+            let first = plan.first(j);
+            let sent = (first..first + queues)
+                .map(|unit| tally.sent_by(unit))
+                .fold(0usize, |all, sent| all.saturating_add(sent));
+            text.push_str(&format!(in alloc; "mq {j} queues {queues} sent {sent}\n")?)?;
+        }
+    }
+    Ok(())
+}
+
+/// The text of the counts.
+fn counts_text(alloc: Global, run: &Run<'_>, tally: &Tally) -> Result<String, AllocError> {
+    let mut text = String::new(alloc);
+    push_units(alloc, &mut text, run, tally)?;
+    push_stations(alloc, &mut text, run)?;
+    push_total(alloc, &mut text, run)?;
+    push_roots(alloc, &mut text, run.plan, tally)?;
+    Ok(text)
+}
+
+/// Whether a file is the capture of these packets.
+fn is_capture_of(
+    alloc: Global,
+    file: Option<&[u8]>,
+    capture: &Capture,
+    packets: &[usize],
+) -> Result<bool, AllocError> {
+    let mut bytes = capture.header().to_vec(alloc)?;
+    for n in packets {
+        if *n < capture.len() {
+            bytes.extend_from_slice(capture.whole(*n))?;
+        }
+    }
+    Ok(file == Some(bytes.as_slice()))
+}
+
+/// Checks the captures of the units.
+fn check_units(
+    alloc: Global,
+    host: &MemHost,
+    capture: &Capture,
+    lists: &[Vec<usize>],
+) -> Result<(), Flaw> {
+    let mut unit = 0u32;
+    for sent in lists {
+        let name = format!(in alloc; "o.{unit}.pcap")?;
+        let is_its = is_capture_of(alloc, host.file(name.as_str()), capture, sent)?;
+        demand(is_its, Flaw::Capture(unit))?;
+        unit = unit.saturating_add(1);
+    }
+    let name = format!(in alloc; "o.{unit}.pcap")?;
+    demand(host.file(name.as_str()).is_none(), Flaw::Capture(unit))
+}
+
+/// The packets of several lists: by place, and at one place list by list.
+fn joint_of(alloc: Global, lists: &[Vec<usize>]) -> Result<Vec<usize>, AllocError> {
+    let longest = lists.iter().map(|list| list.len()).max().unwrap_or(0);
+    let mut joint = Vec::new(alloc);
+    for serial in 0..longest {
+        for list in lists {
+            if let Some(n) = list.get(serial) {
+                joint.push(*n)?;
             }
         }
     }
-    Ok(packets)
+    Ok(joint)
 }
 
-/// The band and the station of packet `n` of a generated capture, where there are so many stations.
-fn place_of(capture: &[u8], n: usize, stations: usize) -> Option<(usize, usize)> {
-    let record = n.checked_mul(RECORD_BYTES)?.checked_add(HEADER.len())?;
-    let frame = capture.get(record.checked_add(RECORD_HEADER)?..record.checked_add(RECORD_BYTES)?)?;
-    let station = usize::from(route_byte(ETHERNET, frame)).checked_rem(stations)?;
-    Some((band(priority(ETHERNET, frame)) as usize, station))
-}
-
-/// By station, sender and band: the lowest packet that may be sent next.
-type Next = [[[usize; 3]; SENDERS]; STATIONS];
-
-/// Whether what a unit sent is of one station, and each sender's packets of one band ascend, also after those of the station's
-/// lower units.
-fn are_in_order(
-    capture: &[u8],
-    packets: &[usize],
-    shape: Shape,
-    next: &mut Next,
-) -> Result<bool, Fail> {
-    let mut of = None;
-    for n in packets {
-        let (band, station) = place_of(capture, *n, shape.stations).ok_or("no packet")?;
-        let sender = n.checked_rem(shape.senders).ok_or("no sender")?;
-        let rows = next.get_mut(station).ok_or("too many stations")?;
-        let row = rows.get_mut(sender).ok_or("too many senders")?;
-        let lowest = row.get_mut(band).ok_or("no band")?;
-        if *n < *lowest || *of.get_or_insert(station) != station {
-            return Ok(false);
-        }
-        *lowest = n.saturating_add(1);
-    }
-    Ok(true)
-}
-
-/// A run of a generated capture, as its plan has it.
-#[derive(Clone, Copy, Debug)]
-pub struct Shape {
-    pub senders: usize,
-    pub stations: usize,
-    pub units: u32,
-}
-
-/// Checks the capture of one unit: how many packets it sent.
-fn check_unit(
+/// Checks the captures of the roots with several children. A child's unit has the child's number.
+fn check_roots(
     alloc: Global,
     host: &MemHost,
-    capture: &[u8],
-    shape: Shape,
-    fates: &[Told],
-    unit: u32,
-    next: &mut Next,
-) -> Result<usize, Fail> {
-    let sent = sent_in_order(alloc, fates, unit)?;
-    if !are_in_order(capture, &sent, shape, next)? {
-        return Err("a sender's packets out of order, or of another station".into());
+    capture: &Capture,
+    plan: &Plan,
+    lists: &[Vec<usize>],
+) -> Result<(), Flaw> {
+    for j in 0..plan.groups() {
+        let name = format!(in alloc; "o.mq{j}.pcap")?;
+        let file = host.file(name.as_str());
+        let first = plan.first(j) as usize;
+        let queues = plan.mq(j) as usize;
+        let is_right = if queues > 1 {
+            let children = lists.get(first..first + queues).unwrap_or(&[]);
+            let joint = joint_of(alloc, children)?;
+            is_capture_of(alloc, file, capture, &joint)?
+        } else {
+            file.is_none()
+        };
+        demand(is_right, Flaw::Joint(j))?;
     }
-    let name = format!(in alloc; "o.{unit}.pcap")?;
-    let records = records_of(alloc, capture, &sent)?;
-    if host.file(name.as_str()).ok_or("no capture")? != records.as_slice() {
-        return Err("a capture that isn't the packets sent".into());
-    }
-    Ok(sent.len())
+    Ok(())
 }
 
-/// Checks the files `o.fates` and `o.U.pcap` of a run of `count` packets, and its counts: how many packets were sent.
+/// Checks the files of a run with these fates, and its counts: how many packets were sent.
+fn check_files(
+    alloc: Global,
+    host: &MemHost,
+    capture: &Capture,
+    run: &Run<'_>,
+) -> Result<usize, Flaw> {
+    let tally = Tally::of(run);
+    check_fates(run, &tally)?;
+    let lists = sent_lists(alloc, run, &tally)?;
+    check_units(alloc, host, capture, &lists)?;
+    check_roots(alloc, host, capture, run.plan, &lists)?;
+    let counts = counts_text(alloc, run, &tally)?;
+    demand(host.output() == counts.as_bytes(), Flaw::Counts)?;
+    Ok(counts_of(run, None).sent)
+}
+
+/// Checks all files of a run with the output name `o` of this plan and this capture, and its counts: how many packets were sent.
 pub fn check_run(
     alloc: Global,
     host: &MemHost,
+    plan: &[u8],
     capture: &[u8],
-    count: u32,
-    shape: Shape,
-) -> Result<usize, Fail> {
-    let fates = fates_told(alloc, host.file("o.fates").ok_or("no fates")?)?;
-    if fates.len() != count as usize {
-        return Err("another number of fates".into());
-    }
-    let mut total = 0usize;
-    let mut next = [[[0usize; 3]; SENDERS]; STATIONS];
-    for unit in 0..shape.units {
-        let sent = check_unit(alloc, host, capture, shape, &fates, unit, &mut next)?;
-        total = total.saturating_add(sent);
-    }
-    let line = format!(in alloc; "\ntotal {count} sent {total} full ")?;
-    let output = std::str::from_utf8(host.output()).ok().ok_or("no text")?;
-    if !output.contains(line.as_str()) {
-        return Err("another count".into());
-    }
-    Ok(total)
+) -> Result<usize, Flaw> {
+    let Ok(plan) = read_plan(alloc, plan) else {
+        return Err(Flaw::Input);
+    };
+    let Ok(capture) = read_capture(alloc, capture.to_vec(alloc)?) else {
+        return Err(Flaw::Input);
+    };
+    let Ok(packets) = infos(alloc, &plan, &capture) else {
+        return Err(Flaw::NoMemory);
+    };
+    let text = host.file("o.fates").ok_or(Flaw::Text)?;
+    let fates = fates_told(alloc, text, packets.len())?;
+    let run = Run {
+        plan: &plan,
+        packets: &packets,
+        fates: &fates,
+    };
+    check_files(alloc, host, &capture, &run)
 }

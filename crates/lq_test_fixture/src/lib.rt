@@ -1,10 +1,17 @@
 //! What the tests of the top call share: captures made by hand, hosts in memory, and the call on a bench of devices.
 #![tactic(auto)]
 
+mod allowed;
 mod checks;
+mod fates;
+mod flaw;
+mod planned;
 mod taps;
+#[cfg(test)]
+mod tests;
 
-pub use checks::{Shape, check_run};
+pub use checks::check_run;
+pub use flaw::Flaw;
 use lq_device::BenchDevice;
 use lq_host::MemHost;
 use lq_top::{Gate, Status, lqtx};

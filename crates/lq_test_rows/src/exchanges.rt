@@ -1,12 +1,10 @@
 //! Devices exchanged under load: eight senders over one station, whose device is exchanged twice.
 use lq_device::{BenchDevice, NoMemory, Params, Tx, TxDevice};
 use lq_pcap::gen_capture;
-use lq_test_fixture::{RUN, Shape, check_run, host_of};
+use lq_test_fixture::{RUN, check_run, host_of};
 use lq_top::{Free, Status, lqtx};
 use std::sync::atomic::{AtomicU32, Ordering};
 use std::test::Fail;
-
-const SENDERS: usize = 8;
 
 const PACKETS: u32 = 100_000;
 
@@ -44,33 +42,6 @@ impl<'a> TxDevice for Counted<'a> {
     }
 }
 
-/// The unit of the station when packet `n` of the first sender is sent: the exchanges before it are done, and no other is.
-fn unit_before(n: usize) -> u32 {
-    if n < 30_000 {
-        0
-    } else if n < 60_000 {
-        1
-    } else {
-        2
-    }
-}
-
-/// Whether packet `n` may have the fate that this line tells. The unit that sends it is checked beside the captures where it is
-/// another sender's; no packet of the first sender is refused, since the station is active between its packets.
-fn may_be_told(line: &str, n: usize) -> Option<bool> {
-    let first = n.checked_rem(SENDERS)? == 0;
-    let mut words = line.split(' ').skip(1);
-    let kind = words.next()?;
-    let number = words.next()?.parse::<u32>().ok()?;
-    Some(match kind {
-        "sent" => !first || number == unit_before(n),
-        "purged" => number < 2 && (!first || number == unit_before(n)),
-        "refused" => number < 2 && !first,
-        "full" => true,
-        _ => false,
-    })
-}
-
 /// No device is dropped while they are exchanged, and each once with the bench.
 #[test]
 fn exchanges_devices_under_load(rt: HostRuntime) -> Result<(), Fail> {
@@ -91,17 +62,6 @@ fn exchanges_devices_under_load(rt: HostRuntime) -> Result<(), Fail> {
     assert_eq!(rt; drops.load(Ordering::SeqCst), 0);
     drop(bench);
     assert_eq!(rt; drops.load(Ordering::SeqCst), 3);
-    let shape = Shape {
-        senders: SENDERS,
-        stations: 1,
-        units: 3,
-    };
-    check_run(alloc, &host, &capture, PACKETS, shape)?;
-    let fates = std::str::from_utf8(host.file("o.fates").ok_or("no fates")?)
-        .ok()
-        .ok_or("no text")?;
-    for (n, line) in fates.lines().enumerate() {
-        assert!(rt; may_be_told(line, n) == Some(true), "{line:?}");
-    }
+    check_run(alloc, &host, PLAN, &capture)?;
     Ok(())
 }

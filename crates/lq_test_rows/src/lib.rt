@@ -5,7 +5,11 @@
 #[cfg(test)]
 mod exchanges;
 #[cfg(test)]
+mod gate;
+#[cfg(test)]
 mod generated;
+#[cfg(test)]
+mod meeting;
 #[cfg(test)]
 mod overlap;
 #[cfg(test)]
@@ -18,3 +22,5 @@ mod schedules;
 mod senders;
 #[cfg(test)]
 mod tap;
+#[cfg(test)]
+mod wakes;
