@@ -90,9 +90,6 @@ keeps_version_1 text plan not_2 not_3 answer = root_keeps plan (root_of text) (s
 
 -- TEXTS OF VERSION 2 OR 1
 
-before-3 : ℕ → Version
-before-3 number = if number == 2 then version_2 else version_1
-
 numbered-2 : (number : ℕ) → number ≢ 3 → version_numbered number ≡ (if number == 2 then version_2 else version_1)
 numbered-2 number not_3 = ap (λ is_3. if is_3 then version_3 else if number == 2 then version_2 else version_1) (ne_eqb number 3 not_3)
 
