@@ -13,113 +13,15 @@
  * turn of its sender and gives it back, counts its call as inside, and stores each word by an exchange.
  */
 #define _GNU_SOURCE
-#include <errno.h>
-#include <malloc.h>
-#include <pthread.h>
-#include <sched.h>
-#include <stdatomic.h>
-#include <stdbool.h>
-#include <stdint.h>
-#include <stdio.h>
-#include <stdlib.h>
-#include <string.h>
-#include <time.h>
+#include "kernel.h"
+#include "files.h"
 
-/* What ptr_ring.h takes from the kernel. */
-#define SMP_CACHE_BYTES 64
-#define cache_line_size() SMP_CACHE_BYTES
-#define ____cacheline_aligned_in_smp __attribute__((aligned(SMP_CACHE_BYTES)))
-#define unlikely(x) __builtin_expect(!!(x), 0)
-#define likely(x) __builtin_expect(!!(x), 1)
-#define ALIGN(x, a) (((x) + (a) - 1) / (a) * (a))
-#define KMALLOC_MAX_SIZE SIZE_MAX
-#define READ_ONCE(x) (*(volatile __typeof__(x) *)&(x))
-#define WRITE_ONCE(x, v) (*(volatile __typeof__(x) *)&(x) = (v))
-#define barrier() asm volatile("" ::: "memory")
-#if defined(__x86_64__)
-#define smp_wmb() barrier()
-#define cpu_relax() __builtin_ia32_pause()
-#else
-#define smp_wmb() atomic_thread_fence(memory_order_release)
-#define cpu_relax() sched_yield()
-#endif
-#define __GFP_ZERO 1
-typedef int gfp_t;
-typedef pthread_spinlock_t spinlock_t;
-
-static void *kmalloc(size_t size, gfp_t gfp)
-{
-	void *p = memalign(SMP_CACHE_BYTES, size);
-
-	if (p && (gfp & __GFP_ZERO))
-		memset(p, 0, size);
-	return p;
-}
-
-static inline void *kmalloc_array(size_t n, size_t size, gfp_t gfp)
-{
-	return kmalloc(n * size, gfp);
-}
-
-static inline void *kcalloc(size_t n, size_t size, gfp_t gfp)
-{
-	return kmalloc_array(n, size, gfp | __GFP_ZERO);
-}
-
-static inline void kfree(void *p)
-{
-	free(p);
-}
-
-#define kvmalloc_array kmalloc_array
-#define kvfree kfree
-
-static inline void spin_lock_init(spinlock_t *lock)
-{
-	pthread_spin_init(lock, PTHREAD_PROCESS_PRIVATE);
-}
-
-/* Threads are preempted where processors of the kernel aren't, so a long wait yields. */
-static void spin_lock(spinlock_t *lock)
-{
-	for (int tries = 0; pthread_spin_trylock(lock); tries++) {
-		if (tries > 100)
-			sched_yield();
-		else
-			for (int i = 0; i < 1 << (tries < 6 ? tries : 6); i++)
-				cpu_relax();
-	}
-}
-
-static inline void spin_unlock(spinlock_t *lock)
-{
-	pthread_spin_unlock(lock);
-}
-
-#define spin_lock_bh spin_lock
-#define spin_unlock_bh spin_unlock
-#define spin_lock_irq spin_lock
-#define spin_unlock_irq spin_unlock
-#define spin_lock_irqsave(lock, flags) ((void)(flags), spin_lock(lock))
-#define spin_unlock_irqrestore(lock, flags) ((void)(flags), spin_unlock(lock))
-#include "ptr_ring.h"
-
-enum { BANDS = 3, QUOTA = 64, MAX_SENDERS = 64, MAX_FRAME = 262144 };
+enum { BANDS = 3, QUOTA = 64, MAX_SENDERS = 64 };
 enum { SCHED = 1, MISSED = 4, DRAINING = 8, NON_EMPTY = MISSED | DRAINING };
-enum { FILE_HEADER = 24, RECORD_HEADER = 16 };
 enum { SENT = 1, FULL = 2 };
 
-struct packet {
-	uint32_t place, len;
-	uint8_t band;
-};
-
-static struct packet *packets;
-static uint32_t count;
 static _Atomic uint64_t *fates; /* 0, or the kind and above it the serial */
 static uint32_t *sent;
-static uint8_t *capture;
-static size_t capture_len;
 static uint32_t senders, burst, irq_every;
 
 /* What the holder of the run lock alone uses. */
@@ -344,27 +246,6 @@ static void send_what_is_left(void)
 	}
 }
 
-static double seconds(void)
-{
-	struct timespec t;
-
-	clock_gettime(CLOCK_MONOTONIC, &t);
-	return t.tv_sec + t.tv_nsec * 1e-9;
-}
-
-static void die(int status, const char *what)
-{
-	fprintf(stderr, "qdisc: %s\n", what);
-	exit(status);
-}
-
-static void *have(void *p)
-{
-	if (!p)
-		die(6, "no memory");
-	return p;
-}
-
 static uint8_t band_of(const uint8_t *frame, uint32_t len)
 {
 	/* ip_tos2prio of net/ipv4/route.c, and prio2band of net/sched/sch_generic.c */
@@ -375,96 +256,16 @@ static uint8_t band_of(const uint8_t *frame, uint32_t len)
 	return band[is_ipv4 ? prio[(frame[15] & 0x1e) / 2] : 0];
 }
 
-static void read_capture(const char *name)
+static void classify(struct packet *p, const uint8_t *frame, uint32_t len)
 {
-	FILE *file = fopen(name, "rb");
-
-	if (!file || fseek(file, 0, SEEK_END))
-		die(5, name);
-	capture_len = ftell(file);
-	rewind(file);
-	setvbuf(file, NULL, _IONBF, 0);
-	capture = have(malloc(capture_len));
-	if (fread(capture, 1, capture_len, file) != capture_len)
-		die(5, name);
-	fclose(file);
+	p->band = band_of(frame, len);
 }
 
-static void read_packets(void)
+static char *put_fate(char *at, uint32_t n)
 {
-	uint32_t room = 1024, len;
-	size_t place = FILE_HEADER;
+	uint64_t fate = atomic_load_explicit(&fates[n], memory_order_relaxed);
 
-	packets = have(malloc(room * sizeof(*packets)));
-	for (; place + RECORD_HEADER <= capture_len; place += RECORD_HEADER + len) {
-		memcpy(&len, capture + place + 8, sizeof(len));
-		if (len > MAX_FRAME || place + RECORD_HEADER + len > capture_len)
-			die(4, "no capture");
-		if (count == room)
-			packets = have(realloc(packets, (room *= 2) * sizeof(*packets)));
-		packets[count].place = place;
-		packets[count].len = RECORD_HEADER + len;
-		packets[count++].band = band_of(capture + place + RECORD_HEADER, len);
-	}
-}
-
-static FILE *create(const char *out, const char *suffix)
-{
-	char name[4096];
-	FILE *file;
-
-	snprintf(name, sizeof(name), "%s%s", out, suffix);
-	file = fopen(name, "wb");
-	if (!file)
-		die(5, name);
-	setvbuf(file, NULL, _IOFBF, 65536);
-	return file;
-}
-
-static void write_sent(const char *out)
-{
-	FILE *file = create(out, ".0.pcap");
-
-	fwrite(capture, 1, FILE_HEADER, file);
-	for (uint32_t i = 0; i < holder.sent; i++)
-		fwrite(capture + packets[sent[i]].place, 1, packets[sent[i]].len, file);
-	if (fclose(file))
-		die(5, "the capture");
-}
-
-static char *put_number(char *at, uint64_t n)
-{
-	char digits[20];
-	int first = sizeof(digits);
-
-	do
-		digits[--first] = '0' + n % 10;
-	while (n /= 10);
-	memcpy(at, digits + first, sizeof(digits) - first);
-	return at + sizeof(digits) - first;
-}
-
-static void write_fates(const char *out)
-{
-	static char text[65536 + 64];
-	char *at = text;
-	FILE *file = create(out, ".fates");
-
-	for (uint32_t n = 0; n < count; n++) {
-		uint64_t fate = atomic_load_explicit(&fates[n], memory_order_relaxed);
-
-		at = put_number(at, n);
-		at = stpcpy(at, (fate & 255) == SENT ? " sent 0 " : " full ");
-		at = put_number(at, fate >> 8);
-		*at++ = '\n';
-		if (at >= text + 65536) {
-			fwrite(text, 1, at - text, file);
-			at = text;
-		}
-	}
-	fwrite(text, 1, at - text, file);
-	if (fclose(file))
-		die(5, "the fates");
+	return put_number(stpcpy(at, (fate & 255) == SENT ? " sent 0 " : " full "), fate >> 8);
 }
 
 static void send(uint32_t len)
@@ -502,8 +303,8 @@ int main(int words, char **word)
 	read_capture(word[5]);
 	read_packets();
 	send(atoi(word[2]));
-	write_sent(word[6]);
-	write_fates(word[6]);
+	write_packets(word[6], ".0.pcap", sent, holder.sent);
+	write_fates(word[6], put_fate);
 	full = count - holder.sent;
 	printf("unit 0 sent %u\nstation 0 full %u shrunk 0 purged 0 refused 0\n", holder.sent, full);
 	printf("total %u sent %u full %u shrunk 0 purged 0 refused 0\n", count, holder.sent, full);
