@@ -35,6 +35,7 @@ impl Places {
     }
 
     /// How many places there are.
+    #[inline(always)]
     pub fn len(&self) -> usize
         ensures { result ≡ length self.now }
     {
@@ -42,6 +43,7 @@ impl Places {
     }
 
     /// Place `i`.
+    #[inline(always)]
     pub fn at(&self, i: usize) -> usize
         requires { i < length self.now }
         ensures { result ≡ slice_index self.now i }
@@ -55,6 +57,7 @@ impl Places {
     }
 
     /// One place more, at the end.
+    #[inline(always)]
     pub fn push(&mut self, place: usize) -> Result<(), AllocError>
         ensures ok { OnOk result (self.new ≡ self.old ++ place ∷ []) }
         ensures err { OnErr result (self.new ≡ self.old) }
