@@ -13,7 +13,7 @@ use crate::laws::{
 };
 use crate::read::read_fates;
 use crate::ready::make_ready;
-use crate::setup::{Stations, lanes_for, may_be_sent, room_for, split_lanes};
+use crate::setup::{Stations, lanes_for, may_be_sent, room_apart, room_for, split_lanes};
 use crate::undo::{hand_back, take_apart};
 use crate::whole::run;
 use lq_device::TxDevice;
@@ -110,8 +110,8 @@ pub fn send_all<R: Threads + Wait + Sync, D: TxDevice, G: Gate>(
     let others = lanes_for(alloc, plan)?;
     let closed = room_for(alloc, count)?;
     *ended = room_for(alloc, count)?;
-    let tables = room_for(alloc, count)?;
-    let cpus = room_for(alloc, count)?;
+    let tables = room_apart(alloc, count)?;
+    let cpus = room_apart(alloc, count)?;
     let homes = room_for(alloc, count)?;
     let mut spares = room_for(alloc, plan.units() as usize - count)?;
     let stations = make_ready(alloc, plan, infos, bench, tables, cpus, &mut spares)?;

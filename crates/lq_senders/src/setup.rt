@@ -29,6 +29,18 @@ pub fn room_for<T>(alloc: Global, count: usize) -> Result<Vec<T>, NoMemory>
     }
 }
 
+/// How many items more a list has room for that stands apart: at least a line of the processor's cache, with the items of a lane, of
+/// seats and of tables.
+const APART: usize = 2;
+
+/// The same with room behind the list that stays empty, so that no other sender's list shares a line of the processor's cache with its last item.
+pub fn room_apart<T>(alloc: Global, count: usize) -> Result<Vec<T>, NoMemory>
+    ensures empty { IfOk result (λ list. list.items ≡ []) }
+    ensures room { IfOk result (λ list. count ≤ vec_capacity list) }
+{
+    room_for(alloc, count.saturating_add(APART))
+}
+
 /// The packets of a capture under a plan may be sent.
 pub fn may_be_sent(plan: &Plan, infos: &[Info])
     requires { IsRunBy plan.now infos.now }
@@ -74,9 +86,9 @@ pub fn lanes_for<D: TxDevice>(alloc: Global, plan: &Plan) -> Result<Vec<Lane<D>>
     ensures { IfOk result (λ lanes. AreEmptyLanes plan.now lanes.items) }
 {
     let senders = plan.senders();
-    let mut lanes = room_for(alloc, senders as usize - 1)?;
+    let mut lanes = room_apart(alloc, senders as usize - 1)?;
     for owner in 1..senders {
-        let cpus = room_for(alloc, plan.stations() as usize)?;
+        let cpus = room_apart(alloc, plan.stations() as usize)?;
         lanes.push_reserved(Lane {
             owner,
             cpus,
