@@ -73,7 +73,7 @@ fn takes_help_and_version_as_names(rt: HostRuntime) -> Result<(), Fail> {
 }
 
 /// Plans, and the line that refuses each.
-const PLANS: [(&[u8], &str); 12] = [
+const PLANS: [(&[u8], &str); 16] = [
     (b"len = = 3", "plan refused: 1 NotToml\n"),
     (b"[[station]]\nlenght = 5\n", "plan refused: 2 UnknownKey\n"),
     // a key of the document, but under the head of a station
@@ -88,6 +88,24 @@ const PLANS: [(&[u8], &str); 12] = [
     (b"[[station]]\nlen = 4097\n", "plan refused: 5 Range\n"),
     (
         b"version = 2\nsenders = 65\n[[station]]\n",
+        "plan refused: 5 Range\n",
+    ),
+    (
+        b"version = 2\n[[station]]\nmq = 2\n",
+        "plan refused: 2 UnknownKey\n",
+    ),
+    // nine children over all stations
+    (
+        b"version = 3\n[[station]]\nmq = 8\n[[station]]\n",
+        "plan refused: 5 Range\n",
+    ),
+    (
+        b"version = 3\n[[station]]\nmq = 2\nqueues = 2\n",
+        "plan refused: 5 Range\n",
+    ),
+    // the device of a child is exchanged
+    (
+        b"version = 3\n[[station]]\nmq = 2\n[[event]]\nbefore = 0\nkind = \"swap\"\nstation = 0\n",
         "plan refused: 5 Range\n",
     ),
     (
@@ -117,6 +135,10 @@ fn refuses_plans_with_the_least_reason(rt: HostRuntime) -> Result<(), Fail> {
 const SWAPPED: &[u8] =
     b"[[station]]\n[[station]]\n[[station]]\n[[station]]\n[[station]]\n[[station]]\n[[station]]\n[[station]]\n[[event]]\nbefore = 0\nkind = \"swap\"\nstation = 0\n";
 
+/// Two children and a station whose device is exchanged.
+const GROUPED: &[u8] =
+    b"version = 3\n[[station]]\nmq = 2\n[[station]]\n[[event]]\nbefore = 0\nkind = \"swap\"\nstation = 1\n";
+
 /// Plans that need more units than the bench has. The capture isn't opened: it isn't there.
 #[test]
 fn refuses_plans_that_need_more_units(rt: HostRuntime) -> Result<(), Fail> {
@@ -129,6 +151,7 @@ fn refuses_plans_that_need_more_units(rt: HostRuntime) -> Result<(), Fail> {
             "bench refused: needs 8 units, has 7\n",
         ),
         (SWAPPED, 8, 3, "bench refused: needs 9 units, has 8\n"),
+        (GROUPED, 3, 3, "bench refused: needs 4 units, has 3\n"),
         (PLAN, 0, 3, "bench refused: needs 1 units, has 0\n"),
     ];
     for (plan, devices, code, line) in rows {

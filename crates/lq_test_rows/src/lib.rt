@@ -9,6 +9,8 @@ mod gate;
 #[cfg(test)]
 mod generated;
 #[cfg(test)]
+mod groups;
+#[cfg(test)]
 mod meeting;
 #[cfg(test)]
 mod overlap;

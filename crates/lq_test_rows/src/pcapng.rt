@@ -41,6 +41,25 @@ pub fn joined(alloc: Global, blocks: &[&[u8]]) -> Result<Vec<u8>, AllocError> {
     Ok(bytes)
 }
 
+/// The section with one interface of Ethernet, and a block for each of these of some frames, whose types of service and source and
+/// destination bytes are given.
+pub fn section_of(
+    alloc: Global,
+    frames: &[(u8, u8, u8)],
+    packets: &[usize],
+) -> Result<Vec<u8>, Fail> {
+    let mut bytes = joined(alloc, &[&SECTION, &ETHERNET])?;
+    for n in packets {
+        let (tos, source, destination) = *frames.get(*n).ok_or("no frame")?;
+        let mut block = FRAME;
+        block[43] = tos;
+        block[57] = source;
+        block[61] = destination;
+        bytes.extend_from_slice(&block)?;
+    }
+    Ok(bytes)
+}
+
 #[test]
 fn writes_one_packet_again(rt: HostRuntime) -> Result<(), Fail> {
     let alloc = rt.alloc();

@@ -1,5 +1,5 @@
 -- The files and the lines of multi-queue roots, group by group.
-use Rattle.std.proofs.Common.{◌≡◌, ◌<◌, ◌++◌, ◌∷◌, [], ℕ, suc, Bool, true, false, List, map, refl, sym, ap, ◌∙◌, subst, append_assoc, arith}
+use Rattle.std.proofs.Common.{◌≡◌, ◌<◌, ◌++◌, ◌∷◌, [], ℕ, zero, suc, Bool, true, false, List, map, refl, sym, ap, ◌∙◌, subst, append_assoc, arith}
 use Rattle.std.specs.Prelude.{filter, nat_lt}
 use Rattle.std.specs.List.{flat_map}
 use Rattle.std.proofs.lemmas.Bool.{le-ltb, lt-ltb}
@@ -36,6 +36,11 @@ module _ (plan : Plan) where
 
   same-roots : (n : ℕ) → mq_at plan.groups n < 2 → roots_below plan (suc n) ≡ roots_below plan n
   same-roots n few = roots-more n ∙ (ap (λ ns. roots_below plan n ++ ns) (no-root n few) ∙ append-nil (roots_below plan n))
+
+  -- where no group is a root, there are none
+  pub no-roots : ((j : ℕ) → mq_at plan.groups j < 2) → (n : ℕ) → roots_below plan n ≡ []
+  no-roots few zero = refl
+  no-roots few (suc n) = same-roots n (few n) ∙ no-roots few n
 
 -- FILES
 

@@ -38,10 +38,10 @@ first-at zero n lt = absurd (omega arith)
 first-at (suc count) n lt = elim (cases_lt n count) [
   | inl below ↦ at-front (first_numbers count) (count ∷ []) n (subst (λ k. n < k) (sym (length-first_numbers count)) below) ∙ first-at count n below
   | inr above ↦ (
-    let same : n ≡ count = omega arith in
-    subst (λ k. slice_get (first_numbers count ++ count ∷ []) k ≡ Some k) (sym same)
-    (subst (λ k. slice_get (first_numbers count ++ count ∷ []) k ≡ Some count) (length-first_numbers count) (at-end (first_numbers count) count))
-    )
+      let same : n ≡ count = omega arith in
+      subst (λ k. slice_get (first_numbers count ++ count ∷ []) k ≡ Some k) (sym same)
+      (subst (λ k. slice_get (first_numbers count ++ count ∷ []) k ≡ Some count) (length-first_numbers count) (at-end (first_numbers count) count))
+      )
 ]
 
 -- WHAT ITS CHILDREN SENT
@@ -154,6 +154,7 @@ none-between low (fate ∷ fates) =
   where
     numbers : (unit : ℕ) → one-if (leb low unit && ltb unit (low + 0)) ≡ 0
     numbers unit = let same : low + 0 ≡ low = omega arith in grind (arith, nat_tests)
+
     none : (fate : Fate) → one-if (is_sent_between low (low + 0) fate) ≡ 0
     none (Sent unit serial) = numbers unit
     none (Full seen) = refl

@@ -109,7 +109,10 @@ module _ (run : Run) (infos : List Info) (fates given : List Fate) (old new : Ho
   -- and one that is done
   pub run_done : (ended : List EndedState) → AreEnded run.plan infos fates ended → new ≡ written (texts_of run given) old → HasRun run old new before after ended
   run_done ended ends done = (
-    fates, known_fates, subst (λ (is : List Info). AreEnded run.plan is fates ended) known ends, done ∙ ap (λ (fs : List Fate). written (texts_of run fs) old) same,
+    fates,
+    known_fates,
+    subst (λ (is : List Info). AreEnded run.plan is fates ended) known ends,
+    done ∙ ap (λ (fs : List Fate). written (texts_of run fs) old) same,
   )
 
 -- what a run answers and leaves, by whether it was stopped

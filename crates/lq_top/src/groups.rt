@@ -52,12 +52,7 @@ fn sent_by_children(
 
 /// The packets that the children of group `j` sent, by serial, and at one serial by child. Beside the list that it makes it needs
 /// the children's own, of one number for each packet.
-fn sent_by_group(
-    alloc: Global,
-    plan: &Plan,
-    fates: &[Fate],
-    j: u32,
-) -> Result<Vec<u32>, NoMemory>
+fn sent_by_group(alloc: Global, plan: &Plan, fates: &[Fate], j: u32) -> Result<Vec<u32>, NoMemory>
     requires group { j < length plan.now.groups }
     requires serials { (unit : ℕ) → AreSerials fates.now unit }
     ensures { IfOk result (λ all. all.items ≡ sent_by_group plan.now fates.now j) }
@@ -157,8 +152,9 @@ pub fn push_mq_lines(
     ensures { OnOk result (text.new.items ≡ text.old.items ++ mq_lines plan.now fates.now) }
 {
     for j in 0..plan.groups() {
-        if plan.mq(j) > 1 {
-            let line = mq_text(alloc, j, plan.mq(j), count_sent(plan, fates, j) as u32)?;
+        let queues = plan.mq(j);
+        if queues > 1 {
+            let line = mq_text(alloc, j, queues, count_sent(plan, fates, j) as u32)?;
             push_bytes(text, &line)?;
         }
     }

@@ -1,19 +1,21 @@
 //! What the headline's words come to, each the contract of a function that does nothing.
-ghost use Rattle.std.specs.Prelude.{◌≡◌, ◌<◌, ℕ, List, ◌∷◌, ◌++◌, length, slice_get, Ok, Some};
+ghost use Rattle.std.specs.Prelude.{◌≡◌, ◌<◌, ℕ, List, [], ◌∷◌, ◌++◌, length, slice_get, Ok, Some};
 ghost use Rattle.lq_host.specs.Host.{Files};
 ghost use Rattle.lq_model.specs.Account.{Event, Take};
 ghost use Rattle.lq_model.specs.Capture.{Capture, capture_of};
 ghost use Rattle.lq_model.specs.Device.{DeviceState};
 ghost use Rattle.lq_model.specs.Generated.{generated_capture};
 ghost use Rattle.lq_model.specs.Legal.{MayTake};
-ghost use Rattle.lq_model.specs.Plan.{infos_of, station_in};
+ghost use Rattle.lq_model.specs.Plan.{Plan, infos_of, mq_at, station_in};
 ghost use Rattle.lq_model.specs.declared.fate.Fate.{Fate};
 ghost use Rattle.lq_model.specs.declared.fate.Fate.TheVariants.{Full};
 ghost use Rattle.lq_pcapng.specs.File.{packets_of_file};
+ghost use Rattle.lq_pcapng.specs.declared.file.CaptureFile.{CaptureFile};
 ghost use Rattle.lq_pcapng.specs.declared.file.CaptureFile.TheVariants.{Classic};
 ghost use Rattle.lq_plan.specs.Generated.{generated_plan};
 ghost use Rattle.lq_top.specs.Command.{GenWords, OfGen, command_of_words};
 ghost use Rattle.lq_top.specs.Decision.{Generates, verdict_of};
+ghost use Rattle.lq_top.specs.Groups.{group_files, mq_lines};
 ghost use Rattle.lq_top.specs.Headline.{AreFatesIn, Run, run_of};
 ghost use Rattle.lq_top.specs.Laws.{SawItsSlot, account_after};
 
@@ -45,4 +47,12 @@ pub fn generated_captures_are_run()
     ensures { (words : List (List ℕ)) (gen : GenWords) (files : Files) (have : ℕ) → command_of_words words ≡ Some (OfGen gen) → 0 < have
         → (capture : Capture) × (capture_of (generated_capture gen.number gen.count) ≡ Ok capture)
         × (verdict_of words files have ≡ Generates (generated_capture gen.number gen.count) (run_of gen.out generated_plan (Classic capture))) }
+{}
+
+/// A plan whose groups have one child each writes no file and no line of a multi-queue root: its files are those of its units and of the
+/// fates, and its output is the counts.
+pub fn single_stations_are_no_roots()
+    ensures files { (out : List ℕ) (capture : CaptureFile) (plan : Plan) (fates : List Fate)
+        → ((j : ℕ) → mq_at plan.groups j < 2) → group_files out capture plan fates ≡ [] }
+    ensures lines { (plan : Plan) (fates : List Fate) → ((j : ℕ) → mq_at plan.groups j < 2) → mq_lines plan fates ≡ [] }
 {}

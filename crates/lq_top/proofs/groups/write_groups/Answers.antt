@@ -18,17 +18,17 @@ loop-j-preserved g c =
     let old = g.H.Host.state c.args.host.now in let mid = g.H.Host.state c.loop-j.host in
     elim c.if-mq-gt1.branch [
       | then-mq-gt1+in_ok-write_group w ↦ record {
-          whole = ap g.H.Host.state w.host-is
-              ∙ (root_whole out capture plan fates j old mid (g.H.Host.state w.write_group.new.host) (subst (λ n. 1 < n) c.mq.ensures.mq w.if-mq-gt1.true) c.loop-j.invariant.whole w.in_ok-write_group.ensures.ok
-              ∙ ap (λ n. files_written old (files_below out capture plan fates n)) (sym (add-one j)));
-          handles = ap (λ h. (g.H.Host.state h).handles) w.host-is ∙ (w.write_group.ensures.handles ∙ c.loop-j.invariant.handles);
-          calm = ap g.H.Host.fault_count w.host-is ∙ (w.in_ok-write_group.ensures.cause.calm ∙ c.loop-j.invariant.calm);
-        }
+        whole = ap g.H.Host.state w.host-is
+            ∙ (root_whole out capture plan fates j old mid (g.H.Host.state w.write_group.new.host) (subst (λ n. 1 < n) c.mq.ensures.mq w.if-mq-gt1.true) c.loop-j.invariant.whole w.in_ok-write_group.ensures.ok
+            ∙ ap (λ n. files_written old (files_below out capture plan fates n)) (sym (add-one j)));
+        handles = ap (λ h. (g.H.Host.state h).handles) w.host-is ∙ (w.write_group.ensures.handles ∙ c.loop-j.invariant.handles);
+        calm = ap g.H.Host.fault_count w.host-is ∙ (w.in_ok-write_group.ensures.cause.calm ∙ c.loop-j.invariant.calm);
+      }
       | else-mq-gt1 w ↦ record {
-          whole = ap g.H.Host.state w.host-is
-              ∙ (no_root_whole out capture plan fates j old mid (let few = w.if-mq-gt1.false in let is = c.mq.ensures.mq in omega arith) c.loop-j.invariant.whole
-              ∙ ap (λ n. files_written old (files_below out capture plan fates n)) (sym (add-one j)));
-          handles = ap (λ h. (g.H.Host.state h).handles) w.host-is ∙ c.loop-j.invariant.handles;
-          calm = ap g.H.Host.fault_count w.host-is ∙ c.loop-j.invariant.calm;
-        }
+        whole = ap g.H.Host.state w.host-is
+            ∙ (no_root_whole out capture plan fates j old mid (let few = w.if-mq-gt1.false in let is = c.mq.ensures.mq in omega arith) c.loop-j.invariant.whole
+            ∙ ap (λ n. files_written old (files_below out capture plan fates n)) (sym (add-one j)));
+        handles = ap (λ h. (g.H.Host.state h).handles) w.host-is ∙ c.loop-j.invariant.handles;
+        calm = ap g.H.Host.fault_count w.host-is ∙ c.loop-j.invariant.calm;
+      }
     ]
