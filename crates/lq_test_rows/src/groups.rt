@@ -75,44 +75,50 @@ const ROWS: [Row; 3] = [
     },
 ];
 
-/// Runs a row over its capture in one of the formats, in which `packets_of` gives a capture with these of its packets.
-fn check_row<F: Fn(Global, &[usize]) -> Result<Vec<u8>, Fail>>(
-    rt: &HostRuntime,
-    row: Row,
-    packets_of: F,
-) -> Result<(), Fail> {
-    let alloc = rt.alloc();
-    let all = (0..row.frames.len()).collect::<Vec<usize>>(alloc)?;
-    let mut host = host_of(alloc, row.plan.as_bytes(), &packets_of(alloc, &all)?)?;
-    let status = call_on(rt, alloc, &RUN, &mut host, row.devices, &Free)?;
-    assert_eq!(rt; status, Status::Done, "{:?}", row.plan);
-    assert_eq!(rt;
-        host.file("o.fates").ok_or("no fates")?,
-        row.fates.as_bytes()
-    );
-    for (name, packets) in row.captures {
-        let sent = packets_of(alloc, packets)?;
-        assert_eq!(rt;
-            host.file(name).ok_or("no capture")?,
-            sent.as_slice(),
-            "{name}"
-        );
+#[derive(Clone, Copy, Debug)]
+enum Format {
+    Classic,
+    Pcapng,
+}
+
+/// A capture with these of some frames.
+fn packets_of(
+    alloc: Global,
+    format: Format,
+    frames: &[(u8, u8, u8)],
+    packets: &[usize],
+) -> Result<Vec<u8>, Fail> {
+    match format {
+        Format::Classic => records_of(alloc, &capture_of(alloc, frames)?, packets),
+        Format::Pcapng => section_of(alloc, frames, packets),
     }
-    assert!(rt; host.file(row.none).is_none());
-    assert_eq!(rt; host.output(), row.output.as_bytes());
-    Ok(())
 }
 
 #[test]
 fn joins_what_the_children_sent(rt: HostRuntime) -> Result<(), Fail> {
+    let alloc = rt.alloc();
     for row in ROWS {
-        let capture = capture_of(rt.alloc(), row.frames)?;
-        check_row(&rt, row, |alloc, packets| {
-            records_of(alloc, &capture, packets)
-        })?;
-        check_row(&rt, row, |alloc, packets| {
-            section_of(alloc, row.frames, packets)
-        })?;
+        for format in [Format::Classic, Format::Pcapng] {
+            let all = (0..row.frames.len()).collect::<Vec<usize>>(alloc)?;
+            let capture = packets_of(alloc, format, row.frames, &all)?;
+            let mut host = host_of(alloc, row.plan.as_bytes(), &capture)?;
+            let status = call_on(&rt, alloc, &RUN, &mut host, row.devices, &Free)?;
+            assert_eq!(rt; status, Status::Done, "{format:?}: {:?}", row.plan);
+            assert_eq!(rt;
+                host.file("o.fates").ok_or("no fates")?,
+                row.fates.as_bytes()
+            );
+            for (name, packets) in row.captures {
+                let sent = packets_of(alloc, format, row.frames, packets)?;
+                assert_eq!(rt;
+                    host.file(name).ok_or("no capture")?,
+                    sent.as_slice(),
+                    "{format:?}: {name}"
+                );
+            }
+            assert!(rt; host.file(row.none).is_none());
+            assert_eq!(rt; host.output(), row.output.as_bytes());
+        }
     }
     Ok(())
 }
