@@ -3,8 +3,9 @@
 
 use std::marker::Sync;
 
-/// Called by a sender before each of its packets, and once after its last; in the run of a tap, by the reader before each
-/// batch too. It carries no content: a test holds a thread by it, or learns that the thread's earlier calls have returned.
+/// Called by a sender before each of its packets, and in a run over stations once after its last; in the run of a tap, by the
+/// reader before each batch. It carries no content: a test holds a thread by it, or learns that the thread's earlier calls have
+/// returned.
 pub trait Gate: Sync {
     /// `k` counts the packets of this sender, from 0 on. The reader of a tap is the sender behind the last, and counts its
     /// batches that weren't empty.
