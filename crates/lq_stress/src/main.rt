@@ -1,11 +1,13 @@
 //! Many runs of eight senders over stations that stop, are busy, hang, are shortened, deactivated and activated, and whose devices
-//! are exchanged, each of which is checked. `lq_stress ROUNDS PACKETS` makes so many rounds of each plan, of so many packets; with
-//! no words a few short ones.
+//! are exchanged, and over taps; each of them is checked. `lq_stress ROUNDS PACKETS` makes so many rounds of each plan and each tap, of
+//! so many packets, and `lq_stress ROUNDS PACKETS taps` of the taps alone; with no words a few short ones.
 #![tactic(auto)]
 
 mod plans;
+mod taps;
 
 use crate::plans::PLANS;
+use crate::taps::{TapSum, tap_round};
 use lq_pcap::gen_capture;
 use lq_test_fixture::{RUN, call_on, check_run, host_of};
 use lq_top::{Free, Status};
@@ -21,13 +23,15 @@ use std::{env, io};
 const FEW: Size = Size {
     rounds: 1,
     packets: 400,
+    taps_alone: false,
 };
 
-/// How many rounds, and how many packets in each run.
+/// How many rounds, how many packets in each run, and whether there are taps alone.
 #[derive(Clone, Copy)]
 struct Size {
     rounds: u32,
     packets: u32,
+    taps_alone: bool,
 }
 
 /// The size that the words name.
@@ -35,7 +39,12 @@ fn size_of(rt: &HostRuntime) -> Option<Size> {
     let mut words = env::args(rt).ok()?;
     let rounds = words.nth(1)?.parse::<u32>().ok()?;
     let packets = words.next()?.parse::<u32>().ok()?.min(1_000_000);
-    Some(Size { rounds, packets })
+    let taps_alone = words.next().is_some();
+    Some(Size {
+        rounds,
+        packets,
+        taps_alone,
+    })
 }
 
 /// One run, which is checked: how many packets were sent.
@@ -68,7 +77,7 @@ fn round<R: Runtime + AllocGlobal + Wait + Threads + Sync>(
     Ok(sent)
 }
 
-/// All rounds. It answers how many packets were sent.
+/// All rounds of the plans. It answers how many packets were sent.
 fn rounds<R: Runtime + AllocGlobal + Wait + Threads + Sync>(
     rt: &R,
     size: Size,
@@ -80,7 +89,19 @@ fn rounds<R: Runtime + AllocGlobal + Wait + Threads + Sync>(
     Ok(sent)
 }
 
-/// Prints what was done, where a size was named.
+/// All rounds of the taps.
+fn tap_rounds<R: Runtime + AllocGlobal + Wait + Threads + Sync>(
+    rt: &R,
+    size: Size,
+) -> Result<TapSum, Fail> {
+    let mut sum = TapSum::none();
+    for number in 0..size.rounds {
+        sum = tap_round(rt, number, size.packets, sum)?;
+    }
+    Ok(sum)
+}
+
+/// Prints how many runs were made.
 fn show<R: Runtime>(rt: &R, size: Size, sent: u64) -> io::Result<()> {
     let mut out = io::writer(rt);
     let runs = (size.rounds as u64).saturating_mul(PLANS.len() as u64);
@@ -91,11 +112,34 @@ fn show<R: Runtime>(rt: &R, size: Size, sent: u64) -> io::Result<()> {
     )
 }
 
+/// Prints how many taps there were.
+fn show_taps<R: Runtime>(rt: &R, size: Size, sum: TapSum) -> io::Result<()> {
+    let mut out = io::writer(rt);
+    let TapSum {
+        taps,
+        read,
+        full,
+        lost,
+    } = sum;
+    writeln!(
+        out,
+        "{taps} taps of {} packets, read {read} full {full} lost {lost}: each checked",
+        size.packets
+    )
+}
+
 fn main(rt: HostRuntime) -> Result<(), Fail> {
     let told = size_of(&rt);
-    let sent = rounds(&rt, told.unwrap_or(FEW))?;
-    if let Some(size) = told {
-        show(&rt, size, sent)?;
+    let size = told.unwrap_or(FEW);
+    if !size.taps_alone {
+        let sent = rounds(&rt, size)?;
+        if told.is_some() {
+            show(&rt, size, sent)?;
+        }
+    }
+    let sum = tap_rounds(&rt, size)?;
+    if told.is_some() {
+        show_taps(&rt, size, sum)?;
     }
     Ok(())
 }
