@@ -6,6 +6,8 @@ mod checks;
 mod fates;
 mod flaw;
 mod planned;
+#[cfg(test)]
+mod tap_tests;
 mod taps;
 #[cfg(test)]
 mod tests;

@@ -14,6 +14,11 @@ const BATCHED: usize = 32;
 
 const BATCH: usize = 16;
 
+/// What is wrong with the lines.
+pub type Wrong = &'static str;
+
+const NO_MEMORY: Wrong = "no memory";
+
 /// A fate, as its line tells it.
 #[derive(Clone, Copy, Debug, PartialEq, Eq)]
 enum Told {
@@ -58,12 +63,12 @@ fn told_by(line: &str, n: usize) -> Option<Told> {
 }
 
 /// The fates that a text tells, one a line, the packets in their order.
-fn fates_told(alloc: Global, text: &[u8]) -> Result<Vec<Told>, Fail> {
+fn fates_told(alloc: Global, text: &[u8]) -> Result<Vec<Told>, Wrong> {
     let text = std::str::from_utf8(text).ok().ok_or("no text")?;
     let mut fates = Vec::new(alloc);
     for line in text.lines() {
         let fate = told_by(line, fates.len()).ok_or("a line that tells no fate")?;
-        fates.push(fate)?;
+        fates.push(fate).ok().ok_or(NO_MEMORY)?;
     }
     Ok(fates)
 }
@@ -85,13 +90,13 @@ fn count_of(fates: &[Told]) -> TapCounts {
 }
 
 /// The packets that were read, in order of place: each place below their number stands once.
-fn read_in_order(alloc: Global, fates: &[Told], count: usize) -> Result<Vec<usize>, Fail> {
-    let mut packets = vec![in alloc; usize::MAX; count]?;
+fn read_in_order(alloc: Global, fates: &[Told], count: usize) -> Result<Vec<usize>, Wrong> {
+    let mut packets = vec![in alloc; usize::MAX; count].ok().ok_or(NO_MEMORY)?;
     for (n, fate) in fates.iter().enumerate() {
         if let Told::Read { place } = fate {
             let at = packets.get_mut(*place).ok_or("a place too high")?;
             if *at != usize::MAX {
-                return Err("a place twice".into());
+                return Err("a place twice");
             }
             *at = n;
         }
@@ -130,20 +135,40 @@ fn may_have(fates: &[Told], n: usize, fate: &Told, len: usize, came_in: usize) -
     }
 }
 
-fn check_fates(fates: &[Told], counts: TapCounts, len: usize) -> Result<(), Fail> {
+fn check_fates(fates: &[Told], counts: TapCounts, len: usize) -> Result<(), Wrong> {
     let came_in = counts.read.saturating_add(counts.lost);
     for (n, fate) in fates.iter().enumerate() {
         if !may_have(fates, n, fate, len, came_in) {
-            return Err("a packet full or lost without a cause".into());
+            return Err("a packet full or lost without a cause");
         }
     }
     if counts.lost > counts.read {
-        return Err("more lost than read".into());
+        return Err("more lost than read");
     }
     if fates.len() <= len && counts.read != fates.len() {
-        return Err("not all read, where all have room".into());
+        return Err("not all read, where all have room");
     }
     Ok(())
+}
+
+/// What a text of so many packets' fates tells, which is checked: the counts, and the packets that were read, in order.
+pub fn check_lines(
+    alloc: Global,
+    text: &[u8],
+    count: u32,
+    shape: TapShape,
+) -> Result<(TapCounts, Vec<usize>), Wrong> {
+    let fates = fates_told(alloc, text)?;
+    if fates.len() != count as usize {
+        return Err("another number of fates");
+    }
+    let counts = count_of(&fates);
+    check_fates(&fates, counts, shape.len)?;
+    let read = read_in_order(alloc, &fates, counts.read)?;
+    if !are_in_order(&read, shape.senders) {
+        return Err("a sender's packets out of order");
+    }
+    Ok((counts, read))
 }
 
 /// Checks the files `t.fates` and `t.pcap` of a tap of `count` packets, and its counts, which it answers.
@@ -154,16 +179,8 @@ pub fn check_tap(
     count: u32,
     shape: TapShape,
 ) -> Result<TapCounts, Fail> {
-    let fates = fates_told(alloc, host.file("t.fates").ok_or("no fates")?)?;
-    if fates.len() != count as usize {
-        return Err("another number of fates".into());
-    }
-    let counts = count_of(&fates);
-    check_fates(&fates, counts, shape.len)?;
-    let read = read_in_order(alloc, &fates, counts.read)?;
-    if !are_in_order(&read, shape.senders) {
-        return Err("a sender's packets out of order".into());
-    }
+    let text = host.file("t.fates").ok_or("no fates")?;
+    let (counts, read) = check_lines(alloc, text, count, shape)?;
     let records = records_of(alloc, capture, &read)?;
     if host.file("t.pcap").ok_or("no capture")? != records.as_slice() {
         return Err("a capture that isn't the packets read".into());
