@@ -9,3 +9,4 @@ pub mod Alone
 pub mod Rounds
 pub mod EndingLemmas
 pub mod StepLemmas
+pub mod EndStepLemmas

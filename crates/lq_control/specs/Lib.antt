@@ -10,3 +10,5 @@ pub mod Alone
 pub mod Ending
 -- the steps of its calls
 pub mod Steps
+-- the steps of the end of a station
+pub mod EndSteps

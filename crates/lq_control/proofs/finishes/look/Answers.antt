@@ -1,9 +1,11 @@
-use Rattle.std.proofs.Common.{◌≡◌, ◌<◌, false, sym, ap, ◌∙◌, subst, slice_index}
+use Rattle.std.proofs.Common.{◌≡◌, ◌<◌, false, inl, inr, refl, sym, ap, ◌∙◌, subst, slice_index}
 use Rattle.std.specs.Prelude.{not, bit_and}
 use Rattle.std.proofs.lemmas.Bool.{eq-eqb}
 use Rattle.lq_table.specs.Views.{View, Setup}
 use Rattle.lq_table.specs.AtRest.{KnowsRest}
 use Rattle.lq_table.specs.Sees.{view, setup}
+use Rattle.lq_control.specs.declared.finishes.Seen.TheVariants as seen
+use Rattle.lq_control.proofs.EndStepLemmas.{looks_on}
 use Rattle.lq_table.specs.Solo.{IsSole, SeesState, account_of}
 use Rattle.lq_table.specs.Told.{at_rest}
 use Rattle.lq_control.specs.Finish.{AreKept, AreAllStops, IsOver, Hangs}
@@ -71,8 +73,8 @@ returns-then-are_stops-clause-shows g c =
     let some : 0 < v0.share.about.queues = subst (λ (x : Setup). 0 < x.queues) (sym c.requires.seat.2) c.args.shared.now.sized.4 in
     subst (λ (x : View). Hangs x) (sym (c.are_stops.ensures.same.1 ∙ e2)) (hangs v0 state c.requires.at.1 c.requires.sole.1 rest sees (ap not (eq-eqb (bit_and state 2) 0 c.if-state-ne0.false)) some stops)
 
-pub returns-then-not-open-clause-same : goal.returns-then-not-open-clause-same
-returns-then-not-open-clause-same g c =
+pub returns-then-not-are_quiet-clause-same : goal.returns-then-not-are_quiet-clause-same
+returns-then-not-are_quiet-clause-same g c =
     let k = setup c.args.shared.now in let v0 = view c.args.cpu.now in let state = c.load_state-state.result in
     let a = c.load_lock-lock.ensures.same in let b = c.load_state-state.ensures.same in
     let v1 = view c.load_lock-lock.new.cpu in let e1 : v1 ≡ v0 = c.load_lock-lock.ensures.view in
@@ -80,8 +82,8 @@ returns-then-not-open-clause-same g c =
     let s = c.are_stops.ensures.same in let d = s.0 in let t = c.are_stops-open.ensures.same in let f = t.0 in
     (((f.0.0 ∙ (d.0.0 ∙ (b.0.0 ∙ a.0.0)), f.0.1 ∙ (d.0.1 ∙ (b.0.1 ∙ a.0.1))), f.1 ∙ (d.1 ∙ (b.1 ∙ a.1)), f.2 ∙ (d.2 ∙ (b.2 ∙ a.2)), f.3 ∙ (d.3 ∙ (b.3 ∙ a.3))), look_none v0 (view c.are_stops-open.new.cpu) (t.1 ∙ (s.1 ∙ e2)))
 
-pub returns-then-not-open-clause-kept : goal.returns-then-not-open-clause-kept
-returns-then-not-open-clause-kept g c =
+pub returns-then-not-are_quiet-clause-kept : goal.returns-then-not-are_quiet-clause-kept
+returns-then-not-are_quiet-clause-kept g c =
     let k = setup c.args.shared.now in let v0 = view c.args.cpu.now in let state = c.load_state-state.result in
     let a = c.load_lock-lock.ensures.same in let b = c.load_state-state.ensures.same in
     let v1 = view c.load_lock-lock.new.cpu in let e1 : v1 ≡ v0 = c.load_lock-lock.ensures.view in
@@ -90,10 +92,25 @@ returns-then-not-open-clause-kept g c =
     let sees : SeesState v0 state = subst (λ (x : View). SeesState x state) e1 (c.load_state-state.ensures.sole (subst IsSole (sym e1) c.requires.sole.0)) in
     subst (λ (x : View). AreKept k x) (sym (c.are_stops-open.ensures.same.1 ∙ (c.are_stops.ensures.same.1 ∙ e2))) (kept_of k v0 c.requires.seat.2 rest)
 
-pub returns-then-not-open-clause-shows : goal.returns-then-not-open-clause-shows
-returns-then-not-open-clause-shows g c =
+pub returns-then-not-are_quiet-clause-shows : goal.returns-then-not-are_quiet-clause-shows
+returns-then-not-are_quiet-clause-shows g c =
     let k = setup c.args.shared.now in let v0 = view c.args.cpu.now in let state = c.load_state-state.result in
     let v1 = view c.load_lock-lock.new.cpu in let e1 : v1 ≡ v0 = c.load_lock-lock.ensures.view in
     let e2 : view c.load_state-state.new.cpu ≡ v0 = c.load_state-state.ensures.view ∙ (control_looked state false v1 (ap (λ (x : View). x.place.position) e1 ∙ c.requires.at.0) ∙ e1) in
     let sees : SeesState v0 state = subst (λ (x : View). SeesState x state) e1 (c.load_state-state.ensures.sole (subst IsSole (sym e1) c.requires.sole.0)) in
     ap (λ (x : View). (account_of x).down) (c.are_stops-open.ensures.same.1 ∙ (c.are_stops.ensures.same.1 ∙ e2)) ∙ is_up v0 state sees (ap not (eq-eqb (bit_and state 2) 0 c.if-state-ne0.false))
+
+pub returns-then-not-are_quiet-clause-made : goal.returns-then-not-are_quiet-clause-made
+returns-then-not-are_quiet-clause-made g c =
+    looks_on (setup c.args.shared.now) c.load_lock-lock.result c.load_state-state.result seen.Going _ _ _ _ _ _ _ _ (ap not (eq-eqb (bit_and c.load_state-state.result 2) 0 c.if-state-ne0.false))
+    c.load_lock-lock.ensures.made c.load_state-state.ensures.made c.if-are_stops.false c.are_stops.ensures.made c.are_stops-open.ensures.made (inl (sym c.are_quiet.ensures.quiet ∙ c.if-not-are_quiet.true, refl, refl))
+
+pub returns-then-load_inside-ne0-clause-made : goal.returns-then-load_inside-ne0-clause-made
+returns-then-load_inside-ne0-clause-made g c =
+    looks_on (setup c.args.shared.now) c.load_lock-lock.result c.load_state-state.result seen.Going _ _ _ _ _ _ _ _ (ap not (eq-eqb (bit_and c.load_state-state.result 2) 0 c.if-state-ne0.false))
+    c.load_lock-lock.ensures.made c.load_state-state.ensures.made c.if-are_stops.false c.are_stops.ensures.made c.are_stops-open.ensures.made (inr (sym c.are_quiet.ensures.quiet ∙ c.if-not-are_quiet.false, c.load_inside.result, inr (c.if-load_inside-ne0.true, refl), c.load_inside.ensures.made))
+
+pub returns-clause-made : goal.returns-clause-made
+returns-clause-made g c =
+    looks_on (setup c.args.shared.now) c.load_lock-lock.result c.load_state-state.result seen.Ended _ _ _ _ _ _ _ _ (ap not (eq-eqb (bit_and c.load_state-state.result 2) 0 c.if-state-ne0.false))
+    c.load_lock-lock.ensures.made c.load_state-state.ensures.made c.if-are_stops.false c.are_stops.ensures.made c.are_stops-open.ensures.made (inr (sym c.are_quiet.ensures.quiet ∙ c.if-not-are_quiet.false, c.load_inside.result, inl (c.if-load_inside-ne0.false, refl), c.load_inside.ensures.made))

@@ -1,8 +1,9 @@
 use Rattle.std.proofs.Common.{◌≡◌, false}
 use Rattle.lq_model.specs.declared.machine.Position.TheVariants.{Idle}
-use Rattle.lq_table.specs.Sees.{view, setup, position, IsSeatOf, IsSameSeat}
+use Rattle.lq_table.specs.Sees.{view, setup, steps, position, IsSeatOf, IsSameSeat}
 use Rattle.lq_qdisc.specs.Calls.{KeepsFates}
 use Rattle.lq_qdisc.specs.Sends.{IsReadyToSend}
+use Rattle.lq_control.specs.EndSteps.{SendsLeftBelow}
 use Rattle.lq_control.specs.Finish.{AreTurnsFrom, AreAllDone, IsSent}
 use Rattle.lq_control.proofs.finishes.send_all_left.Given as goal
 
@@ -20,4 +21,5 @@ invariant-loop-n g l = record {
   sent : IsSent (setup l.shared) (view l.fn.cpu) (view l.cpu);
   fates : KeepsFates (view l.fn.cpu) (view l.cpu);
   done : AreAllDone (setup l.shared) (view l.fn.cpu).turns → view l.cpu ≡ view l.fn.cpu;
+  made : SendsLeftBelow (setup l.shared) l.n (steps l.fn.cpu) (steps l.cpu);
 }

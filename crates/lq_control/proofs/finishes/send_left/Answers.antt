@@ -1,4 +1,4 @@
-use Rattle.std.proofs.Common.{◌≡◌, ◌<◌, ◌≤◌, ◌+◌, ◌*◌, ℕ, List, [], refl, length, get_or, slice_index, slice_get, Option, Some, sym, ap, ◌∙◌, subst, arith}
+use Rattle.std.proofs.Common.{◌≡◌, ◌<◌, ◌≤◌, ◌+◌, ◌*◌, ℕ, List, [], inl, inr, refl, length, get_or, slice_index, slice_get, Option, Some, sym, ap, ◌∙◌, subst, arith}
 use Rattle.std.specs.Prelude.{slice_set}
 use Rattle.std.specs.Option.{option_map_or}
 use Rattle.std.proofs.lemmas.Option.{slice_get-get_or}
@@ -6,8 +6,9 @@ use Rattle.lq_model.specs.Plan.{owner_in, rank_in, station_in}
 use Rattle.lq_model.specs.declared.fate.Info.{Info}
 use Rattle.lq_table.specs.Views.{View}
 use Rattle.lq_table.specs.Rule.{times}
-use Rattle.lq_table.specs.Sees.{view, setup}
+use Rattle.lq_table.specs.Sees.{view, setup, steps}
 use Rattle.lq_control.specs.Finish.{count_below, AreTurnsFrom}
+use Rattle.lq_control.proofs.EndStepLemmas.{sends_if_left}
 use Rattle.lq_control.proofs.FinishLemmas.{keeps_then, sent_none, sent_then, sent_by, turns_elsewhere, in_turn, turns_past, turns_sent, not_left}
 use Rattle.lq_control.proofs.finishes.send_left.Goals as goal
 
@@ -147,3 +148,22 @@ returns-then-load_turn-info-clause-fates g c =
 
 pub returns-else-load_turn-info-clause-fates : goal.returns-else-load_turn-info-clause-fates
 returns-else-load_turn-info-clause-fates g c = ([], ap (λ (x : View). x.settled) c.load_turn.ensures.same.1)
+
+pub returns-then-info-number-clause-made : goal.returns-then-info-number-clause-made
+returns-then-info-number-clause-made g c =
+    let k = setup c.args.shared.now in let n = c.args.n in
+    let info : Info = get_or c.infos.result.now n (record { owner = 0; station = 0; band = 0; queue = 0; rank = 0 }) in
+    let here : slice_get k.infos n ≡ Some info = ap (λ (xs : List Info). slice_get xs n) (sym c.infos.ensures) ∙ slice_get-get_or c.infos.result.now n (record { owner = 0; station = 0; band = 0; queue = 0; rank = 0 }) (subst (λ (xs : List Info). n < length xs) (sym c.infos.ensures) c.requires.packet) in
+    inl (λ (e : station_in k.infos n ≡ k.station). c.if-info-number.true (sym (ap (λ (o : Option Info). option_map_or (λ (i : Info). i.station) o 0) here) ∙ e ∙ sym c.number.ensures), refl)
+
+pub returns-then-load_turn-info-clause-made : goal.returns-then-load_turn-info-clause-made
+returns-then-load_turn-info-clause-made g c =
+    let info : Info = get_or c.infos.result.now c.args.n (record { owner = 0; station = 0; band = 0; queue = 0; rank = 0 }) in
+    let here : slice_get (setup c.args.shared.now).infos c.args.n ≡ Some info = ap (λ (xs : List Info). slice_get xs c.args.n) (sym c.infos.ensures) ∙ slice_get-get_or c.infos.result.now c.args.n (record { owner = 0; station = 0; band = 0; queue = 0; rank = 0 }) (subst (λ (xs : List Info). c.args.n < length xs) (sym c.infos.ensures) c.requires.packet) in
+    sends_if_left (setup c.args.shared.now) c.args.n c.load_turn.result info _ _ _ here (c.if-info-number.false ∙ c.number.ensures) c.load_turn.ensures.made (inr ((let t = c.if-load_turn-info.true in let r = ap (λ (o : Option Info). option_map_or (λ (i : Info). i.rank) o 0) here in omega arith), c.transmit-sending.result, steps c.transmit-sending.new.cpu, c.transmit-sending.ensures.made, c.drain.ensures.made))
+
+pub returns-else-load_turn-info-clause-made : goal.returns-else-load_turn-info-clause-made
+returns-else-load_turn-info-clause-made g c =
+    let info : Info = get_or c.infos.result.now c.args.n (record { owner = 0; station = 0; band = 0; queue = 0; rank = 0 }) in
+    let here : slice_get (setup c.args.shared.now).infos c.args.n ≡ Some info = ap (λ (xs : List Info). slice_get xs c.args.n) (sym c.infos.ensures) ∙ slice_get-get_or c.infos.result.now c.args.n (record { owner = 0; station = 0; band = 0; queue = 0; rank = 0 }) (subst (λ (xs : List Info). c.args.n < length xs) (sym c.infos.ensures) c.requires.packet) in
+    sends_if_left (setup c.args.shared.now) c.args.n c.load_turn.result info _ _ _ here (c.if-info-number.false ∙ c.number.ensures) c.load_turn.ensures.made (inl ((let t = c.if-load_turn-info.false in let r = ap (λ (o : Option Info). option_map_or (λ (i : Info). i.rank) o 0) here in omega arith), refl))

@@ -1,15 +1,18 @@
 use Rattle.std.proofs.Common.{◌≡◌, rules, refl, None, [], sym, ap, ◌∙◌, subst}
 use Rattle.lq_model.specs.Account.{Account}
 use Rattle.lq_table.specs.Views.{View, FirstPart, SharePart, first_account}
-use Rattle.lq_table.specs.Sees.{view, setup}
+use Rattle.lq_table.specs.Sees.{view, setup, steps}
 use Rattle.lq_table.specs.Solo.{Solo, account_of, solo}
 use Rattle.lq_ring.proofs.Seats.{seat_on}
 use Rattle.lq_qdisc.specs.Alone.{account_in}
 use Rattle.lq_qdisc.proofs.AloneSteps.{account_at}
 use Rattle.lq_control.specs.Control.{IsServed}
+use Rattle.lq_control.specs.EndSteps.{LooksBy, none_yet}
 use Rattle.lq_control.specs.Ending.{IsEndedAlike}
 use Rattle.lq_control.specs.Finish.{Shows}
 use Rattle.lq_control.specs.declared.finishes.Seen.{Seen}
+use Rattle.lq_control.specs.declared.finishes.Seen.TheVariants as seen
+use Rattle.lq_control.proofs.EndStepLemmas.{serves_more, serves_to_end}
 use Rattle.lq_control.proofs.EndingLemmas.{alike_further, alike_same}
 use Rattle.lq_control.proofs.Served.{served_none, served_then}
 use Rattle.lq_control.proofs.FinishSteps.{ready_kept, served_begun, served_looked, served_returned, solo_looked}
@@ -26,6 +29,7 @@ loop-init g c = let v = view c.args.cpu.now in record {
   low = c.requires.at.2;
   served = served_none v v refl;
   alike = λ h. alike_same c.args.shared.now.infos.now (first_account (setup c.args.shared.now)) (solo v) h;
+  on = none_yet;
 }
 
 pub irq-requires-clause-seat : goal.irq-requires-clause-seat
@@ -69,6 +73,8 @@ loop-preserved g c =
       low = d.raised;
       served = served_then v0 v1 v6 i.served more;
       alike = λ h. alike_further infos start (solo v0) (solo v4) (subst (λ (s : Solo). IsEndedAlike infos start (solo v0) s) (sym same4) (i.alike h)) (ap (λ (s : Solo). s.raised) same4 ∙ i.low) (solo v5) (solo v6) active n.alone d.alone;
+      on = serves_more k (steps c.args.cpu.now) (steps c.loop.cpu) (steps c.begin_control.new.cpu) (steps c.look.new.cpu) (steps c.end_control.new.cpu) (steps c.irq.new.cpu) (steps c.drain.new.cpu)
+          i.on b.made (subst (λ (x : Seen). LooksBy k x (steps c.begin_control.new.cpu) (steps c.look.new.cpu)) c.in-Going.is l.made) e.made (v4, v5, n.wakes) d.made;
     }
 
 pub returns-in-Ended-clause-fates : goal.returns-in-Ended-clause-fates
@@ -90,3 +96,9 @@ pub returns-in-Hung-clause-alone : goal.returns-in-Hung-clause-alone
 returns-in-Hung-clause-alone g c = λ h.
     let infos = c.args.shared.now.infos.now in let start : Account = first_account (setup c.args.shared.now) in let v0 = view c.args.cpu.now in
     subst (λ (s : Solo). IsEndedAlike infos start (solo v0) s) (sym (solo_looked (view c.loop.cpu) (view c.begin_control.new.cpu) (view c.look.new.cpu) c.begin_control.ensures.view c.look.ensures.same.1)) (c.loop.invariant.alike h)
+
+pub returns-in-Ended-clause-made : goal.returns-in-Ended-clause-made
+returns-in-Ended-clause-made g c = serves_to_end (setup c.args.shared.now) c.look.result seen.Ended _ _ _ _ c.in-Ended.is c.loop.invariant.on c.begin_control.ensures.made c.look.ensures.made
+
+pub returns-in-Hung-clause-made : goal.returns-in-Hung-clause-made
+returns-in-Hung-clause-made g c = serves_to_end (setup c.args.shared.now) c.look.result seen.Hung _ _ _ _ c.in-Hung.is c.loop.invariant.on c.begin_control.ensures.made c.look.ensures.made

@@ -1,5 +1,7 @@
 use Rattle.std.proofs.Common.{rules, refl}
-use Rattle.lq_table.specs.Sees.{view}
+use Rattle.lq_table.specs.Sees.{view, steps}
+use Rattle.lq_control.specs.EndSteps.{FindsBusy, not_looked}
+use Rattle.lq_control.proofs.EndStepLemmas.{busy_then, left_after}
 use Rattle.lq_control.proofs.FinishSteps.{look_none}
 use Rattle.lq_control.proofs.finishes.wait_until_left.Goals as goal
 
@@ -10,4 +12,12 @@ loop-init g c = let v = view c.args.cpu.now in record {
   seat = c.requires.seat;
   still = ((refl, refl), refl, refl, refl);
   look = look_none v v refl;
+  busy = not_looked;
 }
+
+pub returns-then-is_left-clause-made : goal.returns-then-is_left-clause-made
+returns-then-is_left-clause-made g c = left_after _ _ _ c.loop.invariant.busy (c.is_left.ensures.left c.if-is_left.true)
+
+pub loop-preserved : goal.loop-preserved
+loop-preserved g c =
+    let more : FindsBusy (steps c.args.cpu.now) (steps c.is_left.new.cpu) = busy_then (steps c.args.cpu.now) (steps c.loop.cpu) (steps c.is_left.new.cpu) c.loop.invariant.busy (c.is_left.ensures.busy c.if-is_left.false) in search rules
