@@ -15,8 +15,8 @@ use Rattle.lq_run.specs.Runs.{ended}
 use Rattle.lq_table.specs.Views.{View, Setup, SharePart, first_account, no_packets}
 use Rattle.lq_table.specs.Solo.{Solo, IsSole, account_of, device_to, heard, locked_to, sched_cleared, solo}
 use Rattle.lq_table.specs.Told.{entering, is_set}
+use Rattle.lq_qdisc.proofs.ViewRelations.{Interrupts}
 use Rattle.lq_qdisc.specs.Alone.{HasAll, IsAlone, account_in, running, telling_of}
-use Rattle.lq_qdisc.specs.Sends.{Interrupts}
 use Rattle.lq_qdisc.proofs.AloneCalls.{entering_solo}
 use Rattle.lq_qdisc.proofs.AloneSteps.{account_at}
 use Rattle.lq_control.specs.Alone.{DoesSwap, unmarked}

@@ -6,8 +6,9 @@ use Rattle.lq_model.specs.declared.fate.Info.{Info}
 use Rattle.lq_table.specs.Views.{Setup}
 use Rattle.lq_table.specs.Told.{is_set}
 use Rattle.lq_table.specs.Made.{Made, ◌⊳◌, did_load_base, did_load_inside, did_load_lock, did_load_state, did_load_stop, did_load_turn}
-use Rattle.lq_control.specs.Steps.{DrainsBy}
-use Rattle.lq_control.specs.EndSteps.{FindsBusy, inside, scheduled, LoadsStops, LooksBy, LooksInside, SendsIfLeft, SendsLeft, SendsLeftBelow, ServesOn, ServesToEnd, WaitsUntilLeft, WakesAll, are_quiet, not_looked, one_more, stops_loaded}
+use Rattle.lq_control.specs.Steps.{DrainsBy, MadeBy}
+use Rattle.lq_qdisc.specs.Sends.{WakesBelow}
+use Rattle.lq_control.specs.EndSteps.{FindsBusy, inside, scheduled, LoadsStops, LooksBy, LooksInside, SendsIfLeft, SendsLeft, SendsLeftBelow, ServesOn, ServesToEnd, WaitsUntilLeft, are_quiet, not_looked, one_more, stops_loaded}
 use Rattle.lq_control.specs.declared.finishes.Seen.{Seen}
 use Rattle.lq_control.specs.declared.finishes.Seen.TheVariants as seen
 
@@ -28,8 +29,8 @@ pub stops_more : (k : Setup) (word queue : ℕ) (steps : List Made) → stops_lo
 stops_more k word queue steps = let up : suc queue ≡ queue + 1 = omega arith in ap (λ (n : ℕ). stops_loaded k word n steps) up
 
 pub serves_more : (k : Setup) (old a begun looked left woken next : List Made) → ServesOn k old a → (found : ℕ) × (begun ≡ a ⊳ did_load_base found) → LooksBy k seen.Going begun looked
-    → (found : ℕ) × (left ≡ looked ⊳ did_load_base found) → WakesAll k left woken → DrainsBy k woken next → ServesOn k old next
-serves_more k old a begun looked left woken next h b l e w d = one_more a looked woken next b.0 e.0 h (subst (λ (xs : List Made). LooksBy k seen.Going xs looked) b.1 l) (subst (λ (xs : List Made). WakesAll k xs woken) e.1 w) d
+    → (found : ℕ) × (left ≡ looked ⊳ did_load_base found) → MadeBy (WakesBelow k k.queues) left woken → DrainsBy k woken next → ServesOn k old next
+serves_more k old a begun looked left woken next h b l e w d = one_more a looked woken next b.0 e.0 h (subst (λ (xs : List Made). LooksBy k seen.Going xs looked) b.1 l) (subst (λ (xs : List Made). MadeBy (WakesBelow k k.queues) xs woken) e.1 w) d
 
 pub serves_to_end : (k : Setup) (answer is : Seen) (old a begun looked : List Made) → answer ≡ is → ServesOn k old a → (found : ℕ) × (begun ≡ a ⊳ did_load_base found) → LooksBy k answer begun looked → ServesToEnd k is old looked
 serves_to_end k answer is old a begun looked same h b l = (a, b.0, h, subst (λ (xs : List Made). LooksBy k is xs looked) b.1 (subst (λ (x : Seen). LooksBy k x begun looked) same l))

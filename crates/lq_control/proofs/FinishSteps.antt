@@ -1,5 +1,5 @@
 -- What a look at the words tells, and what the purge of a hung station leaves.
-use Rattle.std.proofs.Common.{◌≡◌, ◌⊎◌, inl, inr, ⊎_elim, ℕ, ◌+◌, ◌*◌, ◌<◌, ◌≤◌, Bool, true, false, true≢false, List, [], ◌++◌, length, Option, Some, None, refl, sym, ap, ◌∙◌, subst, arith, slice_index, slice_get}
+use Rattle.std.proofs.Common.{◌≡◌, inl, inr, ⊎_elim, ℕ, ◌+◌, ◌*◌, ◌<◌, ◌≤◌, Bool, true, false, true≢false, List, [], ◌++◌, length, Option, Some, None, refl, sym, ap, ◌∙◌, subst, arith, slice_index, slice_get}
 use Rattle.std.specs.Prelude.{is_some, if◌then◌else◌}
 use Rattle.std.specs.Option.{option_map_or, option_to_list}
 use Rattle.std.proofs.lemmas.Option.{slice_get_cases}
@@ -13,13 +13,13 @@ use Rattle.lq_model.specs.declared.fate.Fate.{Fate}
 use Rattle.lq_model.specs.declared.fate.Fate.TheVariants as fate
 use Rattle.lq_model.specs.declared.fate.Info.{Info}
 use Rattle.lq_model.specs.declared.machine.Phase.TheVariants.{Active, Purged}
-use Rattle.lq_model.specs.Control.{found_inside, after_purge}
+use Rattle.lq_model.specs.Control.{after_purge}
 use Rattle.lq_table.specs.Views.{View, Setup, HolderPart, FirstPart, SharePart, State, first_account}
-use Rattle.lq_table.specs.Controls.{finding, returning, beginning_control}
+use Rattle.lq_table.specs.Controls.{returning, beginning_control}
 use Rattle.lq_table.specs.Rule.{times}
 use Rattle.lq_table.specs.AtRest.{KnowsRest}
 use Rattle.lq_table.specs.Solo.{Solo, SeesState, IsSole, IsAccounts, solo, account_of, heard, locked_to, missed_to, draining_to, sched_set}
-use Rattle.lq_table.specs.Told.{is_set, got_in_control, looking, loading}
+use Rattle.lq_table.specs.Told.{is_set, got_in_control, looking}
 use Rattle.lq_table.specs.Sees.{view, IsElseSame}
 use Rattle.lq_table.specs.declared.shared.Cpu.{Cpu}
 use Rattle.lq_qdisc.specs.Alone.{account_in}

@@ -4,7 +4,7 @@ use Rattle.lq_table.specs.Views.{Setup}
 use Rattle.lq_table.specs.Told.{is_set}
 use Rattle.lq_table.specs.Made.{Made, ◌⊳◌, did_load_inside, did_load_lock, did_load_state, did_load_base, did_store_stop, did_try_lock}
 use Rattle.lq_qdisc.specs.Steps.{InterruptsBy}
-use Rattle.lq_control.specs.Steps.{Rounds, none_yet, served, locked, scheduled, FindsCalls, inside, TriesLock, held, opened_below}
+use Rattle.lq_control.specs.Steps.{MadeBy, Rounds, none_yet, served, locked, scheduled, FindsCalls, inside, TriesLock, held, opened_below}
 
 pub rounds_then : (k : Setup) (a b c : List Made) → Rounds k a b → Rounds k b c → Rounds k a c
 rounds_then k a b c h none_yet = h
@@ -12,7 +12,7 @@ rounds_then k a b c h (served steps next found r i) = served steps next found (r
 rounds_then k a b c h (locked steps found some r) = locked steps found some (rounds_then k a b steps h r)
 rounds_then k a b c h (scheduled steps state set r) = scheduled steps state set (rounds_then k a b steps h r)
 
-pub round_served : (k : Setup) (old mid new : List Made) (found : ℕ) → InterruptsBy k old mid → new ≡ mid ⊳ did_load_base found → Rounds k old new
+pub round_served : (k : Setup) (old mid new : List Made) (found : ℕ) → MadeBy (InterruptsBy k) old mid → new ≡ mid ⊳ did_load_base found → Rounds k old new
 round_served k old mid new found i e = subst (Rounds k old) (sym e) (served old mid found none_yet i)
 
 pub round_locked : (k : Setup) (old new : List Made) (found : ℕ) → found ≢ 0 → new ≡ old ⊳ did_load_lock found → Rounds k old new

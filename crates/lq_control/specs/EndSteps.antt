@@ -6,10 +6,10 @@ use Rattle.lq_run.specs.Tries.{EndsRun}
 use Rattle.lq_qdisc.specs.Sends.{WakesBelow}
 use Rattle.lq_qdisc.specs.Steps.{TransmitsBy}
 use Rattle.lq_qdisc.specs.declared.answers.Sending.{Sending}
-use Rattle.lq_table.specs.Views.{View, Setup}
+use Rattle.lq_table.specs.Views.{Setup}
 use Rattle.lq_table.specs.Told.{is_set}
 use Rattle.lq_table.specs.Made.{Made, ◌⊳◌, did_load_lock, did_load_state, did_load_base, did_load_inside, did_load_stop, did_load_turn}
-use Rattle.lq_control.specs.Steps.{DrainsBy, PurgesHeld, TakesLock}
+use Rattle.lq_control.specs.Steps.{DrainsBy, MadeBy, PurgesHeld, TakesLock}
 use Rattle.lq_control.specs.declared.finishes.Seen.{Seen}
 use Rattle.lq_control.specs.declared.finishes.Seen.TheVariants as seen
 
@@ -19,7 +19,7 @@ use Rattle.lq_control.specs.declared.finishes.Seen.TheVariants as seen
 abbrev pub SendsLeft : Setup → ℕ → ℕ → List Made → List Made → Type 0
 SendsLeft k n turn old new =
     ((2 * rank_in k.infos n < turn) × (new ≡ old))
-    ⊎ ((turn ≤ 2 * rank_in k.infos n) × (answer : Sending) × (sent : List Made) × TransmitsBy k n answer old sent × DrainsBy k sent new)
+    ⊎ ((turn ≤ 2 * rank_in k.infos n) × (answer : Sending) × (sent : List Made) × MadeBy (TransmitsBy k n answer) old sent × DrainsBy k sent new)
 
 -- a packet of another station is passed over; else the turn word of its owner is loaded
 abbrev pub SendsIfLeft : Setup → ℕ → List Made → List Made → Type 0
@@ -68,15 +68,11 @@ LooksBy k answer old new = (lock state : ℕ)
 
 -- SERVED TO THE END
 
--- the stop word of each queue is exchanged in a driver's interrupt, as seats with some views do it
-abbrev pub WakesAll : Setup → List Made → List Made → Type 0
-WakesAll k old new = (v w : View) × WakesBelow k k.queues (record { view = v; steps = old }) (record { view = w; steps = new })
-
 -- A look finds the station going on, the call of control is left, the queues are woken, and soft interrupts are done; and so on.
 pub data ServesOn (k : Setup) (old : List Made) : List Made → Type 0 where
   none_yet : ServesOn k old old
   one_more : (steps looked woken next : List Made) (begun left : ℕ) → ServesOn k old steps
-      → LooksBy k seen.Going (steps ⊳ did_load_base begun) looked → WakesAll k (looked ⊳ did_load_base left) woken → DrainsBy k woken next → ServesOn k old next
+      → LooksBy k seen.Going (steps ⊳ did_load_base begun) looked → MadeBy (WakesBelow k k.queues) (looked ⊳ did_load_base left) woken → DrainsBy k woken next → ServesOn k old next
 
 -- up to a look that finds it otherwise
 abbrev pub ServesToEnd : Setup → Seen → List Made → List Made → Type 0
@@ -97,7 +93,7 @@ WaitsUntilLeft old new = (before : List Made) × (state : ℕ) × FindsBusy old 
 -- under the run lock, with the hung unit as the cause: so many packets are purged
 abbrev pub PurgesHungBy : Setup → ℕ → ℕ → List Made → List Made → Type 0
 PurgesHungBy k unit count old new = (left locked purged : List Made) × (state : ℕ)
-    × WaitsUntilLeft old left × TakesLock left locked × PurgesHeld k (cause.Hung unit) count (locked ⊳ did_load_state state) purged × EndsRun purged new
+    × WaitsUntilLeft old left × TakesLock left locked × PurgesHeld k (cause.Hung unit) count (locked ⊳ did_load_state state) purged × MadeBy EndsRun purged new
 
 -- THE CALL
 

@@ -7,11 +7,15 @@ use Rattle.lq_model.specs.declared.fate.Cause.TheVariants as cause
 use Rattle.lq_model.specs.declared.fate.Fate.{Fate}
 use Rattle.lq_model.specs.declared.fate.Fate.TheVariants as fate
 use Rattle.lq_run.specs.Tries.{EndsRun}
-use Rattle.lq_ring.specs.Changes.{PurgesBand, Resizes}
+use Rattle.lq_ring.specs.Changes.{PurgesBand, ResizesAll}
 use Rattle.lq_qdisc.specs.Steps.{InterruptsBy}
-use Rattle.lq_table.specs.Views.{Setup}
+use Rattle.lq_table.specs.Views.{View, Setup}
 use Rattle.lq_table.specs.Told.{is_set}
-use Rattle.lq_table.specs.Made.{Made, ◌⊳◌, did_load_lock, did_load_state, did_load_base, did_load_inside, did_try_lock, did_unlock, did_store_fate, did_store_stop, did_clear_missed, did_clear_draining, did_set_deactivated, did_clear_deactivated}
+use Rattle.lq_table.specs.Made.{Known, Made, ◌⊳◌, did_load_lock, did_load_state, did_load_base, did_load_inside, did_try_lock, did_unlock, did_store_fate, did_store_stop, did_clear_missed, did_clear_draining, did_set_deactivated, did_clear_deactivated}
+
+-- the steps of a call of the crates below, as a seat makes them that knows this before it and that after it
+abbrev pub MadeBy : (Known → Known → Type 0) → List Made → List Made → Type 0
+MadeBy call old new = (v w : View) × call (record { view = v; steps = old }) (record { view = w; steps = new })
 
 -- WAITS
 
@@ -19,7 +23,7 @@ use Rattle.lq_table.specs.Made.{Made, ◌⊳◌, did_load_lock, did_load_state, 
 -- control was left, or found the lock held, or found it free and SCHED set.
 pub data Rounds (k : Setup) (old : List Made) : List Made → Type 0 where
   none_yet : Rounds k old old
-  served : (steps next : List Made) (found : ℕ) → Rounds k old steps → InterruptsBy k steps next → Rounds k old (next ⊳ did_load_base found)
+  served : (steps next : List Made) (found : ℕ) → Rounds k old steps → MadeBy (InterruptsBy k) steps next → Rounds k old (next ⊳ did_load_base found)
   locked : (steps : List Made) (found : ℕ) → found ≢ 0 → Rounds k old steps → Rounds k old (steps ⊳ did_load_lock found)
   scheduled : (steps : List Made) (state : ℕ) → is_set 1 state ≡ true → Rounds k old steps → Rounds k old (steps ⊳ did_load_lock 0 ⊳ did_load_state state)
 
@@ -33,7 +37,7 @@ WaitsUntilClear k old new = (before : List Made) × Rounds k old before × Finds
 -- `net_tx_action` of net/core/dev.c comes again as long as the seat is raised: soft interrupts, one after the other
 pub data DrainsBy (k : Setup) (old : List Made) : List Made → Type 0 where
   not_raised : DrainsBy k old old
-  one_more : (steps next : List Made) → DrainsBy k old steps → InterruptsBy k steps next → DrainsBy k old next
+  one_more : (steps next : List Made) → DrainsBy k old steps → MadeBy (InterruptsBy k) steps next → DrainsBy k old next
 
 -- the calls inside are loaded, and there are some
 pub data FindsCalls (old : List Made) : List Made → Type 0 where
@@ -72,9 +76,9 @@ pub record PurgesHeld (k : Setup) (cause : Cause) (count : ℕ) (old new : List 
   pub two : List Made
   pub three : List Made
   pub requeued : PurgesSlot k (fate.Purged cause) slot old emptied
-  pub first : PurgesBand k 0 (fate.Purged cause) low emptied one
-  pub second : PurgesBand k 1 (fate.Purged cause) mid one two
-  pub third : PurgesBand k 2 (fate.Purged cause) high two three
+  pub first : MadeBy (PurgesBand k 0 (fate.Purged cause) low) emptied one
+  pub second : MadeBy (PurgesBand k 1 (fate.Purged cause) mid) one two
+  pub third : MadeBy (PurgesBand k 2 (fate.Purged cause) high) two three
   pub cleared : new ≡ three ⊳ did_clear_missed ⊳ did_clear_draining
   pub counted : count ≡ length (option_to_list slot) + low + mid + high
 
@@ -110,16 +114,16 @@ abbrev pub Reopens : List Made → List Made → Type 0
 Reopens old new = (found : ℕ) × (new ≡ old ⊳ did_clear_deactivated ⊳ did_load_base found)
 
 -- a live resize: `pfifo_fast_change_tx_queue_len` of net/sched/sch_generic.c under the run lock
-abbrev pub ResizesLive : Setup → ℕ → List Made → List Made → Type 0
-ResizesLive k len old new = (found : ℕ) × (locked resized : List Made) × TakesLock (old ⊳ did_load_base found) locked × Resizes k len locked resized × EndsRun resized new
+abbrev pub ResizesLive : Setup → ℕ → ℕ → ℕ → List Made → List Made → Type 0
+ResizesLive k event len count old new = (found : ℕ) × (locked resized : List Made) × TakesLock (old ⊳ did_load_base found) locked × MadeBy (ResizesAll k len event count) locked resized × MadeBy EndsRun resized new
 
 -- the empty rings of a station that was purged
-abbrev pub Relengths : Setup → ℕ → List Made → List Made → Type 0
-Relengths k len old new = (locked resized : List Made) × TakesLock old locked × Resizes k len locked resized × (new ≡ resized ⊳ did_unlock)
+abbrev pub Relengths : Setup → ℕ → ℕ → List Made → List Made → Type 0
+Relengths k event len old new = (locked resized : List Made) × (count : ℕ) × TakesLock old locked × MadeBy (ResizesAll k len event count) locked resized × (new ≡ resized ⊳ did_unlock)
 
 -- `dev_qdisc_change_tx_queue_len` of net/sched/sch_generic.c
 abbrev pub ChangesLength : Setup → ℕ → ℕ → ℕ → List Made → List Made → Type 0
-ChangesLength k event len count old new = (clear changed : List Made) × DeactivatesWhole k event count old clear × Relengths k len clear changed × Reopens changed new
+ChangesLength k event len count old new = (clear changed : List Made) × DeactivatesWhole k event count old clear × Relengths k event len clear changed × Reopens changed new
 
 -- the stop words of the first so many queues are stored as open, in ascending order
 abbrev pub opened_below : Setup → ℕ → List Made → List Made

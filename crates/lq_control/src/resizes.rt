@@ -44,7 +44,7 @@ pub fn resize<'a, D: TxDevice, R: Wait>(
     ensures trail { (view cpu.new).trail ≡ Resize len event ∷ (view cpu.old).trail }
     ensures shrunk { (lost : List ℕ) × ((view cpu.new).settled ≡ fates_onto (fate.Shrunk event) lost (view cpu.old).settled) × (result ≡ length lost) × (IsSole (view cpu.old) → lost ≡ all_dropped len (account_of (view cpu.old))) }
     ensures sole { IsSole (view cpu.old) → solo (view cpu.new) ≡ ended (heard (Resize len event) (locked_to true (solo (view cpu.old)))) }
-    ensures made { ResizesLive (setup shared.now) len (steps cpu.old) (steps cpu.new) }
+    ensures made { ResizesLive (setup shared.now) event len result (steps cpu.old) (steps cpu.new) }
     ensures alone { DoesEventAlone shared.now.infos.now (first_account (setup shared.now)) event (kind.Resize len) (solo (view cpu.old)) (solo (view cpu.new)) }
 {
     shared.begin_control(cpu);
@@ -69,7 +69,7 @@ fn relength<'a, D: TxDevice, R: Wait>(
     ensures same { IsSameSeat cpu.old cpu.new × IsKeptByControl (view cpu.old) (view cpu.new) × KeepsDevice (view cpu.old) (view cpu.new) }
     ensures at { (position cpu.new ≡ Control false) × IsReadyToSend cpu.new × IsIn Purged (view cpu.new) }
     ensures trail { (view cpu.new).trail ≡ Resize len event ∷ (view cpu.old).trail }
-    ensures made { Relengths (setup shared.now) len (steps cpu.old) (steps cpu.new) }
+    ensures made { Relengths (setup shared.now) event len (steps cpu.old) (steps cpu.new) }
     ensures none_lost { (view cpu.new).settled ≡ (view cpu.old).settled }
     ensures sole { IsSole (view cpu.old) → solo (view cpu.new) ≡ locked_to false (heard (Resize len event) (locked_to true (solo (view cpu.old)))) }
 {

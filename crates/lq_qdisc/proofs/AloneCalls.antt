@@ -19,8 +19,9 @@ use Rattle.lq_table.specs.Views.{View, Setup, machine_packet, SharePart, first_a
 use Rattle.lq_table.specs.Solo.{Solo, IsSole, SeesState, account_of, solo, heard, locked_to, lowered, sched_cleared, sched_set}
 use Rattle.lq_table.specs.Told.{call_of, entering, going, is_set, looking, seen_by, some_bit, stepped}
 use Rattle.lq_model.specs.declared.machine.Answer.TheVariants.{Plain}
+use Rattle.lq_qdisc.proofs.ViewRelations.{Attempts, FollowsDirect, Goes, GoesPast, GoesThrough, Interrupts, RunsToEnd, Transmits, TriesToPass}
 use Rattle.lq_qdisc.specs.Alone.{BringsAlone, Does, HasAll, IsAlone, IsOneSender, RunsAlone, account_in, bits_are_clear, running}
-use Rattle.lq_qdisc.specs.Sends.{Attempts, GetsLock, Enqueues, FollowsDirect, Goes, GoesPast, GoesThrough, Interrupts, IsRefused, IsDue, RunsToEnd, Transmits, TriesToPass, Wakes, WakesBelow, transmitting}
+use Rattle.lq_qdisc.specs.Sends.{GetsLock, Enqueues, IsRefused, IsDue, Wakes, WakesBelow, transmitting}
 use Rattle.lq_qdisc.specs.declared.answers.Sending.{Sending}
 use Rattle.lq_qdisc.specs.declared.answers.Sending.TheVariants as sending
 use Rattle.lq_qdisc.specs.declared.answers.Through.{Through}
@@ -244,7 +245,7 @@ module _ (k : Setup) (infos : List Info) (n : ℕ) where
         about_got : b.0.share.about ≡ k
         about_got = ap (λ (s : SharePart). s.about) b.1.calm.share ∙ about
 
-        by_way : (Rattle.lq_qdisc.specs.Sends.GoesThroughHeld infos n answer b.0 last ⊎ ((answer ≡ sending.Direct) × GoesPast infos n b.0 last)) → Ends
+        by_way : (Rattle.lq_qdisc.proofs.ViewRelations.GoesThroughHeld infos n answer b.0 last ⊎ ((answer ≡ sending.Direct) × GoesPast infos n b.0 last)) → Ends
         by_way (inl held) =
             let s = held.sees (subst HasAll (sym lock) h.sender.sole) in
             absurd (both_clear (solo old).whole.missed (solo old).whole.draining clean

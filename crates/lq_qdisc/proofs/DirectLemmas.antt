@@ -1,9 +1,9 @@
 -- What handing a packet to the device leaves.
-use Rattle.std.proofs.Common.{◌≡◌, ◌≢◌, ℕ, ◌+◌, ◌<◌, ◌≤◌, ◌==◌, Bool, true, false, if◌then◌else◌, refl, sym, ap, ◌∙◌, subst, arith, List, ◌∷◌, None, Some, Option}
+use Rattle.std.proofs.Common.{◌≡◌, ◌≢◌, ℕ, ◌+◌, ◌<◌, ◌==◌, Bool, true, false, if◌then◌else◌, refl, sym, ap, ◌∙◌, subst, arith, List, ◌∷◌, None, Some, Option}
 use Rattle.std.specs.Prelude.{nat_lt, slice_index}
 use Rattle.lq_model.specs.Positions.{holds_lock}
 use Rattle.std.specs.Option.{option_map}
-use Rattle.std.proofs.lemmas.Bool.{lt-ltb, le-ltb, true≢false}
+use Rattle.std.proofs.lemmas.Bool.{lt-ltb, true≢false}
 use Rattle.lq_device.specs.Station.{StationState, HasAnswered}
 use Rattle.lq_model.specs.Device.{is_busy}
 use Rattle.lq_model.specs.Words.{HasWord}
@@ -26,11 +26,9 @@ use Rattle.lq_qdisc.specs.Calls.{IsKeptInRun, IsServing, IsSettledSame}
 use Rattle.lq_table.specs.Settled.{MaySettle}
 use Rattle.lq_table.specs.Told.{HasRoom, and_settled, machine_answer, fate_sent, loading, loading_from, passing, requeuing, seen_by, setting, settling, storing, storing_from}
 use Rattle.lq_table.specs.Solo.{Solo, IsSole, SeesStop, account_of, solo, heard, missed_to, draining_to, device_to}
-use Rattle.lq_qdisc.specs.Direct.{Accepts, Directs, IsBusyAt, IsSentAs, LaysAside, Offers, SeesOpen, StaysAt, hearing_hung, hearing_stops, hung_below, position_after, sent_leads, stopped_by}
+use Rattle.lq_qdisc.specs.Direct.{Accepts, IsBusyAt, IsSentAs, LaysAside, SeesOpen, StaysAt, hearing_hung, hearing_stops, hung_below, position_after, sent_leads, stopped_by}
 use Rattle.lq_qdisc.proofs.TakeLemmas.{one, stop_is}
-use Rattle.lq_qdisc.specs.declared.answers.Through.{Through}
 use Rattle.lq_qdisc.specs.declared.answers.Through.TheVariants as through
-use Rattle.lq_qdisc.specs.declared.answers.Why.TheVariants as why
 
 -- only where the seat stands changes
 abbrev pub moved_to : Position → View → View
@@ -165,7 +163,7 @@ busy_is Busy e = refl
 -- OFFERS
 
 -- the packet was sent, and what follows the device's answer is stored
-pub accepts : (answer : Tx) (n queue queues : ℕ) (direct : Bool) (st : StationState) (v m w : View) → is_busy answer ≡ false → HasAnswered answer queue n (shown v.holder) st
+abbrev pub accepts : (answer : Tx) (n queue queues : ℕ) (direct : Bool) (st : StationState) (v m w : View) → is_busy answer ≡ false → HasAnswered answer queue n (shown v.holder) st
     → v.share.about.queues ≡ queues → IsSentAs answer n queue direct st v m → StaysAt m w → w.whole.state.past ≡ stopped_by answer queue queues m.whole.state.past
     → solo w ≡ hearing_stops answer queue queues (solo m) → SeesOpen queue v → Accepts n queue v w
 accepts answer n queue queues direct st v m w accepted called many sent stays heard_ step sole = record {
@@ -234,7 +232,7 @@ module _ {D : Type 0} where
       )
 
   -- the queue of the packet in hand was found stopped
-  pub lays_aside : (n queue first : ℕ) (p : Packet) (direct : Bool) (b m w : Cpu D) → first ≢ 0 → position b ≡ Gate p direct → (view b).holder.shut ≡ None → view m ≡ loading first (view b) → SeesStop queue (view b) first
+  abbrev pub lays_aside : (n queue first : ℕ) (p : Packet) (direct : Bool) (b m w : Cpu D) → first ≢ 0 → position b ≡ Gate p direct → (view b).holder.shut ≡ None → view m ≡ loading first (view b) → SeesStop queue (view b) first
       → IsSettledSame m w → (view w).holder ≡ record (view m).holder { slot = Some n; hand = None } → (view w).whole.state.past ≡ Back ∷ (view m).whole.state.past
       → ((again : ℕ) × (view w ≡ setting (setting (loading again (passing (view m))))))
       → (IsSole (view m) → slice_index (account_of (view m)).stops queue ≢ 0 → solo (view w) ≡ missed_to true (heard Back (draining_to true (missed_to false (solo (view m))))))

@@ -7,7 +7,8 @@ use Rattle.lq_model.specs.Plan.{band_in}
 use Rattle.lq_model.specs.declared.fate.Info.{Info}
 use Rattle.lq_table.specs.Views.{View}
 use Rattle.lq_table.specs.Told.{is_set, looking, some_bit}
-use Rattle.lq_qdisc.specs.Sends.{GetsLock, Enqueues, Goes, GoesPast, GoesThrough, GoesThroughHeld, Misses, TriesToPass, transmitting}
+use Rattle.lq_qdisc.proofs.ViewRelations.{Goes, GoesPast, GoesThrough, GoesThroughHeld, TriesToPass}
+use Rattle.lq_qdisc.specs.Sends.{Enqueues, transmitting}
 use Rattle.lq_qdisc.specs.declared.answers.Sending.{Sending}
 use Rattle.lq_qdisc.specs.declared.answers.Sending.TheVariants as sending
 

@@ -1,3 +1,5 @@
+-- what the calls come to
+pub mod ViewRelations
 pub mod TakeLemmas
 pub mod DirectLemmas
 pub mod RunLemmas
@@ -18,3 +20,6 @@ pub mod RaisedLemmas
 pub mod FirstLemmas
 pub mod TransmitLemmas
 pub mod StepLemmas
+pub mod ViewLemmas
+pub mod OfferLemmas
+pub mod LockLemmas

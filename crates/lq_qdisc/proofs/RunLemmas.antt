@@ -1,31 +1,21 @@
 -- What a run leaves.
-use Rattle.std.proofs.Common.{◌≡◌, ℕ, ◌+◌, ◌==◌, false, if◌then◌else◌, refl, sym, ap, ◌∙◌, subst, List, [], ◌∷◌, ◌++◌, length, None, Some, Option, length-append, append_assoc, add-zero}
-use Rattle.std.specs.Prelude.{is_some, MatchOption}
-use Rattle.lq_device.specs.Station.{StationState}
-use Rattle.lq_model.specs.Device.{is_busy, taken}
+use Rattle.std.proofs.Common.{◌≡◌, ℕ, ◌==◌, if◌then◌else◌, sym, ap, ◌∙◌, List, [], ◌∷◌, ◌++◌, length, append_assoc}
+use Rattle.std.specs.Prelude.{is_some}
 use Rattle.lq_model.specs.Positions.{in_hand}
-use Rattle.lq_model.specs.declared.device.Tx.{Tx}
-use Rattle.lq_model.specs.declared.device.Tx.TheVariants.{Sent, SentStop, SentHang, Busy}
 use Rattle.lq_model.specs.declared.fate.Fate.{Fate}
-use Rattle.lq_model.specs.declared.fate.Info.{Info}
 use Rattle.lq_model.specs.declared.machine.Position.{Position}
 use Rattle.lq_model.specs.declared.machine.Position.TheVariants.{Quota}
 use Rattle.lq_run.specs.Runs.{begins}
-use Rattle.lq_table.specs.Views.{View, HolderPart}
-use Rattle.lq_table.specs.Rule.{shown}
+use Rattle.lq_table.specs.Views.{View}
 use Rattle.lq_table.specs.Told.{backing, fate_sent, passing, setting}
 use Rattle.lq_model.specs.Account.{Back}
 use Rattle.lq_table.specs.Solo.{Solo, heard, laid}
-use Rattle.lq_qdisc.specs.Calls.{Dequeues, FindsPacket, KeepsFates, Picks}
-use Rattle.lq_qdisc.specs.Direct.{Accepts, Directs, IsBusyAt, LaysAside}
-use Rattle.lq_qdisc.specs.Runs.{Hands, Sends, position_in_run}
+use Rattle.lq_qdisc.proofs.ViewRelations.{Directs}
+use Rattle.lq_qdisc.specs.Calls.{KeepsFates}
+use Rattle.lq_qdisc.specs.Runs.{position_in_run}
 use Rattle.lq_qdisc.specs.declared.answers.Through.{Through}
 use Rattle.lq_qdisc.specs.declared.answers.Through.TheVariants as through
 use Rattle.lq_qdisc.specs.declared.answers.Why.TheVariants as why
-use Rattle.lq_qdisc.specs.declared.answers.Taken.{Taken}
-use Rattle.lq_qdisc.specs.declared.answers.Taken.TheVariants as taken
-use Rattle.lq_qdisc.proofs.TakeLemmas.{one}
-use Rattle.std.proofs.lemmas.Bool.{true≢false}
 
 -- how many packets the device has accepted
 abbrev pub count : View → ℕ
@@ -42,10 +32,6 @@ pub directs_fates : (t : Through) (n queue : ℕ) (old new : View) → Directs t
 directs_fates through.Yes n queue old new d = ((n, fate_sent old.holder.station) ∷ [], d.settled)
 directs_fates (through.Back why.Stopped) n queue old new d = fates_same old new d.settled
 directs_fates (through.Back why.Busy) n queue old new d = fates_same old new d.settled
-
--- a packet more was sent
-pub sent_more : (sent : ℕ) (infos : List Info) (old last new : View) → Sends sent infos old last → Hands Accepts infos last new → Sends (sent + 1) infos old new
-sent_more sent infos old last new before now = subst (λ (k : ℕ). Sends k infos old new) (one sent) (last, before, now)
 
 -- where the quota is reached, MISSED is set
 pub set_at_quota : (v : View) → v.place.position ≡ position_in_run v → v.place.run ≡ 64 → setting v ≡ passing v

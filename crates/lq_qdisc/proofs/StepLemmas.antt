@@ -1,20 +1,15 @@
 -- One more queue, and one more band.
-use Rattle.std.proofs.Common.{◌≡◌, ℕ, suc, ◌+◌, List, subst, arith, ap, ⊎_elim, Bool, true, false, is_some, ◌∙◌}
+use Rattle.std.proofs.Common.{◌≡◌, ℕ, suc, ◌+◌, List, subst, arith, ap, ⊎_elim, Bool, ◌∙◌}
 use Rattle.lq_table.specs.Views.{View, Setup}
-use Rattle.lq_table.specs.Told.{scheduling, waking}
-use Rattle.lq_table.specs.Made.{Known, Made, ◌⊳◌, did_store_stop, did_take_turn, did_enter, did_leave, did_give_turn}
+use Rattle.lq_table.specs.Told.{looking, passing, scheduling, waking}
+use Rattle.lq_table.specs.Made.{Known, Made, ◌⊳◌, did_clear_draining, did_clear_missed, did_load_state, did_store_stop}
 use Rattle.lq_ring.specs.Steps.{FindsSlotEmpty}
 use Rattle.lq_qdisc.specs.Sends.{Wakes, WakesBelow}
-use Rattle.lq_model.specs.declared.fate.Info.{Info}
-use Rattle.lq_model.specs.Plan.{owner_in, rank_in}
-use Rattle.lq_qdisc.specs.Sends.{came_as}
-use Rattle.lq_qdisc.specs.declared.answers.Sending.{Sending}
-use Rattle.lq_qdisc.specs.declared.answers.Sending.TheVariants.{Direct, Queued, FullSeen, Refused, OutOfTurn}
 use Rattle.lq_qdisc.specs.declared.answers.Through.TheVariants.{Yes}
-use Rattle.lq_qdisc.specs.Steps.{EmptyBelow, HandsBy, SendsBy, GoesBy, TransmitsBy, hung_stored}
+use Rattle.lq_qdisc.specs.Steps.{EmptyBelow, HandsBy, SendsBy, both_cleared, hung_stored, looked}
 
-pub bands_more : (k : Setup) (band head : ℕ) (old mid new : List Made) → EmptyBelow k band old mid → FindsSlotEmpty k band head mid new → EmptyBelow k (band + 1) old new
-bands_more k band head old mid new h e = let one : suc band ≡ band + 1 = omega arith in subst (λ (n : ℕ). EmptyBelow k n old new) one (mid, head, h, e)
+pub bands_more : (k : Setup) (band : ℕ) (old mid new : Known) → EmptyBelow k band old mid → FindsSlotEmpty k band mid new → EmptyBelow k (band + 1) old new
+bands_more k band old mid new h e = let one : suc band ≡ band + 1 = omega arith in subst (λ (n : ℕ). EmptyBelow k n old new) one (mid, h, e)
 
 -- what a wake leaves as it was
 pub wake_keeps : {X : Type 0} (part : View → X) (k : Setup) (queue : ℕ) (old new : Known) → ((was : Bool) → part (scheduling was (waking queue old.view)) ≡ part old.view) → Wakes k queue old new → part new.view ≡ part old.view
@@ -26,15 +21,13 @@ wakes_more k queue old mid new h w = let one : suc queue ≡ queue + 1 = omega a
 pub hung_one_more : (k : Setup) (queue : ℕ) (steps : List Made) → hung_stored k queue steps ⊳ did_store_stop k queue 2 ≡ hung_stored k (queue + 1) steps
 hung_one_more k queue steps = let one : suc queue ≡ queue + 1 = omega arith in ap (λ (n : ℕ). hung_stored k n steps) one
 
-pub sends_more_by : (k : Setup) (sent : ℕ) (old mid new : List Made) → SendsBy k sent old mid → HandsBy k Yes mid new → SendsBy k (sent + 1) old new
+pub sends_more_by : (k : Setup) (sent : ℕ) (old mid new : Known) → SendsBy k sent old mid → HandsBy k Yes mid new → SendsBy k (sent + 1) old new
 sends_more_by k sent old mid new h o = let one : suc sent ≡ sent + 1 = omega arith in subst (λ (n : ℕ). SendsBy k n old new) one (mid, h, o)
 
--- a transmit that came to its station was in turn
-pub transmits_by : (k : Setup) (infos : List Info) (n : ℕ) (answer : Sending) (old went new : List Made) → is_some (came_as infos n answer) ≡ true
-    → GoesBy k n answer (old ⊳ did_take_turn (owner_in k.infos n) (rank_in k.infos n) true ⊳ did_enter) went → new ≡ went ⊳ did_leave ⊳ did_give_turn (owner_in k.infos n) (rank_in k.infos n)
-    → TransmitsBy k n answer old new
-transmits_by k infos n Direct old went new came goes is = (went, goes, is)
-transmits_by k infos n Queued old went new came goes is = (went, goes, is)
-transmits_by k infos n (FullSeen seen) old went new came goes is = (went, goes, is)
-transmits_by k infos n (Refused event) old went new came goes is = (went, goes, is)
-transmits_by k infos n (OutOfTurn found) old went new came goes is = absurd cc
+-- both bits are cleared after a load of the state
+pub cleared_from : (state : ℕ) (a b m : Known) → b.view ≡ looking state a.view → b.steps ≡ a.steps ⊳ did_load_state state → m.view ≡ passing (passing b.view) → m.steps ≡ b.steps ⊳ did_clear_missed ⊳ did_clear_draining
+    → m ≡ both_cleared (looked state a)
+cleared_from state a b m seen loaded passed cleared = λ j. record {
+  view = (passed ∙ ap (λ (v : View). passing (passing v)) seen) j;
+  steps = (cleared ∙ ap (λ (xs : List Made). xs ⊳ did_clear_missed ⊳ did_clear_draining) loaded) j;
+}

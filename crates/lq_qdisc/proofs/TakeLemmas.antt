@@ -1,7 +1,8 @@
 -- What a look through the bands leaves.
-use Rattle.std.proofs.Common.{◌≡◌, ℕ, zero, suc, ◌+◌, ◌<◌, Bool, true, refl, sym, ap, ◌∙◌, subst, arith, List, [], ◌∷◌, None, Some}
-use Rattle.std.specs.Prelude.{slice_get, slice_index}
-use Rattle.lq_model.specs.Account.{Account, Event, Empty, after_all, held_in}
+use Rattle.std.proofs.Common.{◌≡◌, ℕ, zero, suc, ◌+◌, ◌<◌, Bool, true, refl, sym, ap, ◌∙◌, subst, arith, List, [], ◌∷◌, Option, None, Some, inr, is_some}
+use Rattle.std.proofs.lemmas.Bool.{true≢false}
+use Rattle.std.specs.Prelude.{slice_get, slice_index, MatchOption}
+use Rattle.lq_model.specs.Account.{Account, Event, Empty, Take, after_all, held_in}
 use Rattle.lq_model.specs.Machine.{Qdisc, band_at}
 use Rattle.lq_model.specs.Steps.{step_at, scan, after_band}
 use Rattle.lq_model.specs.declared.machine.Answer.TheVariants.{Plain}
@@ -12,15 +13,17 @@ use Rattle.lq_model.specs.declared.machine.Blocked.{Blocked}
 use Rattle.lq_model.specs.Positions.{holds_lock}
 use Rattle.lq_model.specs.declared.machine.Seat.{Seat}
 use Rattle.lq_ring.specs.Take.{consuming}
-use Rattle.lq_table.specs.Views.{View, HolderPart, machine_packet, first_account}
-use Rattle.lq_table.specs.Rule.{shown, IsResting}
+use Rattle.lq_table.specs.Views.{View, HolderPart, SharePart, State, machine_packet, first_account}
 use Rattle.lq_table.specs.Told.{seen_band, seen_by, passing}
 use Rattle.lq_table.specs.Rings.{finding_none}
-use Rattle.lq_table.specs.Sees.{view, position, slot, IsSeatOf, IsSameSeat}
+use Rattle.lq_table.specs.Sees.{view, position, IsSeatOf, IsSameSeat}
 use Rattle.lq_table.specs.Solo.{IsSole, SeesStop, account_of}
 use Rattle.lq_table.specs.declared.shared.Cpu.{Cpu}
 use Rattle.lq_table.specs.declared.shared.Shared.{Shared}
-use Rattle.lq_qdisc.specs.Calls.{IsServing, IsKeptInRun, AreNone, found_empty, looking_at}
+use Rattle.lq_qdisc.specs.Calls.{IsKeptInRun, AreNone, Dequeues, Finds, FindsNone, FindsPacket, Looks, Picks, found_empty, looking_at}
+use Rattle.lq_model.specs.declared.fate.Info.{Info}
+use Rattle.lq_qdisc.specs.declared.answers.Taken.{Taken}
+use Rattle.lq_qdisc.specs.declared.answers.Taken.TheVariants as taken
 
 pub one : (n : ℕ) → suc n ≡ n + 1
 one n = omega arith
@@ -124,3 +127,30 @@ module _ {D : Type 0} where
 
   pub run_take : (b n : ℕ) (second : Bool) (m a : Cpu D) → position m ≡ Scan b second → view a ≡ consuming b n (view m) → (view a).place.run ≡ (view m).place.run
   run_take b n second m a here is = ap (λ (x : View). x.place.run) is ∙ (seat_kept (seen_band b (machine_packet (view m).share.about.infos n ∷ [])) b second (view m) here).0
+
+-- a look through the bands, where the requeue slot is empty
+pub looks_dequeue : (infos : List Info) (t : Taken) (v w : View) → v.holder.slot ≡ None → Looks t v w → Dequeues t infos v w
+looks_dequeue infos taken.Empty v w none l = (none, l)
+looks_dequeue infos taken.Stopped v w none l = absurd l
+looks_dequeue infos (taken.Packet n) v w none l = subst (λ (o : Option ℕ). MatchOption o (FindsPacket n v w) (λ m. (m ≡ n) × Picks n v w)) (sym none) l
+
+-- nothing is held in a band below the third
+none_at : (a : Account) (b : ℕ) → AreNone a 3 → b < 3 → slice_get (held_in a b) 0 ≡ None
+none_at a zero n below = n.0.0.1
+none_at a (suc zero) n below = n.0.1
+none_at a (suc (suc zero)) n below = n.1
+none_at a (suc (suc (suc b))) n below = absurd (omega arith)
+
+-- A second look took the packet n: a seat that has the table alone finds nothing in it where the first found nothing.
+pub finds_again : (n : ℕ) (v u m w : View) → m.share ≡ v.share → m.whole.told ≡ v.whole.told → m.holder ≡ u.holder → m.whole.state ≡ u.whole.state → FindsNone v u → Finds n m w → FindsPacket n v w
+finds_again n v u m w share told holder state none f =
+    let past : m.whole.state.past ≡ found_empty 3 v.whole.state.past = ap (λ (g : State). g.past) state ∙ none.past in record {
+      band = f.band;
+      below = f.below;
+      past = inr (f.past ∙ ap (λ (es : List Event). Take f.band ∷ found_empty f.band es) past);
+      holder = f.holder ∙ ap (λ (h : HolderPart). record h { ends = w.holder.ends; hand = Some n }) (holder ∙ none.holder);
+      sole = λ s.
+          let again = f.sole (ap (λ (x : SharePart). x.shares) share ∙ s.0, told ∙ s.1) in
+          let found : slice_get (held_in (account_of v) f.band) 0 ≡ Some n = ap (λ (a : Account). slice_get (held_in a f.band) 0) (sym (account_same 3 v m share past)) ∙ again.1 in
+          absurd (true≢false (sym (ap (λ (o : Option ℕ). is_some o) found) ∙ ap (λ (o : Option ℕ). is_some o) (none_at (account_of v) f.band (none.sole s) f.below)));
+    }

@@ -8,7 +8,8 @@ use Rattle.lq_model.specs.declared.fate.Info.{Info}
 use Rattle.lq_table.specs.Views.{View}
 use Rattle.lq_table.specs.Solo.{solo}
 use Rattle.lq_table.specs.Told.{giving_turn, passing}
-use Rattle.lq_qdisc.specs.Sends.{Goes, HasCome, Transmits, came_as, trail_with, transmitting}
+use Rattle.lq_qdisc.proofs.ViewRelations.{Goes, Transmits}
+use Rattle.lq_qdisc.specs.Sends.{HasCome, came_as, trail_with, transmitting}
 use Rattle.lq_qdisc.specs.declared.answers.Sending.{Sending}
 
 same_trail : (infos : List Info) (n : ℕ) (o : Option Event) (v : View) → trail_with o (transmitting infos n v) ≡ trail_with o v

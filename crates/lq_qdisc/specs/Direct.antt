@@ -16,7 +16,6 @@ use Rattle.lq_table.specs.Solo.{Solo, IsSole, IsAccounts, HasSent, account_of, s
 use Rattle.lq_qdisc.specs.Calls.{finding_stopped}
 use Rattle.lq_qdisc.specs.declared.answers.Through.{Through}
 use Rattle.lq_qdisc.specs.declared.answers.Through.TheVariants as through
-use Rattle.lq_qdisc.specs.declared.answers.Why.TheVariants as why
 use Rattle.lq_model.specs.declared.state.TheConstants.{QUOTA}
 
 -- the events of storing in each queue below this one that the device hangs, the latest first, before those that came earlier
@@ -117,18 +116,6 @@ pub record IsSentAs (answer : Tx) (n queue : ℕ) (direct : Bool) (st : StationS
   pub holder : new.holder ≡ record old.holder { station = st; hand = None; last = Some n }
   pub settled : new.settled ≡ (n, fate_sent old.holder.station) ∷ old.settled
   pub step : solo new ≡ device_to st.device (heard Send (solo old))
-
--- what an offer of the packet n to the device leaves, whose queue is open
-abbrev pub Offers : Through → ℕ → ℕ → View → View → Type 0
-Offers through.Yes n queue old new = Accepts n queue old new
-Offers (through.Back why.Stopped) n queue old new = ⊥
-Offers (through.Back why.Busy) n queue old new = IsBusyAt n queue old new
-
--- what a direct transmit of the packet n, which is of this queue, answers
-abbrev pub Directs : Through → ℕ → ℕ → View → View → Type 0
-Directs through.Yes n queue old new = Accepts n queue old new
-Directs (through.Back why.Stopped) n queue old new = LaysAside n queue old new
-Directs (through.Back why.Busy) n queue old new = IsBusyAt n queue old new
 
 -- how many packets the run has sent after it
 abbrev pub run_after : Through → ℕ → ℕ

@@ -1,7 +1,7 @@
 -- What a transmit and a soft interrupt leave of what a seat knows.
-use Rattle.std.specs.Prelude.{◌≡◌, ◌≢◌, ◌⊎◌, ℕ, zero, suc, slice_index, slice_set, ◌+◌, ◌*◌, ◌<◌, Bool, true, false, not, ◌&&◌, is_some, length, List, Option, Some, None}
+use Rattle.std.specs.Prelude.{◌≡◌, ◌≢◌, ◌⊎◌, ℕ, zero, suc, slice_index, ◌+◌, ◌*◌, ◌<◌, Bool, true, false, not, is_some, length, List, Option, Some, None}
 use Rattle.lq_model.specs.Account.{Event, Join, Full, Refuse, Direct, Wake}
-use Rattle.lq_model.specs.Plan.{band_in, owner_in, queue_in, rank_in}
+use Rattle.lq_model.specs.Plan.{band_in, owner_in, rank_in}
 use Rattle.lq_model.specs.declared.fate.Info.{Info}
 use Rattle.lq_model.specs.declared.machine.Attempt.{Attempt}
 use Rattle.lq_model.specs.declared.machine.Attempt.TheVariants as attempt
@@ -9,19 +9,14 @@ use Rattle.lq_run.specs.Runs.{HasNone, after_got, after_missed, after_begin, end
 use Rattle.lq_ring.specs.Put.{no_locks, putting, dropping_full as dropped}
 use Rattle.lq_table.specs.Views.{View, Setup, no_packets}
 use Rattle.lq_table.specs.Made.{Known, ◌⊳◌, did_wake, did_set_sched}
-use Rattle.lq_table.specs.Told.{some_bit, is_set, looking, going, on_trail, bringing, entering, giving_turn, passing, paying, schedules, scheduling, waking, refusing as refused}
-use Rattle.lq_table.specs.Solo.{IsSole, IsAccounts, account_of, solo, heard, sched_cleared, sched_set, SeesState, SeesDown}
+use Rattle.lq_table.specs.Told.{is_set, looking, on_trail, bringing, entering, passing, paying, schedules, scheduling, waking, refusing as refused}
+use Rattle.lq_table.specs.Solo.{IsSole, IsAccounts, account_of, solo, heard, sched_cleared, sched_set, SeesState}
 use Rattle.lq_table.specs.SolePut.{SeesEnd}
 use Rattle.lq_table.specs.Sees.{view, IsSameSeat}
 use Rattle.lq_table.specs.declared.shared.Cpu.{Cpu}
 use Rattle.lq_table.specs.declared.shared.Shared.{Shared}
-use Rattle.lq_qdisc.specs.Direct.{Directs}
-use Rattle.lq_qdisc.specs.Runs.{Runs}
-use Rattle.lq_qdisc.specs.declared.answers.Ran.{Ran}
 use Rattle.lq_qdisc.specs.declared.answers.Sending.{Sending}
 use Rattle.lq_qdisc.specs.declared.answers.Sending.TheVariants as sending
-use Rattle.lq_qdisc.specs.declared.answers.Through.{Through}
-use Rattle.lq_qdisc.specs.declared.answers.Through.TheVariants as through
 
 module _ {D : Type 0} where
   -- it has no packet, no producer lock and no station, and no resize is half done
@@ -106,18 +101,6 @@ pub record IsLockReleased (old new : View) : Type 0 where
   pub calm : IsCalm old new
   pub sole : IsSole old → solo new ≡ ended (solo old)
 
--- a run came to its end, and the run lock was released
-pub record RunsToEnd (infos : List Info) (old new : View) : Type 0 where
-  pub ran : Ran
-  pub last : View
-  pub runs : Runs infos ran old last
-  pub share : last.share ≡ old.share
-  pub ended : IsLockReleased last new
-
--- the run lock was tried, and where it was got the bands were served
-abbrev pub Attempts : List Info → View → View → Type 0
-Attempts infos old new = Misses old new ⊎ ((got : View) × GetsLock old got × RunsToEnd infos got new)
-
 -- TRANSMIT
 
 -- the packet was put into its band, or dropped as full
@@ -128,71 +111,13 @@ Enqueues n band sending.Direct old new = ⊥
 Enqueues n band (sending.Refused event) old new = ⊥
 Enqueues n band (sending.OutOfTurn found) old new = ⊥
 
--- It was put so by a seat that doesn't have the run lock, which then tried that.
-pub record GoesThrough (infos : List Info) (n : ℕ) (answer : Sending) (old new : View) : Type 0 where
-  pub put : View
-  pub enqueued : Enqueues n (band_in infos n) answer old put
-  pub attempted : Attempts infos put new
-
--- It was put so under the run lock, since MISSED or DRAINING was loaded there.
-pub record GoesThroughHeld (infos : List Info) (n : ℕ) (answer : Sending) (old new : View) : Type 0 where
-  pub state : ℕ
-  pub waits : some_bit state ≡ true
-  pub sees : IsSole old → SeesState old state
-  pub put : View
-  pub enqueued : Enqueues n (band_in infos n) answer (looking state old) put
-  pub served : RunsToEnd infos put new
-
--- What follows a packet that went past the bands: where the device accepted it the state is loaded, and where MISSED or
--- DRAINING is set then, the bands are served.
-abbrev pub FollowsDirect : Through → List Info → View → View → Type 0
-FollowsDirect through.Yes infos old new = (state : ℕ) × (IsSole old → SeesState old state) × (solo (looking state old) ≡ solo old)
-    × (((some_bit state ≡ true) × RunsToEnd infos (looking state old) new) ⊎ ((some_bit state ≡ false) × IsLockReleased (looking state old) new))
-FollowsDirect (through.Back reason) infos old new = IsLockReleased old new
-
--- It went past the bands: the state was loaded under the run lock with MISSED and DRAINING clear.
-pub record GoesPast (infos : List Info) (n : ℕ) (old new : View) : Type 0 where
-  pub state : ℕ
-  pub clear : some_bit state ≡ false
-  pub sees : IsSole old → SeesState old state
-  pub step : solo (going n state old) ≡ heard (Direct n) (solo old)
-  pub handed : Through
-  pub after : View
-  pub direct : Directs handed n (queue_in infos n) (going n state old) after
-  pub follows : FollowsDirect handed infos after new
-
--- It may go past the bands, since neither bit was set: it does so where the run lock is got and neither is set still.
-abbrev pub TriesToPass : List Info → ℕ → Sending → View → View → Type 0
-TriesToPass infos n answer old new =
-    ((missed : View) × Misses old missed × GoesThrough infos n answer missed new)
-    ⊎ ((got : View) × GetsLock old got × (GoesThroughHeld infos n answer got new ⊎ ((answer ≡ sending.Direct) × GoesPast infos n got new)))
-
 -- The station is deactivated by the event: the packet is refused, and that is its fate.
 abbrev pub IsRefused : ℕ → ℕ → ℕ → View → View → Type 0
 IsRefused n event state old new = (is_set 2 state ≡ true) × ((bits : ℕ) × (bits < 16) × (state ≡ bits + 256 * (event + 1))) × (new ≡ paying (refused n event state old))
 
--- what a transmit does with the packet between its two steps on the calls inside
-pub record Goes (infos : List Info) (bypass : Bool) (n : ℕ) (answer : Sending) (old new : View) : Type 0 where
-  pub state : ℕ
-  pub sees : IsSole old → SeesState old state
-  pub first : old.control.first ≡ true → SeesDown old state
-  pub refused : is_set 2 state ≡ true → (event : ℕ) × (answer ≡ sending.Refused event) × IsRefused n event state old new
-  pub through : is_set 2 state ≡ false → bypass && not (some_bit state) ≡ false → GoesThrough infos n answer (looking state old) new
-  pub past : is_set 2 state ≡ false → bypass && not (some_bit state) ≡ true → TriesToPass infos n answer (looking state old) new
-
 -- the seat's view as the transmit of the packet n begins, whose turn it has
 abbrev pub transmitting : List Info → ℕ → View → View
 transmitting infos n v = entering (bringing n (owner_in infos n) (rank_in infos n) v)
-
--- The transmit of the packet n, whose turn it is: the turn is given back.
-pub record Transmits (infos : List Info) (bypass : Bool) (n : ℕ) (answer : Sending) (old new : View) : Type 0 where
-  pub came : is_some (came_as infos n answer) ≡ true
-  pub turns : new.turns ≡ slice_set old.turns (owner_in infos n) (2 * rank_in infos n + 2)
-  pub trail : new.trail ≡ trail_with (came_as infos n answer) old
-  pub last : View
-  pub goes : Goes infos bypass n answer (transmitting infos n old) last
-  pub ends : new ≡ giving_turn (owner_in infos n) (rank_in infos n) (passing last)
-  pub step : solo new ≡ solo last
 
 -- SOFT INTERRUPTS AND WAKES
 
@@ -211,14 +136,6 @@ pub record IsDue (due : Bool) (old new : View) : Type 0 where
   pub active : is_set 2 first ≡ false → (due ≡ true) × (new ≡ passing (looking first old))
   pub deactivated : is_set 2 first ≡ true → (second : ℕ) × (due ≡ not (is_set 2 second)) × (new ≡ looking second (passing (looking first old))) × (solo new ≡ sched_cleared (solo old))
       × (IsSole old → is_set 2 second ≡ is_some (account_of old).down)
-
--- A soft interrupt, between its two steps on the calls inside: the bands are served, unless the station is deactivated still.
-pub record Interrupts (infos : List Info) (old new : View) : Type 0 where
-  pub due : Bool
-  pub cleared : View
-  pub begins : IsDue due old cleared
-  pub serves : due ≡ true → Attempts infos cleared new
-  pub leaves : due ≡ false → new ≡ cleared
 
 -- After it the seat is raised only where it set SCHED after that was cleared: as its run ended.
 abbrev pub IsRaisedAgain : View → Type 0

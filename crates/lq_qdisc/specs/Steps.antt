@@ -1,68 +1,90 @@
--- The steps of the calls, in the order in which they are made.
-use Rattle.std.specs.Prelude.{◌≡◌, ◌≢◌, ◌⊎◌, ℕ, zero, suc, Bool, true, false, not, ◌&&◌, List, Option, Some, None}
+-- What the calls do: the steps in the order in which they are made, and what the seat knows after them, with the values that they found.
+use Rattle.std.specs.Prelude.{◌≡◌, ◌≢◌, ◌⊎◌, ◌↔◌, ◌≤◌, ◌*◌, ◌+◌, ℕ, zero, suc, Bool, true, false, not, ◌&&◌, is_some, slice_set, List, Option, Some, None}
+use Rattle.lq_model.specs.Account.{Direct as DirectEvent}
 use Rattle.lq_model.specs.Plan.{band_in, owner_in, queue_in, rank_in}
 use Rattle.lq_model.specs.Words.{word_of}
-use Rattle.lq_model.specs.Device.{is_busy}
 use Rattle.lq_model.specs.declared.device.Tx.{Tx}
 use Rattle.lq_model.specs.declared.device.Tx.TheVariants as tx
-use Rattle.lq_model.specs.declared.fate.Fate.{Fate}
 use Rattle.lq_model.specs.declared.fate.Fate.TheVariants as fate
+use Rattle.lq_model.specs.declared.state.TheConstants.{QUOTA}
 use Rattle.lq_run.specs.Tries.{BeginsBy, EndsRun}
 use Rattle.lq_ring.specs.Steps.{FindsSlotEmpty, FindsFull, Puts, Takes}
 use Rattle.lq_table.specs.Views.{Setup}
-use Rattle.lq_table.specs.Told.{is_set, some_bit}
-use Rattle.lq_table.specs.Made.{Made, ◌⊳◌, did_load_stop, did_load_state, did_clear_missed, did_clear_draining, did_set_missed, did_set_draining, did_clear_sched, did_store_stop, did_store_fate, did_take_turn, did_give_turn, did_enter, did_leave}
+use Rattle.lq_table.specs.Told.{is_set, some_bit, entering, fate_sent, going, giving_turn, loading, looking, passing}
+use Rattle.lq_table.specs.Solo.{IsSole, SeesDown, SeesState, solo, heard, missed_to}
+use Rattle.lq_table.specs.Made.{Known, Made, ◌⊳◌, did_load_stop, did_load_state, did_clear_missed, did_clear_draining, did_set_missed, did_set_draining, did_clear_sched, did_store_stop, did_store_fate, did_take_turn, did_give_turn, did_enter, did_leave}
+use Rattle.lq_qdisc.specs.Calls.{Dequeues, SeesOneQueue, finding_stopped}
+use Rattle.lq_qdisc.specs.Direct.{Accepts, IsBusyAt, LaysAside}
+use Rattle.lq_qdisc.specs.Sends.{Enqueues, GetsLock, IsDue, IsLockReleased, IsRefused, Misses, came_as, trail_with, transmitting}
 use Rattle.lq_qdisc.specs.declared.answers.Ran.{Ran}
 use Rattle.lq_qdisc.specs.declared.answers.RunEnd.{RunEnd}
 use Rattle.lq_qdisc.specs.declared.answers.RunEnd.TheVariants as end
 use Rattle.lq_qdisc.specs.declared.answers.Sending.{Sending}
 use Rattle.lq_qdisc.specs.declared.answers.Sending.TheVariants as sending
 use Rattle.lq_qdisc.specs.declared.answers.Taken.{Taken}
+use Rattle.lq_qdisc.specs.declared.answers.Taken.TheVariants as taken
 use Rattle.lq_qdisc.specs.declared.answers.Through.{Through}
 use Rattle.lq_qdisc.specs.declared.answers.Through.TheVariants as through
 use Rattle.lq_qdisc.specs.declared.answers.Why.TheVariants as why
-use Rattle.lq_qdisc.specs.declared.answers.Taken.TheVariants as taken
+
+-- a load of the state, in a call
+abbrev pub looked : ℕ → Known → Known
+looked state k = record { view = looking state k.view; steps = k.steps ⊳ did_load_state state }
 
 -- A DEQUEUE
 
--- the queue is found stopped, MISSED is cleared, and the stop word loaded again: where the queue is open by now MISSED is set, and
--- else DRAINING
-abbrev pub ClearsMaybe : Setup → ℕ → List Made → List Made → Type 0
-ClearsMaybe k queue old new =
-    ((was : Bool) × (new ≡ old ⊳ did_clear_missed ⊳ did_load_stop k queue 0 ⊳ did_set_missed was))
-    ⊎ ((again : ℕ) × (was : Bool) × (again ≢ 0) × (new ≡ old ⊳ did_clear_missed ⊳ did_load_stop k queue again ⊳ did_set_draining was))
+-- `qdisc_maybe_clear_missed` of net/sched/sch_generic.c: MISSED is cleared, and the stop word loaded again: where the queue is open by
+-- now MISSED is set, and else DRAINING
+abbrev pub ClearsMaybe : Setup → ℕ → ℕ → List Made → List Made → Type 0
+ClearsMaybe k queue again old new =
+    ((again ≡ 0) × (was : Bool) × (new ≡ old ⊳ did_clear_missed ⊳ did_load_stop k queue again ⊳ did_set_missed was))
+    ⊎ ((again ≢ 0) × (was : Bool) × (new ≡ old ⊳ did_clear_missed ⊳ did_load_stop k queue again ⊳ did_set_draining was))
 
-abbrev pub FindsStopWord : Setup → ℕ → List Made → List Made → Type 0
-FindsStopWord k queue old new = (found : ℕ) × (found ≢ 0) × ClearsMaybe k queue (old ⊳ did_load_stop k queue found) new
+-- the queue is found stopped
+abbrev pub FindsStopWord : Setup → ℕ → Known → Known → Type 0
+FindsStopWord k queue old new = (first again : ℕ) × (first ≢ 0) × (new.view ≡ finding_stopped first again old.view) × ClearsMaybe k queue again (old.steps ⊳ did_load_stop k queue first) new.steps
 
 -- the first so many bands are found empty, in ascending order
-abbrev pub EmptyBelow : Setup → ℕ → List Made → List Made → Type 0
+abbrev pub EmptyBelow : Setup → ℕ → Known → Known → Type 0
 EmptyBelow k zero old new = new ≡ old
-EmptyBelow k (suc band) old new = (before : List Made) × (head : ℕ) × EmptyBelow k band old before × FindsSlotEmpty k band head before new
+EmptyBelow k (suc band) old new = (before : Known) × EmptyBelow k band old before × FindsSlotEmpty k band before new
 
 -- each is, or the packet n is taken from the first that isn't
-abbrev pub Scans : Setup → Option ℕ → List Made → List Made → Type 0
+abbrev pub Scans : Setup → Option ℕ → Known → Known → Type 0
 Scans k None old new = EmptyBelow k 3 old new
-Scans k (Some n) old new = (band : ℕ) × (before : List Made) × (head : ℕ) × EmptyBelow k band old before × Takes k band head n before new
+Scans k (Some n) old new = (band : ℕ) × (before : Known) × EmptyBelow k band old before × Takes k band n before new
 
 abbrev pub taken_as : Option ℕ → Taken
 taken_as None = taken.Empty
 taken_as (Some n) = taken.Packet n
 
--- The bands are scanned. Where they are empty the state is loaded, and where MISSED or DRAINING is set both are cleared, and the
--- bands scanned once more.
-abbrev pub LooksThrough : Setup → Taken → List Made → List Made → Type 0
+-- MISSED and DRAINING are cleared
+abbrev pub both_cleared : Known → Known
+both_cleared k = record { view = passing (passing k.view); steps = k.steps ⊳ did_clear_missed ⊳ did_clear_draining }
+
+-- `pfifo_fast_dequeue` of net/sched/sch_generic.c: the bands are scanned. Where they are empty the state is loaded, and where MISSED or
+-- DRAINING is set both are cleared, and the bands scanned once more.
+abbrev pub LooksThrough : Setup → Taken → Known → Known → Type 0
 LooksThrough k answer old new =
     ((n : ℕ) × (answer ≡ taken.Packet n) × Scans k (Some n) old new)
-    ⊎ ((once : List Made) × (state : ℕ) × Scans k None old once
-    × (((some_bit state ≡ false) × (answer ≡ taken.Empty) × (new ≡ once ⊳ did_load_state state))
-    ⊎ ((some_bit state ≡ true) × (found : Option ℕ) × (answer ≡ taken_as found) × Scans k found (once ⊳ did_load_state state ⊳ did_clear_missed ⊳ did_clear_draining) new)))
+    ⊎ ((once : Known) × (state : ℕ) × Scans k None old once
+    × (((some_bit state ≡ false) × (answer ≡ taken.Empty) × (new ≡ looked state once))
+    ⊎ ((some_bit state ≡ true) × (found : Option ℕ) × (answer ≡ taken_as found) × Scans k found (both_cleared (looked state once)) new)))
+
+-- the one queue is found open
+abbrev pub found_open : Setup → Known → Known
+found_open k old = record { view = loading 0 old.view; steps = old.steps ⊳ did_load_stop k 0 0 }
 
 -- the queue of the packet in the requeue slot, or the one queue, is open first; with more queues none is asked for the bands
-abbrev pub DequeuesBy : Setup → Option ℕ → Taken → List Made → List Made → Type 0
-DequeuesBy k (Some n) answer old new = ((answer ≡ taken.Packet n) × (new ≡ old ⊳ did_load_stop k (queue_in k.infos n) 0)) ⊎ ((answer ≡ taken.Stopped) × FindsStopWord k (queue_in k.infos n) old new)
-DequeuesBy k None answer old new = ((k.queues ≢ 1) × LooksThrough k answer old new)
-    ⊎ ((k.queues ≡ 1) × (LooksThrough k answer (old ⊳ did_load_stop k 0 0) new ⊎ ((answer ≡ taken.Stopped) × FindsStopWord k 0 old new)))
+abbrev pub DequeuesFrom : Setup → Option ℕ → Taken → Known → Known → Type 0
+DequeuesFrom k (Some n) answer old new = ((answer ≡ taken.Packet n) × (new.view ≡ loading 0 old.view) × (new.steps ≡ old.steps ⊳ did_load_stop k (queue_in k.infos n) 0)) ⊎ ((answer ≡ taken.Stopped) × FindsStopWord k (queue_in k.infos n) old new)
+DequeuesFrom k None answer old new = ((k.queues ≢ 1) × LooksThrough k answer old new)
+    ⊎ ((k.queues ≡ 1) × (LooksThrough k answer (found_open k old) new ⊎ ((answer ≡ taken.Stopped) × FindsStopWord k 0 old new)))
+
+-- `dequeue_skb` of net/sched/sch_generic.c: what it comes to, and how
+pub record DequeuesBy (k : Setup) (answer : Taken) (old new : Known) : Type 0 where
+  pub comes_to : Dequeues answer k.infos old.view new.view
+  pub by : DequeuesFrom k old.view.holder.slot answer old new
 
 -- A DIRECT TRANSMIT
 
@@ -78,100 +100,186 @@ stops_stored k tx.Busy queue steps = steps
 stops_stored k tx.SentStop queue steps = steps ⊳ did_store_stop k queue 1
 stops_stored k tx.SentHang queue steps = hung_stored k k.queues steps
 
--- the packet goes to the requeue slot, and MISSED is set
-abbrev pub LaysAsideBy : Setup → ℕ → List Made → List Made → Type 0
-LaysAsideBy k queue old new = (cleared : List Made) × (was : Bool) × ClearsMaybe k queue old cleared × (new ≡ cleared ⊳ did_set_missed was)
+-- The device answered: its answer to the packet that it accepted says which stop words are stored after that packet's fate. Where it was
+-- busy MISSED is set.
+abbrev pub OffersBy : Setup → Through → ℕ → ℕ → List Made → Known → Known → Type 0
+OffersBy k through.Yes n queue from old new = (a : Accepts n queue old.view new.view) × (new.steps ≡ stops_stored k a.answer queue (from ⊳ did_store_fate k n (word_of (fate_sent old.view.holder.station))))
+OffersBy k (through.Back why.Busy) n queue from old new = IsBusyAt n queue old.view new.view × (was : Bool) × (new.steps ≡ from ⊳ did_set_missed was)
+OffersBy k (through.Back why.Stopped) n queue from old new = ⊥
 
--- the packet is handed to the device: its fate and then the stop words are stored where it was accepted, and MISSED is set where
--- the device was busy
-abbrev pub OffersBy : Setup → Through → ℕ → ℕ → List Made → List Made → Type 0
-OffersBy k through.Yes n queue old new = (answer : Tx) × (f : Fate) × (is_busy answer ≡ false) × (new ≡ stops_stored k answer queue (old ⊳ did_store_fate k n (word_of f)))
-OffersBy k (through.Back why.Busy) n queue old new = (was : Bool) × (new ≡ old ⊳ did_set_missed was)
-OffersBy k (through.Back why.Stopped) n queue old new = ⊥
-
--- where its queue is open
-abbrev pub DirectsBy : Setup → Through → ℕ → ℕ → List Made → List Made → Type 0
-DirectsBy k through.Yes n queue old new = OffersBy k through.Yes n queue (old ⊳ did_load_stop k queue 0) new
-DirectsBy k (through.Back why.Busy) n queue old new = OffersBy k (through.Back why.Busy) n queue (old ⊳ did_load_stop k queue 0) new
-DirectsBy k (through.Back why.Stopped) n queue old new = (found : ℕ) × (found ≢ 0) × LaysAsideBy k queue (old ⊳ did_load_stop k queue found) new
+-- `sch_direct_xmit` of net/sched/sch_generic.c: where the packet's queue is open it is handed to the device; else it goes to the requeue
+-- slot, and MISSED is set
+abbrev pub DirectsBy : Setup → Through → ℕ → ℕ → Known → Known → Type 0
+DirectsBy k through.Yes n queue old new = OffersBy k through.Yes n queue (old.steps ⊳ did_load_stop k queue 0) old new
+DirectsBy k (through.Back why.Busy) n queue old new = OffersBy k (through.Back why.Busy) n queue (old.steps ⊳ did_load_stop k queue 0) old new
+DirectsBy k (through.Back why.Stopped) n queue old new = (l : LaysAside n queue old.view new.view)
+    × (cleared : List Made) × (was : Bool) × ClearsMaybe k queue l.again (old.steps ⊳ did_load_stop k queue l.first) cleared × (new.steps ≡ cleared ⊳ did_set_missed was)
 
 -- A RUN
 
--- a packet is dequeued, and handed to the device with this result
-abbrev pub HandsBy : Setup → Through → List Made → List Made → Type 0
-HandsBy k handed old new = (slot : Option ℕ) × (packet : ℕ) × (between : List Made) × DequeuesBy k slot (taken.Packet packet) old between × DirectsBy k handed packet (queue_in k.infos packet) between new
+-- `qdisc_restart` of net/sched/sch_generic.c: a packet is dequeued, and handed to the device with this result
+pub record HandsBy (k : Setup) (handed : Through) (old new : Known) : Type 0 where
+  pub packet : ℕ
+  pub between : Known
+  pub dequeued : DequeuesBy k (taken.Packet packet) old between
+  pub one : SeesOneQueue (taken.Packet packet) old.view
+  pub same : between.view.share ≡ old.view.share
+  pub is : DirectsBy k handed packet (queue_in k.infos packet) between new
+  pub share : new.view.share ≡ old.view.share
 
-abbrev pub SendsBy : Setup → ℕ → List Made → List Made → Type 0
+-- so many packets were sent, one after the other
+abbrev pub SendsBy : Setup → ℕ → Known → Known → Type 0
 SendsBy k zero old new = new ≡ old
-SendsBy k (suc sent) old new = (last : List Made) × SendsBy k sent old last × HandsBy k through.Yes last new
+SendsBy k (suc sent) old new = (last : Known) × SendsBy k sent old last × HandsBy k through.Yes last new
 
-abbrev pub EndsBy : Setup → RunEnd → List Made → List Made → Type 0
-EndsBy k end.Empty old new = (slot : Option ℕ) × DequeuesBy k slot taken.Empty old new
-EndsBy k end.Quota old new = (was : Bool) × (new ≡ old ⊳ did_set_missed was)
-EndsBy k end.Stopped old new = ((slot : Option ℕ) × DequeuesBy k slot taken.Stopped old new) ⊎ HandsBy k (through.Back why.Stopped) old new
+-- What the last turn of a run did: a dequeue found nothing, or a queue that is stopped; or the packet that was dequeued was laid into the
+-- requeue slot. After the last packet of the quota MISSED is set.
+abbrev pub EndsBy : Setup → RunEnd → Known → Known → Type 0
+EndsBy k end.Empty old new = DequeuesBy k taken.Empty old new × SeesOneQueue taken.Empty old.view
+EndsBy k end.Quota old new = (new.view ≡ passing old.view) × (solo new.view ≡ missed_to true (solo old.view)) × (was : Bool) × (new.steps ≡ old.steps ⊳ did_set_missed was)
+EndsBy k end.Stopped old new = (DequeuesBy k taken.Stopped old new × SeesOneQueue taken.Stopped old.view) ⊎ HandsBy k (through.Back why.Stopped) old new
 EndsBy k end.Busy old new = HandsBy k (through.Back why.Busy) old new
 
-abbrev pub RunsBy : Setup → Ran → List Made → List Made → Type 0
-RunsBy k ran old new = (last : List Made) × SendsBy k ran.sent old last × EndsBy k ran.end last new
+-- `__qdisc_run` of net/sched/sch_generic.c: so many packets were sent, at most as many as the quota, and it came to this end: by the quota
+-- exactly where it sent as many.
+pub record RunsBy (k : Setup) (ran : Ran) (old new : Known) : Type 0 where
+  pub last : Known
+  pub sent : SendsBy k ran.sent old last
+  pub share : last.view.share ≡ old.view.share
+  pub ends : EndsBy k ran.end last new
+  pub within : ran.sent ≤ QUOTA
+  pub quota : (ran.end ≡ end.Quota) ↔ (ran.sent ≡ QUOTA)
 
-abbrev pub RunsToEndBy : Setup → List Made → List Made → Type 0
-RunsToEndBy k old new = (ran : Ran) × (last : List Made) × RunsBy k ran old last × EndsRun last new
+-- the run lock is released
+abbrev pub ReleasesBy : Known → Known → Type 0
+ReleasesBy old new = IsLockReleased old.view new.view × EndsRun old new
 
--- the run lock is tried, and the bands are served where it is got
-abbrev pub AttemptsBy : Setup → List Made → List Made → Type 0
-AttemptsBy k old new = BeginsBy false old new ⊎ ((got : List Made) × BeginsBy true old got × RunsToEndBy k got new)
+pub record RunsToEndBy (k : Setup) (old new : Known) : Type 0 where
+  pub ran : Ran
+  pub last : Known
+  pub runs : RunsBy k ran old last
+  pub share : last.view.share ≡ old.view.share
+  pub ended : ReleasesBy last new
+
+-- the run lock is got, or it isn't
+abbrev pub GetsBy : Known → Known → Type 0
+GetsBy old new = GetsLock old.view new.view × BeginsBy true old new
+
+abbrev pub MissesBy : Known → Known → Type 0
+MissesBy old new = Misses old.view new.view × BeginsBy false old new
+
+-- `qdisc_run` of include/net/pkt_sched.h: the run lock is tried, and the bands are served where it is got
+abbrev pub AttemptsBy : Setup → Known → Known → Type 0
+AttemptsBy k old new = MissesBy old new ⊎ ((got : Known) × GetsBy old got × RunsToEndBy k got new)
 
 -- A TRANSMIT
 
-abbrev pub EnqueuesBy : Setup → ℕ → Sending → List Made → List Made → Type 0
-EnqueuesBy k n sending.Queued old new = Puts k (band_in k.infos n) n old new
-EnqueuesBy k n (sending.FullSeen seen) old new = (full : List Made) × FindsFull k (band_in k.infos n) seen old full × (new ≡ full ⊳ did_store_fate k n (word_of (fate.Full seen)))
+-- `pfifo_fast_enqueue` of net/sched/sch_generic.c: the packet is put into its band, or dropped as full
+abbrev pub EnqueuesBy : Setup → ℕ → Sending → Known → Known → Type 0
+EnqueuesBy k n sending.Queued old new = Enqueues n (band_in k.infos n) sending.Queued old.view new.view × Puts k (band_in k.infos n) n old new
+EnqueuesBy k n (sending.FullSeen seen) old new = Enqueues n (band_in k.infos n) (sending.FullSeen seen) old.view new.view
+    × (full : Known) × FindsFull k (band_in k.infos n) n seen old full × (new.steps ≡ full.steps ⊳ did_store_fate k n (word_of (fate.Full seen)))
 EnqueuesBy k n sending.Direct old new = ⊥
 EnqueuesBy k n (sending.Refused event) old new = ⊥
 EnqueuesBy k n (sending.OutOfTurn found) old new = ⊥
 
-abbrev pub GoesThroughBy : Setup → ℕ → Sending → List Made → List Made → Type 0
-GoesThroughBy k n answer old new = (put : List Made) × EnqueuesBy k n answer old put × AttemptsBy k put new
+-- by a seat that doesn't have the run lock, which then tries that
+abbrev pub GoesThroughBy : Setup → ℕ → Sending → Known → Known → Type 0
+GoesThroughBy k n answer old new = (put : Known) × EnqueuesBy k n answer old put × AttemptsBy k put new
 
-abbrev pub GoesHeldBy : Setup → ℕ → Sending → List Made → List Made → Type 0
-GoesHeldBy k n answer old new = (put : List Made) × EnqueuesBy k n answer old put × RunsToEndBy k put new
+-- under the run lock, since MISSED or DRAINING was loaded there
+pub record GoesHeldBy (k : Setup) (n : ℕ) (answer : Sending) (old new : Known) : Type 0 where
+  pub state : ℕ
+  pub waits : some_bit state ≡ true
+  pub sees : IsSole old.view → SeesState old.view state
+  pub put : Known
+  pub enqueued : EnqueuesBy k n answer (looked state old) put
+  pub served : RunsToEndBy k put new
 
--- after a packet that went past the bands
-abbrev pub FollowsBy : Setup → Through → List Made → List Made → Type 0
-FollowsBy k through.Yes old new = (state : ℕ) × (((some_bit state ≡ true) × RunsToEndBy k (old ⊳ did_load_state state) new) ⊎ ((some_bit state ≡ false) × EndsRun (old ⊳ did_load_state state) new))
-FollowsBy k (through.Back reason) old new = EndsRun old new
+-- after a packet that went past the bands: where the device accepted it the state is loaded, and where MISSED or DRAINING is set then, the
+-- bands are served
+abbrev pub FollowsBy : Setup → Through → Known → Known → Type 0
+FollowsBy k through.Yes old new = (state : ℕ) × (IsSole old.view → SeesState old.view state) × (solo (looking state old.view) ≡ solo old.view)
+    × (((some_bit state ≡ true) × RunsToEndBy k (looked state old) new) ⊎ ((some_bit state ≡ false) × ReleasesBy (looked state old) new))
+FollowsBy k (through.Back reason) old new = ReleasesBy old new
 
-abbrev pub GoesPastBy : Setup → ℕ → List Made → List Made → Type 0
-GoesPastBy k n old new = (handed : Through) × (after : List Made) × DirectsBy k handed n (queue_in k.infos n) old after × FollowsBy k handed after new
+-- a load of the state under the run lock, after which the packet n is in hand
+abbrev pub gone : ℕ → ℕ → Known → Known
+gone n state k = record { view = going n state k.view; steps = k.steps ⊳ did_load_state state }
 
--- under the run lock the state is loaded again
-abbrev pub GoesLockedBy : Setup → ℕ → Sending → List Made → List Made → Type 0
-GoesLockedBy k n answer old new = (state : ℕ) × (((some_bit state ≡ true) × GoesHeldBy k n answer (old ⊳ did_load_state state) new) ⊎ ((some_bit state ≡ false) × (answer ≡ sending.Direct) × GoesPastBy k n (old ⊳ did_load_state state) new))
+-- past the bands: the state was loaded under the run lock with MISSED and DRAINING clear
+pub record GoesPastBy (k : Setup) (n : ℕ) (old new : Known) : Type 0 where
+  pub state : ℕ
+  pub clear : some_bit state ≡ false
+  pub sees : IsSole old.view → SeesState old.view state
+  pub step : solo (going n state old.view) ≡ heard (DirectEvent n) (solo old.view)
+  pub handed : Through
+  pub after : Known
+  pub direct : DirectsBy k handed n (queue_in k.infos n) (gone n state old) after
+  pub follows : FollowsBy k handed after new
 
-abbrev pub TriesToPassBy : Setup → ℕ → Sending → List Made → List Made → Type 0
-TriesToPassBy k n answer old new = ((missed : List Made) × BeginsBy false old missed × GoesThroughBy k n answer missed new) ⊎ ((got : List Made) × BeginsBy true old got × GoesLockedBy k n answer got new)
+-- under the run lock
+abbrev pub GoesLockedBy : Setup → ℕ → Sending → Known → Known → Type 0
+GoesLockedBy k n answer old new = GoesHeldBy k n answer old new ⊎ ((answer ≡ sending.Direct) × GoesPastBy k n old new)
 
-abbrev pub RefusesBy : Setup → ℕ → Sending → List Made → List Made → Type 0
-RefusesBy k n answer old new = (event : ℕ) × (answer ≡ sending.Refused event) × (new ≡ old ⊳ did_store_fate k n (word_of (fate.Refused event)))
+-- It may go past the bands, since neither bit was set: it does so where the run lock is got and neither is set still.
+abbrev pub TriesToPassBy : Setup → ℕ → Sending → Known → Known → Type 0
+TriesToPassBy k n answer old new = ((missed : Known) × MissesBy old missed × GoesThroughBy k n answer missed new) ⊎ ((got : Known) × GetsBy old got × GoesLockedBy k n answer got new)
 
-abbrev pub GoesBy : Setup → ℕ → Sending → List Made → List Made → Type 0
-GoesBy k n answer old new = (state : ℕ)
-    × (((is_set 2 state ≡ true) × RefusesBy k n answer (old ⊳ did_load_state state) new)
-    ⊎ (((is_set 2 state ≡ false) × (k.bypass && not (some_bit state) ≡ true) × TriesToPassBy k n answer (old ⊳ did_load_state state) new)
-    ⊎ ((is_set 2 state ≡ false) × (k.bypass && not (some_bit state) ≡ false) × GoesThroughBy k n answer (old ⊳ did_load_state state) new)))
+-- the station is deactivated: the packet is refused, and its fate stored
+abbrev pub RefusesBy : Setup → ℕ → Sending → ℕ → Known → Known → Type 0
+RefusesBy k n answer state old new = (event : ℕ) × (answer ≡ sending.Refused event) × IsRefused n event state old.view new.view
+    × (new.steps ≡ old.steps ⊳ did_load_state state ⊳ did_store_fate k n (word_of (fate.Refused event)))
 
-abbrev pub TransmitsBy : Setup → ℕ → Sending → List Made → List Made → Type 0
-TransmitsBy k n (sending.OutOfTurn found) old new = new ≡ old ⊳ did_take_turn (owner_in k.infos n) (rank_in k.infos n) false
-TransmitsBy k n answer old new = (went : List Made) × GoesBy k n answer (old ⊳ did_take_turn (owner_in k.infos n) (rank_in k.infos n) true ⊳ did_enter) went
-    × (new ≡ went ⊳ did_leave ⊳ did_give_turn (owner_in k.infos n) (rank_in k.infos n))
+-- `__dev_xmit_skb` of net/core/dev.c, the part for a qdisc with `TCQ_F_NOLOCK`
+pub record GoesBy (k : Setup) (n : ℕ) (answer : Sending) (old new : Known) : Type 0 where
+  pub state : ℕ
+  pub sees : IsSole old.view → SeesState old.view state
+  pub first : old.view.control.first ≡ true → SeesDown old.view state
+  pub refused : is_set 2 state ≡ true → RefusesBy k n answer state old new
+  pub past : is_set 2 state ≡ false → k.bypass && not (some_bit state) ≡ true → TriesToPassBy k n answer (looked state old) new
+  pub through : is_set 2 state ≡ false → k.bypass && not (some_bit state) ≡ false → GoesThroughBy k n answer (looked state old) new
+
+-- the turn of the packet n is taken, and the call begins
+abbrev pub begun : ℕ → Setup → Known → Known
+begun n k old = record { view = transmitting k.infos n old.view; steps = old.steps ⊳ did_take_turn (owner_in k.infos n) (rank_in k.infos n) true ⊳ did_enter }
+
+-- the call ends, and then the turn is given back
+abbrev pub over : ℕ → Setup → Known → Known
+over n k last = record { view = giving_turn (owner_in k.infos n) (rank_in k.infos n) (passing last.view); steps = last.steps ⊳ did_leave ⊳ did_give_turn (owner_in k.infos n) (rank_in k.infos n) }
+
+-- `__dev_queue_xmit` of net/core/dev.c, of a packet whose turn it is
+pub record TransmitsBy (k : Setup) (n : ℕ) (answer : Sending) (old new : Known) : Type 0 where
+  pub came : is_some (came_as k.infos n answer) ≡ true
+  pub turns : new.view.turns ≡ slice_set old.view.turns (owner_in k.infos n) (2 * rank_in k.infos n + 2)
+  pub trail : new.view.trail ≡ trail_with (came_as k.infos n answer) old.view
+  pub last : Known
+  pub goes : GoesBy k n answer (begun n k old) last
+  pub ends : new ≡ over n k last
+  pub step : solo new.view ≡ solo last.view
 
 -- A SOFT INTERRUPT
 
-abbrev pub IsDueBy : Bool → List Made → List Made → Type 0
-IsDueBy due old new = (first : ℕ)
-    × (((is_set 2 first ≡ false) × (due ≡ true) × (new ≡ old ⊳ did_load_state first ⊳ did_clear_sched))
-    ⊎ ((is_set 2 first ≡ true) × (second : ℕ) × (due ≡ not (is_set 2 second)) × (new ≡ old ⊳ did_load_state first ⊳ did_clear_sched ⊳ did_load_state second)))
+-- SCHED was cleared; what the loads of the state showed says whether the bands are served
+abbrev pub IsDueBy : Bool → Known → Known → Type 0
+IsDueBy due old new = (d : IsDue due old.view new.view)
+    × ((is_set 2 d.first ≡ false → new.steps ≡ old.steps ⊳ did_load_state d.first ⊳ did_clear_sched)
+    × ((on : is_set 2 d.first ≡ true) → new.steps ≡ old.steps ⊳ did_load_state d.first ⊳ did_clear_sched ⊳ did_load_state (d.deactivated on).0))
 
-abbrev pub InterruptsBy : Setup → List Made → List Made → Type 0
-InterruptsBy k old new = (due : Bool) × (cleared served : List Made) × IsDueBy due (old ⊳ did_enter) cleared
-    × (((due ≡ true) × AttemptsBy k cleared served) ⊎ ((due ≡ false) × (served ≡ cleared))) × (new ≡ served ⊳ did_leave)
+-- the call begins, as a soft interrupt, and ends
+abbrev pub entered : Known → Known
+entered k = record { view = entering k.view; steps = k.steps ⊳ did_enter }
+
+abbrev pub left : Known → Known
+left k = record { view = passing k.view; steps = k.steps ⊳ did_leave }
+
+-- `net_tx_action` of net/core/dev.c for one qdisc: the bands are served, unless the station is deactivated still
+pub record InterruptsBy (k : Setup) (old new : Known) : Type 0 where
+  pub due : Bool
+  pub cleared : Known
+  pub begins : IsDueBy due (entered old) cleared
+  pub last : Known
+  pub serves : due ≡ true → AttemptsBy k cleared last
+  pub leaves : due ≡ false → last ≡ cleared
+  pub ends : new ≡ left last
+  pub step : solo new.view ≡ solo last.view

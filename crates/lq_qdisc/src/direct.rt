@@ -1,5 +1,5 @@
 //! Handing a packet to the device.
-ghost use Rattle.std.specs.Prelude.{◌≡◌, ◌≢◌, ℕ, ◌<◌, ◌≤◌, Bool, true, false, length, slice_index, [], ◌∷◌, is_some, Some, None};
+ghost use Rattle.std.specs.Prelude.{◌≡◌, ◌≢◌, ℕ, ◌<◌, ◌≤◌, Bool, true, false, length, slice_index, List, [], ◌∷◌, is_some, Some, None};
 ghost use Rattle.lq_device.specs.Station.{StationState, HasAnswered, with_slot};
 ghost use Rattle.lq_model.specs.Account.{Back};
 ghost use Rattle.lq_model.specs.Device.{is_busy, is_hang};
@@ -10,13 +10,13 @@ ghost use Rattle.lq_model.specs.declared.device.Tx.TheVariants.{Busy as NotSent}
 ghost use Rattle.lq_model.specs.declared.machine.Blocked.TheVariants.{InHand};
 ghost use Rattle.lq_model.specs.declared.machine.Position.TheVariants.{BlockedClear, Gate, StoreXoff, Unlock, Xmit};
 ghost use Rattle.lq_table.specs.Rule.{shown};
-ghost use Rattle.lq_table.specs.Sees.{view, steps, setup, position, slot, packet_at, carried, IsSeatOf, IsSameSeat, IsElseSame};
+ghost use Rattle.lq_table.specs.Sees.{view, known, steps, setup, position, slot, packet_at, carried, IsSeatOf, IsSameSeat, IsElseSame};
 ghost use Rattle.lq_table.specs.Told.{HasRoom, IsPacketOf, fate_sent, loading, passing, setting, requeuing};
 ghost use Rattle.lq_table.specs.Solo.{IsSole, account_of, solo, heard, missed_to, draining_to, device_to};
-ghost use Rattle.lq_table.specs.Made.{did_set_missed, did_store_fate, ◌⊳◌};
-ghost use Rattle.lq_qdisc.specs.Steps.{DirectsBy, LaysAsideBy, OffersBy, hung_stored, stops_stored};
+ghost use Rattle.lq_table.specs.Made.{Made, did_set_missed, did_store_fate, ◌⊳◌};
+ghost use Rattle.lq_qdisc.specs.Steps.{ClearsMaybe, DirectsBy, OffersBy, hung_stored, stops_stored};
 ghost use Rattle.lq_qdisc.specs.Calls.{IsServing, IsKeptInRun, IsSettledSame};
-ghost use Rattle.lq_qdisc.specs.Direct.{Directs, IsSentAs, Offers, SeesOpen, StaysAt, hearing_hung, hearing_stops, hung_below, position_after, run_after, sent_leads, stopped_by};
+ghost use Rattle.lq_qdisc.specs.Direct.{IsSentAs, SeesOpen, StaysAt, hearing_hung, hearing_stops, hung_below, position_after, run_after, sent_leads, stopped_by};
 ghost use Rattle.lq_qdisc.specs.declared.answers.Through.TheVariants.{Yes};
 
 use crate::answers::{Through, Why};
@@ -42,8 +42,7 @@ pub fn direct_xmit<'a, D: TxDevice>(shared: &Shared<'a, D>, cpu: &mut Cpu<D>, n:
     ensures run { (view cpu.new).place.run ≡ run_after result (view cpu.old).place.run }
     ensures empty { result ≡ Yes → ((view cpu.new).holder.hand ≡ None) × ((view cpu.new).holder.slot ≡ None) }
     ensures trail { (view cpu.new).trail ≡ (view cpu.old).trail }
-    ensures handed { Directs result n (queue_in shared.now.infos.now n) (view cpu.old) (view cpu.new) }
-    ensures made { DirectsBy (setup shared.now) result n (queue_in shared.now.infos.now n) (steps cpu.old) (steps cpu.new) }
+    ensures handed { DirectsBy (setup shared.now) result n (queue_in shared.now.infos.now n) (known cpu.old) (known cpu.new) }
 {
     let queue = queue_of(shared, n);
     if shared.load_xoff(cpu, queue) != 0 {
@@ -80,9 +79,8 @@ fn lay_aside<'a, D: TxDevice>(shared: &Shared<'a, D>, cpu: &mut Cpu<D>, n: u32, 
     ensures fates { IsSettledSame cpu.old cpu.new }
     ensures holder { (view cpu.new).holder ≡ record (view cpu.old).holder { slot = Some n; hand = None } }
     ensures heard { (view cpu.new).whole.state.past ≡ Back ∷ (view cpu.old).whole.state.past }
-    ensures stopped { (again : ℕ) × (view cpu.new ≡ setting (setting (loading again (passing (view cpu.old))))) }
+    ensures stopped { (again : ℕ) × (view cpu.new ≡ setting (setting (loading again (passing (view cpu.old))))) × (cleared : List Made) × (was : Bool) × ClearsMaybe (setup shared.now) queue again (steps cpu.old) cleared × (steps cpu.new ≡ cleared ⊳ did_set_missed was) }
     ensures sole { IsSole (view cpu.old) → slice_index (account_of (view cpu.old)).stops queue ≢ 0 → solo (view cpu.new) ≡ missed_to true (heard Back (draining_to true (missed_to false (solo (view cpu.old))))) }
-    ensures made { LaysAsideBy (setup shared.now) queue (steps cpu.old) (steps cpu.new) }
 {
     maybe_clear_missed(shared, cpu, queue);
     put_back(cpu, n);
@@ -202,8 +200,7 @@ fn offer<'a, D: TxDevice>(shared: &Shared<'a, D>, cpu: &mut Cpu<D>, n: u32, queu
     ensures run { (view cpu.new).place.run ≡ run_after result (view cpu.old).place.run }
     ensures empty { result ≡ Yes → ((view cpu.new).holder.hand ≡ None) × ((view cpu.new).holder.slot ≡ None) }
     ensures trail { (view cpu.new).trail ≡ (view cpu.old).trail }
-    ensures offered { Offers result n queue (view cpu.old) (view cpu.new) }
-    ensures made { OffersBy (setup shared.now) result n queue (steps cpu.old) (steps cpu.new) }
+    ensures offered { OffersBy (setup shared.now) result n queue (steps cpu.old) (known cpu.old) (known cpu.new) }
 {
     let (answer, fate) = hand_over(cpu, queue, n);
     if is_refusal(answer) {

@@ -3,14 +3,14 @@ ghost use Rattle.std.specs.Prelude.{◌≡◌, ◌<◌, Bool, true, false, if◌
 ghost use Rattle.lq_model.specs.declared.machine.Attempt.TheVariants.{Interrupt};
 ghost use Rattle.lq_model.specs.declared.machine.Position.TheVariants.{Idle, Leave, Soft, Try1};
 ghost use Rattle.lq_model.specs.Alone.{opened};
-ghost use Rattle.lq_table.specs.Views.{View, first_account};
+ghost use Rattle.lq_table.specs.Views.{first_account};
 ghost use Rattle.lq_qdisc.specs.Alone.{BringsAlone, Does};
-ghost use Rattle.lq_table.specs.Sees.{view, known, steps, setup, position, IsSeatOf, IsElseSame};
+ghost use Rattle.lq_table.specs.Sees.{view, known, setup, position, IsSeatOf, IsElseSame};
 ghost use Rattle.lq_table.specs.Solo.{solo};
-ghost use Rattle.lq_table.specs.Told.{at_rest, entering, passing};
+ghost use Rattle.lq_table.specs.Told.{at_rest};
 ghost use Rattle.lq_qdisc.specs.Calls.{KeepsFates};
 ghost use Rattle.lq_qdisc.specs.Steps.{InterruptsBy, IsDueBy};
-ghost use Rattle.lq_qdisc.specs.Sends.{Interrupts, IsCallKept, IsDue, IsRaisedAgain, IsReadyToSend, IsStill, Wakes, WakesBelow};
+ghost use Rattle.lq_qdisc.specs.Sends.{IsCallKept, IsRaisedAgain, IsReadyToSend, IsStill, Wakes, WakesBelow};
 
 use crate::sends::{attempt, is_deactivated};
 use lq_device::TxDevice;
@@ -30,10 +30,9 @@ pub fn softirq<'a, D: TxDevice>(shared: &Shared<'a, D>, cpu: &mut Cpu<D>)
     ensures at { position cpu.new ≡ Idle }
     ensures ready { IsReadyToSend cpu.new }
     ensures still { IsStill (view cpu.old) (view cpu.new) }
-    ensures interrupts { (before : View) × Interrupts shared.now.infos.now (entering (view cpu.old)) before × (view cpu.new ≡ passing before) × (solo (view cpu.new) ≡ solo before) }
+    ensures interrupts { InterruptsBy (setup shared.now) (known cpu.old) (known cpu.new) }
     ensures again { IsRaisedAgain (view cpu.new) }
     ensures alone { BringsAlone shared.now.infos.now (first_account (setup shared.now)) (λ s. s) (solo (view cpu.old)) (solo (view cpu.new)) }
-    ensures made { InterruptsBy (setup shared.now) (steps cpu.old) (steps cpu.new) }
 {
     shared.enter(cpu);
     if is_due(shared, cpu) {
@@ -49,9 +48,8 @@ fn is_due<'a, D: TxDevice>(shared: &Shared<'a, D>, cpu: &mut Cpu<D>) -> bool
     ensures same { IsElseSame cpu.old cpu.new }
     ensures at { position cpu.new ≡ (if result then Try1 Interrupt else Leave) }
     ensures still { IsStill (view cpu.old) (view cpu.new) × ((view cpu.new).locks ≡ (view cpu.old).locks) × ((view cpu.new).holder ≡ (view cpu.old).holder) }
-    ensures due { IsDue result (view cpu.old) (view cpu.new) }
+    ensures due { IsDueBy result (known cpu.old) (known cpu.new) }
     ensures mark { (view cpu.new).place.raised ≡ (view cpu.old).place.raised }
-    ensures made { IsDueBy result (steps cpu.old) (steps cpu.new) }
 {
     let first = shared.load_state(cpu);
     unschedule(shared, cpu);

@@ -7,14 +7,15 @@ ghost use Rattle.lq_model.specs.declared.machine.Attempt.TheVariants.{Direct as 
 ghost use Rattle.lq_model.specs.declared.machine.Position.TheVariants.{Check, Gate, Idle, Leave, Put, Recheck, Try1};
 ghost use Rattle.lq_run.specs.Runs.{IsRaisedBySched, begins};
 ghost use Rattle.lq_ring.specs.Put.{no_locks, put_leads_to};
-ghost use Rattle.lq_table.specs.Views.{View};
-ghost use Rattle.lq_table.specs.Sees.{view, steps, setup, position, slot, packet_at, IsSeatOf, IsSameSeat, IsElseSame};
+ghost use Rattle.lq_model.specs.Words.{word_of};
+ghost use Rattle.lq_table.specs.Made.{Known, ◌⊳◌, did_store_fate};
+ghost use Rattle.lq_table.specs.Sees.{view, known, steps, setup, position, slot, packet_at, IsSeatOf, IsSameSeat, IsElseSame};
 ghost use Rattle.lq_table.specs.Told.{IsPacketOf, is_set, some_bit, paying};
 ghost use Rattle.lq_table.specs.Solo.{solo};
-ghost use Rattle.lq_qdisc.specs.Steps.{AttemptsBy, EnqueuesBy, FollowsBy, GoesBy, GoesHeldBy, GoesLockedBy, GoesPastBy, GoesThroughBy, RefusesBy, RunsToEndBy, TriesToPassBy};
+ghost use Rattle.lq_qdisc.specs.Steps.{AttemptsBy, DirectsBy, EnqueuesBy, FollowsBy, GoesBy, GoesLockedBy, GoesThroughBy, RunsToEndBy, TriesToPassBy};
 ghost use Rattle.lq_qdisc.specs.Calls.{IsServing, IsSlotOf, KeepsFates};
-ghost use Rattle.lq_qdisc.specs.Sends.{Attempts, Enqueues, FollowsDirect, IsFreeInside, IsInsideKept, Goes, GoesPast, GoesThrough, GoesThroughHeld, HasCome, IsBringing, IsCallKept, RunsToEnd, TriesToPass, serves_bands};
-ghost use Rattle.lq_qdisc.specs.Direct.{Directs, position_after};
+ghost use Rattle.lq_qdisc.specs.Sends.{IsFreeInside, IsInsideKept, HasCome, IsBringing, IsCallKept, serves_bands};
+ghost use Rattle.lq_qdisc.specs.Direct.{position_after};
 ghost use Rattle.lq_qdisc.specs.declared.answers.Sending.TheVariants as sending;
 ghost use Rattle.lq_qdisc.specs.declared.answers.Through.{Through as Handed};
 ghost use Rattle.lq_qdisc.specs.declared.answers.Through.TheVariants.{Yes};
@@ -57,9 +58,8 @@ fn run_to_end<'a, D: TxDevice>(shared: &Shared<'a, D>, cpu: &mut Cpu<D>)
     ensures fates { KeepsFates (view cpu.old) (view cpu.new) }
     ensures at { position cpu.new ≡ Leave }
     ensures left { IsFreeInside cpu.new }
-    ensures served { RunsToEnd shared.now.infos.now (view cpu.old) (view cpu.new) }
     ensures sched { IsRaisedBySched (view cpu.old) (view cpu.new) }
-    ensures made { RunsToEndBy (setup shared.now) (steps cpu.old) (steps cpu.new) }
+    ensures served { RunsToEndBy (setup shared.now) (known cpu.old) (known cpu.new) }
 {
     run(shared, cpu);
     end(shared, cpu);
@@ -74,9 +74,8 @@ pub(crate) fn attempt<'a, D: TxDevice>(shared: &Shared<'a, D>, cpu: &mut Cpu<D>)
     ensures fates { KeepsFates (view cpu.old) (view cpu.new) }
     ensures at { position cpu.new ≡ Leave }
     ensures left { IsFreeInside cpu.new }
-    ensures attempted { Attempts shared.now.infos.now (view cpu.old) (view cpu.new) }
     ensures sched { IsRaisedBySched (view cpu.old) (view cpu.new) }
-    ensures made { AttemptsBy (setup shared.now) (steps cpu.old) (steps cpu.new) }
+    ensures attempted { AttemptsBy (setup shared.now) (known cpu.old) (known cpu.new) }
 {
     if begin(shared, cpu) {
         run_to_end(shared, cpu);
@@ -97,8 +96,7 @@ fn enqueue<'a, D: TxDevice, R: Wait>(
     requires idle { ((view cpu.old).locks ≡ no_locks) × ((view cpu.old).holder.resizing ≡ None) }
     ensures same { IsSameSeat cpu.old cpu.new × (cpu.new.station ≡ cpu.old.station) × (slot cpu.new ≡ slot cpu.old) }
     ensures at { (holds : Bool) → position cpu.old ≡ Put (packet_at shared.now n) holds → position cpu.new ≡ put_leads_to holds (packet_at shared.now n) (view cpu.old) }
-    ensures put { Enqueues n (band_in shared.now.infos.now n) result (view cpu.old) (view cpu.new) }
-    ensures made { EnqueuesBy (setup shared.now) n result (steps cpu.old) (steps cpu.new) }
+    ensures put { EnqueuesBy (setup shared.now) n result (known cpu.old) (known cpu.new) }
 {
     let band = shared.infos()[n as usize].band as u32;
     match produce(rt, shared, cpu, band, n) {
@@ -126,8 +124,7 @@ fn send_through<'a, D: TxDevice, R: Wait>(
     ensures at { position cpu.new ≡ Leave }
     ensures free { IsFreeInside cpu.new }
     ensures came { HasCome shared.now.infos.now n result (view cpu.old) (view cpu.new) }
-    ensures goes { GoesThrough shared.now.infos.now n result (view cpu.old) (view cpu.new) }
-    ensures made { GoesThroughBy (setup shared.now) n result (steps cpu.old) (steps cpu.new) }
+    ensures goes { GoesThroughBy (setup shared.now) n result (known cpu.old) (known cpu.new) }
 {
     let sending = enqueue(rt, shared, cpu, n);
     attempt(shared, cpu);
@@ -152,8 +149,7 @@ fn send_held<'a, D: TxDevice, R: Wait>(
     ensures at { position cpu.new ≡ Leave }
     ensures free { IsFreeInside cpu.new }
     ensures came { HasCome shared.now.infos.now n result (view cpu.old) (view cpu.new) }
-    ensures goes { (put : View) × Enqueues n (band_in shared.now.infos.now n) result (view cpu.old) put × RunsToEnd shared.now.infos.now put (view cpu.new) }
-    ensures made { GoesHeldBy (setup shared.now) n result (steps cpu.old) (steps cpu.new) }
+    ensures goes { (put : Known) × EnqueuesBy (setup shared.now) n result (known cpu.old) put × RunsToEndBy (setup shared.now) put (known cpu.new) }
 {
     let sending = enqueue(rt, shared, cpu, n);
     run_to_end(shared, cpu);
@@ -171,8 +167,7 @@ fn follow<'a, D: TxDevice>(shared: &Shared<'a, D>, cpu: &mut Cpu<D>, through: Th
     ensures fates { KeepsFates (view cpu.old) (view cpu.new) }
     ensures at { position cpu.new ≡ Leave }
     ensures free { IsFreeInside cpu.new }
-    ensures follows { FollowsDirect through shared.now.infos.now (view cpu.old) (view cpu.new) }
-    ensures made { FollowsBy (setup shared.now) through (steps cpu.old) (steps cpu.new) }
+    ensures follows { FollowsBy (setup shared.now) through (known cpu.old) (known cpu.new) }
 {
     if through == Through::Yes && is_non_empty(shared.load_state(cpu)) {
         run_to_end(shared, cpu);
@@ -192,8 +187,7 @@ fn send_past<'a, D: TxDevice>(shared: &Shared<'a, D>, cpu: &mut Cpu<D>, n: u32)
     ensures fates { KeepsFates (view cpu.old) (view cpu.new) }
     ensures at { position cpu.new ≡ Leave }
     ensures free { IsFreeInside cpu.new }
-    ensures past { (handed : Handed) × (after : View) × Directs handed n (queue_in shared.now.infos.now n) (view cpu.old) after × FollowsDirect handed shared.now.infos.now after (view cpu.new) }
-    ensures made { GoesPastBy (setup shared.now) n (steps cpu.old) (steps cpu.new) }
+    ensures past { (handed : Handed) × (after : Known) × DirectsBy (setup shared.now) handed n (queue_in shared.now.infos.now n) (known cpu.old) after × FollowsBy (setup shared.now) handed after (known cpu.new) }
 {
     let through = direct_xmit(shared, cpu, n);
     follow(shared, cpu, through);
@@ -218,8 +212,7 @@ fn send_locked<'a, D: TxDevice, R: Wait>(
     ensures at { position cpu.new ≡ Leave }
     ensures free { IsFreeInside cpu.new }
     ensures came { HasCome shared.now.infos.now n result (view cpu.old) (view cpu.new) }
-    ensures goes { GoesThroughHeld shared.now.infos.now n result (view cpu.old) (view cpu.new) ⊎ ((result ≡ sending.Direct) × GoesPast shared.now.infos.now n (view cpu.old) (view cpu.new)) }
-    ensures made { GoesLockedBy (setup shared.now) n result (steps cpu.old) (steps cpu.new) }
+    ensures goes { GoesLockedBy (setup shared.now) n result (known cpu.old) (known cpu.new) }
 {
     let state = shared.recheck(cpu, n);
     if is_non_empty(state) {
@@ -246,8 +239,7 @@ fn send_try<'a, D: TxDevice, R: Wait>(
     ensures at { position cpu.new ≡ Leave }
     ensures free { IsFreeInside cpu.new }
     ensures came { HasCome shared.now.infos.now n result (view cpu.old) (view cpu.new) }
-    ensures goes { TriesToPass shared.now.infos.now n result (view cpu.old) (view cpu.new) }
-    ensures made { TriesToPassBy (setup shared.now) n result (steps cpu.old) (steps cpu.new) }
+    ensures goes { TriesToPassBy (setup shared.now) n result (known cpu.old) (known cpu.new) }
 {
     if begin(shared, cpu) {
         send_locked(rt, shared, cpu, n)
@@ -263,9 +255,8 @@ fn refuse<'a, D: TxDevice>(shared: &Shared<'a, D>, cpu: &mut Cpu<D>, n: u32, sta
     requires state { (event : ℕ) × (bits : ℕ) × (bits < 16) × (event < 4294967296) × (state ≡ bits + 256 * (event + 1)) × ((view cpu.old).packets.owed ≡ Some (n, Refused event)) }
     ensures same { IsElseSame cpu.old cpu.new }
     ensures view { view cpu.new ≡ paying (view cpu.old) }
-    ensures event { (event : ℕ) × (bits : ℕ) × (bits < 16) × (state ≡ bits + 256 * (event + 1)) × (result ≡ sending.Refused event) }
+    ensures event { (event : ℕ) × (bits : ℕ) × (bits < 16) × (state ≡ bits + 256 * (event + 1)) × (result ≡ sending.Refused event) × (steps cpu.new ≡ steps cpu.old ⊳ did_store_fate (setup shared.now) n (word_of (Refused event))) }
     ensures step { solo (view cpu.new) ≡ solo (view cpu.old) }
-    ensures made { RefusesBy (setup shared.now) n result (steps cpu.old) (steps cpu.new) }
 {
     let event = (state / 256 - 1) as u32;
     shared.settle(cpu, n, Fate::Refused { event });
@@ -289,8 +280,7 @@ pub(crate) fn send<'a, D: TxDevice, R: Wait>(
     ensures at { position cpu.new ≡ Leave }
     ensures free { IsFreeInside cpu.new }
     ensures came { HasCome shared.now.infos.now n result (view cpu.old) (view cpu.new) }
-    ensures goes { Goes shared.now.infos.now shared.now.bypass n result (view cpu.old) (view cpu.new) }
-    ensures made { GoesBy (setup shared.now) n result (steps cpu.old) (steps cpu.new) }
+    ensures goes { GoesBy (setup shared.now) n result (known cpu.old) (known cpu.new) }
 {
     let state = shared.check(cpu, n);
     if is_deactivated(state) {

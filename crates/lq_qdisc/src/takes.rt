@@ -5,14 +5,14 @@ ghost use Rattle.lq_model.specs.Plan.{queue_in};
 ghost use Rattle.lq_model.specs.Steps.{queue_of_blocked};
 ghost use Rattle.lq_model.specs.declared.machine.Blocked.{Blocked};
 ghost use Rattle.lq_model.specs.declared.machine.Position.TheVariants.{BlockedClear, Scan, Gate, Test, ClearMissed, Unlock, Deq};
-ghost use Rattle.lq_table.specs.Sees.{view, steps, setup, position, slot, packet_at, IsSeatOf, IsSameSeat};
-ghost use Rattle.lq_table.specs.Told.{some_bit, IsPacketOf, setting, loading, passing};
+ghost use Rattle.lq_table.specs.Sees.{view, known, steps, setup, position, slot, packet_at, IsSeatOf, IsSameSeat};
+ghost use Rattle.lq_table.specs.Told.{some_bit, IsPacketOf, setting, loading, looking, passing};
 ghost use Rattle.lq_table.specs.Solo.{IsSole, account_of, solo, laid, missed_to, draining_to};
 ghost use Rattle.lq_device.specs.Station.{StationState, with_slot};
 ghost use Rattle.lq_table.specs.Rule.{shown};
 ghost use Rattle.lq_run.specs.Runs.{begins};
 ghost use Rattle.lq_table.specs.Made.{◌⊳◌, did_clear_draining, did_clear_missed, did_load_state};
-ghost use Rattle.lq_qdisc.specs.Steps.{ClearsMaybe, DequeuesBy, LooksThrough, Scans};
+ghost use Rattle.lq_qdisc.specs.Steps.{ClearsMaybe, DequeuesBy, DequeuesFrom, LooksThrough, Scans};
 ghost use Rattle.lq_qdisc.specs.Calls.{IsSlotOf, IsTakenOf, Dequeues, IsKeptInRun, IsServing, IsSettledSame, FindsNone, Finds, Looks, SeesOneQueue, cleared, after_dequeue, looking_at, laid_aside, with_back, after_blocked};
 
 use crate::answers::Taken;
@@ -38,10 +38,9 @@ pub fn dequeue<'a, D: TxDevice>(shared: &Shared<'a, D>, cpu: &mut Cpu<D>) -> Tak
     ensures serving { IsServing cpu.new }
     ensures at { position cpu.new ≡ after_dequeue result shared.now.infos.now }
     ensures fates { IsSettledSame cpu.old cpu.new }
-    ensures taken { Dequeues result shared.now.infos.now (view cpu.old) (view cpu.new) }
+    ensures taken { DequeuesBy (setup shared.now) result (known cpu.old) (known cpu.new) }
     ensures one { SeesOneQueue result (view cpu.old) }
     ensures packet { IsTakenOf (setup shared.now) result }
-    ensures made { DequeuesBy (setup shared.now) (view cpu.old).holder.slot result (steps cpu.old) (steps cpu.new) }
 {
     if let Some(n) = requeued(cpu) {
         return dequeue_requeued(shared, cpu, n);
@@ -96,9 +95,9 @@ fn dequeue_requeued<'a, D: TxDevice>(shared: &Shared<'a, D>, cpu: &mut Cpu<D>, n
     ensures at { position cpu.new ≡ after_dequeue result shared.now.infos.now }
     ensures fates { IsSettledSame cpu.old cpu.new }
     ensures taken { Dequeues result shared.now.infos.now (view cpu.old) (view cpu.new) }
+    ensures by { DequeuesFrom (setup shared.now) (Some n) result (known cpu.old) (known cpu.new) }
     ensures one { SeesOneQueue result (view cpu.old) }
     ensures packet { IsTakenOf (setup shared.now) result }
-    ensures made { DequeuesBy (setup shared.now) (Some n) result (steps cpu.old) (steps cpu.new) }
 {
     let queue = queue_of(shared, n);
     if shared.load_xoff(cpu, queue) != 0 {
@@ -122,9 +121,9 @@ fn dequeue_open<'a, D: TxDevice>(shared: &Shared<'a, D>, cpu: &mut Cpu<D>) -> Ta
     ensures at { position cpu.new ≡ after_dequeue result shared.now.infos.now }
     ensures fates { IsSettledSame cpu.old cpu.new }
     ensures taken { Dequeues result shared.now.infos.now (view cpu.old) (view cpu.new) }
+    ensures by { DequeuesFrom (setup shared.now) None result (known cpu.old) (known cpu.new) }
     ensures one { SeesOneQueue result (view cpu.old) }
     ensures packet { IsTakenOf (setup shared.now) result }
-    ensures made { DequeuesBy (setup shared.now) None result (steps cpu.old) (steps cpu.new) }
 {
     if shared.load_xoff(cpu, 0) != 0 {
         maybe_clear_missed(shared, cpu, 0);
@@ -146,7 +145,7 @@ fn scan<'a, D: TxDevice>(shared: &Shared<'a, D>, cpu: &mut Cpu<D>) -> Option<u32
     ensures fates { IsSettledSame cpu.old cpu.new }
     ensures taken { MatchOption result (FindsNone (view cpu.old) (view cpu.new)) (λ n. Finds n (view cpu.old) (view cpu.new)) }
     ensures packet { MatchOption result ⊤ (λ n. IsPacketOf (setup shared.now) n) }
-    ensures made { Scans (setup shared.now) result (steps cpu.old) (steps cpu.new) }
+    ensures made { Scans (setup shared.now) result (known cpu.old) (known cpu.new) }
 {
     for band in 0..3 {
         if let Some(n) = consume(shared, cpu, band) {
@@ -167,7 +166,7 @@ fn is_non_empty<'a, D: TxDevice>(shared: &Shared<'a, D>, cpu: &mut Cpu<D>) -> bo
     ensures fates { IsSettledSame cpu.old cpu.new }
     ensures same { ((view cpu.new).holder ≡ (view cpu.old).holder) × ((view cpu.new).whole.state ≡ (view cpu.old).whole.state) × (solo (view cpu.new) ≡ solo (view cpu.old)) }
     ensures sole { IsSole (view cpu.old) → result ≡ false → solo (view cpu.new) ≡ cleared (solo (view cpu.old)) }
-    ensures made { (state : ℕ) × (result ≡ some_bit state) × (steps cpu.new ≡ steps cpu.old ⊳ did_load_state state) }
+    ensures made { (state : ℕ) × (result ≡ some_bit state) × (view cpu.new ≡ looking state (view cpu.old)) × (steps cpu.new ≡ steps cpu.old ⊳ did_load_state state) }
 {
     let state = shared.load_state(cpu);
     state & MISSED != 0 || state & DRAINING != 0
@@ -183,7 +182,7 @@ fn clear_non_empty<'a, D: TxDevice>(shared: &Shared<'a, D>, cpu: &mut Cpu<D>)
     ensures at { position cpu.new ≡ Scan 0 true }
     ensures fates { IsSettledSame cpu.old cpu.new }
     ensures same { ((view cpu.new).holder ≡ (view cpu.old).holder) × ((view cpu.new).whole.state ≡ (view cpu.old).whole.state) × (solo (view cpu.new) ≡ cleared (solo (view cpu.old))) }
-    ensures made { steps cpu.new ≡ steps cpu.old ⊳ did_clear_missed ⊳ did_clear_draining }
+    ensures made { (view cpu.new ≡ passing (passing (view cpu.old))) × (steps cpu.new ≡ steps cpu.old ⊳ did_clear_missed ⊳ did_clear_draining) }
 {
     shared.clear_missed(cpu);
     shared.clear_draining(cpu);
@@ -202,7 +201,7 @@ fn dequeue_bands<'a, D: TxDevice>(shared: &Shared<'a, D>, cpu: &mut Cpu<D>) -> T
     ensures fates { IsSettledSame cpu.old cpu.new }
     ensures taken { Looks result (view cpu.old) (view cpu.new) }
     ensures packet { IsTakenOf (setup shared.now) result }
-    ensures made { LooksThrough (setup shared.now) result (steps cpu.old) (steps cpu.new) }
+    ensures made { LooksThrough (setup shared.now) result (known cpu.old) (known cpu.new) }
 {
     if let Some(n) = scan(shared, cpu) {
         return Taken::Packet(n);
@@ -236,9 +235,8 @@ pub(crate) fn maybe_clear_missed<'a, D: TxDevice>(
     ensures holder { (view cpu.new).holder ≡ laid_aside (position cpu.old) (view cpu.old).holder }
     ensures heard { (view cpu.new).whole.state ≡ with_back (position cpu.old) (view cpu.old).whole.state }
     ensures fates { IsSettledSame cpu.old cpu.new }
-    ensures stopped { (again : ℕ) × (view cpu.new ≡ setting (loading again (passing (view cpu.old)))) }
+    ensures stopped { (again : ℕ) × (view cpu.new ≡ setting (loading again (passing (view cpu.old)))) × ClearsMaybe (setup shared.now) queue again (steps cpu.old) (steps cpu.new) }
     ensures sole { IsSole (view cpu.old) → slice_index (account_of (view cpu.old)).stops queue ≢ 0 → solo (view cpu.new) ≡ laid (view cpu.old) (draining_to true (missed_to false (solo (view cpu.old)))) }
-    ensures made { ClearsMaybe (setup shared.now) queue (steps cpu.old) (steps cpu.new) }
 {
     shared.clear_missed(cpu);
     if shared.load_xoff(cpu, queue) == 0 {

@@ -9,10 +9,11 @@ ghost use Rattle.lq_table.specs.Solo.{solo};
 ghost use Rattle.lq_qdisc.specs.Steps.{TransmitsBy};
 ghost use Rattle.lq_qdisc.specs.Alone.{BringsAlone};
 ghost use Rattle.lq_table.specs.Rule.{times};
-ghost use Rattle.lq_table.specs.Sees.{view, steps, setup, position, IsSeatOf};
+ghost use Rattle.lq_table.specs.Sees.{view, known, steps, setup, position, IsSeatOf};
+ghost use Rattle.lq_table.specs.Made.{◌⊳◌, did_take_turn};
 ghost use Rattle.lq_table.specs.Told.{IsPacketOf};
 ghost use Rattle.lq_qdisc.specs.Calls.{KeepsFates};
-ghost use Rattle.lq_qdisc.specs.Sends.{IsCallKept, IsReadyToSend, Transmits};
+ghost use Rattle.lq_qdisc.specs.Sends.{IsCallKept, IsReadyToSend};
 ghost use Rattle.lq_qdisc.specs.declared.answers.Sending.TheVariants.{OutOfTurn, Refused};
 
 use crate::answers::Sending;
@@ -45,11 +46,10 @@ pub fn transmit<'a, D: TxDevice, R: Wait>(
     ensures fates { KeepsFates (view cpu.old) (view cpu.new) }
     ensures at { position cpu.new ≡ Idle }
     ensures ready { IsReadyToSend cpu.new }
-    ensures in_turn { slice_index (view cpu.old).turns (owner_in shared.now.infos.now n) ≡ 2 * rank_in shared.now.infos.now n → Transmits shared.now.infos.now shared.now.bypass n result (view cpu.old) (view cpu.new) }
+    ensures in_turn { slice_index (view cpu.old).turns (owner_in shared.now.infos.now n) ≡ 2 * rank_in shared.now.infos.now n → TransmitsBy (setup shared.now) n result (known cpu.old) (known cpu.new) }
     ensures first { slice_index (view cpu.old).turns (owner_in shared.now.infos.now n) ≡ 2 * rank_in shared.now.infos.now n → (view cpu.old).control.first ≡ true → (event : ℕ) → (result ≡ Refused event) ↔ (down_of (view cpu.old).trail ≡ Some event) }
     ensures alone { slice_index (view cpu.old).turns (owner_in shared.now.infos.now n) ≡ 2 * rank_in shared.now.infos.now n → (view cpu.old).place.raised ≡ false → BringsAlone shared.now.infos.now (first_account (setup shared.now)) (brought_in shared.now.infos.now shared.now.bypass n) (solo (view cpu.old)) (solo (view cpu.new)) }
-    ensures out_of_turn { slice_index (view cpu.old).turns (owner_in shared.now.infos.now n) ≢ 2 * rank_in shared.now.infos.now n → (result ≡ OutOfTurn (slice_index (view cpu.old).turns (owner_in shared.now.infos.now n))) × (view cpu.new ≡ view cpu.old) }
-    ensures made { TransmitsBy (setup shared.now) n result (steps cpu.old) (steps cpu.new) }
+    ensures out_of_turn { slice_index (view cpu.old).turns (owner_in shared.now.infos.now n) ≢ 2 * rank_in shared.now.infos.now n → (result ≡ OutOfTurn (slice_index (view cpu.old).turns (owner_in shared.now.infos.now n))) × (view cpu.new ≡ view cpu.old) × (steps cpu.new ≡ steps cpu.old ⊳ did_take_turn (owner_in shared.now.infos.now n) (rank_in shared.now.infos.now n) false) }
 {
     if let Err(found) = shared.take_turn(cpu, n) {
         return Sending::OutOfTurn { found };

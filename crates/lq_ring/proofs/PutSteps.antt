@@ -1,22 +1,11 @@
 -- The steps of a put one after another.
-use Rattle.std.proofs.Common.{◌≡◌, ℕ, zero, suc, Bool, true, false, refl, ap, ◌∙◌}
+use Rattle.std.proofs.Common.{◌≡◌, ℕ, zero, suc, refl, ap, ◌∙◌}
 use Rattle.lq_band.specs.Three.{Three, at, put}
 use Rattle.lq_band.specs.Ring.{Lock, unlocked, locked_at, sized_at, with_room, having_stored}
 use Rattle.lq_band.proofs.Three.{at_put_same}
 use Rattle.lq_table.specs.Views.{View}
-use Rattle.lq_table.specs.Told.{seen_by}
 use Rattle.lq_table.specs.Rings.{with_lock_at, sized, dropping, joining}
-use Rattle.lq_table.specs.Solo.{solo, heard}
-use Rattle.lq_model.specs.Account.{Join, Full}
-use Rattle.lq_model.specs.Machine.{Qdisc}
-use Rattle.lq_model.specs.Steps.{step_at, after_put, put_answered}
-use Rattle.lq_model.specs.declared.machine.Answer.TheVariants.{Plain, FullSlot}
-use Rattle.lq_model.specs.declared.machine.Packet.{Packet}
-use Rattle.lq_model.specs.declared.machine.Position.{Position}
-use Rattle.lq_model.specs.declared.machine.Position.TheVariants.{Put}
-use Rattle.lq_model.specs.declared.machine.Seat.{Seat}
 use Rattle.lq_ring.specs.Put.{no_locks, just_locked, putting, dropping_full}
-use Rattle.lq_ring.specs.Put as leads
 
 pub put_put : {A : Type 0} (b : ℕ) (x y : A) (t : Three A) → put b x (put b y t) ≡ put b x t
 put_put zero x y t = refl

@@ -1,17 +1,21 @@
 -- Steps one after another: of the wait for a producer lock, of a band that is turned, and of a purge.
-use Rattle.std.proofs.Common.{◌≡◌, ℕ, ◌+◌, List, refl, sym, subst, ap, ◌∙◌, false}
+use Rattle.std.proofs.Common.{◌≡◌, ◌≢◌, ℕ, ◌-◌, ◌%◌, List, sym, subst, ap, ◌∙◌, true, false, ⊎_elim}
+use Rattle.std.specs.Prelude.{if◌then◌else◌}
+use Rattle.std.proofs.lemmas.Bool.{cases_Bool}
+use Rattle.lq_band.specs.Ring.{Ends, is_emptying}
 use Rattle.lq_model.specs.Words.{word_of}
 use Rattle.lq_model.specs.declared.fate.Fate.{Fate}
 use Rattle.lq_table.specs.Views.{Setup}
 use Rattle.lq_table.specs.Made.{Made, ◌⊳◌, did_load_producer, did_take_producer, did_store_fate, did_store_slot, did_swap_slot}
-use Rattle.lq_ring.specs.Steps.{Spins, held, lost}
+use Rattle.lq_ring.specs.Take.{emptied_count}
+use Rattle.lq_ring.specs.Steps.{Spins, held, lost, zeroed}
 use Rattle.lq_ring.specs.Changes.{TurnsRing, not_yet as unturned, took_out, put_back, dropped, PurgesEach, none_yet}
 
-pub spins_held : (band seen : ℕ) (old a b : List Made) → Spins band old a → b ≡ a ⊳ did_load_producer band seen → Spins band old b
-spins_held band seen old a b h e = subst (Spins band old) (sym e) (held a seen h)
+pub spins_held : (band seen : ℕ) (old a b : List Made) → seen % 2 ≢ 0 → Spins band old a → b ≡ a ⊳ did_load_producer band seen → Spins band old b
+spins_held band seen old a b odd h e = subst (Spins band old) (sym e) (held a seen odd h)
 
-pub spins_lost : (band seen : ℕ) (old a b c : List Made) → Spins band old a → b ≡ a ⊳ did_load_producer band seen → c ≡ b ⊳ did_take_producer band seen false → Spins band old c
-spins_lost band seen old a b c h e f = subst (Spins band old) (sym (f ∙ ap (λ (xs : List Made). xs ⊳ did_take_producer band seen false) e)) (lost a seen h)
+pub spins_lost : (band seen : ℕ) (old a b c : List Made) → seen % 2 ≡ 0 → Spins band old a → b ≡ a ⊳ did_load_producer band seen → c ≡ b ⊳ did_take_producer band seen false → Spins band old c
+spins_lost band seen old a b c even h e f = subst (Spins band old) (sym (f ∙ ap (λ (xs : List Made). xs ⊳ did_take_producer band seen false) e)) (lost a seen even h)
 
 -- A BAND IS TURNED
 
@@ -35,3 +39,14 @@ module _ (k : Setup) (band : ℕ) where
 
 pub purges_none : (k : Setup) (band : ℕ) (fate : Fate) (old new : List Made) → new ≡ old → PurgesEach k band fate old 0 new
 purges_none k band fate old new e = subst (PurgesEach k band fate old 0) (sym e) none_yet
+
+-- A TAKE
+
+-- so many slots are emptied as a take asks
+pub zeroed_as : (k : Setup) (band size : ℕ) (c : Ends) (old new : List Made) → (is_emptying size c ≡ true → new ≡ zeroed k band c.head (c.head - c.tail) old) → (is_emptying size c ≡ false → new ≡ old)
+    → new ≡ zeroed k band c.head (emptied_count size c) old
+zeroed_as k band size c old new emptied rested =
+    ⊎_elim
+    (λ (busy : is_emptying size c ≡ true). emptied busy ∙ sym (λ j. zeroed k band c.head (if busy j then c.head - c.tail else 0) old))
+    (λ (calm : is_emptying size c ≡ false). rested calm ∙ sym (λ j. zeroed k band c.head (if calm j then c.head - c.tail else 0) old))
+    (cases_Bool (is_emptying size c))

@@ -1,9 +1,15 @@
--- What a purge and a resize of the rings do, step by step.
-use Rattle.std.specs.Prelude.{◌≡◌, ◌+◌, ℕ, List}
+-- What a purge and a resize of the rings do: the steps in the order in which they are made, and what the seat knows after them.
+use Rattle.std.specs.Prelude.{◌≡◌, ◌+◌, ◌<◌, ℕ, List, Some, length, Contains}
+use Rattle.lq_model.specs.Band.{held_of}
+use Rattle.lq_model.specs.Machine.{Purge}
+use Rattle.lq_model.specs.Plan.{band_in}
+use Rattle.lq_band.specs.Three.{at}
 use Rattle.lq_model.specs.Words.{word_of}
 use Rattle.lq_model.specs.declared.fate.Fate.{Fate}
-use Rattle.lq_table.specs.Views.{Setup}
-use Rattle.lq_table.specs.Made.{Made, ◌⊳◌, did_give_producer, did_set_producer, did_load_size, did_store_size, did_load_slot, did_store_slot, did_swap_slot, did_store_fate}
+use Rattle.lq_ring.specs.Purged.{IsBandPurged}
+use Rattle.lq_ring.specs.Resized.{IsKnownHeld, all_lost, having_resized}
+use Rattle.lq_table.specs.Views.{Left, Setup}
+use Rattle.lq_table.specs.Made.{Known, Made, ◌⊳◌, did_give_producer, did_set_producer, did_load_size, did_store_size, did_load_slot, did_store_slot, did_swap_slot, did_store_fate}
 use Rattle.lq_ring.specs.Steps.{LocksProducer, zeroed}
 
 -- PURGES
@@ -17,9 +23,14 @@ pub data PurgesEach (k : Setup) (band : ℕ) (fate : Fate) (old : List Made) : �
   none_yet : PurgesEach k band fate old 0 old
   one_more : (count n : ℕ) (steps next : List Made) → PurgesEach k band fate old count steps → PurgesOne k band fate n steps next → PurgesEach k band fate old (count + 1) next
 
--- `pfifo_fast_reset` of net/sched/sch_generic.c, at one band: so many packets were purged, and then the slot at the head was loaded as 0
-abbrev pub PurgesBand : Setup → ℕ → Fate → ℕ → List Made → List Made → Type 0
-PurgesBand k band fate count old new = (size : ℕ) × (steps : List Made) × (head : ℕ) × PurgesEach k band fate (old ⊳ did_load_size size) count steps × (new ≡ steps ⊳ did_load_slot k band head 0)
+-- so many packets were purged, and then the slot at the head was loaded as 0
+abbrev pub PurgesAll : Setup → ℕ → Fate → ℕ → List Made → List Made → Type 0
+PurgesAll k band fate count old new = (size : ℕ) × (steps : List Made) × (head : ℕ) × PurgesEach k band fate (old ⊳ did_load_size size) count steps × (new ≡ steps ⊳ did_load_slot k band head 0)
+
+-- `pfifo_fast_reset` of net/sched/sch_generic.c, at the band that a purge has come to: these are all packets that the band held.
+pub record PurgesBand (k : Setup) (band : ℕ) (fate : Fate) (count : ℕ) (old new : Known) : Type 0 where
+  pub purged : (u : Purge) (l : Left) → old.view.control.purge ≡ Some u → old.view.holder.left ≡ Some l → IsBandPurged band u l old.view new.view × (count ≡ length (held_of (at band l.bands)))
+  pub made : PurgesAll k band fate count old.steps new.steps
 
 -- A RESIZE
 
@@ -38,8 +49,7 @@ TurnsBand k band index old new = (turned : List Made) × TurnsRing k band old tu
 abbrev pub LocksAll : List Made → List Made → Type 0
 LocksAll old new = (low mid high : ℕ) × (one two : List Made) × LocksProducer 0 low old one × LocksProducer 1 mid one two × LocksProducer 2 high two new
 
--- `ptr_ring_resize_multiple` of include/linux/ptr_ring.h: the three producer locks are taken, the bands are turned, the size is stored, and
--- the locks are given back with the new indices.
+-- The three producer locks are taken, the bands are turned, the size is stored, and the locks are given back with the new indices.
 pub record Resizes (k : Setup) (len : ℕ) (old new : List Made) : Type 0 where
   pub locked : List Made
   pub locks : LocksAll old locked
@@ -57,3 +67,13 @@ pub record Resizes (k : Setup) (len : ℕ) (old new : List Made) : Type 0 where
   pub third : TurnsBand k 2 high two three
   pub stored : ℕ
   pub ends : new ≡ three ⊳ did_store_size len ⊳ did_load_size stored ⊳ did_give_producer 0 low ⊳ did_give_producer 1 mid ⊳ did_give_producer 2 high
+
+-- `ptr_ring_resize_multiple` of include/linux/ptr_ring.h: each band keeps the first packets of those that it held, and so many are
+-- dropped.
+pub record ResizesAll (k : Setup) (len event count : ℕ) (old new : Known) : Type 0 where
+  pub held : ℕ → List ℕ
+  pub packets : (b n : ℕ) → b < 3 → Contains (held b) n → (band_in k.infos n ≡ b) × (n < length k.infos)
+  pub is_known : IsKnownHeld old.view held
+  pub is : new.view ≡ having_resized len event (all_lost len held) old.view
+  pub counted : count ≡ length (all_lost len held)
+  pub made : Resizes k len old.steps new.steps

@@ -1,21 +1,25 @@
--- The steps of a put and of a take, in the order in which they are made.
-use Rattle.std.specs.Prelude.{◌≡◌, ℕ, zero, suc, ◌+◌, ◌-◌, ◌/◌, ◌%◌, true, false, if◌then◌else◌, List}
+-- What a put and a take do: the steps in the order in which they are made, and what the seat knows after them.
+use Rattle.std.specs.Prelude.{◌≡◌, ◌≢◌, ℕ, zero, suc, ◌+◌, ◌-◌, ◌/◌, ◌%◌, true, false, List}
 use Rattle.lq_ring_core.specs.Ring.{next_place}
-use Rattle.lq_band.specs.Ring.{Ends, is_emptying}
+use Rattle.lq_band.specs.Three.{at}
+use Rattle.lq_band.specs.Ring.{taken_on}
 use Rattle.lq_table.specs.Views.{Setup}
-use Rattle.lq_table.specs.Made.{Made, ◌⊳◌, did_load_producer, did_take_producer, did_give_producer, did_load_size, did_load_slot, did_store_slot}
+use Rattle.lq_table.specs.Rings.{finding_none}
+use Rattle.lq_ring.specs.Put.{putting, dropping_full}
+use Rattle.lq_ring.specs.Take.{consuming, emptied_count}
+use Rattle.lq_table.specs.Made.{Known, Made, ◌⊳◌, did_load_producer, did_take_producer, did_give_producer, did_load_size, did_load_slot, did_store_slot}
 
 -- PUTS
 
--- The producer lock is waited for: its word is loaded, and mostly tried, without success.
+-- The producer lock is waited for: its word is loaded, and where it is free, tried without success.
 pub data Spins (band : ℕ) (old : List Made) : List Made → Type 0 where
   not_yet : Spins band old old
-  held : (steps : List Made) (seen : ℕ) → Spins band old steps → Spins band old (steps ⊳ did_load_producer band seen)
-  lost : (steps : List Made) (seen : ℕ) → Spins band old steps → Spins band old (steps ⊳ did_load_producer band seen ⊳ did_take_producer band seen false)
+  held : (steps : List Made) (seen : ℕ) → seen % 2 ≢ 0 → Spins band old steps → Spins band old (steps ⊳ did_load_producer band seen)
+  lost : (steps : List Made) (seen : ℕ) → seen % 2 ≡ 0 → Spins band old steps → Spins band old (steps ⊳ did_load_producer band seen ⊳ did_take_producer band seen false)
 
 -- and then it is got, with this index
 abbrev pub LocksProducer : ℕ → ℕ → List Made → List Made → Type 0
-LocksProducer band index old new = (before : List Made) × (seen : ℕ) × Spins band old before × (index ≡ seen / 2) × (new ≡ before ⊳ did_load_producer band seen ⊳ did_take_producer band seen true)
+LocksProducer band index old new = (before : List Made) × (seen : ℕ) × Spins band old before × (seen % 2 ≡ 0) × (index ≡ seen / 2) × (new ≡ before ⊳ did_load_producer band seen ⊳ did_take_producer band seen true)
 
 -- Under the lock the size and the slot at the index are loaded. Where the slot is empty the packet is stored there, and the lock
 -- given back with the next index;
@@ -26,11 +30,13 @@ PutsAt k band index n old new = (size : ℕ) × (new ≡ old ⊳ did_load_size s
 abbrev pub FindsFullAt : Setup → ℕ → ℕ → ℕ → List Made → List Made → Type 0
 FindsFullAt k band index seen old new = (size : ℕ) × (new ≡ old ⊳ did_load_size size ⊳ did_load_slot k band index (seen + 1) ⊳ did_give_producer band index)
 
-abbrev pub Puts : Setup → ℕ → ℕ → List Made → List Made → Type 0
-Puts k band n old new = (index : ℕ) × (locked : List Made) × LocksProducer band index old locked × PutsAt k band index n locked new
+-- `ptr_ring_produce` of include/linux/ptr_ring.h: the packet n joined the band
+abbrev pub Puts : Setup → ℕ → ℕ → Known → Known → Type 0
+Puts k band n old new = (new.view ≡ putting band n old.view) × (index : ℕ) × (locked : List Made) × LocksProducer band index old.steps locked × PutsAt k band index n locked new.steps
 
-abbrev pub FindsFull : Setup → ℕ → ℕ → List Made → List Made → Type 0
-FindsFull k band seen old new = (index : ℕ) × (locked : List Made) × LocksProducer band index old locked × FindsFullAt k band index seen locked new
+-- or is dropped as full: the slot that it needed has the packet seen
+abbrev pub FindsFull : Setup → ℕ → ℕ → ℕ → Known → Known → Type 0
+FindsFull k band n seen old new = (new.view ≡ dropping_full n seen old.view) × (index : ℕ) × (locked : List Made) × LocksProducer band index old.steps locked × FindsFullAt k band index seen locked new.steps
 
 -- TAKES
 
@@ -39,10 +45,12 @@ abbrev pub zeroed : Setup → ℕ → ℕ → ℕ → List Made → List Made
 zeroed k band head zero steps = steps
 zeroed k band head (suc n) steps = zeroed k band head n steps ⊳ did_store_slot k band (head - 1 - n) 0
 
--- the slot at the head is loaded as 0
-abbrev pub FindsSlotEmpty : Setup → ℕ → ℕ → List Made → List Made → Type 0
-FindsSlotEmpty k band head old new = (size : ℕ) × (new ≡ old ⊳ did_load_size size ⊳ did_load_slot k band head 0)
+-- `__ptr_ring_consume` of include/linux/ptr_ring.h: the slot at the head is loaded as 0
+abbrev pub FindsSlotEmpty : Setup → ℕ → Known → Known → Type 0
+FindsSlotEmpty k band old new = (new.view ≡ finding_none band old.view)
+    × (size : ℕ) × (new.steps ≡ old.steps ⊳ did_load_size size ⊳ did_load_slot k band (at band old.view.holder.ends).head 0)
 
--- or with the packet n, and the slots taken are emptied where their batch is full
-abbrev pub Takes : Setup → ℕ → ℕ → ℕ → List Made → List Made → Type 0
-Takes k band head n old new = (size : ℕ) × (zeroes : ℕ) × (new ≡ zeroed k band (head + 1) zeroes (old ⊳ did_load_size size ⊳ did_load_slot k band head (n + 1)))
+-- or with the packet n, which is taken, and the slots taken are emptied where their batch is full
+abbrev pub Takes : Setup → ℕ → ℕ → Known → Known → Type 0
+Takes k band n old new = let own = at band old.view.holder.ends in (new.view ≡ consuming band n old.view)
+    × (size : ℕ) × (new.steps ≡ zeroed k band (own.head + 1) (emptied_count old.view.holder.size (taken_on own)) (old.steps ⊳ did_load_size size ⊳ did_load_slot k band own.head (n + 1)))

@@ -11,12 +11,12 @@ ghost use Rattle.lq_band.specs.Three.{at};
 ghost use Rattle.lq_table.specs.Views.{Left};
 ghost use Rattle.lq_table.specs.Purges.{passing_band};
 ghost use Rattle.lq_table.specs.Rule.{IsResting};
-ghost use Rattle.lq_table.specs.Sees.{view, steps, setup, position, slot, IsSeatOf, IsSameSeat};
+ghost use Rattle.lq_table.specs.Sees.{view, known, steps, setup, position, slot, IsSeatOf, IsSameSeat};
 ghost use Rattle.lq_table.specs.Made.{◌⊳◌, did_load_slot};
 ghost use Rattle.lq_ring.specs.Changes.{PurgesBand, PurgesOne};
 ghost use Rattle.lq_ring.specs.Put.{no_locks};
 ghost use Rattle.lq_ring.specs.Take.{CarriesStation};
-ghost use Rattle.lq_ring.specs.Purged.{purging_one, IsBandPurged};
+ghost use Rattle.lq_ring.specs.Purged.{purging_one};
 
 use crate::takes::discard_one;
 use lq_device::TxDevice;
@@ -74,9 +74,8 @@ pub fn purge_band<'a, D: TxDevice>(
     requires idle { (view cpu.old).locks ≡ no_locks }
     ensures same { IsSameSeat cpu.old cpu.new × (slot cpu.new ≡ slot cpu.old) }
     ensures few { result ≤ shared.now.max_len }
-    ensures purged { (u : Purge) (l : Left) → (view cpu.old).control.purge ≡ Some u → (view cpu.old).holder.left ≡ Some l → IsBandPurged band u l (view cpu.old) (view cpu.new) × (result ≡ length (held_of (at band l.bands))) }
     ensures station { CarriesStation cpu.new }
-    ensures made { PurgesBand (setup shared.now) band (fate.Purged cause) result (steps cpu.old) (steps cpu.new) }
+    ensures purges { PurgesBand (setup shared.now) band (fate.Purged cause) result (known cpu.old) (known cpu.new) }
 {
     let size = shared.load_size(cpu) as u32;
     for n in 0..size + 1 {

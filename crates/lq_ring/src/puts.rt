@@ -6,7 +6,7 @@ ghost use Rattle.lq_ring_core.specs.Ring.{next_place};
 ghost use Rattle.lq_band.specs.Three.{at};
 ghost use Rattle.lq_band.specs.Ring.{unlocked, locked_at};
 ghost use Rattle.lq_table.specs.Rings.{with_lock_at};
-ghost use Rattle.lq_table.specs.Sees.{view, steps, setup, position, slot, packet_at, lock_at, IsSeatOf, IsSameSeat, IsElseSame, Brings};
+ghost use Rattle.lq_table.specs.Sees.{view, known, steps, setup, position, slot, packet_at, lock_at, IsSeatOf, IsSameSeat, IsElseSame, Brings};
 ghost use Rattle.lq_table.specs.Solo.{solo, heard};
 ghost use Rattle.lq_table.specs.SolePut.{SeesEnd};
 ghost use Rattle.lq_ring.specs.Steps.{FindsFull, FindsFullAt, LocksProducer, Puts, PutsAt};
@@ -105,11 +105,10 @@ pub fn produce<'a, D: TxDevice, R: Wait>(
     requires packet { Brings shared.now n band cpu.old × ((view cpu.old).packets.owed ≡ None) }
     requires idle { ((view cpu.old).locks ≡ no_locks) × ((view cpu.old).holder.resizing ≡ None) }
     ensures same { IsSameSeat cpu.old cpu.new × (cpu.new.station ≡ cpu.old.station) × (slot cpu.new ≡ slot cpu.old) }
-    ensures put { MatchResult result (λ _. view cpu.new ≡ putting band n (view cpu.old)) (λ full. view cpu.new ≡ dropping_full n full.seen (view cpu.old)) }
+    ensures puts { MatchResult result (λ _. Puts (setup shared.now) band n (known cpu.old) (known cpu.new)) (λ full. FindsFull (setup shared.now) band n full.seen (known cpu.old) (known cpu.new)) }
     ensures at { (holds : Bool) → position cpu.old ≡ Put (packet_at shared.now n) holds → position cpu.new ≡ put_leads_to holds (packet_at shared.now n) (view cpu.old) }
     ensures step { MatchResult result (λ _. solo (view cpu.new) ≡ heard (Join n band) (solo (view cpu.old))) (λ full. solo (view cpu.new) ≡ heard (FullEvent n full.seen) (solo (view cpu.old))) }
     ensures sole { MatchResult result (λ _. SeesEnd band (view cpu.old) 0) (λ full. SeesEnd band (view cpu.old) (full.seen + 1)) }
-    ensures made { MatchResult result (λ _. Puts (setup shared.now) band n (steps cpu.old) (steps cpu.new)) (λ full. FindsFull (setup shared.now) band full.seen (steps cpu.old) (steps cpu.new)) }
 {
     let index = lock_producer(rt, shared, cpu, band);
     produce_locked(shared, cpu, band, n, index)

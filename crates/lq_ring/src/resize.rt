@@ -10,9 +10,9 @@ ghost use Rattle.lq_band.specs.Ring.{at_start, locked_at};
 ghost use Rattle.lq_table.specs.Views.{HolderPart, Work};
 ghost use Rattle.lq_table.specs.Rings.{with_lock_at};
 ghost use Rattle.lq_table.specs.Rule.{shown, IsResting};
-ghost use Rattle.lq_table.specs.Sees.{view, steps, setup, position, slot, lock_at, IsSeatOf, IsSameSeat, IsElseSame};
+ghost use Rattle.lq_table.specs.Sees.{view, known, steps, setup, position, slot, lock_at, IsSeatOf, IsSameSeat, IsElseSame};
 ghost use Rattle.lq_table.specs.Made.{Made, ◌⊳◌, did_give_producer, did_load_size, did_store_size};
-ghost use Rattle.lq_ring.specs.Changes.{LocksAll, Resizes, TurnsBand};
+ghost use Rattle.lq_ring.specs.Changes.{LocksAll, ResizesAll, TurnsBand};
 ghost use Rattle.lq_ring.specs.Put.{no_locks};
 ghost use Rattle.lq_ring.specs.Take.{CarriesStation};
 ghost use Rattle.lq_ring.specs.Fates.{fates_onto};
@@ -166,10 +166,8 @@ pub fn resize_all<'a, D: TxDevice, R: Wait>(
     requires station { CarriesStation cpu.old }
     requires idle { (view cpu.old).locks ≡ no_locks }
     ensures same { IsSameSeat cpu.old cpu.new × (slot cpu.new ≡ slot cpu.old) }
-    ensures resized { (held : ℕ → List ℕ) × (view cpu.new ≡ having_resized len event (all_lost len held) (view cpu.old)) × (result ≡ length (all_lost len held))
-        × ((b n : ℕ) → b < 3 → Contains (held b) n → (band_in shared.now.infos.now n ≡ b) × (n < length shared.now.infos.now)) × IsKnownHeld (view cpu.old) held }
     ensures station { CarriesStation cpu.new }
-    ensures made { Resizes (setup shared.now) len (steps cpu.old) (steps cpu.new) }
+    ensures resizes { ResizesAll (setup shared.now) len event result (known cpu.old) (known cpu.new) }
 {
     lock_all(rt, shared, cpu);
     let size = shared.load_size(cpu) as u32;

@@ -9,13 +9,12 @@ ghost use Rattle.lq_band.specs.Three.{at};
 ghost use Rattle.lq_band.specs.Ring.{all_empty, is_emptying};
 ghost use Rattle.lq_table.specs.Views.{machine_packet};
 ghost use Rattle.lq_table.specs.Rule.{IsResting};
-ghost use Rattle.lq_table.specs.Rings.{finding_none};
-ghost use Rattle.lq_table.specs.Sees.{view, steps, setup, position, slot, ends_at, IsSeatOf, IsSameSeat, IsElseSame};
+ghost use Rattle.lq_table.specs.Sees.{view, known, steps, setup, position, slot, ends_at, IsSeatOf, IsSameSeat, IsElseSame};
 ghost use Rattle.lq_table.specs.Told.{IsPacketOf};
 ghost use Rattle.lq_table.specs.Solo.{IsSole, account_of, solo, heard};
 ghost use Rattle.lq_ring.specs.Put.{no_locks};
 ghost use Rattle.lq_ring.specs.Steps.{FindsSlotEmpty, Takes, zeroed};
-ghost use Rattle.lq_ring.specs.Take.{having_ends, emptied_times, consuming, CarriesStation};
+ghost use Rattle.lq_ring.specs.Take.{having_ends, emptied_times, CarriesStation};
 
 use lq_device::TxDevice;
 use lq_model::batch;
@@ -94,7 +93,7 @@ pub(crate) fn discard_one<'a, D: TxDevice>(
     ensures emptied { is_emptying size (ends_at band cpu.old) ≡ true → view cpu.new ≡ having_ends band (all_empty size (ends_at band cpu.old)) (emptied_times size ((ends_at band cpu.old).head - (ends_at band cpu.old).tail) (at band (view cpu.old).whole.state.ends)) (view cpu.old) }
     ensures rested { is_emptying size (ends_at band cpu.old) ≡ false → view cpu.new ≡ view cpu.old }
     ensures station { (st : StationState) → cpu.old.station ≡ Some st → cpu.new.station ≡ Some (with_ends st band (ends_at band cpu.new).head (ends_at band cpu.new).tail) }
-    ensures made { (zeroes : ℕ) × (steps cpu.new ≡ zeroed (setup shared.now) band (ends_at band cpu.old).head zeroes (steps cpu.old)) }
+    ensures made { (is_emptying size (ends_at band cpu.old) ≡ true → steps cpu.new ≡ zeroed (setup shared.now) band (ends_at band cpu.old).head ((ends_at band cpu.old).head - (ends_at band cpu.old).tail) (steps cpu.old)) × (is_emptying size (ends_at band cpu.old) ≡ false → steps cpu.new ≡ steps cpu.old) }
 {
     let head = head_of(cpu, band) + 1;
     let tail = tail_of(cpu, band);
@@ -120,7 +119,7 @@ pub fn consume<'a, D: TxDevice>(shared: &Shared<'a, D>, cpu: &mut Cpu<D>, band: 
     requires station { CarriesStation cpu.old }
     requires idle { (view cpu.old).locks ≡ no_locks }
     ensures same { IsSameSeat cpu.old cpu.new × (cpu.new.indices ≡ cpu.old.indices) × (slot cpu.new ≡ slot cpu.old) }
-    ensures taken { MatchOption result (view cpu.new ≡ finding_none band (view cpu.old)) (λ n. view cpu.new ≡ consuming band n (view cpu.old)) }
+    ensures takes { MatchOption result (FindsSlotEmpty (setup shared.now) band (known cpu.old) (known cpu.new)) (λ n. Takes (setup shared.now) band n (known cpu.old) (known cpu.new)) }
     ensures packet { IfSome result (λ n. IsPacketOf (view cpu.old).share.about n) }
     ensures at { MatchOption result ((second : Bool) → position cpu.old ≡ Scan band second → position cpu.new ≡ after_band band second) (λ n. position cpu.new ≡ Gate (machine_packet (view cpu.old).share.about.infos n) false) }
     ensures rests { IsResting (view cpu.new).holder.size (view cpu.new).holder.ends }
@@ -128,7 +127,6 @@ pub fn consume<'a, D: TxDevice>(shared: &Shared<'a, D>, cpu: &mut Cpu<D>, band: 
     ensures known { (view cpu.old).whole.state.ends ≡ (view cpu.old).holder.ends → (view cpu.new).whole.state.ends ≡ (view cpu.new).holder.ends }
     ensures step { MatchOption result (solo (view cpu.new) ≡ solo (view cpu.old)) (λ n. solo (view cpu.new) ≡ heard (Take band) (solo (view cpu.old))) }
     ensures sole { IsSole (view cpu.old) → slice_get (held_in (account_of (view cpu.old)) band) 0 ≡ result }
-    ensures made { MatchOption result (FindsSlotEmpty (setup shared.now) band (ends_at band cpu.old).head (steps cpu.old) (steps cpu.new)) (λ n. Takes (setup shared.now) band (ends_at band cpu.old).head n (steps cpu.old) (steps cpu.new)) }
 {
     let size = shared.load_size(cpu);
     let found = shared.head_slot(cpu, band);

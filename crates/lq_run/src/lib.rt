@@ -7,7 +7,7 @@ ghost use Rattle.lq_model.specs.declared.machine.Phase.TheVariants.{Active};
 ghost use Rattle.lq_model.specs.declared.machine.Attempt.{Attempt};
 ghost use Rattle.lq_table.specs.Views.{HolderPart};
 ghost use Rattle.lq_table.specs.Rule.{shown, units_of, IsResting};
-ghost use Rattle.lq_table.specs.Sees.{view, steps, position, slot, IsSeatOf, IsSameSeat, IsElseSame};
+ghost use Rattle.lq_table.specs.Sees.{view, known, steps, position, slot, IsSeatOf, IsSameSeat, IsElseSame};
 ghost use Rattle.lq_table.specs.Told.{IsKnownSlot, tries_lock, got, finding_locked, misses, missing, schedules, scheduling, clears_sched, passing};
 ghost use Rattle.lq_table.specs.Solo.{IsSole, IsAccounts, solo, locked_to, missed_to, sched_set, sched_cleared};
 ghost use Rattle.lq_table.specs.Made.{◌⊳◌, did_clear_sched, did_set_sched};
@@ -27,7 +27,7 @@ pub fn try_run_lock<'a, D: TxDevice>(shared: &Shared<'a, D>, cpu: &mut Cpu<D>) -
     ensures got { result ≡ true → (d : HolderPart) × (view cpu.new ≡ got d (view cpu.old)) × (slot cpu.new ≡ (0, Some (shown d)) ∷ slot cpu.old) × IsResting d.size d.ends × (0 < d.size) × (d.hand ≡ None) × (d.resizing ≡ None) × (d.shut ≡ None) × IsKnownSlot (view cpu.old).share.about d.slot × ((view cpu.old).control.first ≡ true → d.units ≡ units_of (view cpu.old).trail) }
     ensures held { result ≡ false → (view cpu.new ≡ finding_locked (view cpu.old)) × (slot cpu.new ≡ slot cpu.old) }
     ensures sole { IsSole (view cpu.old) → (solo (view cpu.new) ≡ locked_to true (solo (view cpu.old))) × (result ≡ not (view cpu.old).whole.qdisc.locked) × (result ≡ true → IsAccounts (view cpu.new)) }
-    ensures made { TriesOnce result (steps cpu.old) (steps cpu.new) }
+    ensures tries { TriesOnce result (known cpu.old) (known cpu.new) }
 {
     if shared.look_lock(cpu) {
         return false;
@@ -40,10 +40,9 @@ fn note_missed<'a, D: TxDevice>(shared: &Shared<'a, D>, cpu: &mut Cpu<D>) -> boo
     requires seat { IsSeatOf shared.now cpu.old }
     requires at { misses (position cpu.old) ≡ true }
     ensures same { IsElseSame cpu.old cpu.new }
-    ensures view { view cpu.new ≡ missing result (view cpu.old) }
     ensures step { solo (view cpu.new) ≡ missed_to true (solo (view cpu.old)) }
     ensures sole { IsSole (view cpu.old) → result ≡ (view cpu.old).whole.qdisc.missed }
-    ensures made { SetsMissed result (steps cpu.old) (steps cpu.new) }
+    ensures sets { SetsMissed result (known cpu.old) (known cpu.new) }
 {
     if shared.look_missed(cpu) {
         return true;
@@ -57,13 +56,12 @@ pub fn begin<'a, D: TxDevice>(shared: &Shared<'a, D>, cpu: &mut Cpu<D>) -> bool
     requires seat { IsSeatOf shared.now cpu.old }
     requires at { (a : Attempt) × (position cpu.old ≡ Try1 a) }
     requires empty { HasNone cpu.old }
-    ensures kept { IsElseKept cpu.old cpu.new × IsEventless cpu.old cpu.new }
-    ensures got { result ≡ true → (position cpu.new ≡ after_got (view cpu.new) (position cpu.old)) × HasStation cpu.new × Rests cpu.new × (0 < (view cpu.new).holder.size) × ((view cpu.new).holder.hand ≡ None) × ((view cpu.new).holder.shut ≡ None) × IsKnownSlot (view cpu.new).share.about (view cpu.new).holder.slot }
+    ensures kept { IsElseKept cpu.old cpu.new × IsEventless cpu.old cpu.new × ((view cpu.new).place.raised ≡ (view cpu.old).place.raised) }
+    ensures got { result ≡ true → (position cpu.new ≡ after_got (view cpu.new) (position cpu.old)) × HasStation cpu.new × Rests cpu.new × (0 < (view cpu.new).holder.size) × ((view cpu.new).holder.hand ≡ None) × ((view cpu.new).holder.shut ≡ None) × IsKnownSlot (view cpu.new).share.about (view cpu.new).holder.slot
+        × ((view cpu.new).place.run ≡ run_got (view cpu.old).place.run (position cpu.old)) }
     ensures missed { result ≡ false → (position cpu.new ≡ after_missed (position cpu.old)) × HasNone cpu.new × ((view cpu.new).holder ≡ (view cpu.old).holder) }
-    ensures run { result ≡ true → (view cpu.new).place.run ≡ run_got (view cpu.old).place.run (position cpu.old) }
     ensures sole { IsSole (view cpu.old) → (result ≡ not (view cpu.old).whole.qdisc.locked) × (solo (view cpu.new) ≡ after_begin result (solo (view cpu.old))) × (result ≡ true → IsAccounts (view cpu.new)) }
-    ensures mark { (view cpu.new).place.raised ≡ (view cpu.old).place.raised }
-    ensures made { BeginsBy result (steps cpu.old) (steps cpu.new) }
+    ensures begins { BeginsBy result (known cpu.old) (known cpu.new) }
 {
     if try_run_lock(shared, cpu) {
         shared.move_station(cpu);
@@ -86,12 +84,11 @@ pub fn end<'a, D: TxDevice>(shared: &Shared<'a, D>, cpu: &mut Cpu<D>)
     requires at { position cpu.old ≡ AtUnlock }
     requires rests { Rests cpu.old }
     requires back { HasStation cpu.old }
-    ensures kept { IsElseKept cpu.old cpu.new × IsEventless cpu.old cpu.new }
+    ensures kept { IsElseKept cpu.old cpu.new × IsEventless cpu.old cpu.new × ((view cpu.old).place.raised ≡ true → (view cpu.new).place.raised ≡ true) }
     ensures at { (position cpu.new ≡ AtLeave) × HasNone cpu.new × ((view cpu.new).holder ≡ (view cpu.old).holder) }
-    ensures raised { (view cpu.old).place.raised ≡ true → (view cpu.new).place.raised ≡ true }
-    ensures sched { IsRaisedBySched (view cpu.old) (view cpu.new) }
     ensures sole { IsSole (view cpu.old) → solo (view cpu.new) ≡ ended (solo (view cpu.old)) }
-    ensures made { EndsRun (steps cpu.old) (steps cpu.new) }
+    ensures ends { EndsRun (known cpu.old) (known cpu.new) }
+    ensures sched { IsRaisedBySched (view cpu.old) (view cpu.new) }
 {
     shared.move_station(cpu);
     shared.unlock(cpu);
@@ -112,7 +109,7 @@ pub fn end_resize<'a, D: TxDevice>(shared: &Shared<'a, D>, cpu: &mut Cpu<D>)
     ensures at { (position cpu.new ≡ AtIdle) × HasNone cpu.new × ((view cpu.new).holder ≡ (view cpu.old).holder) }
     ensures raised { (view cpu.old).place.raised ≡ true → (view cpu.new).place.raised ≡ true }
     ensures sole { IsSole (view cpu.old) → solo (view cpu.new) ≡ ended (solo (view cpu.old)) }
-    ensures made { EndsRun (steps cpu.old) (steps cpu.new) }
+    ensures ends { EndsRun (known cpu.old) (known cpu.new) }
 {
     shared.move_station(cpu);
     shared.unlock(cpu);
@@ -137,9 +134,8 @@ pub fn unschedule<'a, D: TxDevice>(shared: &Shared<'a, D>, cpu: &mut Cpu<D>)
     requires seat { IsSeatOf shared.now cpu.old }
     requires at { clears_sched (position cpu.old) ≡ true }
     ensures same { IsElseSame cpu.old cpu.new }
-    ensures view { view cpu.new ≡ passing (view cpu.old) }
+    ensures clears { (view cpu.new ≡ passing (view cpu.old)) × (steps cpu.new ≡ steps cpu.old ⊳ did_clear_sched) }
     ensures step { solo (view cpu.new) ≡ sched_cleared (solo (view cpu.old)) }
-    ensures made { steps cpu.new ≡ steps cpu.old ⊳ did_clear_sched }
 {
     shared.clear_sched(cpu);
 }

@@ -4,9 +4,11 @@ use Rattle.std.proofs.lemmas.List.{length-set}
 use Rattle.lq_model.specs.Account.{Event, Join, Full, Refuse, Direct}
 use Rattle.lq_model.specs.declared.fate.Info.{Info}
 use Rattle.lq_model.specs.Plan.{band_in, owner_in, rank_in}
-use Rattle.lq_table.specs.Views.{View}
+use Rattle.lq_table.specs.Made.{Known}
+use Rattle.lq_table.specs.Views.{Setup, View}
 use Rattle.lq_table.specs.Rule.{units_of}
-use Rattle.lq_qdisc.specs.Sends.{Transmits, came_as, trail_with}
+use Rattle.lq_qdisc.specs.Sends.{came_as, trail_with}
+use Rattle.lq_qdisc.specs.Steps.{TransmitsBy}
 use Rattle.lq_qdisc.specs.declared.answers.Sending.{Sending}
 use Rattle.lq_qdisc.specs.declared.answers.Sending.TheVariants as sending
 
@@ -22,11 +24,11 @@ units_came infos n (sending.Refused event) v = units_own _ (Refuse n event) v.tr
 units_came infos n (sending.OutOfTurn found) v = refl
 
 -- whether it was the packet's turn or not
-pub units_sent : (infos : List Info) (bypass : Bool) (n turn due : ℕ) (a : Sending) (old new : View) → (turn ≡ due) ⊎ (turn ≢ due) → (turn ≡ due → Transmits infos bypass n a old new) → (turn ≢ due → new ≡ old) → units_of new.trail ≡ units_of old.trail
-units_sent infos bypass n turn due a old new (inl same) sent still = ap units_of (sent same).trail ∙ units_came infos n a old
-units_sent infos bypass n turn due a old new (inr other) sent still = ap (λ (v : View). units_of v.trail) (still other)
+pub units_sent : (k : Setup) (n turn due : ℕ) (a : Sending) (old new : Known) → (turn ≡ due) ⊎ (turn ≢ due) → (turn ≡ due → TransmitsBy k n a old new) → (turn ≢ due → new.view ≡ old.view) → units_of new.view.trail ≡ units_of old.view.trail
+units_sent k n turn due a old new (inl same) sent still = ap units_of (sent same).trail ∙ units_came k.infos n a old.view
+units_sent k n turn due a old new (inr other) sent still = ap (λ (v : View). units_of v.trail) (still other)
 
 -- nor does it change how many turn words there are
-pub turns_sent : (infos : List Info) (bypass : Bool) (n turn due : ℕ) (a : Sending) (old new : View) → (turn ≡ due) ⊎ (turn ≢ due) → (turn ≡ due → Transmits infos bypass n a old new) → (turn ≢ due → new ≡ old) → length new.turns ≡ length old.turns
-turns_sent infos bypass n turn due a old new (inl same) sent still = ap (λ (ts : List ℕ). length ts) (sent same).turns ∙ length-set old.turns (owner_in infos n) (2 * rank_in infos n + 2)
-turns_sent infos bypass n turn due a old new (inr other) sent still = ap (λ (v : View). length v.turns) (still other)
+pub turns_sent : (k : Setup) (n turn due : ℕ) (a : Sending) (old new : Known) → (turn ≡ due) ⊎ (turn ≢ due) → (turn ≡ due → TransmitsBy k n a old new) → (turn ≢ due → new.view ≡ old.view) → length new.view.turns ≡ length old.view.turns
+turns_sent k n turn due a old new (inl same) sent still = ap (λ (ts : List ℕ). length ts) (sent same).turns ∙ length-set old.view.turns (owner_in k.infos n) (2 * rank_in k.infos n + 2)
+turns_sent k n turn due a old new (inr other) sent still = ap (λ (v : View). length v.turns) (still other)

@@ -39,7 +39,7 @@ loop-preserved g c =
       ready = c.softirq.ensures.ready;
       served = served_then (view c.args.cpu.now) (view c.loop.cpu) (view c.softirq.new.cpu) i.served one;
       alone = λ h. let before = i.alone h in let now = c.softirq.ensures.alone before.0 in (now.0, now.1 ∙ before.1);
-      drained = one_more (steps c.loop.cpu) (steps c.softirq.new.cpu) i.drained c.softirq.ensures.made;
+      drained = one_more (steps c.loop.cpu) (steps c.softirq.new.cpu) i.drained (view c.loop.cpu, view c.softirq.new.cpu, c.softirq.ensures.interrupts);
     }
 
 pub returns-then-not-raised-clause-alone : goal.returns-then-not-raised-clause-alone

@@ -158,9 +158,23 @@ returns-then-info-number-clause-made g c =
 
 pub returns-then-load_turn-info-clause-made : goal.returns-then-load_turn-info-clause-made
 returns-then-load_turn-info-clause-made g c =
-    let info : Info = get_or c.infos.result.now c.args.n (record { owner = 0; station = 0; band = 0; queue = 0; rank = 0 }) in
-    let here : slice_get (setup c.args.shared.now).infos c.args.n ≡ Some info = ap (λ (xs : List Info). slice_get xs c.args.n) (sym c.infos.ensures) ∙ slice_get-get_or c.infos.result.now c.args.n (record { owner = 0; station = 0; band = 0; queue = 0; rank = 0 }) (subst (λ (xs : List Info). c.args.n < length xs) (sym c.infos.ensures) c.requires.packet) in
-    sends_if_left (setup c.args.shared.now) c.args.n c.load_turn.result info _ _ _ here (c.if-info-number.false ∙ c.number.ensures) c.load_turn.ensures.made (inr ((let t = c.if-load_turn-info.true in let r = ap (λ (o : Option Info). option_map_or (λ (i : Info). i.rank) o 0) here in omega arith), c.transmit-sending.result, steps c.transmit-sending.new.cpu, c.transmit-sending.ensures.made, c.drain.ensures.made))
+    let k = setup c.args.shared.now in let n = c.args.n in
+    let info : Info = get_or c.infos.result.now n (record { owner = 0; station = 0; band = 0; queue = 0; rank = 0 }) in
+    let here : slice_get k.infos n ≡ Some info = ap (λ (xs : List Info). slice_get xs n) (sym c.infos.ensures) ∙ slice_get-get_or c.infos.result.now n (record { owner = 0; station = 0; band = 0; queue = 0; rank = 0 }) (subst (λ (xs : List Info). n < length xs) (sym c.infos.ensures) c.requires.packet) in
+    let st : info.station ≡ k.station = c.if-info-number.false ∙ c.number.ensures in
+    let owner : owner_in k.infos n ≡ info.owner = ap (λ (o : Option Info). option_map_or (λ (i : Info). i.owner) o 0) here in
+    let rank_is : rank_in k.infos n ≡ info.rank = ap (λ (o : Option Info). option_map_or (λ (i : Info). i.rank) o 0) here in
+    let lt : info.owner < k.senders = subst (λ (o : ℕ). o < k.senders) owner (c.requires.made.infos.owners n c.requires.packet) in
+    let rank : info.rank ≡ count_below k.infos info.owner info.station n = c.requires.made.ranks n info here in
+    let v0 = view c.args.cpu.now in let e1 : view c.load_turn.new.cpu ≡ v0 = c.load_turn.ensures.same.1 in
+    let word = c.load_turn.ensures.word (c.requires.made.owners info.owner lt) in
+    let left : slice_index v0.turns info.owner ≤ 2 * info.rank = (let w = word in let t = c.if-load_turn-info.true in omega arith) in
+    let now : slice_index v0.turns info.owner ≡ 2 * info.rank = in_turn k n info here st rank lt v0.turns c.requires.turns left in
+    let v1 = view c.load_turn.new.cpu in let v2 = view c.transmit-sending.new.cpu in let v3 = view c.drain.new.cpu in
+    let due : slice_index v1.turns (owner_in k.infos n) ≡ 2 * rank_in k.infos n = (λ j. slice_index (e1 j).turns (owner j)) ∙ (now ∙ sym (ap (λ (r : ℕ). 2 * r) rank_is)) in
+    let sent = c.transmit-sending.ensures.in_turn due in
+    sends_if_left k n c.load_turn.result info _ _ _ here st c.load_turn.ensures.made
+    (inr ((let t = c.if-load_turn-info.true in omega arith), c.transmit-sending.result, steps c.transmit-sending.new.cpu, (v1, v2, sent), c.drain.ensures.made))
 
 pub returns-else-load_turn-info-clause-made : goal.returns-else-load_turn-info-clause-made
 returns-else-load_turn-info-clause-made g c =

@@ -21,20 +21,20 @@ pub returns-clause-shrunk : goal.returns-clause-shrunk
 returns-clause-shrunk g c =
     let v = view c.args.cpu.now in let len = c.args.len in let got = c.take_lock.ensures.got in let v2 = view c.take_lock.new.cpu in
     let e2 : v2 ≡ got_in_control got.0 (beginning_control v) = got.1 ∙ ap (got_in_control got.0) c.begin_control.ensures.view in
-    let r = c.resize_all-shrunk.ensures.resized in (
-      all_lost len r.0,
-      c.end_resize.ensures.kept.0.8 ∙ (ap (λ (x : View). x.settled) r.1 ∙ ap (λ (x : View). fates_onto (fate.Shrunk c.args.event) (all_lost len r.0) x.settled) e2),
-      r.2,
-      λ sole. lost_dropped len r.0 got.0 v v2 e2 r.4 sole,
+    let r = c.resize_all-shrunk.ensures.resizes in (
+      all_lost len r.held,
+      c.end_resize.ensures.kept.0.8 ∙ (ap (λ (x : View). x.settled) r.is ∙ ap (λ (x : View). fates_onto (fate.Shrunk c.args.event) (all_lost len r.held) x.settled) e2),
+      r.counted,
+      λ sole. lost_dropped len r.held got.0 v v2 e2 r.is_known sole,
     )
 
 pub returns-clause-sole : goal.returns-clause-sole
 returns-clause-sole g c sole =
     let v = view c.args.cpu.now in let got = c.take_lock.ensures.got in let v2 = view c.take_lock.new.cpu in
     let e2 : v2 ≡ got_in_control got.0 (beginning_control v) = got.1 ∙ ap (got_in_control got.0) c.begin_control.ensures.view in
-    let r = c.resize_all-shrunk.ensures.resized in let s1 : solo (view c.begin_control.new.cpu) ≡ solo v = ap solo c.begin_control.ensures.view in
+    let r = c.resize_all-shrunk.ensures.resizes in let s1 : solo (view c.begin_control.new.cpu) ≡ solo v = ap solo c.begin_control.ensures.view in
     let s2 = (c.take_lock.ensures.sole (subst IsSole (sym c.begin_control.ensures.view) sole)).0 ∙ ap (locked_to true) s1 in
-    c.end_resize.ensures.sole (subst IsSole (sym (r.1 ∙ ap (having_resized c.args.len c.args.event (all_lost c.args.len r.0)) e2)) sole) ∙ ap ended (ap solo r.1 ∙ ap (heard (Resize c.args.len c.args.event)) s2)
+    c.end_resize.ensures.sole (subst IsSole (sym (r.is ∙ ap (having_resized c.args.len c.args.event (all_lost c.args.len r.held)) e2)) sole) ∙ ap ended (ap solo r.is ∙ ap (heard (Resize c.args.len c.args.event)) s2)
 
 pub returns-clause-alone : goal.returns-clause-alone
 returns-clause-alone g c = λ plan h.
@@ -44,4 +44,4 @@ returns-clause-alone g c = λ plan h.
 
 pub returns-clause-made : goal.returns-clause-made
 returns-clause-made g c = let first = c.begin_control.ensures.made in
-    (first.0, steps c.take_lock.new.cpu, steps c.resize_all-shrunk.new.cpu, subst (λ (xs : List Made). TakesLock xs (steps c.take_lock.new.cpu)) first.1 c.take_lock.ensures.made, c.resize_all-shrunk.ensures.made, c.end_resize.ensures.made)
+    (first.0, steps c.take_lock.new.cpu, steps c.resize_all-shrunk.new.cpu, subst (λ (xs : List Made). TakesLock xs (steps c.take_lock.new.cpu)) first.1 c.take_lock.ensures.made, (view c.take_lock.new.cpu, view c.resize_all-shrunk.new.cpu, c.resize_all-shrunk.ensures.resizes), (view c.resize_all-shrunk.new.cpu, view c.end_resize.new.cpu, c.end_resize.ensures.ends))

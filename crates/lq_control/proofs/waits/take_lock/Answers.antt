@@ -1,5 +1,5 @@
-use Rattle.std.proofs.Common.{rules, ap, ◌∙◌, List, false, Bool}
-use Rattle.lq_table.specs.Made.{Made, ◌⊳◌, did_try_lock}
+use Rattle.std.proofs.Common.{rules, ap, ◌∙◌, Bool}
+use Rattle.lq_table.specs.Made.{◌⊳◌, did_try_lock}
 use Rattle.lq_table.specs.Sees.{steps}
 use Rattle.lq_control.specs.Steps.{TriesLock, not_tried}
 use Rattle.lq_control.proofs.StepLemmas.{held_more}

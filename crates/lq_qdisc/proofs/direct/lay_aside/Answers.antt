@@ -1,4 +1,6 @@
-use Rattle.std.proofs.Common.{ap, ◌∙◌}
+use Rattle.std.proofs.Common.{ap, ◌∙◌, List}
+use Rattle.lq_table.specs.Sees.{steps}
+use Rattle.lq_table.specs.Made.{Made, ◌⊳◌, did_set_missed}
 use Rattle.lq_table.specs.Views.{View}
 use Rattle.lq_table.specs.Told.{setting}
 use Rattle.lq_qdisc.proofs.direct.lay_aside.Goals as goal
@@ -6,4 +8,5 @@ use Rattle.lq_qdisc.proofs.direct.lay_aside.Goals as goal
 pub returns-clause-stopped : goal.returns-clause-stopped
 returns-clause-stopped g c =
     let stopped = c.maybe_clear_missed.ensures.stopped in
-    (stopped.0, c.set_missed.ensures.view ∙ ap (λ (v : View). setting v) (c.put_back.ensures.same.3 ∙ stopped.1))
+    let m = c.set_missed.ensures.made in
+    (stopped.0, c.set_missed.ensures.view ∙ ap (λ (v : View). setting v) (c.put_back.ensures.same.3 ∙ stopped.1), steps c.maybe_clear_missed.new.cpu, m.0, stopped.2, m.1 ∙ ap (λ (xs : List Made). xs ⊳ did_set_missed m.0) c.put_back.ensures.made)

@@ -1,12 +1,13 @@
 use Rattle.std.proofs.Common.{◌≡◌, ℕ, ◌+◌, ap, sym, ◌∙◌, subst, arith, add-zero, Option, refl}
 use Rattle.std.specs.Prelude.{is_none, if◌then◌else◌}
-use Rattle.lq_table.specs.Sees.{view, setup, steps}
+use Rattle.lq_table.specs.Sees.{view, known, setup}
 use Rattle.lq_table.specs.Told.{IsKnownSlot}
 use Rattle.lq_qdisc.specs.Steps.{SendsBy}
 use Rattle.lq_qdisc.proofs.StepLemmas.{sends_more_by}
-use Rattle.lq_qdisc.specs.Runs.{Sends}
+use Rattle.lq_qdisc.proofs.ViewLemmas.{runs_view}
 use Rattle.lq_qdisc.proofs.TakeLemmas.{kept_then, seat_in}
-use Rattle.lq_qdisc.proofs.RunLemmas.{count, fates_then, laid_at_quota, sent_more, set_at_quota}
+use Rattle.lq_qdisc.proofs.RunLemmas.{count, fates_then, laid_at_quota, set_at_quota}
+use Rattle.lq_qdisc.specs.declared.answers.Ran.{Ran}
 use Rattle.lq_qdisc.specs.declared.answers.RunEnd.TheVariants.{Quota}
 use Rattle.lq_qdisc.proofs.AloneSteps.{accounts_slot, runs_alone}
 use Rattle.lq_qdisc.proofs.runs.run.Goals as goal
@@ -27,56 +28,44 @@ loop-sent-preserved g c =
       slot = subst (λ (o : Option ℕ). IsKnownSlot (setup c.args.shared.now) o) (sym more.2) tt;
       trail = c.restart.ensures.trail ∙ old.trail;
       fates = fates_then (view c.args.cpu.now) (view m) (view a) old.fates c.restart.ensures.fates;
-      sent = sent_more s c.args.shared.now.infos.now (view c.args.cpu.now) (view m) (view a) old.sent c.in_default.ensures.sent;
+      sent = sends_more_by (setup c.args.shared.now) s (known c.args.cpu.now) (known m) (known a) old.sent c.in_default.ensures.sent;
       accepted = (let e : count (view a) ≡ count (view m) + 1 = c.in_default.ensures.accepted in let f : count (view m) ≡ count (view c.args.cpu.now) + s = old.accepted in omega arith);
-      made = sends_more_by (setup c.args.shared.now) s _ _ _ old.made c.in_default.ensures.made;
     }
-
-pub returns-in-Some-clause-made : goal.returns-in-Some-clause-made
-returns-in-Some-clause-made g c = (steps c.loop-sent.cpu, c.loop-sent.invariant.made, c.in-Some.ensures.made)
-
-pub returns-clause-made : goal.returns-clause-made
-returns-clause-made g c = let all : c.loop-sent.sent ≡ 64 = omega arith in
-    (steps c.loop-sent.cpu, subst (λ (n : ℕ). SendsBy (setup c.args.shared.now) n (steps c.args.cpu.now) (steps c.loop-sent.cpu)) all c.loop-sent.invariant.made, c.set_missed.ensures.made)
 
 pub returns-clause-ran : goal.returns-clause-ran
 returns-clause-ran g c =
-    let old = c.loop-sent.invariant in let m = c.loop-sent.cpu in
+    let old = c.loop-sent.invariant in let m = c.loop-sent.cpu in let set = c.set_missed.ensures in
     let all : c.loop-sent.sent ≡ 64 = omega arith in record {
-      last = view m;
-      sent = subst (λ (k : ℕ). Sends k c.args.shared.now.infos.now (view c.args.cpu.now) (view m)) all old.sent;
+      last = known m;
+      sent = subst (λ (n : ℕ). SendsBy (setup c.args.shared.now) n (known c.args.cpu.now) (known m)) all old.sent;
       share = old.kept.share;
-      ends = (c.set_missed.ensures.view ∙ set_at_quota (view m) old.at (old.run ∙ all), c.set_missed.ensures.step ∙ laid_at_quota (view m) _ old.at (old.run ∙ all));
+      ends = (set.view ∙ set_at_quota (view m) old.at (old.run ∙ all), set.step ∙ laid_at_quota (view m) _ old.at (old.run ∙ all), set.made.0, set.made.1);
       within = omega arith;
       quota = (λ _. refl, λ _. refl);
+    }
+
+pub returns-in-Some-clause-ran : goal.returns-in-Some-clause-ran
+returns-in-Some-clause-ran g c =
+    let old = c.loop-sent.invariant in record {
+      last = known c.loop-sent.cpu;
+      sent = old.sent;
+      share = old.kept.share;
+      ends = c.in-Some.ensures.sent;
+      within = omega arith;
+      quota = (λ e. absurd (c.in-Some.ensures.quota e), λ e. absurd (omega arith));
     }
 
 pub returns-in-Some-clause-fates : goal.returns-in-Some-clause-fates
 returns-in-Some-clause-fates g c = fates_then (view c.args.cpu.now) (view c.loop-sent.cpu) (view c.restart.new.cpu) c.loop-sent.invariant.fates c.restart.ensures.fates
 
 pub returns-in-Some-clause-alone : goal.returns-in-Some-clause-alone
-returns-in-Some-clause-alone g c =
-    let old = c.loop-sent.invariant in λ knows sender active.
-    runs_alone (setup c.args.shared.now) c.args.shared.now.infos.now (view c.args.cpu.now) c.requires.seat.2 sender active (λ other. accounts_slot (view c.args.cpu.now) (knows other)) (record { end = c.in-Some.end; sent = c.loop-sent.sent }) (view c.restart.new.cpu)
-    (record {
-      last = view c.loop-sent.cpu;
-      sent = old.sent;
-      share = old.kept.share;
-      ends = c.in-Some.ensures.sent;
-      within = omega arith;
-      quota = (λ e. absurd (c.in-Some.ensures.quota e), λ e. absurd (omega arith));
-    })
+returns-in-Some-clause-alone g c = λ knows sender active.
+    let k = setup c.args.shared.now in let ran : Ran = record { end = c.in-Some.end; sent = c.loop-sent.sent } in
+    runs_alone k c.args.shared.now.infos.now (view c.args.cpu.now) c.requires.seat.2 sender active (λ other. accounts_slot (view c.args.cpu.now) (knows other)) ran (view c.restart.new.cpu)
+    (runs_view k ran (known c.args.cpu.now) (known c.restart.new.cpu) (returns-in-Some-clause-ran g c))
 
 pub returns-clause-alone : goal.returns-clause-alone
-returns-clause-alone g c =
-    let old = c.loop-sent.invariant in let m = c.loop-sent.cpu in
-    let all : c.loop-sent.sent ≡ 64 = omega arith in λ knows sender active.
-    runs_alone (setup c.args.shared.now) c.args.shared.now.infos.now (view c.args.cpu.now) c.requires.seat.2 sender active (λ other. accounts_slot (view c.args.cpu.now) (knows other)) (record { end = Quota; sent = 64 }) (view c.set_missed.new.cpu)
-    (record {
-      last = view m;
-      sent = subst (λ (k : ℕ). Sends k c.args.shared.now.infos.now (view c.args.cpu.now) (view m)) all old.sent;
-      share = old.kept.share;
-      ends = (c.set_missed.ensures.view ∙ set_at_quota (view m) old.at (old.run ∙ all), c.set_missed.ensures.step ∙ laid_at_quota (view m) _ old.at (old.run ∙ all));
-      within = omega arith;
-      quota = (λ _. refl, λ _. refl);
-    })
+returns-clause-alone g c = λ knows sender active.
+    let k = setup c.args.shared.now in let ran : Ran = record { end = Quota; sent = 64 } in
+    runs_alone k c.args.shared.now.infos.now (view c.args.cpu.now) c.requires.seat.2 sender active (λ other. accounts_slot (view c.args.cpu.now) (knows other)) ran (view c.set_missed.new.cpu)
+    (runs_view k ran (known c.args.cpu.now) (known c.set_missed.new.cpu) (returns-clause-ran g c))

@@ -1,7 +1,7 @@
 use Rattle.std.proofs.Common.{◌≡◌, ◌+◌, None, length}
-use Rattle.lq_table.specs.Sees.{view, setup, steps, position, IsSeatOf}
+use Rattle.lq_table.specs.Sees.{view, known, setup, position, IsSeatOf}
 use Rattle.lq_qdisc.specs.Calls.{KeepsFates, IsKeptInRun, IsServing, IsSlotOf}
-use Rattle.lq_qdisc.specs.Runs.{Sends, position_in_run}
+use Rattle.lq_qdisc.specs.Runs.{position_in_run}
 use Rattle.lq_qdisc.specs.Steps.{SendsBy}
 use Rattle.lq_qdisc.proofs.runs.run.Given as goal
 
@@ -16,7 +16,6 @@ invariant-loop-sent g l = record {
   slot : IsSlotOf l.shared l.cpu;
   trail : (view l.cpu).trail ≡ (view l.fn.cpu).trail;
   fates : KeepsFates (view l.fn.cpu) (view l.cpu);
-  sent : Sends l.sent l.shared.infos.now (view l.fn.cpu) (view l.cpu);
+  sent : SendsBy (setup l.shared) l.sent (known l.fn.cpu) (known l.cpu);
   accepted : length (view l.cpu).holder.station.device.accepted ≡ length (view l.fn.cpu).holder.station.device.accepted + l.sent;
-  made : SendsBy (setup l.shared) l.sent (steps l.fn.cpu) (steps l.cpu);
 }

@@ -1,21 +1,68 @@
-use Rattle.std.proofs.Common.{◌≡◌, Bool, true, false, not, sym, ap, ◌∙◌, [], ◌∷◌, ◌&&◌, inl, inr, subst, List}
-use Rattle.lq_table.specs.Sees.{setup, steps}
+use Rattle.std.proofs.Common.{◌≡◌, ℕ, arith, true, false, not, sym, ap, ◌∙◌, [], ◌∷◌, ◌&&◌, subst, List}
+use Rattle.lq_table.specs.Sees.{view, known, setup}
 use Rattle.lq_table.specs.Told.{some_bit}
-use Rattle.lq_table.specs.Made.{Made}
-use Rattle.lq_qdisc.specs.Steps.{TriesToPassBy}
+use Rattle.lq_table.specs.Made.{Known, Made, ◌⊳◌, did_store_fate}
+use Rattle.lq_model.specs.Words.{word_of}
+use Rattle.lq_qdisc.specs.Steps.{GoesThroughBy, TriesToPassBy, looked}
 use Rattle.lq_model.specs.declared.fate.Fate.TheVariants.{Refused}
 use Rattle.lq_table.specs.Views.{View}
-use Rattle.lq_table.specs.Told.{paying}
+use Rattle.lq_table.specs.Told.{is_set, paying, refusing}
+use Rattle.std.proofs.lemmas.Bool.{true≢false}
 use Rattle.lq_qdisc.proofs.sends.send.Goals as goal
+use Rattle.lq_qdisc.proofs.sends.send.Goals.{else-bypass-via-then-bypass+else-not-is_non_empty, else-bypass-via-else-bypass}
 
 pub returns-then-is_deactivated-clause-fates : goal.returns-then-is_deactivated-clause-fates
 returns-then-is_deactivated-clause-fates g c =
     let refused = c.check-state.ensures.refused (sym c.is_deactivated.ensures ∙ c.if-is_deactivated.true) in
     ((c.args.n, Refused refused.0) ∷ [], ap (λ (v : View). v.settled) c.refuse.ensures.view ∙ ap (λ (v : View). (paying v).settled) refused.5)
 
-pub returns-then-not-is_non_empty-clause-made : goal.returns-then-not-is_non_empty-clause-made
-returns-then-not-is_non_empty-clause-made g c =
-    let state = c.check-state.result in let k = setup c.args.shared.now in
+pub returns-then-is_deactivated-clause-goes : goal.returns-then-is_deactivated-clause-goes
+returns-then-is_deactivated-clause-goes g c =
+    let k = setup c.args.shared.now in let state = c.check-state.result in let n = c.args.n in let l = c.check-state.ensures in let r = c.refuse.ensures.event in let v = view c.args.cpu.now in
+    let on : is_set 2 state ≡ true = sym c.is_deactivated.ensures ∙ c.if-is_deactivated.true in let s = l.refused on in
+    let same : s.0 ≡ r.0 = (let a = s.2 in let b = s.4 in let d = r.2 in let e = r.3 in omega arith) in record {
+      state = state;
+      sees = l.sole;
+      first = l.first;
+      refused = λ _. (
+        r.0,
+        r.4,
+        (on, (r.1, r.2, r.3), c.refuse.ensures.view ∙ (ap (λ (x : View). paying x) s.5 ∙ ap (λ (event : ℕ). paying (refusing n event state v)) same)),
+        r.5 ∙ ap (λ (xs : List Made). xs ⊳ did_store_fate k n (word_of (Refused r.0))) l.made,
+      );
+      past = λ off. absurd (true≢false (sym on ∙ off));
+      through = λ off. absurd (true≢false (sym on ∙ off));
+    }
+
+pub returns-then-not-is_non_empty-clause-goes : goal.returns-then-not-is_non_empty-clause-goes
+returns-then-not-is_non_empty-clause-goes g c =
+    let k = setup c.args.shared.now in let state = c.check-state.result in let l = c.check-state.ensures in
+    let off : is_set 2 state ≡ false = sym c.is_deactivated.ensures ∙ c.if-is_deactivated.false in
     let bypass : c.args.shared.now.bypass ≡ true = sym c.bypass.ensures ∙ c.if-bypass.true in
     let clear : some_bit state ≡ false = sym c.is_non_empty.ensures ∙ c.if-not-is_non_empty.true in
-    (state, inr (inl (sym c.is_deactivated.ensures ∙ c.if-is_deactivated.false, (λ j. bypass j && not (clear j)), subst (λ (xs : List Made). TriesToPassBy k c.args.n c.send_try.result xs (steps c.send_try.new.cpu)) c.check-state.ensures.made c.send_try.ensures.made)))
+    let may : c.args.shared.now.bypass && not (some_bit state) ≡ true = (λ j. bypass j && not (clear j)) in
+    let e : known c.check-state.new.cpu ≡ looked state (known c.args.cpu.now) = λ j. record { view = l.active off j; steps = l.made j } in record {
+      state = state;
+      sees = l.sole;
+      first = l.first;
+      refused = λ on. absurd (true≢false (sym on ∙ off));
+      past = λ _ _. subst (λ (x : Known). TriesToPassBy k c.args.n c.send_try.result x (known c.send_try.new.cpu)) e c.send_try.ensures.goes;
+      through = λ _ not_. absurd (true≢false (sym may ∙ not_));
+    }
+
+pub returns-clause-goes : goal.returns-clause-goes
+returns-clause-goes g c =
+    let k = setup c.args.shared.now in let state = c.check-state.result in let l = c.check-state.ensures in
+    let off : is_set 2 state ≡ false = sym c.is_deactivated.ensures ∙ c.if-is_deactivated.false in
+    let may_not : c.args.shared.now.bypass && not (some_bit state) ≡ false = elim c.else-bypass.branch [
+      | else-bypass-via-then-bypass+else-not-is_non_empty w ↦ (λ j. (sym c.bypass.ensures ∙ w.if-bypass.true) j && not ((sym w.is_non_empty.ensures ∙ w.if-not-is_non_empty.false) j))
+      | else-bypass-via-else-bypass w ↦ (λ j. (sym c.bypass.ensures ∙ w.if-bypass.false) j && not (some_bit state))
+    ] in
+    let e : known c.check-state.new.cpu ≡ looked state (known c.args.cpu.now) = λ j. record { view = l.active off j; steps = l.made j } in record {
+      state = state;
+      sees = l.sole;
+      first = l.first;
+      refused = λ on. absurd (true≢false (sym on ∙ off));
+      past = λ _ may. absurd (true≢false (sym may ∙ may_not));
+      through = λ _ _. subst (λ (x : Known). GoesThroughBy k c.args.n c.send_through.result x (known c.send_through.new.cpu)) e c.send_through.ensures.goes;
+    }

@@ -1,6 +1,7 @@
 use Rattle.lq_model.specs.Plan.{band_in}
-use Rattle.lq_table.specs.Sees.{view}
+use Rattle.lq_table.specs.Sees.{view, known, setup}
 use Rattle.lq_qdisc.proofs.RunLemmas.{fates_then}
+use Rattle.lq_qdisc.proofs.ViewLemmas.{enqueues_view}
 use Rattle.lq_qdisc.proofs.SendLemmas.{put_fates}
 use Rattle.lq_qdisc.proofs.sends.send_through.Goals as goal
 
@@ -8,4 +9,7 @@ pub returns-clause-fates : goal.returns-clause-fates
 returns-clause-fates g c =
     let infos = c.args.shared.now.infos.now in let put = view c.enqueue-sending.new.cpu in
     fates_then (view c.args.cpu.now) put (view c.attempt.new.cpu)
-    (put_fates c.args.n (band_in infos c.args.n) c.enqueue-sending.result (view c.args.cpu.now) put c.enqueue-sending.ensures.put) c.attempt.ensures.fates
+    (put_fates c.args.n (band_in infos c.args.n) c.enqueue-sending.result (view c.args.cpu.now) put (enqueues_view (setup c.args.shared.now) c.args.n c.enqueue-sending.result (known c.args.cpu.now) (known c.enqueue-sending.new.cpu) c.enqueue-sending.ensures.put)) c.attempt.ensures.fates
+
+pub returns-clause-goes : goal.returns-clause-goes
+returns-clause-goes g c = (known c.enqueue-sending.new.cpu, c.enqueue-sending.ensures.put, c.attempt.ensures.attempted)

@@ -1,6 +1,8 @@
-use Rattle.std.proofs.Common.{false, true, ◌≡◌, sym, ◌∙◌, refl, subst, inl, inr, ap, List, Some, None}
-use Rattle.lq_table.specs.Sees.{setup, steps}
-use Rattle.lq_table.specs.Made.{Made, ◌⊳◌, did_clear_missed, did_clear_draining}
+use Rattle.std.proofs.Common.{false, true, sym, ◌∙◌, refl, subst, inl, inr, Some, None}
+use Rattle.lq_table.specs.Sees.{view, known, setup}
+use Rattle.lq_table.specs.Made.{Known}
+use Rattle.lq_qdisc.proofs.StepLemmas.{cleared_from}
+use Rattle.lq_qdisc.proofs.TakeLemmas.{finds_again, kept_then}
 use Rattle.lq_qdisc.specs.Steps.{Scans}
 use Rattle.lq_qdisc.proofs.takes.dequeue_bands.Goals as goal
 
@@ -12,12 +14,17 @@ returns-in-None-clause-at g c = c.in-None.ensures.at true c.clear_non_empty.ensu
 
 pub returns-then-not-is_non_empty-clause-made : goal.returns-then-not-is_non_empty-clause-made
 returns-then-not-is_non_empty-clause-made g c = let m = c.is_non_empty.ensures.made in
-    inr (steps c.scan.new.cpu, m.0, c.in_default.ensures.made, inl (sym m.1 ∙ c.if-not-is_non_empty.true, refl, m.2))
+    inr (known c.scan.new.cpu, m.0, c.in_default.ensures.made, inl (sym m.1 ∙ c.if-not-is_non_empty.true, refl, λ j. record { view = m.2 j; steps = m.3 j }))
 
 pub returns-in-Some-scan-clause-made : goal.returns-in-Some-scan-clause-made
-returns-in-Some-scan-clause-made g c = let m = c.is_non_empty.ensures.made in let k = setup c.args.shared.now in let from = c.clear_non_empty.ensures.made ∙ ap (λ (xs : List Made). xs ⊳ did_clear_missed ⊳ did_clear_draining) m.2 in
-    inr (steps c.scan.new.cpu, m.0, c.in_default.ensures.made, inr (sym m.1 ∙ c.if-not-is_non_empty.false, Some c.in-Some-scan.n, refl, subst (λ (xs : List Made). Scans k (Some c.in-Some-scan.n) xs (steps c.scan-2.new.cpu)) from c.in-Some-scan.ensures.made))
+returns-in-Some-scan-clause-made g c = let m = c.is_non_empty.ensures.made in let n = c.clear_non_empty.ensures.made in let k = setup c.args.shared.now in
+    inr (known c.scan.new.cpu, m.0, c.in_default.ensures.made, inr (sym m.1 ∙ c.if-not-is_non_empty.false, Some c.in-Some-scan.n, refl, subst (λ (x : Known). Scans k (Some c.in-Some-scan.n) x (known c.scan-2.new.cpu)) (cleared_from m.0 (known c.scan.new.cpu) (known c.is_non_empty.new.cpu) (known c.clear_non_empty.new.cpu) m.2 m.3 n.0 n.1) c.in-Some-scan.ensures.made))
 
 pub returns-in-None-clause-made : goal.returns-in-None-clause-made
-returns-in-None-clause-made g c = let m = c.is_non_empty.ensures.made in let k = setup c.args.shared.now in let from = c.clear_non_empty.ensures.made ∙ ap (λ (xs : List Made). xs ⊳ did_clear_missed ⊳ did_clear_draining) m.2 in
-    inr (steps c.scan.new.cpu, m.0, c.in_default.ensures.made, inr (sym m.1 ∙ c.if-not-is_non_empty.false, None, refl, subst (λ (xs : List Made). Scans k None xs (steps c.scan-2.new.cpu)) from c.in-None.ensures.made))
+returns-in-None-clause-made g c = let m = c.is_non_empty.ensures.made in let n = c.clear_non_empty.ensures.made in let k = setup c.args.shared.now in
+    inr (known c.scan.new.cpu, m.0, c.in_default.ensures.made, inr (sym m.1 ∙ c.if-not-is_non_empty.false, None, refl, subst (λ (x : Known). Scans k None x (known c.scan-2.new.cpu)) (cleared_from m.0 (known c.scan.new.cpu) (known c.is_non_empty.new.cpu) (known c.clear_non_empty.new.cpu) m.2 m.3 n.0 n.1) c.in-None.ensures.made))
+
+pub returns-in-Some-scan-clause-taken : goal.returns-in-Some-scan-clause-taken
+returns-in-Some-scan-clause-taken g c = let m = c.is_non_empty.ensures.same in let n = c.clear_non_empty.ensures.same in
+    let kept = kept_then c.scan.ensures.kept (kept_then c.is_non_empty.ensures.kept c.clear_non_empty.ensures.kept) in
+    finds_again c.in-Some-scan.n (view c.args.cpu.now) (view c.scan.new.cpu) (view c.clear_non_empty.new.cpu) (view c.scan-2.new.cpu) kept.share kept.told (n.0 ∙ m.0) (n.1 ∙ m.1) c.in_default.ensures.taken c.in-Some-scan.ensures.taken

@@ -3,7 +3,7 @@ use Rattle.std.specs.Prelude.{slice_get}
 use Rattle.lq_model.specs.Account.{Account, Event, Empty, held_in}
 use Rattle.lq_table.specs.Views.{View, Setup}
 use Rattle.lq_table.specs.Told.{IsPacketOf}
-use Rattle.lq_table.specs.Sees.{view, setup, steps}
+use Rattle.lq_table.specs.Sees.{view, known, setup}
 use Rattle.lq_qdisc.specs.Steps.{EmptyBelow}
 use Rattle.lq_qdisc.proofs.StepLemmas.{bands_more}
 use Rattle.lq_table.specs.Solo.{account_of}
@@ -18,12 +18,12 @@ consume-requires-clause-at g c κs within =
 pub returns-in-Some-clause-kept : goal.returns-in-Some-clause-kept
 returns-in-Some-clause-kept g c =
     let at_ = c.requires.at in let here = c.loop-band.invariant.at at_.0 at_.1 ∙ looking_here c.loop-band.band at_.0 c.loop-band-test.true in
-    kept_then c.loop-band.invariant.kept (kept_take c.loop-band.band c.in-Some.n at_.0 c.loop-band.cpu c.consume.new.cpu here c.consume.ensures.same.0 c.consume.ensures.same.1 c.in-Some.ensures.taken)
+    kept_then c.loop-band.invariant.kept (kept_take c.loop-band.band c.in-Some.n at_.0 c.loop-band.cpu c.consume.new.cpu here c.consume.ensures.same.0 c.consume.ensures.same.1 c.in-Some.ensures.takes.0)
 
 pub returns-in-Some-clause-run : goal.returns-in-Some-clause-run
 returns-in-Some-clause-run g c =
     let at_ = c.requires.at in let here = c.loop-band.invariant.at at_.0 at_.1 ∙ looking_here c.loop-band.band at_.0 c.loop-band-test.true in
-    run_take c.loop-band.band c.in-Some.n at_.0 c.loop-band.cpu c.consume.new.cpu here c.in-Some.ensures.taken ∙ c.loop-band.invariant.run
+    run_take c.loop-band.band c.in-Some.n at_.0 c.loop-band.cpu c.consume.new.cpu here c.in-Some.ensures.takes.0 ∙ c.loop-band.invariant.run
 
 pub returns-in-Some-clause-packet : goal.returns-in-Some-clause-packet
 returns-in-Some-clause-packet g c = subst (λ (k : Setup). IsPacketOf k c.in-Some.n) c.loop-band.invariant.seat.2 c.in-Some.ensures.packet
@@ -31,7 +31,7 @@ returns-in-Some-clause-packet g c = subst (λ (k : Setup). IsPacketOf k c.in-Som
 pub loop-band-preserved : goal.loop-band-preserved
 loop-band-preserved g c =
     let at_ = c.requires.at in let old = c.loop-band.invariant in let b = c.loop-band.band in let m = c.loop-band.cpu in let a = c.consume.new.cpu in
-    let is = c.in_default.ensures.taken in
+    let is = c.in_default.ensures.takes.0 in
     let here = old.at at_.0 at_.1 ∙ looking_here b at_.0 c.loop-band-test.true in
     let kept = kept_none b at_.0 m a here c.consume.ensures.same.0 c.consume.ensures.same.1 is in
     let kept_all = kept_then old.kept kept in
@@ -48,12 +48,12 @@ loop-band-preserved g c =
       sole = λ alone. let same = account_same b (view c.args.cpu.now) (view m) old.kept.share old.past in
           none_more (account_of (view c.args.cpu.now)) b (old.sole alone)
           (ap (λ (x : Account). slice_get (held_in x b) 0) (sym same) ∙ (c.consume.ensures.sole (sole_kept c.args.cpu.now m old.kept alone) ∙ c.in_default.is));
-      made = bands_more (setup c.args.shared.now) b _ _ _ _ old.made c.in_default.ensures.made;
+      made = bands_more (setup c.args.shared.now) b (known c.args.cpu.now) (known m) (known a) old.made c.in_default.ensures.takes;
     }
 
 pub returns-in-Some-clause-made : goal.returns-in-Some-clause-made
-returns-in-Some-clause-made g c = let found = c.in-Some.ensures.made in (c.loop-band.band, steps c.loop-band.cpu, _, c.loop-band.invariant.made, found)
+returns-in-Some-clause-made g c = (c.loop-band.band, known c.loop-band.cpu, c.loop-band.invariant.made, c.in-Some.ensures.takes)
 
 pub returns-clause-made : goal.returns-clause-made
 returns-clause-made g c = let three : c.loop-band.band ≡ 3 = omega arith in
-    subst (λ (n : ℕ). EmptyBelow (setup c.args.shared.now) n (steps c.args.cpu.now) (steps c.loop-band.cpu)) three c.loop-band.invariant.made
+    subst (λ (n : ℕ). EmptyBelow (setup c.args.shared.now) n (known c.args.cpu.now) (known c.loop-band.cpu)) three c.loop-band.invariant.made

@@ -1,6 +1,6 @@
 use Rattle.std.proofs.Common.{◌≡◌, Bool}
 use Rattle.lq_model.specs.declared.machine.Position.TheVariants.{Scan}
-use Rattle.lq_table.specs.Sees.{view, setup, steps, position, IsSeatOf}
+use Rattle.lq_table.specs.Sees.{view, known, setup, position, IsSeatOf}
 use Rattle.lq_table.specs.Solo.{IsSole, account_of, solo}
 use Rattle.lq_qdisc.specs.Calls.{IsKeptInRun, IsServing, IsSettledSame, AreNone, found_empty, looking_at}
 use Rattle.lq_qdisc.specs.Steps.{EmptyBelow}
@@ -18,5 +18,5 @@ invariant-loop-band g l = record {
   holder : (view l.cpu).holder ≡ (view l.fn.cpu).holder;
   step : solo (view l.cpu) ≡ solo (view l.fn.cpu);
   sole : IsSole (view l.fn.cpu) → AreNone (account_of (view l.fn.cpu)) l.band;
-  made : EmptyBelow (setup l.shared) l.band (steps l.fn.cpu) (steps l.cpu);
+  made : EmptyBelow (setup l.shared) l.band (known l.fn.cpu) (known l.cpu);
 }

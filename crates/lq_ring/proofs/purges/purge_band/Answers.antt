@@ -43,12 +43,6 @@ purge_one-requires-clause-rests g c _ _ =
       c.load_size-size.ensures.size.2,
     )
 
-pub returns-then-not-purge_one-clause-purged : goal.returns-then-not-purge_one-clause-purged
-returns-then-not-purge_one-clause-purged g c u l purge left =
-    let b = c.args.band in let k = c.loop-n.n in let p = c.loop-n.invariant.purged l left in
-    let none_ = c.purge_one.ensures.none c.if-not-purge_one.true u (purged_by b k l) (ap (λ (x : View). x.control.purge) p.is ∙ purge) (ap (λ (x : View). x.holder.left) p.is) in
-    all_purged b k u l (view c.args.cpu.now) (view c.loop-n.cpu) (view c.purge_one.new.cpu) p none_.0 none_.1
-
 pub loop-n-preserved : goal.loop-n-preserved
 loop-n-preserved g c =
     let b = c.args.band in let k = c.loop-n.n in let v = view c.args.cpu.now in let i = c.loop-n.invariant in let s = c.purge_one.ensures.same in
@@ -68,7 +62,13 @@ unreachable-requires g c =
     let at = c.requires.at in let few = (c.loop-n.invariant.purged at.1 at.5).few in let most = at.8 in let past = c.loop-n-test.false in
     let size : c.load_size-size.result ≡ (view c.args.cpu.now).holder.size = c.load_size-size.ensures.holder (ap holds_lock at.2) in absurd (omega arith)
 
-pub returns-then-not-purge_one-clause-made : goal.returns-then-not-purge_one-clause-made
-returns-then-not-purge_one-clause-made g c =
-    let none_ = c.purge_one.ensures.made.1 c.if-not-purge_one.true in let i = c.loop-n.invariant.made in
-    (i.0, steps c.loop-n.cpu, none_.0, i.1, none_.1)
+pub returns-then-not-purge_one-clause-purges : goal.returns-then-not-purge_one-clause-purges
+returns-then-not-purge_one-clause-purges g c =
+    let b = c.args.band in let k = c.loop-n.n in let i = c.loop-n.invariant in let one = c.purge_one.ensures in
+    let past = one.made.1 c.if-not-purge_one.true in record {
+      purged = λ u l purge left.
+          let p = i.purged l left in
+          let none_ = one.none c.if-not-purge_one.true u (purged_by b k l) (ap (λ (x : View). x.control.purge) p.is ∙ purge) (ap (λ (x : View). x.holder.left) p.is) in
+          all_purged b k u l (view c.args.cpu.now) (view c.loop-n.cpu) (view c.purge_one.new.cpu) p none_.0 none_.1;
+      made = (i.made.0, steps c.loop-n.cpu, past.0, i.made.1, past.1);
+    }

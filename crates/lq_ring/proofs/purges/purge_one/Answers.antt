@@ -20,6 +20,8 @@ use Rattle.lq_ring.specs.Steps.{zeroed}
 use Rattle.lq_ring.proofs.TakeSteps.{heads_at, tails_at, rest_at, takes_end}
 use Rattle.lq_ring.proofs.Seats.{seat_on}
 use Rattle.lq_ring.proofs.PurgeSteps.{purged_station}
+use Rattle.lq_ring.specs.Take.{emptied_count}
+use Rattle.lq_ring.proofs.StepLemmas.{zeroed_as}
 use Rattle.lq_ring.proofs.purges.purge_one.Goals as goal
 
 abbrev at_ : ℕ → View → Ends
@@ -119,5 +121,6 @@ returns-clause-made g c =
     let ends : at_ b (view c.settle.new.cpu) ≡ taken_on own = ap (λ (x : View). at_ b x) took ∙ at_put_same b (taken_on own) v.holder.ends in
     let stored : steps c.settle.new.cpu ≡ old ⊳ did_load_slot k b own.head (n + 1) ⊳ did_store_fate k n (word_of (fate.Purged c.args.cause)) =
     c.settle.ensures.made ∙ ((λ j. c.purge_slot-found.ensures.made j ⊳ did_store_fate k n (word_of (fate.Purged c.args.cause))) ∙ (λ j. old ⊳ did_load_slot k b own.head (back j) ⊳ did_store_fate k n (word_of (fate.Purged c.args.cause)))) in
-    let zeroes = c.discard_one.ensures.made in
-    (λ _. (n, (own.head, zeroes.0, zeroes.1 ∙ (λ j. zeroed k b (ends j).head zeroes.0 (stored j)))), λ e. cc)
+    let now : Ends = at_ b (view c.settle.new.cpu) in let count = emptied_count c.args.size now in
+    let zeroes = zeroed_as k b c.args.size now (steps c.settle.new.cpu) (steps c.discard_one.new.cpu) c.discard_one.ensures.made.0 c.discard_one.ensures.made.1 in
+    (λ _. (n, (own.head, count, zeroes ∙ (λ j. zeroed k b (ends j).head count (stored j)))), λ e. cc)

@@ -6,7 +6,7 @@ use Rattle.lq_band.specs.Ring.{with_room}
 use Rattle.lq_table.specs.Rings.{with_lock_at, joining, dropping}
 use Rattle.lq_table.specs.SolePut.{SeesEnd}
 use Rattle.lq_table.specs.Sees.{view, setup, steps}
-use Rattle.lq_table.specs.Made.{Made, ◌⊳◌, did_load_slot, did_store_slot, did_give_producer}
+use Rattle.lq_table.specs.Made.{◌⊳◌, did_load_slot, did_store_slot, did_give_producer}
 use Rattle.lq_ring_core.specs.Ring.{next_place}
 use Rattle.lq_ring.proofs.PutSteps.{lock1, lock2, lock3, ends_full, ends_put}
 use Rattle.lq_ring.proofs.puts.produce_locked.Goals as goal

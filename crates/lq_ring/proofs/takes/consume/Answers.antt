@@ -1,4 +1,4 @@
-use Rattle.std.proofs.Common.{◌≡◌, ℕ, ◌+◌, ◌-◌, ◌<◌, ◌≤◌, refl, sym, ap, ◌∙◌, subst, arith, List}
+use Rattle.std.proofs.Common.{◌≡◌, ℕ, ◌+◌, ◌-◌, ◌<◌, ◌≤◌, refl, sym, ap, ◌∙◌, subst, arith}
 use Rattle.lq_model.specs.Positions.{holds_lock}
 use Rattle.lq_band.specs.Three.{at}
 use Rattle.lq_band.specs.Ring.{Ends, taken_on}
@@ -7,11 +7,14 @@ use Rattle.lq_table.specs.Views.{View}
 use Rattle.lq_table.specs.Rule.{shown}
 use Rattle.lq_table.specs.Rings.{finding_none, taking}
 use Rattle.lq_table.specs.Sees.{view, setup, steps}
-use Rattle.lq_table.specs.Made.{Made, ◌⊳◌, did_load_slot}
+use Rattle.lq_table.specs.Made.{◌⊳◌, did_load_size, did_load_slot}
 use Rattle.lq_ring.specs.Steps.{zeroed}
+use Rattle.lq_ring.specs.Take.{consuming, emptied_count}
+use Rattle.lq_ring.proofs.StepLemmas.{zeroed_as}
 use Rattle.lq_table.specs.Told.{IsPacketOf}
 use Rattle.lq_table.specs.Solo.{solo}
 use Rattle.lq_ring.proofs.TakeSteps.{sized_none, none_leads, none_heard, take_leads, take_heard, heads_at, tails_at, rest_at, consumes, rests_after, station_after, known_after}
+use Rattle.lq_ring.proofs.takes.consume.Given as given
 use Rattle.lq_ring.proofs.takes.consume.Goals as goal
 
 pub returns-then-found-eq0-clause-at : goal.returns-then-found-eq0-clause-at
@@ -59,8 +62,8 @@ discard_one-requires-clause-ends g c _ _ =
     let size : z ≡ v.holder.size = c.load_size-size.ensures.holder (ap holds_lock c.requires.at.1) in
     subst (λ (e : Ends). (e.edge ≡ e.head) × (e.tail < e.head) × (e.head ≤ z)) (sym ends) (refl, omega arith, omega arith)
 
-pub returns-clause-taken : goal.returns-clause-taken
-returns-clause-taken g c =
+taken-is : (g : given.Over) (c : goal.After-discard_one g) → view c.discard_one.new.cpu ≡ consuming c.args.band (c.head_slot-found.result - 1) (view c.args.cpu.now)
+taken-is g c =
     let b = c.args.band in let v = view c.args.cpu.now in let n = c.head_slot-found.result - 1 in let z = c.load_size-size.result in
     let loaded = c.load_size-size.ensures.size.0 ∙ sized_none z v c.requires.idle in
     let took = c.head_slot-found.ensures.taken c.if-found-eq0.false ∙ ap (λ (x : View). taking b n x) loaded in
@@ -74,39 +77,47 @@ returns-clause-packet g c =
 pub returns-clause-at : goal.returns-clause-at
 returns-clause-at g c =
     let b = c.args.band in let v = view c.args.cpu.now in let n = c.head_slot-found.result - 1 in let at_ = c.requires.at in
-    ap (λ (x : View). x.place.position) (returns-clause-taken g c) ∙ take_leads b at_.0 v at_.1 n c.requires.band
+    ap (λ (x : View). x.place.position) (taken-is g c) ∙ take_leads b at_.0 v at_.1 n c.requires.band
 
 pub returns-clause-rests : goal.returns-clause-rests
-returns-clause-rests g c = rests_after c.args.band (c.head_slot-found.result - 1) (view c.args.cpu.now) (view c.discard_one.new.cpu) c.requires.rests.0 (returns-clause-taken g c)
+returns-clause-rests g c = rests_after c.args.band (c.head_slot-found.result - 1) (view c.args.cpu.now) (view c.discard_one.new.cpu) c.requires.rests.0 (taken-is g c)
 
 pub returns-clause-station : goal.returns-clause-station
 returns-clause-station g c =
     let v = view c.args.cpu.now in
-    station_after c.args.band (c.head_slot-found.result - 1) v (view c.discard_one.new.cpu) c.discard_one.new.cpu.station c.requires.band (returns-clause-taken g c)
+    station_after c.args.band (c.head_slot-found.result - 1) v (view c.discard_one.new.cpu) c.discard_one.new.cpu.station c.requires.band (taken-is g c)
     (c.discard_one.ensures.station (shown v.holder) (c.head_slot-found.ensures.same.0.1 ∙ (c.load_size-size.ensures.same.1 ∙ c.requires.station)))
 
 pub returns-clause-known : goal.returns-clause-known
 returns-clause-known g c same =
     let v = view c.args.cpu.now in
-    known_after c.args.band (c.head_slot-found.result - 1) v (view c.discard_one.new.cpu) (rest_at v.holder.size c.args.band v.holder.ends c.requires.rests.0) (returns-clause-taken g c) same
+    known_after c.args.band (c.head_slot-found.result - 1) v (view c.discard_one.new.cpu) (rest_at v.holder.size c.args.band v.holder.ends c.requires.rests.0) (taken-is g c) same
 
 pub returns-clause-step : goal.returns-clause-step
 returns-clause-step g c =
     let at_ = c.requires.at in
-    ap (λ (x : View). solo x) (returns-clause-taken g c) ∙ take_heard c.args.band at_.0 (view c.args.cpu.now) at_.1 (c.head_slot-found.result - 1)
+    ap (λ (x : View). solo x) (taken-is g c) ∙ take_heard c.args.band at_.0 (view c.args.cpu.now) at_.1 (c.head_slot-found.result - 1)
 
-pub returns-clause-made : goal.returns-clause-made
-returns-clause-made g c =
+pub returns-then-found-eq0-clause-takes : goal.returns-then-found-eq0-clause-takes
+returns-then-found-eq0-clause-takes g c =
+    let b = c.args.band in let v = view c.args.cpu.now in let k = setup c.args.shared.now in let zero_ = c.if-found-eq0.true in
+    let loaded = c.load_size-size.ensures.size.0 ∙ sized_none c.load_size-size.result v c.requires.idle in
+    let head = ap (λ (x : View). (at b x.holder.ends).head) loaded in (
+      c.head_slot-found.ensures.none zero_ ∙ ap (λ (x : View). finding_none b x) loaded,
+      c.load_size-size.result,
+      c.head_slot-found.ensures.made ∙ (λ j. c.load_size-size.ensures.made j ⊳ did_load_slot k b (head j) (zero_ j)),
+    )
+
+pub returns-clause-takes : goal.returns-clause-takes
+returns-clause-takes g c =
     let b = c.args.band in let v = view c.args.cpu.now in let found = c.head_slot-found.result in let n = found - 1 in let own : Ends = at b v.holder.ends in let k = setup c.args.shared.now in
     let loaded = c.load_size-size.ensures.size.0 ∙ sized_none c.load_size-size.result v c.requires.idle in
     let took = c.head_slot-found.ensures.taken c.if-found-eq0.false ∙ ap (λ (x : View). taking b n x) loaded in
     let ends : at b (view c.head_slot-found.new.cpu).holder.ends ≡ taken_on own = ap (λ (x : View). at b x.holder.ends) took ∙ at_put_same b (taken_on own) v.holder.ends in
     let some_ = c.if-found-eq0.false in let back : found ≡ n + 1 = omega arith in
     let head = ap (λ (x : View). (at b x.holder.ends).head) loaded in
-    let looked : steps c.head_slot-found.new.cpu ≡ steps c.load_size-size.new.cpu ⊳ did_load_slot k b own.head (n + 1) =
-    c.head_slot-found.ensures.made ∙ (λ j. steps c.load_size-size.new.cpu ⊳ did_load_slot k b (head j) (back j)) in
-    let z = c.discard_one.ensures.made in (
-      c.load_size-size.result,
-      z.0,
-      z.1 ∙ (λ j. zeroed k b (ends j).head z.0 (steps c.head_slot-found.new.cpu)) ∙ (λ j. zeroed k b (own.head + 1) z.0 (looked j)) ∙ (λ j. zeroed k b (own.head + 1) z.0 (c.load_size-size.ensures.made j ⊳ did_load_slot k b own.head (n + 1))),
-    )
+    let size : c.load_size-size.result ≡ v.holder.size = c.load_size-size.ensures.holder (ap holds_lock c.requires.at.1) in
+    let looked : steps c.head_slot-found.new.cpu ≡ steps c.args.cpu.now ⊳ did_load_size c.load_size-size.result ⊳ did_load_slot k b own.head (n + 1) =
+    c.head_slot-found.ensures.made ∙ (λ j. c.load_size-size.ensures.made j ⊳ did_load_slot k b (head j) (back j)) in
+    let z = zeroed_as k b c.load_size-size.result (at b (view c.head_slot-found.new.cpu).holder.ends) (steps c.head_slot-found.new.cpu) (steps c.discard_one.new.cpu) c.discard_one.ensures.made.0 c.discard_one.ensures.made.1 in
+    (taken-is g c, c.load_size-size.result, z ∙ (λ j. zeroed k b (ends j).head (emptied_count (size j) (ends j)) (looked j)))

@@ -1,0 +1,138 @@
+-- What the calls come to, as relations of views alone: what a seat that has the table alone is shown from.
+use Rattle.lq_model.specs.Account.{Direct}
+use Rattle.lq_model.specs.Plan.{queue_in, band_in, owner_in, rank_in}
+use Rattle.lq_model.specs.declared.fate.Info.{Info}
+use Rattle.lq_model.specs.declared.state.TheConstants.{QUOTA}
+use Rattle.lq_qdisc.specs.Calls.{Dequeues, SeesOneQueue}
+use Rattle.lq_qdisc.specs.Direct.{Accepts, IsBusyAt, LaysAside}
+use Rattle.lq_qdisc.specs.Sends.{came_as, trail_with, GetsLock, Misses, IsLockReleased, Enqueues, IsRefused, transmitting, IsDue}
+use Rattle.lq_qdisc.specs.declared.answers.Ran.{Ran}
+use Rattle.lq_qdisc.specs.declared.answers.RunEnd.{RunEnd}
+use Rattle.lq_qdisc.specs.declared.answers.RunEnd.TheVariants as end
+use Rattle.lq_qdisc.specs.declared.answers.Sending.{Sending}
+use Rattle.lq_qdisc.specs.declared.answers.Sending.TheVariants as sending
+use Rattle.lq_qdisc.specs.declared.answers.Taken.TheVariants as taken
+use Rattle.lq_qdisc.specs.declared.answers.Through.{Through}
+use Rattle.lq_qdisc.specs.declared.answers.Through.TheVariants as through
+use Rattle.lq_qdisc.specs.declared.answers.Why.TheVariants as why
+use Rattle.lq_table.specs.Solo.{IsSole, solo, heard, missed_to, SeesState, SeesDown}
+use Rattle.lq_table.specs.Told.{passing, some_bit, is_set, looking, going, giving_turn}
+use Rattle.lq_table.specs.Views.{View}
+use Rattle.std.specs.Prelude.{◌≡◌, ℕ, zero, suc, Bool, true, false, List, ◌⊎◌, ◌↔◌, ◌≤◌, slice_set, ◌+◌, ◌*◌, not, ◌&&◌, is_some}
+
+-- what a direct transmit of the packet n, which is of this queue, answers
+abbrev pub Directs : Through → ℕ → ℕ → View → View → Type 0
+Directs through.Yes n queue old new = Accepts n queue old new
+Directs (through.Back why.Stopped) n queue old new = LaysAside n queue old new
+Directs (through.Back why.Busy) n queue old new = IsBusyAt n queue old new
+
+-- A packet was dequeued, and then it was handed to the device with this result.
+pub record Hands (handed : ℕ → ℕ → View → View → Type 0) (infos : List Info) (old new : View) : Type 0 where
+  pub packet : ℕ
+  pub between : View
+  pub dequeued : Dequeues (taken.Packet packet) infos old between
+  pub one : SeesOneQueue (taken.Packet packet) old
+  pub same : between.share ≡ old.share
+  pub is : handed packet (queue_in infos packet) between new
+  pub share : new.share ≡ old.share
+
+-- so many packets were sent, one after the other
+abbrev pub Sends : ℕ → List Info → View → View → Type 0
+Sends zero infos old new = new ≡ old
+Sends (suc sent) infos old new = (last : View) × Sends sent infos old last × Hands Accepts infos last new
+
+-- What the last turn of a run did: a dequeue found nothing, or a queue that is stopped; or the packet that was dequeued
+-- was laid into the requeue slot. After the last packet of the quota MISSED is set.
+abbrev pub LastTurn : RunEnd → List Info → View → View → Type 0
+LastTurn end.Empty infos old new = Dequeues taken.Empty infos old new × SeesOneQueue taken.Empty old
+LastTurn end.Quota infos old new = (new ≡ passing old) × (solo new ≡ missed_to true (solo old))
+LastTurn end.Stopped infos old new = (Dequeues taken.Stopped infos old new × SeesOneQueue taken.Stopped old) ⊎ Hands LaysAside infos old new
+LastTurn end.Busy infos old new = Hands IsBusyAt infos old new
+
+-- A run sent so many packets, at most as many as its quota, and came to this end: by the quota exactly where it sent as
+-- many.
+pub record Runs (infos : List Info) (ran : Ran) (old new : View) : Type 0 where
+  pub last : View
+  pub sent : Sends ran.sent infos old last
+  pub share : last.share ≡ old.share
+  pub ends : LastTurn ran.end infos last new
+  pub within : ran.sent ≤ QUOTA
+  pub quota : (ran.end ≡ end.Quota) ↔ (ran.sent ≡ QUOTA)
+
+-- a run came to its end, and the run lock was released
+pub record RunsToEnd (infos : List Info) (old new : View) : Type 0 where
+  pub ran : Ran
+  pub last : View
+  pub runs : Runs infos ran old last
+  pub share : last.share ≡ old.share
+  pub ended : IsLockReleased last new
+
+-- the run lock was tried, and where it was got the bands were served
+abbrev pub Attempts : List Info → View → View → Type 0
+Attempts infos old new = Misses old new ⊎ ((got : View) × GetsLock old got × RunsToEnd infos got new)
+
+-- It was put so by a seat that doesn't have the run lock, which then tried that.
+pub record GoesThrough (infos : List Info) (n : ℕ) (answer : Sending) (old new : View) : Type 0 where
+  pub put : View
+  pub enqueued : Enqueues n (band_in infos n) answer old put
+  pub attempted : Attempts infos put new
+
+-- It was put so under the run lock, since MISSED or DRAINING was loaded there.
+pub record GoesThroughHeld (infos : List Info) (n : ℕ) (answer : Sending) (old new : View) : Type 0 where
+  pub state : ℕ
+  pub waits : some_bit state ≡ true
+  pub sees : IsSole old → SeesState old state
+  pub put : View
+  pub enqueued : Enqueues n (band_in infos n) answer (looking state old) put
+  pub served : RunsToEnd infos put new
+
+-- What follows a packet that went past the bands: where the device accepted it the state is loaded, and where MISSED or
+-- DRAINING is set then, the bands are served.
+abbrev pub FollowsDirect : Through → List Info → View → View → Type 0
+FollowsDirect through.Yes infos old new = (state : ℕ) × (IsSole old → SeesState old state) × (solo (looking state old) ≡ solo old)
+    × (((some_bit state ≡ true) × RunsToEnd infos (looking state old) new) ⊎ ((some_bit state ≡ false) × IsLockReleased (looking state old) new))
+FollowsDirect (through.Back reason) infos old new = IsLockReleased old new
+
+-- It went past the bands: the state was loaded under the run lock with MISSED and DRAINING clear.
+pub record GoesPast (infos : List Info) (n : ℕ) (old new : View) : Type 0 where
+  pub state : ℕ
+  pub clear : some_bit state ≡ false
+  pub sees : IsSole old → SeesState old state
+  pub step : solo (going n state old) ≡ heard (Direct n) (solo old)
+  pub handed : Through
+  pub after : View
+  pub direct : Directs handed n (queue_in infos n) (going n state old) after
+  pub follows : FollowsDirect handed infos after new
+
+-- It may go past the bands, since neither bit was set: it does so where the run lock is got and neither is set still.
+abbrev pub TriesToPass : List Info → ℕ → Sending → View → View → Type 0
+TriesToPass infos n answer old new =
+    ((missed : View) × Misses old missed × GoesThrough infos n answer missed new)
+    ⊎ ((got : View) × GetsLock old got × (GoesThroughHeld infos n answer got new ⊎ ((answer ≡ sending.Direct) × GoesPast infos n got new)))
+
+-- what a transmit does with the packet between its two steps on the calls inside
+pub record Goes (infos : List Info) (bypass : Bool) (n : ℕ) (answer : Sending) (old new : View) : Type 0 where
+  pub state : ℕ
+  pub sees : IsSole old → SeesState old state
+  pub first : old.control.first ≡ true → SeesDown old state
+  pub refused : is_set 2 state ≡ true → (event : ℕ) × (answer ≡ sending.Refused event) × IsRefused n event state old new
+  pub through : is_set 2 state ≡ false → bypass && not (some_bit state) ≡ false → GoesThrough infos n answer (looking state old) new
+  pub past : is_set 2 state ≡ false → bypass && not (some_bit state) ≡ true → TriesToPass infos n answer (looking state old) new
+
+-- The transmit of the packet n, whose turn it is: the turn is given back.
+pub record Transmits (infos : List Info) (bypass : Bool) (n : ℕ) (answer : Sending) (old new : View) : Type 0 where
+  pub came : is_some (came_as infos n answer) ≡ true
+  pub turns : new.turns ≡ slice_set old.turns (owner_in infos n) (2 * rank_in infos n + 2)
+  pub trail : new.trail ≡ trail_with (came_as infos n answer) old
+  pub last : View
+  pub goes : Goes infos bypass n answer (transmitting infos n old) last
+  pub ends : new ≡ giving_turn (owner_in infos n) (rank_in infos n) (passing last)
+  pub step : solo new ≡ solo last
+
+-- A soft interrupt, between its two steps on the calls inside: the bands are served, unless the station is deactivated still.
+pub record Interrupts (infos : List Info) (old new : View) : Type 0 where
+  pub due : Bool
+  pub cleared : View
+  pub begins : IsDue due old cleared
+  pub serves : due ≡ true → Attempts infos cleared new
+  pub leaves : due ≡ false → new ≡ cleared
