@@ -8,7 +8,7 @@ use Rattle.std.proofs.lemmas.List.Kept.{AllPairs-cons}
 use Rattle.std.proofs.lemmas.List.Sums.{sum_by-cons}
 use Rattle.std.proofs.lemmas.Option.{same_Some}
 use Rattle.lq_mq.specs.Joint.{at_serial, joint, longest}
-use Rattle.lq_mq.specs.Laws.{IsBefore, IsSentAs, IsSubsequence}
+use Rattle.lq_mq.specs.Laws.{IsBefore, HasAtSerial, IsSubsequence}
 use Rattle.lq_mq.proofs.Serials.{first-more, of-first}
 
 -- LISTS
@@ -62,7 +62,7 @@ module _ (lists : List (List ℕ)) where
 
   -- one of them has the number at this serial
   abbrev IsFrom : ℕ → ℕ → ℕ → Type 0
-  IsFrom low k n = (i : ℕ) × (low ≤ i) × IsSentAs lists i k n
+  IsFrom low k n = (i : ℕ) × (low ≤ i) × HasAtSerial lists i k n
 
   next-from : (low : ℕ) (list : List ℕ) (rest : List (List ℕ)) → AreFrom low (list ∷ rest) → AreFrom (suc low) rest
   next-from low list rest from i l at = let same : low + suc i ≡ suc low + i = omega arith in subst (λ k. slice_get lists k ≡ Some l) same (from (suc i) l at)
@@ -99,7 +99,7 @@ module _ (lists : List (List ℕ)) where
 
   -- one of the lists has the number at a serial below k
   abbrev IsBelow : ℕ → ℕ → Type 0
-  IsBelow k n = (i : ℕ) × (serial : ℕ) × (serial < k) × IsSentAs lists i serial n
+  IsBelow k n = (i : ℕ) × (serial : ℕ) × (serial < k) × HasAtSerial lists i serial n
 
   each-below : (k : ℕ) → Each (IsBelow k) (of-first lists k)
   each-below zero = _
@@ -119,8 +119,8 @@ module _ (lists : List (List ℕ)) where
       (λ m h. each-map (IsFrom 0 k) (IsBefore lists m) (λ n f. (h.0, f.0, h.1, k, h.3, f.2, inl h.2)) (at_serial lists k) here)
       (of-first lists k) (each-below k)))
 
-  pub each-is-sent : Each (λ n. (i : ℕ) × (serial : ℕ) × IsSentAs lists i serial n) (joint lists)
-  each-is-sent = each-map (IsBelow (longest lists)) (λ n. (i : ℕ) × (serial : ℕ) × IsSentAs lists i serial n) (λ n h. (h.0, h.1, h.3)) (joint lists) (each-below (longest lists))
+  pub each-is-sent : Each (λ n. (i : ℕ) × (serial : ℕ) × HasAtSerial lists i serial n) (joint lists)
+  each-is-sent = each-map (IsBelow (longest lists)) (λ n. (i : ℕ) × (serial : ℕ) × HasAtSerial lists i serial n) (λ n h. (h.0, h.1, h.3)) (joint lists) (each-below (longest lists))
 
   pub pairs-in-order : Pairs (IsBefore lists) (joint lists)
   pairs-in-order = pairs-below (longest lists)

@@ -21,18 +21,18 @@ HasAsManyAsTheLists = (lists : List (List ℕ)) (n : ℕ) → count_by (λ m. m 
 abbrev pub IsAsLongAsTheLists : Type 0
 IsAsLongAsTheLists = (lists : List (List ℕ)) → length (joint lists) ≡ sum_by length lists
 
--- child i sent packet n with this serial
-abbrev pub IsSentAs : List (List ℕ) → ℕ → ℕ → ℕ → Type 0
-IsSentAs lists i serial n = (list : List ℕ) × (slice_get lists i ≡ Some list) × (slice_get list serial ≡ Some n)
+-- list i has packet n at this serial: child i sent it with that
+abbrev pub HasAtSerial : List (List ℕ) → ℕ → ℕ → ℕ → Type 0
+HasAtSerial lists i serial n = (list : List ℕ) × (slice_get lists i ≡ Some list) × (slice_get list serial ≡ Some n)
 
 -- it has nothing else
 abbrev pub HasNothingElse : Type 0
-HasNothingElse = (lists : List (List ℕ)) → All (λ n. (i : ℕ) × (serial : ℕ) × IsSentAs lists i serial n) (joint lists)
+HasNothingElse = (lists : List (List ℕ)) → All (λ n. (i : ℕ) × (serial : ℕ) × HasAtSerial lists i serial n) (joint lists)
 
 -- packet m was sent with a lower serial than packet n, or with the same one by a lower child
 abbrev pub IsBefore : List (List ℕ) → ℕ → ℕ → Type 0
-IsBefore lists m n = (i k s t : ℕ) × IsSentAs lists i s m × IsSentAs lists k t n × ((s < t) ⊎ ((s ≡ t) × (i < k)))
+IsBefore lists m n = (i k s t : ℕ) × HasAtSerial lists i s m × HasAtSerial lists k t n × ((s < t) ⊎ ((s ≡ t) × (i < k)))
 
 -- each packet of it stands before all those after it: by serial, and at one serial by child
-abbrev pub IsInOrder : Type 0
-IsInOrder = (lists : List (List ℕ)) → AllPairs (IsBefore lists) (joint lists)
+abbrev pub IsBySerial : Type 0
+IsBySerial = (lists : List (List ℕ)) → AllPairs (IsBefore lists) (joint lists)

@@ -16,7 +16,7 @@ use Rattle.lq_model.specs.declared.fate.Fate.{Fate}
 use Rattle.lq_model.specs.declared.fate.Fate.TheVariants.{Sent, Full, Shrunk, Purged, Refused}
 use Rattle.lq_fates.proofs.SentLemmas.{sent_is}
 use Rattle.lq_mq.specs.Joint.{joint}
-use Rattle.lq_mq.specs.Laws.{IsBefore, IsSentAs}
+use Rattle.lq_mq.specs.Laws.{IsBefore, HasAtSerial}
 use Rattle.lq_mq.proofs.Order.{Each, Pairs, each-all, each-is-sent, each-map, once, pairs-all, pairs-in-order, pairs-map, stands-in}
 use Rattle.lq_mq.proofs.Serials.{joint-length, subsequences}
 use Rattle.lq_top.proofs.TextLemmas.{length-first_numbers}
@@ -78,13 +78,13 @@ module _ (plan : Plan) (fates : List Fate) (j : ℕ) where
         subst (λ (xs : List ℕ). slice_get xs serial ≡ Some n) (sym (sent_is fates unit list.0 list.1)) ((list.1 n serial).0 at)
 
     -- what list i has at a serial child i sent with it
-    sent-as : (i serial n : ℕ) → IsSentAs lists i serial n → (i < mq_at plan.groups j) × (slice_get fates n ≡ Some (Sent (first + i) serial))
+    sent-as : (i serial n : ℕ) → HasAtSerial lists i serial n → (i < mq_at plan.groups j) × (slice_get fates n ≡ Some (Sent (first + i) serial))
     sent-as i serial n is =
         let within : i < mq_at plan.groups j = subst (λ k. i < k) length-lists (slice_get_within lists i is.0 is.1) in
         let same : sent_of fates (first + i) ≡ is.0 = same_Some (sent_of fates (first + i)) is.0 (sym (list-at i within) ∙ is.1) in
         (within, sent-at (first + i) serial n (subst (λ (xs : List ℕ). slice_get xs serial ≡ Some n) (sym same) is.2))
 
-    is-sent : (n : ℕ) → ((i : ℕ) × (serial : ℕ) × IsSentAs lists i serial n) → IsSentByGroup plan fates j n
+    is-sent : (n : ℕ) → ((i : ℕ) × (serial : ℕ) × HasAtSerial lists i serial n) → IsSentByGroup plan fates j n
     is-sent n h = let is = sent-as h.0 h.1 n h.2 in (first + h.0, h.1, (omega arith, omega arith), is.1)
 
     is-before : (m n : ℕ) → IsBefore lists m n → IsSentBefore fates m n
@@ -112,7 +112,7 @@ module _ (plan : Plan) (fates : List Fate) (j : ℕ) where
     of_group = record {
       each_child = λ child is. subsequences lists (child - first) (sent_of fates child) (list-of child is);
       once = stands-once;
-      no_other = each-all (IsSentByGroup plan fates j) (joint lists) (each-map (λ n. (i : ℕ) × (serial : ℕ) × IsSentAs lists i serial n) (IsSentByGroup plan fates j) is-sent (joint lists) (each-is-sent lists));
+      no_other = each-all (IsSentByGroup plan fates j) (joint lists) (each-map (λ n. (i : ℕ) × (serial : ℕ) × HasAtSerial lists i serial n) (IsSentByGroup plan fates j) is-sent (joint lists) (each-is-sent lists));
       in_order = pairs-all (IsSentBefore fates) (joint lists) pairs;
     }
 

@@ -1,7 +1,7 @@
 use Rattle.std.proofs.Common.{ℕ, ◌==◌}
 use Rattle.lq_mq.proofs.Serials.{counts, joint-length, subsequences}
 use Rattle.lq_mq.specs.Joint.{joint}
-use Rattle.lq_mq.specs.Laws.{IsBefore, IsSentAs}
+use Rattle.lq_mq.specs.Laws.{IsBefore, HasAtSerial}
 use Rattle.lq_mq.proofs.Order.{each-all, each-is-sent, pairs-all, pairs-in-order}
 use Rattle.lq_mq.proofs.laws.joint_has_each_list.Goals as goal
 
@@ -15,7 +15,7 @@ pub returns-clause-len : goal.returns-clause-len
 returns-clause-len c = joint-length
 
 pub returns-clause-no_other : goal.returns-clause-no_other
-returns-clause-no_other c lists = each-all (λ n. (i : ℕ) × (serial : ℕ) × IsSentAs lists i serial n) (joint lists) (each-is-sent lists)
+returns-clause-no_other c lists = each-all (λ n. (i : ℕ) × (serial : ℕ) × HasAtSerial lists i serial n) (joint lists) (each-is-sent lists)
 
 pub returns-clause-order : goal.returns-clause-order
 returns-clause-order c lists = pairs-all (IsBefore lists) (joint lists) (pairs-in-order lists)
