@@ -1,25 +1,75 @@
 -- What the program's exit status tells.
-use Rattle.std.specs.Prelude.{◌≡◌, ◌⊎◌, ℕ, List, length, Option}
+use Rattle.std.specs.Prelude.{◌≡◌, ◌≢◌, ◌⊎◌, ℕ, List, [], map, drop, replicate, IfSome, Result, Ok, Err, Vec, String, string_bytes}
+use Rattle.std.specs.IoError.{error_kind}
+use Rattle.std.specs.Global.{Global}
+use Rattle.std.specs.declared.io.Error.{Error}
+use Rattle.std.specs.declared.io.ErrorKind.TheVariants.{OutOfMemory}
+use Rattle.std.specs.Vec.Iter.{into_iter_items}
+use Rattle.std.specs.declared.vec.IntoIter.{IntoIter}
 use Rattle.lq_model.specs.Device.{DeviceState}
+use Rattle.lq_device.specs.Bench.{unconfigured}
 use Rattle.lq_host.specs.Host.{HostState}
+use Rattle.lq_host.specs.FileHost.{untold}
 use Rattle.lq_table.specs.Ended.{EndedState}
-use Rattle.lq_top.specs.Command.{CommandWords, command_of_words}
-use Rattle.lq_top.specs.Outcome.{OutcomeOfSome}
+use Rattle.lq_top.specs.Command.{command_of_words}
+use Rattle.lq_top.specs.Decision.{verdict_of}
+use Rattle.lq_top.specs.Outcome.{IsAnswerOf, Outcome, OutcomeOfSome, TellsUsageFor}
 use Rattle.lq_top.specs.Status.{code_of}
 use Rattle.lq_top.specs.declared.answer.Status.{Status}
 
--- The number is the code of a status that a call of this command answered on a bench of 16 devices.
-pub record IsCodeOfCall (command : Option CommandWords) (number : ℕ) : Type 0 where
+-- THE CALL
+
+-- the bench: 16 devices that were never configured
+abbrev pub new_bench : List DeviceState
+new_bench = replicate 16 unconfigured
+
+-- The number is the code of the status that a call with these words answered on such a bench.
+pub record IsCodeOfCall (words : List (List ℕ)) (old new : HostState) (number : ℕ) : Type 0 where
   pub status : Status
   pub code : number ≡ code_of status
-  pub old : HostState
-  pub new : HostState
-  pub before : List DeviceState
   pub after : List DeviceState
   pub ended : List EndedState
-  pub sixteen : length before ≡ 16
-  pub outcome : OutcomeOfSome command 16 old new before after ended status
+  -- what words, files and bench decide was answered and left; where the host tells nothing of its files, of some bytes of theirs
+  pub outcome : IfSome old.told (λ c. Outcome (verdict_of words c.files 16) old new new_bench after ended status)
+  pub some : OutcomeOfSome (command_of_words words) 16 old new new_bench after ended status
+  -- Usage is for words that are no command, and what was decided comes unless a fault or want of memory does
+  pub usage : TellsUsageFor (command_of_words words) status
+  pub complete : IfSome old.told (λ c. IsAnswerOf (verdict_of words c.files 16) status)
 
--- An exit status: the code of a call with some words, or 6 where memory was wanting before it, or 9 where there were no words.
-abbrev pub IsExitStatus : ℕ → Type 0
-IsExitStatus number = (number ≡ 6) ⊎ ((number ≡ 9) ⊎ ((words : List (List ℕ)) × IsCodeOfCall (command_of_words words) number))
+-- the number for words on a host: that of a call; or 6 where memory was wanting before it, and nothing is done
+abbrev pub IsCodeOfWords : List (List ℕ) → HostState → HostState → ℕ → Type 0
+IsCodeOfWords words old new number = ((number ≡ 6) × (new ≡ old)) ⊎ IsCodeOfCall words old new number
+
+-- THE PROGRAM
+
+-- the number for words over real files, of which nothing is told and none is open
+abbrev pub IsCodeOfFiles : List (List ℕ) → ℕ → Type 0
+IsCodeOfFiles words number = (new : HostState) × IsCodeOfWords words (untold []) new number
+
+-- the number for arguments that can't be had: 6 for want of memory, and 9 for every other cause
+pub record IsErrorCode (error : Error) (number : ℕ) : Type 0 where
+  pub memory : error_kind error ≡ OutOfMemory → number ≡ 6
+  pub other : error_kind error ≢ OutOfMemory → number ≡ 9
+
+-- the arguments that are left, the first of which is the program's own name
+abbrev pub Line : Type 0
+Line = IntoIter (String Global) Global
+
+-- the texts are those behind the name, unless memory is wanting
+abbrev pub AreTextsOf : Line → Result (Vec (String Global) Global) ℕ → Type 0
+AreTextsOf line (Ok texts) = texts.items ≡ drop 1 (into_iter_items line)
+AreTextsOf line (Err number) = number ≡ 6
+
+-- arguments that can't be had give no texts
+abbrev pub GivesErrorCode : Error → Result (Vec (String Global) Global) ℕ → Type 0
+GivesErrorCode error (Ok texts) = ⊥
+GivesErrorCode error (Err number) = IsErrorCode error number
+
+abbrev pub TellsTexts : Result Line Error → Result (Vec (String Global) Global) ℕ → Type 0
+TellsTexts (Ok line) result = AreTextsOf line result
+TellsTexts (Err error) result = GivesErrorCode error result
+
+-- The exit status for the arguments that the program was given.
+abbrev pub IsCodeOfLine : Result Line Error → ℕ → Type 0
+IsCodeOfLine (Ok line) number = IsCodeOfFiles (map string_bytes (drop 1 (into_iter_items line))) number
+IsCodeOfLine (Err error) number = IsErrorCode error number

@@ -22,5 +22,5 @@ mod write;
 
 pub use answer::Status;
 pub use lq_senders::{Free, Gate};
-pub use program::run_program;
+pub use program::{run_program, run_words};
 pub use top::lqtx;

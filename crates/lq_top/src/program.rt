@@ -1,22 +1,23 @@
 //! What the program does: the top call over real files, standard output and the built-in bench.
-ghost use Rattle.std.specs.Prelude.{◌≡◌, ◌⊎◌, All, IfErr, IfOk, vec_len};
+ghost use Rattle.std.specs.Prelude.{◌≡◌, IfOk, map, drop, string_bytes};
 ghost use Rattle.std.specs.Process.{exit_status};
-ghost use Rattle.lq_device.specs.Bench.{bench_state, unconfigured};
+ghost use Rattle.std.specs.Vec.Iter.{into_iter_items};
+ghost use Rattle.lq_device.specs.Bench.{bench_state};
 ghost use Rattle.lq_top.specs.Command.{command_of_words, bytes_of_words};
 ghost use Rattle.lq_top.specs.Names.{MayDo};
-ghost use Rattle.lq_top.specs.Program.{IsCodeOfCall, IsExitStatus};
+ghost use Rattle.lq_top.specs.Program.{IsCodeOfFiles, IsCodeOfLine, IsCodeOfWords, TellsTexts, new_bench};
 
 use crate::top::lqtx;
-use lq_device::{BenchDevice, TxDevice};
+use lq_device::BenchDevice;
 use lq_host::{FileHost, Host};
 use lq_model::NoMemory;
 use lq_senders::Free;
-use std::alloc::Global;
-use std::env;
-use std::io::ErrorKind;
+use std::alloc::{AllocError, Global};
+use std::env::Args;
+use std::io::{self, ErrorKind};
 use std::marker::Sync;
 use std::process::ExitCode;
-use std::rt::{Env, Runtime};
+use std::rt::Runtime;
 use std::sync::Wait;
 use std::thread::Threads;
 
@@ -29,13 +30,21 @@ const NO_MEMORY: u8 = 6;
 /// The exit status where the words can't be had for another cause, as one that isn't UTF-8.
 const NO_WORDS: u8 = 9;
 
-/// The words after the program's own name, or the exit status where they can't be had.
-fn texts_of<R: Env + AllocGlobal>(rt: &R) -> Result<Vec<String>, u8>
-    ensures { IfErr result (λ code. (code ≡ 6) ⊎ (code ≡ 9)) }
+/// The words behind the program's own name.
+fn texts_behind(alloc: Global, mut args: Args) -> Result<Vec<String>, AllocError>
+    ensures { IfOk result (λ texts. texts.items ≡ drop 1 (into_iter_items args)) }
 {
-    match env::args(rt) {
-        Ok(all) => match all.skip(1).collect::<Vec<String>>(rt.alloc()) {
-            Ok(words) => Ok(words),
+    let _ = args.next();
+    args.collect::<Vec<String>>(alloc)
+}
+
+/// The words of a command line, or the exit status where they can't be had.
+fn texts_of(alloc: Global, args: io::Result<Args>) -> Result<Vec<String>, u8>
+    ensures { TellsTexts args result }
+{
+    match args {
+        Ok(all) => match texts_behind(alloc, all) {
+            Ok(texts) => Ok(texts),
             Err(_) => Err(NO_MEMORY),
         },
         Err(error) if error.kind() == ErrorKind::OutOfMemory => Err(NO_MEMORY),
@@ -43,10 +52,20 @@ fn texts_of<R: Env + AllocGlobal>(rt: &R) -> Result<Vec<String>, u8>
     }
 }
 
+/// The words as texts.
+fn words_of(alloc: Global, texts: &[String]) -> Result<Vec<&str>, AllocError>
+    ensures { IfOk result (λ words. bytes_of_words words.items ≡ map string_bytes texts.now) }
+{
+    let mut words = Vec::new(alloc);
+    for text in texts {
+        words.push(text.as_str())?;
+    }
+    Ok(words)
+}
+
 /// The 16 devices of the built-in bench, none of them configured.
 fn bench_devices(alloc: Global) -> Result<Vec<BenchDevice>, NoMemory>
-    ensures count { IfOk result (λ devices. vec_len devices ≡ 16) }
-    ensures new { IfOk result (λ devices. All (λ device. bench_state device ≡ unconfigured) devices.items) }
+    ensures { IfOk result (λ devices. map bench_state devices.items ≡ new_bench) }
 {
     let Ok(mut devices) = Vec::with_capacity(alloc, DEVICES) else {
         return Err(NoMemory);
@@ -57,71 +76,60 @@ fn bench_devices(alloc: Global) -> Result<Vec<BenchDevice>, NoMemory>
     Ok(devices)
 }
 
-/// The exit status of the top call on a bench of 16 devices: the code of its status.
-fn code_on<R: Threads + Wait + Sync, H: Host, D: TxDevice>(
+/// The exit status of the program with these words over a host: the code of the status that [`lqtx`] answers on a bench of 16
+/// built-in devices that were never configured; or 6 where there was no memory for the devices, and then nothing is done.
+pub fn run_words<R: Threads + Wait + Sync, H: Host>(
     rt: &R,
     alloc: Global,
     words: &[&str],
     host: &mut H,
-    bench: &mut Vec<D>,
 ) -> u8
     requires may { MayDo H.may_open H.may_create (command_of_words (bytes_of_words words.now)) }
-    requires devices { vec_len bench.old ≡ 16 }
-    ensures { IsCodeOfCall (command_of_words (bytes_of_words words.now)) result }
+    ensures { IsCodeOfWords (bytes_of_words words.now) (H.state host.old) (H.state host.new) result }
 {
+    let Ok(mut bench) = bench_devices(alloc) else {
+        return NO_MEMORY;
+    };
     let mut ended = Vec::new(alloc);
-    let status = lqtx(rt, alloc, words, host, bench, &mut ended, &Free);
+    let status = lqtx(rt, alloc, words, host, &mut bench, &mut ended, &Free);
     status.code()
 }
 
-/// The exit status of the program with these words.
-#[tactic(auto, using(crate::proofs::NameLemmas::may_any))]
+/// The exit status of the program with these words, over real files and standard output.
 fn code_with<R: Runtime + AllocGlobal + Threads + Wait + Sync>(rt: &R, words: &[&str]) -> u8
-    ensures { IsExitStatus result }
+    ensures { IsCodeOfFiles (bytes_of_words words.now) result }
 {
-    let alloc = rt.alloc();
-    let Ok(mut devices) = bench_devices(alloc) else {
-        return NO_MEMORY;
-    };
-    let mut bench: Vec<Box<dyn TxDevice>> = Vec::new(alloc);
-    while let Some(device) = devices.pop() {
-        let Ok(device) = Box::new(alloc, device) else {
-            return NO_MEMORY;
-        };
-        let Ok(()) = bench.push(device) else {
-            return NO_MEMORY;
-        };
-    }
     let Ok(own) = rt.clone() else {
         return NO_MEMORY;
     };
     let mut host = FileHost::new(own);
-    code_on(rt, alloc, words, &mut host, &mut bench)
+    run_words(rt, rt.alloc(), words, &mut host)
 }
 
 /// The exit status of the program, as `run_program` says.
-fn code<R: Runtime + AllocGlobal + Threads + Wait + Sync>(rt: &R) -> u8
-    ensures { IsExitStatus result }
+#[tactic(auto, using(crate::proofs::ProgramLemmas::code_without, crate::proofs::ProgramLemmas::code_for_memory, crate::proofs::ProgramLemmas::code_of_words))]
+fn code<R: Runtime + AllocGlobal + Threads + Wait + Sync>(rt: &R, args: io::Result<Args>) -> u8
+    ensures { IsCodeOfLine args result }
 {
-    let texts = match texts_of(rt) {
+    let texts = match texts_of(rt.alloc(), args) {
         Ok(texts) => texts,
         Err(code) => return code,
     };
-    match texts
-        .iter()
-        .map(|text| text.as_str())
-        .collect::<Vec<&str>>(rt.alloc())
-    {
+    match words_of(rt.alloc(), &texts) {
         Ok(words) => code_with(rt, &words),
         Err(_) => NO_MEMORY,
     }
 }
 
-/// All that `main` does: `lqtx` with the words after the program's own name, over real files, standard output and a bench
-/// of 16 built-in devices that were never configured. The exit status is the code of the status that it answers; 6 where
-/// there was no memory for the words, the devices or the host; 9 where the words can't be had for another cause.
-pub fn run_program<R: Runtime + AllocGlobal + Threads + Wait + Sync>(rt: &R) -> ExitCode
-    ensures { IsExitStatus (exit_status result) }
+/// All that `main` does with the arguments that the program was given: `lqtx` with the words behind the program's own name, over
+/// real files, standard output and a bench of 16 built-in devices that were never configured. The exit status is the code of the
+/// status that it answers; 6 where there was no memory for the words, the devices or the host; 9 where the arguments can't be had
+/// for another cause, as one that isn't UTF-8.
+pub fn run_program<R: Runtime + AllocGlobal + Threads + Wait + Sync>(
+    rt: &R,
+    args: io::Result<Args>,
+) -> ExitCode
+    ensures { IsCodeOfLine args (exit_status result) }
 {
-    ExitCode::from(code(rt))
+    ExitCode::from(code(rt, args))
 }

@@ -2,8 +2,10 @@
 #![tactic(auto)]
 
 use lq_top::run_program;
+use std::env;
 use std::process::ExitCode;
 
 fn main(rt: HostRuntime) -> ExitCode {
-    run_program(&rt)
+    let args = env::args(&rt);
+    run_program(&rt, args)
 }

@@ -1,4 +1,4 @@
-use Rattle.std.proofs.Common.{◌≡◌, ◌≤◌, ◌-◌, All, vec_len, vec_capacity}
+use Rattle.std.proofs.Common.{◌≡◌, ◌≤◌, ◌-◌, map, replicate, vec_len, vec_capacity}
 use Rattle.lq_device.specs.Bench.{bench_state, unconfigured}
 use Rattle.lq_top.proofs.program.bench_devices.Given as goal
 
@@ -7,7 +7,7 @@ invariant-loop-alloc l =
     record {
       few : vec_len l.devices ≤ 16;
       room : 16 ≤ vec_capacity l.devices;
-      new : All (λ device. bench_state device ≡ unconfigured) l.devices.items;
+      new : map bench_state l.devices.items ≡ replicate (vec_len l.devices) unconfigured;
     }
 
 abbrev pub decreases-loop-alloc : goal.decreases-loop-alloc

@@ -1,0 +1,56 @@
+-- The command line, and the call on the built-in bench.
+use Rattle.std.proofs.Common.{◌≡◌, ◌<◌, ◌↔◌, ◌++◌, ◌∷◌, ◌∙◌, [], ℕ, List, length, drop, map, IfSome, IsSome, Option, Some, None, Result, Ok, Err, Vec, String, Global, string_bytes, refl, sym, ap, subst, inl, inr, arith}
+use Rattle.std.specs.Option.{option_to_list}
+use Rattle.std.specs.Vec.Iter.{into_iter_items}
+use Rattle.std.specs.declared.io.Error.{Error}
+use Rattle.lq_model.specs.Device.{DeviceState}
+use Rattle.lq_host.specs.Host.{HostState}
+use Rattle.lq_host.specs.FileHost.{untold}
+use Rattle.lq_table.specs.Ended.{EndedState}
+use Rattle.lq_top.specs.Command.{command_of_words}
+use Rattle.lq_top.specs.Decision.{verdict_of}
+use Rattle.lq_top.specs.Outcome.{IsAnswerOf, Outcome, OutcomeOfSome, TellsUsageFor}
+use Rattle.lq_top.specs.Program.{IsCodeOfCall, IsCodeOfFiles, IsCodeOfLine, Line, TellsTexts, new_bench}
+use Rattle.lq_top.specs.Status.{code_of}
+use Rattle.lq_top.specs.declared.answer.Status.{Status}
+
+-- what is left once the first one was taken, if there was one
+pub left_behind : {X : Type 0} (first : Option X) (old new : List X) (len : ℕ) → len ≡ length old → (IsSome first ↔ (0 < len)) → old ≡ option_to_list first ++ new → new ≡ drop 1 old
+left_behind (Some x) old new len counted some items = subst (λ all. new ≡ drop 1 all) (sym items) refl
+left_behind None [] new len counted some items = sym items
+left_behind None (x ∷ xs) new len counted some items = absurd (let none = some.1 (omega arith) in cc)
+
+-- the call on a bench of 16 devices that were never configured
+pub called_on : (words : List (List ℕ)) (old new : HostState) (have : ℕ) (before after : List DeviceState) (ended : List EndedState) (status : Status) (number : ℕ)
+    → have ≡ 16 → before ≡ new_bench → number ≡ code_of status
+    → IfSome old.told (λ c. Outcome (verdict_of words c.files have) old new before after ended status)
+    → OutcomeOfSome (command_of_words words) have old new before after ended status
+    → TellsUsageFor (command_of_words words) status
+    → IfSome old.told (λ c. IsAnswerOf (verdict_of words c.files have) status)
+    → IsCodeOfCall words old new number
+called_on words old new have before after ended status number sixteen bench code outcome some usage complete =
+    record {
+      status = status;
+      code = code;
+      after = after;
+      ended = ended;
+      outcome = subst (λ b. IfSome old.told (λ c. Outcome (verdict_of words c.files 16) old new b after ended status)) bench
+          (subst (λ n. IfSome old.told (λ c. Outcome (verdict_of words c.files n) old new before after ended status)) sixteen outcome);
+      some = subst (λ b. OutcomeOfSome (command_of_words words) 16 old new b after ended status) bench
+          (subst (λ n. OutcomeOfSome (command_of_words words) n old new before after ended status) sixteen some);
+      usage = usage;
+      complete = subst (λ n. IfSome old.told (λ c. IsAnswerOf (verdict_of words c.files n) status)) sixteen complete;
+    }
+
+-- where the words can't be had, where there is no memory for them as texts, and where they are had
+pub code_without : (args : Result Line Error) (number : ℕ) → TellsTexts args (Err number) → IsCodeOfLine args number
+code_without (Ok line) number told = (untold [], inl (told, refl))
+code_without (Err error) number told = told
+
+pub code_for_memory : (args : Result Line Error) (texts : Vec (String Global) Global) → TellsTexts args (Ok texts) → IsCodeOfLine args 6
+code_for_memory (Ok line) texts told = (untold [], inl (refl, refl))
+code_for_memory (Err error) texts told = absurd told
+
+pub code_of_words : (args : Result Line Error) (texts : Vec (String Global) Global) (words : List (List ℕ)) (number : ℕ) → TellsTexts args (Ok texts) → words ≡ map string_bytes texts.items → IsCodeOfFiles words number → IsCodeOfLine args number
+code_of_words (Ok line) texts words number told are code = subst (λ all. IsCodeOfFiles all number) (are ∙ ap (map string_bytes) told) code
+code_of_words (Err error) texts words number told are code = absurd told
