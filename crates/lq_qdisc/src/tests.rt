@@ -53,7 +53,7 @@ fn check_packets<A: Abort>(rt: &A, infos: &[Info], queues: u32)
         assert!(rt; infos[k].owner == 1);
         assert!(rt; infos[k].station == 0);
         assert!(rt; infos[k].band < 3);
-        assert!(rt; infos[k].queue < queues);
+        assert!(rt; (infos[k].queue as u32) < queues);
         assert!(rt; infos[k].rank as usize == k);
     }
 }
