@@ -25,9 +25,6 @@ sends_if_left k n turn info old mid new here at made h =
       subst (λ (xs : List Made). SendsLeft k n turn xs new) (made ∙ ap (λ (o : ℕ). old ⊳ did_load_turn o turn) owner) h,
     )
 
-pub stops_more : (k : Setup) (word queue : ℕ) (steps : List Made) → stops_loaded k word queue steps ⊳ did_load_stop k queue word ≡ stops_loaded k word (queue + 1) steps
-stops_more k word queue steps = let up : suc queue ≡ queue + 1 = omega arith in ap (λ (n : ℕ). stops_loaded k word n steps) up
-
 pub serves_more : (k : Setup) (old a begun looked left woken next : List Made) → ServesOn k old a → (found : ℕ) × (begun ≡ a ⊳ did_load_base found) → LooksBy k seen.Going begun looked
     → (found : ℕ) × (left ≡ looked ⊳ did_load_base found) → MadeBy (WakesBelow k k.queues) left woken → DrainsBy k woken next → ServesOn k old next
 serves_more k old a begun looked left woken next h b l e w d = one_more a looked woken next b.0 e.0 h (subst (λ (xs : List Made). LooksBy k seen.Going xs looked) b.1 l) (subst (λ (xs : List Made). MadeBy (WakesBelow k k.queues) xs woken) e.1 w) d

@@ -98,7 +98,7 @@ PurgesHungBy k unit count old new = (left locked purged : List Made) × (state :
 -- THE CALL
 
 -- what is left is sent, and the station served to its end; where it hangs it is purged, and the number of packets purged is answered
-abbrev pub Finishes : Setup → ℕ → List Made → List Made → Type 0
-Finishes k count old new = (sent ended : List Made) × SendsLeftBelow k (length k.infos) old sent
+abbrev pub FinishesBy : Setup → ℕ → List Made → List Made → Type 0
+FinishesBy k count old new = (sent ended : List Made) × SendsLeftBelow k (length k.infos) old sent
     × ((ServesToEnd k seen.Hung sent ended × (unit : ℕ) × PurgesHungBy k unit count ended new)
     ⊎ (ServesToEnd k seen.Ended sent ended × (count ≡ 0) × (found : ℕ) × (new ≡ ended ⊳ did_load_base found)))

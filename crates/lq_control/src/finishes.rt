@@ -15,7 +15,7 @@ ghost use Rattle.lq_ring.specs.Fates.{fates_onto};
 ghost use Rattle.lq_control.specs.declared.finishes.Seen.TheVariants.{Hung, Ended};
 ghost use Rattle.lq_control.specs.Control.{IsIn, IsKeptByControl};
 ghost use Rattle.lq_control.specs.Ending.{FinishesAlone, IsEndedAlike, purged_as_hung};
-ghost use Rattle.lq_control.specs.EndSteps.{FindsBusy, Finishes, LoadsStops, LooksBy, PurgesHungBy, SendsIfLeft, SendsLeftBelow, ServesToEnd, WaitsUntilLeft, are_quiet as quiet};
+ghost use Rattle.lq_control.specs.EndSteps.{FindsBusy, FinishesBy, LoadsStops, LooksBy, PurgesHungBy, SendsIfLeft, SendsLeftBelow, ServesToEnd, WaitsUntilLeft, are_quiet as quiet};
 ghost use Rattle.lq_control.specs.Finish.{AreFor, AreTurnsFrom, AreAllDone, AreKept, IsSent, IsLook, IsActiveOrPurged, Shows, Hangs, IsFinished, FinishEnds, ArePurgesHung};
 
 use crate::drains::drain;
@@ -254,7 +254,7 @@ pub fn finish<'a, D: TxDevice, R: Wait>(rt: &R, shared: &Shared<'a, D>, cpu: &mu
     ensures finished { IsFinished (setup shared.now) (view cpu.new) }
     ensures alone { AreAllDone (setup shared.now) (view cpu.old).turns
         → FinishesAlone shared.now.infos.now (first_account (setup shared.now)) (solo (view cpu.old)) (solo (view cpu.new)) }
-    ensures made { Finishes (setup shared.now) result (steps cpu.old) (steps cpu.new) }
+    ensures made { FinishesBy (setup shared.now) result (steps cpu.old) (steps cpu.new) }
 {
     send_all_left(rt, shared, cpu);
     if serve_to_end(rt, shared, cpu) {

@@ -6,7 +6,7 @@ use Rattle.lq_table.specs.Made.{Known, Made, ◌⊳◌, did_clear_draining, did_
 use Rattle.lq_ring.specs.Steps.{FindsSlotEmpty}
 use Rattle.lq_qdisc.specs.Sends.{Wakes, WakesBelow}
 use Rattle.lq_qdisc.specs.declared.answers.Through.TheVariants.{Yes}
-use Rattle.lq_qdisc.specs.Steps.{EmptyBelow, HandsBy, SendsBy, both_cleared, hung_stored, looked}
+use Rattle.lq_qdisc.specs.Steps.{EmptyBelow, HandsBy, SendsBy, both_cleared, hung_stored, with_state_loaded}
 
 pub bands_more : (k : Setup) (band : ℕ) (old mid new : Known) → EmptyBelow k band old mid → FindsSlotEmpty k band mid new → EmptyBelow k (band + 1) old new
 bands_more k band old mid new h e = let one : suc band ≡ band + 1 = omega arith in subst (λ (n : ℕ). EmptyBelow k n old new) one (mid, h, e)
@@ -26,7 +26,7 @@ sends_more_by k sent old mid new h o = let one : suc sent ≡ sent + 1 = omega a
 
 -- both bits are cleared after a load of the state
 pub cleared_from : (state : ℕ) (a b m : Known) → b.view ≡ looking state a.view → b.steps ≡ a.steps ⊳ did_load_state state → m.view ≡ passing (passing b.view) → m.steps ≡ b.steps ⊳ did_clear_missed ⊳ did_clear_draining
-    → m ≡ both_cleared (looked state a)
+    → m ≡ both_cleared (with_state_loaded state a)
 cleared_from state a b m seen loaded passed cleared = λ j. record {
   view = (passed ∙ ap (λ (v : View). passing (passing v)) seen) j;
   steps = (cleared ∙ ap (λ (xs : List Made). xs ⊳ did_clear_missed ⊳ did_clear_draining) loaded) j;

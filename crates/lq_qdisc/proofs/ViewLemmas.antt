@@ -7,7 +7,7 @@ use Rattle.lq_table.specs.Told.{entering, passing}
 use Rattle.lq_table.specs.Solo.{solo}
 use Rattle.lq_qdisc.proofs.ViewRelations.{Attempts, Directs, FollowsDirect, Goes, GoesPast, GoesThrough, GoesThroughHeld, Hands, Interrupts, LastTurn, Runs, RunsToEnd, Sends, Transmits, TriesToPass}
 use Rattle.lq_qdisc.specs.Sends.{Enqueues}
-use Rattle.lq_qdisc.specs.Steps.{AttemptsBy, DirectsBy, EndsBy, EnqueuesBy, FollowsBy, GoesBy, GoesHeldBy, GoesPastBy, GoesThroughBy, HandsBy, InterruptsBy, RunsBy, RunsToEndBy, SendsBy, TransmitsBy, TriesToPassBy, begun, looked}
+use Rattle.lq_qdisc.specs.Steps.{AttemptsBy, DirectsBy, EndsBy, EnqueuesBy, FollowsBy, GoesBy, GoesHeldBy, GoesPastBy, GoesThroughBy, HandsBy, InterruptsBy, RunsBy, RunsToEndBy, SendsBy, TransmitsBy, TriesToPassBy, transmit_begun, with_state_loaded}
 use Rattle.lq_qdisc.specs.declared.answers.Ran.{Ran}
 use Rattle.lq_qdisc.specs.declared.answers.RunEnd.{RunEnd}
 use Rattle.lq_qdisc.specs.declared.answers.RunEnd.TheVariants as end
@@ -70,12 +70,12 @@ held_view k n answer old new h = record {
   waits = h.waits;
   sees = h.sees;
   put = h.put.view;
-  enqueued = enqueues_view k n answer (looked h.state old) h.put h.enqueued;
+  enqueued = enqueues_view k n answer (with_state_loaded h.state old) h.put h.enqueued;
   served = to_end_view k h.put new h.served;
 }
 
 pub follows_view : (k : Setup) (t : Through) (old new : Known) → FollowsBy k t old new → FollowsDirect t k.infos old.view new.view
-follows_view k through.Yes old new (state, sees, step, inl t) = (state, sees, step, inl (t.0, to_end_view k (looked state old) new t.1))
+follows_view k through.Yes old new (state, sees, step, inl t) = (state, sees, step, inl (t.0, to_end_view k (with_state_loaded state old) new t.1))
 follows_view k through.Yes old new (state, sees, step, inr t) = (state, sees, step, inr (t.0, t.1.0))
 follows_view k (through.Back reason) old new f = f.0
 
@@ -102,19 +102,8 @@ goes_view k n answer old new g = record {
   sees = g.sees;
   first = g.first;
   refused = λ e. (let r = g.refused e in (r.0, r.1, r.2));
-  through = λ a e. through_view k n answer (looked g.state old) new (g.through a e);
-  past = λ a e. tries_view k n answer (looked g.state old) new (g.past a e);
-}
-
-pub transmits_view : (k : Setup) (n : ℕ) (answer : Sending) (old new : Known) → TransmitsBy k n answer old new → Transmits k.infos k.bypass n answer old.view new.view
-transmits_view k n answer old new t = record {
-  came = t.came;
-  turns = t.turns;
-  trail = t.trail;
-  last = t.last.view;
-  goes = goes_view k n answer (begun n k old) t.last t.goes;
-  ends = ap (λ (x : Known). x.view) t.ends;
-  step = t.step;
+  through = λ a e. through_view k n answer (with_state_loaded g.state old) new (g.through a e);
+  past = λ a e. tries_view k n answer (with_state_loaded g.state old) new (g.past a e);
 }
 
 pub interrupts_view : (k : Setup) (old new : Known) → InterruptsBy k old new → (before : View) × Interrupts k.infos (entering old.view) before × (new.view ≡ passing before) × (solo new.view ≡ solo before)

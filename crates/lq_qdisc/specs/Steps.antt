@@ -28,8 +28,8 @@ use Rattle.lq_qdisc.specs.declared.answers.Through.TheVariants as through
 use Rattle.lq_qdisc.specs.declared.answers.Why.TheVariants as why
 
 -- a load of the state, in a call
-abbrev pub looked : ℕ → Known → Known
-looked state k = record { view = looking state k.view; steps = k.steps ⊳ did_load_state state }
+abbrev pub with_state_loaded : ℕ → Known → Known
+with_state_loaded state k = record { view = looking state k.view; steps = k.steps ⊳ did_load_state state }
 
 -- A DEQUEUE
 
@@ -68,8 +68,8 @@ abbrev pub LooksThrough : Setup → Taken → Known → Known → Type 0
 LooksThrough k answer old new =
     ((n : ℕ) × (answer ≡ taken.Packet n) × Scans k (Some n) old new)
     ⊎ ((once : Known) × (state : ℕ) × Scans k None old once
-    × (((some_bit state ≡ false) × (answer ≡ taken.Empty) × (new ≡ looked state once))
-    ⊎ ((some_bit state ≡ true) × (found : Option ℕ) × (answer ≡ taken_as found) × Scans k found (both_cleared (looked state once)) new)))
+    × (((some_bit state ≡ false) × (answer ≡ taken.Empty) × (new ≡ with_state_loaded state once))
+    ⊎ ((some_bit state ≡ true) × (found : Option ℕ) × (answer ≡ taken_as found) × Scans k found (both_cleared (with_state_loaded state once)) new)))
 
 -- the one queue is found open
 abbrev pub found_open : Setup → Known → Known
@@ -193,14 +193,14 @@ pub record GoesHeldBy (k : Setup) (n : ℕ) (answer : Sending) (old new : Known)
   pub waits : some_bit state ≡ true
   pub sees : IsSole old.view → SeesState old.view state
   pub put : Known
-  pub enqueued : EnqueuesBy k n answer (looked state old) put
+  pub enqueued : EnqueuesBy k n answer (with_state_loaded state old) put
   pub served : RunsToEndBy k put new
 
 -- after a packet that went past the bands: where the device accepted it the state is loaded, and where MISSED or DRAINING is set then, the
 -- bands are served
 abbrev pub FollowsBy : Setup → Through → Known → Known → Type 0
 FollowsBy k through.Yes old new = (state : ℕ) × (IsSole old.view → SeesState old.view state) × (solo (looking state old.view) ≡ solo old.view)
-    × (((some_bit state ≡ true) × RunsToEndBy k (looked state old) new) ⊎ ((some_bit state ≡ false) × ReleasesBy (looked state old) new))
+    × (((some_bit state ≡ true) × RunsToEndBy k (with_state_loaded state old) new) ⊎ ((some_bit state ≡ false) × ReleasesBy (with_state_loaded state old) new))
 FollowsBy k (through.Back reason) old new = ReleasesBy old new
 
 -- a load of the state under the run lock, after which the packet n is in hand
@@ -237,16 +237,16 @@ pub record GoesBy (k : Setup) (n : ℕ) (answer : Sending) (old new : Known) : T
   pub sees : IsSole old.view → SeesState old.view state
   pub first : old.view.control.first ≡ true → SeesDown old.view state
   pub refused : is_set 2 state ≡ true → RefusesBy k n answer state old new
-  pub past : is_set 2 state ≡ false → k.bypass && not (some_bit state) ≡ true → TriesToPassBy k n answer (looked state old) new
-  pub through : is_set 2 state ≡ false → k.bypass && not (some_bit state) ≡ false → GoesThroughBy k n answer (looked state old) new
+  pub past : is_set 2 state ≡ false → k.bypass && not (some_bit state) ≡ true → TriesToPassBy k n answer (with_state_loaded state old) new
+  pub through : is_set 2 state ≡ false → k.bypass && not (some_bit state) ≡ false → GoesThroughBy k n answer (with_state_loaded state old) new
 
 -- the turn of the packet n is taken, and the call begins
-abbrev pub begun : ℕ → Setup → Known → Known
-begun n k old = record { view = transmitting k.infos n old.view; steps = old.steps ⊳ did_take_turn (owner_in k.infos n) (rank_in k.infos n) true ⊳ did_enter }
+abbrev pub transmit_begun : ℕ → Setup → Known → Known
+transmit_begun n k old = record { view = transmitting k.infos n old.view; steps = old.steps ⊳ did_take_turn (owner_in k.infos n) (rank_in k.infos n) true ⊳ did_enter }
 
 -- the call ends, and then the turn is given back
-abbrev pub over : ℕ → Setup → Known → Known
-over n k last = record { view = giving_turn (owner_in k.infos n) (rank_in k.infos n) (passing last.view); steps = last.steps ⊳ did_leave ⊳ did_give_turn (owner_in k.infos n) (rank_in k.infos n) }
+abbrev pub transmit_over : ℕ → Setup → Known → Known
+transmit_over n k last = record { view = giving_turn (owner_in k.infos n) (rank_in k.infos n) (passing last.view); steps = last.steps ⊳ did_leave ⊳ did_give_turn (owner_in k.infos n) (rank_in k.infos n) }
 
 -- `__dev_queue_xmit` of net/core/dev.c, of a packet whose turn it is
 pub record TransmitsBy (k : Setup) (n : ℕ) (answer : Sending) (old new : Known) : Type 0 where
@@ -254,8 +254,8 @@ pub record TransmitsBy (k : Setup) (n : ℕ) (answer : Sending) (old new : Known
   pub turns : new.view.turns ≡ slice_set old.view.turns (owner_in k.infos n) (2 * rank_in k.infos n + 2)
   pub trail : new.view.trail ≡ trail_with (came_as k.infos n answer) old.view
   pub last : Known
-  pub goes : GoesBy k n answer (begun n k old) last
-  pub ends : new ≡ over n k last
+  pub goes : GoesBy k n answer (transmit_begun n k old) last
+  pub ends : new ≡ transmit_over n k last
   pub step : solo new.view ≡ solo last.view
 
 -- A SOFT INTERRUPT
@@ -267,19 +267,19 @@ IsDueBy due old new = (d : IsDue due old.view new.view)
     × ((on : is_set 2 d.first ≡ true) → new.steps ≡ old.steps ⊳ did_load_state d.first ⊳ did_clear_sched ⊳ did_load_state (d.deactivated on).0))
 
 -- the call begins, as a soft interrupt, and ends
-abbrev pub entered : Known → Known
-entered k = record { view = entering k.view; steps = k.steps ⊳ did_enter }
+abbrev pub softirq_begun : Known → Known
+softirq_begun k = record { view = entering k.view; steps = k.steps ⊳ did_enter }
 
-abbrev pub left : Known → Known
-left k = record { view = passing k.view; steps = k.steps ⊳ did_leave }
+abbrev pub softirq_over : Known → Known
+softirq_over k = record { view = passing k.view; steps = k.steps ⊳ did_leave }
 
 -- `net_tx_action` of net/core/dev.c for one qdisc: the bands are served, unless the station is deactivated still
 pub record InterruptsBy (k : Setup) (old new : Known) : Type 0 where
   pub due : Bool
   pub cleared : Known
-  pub begins : IsDueBy due (entered old) cleared
+  pub begins : IsDueBy due (softirq_begun old) cleared
   pub last : Known
   pub serves : due ≡ true → AttemptsBy k cleared last
   pub leaves : due ≡ false → last ≡ cleared
-  pub ends : new ≡ left last
+  pub ends : new ≡ softirq_over last
   pub step : solo new.view ≡ solo last.view

@@ -3,7 +3,7 @@ use Rattle.lq_table.specs.Made.{Known, ◌⊳◌, did_leave}
 use Rattle.lq_table.specs.Sees.{view, known, setup, steps}
 use Rattle.lq_table.specs.Solo.{solo}
 use Rattle.lq_table.specs.Told.{passing}
-use Rattle.lq_qdisc.specs.Steps.{IsDueBy, entered}
+use Rattle.lq_qdisc.specs.Steps.{IsDueBy, softirq_begun}
 use Rattle.lq_qdisc.proofs.AloneCalls.{softirq_alone}
 use Rattle.lq_qdisc.proofs.ViewLemmas.{interrupts_view}
 use Rattle.lq_qdisc.proofs.interrupts.softirq.Goals as goal
@@ -11,7 +11,7 @@ use Rattle.lq_qdisc.proofs.interrupts.softirq.Goals.{then-is_due, else-is_due}
 
 pub returns-clause-interrupts : goal.returns-clause-interrupts
 returns-clause-interrupts g c =
-    let e : known c.enter.new.cpu ≡ entered (known c.args.cpu.now) = λ j. record { view = c.enter.ensures.view j; steps = c.enter.ensures.made j } in
+    let e : known c.enter.new.cpu ≡ softirq_begun (known c.args.cpu.now) = λ j. record { view = c.enter.ensures.view j; steps = c.enter.ensures.made j } in
     let due = subst (λ (x : Known). IsDueBy c.is_due.result x (known c.is_due.new.cpu)) e c.is_due.ensures.due in let l = c.leave.ensures in
     elim c.if-is_due.branch [
       | then-is_due w ↦ record {

@@ -3,7 +3,7 @@ use Rattle.lq_table.specs.Sees.{view, known, setup}
 use Rattle.lq_table.specs.Told.{some_bit}
 use Rattle.lq_table.specs.Made.{Known, Made, ◌⊳◌, did_store_fate}
 use Rattle.lq_model.specs.Words.{word_of}
-use Rattle.lq_qdisc.specs.Steps.{GoesThroughBy, TriesToPassBy, looked}
+use Rattle.lq_qdisc.specs.Steps.{GoesThroughBy, TriesToPassBy, with_state_loaded}
 use Rattle.lq_model.specs.declared.fate.Fate.TheVariants.{Refused}
 use Rattle.lq_table.specs.Views.{View}
 use Rattle.lq_table.specs.Told.{is_set, paying, refusing}
@@ -41,7 +41,7 @@ returns-then-not-is_non_empty-clause-goes g c =
     let bypass : c.args.shared.now.bypass ≡ true = sym c.bypass.ensures ∙ c.if-bypass.true in
     let clear : some_bit state ≡ false = sym c.is_non_empty.ensures ∙ c.if-not-is_non_empty.true in
     let may : c.args.shared.now.bypass && not (some_bit state) ≡ true = (λ j. bypass j && not (clear j)) in
-    let e : known c.check-state.new.cpu ≡ looked state (known c.args.cpu.now) = λ j. record { view = l.active off j; steps = l.made j } in record {
+    let e : known c.check-state.new.cpu ≡ with_state_loaded state (known c.args.cpu.now) = λ j. record { view = l.active off j; steps = l.made j } in record {
       state = state;
       sees = l.sole;
       first = l.first;
@@ -58,7 +58,7 @@ returns-clause-goes g c =
       | else-bypass-via-then-bypass+else-not-is_non_empty w ↦ (λ j. (sym c.bypass.ensures ∙ w.if-bypass.true) j && not ((sym w.is_non_empty.ensures ∙ w.if-not-is_non_empty.false) j))
       | else-bypass-via-else-bypass w ↦ (λ j. (sym c.bypass.ensures ∙ w.if-bypass.false) j && not (some_bit state))
     ] in
-    let e : known c.check-state.new.cpu ≡ looked state (known c.args.cpu.now) = λ j. record { view = l.active off j; steps = l.made j } in record {
+    let e : known c.check-state.new.cpu ≡ with_state_loaded state (known c.args.cpu.now) = λ j. record { view = l.active off j; steps = l.made j } in record {
       state = state;
       sees = l.sole;
       first = l.first;

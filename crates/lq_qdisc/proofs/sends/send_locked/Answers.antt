@@ -5,14 +5,14 @@ use Rattle.lq_table.specs.Made.{Known}
 use Rattle.lq_table.specs.Sees.{view, known, setup}
 use Rattle.lq_table.specs.Solo.{heard, solo}
 use Rattle.lq_table.specs.Told.{some_bit}
-use Rattle.lq_qdisc.specs.Steps.{DirectsBy, EnqueuesBy, gone, looked}
+use Rattle.lq_qdisc.specs.Steps.{DirectsBy, EnqueuesBy, gone, with_state_loaded}
 use Rattle.lq_qdisc.proofs.sends.send_locked.Goals as goal
 
 pub returns-then-is_non_empty-clause-goes : goal.returns-then-is_non_empty-clause-goes
 returns-then-is_non_empty-clause-goes g c =
     let k = setup c.args.shared.now in let state = c.recheck-state.result in let n = c.args.n in let l = c.recheck-state.ensures in let s = c.send_held.ensures.goes in
     let waits : some_bit state ≡ true = sym c.is_non_empty.ensures ∙ c.if-is_non_empty.true in
-    let e : known c.recheck-state.new.cpu ≡ looked state (known c.args.cpu.now) = λ j. record { view = l.waits waits j; steps = l.made j } in
+    let e : known c.recheck-state.new.cpu ≡ with_state_loaded state (known c.args.cpu.now) = λ j. record { view = l.waits waits j; steps = l.made j } in
     inl (record { state = state; waits = waits; sees = l.sole; put = s.0; enqueued = subst (λ (x : Known). EnqueuesBy k n c.send_held.result x s.0) e s.1; served = s.2 })
 
 pub returns-clause-goes : goal.returns-clause-goes

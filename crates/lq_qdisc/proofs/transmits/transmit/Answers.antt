@@ -7,7 +7,7 @@ use Rattle.lq_table.specs.Solo.{solo}
 use Rattle.lq_table.specs.Told.{entering, giving_turn}
 use Rattle.lq_qdisc.proofs.ViewRelations.{Goes}
 use Rattle.lq_qdisc.specs.Sends.{HasCome}
-use Rattle.lq_qdisc.specs.Steps.{GoesBy, begun}
+use Rattle.lq_qdisc.specs.Steps.{GoesBy, transmit_begun}
 use Rattle.lq_qdisc.proofs.TransmitLemmas.{transmits_as}
 use Rattle.lq_qdisc.proofs.FirstLemmas.{refused_first}
 use Rattle.lq_qdisc.proofs.AloneCalls.{transmit_alone}
@@ -18,11 +18,11 @@ pub returns-clause-in_turn : goal.returns-clause-in_turn
 returns-clause-in_turn g c = λ turn.
     let k = setup c.args.shared.now in let n = c.args.n in let answer = c.send-sending.result in let v = view c.args.cpu.now in let owner = owner_in k.infos n in let rank = rank_in k.infos n in
     let v_is = c.enter.ensures.view ∙ ap (λ (x : View). entering x) c.in_default.ensures.turn.1 in let s_is = c.enter.ensures.made ∙ ap (λ (xs : List Made). xs ⊳ did_enter) c.in_default.ensures.made in
-    let e : known c.enter.new.cpu ≡ begun n k (known c.args.cpu.now) = λ j. record { view = v_is j; steps = s_is j } in
+    let e : known c.enter.new.cpu ≡ transmit_begun n k (known c.args.cpu.now) = λ j. record { view = v_is j; steps = s_is j } in
     let goes = subst (λ (x : Known). GoesBy k n answer x (known c.send-sending.new.cpu)) e c.send-sending.ensures.goes in
     let t = transmits_as k.infos k.bypass n answer v (view c.send-sending.new.cpu) (view c.leave.new.cpu) (view c.give_turn.new.cpu)
     (subst (λ (x : View). HasCome k.infos n answer x (view c.send-sending.new.cpu)) v_is c.send-sending.ensures.came)
-    (goes_view k n answer (begun n k (known c.args.cpu.now)) (known c.send-sending.new.cpu) goes) c.leave.ensures.view c.leave.ensures.step c.give_turn.ensures.given in
+    (goes_view k n answer (transmit_begun n k (known c.args.cpu.now)) (known c.send-sending.new.cpu) goes) c.leave.ensures.view c.leave.ensures.step c.give_turn.ensures.given in
     let given_is = c.give_turn.ensures.given ∙ ap (λ (x : View). giving_turn owner rank x) c.leave.ensures.view in
     let made_is = c.give_turn.ensures.made ∙ ap (λ (xs : List Made). xs ⊳ did_give_turn owner rank) c.leave.ensures.made in record {
       came = t.came;
