@@ -2,7 +2,6 @@
 use Rattle.std.specs.Prelude.{ℕ, ◌+◌, Bool, true, false, if◌then◌else◌, List, [], ◌∷◌, take, filter}
 use Rattle.lq_model.specs.Account.{Event, Resize, Down, Purge, Swap, Up}
 use Rattle.lq_model.specs.Plan.{Plan, is_at, unit_of_swap}
-
 use Rattle.lq_model.specs.declared.fate.Cause.TheVariants as cause
 use Rattle.lq_model.specs.declared.plan.EventKind.{EventKind}
 use Rattle.lq_model.specs.declared.plan.EventKind.TheVariants as kind
