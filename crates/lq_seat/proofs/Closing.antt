@@ -11,7 +11,7 @@ use Rattle.lq_model.specs.Words.{HasWord, IsWordOf, word_of}
 use Rattle.lq_model.specs.declared.fate.Cause.TheVariants as cause
 use Rattle.lq_model.specs.declared.fate.Fate.{Fate}
 use Rattle.lq_model.specs.declared.fate.Fate.TheVariants as fate
-use Rattle.lq_seat.specs.Seat.{AreUnitsSmall}
+use Rattle.lq_seat.specs.Rests.{AreUnitsSmall}
 use Rattle.lq_table.proofs.SettledKept.{word_positive}
 use Rattle.lq_table.proofs.UnitsKept.{fewer, unit_is_latest, units_trail}
 use Rattle.lq_table.specs.Rule.{latest_unit, units_of, waits}

@@ -1,6 +1,4 @@
--- a step at a station, and the soft interrupts after it
+-- what a seat knows after a call
 pub mod Steps
--- an exchange of the device, and the soft interrupts after it
-pub mod Exchanged
 -- what a sole first seat knows as its table is closed
 pub mod Closing

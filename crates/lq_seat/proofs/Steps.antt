@@ -1,33 +1,33 @@
--- A step at a station, and the soft interrupts after it.
-use Rattle.std.proofs.Common.{◌≡◌, ℕ, Bool, true, false, cond, List, ◌∷◌, inl, inr, ⊎_elim, Option, Some, None, refl, sym, ap, ap₂, ◌∙◌, is_some}
-use Rattle.std.specs.Prelude.{◌↔◌, ◌==◌}
+-- What a seat knows after a call, and after the soft interrupts that follow it.
+use Rattle.std.proofs.Common.{◌≡◌, ℕ, Bool, true, false, cond, List, ◌∷◌, inl, inr, ⊎_elim, Option, Some, None, refl, sym, ap, ap₂, ◌∙◌, subst, is_some}
+use Rattle.std.specs.Prelude.{◌↔◌, ◌<◌, ◌==◌, ◌+◌, ◌*◌, slice_set}
+use Rattle.lq_account.proofs.Lists.{cons-in}
+use Rattle.lq_account.specs.Controls.{with_control}
 use Rattle.lq_account.specs.Trail.{down_of, is_own}
 use Rattle.lq_control.specs.Control.{IsKeptByControl, KeepsDevice}
 use Rattle.lq_control.specs.Finish.{AreAllDone, FinishEnds, PurgesHung}
 use Rattle.lq_model.specs.Account.{Account, Event, Join, Full, Refuse, Direct, Purge}
-use Rattle.lq_model.specs.Alone.{RunningStation, changed, served}
-use Rattle.lq_model.specs.Plan.{Plan, owner_in, band_in}
+use Rattle.lq_model.specs.Alone.{RunningStation, brought_in, changed, new_device, served}
+use Rattle.lq_model.specs.Device.{DeviceState}
+use Rattle.lq_model.specs.Plan.{Plan, owner_in, band_in, rank_in}
+use Rattle.lq_model.specs.declared.device.Params.{Params}
 use Rattle.lq_model.specs.declared.fate.Cause.TheVariants as cause
 use Rattle.lq_model.specs.declared.fate.Info.{Info}
 use Rattle.lq_model.specs.declared.plan.EventKind.{EventKind}
+use Rattle.lq_model.specs.declared.plan.EventKind.TheVariants as kind
 use Rattle.lq_qdisc.specs.Alone.{BringsAlone, Does}
-use Rattle.lq_qdisc.specs.Sends.{came_as, trail_with}
+use Rattle.lq_qdisc.specs.Sends.{IsCallKept, came_as, trail_with}
 use Rattle.lq_qdisc.specs.declared.answers.Sending.{Sending}
 use Rattle.lq_qdisc.specs.declared.answers.Sending.TheVariants as sending
-use Rattle.lq_account.specs.Controls.{with_control}
-use Rattle.lq_seat.specs.Calls.{Came, DoesEvent, Drains, EndsTrail}
-use Rattle.lq_seat.specs.Seat.{DoesAlone, Keeps}
-use Rattle.lq_table.specs.Controls.{opening}
-use Rattle.lq_table.specs.Rule.{units_of}
-use Rattle.lq_table.specs.Sees.{setup}
-use Rattle.lq_table.specs.Solo.{Solo, account_of, solo}
+use Rattle.lq_seat.specs.Calls.{Came, Changes, DoesEvent, Drains, Exchanges, SendsPacket}
+use Rattle.lq_seat.specs.Ends.{EndsTrail}
+use Rattle.lq_seat.specs.Rests.{AreUnitsSmall}
+use Rattle.lq_seat.specs.State.{HasServed, IsHere, SeatState, TableState, seat_account, latest_unit, seat_seen, table_seen, solo_of, units_of}
+use Rattle.lq_table.specs.Sees.{IsSameSeat, setup, view}
+use Rattle.lq_table.specs.Solo.{Solo, solo}
 use Rattle.lq_table.specs.Views.{Setup, View, first_account}
+use Rattle.lq_table.specs.declared.shared.Cpu.{Cpu}
 use Rattle.lq_table.specs.declared.shared.Shared.{Shared}
-
--- WHAT IS LEFT AS IT WAS
-
-pub keeps-both : {old mid new : View} → Keeps old mid → Keeps mid new → Keeps old new
-keeps-both a b = record { share = b.share ∙ a.share; first = b.first ∙ a.first; told = b.told ∙ a.told; origin = b.origin ∙ a.origin; gone = b.gone ∙ a.gone }
 
 -- THE RUN OF ONE SENDER
 
@@ -98,42 +98,130 @@ came-first infos n (sending.Refused event) v first came refused = record {
 }
 came-first infos n (sending.OutOfTurn found) v first came refused = absurd cc
 
+-- A CALL
+
+-- what a seat of the table knows that this was made of
+pub made-is : {D : Type 0} (sh : Shared D) (c : Cpu D) (t : TableState) (s : SeatState) → table_seen sh ≡ t → seat_seen c ≡ s → IsHere t s → (view c).share.about ≡ setup sh
+made-is sh c t s is-t is-s here = ap (λ (x : SeatState). x.made) is-s ∙ (here.made ∙ sym (ap (λ (x : TableState). x.made) is-t))
+
+-- what the soft interrupts after a call go on to
+pub drained-on : (step : Setup → RunningStation → RunningStation) (old mid new : SeatState) → mid.made ≡ old.made → Does old.made.infos (first_account old.made) (step old.made) (solo_of old) (solo_of mid) → Drains mid new
+    → Does old.made.infos (first_account old.made) (λ r. served old.made.infos (step old.made r)) (solo_of old) (solo_of new)
+drained-on step old mid new made does drains =
+    done-served old.made.infos (first_account old.made) (step old.made) (solo_of old) (solo_of mid) (solo_of new) does
+    (subst (λ (k : Setup). Does k.infos (first_account k) (served k.infos) (solo_of mid) (solo_of new)) made drains.alone)
+
+module _ {D : Type 0} (sh : Shared D) (c c' : Cpu D) (made : (view c).share.about ≡ setup sh) where
+  -- a step of the run of one sender, as the table's rule has it
+  does-here : (step : Setup → RunningStation → RunningStation) → Does sh.infos.now (first_account (setup sh)) (step (setup sh)) (solo (view c)) (solo (view c'))
+      → Does (view c).share.about.infos (first_account (view c).share.about) (step (view c).share.about) (solo_of (seat_seen c)) (solo_of (seat_seen c'))
+  does-here step does = subst (λ (k : Setup). Does k.infos (first_account k) (step k) (solo (view c)) (solo (view c'))) (sym made) does
+
+  pub sent-drained : (n : ℕ) (answer : Sending) (s : SeatState) → IsCallKept c c'
+      → (view c').turns ≡ slice_set (view c).turns (owner_in sh.infos.now n) (2 * rank_in sh.infos.now n + 2)
+      → (view c').trail ≡ trail_with (came_as sh.infos.now n answer) (view c) → is_some (came_as sh.infos.now n answer) ≡ true
+      → ((view c).control.first ≡ true → (event : ℕ) → (answer ≡ sending.Refused event) ↔ (down_of (view c).trail ≡ Some event))
+      → BringsAlone sh.infos.now (first_account (setup sh)) (brought_in sh.infos.now sh.bypass n) (solo (view c)) (solo (view c'))
+      → Drains (seat_seen c') s → SendsPacket n (seat_seen c) s
+  sent-drained n answer s kept turns trail came first brings drains = record {
+    is = drains.is ∙ (λ i. record (seat_seen c) {
+      table = kept.seat.0 i;
+      made = (kept.share i).about;
+      shares = (kept.share i).shares;
+      owners = (kept.share i).owners;
+      first = (kept.control i).first;
+      raised = false;
+      turns = turns-are i;
+      trail = (sym (ap (λ (x : SeatState). x.trail) drains.is)) i;
+      origin = (kept.control i).origin;
+      gone = (kept.control i).gone;
+      told = kept.told i;
+      whole = s.whole;
+      steps = s.steps;
+    });
+    came = λ is-first owner. subst (Came n (view c).trail) (sym (ap (λ (x : SeatState). x.trail) drains.is ∙ trail))
+        (came-first sh.infos.now n answer (view c) owner came (first is-first));
+    alone = let k = (view c).share.about in brought-served k.infos (first_account k) (brought_in k.infos k.bypass n) (solo (view c)) (solo (view c')) (solo_of s)
+        (subst (λ (k : Setup). BringsAlone k.infos (first_account k) (brought_in k.infos k.bypass n) (solo (view c)) (solo (view c'))) (sym made) brings)
+        (subst (λ (k : Setup). Does k.infos (first_account k) (served k.infos) (solo (view c')) (solo_of s)) (ap (λ x. x.about) kept.share) drains.alone);
+  }
+    where
+      turns-are : (view c').turns ≡ slice_set (view c).turns (owner_in (view c).share.about.infos n) (2 * rank_in (view c).share.about.infos n + 2)
+      turns-are = turns ∙ ap (λ (k : Setup). slice_set (view c).turns (owner_in k.infos n) (2 * rank_in k.infos n + 2)) (sym made)
+
+  pub changed-by : (plan : Plan) (event : ℕ) (kind : EventKind) → IsSameSeat c c' → IsKeptByControl (view c) (view c') → KeepsDevice (view c) (view c') → (view c').trail ≡ with_control plan event kind (view c).trail
+      → Does sh.infos.now (first_account (setup sh)) (changed plan event kind) (solo (view c)) (solo (view c')) → Changes plan event kind (seat_seen c) (seat_seen c')
+  changed-by plan event kind same kept device trail alone = record {
+    is = λ i. record (seat_seen c') {
+      table = same.0 i;
+      made = (kept.share i).about;
+      shares = (kept.share i).shares;
+      owners = (kept.share i).owners;
+      first = kept.first i;
+      turns = kept.turns i;
+      trail = trail i;
+      origin = device.origin i;
+      gone = device.gone i;
+      told = kept.told i;
+    };
+    alone = does-here (λ k. changed plan event kind) alone;
+  }
+
+  pub exchanged-drained : (plan : Plan) (event : ℕ) (params : Params) (came went : DeviceState) (s : SeatState) → IsSameSeat c c' → IsKeptByControl (view c) (view c')
+      → (view c').trail ≡ with_control plan event (kind.Swap params) (view c).trail → (view c').control.origin ≡ came
+      → (view c').control.gone ≡ (latest_unit sh.station (units_of (view c).trail), went.accepted) ∷ (view c).control.gone
+      → HasServed sh.infos.now sh.station (view c).control.origin went
+      → (came.told ≡ Some (new_device params) → Does sh.infos.now (first_account (setup sh)) (changed plan event (kind.Swap params)) (solo (view c)) (solo (view c')))
+      → Drains (seat_seen c') s → Exchanges plan event params came went (seat_seen c) s
+  exchanged-drained plan event params came went s same kept trail origin gone has_served alone drains = record {
+    is = drains.is ∙ (λ i. record (seat_seen c) {
+      table = same.0 i;
+      made = (kept.share i).about;
+      shares = (kept.share i).shares;
+      owners = (kept.share i).owners;
+      first = kept.first i;
+      raised = false;
+      turns = kept.turns i;
+      trail = trail i;
+      origin = origin i;
+      gone = gone-is i;
+      told = kept.told i;
+      whole = s.whole;
+      steps = s.steps;
+    });
+    has_served = subst (λ (k : Setup). HasServed k.infos k.station (view c).control.origin went) (sym made) has_served;
+    alone = λ tells. drained-on (λ k. changed plan event (kind.Swap params)) (seat_seen c) (seat_seen c') s (ap (λ x. x.about) kept.share) (does-here (λ k. changed plan event (kind.Swap params)) (alone tells)) drains;
+  }
+    where
+      gone-is : (view c').control.gone ≡ (latest_unit (view c).share.about.station (units_of (view c).trail), went.accepted) ∷ (view c).control.gone
+      gone-is = gone ∙ ap (λ (k : Setup). (latest_unit k.station (units_of (view c).trail), went.accepted) ∷ (view c).control.gone) (sym made)
+
 -- EVENTS
 
 -- an event of the plan, and the soft interrupts after it
-pub event-served : {D : Type 0} (t : Shared D) (plan : Plan) (event : ℕ) (kind : EventKind) (old mid new : View) → Keeps old mid → mid.turns ≡ old.turns → mid.trail ≡ with_control plan event kind old.trail
-    → DoesAlone t (changed plan event kind) old mid → Drains t mid new → DoesEvent t plan event kind old new
-event-served t plan event kind old mid new keeps turns trail alone drains = record {
-  keeps = keeps-both keeps drains.keeps;
-  raised = drains.raised;
-  turns = drains.turns ∙ turns;
-  trail = drains.trail ∙ trail;
-  alone = done-served t.infos.now (first_account (setup t)) (changed plan event kind) (solo old) (solo mid) (solo new) alone drains.alone;
+pub changed-drained : (plan : Plan) (event : ℕ) (kind : EventKind) (old mid new : SeatState) → Changes plan event kind old mid → Drains mid new → DoesEvent plan event kind old new
+changed-drained plan event kind old mid new changes drains = record {
+  is = drains.is ∙ ap (λ (x : SeatState). record x { raised = false; whole = new.whole; steps = new.steps }) changes.is;
+  alone = drained-on (λ k. changed plan event kind) old mid new (ap (λ (x : SeatState). x.made) changes.is) changes.alone drains;
 }
 
-pub keeps-control : {old new : View} → IsKeptByControl old new → KeepsDevice old new → Keeps old new
-keeps-control kept device = record { share = kept.share; first = kept.first; told = kept.told; origin = device.origin; gone = device.gone }
+pub one-unit-more : (station unit : ℕ) (units : List ℕ) → unit < 256 → AreUnitsSmall station units → AreUnitsSmall station (unit ∷ units)
+one-unit-more station unit units small were = record {
+  first = were.first;
+  later = λ u h. elim (cons-in unit units u h) [ inl same ↦ subst (λ x. x < 256) same small | inr was ↦ were.later u was ];
+}
 
 -- THE END
 
 -- a station all of whose packets were sent gets at most the purge of what a hung device left
-pub ends-trail : (k : Setup) (purged : ℕ) (old new : View) → AreAllDone k old.turns → FinishEnds k purged old new → EndsTrail old new
-ends-trail k purged old new done ends = ⊎_elim
+pub ends-trail : {D : Type 0} (k : Setup) (purged : ℕ) (c c' : Cpu D) → AreAllDone k (view c).turns → FinishEnds k purged (view c) (view c') → EndsTrail (seat_seen c) (seat_seen c')
+ends-trail k purged c c' done ends = ⊎_elim
     (λ same. inl (same.0 ∙ unsent))
-    (λ (hung : (before : View) × (before.trail ≡ ends.sent.trail) × PurgesHung purged before new).
+    (λ (hung : (before : View) × (before.trail ≡ ends.sent.trail) × PurgesHung purged before (view c')).
     let p = hung.2 in
-    let unit : (account_of new).unit ≡ hung.0.whole.state.station.unit = ap (λ a. a.unit) p.account ∙ p.unit in
+    let unit : (seat_account (seat_seen c')).unit ≡ hung.0.whole.state.station.unit = ap (λ a. a.unit) p.account ∙ p.unit in
     inr (p.trail ∙ ap₂ (λ unit trail. Purge (cause.Hung unit) ∷ trail) (sym unit) (hung.1 ∙ unsent)))
     ends.ends
   where
-    unsent : ends.sent.trail ≡ old.trail
+    unsent : ends.sent.trail ≡ (view c).trail
     unsent = ap (λ v. v.trail) (ends.none_sent done)
-
-pub keeps-opening : (old new : View) → new ≡ opening old → Keeps old new
-keeps-opening old new is = record {
-  share = ap (λ v. v.share) is;
-  first = ap (λ v. v.control.first) is;
-  told = ap (λ v. v.whole.told) is;
-  origin = ap (λ v. v.control.origin) is;
-  gone = ap (λ v. v.control.gone) is;
-}

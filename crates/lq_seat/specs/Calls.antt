@@ -1,29 +1,26 @@
--- What a sender's calls leave of its seat at a station, and what is known of a station at its end.
-use Rattle.std.specs.Prelude.{◌≡◌, ◌⊎◌, ℕ, ◌+◌, ◌*◌, ◌<◌, true, false, List, ◌∷◌, length, slice_index, slice_set, Option, Some, None, Contains}
+-- What a sender's calls make of its seat at a station.
+use Rattle.std.specs.Prelude.{◌≡◌, ℕ, ◌+◌, ◌-◌, ◌*◌, ◌<◌, ◌≤◌, true, false, List, [], ◌∷◌, ◌++◌, length, slice_index, slice_set, Option, Some, None}
 use Rattle.lq_account.specs.Controls.{with_control}
-use Rattle.lq_account.specs.Trail.{down_of, IsOrderly, trail_of}
-use Rattle.lq_control.specs.Finish.{IsFinished}
-use Rattle.lq_device.specs.Station.{StationState}
-use Rattle.lq_model.specs.Account.{Event, Purge, Refuse, Account}
-use Rattle.lq_model.specs.Alone.{brought_in, changed, finished, opened, served}
+use Rattle.lq_account.specs.Trail.{down_of}
+use Rattle.lq_control.specs.Control.{IsAfterUnits}
+use Rattle.lq_model.specs.Account.{Event, Refuse}
+use Rattle.lq_model.specs.Alone.{RunningStation, brought_in, changed, new_device, opened, served}
+use Rattle.lq_model.specs.Device.{DeviceState}
 use Rattle.lq_model.specs.Legal.{brought}
 use Rattle.lq_model.specs.Plan.{Plan, owner_in, rank_in, station_in}
-use Rattle.lq_model.specs.Words.{IsWordOf}
-use Rattle.lq_model.specs.declared.fate.Cause.TheVariants as cause
-use Rattle.lq_model.specs.declared.fate.Fate.{Fate}
-use Rattle.lq_model.specs.declared.fate.Fate.TheVariants as fate
-use Rattle.lq_model.specs.declared.fate.Info.{Info}
+use Rattle.lq_model.specs.declared.device.Params.{Params}
 use Rattle.lq_model.specs.declared.plan.EventKind.{EventKind}
 use Rattle.lq_model.specs.declared.plan.EventKind.TheVariants as kind
+use Rattle.lq_plan.specs.Limits.{IsKindWithin}
+use Rattle.lq_qdisc.specs.Alone.{Does}
 use Rattle.lq_qdisc.specs.Sends.{WakesBelow}
-use Rattle.lq_seat.specs.Seat.{Keeps, DoesAlone, HasAlone, origin_of, running_at}
-use Rattle.lq_table.specs.Closes.{HaveSent}
+use Rattle.lq_seat.specs.State.{HasServed, SeatState, first_account, latest_unit, no_device, solo_of, seat_state, station_count, times, units_of}
 use Rattle.lq_table.specs.Made.{Known}
-use Rattle.lq_table.specs.Rule.{HasServed}
-use Rattle.lq_table.specs.Sees.{setup}
-use Rattle.lq_table.specs.Solo.{account_of}
-use Rattle.lq_table.specs.Views.{View}
-use Rattle.lq_table.specs.declared.shared.Shared.{Shared}
+pub use Rattle.lq_table.specs.Told.{with_turns, without}
+
+-- for a seat that has the table alone and whose device tells, the station is just as after this step of the run of one sender
+abbrev pub DoesAlone : (RunningStation → RunningStation) → SeatState → SeatState → Type 0
+DoesAlone step old new = Does old.made.infos (first_account old.made) step (solo_of old) (solo_of new)
 
 -- SENDING
 
@@ -38,14 +35,39 @@ pub record Came (n : ℕ) (old new : List Event) : Type 0 where
   pub refused : down_of old ≡ refused_by event
   pub trail : new ≡ event ∷ old
 
-module _ {D : Type 0} where
-  -- a packet whose turn it is was sent, and then the seat was drained
-  pub record SendsPacket (t : Shared D) (n : ℕ) (old new : View) : Type 0 where
-    pub keeps : Keeps old new
-    pub raised : new.place.raised ≡ false
-    pub turns : new.turns ≡ slice_set old.turns (owner_in t.infos.now n) (2 * rank_in t.infos.now n + 2)
-    pub came : old.control.first ≡ true → owner_in t.infos.now n ≡ 0 → Came n old.trail new.trail
-    pub alone : DoesAlone t (λ s. served t.infos.now (brought_in t.infos.now t.bypass n s)) old new
+-- packet n is the seat's to send: it is the station's, and the next of an owner of the seat
+pub record MaySendNext (n : ℕ) (s : SeatState) : Type 0 where
+  pub within : n < length s.made.infos
+  pub station : station_in s.made.infos n ≡ s.made.station
+  pub own : 0 < times (owner_in s.made.infos n) s.owners
+  pub turn : slice_index s.turns (owner_in s.made.infos n) ≡ 2 * rank_in s.made.infos n
+
+-- the turns after packet n
+abbrev pub turns_after : ℕ → SeatState → List ℕ
+turns_after n s = slice_set s.turns (owner_in s.made.infos n) (2 * rank_in s.made.infos n + 2)
+
+-- packet n was sent, and no soft interrupt is owed
+pub record SendsPacket (n : ℕ) (old new : SeatState) : Type 0 where
+  pub is : new ≡ record old { turns = turns_after n old; raised = false; trail = new.trail; whole = new.whole; steps = new.steps }
+  pub came : old.first ≡ true → owner_in old.made.infos n ≡ 0 → Came n old.trail new.trail
+  pub alone : DoesAlone (λ r. served old.made.infos (brought_in old.made.infos old.made.bypass n r)) old new
+
+-- WAKES AND SOFT INTERRUPTS
+
+-- the stop word of each queue was exchanged, from what the seat then knew to what it knew after
+abbrev pub ExchangesStops : SeatState → SeatState → Type 0
+ExchangesStops old new = (before : Known) × (after : Known) × (seat_state old.table before ≡ old) × (seat_state old.table after ≡ new) × WakesBelow old.made old.made.queues before after
+
+-- the queues were woken, and the seat may owe a soft interrupt
+pub record WakesQueues (old new : SeatState) : Type 0 where
+  pub is : new ≡ record old { raised = new.raised; whole = new.whole; steps = new.steps }
+  pub stops : ExchangesStops old new
+  pub alone : DoesAlone opened old new
+
+-- soft interrupts were done until none was owed
+pub record Drains (old new : SeatState) : Type 0 where
+  pub is : new ≡ record old { raised = false; whole = new.whole; steps = new.steps }
+  pub alone : DoesAlone (served old.made.infos) old new
 
 -- EVENTS
 
@@ -57,81 +79,68 @@ MayDoEvent (kind.Resize len) trail = down_of trail ≡ None
 MayDoEvent (kind.TxQueueLen len) trail = down_of trail ≡ None
 MayDoEvent (kind.Swap params) trail = down_of trail ≡ None
 
-module _ {D : Type 0} where
-  -- an event that is no exchange of the device was done, and then the seat was drained
-  pub record DoesEvent (t : Shared D) (plan : Plan) (event : ℕ) (kind : EventKind) (old new : View) : Type 0 where
-    pub keeps : Keeps old new
-    pub raised : new.place.raised ≡ false
-    pub turns : new.turns ≡ old.turns
-    pub trail : new.trail ≡ with_control plan event kind old.trail
-    pub alone : DoesAlone t (λ s. served t.infos.now (changed plan event kind s)) old new
+-- the seat may do an event of this kind
+pub record MayChange (kind : EventKind) (s : SeatState) : Type 0 where
+  pub first : s.first ≡ true
+  pub within : IsKindWithin s.made.max_len kind
+  pub may : MayDoEvent kind s.trail
 
-  -- WAKES AND SOFT INTERRUPTS
+-- an event of the plan that is no exchange of the device was done, up to the soft interrupts
+pub record Changes (plan : Plan) (event : ℕ) (kind : EventKind) (old new : SeatState) : Type 0 where
+  pub is : new ≡ record old { raised = new.raised; trail = with_control plan event kind old.trail; whole = new.whole; steps = new.steps }
+  pub alone : DoesAlone (changed plan event kind) old new
 
-  -- the stop word of each of its queues was exchanged, from what the seat then knew to what it knew after
-  abbrev pub ExchangesStops : Shared D → View → View → Type 0
-  ExchangesStops t old new = (before : Known) × (after : Known) × (before.view ≡ old) × (after.view ≡ new) × WakesBelow (setup t) t.queues before after
+-- it was done, and no soft interrupt is owed
+pub record DoesEvent (plan : Plan) (event : ℕ) (kind : EventKind) (old new : SeatState) : Type 0 where
+  pub is : new ≡ record old { raised = false; trail = with_control plan event kind old.trail; whole = new.whole; steps = new.steps }
+  pub alone : DoesAlone (λ r. served old.made.infos (changed plan event kind r)) old new
 
-  -- the station's queues were woken: the stop word of each was exchanged
-  pub record WakesQueues (t : Shared D) (old new : View) : Type 0 where
-    pub keeps : Keeps old new
-    pub woken : ExchangesStops t old new
-    pub turns : new.turns ≡ old.turns
-    pub trail : new.trail ≡ old.trail
-    pub alone : DoesAlone t opened old new
+-- the seat may have its device exchanged for this one, of this unit
+pub record MayExchange (unit : ℕ) (device : DeviceState) (s : SeatState) : Type 0 where
+  pub first : s.first ≡ true
+  pub active : down_of s.trail ≡ None
+  pub small : unit < 256
+  pub later : IsAfterUnits s.made.station s.trail unit
+  pub fresh : (device.accepted ≡ []) × (device.asked ≡ []) × (device.hung ≡ false)
+  pub room : station_count s.made.infos s.made.station ≤ device.spare
 
-  -- the seat did soft interrupts until it wasn't raised
-  pub record Drains (t : Shared D) (old new : View) : Type 0 where
-    pub keeps : Keeps old new
-    pub raised : new.place.raised ≡ false
-    pub turns : new.turns ≡ old.turns
-    pub trail : new.trail ≡ old.trail
-    pub alone : DoesAlone t (served t.infos.now) old new
+-- the device was exchanged: one came, and the other went
+pub record Exchanges (plan : Plan) (event : ℕ) (params : Params) (came went : DeviceState) (old new : SeatState) : Type 0 where
+  pub is : new ≡ record old {
+    raised = false;
+    trail = with_control plan event (kind.Swap params) old.trail;
+    origin = came;
+    gone = (latest_unit old.made.station (units_of old.trail), went.accepted) ∷ old.gone;
+    whole = new.whole;
+    steps = new.steps;
+  }
+  pub has_served : HasServed old.made.infos old.made.station old.origin went
+  pub alone : came.told ≡ Some (new_device params) → DoesAlone (λ r. served old.made.infos (changed plan event (kind.Swap params) r)) old new
 
--- THE END
+-- SEVERAL SEATS
 
--- what a finish adds to the trail: nothing, or the purge of what a hung device left
-abbrev pub EndsTrail : View → View → Type 0
-EndsTrail old new = (new.trail ≡ old.trail) ⊎ (new.trail ≡ Purge (cause.Hung (account_of new).unit) ∷ old.trail)
+-- the seat without one share and this owner
+abbrev pub keeping_seat : ℕ → SeatState → SeatState
+keeping_seat o s = record s { shares = s.shares - 1; owners = without o s.owners }
 
--- no packet was purged as hung before
-abbrev pub HasNoHang : List Event → Type 0
-HasNoHang trail = (unit : ℕ) → Contains trail (Purge (cause.Hung unit)) → ⊥
+-- a new seat of the same table, with one share and this owner
+abbrev pub offspring_seat : ℕ → SeatState → SeatState
+offspring_seat o s = record s { shares = 1; owners = o ∷ []; first = false; raised = false; trail = []; origin = no_device; gone = []; told = false; steps = [] }
 
--- on the trail packets are purged as hung only where the device hangs, and by its unit
-abbrev pub PurgesHungOnly : View → Type 0
-PurgesHungOnly v = (unit : ℕ) → Contains v.trail (Purge (cause.Hung unit)) → (unit ≡ (account_of v).unit) × (v.whole.state.station.device.hung ≡ true)
+-- another seat of the same table, which may be joined into this one
+pub record IsBeside (s other : SeatState) : Type 0 where
+  pub table : other.table ≡ s.table
+  pub made : other.made ≡ s.made
+  pub first : other.first ≡ false
+  pub raised : other.raised ≡ false
 
--- the same of the packets' fates
-abbrev pub HungOnly : View → Type 0
-HungOnly v = (n unit : ℕ) → (account_of v).fates n ≡ Some (fate.Purged (cause.Hung unit)) → (unit ≡ (account_of v).unit) × (v.whole.state.station.device.hung ≡ true)
-
-module _ {D : Type 0} where
-  -- the station was brought to its end: nothing is held, and each of its packets has a fate
-  pub record Finishes (t : Shared D) (old new : View) : Type 0 where
-    pub keeps : Keeps old new
-    pub raised : new.place.raised ≡ false
-    pub turns : new.turns ≡ old.turns
-    pub trail : EndsTrail old new
-    pub is_finished : IsFinished (setup t) new
-    pub hung : HasNoHang old.trail → PurgesHungOnly new
-    -- for a seat that has the table alone and whose device tells, the fates are those of the run of one sender
-    pub alone : HasAlone t old → (running_at t new).account.fates ≡ (finished t.infos.now (running_at t old)).account.fates
-
--- what a sole first seat knows at the close: its events came in order, and the trail is theirs; the device is the one that came,
--- and accepted what its unit sent, as did each that an exchange took away
-pub record IsSoundAtClose (infos : List Info) (station : ℕ) (start : Account) (v : View) : Type 0 where
-  pub orderly : IsOrderly infos station start v.whole.state.past
-  pub trail : trail_of infos v.whole.state.past ≡ v.trail
-  pub sent : (account_of v).sent (account_of v).unit ≡ v.whole.state.station.device.accepted
-  pub device : HasServed infos station (origin_of v) v.whole.state.station.device
-  pub gone : HaveSent (account_of v) v.control.gone
-  pub hung : PurgesHungOnly v → HungOnly v
-
-module _ {D : Type 0} where
-  -- the closed table has the fates of the account and its device
-  pub record IsClosedAs (t : Shared D) (v : View) (number packets : ℕ) (words : List ℕ) (home : Option StationState) : Type 0 where
-    pub number_is : number ≡ t.station
-    pub packets_are : packets ≡ length t.infos.now
-    pub fates : (n : ℕ) (f : Fate) → n < length t.infos.now → station_in t.infos.now n ≡ t.station → (account_of v).fates n ≡ Some f → IsWordOf f (slice_index words n)
-    pub at_home : (st : StationState) × (home ≡ Some st) × (st.device ≡ v.whole.state.station.device) × (st.unit ≡ (account_of v).unit)
+-- the other seat was joined into this one, which was told the whole station
+abbrev pub Joins : SeatState → SeatState → SeatState → Type 0
+Joins old other new = new ≡ record old {
+  shares = old.shares + other.shares;
+  owners = old.owners ++ other.owners;
+  turns = with_turns other.owners other.turns old.turns;
+  told = true;
+  whole = new.whole;
+  steps = new.steps;
+}

@@ -1,6 +1,8 @@
--- a sender's seat at one station
-pub mod Seat
--- what a sender's calls leave of its seat, and the making, joining and end of a station
+-- what a caller knows of a station's table and of a seat there
+pub mod State
+-- what holds of a seat between two calls
+pub mod Rests
+-- what the calls make of a seat
 pub mod Calls
--- what the exchange of a station's device leaves of a seat
-pub mod Exchanges
+-- the end of a station
+pub mod Ends

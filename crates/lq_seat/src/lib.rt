@@ -1,11 +1,11 @@
-//! What a sender does at one station: its packets are sent there and the plan's events done; and the station's table from its
-//! making to its close.
+//! A sender's seat at a station's table, and that table, from its making to its close.
+//!
+//! A [`Table`] is made over a station's device, with its first [`Seat`]. Seats are split off for further senders and joined again;
+//! in between each sends its packets, wakes queues and, as the first, does the plan's events.
 #![tactic(auto)]
 
-mod exchanges;
-mod sends;
-mod stations;
+mod seat;
+mod table;
 
-pub use exchanges::exchange;
-pub use sends::{do_event, drain, finish, send, wake};
-pub use stations::{close_station, give_back, join_seats, open_station, split_seat};
+pub use seat::{Brought, Seat};
+pub use table::Table;

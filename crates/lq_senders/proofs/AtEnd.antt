@@ -16,11 +16,8 @@ use Rattle.lq_model.specs.declared.device.Params.{Params}
 use Rattle.lq_model.specs.declared.fate.Info.{Info}
 use Rattle.lq_model.specs.declared.plan.EventPlan.{EventPlan}
 use Rattle.lq_table.proofs.UnitsKept.{unit_is_latest, units_trail}
-use Rattle.lq_table.specs.Rule.{latest_unit, units_of}
-use Rattle.lq_table.specs.Solo.{account_of}
-use Rattle.lq_table.specs.Views.{Setup, View, first_account}
+use Rattle.lq_seat.specs.State.{SeatState, setup_of, seat_account, Setup, first_account, latest_unit, units_of}
 use Rattle.lq_senders.specs.Ends.{EndsAt}
-use Rattle.lq_senders.specs.Lanes.{setup_of}
 use Rattle.lq_senders.specs.Units.{unit_at}
 use Rattle.lq_senders.specs.Way.{EndsAsPlanned}
 use Rattle.lq_senders.proofs.Lists.{take-all}
@@ -28,30 +25,30 @@ use Rattle.lq_senders.proofs.Turns.{event-there}
 
 -- A STATION AT ITS END
 
-module _ (plan : Plan) (infos : List Info) (station : ℕ) (v : View) (ends : EndsAt plan infos station v) where
-  pub account-at : account_of v ≡ after_all (start_of plan station) v.whole.state.past
-  account-at = ap (λ (k : Setup). after_all (first_account k) v.whole.state.past) ends.about
+module _ (plan : Plan) (infos : List Info) (station : ℕ) (v : SeatState) (ends : EndsAt plan infos station v) where
+  pub account-at : seat_account v ≡ after_all (start_of plan station) v.whole.past
+  account-at = ap (λ (k : Setup). after_all (first_account k) v.whole.past) ends.about
 
-  pub trail-at : IsTrail plan station (trail_of infos v.whole.state.past)
+  pub trail-at : IsTrail plan station (trail_of infos v.whole.past)
   trail-at = subst (IsTrail plan station) (sym ends.sound.trail) ends.trail
 
-  pub legal-at : IsLegal plan infos station (start_of plan station) v.whole.state.past
-  legal-at = record { comes = ends.sound.orderly.comes; planned = are-planned plan infos station (start_of plan station) refl v.whole.state.past ends.sound.orderly.find_nothing trail-at }
+  pub legal-at : IsLegal plan infos station (start_of plan station) v.whole.past
+  legal-at = record { comes = ends.sound.orderly.comes; planned = are-planned plan infos station (start_of plan station) refl v.whole.past ends.sound.orderly.find_nothing trail-at }
 
   -- the station has its latest unit
-  pub unit-at-end : (account_of v).unit ≡ unit_at plan station (length plan.events)
+  pub unit-at-end : (seat_account v).unit ≡ unit_at plan station (length plan.events)
   unit-at-end =
-      ap (λ (k : Setup). (after_all (first_account k) v.whole.state.past).unit) ends.about
-      ∙ (unit_is_latest (setup_of plan infos station) v.whole.state.past
-      ∙ (ap (latest_unit station) (sym (units_trail infos v.whole.state.past) ∙ ap units_of ends.sound.trail) ∙ ends.unit))
+      ap (λ (k : Setup). (after_all (first_account k) v.whole.past).unit) ends.about
+      ∙ (unit_is_latest (setup_of plan infos station) v.whole.past
+      ∙ (ap (latest_unit station) (sym (units_trail infos v.whole.past) ∙ ap units_of ends.sound.trail) ∙ ends.unit))
 
   -- and all of its settings are as the plan's events leave them
-  pub as-planned : controls_in v.whole.state.past ≡ planned_controls plan station (length plan.events) → EndsAsPlanned plan station (after_all (start_of plan station) v.whole.state.past)
+  pub as-planned : controls_in v.whole.past ≡ planned_controls plan station (length plan.events) → EndsAsPlanned plan station (after_all (start_of plan station) v.whole.past)
   as-planned controls = record {
-    down = sym (down-is infos (start_of plan station) refl v.whole.state.past) ∙ (ap down_of ends.sound.trail ∙ ends.down);
+    down = sym (down-is infos (start_of plan station) refl v.whole.past) ∙ (ap down_of ends.sound.trail ∙ ends.down);
     unit = ap (λ (a : Account). a.unit) (sym account-at) ∙ unit-at-end;
     len =
-        len-by-controls (start_of plan station) v.whole.state.past
+        len-by-controls (start_of plan station) v.whole.past
         ∙ (ap (λ (l : List Event). (after_all (start_of plan station) l).len) controls
         ∙ (len-after-controls plan station (start_of plan station) (take (length plan.events) plan.events) 0 []
         ∙ ap (λ (events : List EventPlan). length_after (filter (is_at station) events) (len_of plan station)) (take-all plan.events)));

@@ -10,7 +10,7 @@ use Rattle.lq_model.specs.Device.{DeviceState, IsConfigured}
 use Rattle.lq_model.specs.Plan.{Plan}
 use Rattle.lq_model.specs.declared.fate.Info.{Info}
 use Rattle.lq_model.specs.declared.plan.StationPlan.{StationPlan}
-use Rattle.lq_table.specs.Rule.{station_count}
+use Rattle.lq_seat.specs.State.{station_count}
 use Rattle.lq_senders.specs.Fates.{identities_of}
 use Rattle.lq_senders.specs.Setup.{AreConfigured}
 use Rattle.lq_senders.proofs.Seats.{set-here, set-apart, mapped-at}

@@ -11,10 +11,7 @@ use Rattle.lq_model.proofs.Reach.{at-own-swap, swap-apart}
 use Rattle.lq_model.specs.Plan.{Plan, is_swap, unit_of_swap}
 use Rattle.lq_model.specs.declared.fate.Info.{Info}
 use Rattle.lq_model.specs.declared.plan.EventPlan.{EventPlan}
-use Rattle.lq_seat.specs.Seat.{origin_of}
-use Rattle.lq_table.specs.Rule.{HasServed}
-use Rattle.lq_table.specs.Sees.{view}
-use Rattle.lq_table.specs.declared.shared.Cpu.{Cpu}
+use Rattle.lq_seat.specs.State.{SeatState, HasServed}
 use Rattle.lq_senders.specs.Lanes.{KeepAll}
 use Rattle.lq_senders.specs.Units.{DevicesStand, IsTaken, SameDevices, swaps_before, unit_at}
 use Rattle.lq_senders.proofs.Seats.{each-set, set-here, set-apart}
@@ -46,9 +43,9 @@ has-first : {X Y : Type 0} (f : X → Y) (xs : List X) (y : Y) (ys : List Y) →
 has-first f [] y ys same = absurd cc
 has-first f (x ∷ xs) y ys same = omega arith
 
-module _ {D : Type 0} (plan : Plan) (infos : List Info) (units : List DeviceState) where
+module _ (plan : Plan) (infos : List Info) (units : List DeviceState) where
   -- the first spare device is that of the next exchange
-  first-spare : (count : ℕ) (event : EventPlan) (cpus : List (Cpu D)) (spares : List DeviceState) → slice_get plan.events count ≡ Some event → is_swap event ≡ true
+  first-spare : (count : ℕ) (event : EventPlan) (cpus : List SeatState) (spares : List DeviceState) → slice_get plan.events count ≡ Some event → is_swap event ≡ true
       → (stand : DevicesStand plan infos units count cpus spares)
       → (came : DeviceState) × (slice_get units (unit_of_swap plan count) ≡ Some came) × (spares ≡ came ∷ (drop (suc (unit_of_swap plan count)) units ++ stand.taken))
   first-spare count event cpus spares there swap stand = (x.0, x.1, stand.spares_are ∙ ap (λ l. l ++ stand.taken) (drop-one units (unit_of_swap plan count) x.0 x.1))
@@ -56,19 +53,19 @@ module _ {D : Type 0} (plan : Plan) (infos : List Info) (units : List DeviceStat
       x : (came : DeviceState) × (slice_get units (unit_of_swap plan count) ≡ Some came)
       x = event-there units (unit_of_swap plan count) (let within = unit-within plan count event there swap in let long = stand.units_are.long in omega arith)
 
-  pub first-comes : {X : Type 0} (f : X → DeviceState) (count : ℕ) (event : EventPlan) (cpus : List (Cpu D)) (items : List X) (x : X) → slice_get plan.events count ≡ Some event → is_swap event ≡ true
+  pub first-comes : {X : Type 0} (f : X → DeviceState) (count : ℕ) (event : EventPlan) (cpus : List SeatState) (items : List X) (x : X) → slice_get plan.events count ≡ Some event → is_swap event ≡ true
       → x ≡ slice_index_or items 0 x → DevicesStand plan infos units count cpus (map f items) → slice_get units (unit_of_swap plan count) ≡ Some (f x)
   first-comes f count event cpus items x there swap is stand =
       let first = first-spare count event cpus (map f items) there swap stand in
       first.1 ∙ ap Some (first-read f items x first.0 (drop (suc (unit_of_swap plan count)) units ++ stand.taken) first.2 is)
 
-  pub some-spare : {X : Type 0} (f : X → DeviceState) (count : ℕ) (event : EventPlan) (cpus : List (Cpu D)) (items : List X) → slice_get plan.events count ≡ Some event → is_swap event ≡ true
+  pub some-spare : {X : Type 0} (f : X → DeviceState) (count : ℕ) (event : EventPlan) (cpus : List SeatState) (items : List X) → slice_get plan.events count ≡ Some event → is_swap event ≡ true
       → DevicesStand plan infos units count cpus (map f items) → 0 < length items
   some-spare f count event cpus items there swap stand =
       let first = first-spare count event cpus (map f items) there swap stand in has-first f items first.0 (drop (suc (unit_of_swap plan count)) units ++ stand.taken) first.2
 
   -- the seats have the same devices still
-  pub devices-same : (count : ℕ) (old new : List (Cpu D)) (spares : List DeviceState) → SameDevices old new → DevicesStand plan infos units count old spares → DevicesStand plan infos units count new spares
+  pub devices-same : (count : ℕ) (old new : List SeatState) (spares : List DeviceState) → SameDevices old new → DevicesStand plan infos units count old spares → DevicesStand plan infos units count new spares
   devices-same count old new spares same stand = record {
     units_are = stand.units_are;
     home = λ j c at. let was = some-there old new j c (sym same.long) at in stand.home j was.0 was.1 ∙ ap Some (sym (same.each j was.0 c was.1 at).0);
@@ -86,11 +83,11 @@ module _ {D : Type 0} (plan : Plan) (infos : List Info) (units : List DeviceStat
     };
   }
 
-  pub devices-kept : (count : ℕ) (old new : List (Cpu D)) (spares : List DeviceState) → KeepAll old new → DevicesStand plan infos units count old spares → DevicesStand plan infos units count new spares
-  devices-kept count old new spares keeps = devices-same count old new spares (record { long = keeps.long; each = λ j c c' at at'. let own = keeps.each j c c' at at' in (own.origin, own.gone) })
+  pub devices-kept : (count : ℕ) (old new : List SeatState) (spares : List DeviceState) → KeepAll old new → DevicesStand plan infos units count old spares → DevicesStand plan infos units count new spares
+  devices-kept count old new spares keeps = devices-same count old new spares (record { long = keeps.long; each = λ j c c' at at'. let own = keeps.each j c c' at at' in (ap (λ (s : SeatState). s.origin) own, ap (λ (s : SeatState). s.gone) own) })
 
   -- an event that exchanges no device
-  pub devices-past : (count : ℕ) (event : EventPlan) (cpus : List (Cpu D)) (spares : List DeviceState) → slice_get plan.events count ≡ Some event → is_swap event ≡ false
+  pub devices-past : (count : ℕ) (event : EventPlan) (cpus : List SeatState) (spares : List DeviceState) → slice_get plan.events count ≡ Some event → is_swap event ≡ false
       → DevicesStand plan infos units count cpus spares → DevicesStand plan infos units (suc count) cpus spares
   devices-past count event cpus spares there none stand = record {
     units_are = stand.units_are;
@@ -106,14 +103,14 @@ module _ {D : Type 0} (plan : Plan) (infos : List Info) (units : List DeviceStat
   }
 
   -- an exchange: this device came, and that one went
-  pub devices-exchanged : (count : ℕ) (event : EventPlan) (cpus : List (Cpu D)) (spares : List DeviceState) (c c' : Cpu D) (came went : DeviceState) → slice_get plan.events count ≡ Some event → is_swap event ≡ true
-      → slice_get cpus event.station ≡ Some c → slice_get units (unit_of_swap plan count) ≡ Some came → origin_of (view c') ≡ came
-      → HasServed infos event.station (origin_of (view c)) went
-      → (view c').control.gone ≡ (unit_at plan event.station count, went.accepted) ∷ (view c).control.gone
+  pub devices-exchanged : (count : ℕ) (event : EventPlan) (cpus : List SeatState) (spares : List DeviceState) (c c' : SeatState) (came went : DeviceState) → slice_get plan.events count ≡ Some event → is_swap event ≡ true
+      → slice_get cpus event.station ≡ Some c → slice_get units (unit_of_swap plan count) ≡ Some came → c'.origin ≡ came
+      → HasServed infos event.station c.origin went
+      → c'.gone ≡ (unit_at plan event.station count, went.accepted) ∷ c.gone
       → DevicesStand plan infos units count cpus spares → DevicesStand plan infos units (suc count) (slice_set cpus event.station c') (drop 1 spares ++ went ∷ [])
   devices-exchanged count event cpus spares c c' came went there swap at-c brought origin has_served gone stand = record {
     units_are = stand.units_are;
-    home = each-set (λ (j : ℕ) (x : Cpu D). slice_get units (unit_at plan j (suc count)) ≡ Some (origin_of (view x))) cpus event.station c' (slice_get_within cpus event.station c at-c)
+    home = each-set (λ (j : ℕ) (x : SeatState). slice_get units (unit_at plan j (suc count)) ≡ Some x.origin) cpus event.station c' (slice_get_within cpus event.station c at-c)
         (ap (slice_get units) (unit-here plan event.station count event there (at-own-swap event swap) ∙ ap (λ b. cond b (unit_of_swap plan count) (unit_at plan event.station count)) swap) ∙ (brought ∙ ap Some (sym origin)))
         (λ j x other at. ap (slice_get units) (unit-elsewhere plan j count event there (swap-apart j event swap other)) ∙ stand.home j x at);
     taken = stand.taken ++ went ∷ [];
@@ -144,8 +141,8 @@ module _ {D : Type 0} (plan : Plan) (infos : List Info) (units : List DeviceStat
         has_served = took.has_served;
         gone = λ x there-x. dite (ℕ_discrete late.station event.station)
             (λ same. let is : c' ≡ x = same_Some c' x (sym (set-here cpus event.station c' (slice_get_within cpus event.station c at-c)) ∙ (ap (slice_get (slice_set cpus event.station c')) (sym same) ∙ there-x)) in
-            subst (λ (z : Cpu D). Contains (view z).control.gone (unit_at plan late.station e, took.device.accepted)) is
-            (subst (λ l. Contains l (unit_at plan late.station e, took.device.accepted)) (sym gone) (there-in _ (view c).control.gone _ (took.gone c (ap (slice_get cpus) same ∙ at-c)))))
+            subst (λ (z : SeatState). Contains z.gone (unit_at plan late.station e, took.device.accepted)) is
+            (subst (λ l. Contains l (unit_at plan late.station e, took.device.accepted)) (sym gone) (there-in _ c.gone _ (took.gone c (ap (slice_get cpus) same ∙ at-c)))))
             (λ other. took.gone x (sym (set-apart cpus event.station late.station c' other) ∙ there-x));
       }
 
@@ -154,12 +151,12 @@ module _ {D : Type 0} (plan : Plan) (infos : List Info) (units : List DeviceStat
           let late-is : event ≡ late = same_Some event late (sym there ∙ (ap (slice_get plan.events) (sym same) ∙ at)) in
           subst (λ (k : ℕ). IsTaken plan infos units (stand.taken ++ went ∷ []) (slice_set cpus event.station c') k late) (sym same)
           (subst (λ (x : EventPlan). IsTaken plan infos units (stand.taken ++ went ∷ []) (slice_set cpus event.station c') count x) late-is (record {
-            origin = origin_of (view c);
+            origin = c.origin;
             device = went;
             came = stand.home event.station c at-c;
             went = ap (slice_get (stand.taken ++ went ∷ [])) (sym stand.so_many) ∙ get-push-new stand.taken went;
             has_served = has_served;
             gone = λ x there-x. let is : c' ≡ x = same_Some c' x (sym (set-here cpus event.station c' (slice_get_within cpus event.station c at-c)) ∙ there-x) in
-                subst (λ (z : Cpu D). Contains (view z).control.gone (unit_at plan event.station count, went.accepted)) is
-                (subst (λ l. Contains l (unit_at plan event.station count, went.accepted)) (sym gone) (here-in _ (view c).control.gone));
+                subst (λ (z : SeatState). Contains z.gone (unit_at plan event.station count, went.accepted)) is
+                (subst (λ l. Contains l (unit_at plan event.station count, went.accepted)) (sym gone) (here-in _ c.gone));
           }))

@@ -25,9 +25,7 @@ use Rattle.lq_model.specs.declared.fate.Cause.TheVariants.{Hung}
 use Rattle.lq_model.specs.declared.fate.Fate.{Fate}
 use Rattle.lq_model.specs.declared.fate.Fate.TheVariants.{Purged}
 use Rattle.lq_model.specs.declared.fate.Info.{Info}
-use Rattle.lq_table.specs.Rule.{HangsWhere, IsCallOf}
-use Rattle.lq_table.specs.Solo.{account_of}
-use Rattle.lq_table.specs.Views.{View}
+use Rattle.lq_seat.specs.State.{SeatState, seat_account, HangsWhere, IsCallOf}
 use Rattle.lq_senders.specs.OwnPackets.{alone_at}
 use Rattle.lq_senders.proofs.OwnPackets.{own_fates}
 use Rattle.lq_senders.proofs.AtEnd.{account-at, as-planned, configured-below, legal-at, trail-at}
@@ -53,14 +51,14 @@ hangs-at params d hangs hung =
 
 -- THE RUN
 
-module _ (plan : Plan) (infos : List Info) (before after : List DeviceState) (views : ℕ → View) (fates : List Fate) (ends : RunEnds plan infos before after views fates) where
+module _ (plan : Plan) (infos : List Info) (before after : List DeviceState) (views : ℕ → SeatState) (fates : List Fate) (ends : RunEnds plan infos before after views fates) where
   abbrev pasts : ℕ → List Event
-  pasts station = (views station).whole.state.past
+  pasts station = (views station).whole.past
 
   abbrev accounts : ℕ → Account
   accounts station = after_all (start_of plan station) (pasts station)
 
-  account-is : (station : ℕ) → station < length plan.stations → account_of (views station) ≡ accounts station
+  account-is : (station : ℕ) → station < length plan.stations → seat_account (views station) ≡ accounts station
   account-is station below = account-at plan infos station (views station) (ends.each station below)
 
   trails : (station : ℕ) → station < length plan.stations → IsTrail plan station (trail_of infos (pasts station))
@@ -68,7 +66,7 @@ module _ (plan : Plan) (infos : List Info) (before after : List DeviceState) (vi
 
   -- a packet's fate is that of its station's account
   fate-is : (station : ℕ) → station < length plan.stations → (n : ℕ) → n < length infos → station_in infos n ≡ station → slice_get fates n ≡ (accounts station).fates n
-  fate-is station below n inside at = ends.fates_are n inside ∙ (ap (λ (s : ℕ). (account_of (views s)).fates n) at ∙ ap (λ (a : Account). a.fates n) (account-is station below))
+  fate-is station below n inside at = ends.fates_are n inside ∙ (ap (λ (s : ℕ). (seat_account (views s)).fates n) at ∙ ap (λ (a : Account). a.fates n) (account-is station below))
 
   closed : (station : ℕ) → station < length plan.stations → IsClosed plan infos fates station (pasts station) (accounts station)
   closed station below = let own = ends.each station below in let is = account-is station below in record {
@@ -121,7 +119,7 @@ module _ (plan : Plan) (infos : List Info) (before after : List DeviceState) (vi
       let inside : n < length infos = let within = slice_get_within fates n (Purged (Hung unit)) there in let e = ends.one_each in omega arith in
       let below = ends.of_plan n inside in let v = views (station_in infos n) in
       let by = (ends.each (station_in infos n) below).hung n unit (sym (ends.fates_are n inside) ∙ there) in
-      let same : v.whole.state.station.device ≡ device = same_Some _ device (sym (ends.present (station_in infos n) below) ∙ (ap (slice_get after) (sym by.0) ∙ here)) in
+      let same : v.whole.device ≡ device = same_Some _ device (sym (ends.present (station_in infos n) below) ∙ (ap (slice_get after) (sym by.0) ∙ here)) in
       ap (λ d. d.hung) (sym same) ∙ by.1
 
   -- a unit's device that tells hangs as it was configured

@@ -10,10 +10,7 @@ use Rattle.lq_model.specs.declared.fate.Cause.TheVariants as cause
 use Rattle.lq_model.specs.declared.fate.Fate.{Fate}
 use Rattle.lq_model.specs.declared.fate.Fate.TheVariants as fate
 use Rattle.lq_model.specs.declared.fate.Info.{Info}
-use Rattle.lq_table.specs.Sees.{view}
-use Rattle.lq_table.specs.Solo.{account_of}
-use Rattle.lq_table.specs.Views.{View}
-use Rattle.lq_table.specs.declared.shared.Cpu.{Cpu}
+use Rattle.lq_seat.specs.State.{SeatState, Setup, seat_account}
 use Rattle.lq_senders.specs.Ends.{ClosedState, FatesRead, HasSentAll, IsClosedStation, IsReadable}
 use Rattle.lq_senders.specs.Lanes.{IsSendable}
 use Rattle.lq_senders.proofs.Lists.{length-mapped}
@@ -25,15 +22,16 @@ use Rattle.lq_senders.proofs.Starts.{of-plan}
 -- AFTER A RUN
 
 -- the fate of a packet of the station in its account and in the closed table
-pub fate-in : (plan : Plan) (infos : List Info) (v : View) (x : ClosedState) (n : ℕ) → n < length infos → IsClosedStation plan infos (station_in infos n) v x
-    → (fate : Fate) × ((account_of v).fates n ≡ Some fate) × IsWordOf fate (slice_index x.ended.words n)
-fate-in plan infos v x n inside closed = let decided = closed.ends.finished.decided n inside refl in (decided.0, decided.1, closed.fates n decided.0 inside refl decided.1)
+pub fate-in : (plan : Plan) (infos : List Info) (v : SeatState) (x : ClosedState) (n : ℕ) → n < length infos → IsClosedStation plan infos (station_in infos n) v x
+    → (fate : Fate) × ((seat_account v).fates n ≡ Some fate) × IsWordOf fate (slice_index x.ended.words n)
+fate-in plan infos v x n inside closed = let ends = closed.ends in
+    let decided = subst (λ (k : Setup). (n : ℕ) → n < length k.infos → station_in k.infos n ≡ k.station → (f : Fate) × ((seat_account v).fates n ≡ Some f)) ends.about ends.finished.decided n inside refl in (decided.0, decided.1, closed.fates n decided.0 inside refl decided.1)
 
-module _ {D : Type 0} (plan : Plan) (infos : List Info) (others : ℕ) (start : List (Cpu D)) (brought : List DeviceState) (closed : List ClosedState) (spares : List DeviceState) (ran : HasSentAll plan infos others start brought closed spares) (sendable : IsSendable plan infos) where
-  as-closed : (n : ℕ) (x : ClosedState) → n < length infos → slice_get closed (station_in infos n) ≡ Some x → (v : View) × IsClosedStation plan infos (station_in infos n) v x
+module _ (plan : Plan) (infos : List Info) (others : ℕ) (start : List SeatState) (brought : List DeviceState) (closed : List ClosedState) (spares : List DeviceState) (ran : HasSentAll plan infos others start brought closed spares) (sendable : IsSendable plan infos) where
+  as-closed : (n : ℕ) (x : ClosedState) → n < length infos → slice_get closed (station_in infos n) ≡ Some x → (v : SeatState) × IsClosedStation plan infos (station_in infos n) v x
   as-closed n x inside at =
       let c = event-there ran.seats (station_in infos n) (let below = of-plan plan infos sendable n inside in let one = ran.one_each in omega arith) in
-      (view c.0, ran.closed_are.each (station_in infos n) c.0 x c.1 at)
+      (c.0, ran.closed_are.each (station_in infos n) c.0 x c.1 at)
 
   pub readable : IsReadable infos closed
   readable = record {

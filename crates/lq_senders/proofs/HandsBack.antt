@@ -10,8 +10,7 @@ use Rattle.lq_model.specs.Device.{DeviceState}
 use Rattle.lq_model.specs.Plan.{Plan}
 use Rattle.lq_model.specs.declared.fate.Fate.{Fate}
 use Rattle.lq_model.specs.declared.fate.Info.{Info}
-use Rattle.lq_table.specs.Views.{no_station}
-use Rattle.lq_table.specs.declared.shared.Cpu.{Cpu}
+use Rattle.lq_seat.specs.State.{SeatState, no_station}
 use Rattle.lq_senders.specs.Ends.{AreBack, ClosedState, HasSentAll, home_device}
 use Rattle.lq_senders.specs.Fates.{AreEnded, IsEndedAs, identities_of}
 use Rattle.lq_table.specs.Ended.{EndedState}
@@ -87,7 +86,7 @@ boxes-kept n front before rest after many within is same =
     (ap (λ ds. slice_get ds j) is ∙ get-push-old front rest new j at'))
     ∙ ap (λ k. take k (identities_of before)) long))
 
-module _ {D : Type 0} (plan : Plan) (infos : List Info) (others : ℕ) (start : List (Cpu D)) (brought : List DeviceState) (closed : List ClosedState) (spares : List DeviceState) (run : HasSentAll plan infos others start brought closed spares) where
+module _ (plan : Plan) (infos : List Info) (others : ℕ) (start : List SeatState) (brought : List DeviceState) (closed : List ClosedState) (spares : List DeviceState) (run : HasSentAll plan infos others start brought closed spares) where
   pub closed-many : length closed ≡ length plan.stations
   closed-many = run.closed_are.so_many
 

@@ -1,5 +1,5 @@
 -- The fates of a whole run, and where its devices are.
-use Rattle.std.proofs.Common.{◌≡◌, refl, inl, inr, ℕ, ◌+◌, ◌-◌, ◌<◌, List, ◌++◌, length, map, count_by, true, Option, Some, None, sym, ap, ◌∙◌, subst, slice_get, arith, Contains}
+use Rattle.std.proofs.Common.{◌≡◌, refl, inl, inr, ℕ, ◌+◌, ◌-◌, ◌<◌, List, [], ◌++◌, length, map, count_by, true, Option, Some, None, sym, ap, ◌∙◌, subst, slice_get, arith, Contains}
 use Rattle.std.specs.Option.{option_and_then, option_map, option_map_or}
 use Rattle.std.specs.Prelude.{slice_index}
 use Rattle.std.proofs.Math.ListN.{drop_of_length-le}
@@ -18,12 +18,7 @@ use Rattle.lq_model.specs.declared.device.Params.{Params}
 use Rattle.lq_model.specs.declared.fate.Fate.{Fate}
 use Rattle.lq_model.specs.declared.fate.Info.{Info}
 use Rattle.lq_model.specs.declared.plan.EventPlan.{EventPlan}
-use Rattle.lq_seat.specs.Seat.{origin_of}
-use Rattle.lq_table.specs.Rule.{HasServed}
-use Rattle.lq_table.specs.Sees.{view}
-use Rattle.lq_table.specs.Solo.{account_of}
-use Rattle.lq_table.specs.Views.{View, no_station, spent}
-use Rattle.lq_table.specs.declared.shared.Cpu.{Cpu}
+use Rattle.lq_seat.specs.State.{SeatState, seat_account, no_station, HasServed, new_seat, no_device, setup_of}
 use Rattle.lq_senders.specs.Ends.{AreBack, AreOver, ClosedState, EndsAt, FatesRead, HasSentAll, IsClosedStation, RunEnds, UnitEnds, home_device}
 use Rattle.lq_senders.specs.Fates.{AllTell, AreFatesOf, IsEndedAs}
 use Rattle.lq_senders.specs.Lanes.{AllOwn, IsSendable}
@@ -40,21 +35,25 @@ use Rattle.lq_senders.proofs.Undone.{LieAt, all-undone}
 
 -- THE CLOSED STATIONS
 
-module _ {D : Type 0} (plan : Plan) (infos : List Info) (others : ℕ) (start : List (Cpu D)) (brought : List DeviceState) (closed : List ClosedState) (spares : List DeviceState) (ran : HasSentAll plan infos others start brought closed spares) where
-  abbrev views : ℕ → View
-  views j = option_map_or view (slice_get ran.seats j) spent
+-- a seat of no table
+abbrev no-seat : Plan → List Info → SeatState
+no-seat plan infos = new_seat (record { words = 0; slots = 0; views_name = 0; atom = 0; block = 0; offset = 0; slot_names = [] }) (setup_of plan infos 0) no_device
 
-  seat-there : (j : ℕ) → j < length plan.stations → (c : Cpu D) × (slice_get ran.seats j ≡ Some c)
+module _ (plan : Plan) (infos : List Info) (others : ℕ) (start : List SeatState) (brought : List DeviceState) (closed : List ClosedState) (spares : List DeviceState) (ran : HasSentAll plan infos others start brought closed spares) where
+  abbrev views : ℕ → SeatState
+  views j = option_map_or (λ (c : SeatState). c) (slice_get ran.seats j) (no-seat plan infos)
+
+  seat-there : (j : ℕ) → j < length plan.stations → (c : SeatState) × (slice_get ran.seats j ≡ Some c)
   seat-there j below = event-there ran.seats j (let one = ran.one_each in omega arith)
 
   closed-there : (j : ℕ) → j < length plan.stations → (x : ClosedState) × (slice_get closed j ≡ Some x)
   closed-there j below = event-there closed j (let so_many = ran.closed_are.so_many in omega arith)
 
-  view-is : (j : ℕ) (c : Cpu D) → slice_get ran.seats j ≡ Some c → view c ≡ views j
-  view-is j c there = ap (λ (o : Option (Cpu D)). option_map_or view o spent) (sym there)
+  view-is : (j : ℕ) (c : SeatState) → slice_get ran.seats j ≡ Some c → c ≡ views j
+  view-is j c there = ap (λ (o : Option SeatState). option_map_or (λ (x : SeatState). x) o (no-seat plan infos)) (sym there)
 
   as-closed : (j : ℕ) (x : ClosedState) → j < length plan.stations → slice_get closed j ≡ Some x → IsClosedStation plan infos j (views j) x
-  as-closed j x below at = let c = seat-there j below in subst (λ (v : View). IsClosedStation plan infos j v x) (view-is j c.0 c.1) (ran.closed_are.each j c.0 x c.1 at)
+  as-closed j x below at = let c = seat-there j below in subst (λ (v : SeatState). IsClosedStation plan infos j v x) (view-is j c.0 c.1) (ran.closed_are.each j c.0 x c.1 at)
 
   ends-at : (j : ℕ) → j < length plan.stations → EndsAt plan infos j (views j)
   ends-at j below = let x = closed-there j below in (as-closed j x.0 below x.1).ends
@@ -76,7 +75,7 @@ module _ {D : Type 0} (plan : Plan) (infos : List Info) (others : ℕ) (start : 
   abbrev homes : List DeviceState
   homes = map home_device closed
 
-  home-there : (j : ℕ) (device : DeviceState) → slice_get homes j ≡ Some device → (j < length plan.stations) × ((views j).whole.state.station.device ≡ device)
+  home-there : (j : ℕ) (device : DeviceState) → slice_get homes j ≡ Some device → (j < length plan.stations) × ((views j).whole.device ≡ device)
   home-there j device at =
       let within = slice_get_within homes j device at in let long = length-mapped home_device closed in let so_many = ran.closed_are.so_many in
       let below : j < length plan.stations = omega arith in
@@ -100,8 +99,8 @@ module _ {D : Type 0} (plan : Plan) (infos : List Info) (others : ℕ) (start : 
       origin : DeviceState
       came : slice_get units unit ≡ Some origin
       has_served : HasServed infos station origin device
-      sent : (account_of (views station)).sent unit ≡ device.accepted
-      present : (j : ℕ) → j < length plan.stations → unit_at plan j last ≡ unit → (views j).whole.state.station.device ≡ device
+      sent : (seat_account (views station)).sent unit ≡ device.accepted
+      present : (j : ℕ) → j < length plan.stations → unit_at plan j last ≡ unit → (views j).whole.device ≡ device
 
     home-unit : (j : ℕ) (device : DeviceState) → slice_get homes j ≡ Some device → IsUnit (unit_at plan j last) device
     home-unit j device at =
@@ -110,13 +109,13 @@ module _ {D : Type 0} (plan : Plan) (infos : List Info) (others : ℕ) (start : 
           station = j;
           within = home.0;
           of_station = unit-of-station plan j last (omega arith);
-          origin = origin_of (views j);
-          came = stand.home j c.0 c.1 ∙ ap (λ (v : View). Some (origin_of v)) (view-is j c.0 c.1);
-          has_served = subst (λ (d : DeviceState). HasServed infos j (origin_of (views j)) d) home.1 ends.sound.device;
-          sent = ap (account_of (views j)).sent (sym unit) ∙ (ends.sound.sent ∙ ap (λ (d : DeviceState). d.accepted) home.1);
+          origin = (views j).origin;
+          came = stand.home j c.0 c.1 ∙ ap (λ (v : SeatState). Some v.origin) (view-is j c.0 c.1);
+          has_served = subst (λ (d : DeviceState). HasServed infos j (views j).origin d) home.1 ends.sound.device;
+          sent = ap (seat_account (views j)).sent (sym unit) ∙ (ends.sound.sent ∙ ap (λ (d : DeviceState). d.accepted) home.1);
           present = λ k below same.
               let is : k ≡ j = one-station plan k j (unit_at plan j last) below home.0 (subst (IsUnitOf plan k) same (unit-of-station plan k last (omega arith))) (unit-of-station plan j last (omega arith)) in
-              ap (λ (i : ℕ). (views i).whole.state.station.device) is ∙ home.1;
+              ap (λ (i : ℕ). (views i).whole.device) is ∙ home.1;
         }
 
     spares-are : spares ≡ stand.taken
@@ -132,7 +131,7 @@ module _ {D : Type 0} (plan : Plan) (infos : List Info) (others : ℕ) (start : 
     taken-unit e event device before there swap at =
         let took = stand.each e event before there swap in let below = events-at e event there in let c = seat-there event.station below in
         let is : took.device ≡ device = same_Some took.device device (sym took.went ∙ (ap (λ (l : List DeviceState). slice_get l (swaps_before plan e)) (sym spares-are) ∙ at)) in
-        let gone = subst (λ (v : View). Contains v.control.gone (unit_at plan event.station e, took.device.accepted)) (view-is event.station c.0 c.1) (took.gone c.0 c.1) in record {
+        let gone = subst (λ (v : SeatState). Contains v.gone (unit_at plan event.station e, took.device.accepted)) (view-is event.station c.0 c.1) (took.gone c.0 c.1) in record {
           station = event.station;
           within = below;
           of_station = unit-of-station plan event.station e (omega arith);
@@ -195,7 +194,7 @@ module _ {D : Type 0} (plan : Plan) (infos : List Info) (others : ℕ) (start : 
         hangs = is.has_served.told;
       }
 
-      device-present : (j : ℕ) → j < length plan.stations → slice_get after (account_of (views j)).unit ≡ Some (views j).whole.state.station.device
+      device-present : (j : ℕ) → j < length plan.stations → slice_get after (seat_account (views j)).unit ≡ Some (views j).whole.device
       device-present j below =
           let at-end = unit-at-end plan infos j (views j) (ends-at j below) in
           let s = unit-configured plan j (unit_at plan j last) below (unit-of-station plan j last (omega arith)) in
@@ -204,7 +203,7 @@ module _ {D : Type 0} (plan : Plan) (infos : List Info) (others : ℕ) (start : 
 
 -- EACH BOX
 
-module _ {D : Type 0} (plan : Plan) (infos : List Info) (before after : List DeviceState) (others : ℕ) (start : List (Cpu D)) (brought : List DeviceState) (closed : List ClosedState) (spares : List DeviceState)
+module _ (plan : Plan) (infos : List Info) (before after : List DeviceState) (others : ℕ) (start : List SeatState) (brought : List DeviceState) (closed : List ClosedState) (spares : List DeviceState)
     (ran : HasSentAll plan infos others start brought closed spares) (over : AreOver plan infos before others start brought) (back : AreBack plan closed spares after) where
   -- a unit's device, as it came and as it went
   own-unit : (unit : ℕ) (device : DeviceState) → unit < unit_count plan → slice_get after unit ≡ Some device → IsUnit plan infos others start brought closed spares ran over.units over.stand unit device
@@ -222,13 +221,13 @@ told-as params (Some t) = refl
 
 -- THE FATES
 
-module _ {D : Type 0} (plan : Plan) (infos : List Info) (before after : List DeviceState) (others : ℕ) (start : List (Cpu D)) (brought : List DeviceState) (closed : List ClosedState) (spares : List DeviceState) (fates : List Fate)
+module _ (plan : Plan) (infos : List Info) (before after : List DeviceState) (others : ℕ) (start : List SeatState) (brought : List DeviceState) (closed : List ClosedState) (spares : List DeviceState) (fates : List Fate)
     (ran : HasSentAll plan infos others start brought closed spares) (sendable : IsSendable plan infos) (over : AreOver plan infos before others start brought) (read : FatesRead infos closed (length infos) fates)
     (back : AreBack plan closed spares after) (one-fate : (f g : Fate) (word : ℕ) → IsWordOf f word → IsWordOf g word → f ≡ g) where
-  abbrev own-views : ℕ → View
+  abbrev own-views : ℕ → SeatState
   own-views = views plan infos others start brought closed spares ran
 
-  fates-are : (n : ℕ) → n < length infos → slice_get fates n ≡ (account_of (own-views (station_in infos n))).fates n
+  fates-are : (n : ℕ) → n < length infos → slice_get fates n ≡ (seat_account (own-views (station_in infos n))).fates n
   fates-are n inside =
       let below = of-plan plan infos sendable n inside in let x = closed-there plan infos others start brought closed spares ran (station_in infos n) below in
       let own = fate-in plan infos (own-views (station_in infos n)) x.0 n inside (as-closed plan infos others start brought closed spares ran (station_in infos n) x.0 below x.1) in
@@ -239,14 +238,14 @@ module _ {D : Type 0} (plan : Plan) (infos : List Info) (before after : List Dev
   all-own one n inside = let owner = (sendable.made (station_in infos n) (of-plan plan infos sendable n inside)).owners n inside in omega arith
 
   fate-alone : AllTell (unit_count plan) before → plan.senders ≡ 1 → (n : ℕ) → n < length infos
-      → fate_in (after_run plan infos (new_stations 0 plan.stations)) infos n ≡ (account_of (own-views (station_in infos n))).fates n
+      → fate_in (after_run plan infos (new_stations 0 plan.stations)) infos n ≡ (seat_account (own-views (station_in infos n))).fates n
   fate-alone tell one n inside =
       let below = of-plan plan infos sendable n inside in let c = seat-there plan infos others start brought closed spares ran (station_in infos n) below in
       let stand = ran.devices over.units over.stand in
       let begins = starts-run plan infos before others start brought over ran.long ran.limits tell one in
       let ends = ran.alone (over.alone one).0 (all-own one) over.units over.stand (units-tell plan infos before others start brought over tell) (new_stations 0 plan.stations) begins (station_in infos n) c.0 c.1 in
       ap (option_and_then (λ s. s.account.fates n)) ends.1
-      ∙ (ap (λ fs. fs n) (sym ends.2) ∙ ap (λ (v : View). (account_of v).fates n) (view-is plan infos others start brought closed spares ran (station_in infos n) c.0 c.1))
+      ∙ (ap (λ fs. fs n) (sym ends.2) ∙ ap (λ (v : SeatState). (seat_account v).fates n) (view-is plan infos others start brought closed spares ran (station_in infos n) c.0 c.1))
 
   device-tells : (unit : ℕ) (params : Params) (old device : DeviceState) → IsConfiguredWith plan unit params → slice_get before unit ≡ Some old → slice_get after unit ≡ Some device
       → told_params device ≡ option_map (λ _. params) old.told

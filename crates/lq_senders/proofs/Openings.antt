@@ -1,25 +1,17 @@
 -- Stations are opened over the devices of a bench.
-use Rattle.std.proofs.Common.{◌≡◌, inl, inr, ℕ, zero, suc, ◌+◌, ◌-◌, ◌<◌, ◌≤◌, false, List, [], ◌∷◌, ◌++◌, length, refl, ap, arith, Option, Some, sym, ◌∙◌, subst, map, take, drop, slice_get, slice_index_or, drop-drop, length-append}
+use Rattle.std.proofs.Common.{◌≡◌, inl, inr, ℕ, zero, suc, ◌+◌, ◌-◌, ◌<◌, ◌≤◌, false, List, [], ◌∷◌, ◌++◌, length, refl, ap, arith, Some, sym, ◌∙◌, subst, map, take, drop, slice_get, slice_index_or, drop-drop, length-append}
 use Rattle.std.proofs.lemmas.List.{take-append-drop}
-use Rattle.std.specs.Option.{option_map_or}
 use Rattle.std.proofs.lemmas.Option.{same_Some, slice_get_within, slice_get_cases}
-use Rattle.lq_device.specs.Station.{initial_station}
 use Rattle.lq_model.specs.Device.{DeviceState}
 use Rattle.lq_model.specs.Plan.{Plan}
 use Rattle.lq_model.specs.declared.fate.Info.{Info}
-use Rattle.lq_model.specs.declared.plan.StationPlan.{StationPlan}
-use Rattle.lq_seat.specs.Seat.{IsSeat, origin_of}
-use Rattle.lq_table.specs.Keyed.{starting}
-use Rattle.lq_table.specs.Rule.{station_count}
-use Rattle.lq_table.specs.Sees.{view, setup}
-use Rattle.lq_table.specs.Views.{Setup, View}
-use Rattle.lq_table.specs.declared.shared.Cpu.{Cpu}
-use Rattle.lq_table.specs.declared.shared.Shared.{Shared}
+use Rattle.lq_seat.specs.Ends.{MayCloseBy}
+use Rattle.lq_seat.specs.State.{IsTableOf, SeatState, Setup, TableState, new_seat, station_count}
 use Rattle.lq_senders.specs.Fates.{identities_of}
-use Rattle.lq_senders.specs.Lanes.{setup_of}
 use Rattle.lq_senders.specs.Setup.{AreConfigured, AreOpened, AreWhole, IsOpenedAt, origins_of}
 use Rattle.lq_senders.proofs.Benches.{configured-at, first-left}
 use Rattle.lq_senders.proofs.Seats.{mapped-at}
+use Rattle.lq_senders.proofs.Turns.{event-there}
 
 -- TWO LISTS
 
@@ -36,43 +28,31 @@ pairs-more R (v ∷ xs) (w ∷ ys) x y long each new (suc j) a b at at' = pairs-
 
 -- ONE STATION
 
-abbrev with-senders : List Info → ℕ → StationPlan → ℕ → Setup
-with-senders infos j s senders = record { infos = infos; senders = senders; max_len = s.max_len; bypass = s.bypass; station = j; len = s.len; queues = s.queues }
-
-setup-planned : (plan : Plan) (infos : List Info) (j : ℕ) (s : StationPlan) → slice_get plan.stations j ≡ Some s → with-senders infos j s plan.senders ≡ setup_of plan infos j
-setup-planned plan infos j s planned = ap
-    (λ (o : Option StationPlan). record { infos = infos; senders = plan.senders; max_len = option_map_or (λ s. s.max_len) o 0; bypass = option_map_or (λ s. s.bypass) o false; station = j; len = option_map_or (λ s. s.len) o 0; queues = option_map_or (λ s. s.queues) o 1 })
-    (sym planned)
-
 -- what the next device of the bench was configured to be
-pub fresh-device : {X : Type 0} (state : X → DeviceState) (plan : Plan) (infos : List Info) (before : List DeviceState) (k : ℕ) (all left : List X) (s : StationPlan) (device : X)
-    → AreConfigured plan infos (length plan.stations) before (map state all) → slice_get plan.stations k ≡ Some s
+pub fresh-device : {X : Type 0} (state : X → DeviceState) (plan : Plan) (infos : List Info) (before : List DeviceState) (k : ℕ) (all left : List X) (device : X)
+    → AreConfigured plan infos (length plan.stations) before (map state all) → k < length plan.stations
     → left ≡ drop k all → 0 < length left → device ≡ slice_index_or left 0 device
-    → ((state device).accepted ≡ []) × ((state device).asked ≡ []) × ((state device).hung ≡ false) × (station_count infos k ≤ (state device).spare)
-fresh-device state plan infos before k all left s device configured planned rest some is =
-    let known = configured-at plan infos before (map state all) k s (state device) configured planned (mapped-at state all k device (first-left k all left device rest some is)) in
-    (known.2.accepted, known.2.asked, known.2.hung, known.2.spare)
+    → (((state device).accepted ≡ []) × ((state device).asked ≡ []) × ((state device).hung ≡ false)) × (station_count infos k ≤ (state device).spare)
+fresh-device state plan infos before k all left device configured below rest some is =
+    let s = event-there plan.stations k below in
+    let known = configured-at plan infos before (map state all) k s.0 (state device) configured s.1 (mapped-at state all k device (first-left k all left device rest some is)) in
+    ((known.2.accepted, known.2.asked, known.2.hung), known.2.spare)
 
-module _ {D : Type 0} where
-  pub opened-here : (plan : Plan) (infos : List Info) (devices : List DeviceState) (j senders : ℕ) (s : StationPlan) (device : DeviceState) (t : Shared D) (c : Cpu D)
-      → slice_get plan.stations j ≡ Some s → slice_get devices j ≡ Some device → t.plan ≡ s → senders ≡ plan.senders
-      → setup t ≡ record { infos = infos; senders = senders; max_len = s.max_len; bypass = s.bypass; station = j; len = s.len; queues = s.queues }
-      → IsSeat t c → view c ≡ starting (setup t) (initial_station j device) → origin_of (view c) ≡ device → IsOpenedAt plan infos devices j t c
-  opened-here plan infos devices j senders s device t c planned there plan_is all made seat view_is origin =
-      let setup_is : setup t ≡ setup_of plan infos j = made ∙ (ap (with-senders infos j s) all ∙ setup-planned plan infos j s planned) in
-      record {
-        table = record { setup_is = setup_is; plan_is = planned ∙ ap Some (sym plan_is) };
-        seat = seat;
-        device = there ∙ ap Some (sym origin);
-        view_is = view_is ∙ ap (λ (k : Setup). starting k (initial_station j device)) setup_is ∙ ap (λ d. starting (setup_of plan infos j) (initial_station j d)) (sym origin);
-      }
+pub opened-here : (plan : Plan) (infos : List Info) (devices : List DeviceState) (j : ℕ) (device : DeviceState) (t : TableState) (c : SeatState)
+    → slice_get devices j ≡ Some device → IsTableOf plan infos j t → c ≡ new_seat t.id t.made device → IsOpenedAt plan infos devices j t c
+opened-here plan infos devices j device t c there table is = subst (IsOpenedAt plan infos devices j t) (sym is) (record {
+  table = table;
+  seat = record { table = refl; made = refl };
+  device = there;
+  view_is = ap (λ (k : Setup). new_seat t.id k device) table.setup_is;
+})
 
-  pub opened-more : (plan : Plan) (infos : List Info) (devices : List DeviceState) (tables : List (Shared D)) (cpus : List (Cpu D)) (t : Shared D) (c : Cpu D)
-      → AreOpened plan infos devices tables cpus → IsOpenedAt plan infos devices (length tables) t c → AreOpened plan infos devices (tables ++ t ∷ []) (cpus ++ c ∷ [])
-  opened-more plan infos devices tables cpus t c opened new = record {
-    long = let long = opened.long in omega (arith, length-append tables (t ∷ []), length-append cpus (c ∷ []));
-    each = pairs-more (IsOpenedAt plan infos devices) tables cpus t c opened.long opened.each new;
-  }
+pub opened-more : (plan : Plan) (infos : List Info) (devices : List DeviceState) (tables : List TableState) (cpus : List SeatState) (t : TableState) (c : SeatState)
+    → AreOpened plan infos devices tables cpus → IsOpenedAt plan infos devices (length tables) t c → AreOpened plan infos devices (tables ++ t ∷ []) (cpus ++ c ∷ [])
+opened-more plan infos devices tables cpus t c opened new = record {
+  long = let long = opened.long in omega (arith, length-append tables (t ∷ []), length-append cpus (c ∷ []));
+  each = pairs-more (IsOpenedAt plan infos devices) tables cpus t c opened.long opened.each new;
+}
 
 -- WHERE THERE WAS NO ROOM
 
@@ -108,38 +88,32 @@ firsts-are {X} {Y} h g (x ∷ xs) [] each = let bad : slice_get {X = Y} [] 0 ≡
 firsts-are h g (x ∷ xs) (y ∷ ys) each =
     ap (λ z. g z ∷ map (λ w. g (h w)) xs) (sym (same_Some y (h x) (each 0 x refl))) ∙ ap (λ zs. g y ∷ zs) (firsts-are h g xs ys (λ j. each (suc j)))
 
-module _ {D : Type 0} where
-  -- the devices of opened stations are those that came
-  pub origins-are : (plan : Plan) (infos : List Info) (devices : List DeviceState) (tables : List (Shared D)) (cpus : List (Cpu D)) → AreOpened plan infos devices tables cpus
-      → origins_of cpus ≡ take (length tables) (identities_of devices)
-  origins-are plan infos devices tables cpus opened =
-      firsts-are (λ (c : Cpu D). origin_of (view c)) (λ (d : DeviceState). d.identity) cpus devices (λ j c at'. elim (slice_get_cases tables j).1 [
-        | inl (t, inside, at, same) ↦ (opened.each j t c at at').device
-        | inr (past, nothing) ↦ absurd (let inside = slice_get_within cpus j c at' in let long = opened.long in omega arith)
-      ])
-      ∙ ap (λ k. take k (identities_of devices)) opened.long
+-- the devices of opened stations are those that came
+pub origins-are : (plan : Plan) (infos : List Info) (devices : List DeviceState) (tables : List TableState) (cpus : List SeatState) → AreOpened plan infos devices tables cpus
+    → origins_of cpus ≡ take (length tables) (identities_of devices)
+origins-are plan infos devices tables cpus opened =
+    firsts-are (λ (c : SeatState). c.origin) (λ (d : DeviceState). d.identity) cpus devices (λ j c at'. elim (slice_get_cases tables j).1 [
+      | inl (t, inside, at, same) ↦ (opened.each j t c at at').device
+      | inr (past, nothing) ↦ absurd (let inside = slice_get_within cpus j c at' in let long = opened.long in omega arith)
+    ])
+    ∙ ap (λ k. take k (identities_of devices)) opened.long
 
-  pub whole-opened : (plan : Plan) (infos : List Info) (devices : List DeviceState) (tables : List (Shared D)) (cpus : List (Cpu D)) → AreOpened plan infos devices tables cpus → AreWhole tables cpus
-  whole-opened plan infos devices tables cpus opened = record {
-    long = opened.long;
-    each = λ j t c at at'. let here = opened.each j t c at at' in record {
-      seat = here.seat;
-      sole = (ap (λ (v : View). v.share.shares) here.view_is, ap (λ (v : View). v.whole.told) here.view_is);
-      first = ap (λ (v : View). v.control.first) here.view_is;
-      raised = ap (λ (v : View). v.place.raised) here.view_is;
-    };
-  }
+pub whole-opened : (plan : Plan) (infos : List Info) (devices : List DeviceState) (tables : List TableState) (cpus : List SeatState) → AreOpened plan infos devices tables cpus → AreWhole tables cpus
+whole-opened plan infos devices tables cpus opened = record {
+  long = opened.long;
+  each = λ j t c at at'. let here = opened.each j t c at at' in record { seat = here.seat; may = subst MayCloseBy (sym here.view_is) (record { first = refl; raised = refl; sole = (refl, refl) }) };
+}
 
-  -- and each box is in its place again
-  pub boxes-again : {X : Type 0} (state : X → DeviceState) (plan : Plan) (infos : List Info) (old mid new : List X) (tables : List (Shared D)) (cpus : List (Cpu D))
-      → AreOpened plan infos (map state old) tables cpus → map state mid ≡ drop (length tables) (map state old)
-      → identities_of (map state new) ≡ origins_of cpus ++ identities_of (map state mid) → identities_of (map state new) ≡ identities_of (map state old)
-  boxes-again state plan infos old mid new tables cpus opened left laid =
-      laid
-      ∙ (ap (λ ids. ids ++ identities_of (map state mid)) (origins-are plan infos (map state old) tables cpus opened)
-      ∙ (ap (λ ds. take (length tables) (identities_of (map state old)) ++ identities_of ds) left
-      ∙ (ap (λ ids. take (length tables) (identities_of (map state old)) ++ ids) (drop-map (λ (d : DeviceState). d.identity) (length tables) (map state old))
-      ∙ take-append-drop (length tables) (identities_of (map state old)))))
+-- and each box is in its place again
+pub boxes-again : {X : Type 0} (state : X → DeviceState) (plan : Plan) (infos : List Info) (old mid new : List X) (tables : List TableState) (cpus : List SeatState)
+    → AreOpened plan infos (map state old) tables cpus → map state mid ≡ drop (length tables) (map state old)
+    → identities_of (map state new) ≡ origins_of cpus ++ identities_of (map state mid) → identities_of (map state new) ≡ identities_of (map state old)
+boxes-again state plan infos old mid new tables cpus opened left laid =
+    laid
+    ∙ (ap (λ ids. ids ++ identities_of (map state mid)) (origins-are plan infos (map state old) tables cpus opened)
+    ∙ (ap (λ ds. take (length tables) (identities_of (map state old)) ++ identities_of ds) left
+    ∙ (ap (λ ids. take (length tables) (identities_of (map state old)) ++ ids) (drop-map (λ (d : DeviceState). d.identity) (length tables) (map state old))
+    ∙ take-append-drop (length tables) (identities_of (map state old)))))
 
 pub rest-again : {X : Type 0} (k n : ℕ) (old mid new : List X) → k ≤ n → drop k new ≡ mid → drop (n - k) mid ≡ drop n old → drop n new ≡ drop n old
 rest-again k n old mid new within laid others =

@@ -3,20 +3,13 @@ use Rattle.std.proofs.Common.{◌≡◌, inl, inr, ℕ, zero, suc, ◌+◌, ◌<
 use Rattle.std.specs.Prelude.{option_map}
 use Rattle.std.proofs.lemmas.List.{append-nil, drop-take, length-take-le}
 use Rattle.std.proofs.lemmas.Option.{same_Some, slice_get_within, slice_get_cases, slice_get-map}
-use Rattle.lq_device.specs.Station.{initial_station}
 use Rattle.lq_model.specs.Device.{DeviceState, IsConfigured}
 use Rattle.lq_model.specs.Plan.{Plan, is_swap, unit_count, unit_of_swap}
 use Rattle.lq_model.specs.Settled.{IsConfiguredWith}
 use Rattle.lq_model.specs.declared.device.Params.{Params}
 use Rattle.lq_model.specs.declared.fate.Info.{Info}
-use Rattle.lq_seat.specs.Seat.{origin_of}
-use Rattle.lq_table.specs.Keyed.{starting}
-use Rattle.lq_table.specs.Rule.{station_count}
-use Rattle.lq_table.specs.Sees.{view}
-use Rattle.lq_table.specs.declared.shared.Cpu.{Cpu}
-use Rattle.lq_table.specs.declared.shared.Shared.{Shared}
+use Rattle.lq_seat.specs.State.{SeatState, TableState, setup_of, station_count, below, new_seat}
 use Rattle.lq_senders.specs.Ends.{AreOver}
-use Rattle.lq_senders.specs.Lanes.{setup_of}
 use Rattle.lq_senders.specs.Setup.{AreBroughtAsConfigured, AreConfigured, AreSparesConfigured, AreTablesReady}
 use Rattle.lq_senders.specs.Units.{AreUnits, DevicesStand, SameDevices}
 use Rattle.lq_senders.proofs.Benches.{drop-later, get-drop}
@@ -63,7 +56,7 @@ brought-configured state plan infos first mid after rest spares e event params o
 
 -- OVER THE BENCH
 
-module _ {D : Type 0} (plan : Plan) (infos : List Info) (before : List DeviceState) (tables : List (Shared D)) (opened : List (Cpu D)) (spares : List DeviceState)
+module _ (plan : Plan) (infos : List Info) (before : List DeviceState) (tables : List TableState) (opened : List SeatState) (spares : List DeviceState)
     (ready : AreTablesReady plan infos before tables opened spares) where
   -- the devices of the plan's units
   abbrev units : List DeviceState
@@ -97,10 +90,10 @@ module _ {D : Type 0} (plan : Plan) (infos : List Info) (before : List DeviceSta
         record { accepted = known.accepted; asked = known.asked; hung = known.hung; room = known.spare };
   }
 
-  module _ (start : List (Cpu D)) (same : SameDevices opened start) where
+  module _ (start : List SeatState) (same : SameDevices opened start) where
     -- the seat of a station as it was opened
-    came : (j : ℕ) (c : Cpu D) → slice_get start j ≡ Some c → (x : Cpu D) × (slice_get opened j ≡ Some x)
-        × ((slice_get units j ≡ Some (origin_of (view x))) × (origin_of (view c) ≡ origin_of (view x)) × (view x ≡ starting (setup_of plan infos j) (initial_station j (origin_of (view x)))))
+    came : (j : ℕ) (c : SeatState) → slice_get start j ≡ Some c → (x : SeatState) × (slice_get opened j ≡ Some x)
+        × ((slice_get units j ≡ Some x.origin) × (c.origin ≡ x.origin) × (x ≡ new_seat x.table (setup_of plan infos j) x.origin))
     came j c at = elim (slice_get_cases opened j).1 [
       | inl (x, inside, there, is) ↦ (elim (slice_get_cases tables j).1 [
         | inl (t, inside', at_t, is') ↦
@@ -134,6 +127,6 @@ module _ {D : Type 0} (plan : Plan) (infos : List Info) (before : List DeviceSta
       alone = λ one. (
         omega arith,
         λ j c at. (let here = came j c at in let is : here.0 ≡ c = same_Some here.0 c (sym here.1 ∙ (sym (ap (λ cs. slice_get cs j) (alone one)) ∙ at)) in
-            subst (λ (x : Cpu D). view x ≡ starting (setup_of plan infos j) (initial_station j (origin_of (view x)))) is here.2.2),
+            subst (λ (x : SeatState). x ≡ new_seat x.table (setup_of plan infos j) x.origin) is here.2.2),
       );
     }

@@ -19,16 +19,10 @@ use Rattle.lq_model.specs.declared.plan.EventPlan.{EventPlan}
 use Rattle.lq_plan.specs.Limits.{is_out_of_order, max_len_at}
 use Rattle.lq_qdisc.specs.Alone.{Does, IsAlone, running}
 use Rattle.lq_account.specs.Controls.{with_control}
-use Rattle.lq_seat.specs.Calls.{DoesEvent}
-use Rattle.lq_seat.specs.Exchanges.{Exchanges, KeepsSeat}
-use Rattle.lq_seat.specs.Seat.{DoesAlone, IsSeat, Keeps}
-use Rattle.lq_table.specs.Rule.{times}
-use Rattle.lq_table.specs.Sees.{view, setup}
-use Rattle.lq_table.specs.Solo.{solo}
-use Rattle.lq_table.specs.Views.{Setup, SharePart, View, first_account}
-use Rattle.lq_table.specs.declared.shared.Cpu.{Cpu}
-use Rattle.lq_table.specs.declared.shared.Shared.{Shared}
-use Rattle.lq_senders.specs.Lanes.{IsTableOf, setup_of, StandsInRun, StandsAt, LaneStands, KeepAll, KeepSeats, AreRunAlone}
+use Rattle.lq_seat.specs.Calls.{DoesAlone, DoesEvent, Drains, Exchanges, SendsPacket, WakesQueues}
+use Rattle.lq_seat.specs.State.{SeatState, TableState, IsTableOf, setup_of, IsHere, solo_of, Setup, first_account, times}
+use Rattle.lq_senders.specs.Seats.{Keeps, KeepsSeat}
+use Rattle.lq_senders.specs.Lanes.{StandsInRun, StandsAt, LaneStands, KeepAll, KeepSeats, AreRunAlone}
 use Rattle.lq_senders.specs.Way.{IsOnWay}
 use Rattle.lq_senders.proofs.Orders.{may-do-next}
 use Rattle.lq_senders.proofs.Ways.{way-event, way-elsewhere}
@@ -94,61 +88,73 @@ all-at P xs i x all there = subst P (get_or_from_slice_get xs i x x there) (all 
 
 -- THE TABLE
 
-module _ {D : Type 0} (plan : Plan) (infos : List Info) (j : ℕ) (t : Shared D) (table : IsTableOf plan infos j t) where
-  pub infos-are : t.infos.now ≡ infos
-  infos-are = ap (λ (k : Setup). k.infos) table.setup_is
+-- a table's seats know what the plan asks it to be made of
+pub made-of : (plan : Plan) (infos : List Info) (j : ℕ) (t : TableState) → IsTableOf plan infos j t → (v : SeatState) → IsHere t v → v.made ≡ setup_of plan infos j
+made-of plan infos j t table v here = here.made ∙ table.setup_is
 
-  pub number-is : t.station ≡ j
-  number-is = ap (λ (k : Setup). k.station) table.setup_is
-
-  pub senders-are : t.senders ≡ plan.senders
-  senders-are = ap (λ (k : Setup). k.senders) table.setup_is
-
-  pub max-len-is : t.max_len ≡ max_len_at plan.stations j
-  max-len-is = ap (λ (k : Setup). k.max_len) table.setup_is
-
-  pub queues-are : t.queues ≡ queues_at plan.stations j
-  queues-are = ap (λ (k : Setup). k.queues) table.setup_is
-
-  -- a step of a seat alone is one of the plan's station
-  pub own-step : (step : Setup → RunningStation → RunningStation) (v w : View) → DoesAlone t (step (setup t)) v w → Does infos (start_of plan j) (step (setup_of plan infos j)) (solo v) (solo w)
-  own-step step v w does = subst (λ (k : Setup). Does k.infos (first_account k) (step k) (solo v) (solo w)) table.setup_is does
+-- a step of a seat alone is one of the plan's station
+pub own-step : (plan : Plan) (infos : List Info) (j : ℕ) (step : Setup → RunningStation → RunningStation) (v w : SeatState) → v.made ≡ setup_of plan infos j → DoesAlone (step v.made) v w
+    → Does infos (start_of plan j) (step (setup_of plan infos j)) (solo_of v) (solo_of w)
+own-step plan infos j step v w made does = subst (λ (k : Setup). Does k.infos (first_account k) (step k) (solo_of v) (solo_of w)) made does
 
 -- ONE SEAT
 
-pub keeps-itself : (v : View) → Keeps v v
-keeps-itself v = record { share = refl; first = refl; told = refl; origin = refl; gone = refl }
+pub keeps-itself : (v : SeatState) → Keeps v v
+keeps-itself v = refl
 
-pub keeps-on : (a b c : View) → Keeps a b → Keeps b c → Keeps a c
-keeps-on a b c one two = record {
-  share = two.share ∙ one.share;
-  first = two.first ∙ one.first;
-  told = two.told ∙ one.told;
-  origin = two.origin ∙ one.origin;
-  gone = two.gone ∙ one.gone;
-}
+pub keeps-on : (a b c : SeatState) → Keeps a b → Keeps b c → Keeps a c
+keeps-on a b c one two = two ∙ ap (λ (s : SeatState). record s { raised = c.raised; turns = c.turns; trail = c.trail; whole = c.whole; steps = c.steps }) one
 
-pub seat-kept : (v w : View) → Keeps v w → KeepsSeat v w
-seat-kept v w keeps = record { share = keeps.share; first = keeps.first; told = keeps.told }
+pub seat-kept : (v w : SeatState) → Keeps v w → KeepsSeat v w
+seat-kept v w keeps = subst (KeepsSeat v) (sym keeps) refl
 
-pub owner-kept : (sender : ℕ) (v w : View) → KeepsSeat v w → 0 < times sender v.share.owners → 0 < times sender w.share.owners
-owner-kept sender v w keeps has = subst (λ (s : SharePart). 0 < times sender s.owners) (sym keeps.share) has
+pub seat-on : (a b c : SeatState) → KeepsSeat a b → KeepsSeat b c → KeepsSeat a c
+seat-on a b c one two = two ∙ ap (λ (s : SeatState). record s { raised = c.raised; turns = c.turns; trail = c.trail; origin = c.origin; gone = c.gone; whole = c.whole; steps = c.steps }) one
+
+pub here-kept : (t : TableState) (v w : SeatState) → KeepsSeat v w → IsHere t v → IsHere t w
+here-kept t v w keeps here = record { table = ap (λ (s : SeatState). s.table) keeps ∙ here.table; made = ap (λ (s : SeatState). s.made) keeps ∙ here.made }
+
+-- what the calls keep
+pub sends-keep : (n : ℕ) (v w : SeatState) → SendsPacket n v w → Keeps v w
+sends-keep n v w sends = subst (Keeps v) (sym sends.is) refl
+
+pub wakes-keep : (v w : SeatState) → WakesQueues v w → Keeps v w
+wakes-keep v w wakes = subst (Keeps v) (sym wakes.is) refl
+
+pub drains-keep : (v w : SeatState) → Drains v w → Keeps v w
+drains-keep v w drains = subst (Keeps v) (sym drains.is) refl
+
+pub event-keeps : (plan : Plan) (e : ℕ) (kind : EventKind) (v w : SeatState) → DoesEvent plan e kind v w → Keeps v w
+event-keeps plan e kind v w does = subst (Keeps v) (sym does.is) refl
+
+pub owner-kept : (sender : ℕ) (v w : SeatState) → KeepsSeat v w → 0 < times sender v.owners → 0 < times sender w.owners
+owner-kept sender v w keeps has = subst (λ (owners : List ℕ). 0 < times sender owners) (sym (ap (λ (s : SeatState). s.owners) keeps)) has
 
 -- what an event leaves of its station's seat
-pub record Changes (plan : Plan) (e : ℕ) (kind : EventKind) (v w : View) : Type 0 where
+pub record EventChanges (plan : Plan) (e : ℕ) (kind : EventKind) (v w : SeatState) : Type 0 where
   pub keeps : KeepsSeat v w
-  pub raised : w.place.raised ≡ false
+  pub raised : w.raised ≡ false
   pub turns : w.turns ≡ v.turns
   pub trail : w.trail ≡ with_control plan e kind v.trail
 
-pub event-changes : {D : Type 0} (t : Shared D) (plan : Plan) (e : ℕ) (kind : EventKind) (v w : View) → DoesEvent t plan e kind v w → Changes plan e kind v w
-event-changes t plan e kind v w does = record { keeps = seat-kept v w does.keeps; raised = does.raised; turns = does.turns; trail = does.trail }
+pub event-changes : (plan : Plan) (e : ℕ) (kind : EventKind) (v w : SeatState) → DoesEvent plan e kind v w → EventChanges plan e kind v w
+event-changes plan e kind v w does = record {
+  keeps = subst (KeepsSeat v) (sym does.is) refl;
+  raised = ap (λ (s : SeatState). s.raised) does.is;
+  turns = ap (λ (s : SeatState). s.turns) does.is;
+  trail = ap (λ (s : SeatState). s.trail) does.is;
+}
 
-pub exchange-changes : {D : Type 0} (t : Shared D) (plan : Plan) (e : ℕ) (kind : EventKind) (params : Params) (came went : DeviceState) (v w : View) → kind ≡ Swap params → Exchanges t plan e params came went v w → Changes plan e kind v w
-exchange-changes t plan e kind params came went v w is does = subst (λ k. Changes plan e k v w) (sym is) (record { keeps = does.keeps; raised = does.raised; turns = does.turns; trail = does.trail })
+pub exchange-changes : (plan : Plan) (e : ℕ) (kind : EventKind) (params : Params) (came went : DeviceState) (v w : SeatState) → kind ≡ Swap params → Exchanges plan e params came went v w → EventChanges plan e kind v w
+exchange-changes plan e kind params came went v w is does = subst (λ k. EventChanges plan e k v w) (sym is) (record {
+  keeps = subst (KeepsSeat v) (sym does.is) refl;
+  raised = ap (λ (s : SeatState). s.raised) does.is;
+  turns = ap (λ (s : SeatState). s.turns) does.is;
+  trail = ap (λ (s : SeatState). s.trail) does.is;
+})
 
-pub stands-event : (plan : Plan) (infos : List Info) (e n station : ℕ) (event : EventPlan) (v w : View) → slice_get plan.events e ≡ Some event → is_at station event ≡ true → station < 8
-    → is_out_of_order plan.events ≡ false → Changes plan e event.kind v w → StandsInRun plan infos 0 station e n v → StandsInRun plan infos 0 station (suc e) n w
+pub stands-event : (plan : Plan) (infos : List Info) (e n station : ℕ) (event : EventPlan) (v w : SeatState) → slice_get plan.events e ≡ Some event → is_at station event ≡ true → station < 8
+    → is_out_of_order plan.events ≡ false → EventChanges plan e event.kind v w → StandsInRun plan infos 0 station e n v → StandsInRun plan infos 0 station (suc e) n w
 stands-event plan infos e n station event v w there at few order does stands = record {
   is_sender = stands.is_sender;
   owner = owner-kept 0 v w does.keeps stands.owner;
@@ -156,13 +162,13 @@ stands-event plan infos e n station event v w there at few order does stands = r
   turn = ap (λ l. slice_index l 0) does.turns ∙ stands.turn;
   raised = does.raised;
   way = λ z. let way = stands.way refl in (
-    does.keeps.first ∙ way.0,
+    ap (λ (s : SeatState). s.first) does.keeps ∙ way.0,
     subst (IsOnWay plan station (suc e)) (sym does.trail)
         (way-event plan station e event there at v.trail way.1 event.kind refl (may-do-next plan station e event v.trail order there few at way.1.down)),
   );
 }
 
-pub stands-elsewhere : (plan : Plan) (infos : List Info) (e n station : ℕ) (event : EventPlan) (v : View) → slice_get plan.events e ≡ Some event → is_at station event ≡ false
+pub stands-elsewhere : (plan : Plan) (infos : List Info) (e n station : ℕ) (event : EventPlan) (v : SeatState) → slice_get plan.events e ≡ Some event → is_at station event ≡ false
     → StandsInRun plan infos 0 station e n v → StandsInRun plan infos 0 station (suc e) n v
 stands-elsewhere plan infos e n station event v there other stands = record {
   is_sender = stands.is_sender;
@@ -175,84 +181,83 @@ stands-elsewhere plan infos e n station event v there other stands = record {
 
 -- ALL SEATS
 
-module _ {D : Type 0} where
-  pub keep-set : (cpus : List (Cpu D)) (i : ℕ) (c c' : Cpu D) → slice_get cpus i ≡ Some c → Keeps (view c) (view c') → KeepAll cpus (slice_set cpus i c')
-  keep-set cpus i c c' there keeps = record {
-    long = length-set cpus i c';
-    each = λ j d d' at at'. each-set (λ (j : ℕ) (x : Cpu D). (d : Cpu D) → slice_get cpus j ≡ Some d → Keeps (view d) (view x)) cpus i c' (slice_get_within cpus i c there)
-        (λ d at. subst (λ (z : Cpu D). Keeps (view z) (view c')) (same_Some c d (sym there ∙ at)) keeps)
-        (λ j x other at d at'. subst (λ (z : Cpu D). Keeps (view d) (view z)) (same_Some d x (sym at' ∙ at)) (keeps-itself (view d)))
-        j d' at' d at;
-  }
+pub keep-set : (cpus : List SeatState) (i : ℕ) (c c' : SeatState) → slice_get cpus i ≡ Some c → Keeps c c' → KeepAll cpus (slice_set cpus i c')
+keep-set cpus i c c' there keeps = record {
+  long = length-set cpus i c';
+  each = λ j d d' at at'. each-set (λ (j : ℕ) (x : SeatState). (d : SeatState) → slice_get cpus j ≡ Some d → Keeps d x) cpus i c' (slice_get_within cpus i c there)
+      (λ d at. subst (λ (z : SeatState). Keeps z c') (same_Some c d (sym there ∙ at)) keeps)
+      (λ j x other at d at'. subst (λ (z : SeatState). Keeps d z) (same_Some d x (sym at' ∙ at)) (keeps-itself d))
+      j d' at' d at;
+}
 
-  pub seats-kept : (old new : List (Cpu D)) → KeepAll old new → KeepSeats old new
-  seats-kept old new keeps = record { long = keeps.long; each = λ j c c' at at'. seat-kept (view c) (view c') (keeps.each j c c' at at') }
+pub seats-kept : (old new : List SeatState) → KeepAll old new → KeepSeats old new
+seats-kept old new keeps = record { long = keeps.long; each = λ j c c' at at'. seat-kept c c' (keeps.each j c c' at at') }
 
-  pub seats-set : (cpus : List (Cpu D)) (i : ℕ) (c c' : Cpu D) → slice_get cpus i ≡ Some c → KeepsSeat (view c) (view c') → KeepSeats cpus (slice_set cpus i c')
-  seats-set cpus i c c' there keeps = record {
-    long = length-set cpus i c';
-    each = λ j d d' at at'. each-set (λ (j : ℕ) (x : Cpu D). (d : Cpu D) → slice_get cpus j ≡ Some d → KeepsSeat (view d) (view x)) cpus i c' (slice_get_within cpus i c there)
-        (λ d at. subst (λ (z : Cpu D). KeepsSeat (view z) (view c')) (same_Some c d (sym there ∙ at)) keeps)
-        (λ j x other at d at'. subst (λ (z : Cpu D). KeepsSeat (view d) (view z)) (same_Some d x (sym at' ∙ at)) (seat-kept (view d) (view d) (keeps-itself (view d))))
-        j d' at' d at;
-  }
+pub seats-set : (cpus : List SeatState) (i : ℕ) (c c' : SeatState) → slice_get cpus i ≡ Some c → KeepsSeat c c' → KeepSeats cpus (slice_set cpus i c')
+seats-set cpus i c c' there keeps = record {
+  long = length-set cpus i c';
+  each = λ j d d' at at'. each-set (λ (j : ℕ) (x : SeatState). (d : SeatState) → slice_get cpus j ≡ Some d → KeepsSeat d x) cpus i c' (slice_get_within cpus i c there)
+      (λ d at. subst (λ (z : SeatState). KeepsSeat z c') (same_Some c d (sym there ∙ at)) keeps)
+      (λ j x other at d at'. subst (λ (z : SeatState). KeepsSeat d z) (same_Some d x (sym at' ∙ at)) (seat-kept d d (keeps-itself d)))
+      j d' at' d at;
+}
 
-  pub runs-set : (plan : Plan) (infos : List Info) (cpus : List (Cpu D)) (stations : List RunningStation) (i : ℕ) (c c' : Cpu D) (step : RunningStation → RunningStation) → slice_get cpus i ≡ Some c
-      → Does infos (start_of plan i) step (solo (view c)) (solo (view c')) → AreRunAlone plan infos cpus stations → AreRunAlone plan infos (slice_set cpus i c') (changed_at i step stations)
-  runs-set plan infos cpus stations i c c' step there does runs =
-      each-set (λ (j : ℕ) (x : Cpu D). IsAlone infos (start_of plan j) (solo (view x)) × (slice_get (changed_at i step stations) j ≡ Some (running (start_of plan j) (solo (view x))))) cpus i c' (slice_get_within cpus i c there)
-      (let was = runs i c there in let now = does was.0 in (now.0, changed-here i step stations _ was.1 ∙ ap Some (sym now.1)))
-      (λ j x other at. let was = runs j x at in (was.0, changed-apart i j step stations other ∙ was.1))
+pub runs-set : (plan : Plan) (infos : List Info) (cpus : List SeatState) (stations : List RunningStation) (i : ℕ) (c c' : SeatState) (step : RunningStation → RunningStation) → slice_get cpus i ≡ Some c
+    → Does infos (start_of plan i) step (solo_of c) (solo_of c') → AreRunAlone plan infos cpus stations → AreRunAlone plan infos (slice_set cpus i c') (changed_at i step stations)
+runs-set plan infos cpus stations i c c' step there does runs =
+    each-set (λ (j : ℕ) (x : SeatState). IsAlone infos (start_of plan j) (solo_of x) × (slice_get (changed_at i step stations) j ≡ Some (running (start_of plan j) (solo_of x)))) cpus i c' (slice_get_within cpus i c there)
+    (let was = runs i c there in let now = does was.0 in (now.0, changed-here i step stations _ was.1 ∙ ap Some (sym now.1)))
+    (λ j x other at. let was = runs j x at in (was.0, changed-apart i j step stations other ∙ was.1))
 
-  pub table-at : (plan : Plan) (infos : List Info) (sender count n : ℕ) (tables : List (Shared D)) (cpus : List (Cpu D)) → LaneStands plan infos sender count n tables cpus
-      → (station : ℕ) (t : Shared D) → station < length plan.stations → t ≡ slice_index_or tables station t → slice_get tables station ≡ Some t
-  table-at plan infos sender count n tables cpus lane station t within is = let all = lane.all in read-at tables station t (omega arith) is
+pub table-at : (plan : Plan) (infos : List Info) (sender count n : ℕ) (tables : List TableState) (cpus : List SeatState) → LaneStands plan infos sender count n tables cpus
+    → (station : ℕ) (t : TableState) → station < length plan.stations → t ≡ slice_index_or tables station t → slice_get tables station ≡ Some t
+table-at plan infos sender count n tables cpus lane station t within is = let all = lane.all in read-at tables station t (omega arith) is
 
-  pub seat-at : (plan : Plan) (infos : List Info) (sender count n : ℕ) (tables : List (Shared D)) (cpus : List (Cpu D)) → LaneStands plan infos sender count n tables cpus
-      → (station : ℕ) (c : Cpu D) → station < length plan.stations → c ≡ slice_index_or cpus station c → slice_get cpus station ≡ Some c
-  seat-at plan infos sender count n tables cpus lane station c within is = let all = lane.all in let long = lane.long in read-at cpus station c (omega arith) is
+pub seat-at : (plan : Plan) (infos : List Info) (sender count n : ℕ) (tables : List TableState) (cpus : List SeatState) → LaneStands plan infos sender count n tables cpus
+    → (station : ℕ) (c : SeatState) → station < length plan.stations → c ≡ slice_index_or cpus station c → slice_get cpus station ≡ Some c
+seat-at plan infos sender count n tables cpus lane station c within is = let all = lane.all in let long = lane.long in read-at cpus station c (omega arith) is
 
-  -- how a seat stands that was read from the lane
-  pub stands-at : (plan : Plan) (infos : List Info) (sender count n : ℕ) (tables : List (Shared D)) (cpus : List (Cpu D)) → LaneStands plan infos sender count n tables cpus
-      → (station : ℕ) (t : Shared D) (c : Cpu D) → station < length plan.stations → t ≡ slice_index_or tables station t → c ≡ slice_index_or cpus station c → StandsAt plan infos sender count n station t c
-  stands-at plan infos sender count n tables cpus lane station t c within is-t is-c =
-      lane.each station t c (table-at plan infos sender count n tables cpus lane station t within is-t) (seat-at plan infos sender count n tables cpus lane station c within is-c)
+-- how a seat stands that was read from the lane
+pub stands-at : (plan : Plan) (infos : List Info) (sender count n : ℕ) (tables : List TableState) (cpus : List SeatState) → LaneStands plan infos sender count n tables cpus
+    → (station : ℕ) (t : TableState) (c : SeatState) → station < length plan.stations → t ≡ slice_index_or tables station t → c ≡ slice_index_or cpus station c → StandsAt plan infos sender count n station t c
+stands-at plan infos sender count n tables cpus lane station t c within is-t is-c =
+    lane.each station t c (table-at plan infos sender count n tables cpus lane station t within is-t) (seat-at plan infos sender count n tables cpus lane station c within is-c)
 
-  -- an exchange of the plan, at its one station
-  pub lane-event : (plan : Plan) (infos : List Info) (e n : ℕ) (tables : List (Shared D)) (cpus : List (Cpu D)) (event : EventPlan) (t : Shared D) (c c' : Cpu D)
-      → slice_get plan.events e ≡ Some event → is_swap event ≡ true → event.station < 8 → is_out_of_order plan.events ≡ false
-      → slice_get tables event.station ≡ Some t → slice_get cpus event.station ≡ Some c → IsSeat t c'
-      → Changes plan e event.kind (view c) (view c')
-      → LaneStands plan infos 0 e n tables cpus → LaneStands plan infos 0 (e + 1) n tables (slice_set cpus event.station c')
-  lane-event plan infos e n tables cpus event t c c' there swap few order at-t at-c seat does lane = record {
-    long = length-set cpus event.station c' ∙ lane.long;
-    all = lane.all;
-    each = λ j u d at at'. subst (λ (k : ℕ). StandsAt plan infos 0 k n j u d) more (stands j u d at at');
-  }
-    where
-      more : suc e ≡ e + 1
-      more = omega arith
+-- an exchange of the plan, at its one station
+pub lane-event : (plan : Plan) (infos : List Info) (e n : ℕ) (tables : List TableState) (cpus : List SeatState) (event : EventPlan) (t : TableState) (c c' : SeatState)
+    → slice_get plan.events e ≡ Some event → is_swap event ≡ true → event.station < 8 → is_out_of_order plan.events ≡ false
+    → slice_get tables event.station ≡ Some t → slice_get cpus event.station ≡ Some c → EventChanges plan e event.kind c c'
+    → LaneStands plan infos 0 e n tables cpus → LaneStands plan infos 0 (e + 1) n tables (slice_set cpus event.station c')
+lane-event plan infos e n tables cpus event t c c' there swap few order at-t at-c does lane = record {
+  long = length-set cpus event.station c' ∙ lane.long;
+  all = lane.all;
+  each = λ j u d at at'. subst (λ (k : ℕ). StandsAt plan infos 0 k n j u d) more (stands j u d at at');
+}
+  where
+    more : suc e ≡ e + 1
+    more = omega arith
 
-      stands : (j : ℕ) (u : Shared D) (d : Cpu D) → slice_get tables j ≡ Some u → slice_get (slice_set cpus event.station c') j ≡ Some d → StandsAt plan infos 0 (suc e) n j u d
-      stands j u d at at' = each-set (λ (j : ℕ) (x : Cpu D). (u : Shared D) → slice_get tables j ≡ Some u → StandsAt plan infos 0 (suc e) n j u x) cpus event.station c' (slice_get_within cpus event.station c at-c)
-          (λ u at. let was = lane.each event.station t c at-t at-c in subst (λ (z : Shared D). StandsAt plan infos 0 (suc e) n event.station z c') (same_Some t u (sym at-t ∙ at)) (record {
-            table = was.table;
-            seat = seat;
-            stands = stands-event plan infos e n event.station event (view c) (view c') there (at-own-swap event swap) few order does was.stands;
-          }))
-          (λ j x other at u at'. let was = lane.each j u x at' at in record { table = was.table; seat = was.seat; stands = stands-elsewhere plan infos e n j event (view x) there (swap-apart j event swap other) was.stands })
-          j d at' u at
+    stands : (j : ℕ) (u : TableState) (d : SeatState) → slice_get tables j ≡ Some u → slice_get (slice_set cpus event.station c') j ≡ Some d → StandsAt plan infos 0 (suc e) n j u d
+    stands j u d at at' = each-set (λ (j : ℕ) (x : SeatState). (u : TableState) → slice_get tables j ≡ Some u → StandsAt plan infos 0 (suc e) n j u x) cpus event.station c' (slice_get_within cpus event.station c at-c)
+        (λ u at. let was = lane.each event.station t c at-t at-c in subst (λ (z : TableState). StandsAt plan infos 0 (suc e) n event.station z c') (same_Some t u (sym at-t ∙ at)) (record {
+          table = was.table;
+          seat = here-kept t c c' does.keeps was.seat;
+          stands = stands-event plan infos e n event.station event c c' there (at-own-swap event swap) few order does was.stands;
+        }))
+        (λ j x other at u at'. let was = lane.each j u x at' at in record { table = was.table; seat = was.seat; stands = stands-elsewhere plan infos e n j event x there (swap-apart j event swap other) was.stands })
+        j d at' u at
 
-  pub runs-event : (plan : Plan) (infos : List Info) (e n : ℕ) (tables : List (Shared D)) (cpus : List (Cpu D)) (stations : List RunningStation) (event : EventPlan) (t : Shared D) (c c' : Cpu D)
-      → slice_get plan.events e ≡ Some event → is_swap event ≡ true → slice_get tables event.station ≡ Some t → slice_get cpus event.station ≡ Some c
-      → DoesAlone t (λ s. served t.infos.now (changed plan e event.kind s)) (view c) (view c')
-      → LaneStands plan infos 0 e n tables cpus → AreRunAlone plan infos cpus stations → AreRunAlone plan infos (slice_set cpus event.station c') (with_event plan infos e stations)
-  runs-event plan infos e n tables cpus stations event t c c' there swap at-t at-c does lane runs =
-      let step : RunningStation → RunningStation = λ s. served infos (changed plan e event.kind s) in
-      let own : Does infos (start_of plan event.station) step (solo (view c)) (solo (view c')) =
-      own-step plan infos event.station t (lane.each event.station t c at-t at-c).table (λ k s. served k.infos (changed plan e event.kind s)) (view c) (view c') does in
-      subst (AreRunAlone plan infos (slice_set cpus event.station c')) (sym (with-event plan infos e event stations there))
-      (each-set (λ (j : ℕ) (x : Cpu D). IsAlone infos (start_of plan j) (solo (view x)) × (slice_get (changed_where (λ k. is_at k event) step stations) j ≡ Some (running (start_of plan j) (solo (view x)))))
-      cpus event.station c' (slice_get_within cpus event.station c at-c)
-      (let was = runs event.station c at-c in let now = own was.0 in (now.0, where-here (λ k. is_at k event) event.station step stations _ (at-own-swap event swap) was.1 ∙ ap Some (sym now.1)))
-      (λ j x other at. let was = runs j x at in (was.0, where-apart (λ k. is_at k event) j step stations (swap-apart j event swap other) ∙ was.1)))
+pub runs-event : (plan : Plan) (infos : List Info) (e n : ℕ) (tables : List TableState) (cpus : List SeatState) (stations : List RunningStation) (event : EventPlan) (t : TableState) (c c' : SeatState)
+    → slice_get plan.events e ≡ Some event → is_swap event ≡ true → slice_get tables event.station ≡ Some t → slice_get cpus event.station ≡ Some c
+    → DoesAlone (λ s. served c.made.infos (changed plan e event.kind s)) c c'
+    → LaneStands plan infos 0 e n tables cpus → AreRunAlone plan infos cpus stations → AreRunAlone plan infos (slice_set cpus event.station c') (with_event plan infos e stations)
+runs-event plan infos e n tables cpus stations event t c c' there swap at-t at-c does lane runs =
+    let step : RunningStation → RunningStation = λ s. served infos (changed plan e event.kind s) in
+    let own : Does infos (start_of plan event.station) step (solo_of c) (solo_of c') =
+    let was = lane.each event.station t c at-t at-c in
+    own-step plan infos event.station (λ k s. served k.infos (changed plan e event.kind s)) c c' (made-of plan infos event.station t was.table c was.seat) does in
+    subst (AreRunAlone plan infos (slice_set cpus event.station c')) (sym (with-event plan infos e event stations there))
+    (each-set (λ (j : ℕ) (x : SeatState). IsAlone infos (start_of plan j) (solo_of x) × (slice_get (changed_where (λ k. is_at k event) step stations) j ≡ Some (running (start_of plan j) (solo_of x))))
+    cpus event.station c' (slice_get_within cpus event.station c at-c)
+    (let was = runs event.station c at-c in let now = own was.0 in (now.0, where-here (λ k. is_at k event) event.station step stations _ (at-own-swap event swap) was.1 ∙ ap Some (sym now.1)))
+    (λ j x other at. let was = runs j x at in (was.0, where-apart (λ k. is_at k event) j step stations (swap-apart j event swap other) ∙ was.1)))

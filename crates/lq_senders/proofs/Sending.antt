@@ -13,8 +13,7 @@ use Rattle.lq_model.specs.Numbers.{first_numbers}
 use Rattle.lq_model.specs.Plan.{Plan}
 use Rattle.lq_model.specs.declared.fate.Info.{Info}
 use Rattle.lq_model.specs.declared.plan.EventPlan.{EventPlan}
-use Rattle.lq_table.specs.declared.shared.Cpu.{Cpu}
-use Rattle.lq_table.specs.declared.shared.Shared.{Shared}
+use Rattle.lq_seat.specs.State.{SeatState, TableState}
 use Rattle.lq_senders.specs.Lanes.{LaneStands, KeepSeats, AreRunAlone, IsSending}
 use Rattle.lq_senders.specs.Units.{DevicesStand, DoTell}
 use Rattle.lq_senders.specs.Way.{numbers_from}
@@ -95,65 +94,64 @@ events-after-are plan n next within earlier left =
 
 -- ONE PACKET MORE
 
-module _ {D : Type 0} where
-  pub sending-own : (plan : Plan) (infos : List Info) (tables : List (Shared D)) (sender n k next last : ℕ) (start : List (Cpu D)) (brought : List DeviceState) (now : List (Cpu D)) (spares : List DeviceState)
-      (new : List (Cpu D)) (left_over : List DeviceState) → next ≤ last → last ≤ length plan.events
-      → ((j : ℕ) (event : EventPlan) → j < last → slice_get plan.events j ≡ Some event → event.before ≤ n)
-      → (sender ≡ 0 → (j : ℕ) (event : EventPlan) → last ≤ j → slice_get plan.events j ≡ Some event → n < event.before)
-      → LaneStands plan infos sender last (n + 1) tables new → KeepSeats now new → (info : Info) → slice_get infos n ≡ Some info → info.owner ≡ sender
-      → (AllWoke tables (k / plan.irq_every) start now → AllWoke tables ((k + 1) / plan.irq_every) start new)
-      → ((units : List DeviceState) → DevicesStand plan infos units next now spares → DevicesStand plan infos units last new left_over)
-      → ((units : List DeviceState) → DevicesStand plan infos units next now spares → DoTell plan units → (stations : List RunningStation) → AreRunAlone plan infos now stations
-      → AreRunAlone plan infos new (map (served infos) (with_wakes plan k (with_packet plan infos n (with_events plan infos (numbers_from next (last - next)) stations)))))
-      → IsSending plan infos tables sender n k next start brought now spares → IsSending plan infos tables sender (n + 1) (k + 1) last start brought new left_over
-  sending-own plan infos tables sender n k next last start brought now spares new left_over order within done left stands keeps info there own woke devices runs was = record {
-    within = within;
-    few = let few = was.few in omega arith;
-    sent = ap (λ i. i + 1) was.sent ∙ sym (count-sent-own infos sender n info there own);
-    woke = woke was.woke;
-    stands = stands;
-    earlier = λ j event below there. let le = done j event below there in omega arith;
-    keeps = seats-on start now new was.keeps keeps;
-    devices = λ units stand. devices units (was.devices units stand);
-    alone = λ units stand tell z own from begins. let alone = was.alone units stand tell z own from begins in let all = alone.0 in (
-      (omega arith),
-      (λ j event above there. let gt = left z j event above there in omega arith),
-      subst (λ i. AreRunAlone plan infos new (after_packets plan infos from i)) (let more : suc n ≡ n + 1 = omega arith in more)
-          (subst (λ l. AreRunAlone plan infos new (map (served infos) (with_wakes plan n (with_packet plan infos n (with_events plan infos l (after_packets plan infos from n))))))
-          (sym (events-before-are plan n next last order within was.earlier alone.1 done (left z)))
-          (subst (λ i. AreRunAlone plan infos new (map (served infos) (with_wakes plan i (with_packet plan infos n (with_events plan infos (numbers_from next (last - next)) (after_packets plan infos from n)))))) all
-          (runs units (was.devices units stand) tell (after_packets plan infos from n) alone.2))),
-    );
-  }
+pub sending-own : (plan : Plan) (infos : List Info) (tables : List TableState) (sender n k next last : ℕ) (start : List SeatState) (brought : List DeviceState) (now : List SeatState) (spares : List DeviceState)
+    (new : List SeatState) (left_over : List DeviceState) → next ≤ last → last ≤ length plan.events
+    → ((j : ℕ) (event : EventPlan) → j < last → slice_get plan.events j ≡ Some event → event.before ≤ n)
+    → (sender ≡ 0 → (j : ℕ) (event : EventPlan) → last ≤ j → slice_get plan.events j ≡ Some event → n < event.before)
+    → LaneStands plan infos sender last (n + 1) tables new → KeepSeats now new → (info : Info) → slice_get infos n ≡ Some info → info.owner ≡ sender
+    → (AllWoke (k / plan.irq_every) start now → AllWoke ((k + 1) / plan.irq_every) start new)
+    → ((units : List DeviceState) → DevicesStand plan infos units next now spares → DevicesStand plan infos units last new left_over)
+    → ((units : List DeviceState) → DevicesStand plan infos units next now spares → DoTell plan units → (stations : List RunningStation) → AreRunAlone plan infos now stations
+    → AreRunAlone plan infos new (map (served infos) (with_wakes plan k (with_packet plan infos n (with_events plan infos (numbers_from next (last - next)) stations)))))
+    → IsSending plan infos tables sender n k next start brought now spares → IsSending plan infos tables sender (n + 1) (k + 1) last start brought new left_over
+sending-own plan infos tables sender n k next last start brought now spares new left_over order within done left stands keeps info there own woke devices runs was = record {
+  within = within;
+  few = let few = was.few in omega arith;
+  sent = ap (λ i. i + 1) was.sent ∙ sym (count-sent-own infos sender n info there own);
+  woke = woke was.woke;
+  stands = stands;
+  earlier = λ j event below there. let le = done j event below there in omega arith;
+  keeps = seats-on start now new was.keeps keeps;
+  devices = λ units stand. devices units (was.devices units stand);
+  alone = λ units stand tell z own from begins. let alone = was.alone units stand tell z own from begins in let all = alone.0 in (
+    (omega arith),
+    (λ j event above there. let gt = left z j event above there in omega arith),
+    subst (λ i. AreRunAlone plan infos new (after_packets plan infos from i)) (let more : suc n ≡ n + 1 = omega arith in more)
+        (subst (λ l. AreRunAlone plan infos new (map (served infos) (with_wakes plan n (with_packet plan infos n (with_events plan infos l (after_packets plan infos from n))))))
+        (sym (events-before-are plan n next last order within was.earlier alone.1 done (left z)))
+        (subst (λ i. AreRunAlone plan infos new (map (served infos) (with_wakes plan i (with_packet plan infos n (with_events plan infos (numbers_from next (last - next)) (after_packets plan infos from n)))))) all
+        (runs units (was.devices units stand) tell (after_packets plan infos from n) alone.2))),
+  );
+}
 
-  pub sending-past : (plan : Plan) (infos : List Info) (tables : List (Shared D)) (sender n k next : ℕ) (start : List (Cpu D)) (brought : List DeviceState) (now : List (Cpu D)) (spares : List DeviceState) (info : Info)
-      → slice_get infos n ≡ Some info → info.owner ≢ sender
-      → IsSending plan infos tables sender n k next start brought now spares → IsSending plan infos tables sender (n + 1) k next start brought now spares
-  sending-past plan infos tables sender n k next start brought now spares info there other was = record {
-    within = was.within;
-    few = let few = was.few in omega arith;
-    sent = was.sent ∙ sym (count-sent-other infos sender n info there other);
-    woke = was.woke;
-    stands = lane-past plan infos sender next n tables now info there other was.stands;
-    earlier = λ j event below at. let lt = was.earlier j event below at in omega arith;
-    keeps = was.keeps;
-    devices = was.devices;
-    alone = λ units stand tell z own from begins. absurd (other (sym (owner-is infos n info there) ∙ (own n (slice_get_within infos n info there) ∙ sym z)));
-  }
+pub sending-past : (plan : Plan) (infos : List Info) (tables : List TableState) (sender n k next : ℕ) (start : List SeatState) (brought : List DeviceState) (now : List SeatState) (spares : List DeviceState) (info : Info)
+    → slice_get infos n ≡ Some info → info.owner ≢ sender
+    → IsSending plan infos tables sender n k next start brought now spares → IsSending plan infos tables sender (n + 1) k next start brought now spares
+sending-past plan infos tables sender n k next start brought now spares info there other was = record {
+  within = was.within;
+  few = let few = was.few in omega arith;
+  sent = was.sent ∙ sym (count-sent-other infos sender n info there other);
+  woke = was.woke;
+  stands = lane-past plan infos sender next n tables now info there other was.stands;
+  earlier = λ j event below at. let lt = was.earlier j event below at in omega arith;
+  keeps = was.keeps;
+  devices = was.devices;
+  alone = λ units stand tell z own from begins. absurd (other (sym (owner-is infos n info there) ∙ (own n (slice_get_within infos n info there) ∙ sym z)));
+}
 
-  pub sending-start : (plan : Plan) (infos : List Info) (tables : List (Shared D)) (sender : ℕ) (cpus : List (Cpu D)) (spares : List DeviceState) → LaneStands plan infos sender 0 0 tables cpus
-      → 0 < plan.irq_every → IsSending plan infos tables sender 0 0 0 cpus spares cpus spares
-  sending-start plan infos tables sender cpus spares lane some = record {
-    within = omega arith;
-    few = omega arith;
-    sent = refl;
-    woke = subst (λ count. AllWoke tables count cpus cpus) (sym (div-eq_of_lt some)) (woke-none tables cpus);
-    stands = lane;
-    earlier = λ j event below there. absurd (omega arith);
-    keeps = seats-kept cpus cpus (keep-none cpus);
-    devices = λ units stand. stand;
-    alone = λ units stand tell z own from begins. (refl, (λ j event above there. omega arith), begins);
-  }
+pub sending-start : (plan : Plan) (infos : List Info) (tables : List TableState) (sender : ℕ) (cpus : List SeatState) (spares : List DeviceState) → LaneStands plan infos sender 0 0 tables cpus
+    → 0 < plan.irq_every → IsSending plan infos tables sender 0 0 0 cpus spares cpus spares
+sending-start plan infos tables sender cpus spares lane some = record {
+  within = omega arith;
+  few = omega arith;
+  sent = refl;
+  woke = subst (λ count. AllWoke count cpus cpus) (sym (div-eq_of_lt some)) (woke-none cpus);
+  stands = lane;
+  earlier = λ j event below there. absurd (omega arith);
+  keeps = seats-kept cpus cpus (keep-none cpus);
+  devices = λ units stand. stand;
+  alone = λ units stand tell z own from begins. (refl, (λ j event above there. omega arith), begins);
+}
 
 -- after the last event of the plan
 pub at-last : (plan : Plan) (last n : ℕ) → last ≤ length plan.events → ((j : ℕ) (event : EventPlan) → last ≤ j → slice_get plan.events j ≡ Some event → n < event.before)
@@ -164,15 +162,14 @@ at-last plan last n within left all = elim (cases_order last (length plan.events
   | inr (inr more) ↦ absurd (omega arith)
 ]
 
-module _ {D : Type 0} where
-  -- the events are the first sender's alone
-  pub lane-any : (plan : Plan) (infos : List Info) (sender a b n : ℕ) (tables : List (Shared D)) (cpus : List (Cpu D)) → sender ≢ 0 → LaneStands plan infos sender a n tables cpus → LaneStands plan infos sender b n tables cpus
-  lane-any plan infos sender a b n tables cpus other lane = record {
-    long = lane.long;
-    all = lane.all;
-    each = λ j t c at at'. let was = lane.each j t c at at' in record {
-      table = was.table;
-      seat = was.seat;
-      stands = record { is_sender = was.stands.is_sender; owner = was.stands.owner; wide = was.stands.wide; turn = was.stands.turn; raised = was.stands.raised; way = λ z. absurd (other z) };
-    };
-  }
+-- the events are the first sender's alone
+pub lane-any : (plan : Plan) (infos : List Info) (sender a b n : ℕ) (tables : List TableState) (cpus : List SeatState) → sender ≢ 0 → LaneStands plan infos sender a n tables cpus → LaneStands plan infos sender b n tables cpus
+lane-any plan infos sender a b n tables cpus other lane = record {
+  long = lane.long;
+  all = lane.all;
+  each = λ j t c at at'. let was = lane.each j t c at at' in record {
+    table = was.table;
+    seat = was.seat;
+    stands = record { is_sender = was.stands.is_sender; owner = was.stands.owner; wide = was.stands.wide; turn = was.stands.turn; raised = was.stands.raised; way = λ z. absurd (other z) };
+  };
+}

@@ -12,15 +12,10 @@ use Rattle.lq_model.specs.Plan.{Plan, owner_in, rank_in, station_in}
 use Rattle.lq_model.specs.declared.fate.Info.{Info}
 use Rattle.lq_qdisc.specs.Alone.{Does}
 use Rattle.lq_seat.specs.Calls.{SendsPacket}
-use Rattle.lq_seat.specs.Seat.{IsSeat}
-use Rattle.lq_table.specs.Sees.{view}
-use Rattle.lq_table.specs.Solo.{solo}
-use Rattle.lq_table.specs.Views.{View}
-use Rattle.lq_table.specs.declared.shared.Cpu.{Cpu}
-use Rattle.lq_table.specs.declared.shared.Shared.{Shared}
+use Rattle.lq_seat.specs.State.{SeatState, Setup, TableState, solo_of}
 use Rattle.lq_senders.specs.Lanes.{StandsInRun, StandsAt, LaneStands, AreRunAlone}
 use Rattle.lq_senders.specs.Way.{IsSplitAt}
-use Rattle.lq_senders.proofs.Seats.{each-set, infos-are, own-step, owner-kept, runs-set, seat-kept}
+use Rattle.lq_senders.proofs.Seats.{each-set, here-kept, made-of, own-step, owner-kept, runs-set, seat-kept, sends-keep}
 use Rattle.lq_senders.proofs.Ways.{way-packet}
 
 -- COUNTS
@@ -56,7 +51,7 @@ count-other infos n info sender station there other = count_by_more_no (is_packe
 
 -- ONE SEAT
 
-pub stands-past : (plan : Plan) (infos : List Info) (sender station count n : ℕ) (info : Info) (v : View) → slice_get infos n ≡ Some info → (info.owner ≢ sender) ⊎ (info.station ≢ station)
+pub stands-past : (plan : Plan) (infos : List Info) (sender station count n : ℕ) (info : Info) (v : SeatState) → slice_get infos n ≡ Some info → (info.owner ≢ sender) ⊎ (info.station ≢ station)
     → StandsInRun plan infos sender station count n v → StandsInRun plan infos sender station count (n + 1) v
 stands-past plan infos sender station count n info v there other stands = record {
   is_sender = stands.is_sender;
@@ -71,71 +66,71 @@ stands-past plan infos sender station count n info v there other stands = record
 pub rank-is : (infos : List Info) (n : ℕ) (info : Info) → AreRanks infos → slice_get infos n ≡ Some info → rank_in infos n ≡ count_below infos info.owner info.station n
 rank-is infos n info ranks there = ap (λ o. option_map_or (λ (i : Info). i.rank) o 0) there ∙ ranks n info there
 
-pub stands-sent : {D : Type 0} (plan : Plan) (infos : List Info) (t : Shared D) (sender station count n : ℕ) (info : Info) (v w : View) → t.infos.now ≡ infos → AreRanks infos → slice_get infos n ≡ Some info
+pub stands-sent : (plan : Plan) (infos : List Info) (sender station count n : ℕ) (info : Info) (v w : SeatState) → v.made.infos ≡ infos → AreRanks infos → slice_get infos n ≡ Some info
     → info.owner ≡ sender → info.station ≡ station → (sender ≡ 0 → IsSplitAt plan count n)
-    → SendsPacket t n v w → StandsInRun plan infos sender station count n v → StandsInRun plan infos sender station count (n + 1) w
-stands-sent plan infos t sender station count n info v w same ranks there owner at split sends stands = record {
+    → SendsPacket n v w → StandsInRun plan infos sender station count n v → StandsInRun plan infos sender station count (n + 1) w
+stands-sent plan infos sender station count n info v w same ranks there owner at split sends stands = record {
   is_sender = stands.is_sender;
-  owner = owner-kept sender v w (seat-kept v w sends.keeps) stands.owner;
+  owner = owner-kept sender v w (seat-kept v w (sends-keep n v w sends)) stands.owner;
   wide = ap length turns ∙ (length-set v.turns sender (2 * rank + 2) ∙ stands.wide);
   turn = ap (λ l. slice_index l sender) turns ∙ (get_or-set_same v.turns sender (2 * rank + 2) 0 (let wide = stands.wide in let is = stands.is_sender in omega arith)
       ∙ (let more = count-own infos n info sender station there owner at in omega arith));
-  raised = sends.raised;
-  way = λ z. let way = stands.way z in (sends.keeps.first ∙ way.0, way-packet plan station count n v.trail w.trail way.1 (split z) (sends.came way.0 (owner-of ∙ z)));
+  raised = ap (λ (s : SeatState). s.raised) sends.is;
+  way = λ z. let way = stands.way z in (ap (λ (s : SeatState). s.first) sends.is ∙ way.0, way-packet plan station count n v.trail w.trail way.1 (split z) (sends.came way.0 (owner-of ∙ z)));
 }
   where
     rank : ℕ
     rank = count_below infos sender station n
 
-    owner-of : owner_in t.infos.now n ≡ sender
+    owner-of : owner_in v.made.infos n ≡ sender
     owner-of = ap (λ (is : List Info). owner_in is n) same ∙ (owner-is infos n info there ∙ owner)
 
-    rank-of : rank_in t.infos.now n ≡ rank
+    rank-of : rank_in v.made.infos n ≡ rank
     rank-of = ap (λ (is : List Info). rank_in is n) same ∙ (rank-is infos n info ranks there ∙ (ap (λ o. count_below infos o info.station n) owner ∙ ap (λ s. count_below infos sender s n) at))
 
     turns : w.turns ≡ slice_set v.turns sender (2 * rank + 2)
-    turns = sends.turns ∙ (ap (λ (i : ℕ). slice_set v.turns i (2 * rank_in t.infos.now n + 2)) owner-of ∙ ap (λ (r : ℕ). slice_set v.turns sender (2 * r + 2)) rank-of)
+    turns = ap (λ (s : SeatState). s.turns) sends.is ∙ (ap (λ (i : ℕ). slice_set v.turns i (2 * rank_in v.made.infos n + 2)) owner-of ∙ ap (λ (r : ℕ). slice_set v.turns sender (2 * r + 2)) rank-of)
 
 -- ALL SEATS
 
-module _ {D : Type 0} where
-  pub lane-past : (plan : Plan) (infos : List Info) (sender count n : ℕ) (tables : List (Shared D)) (cpus : List (Cpu D)) (info : Info) → slice_get infos n ≡ Some info → info.owner ≢ sender
-      → LaneStands plan infos sender count n tables cpus → LaneStands plan infos sender count (n + 1) tables cpus
-  lane-past plan infos sender count n tables cpus info there other lane = record {
-    long = lane.long;
-    all = lane.all;
-    each = λ j t c at at'. let was = lane.each j t c at at' in
-        record { table = was.table; seat = was.seat; stands = stands-past plan infos sender j count n info (view c) there (inl other) was.stands };
-  }
+pub lane-past : (plan : Plan) (infos : List Info) (sender count n : ℕ) (tables : List TableState) (cpus : List SeatState) (info : Info) → slice_get infos n ≡ Some info → info.owner ≢ sender
+    → LaneStands plan infos sender count n tables cpus → LaneStands plan infos sender count (n + 1) tables cpus
+lane-past plan infos sender count n tables cpus info there other lane = record {
+  long = lane.long;
+  all = lane.all;
+  each = λ j t c at at'. let was = lane.each j t c at at' in
+      record { table = was.table; seat = was.seat; stands = stands-past plan infos sender j count n info c there (inl other) was.stands };
+}
 
-  pub lane-sent : (plan : Plan) (infos : List Info) (sender count n : ℕ) (tables : List (Shared D)) (cpus : List (Cpu D)) (info : Info) (t : Shared D) (c c' : Cpu D) → AreRanks infos → slice_get infos n ≡ Some info
-      → info.owner ≡ sender → slice_get tables info.station ≡ Some t → slice_get cpus info.station ≡ Some c → (sender ≡ 0 → IsSplitAt plan count n)
-      → IsSeat t c' → SendsPacket t n (view c) (view c')
-      → LaneStands plan infos sender count n tables cpus → LaneStands plan infos sender count (n + 1) tables (slice_set cpus info.station c')
-  lane-sent plan infos sender count n tables cpus info t c c' ranks there owner at-t at-c split seat sends lane = record {
-    long = length-set cpus info.station c' ∙ lane.long;
-    all = lane.all;
-    each = stands;
-  }
-    where
-      was : StandsAt plan infos sender count n info.station t c
-      was = lane.each info.station t c at-t at-c
+pub lane-sent : (plan : Plan) (infos : List Info) (sender count n : ℕ) (tables : List TableState) (cpus : List SeatState) (info : Info) (t : TableState) (c c' : SeatState) → AreRanks infos → slice_get infos n ≡ Some info
+    → info.owner ≡ sender → slice_get tables info.station ≡ Some t → slice_get cpus info.station ≡ Some c → (sender ≡ 0 → IsSplitAt plan count n)
+    → SendsPacket n c c'
+    → LaneStands plan infos sender count n tables cpus → LaneStands plan infos sender count (n + 1) tables (slice_set cpus info.station c')
+lane-sent plan infos sender count n tables cpus info t c c' ranks there owner at-t at-c split sends lane = record {
+  long = length-set cpus info.station c' ∙ lane.long;
+  all = lane.all;
+  each = stands;
+}
+  where
+    was : StandsAt plan infos sender count n info.station t c
+    was = lane.each info.station t c at-t at-c
 
-      stands : (j : ℕ) (u : Shared D) (d : Cpu D) → slice_get tables j ≡ Some u → slice_get (slice_set cpus info.station c') j ≡ Some d → StandsAt plan infos sender count (n + 1) j u d
-      stands j u d at at' = each-set (λ (j : ℕ) (x : Cpu D). (u : Shared D) → slice_get tables j ≡ Some u → StandsAt plan infos sender count (n + 1) j u x) cpus info.station c' (slice_get_within cpus info.station c at-c)
-          (λ u at. subst (λ (z : Shared D). StandsAt plan infos sender count (n + 1) info.station z c') (same_Some t u (sym at-t ∙ at)) (record {
-            table = was.table;
-            seat = seat;
-            stands = stands-sent plan infos t sender info.station count n info (view c) (view c') (infos-are plan infos info.station t was.table) ranks there owner refl split sends was.stands;
-          }))
-          (λ j x other at u at'. let was = lane.each j u x at' at in record { table = was.table; seat = was.seat; stands = stands-past plan infos sender j count n info (view x) there (inr (λ same. other (sym same))) was.stands })
-          j d at' u at
+    stands : (j : ℕ) (u : TableState) (d : SeatState) → slice_get tables j ≡ Some u → slice_get (slice_set cpus info.station c') j ≡ Some d → StandsAt plan infos sender count (n + 1) j u d
+    stands j u d at at' = each-set (λ (j : ℕ) (x : SeatState). (u : TableState) → slice_get tables j ≡ Some u → StandsAt plan infos sender count (n + 1) j u x) cpus info.station c' (slice_get_within cpus info.station c at-c)
+        (λ u at. subst (λ (z : TableState). StandsAt plan infos sender count (n + 1) info.station z c') (same_Some t u (sym at-t ∙ at)) (record {
+          table = was.table;
+          seat = here-kept t c c' (seat-kept c c' (sends-keep n c c' sends)) was.seat;
+          stands = stands-sent plan infos sender info.station count n info c c' (ap (λ (k : Setup). k.infos) (made-of plan infos info.station t was.table c was.seat)) ranks there owner refl split sends was.stands;
+        }))
+        (λ j x other at u at'. let was = lane.each j u x at' at in record { table = was.table; seat = was.seat; stands = stands-past plan infos sender j count n info x there (inr (λ same. other (sym same))) was.stands })
+        j d at' u at
 
-  pub runs-sent : (plan : Plan) (infos : List Info) (sender count n : ℕ) (tables : List (Shared D)) (cpus : List (Cpu D)) (stations : List RunningStation) (info : Info) (t : Shared D) (c c' : Cpu D) → slice_get infos n ≡ Some info
-      → slice_get tables info.station ≡ Some t → slice_get cpus info.station ≡ Some c → SendsPacket t n (view c) (view c')
-      → LaneStands plan infos sender count n tables cpus → AreRunAlone plan infos cpus stations → AreRunAlone plan infos (slice_set cpus info.station c') (with_packet plan infos n stations)
-  runs-sent plan infos sender count n tables cpus stations info t c c' there at-t at-c sends lane runs =
-      let own : Does infos (start_of plan info.station) (λ s. served infos (brought_in infos (bypass_of plan info.station) n s)) (solo (view c)) (solo (view c')) =
-      own-step plan infos info.station t (lane.each info.station t c at-t at-c).table (λ k s. served k.infos (brought_in k.infos k.bypass n s)) (view c) (view c') sends.alone in
-      subst (λ (k : ℕ). AreRunAlone plan infos (slice_set cpus info.station c') (changed_at k (λ s. served infos (brought_in infos (bypass_of plan k) n s)) stations)) (sym (station-is infos n info there))
-      (runs-set plan infos cpus stations info.station c c' (λ s. served infos (brought_in infos (bypass_of plan info.station) n s)) at-c own runs)
+pub runs-sent : (plan : Plan) (infos : List Info) (sender count n : ℕ) (tables : List TableState) (cpus : List SeatState) (stations : List RunningStation) (info : Info) (t : TableState) (c c' : SeatState) → slice_get infos n ≡ Some info
+    → slice_get tables info.station ≡ Some t → slice_get cpus info.station ≡ Some c → SendsPacket n c c'
+    → LaneStands plan infos sender count n tables cpus → AreRunAlone plan infos cpus stations → AreRunAlone plan infos (slice_set cpus info.station c') (with_packet plan infos n stations)
+runs-sent plan infos sender count n tables cpus stations info t c c' there at-t at-c sends lane runs =
+    let own : Does infos (start_of plan info.station) (λ s. served infos (brought_in infos (bypass_of plan info.station) n s)) (solo_of c) (solo_of c') =
+    let was = lane.each info.station t c at-t at-c in
+    own-step plan infos info.station (λ k s. served k.infos (brought_in k.infos k.bypass n s)) c c' (made-of plan infos info.station t was.table c was.seat) sends.alone in
+    subst (λ (k : ℕ). AreRunAlone plan infos (slice_set cpus info.station c') (changed_at k (λ s. served infos (brought_in infos (bypass_of plan k) n s)) stations)) (sym (station-is infos n info there))
+    (runs-set plan infos cpus stations info.station c c' (λ s. served infos (brought_in infos (bypass_of plan info.station) n s)) at-c own runs)

@@ -10,7 +10,7 @@ use Rattle.lq_model.specs.declared.device.Params.{Params}
 use Rattle.lq_model.specs.declared.fate.Info.{Info}
 use Rattle.lq_model.specs.declared.plan.EventKind.TheVariants as kind
 use Rattle.lq_model.specs.declared.plan.EventPlan.{EventPlan}
-use Rattle.lq_table.specs.Rule.{station_count}
+use Rattle.lq_seat.specs.State.{station_count}
 use Rattle.lq_senders.specs.Setup.{AreSparesConfigured, ConfiguresSpare}
 use Rattle.lq_senders.proofs.Seats.{set-here, set-apart, mapped-at}
 use Rattle.lq_senders.proofs.Sendable.{count-later}

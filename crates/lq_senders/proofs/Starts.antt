@@ -4,8 +4,8 @@ use Rattle.std.specs.Prelude.{IsSome, replicate, slice_index}
 use Rattle.std.specs.Option.{option_map, option_map_or}
 use Rattle.std.proofs.lemmas.List.{length-replicate}
 use Rattle.std.proofs.lemmas.Option.{same_Some, slice_get_within}
+use Rattle.atomic_table.specs.Seated.{TableId}
 use Rattle.lq_account.specs.Progress.{len_of, start_of}
-use Rattle.lq_device.specs.Station.{initial_station}
 use Rattle.lq_model.specs.Alone.{new_device, new_station, new_stations}
 use Rattle.lq_model.specs.Account.{new_account}
 use Rattle.lq_model.specs.Device.{DeviceState, IsConfigured, Telling}
@@ -18,15 +18,10 @@ use Rattle.lq_model.specs.declared.plan.StationPlan.{StationPlan}
 use Rattle.lq_plan.specs.Limits.{IsWithinLimits}
 use Rattle.lq_plan.specs.Packets.{IsInfoWithin}
 use Rattle.lq_qdisc.specs.Alone.{IsAlone, running, telling_of}
-use Rattle.lq_seat.specs.Seat.{origin_of}
-use Rattle.lq_table.specs.Keyed.{starting}
-use Rattle.lq_table.specs.Sees.{view}
-use Rattle.lq_table.specs.Solo.{solo}
-use Rattle.lq_table.specs.Views.{View}
-use Rattle.lq_table.specs.declared.shared.Cpu.{Cpu}
+use Rattle.lq_seat.specs.State.{SeatState, new_seat, setup_of, solo_of}
 use Rattle.lq_senders.specs.Ends.{AreOver}
 use Rattle.lq_senders.specs.Fates.{AllTell}
-use Rattle.lq_senders.specs.Lanes.{IsSendable, AreRunAlone, setup_of}
+use Rattle.lq_senders.specs.Lanes.{IsSendable, AreRunAlone}
 use Rattle.lq_senders.specs.Units.{DoTell}
 use Rattle.lq_senders.proofs.Seats.{all-at}
 use Rattle.lq_senders.proofs.Turns.{event-there, some-there}
@@ -67,9 +62,9 @@ all-open zero queue = omega arith
 all-open (suc queues) zero = omega arith
 all-open (suc queues) (suc queue) = all-open queues queue
 
--- the view of a seat that has just been made, where the device tells its rule
-module _ (plan : Plan) (infos : List Info) (j : ℕ) (s : StationPlan) (there : slice_get plan.stations j ≡ Some s) (some : 0 < s.queues) (device : DeviceState) (told : device.told ≡ Some (new_device s.params)) where
-  starting-alone : IsAlone infos (start_of plan j) (solo (starting (setup_of plan infos j) (initial_station j device)))
+-- what is known of a seat that has just been made, where the device tells its rule
+module _ (plan : Plan) (infos : List Info) (j : ℕ) (s : StationPlan) (there : slice_get plan.stations j ≡ Some s) (some : 0 < s.queues) (table : TableId) (device : DeviceState) (told : device.told ≡ Some (new_device s.params)) where
+  starting-alone : IsAlone infos (start_of plan j) (solo_of (new_seat table (setup_of plan infos j) device))
   starting-alone = record {
     sender = record {
       sole = (refl, refl);
@@ -92,7 +87,7 @@ module _ (plan : Plan) (infos : List Info) (j : ℕ) (s : StationPlan) (there : 
     };
   }
 
-  starting-runs : slice_get (new_stations 0 plan.stations) j ≡ Some (running (start_of plan j) (solo (starting (setup_of plan infos j) (initial_station j device))))
+  starting-runs : slice_get (new_stations 0 plan.stations) j ≡ Some (running (start_of plan j) (solo_of (new_seat table (setup_of plan infos j) device)))
   starting-runs =
       let len : len_of plan j ≡ s.len = ap (λ (o : Option StationPlan). option_map_or (λ x. x.len) o 0) there in
       let number : 0 + j ≡ j = omega arith in
@@ -102,7 +97,7 @@ module _ (plan : Plan) (infos : List Info) (j : ℕ) (s : StationPlan) (there : 
       ∙ (ap (λ (q : ℕ). Some (record { account = new_account (len_of plan j) j q; clean = true; device = new_device s.params })) (sym (queues-of plan j s there))
       ∙ ap (λ (o : Option Telling). Some (record { account = start_of plan j; clean = true; device = telling_of o })) (sym told))))
 
-module _ {D : Type 0} (plan : Plan) (infos : List Info) (before : List DeviceState) (others : ℕ) (start : List (Cpu D)) (brought : List DeviceState) (over : AreOver plan infos before others start brought) where
+module _ (plan : Plan) (infos : List Info) (before : List DeviceState) (others : ℕ) (start : List SeatState) (brought : List DeviceState) (over : AreOver plan infos before others start brought) where
   -- the device of a unit as it came tells what the plan configures it with
   pub unit-tells : AllTell (unit_count plan) before → (unit : ℕ) (params : Params) (device : DeviceState) → unit < unit_count plan → IsConfiguredWith plan unit params → slice_get over.units unit ≡ Some device
       → device.told ≡ Some (new_device params)
@@ -116,12 +111,12 @@ module _ {D : Type 0} (plan : Plan) (infos : List Info) (before : List DeviceSta
       unit-tells tell (unit_of_swap plan e) params device (unit-within plan e event there (ap is_swap_kind brings)) (inr (event.station, e, (event, there, at-own-swap event (ap is_swap_kind brings), brings), refl)) came
 
   -- the device that came to a station is the one that stood there, configured
-  origin-tells : AllTell (unit_count plan) before → (j : ℕ) (s : StationPlan) (c : Cpu D) → slice_get plan.stations j ≡ Some s → slice_get start j ≡ Some c → (origin_of (view c)).told ≡ Some (new_device s.params)
-  origin-tells tell j s c there at = unit-tells tell j s.params (origin_of (view c)) (let below = slice_get_within plan.stations j s there in omega arith) (inl (s, there, refl)) (over.stand.home j c at)
+  origin-tells : AllTell (unit_count plan) before → (j : ℕ) (s : StationPlan) (c : SeatState) → slice_get plan.stations j ≡ Some s → slice_get start j ≡ Some c → c.origin.told ≡ Some (new_device s.params)
+  origin-tells tell j s c there at = unit-tells tell j s.params c.origin (let below = slice_get_within plan.stations j s there in omega arith) (inl (s, there, refl)) (over.stand.home j c at)
 
   pub starts-run : length start ≡ length plan.stations → IsWithinLimits plan → AllTell (unit_count plan) before → plan.senders ≡ 1 → AreRunAlone plan infos start (new_stations 0 plan.stations)
   starts-run same limits tell one j c at =
       let s = some-there plan.stations start j c (sym same) at in
       let is = (over.alone one).1 j c at in let told = origin-tells tell j s.0 c s.1 at in let some = (limits.each_station j s.0 s.1).has_queue in
-      subst (λ (v : View). IsAlone infos (start_of plan j) (solo v) × (slice_get (new_stations 0 plan.stations) j ≡ Some (running (start_of plan j) (solo v)))) (sym is)
-      (starting-alone plan infos j s.0 s.1 some (origin_of (view c)) told, starting-runs plan infos j s.0 s.1 some (origin_of (view c)) told)
+      subst (λ (v : SeatState). IsAlone infos (start_of plan j) (solo_of v) × (slice_get (new_stations 0 plan.stations) j ≡ Some (running (start_of plan j) (solo_of v)))) (sym is)
+      (starting-alone plan infos j s.0 s.1 some c.table c.origin told, starting-runs plan infos j s.0 s.1 some c.table c.origin told)

@@ -9,7 +9,7 @@ use Rattle.lq_model.specs.declared.device.Params.{Params}
 use Rattle.lq_model.specs.declared.plan.EventKind.{EventKind}
 use Rattle.lq_model.specs.declared.plan.EventKind.TheVariants as kind
 use Rattle.lq_model.specs.declared.plan.EventPlan.{EventPlan}
-use Rattle.lq_table.specs.Rule.{units_of}
+use Rattle.lq_seat.specs.State.{units_of}
 use Rattle.lq_senders.specs.Units.{is_swap_at, unit_among, unit_at}
 
 -- HOW MANY

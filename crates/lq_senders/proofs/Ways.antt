@@ -16,9 +16,9 @@ use Rattle.lq_account.proofs.Lists.{none-in, here-in, there-in, cons-in}
 use Rattle.lq_account.proofs.Brought.{brought-cases}
 use Rattle.lq_account.specs.Trail.{IsTrail, IsTrailNext, MeetsDown, down_of, down_at}
 use Rattle.lq_account.specs.Controls.{controls_in, is_by_plan, with_control, with_down}
-use Rattle.lq_seat.specs.Calls.{Came, MayDoEvent, refused_by}
+use Rattle.lq_seat.specs.Calls.{refused_by, Came, MayDoEvent}
+use Rattle.lq_seat.specs.State.{latest_unit, units_of}
 use Rattle.lq_senders.specs.Way.{IsOnWay, IsSplitAt}
-use Rattle.lq_table.specs.Rule.{latest_unit, units_of}
 use Rattle.lq_senders.proofs.Units.{unit-elsewhere, unit-here, unit-more, unit-rises}
 use Rattle.lq_senders.proofs.Orders.{controls-elsewhere, controls-here, down-split, down-here, down-elsewhere}
 

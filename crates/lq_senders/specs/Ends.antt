@@ -3,8 +3,7 @@ use Rattle.std.specs.Option.{option_map, option_map_or}
 use Rattle.std.specs.Prelude.{◌≡◌, ◌<◌, ◌≤◌, ℕ, true, false, List, length, map, slice_get, slice_index, Option, Some, All}
 use Rattle.lq_account.specs.Progress.{start_of}
 use Rattle.lq_account.specs.Trail.{IsTrail, HaveCome, down_of}
-use Rattle.lq_control.specs.Finish.{IsFinished}
-use Rattle.lq_device.specs.Station.{StationState, initial_station}
+use Rattle.lq_device.specs.Station.{StationState}
 use Rattle.lq_device.specs.declared.device.TxDevice.{Ghosts}
 use Rattle.lq_model.specs.Alone.{RunningStation, after_run, fate_in, finished, new_stations}
 use Rattle.lq_model.specs.Device.{DeviceState, IsConfigured, Telling, told_params}
@@ -15,30 +14,23 @@ use Rattle.lq_model.specs.declared.device.Params.{Params}
 use Rattle.lq_model.specs.declared.fate.Fate.{Fate}
 use Rattle.lq_model.specs.declared.fate.Info.{Info}
 use Rattle.lq_plan.specs.Limits.{IsWithinLimits}
-use Rattle.lq_seat.specs.Calls.{HungOnly, IsSoundAtClose, PurgesHungOnly}
-use Rattle.lq_seat.specs.Seat.{IsSeat, origin_of}
-use Rattle.lq_table.specs.Keyed.{starting}
-use Rattle.lq_table.specs.Rule.{HangsWhere, IsCallOf, latest_unit, units_of}
-use Rattle.lq_table.specs.Sees.{view, closed_home}
-use Rattle.lq_table.specs.Solo.{IsSole, account_of}
-use Rattle.lq_table.specs.Views.{View, no_station}
 use Rattle.lq_table.specs.declared.ended.Closed.{Closed}
-use Rattle.lq_table.specs.declared.shared.Cpu.{Cpu}
-use Rattle.lq_table.specs.declared.shared.Shared.{Shared}
+use Rattle.lq_seat.specs.Ends.{HasDecidedAll, PurgesHungOnly, HungOnly, IsSoundAtClose}
+use Rattle.lq_seat.specs.State.{new_seat, SeatState, TableState, IsTableOf, setup_of, IsHere, HasAllOf, seat_account, no_station, HangsWhere, IsCallOf, latest_unit, units_of, closed_home}
 use Rattle.lq_senders.specs.Fates.{AllTell}
 use Rattle.lq_table.specs.Ended.{EndedState, ended_state}
-use Rattle.lq_senders.specs.Lanes.{AllOwn, IsTableOf, AreRunAlone, after_sending, setup_of}
+use Rattle.lq_senders.specs.Lanes.{AllOwn, AreRunAlone, after_sending}
 use Rattle.lq_senders.specs.Units.{DevicesStand, DoTell, SameDevices, by_unit, unit_at}
 use Rattle.lq_senders.specs.Way.{down_after_events}
 
 -- A STATION AT ITS END
 
 -- a finished station's sole seat, which may be closed
-pub record MayClose (plan : Plan) (infos : List Info) (station : ℕ) (v : View) : Type 0 where
-  pub sole : IsSole v
-  pub first : v.control.first ≡ true
-  pub raised : v.place.raised ≡ false
-  pub finished : IsFinished (setup_of plan infos station) v
+pub record MayClose (plan : Plan) (infos : List Info) (station : ℕ) (v : SeatState) : Type 0 where
+  pub sole : HasAllOf v
+  pub first : v.first ≡ true
+  pub raised : v.raised ≡ false
+  pub finished : HasDecidedAll v
   pub hung : PurgesHungOnly v
   pub trail : IsTrail plan station v.trail
   pub come : HaveCome plan station (length plan.events) v.trail
@@ -46,26 +38,25 @@ pub record MayClose (plan : Plan) (infos : List Info) (station : ℕ) (v : View)
   pub unit : latest_unit station (units_of v.trail) ≡ unit_at plan station (length plan.events)
 
 -- what the sole seat of a finished station knows at the close
-pub record EndsAt (plan : Plan) (infos : List Info) (station : ℕ) (v : View) : Type 0 where
-  pub about : v.share.about ≡ setup_of plan infos station
+pub record EndsAt (plan : Plan) (infos : List Info) (station : ℕ) (v : SeatState) : Type 0 where
+  pub about : v.made ≡ setup_of plan infos station
   pub sound : IsSoundAtClose infos station (start_of plan station) v
-  pub finished : IsFinished (setup_of plan infos station) v
+  pub finished : HasDecidedAll v
   pub hung : HungOnly v
   pub trail : IsTrail plan station v.trail
   pub come : HaveCome plan station (length plan.events) v.trail
   pub down : down_of v.trail ≡ down_after_events plan station (length plan.events)
   pub unit : latest_unit station (units_of v.trail) ≡ unit_at plan station (length plan.events)
 
-module _ {D : Type 0} where
-  pub record MayCloseAt (plan : Plan) (infos : List Info) (j : ℕ) (t : Shared D) (c : Cpu D) : Type 0 where
-    pub table : IsTableOf plan infos j t
-    pub seat : IsSeat t c
-    pub may : MayClose plan infos j (view c)
+pub record MayCloseAt (plan : Plan) (infos : List Info) (j : ℕ) (t : TableState) (c : SeatState) : Type 0 where
+  pub table : IsTableOf plan infos j t
+  pub seat : IsHere t c
+  pub may : MayClose plan infos j c
 
-  pub record AllMayClose (plan : Plan) (infos : List Info) (tables : List (Shared D)) (cpus : List (Cpu D)) : Type 0 where
-    pub long : length cpus ≡ length tables
-    pub all : length tables ≡ length plan.stations
-    pub each : (j : ℕ) (t : Shared D) (c : Cpu D) → slice_get tables j ≡ Some t → slice_get cpus j ≡ Some c → MayCloseAt plan infos j t c
+pub record AllMayClose (plan : Plan) (infos : List Info) (tables : List TableState) (cpus : List SeatState) : Type 0 where
+  pub long : length cpus ≡ length tables
+  pub all : length tables ≡ length plan.stations
+  pub each : (j : ℕ) (t : TableState) (c : SeatState) → slice_get tables j ≡ Some t → slice_get cpus j ≡ Some c → MayCloseAt plan infos j t c
 
 -- CLOSED TABLES
 
@@ -82,44 +73,43 @@ abbrev pub home_device : ClosedState → DeviceState
 home_device x = option_map_or (λ st. st.device) x.home no_station.device
 
 -- the closed table of a station of the plan, as its seat knew it
-pub record IsClosedStation (plan : Plan) (infos : List Info) (station : ℕ) (v : View) (c : ClosedState) : Type 0 where
+pub record IsClosedStation (plan : Plan) (infos : List Info) (station : ℕ) (v : SeatState) (c : ClosedState) : Type 0 where
   pub number_is : c.ended.number ≡ station
   pub plan_is : slice_get plan.stations station ≡ Some c.ended.plan
   pub packets_are : c.ended.packets ≡ length infos
-  pub fates : (n : ℕ) (fate : Fate) → n < length infos → station_in infos n ≡ station → (account_of v).fates n ≡ Some fate → IsWordOf fate (slice_index c.ended.words n)
-  pub at_home : (st : StationState) × (c.home ≡ Some st) × (st.device ≡ v.whole.state.station.device)
+  pub fates : (n : ℕ) (fate : Fate) → n < length infos → station_in infos n ≡ station → (seat_account v).fates n ≡ Some fate → IsWordOf fate (slice_index c.ended.words n)
+  pub at_home : (st : StationState) × (c.home ≡ Some st) × (st.device ≡ v.whole.device)
   pub ends : EndsAt plan infos station v
 
-module _ {D : Type 0} where
-  -- the first so many stations are closed
-  pub record FirstClosed (plan : Plan) (infos : List Info) (count : ℕ) (cpus : List (Cpu D)) (closed : List ClosedState) : Type 0 where
-    pub so_many : length closed ≡ count
-    pub each : (j : ℕ) (c : Cpu D) (x : ClosedState) → slice_get cpus j ≡ Some c → slice_get closed j ≡ Some x → IsClosedStation plan infos j (view c) x
+-- the first so many stations are closed
+pub record FirstClosed (plan : Plan) (infos : List Info) (count : ℕ) (cpus : List SeatState) (closed : List ClosedState) : Type 0 where
+  pub so_many : length closed ≡ count
+  pub each : (j : ℕ) (c : SeatState) (x : ClosedState) → slice_get cpus j ≡ Some c → slice_get closed j ≡ Some x → IsClosedStation plan infos j c x
 
-  -- the accounts of these stations have the fates that those of the run of one sender have
-  abbrev pub HaveFatesAlone : List (Cpu D) → List RunningStation → Type 0
-  HaveFatesAlone cpus stations = (j : ℕ) (c : Cpu D) → slice_get cpus j ≡ Some c → (s : RunningStation) × (slice_get stations j ≡ Some s) × ((account_of (view c)).fates ≡ s.account.fates)
+-- the accounts of these stations have the fates that those of the run of one sender have
+abbrev pub HaveFatesAlone : List SeatState → List RunningStation → Type 0
+HaveFatesAlone cpus stations = (j : ℕ) (c : SeatState) → slice_get cpus j ≡ Some c → (s : RunningStation) × (slice_get stations j ≡ Some s) × ((seat_account c).fates ≡ s.account.fates)
 
-  -- Each station of the plan, of whose seats these were the first sender's, is closed, and its account has come to its end. Where
-  -- no other sender was, the fates are those of the run of one sender.
-  pub record HasEnded (plan : Plan) (infos : List Info) (others : ℕ) (start : List (Cpu D)) (closed : List ClosedState) : Type 0 where
-    pub seats : List (Cpu D)
-    pub one_each : length seats ≡ length plan.stations
-    pub closed_are : FirstClosed plan infos (length plan.stations) seats closed
-    pub devices : SameDevices start seats
-    pub alone : others ≡ 0 → (from : List RunningStation) → AreRunAlone plan infos start from → HaveFatesAlone seats (map (finished infos) from)
+-- Each station of the plan, of whose seats these were the first sender's, is closed, and its account has come to its end. Where
+-- no other sender was, the fates are those of the run of one sender.
+pub record HasEnded (plan : Plan) (infos : List Info) (others : ℕ) (start : List SeatState) (closed : List ClosedState) : Type 0 where
+  pub seats : List SeatState
+  pub one_each : length seats ≡ length plan.stations
+  pub closed_are : FirstClosed plan infos (length plan.stations) seats closed
+  pub devices : SameDevices start seats
+  pub alone : others ≡ 0 → (from : List RunningStation) → AreRunAlone plan infos start from → HaveFatesAlone seats (map (finished infos) from)
 
-  -- All packets were sent, and each station was closed: the first sender began with these seats and spare devices, and those are
-  -- the spare devices that it ended with.
-  pub record HasSentAll (plan : Plan) (infos : List Info) (others : ℕ) (start : List (Cpu D)) (brought : List DeviceState) (closed : List ClosedState) (spares : List DeviceState) : Type 0 where
-    pub limits : IsWithinLimits plan
-    pub long : length start ≡ length plan.stations
-    pub seats : List (Cpu D)
-    pub one_each : length seats ≡ length plan.stations
-    pub closed_are : FirstClosed plan infos (length plan.stations) seats closed
-    pub devices : (units : List DeviceState) → DevicesStand plan infos units 0 start brought → DevicesStand plan infos units (length plan.events) seats spares
-    pub alone : others ≡ 0 → AllOwn infos → (units : List DeviceState) → DevicesStand plan infos units 0 start brought → DoTell plan units
-        → (from : List RunningStation) → AreRunAlone plan infos start from → HaveFatesAlone seats (map (finished infos) (after_sending plan infos from))
+-- All packets were sent, and each station was closed: the first sender began with these seats and spare devices, and those are
+-- the spare devices that it ended with.
+pub record HasSentAll (plan : Plan) (infos : List Info) (others : ℕ) (start : List SeatState) (brought : List DeviceState) (closed : List ClosedState) (spares : List DeviceState) : Type 0 where
+  pub limits : IsWithinLimits plan
+  pub long : length start ≡ length plan.stations
+  pub seats : List SeatState
+  pub one_each : length seats ≡ length plan.stations
+  pub closed_are : FirstClosed plan infos (length plan.stations) seats closed
+  pub devices : (units : List DeviceState) → DevicesStand plan infos units 0 start brought → DevicesStand plan infos units (length plan.events) seats spares
+  pub alone : others ≡ 0 → AllOwn infos → (units : List DeviceState) → DevicesStand plan infos units 0 start brought → DoTell plan units
+      → (from : List RunningStation) → AreRunAlone plan infos start from → HaveFatesAlone seats (map (finished infos) (after_sending plan infos from))
 
 -- READING
 
@@ -136,16 +126,15 @@ pub record FatesRead (infos : List Info) (closed : List ClosedState) (count : �
 
 -- THE WHOLE RUN
 
-module _ {D : Type 0} where
-  -- the devices of a bench before the run were configured as the plan has it, and the seats are over these, with those of the
-  -- exchanges to spare; where there is one sender, nothing was split off
-  pub record AreOver (plan : Plan) (infos : List Info) (before : List DeviceState) (others : ℕ) (start : List (Cpu D)) (brought : List DeviceState) : Type 0 where
-    pub bench : unit_count plan ≤ length before
-    pub units : List DeviceState
-    pub configured : (unit : ℕ) (params : Params) (old new : DeviceState) → IsConfiguredWith plan unit params → slice_get before unit ≡ Some old → slice_get units unit ≡ Some new
-        → (room : ℕ) × IsConfigured params room old new
-    pub stand : DevicesStand plan infos units 0 start brought
-    pub alone : plan.senders ≡ 1 → (others ≡ 0) × ((j : ℕ) (c : Cpu D) → slice_get start j ≡ Some c → view c ≡ starting (setup_of plan infos j) (initial_station j (origin_of (view c))))
+-- the devices of a bench before the run were configured as the plan has it, and the seats are over these, with those of the
+-- exchanges to spare; where there is one sender, nothing was split off
+pub record AreOver (plan : Plan) (infos : List Info) (before : List DeviceState) (others : ℕ) (start : List SeatState) (brought : List DeviceState) : Type 0 where
+  pub bench : unit_count plan ≤ length before
+  pub units : List DeviceState
+  pub configured : (unit : ℕ) (params : Params) (old new : DeviceState) → IsConfiguredWith plan unit params → slice_get before unit ≡ Some old → slice_get units unit ≡ Some new
+      → (room : ℕ) × IsConfigured params room old new
+  pub stand : DevicesStand plan infos units 0 start brought
+  pub alone : plan.senders ≡ 1 → (others ≡ 0) × ((j : ℕ) (c : SeatState) → slice_get start j ≡ Some c → c ≡ new_seat c.table (setup_of plan infos j) c.origin)
 
 -- the devices of the closed tables and the spare ones are back in the bench, each at the place of its unit
 abbrev pub AreBack : Plan → List ClosedState → List DeviceState → List DeviceState → Type 0
@@ -153,30 +142,30 @@ AreBack plan closed spares after = (unit : ℕ) (device : DeviceState) → slice
 
 -- What is known of a unit's device after the run: the unit is one of a station, whose account has that it sent what the device
 -- accepted; the device was asked for nothing but packets of the station, and hangs as it tells.
-pub record UnitEnds (plan : Plan) (infos : List Info) (after : List DeviceState) (views : ℕ → View) (unit : ℕ) : Type 0 where
+pub record UnitEnds (plan : Plan) (infos : List Info) (after : List DeviceState) (views : ℕ → SeatState) (unit : ℕ) : Type 0 where
   pub station : ℕ
   pub within : station < length plan.stations
   pub of_station : IsUnitOf plan station unit
   pub device : DeviceState
   pub there : slice_get after unit ≡ Some device
-  pub sent : (account_of (views station)).sent unit ≡ device.accepted
+  pub sent : (seat_account (views station)).sent unit ≡ device.accepted
   pub asked : All (IsCallOf infos station) device.asked
   pub hangs : (t : Telling) → device.told ≡ Some t → HangsWhere t.params device
 
 -- the run came to its end: what is known of all stations, and of the devices in the bench
-pub record RunEnds (plan : Plan) (infos : List Info) (before after : List DeviceState) (views : ℕ → View) (fates : List Fate) : Type 0 where
+pub record RunEnds (plan : Plan) (infos : List Info) (before after : List DeviceState) (views : ℕ → SeatState) (fates : List Fate) : Type 0 where
   pub of_plan : (n : ℕ) → n < length infos → station_in infos n < length plan.stations
   pub queues : (n : ℕ) → n < length infos → queue_in infos n < queues_at plan.stations (station_in infos n)
   pub one_each : length fates ≡ length infos
   pub bench : unit_count plan ≤ length before
   pub each : (station : ℕ) → station < length plan.stations → EndsAt plan infos station (views station)
-  pub fates_are : (n : ℕ) → n < length infos → slice_get fates n ≡ (account_of (views (station_in infos n))).fates n
+  pub fates_are : (n : ℕ) → n < length infos → slice_get fates n ≡ (seat_account (views (station_in infos n))).fates n
   pub units : (unit : ℕ) → unit < unit_count plan → UnitEnds plan infos after views unit
   -- each station's device stands at the place of its latest unit
-  pub present : (station : ℕ) → station < length plan.stations → slice_get after (account_of (views station)).unit ≡ Some (views station).whole.state.station.device
+  pub present : (station : ℕ) → station < length plan.stations → slice_get after (seat_account (views station)).unit ≡ Some (views station).whole.device
   -- each unit's device tells what the plan configures it with, where it told anything before
   pub tells : (unit : ℕ) (params : Params) (old device : DeviceState) → IsConfiguredWith plan unit params → slice_get before unit ≡ Some old → slice_get after unit ≡ Some device
       → told_params device ≡ option_map (λ _. params) old.told
   -- where the devices tell and there is one sender, each packet's fate is that of the run of one sender
   pub alone : AllTell (unit_count plan) before → plan.senders ≡ 1 → (n : ℕ) → n < length infos
-      → fate_in (after_run plan infos (new_stations 0 plan.stations)) infos n ≡ (account_of (views (station_in infos n))).fates n
+      → fate_in (after_run plan infos (new_stations 0 plan.stations)) infos n ≡ (seat_account (views (station_in infos n))).fates n

@@ -3,13 +3,8 @@ use Rattle.std.specs.Prelude.{◌≡◌, ◌⊎◌, ◌<◌, ◌≤◌, ℕ, ◌
 use Rattle.lq_control.specs.Finish.{count_all}
 use Rattle.lq_model.specs.Plan.{Plan}
 use Rattle.lq_model.specs.declared.fate.Info.{Info}
-use Rattle.lq_seat.specs.Seat.{IsSeat}
-use Rattle.lq_table.specs.Rule.{times}
-use Rattle.lq_table.specs.Sees.{view}
-use Rattle.lq_table.specs.Views.{View}
-use Rattle.lq_table.specs.declared.shared.Cpu.{Cpu}
-use Rattle.lq_table.specs.declared.shared.Shared.{Shared}
-use Rattle.lq_senders.specs.Lanes.{IsTableOf, StandsInRun}
+use Rattle.lq_seat.specs.State.{SeatState, TableState, IsTableOf, IsHere, times}
+use Rattle.lq_senders.specs.Lanes.{StandsInRun}
 use Rattle.lq_senders.specs.Way.{IsOnWay}
 
 -- The senders whose seats are one: the first, and of the others all but so many. (The last lane is taken in first.)
@@ -17,45 +12,44 @@ abbrev pub IsTakenIn : Plan → ℕ → ℕ → Type 0
 IsTakenIn plan out owner = (owner < plan.senders) × ((owner ≡ 0) ⊎ (out < owner))
 
 -- the first sender's seat at a station after all packets, where so many other seats are still out
-pub record Joined (plan : Plan) (infos : List Info) (station out : ℕ) (v : View) : Type 0 where
-  pub shares : v.share.shares + out ≡ 1024
-  pub told : v.whole.told ≡ true
-  pub first : v.control.first ≡ true
-  pub raised : v.place.raised ≡ false
+pub record Joined (plan : Plan) (infos : List Info) (station out : ℕ) (v : SeatState) : Type 0 where
+  pub shares : v.shares + out ≡ 1024
+  pub told : v.told ≡ true
+  pub first : v.first ≡ true
+  pub raised : v.raised ≡ false
   pub wide : length v.turns ≡ plan.senders
-  pub owners : (owner : ℕ) → IsTakenIn plan out owner → 0 < times owner v.share.owners
+  pub owners : (owner : ℕ) → IsTakenIn plan out owner → 0 < times owner v.owners
   pub done : (owner : ℕ) → IsTakenIn plan out owner → slice_index v.turns owner ≡ 2 * count_all infos owner station
   pub way : IsOnWay plan station (length plan.events) v.trail
 
-module _ {D : Type 0} where
-  pub record JoinedAt (plan : Plan) (infos : List Info) (out j : ℕ) (t : Shared D) (c : Cpu D) : Type 0 where
-    pub table : IsTableOf plan infos j t
-    pub seat : IsSeat t c
-    pub joined : Joined plan infos j out (view c)
+pub record JoinedAt (plan : Plan) (infos : List Info) (out j : ℕ) (t : TableState) (c : SeatState) : Type 0 where
+  pub table : IsTableOf plan infos j t
+  pub seat : IsHere t c
+  pub joined : Joined plan infos j out c
 
-  pub record LaneJoined (plan : Plan) (infos : List Info) (out : ℕ) (tables : List (Shared D)) (cpus : List (Cpu D)) : Type 0 where
-    pub long : length cpus ≡ length tables
-    pub all : length tables ≡ length plan.stations
-    pub each : (j : ℕ) (t : Shared D) (c : Cpu D) → slice_get tables j ≡ Some t → slice_get cpus j ≡ Some c → JoinedAt plan infos out j t c
+pub record LaneJoined (plan : Plan) (infos : List Info) (out : ℕ) (tables : List TableState) (cpus : List SeatState) : Type 0 where
+  pub long : length cpus ≡ length tables
+  pub all : length tables ≡ length plan.stations
+  pub each : (j : ℕ) (t : TableState) (c : SeatState) → slice_get tables j ≡ Some t → slice_get cpus j ≡ Some c → JoinedAt plan infos out j t c
 
-  -- the first sender's seats, with so many others out, still have these shares and know the whole once they are sole
-  abbrev pub AreFirst : ℕ → List (Cpu D) → Type 0
-  AreFirst out cpus = (j : ℕ) (c : Cpu D) → slice_get cpus j ≡ Some c → ((view c).share.shares + out ≡ 1024) × ((view c).whole.told ≡ true)
+-- the first sender's seats, with so many others out, still have these shares and know the whole once they are sole
+abbrev pub AreFirst : ℕ → List SeatState → Type 0
+AreFirst out cpus = (j : ℕ) (c : SeatState) → slice_get cpus j ≡ Some c → (c.shares + out ≡ 1024) × (c.told ≡ true)
 
-  -- another sender's seat at a station, which was through with all packets
-  pub record IsOtherDone (plan : Plan) (infos : List Info) (owner j : ℕ) (t : Shared D) (c : Cpu D) : Type 0 where
-    pub seat : IsSeat t c
-    pub stands : StandsInRun plan infos owner j (length plan.events) (length infos) (view c)
-    pub shares : (view c).share.shares ≡ 1
-    pub owners : (view c).share.owners ≡ owner ∷ []
-    pub first : (view c).control.first ≡ false
+-- another sender's seat at a station, which was through with all packets
+pub record IsOtherDone (plan : Plan) (infos : List Info) (owner j : ℕ) (t : TableState) (c : SeatState) : Type 0 where
+  pub seat : IsHere t c
+  pub stands : StandsInRun plan infos owner j (length plan.events) (length infos) c
+  pub shares : c.shares ≡ 1
+  pub owners : c.owners ≡ owner ∷ []
+  pub first : c.first ≡ false
 
-  -- the seats from `count` on were joined with those of the lane at this place, and those below it are still to be
-  pub record JoinsDown (plan : Plan) (infos : List Info) (place count : ℕ) (tables : List (Shared D)) (now rest : List (Cpu D)) : Type 0 where
-    pub long : length now ≡ length tables
-    pub all : length tables ≡ length plan.stations
-    pub left : length rest ≡ count
-    pub below : count ≤ length tables
-    pub joined : (j : ℕ) (t : Shared D) (c : Cpu D) → count ≤ j → slice_get tables j ≡ Some t → slice_get now j ≡ Some c → JoinedAt plan infos place j t c
-    pub ahead : (j : ℕ) (t : Shared D) (c : Cpu D) → j < count → slice_get tables j ≡ Some t → slice_get now j ≡ Some c → JoinedAt plan infos (place + 1) j t c
-    pub others : (j : ℕ) (t : Shared D) (c : Cpu D) → slice_get tables j ≡ Some t → slice_get rest j ≡ Some c → IsOtherDone plan infos (place + 1) j t c
+-- the seats from `count` on were joined with those of the lane at this place, and those below it are still to be
+pub record JoinsDown (plan : Plan) (infos : List Info) (place count : ℕ) (tables : List TableState) (now rest : List SeatState) : Type 0 where
+  pub long : length now ≡ length tables
+  pub all : length tables ≡ length plan.stations
+  pub left : length rest ≡ count
+  pub below : count ≤ length tables
+  pub joined : (j : ℕ) (t : TableState) (c : SeatState) → count ≤ j → slice_get tables j ≡ Some t → slice_get now j ≡ Some c → JoinedAt plan infos place j t c
+  pub ahead : (j : ℕ) (t : TableState) (c : SeatState) → j < count → slice_get tables j ≡ Some t → slice_get now j ≡ Some c → JoinedAt plan infos (place + 1) j t c
+  pub others : (j : ℕ) (t : TableState) (c : SeatState) → slice_get tables j ≡ Some t → slice_get rest j ≡ Some c → IsOtherDone plan infos (place + 1) j t c

@@ -1,24 +1,17 @@
 -- A sender's lane: its seats, one at each station.
 use Rattle.std.specs.Prelude.{◌≡◌, ◌≢◌, ◌<◌, ◌≤◌, ℕ, ◌+◌, ◌*◌, ◌/◌, ◌%◌, ◌⊎◌, All, true, false, List, [], ◌∷◌, length, slice_get, slice_index, Some}
-use Rattle.lq_account.specs.Progress.{len_of, start_of}
+use Rattle.lq_account.specs.Progress.{start_of}
 use Rattle.lq_control.specs.Finish.{AreRanks, count_below}
-use Rattle.lq_model.specs.Alone.{RunningStation, after_packets, bypass_of, events_after, with_events}
+use Rattle.lq_model.specs.Alone.{RunningStation, after_packets, events_after, with_events}
 use Rattle.lq_model.specs.Device.{DeviceState}
 use Rattle.lq_model.specs.Plan.{Plan, is_at, owner_in, queues_at}
 use Rattle.lq_model.specs.declared.fate.Info.{Info}
 use Rattle.lq_model.specs.declared.plan.EventPlan.{EventPlan}
-use Rattle.lq_plan.specs.Limits.{IsKindWithin, max_len_at}
 use Rattle.lq_plan.specs.Packets.{IsInfoWithin}
 use Rattle.lq_qdisc.specs.Alone.{IsAlone, running}
-use Rattle.lq_seat.specs.Calls.{DoesEvent, MayDoEvent, WakesQueues}
-use Rattle.lq_seat.specs.Exchanges.{KeepsSeat}
-use Rattle.lq_seat.specs.Seat.{IsSeat, Keeps}
-use Rattle.lq_table.specs.Rule.{AreInfos, times}
-use Rattle.lq_table.specs.Sees.{view, setup}
-use Rattle.lq_table.specs.Solo.{solo}
-use Rattle.lq_table.specs.Views.{View, Setup}
-use Rattle.lq_table.specs.declared.shared.Cpu.{Cpu}
-use Rattle.lq_table.specs.declared.shared.Shared.{Shared}
+use Rattle.lq_seat.specs.Calls.{DoesEvent, WakesQueues}
+use Rattle.lq_seat.specs.State.{SeatState, TableState, IsHere, IsTableOf, solo_of, times, AreInfos}
+use Rattle.lq_senders.specs.Seats.{Keeps, KeepsSeat}
 use Rattle.lq_senders.specs.Units.{DevicesStand, DoTell}
 use Rattle.lq_senders.specs.Way.{IsOnWay}
 use Rattle.lq_senders.specs.Woken.{AllWoke, count_sent}
@@ -27,130 +20,114 @@ use Rattle.lq_senders.specs.declared.lanes.Lane.{Lane}
 -- ONE SEAT
 
 -- a sender's seat at a station, where its packets below n were sent and the first so many events of the plan done
-pub record StandsInRun (plan : Plan) (infos : List Info) (sender station count n : ℕ) (v : View) : Type 0 where
+pub record StandsInRun (plan : Plan) (infos : List Info) (sender station count n : ℕ) (v : SeatState) : Type 0 where
   pub is_sender : sender < plan.senders
-  pub owner : 0 < times sender v.share.owners
+  pub owner : 0 < times sender v.owners
   pub wide : length v.turns ≡ plan.senders
   pub turn : slice_index v.turns sender ≡ 2 * count_below infos sender station n
-  pub raised : v.place.raised ≡ false
+  pub raised : v.raised ≡ false
   -- control is the first sender's
-  pub way : sender ≡ 0 → (v.control.first ≡ true) × IsOnWay plan station count v.trail
+  pub way : sender ≡ 0 → (v.first ≡ true) × IsOnWay plan station count v.trail
 
 -- all packets are the first sender's
 abbrev pub AllOwn : List Info → Type 0
 AllOwn infos = (m : ℕ) → m < length infos → owner_in infos m ≡ 0
 
--- what the plan asks a station's table to be made of
-abbrev pub setup_of : Plan → List Info → ℕ → Setup
-setup_of plan infos j = record { infos = infos; senders = plan.senders; max_len = max_len_at plan.stations j; bypass = bypass_of plan j; station = j; len = len_of plan j; queues = queues_at plan.stations j }
+pub record StandsAt (plan : Plan) (infos : List Info) (sender count n j : ℕ) (t : TableState) (c : SeatState) : Type 0 where
+  pub table : IsTableOf plan infos j t
+  pub seat : IsHere t c
+  pub stands : StandsInRun plan infos sender j count n c
 
-module _ {D : Type 0} where
-  -- the table is that of the plan's station
-  pub record IsTableOf (plan : Plan) (infos : List Info) (j : ℕ) (t : Shared D) : Type 0 where
-    pub setup_is : setup t ≡ setup_of plan infos j
-    pub plan_is : slice_get plan.stations j ≡ Some t.plan
+-- ALL SEATS OF A SENDER
 
-  pub record StandsAt (plan : Plan) (infos : List Info) (sender count n j : ℕ) (t : Shared D) (c : Cpu D) : Type 0 where
-    pub table : IsTableOf plan infos j t
-    pub seat : IsSeat t c
-    pub stands : StandsInRun plan infos sender j count n (view c)
+pub record LaneStands (plan : Plan) (infos : List Info) (sender count n : ℕ) (tables : List TableState) (cpus : List SeatState) : Type 0 where
+  pub long : length cpus ≡ length tables
+  pub all : length tables ≡ length plan.stations
+  pub each : (j : ℕ) (t : TableState) (c : SeatState) → slice_get tables j ≡ Some t → slice_get cpus j ≡ Some c → StandsAt plan infos sender count n j t c
 
-  -- ALL SEATS OF A SENDER
+-- the seats are the same, with the same devices
+pub record KeepAll (old new : List SeatState) : Type 0 where
+  pub long : length new ≡ length old
+  pub each : (j : ℕ) (c c' : SeatState) → slice_get old j ≡ Some c → slice_get new j ≡ Some c' → Keeps c c'
 
-  pub record LaneStands (plan : Plan) (infos : List Info) (sender count n : ℕ) (tables : List (Shared D)) (cpus : List (Cpu D)) : Type 0 where
-    pub long : length cpus ≡ length tables
-    pub all : length tables ≡ length plan.stations
-    pub each : (j : ℕ) (t : Shared D) (c : Cpu D) → slice_get tables j ≡ Some t → slice_get cpus j ≡ Some c → StandsAt plan infos sender count n j t c
+-- the same, where the devices of some may have been exchanged
+pub record KeepSeats (old new : List SeatState) : Type 0 where
+  pub long : length new ≡ length old
+  pub each : (j : ℕ) (c c' : SeatState) → slice_get old j ≡ Some c → slice_get new j ≡ Some c' → KeepsSeat c c'
 
-  -- the seats are the same, with the same devices
-  pub record KeepAll (old new : List (Cpu D)) : Type 0 where
-    pub long : length new ≡ length old
-    pub each : (j : ℕ) (c c' : Cpu D) → slice_get old j ≡ Some c → slice_get new j ≡ Some c' → Keeps (view c) (view c')
+-- each seat has its table alone and its device tells, and these are the stations of the run of one sender
+abbrev pub AreRunAlone : Plan → List Info → List SeatState → List RunningStation → Type 0
+AreRunAlone plan infos cpus stations = (j : ℕ) (c : SeatState) → slice_get cpus j ≡ Some c → IsAlone infos (start_of plan j) (solo_of c) × (slice_get stations j ≡ Some (running (start_of plan j) (solo_of c)))
 
-  -- the same, where the devices of some may have been exchanged
-  pub record KeepSeats (old new : List (Cpu D)) : Type 0 where
-    pub long : length new ≡ length old
-    pub each : (j : ℕ) (c c' : Cpu D) → slice_get old j ≡ Some c → slice_get new j ≡ Some c' → KeepsSeat (view c) (view c')
+-- IN TURN AT ALL STATIONS
 
-  -- each seat has its table alone and its device tells, and these are the stations of the run of one sender
-  abbrev pub AreRunAlone : Plan → List Info → List (Cpu D) → List RunningStation → Type 0
-  AreRunAlone plan infos cpus stations = (j : ℕ) (c : Cpu D) → slice_get cpus j ≡ Some c → IsAlone infos (start_of plan j) (solo (view c)) × (slice_get stations j ≡ Some (running (start_of plan j) (solo (view c))))
+-- each seat is one of its table
+pub record AreSeats (tables : List TableState) (cpus : List SeatState) : Type 0 where
+  pub long : length cpus ≡ length tables
+  pub each : (j : ℕ) (t : TableState) (c : SeatState) → slice_get tables j ≡ Some t → slice_get cpus j ≡ Some c → IsHere t c
 
-  -- IN TURN AT ALL STATIONS
+-- the first so many seats did something, and the others are as they were
+pub record FirstDid (R : SeatState → SeatState → Type 0) (count : ℕ) (old new : List SeatState) : Type 0 where
+  pub long : length new ≡ length old
+  pub done : (j : ℕ) (c c' : SeatState) → j < count → slice_get old j ≡ Some c → slice_get new j ≡ Some c' → R c c'
+  pub rest : (j : ℕ) → count ≤ j → slice_get new j ≡ slice_get old j
 
-  -- each seat is one of its table, in no call
-  pub record AreSeats (tables : List (Shared D)) (cpus : List (Cpu D)) : Type 0 where
-    pub long : length cpus ≡ length tables
-    pub each : (j : ℕ) (t : Shared D) (c : Cpu D) → slice_get tables j ≡ Some t → slice_get cpus j ≡ Some c → IsSeat t c
+pub record AllDid (R : SeatState → SeatState → Type 0) (old new : List SeatState) : Type 0 where
+  pub long : length new ≡ length old
+  pub each : (j : ℕ) (c c' : SeatState) → slice_get old j ≡ Some c → slice_get new j ≡ Some c' → R c c'
 
-  -- the first so many seats did something, and the others are as they were
-  pub record FirstDid (R : Shared D → View → View → Type 0) (count : ℕ) (tables : List (Shared D)) (old new : List (Cpu D)) : Type 0 where
-    pub long : length new ≡ length old
-    pub done : (j : ℕ) (t : Shared D) (c c' : Cpu D) → j < count → slice_get tables j ≡ Some t → slice_get old j ≡ Some c → slice_get new j ≡ Some c' → IsSeat t c' × R t (view c) (view c')
-    pub rest : (j : ℕ) → count ≤ j → slice_get new j ≡ slice_get old j
+-- an event of the plan was done, if it is one of the seat's station
+abbrev pub DoesEventAt : ℕ → EventPlan → SeatState → SeatState → Type 0
+DoesEventAt e event old new = ((is_at old.made.station event ≡ true) × ((plan : Plan) → DoesEvent plan e event.kind old new)) ⊎ ((is_at old.made.station event ≡ false) × (new ≡ old))
 
-  pub record AllDid (R : Shared D → View → View → Type 0) (tables : List (Shared D)) (old new : List (Cpu D)) : Type 0 where
-    pub long : length new ≡ length old
-    pub each : (j : ℕ) (t : Shared D) (c c' : Cpu D) → slice_get tables j ≡ Some t → slice_get old j ≡ Some c → slice_get new j ≡ Some c' → IsSeat t c' × R t (view c) (view c')
+-- the queues were woken, where the plan wakes them after a sender's packet k, or all is as it was
+abbrev pub WokenOrNot : Plan → ℕ → List SeatState → List SeatState → Type 0
+WokenOrNot plan k old new = (((k + 1) % plan.irq_every ≡ 0) × AllDid WakesQueues old new) ⊎ (((k + 1) % plan.irq_every ≢ 0) × (new ≡ old))
 
-  -- an event that may be done to a station is done, if it is one of it
-  pub record MayDoAt (t : Shared D) (event : EventPlan) (v : View) : Type 0 where
-    pub first : v.control.first ≡ true
-    pub raised : v.place.raised ≡ false
-    pub within : IsKindWithin t.max_len event.kind
-    pub may : MayDoEvent event.kind v.trail
+-- ON THE WAY THROUGH THE PACKETS
 
-  abbrev pub DoesEventAt : ℕ → EventPlan → Shared D → View → View → Type 0
-  DoesEventAt e event t old new = ((is_at t.station event ≡ true) × ((plan : Plan) → DoesEvent t plan e event.kind old new)) ⊎ ((is_at t.station event ≡ false) × (new ≡ old))
+-- A sender is before packet n: it sent its k packets below that, woke its stations after each `irq_every` of them, and did the events
+-- before `next`, each of which stands before a lower packet.
+pub record IsSending (plan : Plan) (infos : List Info) (tables : List TableState) (sender n k next : ℕ) (start : List SeatState) (brought : List DeviceState) (now : List SeatState) (spares : List DeviceState) : Type 0 where
+  pub within : next ≤ length plan.events
+  pub few : k ≤ n
+  pub sent : k ≡ count_sent infos sender n
+  pub woke : AllWoke (k / plan.irq_every) start now
+  pub stands : LaneStands plan infos sender next n tables now
+  pub earlier : (j : ℕ) (event : EventPlan) → j < next → slice_get plan.events j ≡ Some event → event.before < n
+  pub keeps : KeepSeats start now
+  pub devices : (units : List DeviceState) → DevicesStand plan infos units 0 start brought → DevicesStand plan infos units next now spares
+  -- where all packets are the first sender's, and the devices that exchanges bring tell, its seats are the stations of the run of
+  -- one sender
+  pub alone : (units : List DeviceState) → DevicesStand plan infos units 0 start brought → DoTell plan units → sender ≡ 0 → AllOwn infos → (from : List RunningStation) → AreRunAlone plan infos start from
+      → (k ≡ n) × ((j : ℕ) (event : EventPlan) → next ≤ j → slice_get plan.events j ≡ Some event → n ≤ event.before) × AreRunAlone plan infos now (after_packets plan infos from n)
 
-  -- the queues were woken, where the plan wakes them after a sender's packet k, or all is as it was
-  abbrev pub WokenOrNot : Plan → ℕ → List (Shared D) → List (Cpu D) → List (Cpu D) → Type 0
-  WokenOrNot plan k tables old new = (((k + 1) % plan.irq_every ≡ 0) × AllDid WakesQueues tables old new) ⊎ (((k + 1) % plan.irq_every ≢ 0) × (new ≡ old))
+-- LANES
 
-  -- ON THE WAY THROUGH THE PACKETS
+-- all of the plan's events were done, and all packets sent
+abbrev pub LaneDone : Plan → List Info → ℕ → List TableState → List SeatState → Type 0
+LaneDone plan infos sender tables cpus = LaneStands plan infos sender (length plan.events) (length infos) tables cpus
 
-  -- A sender is before packet n: it sent its k packets below that, woke its stations after each `irq_every` of them, and did the events
-  -- before `next`, each of which stands before a lower packet.
-  pub record IsSending (plan : Plan) (infos : List Info) (tables : List (Shared D)) (sender n k next : ℕ) (start : List (Cpu D)) (brought : List DeviceState) (now : List (Cpu D)) (spares : List DeviceState) : Type 0 where
-    pub within : next ≤ length plan.events
-    pub few : k ≤ n
-    pub sent : k ≡ count_sent infos sender n
-    pub woke : AllWoke tables (k / plan.irq_every) start now
-    pub stands : LaneStands plan infos sender next n tables now
-    pub earlier : (j : ℕ) (event : EventPlan) → j < next → slice_get plan.events j ≡ Some event → event.before < n
-    pub keeps : KeepSeats start now
-    pub devices : (units : List DeviceState) → DevicesStand plan infos units 0 start brought → DevicesStand plan infos units next now spares
-    -- where all packets are the first sender's, and the devices that exchanges bring tell, its seats are the stations of the run of
-    -- one sender
-    pub alone : (units : List DeviceState) → DevicesStand plan infos units 0 start brought → DoTell plan units → sender ≡ 0 → AllOwn infos → (from : List RunningStation) → AreRunAlone plan infos start from
-        → (k ≡ n) × ((j : ℕ) (event : EventPlan) → next ≤ j → slice_get plan.events j ≡ Some event → n ≤ event.before) × AreRunAlone plan infos now (after_packets plan infos from n)
+-- the seats of a sender that isn't the first: each has one share and this owner
+abbrev pub AreOthers : ℕ → List SeatState → Type 0
+AreOthers owner cpus = (j : ℕ) (c : SeatState) → slice_get cpus j ≡ Some c → (c.shares ≡ 1) × (c.owners ≡ owner ∷ []) × (c.first ≡ false)
 
-  -- LANES
+-- the lane at this place among those of the other senders, before the run and after it: its owner is one more
+pub record IsReadyLane (plan : Plan) (infos : List Info) (tables : List TableState) (place owner : ℕ) (cpus : List SeatState) : Type 0 where
+  pub owner_is : owner ≡ place + 1
+  pub stands : LaneStands plan infos owner 0 0 tables cpus
+  pub others : AreOthers owner cpus
 
-  -- all of the plan's events were done, and all packets sent
-  abbrev pub LaneDone : Plan → List Info → ℕ → List (Shared D) → List (Cpu D) → Type 0
-  LaneDone plan infos sender tables cpus = LaneStands plan infos sender (length plan.events) (length infos) tables cpus
+pub record IsDoneLane (plan : Plan) (infos : List Info) (tables : List TableState) (place owner : ℕ) (cpus : List SeatState) : Type 0 where
+  pub owner_is : owner ≡ place + 1
+  pub stands : LaneDone plan infos owner tables cpus
+  pub others : AreOthers owner cpus
 
-  -- the seats of a sender that isn't the first: each has one share and this owner
-  abbrev pub AreOthers : ℕ → List (Cpu D) → Type 0
-  AreOthers owner cpus = (j : ℕ) (c : Cpu D) → slice_get cpus j ≡ Some c → ((view c).share.shares ≡ 1) × ((view c).share.owners ≡ owner ∷ []) × ((view c).control.first ≡ false)
+abbrev pub AreReadyLanes : {D : Type 0} → Plan → List Info → List TableState → List (Lane D) → Type 0
+AreReadyLanes {D} plan infos tables lanes = (i : ℕ) (l : Lane D) → slice_get lanes i ≡ Some l → IsReadyLane plan infos tables i l.owner l.cpus.items
 
-  -- the lane at this place among those of the other senders, before the run and after it: its owner is one more
-  pub record IsReadyLane (plan : Plan) (infos : List Info) (tables : List (Shared D)) (place owner : ℕ) (cpus : List (Cpu D)) : Type 0 where
-    pub owner_is : owner ≡ place + 1
-    pub stands : LaneStands plan infos owner 0 0 tables cpus
-    pub others : AreOthers owner cpus
-
-  pub record IsDoneLane (plan : Plan) (infos : List Info) (tables : List (Shared D)) (place owner : ℕ) (cpus : List (Cpu D)) : Type 0 where
-    pub owner_is : owner ≡ place + 1
-    pub stands : LaneDone plan infos owner tables cpus
-    pub others : AreOthers owner cpus
-
-  abbrev pub AreReadyLanes : Plan → List Info → List (Shared D) → List (Lane D) → Type 0
-  AreReadyLanes plan infos tables lanes = (i : ℕ) (l : Lane D) → slice_get lanes i ≡ Some l → IsReadyLane plan infos tables i l.owner l.cpus.items
-
-  abbrev pub AreDoneLanes : Plan → List Info → List (Shared D) → List (Lane D) → Type 0
-  AreDoneLanes plan infos tables lanes = (i : ℕ) (l : Lane D) → slice_get lanes i ≡ Some l → IsDoneLane plan infos tables i l.owner l.cpus.items
+abbrev pub AreDoneLanes : {D : Type 0} → Plan → List Info → List TableState → List (Lane D) → Type 0
+AreDoneLanes {D} plan infos tables lanes = (i : ℕ) (l : Lane D) → slice_get lanes i ≡ Some l → IsDoneLane plan infos tables i l.owner l.cpus.items
 
 -- packets of the plan's stations and senders, numbered by rank
 pub record IsSendable (plan : Plan) (infos : List Info) : Type 0 where

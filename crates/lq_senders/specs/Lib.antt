@@ -1,3 +1,5 @@
+-- what a sender's calls leave of a seat as it was
+pub mod Seats
 -- which unit a station has, and where the devices of the others are
 pub mod Units
 -- how far the first sender is with the plan's events at a station

@@ -1,6 +1,6 @@
 -- What a run begins with: its packets, its stations over their devices, and a seat there for each sender.
 use Rattle.std.specs.Prelude.{All, ◌≡◌, ◌<◌, ◌≤◌, ℕ, ◌+◌, true, false, List, [], length, map, take, drop, count_by, slice_get, slice_index, Some, vec_capacity}
-use Rattle.lq_device.specs.Station.{StationState, initial_station}
+use Rattle.lq_device.specs.Station.{StationState}
 use Rattle.lq_model.specs.Capture.{Packets}
 use Rattle.lq_model.specs.Device.{DeviceState, IsConfigured}
 use Rattle.lq_model.specs.Plan.{Plan, infos_of, is_swap, unit_count, unit_of_swap}
@@ -10,16 +10,9 @@ use Rattle.lq_model.specs.declared.plan.EventKind.TheVariants as kind
 use Rattle.lq_model.specs.declared.plan.EventPlan.{EventPlan}
 use Rattle.lq_model.specs.declared.plan.StationPlan.{StationPlan}
 use Rattle.lq_plan.specs.Packets.{IsInfoWithin}
-use Rattle.lq_seat.specs.Seat.{IsSeat, origin_of}
-use Rattle.lq_table.specs.Keyed.{starting}
-use Rattle.lq_table.specs.Rule.{station_count, times}
-use Rattle.lq_table.specs.Sees.{view}
-use Rattle.lq_table.specs.Solo.{IsSole}
-use Rattle.lq_table.specs.Views.{View}
-use Rattle.lq_table.specs.declared.shared.Cpu.{Cpu}
-use Rattle.lq_table.specs.declared.shared.Shared.{Shared}
+use Rattle.lq_seat.specs.Ends.{MayCloseBy}
+use Rattle.lq_seat.specs.State.{new_seat, SeatState, TableState, IsTableOf, setup_of, IsHere, station_count, times}
 use Rattle.lq_senders.specs.Ends.{ClosedState}
-use Rattle.lq_senders.specs.Lanes.{IsTableOf, setup_of}
 use Rattle.lq_senders.specs.declared.lanes.Lane.{Lane}
 
 -- PACKETS
@@ -62,82 +55,77 @@ pub record ConfiguresSpare (plan : Plan) (infos : List Info) (e : ℕ) (before a
 
 -- STATIONS
 
-module _ {D : Type 0} where
-  -- the station's table is new, over its device of the bench
-  pub record IsOpenedAt (plan : Plan) (infos : List Info) (devices : List DeviceState) (j : ℕ) (t : Shared D) (c : Cpu D) : Type 0 where
-    pub table : IsTableOf plan infos j t
-    pub seat : IsSeat t c
-    pub device : slice_get devices j ≡ Some (origin_of (view c))
-    pub view_is : view c ≡ starting (setup_of plan infos j) (initial_station j (origin_of (view c)))
+-- the station's table is new, over its device of the bench
+pub record IsOpenedAt (plan : Plan) (infos : List Info) (devices : List DeviceState) (j : ℕ) (t : TableState) (c : SeatState) : Type 0 where
+  pub table : IsTableOf plan infos j t
+  pub seat : IsHere t c
+  pub device : slice_get devices j ≡ Some c.origin
+  pub view_is : c ≡ new_seat c.table (setup_of plan infos j) c.origin
 
-  pub record AreOpened (plan : Plan) (infos : List Info) (devices : List DeviceState) (tables : List (Shared D)) (cpus : List (Cpu D)) : Type 0 where
-    pub long : length cpus ≡ length tables
-    pub each : (j : ℕ) (t : Shared D) (c : Cpu D) → slice_get tables j ≡ Some t → slice_get cpus j ≡ Some c → IsOpenedAt plan infos devices j t c
+pub record AreOpened (plan : Plan) (infos : List Info) (devices : List DeviceState) (tables : List TableState) (cpus : List SeatState) : Type 0 where
+  pub long : length cpus ≡ length tables
+  pub each : (j : ℕ) (t : TableState) (c : SeatState) → slice_get tables j ≡ Some t → slice_get cpus j ≡ Some c → IsOpenedAt plan infos devices j t c
 
-  -- each table has one seat alone, which is in no call and may end it
-  pub record HasOneSeat (t : Shared D) (c : Cpu D) : Type 0 where
-    pub seat : IsSeat t c
-    pub sole : IsSole (view c)
-    pub first : (view c).control.first ≡ true
-    pub raised : (view c).place.raised ≡ false
+-- each table has one seat alone, which is in no call and may end it
+pub record HasOneSeat (t : TableState) (c : SeatState) : Type 0 where
+  pub seat : IsHere t c
+  pub may : MayCloseBy c
 
-  pub record AreWhole (tables : List (Shared D)) (cpus : List (Cpu D)) : Type 0 where
-    pub long : length cpus ≡ length tables
-    pub each : (j : ℕ) (t : Shared D) (c : Cpu D) → slice_get tables j ≡ Some t → slice_get cpus j ≡ Some c → HasOneSeat t c
+pub record AreWhole (tables : List TableState) (cpus : List SeatState) : Type 0 where
+  pub long : length cpus ≡ length tables
+  pub each : (j : ℕ) (t : TableState) (c : SeatState) → slice_get tables j ≡ Some t → slice_get cpus j ≡ Some c → HasOneSeat t c
 
-  -- which devices came to the seats' stations
-  abbrev pub origins_of : List (Cpu D) → List ℕ
-  origins_of cpus = map (λ (c : Cpu D). (origin_of (view c)).identity) cpus
+-- which devices came to the seats' stations
+abbrev pub origins_of : List SeatState → List ℕ
+origins_of cpus = map (λ (c : SeatState). c.origin.identity) cpus
 
 -- SENDERS
 
 -- the first sender's seat, from which those of the senders from `next` on are still to be split off
-pub record IsSplitting (plan : Plan) (next : ℕ) (v : View) : Type 0 where
-  pub shares : v.share.shares + next ≡ 1025
-  pub own : 0 < times 0 v.share.owners
-  pub rest : (owner : ℕ) → next ≤ owner → owner < plan.senders → 0 < times owner v.share.owners
+pub record IsSplitting (plan : Plan) (next : ℕ) (v : SeatState) : Type 0 where
+  pub shares : v.shares + next ≡ 1025
+  pub own : 0 < times 0 v.owners
+  pub rest : (owner : ℕ) → next ≤ owner → owner < plan.senders → 0 < times owner v.owners
   pub wide : length v.turns ≡ plan.senders
   pub turns : (owner : ℕ) → slice_index v.turns owner ≡ 0
-  pub first : v.control.first ≡ true
-  pub raised : v.place.raised ≡ false
+  pub first : v.first ≡ true
+  pub raised : v.raised ≡ false
   pub trail : v.trail ≡ []
-  pub told : v.whole.told ≡ true
+  pub told : v.told ≡ true
 
-module _ {D : Type 0} where
-  pub record SplitsAt (plan : Plan) (infos : List Info) (next j : ℕ) (t : Shared D) (c : Cpu D) : Type 0 where
-    pub table : IsTableOf plan infos j t
-    pub seat : IsSeat t c
-    pub splitting : IsSplitting plan next (view c)
+pub record SplitsAt (plan : Plan) (infos : List Info) (next j : ℕ) (t : TableState) (c : SeatState) : Type 0 where
+  pub table : IsTableOf plan infos j t
+  pub seat : IsHere t c
+  pub splitting : IsSplitting plan next c
 
-  pub record AreSplitting (plan : Plan) (infos : List Info) (next : ℕ) (tables : List (Shared D)) (cpus : List (Cpu D)) : Type 0 where
-    pub long : length cpus ≡ length tables
-    pub all : length tables ≡ length plan.stations
-    pub each : (j : ℕ) (t : Shared D) (c : Cpu D) → slice_get tables j ≡ Some t → slice_get cpus j ≡ Some c → SplitsAt plan infos next j t c
+pub record AreSplitting (plan : Plan) (infos : List Info) (next : ℕ) (tables : List TableState) (cpus : List SeatState) : Type 0 where
+  pub long : length cpus ≡ length tables
+  pub all : length tables ≡ length plan.stations
+  pub each : (j : ℕ) (t : TableState) (c : SeatState) → slice_get tables j ≡ Some t → slice_get cpus j ≡ Some c → SplitsAt plan infos next j t c
 
-  -- the lane at this place among those of the other senders has no seat yet, and room for one at each station
-  pub record IsEmptyLane (plan : Plan) (place : ℕ) (l : Lane D) : Type 0 where
-    pub owner_is : l.owner ≡ place + 1
-    pub none_yet : l.cpus.items ≡ []
-    pub room : length plan.stations ≤ vec_capacity l.cpus
+-- the lane at this place among those of the other senders has no seat yet, and room for one at each station
+pub record IsEmptyLane {D : Type 0} (plan : Plan) (place : ℕ) (l : Lane D) : Type 0 where
+  pub owner_is : l.owner ≡ place + 1
+  pub none_yet : l.cpus.items ≡ []
+  pub room : length plan.stations ≤ vec_capacity l.cpus
 
-  -- one for each sender but the first
-  pub record AreEmptyLanes (plan : Plan) (lanes : List (Lane D)) : Type 0 where
-    pub one_each : length lanes + 1 ≡ plan.senders
-    pub each : (i : ℕ) (l : Lane D) → slice_get lanes i ≡ Some l → IsEmptyLane plan i l
+-- one for each sender but the first
+pub record AreEmptyLanes {D : Type 0} (plan : Plan) (lanes : List (Lane D)) : Type 0 where
+  pub one_each : length lanes + 1 ≡ plan.senders
+  pub each : (i : ℕ) (l : Lane D) → slice_get lanes i ≡ Some l → IsEmptyLane plan i l
 
 -- A RUN THAT MAY BEGIN
 
-module _ {D : Type 0} where
-  -- The tables are new, over the devices of a bench, which were configured as they stood there; those that exchanges bring are
-  -- to spare.
-  pub record AreTablesReady (plan : Plan) (infos : List Info) (before : List DeviceState) (tables : List (Shared D)) (cpus : List (Cpu D)) (spares : List DeviceState) : Type 0 where
-    pub devices : List DeviceState
-    pub units : unit_count plan ≤ length before
-    pub configured : AreConfigured plan infos (length plan.stations) before devices
-    pub brought : AreBroughtAsConfigured plan infos before devices
-    pub opened : AreOpened plan infos devices tables cpus
-    pub all : length tables ≡ length plan.stations
-    pub spares_are : spares ≡ take (count_by is_swap plan.events) (drop (length plan.stations) devices)
+-- The tables are new, over the devices of a bench, which were configured as they stood there; those that exchanges bring are
+-- to spare.
+pub record AreTablesReady (plan : Plan) (infos : List Info) (before : List DeviceState) (tables : List TableState) (cpus : List SeatState) (spares : List DeviceState) : Type 0 where
+  pub devices : List DeviceState
+  pub units : unit_count plan ≤ length before
+  pub configured : AreConfigured plan infos (length plan.stations) before devices
+  pub brought : AreBroughtAsConfigured plan infos before devices
+  pub opened : AreOpened plan infos devices tables cpus
+  pub all : length tables ≡ length plan.stations
+  pub spares_are : spares ≡ take (count_by is_swap plan.events) (drop (length plan.stations) devices)
 
 -- WHAT COMES BACK
 

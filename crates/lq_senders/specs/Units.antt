@@ -7,10 +7,7 @@ use Rattle.lq_model.specs.declared.device.Params.{Params}
 use Rattle.lq_model.specs.declared.fate.Info.{Info}
 use Rattle.lq_model.specs.declared.plan.EventKind.TheVariants as kind
 use Rattle.lq_model.specs.declared.plan.EventPlan.{EventPlan}
-use Rattle.lq_seat.specs.Seat.{origin_of}
-use Rattle.lq_table.specs.Rule.{HasServed, station_count}
-use Rattle.lq_table.specs.Sees.{view}
-use Rattle.lq_table.specs.declared.shared.Cpu.{Cpu}
+use Rattle.lq_seat.specs.State.{SeatState, HasServed, station_count}
 
 -- UNITS
 
@@ -51,30 +48,29 @@ abbrev pub DoTell : Plan → List DeviceState → Type 0
 DoTell plan units = (e : ℕ) (event : EventPlan) (params : Params) (device : DeviceState) → slice_get plan.events e ≡ Some event → event.kind ≡ kind.Swap params
     → slice_get units (unit_of_swap plan e) ≡ Some device → device.told ≡ Some (new_device params)
 
-module _ {D : Type 0} where
-  -- the device that the exchange numbered e took away: its unit came to the station as this one, and its seat knows what it sent
-  pub record IsTaken (plan : Plan) (infos : List Info) (units taken : List DeviceState) (cpus : List (Cpu D)) (e : ℕ) (event : EventPlan) : Type 0 where
-    pub origin : DeviceState
-    pub device : DeviceState
-    pub came : slice_get units (unit_at plan event.station e) ≡ Some origin
-    pub went : slice_get taken (swaps_before plan e) ≡ Some device
-    pub has_served : HasServed infos event.station origin device
-    pub gone : (c : Cpu D) → slice_get cpus event.station ≡ Some c → Contains (view c).control.gone (unit_at plan event.station e, device.accepted)
+-- the device that the exchange numbered e took away: its unit came to the station as this one, and its seat knows what it sent
+pub record IsTaken (plan : Plan) (infos : List Info) (units taken : List DeviceState) (cpus : List SeatState) (e : ℕ) (event : EventPlan) : Type 0 where
+  pub origin : DeviceState
+  pub device : DeviceState
+  pub came : slice_get units (unit_at plan event.station e) ≡ Some origin
+  pub went : slice_get taken (swaps_before plan e) ≡ Some device
+  pub has_served : HasServed infos event.station origin device
+  pub gone : (c : SeatState) → slice_get cpus event.station ≡ Some c → Contains c.gone (unit_at plan event.station e, device.accepted)
 
-  -- After the first so many events each station has its unit's device, and the spare devices are those of the exchanges that are
-  -- left, in order, and then those that the others took away.
-  pub record DevicesStand (plan : Plan) (infos : List Info) (units : List DeviceState) (count : ℕ) (cpus : List (Cpu D)) (spares : List DeviceState) : Type 0 where
-    pub units_are : AreUnits plan infos units
-    pub home : (j : ℕ) (c : Cpu D) → slice_get cpus j ≡ Some c → slice_get units (unit_at plan j count) ≡ Some (origin_of (view c))
-    pub taken : List DeviceState
-    pub so_many : length taken ≡ swaps_before plan count
-    pub spares_are : spares ≡ drop (unit_of_swap plan count) units ++ taken
-    pub each : (e : ℕ) (event : EventPlan) → e < count → slice_get plan.events e ≡ Some event → is_swap event ≡ true → IsTaken plan infos units taken cpus e event
+-- After the first so many events each station has its unit's device, and the spare devices are those of the exchanges that are
+-- left, in order, and then those that the others took away.
+pub record DevicesStand (plan : Plan) (infos : List Info) (units : List DeviceState) (count : ℕ) (cpus : List SeatState) (spares : List DeviceState) : Type 0 where
+  pub units_are : AreUnits plan infos units
+  pub home : (j : ℕ) (c : SeatState) → slice_get cpus j ≡ Some c → slice_get units (unit_at plan j count) ≡ Some c.origin
+  pub taken : List DeviceState
+  pub so_many : length taken ≡ swaps_before plan count
+  pub spares_are : spares ≡ drop (unit_of_swap plan count) units ++ taken
+  pub each : (e : ℕ) (event : EventPlan) → e < count → slice_get plan.events e ≡ Some event → is_swap event ≡ true → IsTaken plan infos units taken cpus e event
 
-  -- the devices that came to the seats' stations are the same, and those that went
-  pub record SameDevices (old new : List (Cpu D)) : Type 0 where
-    pub long : length new ≡ length old
-    pub each : (j : ℕ) (c c' : Cpu D) → slice_get old j ≡ Some c → slice_get new j ≡ Some c' → (origin_of (view c') ≡ origin_of (view c)) × ((view c').control.gone ≡ (view c).control.gone)
+-- the devices that came to the seats' stations are the same, and those that went
+pub record SameDevices (old new : List SeatState) : Type 0 where
+  pub long : length new ≡ length old
+  pub each : (j : ℕ) (c c' : SeatState) → slice_get old j ≡ Some c → slice_get new j ≡ Some c' → (c'.origin ≡ c.origin) × (c'.gone ≡ c.gone)
 
 -- THE EXCHANGES UNDONE
 

@@ -8,7 +8,7 @@ use Rattle.lq_model.specs.Plan.{Plan, is_at, unit_of_swap}
 use Rattle.lq_model.specs.Settled.{down_after, length_after}
 use Rattle.lq_model.specs.declared.fate.Cause.TheVariants as cause
 use Rattle.lq_model.specs.declared.plan.EventPlan.{EventPlan}
-use Rattle.lq_table.specs.Rule.{latest_unit, units_of}
+use Rattle.lq_seat.specs.State.{latest_unit, units_of}
 use Rattle.lq_senders.specs.Units.{unit_at}
 
 -- the event that leaves the station deactivated after these events, numbered from e on

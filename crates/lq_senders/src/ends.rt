@@ -1,25 +1,26 @@
 //! The end of a run: seats are joined, stations finished and closed.
 ghost use Rattle.std.specs.Prelude.{◌≡◌, ℕ, ◌+◌, ◌≤◌, [], length, map, vec_capacity};
+ghost use Rattle.lq_seat.specs.Calls.{Joins};
+ghost use Rattle.lq_seat.specs.Ends.{Finishes};
 ghost use Rattle.lq_senders.specs.Ends.{AllMayClose, FirstClosed, HasEnded, closed_state};
 ghost use Rattle.lq_senders.specs.Joins.{AreFirst, LaneJoined};
 ghost use Rattle.lq_senders.specs.Lanes.{AllDid, AreDoneLanes, IsDoneLane, IsSendable, LaneDone};
 ghost use Rattle.lq_senders.specs.Units.{SameDevices};
-ghost use Rattle.lq_seat.specs.Calls.{Finishes};
 
 use crate::lanes::Lane;
 use lq_device::TxDevice;
 use lq_model::Info;
 use lq_plan::Plan;
-use lq_seat::{close_station, finish, join_seats};
-use lq_table::{Closed, Cpu, Shared};
+use lq_seat::{Seat, Table};
+use lq_table::Closed;
 use std::sync::Wait;
 
 /// Joins the seats of the other senders' lane at this place into the first sender's. The lanes after it were taken in before.
 fn join_lane<'a, D: TxDevice>(
     plan: &Plan,
     infos: &[Info],
-    shared: &[Shared<'a, D>],
-    cpus: &mut Vec<Cpu<D>>,
+    shared: &[Table<'a, D>],
+    cpus: &mut Vec<Seat<D>>,
     place: usize,
     lane: Lane<D>,
 )
@@ -35,7 +36,7 @@ fn join_lane<'a, D: TxDevice>(
     let mut others = lane.cpus;
     while let Some(other) = others.pop() {
         let j = others.len();
-        join_seats(&shared[j], &mut cpus[j], other);
+        cpus[j].join(&shared[j], other);
     }
 }
 
@@ -43,8 +44,8 @@ fn join_lane<'a, D: TxDevice>(
 fn join_all<'a, D: TxDevice>(
     plan: &Plan,
     infos: &[Info],
-    shared: &[Shared<'a, D>],
-    cpus: &mut Vec<Cpu<D>>,
+    shared: &[Table<'a, D>],
+    cpus: &mut Vec<Seat<D>>,
     mut others: Vec<Lane<D>>,
 )
     requires first { LaneJoined plan.now infos.now (length others.items) shared.now cpus.old.items }
@@ -64,17 +65,17 @@ fn finish_all<'a, R: Wait, D: TxDevice>(
     rt: &R,
     plan: &Plan,
     infos: &[Info],
-    shared: &[Shared<'a, D>],
-    cpus: &mut Vec<Cpu<D>>,
+    shared: &[Table<'a, D>],
+    cpus: &mut Vec<Seat<D>>,
 )
     requires sendable { IsSendable plan.now infos.now }
     requires joined { LaneJoined plan.now infos.now 0 shared.now cpus.old.items }
-    ensures { AllDid Finishes shared.now cpus.old.items cpus.new.items }
+    ensures { AllDid Finishes cpus.old.items cpus.new.items }
 {
     let _ = &plan;
     let _ = &infos;
     for j in 0..shared.len() {
-        finish(rt, &shared[j], &mut cpus[j]);
+        cpus[j].finish(rt, &shared[j]);
     }
 }
 
@@ -82,8 +83,8 @@ fn finish_all<'a, R: Wait, D: TxDevice>(
 fn close_all<'a, D: TxDevice>(
     plan: &Plan,
     infos: &[Info],
-    mut shared: Vec<Shared<'a, D>>,
-    mut cpus: Vec<Cpu<D>>,
+    mut shared: Vec<Table<'a, D>>,
+    mut cpus: Vec<Seat<D>>,
     closed: &mut Vec<Closed<D>>,
 )
     requires may { AllMayClose plan.now infos.now shared.items cpus.items }
@@ -95,7 +96,7 @@ fn close_all<'a, D: TxDevice>(
     for _station in 0..plan.stations() {
         let table = shared.remove(0);
         let cpu = cpus.remove(0);
-        let ended = close_station(table, cpu);
+        let ended = table.close(cpu);
         closed.push_reserved(ended);
     }
 }
@@ -106,8 +107,8 @@ pub fn end_run<'a, R: Wait, D: TxDevice>(
     rt: &R,
     plan: &Plan,
     infos: &[Info],
-    shared: Vec<Shared<'a, D>>,
-    mut cpus: Vec<Cpu<D>>,
+    shared: Vec<Table<'a, D>>,
+    mut cpus: Vec<Seat<D>>,
     others: Vec<Lane<D>>,
     closed: &mut Vec<Closed<D>>,
 )

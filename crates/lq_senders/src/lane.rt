@@ -1,5 +1,7 @@
 //! What a sender does at its seats.
 ghost use Rattle.std.specs.Prelude.{◌≡◌, ℕ, ◌+◌, ◌<◌, ◌≤◌, ◌-◌, ◌/◌, List, map, length, slice_get};
+ghost use Rattle.lq_seat.specs.Calls.{SendsPacket, WakesQueues, Drains};
+ghost use Rattle.lq_seat.specs.State.{SeatState};
 ghost use Rattle.lq_senders.specs.Lanes.{AllDid, AreSeats, IsSendable, IsSending, KeepAll, KeepSeats, LaneDone, LaneStands, AreRunAlone, WokenOrNot};
 ghost use Rattle.lq_senders.specs.Units.{DevicesStand, DoTell};
 ghost use Rattle.lq_senders.specs.Way.{IsSplitAt, numbers_from};
@@ -8,15 +10,13 @@ ghost use Rattle.lq_model.specs.Alone.{RunningStation, served, with_events, with
 ghost use Rattle.lq_model.specs.Device.{DeviceState};
 ghost use Rattle.lq_model.specs.Plan.{owner_in};
 ghost use Rattle.lq_model.specs.declared.plan.EventPlan.{EventPlan as AnEvent};
-ghost use Rattle.lq_seat.specs.Calls.{Drains, WakesQueues};
 
 use crate::swaps::do_any_event;
 use lq_device::TxDevice;
 use lq_gate::Gate;
 use lq_model::Info;
 use lq_plan::Plan;
-use lq_seat::{drain, send, wake};
-use lq_table::{Cpu, Shared};
+use lq_seat::{Seat, Table};
 use std::sync::Wait;
 
 /// Sends packet `n`, the next of its owner.
@@ -24,8 +24,8 @@ fn send_packet<'a, R: Wait, D: TxDevice>(
     rt: &R,
     plan: &Plan,
     infos: &[Info],
-    shared: &[Shared<'a, D>],
-    cpus: &mut Vec<Cpu<D>>,
+    shared: &[Table<'a, D>],
+    cpus: &mut Vec<Seat<D>>,
     n: u32,
 )
     requires packet { n < length infos.now }
@@ -40,44 +40,40 @@ fn send_packet<'a, R: Wait, D: TxDevice>(
 {
     let station = infos[n as usize].station;
     let _ = &plan;
-    send(
-        rt,
-        &shared[station as usize],
-        &mut cpus[station as usize],
-        n,
-    );
+    let table = &shared[station as usize];
+    cpus[station as usize].send(rt, table, n);
 }
 
 /// Wakes the queues of each station.
-fn wake_all<'a, D: TxDevice>(shared: &[Shared<'a, D>], cpus: &mut Vec<Cpu<D>>)
+fn wake_all<'a, D: TxDevice>(shared: &[Table<'a, D>], cpus: &mut Vec<Seat<D>>)
     requires seats { AreSeats shared.now cpus.old.items }
-    ensures { AllDid WakesQueues shared.now cpus.old.items cpus.new.items }
+    ensures { AllDid WakesQueues cpus.old.items cpus.new.items }
 {
     for j in 0..shared.len() {
-        wake(&shared[j], &mut cpus[j]);
+        cpus[j].wake(&shared[j]);
     }
 }
 
 /// Does the soft interrupts of each seat.
-fn drain_all<'a, R: Wait, D: TxDevice>(rt: &R, shared: &[Shared<'a, D>], cpus: &mut Vec<Cpu<D>>)
+fn drain_all<'a, R: Wait, D: TxDevice>(rt: &R, shared: &[Table<'a, D>], cpus: &mut Vec<Seat<D>>)
     requires seats { AreSeats shared.now cpus.old.items }
-    ensures { AllDid Drains shared.now cpus.old.items cpus.new.items }
+    ensures { AllDid Drains cpus.old.items cpus.new.items }
 {
     for j in 0..shared.len() {
-        drain(rt, &shared[j], &mut cpus[j]);
+        cpus[j].drain(rt, &shared[j]);
     }
 }
 
 /// Wakes the queues after a sender's packet `k`, if the plan wakes them there.
 fn wake_after<'a, D: TxDevice>(
     plan: &Plan,
-    shared: &[Shared<'a, D>],
-    cpus: &mut Vec<Cpu<D>>,
+    shared: &[Table<'a, D>],
+    cpus: &mut Vec<Seat<D>>,
     k: u32,
 )
     requires number { k < 1000000 }
     requires seats { AreSeats shared.now cpus.old.items }
-    ensures { WokenOrNot plan.now k shared.now cpus.old.items cpus.new.items }
+    ensures { WokenOrNot plan.now k cpus.old.items cpus.new.items }
 {
     if (k + 1) % plan.irq_every() == 0 {
         wake_all(shared, cpus);
@@ -89,8 +85,8 @@ fn turn<'a, R: Wait, D: TxDevice>(
     rt: &R,
     plan: &Plan,
     infos: &[Info],
-    shared: &[Shared<'a, D>],
-    cpus: &mut Vec<Cpu<D>>,
+    shared: &[Table<'a, D>],
+    cpus: &mut Vec<Seat<D>>,
     k: u32,
 )
     requires number { k < 1000000 }
@@ -100,8 +96,8 @@ fn turn<'a, R: Wait, D: TxDevice>(
     ensures keeps { KeepAll cpus.old.items cpus.new.items }
     ensures runs { (stations : List RunningStation) → AreRunAlone plan.now infos.now cpus.old.items stations
         → AreRunAlone plan.now infos.now cpus.new.items (map (served infos.now) (with_wakes plan.now k stations)) }
-    ensures woke { (start : List (Cpu D.row.Denot)) → AllWoke shared.now (k / plan.now.irq_every) start cpus.old.items
-        → AllWoke shared.now ((k + 1) / plan.now.irq_every) start cpus.new.items }
+    ensures woke { (start : List SeatState) → AllWoke (k / plan.now.irq_every) start cpus.old.items
+        → AllWoke ((k + 1) / plan.now.irq_every) start cpus.new.items }
 {
     let _ = &infos;
     plan.stays_within_limits();
@@ -114,8 +110,8 @@ fn events_before<'a, R: Wait, D: TxDevice>(
     rt: &R,
     plan: &Plan,
     infos: &[Info],
-    shared: &[Shared<'a, D>],
-    cpus: &mut Vec<Cpu<D>>,
+    shared: &[Table<'a, D>],
+    cpus: &mut Vec<Seat<D>>,
     spares: &mut Vec<D>,
     next: u32,
     n: u32,
@@ -151,8 +147,8 @@ pub fn events_of<'a, R: Wait, D: TxDevice>(
     rt: &R,
     plan: &Plan,
     infos: &[Info],
-    shared: &[Shared<'a, D>],
-    cpus: &mut Vec<Cpu<D>>,
+    shared: &[Table<'a, D>],
+    cpus: &mut Vec<Seat<D>>,
     spares: &mut Vec<D>,
     sender: u32,
     next: u32,
@@ -186,8 +182,8 @@ pub fn events_of<'a, R: Wait, D: TxDevice>(
 fn pass_before<'a, D: TxDevice, G: Gate>(
     plan: &Plan,
     infos: &[Info],
-    shared: &[Shared<'a, D>],
-    cpus: &Vec<Cpu<D>>,
+    shared: &[Table<'a, D>],
+    cpus: &Vec<Seat<D>>,
     sender: u32,
     next: u32,
     k: u32,
@@ -211,8 +207,8 @@ fn pass_before<'a, D: TxDevice, G: Gate>(
 pub fn pass_last<'a, D: TxDevice, G: Gate>(
     plan: &Plan,
     infos: &[Info],
-    shared: &[Shared<'a, D>],
-    cpus: &Vec<Cpu<D>>,
+    shared: &[Table<'a, D>],
+    cpus: &Vec<Seat<D>>,
     sender: u32,
     k: u32,
     gate: &G,
@@ -232,8 +228,8 @@ fn bring<'a, R: Wait, D: TxDevice, G: Gate>(
     rt: &R,
     plan: &Plan,
     infos: &[Info],
-    shared: &[Shared<'a, D>],
-    cpus: &mut Vec<Cpu<D>>,
+    shared: &[Table<'a, D>],
+    cpus: &mut Vec<Seat<D>>,
     spares: &mut Vec<D>,
     sender: u32,
     next: u32,
@@ -261,8 +257,8 @@ fn bring<'a, R: Wait, D: TxDevice, G: Gate>(
         → (stations : List RunningStation) → AreRunAlone plan.now infos.now cpus.old.items stations
         → AreRunAlone plan.now infos.now cpus.new.items (map (served infos.now) (with_wakes plan.now k (with_packet plan.now infos.now n
         (with_events plan.now infos.now (numbers_from next (result - next)) stations)))) }
-    ensures woke { (start : List (Cpu D.row.Denot)) → AllWoke shared.now (k / plan.now.irq_every) start cpus.old.items
-        → AllWoke shared.now ((k + 1) / plan.now.irq_every) start cpus.new.items }
+    ensures woke { (start : List SeatState) → AllWoke (k / plan.now.irq_every) start cpus.old.items
+        → AllWoke ((k + 1) / plan.now.irq_every) start cpus.new.items }
 {
     let next = events_of(rt, plan, infos, shared, cpus, spares, sender, next, n);
     pass_before(plan, infos, shared, cpus, sender, next, k, n, gate);
@@ -283,8 +279,8 @@ pub fn come_to<'a, R: Wait, D: TxDevice, G: Gate>(
     rt: &R,
     plan: &Plan,
     infos: &[Info],
-    shared: &[Shared<'a, D>],
-    cpus: &mut Vec<Cpu<D>>,
+    shared: &[Table<'a, D>],
+    cpus: &mut Vec<Seat<D>>,
     spares: &mut Vec<D>,
     sender: u32,
     at: Progress,
@@ -293,10 +289,10 @@ pub fn come_to<'a, R: Wait, D: TxDevice, G: Gate>(
 ) -> Progress
     requires packet { n < length infos.now }
     requires sendable { IsSendable plan.now infos.now }
-    requires sending { (start : List (Cpu D.row.Denot)) × (brought : List DeviceState)
+    requires sending { (start : List SeatState) × (brought : List DeviceState)
         × IsSending plan.now infos.now shared.now sender n at.sent at.next start brought cpus.old.items (map D.state spares.old.items) }
     requires devices { sender ≡ 0 → (units : List DeviceState) × DevicesStand plan.now infos.now units at.next cpus.old.items (map D.state spares.old.items) }
-    ensures { (start : List (Cpu D.row.Denot)) (brought : List DeviceState)
+    ensures { (start : List SeatState) (brought : List DeviceState)
         → IsSending plan.now infos.now shared.now sender n at.sent at.next start brought cpus.old.items (map D.state spares.old.items)
         → IsSending plan.now infos.now shared.now sender (n + 1) result.sent result.next start brought cpus.new.items (map D.state spares.new.items) }
 {

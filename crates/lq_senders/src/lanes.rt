@@ -1,5 +1,6 @@
 //! Senders side by side.
 ghost use Rattle.std.specs.Prelude.{◌≡◌, ℕ, ◌≤◌, ◌-◌, ◌/◌, List, length, map};
+ghost use Rattle.lq_seat.specs.Calls.{SendsPacket};
 ghost use Rattle.lq_senders.specs.Lanes.{AllOwn, AreDoneLanes, AreReadyLanes, IsDoneLane, IsReadyLane, IsSendable, KeepSeats, LaneDone, LaneStands, AreRunAlone, after_sending};
 ghost use Rattle.lq_senders.specs.Units.{DevicesStand, DoTell};
 ghost use Rattle.lq_senders.specs.Way.{numbers_from};
@@ -12,7 +13,7 @@ use lq_device::TxDevice;
 use lq_gate::Gate;
 use lq_model::Info;
 use lq_plan::Plan;
-use lq_table::{Cpu, Shared};
+use lq_seat::{Seat, Table};
 use std::sync::Wait;
 use std::thread;
 use std::thread::Threads;
@@ -21,7 +22,7 @@ use std::thread::Threads;
 #[derive(Drop)]
 pub struct Lane<D: TxDevice> {
     pub owner: u32,
-    pub cpus: Vec<Cpu<D>>,
+    pub cpus: Vec<Seat<D>>,
     /// The devices of the exchanges to come, in order, and then those that exchanges took away. They are the first sender's.
     pub spares: Vec<D>,
 }
@@ -31,8 +32,8 @@ fn events_left<'a, R: Wait, D: TxDevice>(
     rt: &R,
     plan: &Plan,
     infos: &[Info],
-    shared: &[Shared<'a, D>],
-    cpus: &mut Vec<Cpu<D>>,
+    shared: &[Table<'a, D>],
+    cpus: &mut Vec<Seat<D>>,
     spares: &mut Vec<D>,
     sender: u32,
     next: u32,
@@ -70,7 +71,7 @@ pub fn send_loop<'a, R: Wait, D: TxDevice, G: Gate>(
     rt: &R,
     plan: &Plan,
     infos: &[Info],
-    shared: &[Shared<'a, D>],
+    shared: &[Table<'a, D>],
     lane: &mut Lane<D>,
     gate: &G,
 )
@@ -85,7 +86,7 @@ pub fn send_loop<'a, R: Wait, D: TxDevice, G: Gate>(
     ensures runs { lane.old.owner ≡ 0 → (units : List DeviceState) → DevicesStand plan.now infos.now units 0 lane.old.cpus.items (map D.state lane.old.spares.items) → DoTell plan.now units
         → AllOwn infos.now → (from : List RunningStation) → AreRunAlone plan.now infos.now lane.old.cpus.items from
         → AreRunAlone plan.now infos.now lane.new.cpus.items (after_sending plan.now infos.now from) }
-    ensures woke { AllWoke shared.now (count_sent infos.now lane.old.owner (length infos.now) / plan.now.irq_every) lane.old.cpus.items lane.new.cpus.items }
+    ensures woke { AllWoke (count_sent infos.now lane.old.owner (length infos.now) / plan.now.irq_every) lane.old.cpus.items lane.new.cpus.items }
 {
     plan.stays_within_limits();
     let sender = lane.owner;
@@ -122,7 +123,7 @@ fn send_other<'a, R: Wait, D: TxDevice, G: Gate>(
     rt: &R,
     plan: &Plan,
     infos: &[Info],
-    shared: &[Shared<'a, D>],
+    shared: &[Table<'a, D>],
     place: usize,
     lane: &mut Lane<D>,
     gate: &G,
@@ -140,7 +141,7 @@ fn others_send<'a, R: Threads + Wait + Sync, D: TxDevice, G: Gate>(
     rt: &R,
     plan: &Plan,
     infos: &[Info],
-    shared: &[Shared<'a, D>],
+    shared: &[Table<'a, D>],
     lanes: &mut [Lane<D>],
     gate: &G,
 )
@@ -166,7 +167,7 @@ fn first_sent<'a, R: Wait, D: TxDevice, G: Gate>(
     rt: &R,
     plan: &Plan,
     infos: &[Info],
-    shared: &[Shared<'a, D>],
+    shared: &[Table<'a, D>],
     mut lane: Lane<D>,
     gate: &G,
 ) -> Lane<D>
@@ -191,7 +192,7 @@ fn others_sent<'a, R: Threads + Wait + Sync, D: TxDevice, G: Gate>(
     rt: &R,
     plan: &Plan,
     infos: &[Info],
-    shared: &[Shared<'a, D>],
+    shared: &[Table<'a, D>],
     mut lanes: Vec<Lane<D>>,
     gate: &G,
 ) -> Vec<Lane<D>>
@@ -209,7 +210,7 @@ pub fn all_send<'a, R: Threads + Wait + Sync, D: TxDevice, G: Gate>(
     rt: &R,
     plan: &Plan,
     infos: &[Info],
-    shared: &[Shared<'a, D>],
+    shared: &[Table<'a, D>],
     first: Lane<D>,
     others: Vec<Lane<D>>,
     gate: &G,

@@ -10,7 +10,7 @@ use crate::spares::{configure_spares, take_spares};
 use lq_device::TxDevice;
 use lq_model::{Info, NoMemory};
 use lq_plan::Plan;
-use lq_table::{Cpu, Shared};
+use lq_seat::{Seat, Table};
 use std::alloc::Global;
 
 /// Configures the device of each unit and takes it out of the bench: those of the stations into tables of their own, and those
@@ -24,8 +24,8 @@ pub fn make_ready<'a, D: TxDevice>(
     plan: &Plan,
     infos: &'a [Info],
     bench: &mut Vec<D>,
-    tables: Vec<Shared<'a, D>>,
-    cpus: Vec<Cpu<D>>,
+    tables: Vec<Table<'a, D>>,
+    cpus: Vec<Seat<D>>,
     spares: &mut Vec<D>,
 ) -> Result<Stations<'a, D>, NoMemory>
     requires sendable { IsSendable plan.now infos.now }

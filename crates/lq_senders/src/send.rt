@@ -1,5 +1,6 @@
 //! The packets of a capture through the stations of a plan.
 ghost use Rattle.std.specs.Prelude.{◌≡◌, ◌≤◌, ◌+◌, ◌++◌, [], List, IfOk, OnErr, drop, take, length, map, vec_capacity, vec_len};
+ghost use Rattle.lq_seat.specs.Calls.{SendsPacket};
 ghost use Rattle.lq_senders.specs.Fates.{AreEnded, AreFatesOf, identities_of};
 ghost use Rattle.lq_table.specs.Ended.{ended_state};
 ghost use Rattle.lq_senders.specs.Lanes.{IsSendable};
@@ -66,11 +67,11 @@ fn send_ready<'a, R: Threads + Wait + Sync, D: TxDevice, G: Gate>(
         spares,
     };
     let spares = run(rt, plan, infos, tables, first, others, &mut closed, gate);
-    runs_are_readable::<D>();
-    runs_make_fates::<D>();
-    runs_leave_stations::<D>();
-    runs_leave_devices::<D>();
-    runs_keep_boxes::<D>();
+    runs_are_readable();
+    runs_make_fates();
+    runs_leave_stations();
+    runs_leave_devices();
+    runs_keep_boxes();
     read_fates(closed.as_slice(), infos, fates);
     take_apart(closed, &mut homes, ended);
     hand_back(plan, homes, spares, bench);

@@ -3,19 +3,19 @@
 //! All memory but that of the tables is taken before a device leaves the bench. Where there is none for a table, those
 //! opened before it end, and each device is back in the bench.
 ghost use Rattle.std.specs.Prelude.{◌≡◌, ◌≤◌, ◌<◌, ◌+◌, ◌-◌, ◌++◌, ℕ, [], List, IfOk, OnOk, OnErr, drop, length, map, vec_len, vec_capacity};
+ghost use Rattle.lq_seat.specs.Calls.{without};
+ghost use Rattle.lq_seat.specs.State.{station_count};
 ghost use Rattle.lq_senders.specs.Fates.{identities_of};
 ghost use Rattle.lq_senders.specs.Lanes.{AreReadyLanes, IsReadyLane, IsSendable};
 ghost use Rattle.lq_senders.specs.Setup.{AreConfigured, AreEmptyLanes, AreOpened, AreSplitting, AreWhole, IsEmptyLane, IsRunBy, origins_of};
 ghost use Rattle.lq_senders.specs.Units.{SameDevices};
 ghost use Rattle.lq_model.specs.Device.{DeviceState};
-ghost use Rattle.lq_table.specs.Rule.{station_count};
 
 use crate::lanes::Lane;
 use lq_device::TxDevice;
 use lq_model::{Info, NoMemory};
 use lq_plan::Plan;
-use lq_seat::{give_back, open_station, split_seat};
-use lq_table::{Cpu, Shared};
+use lq_seat::{Seat, Table};
 use std::alloc::Global;
 
 /// An empty list with room for so many.
@@ -104,8 +104,8 @@ fn open_stations<'a, D: TxDevice>(
     plan: &Plan,
     infos: &'a [Info],
     bench: &mut Vec<D>,
-    tables: &mut Vec<Shared<'a, D>>,
-    cpus: &mut Vec<Cpu<D>>,
+    tables: &mut Vec<Table<'a, D>>,
+    cpus: &mut Vec<Seat<D>>,
 ) -> Result<(), NoMemory>
     requires sendable { IsSendable plan.now infos.now }
     requires units { length plan.now.stations ≤ vec_len bench.old }
@@ -121,17 +121,9 @@ fn open_stations<'a, D: TxDevice>(
     ensures len { vec_len tables.new + vec_len bench.new ≡ vec_len bench.old }
     ensures capacity { vec_capacity bench.new ≡ vec_capacity bench.old }
 {
-    let senders = plan.senders();
     for station in 0..plan.stations() {
         let device = bench.remove(0);
-        match open_station(
-            alloc,
-            infos,
-            station,
-            plan.station(station),
-            senders,
-            device,
-        ) {
+        match Table::open(alloc, plan, infos, station, device) {
             Ok((table, cpu)) => {
                 tables.push_reserved(table);
                 cpus.push_reserved(cpu);
@@ -148,8 +140,8 @@ fn open_stations<'a, D: TxDevice>(
 /// Ends the tables, and lays their devices back into the bench, in their order before those that stand there. Takes no
 /// memory.
 fn give_all_back<'a, D: TxDevice>(
-    mut tables: Vec<Shared<'a, D>>,
-    mut cpus: Vec<Cpu<D>>,
+    mut tables: Vec<Table<'a, D>>,
+    mut cpus: Vec<Seat<D>>,
     bench: &mut Vec<D>,
 )
     requires whole { AreWhole tables.items cpus.items }
@@ -161,7 +153,7 @@ fn give_all_back<'a, D: TxDevice>(
     while let Some(table) = tables.pop() {
         match cpus.pop() {
             Some(cpu) => {
-                let _laid_back = bench.insert(0, give_back(table, cpu));
+                let _laid_back = bench.insert(0, table.give_back(cpu));
             }
             None => unreachable!(),
         }
@@ -171,8 +163,8 @@ fn give_all_back<'a, D: TxDevice>(
 /// The tables of a plan's stations, and a seat at each.
 #[derive(Drop)]
 pub struct Stations<'a, D: TxDevice> {
-    pub tables: Vec<Shared<'a, D>>,
-    pub cpus: Vec<Cpu<D>>,
+    pub tables: Vec<Table<'a, D>>,
+    pub cpus: Vec<Seat<D>>,
 }
 
 /// Takes the device of each station out of the bench, into a table of its own.
@@ -185,8 +177,8 @@ pub fn open_all<'a, D: TxDevice>(
     plan: &Plan,
     infos: &'a [Info],
     bench: &mut Vec<D>,
-    mut tables: Vec<Shared<'a, D>>,
-    mut cpus: Vec<Cpu<D>>,
+    mut tables: Vec<Table<'a, D>>,
+    mut cpus: Vec<Seat<D>>,
 ) -> Result<Stations<'a, D>, NoMemory>
     requires sendable { IsSendable plan.now infos.now }
     requires units { length plan.now.stations ≤ vec_len bench.old }
@@ -216,8 +208,8 @@ pub fn open_all<'a, D: TxDevice>(
 fn split_lane<'a, D: TxDevice>(
     plan: &Plan,
     infos: &[Info],
-    tables: &[Shared<'a, D>],
-    cpus: &mut Vec<Cpu<D>>,
+    tables: &[Table<'a, D>],
+    cpus: &mut Vec<Seat<D>>,
     place: usize,
     lane: &mut Lane<D>,
 )
@@ -232,7 +224,7 @@ fn split_lane<'a, D: TxDevice>(
     let _ = &infos;
     let _ = place;
     for j in 0..tables.len() {
-        let other = split_seat(&tables[j], &mut cpus[j], lane.owner);
+        let other = cpus[j].split(&tables[j], lane.owner);
         lane.cpus.push_reserved(other);
     }
 }
@@ -241,8 +233,8 @@ fn split_lane<'a, D: TxDevice>(
 pub fn split_lanes<'a, D: TxDevice>(
     plan: &Plan,
     infos: &[Info],
-    tables: &[Shared<'a, D>],
-    cpus: &mut Vec<Cpu<D>>,
+    tables: &[Table<'a, D>],
+    cpus: &mut Vec<Seat<D>>,
     lanes: &mut Vec<Lane<D>>,
 )
     requires empty { AreEmptyLanes plan.now lanes.old.items }

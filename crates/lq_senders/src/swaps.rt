@@ -1,19 +1,18 @@
 //! The plan's events, exchanges of a device among them.
 ghost use Rattle.std.specs.Prelude.{◌≡◌, ℕ, ◌+◌, ◌<◌, ◌≤◌, List, true, false, map, length, slice_get};
-ghost use Rattle.lq_senders.specs.Lanes.{DoesEventAt, IsSendable, KeepAll, KeepSeats, LaneStands, MayDoAt, AreRunAlone};
+ghost use Rattle.lq_seat.specs.Calls.{MayChange};
+ghost use Rattle.lq_seat.specs.State.{IsHere};
+ghost use Rattle.lq_senders.specs.Lanes.{DoesEventAt, IsSendable, KeepAll, KeepSeats, LaneStands, AreRunAlone};
 ghost use Rattle.lq_senders.specs.Units.{DevicesStand, DoTell};
 ghost use Rattle.lq_model.specs.Alone.{RunningStation, with_event};
 ghost use Rattle.lq_model.specs.Device.{DeviceState};
 ghost use Rattle.lq_model.specs.Plan.{is_at, is_swap, is_swap_kind, unit_of_swap};
 ghost use Rattle.lq_model.specs.declared.plan.EventPlan.{EventPlan as AnEvent};
-ghost use Rattle.lq_seat.specs.Seat.{IsSeat};
-ghost use Rattle.lq_table.specs.Sees.{view};
 
 use lq_device::TxDevice;
 use lq_model::{EventKind, EventPlan, Info};
 use lq_plan::{Plan, is_at};
-use lq_seat::{do_event, exchange};
-use lq_table::{Cpu, Shared};
+use lq_seat::{Brought, Seat, Table};
 use std::sync::Wait;
 
 /// Whether an event exchanges a device.
@@ -41,21 +40,20 @@ pub fn brought_unit(plan: &Plan, e: u32) -> u32
 /// Does event `e` of the plan at this station and drains its seat, if it is an event of the station.
 fn event_at<'a, R: Wait, D: TxDevice>(
     rt: &R,
-    shared: &Shared<'a, D>,
-    cpu: &mut Cpu<D>,
+    shared: &Table<'a, D>,
+    cpu: &mut Seat<D>,
     station: u32,
     e: u32,
     event: EventPlan,
 )
-    requires seat { IsSeat shared.now cpu.old }
-    requires number { station ≡ shared.now.station }
+    requires seat { IsHere shared.now cpu.old }
+    requires number { station ≡ cpu.old.made.station }
     requires no_swap { is_swap event ≡ false }
-    requires may { is_at shared.now.station event ≡ true → MayDoAt shared.now event (view cpu.old) }
-    ensures seat { IsSeat shared.now cpu.new }
-    ensures does { DoesEventAt e event shared.now (view cpu.old) (view cpu.new) }
+    requires may { is_at station event ≡ true → MayChange event.kind cpu.old }
+    ensures does { DoesEventAt e event cpu.old cpu.new }
 {
     if is_at(&event, station) {
-        do_event(rt, shared, cpu, e, event.kind);
+        cpu.do_event(rt, shared, e, event.kind);
     }
 }
 
@@ -65,8 +63,8 @@ fn do_next_event<'a, R: Wait, D: TxDevice>(
     rt: &R,
     plan: &Plan,
     infos: &[Info],
-    shared: &[Shared<'a, D>],
-    cpus: &mut Vec<Cpu<D>>,
+    shared: &[Table<'a, D>],
+    cpus: &mut Vec<Seat<D>>,
     e: u32,
 )
     requires event { e < length plan.now.events }
@@ -93,8 +91,8 @@ fn exchange_next<'a, R: Wait, D: TxDevice>(
     rt: &R,
     plan: &Plan,
     infos: &[Info],
-    shared: &[Shared<'a, D>],
-    cpus: &mut Vec<Cpu<D>>,
+    shared: &[Table<'a, D>],
+    cpus: &mut Vec<Seat<D>>,
     spares: &mut Vec<D>,
     e: u32,
 )
@@ -115,14 +113,9 @@ fn exchange_next<'a, R: Wait, D: TxDevice>(
     let station = plan.event(e).station;
     let unit = brought_unit(plan, e);
     let device = spares.remove(0);
-    let old = exchange(
-        rt,
-        &shared[station as usize],
-        &mut cpus[station as usize],
-        e,
-        unit,
-        device,
-    );
+    let brought = Brought { event: e, unit };
+    let table = &shared[station as usize];
+    let old = cpus[station as usize].exchange(rt, table, brought, device);
     spares.push_reserved(old);
 }
 
@@ -131,8 +124,8 @@ pub fn do_any_event<'a, R: Wait, D: TxDevice>(
     rt: &R,
     plan: &Plan,
     infos: &[Info],
-    shared: &[Shared<'a, D>],
-    cpus: &mut Vec<Cpu<D>>,
+    shared: &[Table<'a, D>],
+    cpus: &mut Vec<Seat<D>>,
     spares: &mut Vec<D>,
     e: u32,
 )

@@ -1,5 +1,6 @@
 //! The run of all senders over the stations of a plan.
 ghost use Rattle.std.specs.Prelude.{◌≡◌, ◌≤◌, ◌+◌, ℕ, List, [], length, map, vec_capacity};
+ghost use Rattle.lq_seat.specs.Calls.{SendsPacket};
 ghost use Rattle.lq_senders.specs.Ends.{HasSentAll, closed_state};
 ghost use Rattle.lq_senders.specs.Joins.{AreFirst};
 ghost use Rattle.lq_senders.specs.Lanes.{AreReadyLanes, IsSendable, LaneStands};
@@ -12,7 +13,8 @@ use lq_device::TxDevice;
 use lq_gate::Gate;
 use lq_model::Info;
 use lq_plan::Plan;
-use lq_table::{Closed, Shared};
+use lq_seat::Table;
+use lq_table::Closed;
 use std::marker::Sync;
 use std::sync::Wait;
 use std::thread::Threads;
@@ -23,7 +25,7 @@ pub fn run<'a, R: Threads + Wait + Sync, D: TxDevice, G: Gate>(
     rt: &R,
     plan: &Plan,
     infos: &[Info],
-    shared: Vec<Shared<'a, D>>,
+    shared: Vec<Table<'a, D>>,
     first: Lane<D>,
     others: Vec<Lane<D>>,
     closed: &mut Vec<Closed<D>>,

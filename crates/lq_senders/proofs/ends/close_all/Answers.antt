@@ -2,7 +2,7 @@ use Rattle.std.proofs.Common.{◌≡◌, ℕ, ◌+◌, Some, List, [], ◌∷◌
 use Rattle.std.specs.Prelude.{slice_get}
 use Rattle.std.proofs.lemmas.List.{map-append}
 use Rattle.lq_senders.specs.Ends.{ClosedState, FirstClosed, MayCloseAt, closed_state}
-use Rattle.lq_senders.proofs.Closes.{none-closed, one-closed, closes-as, may-finished}
+use Rattle.lq_senders.proofs.Closes.{none-closed, one-closed, closes-as}
 use Rattle.lq_senders.proofs.Lists.{length-mapped, next-left}
 use Rattle.lq_senders.proofs.ends.close_all.Goals as goal
 use Rattle.lq_senders.proofs.ends.close_all.Goals.{After-remove-cpu}
@@ -40,20 +40,14 @@ seat-here g c =
 at : (g : _) (c : After-remove-cpu g) → MayCloseAt c.args.plan.now c.args.infos.now c.loop-station._station c.remove-table.result c.remove-cpu.result
 at g c = c.requires.may.each c.loop-station._station c.remove-table.result c.remove-cpu.result (table-here g c) (seat-here g c)
 
-pub close_station-ended-requires-clause-seat : goal.close_station-ended-requires-clause-seat
-close_station-ended-requires-clause-seat g c κs within = (at g c).seat
+pub close-ended-requires-clause-here : goal.close-ended-requires-clause-here
+close-ended-requires-clause-here g c κs within = (at g c).seat
 
-pub close_station-ended-requires-clause-raised : goal.close_station-ended-requires-clause-raised
-close_station-ended-requires-clause-raised g c κs within = (at g c).may.raised
+pub close-ended-requires-clause-may : goal.close-ended-requires-clause-may
+close-ended-requires-clause-may g c κs within = let may = (at g c).may in record { first = may.first; raised = may.raised; sole = may.sole }
 
-pub close_station-ended-requires-clause-first : goal.close_station-ended-requires-clause-first
-close_station-ended-requires-clause-first g c κs within = (at g c).may.first
-
-pub close_station-ended-requires-clause-sole : goal.close_station-ended-requires-clause-sole
-close_station-ended-requires-clause-sole g c κs within = (at g c).may.sole
-
-pub close_station-ended-requires-clause-finished : goal.close_station-ended-requires-clause-finished
-close_station-ended-requires-clause-finished g c κs within = let here = at g c in may-finished c.args.plan.now c.args.infos.now c.loop-station._station c.remove-table.result c.remove-cpu.result here
+pub close-ended-requires-clause-ended : goal.close-ended-requires-clause-ended
+close-ended-requires-clause-ended g c κs within = (at g c).may.finished
 
 pub push_reserved-requires : goal.push_reserved-requires
 push_reserved-requires g c =
@@ -62,7 +56,7 @@ push_reserved-requires g c =
 
 pub loop-station-preserved : goal.loop-station-preserved
 loop-station-preserved g c =
-    let inv = c.loop-station.invariant in let k = c.loop-station._station in let now = c.loop-station.closed.items in let ended = c.close_station-ended.result in let done = c.close_station-ended.ensures in
+    let inv = c.loop-station.invariant in let k = c.loop-station._station in let now = c.loop-station.closed.items in let ended = c.close-ended.result in let done = c.close-ended.ensures in
     let test = c.loop-station-test.true in let e = c.stations-station-end.ensures.stations in let all = c.requires.may.all in let long = c.requires.may.long in
     let left_t = inv.tables_len in let left_c = inv.seats_len in let ok = c.args.shared.ok.0 in let ok' = c.args.cpus.ok.0 in let here = c.loop-station.shared.ok.0 in let here' = c.loop-station.cpus.ok.0 in
     let at-t = next-left k c.args.shared.items c.loop-station.shared.items c.remove-table.result inv.tables (omega arith) c.remove-table.ensures.value in

@@ -1,7 +1,7 @@
-use Rattle.std.proofs.Common.{◌≡◌, ℕ, suc, length, sym, subst, arith}
+use Rattle.std.proofs.Common.{◌≡◌, ℕ, suc, ◌+◌, length, sym, subst, arith}
 use Rattle.std.specs.Prelude.{slice_set}
-use Rattle.lq_senders.specs.Joins.{JoinsDown}
-use Rattle.lq_senders.proofs.Joins.{joins-start, joins-end, join-one, devices-joined, other-next, same-devices}
+use Rattle.lq_senders.specs.Joins.{JoinedAt, JoinsDown}
+use Rattle.lq_senders.proofs.Joins.{beside, joins-start, joins-end, join-one, devices-joined, other-next, same-devices}
 use Rattle.lq_senders.proofs.Seats.{read-at}
 use Rattle.lq_senders.proofs.ends.join_lane.Goals as goal
 
@@ -23,28 +23,28 @@ pub index_mut-requires : goal.index_mut-requires
 index_mut-requires g c =
     let below = c.loop-other.invariant.down.below in let long = c.loop-other.invariant.down.long in let ok = c.loop-other.cpus.ok.0 in let more = c.in-Some.ensures.len in let j = c.len-j.ensures in omega arith
 
-pub join_seats-requires-clause-seat : goal.join_seats-requires-clause-seat
-join_seats-requires-clause-seat g c κs within =
+-- how the first sender's seat stands there, and the one that is taken in
+at : (g : _) (c : goal.After-index-shared-j g) → JoinedAt c.args.plan.now c.args.infos.now (c.args.place + 1) c.len-j.result c.index-shared-j.result c.index_mut.result.now
+at g c =
     let down = c.loop-other.invariant.down in let below = down.below in let long = down.long in let more = c.in-Some.ensures.len in let j = c.len-j.ensures in
-    (down.ahead c.len-j.result c.index-shared-j.result c.index_mut.result.now (omega arith)
+    down.ahead c.len-j.result c.index-shared-j.result c.index_mut.result.now (omega arith)
     (read-at c.args.shared.now c.len-j.result c.index-shared-j.result (omega arith) c.index-shared-j.is)
-    (read-at c.loop-other.cpus.items c.len-j.result c.index_mut.result.now (omega arith) c.index_mut.ensures.value)).seat
+    (read-at c.loop-other.cpus.items c.len-j.result c.index_mut.result.now (omega arith) c.index_mut.ensures.value)
 
-pub join_seats-requires-clause-first : goal.join_seats-requires-clause-first
-join_seats-requires-clause-first g c κs within =
-    let down = c.loop-other.invariant.down in let below = down.below in let long = down.long in let more = c.in-Some.ensures.len in let j = c.len-j.ensures in
-    (down.ahead c.len-j.result c.index-shared-j.result c.index_mut.result.now (omega arith)
-    (read-at c.args.shared.now c.len-j.result c.index-shared-j.result (omega arith) c.index-shared-j.is)
-    (read-at c.loop-other.cpus.items c.len-j.result c.index_mut.result.now (omega arith) c.index_mut.ensures.value)).joined.first
+pub join-requires-clause-here : goal.join-requires-clause-here
+join-requires-clause-here g c κs within = (at g c).seat
 
-pub join_seats-requires-clause-other : goal.join_seats-requires-clause-other
-join_seats-requires-clause-other g c κs within =
+pub join-requires-clause-first : goal.join-requires-clause-first
+join-requires-clause-first g c κs within = (at g c).joined.first
+
+pub join-requires-clause-beside : goal.join-requires-clause-beside
+join-requires-clause-beside g c κs within =
     let down = c.loop-other.invariant.down in let below = down.below in let more = c.in-Some.ensures.len in let j = c.len-j.ensures in
     let ok = c.pop.new.self.ok.0 in let so_many : length c.pop.new.self.items ≡ c.len-j.result = omega arith in let one_more : c.loop-other.others.len ≡ suc c.len-j.result = omega arith in
     let now = subst (λ (k : ℕ). JoinsDown c.args.plan.now c.args.infos.now c.args.place k c.args.shared.now c.loop-other.cpus.items c.loop-other.others.items) one_more down in
-    let other = other-next c.args.plan.now c.args.infos.now c.args.place c.len-j.result c.args.shared.now c.loop-other.cpus.items c.loop-other.others.items c.pop.new.self.items c.index-shared-j.result c.in-Some.other
-    c.in-Some.ensures.items so_many (read-at c.args.shared.now c.len-j.result c.index-shared-j.result (omega arith) c.index-shared-j.is) now in
-    (other.seat, other.first, other.stands.raised)
+    beside c.args.plan.now c.args.infos.now c.args.place c.len-j.result c.index-shared-j.result c.index_mut.result.now c.in-Some.other (at g c)
+    (other-next c.args.plan.now c.args.infos.now c.args.place c.len-j.result c.args.shared.now c.loop-other.cpus.items c.loop-other.others.items c.pop.new.self.items c.index-shared-j.result c.in-Some.other
+    c.in-Some.ensures.items so_many (read-at c.args.shared.now c.len-j.result c.index-shared-j.result (omega arith) c.index-shared-j.is) now)
 
 pub loop-other-preserved : goal.loop-other-preserved
 loop-other-preserved g c =
@@ -54,13 +54,10 @@ loop-other-preserved g c =
     let now = subst (λ (k : ℕ). JoinsDown plan infos place k c.args.shared.now c.loop-other.cpus.items c.loop-other.others.items) one_more down in
     let at-d = read-at c.loop-other.cpus.items c.len-j.result c.index_mut.result.now (omega arith) c.index_mut.ensures.value in
     record {
-      down = subst (λ (k : ℕ). JoinsDown plan infos place k c.args.shared.now (slice_set c.loop-other.cpus.items c.len-j.result c.join_seats.new.into) c.pop.new.self.items) j
-          (join-one plan infos place c.len-j.result c.args.shared.now c.loop-other.cpus.items c.loop-other.others.items c.pop.new.self.items c.index-shared-j.result c.index_mut.result.now c.in-Some.other c.join_seats.new.into
-          c.in-Some.ensures.items so_many (read-at c.args.shared.now c.len-j.result c.index-shared-j.result (omega arith) c.index-shared-j.is) at-d
-          c.join_seats.ensures.seat c.join_seats.ensures.view now);
-      devices = devices-joined c.len-j.result c.args.cpus.now.items c.loop-other.cpus.items c.index_mut.result.now c.in-Some.other c.join_seats.new.into at-d
-          (down.ahead c.len-j.result c.index-shared-j.result c.index_mut.result.now (omega arith) (read-at c.args.shared.now c.len-j.result c.index-shared-j.result (omega arith) c.index-shared-j.is) at-d).joined.first
-          c.join_seats.ensures.view c.loop-other.invariant.devices;
+      down = subst (λ (k : ℕ). JoinsDown plan infos place k c.args.shared.now (slice_set c.loop-other.cpus.items c.len-j.result c.join.new.self) c.pop.new.self.items) j
+          (join-one plan infos place c.len-j.result c.args.shared.now c.loop-other.cpus.items c.loop-other.others.items c.pop.new.self.items c.index-shared-j.result c.index_mut.result.now c.in-Some.other c.join.new.self
+          c.in-Some.ensures.items so_many (read-at c.args.shared.now c.len-j.result c.index-shared-j.result (omega arith) c.index-shared-j.is) at-d c.join.ensures now);
+      devices = devices-joined c.len-j.result c.args.cpus.now.items c.loop-other.cpus.items c.index_mut.result.now c.in-Some.other c.join.new.self at-d c.join.ensures c.loop-other.invariant.devices;
     }
 
 pub returns-clause-joined : goal.returns-clause-joined

@@ -88,6 +88,6 @@ pub returns-clause-woke : goal.returns-clause-woke
 returns-clause-woke g c start woke =
     let times = c.args.k / c.args.plan.now.irq_every in
     c.turn.ensures.woke start
-    (woke-kept c.args.shared.now times start c.events_of-next.new.cpus.items c.send_packet.new.cpus.items
-    (woke-kept c.args.shared.now times start c.args.cpus.now.items c.events_of-next.new.cpus.items woke c.events_of-next.ensures.keeps)
+    (woke-kept times start c.events_of-next.new.cpus.items c.send_packet.new.cpus.items
+    (woke-kept times start c.args.cpus.now.items c.events_of-next.new.cpus.items woke c.events_of-next.ensures.keeps)
     (seats-kept c.events_of-next.new.cpus.items c.send_packet.new.cpus.items c.send_packet.ensures.keeps))

@@ -15,15 +15,12 @@ returns-clause-stands g c sender count n lane =
     lane-turned c.args.plan.now c.args.infos.now sender count n c.args.k c.args.shared.now c.args.cpus.now.items c.wake_after.new.cpus.items c.drain_all.new.cpus.items lane c.wake_after.ensures c.drain_all.ensures
 
 pub returns-clause-keeps : goal.returns-clause-keeps
-returns-clause-keeps g c = let s = c.requires.stands in
-    keep-turn c.args.plan.now c.args.k c.args.shared.now c.args.cpus.now.items c.wake_after.new.cpus.items c.drain_all.new.cpus.items
-    (lane-seats c.args.plan.now c.args.infos.now s.0 s.1 s.2 c.args.shared.now c.args.cpus.now.items s.3) c.wake_after.ensures c.drain_all.ensures
+returns-clause-keeps g c = keep-turn c.args.plan.now c.args.k c.args.cpus.now.items c.wake_after.new.cpus.items c.drain_all.new.cpus.items c.wake_after.ensures c.drain_all.ensures
 
 pub returns-clause-runs : goal.returns-clause-runs
 returns-clause-runs g c stations runs = let s = c.requires.stands in
     runs-turned c.args.plan.now c.args.infos.now s.0 s.1 s.2 c.args.k c.args.shared.now c.args.cpus.now.items c.wake_after.new.cpus.items c.drain_all.new.cpus.items stations s.3 c.wake_after.ensures c.drain_all.ensures runs
 
 pub returns-clause-woke : goal.returns-clause-woke
-returns-clause-woke g c start woke = let s = c.requires.stands in
-    woke-turned c.args.plan.now c.args.k c.args.shared.now start c.args.cpus.now.items c.wake_after.new.cpus.items c.drain_all.new.cpus.items c.stays_within_limits.ensures.has_irq_every
-    (lane-seats c.args.plan.now c.args.infos.now s.0 s.1 s.2 c.args.shared.now c.args.cpus.now.items s.3) c.wake_after.ensures c.drain_all.ensures woke
+returns-clause-woke g c start woke =
+    woke-turned c.args.plan.now c.args.k start c.args.cpus.now.items c.wake_after.new.cpus.items c.drain_all.new.cpus.items c.stays_within_limits.ensures.has_irq_every c.wake_after.ensures c.drain_all.ensures woke

@@ -71,6 +71,6 @@ pub returns-clause-woke : goal.returns-clause-woke
 returns-clause-woke g c =
     let own = c.loop-n.invariant in let test = c.loop-n-test.false in let stop = c.loop-n.auto.n-end in let few = c.requires.sendable.few in
     let same : c.loop-n.n ≡ length c.args.infos.now = omega arith in
-    subst (λ (k : ℕ). AllWoke c.args.shared.now (k / c.args.plan.now.irq_every) c.args.lane.now.cpus.items c.events_left.new.cpus.items)
+    subst (λ (k : ℕ). AllWoke (k / c.args.plan.now.irq_every) c.args.lane.now.cpus.items c.events_left.new.cpus.items)
     (own.sending.sent ∙ ap (λ (n : ℕ). count_sent c.args.infos.now c.args.lane.now.owner n) same)
-    (woke-kept c.args.shared.now (c.loop-n.at.sent / c.args.plan.now.irq_every) c.args.lane.now.cpus.items c.loop-n.lane.cpus.items c.events_left.new.cpus.items own.sending.woke c.events_left.ensures.keeps)
+    (woke-kept (c.loop-n.at.sent / c.args.plan.now.irq_every) c.args.lane.now.cpus.items c.loop-n.lane.cpus.items c.events_left.new.cpus.items own.sending.woke c.events_left.ensures.keeps)

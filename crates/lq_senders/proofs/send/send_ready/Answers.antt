@@ -1,7 +1,7 @@
 use Rattle.std.proofs.Common.{◌++◌, List, length, sym, ap, ◌∙◌, subst, arith, map}
 use Rattle.std.proofs.lemmas.List.{length-map}
 use Rattle.lq_model.specs.Plan.{unit_count}
-use Rattle.lq_table.specs.declared.shared.Shared.{Shared}
+use Rattle.lq_seat.specs.State.{TableState}
 use Rattle.lq_senders.specs.Ends.{FatesRead, IsReadable, closed_state, home_device}
 use Rattle.lq_table.specs.Ended.{ended_state}
 use Rattle.lq_senders.specs.Lanes.{AreReadyLanes}
@@ -15,7 +15,7 @@ use Rattle.lq_senders.proofs.send.send_ready.Goals as goal
 pub split_lanes-requires-clause-splitting : goal.split_lanes-requires-clause-splitting
 split_lanes-requires-clause-splitting g c κs within =
     let ready = c.requires.ready.1 in
-    subst (λ (ts : List (Shared g.row.D.Denot)). AreSplitting c.args.plan.now c.args.infos.now 1 ts c.args.stations.cpus.items) (sym c.as_slice.ensures.value)
+    subst (λ (ts : List TableState). AreSplitting c.args.plan.now c.args.infos.now 1 ts c.args.stations.cpus.items) (sym c.as_slice.ensures.value)
     (splitting-opened c.args.plan.now c.args.infos.now ready.devices c.args.stations.tables.items c.args.stations.cpus.items c.stays_within_limits.ensures.has_sender ready.all ready.opened)
 
 pub run-spares-requires-clause-first : goal.run-spares-requires-clause-first
@@ -24,7 +24,7 @@ run-spares-requires-clause-first g c κs within =
     let infos = c.args.infos.now in
     let tables = c.args.stations.tables.items in
     let cpus = c.split_lanes.new.cpus.items in
-    let splitting : AreSplitting plan infos plan.senders tables cpus = subst (λ (ts : List (Shared g.row.D.Denot)). AreSplitting plan infos plan.senders ts cpus) c.as_slice.ensures.value c.split_lanes.ensures.splitting in
+    let splitting : AreSplitting plan infos plan.senders tables cpus = subst (λ (ts : List TableState). AreSplitting plan infos plan.senders ts cpus) c.as_slice.ensures.value c.split_lanes.ensures.splitting in
     (lane-stands plan infos tables cpus c.stays_within_limits.ensures.has_sender splitting, are-first plan infos (length c.split_lanes.new.lanes.items) tables cpus c.split_lanes.ensures.one_each splitting)
 
 pub run-spares-requires-clause-devices : goal.run-spares-requires-clause-devices
@@ -35,7 +35,7 @@ run-spares-requires-clause-devices g c κs within =
 
 pub run-spares-requires-clause-others : goal.run-spares-requires-clause-others
 run-spares-requires-clause-others g c κs within =
-    subst (λ (ts : List (Shared g.row.D.Denot)). AreReadyLanes c.args.plan.now c.args.infos.now ts c.split_lanes.new.lanes.items) c.as_slice.ensures.value c.split_lanes.ensures.ready
+    subst (λ (ts : List TableState). AreReadyLanes c.args.plan.now c.args.infos.now ts c.split_lanes.new.lanes.items) c.as_slice.ensures.value c.split_lanes.ensures.ready
 
 pub read_fates-requires-clause-readable : goal.read_fates-requires-clause-readable
 read_fates-requires-clause-readable g c κs within =

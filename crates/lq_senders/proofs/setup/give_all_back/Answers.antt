@@ -1,27 +1,30 @@
-use Rattle.std.proofs.Common.{◌≡◌, ◌∷◌, ◌++◌, [], suc, ◌+◌, ◌-◌, ◌<◌, length, sym, ap, ◌∙◌, subst, arith, drop, take, map}
-use Rattle.lq_seat.specs.Seat.{origin_of}
-use Rattle.lq_table.specs.Sees.{view}
-use Rattle.lq_table.specs.declared.shared.Cpu.{Cpu}
+use Rattle.std.proofs.Common.{◌≡◌, ◌∷◌, ◌++◌, [], suc, ◌+◌, ◌-◌, ◌<◌, length, refl, sym, ap, ◌∙◌, subst, arith, drop, take, map}
 use Rattle.lq_senders.specs.Fates.{identities_of}
-use Rattle.lq_senders.specs.Setup.{origins_of}
+use Rattle.lq_seat.specs.State.{SeatState}
+use Rattle.lq_senders.specs.Setup.{HasOneSeat, origins_of}
+use Rattle.std.proofs.lemmas.List.{drop_all}
+use Rattle.lq_senders.proofs.Lists.{take-all}
 use Rattle.lq_senders.proofs.Benches.{boxes-back, last-at, last-taken, so-where-ok}
 use Rattle.lq_senders.proofs.setup.give_all_back.Goals as goal
 
-pub give_back-requires-clause-seat : goal.give_back-requires-clause-seat
-give_back-requires-clause-seat g c κs within =
-    let own = c.loop-table.invariant in
-    let tables = c.args.tables.items in
-    let cpus = c.args.cpus.items in
-    let n = c.pop.new.self.len in
-    let one_more : c.loop-table.tables.len ≡ suc n = let len = c.in-Some.ensures.len in omega arith in
-    let taken : take (suc n) tables ≡ c.pop.new.self.items ++ c.in-Some.table ∷ [] = ap (λ k. take k tables) (sym one_more) ∙ (sym own.left ∙ c.in-Some.ensures.items) in
-    let so_many : length c.pop.new.self.items ≡ n = sym c.pop.new.self.ok.0 in
-    let taken' : take (suc n) cpus ≡ c.pop-in-Some.new.self.items ++ c.in-Some-pop.cpu ∷ [] = ap (λ k. take k cpus) (sym one_more) ∙ (sym own.seats_left ∙ c.in-Some-pop.ensures.items) in
-    let so_many' : length c.pop-in-Some.new.self.items ≡ n = let seats = own.seats in let len = c.in-Some-pop.ensures.len in let ok = c.pop-in-Some.new.self.ok.0 in omega arith in
-    (c.requires.whole.each n c.in-Some.table c.in-Some-pop.cpu (last-at n tables c.pop.new.self.items c.in-Some.table taken so_many) (last-at n cpus c.pop-in-Some.new.self.items c.in-Some-pop.cpu taken' so_many')).seat
+pub loop-table-init : goal.loop-table-init
+loop-table-init g c =
+    let long = c.requires.whole.long in let tables = c.args.tables.ok.0 in let seats = c.args.cpus.ok.0 in
+    let same : c.args.tables.len ≡ length c.args.cpus.items = omega arith in let none : c.args.tables.len - c.args.tables.len ≡ 0 = omega arith in
+    record {
+      fewer = omega arith;
+      left = sym (ap (λ k. take k c.args.tables.items) tables ∙ take-all c.args.tables.items);
+      seats = omega arith;
+      seats_left = sym (ap (λ k. take k c.args.cpus.items) same ∙ take-all c.args.cpus.items);
+      boxes = ap (λ cs. origins_of cs ++ identities_of (map g.D.TxDevice.state c.args.bench.now.items)) (sym (drop_all c.args.tables.len c.args.cpus.items (omega arith)));
+      rest = ap (λ k. drop k c.args.bench.now.items) none;
+      len = refl;
+      capacity = refl;
+    }
 
-pub give_back-requires-clause-raised : goal.give_back-requires-clause-raised
-give_back-requires-clause-raised g c κs within =
+-- the table that is given back has one seat alone
+at : (g : _) (c : goal.After-insert-arg-1 g) → HasOneSeat c.in-Some.table c.in-Some-pop.cpu
+at g c =
     let own = c.loop-table.invariant in
     let tables = c.args.tables.items in
     let cpus = c.args.cpus.items in
@@ -31,33 +34,13 @@ give_back-requires-clause-raised g c κs within =
     let so_many : length c.pop.new.self.items ≡ n = sym c.pop.new.self.ok.0 in
     let taken' : take (suc n) cpus ≡ c.pop-in-Some.new.self.items ++ c.in-Some-pop.cpu ∷ [] = ap (λ k. take k cpus) (sym one_more) ∙ (sym own.seats_left ∙ c.in-Some-pop.ensures.items) in
     let so_many' : length c.pop-in-Some.new.self.items ≡ n = let seats = own.seats in let len = c.in-Some-pop.ensures.len in let ok = c.pop-in-Some.new.self.ok.0 in omega arith in
-    (c.requires.whole.each n c.in-Some.table c.in-Some-pop.cpu (last-at n tables c.pop.new.self.items c.in-Some.table taken so_many) (last-at n cpus c.pop-in-Some.new.self.items c.in-Some-pop.cpu taken' so_many')).raised
+    c.requires.whole.each n c.in-Some.table c.in-Some-pop.cpu (last-at n tables c.pop.new.self.items c.in-Some.table taken so_many) (last-at n cpus c.pop-in-Some.new.self.items c.in-Some-pop.cpu taken' so_many')
 
-pub give_back-requires-clause-first : goal.give_back-requires-clause-first
-give_back-requires-clause-first g c κs within =
-    let own = c.loop-table.invariant in
-    let tables = c.args.tables.items in
-    let cpus = c.args.cpus.items in
-    let n = c.pop.new.self.len in
-    let one_more : c.loop-table.tables.len ≡ suc n = let len = c.in-Some.ensures.len in omega arith in
-    let taken : take (suc n) tables ≡ c.pop.new.self.items ++ c.in-Some.table ∷ [] = ap (λ k. take k tables) (sym one_more) ∙ (sym own.left ∙ c.in-Some.ensures.items) in
-    let so_many : length c.pop.new.self.items ≡ n = sym c.pop.new.self.ok.0 in
-    let taken' : take (suc n) cpus ≡ c.pop-in-Some.new.self.items ++ c.in-Some-pop.cpu ∷ [] = ap (λ k. take k cpus) (sym one_more) ∙ (sym own.seats_left ∙ c.in-Some-pop.ensures.items) in
-    let so_many' : length c.pop-in-Some.new.self.items ≡ n = let seats = own.seats in let len = c.in-Some-pop.ensures.len in let ok = c.pop-in-Some.new.self.ok.0 in omega arith in
-    (c.requires.whole.each n c.in-Some.table c.in-Some-pop.cpu (last-at n tables c.pop.new.self.items c.in-Some.table taken so_many) (last-at n cpus c.pop-in-Some.new.self.items c.in-Some-pop.cpu taken' so_many')).first
+pub give_back-requires-clause-here : goal.give_back-requires-clause-here
+give_back-requires-clause-here g c κs within = (at g c).seat
 
-pub give_back-requires-clause-sole : goal.give_back-requires-clause-sole
-give_back-requires-clause-sole g c κs within =
-    let own = c.loop-table.invariant in
-    let tables = c.args.tables.items in
-    let cpus = c.args.cpus.items in
-    let n = c.pop.new.self.len in
-    let one_more : c.loop-table.tables.len ≡ suc n = let len = c.in-Some.ensures.len in omega arith in
-    let taken : take (suc n) tables ≡ c.pop.new.self.items ++ c.in-Some.table ∷ [] = ap (λ k. take k tables) (sym one_more) ∙ (sym own.left ∙ c.in-Some.ensures.items) in
-    let so_many : length c.pop.new.self.items ≡ n = sym c.pop.new.self.ok.0 in
-    let taken' : take (suc n) cpus ≡ c.pop-in-Some.new.self.items ++ c.in-Some-pop.cpu ∷ [] = ap (λ k. take k cpus) (sym one_more) ∙ (sym own.seats_left ∙ c.in-Some-pop.ensures.items) in
-    let so_many' : length c.pop-in-Some.new.self.items ≡ n = let seats = own.seats in let len = c.in-Some-pop.ensures.len in let ok = c.pop-in-Some.new.self.ok.0 in omega arith in
-    (c.requires.whole.each n c.in-Some.table c.in-Some-pop.cpu (last-at n tables c.pop.new.self.items c.in-Some.table taken so_many) (last-at n cpus c.pop-in-Some.new.self.items c.in-Some-pop.cpu taken' so_many')).sole
+pub give_back-requires-clause-may : goal.give_back-requires-clause-may
+give_back-requires-clause-may g c κs within = (at g c).may
 
 pub loop-table-preserved : goal.loop-table-preserved
 loop-table-preserved g c =
@@ -81,7 +64,7 @@ loop-table-preserved g c =
       seats = let ok = c.pop-in-Some.new.self.ok.0 in omega arith;
       seats_left = (last-taken n cpus c.pop-in-Some.new.self.items c.in-Some-pop.cpu taken' so_many').0;
       boxes = ap (λ xs. identities_of (map state xs)) laid
-          ∙ boxes-back state (λ (x : Cpu g.row.D.Denot). (origin_of (view x)).identity) cpus c.pop-in-Some.new.self.items n c.in-Some-pop.cpu c.give_back.result c.loop-table.bench.items c.args.bench.now.items taken' so_many' c.give_back.ensures.device
+          ∙ boxes-back state (λ (x : SeatState). x.origin.identity) cpus c.pop-in-Some.new.self.items n c.in-Some-pop.cpu c.give_back.result c.loop-table.bench.items c.args.bench.now.items taken' so_many' c.give_back.ensures
           (subst (λ k. identities_of (map state c.loop-table.bench.items) ≡ origins_of (drop k cpus) ++ identities_of (map state c.args.bench.now.items)) one_more own.boxes);
       rest = let gone : c.args.tables.len - n ≡ suc (c.args.tables.len - c.loop-table.tables.len) = let fewer = own.fewer in omega arith in
           ap (λ k. drop k c.insert-laid_back.new.self.items) gone ∙ (ap (drop (suc (c.args.tables.len - c.loop-table.tables.len))) laid ∙ own.rest);

@@ -1,29 +1,35 @@
-use Rattle.std.proofs.Common.{◌≡◌, ◌<◌, ◌-◌, ◌++◌, ◌∷◌, [], length, sym, ap, ◌∙◌, subst, arith, drop, drop-drop, map}
-use Rattle.std.specs.Option.{option_map_or}
-use Rattle.lq_model.specs.Plan.{queues_at}
-use Rattle.lq_model.specs.declared.plan.StationPlan.{StationPlan}
-use Rattle.lq_table.specs.Rule.{AreInfos}
+use Rattle.std.proofs.Common.{◌≡◌, ◌<◌, ◌≤◌, false, ◌-◌, ◌++◌, ◌∷◌, [], length, sym, ap, ◌∙◌, subst, arith, drop, drop-drop, map}
+use Rattle.lq_seat.specs.State.{station_count}
 use Rattle.lq_senders.specs.Setup.{AreOpened, IsOpenedAt}
 use Rattle.lq_senders.proofs.Benches.{first-left, so-where-ok}
 use Rattle.lq_senders.proofs.Openings.{fresh-device, opened-here, opened-more, others-back, states-back, states-left}
 use Rattle.lq_senders.proofs.Seats.{mapped-at}
 use Rattle.lq_senders.proofs.setup.open_stations.Goals as goal
 
-pub open_station-requires-clause-infos : goal.open_station-requires-clause-infos
-open_station-requires-clause-infos g c κs within =
-    let below : c.loop-station.station < length c.args.plan.now.stations = let test = c.loop-station-test.true in let e = c.stations-station-end.ensures.stations in omega arith in
-    let queues : queues_at c.args.plan.now.stations c.loop-station.station ≡ c.station.result.queues =
-    ap (λ o. option_map_or (λ (s : StationPlan). s.queues) o 1) c.station.ensures.station
-    in
-    subst (λ senders. AreInfos c.args.infos.now c.loop-station.station senders c.station.result.queues) (sym c.senders-senders.ensures.senders)
-    (subst (AreInfos c.args.infos.now c.loop-station.station c.args.plan.now.senders) queues (c.requires.sendable.made c.loop-station.station below))
+below : (g : _) (c : goal.After-remove-device g) → c.loop-station.station < length c.args.plan.now.stations
+below g c = let test = c.loop-station-test.true in let e = c.stations-station-end.ensures.stations in omega arith
 
-pub open_station-requires-clause-device : goal.open_station-requires-clause-device
-open_station-requires-clause-device g c κs within =
+-- what the device of the bench was configured to be
+fresh : (g : _) (c : goal.After-remove-device g) → (((g.D.TxDevice.state c.remove-device.result).accepted ≡ []) × ((g.D.TxDevice.state c.remove-device.result).asked ≡ []) × ((g.D.TxDevice.state c.remove-device.result).hung ≡ false))
+    × (station_count c.args.infos.now c.loop-station.station ≤ (g.D.TxDevice.state c.remove-device.result).spare)
+fresh g c =
     let own = c.loop-station.invariant in
     let some : 0 < length c.loop-station.bench.items = let test = c.loop-station-test.true in let e = c.stations-station-end.ensures.stations in let len = own.len in let ok = c.loop-station.bench.ok.0 in let units = c.requires.units in omega arith in
     fresh-device g.D.TxDevice.state c.args.plan.now c.args.infos.now c.requires.configured.0 c.loop-station.station c.args.bench.now.items c.loop-station.bench.items
-    c.station.result c.remove-device.result c.requires.configured.1 c.station.ensures.station own.rest some c.remove-device.ensures.value
+    c.remove-device.result c.requires.configured.1 (below g c) own.rest some c.remove-device.ensures.value
+
+pub open-requires-clause-made : goal.open-requires-clause-made
+open-requires-clause-made g c κs within = record {
+  few = c.requires.sendable.few;
+  infos = c.requires.sendable.made c.loop-station.station (below g c);
+  ranks = c.requires.sendable.ranks;
+}
+
+pub open-requires-clause-fresh : goal.open-requires-clause-fresh
+open-requires-clause-fresh g c κs within = (fresh g c).0
+
+pub open-requires-clause-room : goal.open-requires-clause-room
+open-requires-clause-room g c κs within = (fresh g c).1
 
 pub returns-in-Err-clause-states : goal.returns-in-Err-clause-states
 returns-in-Err-clause-states g c =
@@ -63,9 +69,7 @@ loop-station-preserved g c =
     let cpu = c.in-Ok.cpu in
     let some : 0 < length c.loop-station.bench.items = let test = c.loop-station-test.true in let e = c.stations-station-end.ensures.stations in let len = own.len in let ok = c.loop-station.bench.ok.0 in let units = c.requires.units in omega arith in
     let there = mapped-at state all k device (first-left k all c.loop-station.bench.items device own.rest some c.remove-device.ensures.value) in
-    let made = c.in-Ok.ensures.table in
-    let new : IsOpenedAt plan infos (map state all) k t cpu =
-    opened-here plan infos (map state all) k c.senders-senders.result c.station.result (state device) t cpu c.station.ensures.station there made.2 c.senders-senders.ensures.senders made.5 c.in-Ok.ensures.seat c.in-Ok.ensures.view.0 c.in-Ok.ensures.view.1 in
+    let new : IsOpenedAt plan infos (map state all) k t cpu = opened-here plan infos (map state all) k (state device) t cpu there c.in-Ok.ensures.table c.in-Ok.ensures.seat in
     let so_many : length c.loop-station.tables.items ≡ k = let ok = c.loop-station.tables.ok.0 in let e = own.so_many in omega arith in
     record {
       rest = c.remove-device.ensures.items ∙ (ap (drop 1) own.rest ∙ drop-drop 1 k all);

@@ -1,7 +1,7 @@
-use Rattle.std.proofs.Common.{◌≡◌, ◌+◌, ◌<◌, length, refl, sym, ap, ◌∙◌, subst, arith, slice_set}
-use Rattle.lq_table.specs.Rule.{times}
-use Rattle.lq_table.specs.Sees.{view}
-use Rattle.lq_table.specs.Told.{keeping, offspring}
+use Rattle.std.proofs.Common.{◌≡◌, ◌+◌, ◌<◌, ◌≤◌, length, refl, sym, ap, ◌∙◌, subst, arith, slice_set}
+use Rattle.lq_seat.specs.Calls.{keeping_seat, offspring_seat}
+use Rattle.lq_seat.specs.State.{times}
+use Rattle.lq_senders.specs.Setup.{SplitsAt}
 use Rattle.lq_senders.proofs.Seats.{read-at}
 use Rattle.lq_senders.proofs.Joins.{devices-on, same-devices}
 use Rattle.lq_senders.proofs.Splits.{SplitsUp, devices-split, lane-split, splits-all, splits-more, splits-none}
@@ -16,30 +16,23 @@ loop-j-init g c = record {
   devices = same-devices c.args.cpus.now.items;
 }
 
-pub split_seat-other-requires-clause-seat : goal.split_seat-other-requires-clause-seat
-split_seat-other-requires-clause-seat g c κs within =
+-- the seat that is split
+at : (g : _) (c : goal.After-index-tables-j g) → SplitsAt c.args.plan.now c.args.infos.now (c.args.place + 1) c.loop-j.j c.index-tables-j.result c.index_mut.result.now
+at g c =
     let splits = c.loop-j.invariant.splits in let test = c.loop-j-test.true in let long = splits.long in
-    (splits.ahead c.loop-j.j c.index-tables-j.result c.index_mut.result.now (omega arith)
+    splits.ahead c.loop-j.j c.index-tables-j.result c.index_mut.result.now (omega arith)
     (read-at c.args.tables.now c.loop-j.j c.index-tables-j.result test c.index-tables-j.is)
-    (read-at c.loop-j.cpus.items c.loop-j.j c.index_mut.result.now (omega arith) c.index_mut.ensures.value)).seat
+    (read-at c.loop-j.cpus.items c.loop-j.j c.index_mut.result.now (omega arith) c.index_mut.ensures.value)
 
-pub split_seat-other-requires-clause-shares : goal.split_seat-other-requires-clause-shares
-split_seat-other-requires-clause-shares g c κs within =
-    let splits = c.loop-j.invariant.splits in let test = c.loop-j-test.true in let long = splits.long in
-    let here = splits.ahead c.loop-j.j c.index-tables-j.result c.index_mut.result.now (omega arith)
-    (read-at c.args.tables.now c.loop-j.j c.index-tables-j.result test c.index-tables-j.is)
-    (read-at c.loop-j.cpus.items c.loop-j.j c.index_mut.result.now (omega arith) c.index_mut.ensures.value) in
-    let shares = here.splitting.shares in let sender = c.requires.sender in let few = c.stays_within_limits.ensures.senders in omega arith
+pub split-other-requires-clause-here : goal.split-other-requires-clause-here
+split-other-requires-clause-here g c κs within = (at g c).seat
 
-pub split_seat-other-requires-clause-owner : goal.split_seat-other-requires-clause-owner
-split_seat-other-requires-clause-owner g c κs within =
-    let splits = c.loop-j.invariant.splits in let test = c.loop-j-test.true in let long = splits.long in
-    let here = splits.ahead c.loop-j.j c.index-tables-j.result c.index_mut.result.now (omega arith)
-    (read-at c.args.tables.now c.loop-j.j c.index-tables-j.result test c.index-tables-j.is)
-    (read-at c.loop-j.cpus.items c.loop-j.j c.index_mut.result.now (omega arith) c.index_mut.ensures.value) in
+pub split-other-requires-clause-may : goal.split-other-requires-clause-may
+split-other-requires-clause-may g c κs within =
+    let here = (at g c).splitting in let shares = here.shares in let sender = c.requires.sender in let few = c.stays_within_limits.ensures.senders in
     let owner_is : c.loop-j.lane.owner ≡ c.args.place + 1 = c.loop-j.invariant.owner ∙ c.requires.empty.owner_is in
-    subst (λ o. (0 < o) × (0 < times o (view c.index_mut.result.now).share.owners)) (sym owner_is)
-    (omega arith, here.splitting.rest (c.args.place + 1) (omega arith) c.requires.sender)
+    subst (λ o. (2 ≤ c.index_mut.result.now.shares) × (0 < o) × (0 < times o c.index_mut.result.now.owners)) (sym owner_is)
+    (omega arith, omega arith, here.rest (c.args.place + 1) (omega arith) c.requires.sender)
 
 pub loop-j-preserved : goal.loop-j-preserved
 loop-j-preserved g c =
@@ -52,8 +45,8 @@ loop-j-preserved g c =
     let now = c.loop-j.cpus.items in
     let t = c.index-tables-j.result in
     let cpu = c.index_mut.result.now in
-    let new = c.split_seat-other.new.cpu in
-    let other = c.split_seat-other.result in
+    let new = c.split-other.new.self in
+    let other = c.split-other.result in
     let at = read-at tables j t test c.index-tables-j.is in
     let at' = read-at now j cpu (omega arith) c.index_mut.ensures.value in
     let owner_is : c.loop-j.lane.owner ≡ c.args.place + 1 = own.owner ∙ c.requires.empty.owner_is in
@@ -63,10 +56,9 @@ loop-j-preserved g c =
       room = let room = own.room in let same = c.push_reserved.ensures.capacity in omega arith;
       splits = subst (λ others. SplitsUp plan infos c.args.place (j + 1) tables (slice_set now j new) others) (sym c.push_reserved.ensures.items)
           (splits-more plan infos c.args.place j tables now c.loop-j.lane.cpus.items t cpu new other splits c.requires.sender c.stays_within_limits.ensures.senders at at'
-          c.split_seat-other.ensures.seat c.split_seat-other.ensures.other_seat
-          (subst (λ o. view new ≡ keeping o (view cpu)) owner_is c.split_seat-other.ensures.view.0)
-          (subst (λ o. view other ≡ offspring o (view cpu)) owner_is c.split_seat-other.ensures.other_view));
-      devices = devices-on c.args.cpus.now.items now (slice_set now j new) own.devices (devices-split now j c.loop-j.lane.owner cpu new at' c.split_seat-other.ensures.view.0);
+          (subst (λ o. new ≡ keeping_seat o cpu) owner_is c.split-other.ensures.seat)
+          (subst (λ o. other ≡ offspring_seat o cpu) owner_is c.split-other.ensures.other));
+      devices = devices-on c.args.cpus.now.items now (slice_set now j new) own.devices (devices-split now j c.loop-j.lane.owner cpu new at' c.split-other.ensures.seat);
     }
 
 pub returns-clause-splitting : goal.returns-clause-splitting

@@ -4,16 +4,12 @@ use Rattle.lq_model.proofs.Reach.{at-own-swap}
 use Rattle.lq_model.specs.Alone.{changed, served}
 use Rattle.lq_model.specs.declared.device.Params.{Params}
 use Rattle.lq_model.specs.declared.plan.EventKind.{EventKind}
-use Rattle.lq_seat.specs.Calls.{MayDoEvent}
-use Rattle.lq_seat.specs.Exchanges.{Exchanges}
-use Rattle.lq_seat.specs.Seat.{DoesAlone, origin_of}
-use Rattle.lq_table.specs.Rule.{HasServed, latest_unit, station_count, units_of}
-use Rattle.lq_table.specs.Sees.{view}
-use Rattle.lq_table.specs.Views.{Setup}
+use Rattle.lq_seat.specs.Calls.{DoesAlone, MayDoEvent, Exchanges}
+use Rattle.lq_seat.specs.State.{SeatState, Setup, HasServed, latest_unit, setup_of, station_count, units_of}
 use Rattle.lq_senders.specs.Lanes.{StandsAt}
 use Rattle.lq_senders.specs.Units.{DevicesStand, MayBeBrought}
 use Rattle.lq_senders.proofs.Orders.{may-do-next}
-use Rattle.lq_senders.proofs.Seats.{exchange-changes, lane-event, number-is, runs-event, seat-at, seats-set, stands-at, table-at}
+use Rattle.lq_senders.proofs.Seats.{exchange-changes, lane-event, made-of, runs-event, seat-at, seats-set, stands-at, table-at}
 use Rattle.lq_senders.proofs.Devices.{devices-exchanged, first-comes, some-spare, spares-turned}
 use Rattle.lq_senders.proofs.Units.{swap-params, unit-on-trail, unit-within, units-few}
 use Rattle.lq_senders.proofs.swaps.exchange_next.Goals as goal
@@ -29,96 +25,87 @@ there : (g : _) (c : goal.After-index_mut g)
 there g c = stands-at c.args.plan.now c.args.infos.now 0 c.args.e c.requires.stands.0 c.args.shared.now c.args.cpus.now.items c.requires.stands.1 c.event-station.result.station
     c.index-shared-station.result c.index_mut.result.now c.event-station.ensures.within.station c.index-shared-station.is c.index_mut.ensures.value
 
-pub exchange-old-requires-clause-seat : goal.exchange-old-requires-clause-seat
-exchange-old-requires-clause-seat g c κs within = (there g c).seat
+-- what its table was made of
+made : (g : _) (c : goal.After-index_mut g) → c.index_mut.result.now.made ≡ setup_of c.args.plan.now c.args.infos.now c.event-station.result.station
+made g c = made-of c.args.plan.now c.args.infos.now c.event-station.result.station c.index-shared-station.result (there g c).table c.index_mut.result.now (there g c).seat
 
-pub exchange-old-requires-clause-first : goal.exchange-old-requires-clause-first
-exchange-old-requires-clause-first g c κs within = ((there g c).stands.way refl).0
+pub exchange-old-requires-clause-here : goal.exchange-old-requires-clause-here
+exchange-old-requires-clause-here g c κs within = (there g c).seat
 
-pub exchange-old-requires-clause-raised : goal.exchange-old-requires-clause-raised
-exchange-old-requires-clause-raised g c κs within = (there g c).stands.raised
-
-pub exchange-old-requires-clause-active : goal.exchange-old-requires-clause-active
-exchange-old-requires-clause-active g c κs within =
+pub exchange-old-requires-clause-may : goal.exchange-old-requires-clause-may
+exchange-old-requires-clause-may g c κs within =
     let event = c.event-station.result in let at = c.event-station.ensures.event in let swap = swap-params event.kind (c.requires.swap event at) in
-    subst (λ (k : EventKind). MayDoEvent k (view c.index_mut.result.now).trail) swap.1
-    (may-do-next c.args.plan.now event.station c.args.e event (view c.index_mut.result.now).trail c.stays_within_limits.ensures.order at
-    (let below = c.event-station.ensures.within.station in let few = c.stays_within_limits.ensures.stations in omega arith) (at-own-swap event (c.requires.swap event at)) ((there g c).stands.way refl).1.down)
-
-pub exchange-old-requires-clause-unit : goal.exchange-old-requires-clause-unit
-exchange-old-requires-clause-unit g c κs within =
-    let event = c.event-station.result in let at = c.event-station.ensures.event in let way = ((there g c).stands.way refl).1 in
-    let unit = c.brought_unit-unit.ensures in let limits = c.stays_within_limits.ensures in
+    let way = ((there g c).stands.way refl).1 in let unit = c.brought_unit-unit.ensures in let limits = c.stays_within_limits.ensures in
     let few = units-few c.args.plan.now in let below = unit-within c.args.plan.now c.args.e event at (c.requires.swap event at) in
     let stations = limits.stations in let events = limits.events in let own = c.event-station.ensures.within.station in
-    let number = number-is c.args.plan.now c.args.infos.now event.station c.index-shared-station.result (there g c).table in (
-      (omega arith),
-      record { first = (omega arith); later = λ u h. let lower = way.swaps_below u (unit-on-trail (view c.index_mut.result.now).trail u h) in omega arith },
-    )
-
-pub exchange-old-requires-clause-device : goal.exchange-old-requires-clause-device
-exchange-old-requires-clause-device g c κs within =
-    let event = c.event-station.result in let at = c.event-station.ensures.event in let units = c.requires.devices.0 in let stand = c.requires.devices.1 in
-    let may : MayBeBrought c.args.infos.now event.station (g.D.TxDevice.state c.remove-device.result) =
-    stand.units_are.may_come c.args.e event (g.D.TxDevice.state c.remove-device.result) at (c.requires.swap event at)
+    let number = ap (λ (k : Setup). k.station) (made g c) in
+    let units = c.requires.devices.0 in let stand = c.requires.devices.1 in let device = g.D.TxDevice.state c.remove-device.result in
+    let fresh : MayBeBrought c.args.infos.now event.station device =
+    stand.units_are.may_come c.args.e event device at (c.requires.swap event at)
     (first-comes c.args.plan.now c.args.infos.now units g.D.TxDevice.state c.args.e event c.args.cpus.now.items c.args.spares.now.items c.remove-device.result at (c.requires.swap event at) c.remove-device.ensures.value stand) in
-    let room = subst (λ (k : Setup). station_count k.infos k.station ≤ (g.D.TxDevice.state c.remove-device.result).spare) (sym (there g c).table.setup_is) may.room in
-    (may.accepted, may.asked, may.hung, room)
+    record {
+      first = ((there g c).stands.way refl).0;
+      active = subst (λ (k : EventKind). MayDoEvent k c.index_mut.result.now.trail) swap.1
+          (may-do-next c.args.plan.now event.station c.args.e event c.index_mut.result.now.trail limits.order at (omega arith) (at-own-swap event (c.requires.swap event at)) way.down);
+      small = omega arith;
+      later = record { first = (omega arith); later = λ u h. let lower = way.swaps_below u (unit-on-trail c.index_mut.result.now.trail u h) in omega arith };
+      fresh = (fresh.accepted, fresh.asked, fresh.hung);
+      room = subst (λ (k : Setup). station_count k.infos k.station ≤ device.spare) (sym (made g c)) fresh.room;
+    }
 
 -- what the exchange did
 did : (g : _) (c : goal.After-push_reserved g) (params : Params)
-    → Exchanges c.index-shared-station.result c.args.plan.now c.args.e params (g.D.TxDevice.state c.remove-device.result) (g.D.TxDevice.state c.exchange-old.result) (view c.index_mut.result.now) (view c.exchange-old.new.cpu)
-did g c params = c.exchange-old.ensures.exchanges c.args.plan.now params (sym c.brought_unit-unit.ensures)
+    → Exchanges c.args.plan.now c.args.e params (g.D.TxDevice.state c.remove-device.result) (g.D.TxDevice.state c.exchange-old.result) c.index_mut.result.now c.exchange-old.new.self
+did g c params = c.exchange-old.ensures c.args.plan.now params (sym c.brought_unit-unit.ensures)
 
 pub returns-clause-stands : goal.returns-clause-stands
 returns-clause-stands g c n lane =
     let event = c.event-station.result in let station = event.station in let within = c.event-station.ensures.within.station in let at = c.event-station.ensures.event in
     let swap = swap-params event.kind (c.requires.swap event at) in
-    lane-event c.args.plan.now c.args.infos.now c.args.e n c.args.shared.now c.args.cpus.now.items event c.index-shared-station.result c.index_mut.result.now c.exchange-old.new.cpu
+    lane-event c.args.plan.now c.args.infos.now c.args.e n c.args.shared.now c.args.cpus.now.items event c.index-shared-station.result c.index_mut.result.now c.exchange-old.new.self
     at (c.requires.swap event at) (let few = c.stays_within_limits.ensures.stations in omega arith) c.stays_within_limits.ensures.order
     (table-at c.args.plan.now c.args.infos.now 0 c.args.e n c.args.shared.now c.args.cpus.now.items lane station c.index-shared-station.result within c.index-shared-station.is)
     (seat-at c.args.plan.now c.args.infos.now 0 c.args.e n c.args.shared.now c.args.cpus.now.items lane station c.index_mut.result.now within c.index_mut.ensures.value)
-    c.exchange-old.ensures.seat
-    (exchange-changes c.index-shared-station.result c.args.plan.now c.args.e event.kind swap.0 (g.D.TxDevice.state c.remove-device.result) (g.D.TxDevice.state c.exchange-old.result) (view c.index_mut.result.now) (view c.exchange-old.new.cpu) swap.1 (did g c swap.0))
+    (exchange-changes c.args.plan.now c.args.e event.kind swap.0 (g.D.TxDevice.state c.remove-device.result) (g.D.TxDevice.state c.exchange-old.result) c.index_mut.result.now c.exchange-old.new.self swap.1 (did g c swap.0))
     lane
 
 pub returns-clause-keeps : goal.returns-clause-keeps
 returns-clause-keeps g c =
     let event = c.event-station.result in let station = event.station in let within = c.event-station.ensures.within.station in let at = c.event-station.ensures.event in
     let swap = swap-params event.kind (c.requires.swap event at) in
-    seats-set c.args.cpus.now.items station c.index_mut.result.now c.exchange-old.new.cpu
+    seats-set c.args.cpus.now.items station c.index_mut.result.now c.exchange-old.new.self
     (seat-at c.args.plan.now c.args.infos.now 0 c.args.e c.requires.stands.0 c.args.shared.now c.args.cpus.now.items c.requires.stands.1 station c.index_mut.result.now within c.index_mut.ensures.value)
-    (did g c swap.0).keeps
+    (exchange-changes c.args.plan.now c.args.e event.kind swap.0 (g.D.TxDevice.state c.remove-device.result) (g.D.TxDevice.state c.exchange-old.result) c.index_mut.result.now c.exchange-old.new.self swap.1 (did g c swap.0)).keeps
 
 pub returns-clause-devices : goal.returns-clause-devices
 returns-clause-devices g c units stand =
     let event = c.event-station.result in let station = event.station in let within = c.event-station.ensures.within.station in let at = c.event-station.ensures.event in
     let swap = swap-params event.kind (c.requires.swap event at) in let does = did g c swap.0 in let state = g.D.TxDevice.state in
-    let old = view c.index_mut.result.now in let went = state c.exchange-old.result in
+    let old = c.index_mut.result.now in let went = state c.exchange-old.result in
     let stands = stands-at c.args.plan.now c.args.infos.now 0 c.args.e c.requires.stands.0 c.args.shared.now c.args.cpus.now.items c.requires.stands.1 station
     c.index-shared-station.result c.index_mut.result.now within c.index-shared-station.is c.index_mut.ensures.value in
-    let table = stands.table in let number = number-is c.args.plan.now c.args.infos.now station c.index-shared-station.result table in
+    let made = made-of c.args.plan.now c.args.infos.now station c.index-shared-station.result stands.table old stands.seat in let number = ap (λ (k : Setup). k.station) made in
     let unit = ap (λ (s : ℕ). latest_unit s (units_of old.trail)) number ∙ (stands.stands.way refl).1.unit in
     let more : c.args.e + 1 ≡ suc c.args.e = omega arith in
-    subst (λ (k : ℕ). DevicesStand c.args.plan.now c.args.infos.now units k (slice_set c.args.cpus.now.items station c.exchange-old.new.cpu) (map state c.push_reserved.new.self.items)) (sym more)
-    (subst (λ l. DevicesStand c.args.plan.now c.args.infos.now units (suc c.args.e) (slice_set c.args.cpus.now.items station c.exchange-old.new.cpu) l)
+    subst (λ (k : ℕ). DevicesStand c.args.plan.now c.args.infos.now units k (slice_set c.args.cpus.now.items station c.exchange-old.new.self) (map state c.push_reserved.new.self.items)) (sym more)
+    (subst (λ l. DevicesStand c.args.plan.now c.args.infos.now units (suc c.args.e) (slice_set c.args.cpus.now.items station c.exchange-old.new.self) l)
     (sym (ap (map state) (c.push_reserved.ensures.items ∙ ap (λ l. l ++ c.exchange-old.result ∷ []) c.remove-device.ensures.by_index.2) ∙ spares-turned state c.args.spares.now.items c.exchange-old.result))
-    (devices-exchanged c.args.plan.now c.args.infos.now units c.args.e event c.args.cpus.now.items (map state c.args.spares.now.items) c.index_mut.result.now c.exchange-old.new.cpu (state c.remove-device.result) went
+    (devices-exchanged c.args.plan.now c.args.infos.now units c.args.e event c.args.cpus.now.items (map state c.args.spares.now.items) c.index_mut.result.now c.exchange-old.new.self (state c.remove-device.result) went
     at (c.requires.swap event at)
     (seat-at c.args.plan.now c.args.infos.now 0 c.args.e c.requires.stands.0 c.args.shared.now c.args.cpus.now.items c.requires.stands.1 station c.index_mut.result.now within c.index_mut.ensures.value)
-    (first-comes c.args.plan.now c.args.infos.now units g.D.TxDevice.state c.args.e event c.args.cpus.now.items c.args.spares.now.items c.remove-device.result at (c.requires.swap event at) c.remove-device.ensures.value stand) does.origin
-    (subst (λ (k : Setup). HasServed k.infos k.station (origin_of old) went) table.setup_is does.has_served)
-    (does.gone ∙ ap (λ (u : ℕ). (u, went.accepted) ∷ old.control.gone) unit)
+    (first-comes c.args.plan.now c.args.infos.now units g.D.TxDevice.state c.args.e event c.args.cpus.now.items c.args.spares.now.items c.remove-device.result at (c.requires.swap event at) c.remove-device.ensures.value stand) (ap (λ (s : SeatState). s.origin) does.is)
+    (subst (λ (k : Setup). HasServed k.infos k.station old.origin went) made does.has_served)
+    (ap (λ (s : SeatState). s.gone) does.is ∙ ap (λ (u : ℕ). (u, went.accepted) ∷ old.gone) unit)
     stand))
 
 pub returns-clause-runs : goal.returns-clause-runs
 returns-clause-runs g c units stand tell stations runs =
     let event = c.event-station.result in let station = event.station in let within = c.event-station.ensures.within.station in let at = c.event-station.ensures.event in let lane = c.requires.stands.1 in
     let swap = swap-params event.kind (c.requires.swap event at) in let t = c.index-shared-station.result in
-    runs-event c.args.plan.now c.args.infos.now c.args.e c.requires.stands.0 c.args.shared.now c.args.cpus.now.items stations event t c.index_mut.result.now c.exchange-old.new.cpu
+    runs-event c.args.plan.now c.args.infos.now c.args.e c.requires.stands.0 c.args.shared.now c.args.cpus.now.items stations event t c.index_mut.result.now c.exchange-old.new.self
     at (c.requires.swap event at)
     (table-at c.args.plan.now c.args.infos.now 0 c.args.e c.requires.stands.0 c.args.shared.now c.args.cpus.now.items lane station t within c.index-shared-station.is)
     (seat-at c.args.plan.now c.args.infos.now 0 c.args.e c.requires.stands.0 c.args.shared.now c.args.cpus.now.items lane station c.index_mut.result.now within c.index_mut.ensures.value)
-    (subst (λ (k : EventKind). DoesAlone t (λ s. served t.infos.now (changed c.args.plan.now c.args.e k s)) (view c.index_mut.result.now) (view c.exchange-old.new.cpu)) (sym swap.1)
+    (subst (λ (k : EventKind). DoesAlone (λ s. served c.index_mut.result.now.made.infos (changed c.args.plan.now c.args.e k s)) c.index_mut.result.now c.exchange-old.new.self) (sym swap.1)
     ((did g c swap.0).alone (tell c.args.e event swap.0 (g.D.TxDevice.state c.remove-device.result) at swap.1 (first-comes c.args.plan.now c.args.infos.now units g.D.TxDevice.state c.args.e event c.args.cpus.now.items c.args.spares.now.items c.remove-device.result at (c.requires.swap event at) c.remove-device.ensures.value stand))))
     lane runs

@@ -1,5 +1,5 @@
 use Rattle.std.proofs.Common.{◌+◌, ◌∙◌, ℕ, List, length, map, sym, ap, subst}
-use Rattle.lq_table.specs.declared.shared.Shared.{Shared}
+use Rattle.lq_seat.specs.State.{TableState}
 use Rattle.lq_senders.specs.Joins.{AreFirst}
 use Rattle.lq_senders.specs.Lanes.{AreDoneLanes, LaneDone, after_sending}
 use Rattle.lq_senders.proofs.Devices.{devices-same}
@@ -8,14 +8,14 @@ use Rattle.lq_senders.proofs.whole.run.Goals as goal
 
 pub end_run-requires-clause-first : goal.end_run-requires-clause-first
 end_run-requires-clause-first g c κs within = (
-  subst (λ (l : List (Shared g.row.D.Denot)). LaneDone c.args.plan.now c.args.infos.now 0 l c.all_send-first.result.0.cpus.items) c.as_slice.ensures.value c.all_send-first.ensures.first,
+  subst (λ (l : List TableState). LaneDone c.args.plan.now c.args.infos.now 0 l c.all_send-first.result.0.cpus.items) c.as_slice.ensures.value c.all_send-first.ensures.first,
   subst (λ k. AreFirst k c.all_send-first.result.0.cpus.items) (sym c.all_send-first.ensures.long)
       (first-keep (length c.args.others.items) c.args.first.cpus.items c.all_send-first.result.0.cpus.items c.all_send-first.ensures.keeps c.requires.first.1),
 )
 
 pub end_run-requires-clause-others : goal.end_run-requires-clause-others
 end_run-requires-clause-others g c κs within =
-    subst (λ (l : List (Shared g.row.D.Denot)). AreDoneLanes c.args.plan.now c.args.infos.now l c.all_send-first.result.1.items) c.as_slice.ensures.value c.all_send-first.ensures.others
+    subst (λ (l : List TableState). AreDoneLanes c.args.plan.now c.args.infos.now l c.all_send-first.result.1.items) c.as_slice.ensures.value c.all_send-first.ensures.others
 
 pub end_run-requires-clause-senders : goal.end_run-requires-clause-senders
 end_run-requires-clause-senders g c κs within = ap (λ (k : ℕ). k + 1) c.all_send-first.ensures.long ∙ c.requires.senders

@@ -1,0 +1,55 @@
+use Rattle.std.proofs.Common.{◌≡◌, refl, ⊎_elim, sym, ap, ◌∙◌, subst, arith}
+use Rattle.lq_control.specs.Finish.{AreAllDone, AreTurnsFrom, IsFinished, count_all, count_below}
+use Rattle.lq_model.specs.Alone.{finished}
+use Rattle.lq_qdisc.specs.Alone.{IsAlone, running}
+use Rattle.lq_seat.proofs.Steps.{ends-trail, made-is}
+use Rattle.lq_seat.proofs.seat.Seat.finish.Goals as goal
+use Rattle.lq_seat.specs.Ends.{Finishes, MayFinish}
+use Rattle.lq_seat.specs.State.{SeatState, seat_seen}
+use Rattle.lq_table.specs.Sees.{view, setup}
+use Rattle.lq_table.specs.Solo.{solo}
+use Rattle.lq_table.specs.Views.{Setup, first_account}
+
+pub finish-purged-requires-clause-turns : goal.finish-purged-requires-clause-turns
+finish-purged-requires-clause-turns g c κs within =
+    let sh = c.table.inside.shared in let cpu = c.self.inside.cpu in
+    let made = made-is sh cpu c.args.table.now c.args.self.now c.table.view_is c.self.view_is c.requires.here in
+    let may = subst MayFinish (sym c.self.view_is) c.requires.may in
+    subst (λ (k : Setup). AreTurnsFrom k 0 (view cpu).turns) made (record {
+      long = may.wide;
+      words = λ o below. let k = (view cpu).share.about in let none : count_below k.infos o k.station 0 ≡ 0 = refl in
+          (count_all k.infos o k.station, may.done o below, omega arith, omega arith);
+    })
+
+pub returns : goal.returns
+returns g c =
+    let sh = c.table.inside.shared in let cpu = c.self.inside.cpu in let now = c.finish-purged.new.cpu in let e = c.finish-purged.ensures in let control = e.kept.1 in
+    let made = made-is sh cpu c.args.table.now c.args.self.now c.table.view_is c.self.view_is c.requires.here in
+    let may = subst MayFinish (sym c.self.view_is) c.requires.may in
+    let done = subst (λ (k : Setup). AreAllDone k (view cpu).turns) made may.done in
+    let made' : (view now).share.about ≡ setup sh = ap (λ s. s.about) e.kept.0 ∙ made in
+    let raised : (view now).place.raised ≡ (view cpu).place.raised = e.at.1 ∙ sym (ap (λ (s : SeatState). s.raised) c.self.view_is ∙ c.requires.raised) in
+    let turns : (view now).turns ≡ (view cpu).turns = e.ends.turns ∙ ap (λ v. v.turns) (e.ends.none_sent done) in
+    let ended = subst (λ (k : Setup). IsFinished k (view now)) (sym made') e.finished in
+    subst (λ (s : SeatState). Finishes s (seat_seen now)) c.self.view_is (record {
+      is = λ i. record (seat_seen now) {
+        table = e.same.0 i;
+        made = (e.kept.0 i).about;
+        shares = (e.kept.0 i).shares;
+        owners = (e.kept.0 i).owners;
+        first = (control i).first;
+        raised = raised i;
+        turns = turns i;
+        origin = (control i).origin;
+        gone = (control i).gone;
+        told = e.kept.2 i;
+      };
+      trail = ends-trail (setup sh) c.finish-purged.result cpu now done e.ends;
+      ended = record { nothing_held = ended.nothing_held; hand_empty = ended.hand_empty; decided = ended.decided };
+      hung = λ none unit there. ⊎_elim (λ old. absurd (none unit old)) (λ was. (sym was.0, was.1)) (e.hung unit there);
+      alone = λ alone.
+          let had = subst (λ (k : Setup). IsAlone k.infos (first_account k) (solo (view cpu))) made alone in
+          subst (λ (k : Setup). (running (first_account k) (solo (view now))).account.fates ≡ (finished (view cpu).share.about.infos (running (first_account (view cpu).share.about) (solo (view cpu)))).account.fates) (sym made')
+          (subst (λ (k : Setup). (running (first_account (setup sh)) (solo (view now))).account.fates ≡ (finished k.infos (running (first_account k) (solo (view cpu)))).account.fates) (sym made)
+          (e.alone done had).fates);
+    })
