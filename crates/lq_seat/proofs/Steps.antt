@@ -225,3 +225,8 @@ ends-trail k purged c c' done ends = ⊎_elim
   where
     unsent : ends.sent.trail ≡ (view c).trail
     unsent = ap (λ v. v.trail) (ends.none_sent done)
+
+-- what a purge of a hung station doesn't touch on the trail is as it was
+pub ends-keeps : {X : Type 0} (f : List Event → X) → ((unit : ℕ) (trail : List Event) → f (Purge (cause.Hung unit) ∷ trail) ≡ f trail) → (old new : SeatState) → EndsTrail old new
+    → f new.trail ≡ f old.trail
+ends-keeps f keeps old new ends = ⊎_elim (λ same. ap f same) (λ more. ap f more ∙ keeps (seat_account new).unit old.trail) ends

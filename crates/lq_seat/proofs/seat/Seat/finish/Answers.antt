@@ -1,11 +1,13 @@
-use Rattle.std.proofs.Common.{◌≡◌, refl, ⊎_elim, sym, ap, ◌∙◌, subst, arith}
+use Rattle.std.proofs.Common.{◌≡◌, ◌<◌, refl, ⊎_elim, sym, ap, ◌∙◌, subst, arith}
+use Rattle.lq_account.specs.Trail.{down_of}
 use Rattle.lq_control.specs.Finish.{AreAllDone, AreTurnsFrom, IsFinished, count_all, count_below}
 use Rattle.lq_model.specs.Alone.{finished}
 use Rattle.lq_qdisc.specs.Alone.{IsAlone, running}
-use Rattle.lq_seat.proofs.Steps.{ends-trail, made-is}
+use Rattle.lq_seat.proofs.Steps.{ends-keeps, ends-trail, made-is}
 use Rattle.lq_seat.proofs.seat.Seat.finish.Goals as goal
 use Rattle.lq_seat.specs.Ends.{Finishes, MayFinish}
-use Rattle.lq_seat.specs.State.{SeatState, seat_seen}
+use Rattle.lq_seat.specs.Rests.{AreUnitsSmall, phase_by}
+use Rattle.lq_seat.specs.State.{IsWellMade, SeatState, seat_seen, units_of}
 use Rattle.lq_table.specs.Sees.{view, setup}
 use Rattle.lq_table.specs.Solo.{solo}
 use Rattle.lq_table.specs.Views.{Setup, first_account}
@@ -20,6 +22,26 @@ finish-purged-requires-clause-turns g c κs within =
       words = λ o below. let k = (view cpu).share.about in let none : count_below k.infos o k.station 0 ≡ 0 = refl in
           (count_all k.infos o k.station, may.done o below, omega arith, omega arith);
     })
+
+pub invariant_of-self : goal.invariant_of-self
+invariant_of-self g c =
+    let sh = c.table.inside.shared in let cpu = c.self.inside.cpu in let now = c.finish-purged.new.cpu in let e = c.finish-purged.ensures in let control = e.kept.1 in
+    let made = made-is sh cpu c.args.table.now c.args.self.now c.table.view_is c.self.view_is c.requires.here in
+    let may = subst MayFinish (sym c.self.view_is) c.requires.may in
+    let done = subst (λ (k : Setup). AreAllDone k (view cpu).turns) made may.done in
+    let trail = ends-trail (setup sh) c.finish-purged.result cpu now done e.ends in
+    let down : down_of (view now).trail ≡ down_of (view cpu).trail = ends-keeps down_of (λ unit trail. refl) (seat_seen cpu) (seat_seen now) trail in
+    let units : units_of (view now).trail ≡ units_of (view cpu).trail = ends-keeps units_of (λ unit trail. refl) (seat_seen cpu) (seat_seen now) trail in
+    record {
+      live = subst (λ s. 0 < s.shares) (sym e.kept.0) c.self.invariant.live;
+      at = e.at.0;
+      ready = e.at.2;
+      phase = λ first. let was = c.self.invariant.phase (sym (ap (λ s. s.first) control) ∙ first) in
+          (ap (λ s. s.phase) control ∙ (was.0 ∙ ap phase_by (sym down)), ap (λ s. s.purge) control ∙ was.1);
+      units = λ first. let was = c.self.invariant.units (sym (ap (λ s. s.first) control) ∙ first) in
+          subst (λ us. AreUnitsSmall (view now).share.about.station us) (sym units) (subst (λ s. AreUnitsSmall s.about.station (units_of (view cpu).trail)) (sym e.kept.0) was);
+      made = subst (λ s. IsWellMade s.about) (sym e.kept.0) c.self.invariant.made;
+    }
 
 pub returns : goal.returns
 returns g c =
