@@ -41,38 +41,32 @@ class Capture:
             raise Broken("its header is cut off")
         link, two = struct.unpack_from(order + "I", data, 20)[0], struct.Struct(order + "II").unpack_from
         self.head.append(bytes(data[:24]))
-        # one loop with nothing called but what it must: a capture may have a million records
-        starts, ends, lengths = self.starts.append, self.ends.append, self.lengths.append
+        # an untagged frame with an IPv4 header is read by one call: a capture may have a million records
+        whole = struct.Struct(order + "8xII12x2sBB13xB3xB")
+        starts, lengths, unpack = self.starts.append, self.lengths.append, whole.unpack_from
         bands, routes, sources, service = self.bands.append, self.routes.append, self.sources.append, BAND_OF_SERVICE
-        at, without = 24, 0
+        at, last = 24, size - whole.size if link == 1 else 0
+        add = self.adder()
         try:
             while at < size:
+                if at <= last:
+                    captured, length, kind, version, tos, source, route = unpack(data, at)
+                    if kind == IPV4 and captured >= 34 and 64 <= version < 80:
+                        starts(at)
+                        lengths(length)
+                        bands(service[tos])
+                        sources(source)
+                        routes(route)
+                        at += 16 + captured
+                        continue
                 captured, length = two(data, at + 8)
-                frame = at + 16
-                end = frame + captured
-                starts(at)
-                ends(end)
-                lengths(length)
-                if link == 1:
-                    kind = data[frame + 12 : frame + 14]
-                    head = frame + 14 if kind == IPV4 else frame + 18 if kind == TAG and data[frame + 16 : frame + 18] == IPV4 else end
-                else:
-                    head = frame if link == 101 else end
-                if head + 20 <= end and data[head] >> 4 == 4:
-                    bands(service[data[head + 1]])
-                    sources(data[head + 15])
-                    routes(data[head + 19])
-                else:
-                    bands(1)
-                    sources(0)
-                    routes(0)
-                    without += 1
-                at = end
+                add(link, at, 0, at + 16, captured, length)
+                at += 16 + captured
         except (struct.error, IndexError):
             at = size + 1
         if at != size:
             raise Broken(f"a record is cut off at {self.starts[-1] if self.starts else 24}")
-        self.without_header = without
+        self.ends = self.starts[1:] + array("Q", [size] * bool(self.starts))
 
     def read_blocks(self):
         data, size = self.data, len(self.data)

@@ -4,6 +4,7 @@ It is not proved; the fates that the program writes are. `tools/show-run` compar
 """
 from array import array
 from collections import deque
+from itertools import chain, zip_longest
 
 import plans
 
@@ -181,3 +182,26 @@ def run(plan, stations, bands, queues):
 def line_of(n, fate):
     """A fate as a line of OUT.fates."""
     return " ".join(map(str, (n, *fate)))
+
+
+def by_serial(numbers, serials):
+    """The packets that a unit sent, in the order in which it sent them."""
+    found = array("I", bytes(4 * len(serials)))
+    for n, serial in zip(numbers, serials):
+        found[serial] = n
+    return found
+
+
+def joint(lists):
+    """What the children of a multi-queue root sent, each list by serial: all packets by serial, and at one serial by child."""
+    return array("I", (n for n in chain.from_iterable(zip_longest(*lists)) if n is not None))
+
+
+def joint_lists(plan, fates):
+    """Of each group of the plan, by its number, the packets of its joint file. A child has one unit, of its own number."""
+    sent = {}
+    for n, fate in enumerate(fates):
+        if fate[0] == "sent":
+            sent.setdefault(fate[1], []).append((fate[2], n))
+    return {at: list(joint([[n for _, n in sorted(sent.get(child, []))] for child in children])) for at, children in plans.groups_of(plan)}
+

@@ -58,8 +58,9 @@ def tables_at(root, name):
 
 
 # the greatest number of each, by version
-SENDERS = {1: 8, 2: 64}
-LENGTH = {1: 4096, 2: 65536}
+SENDERS = {1: 8, 2: 64, 3: 64}
+LENGTH = {1: 4096, 2: 65536, 3: 65536}
+CHILDREN = 8
 VERSIONS = sorted(SENDERS)
 PARAMS = [
     Key("burst", "number", 0, 1000000, 0, about="the queue stops each time so many packets were accepted"),
@@ -80,6 +81,7 @@ STATION = [
     Key("max_len", "number", lambda it: number_at(it.table, "len", 1000), lambda it: LENGTH[it.version], about="slots that a resize may give them; else `len`"),
     Key("bypass", "flag", default=True, about="whether a packet may go past the rings"),
     Key("queues", "number", 1, 8, 1, since=2, about="transmit queues of its device, which share the rings"),
+    Key("mq", "number", 1, CHILDREN, 1, since=3, about="children of its multi-queue root: one for each transmit queue of its device, with rings of its own"),
     *PARAMS,
 ]
 EVENT = [
@@ -245,7 +247,7 @@ def faults_of_order(root, lines):
 
 
 def children_of(root):
-    """The numbers that a plan's stations have in fates and counts: as many as each has qdiscs of its own, one after the other."""
+    """The numbers that the children of each station of the plan have in fates and counts, all of them one after the other."""
     found, first = [], 0
     for it in tables_at(root, "station"):
         many = number_at(it, "mq", 1)
@@ -255,22 +257,27 @@ def children_of(root):
 
 
 def faults_of_groups(root, lines):
-    """What several keys of stations may not be together."""
+    """What may not be together in a plan of groups: too many children, several queues of a child, an exchange of what they share."""
     children = children_of(root)
-    if sum(map(len, children)) > 8:
-        yield Fault(RANGE, None, "the top, `station`", f"{sum(map(len, children))} qdiscs in all are more than 8")
+    if sum(map(len, children)) > CHILDREN:
+        yield Fault(RANGE, None, "the top, `station`", f"{sum(map(len, children))} children in all are more than {CHILDREN}")
     for at, table in enumerate(tables_at(root, "station")):
         if len(children[at]) > 1 and number_at(table, "queues", 1) > 1:
-            yield Fault(RANGE, lines.get(("station", at, "mq")), f"station {at}, `mq`", "not beside `queues`: one qdisc over several queues, or a qdisc for each")
+            yield Fault(RANGE, lines.get(("station", at, "queues")), f"station {at}, `queues`", "1 beside an `mq` above 1: rings over several queues, or rings for each")
     for at, event in enumerate(tables_at(root, "event")):
         station = number_at(event, "station", 0)
         if event.get("kind") == "swap" and station < len(children) and len(children[station]) > 1:
-            yield Fault(RANGE, lines.get(("event", at, "kind")), f"event {at}, `kind`", f"no \"swap\" at station {station}, which has several qdiscs")
+            yield Fault(RANGE, lines.get(("event", at, "kind")), f"event {at}, `kind`", f"no \"swap\" at station {station}, which has {len(children[station])} children on one device")
 
 
 def stations_of(root):
-    """The stations that fates and counts number, each with the keys that it has."""
+    """The stations that fates and counts number, which are the children of the plan's, each with the keys that it has."""
     return [it for it, children in zip(tables_at(root, "station"), children_of(root)) for _ in children]
+
+
+def groups_of(root):
+    """The stations of the plan that have several children, each with these."""
+    return [(at, it) for at, it in enumerate(children_of(root)) if len(it) > 1]
 
 
 def places_of(root, capture):
@@ -287,7 +294,7 @@ def places_of(root, capture):
 
 
 def units_of(root):
-    """How many devices a plan needs."""
+    """How many units a plan needs: one for each child, and one for each exchange."""
     return len(stations_of(root)) + sum(it.get("kind") == "swap" for it in tables_at(root, "event"))
 
 

@@ -126,9 +126,7 @@ class Many:
         if self.program is None:
             return
         text = self.program.fates(plans.text_of_plan(plan), plans.capture_of(frames))
-        if text is None:
-            self.totals["plans that the program doesn't take"] += 1
-        elif text == verdict.here:
+        if text == verdict.here:
             self.totals["texts of fates that are the program's"] += 1
         else:
             self.keep(f"{name}-program", plan, frames, lines, ["the program's fates aren't those of the rules:", text])
