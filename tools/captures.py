@@ -75,7 +75,24 @@ class Capture:
             raise Broken("its byte order isn't told")
         two, three = struct.Struct(order + "II").unpack_from, struct.Struct(order + "III").unpack_from
         links, cuts, add, at = [], [], self.adder(), 0
+        # as of records
+        whole = struct.Struct(order + "III8xII12x2sBB13xB3xB")
+        last, unpack, ethernet = size - whole.size, whole.unpack_from, set()
+        starts, ends, lengths = self.starts.append, self.ends.append, self.lengths.append
+        bands, routes, sources, service = self.bands.append, self.routes.append, self.sources.append, BAND_OF_SERVICE
         while at < size:
+            if at <= last:
+                kind, total, interface, captured, length, ether, version, tos, source, route = unpack(data, at)
+                end = at + total
+                if kind == 6 and ether == IPV4 and interface in ethernet and captured >= 34 and 64 <= version < 80 and total >= 66 and not total % 4 and end <= size:
+                    starts(at)
+                    ends(end)
+                    lengths(length)
+                    bands(service[tos])
+                    sources(source)
+                    routes(route)
+                    at = end
+                    continue
             if at + 12 > size:
                 raise Broken(f"a block is cut off at {at}")
             kind, total = two(data, at)
@@ -93,6 +110,8 @@ class Capture:
                 add(links[0] if links else 0, at, end, at + 12, min(length, cuts[0]) if cuts and cuts[0] else length, length)
             elif kind == 1:
                 links.append(struct.unpack_from(order + "H", data, at + 8)[0])
+                if links[-1] == 1:
+                    ethernet.add(len(links) - 1)
                 cuts.append(struct.unpack_from(order + "I", data, at + 12)[0])
                 self.head.append(bytes(data[at:end]))
             elif at == 0:
