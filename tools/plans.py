@@ -263,7 +263,7 @@ def faults_of_groups(root, lines):
         yield Fault(RANGE, None, "the top, `station`", f"{sum(map(len, children))} children in all are more than {CHILDREN}")
     for at, table in enumerate(tables_at(root, "station")):
         if len(children[at]) > 1 and number_at(table, "queues", 1) > 1:
-            yield Fault(RANGE, lines.get(("station", at, "queues")), f"station {at}, `queues`", "1 beside an `mq` above 1: rings over several queues, or rings for each")
+            yield Fault(RANGE, lines.get(("station", at, "queues")), f"station {at}, `queues`", "it is 1 beside an `mq` above 1: rings over several queues, or rings for each")
     for at, event in enumerate(tables_at(root, "event")):
         station = number_at(event, "station", 0)
         if event.get("kind") == "swap" and station < len(children) and len(children[station]) > 1:
