@@ -1,5 +1,5 @@
 -- What the children of a group sent, as one list.
-use Rattle.std.proofs.Common.{◌≡◌, ◌<◌, ◌≤◌, ◌+◌, ◌-◌, ◌++◌, ◌∷◌, ◌==◌, [], ℕ, zero, suc, Bool, true, false, cond, ◌&&◌, eqb, leb, ltb, List, length, map, Some, slice_get, slice_index_or, All, refl, sym, ap, ap₂, ◌∙◌, subst, inl, inr, arith, length-append, count_by}
+use Rattle.std.proofs.Common.{◌≡◌, ◌<◌, ◌≤◌, ◌+◌, ◌-◌, ◌++◌, ◌∷◌, ◌==◌, [], ℕ, zero, suc, Bool, cond, ◌&&◌, eqb, leb, ltb, List, length, map, Some, slice_get, slice_index_or, All, refl, sym, ap, ap₂, ◌∙◌, subst, inl, inr, arith, count_by}
 use Rattle.std.specs.List.{sum_by}
 use Rattle.std.specs.Option.{option_map}
 use Rattle.std.proofs.lemmas.Bool.{cases_lt}
@@ -10,14 +10,14 @@ use Rattle.std.proofs.lemmas.Option.{same_Some, slice_get-map, slice_get_within}
 use Rattle.lq_model.specs.Numbers.{first_numbers}
 use Rattle.lq_model.specs.Plan.{Plan, first_at, mq_at}
 use Rattle.lq_model.specs.Sent.{first_passing, is_sent_as, sent_of}
-use Rattle.lq_model.specs.Settled.{AreSerials, IsSentList}
+use Rattle.lq_model.specs.Settled.{AreSerials}
 use Rattle.lq_model.specs.Texts.{is_sent_by}
 use Rattle.lq_model.specs.declared.fate.Fate.{Fate}
 use Rattle.lq_model.specs.declared.fate.Fate.TheVariants.{Sent, Full, Shrunk, Purged, Refused}
 use Rattle.lq_fates.proofs.SentLemmas.{sent_is}
 use Rattle.lq_mq.specs.Joint.{joint}
 use Rattle.lq_mq.specs.Laws.{IsBefore, HasAtSerial}
-use Rattle.lq_mq.proofs.Order.{Each, Pairs, each-all, each-is-sent, each-map, once, pairs-all, pairs-in-order, pairs-map, stands-in}
+use Rattle.lq_mq.proofs.Order.{Pairs, each-all, each-is-sent, each-map, once, pairs-all, pairs-in-order, pairs-map, stands-in}
 use Rattle.lq_mq.proofs.Serials.{joint-length, subsequences}
 use Rattle.lq_top.proofs.TextLemmas.{length-first_numbers}
 use Rattle.lq_top.specs.Groups.{AreOfGroup, IsChildOf, IsSentBefore, IsSentByGroup, is_sent_between, sent_by_children, sent_by_group}

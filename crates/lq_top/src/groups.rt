@@ -3,7 +3,7 @@ ghost use Rattle.std.specs.Prelude.{◌≡◌, ◌++◌, ◌∷◌, [], ◌+◌,
 ghost use Rattle.lq_model.specs.Settled.{AreSerials};
 ghost use Rattle.lq_pcapng.specs.File.{packets_of_file};
 ghost use Rattle.lq_top.specs.Decision.{max_groups};
-ghost use Rattle.lq_top.specs.Groups.{group_capture_name, group_file, group_files, is_sent_between, mq_lines, sent_by_children, sent_by_group};
+ghost use Rattle.lq_top.specs.Groups.{group_capture_name, group_file, group_files, is_root, is_sent_between, mq_lines, sent_by_children, sent_by_group};
 ghost use Rattle.lq_top.specs.Stop.{StopsFor};
 ghost use Rattle.lq_top.specs.Written.{FileIsCut, FilesAreCut, file_written, files_written};
 
@@ -87,6 +87,14 @@ fn write_group<H: Host>(
     write_packets_file(alloc, host, name.as_str(), capture, &packets)
 }
 
+/// Whether group `j` is a multi-queue root: it has more than one child.
+fn is_root(plan: &Plan, j: u32) -> bool
+    requires { j < length plan.now.groups }
+    ensures { result ≡ is_root plan.now j }
+{
+    plan.mq(j) > 1
+}
+
 /// Makes the files of the multi-queue roots, in ascending order.
 pub fn write_groups<H: Host>(
     alloc: Global,
@@ -107,7 +115,7 @@ pub fn write_groups<H: Host>(
     ensures cause { StopsFor (H.fault_count host.old) (H.fault_count host.new) result }
 {
     for j in 0..plan.groups() {
-        if plan.mq(j) > 1 {
+        if is_root(plan, j) {
             write_group(alloc, host, out, plan, capture, fates, j)?;
         }
     }
@@ -152,9 +160,8 @@ pub fn push_mq_lines(
     ensures { OnOk result (text.new.items ≡ text.old.items ++ mq_lines plan.now fates.now) }
 {
     for j in 0..plan.groups() {
-        let queues = plan.mq(j);
-        if queues > 1 {
-            let line = mq_text(alloc, j, queues, count_sent(plan, fates, j) as u32)?;
+        if is_root(plan, j) {
+            let line = mq_text(alloc, j, plan.mq(j), count_sent(plan, fates, j) as u32)?;
             push_bytes(text, &line)?;
         }
     }

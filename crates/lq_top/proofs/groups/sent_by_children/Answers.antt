@@ -1,4 +1,4 @@
-use Rattle.std.proofs.Common.{◌≡◌, ◌+◌, ◌++◌, ◌∷◌, [], ◌∙◌, ℕ, List, Vec, Global, map, ap, ap₂, sym, add-one}
+use Rattle.std.proofs.Common.{◌+◌, ◌++◌, ◌∷◌, [], ◌∙◌, ℕ, List, Vec, Global, map, ap, ap₂, sym, add-one}
 use Rattle.std.proofs.lemmas.List.{map-append}
 use Rattle.lq_model.specs.Numbers.{first_numbers}
 use Rattle.lq_model.specs.Plan.{first_at}

@@ -1,4 +1,4 @@
-use Rattle.std.proofs.Common.{◌≡◌, ℕ, List, length, map, ap}
+use Rattle.std.proofs.Common.{length, map, ap}
 use Rattle.std.specs.List.{flat_map}
 use Rattle.lq_top.specs.Groups.{group_file, mq_line}
 use Rattle.lq_top.proofs.GroupLemmas.{no-roots}
