@@ -60,6 +60,13 @@ impl<'a, D: TxDevice> Table<'a, D> {
         }
     }
 
+    /// The number of its station.
+    pub fn number(&self) -> u32
+        ensures { result ≡ self.now.made.station }
+    {
+        self.shared.number()
+    }
+
     /// Ends the table, whose seats are all joined into this one and which was brought to its end.
     pub fn close(self, seat: Seat<D>) -> Closed<D>
         requires here { IsHere self seat }

@@ -14,7 +14,7 @@ use Rattle.lq_senders.specs.Lanes.{IsReadyLane, LaneStands, StandsInRun, StandsA
 use Rattle.lq_senders.specs.Setup.{AreOpened, AreSplitting, IsEmptyLane, IsSplitting, SplitsAt}
 use Rattle.lq_senders.specs.Units.{SameDevices}
 use Rattle.lq_senders.specs.Way.{IsOnWay}
-use Rattle.lq_senders.specs.declared.lanes.Lane.{Lane}
+use Rattle.lq_senders.specs.declared.sender.Sender.{Sender}
 use Rattle.lq_senders.proofs.Seats.{set-here, set-apart}
 use Rattle.lq_senders.proofs.Ways.{way-start}
 
@@ -232,16 +232,16 @@ devices-split cpus i owner c c' at is = record {
 -- ALL LANES
 
 -- the lanes below this place have their seats, and the others have none yet
-pub record LanesSplit {D : Type 0} (plan : Plan) (infos : List Info) (place : ℕ) (tables : List TableState) (lanes : List (Lane D)) : Type 0 where
-  pub ready : (i : ℕ) (l : Lane D) → i < place → slice_get lanes i ≡ Some l → IsReadyLane plan infos tables i l.owner l.cpus.items
-  pub empty : (i : ℕ) (l : Lane D) → place ≤ i → slice_get lanes i ≡ Some l → IsEmptyLane plan i l
+pub record LanesSplit {D : Type 0} (plan : Plan) (infos : List Info) (place : ℕ) (tables : List TableState) (lanes : List (Sender D)) : Type 0 where
+  pub ready : (i : ℕ) (l : Sender D) → i < place → slice_get lanes i ≡ Some l → IsReadyLane plan infos tables i l.owner l.seats.items
+  pub empty : (i : ℕ) (l : Sender D) → place ≤ i → slice_get lanes i ≡ Some l → IsEmptyLane plan i l
 
-pub lanes-more : {D : Type 0} (plan : Plan) (infos : List Info) (place : ℕ) (tables : List TableState) (lanes : List (Lane D)) (new : Lane D) → place < length lanes
-    → LanesSplit plan infos place tables lanes → IsReadyLane plan infos tables place new.owner new.cpus.items → LanesSplit plan infos (place + 1) tables (slice_set lanes place new)
+pub lanes-more : {D : Type 0} (plan : Plan) (infos : List Info) (place : ℕ) (tables : List TableState) (lanes : List (Sender D)) (new : Sender D) → place < length lanes
+    → LanesSplit plan infos place tables lanes → IsReadyLane plan infos tables place new.owner new.seats.items → LanesSplit plan infos (place + 1) tables (slice_set lanes place new)
 lanes-more {D} plan infos place tables lanes new inside was ready = record {
   ready = λ i l less at. elim (cases_eq i place) [
     | inl same ↦ (let is : new ≡ l = same_Some new l (sym (set-here lanes place new inside) ∙ subst (λ k. slice_get (slice_set lanes place new) k ≡ Some l) same at) in
-        subst (λ k. IsReadyLane plan infos tables k l.owner l.cpus.items) (sym same) (subst (λ (x : Lane D). IsReadyLane plan infos tables place x.owner x.cpus.items) is ready))
+        subst (λ k. IsReadyLane plan infos tables k l.owner l.seats.items) (sym same) (subst (λ (x : Sender D). IsReadyLane plan infos tables place x.owner x.seats.items) is ready))
     | inr apart ↦ was.ready i l (omega arith) (sym (set-apart lanes place i new apart) ∙ at)
   ];
   empty = λ i l from at. was.empty i l (omega arith) (sym (set-apart lanes place i new (λ same. absurd (omega arith))) ∙ at);

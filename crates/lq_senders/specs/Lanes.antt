@@ -15,7 +15,7 @@ use Rattle.lq_senders.specs.Seats.{Keeps, KeepsSeat}
 use Rattle.lq_senders.specs.Units.{DevicesStand, DoTell}
 use Rattle.lq_senders.specs.Way.{IsOnWay}
 use Rattle.lq_senders.specs.Woken.{AllWoke, count_sent}
-use Rattle.lq_senders.specs.declared.lanes.Lane.{Lane}
+use Rattle.lq_senders.specs.declared.sender.Sender.{Sender}
 
 -- ONE SEAT
 
@@ -123,11 +123,11 @@ pub record IsDoneLane (plan : Plan) (infos : List Info) (tables : List TableStat
   pub stands : LaneDone plan infos owner tables cpus
   pub others : AreOthers owner cpus
 
-abbrev pub AreReadyLanes : {D : Type 0} → Plan → List Info → List TableState → List (Lane D) → Type 0
-AreReadyLanes {D} plan infos tables lanes = (i : ℕ) (l : Lane D) → slice_get lanes i ≡ Some l → IsReadyLane plan infos tables i l.owner l.cpus.items
+abbrev pub AreReadyLanes : {D : Type 0} → Plan → List Info → List TableState → List (Sender D) → Type 0
+AreReadyLanes {D} plan infos tables lanes = (i : ℕ) (l : Sender D) → slice_get lanes i ≡ Some l → IsReadyLane plan infos tables i l.owner l.seats.items
 
-abbrev pub AreDoneLanes : {D : Type 0} → Plan → List Info → List TableState → List (Lane D) → Type 0
-AreDoneLanes {D} plan infos tables lanes = (i : ℕ) (l : Lane D) → slice_get lanes i ≡ Some l → IsDoneLane plan infos tables i l.owner l.cpus.items
+abbrev pub AreDoneLanes : {D : Type 0} → Plan → List Info → List TableState → List (Sender D) → Type 0
+AreDoneLanes {D} plan infos tables lanes = (i : ℕ) (l : Sender D) → slice_get lanes i ≡ Some l → IsDoneLane plan infos tables i l.owner l.seats.items
 
 -- packets of the plan's stations and senders, numbered by rank
 pub record IsSendable (plan : Plan) (infos : List Info) : Type 0 where

@@ -13,7 +13,7 @@ use Rattle.lq_plan.specs.Packets.{IsInfoWithin}
 use Rattle.lq_seat.specs.Ends.{MayCloseBy}
 use Rattle.lq_seat.specs.State.{new_seat, SeatState, TableState, IsTableOf, setup_of, IsHere, station_count, times}
 use Rattle.lq_senders.specs.Ends.{ClosedState}
-use Rattle.lq_senders.specs.declared.lanes.Lane.{Lane}
+use Rattle.lq_senders.specs.declared.sender.Sender.{Sender}
 
 -- PACKETS
 
@@ -104,15 +104,15 @@ pub record AreSplitting (plan : Plan) (infos : List Info) (next : ℕ) (tables :
   pub each : (j : ℕ) (t : TableState) (c : SeatState) → slice_get tables j ≡ Some t → slice_get cpus j ≡ Some c → SplitsAt plan infos next j t c
 
 -- the lane at this place among those of the other senders has no seat yet, and room for one at each station
-pub record IsEmptyLane {D : Type 0} (plan : Plan) (place : ℕ) (l : Lane D) : Type 0 where
+pub record IsEmptyLane {D : Type 0} (plan : Plan) (place : ℕ) (l : Sender D) : Type 0 where
   pub owner_is : l.owner ≡ place + 1
-  pub none_yet : l.cpus.items ≡ []
-  pub room : length plan.stations ≤ vec_capacity l.cpus
+  pub none_yet : l.seats.items ≡ []
+  pub room : length plan.stations ≤ vec_capacity l.seats
 
 -- one for each sender but the first
-pub record AreEmptyLanes {D : Type 0} (plan : Plan) (lanes : List (Lane D)) : Type 0 where
+pub record AreEmptyLanes {D : Type 0} (plan : Plan) (lanes : List (Sender D)) : Type 0 where
   pub one_each : length lanes + 1 ≡ plan.senders
-  pub each : (i : ℕ) (l : Lane D) → slice_get lanes i ≡ Some l → IsEmptyLane plan i l
+  pub each : (i : ℕ) (l : Sender D) → slice_get lanes i ≡ Some l → IsEmptyLane plan i l
 
 -- A RUN THAT MAY BEGIN
 

@@ -7,7 +7,7 @@ ghost use Rattle.lq_senders.specs.Joins.{AreFirst, LaneJoined};
 ghost use Rattle.lq_senders.specs.Lanes.{AllDid, AreDoneLanes, IsDoneLane, IsSendable, LaneDone};
 ghost use Rattle.lq_senders.specs.Units.{SameDevices};
 
-use crate::lanes::Lane;
+use crate::sender::Sender;
 use lq_device::TxDevice;
 use lq_model::Info;
 use lq_plan::Plan;
@@ -22,10 +22,10 @@ fn join_lane<'a, D: TxDevice>(
     shared: &[Table<'a, D>],
     cpus: &mut Vec<Seat<D>>,
     place: usize,
-    lane: Lane<D>,
+    lane: Sender<D>,
 )
     requires first { LaneJoined plan.now infos.now (place + 1) shared.now cpus.old.items }
-    requires other { IsDoneLane plan.now infos.now shared.now place lane.owner lane.cpus.items }
+    requires other { IsDoneLane plan.now infos.now shared.now place lane.owner lane.seats.items }
     requires few { length plan.now.stations ≤ 256 }
     ensures joined { LaneJoined plan.now infos.now place shared.now cpus.new.items }
     ensures devices { SameDevices cpus.old.items cpus.new.items }
@@ -33,7 +33,7 @@ fn join_lane<'a, D: TxDevice>(
     let _ = &plan;
     let _ = &infos;
     let _ = place;
-    let mut others = lane.cpus;
+    let mut others = lane.seats;
     while let Some(other) = others.pop() {
         let j = others.len();
         cpus[j].join(&shared[j], other);
@@ -46,7 +46,7 @@ fn join_all<'a, D: TxDevice>(
     infos: &[Info],
     shared: &[Table<'a, D>],
     cpus: &mut Vec<Seat<D>>,
-    mut others: Vec<Lane<D>>,
+    mut others: Vec<Sender<D>>,
 )
     requires first { LaneJoined plan.now infos.now (length others.items) shared.now cpus.old.items }
     requires others { AreDoneLanes plan.now infos.now shared.now others.items }
@@ -109,7 +109,7 @@ pub fn end_run<'a, R: Wait, D: TxDevice>(
     infos: &[Info],
     shared: Vec<Table<'a, D>>,
     mut cpus: Vec<Seat<D>>,
-    others: Vec<Lane<D>>,
+    others: Vec<Sender<D>>,
     closed: &mut Vec<Closed<D>>,
 )
     requires sendable { IsSendable plan.now infos.now }

@@ -8,243 +8,179 @@ ghost use Rattle.lq_senders.specs.Woken.{AllWoke, count_sent};
 ghost use Rattle.lq_model.specs.Alone.{RunningStation, with_events};
 ghost use Rattle.lq_model.specs.Device.{DeviceState};
 
-use crate::lane::{Progress, come_to, events_of, pass_last};
+use crate::lane::{come_to, events_of, pass_last};
+use crate::sender::{Progress, Run, Sender};
 use lq_device::TxDevice;
 use lq_gate::Gate;
-use lq_model::Info;
-use lq_plan::Plan;
-use lq_seat::{Seat, Table};
 use std::sync::Wait;
 use std::thread;
 use std::thread::Threads;
 
-/// One sender's seats, by station.
-#[derive(Drop)]
-pub struct Lane<D: TxDevice> {
-    pub owner: u32,
-    pub cpus: Vec<Seat<D>>,
-    /// The devices of the exchanges to come, in order, and then those that exchanges took away. They are the first sender's.
-    pub spares: Vec<D>,
-}
-
 /// Does the plan's events from `next` on, if this is the first sender.
-fn events_left<'a, R: Wait, D: TxDevice>(
+fn events_left<'r, 'a, R: Wait, D: TxDevice, G: Gate>(
     rt: &R,
-    plan: &Plan,
-    infos: &[Info],
-    shared: &[Table<'a, D>],
-    cpus: &mut Vec<Seat<D>>,
-    spares: &mut Vec<D>,
-    sender: u32,
+    run: &Run<'r, 'a, D, G>,
+    sender: &mut Sender<D>,
     next: u32,
 )
-    requires next { next ≤ length plan.now.events }
-    requires sendable { IsSendable plan.now infos.now }
-    requires stands { (m : ℕ) × LaneStands plan.now infos.now sender next m shared.now cpus.old.items }
-    requires devices { sender ≡ 0 → (units : List DeviceState) × DevicesStand plan.now infos.now units next cpus.old.items (map D.state spares.old.items) }
-    ensures stands { (m : ℕ) → LaneStands plan.now infos.now sender next m shared.now cpus.old.items
-        → LaneStands plan.now infos.now sender (length plan.now.events) m shared.now cpus.new.items }
-    ensures keeps { KeepSeats cpus.old.items cpus.new.items }
-    ensures devices { sender ≡ 0 → (units : List DeviceState) → DevicesStand plan.now infos.now units next cpus.old.items (map D.state spares.old.items)
-        → DevicesStand plan.now infos.now units (length plan.now.events) cpus.new.items (map D.state spares.new.items) }
-    ensures runs { sender ≡ 0 → (units : List DeviceState) → DevicesStand plan.now infos.now units next cpus.old.items (map D.state spares.old.items) → DoTell plan.now units
-        → (stations : List RunningStation) → AreRunAlone plan.now infos.now cpus.old.items stations
-        → AreRunAlone plan.now infos.now cpus.new.items (with_events plan.now infos.now (numbers_from next (length plan.now.events - next)) stations) }
+    requires next { next ≤ length run.now.plan.now.events }
+    requires sendable { IsSendable run.now.plan.now run.now.infos.now }
+    requires stands { (m : ℕ) × LaneStands run.now.plan.now run.now.infos.now sender.old.owner next m run.now.tables.now sender.old.seats.items }
+    requires devices { sender.old.owner ≡ 0 → (units : List DeviceState) × DevicesStand run.now.plan.now run.now.infos.now units next sender.old.seats.items (map D.state sender.old.spares.items) }
+    ensures owner { sender.new.owner ≡ sender.old.owner }
+    ensures stands { (m : ℕ) → LaneStands run.now.plan.now run.now.infos.now sender.old.owner next m run.now.tables.now sender.old.seats.items
+        → LaneStands run.now.plan.now run.now.infos.now sender.old.owner (length run.now.plan.now.events) m run.now.tables.now sender.new.seats.items }
+    ensures keeps { KeepSeats sender.old.seats.items sender.new.seats.items }
+    ensures devices { sender.old.owner ≡ 0 → (units : List DeviceState) → DevicesStand run.now.plan.now run.now.infos.now units next sender.old.seats.items (map D.state sender.old.spares.items)
+        → DevicesStand run.now.plan.now run.now.infos.now units (length run.now.plan.now.events) sender.new.seats.items (map D.state sender.new.spares.items) }
+    ensures runs { sender.old.owner ≡ 0 → (units : List DeviceState) → DevicesStand run.now.plan.now run.now.infos.now units next sender.old.seats.items (map D.state sender.old.spares.items) → DoTell run.now.plan.now units
+        → (stations : List RunningStation) → AreRunAlone run.now.plan.now run.now.infos.now sender.old.seats.items stations
+        → AreRunAlone run.now.plan.now run.now.infos.now sender.new.seats.items (with_events run.now.plan.now run.now.infos.now (numbers_from next (length run.now.plan.now.events - next)) stations) }
 {
-    plan.stays_within_limits();
-    let _last = events_of(
-        rt,
-        plan,
-        infos,
-        shared,
-        cpus,
-        spares,
-        sender,
-        next,
-        u32::MAX,
-    );
+    run.plan.stays_within_limits();
+    let _last = events_of(rt, run, sender, next, u32::MAX);
 }
 
 /// Sends a sender's packets. The first sender does the plan's events, each before its packets with that number or a higher one.
 /// After each `irq_every` packets the sender wakes the stopped queues of all stations.
-pub fn send_loop<'a, R: Wait, D: TxDevice, G: Gate>(
+pub fn send_loop<'r, 'a, R: Wait, D: TxDevice, G: Gate>(
     rt: &R,
-    plan: &Plan,
-    infos: &[Info],
-    shared: &[Table<'a, D>],
-    lane: &mut Lane<D>,
-    gate: &G,
+    run: &Run<'r, 'a, D, G>,
+    sender: &mut Sender<D>,
 )
-    requires sendable { IsSendable plan.now infos.now }
-    requires stands { LaneStands plan.now infos.now lane.old.owner 0 0 shared.now lane.old.cpus.items }
-    requires devices { lane.old.owner ≡ 0 → (units : List DeviceState) × DevicesStand plan.now infos.now units 0 lane.old.cpus.items (map D.state lane.old.spares.items) }
-    ensures owner { lane.new.owner ≡ lane.old.owner }
-    ensures stands { LaneDone plan.now infos.now lane.new.owner shared.now lane.new.cpus.items }
-    ensures keeps { KeepSeats lane.old.cpus.items lane.new.cpus.items }
-    ensures devices { lane.old.owner ≡ 0 → (units : List DeviceState) → DevicesStand plan.now infos.now units 0 lane.old.cpus.items (map D.state lane.old.spares.items)
-        → DevicesStand plan.now infos.now units (length plan.now.events) lane.new.cpus.items (map D.state lane.new.spares.items) }
-    ensures runs { lane.old.owner ≡ 0 → (units : List DeviceState) → DevicesStand plan.now infos.now units 0 lane.old.cpus.items (map D.state lane.old.spares.items) → DoTell plan.now units
-        → AllOwn infos.now → (from : List RunningStation) → AreRunAlone plan.now infos.now lane.old.cpus.items from
-        → AreRunAlone plan.now infos.now lane.new.cpus.items (after_sending plan.now infos.now from) }
-    ensures woke { AllWoke (count_sent infos.now lane.old.owner (length infos.now) / plan.now.irq_every) lane.old.cpus.items lane.new.cpus.items }
+    requires sendable { IsSendable run.now.plan.now run.now.infos.now }
+    requires stands { LaneStands run.now.plan.now run.now.infos.now sender.old.owner 0 0 run.now.tables.now sender.old.seats.items }
+    requires devices { sender.old.owner ≡ 0 → (units : List DeviceState) × DevicesStand run.now.plan.now run.now.infos.now units 0 sender.old.seats.items (map D.state sender.old.spares.items) }
+    ensures owner { sender.new.owner ≡ sender.old.owner }
+    ensures stands { LaneDone run.now.plan.now run.now.infos.now sender.new.owner run.now.tables.now sender.new.seats.items }
+    ensures keeps { KeepSeats sender.old.seats.items sender.new.seats.items }
+    ensures devices { sender.old.owner ≡ 0 → (units : List DeviceState) → DevicesStand run.now.plan.now run.now.infos.now units 0 sender.old.seats.items (map D.state sender.old.spares.items)
+        → DevicesStand run.now.plan.now run.now.infos.now units (length run.now.plan.now.events) sender.new.seats.items (map D.state sender.new.spares.items) }
+    ensures runs { sender.old.owner ≡ 0 → (units : List DeviceState) → DevicesStand run.now.plan.now run.now.infos.now units 0 sender.old.seats.items (map D.state sender.old.spares.items) → DoTell run.now.plan.now units
+        → AllOwn run.now.infos.now → (from : List RunningStation) → AreRunAlone run.now.plan.now run.now.infos.now sender.old.seats.items from
+        → AreRunAlone run.now.plan.now run.now.infos.now sender.new.seats.items (after_sending run.now.plan.now run.now.infos.now from) }
+    ensures woke { AllWoke (count_sent run.now.infos.now sender.old.owner (length run.now.infos.now) / run.now.plan.now.irq_every) sender.old.seats.items sender.new.seats.items }
 {
-    plan.stays_within_limits();
-    let sender = lane.owner;
+    run.plan.stays_within_limits();
     let mut at = Progress { sent: 0, next: 0 };
-    for n in 0..infos.len() as u32 {
-        at = come_to(
-            rt,
-            plan,
-            infos,
-            shared,
-            &mut lane.cpus,
-            &mut lane.spares,
-            sender,
-            at,
-            n,
-            gate,
-        );
+    for n in 0..run.infos.len() as u32 {
+        at = come_to(rt, run, sender, at, n);
     }
-    events_left(
-        rt,
-        plan,
-        infos,
-        shared,
-        &mut lane.cpus,
-        &mut lane.spares,
-        sender,
-        at.next,
-    );
-    pass_last(plan, infos, shared, &lane.cpus, sender, at.sent, gate);
+    events_left(rt, run, sender, at.next);
+    pass_last(run, sender, at.sent);
 }
 
 /// Sends the packets of a sender that isn't the first.
-fn send_other<'a, R: Wait, D: TxDevice, G: Gate>(
+fn send_other<'r, 'a, R: Wait, D: TxDevice, G: Gate>(
     rt: &R,
-    plan: &Plan,
-    infos: &[Info],
-    shared: &[Table<'a, D>],
-    place: usize,
-    lane: &mut Lane<D>,
-    gate: &G,
+    run: &Run<'r, 'a, D, G>,
+    sender: &mut Sender<D>,
 )
-    requires sendable { IsSendable plan.now infos.now }
-    requires ready { IsReadyLane plan.now infos.now shared.now place lane.old.owner lane.old.cpus.items }
-    ensures { IsDoneLane plan.now infos.now shared.now place lane.new.owner lane.new.cpus.items }
+    requires sendable { IsSendable run.now.plan.now run.now.infos.now }
+    requires ready { (place : ℕ) × IsReadyLane run.now.plan.now run.now.infos.now run.now.tables.now place sender.old.owner sender.old.seats.items }
+    ensures { (place : ℕ) → IsReadyLane run.now.plan.now run.now.infos.now run.now.tables.now place sender.old.owner sender.old.seats.items
+        → IsDoneLane run.now.plan.now run.now.infos.now run.now.tables.now place sender.new.owner sender.new.seats.items }
 {
-    let _ = place;
-    send_loop(rt, plan, infos, shared, lane, gate);
+    send_loop(rt, run, sender);
 }
 
 /// The other senders, side by side.
-fn others_send<'a, R: Threads + Wait + Sync, D: TxDevice, G: Gate>(
+fn others_send<'r, 'a, R: Threads + Wait + Sync, D: TxDevice, G: Gate>(
     rt: &R,
-    plan: &Plan,
-    infos: &[Info],
-    shared: &[Table<'a, D>],
-    lanes: &mut [Lane<D>],
-    gate: &G,
+    run: &Run<'r, 'a, D, G>,
+    senders: &mut [Sender<D>],
 )
-    requires sendable { IsSendable plan.now infos.now }
-    requires ready { AreReadyLanes plan.now infos.now shared.now lanes.old }
-    ensures { AreDoneLanes plan.now infos.now shared.now lanes.new }
+    requires sendable { IsSendable run.now.plan.now run.now.infos.now }
+    requires ready { AreReadyLanes run.now.plan.now run.now.infos.now run.now.tables.now senders.old }
+    ensures { AreDoneLanes run.now.plan.now run.now.infos.now run.now.tables.now senders.new }
 {
-    let threads = lanes.len();
+    let threads = senders.len();
     if threads > 0 {
         thread::for_each_mut(
             rt,
-            lanes,
+            senders,
             threads,
-            &|i, lane: &mut Lane<D>|
-                requires { IsSendable plan.now infos.now × IsReadyLane plan.now infos.now shared.now i lane.old.owner lane.old.cpus.items }
-                ensures { IsDoneLane plan.entry.now infos.entry.now shared.entry.now i lane.new.owner lane.new.cpus.items }
-            { send_other(rt, plan, infos, shared, i, lane, gate) },
+            &|i, sender: &mut Sender<D>|
+                requires { IsSendable run.now.plan.now run.now.infos.now × IsReadyLane run.now.plan.now run.now.infos.now run.now.tables.now i sender.old.owner sender.old.seats.items }
+                ensures { IsDoneLane run.entry.now.plan.now run.entry.now.infos.now run.entry.now.tables.now i sender.new.owner sender.new.seats.items }
+            { send_other(rt, run, sender) },
         );
     }
 }
 
-fn first_sent<'a, R: Wait, D: TxDevice, G: Gate>(
+fn first_sent<'r, 'a, R: Wait, D: TxDevice, G: Gate>(
     rt: &R,
-    plan: &Plan,
-    infos: &[Info],
-    shared: &[Table<'a, D>],
-    mut lane: Lane<D>,
-    gate: &G,
-) -> Lane<D>
-    requires sendable { IsSendable plan.now infos.now }
-    requires owner { lane.owner ≡ 0 }
-    requires stands { LaneStands plan.now infos.now 0 0 0 shared.now lane.cpus.items }
-    requires devices { (units : List DeviceState) × DevicesStand plan.now infos.now units 0 lane.cpus.items (map D.state lane.spares.items) }
+    run: &Run<'r, 'a, D, G>,
+    mut sender: Sender<D>,
+) -> Sender<D>
+    requires sendable { IsSendable run.now.plan.now run.now.infos.now }
+    requires owner { sender.owner ≡ 0 }
+    requires stands { LaneStands run.now.plan.now run.now.infos.now 0 0 0 run.now.tables.now sender.seats.items }
+    requires devices { (units : List DeviceState) × DevicesStand run.now.plan.now run.now.infos.now units 0 sender.seats.items (map D.state sender.spares.items) }
     ensures owner { result.owner ≡ 0 }
-    ensures stands { LaneDone plan.now infos.now 0 shared.now result.cpus.items }
-    ensures keeps { KeepSeats lane.cpus.items result.cpus.items }
-    ensures devices { (units : List DeviceState) → DevicesStand plan.now infos.now units 0 lane.cpus.items (map D.state lane.spares.items)
-        → DevicesStand plan.now infos.now units (length plan.now.events) result.cpus.items (map D.state result.spares.items) }
-    ensures runs { (units : List DeviceState) → DevicesStand plan.now infos.now units 0 lane.cpus.items (map D.state lane.spares.items) → DoTell plan.now units
-        → AllOwn infos.now → (from : List RunningStation) → AreRunAlone plan.now infos.now lane.cpus.items from
-        → AreRunAlone plan.now infos.now result.cpus.items (after_sending plan.now infos.now from) }
+    ensures stands { LaneDone run.now.plan.now run.now.infos.now 0 run.now.tables.now result.seats.items }
+    ensures keeps { KeepSeats sender.seats.items result.seats.items }
+    ensures devices { (units : List DeviceState) → DevicesStand run.now.plan.now run.now.infos.now units 0 sender.seats.items (map D.state sender.spares.items)
+        → DevicesStand run.now.plan.now run.now.infos.now units (length run.now.plan.now.events) result.seats.items (map D.state result.spares.items) }
+    ensures runs { (units : List DeviceState) → DevicesStand run.now.plan.now run.now.infos.now units 0 sender.seats.items (map D.state sender.spares.items) → DoTell run.now.plan.now units
+        → AllOwn run.now.infos.now → (from : List RunningStation) → AreRunAlone run.now.plan.now run.now.infos.now sender.seats.items from
+        → AreRunAlone run.now.plan.now run.now.infos.now result.seats.items (after_sending run.now.plan.now run.now.infos.now from) }
 {
-    send_loop(rt, plan, infos, shared, &mut lane, gate);
-    lane
+    send_loop(rt, run, &mut sender);
+    sender
 }
 
-fn others_sent<'a, R: Threads + Wait + Sync, D: TxDevice, G: Gate>(
+fn others_sent<'r, 'a, R: Threads + Wait + Sync, D: TxDevice, G: Gate>(
     rt: &R,
-    plan: &Plan,
-    infos: &[Info],
-    shared: &[Table<'a, D>],
-    mut lanes: Vec<Lane<D>>,
-    gate: &G,
-) -> Vec<Lane<D>>
-    requires sendable { IsSendable plan.now infos.now }
-    requires ready { AreReadyLanes plan.now infos.now shared.now lanes.items }
-    ensures done { AreDoneLanes plan.now infos.now shared.now result.items }
-    ensures long { length result.items ≡ length lanes.items }
+    run: &Run<'r, 'a, D, G>,
+    mut senders: Vec<Sender<D>>,
+) -> Vec<Sender<D>>
+    requires sendable { IsSendable run.now.plan.now run.now.infos.now }
+    requires ready { AreReadyLanes run.now.plan.now run.now.infos.now run.now.tables.now senders.items }
+    ensures done { AreDoneLanes run.now.plan.now run.now.infos.now run.now.tables.now result.items }
+    ensures long { length result.items ≡ length senders.items }
 {
-    others_send(rt, plan, infos, shared, lanes.as_mut_slice(), gate);
-    lanes
+    others_send(rt, run, senders.as_mut_slice());
+    senders
 }
 
 /// All senders side by side: the first sender's seats and the others', after the last packet.
-pub fn all_send<'a, R: Threads + Wait + Sync, D: TxDevice, G: Gate>(
+pub fn all_send<'r, 'a, R: Threads + Wait + Sync, D: TxDevice, G: Gate>(
     rt: &R,
-    plan: &Plan,
-    infos: &[Info],
-    shared: &[Table<'a, D>],
-    first: Lane<D>,
-    others: Vec<Lane<D>>,
-    gate: &G,
-) -> (Lane<D>, Vec<Lane<D>>)
-    requires sendable { IsSendable plan.now infos.now }
+    run: &Run<'r, 'a, D, G>,
+    first: Sender<D>,
+    others: Vec<Sender<D>>,
+) -> (Sender<D>, Vec<Sender<D>>)
+    requires sendable { IsSendable run.now.plan.now run.now.infos.now }
     requires owner { first.owner ≡ 0 }
-    requires first { LaneStands plan.now infos.now 0 0 0 shared.now first.cpus.items }
-    requires devices { (units : List DeviceState) × DevicesStand plan.now infos.now units 0 first.cpus.items (map D.state first.spares.items) }
-    requires others { AreReadyLanes plan.now infos.now shared.now others.items }
-    ensures first { LaneDone plan.now infos.now 0 shared.now result.0.cpus.items }
-    ensures keeps { KeepSeats first.cpus.items result.0.cpus.items }
-    ensures devices { (units : List DeviceState) → DevicesStand plan.now infos.now units 0 first.cpus.items (map D.state first.spares.items)
-        → DevicesStand plan.now infos.now units (length plan.now.events) result.0.cpus.items (map D.state result.0.spares.items) }
-    ensures runs { (units : List DeviceState) → DevicesStand plan.now infos.now units 0 first.cpus.items (map D.state first.spares.items) → DoTell plan.now units
-        → AllOwn infos.now → (from : List RunningStation) → AreRunAlone plan.now infos.now first.cpus.items from
-        → AreRunAlone plan.now infos.now result.0.cpus.items (after_sending plan.now infos.now from) }
-    ensures others { AreDoneLanes plan.now infos.now shared.now result.1.items }
+    requires first { LaneStands run.now.plan.now run.now.infos.now 0 0 0 run.now.tables.now first.seats.items }
+    requires devices { (units : List DeviceState) × DevicesStand run.now.plan.now run.now.infos.now units 0 first.seats.items (map D.state first.spares.items) }
+    requires others { AreReadyLanes run.now.plan.now run.now.infos.now run.now.tables.now others.items }
+    ensures first { LaneDone run.now.plan.now run.now.infos.now 0 run.now.tables.now result.0.seats.items }
+    ensures keeps { KeepSeats first.seats.items result.0.seats.items }
+    ensures devices { (units : List DeviceState) → DevicesStand run.now.plan.now run.now.infos.now units 0 first.seats.items (map D.state first.spares.items)
+        → DevicesStand run.now.plan.now run.now.infos.now units (length run.now.plan.now.events) result.0.seats.items (map D.state result.0.spares.items) }
+    ensures runs { (units : List DeviceState) → DevicesStand run.now.plan.now run.now.infos.now units 0 first.seats.items (map D.state first.spares.items) → DoTell run.now.plan.now units
+        → AllOwn run.now.infos.now → (from : List RunningStation) → AreRunAlone run.now.plan.now run.now.infos.now first.seats.items from
+        → AreRunAlone run.now.plan.now run.now.infos.now result.0.seats.items (after_sending run.now.plan.now run.now.infos.now from) }
+    ensures others { AreDoneLanes run.now.plan.now run.now.infos.now run.now.tables.now result.1.items }
     ensures long { length result.1.items ≡ length others.items }
 {
     thread::join(
         rt,
-        move || -> Lane<D>
-            requires { IsSendable plan.now infos.now × (first.owner ≡ 0) × LaneStands plan.now infos.now 0 0 0 shared.now first.cpus.items
-                × ((units : List DeviceState) × DevicesStand plan.now infos.now units 0 first.cpus.items (map D.state first.spares.items)) }
-            ensures { LaneDone plan.entry.now infos.entry.now 0 shared.entry.now result.cpus.items × KeepSeats first.cpus.items result.cpus.items
-                × ((units : List DeviceState) → DevicesStand plan.entry.now infos.entry.now units 0 first.cpus.items (map D.state first.spares.items)
-                → DevicesStand plan.entry.now infos.entry.now units (length plan.entry.now.events) result.cpus.items (map D.state result.spares.items))
-                × ((units : List DeviceState) → DevicesStand plan.entry.now infos.entry.now units 0 first.cpus.items (map D.state first.spares.items) → DoTell plan.entry.now units
-                → AllOwn infos.entry.now → (from : List RunningStation) → AreRunAlone plan.entry.now infos.entry.now first.cpus.items from
-                → AreRunAlone plan.entry.now infos.entry.now result.cpus.items (after_sending plan.entry.now infos.entry.now from)) }
-        { first_sent(rt, plan, infos, shared, first, gate) },
-        move || -> Vec<Lane<D>>
-            requires { IsSendable plan.now infos.now × AreReadyLanes plan.now infos.now shared.now others.items }
-            ensures { AreDoneLanes plan.entry.now infos.entry.now shared.entry.now result.items × (length result.items ≡ length others.items) }
-        { others_sent(rt, plan, infos, shared, others, gate) },
+        move || -> Sender<D>
+            requires { IsSendable run.now.plan.now run.now.infos.now × (first.owner ≡ 0) × LaneStands run.now.plan.now run.now.infos.now 0 0 0 run.now.tables.now first.seats.items
+                × ((units : List DeviceState) × DevicesStand run.now.plan.now run.now.infos.now units 0 first.seats.items (map D.state first.spares.items)) }
+            ensures { LaneDone run.entry.now.plan.now run.entry.now.infos.now 0 run.entry.now.tables.now result.seats.items × KeepSeats first.seats.items result.seats.items
+                × ((units : List DeviceState) → DevicesStand run.entry.now.plan.now run.entry.now.infos.now units 0 first.seats.items (map D.state first.spares.items)
+                → DevicesStand run.entry.now.plan.now run.entry.now.infos.now units (length run.entry.now.plan.now.events) result.seats.items (map D.state result.spares.items))
+                × ((units : List DeviceState) → DevicesStand run.entry.now.plan.now run.entry.now.infos.now units 0 first.seats.items (map D.state first.spares.items) → DoTell run.entry.now.plan.now units
+                → AllOwn run.entry.now.infos.now → (from : List RunningStation) → AreRunAlone run.entry.now.plan.now run.entry.now.infos.now first.seats.items from
+                → AreRunAlone run.entry.now.plan.now run.entry.now.infos.now result.seats.items (after_sending run.entry.now.plan.now run.entry.now.infos.now from)) }
+        { first_sent(rt, run, first) },
+        move || -> Vec<Sender<D>>
+            requires { IsSendable run.now.plan.now run.now.infos.now × AreReadyLanes run.now.plan.now run.now.infos.now run.now.tables.now others.items }
+            ensures { AreDoneLanes run.entry.now.plan.now run.entry.now.infos.now run.entry.now.tables.now result.items × (length result.items ≡ length others.items) }
+        { others_sent(rt, run, others) },
     )
 }

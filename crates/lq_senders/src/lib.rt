@@ -8,6 +8,7 @@ mod laws;
 mod read;
 mod ready;
 mod send;
+mod sender;
 mod setup;
 mod spares;
 mod swaps;
@@ -15,7 +16,7 @@ mod undo;
 mod whole;
 
 pub use ends::end_run;
-pub use lanes::{Lane, all_send, send_loop};
+pub use lanes::{all_send, send_loop};
 pub use laws::{
     ends_make_fates, one_child_is_offered, runs_are_readable, runs_keep_boxes, runs_leave_devices,
     runs_leave_stations, runs_make_fates, stations_run_apart,
@@ -23,5 +24,6 @@ pub use laws::{
 pub use lq_gate::{Free, Gate};
 pub use read::read_fates;
 pub use send::send_all;
+pub use sender::{Progress, Run, Sender};
 pub use undo::undo_exchanges;
 pub use whole::run;

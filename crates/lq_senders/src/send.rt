@@ -8,12 +8,12 @@ ghost use Rattle.lq_senders.specs.Setup.{AreEmptyLanes, AreTablesReady, IsRunBy}
 ghost use Rattle.lq_model.specs.Device.{DeviceState};
 ghost use Rattle.lq_model.specs.Plan.{unit_count};
 
-use crate::lanes::Lane;
 use crate::laws::{
     runs_are_readable, runs_keep_boxes, runs_leave_devices, runs_leave_stations, runs_make_fates,
 };
 use crate::read::read_fates;
 use crate::ready::make_ready;
+use crate::sender::Sender;
 use crate::setup::{Stations, lanes_for, may_be_sent, room_apart, room_for, split_lanes};
 use crate::undo::{hand_back, take_apart};
 use crate::whole::run;
@@ -36,7 +36,7 @@ fn send_ready<'a, R: Threads + Wait + Sync, D: TxDevice, G: Gate>(
     infos: &'a [Info],
     stations: Stations<'a, D>,
     spares: Vec<D>,
-    mut others: Vec<Lane<D>>,
+    mut others: Vec<Sender<D>>,
     mut closed: Vec<Closed<D>>,
     mut homes: Vec<D>,
     fates: &mut Vec<Fate>,
@@ -61,9 +61,9 @@ fn send_ready<'a, R: Threads + Wait + Sync, D: TxDevice, G: Gate>(
     plan.stays_within_limits();
     let Stations { tables, mut cpus } = stations;
     split_lanes(plan, infos, tables.as_slice(), &mut cpus, &mut others);
-    let first = Lane {
+    let first = Sender {
         owner: 0,
-        cpus,
+        seats: cpus,
         spares,
     };
     let spares = run(rt, plan, infos, tables, first, others, &mut closed, gate);

@@ -11,7 +11,7 @@ ghost use Rattle.lq_senders.specs.Setup.{AreConfigured, AreEmptyLanes, AreOpened
 ghost use Rattle.lq_senders.specs.Units.{SameDevices};
 ghost use Rattle.lq_model.specs.Device.{DeviceState};
 
-use crate::lanes::Lane;
+use crate::sender::Sender;
 use lq_device::TxDevice;
 use lq_model::{Info, NoMemory};
 use lq_plan::Plan;
@@ -82,16 +82,16 @@ pub fn configure_units<D: TxDevice>(
 }
 
 /// The lanes of all senders but the first, without seats but with the room for them.
-pub fn lanes_for<D: TxDevice>(alloc: Global, plan: &Plan) -> Result<Vec<Lane<D>>, NoMemory>
+pub fn lanes_for<D: TxDevice>(alloc: Global, plan: &Plan) -> Result<Vec<Sender<D>>, NoMemory>
     ensures { IfOk result (λ lanes. AreEmptyLanes plan.now lanes.items) }
 {
     let senders = plan.senders();
     let mut lanes = room_apart(alloc, senders as usize - 1)?;
     for owner in 1..senders {
         let cpus = room_apart(alloc, plan.stations() as usize)?;
-        lanes.push_reserved(Lane {
+        lanes.push_reserved(Sender {
             owner,
-            cpus,
+            seats: cpus,
             spares: Vec::new(alloc),
         });
     }
@@ -211,13 +211,13 @@ fn split_lane<'a, D: TxDevice>(
     tables: &[Table<'a, D>],
     cpus: &mut Vec<Seat<D>>,
     place: usize,
-    lane: &mut Lane<D>,
+    lane: &mut Sender<D>,
 )
     requires empty { IsEmptyLane plan.now place lane.old }
     requires sender { place + 1 < plan.now.senders }
     requires splitting { AreSplitting plan.now infos.now (place + 1) tables.now cpus.old.items }
     ensures splitting { AreSplitting plan.now infos.now (place + 2) tables.now cpus.new.items }
-    ensures ready { IsReadyLane plan.now infos.now tables.now place lane.new.owner lane.new.cpus.items }
+    ensures ready { IsReadyLane plan.now infos.now tables.now place lane.new.owner lane.new.seats.items }
     ensures devices { SameDevices cpus.old.items cpus.new.items }
 {
     plan.stays_within_limits();
@@ -225,7 +225,7 @@ fn split_lane<'a, D: TxDevice>(
     let _ = place;
     for j in 0..tables.len() {
         let other = cpus[j].split(&tables[j], lane.owner);
-        lane.cpus.push_reserved(other);
+        lane.seats.push_reserved(other);
     }
 }
 
@@ -235,7 +235,7 @@ pub fn split_lanes<'a, D: TxDevice>(
     infos: &[Info],
     tables: &[Table<'a, D>],
     cpus: &mut Vec<Seat<D>>,
-    lanes: &mut Vec<Lane<D>>,
+    lanes: &mut Vec<Sender<D>>,
 )
     requires empty { AreEmptyLanes plan.now lanes.old.items }
     requires splitting { AreSplitting plan.now infos.now 1 tables.now cpus.old.items }

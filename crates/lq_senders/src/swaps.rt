@@ -9,8 +9,10 @@ ghost use Rattle.lq_model.specs.Device.{DeviceState};
 ghost use Rattle.lq_model.specs.Plan.{is_at, is_swap, is_swap_kind, unit_of_swap};
 ghost use Rattle.lq_model.specs.declared.plan.EventPlan.{EventPlan as AnEvent};
 
+use crate::sender::{Run, Sender};
 use lq_device::TxDevice;
-use lq_model::{EventKind, EventPlan, Info};
+use lq_gate::Gate;
+use lq_model::{EventKind, EventPlan};
 use lq_plan::{Plan, is_at};
 use lq_seat::{Brought, Seat, Table};
 use std::sync::Wait;
@@ -40,111 +42,102 @@ pub fn brought_unit(plan: &Plan, e: u32) -> u32
 /// Does event `e` of the plan at this station and drains its seat, if it is an event of the station.
 fn event_at<'a, R: Wait, D: TxDevice>(
     rt: &R,
-    shared: &Table<'a, D>,
-    cpu: &mut Seat<D>,
-    station: u32,
+    table: &Table<'a, D>,
+    seat: &mut Seat<D>,
     e: u32,
     event: EventPlan,
 )
-    requires seat { IsHere shared.now cpu.old }
-    requires number { station ≡ cpu.old.made.station }
+    requires here { IsHere table.now seat.old }
     requires no_swap { is_swap event ≡ false }
-    requires may { is_at station event ≡ true → MayChange event.kind cpu.old }
-    ensures does { DoesEventAt e event cpu.old cpu.new }
+    requires may { is_at seat.old.made.station event ≡ true → MayChange event.kind seat.old }
+    ensures does { DoesEventAt e event seat.old seat.new }
 {
-    if is_at(&event, station) {
-        cpu.do_event(rt, shared, e, event.kind);
+    if is_at(&event, table.number()) {
+        seat.do_event(rt, table, e, event.kind);
     }
 }
 
 /// Does event `e`, the plan's next, which isn't an exchange of a device: at each of its stations, the children of one group, in
 /// ascending order.
-fn do_next_event<'a, R: Wait, D: TxDevice>(
+fn do_next_event<'r, 'a, R: Wait, D: TxDevice, G: Gate>(
     rt: &R,
-    plan: &Plan,
-    infos: &[Info],
-    shared: &[Table<'a, D>],
-    cpus: &mut Vec<Seat<D>>,
+    run: &Run<'r, 'a, D, G>,
+    seats: &mut Vec<Seat<D>>,
     e: u32,
 )
-    requires event { e < length plan.now.events }
-    requires no_swap { (event : AnEvent) → slice_get plan.now.events e ≡ Some event → is_swap event ≡ false }
-    requires sendable { IsSendable plan.now infos.now }
-    requires stands { (n : ℕ) × LaneStands plan.now infos.now 0 e n shared.now cpus.old.items }
-    ensures stands { (n : ℕ) → LaneStands plan.now infos.now 0 e n shared.now cpus.old.items
-        → LaneStands plan.now infos.now 0 (e + 1) n shared.now cpus.new.items }
-    ensures keeps { KeepAll cpus.old.items cpus.new.items }
-    ensures runs { (stations : List RunningStation) → AreRunAlone plan.now infos.now cpus.old.items stations
-        → AreRunAlone plan.now infos.now cpus.new.items (with_event plan.now infos.now e stations) }
+    requires event { e < length run.now.plan.now.events }
+    requires no_swap { (event : AnEvent) → slice_get run.now.plan.now.events e ≡ Some event → is_swap event ≡ false }
+    requires sendable { IsSendable run.now.plan.now run.now.infos.now }
+    requires stands { (n : ℕ) × LaneStands run.now.plan.now run.now.infos.now 0 e n run.now.tables.now seats.old.items }
+    ensures stands { (n : ℕ) → LaneStands run.now.plan.now run.now.infos.now 0 e n run.now.tables.now seats.old.items
+        → LaneStands run.now.plan.now run.now.infos.now 0 (e + 1) n run.now.tables.now seats.new.items }
+    ensures keeps { KeepAll seats.old.items seats.new.items }
+    ensures runs { (stations : List RunningStation) → AreRunAlone run.now.plan.now run.now.infos.now seats.old.items stations
+        → AreRunAlone run.now.plan.now run.now.infos.now seats.new.items (with_event run.now.plan.now run.now.infos.now e stations) }
 {
-    plan.stays_within_limits();
-    let _ = &infos;
-    let event = plan.event(e);
-    for j in 0..shared.len() {
-        event_at(rt, &shared[j], &mut cpus[j], j as u32, e, event);
+    run.plan.stays_within_limits();
+    let event = run.plan.event(e);
+    for j in 0..run.tables.len() {
+        event_at(rt, &run.tables[j], &mut seats[j], e, event);
     }
 }
 
 /// Does event `e`, the plan's next, which exchanges a device: the first of the spare ones comes, and the one that goes is the last
 /// of them.
-fn exchange_next<'a, R: Wait, D: TxDevice>(
+fn exchange_next<'r, 'a, R: Wait, D: TxDevice, G: Gate>(
     rt: &R,
-    plan: &Plan,
-    infos: &[Info],
-    shared: &[Table<'a, D>],
-    cpus: &mut Vec<Seat<D>>,
-    spares: &mut Vec<D>,
+    run: &Run<'r, 'a, D, G>,
+    sender: &mut Sender<D>,
     e: u32,
 )
-    requires event { e < length plan.now.events }
-    requires swap { (event : AnEvent) → slice_get plan.now.events e ≡ Some event → is_swap event ≡ true }
-    requires stands { (n : ℕ) × LaneStands plan.now infos.now 0 e n shared.now cpus.old.items }
-    requires devices { (units : List DeviceState) × DevicesStand plan.now infos.now units e cpus.old.items (map D.state spares.old.items) }
-    ensures stands { (n : ℕ) → LaneStands plan.now infos.now 0 e n shared.now cpus.old.items
-        → LaneStands plan.now infos.now 0 (e + 1) n shared.now cpus.new.items }
-    ensures keeps { KeepSeats cpus.old.items cpus.new.items }
-    ensures devices { (units : List DeviceState) → DevicesStand plan.now infos.now units e cpus.old.items (map D.state spares.old.items)
-        → DevicesStand plan.now infos.now units (e + 1) cpus.new.items (map D.state spares.new.items) }
-    ensures runs { (units : List DeviceState) → DevicesStand plan.now infos.now units e cpus.old.items (map D.state spares.old.items) → DoTell plan.now units
-        → (stations : List RunningStation) → AreRunAlone plan.now infos.now cpus.old.items stations
-        → AreRunAlone plan.now infos.now cpus.new.items (with_event plan.now infos.now e stations) }
+    requires event { e < length run.now.plan.now.events }
+    requires swap { (event : AnEvent) → slice_get run.now.plan.now.events e ≡ Some event → is_swap event ≡ true }
+    requires stands { (n : ℕ) × LaneStands run.now.plan.now run.now.infos.now 0 e n run.now.tables.now sender.old.seats.items }
+    requires devices { (units : List DeviceState) × DevicesStand run.now.plan.now run.now.infos.now units e sender.old.seats.items (map D.state sender.old.spares.items) }
+    ensures owner { sender.new.owner ≡ sender.old.owner }
+    ensures stands { (n : ℕ) → LaneStands run.now.plan.now run.now.infos.now 0 e n run.now.tables.now sender.old.seats.items
+        → LaneStands run.now.plan.now run.now.infos.now 0 (e + 1) n run.now.tables.now sender.new.seats.items }
+    ensures keeps { KeepSeats sender.old.seats.items sender.new.seats.items }
+    ensures devices { (units : List DeviceState) → DevicesStand run.now.plan.now run.now.infos.now units e sender.old.seats.items (map D.state sender.old.spares.items)
+        → DevicesStand run.now.plan.now run.now.infos.now units (e + 1) sender.new.seats.items (map D.state sender.new.spares.items) }
+    ensures runs { (units : List DeviceState) → DevicesStand run.now.plan.now run.now.infos.now units e sender.old.seats.items (map D.state sender.old.spares.items) → DoTell run.now.plan.now units
+        → (stations : List RunningStation) → AreRunAlone run.now.plan.now run.now.infos.now sender.old.seats.items stations
+        → AreRunAlone run.now.plan.now run.now.infos.now sender.new.seats.items (with_event run.now.plan.now run.now.infos.now e stations) }
 {
-    plan.stays_within_limits();
-    let station = plan.event(e).station;
-    let unit = brought_unit(plan, e);
-    let device = spares.remove(0);
+    run.plan.stays_within_limits();
+    let station = run.plan.event(e).station;
+    let unit = brought_unit(run.plan, e);
+    let device = sender.spares.remove(0);
     let brought = Brought { event: e, unit };
-    let table = &shared[station as usize];
-    let old = cpus[station as usize].exchange(rt, table, brought, device);
-    spares.push_reserved(old);
+    let table = &run.tables[station as usize];
+    let old = sender.seats[station as usize].exchange(rt, table, brought, device);
+    sender.spares.push_reserved(old);
 }
 
 /// Does event `e`, the plan's next.
-pub fn do_any_event<'a, R: Wait, D: TxDevice>(
+pub fn do_any_event<'r, 'a, R: Wait, D: TxDevice, G: Gate>(
     rt: &R,
-    plan: &Plan,
-    infos: &[Info],
-    shared: &[Table<'a, D>],
-    cpus: &mut Vec<Seat<D>>,
-    spares: &mut Vec<D>,
+    run: &Run<'r, 'a, D, G>,
+    sender: &mut Sender<D>,
     e: u32,
 )
-    requires event { e < length plan.now.events }
-    requires sendable { IsSendable plan.now infos.now }
-    requires stands { (n : ℕ) × LaneStands plan.now infos.now 0 e n shared.now cpus.old.items }
-    requires devices { (units : List DeviceState) × DevicesStand plan.now infos.now units e cpus.old.items (map D.state spares.old.items) }
-    ensures stands { (n : ℕ) → LaneStands plan.now infos.now 0 e n shared.now cpus.old.items
-        → LaneStands plan.now infos.now 0 (e + 1) n shared.now cpus.new.items }
-    ensures keeps { KeepSeats cpus.old.items cpus.new.items }
-    ensures devices { (units : List DeviceState) → DevicesStand plan.now infos.now units e cpus.old.items (map D.state spares.old.items)
-        → DevicesStand plan.now infos.now units (e + 1) cpus.new.items (map D.state spares.new.items) }
-    ensures runs { (units : List DeviceState) → DevicesStand plan.now infos.now units e cpus.old.items (map D.state spares.old.items) → DoTell plan.now units
-        → (stations : List RunningStation) → AreRunAlone plan.now infos.now cpus.old.items stations
-        → AreRunAlone plan.now infos.now cpus.new.items (with_event plan.now infos.now e stations) }
+    requires event { e < length run.now.plan.now.events }
+    requires sendable { IsSendable run.now.plan.now run.now.infos.now }
+    requires stands { (n : ℕ) × LaneStands run.now.plan.now run.now.infos.now 0 e n run.now.tables.now sender.old.seats.items }
+    requires devices { (units : List DeviceState) × DevicesStand run.now.plan.now run.now.infos.now units e sender.old.seats.items (map D.state sender.old.spares.items) }
+    ensures owner { sender.new.owner ≡ sender.old.owner }
+    ensures stands { (n : ℕ) → LaneStands run.now.plan.now run.now.infos.now 0 e n run.now.tables.now sender.old.seats.items
+        → LaneStands run.now.plan.now run.now.infos.now 0 (e + 1) n run.now.tables.now sender.new.seats.items }
+    ensures keeps { KeepSeats sender.old.seats.items sender.new.seats.items }
+    ensures devices { (units : List DeviceState) → DevicesStand run.now.plan.now run.now.infos.now units e sender.old.seats.items (map D.state sender.old.spares.items)
+        → DevicesStand run.now.plan.now run.now.infos.now units (e + 1) sender.new.seats.items (map D.state sender.new.spares.items) }
+    ensures runs { (units : List DeviceState) → DevicesStand run.now.plan.now run.now.infos.now units e sender.old.seats.items (map D.state sender.old.spares.items) → DoTell run.now.plan.now units
+        → (stations : List RunningStation) → AreRunAlone run.now.plan.now run.now.infos.now sender.old.seats.items stations
+        → AreRunAlone run.now.plan.now run.now.infos.now sender.new.seats.items (with_event run.now.plan.now run.now.infos.now e stations) }
 {
-    if is_exchange(plan.event(e).kind) {
-        exchange_next(rt, plan, infos, shared, cpus, spares, e);
+    if is_exchange(run.plan.event(e).kind) {
+        exchange_next(rt, run, sender, e);
     } else {
-        do_next_event(rt, plan, infos, shared, cpus, e);
+        do_next_event(rt, run, &mut sender.seats, e);
     }
 }

@@ -8,7 +8,8 @@ ghost use Rattle.lq_senders.specs.Units.{DevicesStand};
 ghost use Rattle.lq_model.specs.Device.{DeviceState};
 
 use crate::ends::end_run;
-use crate::lanes::{Lane, all_send};
+use crate::lanes::all_send;
+use crate::sender::{Run, Sender};
 use lq_device::TxDevice;
 use lq_gate::Gate;
 use lq_model::Info;
@@ -26,28 +27,40 @@ pub fn run<'a, R: Threads + Wait + Sync, D: TxDevice, G: Gate>(
     plan: &Plan,
     infos: &[Info],
     shared: Vec<Table<'a, D>>,
-    first: Lane<D>,
-    others: Vec<Lane<D>>,
+    first: Sender<D>,
+    others: Vec<Sender<D>>,
     closed: &mut Vec<Closed<D>>,
     gate: &G,
 ) -> Vec<D>
     requires sendable { IsSendable plan.now infos.now }
     requires owner { first.owner ≡ 0 }
-    requires first { LaneStands plan.now infos.now 0 0 0 shared.items first.cpus.items × AreFirst (length others.items) first.cpus.items }
-    requires devices { (units : List DeviceState) × DevicesStand plan.now infos.now units 0 first.cpus.items (map D.state first.spares.items) }
+    requires first { LaneStands plan.now infos.now 0 0 0 shared.items first.seats.items × AreFirst (length others.items) first.seats.items }
+    requires devices { (units : List DeviceState) × DevicesStand plan.now infos.now units 0 first.seats.items (map D.state first.spares.items) }
     requires others { AreReadyLanes plan.now infos.now shared.items others.items }
     requires senders { length others.items + 1 ≡ plan.now.senders }
     requires none_yet { closed.old.items ≡ [] }
     requires room { length plan.now.stations ≤ vec_capacity closed.old }
-    ensures { HasSentAll plan.now infos.now (length others.items) first.cpus.items (map D.state first.spares.items) (map closed_state closed.new.items) (map D.state result.items) }
+    ensures { HasSentAll plan.now infos.now (length others.items) first.seats.items (map D.state first.spares.items) (map closed_state closed.new.items) (map D.state result.items) }
 {
     plan.stays_within_limits();
-    let (first, others) = all_send(rt, plan, infos, shared.as_slice(), first, others, gate);
-    let Lane {
+    let all = Run {
+        plan,
+        infos,
+        tables: shared.as_slice(),
+        gate,
+    };
+    let (first, others) = all_send(rt, &all, first, others);
+    let Run {
+        plan: _,
+        infos: _,
+        tables: _,
+        gate: _,
+    } = all;
+    let Sender {
         owner: _,
-        cpus,
+        seats,
         spares,
     } = first;
-    end_run(rt, plan, infos, shared, cpus, others, closed);
+    end_run(rt, plan, infos, shared, seats, others, closed);
     spares
 }

@@ -7,8 +7,8 @@ use Rattle.lq_senders.proofs.ends.join_lane.Goals as goal
 
 pub loop-other-init : goal.loop-other-init
 loop-other-init g c = record {
-  down = joins-start c.args.plan.now c.args.infos.now c.args.place c.args.lane.owner c.args.shared.now c.args.cpus.now.items c.args.lane.cpus.items c.requires.first c.requires.other
-      c.args.lane.cpus.len (sym c.args.lane.cpus.ok.0);
+  down = joins-start c.args.plan.now c.args.infos.now c.args.place c.args.lane.owner c.args.shared.now c.args.cpus.now.items c.args.lane.seats.items c.requires.first c.requires.other
+      c.args.lane.seats.len (sym c.args.lane.seats.ok.0);
   devices = same-devices c.args.cpus.now.items;
 }
 

@@ -1,6 +1,6 @@
 use Rattle.std.proofs.Common.{◌≡◌, ℕ, ◌+◌, inl, inr, Some, length, subst, arith, slice_get}
 use Rattle.lq_senders.specs.Setup.{IsEmptyLane}
-use Rattle.lq_senders.specs.declared.lanes.Lane.{Lane}
+use Rattle.lq_senders.specs.declared.sender.Sender.{Sender}
 use Rattle.lq_senders.proofs.Splits.{snoc-cases}
 use Rattle.lq_senders.proofs.setup.lanes_for.Goals as goal
 
@@ -15,6 +15,6 @@ loop-owner-preserved g c =
       room = let room = own.room in let same = c.push_reserved.ensures.capacity in omega arith;
       empty = λ i lane at. elim (snoc-cases c.loop-owner.lanes.items _ lane i (subst (λ lanes. slice_get lanes i ≡ Some lane) c.push_reserved.ensures.items at)) [
         | inl old ↦ own.empty i lane old
-        | inr (is_last, same) ↦ subst (λ (x : Lane g.row.D.Denot). IsEmptyLane c.args.plan.now i x) same (record { owner_is = last i is_last; none_yet = c.in_ok-cpus.ensures.empty; room = omega arith })
+        | inr (is_last, same) ↦ subst (λ (x : Sender g.row.D.Denot). IsEmptyLane c.args.plan.now i x) same (record { owner_is = last i is_last; none_yet = c.in_ok-cpus.ensures.empty; room = omega arith })
       ];
     }

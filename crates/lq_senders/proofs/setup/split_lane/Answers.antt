@@ -10,9 +10,9 @@ use Rattle.lq_senders.proofs.setup.split_lane.Goals as goal
 pub loop-j-init : goal.loop-j-init
 loop-j-init g c = record {
   owner = refl;
-  seats = let none = ap length c.requires.empty.none_yet in let ok = c.args.lane.now.cpus.ok.0 in omega arith;
+  seats = let none = ap length c.requires.empty.none_yet in let ok = c.args.lane.now.seats.ok.0 in omega arith;
   room = c.requires.empty.room;
-  splits = splits-none c.args.plan.now c.args.infos.now c.args.place c.args.tables.now c.args.cpus.now.items c.args.lane.now.cpus.items c.requires.empty.none_yet c.requires.splitting;
+  splits = splits-none c.args.plan.now c.args.infos.now c.args.place c.args.tables.now c.args.cpus.now.items c.args.lane.now.seats.items c.requires.empty.none_yet c.requires.splitting;
   devices = same-devices c.args.cpus.now.items;
 }
 
@@ -55,7 +55,7 @@ loop-j-preserved g c =
       seats = let e = own.seats in let len = c.push_reserved.ensures.len in omega arith;
       room = let room = own.room in let same = c.push_reserved.ensures.capacity in omega arith;
       splits = subst (λ others. SplitsUp plan infos c.args.place (j + 1) tables (slice_set now j new) others) (sym c.push_reserved.ensures.items)
-          (splits-more plan infos c.args.place j tables now c.loop-j.lane.cpus.items t cpu new other splits c.requires.sender c.stays_within_limits.ensures.senders at at'
+          (splits-more plan infos c.args.place j tables now c.loop-j.lane.seats.items t cpu new other splits c.requires.sender c.stays_within_limits.ensures.senders at at'
           (subst (λ o. new ≡ keeping_seat o cpu) owner_is c.split-other.ensures.seat)
           (subst (λ o. other ≡ offspring_seat o cpu) owner_is c.split-other.ensures.other));
       devices = devices-on c.args.cpus.now.items now (slice_set now j new) own.devices (devices-split now j c.loop-j.lane.owner cpu new at' c.split-other.ensures.seat);
@@ -63,11 +63,11 @@ loop-j-preserved g c =
 
 pub returns-clause-splitting : goal.returns-clause-splitting
 returns-clause-splitting g c =
-    splits-all c.args.plan.now c.args.infos.now c.args.place c.loop-j.j c.args.tables.now c.loop-j.cpus.items c.loop-j.lane.cpus.items c.loop-j-test.false c.loop-j.invariant.splits
+    splits-all c.args.plan.now c.args.infos.now c.args.place c.loop-j.j c.args.tables.now c.loop-j.cpus.items c.loop-j.lane.seats.items c.loop-j-test.false c.loop-j.invariant.splits
 
 pub returns-clause-ready : goal.returns-clause-ready
 returns-clause-ready g c =
     let own = c.loop-j.invariant in
     let past = c.loop-j-test.false in let below = c.loop-j.auto.j-end in
-    lane-split c.args.plan.now c.args.infos.now c.args.place c.loop-j.lane.owner c.loop-j.j c.args.tables.now c.loop-j.cpus.items c.loop-j.lane.cpus.items
+    lane-split c.args.plan.now c.args.infos.now c.args.place c.loop-j.lane.owner c.loop-j.j c.args.tables.now c.loop-j.cpus.items c.loop-j.lane.seats.items
     (own.owner ∙ c.requires.empty.owner_is) (omega arith) own.splits

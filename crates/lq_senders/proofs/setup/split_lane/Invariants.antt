@@ -7,8 +7,8 @@ use Rattle.lq_senders.proofs.setup.split_lane.Given as goal
 abbrev pub invariant-loop-j : goal.invariant-loop-j
 invariant-loop-j g l = record {
   owner : l.lane.owner ≡ l.fn.lane.owner;
-  seats : l.lane.cpus.len ≡ l.j;
-  room : length l.plan.stations ≤ l.lane.cpus.cap;
-  splits : SplitsUp l.plan l.fn.infos l.place l.j l.tables l.cpus.items l.lane.cpus.items;
+  seats : l.lane.seats.len ≡ l.j;
+  room : length l.plan.stations ≤ l.lane.seats.cap;
+  splits : SplitsUp l.plan l.fn.infos l.place l.j l.tables l.cpus.items l.lane.seats.items;
   devices : SameDevices l.fn.cpus.items l.cpus.items;
 }

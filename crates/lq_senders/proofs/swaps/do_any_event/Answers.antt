@@ -5,8 +5,8 @@ use Rattle.lq_senders.proofs.swaps.do_any_event.Goals as goal
 
 pub returns-else-is_exchange-clause-devices : goal.returns-else-is_exchange-clause-devices
 returns-else-is_exchange-clause-devices g c units stand =
-    let plan = c.args.plan.now in let infos = c.args.infos.now in let e = c.args.e in let spares = map g.D.TxDevice.state c.args.spares.now.items in
+    let plan = c.args.run.now.plan.now in let infos = c.args.run.now.infos.now in let e = c.args.e in let spares = map g.D.TxDevice.state c.args.sender.now.spares.items in
     let more : suc e ≡ e + 1 = omega arith in
-    subst (λ (k : ℕ). DevicesStand plan infos units k c.do_next_event.new.cpus.items spares) more
-    (devices-past plan infos units e c.event.result c.do_next_event.new.cpus.items spares c.event.ensures.event (sym c.is_exchange.ensures ∙ c.if-is_exchange.false)
-    (devices-kept plan infos units e c.args.cpus.now.items c.do_next_event.new.cpus.items spares c.do_next_event.ensures.keeps stand))
+    subst (λ (k : ℕ). DevicesStand plan infos units k c.do_next_event.new.seats.items spares) more
+    (devices-past plan infos units e c.event.result c.do_next_event.new.seats.items spares c.event.ensures.event (sym c.is_exchange.ensures ∙ c.if-is_exchange.false)
+    (devices-kept plan infos units e c.args.sender.now.seats.items c.do_next_event.new.seats.items spares c.do_next_event.ensures.keeps stand))

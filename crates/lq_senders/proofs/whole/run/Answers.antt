@@ -8,9 +8,9 @@ use Rattle.lq_senders.proofs.whole.run.Goals as goal
 
 pub end_run-requires-clause-first : goal.end_run-requires-clause-first
 end_run-requires-clause-first g c κs within = (
-  subst (λ (l : List TableState). LaneDone c.args.plan.now c.args.infos.now 0 l c.all_send-first.result.0.cpus.items) c.as_slice.ensures.value c.all_send-first.ensures.first,
-  subst (λ k. AreFirst k c.all_send-first.result.0.cpus.items) (sym c.all_send-first.ensures.long)
-      (first-keep (length c.args.others.items) c.args.first.cpus.items c.all_send-first.result.0.cpus.items c.all_send-first.ensures.keeps c.requires.first.1),
+  subst (λ (l : List TableState). LaneDone c.args.plan.now c.args.infos.now 0 l c.all_send-first.result.0.seats.items) c.as_slice.ensures.value c.all_send-first.ensures.first,
+  subst (λ k. AreFirst k c.all_send-first.result.0.seats.items) (sym c.all_send-first.ensures.long)
+      (first-keep (length c.args.others.items) c.args.first.seats.items c.all_send-first.result.0.seats.items c.all_send-first.ensures.keeps c.requires.first.1),
 )
 
 pub end_run-requires-clause-others : goal.end_run-requires-clause-others
@@ -28,6 +28,6 @@ returns g c =
       seats = ended.seats;
       one_each = ended.one_each;
       closed_are = ended.closed_are;
-      devices = λ units stand. devices-same plan infos units (length plan.events) c.all_send-first.result.0.cpus.items ended.seats (map D c.all_send-first.result.0.spares.items) ended.devices (sent.devices units stand);
+      devices = λ units stand. devices-same plan infos units (length plan.events) c.all_send-first.result.0.seats.items ended.seats (map D c.all_send-first.result.0.spares.items) ended.devices (sent.devices units stand);
       alone = λ none own units stand tell from begins. ended.alone (sent.long ∙ none) (after_sending plan infos from) (sent.runs units stand tell own from begins);
     }
