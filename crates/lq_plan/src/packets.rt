@@ -59,19 +59,19 @@ fn unranked<F: Frames>(plan: &Plan, frames: &F, n: u32) -> Info
         Split::Round => n,
         Split::Source => u32::from(class.source_byte),
     };
-    let group = rest(u32::from(class.route_byte), plan.groups());
-    let station = plan.first(group) + rest(u32::from(class.source_byte), plan.mq(group));
+    let group = remainder(u32::from(class.route_byte), plan.groups());
+    let station = plan.first(group) + remainder(u32::from(class.source_byte), plan.mq(group));
     Info {
-        owner: rest(split_number, plan.senders()) as u8,
+        owner: remainder(split_number, plan.senders()) as u8,
         station: station as u8,
         band: band(class.priority) as u8,
-        queue: rest(u32::from(class.source_byte), plan.station(station).queues) as u8,
+        queue: remainder(u32::from(class.source_byte), plan.station(station).queues) as u8,
         rank: 0,
     }
 }
 
-// The rest of a division. One by 1 is not made: each packet has four, and they are what takes the time.
-fn rest(n: u32, by: u32) -> u32
+// The remainder of a division. None by 1 is made: each packet asks for four, and they are what takes the time.
+fn remainder(n: u32, by: u32) -> u32
     requires { 0 < by }
     ensures { result ≡ n % by }
 {

@@ -188,7 +188,7 @@ pub fn pass_last<'r, 'a, D: TxDevice, G: Gate>(run: &Run<'r, 'a, D, G>, sender: 
     run.gate.pass(sender.owner, k);
 }
 
-/// Brings packet `n`, the sender's packet `k`: the event that is next then.
+/// Brings packet `n`, of which the sender has sent `at.sent` before: the event that is next then.
 fn bring<'r, 'a, R: Wait, D: TxDevice, G: Gate>(
     rt: &R,
     run: &Run<'r, 'a, D, G>,
