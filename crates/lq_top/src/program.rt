@@ -2,13 +2,13 @@
 ghost use Rattle.std.specs.Prelude.{◌≡◌, IfOk, map, drop, string_bytes};
 ghost use Rattle.std.specs.Process.{exit_status};
 ghost use Rattle.std.specs.Vec.Iter.{into_iter_items};
-ghost use Rattle.lq_device.specs.Bench.{bench_state};
+ghost use Rattle.lq_device.specs.Bench.{unconfigured};
 ghost use Rattle.lq_top.specs.Command.{command_of_words, bytes_of_words};
 ghost use Rattle.lq_top.specs.Names.{MayDo};
-ghost use Rattle.lq_top.specs.Program.{IsCodeOfFiles, IsCodeOfLine, IsCodeOfWords, TellsTexts, new_bench};
+ghost use Rattle.lq_top.specs.Program.{IsCodeOfCall, IsCodeOfFiles, IsCodeOfLine, IsCodeOfWords, TellsTexts, new_bench};
 
 use crate::top::lqtx;
-use lq_device::BenchDevice;
+use lq_device::{BenchDevice, TxDevice};
 use lq_host::{FileHost, Host};
 use lq_model::NoMemory;
 use lq_senders::Free;
@@ -63,21 +63,48 @@ fn words_of(alloc: Global, texts: &[String]) -> Result<Vec<&str>, AllocError>
     Ok(words)
 }
 
-/// The 16 devices of the built-in bench, none of them configured.
-fn bench_devices(alloc: Global) -> Result<Vec<BenchDevice>, NoMemory>
-    ensures { IfOk result (λ devices. map bench_state devices.items ≡ new_bench) }
+/// A device of the built-in bench in a box. It was never configured.
+fn new_device(alloc: Global) -> Result<Box<dyn TxDevice>, AllocError>
+    ensures { IfOk result (λ device. ⟦<Box<dyn TxDevice> as TxDevice>⟧.state device ≡ unconfigured) }
+{
+    Ok(Box::new(alloc, BenchDevice::new(alloc))?)
+}
+
+/// The 16 devices of the built-in bench in their boxes, none of them configured.
+fn bench_devices(alloc: Global) -> Result<Vec<Box<dyn TxDevice>>, NoMemory>
+    ensures { IfOk result (λ devices. map ⟦<Box<dyn TxDevice> as TxDevice>⟧.state devices.items ≡ new_bench) }
 {
     let Ok(mut devices) = Vec::with_capacity(alloc, DEVICES) else {
         return Err(NoMemory);
     };
     while devices.len() < DEVICES {
-        devices.push_reserved(BenchDevice::new(alloc));
+        let Ok(device) = new_device(alloc) else {
+            return Err(NoMemory);
+        };
+        devices.push_reserved(device);
     }
     Ok(devices)
 }
 
+/// The exit status of the top call on a bench of 16 devices that were never configured: the code of its status.
+fn code_on<R: Threads + Wait + Sync, H: Host, D: TxDevice>(
+    rt: &R,
+    alloc: Global,
+    words: &[&str],
+    host: &mut H,
+    bench: &mut Vec<D>,
+) -> u8
+    requires may { MayDo H.may_open H.may_create (command_of_words (bytes_of_words words.now)) }
+    requires new { map D.state bench.old.items ≡ new_bench }
+    ensures { IsCodeOfCall (bytes_of_words words.now) (H.state host.old) (H.state host.new) result }
+{
+    let mut ended = Vec::new(alloc);
+    let status = lqtx(rt, alloc, words, host, bench, &mut ended, &Free);
+    status.code()
+}
+
 /// The exit status of the program with these words over a host: the code of the status that [`lqtx`] answers on a bench of 16
-/// built-in devices that were never configured; or 6 where there was no memory for the devices, and then nothing is done.
+/// boxed devices that were never configured; or 6 where there was no memory for the devices, and then nothing is done.
 pub fn run_words<R: Threads + Wait + Sync, H: Host>(
     rt: &R,
     alloc: Global,
@@ -87,12 +114,10 @@ pub fn run_words<R: Threads + Wait + Sync, H: Host>(
     requires may { MayDo H.may_open H.may_create (command_of_words (bytes_of_words words.now)) }
     ensures { IsCodeOfWords (bytes_of_words words.now) (H.state host.old) (H.state host.new) result }
 {
-    let Ok(mut bench) = bench_devices(alloc) else {
-        return NO_MEMORY;
-    };
-    let mut ended = Vec::new(alloc);
-    let status = lqtx(rt, alloc, words, host, &mut bench, &mut ended, &Free);
-    status.code()
+    match bench_devices(alloc) {
+        Ok(mut bench) => code_on(rt, alloc, words, host, &mut bench),
+        Err(NoMemory) => NO_MEMORY,
+    }
 }
 
 /// The exit status of the program with these words, over real files and standard output.
@@ -122,7 +147,7 @@ fn code<R: Runtime + AllocGlobal + Threads + Wait + Sync>(rt: &R, args: io::Resu
 }
 
 /// All that `main` does with the arguments that the program was given: `lqtx` with the words behind the program's own name, over
-/// real files, standard output and a bench of 16 built-in devices that were never configured. The exit status is the code of the
+/// real files, standard output and a bench of 16 boxed devices that were never configured. The exit status is the code of the
 /// status that it answers; 6 where there was no memory for the words, the devices or the host; 9 where the arguments can't be had
 /// for another cause, as one that isn't UTF-8.
 pub fn run_program<R: Runtime + AllocGlobal + Threads + Wait + Sync>(
