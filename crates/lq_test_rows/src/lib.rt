@@ -3,8 +3,6 @@
 #![tactic(auto)]
 
 #[cfg(test)]
-mod boxes;
-#[cfg(test)]
 mod exchanges;
 #[cfg(test)]
 mod gate;
