@@ -2,9 +2,9 @@
 use Rattle.std.proofs.Common.{◌≡◌, ◌≢◌, ℕ, suc, ◌+◌, true, false, List, sym, subst, ap, ◌∙◌, arith}
 use Rattle.lq_table.specs.Views.{Setup}
 use Rattle.lq_table.specs.Told.{is_set}
-use Rattle.lq_table.specs.Made.{Made, ◌⊳◌, did_load_inside, did_load_lock, did_load_state, did_load_base, did_store_stop, did_try_lock}
+use Rattle.lq_table.specs.Made.{Made, ◌⊳◌, did_load_inside, did_load_lock, did_load_state, did_load_base, did_store_stop}
 use Rattle.lq_qdisc.specs.Steps.{InterruptsBy}
-use Rattle.lq_control.specs.Steps.{MadeBy, Rounds, none_yet, served, locked, scheduled, FindsCalls, inside, TriesLock, held, opened_below}
+use Rattle.lq_control.specs.Steps.{MadeBy, Rounds, none_yet, served, locked, scheduled, FindsCalls, inside, opened_below}
 
 pub rounds_then : (k : Setup) (a b c : List Made) → Rounds k a b → Rounds k b c → Rounds k a c
 rounds_then k a b c h none_yet = h
@@ -23,9 +23,6 @@ round_scheduled k old mid new found state none set e f = subst (Rounds k old) (s
 
 pub calls_more : (old a b : List Made) (found : ℕ) → found ≢ 0 → FindsCalls old a → b ≡ a ⊳ did_load_inside found → FindsCalls old b
 calls_more old a b found some h e = subst (FindsCalls old) (sym e) (inside a found some h)
-
-pub held_more : (old a b : List Made) → TriesLock old a → b ≡ a ⊳ did_try_lock false → TriesLock old b
-held_more old a b h e = subst (TriesLock old) (sym e) (held a h)
 
 pub opened_more : (k : Setup) (queue : ℕ) (steps : List Made) → opened_below k queue steps ⊳ did_store_stop k queue 0 ≡ opened_below k (queue + 1) steps
 opened_more k queue steps = let one : suc queue ≡ queue + 1 = omega arith in ap (λ (n : ℕ). opened_below k n steps) one

@@ -6,12 +6,12 @@ use Rattle.lq_model.specs.declared.fate.Cause.{Cause}
 use Rattle.lq_model.specs.declared.fate.Cause.TheVariants as cause
 use Rattle.lq_model.specs.declared.fate.Fate.{Fate}
 use Rattle.lq_model.specs.declared.fate.Fate.TheVariants as fate
-use Rattle.lq_run.specs.Tries.{EndsRun}
+use Rattle.lq_run.specs.Tries.{EndsRun, TriesOnce}
 use Rattle.lq_ring.specs.Changes.{PurgesBand, ResizesAll}
 use Rattle.lq_qdisc.specs.Steps.{InterruptsBy}
 use Rattle.lq_table.specs.Views.{View, Setup}
 use Rattle.lq_table.specs.Told.{is_set}
-use Rattle.lq_table.specs.Made.{Known, Made, ◌⊳◌, did_load_lock, did_load_state, did_load_base, did_load_inside, did_try_lock, did_unlock, did_store_fate, did_store_stop, did_clear_missed, did_clear_draining, did_set_deactivated, did_clear_deactivated}
+use Rattle.lq_table.specs.Made.{Known, Made, ◌⊳◌, did_load_lock, did_load_state, did_load_base, did_load_inside, did_unlock, did_store_fate, did_store_stop, did_clear_missed, did_clear_draining, did_set_deactivated, did_clear_deactivated}
 
 -- the steps of a call of the crates below, as a seat makes them that knows this before it and that after it
 abbrev pub MadeBy : (Known → Known → Type 0) → List Made → List Made → Type 0
@@ -48,14 +48,14 @@ pub data FindsCalls (old : List Made) : List Made → Type 0 where
 abbrev pub WaitsForCalls : List Made → List Made → Type 0
 WaitsForCalls old new = (before : List Made) × FindsCalls old before × (new ≡ before ⊳ did_load_inside 0)
 
--- the run lock is tried without success
+-- the run lock is tried so often without success
 pub data TriesLock (old : List Made) : List Made → Type 0 where
   not_tried : TriesLock old old
-  held : (steps : List Made) → TriesLock old steps → TriesLock old (steps ⊳ did_try_lock false)
+  held : (steps next : List Made) → TriesLock old steps → MadeBy (TriesOnce false) steps next → TriesLock old next
 
 -- and then it is got
 abbrev pub TakesLock : List Made → List Made → Type 0
-TakesLock old new = (before : List Made) × TriesLock old before × (new ≡ before ⊳ did_try_lock true)
+TakesLock old new = (before : List Made) × TriesLock old before × MadeBy (TriesOnce true) before new
 
 -- PURGES
 

@@ -16,6 +16,7 @@ ghost use Rattle.lq_control.specs.Steps.{TakesLock, WaitsForCalls};
 
 use crossbeam_utils::Backoff;
 use lq_device::TxDevice;
+use lq_run::try_run_lock;
 use lq_table::{Cpu, Shared};
 use std::sync::Wait;
 
@@ -56,7 +57,7 @@ pub(crate) fn take_lock<'a, D: TxDevice, R: Wait>(rt: &R, shared: &Shared<'a, D>
 {
     let backoff = Backoff::new();
     for _ in rt.forever() {
-        if shared.try_lock(cpu) {
+        if try_run_lock(shared, cpu) {
             shared.move_station(cpu);
             return;
         }

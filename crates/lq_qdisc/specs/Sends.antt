@@ -8,7 +8,7 @@ use Rattle.lq_model.specs.declared.machine.Attempt.TheVariants as attempt
 use Rattle.lq_run.specs.Runs.{HasNone, after_got, after_missed, after_begin, ended}
 use Rattle.lq_ring.specs.Put.{no_locks, putting, dropping_full as dropped}
 use Rattle.lq_table.specs.Views.{View, Setup, no_packets}
-use Rattle.lq_table.specs.Made.{Known, ◌⊳◌, did_wake, did_set_sched}
+use Rattle.lq_table.specs.Made.{Known, Made, ◌⊳◌, did_load_stop, did_wake, did_set_sched}
 use Rattle.lq_table.specs.Told.{is_set, looking, on_trail, bringing, entering, passing, paying, schedules, scheduling, waking, refusing as refused}
 use Rattle.lq_table.specs.Solo.{IsSole, IsAccounts, account_of, solo, heard, sched_cleared, sched_set, SeesState}
 use Rattle.lq_table.specs.SolePut.{SeesEnd}
@@ -141,11 +141,18 @@ pub record IsDue (due : Bool) (old new : View) : Type 0 where
 abbrev pub IsRaisedAgain : View → Type 0
 IsRaisedAgain new = (new.place.raised ≡ false) ⊎ ((was : Bool) × (before : View) × (schedules before.place.position ≡ true) × (new ≡ passing (scheduling was before)))
 
--- the stop word of a queue was exchanged: it was 1, and the table is scheduled, or it wasn't
+-- the stop word of a queue was found other than 1: as it was looked at, or as it was exchanged after that
+abbrev pub FindsOpen : Setup → ℕ → List Made → List Made → Type 0
+FindsOpen k queue old new =
+    ((found : ℕ) × (found ≢ 1) × (new ≡ old ⊳ did_load_stop k queue found))
+    ⊎ (new ≡ old ⊳ did_load_stop k queue 1 ⊳ did_wake k queue false)
+
+-- A queue was looked at: its stop word was 1 and was exchanged for 0, and the table is scheduled, or it wasn't 1.
 abbrev pub Wakes : Setup → ℕ → Known → Known → Type 0
 Wakes k queue old new =
-    ((was : Bool) × (new.view ≡ scheduling was (waking queue old.view)) × (solo new.view ≡ sched_set was (heard (Wake queue) (solo old.view))) × (IsSole old.view → was ≡ old.view.whole.qdisc.sched) × (IsSole old.view → slice_index (account_of old.view).stops queue ≡ 1) × (new.steps ≡ old.steps ⊳ did_wake k queue true ⊳ did_set_sched was))
-    ⊎ ((new.view ≡ old.view) × (IsSole old.view → slice_index (account_of old.view).stops queue ≢ 1) × (new.steps ≡ old.steps ⊳ did_wake k queue false))
+    ((was : Bool) × (new.view ≡ scheduling was (waking queue old.view)) × (solo new.view ≡ sched_set was (heard (Wake queue) (solo old.view))) × (IsSole old.view → was ≡ old.view.whole.qdisc.sched) × (IsSole old.view → slice_index (account_of old.view).stops queue ≡ 1)
+    × (new.steps ≡ old.steps ⊳ did_load_stop k queue 1 ⊳ did_wake k queue true ⊳ did_set_sched was))
+    ⊎ ((new.view ≡ old.view) × (IsSole old.view → slice_index (account_of old.view).stops queue ≢ 1) × FindsOpen k queue old.steps new.steps)
 
 -- those of the first so many queues
 abbrev pub WakesBelow : Setup → ℕ → Known → Known → Type 0

@@ -60,7 +60,8 @@ fn is_due<'a, D: TxDevice>(shared: &Shared<'a, D>, cpu: &mut Cpu<D>) -> bool
 }
 
 /// A driver's interrupt: each queue that is stopped is opened, and the table scheduled, as `netif_tx_wake_queue` of
-/// include/linux/netdevice.h does. The stop word of each queue is exchanged in this call; a hung queue stays hung.
+/// include/linux/netdevice.h does. The stop word of each queue is looked at in this call, and exchanged where it is 1; a hung
+/// queue stays hung.
 pub fn irq<'a, D: TxDevice>(shared: &Shared<'a, D>, cpu: &mut Cpu<D>)
     requires seat { IsSeatOf shared.now cpu.old }
     requires at { position cpu.old ≡ Idle }
@@ -87,7 +88,7 @@ fn open<'a, D: TxDevice>(shared: &Shared<'a, D>, cpu: &mut Cpu<D>, queue: u32)
     ensures at { position cpu.new ≡ Idle }
     ensures wakes { Wakes (setup shared.now) queue (known cpu.old) (known cpu.new) }
 {
-    if shared.wake(cpu, queue) {
+    if shared.look_stop(cpu, queue) && shared.wake(cpu, queue) {
         schedule(shared, cpu);
     }
 }

@@ -54,14 +54,14 @@ pub record SendsPacket (n : ℕ) (old new : SeatState) : Type 0 where
 
 -- WAKES AND SOFT INTERRUPTS
 
--- the stop word of each queue was exchanged, from what the seat then knew to what it knew after
-abbrev pub ExchangesStops : SeatState → SeatState → Type 0
-ExchangesStops old new = (before : Known) × (after : Known) × (seat_state old.table before ≡ old) × (seat_state old.table after ≡ new) × WakesBelow old.made old.made.queues before after
+-- the stop word of each queue was looked at, and exchanged where it was 1: from what the seat then knew to what it knew after
+abbrev pub LooksAtStops : SeatState → SeatState → Type 0
+LooksAtStops old new = (before : Known) × (after : Known) × (seat_state old.table before ≡ old) × (seat_state old.table after ≡ new) × WakesBelow old.made old.made.queues before after
 
 -- the queues were woken, and the seat may owe a soft interrupt
 pub record WakesQueues (old new : SeatState) : Type 0 where
   pub is : new ≡ record old { raised = new.raised; whole = new.whole; steps = new.steps }
-  pub stops : ExchangesStops old new
+  pub stops : LooksAtStops old new
   pub alone : DoesAlone opened old new
 
 -- soft interrupts were done until none was owed

@@ -1,5 +1,5 @@
 -- The laws of steps with what they tell a seat that has the table alone.
-use Rattle.std.proofs.Common.{◌≡◌, ◌≢◌, ℕ, ◌-◌, ◌<◌, ◌≤◌, Bool, true, false, eqb, ne_eqb, List, get_or, length, sym, ap, ◌∙◌, subst, arith, Option, Some, None}
+use Rattle.std.proofs.Common.{◌≡◌, ◌≢◌, ℕ, ◌-◌, ◌<◌, ◌≤◌, Bool, true, false, eqb, ne_eqb, List, get_or, length, refl, sym, ap, ◌∙◌, subst, arith, Option, Some, None}
 use Rattle.std.specs.Prelude.{bit_or, if◌then◌else◌, ◌==◌, slice_get}
 use Rattle.std.proofs.lemmas.Bool.{lt-ltb}
 use mathlib.Core.Logic.{dite}
@@ -19,7 +19,7 @@ use Rattle.lq_table.proofs.HeadKept.{sees_head}
 use Rattle.lq_table.proofs.KnownPackets.{knows_held}
 use mathlib.Core.Option.{some, none}
 use prog.Atomic.{either}
-use Rattle.atomic_table.specs.Table.{step, Allows}
+use Rattle.atomic_table.specs.Table.{step, Allows, keeps}
 use Rattle.lq_model.specs.declared.machine.Position.TheVariants.{Check, Recheck, Scan, Idle}
 use Rattle.lq_model.specs.Machine.{bit}
 use Rattle.std.specs.Prelude.{slice_index}
@@ -28,7 +28,7 @@ use Rattle.lq_table.specs.Views.{View, Setup, State, HolderPart, machine_packet}
 use Rattle.lq_table.specs.Rule.{words_of, slot_word, account, xoff_word, Rule}
 use Rattle.lq_table.specs.Told.{Sat, at_rest, loads_state, misses, schedules, tries_lock, loads_stop, stop_queue, looked, checked, rechecked, missed_now, scheduled_now, stop_loaded, woken, tried}
 use Rattle.lq_table.specs.Rings.{head_seen}
-use Rattle.lq_table.specs.Solo.{IsSole, SeesState, SeesChecked, SeesStop, account_of, looked_all, checked_all, rechecked_all, missed_all, scheduled_all, stop_loaded_all, woken_all, tried_all, TellsHead, head_seen_all}
+use Rattle.lq_table.specs.Solo.{IsSole, SeesState, SeesChecked, SeesStop, account_of, looked_all, checked_all, rechecked_all, missed_all, scheduled_all, stop_loaded_all, stop_looked_all, woken_all, tried_all, TellsHead, head_seen_all}
 use Rattle.lq_table.proofs.Loads.{also}
 use Rattle.lq_table.proofs.SoleFacts.{knows_account, knows_state, sees_down, sees_state, sees_lock, sees_stop, holds_accounts, holds_sent}
 use Rattle.lq_table.proofs.QuietKept.{looks_all, misses_kept, schedules_kept}
@@ -40,6 +40,7 @@ use Rattle.lq_table.proofs.WakeKept.{wakes}
 use Rattle.lq_table.proofs.AllAtRest.{unlocked}
 use Rattle.lq_table.proofs.Ends.{rests}
 use Rattle.lq_table.proofs.StopsKept.{free_none}
+use Rattle.lq_table.proofs.Frames.{rule_same}
 
 module _ (k : Setup) (slots id : ℕ) (m : Sat) where
   abbrev sees : ℕ → Type 0
@@ -70,14 +71,17 @@ module _ (k : Setup) (slots id : ℕ) (m : Sat) where
       (λ s r here. ((λ sole no_shut. sees_stop k s r id m.0 here some_share sole no_shut queue), λ sole. holds_accounts k s r id m.0 here some_share sole, λ sole. holds_sent k s r id m.0 here some_share sole))
       (loads_stop_word k slots id queue m at of_queue below few some_share)
 
+  -- no other seat holds the run lock, so no exchange of the device is half done
+  none_shut : m.0.place.position ≡ Idle → 0 < m.0.share.shares → (s : table.State (Option StationState) View) → Rule k s → get_elem? s.views id ≡ some m.0 → IsSole m.0 → m.0.whole.state.shut ≡ None
+  none_shut at some_share s r here sole = ap (λ (g : State). g.shut) (knows_state k s r id m.0 here some_share sole)
+      ∙ free_none r.qdisc.phase r.qdisc.locked r.qdisc.xoff (account k r.state).stops r.state.shut (unlocked k s r (rests k s r id m.0 here sole.0 (ap at_rest at))) r.parts.stops
+
+  pub looks_stop_sole : (queue : ℕ) → m.0.place.position ≡ Idle → 0 < m.0.share.shares → Allows (Rule k) slots id m (xoff_word k queue) (λ n. n) (stop_looked_all queue (step slots (xoff_word k queue) 0 0 none) m)
+  looks_stop_sole queue at some_share s r deep here small = (m.0, keeps, tt, rule_same k s r (xoff_word k queue) id m.0 here, (refl, λ sole. sees_stop k s r id m.0 here some_share sole (none_shut at some_share s r here sole) queue))
+
   pub wakes_sole : (queue : ℕ) → queue < k.queues → m.0.place.position ≡ Idle → 0 < m.0.share.shares → Allows (Rule k) slots id m (xoff_word k queue) (λ n. either (eqb n 1) 0 n) (woken_all queue (step slots (xoff_word k queue) 1 0 none) m)
   wakes_sole queue below at some_share = also k slots id m (xoff_word k queue) (λ n. either (eqb n 1) 0 n) (woken queue (step slots (xoff_word k queue) 1 0 none) m) (λ x. IsSole m.0 → x ≡ slice_index (account_of m.0).stops queue)
-      (λ s r here sole. sees_stop k s r id m.0 here some_share sole (none_shut s r here sole) queue) (wakes k slots id queue m below at some_share)
-    where
-      -- no other seat holds the run lock, so no exchange of the device is half done
-      none_shut : (s : table.State (Option StationState) View) → Rule k s → get_elem? s.views id ≡ some m.0 → IsSole m.0 → m.0.whole.state.shut ≡ None
-      none_shut s r here sole = ap (λ (g : State). g.shut) (knows_state k s r id m.0 here some_share sole)
-          ∙ free_none r.qdisc.phase r.qdisc.locked r.qdisc.xoff (account k r.state).stops r.state.shut (unlocked k s r (rests k s r id m.0 here sole.0 (ap at_rest at))) r.parts.stops
+      (λ s r here sole. sees_stop k s r id m.0 here some_share sole (none_shut at some_share s r here sole) queue) (wakes k slots id queue m below at some_share)
 
   -- what stands in the slot at the head of a band whose consumer rests
   sees_first : (b i : ℕ) (second : Bool) → b < 3 → i < k.max_len → m.0.place.position ≡ Scan b second → m.0.holder.resizing ≡ None → is_emptying m.0.holder.size (at b m.0.holder.ends) ≡ false → i ≡ (at b m.0.holder.ends).head → 0 < m.0.share.shares

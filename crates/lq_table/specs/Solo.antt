@@ -10,7 +10,7 @@ use Rattle.lq_model.specs.Machine.{bit}
 use Rattle.lq_model.specs.Positions.{holds_lock, in_hand}
 use Rattle.lq_table.specs.Views.{View}
 use Rattle.lq_table.specs.Rule.{account, holders}
-use Rattle.lq_table.specs.Told.{lock_looked, missed_looked, Sat, IsPacketOf, is_dequeue, is_set, looked, checked, rechecked, missed_now, scheduled_now, stop_loaded, woken, tried}
+use Rattle.lq_table.specs.Told.{lock_looked, missed_looked, Sat, IsPacketOf, is_dequeue, is_set, looked, checked, rechecked, missed_now, scheduled_now, stop_loaded, stop_looked, woken, tried}
 use Rattle.lq_table.specs.Rings.{head_seen}
 use Rattle.atomic_table.specs.Table.{Step}
 
@@ -163,6 +163,9 @@ stop_loaded_all queue s m found m' = stop_loaded s m found m' × SeesStop queue 
 
 abbrev pub woken_all : ℕ → Step (Option StationState) → Sat → ℕ → Sat → Type 0
 woken_all queue s m found m' = woken queue s m found m' × (IsSole m.0 → found ≡ slice_index (account_of m.0).stops queue)
+
+abbrev pub stop_looked_all : ℕ → Step (Option StationState) → Sat → ℕ → Sat → Type 0
+stop_looked_all queue s m found m' = stop_looked s m found m' × (IsSole m.0 → found ≡ slice_index (account_of m.0).stops queue)
 
 -- the lock was held or free as its words say, and after a try it is held; what the holder has is the account's
 abbrev pub tried_all : Step (Option StationState) → Sat → ℕ → Sat → Type 0
