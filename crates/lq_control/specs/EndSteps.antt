@@ -1,104 +1,110 @@
--- What the end of a station does, step by step, in the order in which the steps are made.
-use Rattle.std.specs.Prelude.{◌≡◌, ◌≢◌, ◌⊎◌, ◌*◌, ◌<◌, ◌≤◌, ℕ, zero, suc, Bool, true, false, not, ◌&&◌, ◌==◌, List, length}
+-- What the end of a station does: the steps in the order in which they are made, and what the seat knows after them, with the values that
+-- they found.
+use Rattle.std.specs.Prelude.{◌≡◌, ◌≢◌, ◌⊎◌, ◌*◌, ◌<◌, ◌≤◌, ℕ, zero, suc, Bool, true, false, not, ◌&&◌, ◌==◌, length}
 use Rattle.lq_model.specs.Plan.{owner_in, rank_in, station_in}
 use Rattle.lq_model.specs.declared.fate.Cause.TheVariants as cause
-use Rattle.lq_run.specs.Tries.{EndsRun}
 use Rattle.lq_qdisc.specs.Sends.{WakesBelow}
-use Rattle.lq_qdisc.specs.Steps.{TransmitsBy}
+use Rattle.lq_qdisc.specs.Steps.{ReleasesBy, TransmitsBy, with_state_loaded}
 use Rattle.lq_qdisc.specs.declared.answers.Sending.{Sending}
 use Rattle.lq_table.specs.Views.{Setup}
-use Rattle.lq_table.specs.Told.{is_set}
-use Rattle.lq_table.specs.Made.{Made, ◌⊳◌, did_load_lock, did_load_state, did_load_base, did_load_inside, did_load_stop, did_load_turn}
-use Rattle.lq_control.specs.Steps.{DrainsBy, MadeBy, PurgesHeld, TakesLock}
+use Rattle.lq_table.specs.Told.{is_set, loading}
+use Rattle.lq_table.specs.Made.{Known, ◌⊳◌, did_load_stop, did_load_turn}
+use Rattle.lq_control.specs.Steps.{DrainsBy, PurgesBy, TakesLock, control_begun, control_over, with_inside_loaded, with_lock_loaded}
 use Rattle.lq_control.specs.declared.finishes.Seen.{Seen}
 use Rattle.lq_control.specs.declared.finishes.Seen.TheVariants as seen
 
 -- WHAT IS LEFT
 
+abbrev pub with_turn_loaded : ℕ → ℕ → Known → Known
+with_turn_loaded owner found k = record { view = k.view; steps = k.steps ⊳ did_load_turn owner found }
+
 -- where its owner's turn word is at most twice the packet's rank it was left: it is transmitted, and soft interrupts are done
-abbrev pub SendsLeft : Setup → ℕ → ℕ → List Made → List Made → Type 0
+abbrev pub SendsLeft : Setup → ℕ → ℕ → Known → Known → Type 0
 SendsLeft k n turn old new =
     ((2 * rank_in k.infos n < turn) × (new ≡ old))
-    ⊎ ((turn ≤ 2 * rank_in k.infos n) × (answer : Sending) × (sent : List Made) × MadeBy (TransmitsBy k n answer) old sent × DrainsBy k sent new)
+    ⊎ ((turn ≤ 2 * rank_in k.infos n) × (answer : Sending) × (sent : Known) × TransmitsBy k n answer old sent × DrainsBy k sent new)
 
 -- a packet of another station is passed over; else the turn word of its owner is loaded
-abbrev pub SendsIfLeft : Setup → ℕ → List Made → List Made → Type 0
+abbrev pub SendsIfLeft : Setup → ℕ → Known → Known → Type 0
 SendsIfLeft k n old new =
     ((station_in k.infos n ≢ k.station) × (new ≡ old))
-    ⊎ ((station_in k.infos n ≡ k.station) × (turn : ℕ) × SendsLeft k n turn (old ⊳ did_load_turn (owner_in k.infos n) turn) new)
+    ⊎ ((station_in k.infos n ≡ k.station) × (turn : ℕ) × SendsLeft k n turn (with_turn_loaded (owner_in k.infos n) turn old) new)
 
 -- the first so many packets, in ascending order
-abbrev pub SendsLeftBelow : Setup → ℕ → List Made → List Made → Type 0
+abbrev pub SendsLeftBelow : Setup → ℕ → Known → Known → Type 0
 SendsLeftBelow k zero old new = new ≡ old
-SendsLeftBelow k (suc n) old new = (between : List Made) × SendsLeftBelow k n old between × SendsIfLeft k n between new
+SendsLeftBelow k (suc n) old new = (between : Known) × SendsLeftBelow k n old between × SendsIfLeft k n between new
 
 -- A LOOK AT THE WORDS
 
+abbrev pub with_stop_loaded : Setup → ℕ → ℕ → Known → Known
+with_stop_loaded k queue found old = record { view = loading found old.view; steps = old.steps ⊳ did_load_stop k queue found }
+
 -- the stop words of the first so many queues are loaded, in ascending order, and each is this one
-abbrev pub stops_loaded : Setup → ℕ → ℕ → List Made → List Made
-stops_loaded k word zero steps = steps
-stops_loaded k word (suc queue) steps = stops_loaded k word queue steps ⊳ did_load_stop k queue word
+abbrev pub stops_loaded : Setup → ℕ → ℕ → Known → Known
+stops_loaded k word zero old = old
+stops_loaded k word (suc queue) old = with_stop_loaded k queue word (stops_loaded k word queue old)
 
 -- whether each queue has this stop word: they are loaded up to the first that is another
-abbrev pub LoadsStops : Setup → ℕ → Bool → List Made → List Made → Type 0
+abbrev pub LoadsStops : Setup → ℕ → Bool → Known → Known → Type 0
 LoadsStops k word true old new = new ≡ stops_loaded k word k.queues old
-LoadsStops k word false old new = (queue found : ℕ) × (queue < k.queues) × (found ≢ word) × (new ≡ stops_loaded k word queue old ⊳ did_load_stop k queue found)
+LoadsStops k word false old new = (queue found : ℕ) × (queue < k.queues) × (found ≢ word) × (new ≡ with_stop_loaded k queue found (stops_loaded k word queue old))
 
 -- its words are quiet so far: each queue is open, the run lock was free, and SCHED clear
 abbrev pub are_quiet : Bool → ℕ → ℕ → Bool
 are_quiet are_open lock state = are_open && ((lock == 0) && not (is_set 1 state))
 
 -- where they aren't the station goes on; else the calls inside are loaded, and tell it
-abbrev pub LooksInside : Bool → Seen → List Made → List Made → Type 0
+abbrev pub LooksInside : Bool → Seen → Known → Known → Type 0
 LooksInside quiet answer old new =
     ((quiet ≡ false) × (answer ≡ seen.Going) × (new ≡ old))
-    ⊎ ((quiet ≡ true) × (inside : ℕ) × (((inside ≡ 0) × (answer ≡ seen.Ended)) ⊎ ((inside ≢ 0) × (answer ≡ seen.Going))) × (new ≡ old ⊳ did_load_inside inside))
+    ⊎ ((quiet ≡ true) × (inside : ℕ) × (((inside ≡ 0) × (answer ≡ seen.Ended)) ⊎ ((inside ≢ 0) × (answer ≡ seen.Going))) × (new ≡ with_inside_loaded inside old))
 
 -- of an active station the stop words are loaded: whether all are hung, and where they aren't, whether all are open
-abbrev pub LooksAtQueues : Setup → ℕ → ℕ → Seen → List Made → List Made → Type 0
+abbrev pub LooksAtQueues : Setup → ℕ → ℕ → Seen → Known → Known → Type 0
 LooksAtQueues k lock state answer old new =
     ((answer ≡ seen.Hung) × LoadsStops k 2 true old new)
-    ⊎ ((one two : List Made) × (are_open : Bool) × LoadsStops k 2 false old one × LoadsStops k 0 are_open one two × LooksInside (are_quiet are_open lock state) answer two new)
+    ⊎ ((one two : Known) × (are_open : Bool) × LoadsStops k 2 false old one × LoadsStops k 0 are_open one two × LooksInside (are_quiet are_open lock state) answer two new)
 
 -- the run lock is loaded, and then the state
-abbrev pub LooksBy : Setup → Seen → List Made → List Made → Type 0
+abbrev pub LooksBy : Setup → Seen → Known → Known → Type 0
 LooksBy k answer old new = (lock state : ℕ)
-    × (((is_set 2 state ≡ true) × (answer ≡ seen.Ended) × (new ≡ old ⊳ did_load_lock lock ⊳ did_load_state state))
-    ⊎ ((is_set 2 state ≡ false) × LooksAtQueues k lock state answer (old ⊳ did_load_lock lock ⊳ did_load_state state) new))
+    × (((is_set 2 state ≡ true) × (answer ≡ seen.Ended) × (new ≡ with_state_loaded state (with_lock_loaded lock old)))
+    ⊎ ((is_set 2 state ≡ false) × LooksAtQueues k lock state answer (with_state_loaded state (with_lock_loaded lock old)) new))
 
 -- SERVED TO THE END
 
 -- A look finds the station going on, the call of control is left, the queues are woken, and soft interrupts are done; and so on.
-pub data ServesOn (k : Setup) (old : List Made) : List Made → Type 0 where
+pub data ServesOn (k : Setup) (old : Known) : Known → Type 0 where
   none_yet : ServesOn k old old
-  one_more : (steps looked woken next : List Made) (begun left : ℕ) → ServesOn k old steps
-      → LooksBy k seen.Going (steps ⊳ did_load_base begun) looked → MadeBy (WakesBelow k k.queues) (looked ⊳ did_load_base left) woken → DrainsBy k woken next → ServesOn k old next
+  one_more : (last looked woken next : Known) (begun left : ℕ) → ServesOn k old last
+      → LooksBy k seen.Going (control_begun begun last) looked → WakesBelow k k.queues (control_over left looked) woken → DrainsBy k woken next → ServesOn k old next
 
 -- up to a look that finds it otherwise
-abbrev pub ServesToEnd : Setup → Seen → List Made → List Made → Type 0
-ServesToEnd k answer old new = (before : List Made) × (begun : ℕ) × ServesOn k old before × LooksBy k answer (before ⊳ did_load_base begun) new
+abbrev pub ServesToEnd : Setup → Seen → Known → Known → Type 0
+ServesToEnd k answer old new = (last : Known) × (begun : ℕ) × ServesOn k old last × LooksBy k answer (control_begun begun last) new
 
 -- THE PURGE OF A HUNG STATION
 
 -- the calls inside are loaded, and there are some; or there is none, and SCHED is set
-pub data FindsBusy (old : List Made) : List Made → Type 0 where
+pub data FindsBusy (old : Known) : Known → Type 0 where
   not_looked : FindsBusy old old
-  inside : (steps : List Made) (found : ℕ) → found ≢ 0 → FindsBusy old steps → FindsBusy old (steps ⊳ did_load_inside found)
-  scheduled : (steps : List Made) (state : ℕ) → is_set 1 state ≡ true → FindsBusy old steps → FindsBusy old (steps ⊳ did_load_inside 0 ⊳ did_load_state state)
+  inside : (last : Known) (found : ℕ) → FindsBusy old last → found ≢ 0 → FindsBusy old (with_inside_loaded found last)
+  scheduled : (last : Known) (state : ℕ) → FindsBusy old last → is_set 1 state ≡ true → FindsBusy old (with_state_loaded state (with_inside_loaded 0 last))
 
 -- and then there is none, and SCHED is clear
-abbrev pub WaitsUntilLeft : List Made → List Made → Type 0
-WaitsUntilLeft old new = (before : List Made) × (state : ℕ) × FindsBusy old before × (is_set 1 state ≡ false) × (new ≡ before ⊳ did_load_inside 0 ⊳ did_load_state state)
+abbrev pub WaitsUntilLeft : Known → Known → Type 0
+WaitsUntilLeft old new = (last : Known) × (state : ℕ) × FindsBusy old last × (is_set 1 state ≡ false) × (new ≡ with_state_loaded state (with_inside_loaded 0 last))
 
--- under the run lock, with the hung unit as the cause: so many packets are purged
-abbrev pub PurgesHungBy : Setup → ℕ → ℕ → List Made → List Made → Type 0
-PurgesHungBy k unit count old new = (left locked purged : List Made) × (state : ℕ)
-    × WaitsUntilLeft old left × TakesLock left locked × PurgesHeld k (cause.Hung unit) count (locked ⊳ did_load_state state) purged × MadeBy EndsRun purged new
+-- under the run lock, with the unit of the station that came with that as the cause: so many packets are purged
+abbrev pub PurgesHungBy : Setup → ℕ → Known → Known → Type 0
+PurgesHungBy k count old new = (left locked purged : Known) × WaitsUntilLeft old left × TakesLock left locked
+    × PurgesBy k (cause.Hung locked.view.holder.station.unit) count locked purged × ReleasesBy purged new
 
 -- THE CALL
 
 -- what is left is sent, and the station served to its end; where it hangs it is purged, and the number of packets purged is answered
-abbrev pub FinishesBy : Setup → ℕ → List Made → List Made → Type 0
-FinishesBy k count old new = (sent ended : List Made) × SendsLeftBelow k (length k.infos) old sent
-    × ((ServesToEnd k seen.Hung sent ended × (unit : ℕ) × PurgesHungBy k unit count ended new)
-    ⊎ (ServesToEnd k seen.Ended sent ended × (count ≡ 0) × (found : ℕ) × (new ≡ ended ⊳ did_load_base found)))
+abbrev pub FinishesBy : Setup → ℕ → Known → Known → Type 0
+FinishesBy k count old new = (sent ended : Known) × SendsLeftBelow k (length k.infos) old sent
+    × ((ServesToEnd k seen.Hung sent ended × PurgesHungBy k count ended new)
+    ⊎ (ServesToEnd k seen.Ended sent ended × (count ≡ 0) × (found : ℕ) × (new ≡ control_over found ended)))

@@ -1,138 +1,215 @@
--- What the calls of control do, step by step, in the order in which the steps are made.
-use Rattle.std.specs.Prelude.{◌≡◌, ◌≢◌, ◌+◌, ℕ, zero, suc, Bool, true, false, List, Option, Some, None, length}
+-- What the calls of control do: the steps in the order in which they are made, and what the seat knows after them, with the values that
+-- they found.
+use Rattle.std.specs.Prelude.{◌≡◌, ◌≢◌, ◌+◌, ◌-◌, ℕ, zero, suc, Bool, true, false, Option, Some, None, length}
 use Rattle.std.specs.Option.{option_to_list}
+use Rattle.lq_device.specs.Station.{with_device}
+use Rattle.lq_model.specs.Device.{DeviceState}
+use Rattle.lq_model.specs.Band.{Band}
 use Rattle.lq_model.specs.Words.{word_of}
 use Rattle.lq_model.specs.declared.fate.Cause.{Cause}
 use Rattle.lq_model.specs.declared.fate.Cause.TheVariants as cause
 use Rattle.lq_model.specs.declared.fate.Fate.{Fate}
 use Rattle.lq_model.specs.declared.fate.Fate.TheVariants as fate
-use Rattle.lq_run.specs.Tries.{EndsRun, TriesOnce}
+use Rattle.lq_band.specs.Three.{Three}
+use Rattle.lq_run.specs.Tries.{TriesOnce}
 use Rattle.lq_ring.specs.Changes.{PurgesBand, ResizesAll}
-use Rattle.lq_qdisc.specs.Steps.{InterruptsBy}
-use Rattle.lq_table.specs.Views.{View, Setup}
-use Rattle.lq_table.specs.Told.{is_set}
-use Rattle.lq_table.specs.Made.{Known, Made, ◌⊳◌, did_load_lock, did_load_state, did_load_base, did_load_inside, did_unlock, did_store_fate, did_store_stop, did_clear_missed, did_clear_draining, did_set_deactivated, did_clear_deactivated}
+use Rattle.lq_qdisc.specs.Steps.{InterruptsBy, ReleasesBy, with_state_loaded}
+use Rattle.lq_table.specs.Views.{Setup}
+use Rattle.lq_table.specs.Rule.{shown, units_of}
+use Rattle.lq_table.specs.Told.{is_set, paying, unlocking}
+use Rattle.lq_table.specs.Controls.{GoesAway, beginning_control, closing, finding, opening, opening_next, resetting_draining, resetting_missed, returning, swapping}
+use Rattle.lq_table.specs.Purges.{AreKnown, purging}
+use Rattle.lq_table.specs.Solo.{IsAccounts, IsSole, SeesState}
+use Rattle.lq_table.specs.Made.{Known, ◌⊳◌, did_load_lock, did_load_state, did_load_base, did_load_inside, did_unlock, did_store_fate, did_store_stop, did_clear_missed, did_clear_draining, did_set_deactivated, did_clear_deactivated}
+use Rattle.lq_control.specs.Control.{IsServed}
 
--- the steps of a call of the crates below, as a seat makes them that knows this before it and that after it
-abbrev pub MadeBy : (Known → Known → Type 0) → List Made → List Made → Type 0
-MadeBy call old new = (v w : View) × call (record { view = v; steps = old }) (record { view = w; steps = new })
+-- ONE STEP
+
+-- a call of control begins, and ends
+abbrev pub control_begun : ℕ → Known → Known
+control_begun found k = record { view = beginning_control k.view; steps = k.steps ⊳ did_load_base found }
+
+abbrev pub control_over : ℕ → Known → Known
+control_over found k = record { view = returning k.view; steps = k.steps ⊳ did_load_base found }
+
+-- DEACTIVATED is set for this event, which was set before or not, and cleared
+abbrev pub deactivated : ℕ → Bool → Known → Known
+deactivated event was k = record { view = closing event k.view; steps = k.steps ⊳ did_set_deactivated event was }
+
+abbrev pub activated : Known → Known
+activated k = record { view = opening k.view; steps = k.steps ⊳ did_clear_deactivated }
+
+-- the calls inside, and the run lock's word, are loaded
+abbrev pub with_inside_loaded : ℕ → Known → Known
+with_inside_loaded found k = record { view = finding found k.view; steps = k.steps ⊳ did_load_inside found }
+
+abbrev pub with_lock_loaded : ℕ → Known → Known
+with_lock_loaded found k = record { view = k.view; steps = k.steps ⊳ did_load_lock found }
+
+-- the run lock is released
+abbrev pub unlocked : Known → Known
+unlocked k = record { view = unlocking k.view; steps = k.steps ⊳ did_unlock }
 
 -- WAITS
 
--- Rounds of the wait until the run lock is free and SCHED is clear. In each the seat did a soft interrupt, for which the call of
--- control was left, or found the lock held, or found it free and SCHED set.
-pub data Rounds (k : Setup) (old : List Made) : List Made → Type 0 where
+-- a soft interrupt, and what it leaves as it was
+pub record ServesBy (k : Setup) (old new : Known) : Type 0 where
+  pub by : InterruptsBy k old new
+  pub served : IsServed old.view new.view
+
+-- Rounds of the wait until the run lock is free and SCHED is clear. In each the seat was raised and did its soft interrupt, for which the
+-- call of control was left; or it wasn't, and found the lock held, or found it free and SCHED set.
+pub data Rounds (k : Setup) (old : Known) : Known → Type 0 where
   none_yet : Rounds k old old
-  served : (steps next : List Made) (found : ℕ) → Rounds k old steps → MadeBy (InterruptsBy k) steps next → Rounds k old (next ⊳ did_load_base found)
-  locked : (steps : List Made) (found : ℕ) → found ≢ 0 → Rounds k old steps → Rounds k old (steps ⊳ did_load_lock found)
-  scheduled : (steps : List Made) (state : ℕ) → is_set 1 state ≡ true → Rounds k old steps → Rounds k old (steps ⊳ did_load_lock 0 ⊳ did_load_state state)
+  served : (last next : Known) (found : ℕ) → Rounds k old last → last.view.place.raised ≡ true → ServesBy k last next → Rounds k old (control_begun found next)
+  locked : (last : Known) (found : ℕ) → Rounds k old last → last.view.place.raised ≡ false → found ≢ 0 → Rounds k old (with_lock_loaded found last)
+  scheduled : (last : Known) (state : ℕ) → Rounds k old last → last.view.place.raised ≡ false → is_set 1 state ≡ true → Rounds k old (with_state_loaded state (with_lock_loaded 0 last))
 
--- the lock is found free, and SCHED clear after that
-abbrev pub FindsClear : List Made → List Made → Type 0
-FindsClear old new = (state : ℕ) × (is_set 1 state ≡ false) × (new ≡ old ⊳ did_load_lock 0 ⊳ did_load_state state)
+-- the seat isn't raised, and the lock is found free, and SCHED clear after that
+pub record FindsClear (old new : Known) : Type 0 where
+  pub state : ℕ
+  pub low : old.view.place.raised ≡ false
+  pub clear : is_set 1 state ≡ false
+  pub sees : IsSole old.view → SeesState old.view state
+  pub is : new ≡ with_state_loaded state (with_lock_loaded 0 old)
 
-abbrev pub WaitsUntilClear : Setup → List Made → List Made → Type 0
-WaitsUntilClear k old new = (before : List Made) × Rounds k old before × FindsClear before new
+-- `some_qdisc_is_busy` of net/sched/sch_generic.c, for which `dev_deactivate_many` waits
+abbrev pub WaitsUntilClear : Setup → Known → Known → Type 0
+WaitsUntilClear k old new = (last : Known) × Rounds k old last × FindsClear last new
 
--- `net_tx_action` of net/core/dev.c comes again as long as the seat is raised: soft interrupts, one after the other
-pub data DrainsBy (k : Setup) (old : List Made) : List Made → Type 0 where
-  not_raised : DrainsBy k old old
-  one_more : (steps next : List Made) → DrainsBy k old steps → MadeBy (InterruptsBy k) steps next → DrainsBy k old next
+-- soft interrupts, one after the other, each of a raised seat
+pub data Interrupted (k : Setup) (old : Known) : Known → Type 0 where
+  not_yet : Interrupted k old old
+  once_more : (last next : Known) → Interrupted k old last → last.view.place.raised ≡ true → ServesBy k last next → Interrupted k old next
+
+-- `net_tx_action` of net/core/dev.c comes again as long as the seat is raised
+abbrev pub DrainsBy : Setup → Known → Known → Type 0
+DrainsBy k old new = Interrupted k old new × (new.view.place.raised ≡ false)
 
 -- the calls inside are loaded, and there are some
-pub data FindsCalls (old : List Made) : List Made → Type 0 where
+pub data FindsCalls (old : Known) : Known → Type 0 where
   not_looked : FindsCalls old old
-  inside : (steps : List Made) (found : ℕ) → found ≢ 0 → FindsCalls old steps → FindsCalls old (steps ⊳ did_load_inside found)
+  inside : (last : Known) (found : ℕ) → FindsCalls old last → found ≢ 0 → FindsCalls old (with_inside_loaded found last)
 
--- and then there is none
-abbrev pub WaitsForCalls : List Made → List Made → Type 0
-WaitsForCalls old new = (before : List Made) × FindsCalls old before × (new ≡ before ⊳ did_load_inside 0)
+-- and then there is none: `synchronize_net` of net/core/dev.c, for which `dev_deactivate_many` waits
+abbrev pub WaitsForCalls : Known → Known → Type 0
+WaitsForCalls old new = (last : Known) × FindsCalls old last × (new ≡ with_inside_loaded 0 last)
 
 -- the run lock is tried so often without success
-pub data TriesLock (old : List Made) : List Made → Type 0 where
+pub data TriesLock (old : Known) : Known → Type 0 where
   not_tried : TriesLock old old
-  held : (steps next : List Made) → TriesLock old steps → MadeBy (TriesOnce false) steps next → TriesLock old next
+  held : (last next : Known) → TriesLock old last → TriesOnce false last next → TriesLock old next
 
--- and then it is got
-abbrev pub TakesLock : List Made → List Made → Type 0
-TakesLock old new = (before : List Made) × TriesLock old before × MadeBy (TriesOnce true) before new
+-- and then it is got, with the station: the first seat finds the units that its trail tells, and a seat that has the table alone what its
+-- account says
+pub record TakesLock (old new : Known) : Type 0 where
+  pub last : Known
+  pub tries : TriesLock old last
+  pub gets : TriesOnce true last new
+  pub units : old.view.control.first ≡ true → new.view.holder.units ≡ units_of old.view.trail
+  pub accounts : IsSole old.view → IsAccounts new.view
 
 -- PURGES
 
--- the fate of the packet in the requeue slot is stored, if there is one
-abbrev pub PurgesSlot : Setup → Fate → Option ℕ → List Made → List Made → Type 0
-PurgesSlot k f None old new = new ≡ old
-PurgesSlot k f (Some n) old new = new ≡ old ⊳ did_store_fate k n (word_of f)
+-- a purge begins with a load of the state: these are the packets of the bands
+abbrev pub purge_started : Cause → Three Band → ℕ → Known → Known
+purge_started cause bands state k = record { view = purging cause bands k.view; steps = k.steps ⊳ did_load_state state }
 
--- `qdisc_reset` of net/sched/sch_generic.c with `pfifo_fast_reset`: the requeue slot and then the three bands are purged, and MISSED and
--- DRAINING are cleared. So many packets were purged.
-pub record PurgesHeld (k : Setup) (cause : Cause) (count : ℕ) (old new : List Made) : Type 0 where
-  pub slot : Option ℕ
+-- the fate of the packet that was in the requeue slot is stored, if there was one
+abbrev pub PurgesSlot : Setup → Fate → Option ℕ → Known → Known → Type 0
+PurgesSlot k f None old new = new ≡ old
+PurgesSlot k f (Some n) old new = new ≡ record { view = paying old.view; steps = old.steps ⊳ did_store_fate k n (word_of f) }
+
+-- MISSED and DRAINING are cleared after the last packet
+abbrev pub bits_reset : Known → Known
+bits_reset k = record { view = resetting_draining (resetting_missed k.view); steps = k.steps ⊳ did_clear_missed ⊳ did_clear_draining }
+
+-- a purge that has begun with this packet in the requeue slot: that and then the three bands are purged, and both bits cleared. So many
+-- packets were purged.
+pub record PurgesHeld (k : Setup) (cause : Cause) (slot : Option ℕ) (count : ℕ) (old new : Known) : Type 0 where
   pub low : ℕ
   pub mid : ℕ
   pub high : ℕ
-  pub emptied : List Made
-  pub one : List Made
-  pub two : List Made
-  pub three : List Made
+  pub emptied : Known
+  pub one : Known
+  pub two : Known
+  pub three : Known
   pub requeued : PurgesSlot k (fate.Purged cause) slot old emptied
-  pub first : MadeBy (PurgesBand k 0 (fate.Purged cause) low) emptied one
-  pub second : MadeBy (PurgesBand k 1 (fate.Purged cause) mid) one two
-  pub third : MadeBy (PurgesBand k 2 (fate.Purged cause) high) two three
-  pub cleared : new ≡ three ⊳ did_clear_missed ⊳ did_clear_draining
+  pub first : PurgesBand k 0 (fate.Purged cause) low emptied one
+  pub second : PurgesBand k 1 (fate.Purged cause) mid one two
+  pub third : PurgesBand k 2 (fate.Purged cause) high two three
+  pub cleared : new ≡ bits_reset three
   pub counted : count ≡ length (option_to_list slot) + low + mid + high
+
+-- `dev_reset_queue` and `qdisc_reset` of net/sched/sch_generic.c with `pfifo_fast_reset`: what lies in the requeue slot and in the bands
+-- is purged. A seat that has the table alone finds in the bands what its account says.
+pub record PurgesBy (k : Setup) (cause : Cause) (count : ℕ) (old new : Known) : Type 0 where
+  pub bands : Three Band
+  pub state : ℕ
+  pub knows : AreKnown old.view bands
+  pub purges : PurgesHeld k cause old.view.holder.slot count (purge_started cause bands state old) new
 
 -- A DEACTIVATION
 
 -- `dev_deactivate_many` of net/sched/sch_generic.c up to the release of the run lock: DEACTIVATED is set, no call is inside, the lock is
 -- taken, and so many packets are purged
-pub record Deactivates (k : Setup) (event count : ℕ) (old new : List Made) : Type 0 where
+pub record Deactivates (k : Setup) (event count : ℕ) (old new : Known) : Type 0 where
   pub was : Bool
-  pub calm : List Made
-  pub locked : List Made
-  pub state : ℕ
-  pub purged : List Made
-  pub waits : WaitsForCalls (old ⊳ did_set_deactivated event was) calm
+  pub calm : Known
+  pub locked : Known
+  pub purged : Known
+  pub waits : WaitsForCalls (deactivated event was old) calm
   pub takes : TakesLock calm locked
-  pub purges : PurgesHeld k (cause.Event event) count (locked ⊳ did_load_state state) purged
-  pub released : new ≡ purged ⊳ did_unlock
+  pub purges : PurgesBy k (cause.Event event) count locked purged
+  pub released : new ≡ unlocked purged
 
 -- and to the end of its waits
-abbrev pub DeactivatesWhole : Setup → ℕ → ℕ → List Made → List Made → Type 0
-DeactivatesWhole k event count old new = (free : List Made) × Deactivates k event count old free × WaitsUntilClear k free new
+abbrev pub DeactivatesWhole : Setup → ℕ → ℕ → Known → Known → Type 0
+DeactivatesWhole k event count old new = (free : Known) × Deactivates k event count old free × WaitsUntilClear k free new
 
 -- THE CALLS
 
-abbrev pub Downs : Setup → ℕ → ℕ → List Made → List Made → Type 0
-Downs k event count old new = (clear : List Made) × (found : ℕ) × DeactivatesWhole k event count old clear × (new ≡ clear ⊳ did_load_base found)
+abbrev pub Downs : Setup → ℕ → ℕ → Known → Known → Type 0
+Downs k event count old new = (clear : Known) × (found : ℕ) × DeactivatesWhole k event count old clear × (new ≡ control_over found clear)
 
-abbrev pub Ups : List Made → List Made → Type 0
-Ups old new = (first last : ℕ) × (new ≡ old ⊳ did_load_base first ⊳ did_clear_deactivated ⊳ did_load_base last)
+-- `transition_one_qdisc` of net/sched/sch_generic.c, for `dev_activate`: DEACTIVATED is cleared
+abbrev pub Ups : Known → Known → Type 0
+Ups old new = (first last : ℕ) × (new ≡ control_over last (activated (control_begun first old)))
 
--- DEACTIVATED is cleared, and the call ends
-abbrev pub Reopens : List Made → List Made → Type 0
-Reopens old new = (found : ℕ) × (new ≡ old ⊳ did_clear_deactivated ⊳ did_load_base found)
+-- so it is, and the call ends
+abbrev pub Reopens : Known → Known → Type 0
+Reopens old new = (found : ℕ) × (new ≡ control_over found (activated old))
 
 -- a live resize: `pfifo_fast_change_tx_queue_len` of net/sched/sch_generic.c under the run lock
-abbrev pub ResizesLive : Setup → ℕ → ℕ → ℕ → List Made → List Made → Type 0
-ResizesLive k event len count old new = (found : ℕ) × (locked resized : List Made) × TakesLock (old ⊳ did_load_base found) locked × MadeBy (ResizesAll k len event count) locked resized × MadeBy EndsRun resized new
+abbrev pub ResizesLive : Setup → ℕ → ℕ → ℕ → Known → Known → Type 0
+ResizesLive k event len count old new = (found : ℕ) × (locked resized : Known) × TakesLock (control_begun found old) locked × ResizesAll k len event count locked resized × ReleasesBy resized new
 
--- the empty rings of a station that was purged
-abbrev pub Relengths : Setup → ℕ → ℕ → List Made → List Made → Type 0
-Relengths k event len old new = (locked resized : List Made) × (count : ℕ) × TakesLock old locked × MadeBy (ResizesAll k len event count) locked resized × (new ≡ resized ⊳ did_unlock)
+-- the empty rings of a station that was purged: no packet is dropped
+abbrev pub Relengths : Setup → ℕ → ℕ → Known → Known → Type 0
+Relengths k event len old new = (locked resized : Known) × TakesLock old locked × ResizesAll k len event 0 locked resized × (new ≡ unlocked resized)
 
 -- `dev_qdisc_change_tx_queue_len` of net/sched/sch_generic.c
-abbrev pub ChangesLength : Setup → ℕ → ℕ → ℕ → List Made → List Made → Type 0
-ChangesLength k event len count old new = (clear changed : List Made) × DeactivatesWhole k event count old clear × Relengths k event len clear changed × Reopens changed new
+abbrev pub ChangesLength : Setup → ℕ → ℕ → ℕ → Known → Known → Type 0
+ChangesLength k event len count old new = (clear changed : Known) × DeactivatesWhole k event count old clear × Relengths k event len clear changed × Reopens changed new
 
--- the stop words of the first so many queues are stored as open, in ascending order
-abbrev pub opened_below : Setup → ℕ → List Made → List Made
-opened_below k zero steps = steps
-opened_below k (suc queue) steps = opened_below k queue steps ⊳ did_store_stop k queue 0
+-- the station has this unit and its device, and the first queue's stop word is stored as open
+abbrev pub exchanged : Setup → ℕ → DeviceState → Known → Known
+exchanged k unit device old = record { view = swapping (with_device (shown old.view.holder) unit device) old.view; steps = old.steps ⊳ did_store_stop k 0 0 }
 
--- under the run lock: a driver's open, with `netif_tx_start_all_queues` of include/linux/netdevice.h
-abbrev pub ExchangesDevice : Setup → List Made → List Made → Type 0
-ExchangesDevice k old new = (locked : List Made) × TakesLock old locked × (new ≡ opened_below k k.queues locked ⊳ did_unlock)
+-- so are the stop words of so many queues after the first, in ascending order
+abbrev pub opened_on : Setup → ℕ → Known → Known
+opened_on k zero old = old
+opened_on k (suc more) old = record { view = opening_next (suc more) (opened_on k more old).view; steps = (opened_on k more old).steps ⊳ did_store_stop k (suc more) 0 }
 
-abbrev pub Swaps : Setup → ℕ → List Made → List Made → Type 0
-Swaps k event old new = (clear changed : List Made) × (count : ℕ) × DeactivatesWhole k event count old clear × ExchangesDevice k clear changed × Reopens changed new
+-- Under the run lock: a driver's open, with `netif_tx_start_all_queues` of include/linux/netdevice.h. The device that goes is the one that
+-- came with the latest unit, and has served the station.
+pub record ExchangesDevice (k : Setup) (unit : ℕ) (came went : DeviceState) (old new : Known) : Type 0 where
+  pub locked : Known
+  pub takes : TakesLock old locked
+  pub goes : went ≡ locked.view.holder.station.device
+  pub away : GoesAway locked.view
+  pub is : new ≡ unlocked (opened_on k (k.queues - 1) (exchanged k unit came locked))
+
+-- an exchange of the device, while the station is deactivated; so many packets are purged
+abbrev pub Swaps : Setup → ℕ → ℕ → DeviceState → DeviceState → Known → Known → Type 0
+Swaps k event unit came went old new = (clear changed : Known) × (count : ℕ) × DeactivatesWhole k event count old clear × ExchangesDevice k unit came went clear changed × Reopens changed new

@@ -8,7 +8,7 @@ ghost use Rattle.lq_model.specs.declared.machine.Phase.TheVariants.{Active, Purg
 ghost use Rattle.lq_model.specs.declared.machine.Position.TheVariants.{Idle, Control};
 ghost use Rattle.lq_table.specs.Controls.{opening};
 ghost use Rattle.lq_table.specs.Views.{first_account};
-ghost use Rattle.lq_table.specs.Sees.{view, steps, setup, position, IsSeatOf, IsSameSeat, IsElseSame};
+ghost use Rattle.lq_table.specs.Sees.{view, known, setup, position, IsSeatOf, IsSameSeat, IsElseSame};
 ghost use Rattle.lq_ring.specs.Fates.{fates_onto};
 ghost use Rattle.lq_qdisc.specs.Sends.{IsReadyToSend};
 ghost use Rattle.lq_control.specs.Steps.{Deactivates, Downs, Ups};
@@ -32,7 +32,7 @@ pub fn up<'a, D: TxDevice>(shared: &Shared<'a, D>, cpu: &mut Cpu<D>)
     ensures same { IsElseSame cpu.old cpu.new }
     ensures opened { view cpu.new ≡ opening (view cpu.old) }
     ensures step { solo (view cpu.new) ≡ heard Up (solo (view cpu.old)) }
-    ensures made { Ups (steps cpu.old) (steps cpu.new) }
+    ensures ups { Ups (known cpu.old) (known cpu.new) }
     ensures alone { (event : ℕ) → DoesEventAlone shared.now.infos.now (first_account (setup shared.now)) event kind.Up (solo (view cpu.old)) (solo (view cpu.new)) }
 {
     shared.begin_control(cpu);
@@ -58,7 +58,7 @@ pub fn down<'a, D: TxDevice, R: Wait>(
     ensures purged { (lost : List ℕ) × Stores (fate.Purged (cause.Event event)) lost (view cpu.old) (view cpu.new) × (result ≡ length lost) × (IsSole (view cpu.old) → lost ≡ held (account_of (view cpu.old))) }
     ensures raised { (view cpu.new).place.raised ≡ false }
     ensures clear { IsSole (view cpu.new) → (view cpu.new).whole.qdisc.sched ≡ false }
-    ensures made { Downs (setup shared.now) event result (steps cpu.old) (steps cpu.new) }
+    ensures downs { Downs (setup shared.now) event result (known cpu.old) (known cpu.new) }
     ensures alone { DoesEventAlone shared.now.infos.now (first_account (setup shared.now)) event kind.Down (solo (view cpu.old)) (solo (view cpu.new)) }
 {
     let purged = deactivate(rt, shared, cpu, event);
@@ -82,7 +82,7 @@ pub(crate) fn deactivate<'a, D: TxDevice, R: Wait>(
     ensures trail { (view cpu.new).trail ≡ Purge (cause.Event event) ∷ Down event ∷ (view cpu.old).trail }
     ensures purged { (lost : List ℕ) × ((view cpu.new).settled ≡ fates_onto (fate.Purged (cause.Event event)) lost (view cpu.old).settled) × (result ≡ length lost) × (IsSole (view cpu.old) → lost ≡ held (account_of (view cpu.old))) }
     ensures sole { IsSole (view cpu.old) → solo (view cpu.new) ≡ deactivated_solo event (solo (view cpu.old)) }
-    ensures made { Deactivates (setup shared.now) event result (steps cpu.old) (steps cpu.new) }
+    ensures deactivates { Deactivates (setup shared.now) event result (known cpu.old) (known cpu.new) }
 {
     shared.set_deactivated(cpu, event);
     wait_for_calls(rt, shared, cpu);

@@ -3,7 +3,7 @@ ghost use Rattle.std.specs.Prelude.{◌≡◌, ℕ, true, false, List, IsSome};
 ghost use Rattle.lq_model.specs.Alone.{served};
 ghost use Rattle.lq_model.specs.declared.machine.Position.TheVariants.{Idle, Control};
 ghost use Rattle.lq_table.specs.Views.{first_account};
-ghost use Rattle.lq_table.specs.Sees.{view, steps, setup, position, IsSeatOf, IsSameSeat, IsElseSame};
+ghost use Rattle.lq_table.specs.Sees.{view, known, setup, position, IsSeatOf, IsSameSeat, IsElseSame};
 ghost use Rattle.lq_table.specs.Solo.{IsSole, account_of, solo};
 ghost use Rattle.lq_qdisc.specs.Alone.{Does};
 ghost use Rattle.lq_qdisc.specs.Sends.{IsReadyToSend};
@@ -27,7 +27,7 @@ pub fn drain<'a, D: TxDevice, R: Wait>(rt: &R, shared: &Shared<'a, D>, cpu: &mut
     ensures served { IsServed (view cpu.old) (view cpu.new) }
     ensures at { (position cpu.new ≡ Idle) × IsReadyToSend cpu.new }
     ensures raised { (view cpu.new).place.raised ≡ false }
-    ensures made { DrainsBy (setup shared.now) (steps cpu.old) (steps cpu.new) }
+    ensures drains { DrainsBy (setup shared.now) (known cpu.old) (known cpu.new) }
     ensures alone { Does shared.now.infos.now (first_account (setup shared.now)) (served shared.now.infos.now) (solo (view cpu.old)) (solo (view cpu.new)) }
 {
     for _ in rt.forever() {
@@ -42,11 +42,11 @@ pub fn drain<'a, D: TxDevice, R: Wait>(rt: &R, shared: &Shared<'a, D>, cpu: &mut
 /// Whether the run lock is free and SCHED is clear.
 fn is_clear<'a, D: TxDevice>(shared: &Shared<'a, D>, cpu: &mut Cpu<D>) -> bool
     requires seat { IsSeatOf shared.now cpu.old }
-    requires at { position cpu.old ≡ Control false }
+    requires at { (position cpu.old ≡ Control false) × ((view cpu.old).place.raised ≡ false) }
     ensures same { IsElseSame cpu.old cpu.new × (view cpu.new ≡ view cpu.old) }
     ensures sole { IsSole (view cpu.old) → result ≡ true → (view cpu.old).whole.qdisc.sched ≡ false }
-    ensures clear { result ≡ true → FindsClear (steps cpu.old) (steps cpu.new) }
-    ensures again { result ≡ false → Rounds (setup shared.now) (steps cpu.old) (steps cpu.new) }
+    ensures clear { result ≡ true → FindsClear (known cpu.old) (known cpu.new) }
+    ensures again { result ≡ false → Rounds (setup shared.now) (known cpu.old) (known cpu.new) }
 {
     shared.load_lock(cpu) == 0 && shared.load_state(cpu) & SCHED == 0
 }
@@ -60,8 +60,8 @@ fn serves_or_is_clear<'a, D: TxDevice>(shared: &Shared<'a, D>, cpu: &mut Cpu<D>)
     ensures at { (position cpu.new ≡ Control false) × IsReadyToSend cpu.new }
     ensures clear { result ≡ true → ((view cpu.new).place.raised ≡ false) × (IsSole (view cpu.new) → (view cpu.new).whole.qdisc.sched ≡ false) }
     ensures off { IsSole (view cpu.old) → IsSome (account_of (view cpu.old)).down → unmarked (solo (view cpu.new)) ≡ unmarked (solo (view cpu.old)) }
-    ensures found { result ≡ true → FindsClear (steps cpu.old) (steps cpu.new) }
-    ensures again { result ≡ false → Rounds (setup shared.now) (steps cpu.old) (steps cpu.new) }
+    ensures found { result ≡ true → FindsClear (known cpu.old) (known cpu.new) }
+    ensures again { result ≡ false → Rounds (setup shared.now) (known cpu.old) (known cpu.new) }
 {
     if cpu.raised() {
         softirq(shared, cpu);
@@ -86,7 +86,7 @@ pub(crate) fn wait_until_clear<'a, D: TxDevice, R: Wait>(
     ensures raised { (view cpu.new).place.raised ≡ false }
     ensures clear { IsSole (view cpu.new) → (view cpu.new).whole.qdisc.sched ≡ false }
     ensures off { IsSole (view cpu.old) → IsSome (account_of (view cpu.old)).down → solo (view cpu.new) ≡ unmarked (solo (view cpu.old)) }
-    ensures made { WaitsUntilClear (setup shared.now) (steps cpu.old) (steps cpu.new) }
+    ensures waits { WaitsUntilClear (setup shared.now) (known cpu.old) (known cpu.new) }
 {
     let backoff = Backoff::new();
     for _ in rt.forever() {

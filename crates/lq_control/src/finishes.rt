@@ -5,7 +5,7 @@ ghost use Rattle.lq_model.specs.declared.fate.Cause.TheVariants as cause;
 ghost use Rattle.lq_model.specs.declared.fate.Fate.TheVariants as fate;
 ghost use Rattle.lq_model.specs.declared.machine.Phase.TheVariants.{Active};
 ghost use Rattle.lq_model.specs.declared.machine.Position.TheVariants.{Idle, Control};
-ghost use Rattle.lq_table.specs.Sees.{view, steps, setup, position, IsSeatOf, IsSameSeat, IsElseSame};
+ghost use Rattle.lq_table.specs.Sees.{view, known, setup, position, IsSeatOf, IsSameSeat, IsElseSame};
 ghost use Rattle.lq_table.specs.Solo.{IsSole, account_of, solo};
 ghost use Rattle.lq_table.specs.Views.{first_account};
 ghost use Rattle.lq_qdisc.specs.Alone.{IsAlone};
@@ -56,7 +56,7 @@ fn send_left<'a, D: TxDevice, R: Wait>(rt: &R, shared: &Shared<'a, D>, cpu: &mut
     ensures sent { IsSent (setup shared.now) (view cpu.old) (view cpu.new) }
     ensures fates { KeepsFates (view cpu.old) (view cpu.new) }
     ensures done { AreAllDone (setup shared.now) (view cpu.old).turns → view cpu.new ≡ view cpu.old }
-    ensures made { SendsIfLeft (setup shared.now) n (steps cpu.old) (steps cpu.new) }
+    ensures sends { SendsIfLeft (setup shared.now) n (known cpu.old) (known cpu.new) }
 {
     let info = shared.infos()[n as usize];
     if info.station as u32 != shared.number() {
@@ -83,7 +83,7 @@ fn send_all_left<'a, D: TxDevice, R: Wait>(rt: &R, shared: &Shared<'a, D>, cpu: 
     ensures sent { IsSent (setup shared.now) (view cpu.old) (view cpu.new) }
     ensures fates { KeepsFates (view cpu.old) (view cpu.new) }
     ensures done { AreAllDone (setup shared.now) (view cpu.old).turns → view cpu.new ≡ view cpu.old }
-    ensures made { SendsLeftBelow (setup shared.now) (length shared.now.infos.now) (steps cpu.old) (steps cpu.new) }
+    ensures sends { SendsLeftBelow (setup shared.now) (length shared.now.infos.now) (known cpu.old) (known cpu.new) }
 {
     for n in 0..shared.infos().len() {
         send_left(rt, shared, cpu, n as u32);
@@ -96,7 +96,7 @@ fn are_stops<'a, D: TxDevice>(shared: &Shared<'a, D>, cpu: &mut Cpu<D>, word: u6
     requires at { position cpu.old ≡ Control false }
     ensures same { IsElseSame cpu.old cpu.new × (view cpu.new ≡ view cpu.old) }
     ensures sole { IsSole (view cpu.old) → (view cpu.old).whole.state.shut ≡ None → result ≡ true → (queue : ℕ) → queue < shared.now.queues → slice_index (account_of (view cpu.old)).stops queue ≡ word }
-    ensures made { LoadsStops (setup shared.now) word result (steps cpu.old) (steps cpu.new) }
+    ensures loads { LoadsStops (setup shared.now) word result (known cpu.old) (known cpu.new) }
 {
     for queue in 0..shared.queues() {
         if shared.load_xoff(cpu, queue) != word {
@@ -123,7 +123,7 @@ fn look<'a, D: TxDevice>(shared: &Shared<'a, D>, cpu: &mut Cpu<D>) -> Seen
     ensures same { IsElseSame cpu.old cpu.new × IsLook (view cpu.old) (view cpu.new) }
     ensures kept { AreKept (setup shared.now) (view cpu.new) }
     ensures shows { Shows result (view cpu.new) }
-    ensures made { LooksBy (setup shared.now) result (steps cpu.old) (steps cpu.new) }
+    ensures looks { LooksBy (setup shared.now) result (known cpu.old) (known cpu.new) }
 {
     let lock = shared.load_lock(cpu);
     let state = shared.load_state(cpu);
@@ -157,7 +157,7 @@ fn serve_to_end<'a, D: TxDevice, R: Wait>(rt: &R, shared: &Shared<'a, D>, cpu: &
     ensures shows { Shows (if result then Hung else Ended) (view cpu.new) }
     ensures alone { IsAlone shared.now.infos.now (first_account (setup shared.now)) (solo (view cpu.old))
         → IsEndedAlike shared.now.infos.now (first_account (setup shared.now)) (solo (view cpu.old)) (solo (view cpu.new)) }
-    ensures made { ServesToEnd (setup shared.now) (if result then Hung else Ended) (steps cpu.old) (steps cpu.new) }
+    ensures serves { ServesToEnd (setup shared.now) (if result then Hung else Ended) (known cpu.old) (known cpu.new) }
 {
     let backoff = Backoff::new();
     for _ in rt.forever() {
@@ -180,8 +180,8 @@ fn is_left<'a, D: TxDevice>(shared: &Shared<'a, D>, cpu: &mut Cpu<D>) -> bool
     requires at { position cpu.old ≡ Control false }
     requires active { IsIn Active (view cpu.old) }
     ensures same { IsElseSame cpu.old cpu.new × IsLook (view cpu.old) (view cpu.new) }
-    ensures left { result ≡ true → WaitsUntilLeft (steps cpu.old) (steps cpu.new) }
-    ensures busy { result ≡ false → FindsBusy (steps cpu.old) (steps cpu.new) }
+    ensures left { result ≡ true → WaitsUntilLeft (known cpu.old) (known cpu.new) }
+    ensures busy { result ≡ false → FindsBusy (known cpu.old) (known cpu.new) }
 {
     shared.load_inside(cpu) == 0 && shared.load_state(cpu) & SCHED == 0
 }
@@ -192,7 +192,7 @@ fn wait_until_left<'a, D: TxDevice, R: Wait>(rt: &R, shared: &Shared<'a, D>, cpu
     requires at { position cpu.old ≡ Control false }
     requires active { IsIn Active (view cpu.old) }
     ensures same { IsElseSame cpu.old cpu.new × IsLook (view cpu.old) (view cpu.new) }
-    ensures made { WaitsUntilLeft (steps cpu.old) (steps cpu.new) }
+    ensures waits { WaitsUntilLeft (known cpu.old) (known cpu.new) }
 {
     let backoff = Backoff::new();
     for _ in rt.forever() {
@@ -220,7 +220,7 @@ fn purge_hung<'a, D: TxDevice, R: Wait>(rt: &R, shared: &Shared<'a, D>, cpu: &mu
     ensures step { solo (view cpu.new) ≡ purged_as_hung (view cpu.old).whole.state.station.unit (solo (view cpu.old)) }
     ensures account { account_of (view cpu.new) ≡ after (Purge (cause.Hung (view cpu.old).whole.state.station.unit)) (account_of (view cpu.old)) }
     ensures device { (view cpu.new).whole.state.station.device ≡ (view cpu.old).whole.state.station.device }
-    ensures made { PurgesHungBy (setup shared.now) (view cpu.old).whole.state.station.unit result (steps cpu.old) (steps cpu.new) }
+    ensures purges { PurgesHungBy (setup shared.now) result (known cpu.old) (known cpu.new) }
 {
     wait_until_left(rt, shared, cpu);
     take_lock(rt, shared, cpu);
@@ -254,7 +254,7 @@ pub fn finish<'a, D: TxDevice, R: Wait>(rt: &R, shared: &Shared<'a, D>, cpu: &mu
     ensures finished { IsFinished (setup shared.now) (view cpu.new) }
     ensures alone { AreAllDone (setup shared.now) (view cpu.old).turns
         → FinishesAlone shared.now.infos.now (first_account (setup shared.now)) (solo (view cpu.old)) (solo (view cpu.new)) }
-    ensures made { FinishesBy (setup shared.now) result (steps cpu.old) (steps cpu.new) }
+    ensures finishes { FinishesBy (setup shared.now) result (known cpu.old) (known cpu.new) }
 {
     send_all_left(rt, shared, cpu);
     if serve_to_end(rt, shared, cpu) {

@@ -11,9 +11,8 @@ ghost use Rattle.lq_band.specs.Three.{Three as Of};
 ghost use Rattle.lq_table.specs.Views.{Left, no_packets};
 ghost use Rattle.lq_table.specs.Purges.{first_purge, HoldsAtMost, HoldPackets, AreKnown};
 ghost use Rattle.lq_table.specs.Rule.{shown, IsResting};
-ghost use Rattle.lq_table.specs.Sees.{view, steps, setup, position, slot, IsSeatOf, IsSameSeat, IsElseSame};
-ghost use Rattle.lq_table.specs.Made.{◌⊳◌, did_load_state};
-ghost use Rattle.lq_control.specs.Steps.{PurgesHeld, PurgesSlot};
+ghost use Rattle.lq_table.specs.Sees.{view, known, setup, position, slot, IsSeatOf, IsSameSeat, IsElseSame};
+ghost use Rattle.lq_control.specs.Steps.{PurgesBy, PurgesHeld, PurgesSlot};
 ghost use Rattle.lq_table.specs.Told.{IsKnownSlot};
 ghost use Rattle.lq_run.specs.Runs.{HasStation, Rests};
 ghost use Rattle.lq_ring.specs.Put.{no_locks};
@@ -35,7 +34,7 @@ fn purge_slot<'a, D: TxDevice>(shared: &Shared<'a, D>, cpu: &mut Cpu<D>, cause: 
     ensures purged { (s : Option ℕ) → (view cpu.old).packets.owed ≡ option_map (λ n. (n, fate.Purged cause)) s → (view cpu.new ≡ record (view cpu.old) { packets = record (view cpu.old).packets { owed = None }; settled = fates_onto (fate.Purged cause) (option_to_list s) (view cpu.old).settled })
         × (result ≡ length (option_to_list s)) }
     ensures station { CarriesStation cpu.new }
-    ensures made { (s : Option ℕ) → (view cpu.old).packets.owed ≡ option_map (λ n. (n, fate.Purged cause)) s → PurgesSlot (setup shared.now) (fate.Purged cause) s (steps cpu.old) (steps cpu.new) }
+    ensures purges { (s : Option ℕ) → (view cpu.old).packets.owed ≡ option_map (λ n. (n, fate.Purged cause)) s → PurgesSlot (setup shared.now) (fate.Purged cause) s (known cpu.old) (known cpu.new) }
 {
     let Some(station) = &mut cpu.station else {
         unreachable!()
@@ -61,7 +60,7 @@ pub(crate) fn purge_held<'a, D: TxDevice>(
     ensures same { IsSameSeat cpu.old cpu.new × (slot cpu.new ≡ slot cpu.old) }
     ensures emptied { (s : Option ℕ) (l : Left) → (view cpu.old).packets.owed ≡ option_map (λ n. (n, fate.Purged cause)) s → (view cpu.old).holder.left ≡ Some l → IsPurgeDone cause (all_purged s l.bands) (view cpu.old) (view cpu.new) × (result ≡ length (all_purged s l.bands)) }
     ensures station { CarriesStation cpu.new }
-    ensures made { PurgesHeld (setup shared.now) cause result (steps cpu.old) (steps cpu.new) }
+    ensures purges { (s : Option ℕ) → (view cpu.old).packets.owed ≡ option_map (λ n. (n, fate.Purged cause)) s → PurgesHeld (setup shared.now) cause s result (known cpu.old) (known cpu.new) }
 {
     let slot = purge_slot(shared, cpu, cause);
     let low = purge_band(shared, cpu, 0, cause);
@@ -84,7 +83,7 @@ pub(crate) fn purge_all<'a, D: TxDevice>(shared: &Shared<'a, D>, cpu: &mut Cpu<D
     ensures purged { (event : ℕ) × (bands : Of Band) × (down_of (view cpu.old).trail ≡ Some event) × IsPurged (cause_of.Event event) (all_purged (view cpu.old).holder.slot bands) (view cpu.old) (view cpu.new) × (result ≡ length (all_purged (view cpu.old).holder.slot bands))
         × AreKnown (view cpu.old) bands }
     ensures station { CarriesStation cpu.new }
-    ensures made { (event : ℕ) × (state : ℕ) × (down_of (view cpu.old).trail ≡ Some event) × PurgesHeld (setup shared.now) (cause_of.Event event) result (steps cpu.old ⊳ did_load_state state) (steps cpu.new) }
+    ensures purges { (event : ℕ) × (down_of (view cpu.old).trail ≡ Some event) × PurgesBy (setup shared.now) (cause_of.Event event) result (known cpu.old) (known cpu.new) }
 {
     let event = shared.begin_purge(cpu);
     purge_held(shared, cpu, Cause::Event(event))

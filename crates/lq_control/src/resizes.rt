@@ -9,7 +9,7 @@ ghost use Rattle.lq_model.specs.declared.plan.EventKind.TheVariants as kind;
 ghost use Rattle.lq_model.specs.declared.machine.Phase.TheVariants.{Active, Purged};
 ghost use Rattle.lq_model.specs.declared.machine.Position.TheVariants.{Idle, Control};
 ghost use Rattle.lq_table.specs.Views.{first_account};
-ghost use Rattle.lq_table.specs.Sees.{view, steps, setup, position, IsSeatOf, IsSameSeat};
+ghost use Rattle.lq_table.specs.Sees.{view, known, setup, position, IsSeatOf, IsSameSeat};
 ghost use Rattle.lq_control.specs.Steps.{ChangesLength, Relengths, ResizesLive};
 ghost use Rattle.lq_ring.specs.Fates.{fates_onto};
 ghost use Rattle.lq_qdisc.specs.Sends.{IsReadyToSend};
@@ -44,7 +44,7 @@ pub fn resize<'a, D: TxDevice, R: Wait>(
     ensures trail { (view cpu.new).trail ≡ Resize len event ∷ (view cpu.old).trail }
     ensures shrunk { (lost : List ℕ) × ((view cpu.new).settled ≡ fates_onto (fate.Shrunk event) lost (view cpu.old).settled) × (result ≡ length lost) × (IsSole (view cpu.old) → lost ≡ all_dropped len (account_of (view cpu.old))) }
     ensures sole { IsSole (view cpu.old) → solo (view cpu.new) ≡ ended (heard (Resize len event) (locked_to true (solo (view cpu.old)))) }
-    ensures made { ResizesLive (setup shared.now) event len result (steps cpu.old) (steps cpu.new) }
+    ensures resizes { ResizesLive (setup shared.now) event len result (known cpu.old) (known cpu.new) }
     ensures alone { DoesEventAlone shared.now.infos.now (first_account (setup shared.now)) event (kind.Resize len) (solo (view cpu.old)) (solo (view cpu.new)) }
 {
     shared.begin_control(cpu);
@@ -69,7 +69,7 @@ fn relength<'a, D: TxDevice, R: Wait>(
     ensures same { IsSameSeat cpu.old cpu.new × IsKeptByControl (view cpu.old) (view cpu.new) × KeepsDevice (view cpu.old) (view cpu.new) }
     ensures at { (position cpu.new ≡ Control false) × IsReadyToSend cpu.new × IsIn Purged (view cpu.new) }
     ensures trail { (view cpu.new).trail ≡ Resize len event ∷ (view cpu.old).trail }
-    ensures made { Relengths (setup shared.now) event len (steps cpu.old) (steps cpu.new) }
+    ensures relengths { Relengths (setup shared.now) event len (known cpu.old) (known cpu.new) }
     ensures none_lost { (view cpu.new).settled ≡ (view cpu.old).settled }
     ensures sole { IsSole (view cpu.old) → solo (view cpu.new) ≡ locked_to false (heard (Resize len event) (locked_to true (solo (view cpu.old)))) }
 {
@@ -96,7 +96,7 @@ pub fn tx_queue_len<'a, D: TxDevice, R: Wait>(
     ensures at { (position cpu.new ≡ Idle) × IsReadyToSend cpu.new × IsIn Active (view cpu.new) }
     ensures trail { (view cpu.new).trail ≡ Up ∷ Resize len event ∷ Purge (cause.Event event) ∷ Down event ∷ (view cpu.old).trail }
     ensures purged { (lost : List ℕ) × Stores (fate.Purged (cause.Event event)) lost (view cpu.old) (view cpu.new) × (result ≡ length lost) × (IsSole (view cpu.old) → lost ≡ held (account_of (view cpu.old))) }
-    ensures made { ChangesLength (setup shared.now) event len result (steps cpu.old) (steps cpu.new) }
+    ensures changes { ChangesLength (setup shared.now) event len result (known cpu.old) (known cpu.new) }
     ensures alone { DoesEventAlone shared.now.infos.now (first_account (setup shared.now)) event (kind.TxQueueLen len) (solo (view cpu.old)) (solo (view cpu.new)) }
 {
     let purged = deactivate(rt, shared, cpu, event);

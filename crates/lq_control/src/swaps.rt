@@ -1,5 +1,5 @@
 //! The device of a station is exchanged.
-ghost use Rattle.std.specs.Prelude.{◌≡◌, ◌<◌, ◌≤◌, ℕ, ◌∷◌, [], true, false, Some, None, List, length, Contains};
+ghost use Rattle.std.specs.Prelude.{◌≡◌, ◌<◌, ◌-◌, ◌≤◌, ℕ, ◌∷◌, [], true, false, Some, None, List, length, Contains};
 ghost use Rattle.lq_device.specs.Station.{with_device};
 ghost use Rattle.lq_model.specs.Account.{Down, Purge, Swap, Up, held};
 ghost use Rattle.lq_table.specs.Solo.{IsSole, account_of, solo, heard, locked_to, device_to};
@@ -10,9 +10,8 @@ ghost use Rattle.lq_model.specs.declared.machine.Position.TheVariants.{Idle, Con
 ghost use Rattle.lq_table.specs.Views.{HolderPart, WholePart, first_account};
 ghost use Rattle.lq_table.specs.Rule.{shown, units_of, latest_unit, station_count, HasServed};
 ghost use Rattle.lq_table.specs.Controls.{shut_after};
-ghost use Rattle.lq_table.specs.Sees.{view, steps, setup, position, slot, IsSeatOf, IsSameSeat, IsElseSame};
-ghost use Rattle.lq_table.specs.Made.{Made, ◌⊳◌, did_store_stop};
-ghost use Rattle.lq_control.specs.Steps.{ExchangesDevice, Swaps, opened_below};
+ghost use Rattle.lq_table.specs.Sees.{view, known, setup, position, slot, IsSeatOf, IsSameSeat, IsElseSame};
+ghost use Rattle.lq_control.specs.Steps.{ExchangesDevice, Swaps, opened_on};
 ghost use Rattle.lq_qdisc.specs.Sends.{IsReadyToSend};
 ghost use Rattle.lq_control.specs.Control.{IsIn, IsKeptByControl, Stores, all_opened, IsAfterUnits};
 ghost use Rattle.lq_control.specs.Alone.{DoesSwap};
@@ -28,8 +27,7 @@ use std::sync::Wait;
 fn change_device<D: TxDevice>(cpu: &mut Cpu<D>, unit: u32, device: D) -> D
     requires station { (h : HolderPart) × (cpu.old.station ≡ Some (shown h)) }
     requires device { ((D.state device).accepted ≡ []) × ((D.state device).hung ≡ false) }
-    ensures same { IsSameSeat cpu.old cpu.new × (cpu.new.indices ≡ cpu.old.indices) × (slot cpu.new ≡ slot cpu.old) × (view cpu.new ≡ view cpu.old) }
-    ensures made { steps cpu.new ≡ steps cpu.old }
+    ensures same { IsSameSeat cpu.old cpu.new × (cpu.new.indices ≡ cpu.old.indices) × (slot cpu.new ≡ slot cpu.old) × (known cpu.new ≡ known cpu.old) }
     ensures changed { (h : HolderPart) → cpu.old.station ≡ Some (shown h) → (cpu.new.station ≡ Some (with_device (shown h) unit (D.state device))) × (D.state result ≡ h.station.device) }
 {
     let Some(station) = &mut cpu.station else {
@@ -45,7 +43,7 @@ fn open_queues<'a, D: TxDevice>(shared: &Shared<'a, D>, cpu: &mut Cpu<D>)
     requires shut { (view cpu.old).holder.shut ≡ shut_after 0 shared.now.queues }
     ensures same { IsElseSame cpu.old cpu.new }
     ensures opened { (w : WholePart) × (view cpu.new ≡ all_opened None w (view cpu.old)) × (w.told ≡ (view cpu.old).whole.told) }
-    ensures made { (old : List Made) → steps cpu.old ≡ old ⊳ did_store_stop (setup shared.now) 0 0 → steps cpu.new ≡ opened_below (setup shared.now) shared.now.queues old }
+    ensures opens { known cpu.new ≡ opened_on (setup shared.now) (shared.now.queues - 1) (known cpu.old) }
     ensures step { solo (view cpu.new) ≡ solo (view cpu.old) }
 {
     for queue in 1..shared.queues() {
@@ -72,7 +70,7 @@ fn exchange_device<'a, D: TxDevice, R: Wait>(
     ensures gone { (view cpu.new).control.gone ≡ (latest_unit shared.now.station (units_of (view cpu.old).trail), (D.state result).accepted) ∷ (view cpu.old).control.gone }
     ensures served { HasServed shared.now.infos.now shared.now.station (view cpu.old).control.origin (D.state result) }
     ensures came { (view cpu.new).control.origin ≡ D.state device }
-    ensures made { ExchangesDevice (setup shared.now) (steps cpu.old) (steps cpu.new) }
+    ensures exchanges { ExchangesDevice (setup shared.now) unit (D.state device) (D.state result) (known cpu.old) (known cpu.new) }
     ensures none_stored { (view cpu.new).settled ≡ (view cpu.old).settled }
     ensures sole { IsSole (view cpu.old) → solo (view cpu.new) ≡ locked_to false (device_to (D.state device) (heard (Swap unit) (locked_to true (solo (view cpu.old))))) }
 {
@@ -109,7 +107,7 @@ pub fn swap<'a, D: TxDevice, R: Wait>(
     ensures gone { (view cpu.new).control.gone ≡ (latest_unit shared.now.station (units_of (view cpu.old).trail), (D.state result).accepted) ∷ (view cpu.old).control.gone }
     ensures served { HasServed shared.now.infos.now shared.now.station (view cpu.old).control.origin (D.state result) }
     ensures came { (view cpu.new).control.origin ≡ D.state device }
-    ensures made { Swaps (setup shared.now) event (steps cpu.old) (steps cpu.new) }
+    ensures swaps { Swaps (setup shared.now) event unit (D.state device) (D.state result) (known cpu.old) (known cpu.new) }
     ensures alone { DoesSwap shared.now.infos.now (first_account (setup shared.now)) event unit (D.state device) (solo (view cpu.old)) (solo (view cpu.new)) }
 {
     deactivate(rt, shared, cpu, event);

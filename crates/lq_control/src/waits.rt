@@ -6,13 +6,12 @@ ghost use Rattle.lq_model.specs.declared.machine.Phase.TheVariants.{Closing, Qui
 ghost use Rattle.lq_model.specs.declared.machine.Position.TheVariants.{Control};
 ghost use Rattle.lq_table.specs.Views.{HolderPart};
 ghost use Rattle.lq_table.specs.Rule.{IsResting, units_of};
-ghost use Rattle.lq_table.specs.Sees.{view, steps, position, slot, IsSeatOf, IsSameSeat, IsElseSame};
+ghost use Rattle.lq_table.specs.Sees.{view, known, position, slot, IsSeatOf, IsSameSeat, IsElseSame};
 ghost use Rattle.lq_table.specs.Solo.{IsSole, IsAccounts, solo, locked_to};
 ghost use Rattle.lq_table.specs.Told.{IsKnownSlot, got_in_control};
 ghost use Rattle.lq_run.specs.Runs.{HasStation, HasNone, Rests};
-ghost use Rattle.lq_table.specs.Made.{◌⊳◌, did_unlock};
 ghost use Rattle.lq_control.specs.Control.{phased, with_lock_free};
-ghost use Rattle.lq_control.specs.Steps.{TakesLock, WaitsForCalls};
+ghost use Rattle.lq_control.specs.Steps.{TakesLock, WaitsForCalls, unlocked};
 
 use crossbeam_utils::Backoff;
 use lq_device::TxDevice;
@@ -30,7 +29,7 @@ pub(crate) fn wait_for_calls<'a, D: TxDevice, R: Wait>(
     requires seat { IsSeatOf shared.now cpu.old }
     requires at { (position cpu.old ≡ Control false) × ((view cpu.old).control.phase ≡ Closing) }
     ensures same { IsElseSame cpu.old cpu.new }
-    ensures made { WaitsForCalls (steps cpu.old) (steps cpu.new) }
+    ensures waits { WaitsForCalls (known cpu.old) (known cpu.new) }
     ensures quiet { (p : Phase) × (view cpu.new ≡ phased Quiet p (view cpu.old)) }
 {
     let backoff = Backoff::new();
@@ -52,7 +51,7 @@ pub(crate) fn take_lock<'a, D: TxDevice, R: Wait>(rt: &R, shared: &Shared<'a, D>
     ensures got { (d : HolderPart) × (view cpu.new ≡ got_in_control d (view cpu.old)) × IsResting d.size d.ends × (0 < d.size) × (d.hand ≡ None) × (d.resizing ≡ None) × (d.shut ≡ None) × IsKnownSlot (view cpu.old).share.about d.slot }
     ensures units { (view cpu.old).control.first ≡ true → (view cpu.new).holder.units ≡ units_of (view cpu.old).trail }
     ensures station { HasStation cpu.new }
-    ensures made { TakesLock (steps cpu.old) (steps cpu.new) }
+    ensures takes { TakesLock (known cpu.old) (known cpu.new) }
     ensures sole { IsSole (view cpu.old) → (solo (view cpu.new) ≡ locked_to true (solo (view cpu.old))) × IsAccounts (view cpu.new) }
 {
     let backoff = Backoff::new();
@@ -75,7 +74,7 @@ pub(crate) fn release<'a, D: TxDevice>(shared: &Shared<'a, D>, cpu: &mut Cpu<D>)
     ensures same { IsSameSeat cpu.old cpu.new × (cpu.new.indices ≡ cpu.old.indices) }
     ensures released { view cpu.new ≡ with_lock_free (view cpu.old) }
     ensures empty { HasNone cpu.new }
-    ensures made { steps cpu.new ≡ steps cpu.old ⊳ did_unlock }
+    ensures by { known cpu.new ≡ unlocked (known cpu.old) }
 {
     shared.move_station(cpu);
     shared.unlock(cpu);

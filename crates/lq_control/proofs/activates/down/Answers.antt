@@ -1,9 +1,11 @@
 use Rattle.std.proofs.Common.{ap, ◌∙◌}
 use Rattle.lq_table.specs.Views.{first_account}
-use Rattle.lq_table.specs.Sees.{view, steps, setup}
+use Rattle.lq_table.specs.Sees.{view, known, setup}
 use Rattle.lq_table.specs.Solo.{solo}
 use Rattle.lq_model.specs.Alone.{changed}
 use Rattle.lq_model.specs.declared.plan.EventKind.TheVariants as kind
+use Rattle.lq_control.specs.Steps.{control_over}
+use Rattle.lq_control.proofs.StepLemmas.{both}
 use Rattle.lq_control.proofs.Alone.{down_alone, downed, downed_at, stepped_at}
 use Rattle.lq_control.proofs.activates.down.Goals as goal
 
@@ -14,6 +16,10 @@ returns-clause-alone g c = λ plan h.
     ∙ downed_at (setup c.args.shared.now) event (view c.args.cpu.now) (view c.deactivate-purged.new.cpu) (view c.wait_until_clear.new.cpu) c.deactivate-purged.ensures.same.1.share c.requires.seat.2 h.sender.sole (c.deactivate-purged.ensures.sole h.sender.sole) c.wait_until_clear.ensures.off in
     stepped_at infos start (changed plan event kind.Down) v (downed event v) (solo (view c.end_control.new.cpu)) is (down_alone infos start event plan v h)
 
-pub returns-clause-made : goal.returns-clause-made
-returns-clause-made g c = let base = c.end_control.ensures.made in
-    (steps c.wait_until_clear.new.cpu, base.0, (steps c.deactivate-purged.new.cpu, c.deactivate-purged.ensures.made, c.wait_until_clear.ensures.made), base.1)
+pub returns-clause-downs : goal.returns-clause-downs
+returns-clause-downs g c = let last = c.end_control.ensures in let clear = known c.wait_until_clear.new.cpu in (
+  clear,
+  last.made.0,
+  (known c.deactivate-purged.new.cpu, c.deactivate-purged.ensures.deactivates, c.wait_until_clear.ensures.waits),
+  both (known c.end_control.new.cpu) (control_over last.made.0 clear) last.view last.made.1,
+)

@@ -1,11 +1,12 @@
-use Rattle.std.proofs.Common.{ap, ◌∙◌, List}
+use Rattle.std.proofs.Common.{ap, ◌∙◌}
 use Rattle.lq_table.specs.Views.{View, first_account}
-use Rattle.lq_table.specs.Sees.{view, setup}
-use Rattle.lq_table.specs.Made.{Made, ◌⊳◌, did_clear_deactivated, did_load_base}
+use Rattle.lq_table.specs.Sees.{view, known, setup}
 use Rattle.lq_table.specs.Solo.{heard, solo}
 use Rattle.lq_model.specs.Account.{Up}
 use Rattle.lq_model.specs.Alone.{changed}
 use Rattle.lq_model.specs.declared.plan.EventKind.TheVariants as kind
+use Rattle.lq_control.specs.Steps.{activated, control_begun, control_over}
+use Rattle.lq_control.proofs.StepLemmas.{both}
 use Rattle.lq_control.proofs.Alone.{stepped_at, up_alone}
 use Rattle.lq_control.proofs.activates.up.Goals as goal
 
@@ -17,6 +18,12 @@ returns-clause-alone g c = λ event plan h.
     let infos = c.args.shared.now.infos.now in let start = first_account (setup c.args.shared.now) in let v = solo (view c.args.cpu.now) in
     stepped_at infos start (changed plan event kind.Up) v (heard Up v) (solo (view c.end_control.new.cpu)) (returns-clause-step g c) (up_alone infos start event plan v h)
 
-pub returns-clause-made : goal.returns-clause-made
-returns-clause-made g c = let first = c.begin_control.ensures.made in let last = c.end_control.ensures.made in
-    (first.0, last.0, last.1 ∙ (ap (λ (xs : List Made). xs ⊳ did_load_base last.0) c.clear_deactivated.ensures.made ∙ ap (λ (xs : List Made). xs ⊳ did_clear_deactivated ⊳ did_load_base last.0) first.1))
+pub returns-clause-ups : goal.returns-clause-ups
+returns-clause-ups g c =
+    let first = c.begin_control.ensures in let mid = c.clear_deactivated.ensures in let last = c.end_control.ensures in let k = known c.args.cpu.now in (
+      first.made.0,
+      last.made.0,
+      both (known c.end_control.new.cpu) (control_over last.made.0 (known c.clear_deactivated.new.cpu)) last.view last.made.1
+          ∙ ap (control_over last.made.0) (both (known c.clear_deactivated.new.cpu) (activated (known c.begin_control.new.cpu)) mid.view mid.made
+          ∙ ap activated (both (known c.begin_control.new.cpu) (control_begun first.made.0 k) first.view first.made.1)),
+    )

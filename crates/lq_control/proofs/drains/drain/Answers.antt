@@ -1,11 +1,11 @@
 use Rattle.std.proofs.Common.{rules, refl, sym, ap, ◌∙◌}
 use Rattle.lq_table.specs.Views.{FirstPart, first_account}
-use Rattle.lq_table.specs.Sees.{view, steps, setup}
+use Rattle.lq_table.specs.Sees.{view, known, setup}
 use Rattle.lq_table.specs.Solo.{solo}
 use Rattle.lq_ring.proofs.Seats.{seat_on}
 use Rattle.lq_qdisc.proofs.AloneRests.{rests_served}
 use Rattle.lq_control.specs.Control.{IsServed}
-use Rattle.lq_control.specs.Steps.{not_raised, one_more}
+use Rattle.lq_control.specs.Steps.{not_yet, once_more}
 use Rattle.lq_control.proofs.Served.{served_none, served_then}
 use Rattle.lq_control.proofs.drains.drain.Goals as goal
 
@@ -19,7 +19,7 @@ loop-init g c = record {
   ready = c.requires.at.1;
   served = served_none (view c.args.cpu.now) (view c.args.cpu.now) refl;
   alone = λ h. (h, refl);
-  drained = not_raised;
+  interrupted = not_yet;
 }
 
 pub loop-preserved : goal.loop-preserved
@@ -39,7 +39,7 @@ loop-preserved g c =
       ready = c.softirq.ensures.ready;
       served = served_then (view c.args.cpu.now) (view c.loop.cpu) (view c.softirq.new.cpu) i.served one;
       alone = λ h. let before = i.alone h in let now = c.softirq.ensures.alone before.0 in (now.0, now.1 ∙ before.1);
-      drained = one_more (steps c.loop.cpu) (steps c.softirq.new.cpu) i.drained (view c.loop.cpu, view c.softirq.new.cpu, c.softirq.ensures.interrupts);
+      interrupted = once_more (known c.loop.cpu) (known c.softirq.new.cpu) i.interrupted (sym c.if-not-raised.ensures) (record { by = c.softirq.ensures.interrupts; served = one });
     }
 
 pub returns-then-not-raised-clause-alone : goal.returns-then-not-raised-clause-alone

@@ -1,12 +1,12 @@
 use Rattle.std.proofs.Common.{◌≡◌}
 use Rattle.lq_model.specs.declared.machine.Position.TheVariants.{Idle}
 use Rattle.lq_table.specs.Views.{first_account}
-use Rattle.lq_table.specs.Sees.{view, steps, setup, position, IsSeatOf, IsSameSeat}
+use Rattle.lq_table.specs.Sees.{view, known, setup, position, IsSeatOf, IsSameSeat}
 use Rattle.lq_table.specs.Solo.{solo}
 use Rattle.lq_qdisc.specs.Alone.{BringsAlone}
 use Rattle.lq_qdisc.specs.Sends.{IsReadyToSend}
 use Rattle.lq_control.specs.Control.{IsServed}
-use Rattle.lq_control.specs.Steps.{DrainsBy}
+use Rattle.lq_control.specs.Steps.{Interrupted}
 use Rattle.lq_control.proofs.drains.drain.Given as goal
 
 abbrev pub invariant-loop : goal.invariant-loop
@@ -19,5 +19,5 @@ invariant-loop g l = record {
   ready : IsReadyToSend l.cpu;
   served : IsServed (view l.fn.cpu) (view l.cpu);
   alone : BringsAlone l.fn.shared.infos.now (first_account (setup l.fn.shared)) (λ s. s) (solo (view l.fn.cpu)) (solo (view l.cpu));
-  drained : DrainsBy (setup l.fn.shared) (steps l.fn.cpu) (steps l.cpu);
+  interrupted : Interrupted (setup l.fn.shared) (known l.fn.cpu) (known l.cpu);
 }

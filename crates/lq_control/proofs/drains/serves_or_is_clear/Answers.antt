@@ -1,4 +1,5 @@
-use Rattle.std.proofs.Common.{ap, ◌∙◌}
+use Rattle.std.proofs.Common.{ap, ◌∙◌, sym}
+use Rattle.lq_table.specs.Views.{FirstPart}
 use Rattle.lq_table.specs.Sees.{view, known, setup}
 use Rattle.lq_table.specs.Solo.{solo}
 use Rattle.lq_qdisc.proofs.ViewLemmas.{interrupts_view}
@@ -15,4 +16,13 @@ pub returns-clause-off : goal.returns-clause-off
 returns-clause-off g c = λ sole down. ap (λ v. unmarked (solo v)) c.is_clear.ensures.same.1
 
 pub returns-then-raised-clause-again : goal.returns-then-raised-clause-again
-returns-then-raised-clause-again g c = λ _. let e = c.begin_control.ensures.made in round_served (setup c.args.shared.now) _ _ _ e.0 (view c.args.cpu.now, view c.softirq.new.cpu, c.softirq.ensures.interrupts) e.1
+returns-then-raised-clause-again g c = λ _. let e = c.begin_control.ensures.made in let k = c.softirq.ensures.kept in let s = c.softirq.ensures.still in
+    round_served (setup c.args.shared.now) (known c.args.cpu.now) (known c.softirq.new.cpu) (known c.begin_control.new.cpu) e.0 (sym c.if-raised.ensures) (record {
+      by = c.softirq.ensures.interrupts;
+      served = record {
+        kept = record { share = k.share; turns = s.turns; first = ap (λ (x : FirstPart). x.first) k.control; told = k.told };
+        control = k.control;
+        trail = s.trail;
+        fates = c.softirq.ensures.fates;
+      };
+    }) c.begin_control.ensures.view e.1

@@ -1,5 +1,5 @@
 use Rattle.std.proofs.Common.{rules, refl, ◌∙◌}
-use Rattle.lq_table.specs.Sees.{view, setup, steps}
+use Rattle.lq_table.specs.Sees.{view, setup, known}
 use Rattle.lq_table.specs.Solo.{solo}
 use Rattle.lq_ring.proofs.Seats.{seat_on}
 use Rattle.lq_control.specs.Steps.{none_yet}
@@ -36,8 +36,8 @@ loop-preserved g c =
       rounds = rounds_then (setup c.args.shared.now) _ _ _ i.rounds (step.again c.if-serves_or_is_clear.false);
     }
 
-pub returns-then-serves_or_is_clear-clause-made : goal.returns-then-serves_or_is_clear-clause-made
-returns-then-serves_or_is_clear-clause-made g c = (steps c.loop.cpu, c.loop.invariant.rounds, c.serves_or_is_clear.ensures.found c.if-serves_or_is_clear.true)
+pub returns-then-serves_or_is_clear-clause-waits : goal.returns-then-serves_or_is_clear-clause-waits
+returns-then-serves_or_is_clear-clause-waits g c = (known c.loop.cpu, c.loop.invariant.rounds, c.serves_or_is_clear.ensures.found c.if-serves_or_is_clear.true)
 
 pub returns-then-serves_or_is_clear-clause-served : goal.returns-then-serves_or_is_clear-clause-served
 returns-then-serves_or_is_clear-clause-served g c = served_then (view c.args.cpu.now) (view c.loop.cpu) (view c.serves_or_is_clear.new.cpu) c.loop.invariant.served c.serves_or_is_clear.ensures.served

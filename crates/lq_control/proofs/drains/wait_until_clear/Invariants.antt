@@ -1,6 +1,6 @@
 use Rattle.std.proofs.Common.{◌≡◌, false, IsSome}
 use Rattle.lq_model.specs.declared.machine.Position.TheVariants.{Control}
-use Rattle.lq_table.specs.Sees.{view, setup, steps, position, IsSeatOf, IsSameSeat}
+use Rattle.lq_table.specs.Sees.{view, setup, known, position, IsSeatOf, IsSameSeat}
 use Rattle.lq_table.specs.Solo.{IsSole, account_of, solo}
 use Rattle.lq_qdisc.specs.Sends.{IsReadyToSend}
 use Rattle.lq_control.specs.Alone.{unmarked}
@@ -18,5 +18,5 @@ invariant-loop g l = record {
   ready : IsReadyToSend l.cpu;
   served : IsServed (view l.fn.cpu) (view l.cpu);
   off : IsSole (view l.fn.cpu) → IsSome (account_of (view l.fn.cpu)).down → unmarked (solo (view l.cpu)) ≡ unmarked (solo (view l.fn.cpu));
-  rounds : Rounds (setup l.shared) (steps l.fn.cpu) (steps l.cpu);
+  rounds : Rounds (setup l.shared) (known l.fn.cpu) (known l.cpu);
 }

@@ -1,5 +1,5 @@
 use Rattle.std.proofs.Common.{◌≡◌, ◌<◌, ℕ, None, slice_index}
-use Rattle.lq_table.specs.Sees.{view, setup, steps, IsSeatOf, IsElseSame}
+use Rattle.lq_table.specs.Sees.{view, known, setup, IsSeatOf, IsElseSame}
 use Rattle.lq_table.specs.Solo.{IsSole, account_of}
 use Rattle.lq_control.specs.EndSteps.{stops_loaded}
 use Rattle.lq_control.proofs.finishes.are_stops.Given as goal
@@ -10,5 +10,5 @@ invariant-loop-queue g l = record {
   still : IsElseSame l.fn.cpu l.cpu;
   same : view l.cpu ≡ view l.fn.cpu;
   sole : IsSole (view l.fn.cpu) → (view l.fn.cpu).whole.state.shut ≡ None → (queue : ℕ) → queue < l.queue → slice_index (account_of (view l.fn.cpu)).stops queue ≡ l.word;
-  made : steps l.cpu ≡ stops_loaded (setup l.shared) l.word l.queue (steps l.fn.cpu);
+  loads : known l.cpu ≡ stops_loaded (setup l.shared) l.word l.queue (known l.fn.cpu);
 }

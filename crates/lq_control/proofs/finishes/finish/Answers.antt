@@ -5,12 +5,14 @@ use Rattle.lq_model.specs.declared.fate.Cause.TheVariants as cause
 use Rattle.lq_model.specs.declared.fate.Fate.TheVariants as fate
 use Rattle.lq_model.specs.declared.fate.Info.{Info}
 use Rattle.lq_table.specs.Views.{View, Setup, SharePart, first_account}
-use Rattle.lq_table.specs.Sees.{view, setup, steps}
+use Rattle.lq_table.specs.Sees.{view, known, setup}
 use Rattle.lq_table.specs.Solo.{Solo, account_of, solo}
 use Rattle.lq_qdisc.specs.Alone.{IsAlone, account_in}
 use Rattle.lq_qdisc.proofs.AloneSteps.{account_at, count_of}
 use Rattle.lq_control.specs.declared.finishes.Seen.TheVariants.{Hung, Ended}
+use Rattle.lq_control.specs.Steps.{control_over}
 use Rattle.lq_control.specs.EndSteps.{ServesToEnd}
+use Rattle.lq_control.proofs.StepLemmas.{both}
 use Rattle.lq_control.specs.Ending.{IsEndedAlike, IsFinishedAlone}
 use Rattle.lq_control.specs.Finish.{AreAllDone, AreAllStops, Hangs, IsOver, IsFinished, Shows}
 use Rattle.lq_control.proofs.EndingLemmas.{AreValues, over_finishes, purged_finishes}
@@ -145,10 +147,10 @@ returns-clause-alone g c = λ done h.
     (over_finishes infos (first_account k) (solo v0) (solo v2) (alike_from k infos v0 v1 v2 about (c.send_all_left.ensures.done done) c.serve_to_end.ensures.alone h) (ap held same ∙ (over g c).nothing_held)
     (⊎_elim (λ down. inl (ap (λ (a : Account). is_some a.down) same ∙ down)) (λ opens. inr (values_are k infos v0 v1 v2 about 0 opens)) (over g c).over))
 
-pub returns-then-serve_to_end-clause-made : goal.returns-then-serve_to_end-clause-made
-returns-then-serve_to_end-clause-made g c = let k = setup c.args.shared.now in
-    (steps c.send_all_left.new.cpu, steps c.serve_to_end.new.cpu, c.send_all_left.ensures.made, inl (subst (λ (b : Bool). ServesToEnd k (if b then Hung else Ended) (steps c.send_all_left.new.cpu) (steps c.serve_to_end.new.cpu)) c.if-serve_to_end.true c.serve_to_end.ensures.made, (view c.serve_to_end.new.cpu).whole.state.station.unit, c.purge_hung.ensures.made))
+pub returns-then-serve_to_end-clause-finishes : goal.returns-then-serve_to_end-clause-finishes
+returns-then-serve_to_end-clause-finishes g c = let k = setup c.args.shared.now in let sent = known c.send_all_left.new.cpu in let ended = known c.serve_to_end.new.cpu in
+    (sent, ended, c.send_all_left.ensures.sends, inl (subst (λ (b : Bool). ServesToEnd k (if b then Hung else Ended) sent ended) c.if-serve_to_end.true c.serve_to_end.ensures.serves, c.purge_hung.ensures.purges))
 
-pub returns-clause-made : goal.returns-clause-made
-returns-clause-made g c = let k = setup c.args.shared.now in let e = c.end_control.ensures.made in
-    (steps c.send_all_left.new.cpu, steps c.serve_to_end.new.cpu, c.send_all_left.ensures.made, inr (subst (λ (b : Bool). ServesToEnd k (if b then Hung else Ended) (steps c.send_all_left.new.cpu) (steps c.serve_to_end.new.cpu)) c.if-serve_to_end.false c.serve_to_end.ensures.made, refl, e.0, e.1))
+pub returns-clause-finishes : goal.returns-clause-finishes
+returns-clause-finishes g c = let k = setup c.args.shared.now in let e = c.end_control.ensures in let sent = known c.send_all_left.new.cpu in let ended = known c.serve_to_end.new.cpu in
+    (sent, ended, c.send_all_left.ensures.sends, inr (subst (λ (b : Bool). ServesToEnd k (if b then Hung else Ended) sent ended) c.if-serve_to_end.false c.serve_to_end.ensures.serves, refl, e.made.0, both (known c.end_control.new.cpu) (control_over e.made.0 ended) e.view e.made.1))

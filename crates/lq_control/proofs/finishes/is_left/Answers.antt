@@ -1,12 +1,16 @@
 use Rattle.std.proofs.Common.{ap, not}
-use Rattle.lq_control.proofs.EndStepLemmas.{busy_inside, busy_scheduled, is_left_now}
+use Rattle.lq_table.specs.Sees.{known}
+use Rattle.lq_control.specs.EndSteps.{not_looked}
+use Rattle.lq_control.proofs.EndStepLemmas.{busy_inside, busy_scheduled, inside_then_state}
 use Rattle.lq_control.proofs.finishes.is_left.Goals as goal
 
 pub returns-then-load_inside-eq0-clause-left : goal.returns-then-load_inside-eq0-clause-left
-returns-then-load_inside-eq0-clause-left g c = λ e. is_left_now _ _ _ c.load_inside.result c.load_state.result c.if-load_inside-eq0.true (ap not e) c.load_inside.ensures.made c.load_state.ensures.made
+returns-then-load_inside-eq0-clause-left g c = λ e. let a = c.load_inside.ensures in let b = c.load_state.ensures in let old = known c.args.cpu.now in
+    (old, c.load_state.result, not_looked, ap not e, inside_then_state old (known c.load_inside.new.cpu) (known c.load_state.new.cpu) c.load_inside.result c.load_state.result c.if-load_inside-eq0.true a.view a.made b.view b.made)
 
 pub returns-then-load_inside-eq0-clause-busy : goal.returns-then-load_inside-eq0-clause-busy
-returns-then-load_inside-eq0-clause-busy g c = λ e. busy_scheduled _ _ _ c.load_inside.result c.load_state.result c.if-load_inside-eq0.true (ap not e) c.load_inside.ensures.made c.load_state.ensures.made
+returns-then-load_inside-eq0-clause-busy g c = λ e. let a = c.load_inside.ensures in let b = c.load_state.ensures in let old = known c.args.cpu.now in
+    busy_scheduled old (known c.load_state.new.cpu) c.load_state.result (ap not e) (inside_then_state old (known c.load_inside.new.cpu) (known c.load_state.new.cpu) c.load_inside.result c.load_state.result c.if-load_inside-eq0.true a.view a.made b.view b.made)
 
 pub returns-else-load_inside-eq0-clause-busy : goal.returns-else-load_inside-eq0-clause-busy
-returns-else-load_inside-eq0-clause-busy g c = λ _. busy_inside _ _ c.load_inside.result c.if-load_inside-eq0.false c.load_inside.ensures.made
+returns-else-load_inside-eq0-clause-busy g c = λ _. let a = c.load_inside.ensures in busy_inside (known c.args.cpu.now) (known c.load_inside.new.cpu) c.load_inside.result c.if-load_inside-eq0.false a.view a.made

@@ -1,11 +1,15 @@
-use Rattle.std.proofs.Common.{◌≡◌, ◌<◌, false, inl, inr, refl, sym, ap, ◌∙◌, subst, slice_index}
+use Rattle.std.proofs.Common.{◌≡◌, ◌<◌, Bool, true, false, inl, inr, refl, sym, ap, ◌∙◌, subst, slice_index}
 use Rattle.std.specs.Prelude.{not, bit_and}
 use Rattle.std.proofs.lemmas.Bool.{eq-eqb}
 use Rattle.lq_table.specs.Views.{View, Setup}
 use Rattle.lq_table.specs.AtRest.{KnowsRest}
-use Rattle.lq_table.specs.Sees.{view, setup}
+use Rattle.lq_table.specs.Sees.{view, known, setup}
 use Rattle.lq_control.specs.declared.finishes.Seen.TheVariants as seen
-use Rattle.lq_control.proofs.EndStepLemmas.{looks_on}
+use Rattle.lq_table.specs.Made.{Known}
+use Rattle.lq_control.specs.Steps.{with_inside_loaded}
+use Rattle.lq_control.specs.EndSteps.{LoadsStops}
+use Rattle.lq_control.proofs.StepLemmas.{both}
+use Rattle.lq_control.proofs.EndStepLemmas.{looked_from, looks_on}
 use Rattle.lq_table.specs.Solo.{IsSole, SeesState, account_of}
 use Rattle.lq_table.specs.Told.{at_rest}
 use Rattle.lq_control.specs.Finish.{AreKept, AreAllStops, IsOver, Hangs}
@@ -100,17 +104,48 @@ returns-then-not-are_quiet-clause-shows g c =
     let sees : SeesState v0 state = subst (λ (x : View). SeesState x state) e1 (c.load_state-state.ensures.sole (subst IsSole (sym e1) c.requires.sole.0)) in
     ap (λ (x : View). (account_of x).down) (c.are_stops-open.ensures.same.1 ∙ (c.are_stops.ensures.same.1 ∙ e2)) ∙ is_up v0 state sees (ap not (eq-eqb (bit_and state 2) 0 c.if-state-ne0.false))
 
-pub returns-then-not-are_quiet-clause-made : goal.returns-then-not-are_quiet-clause-made
-returns-then-not-are_quiet-clause-made g c =
-    looks_on (setup c.args.shared.now) c.load_lock-lock.result c.load_state-state.result seen.Going _ _ _ _ _ _ _ _ (ap not (eq-eqb (bit_and c.load_state-state.result 2) 0 c.if-state-ne0.false))
-    c.load_lock-lock.ensures.made c.load_state-state.ensures.made c.if-are_stops.false c.are_stops.ensures.made c.are_stops-open.ensures.made (inl (sym c.are_quiet.ensures.quiet ∙ c.if-not-are_quiet.true, refl, refl))
+pub returns-then-state-ne0-clause-looks : goal.returns-then-state-ne0-clause-looks
+returns-then-state-ne0-clause-looks g c = let from = looked_from c.load_lock-lock.result c.load_state-state.result (known c.args.cpu.now) (known c.load_lock-lock.new.cpu) (known c.load_state-state.new.cpu)
+    c.load_lock-lock.ensures.view c.load_lock-lock.ensures.made c.load_state-state.ensures.view c.load_state-state.ensures.made in (c.load_lock-lock.result, c.load_state-state.result, inl (ap not (not_eqb (bit_and c.load_state-state.result 2) 0 c.if-state-ne0.true), refl, from))
 
-pub returns-then-load_inside-ne0-clause-made : goal.returns-then-load_inside-ne0-clause-made
-returns-then-load_inside-ne0-clause-made g c =
-    looks_on (setup c.args.shared.now) c.load_lock-lock.result c.load_state-state.result seen.Going _ _ _ _ _ _ _ _ (ap not (eq-eqb (bit_and c.load_state-state.result 2) 0 c.if-state-ne0.false))
-    c.load_lock-lock.ensures.made c.load_state-state.ensures.made c.if-are_stops.false c.are_stops.ensures.made c.are_stops-open.ensures.made (inr (sym c.are_quiet.ensures.quiet ∙ c.if-not-are_quiet.false, c.load_inside.result, inr (c.if-load_inside-ne0.true, refl), c.load_inside.ensures.made))
+pub returns-then-are_stops-clause-looks : goal.returns-then-are_stops-clause-looks
+returns-then-are_stops-clause-looks g c =
+    let from = looked_from c.load_lock-lock.result c.load_state-state.result (known c.args.cpu.now) (known c.load_lock-lock.new.cpu) (known c.load_state-state.new.cpu)
+    c.load_lock-lock.ensures.view c.load_lock-lock.ensures.made c.load_state-state.ensures.view c.load_state-state.ensures.made in
+    let k = setup c.args.shared.now in let new = known c.are_stops.new.cpu in (
+      c.load_lock-lock.result,
+      c.load_state-state.result,
+      inr (
+        ap not (eq-eqb (bit_and c.load_state-state.result 2) 0 c.if-state-ne0.false),
+        inl (
+          refl,
+          subst (λ (x : Known). LoadsStops k 2 true x new) from (subst (λ (h : Bool). LoadsStops k 2 h (known c.load_state-state.new.cpu) new) c.if-are_stops.true c.are_stops.ensures.loads),
+        ),
+      ),
+    )
 
-pub returns-clause-made : goal.returns-clause-made
-returns-clause-made g c =
-    looks_on (setup c.args.shared.now) c.load_lock-lock.result c.load_state-state.result seen.Ended _ _ _ _ _ _ _ _ (ap not (eq-eqb (bit_and c.load_state-state.result 2) 0 c.if-state-ne0.false))
-    c.load_lock-lock.ensures.made c.load_state-state.ensures.made c.if-are_stops.false c.are_stops.ensures.made c.are_stops-open.ensures.made (inr (sym c.are_quiet.ensures.quiet ∙ c.if-not-are_quiet.false, c.load_inside.result, inl (c.if-load_inside-ne0.false, refl), c.load_inside.ensures.made))
+pub returns-then-not-are_quiet-clause-looks : goal.returns-then-not-are_quiet-clause-looks
+returns-then-not-are_quiet-clause-looks g c =
+    let from = looked_from c.load_lock-lock.result c.load_state-state.result (known c.args.cpu.now) (known c.load_lock-lock.new.cpu) (known c.load_state-state.new.cpu)
+    c.load_lock-lock.ensures.view c.load_lock-lock.ensures.made c.load_state-state.ensures.view c.load_state-state.ensures.made in
+    looks_on (setup c.args.shared.now) c.load_lock-lock.result c.load_state-state.result seen.Going (known c.args.cpu.now) (known c.load_state-state.new.cpu) (known c.are_stops.new.cpu) (known c.are_stops-open.new.cpu) (known c.are_stops-open.new.cpu) c.are_stops.result c.are_stops-open.result
+    (ap not (eq-eqb (bit_and c.load_state-state.result 2) 0 c.if-state-ne0.false))
+    from c.if-are_stops.false c.are_stops.ensures.loads c.are_stops-open.ensures.loads (inl (sym c.are_quiet.ensures.quiet ∙ c.if-not-are_quiet.true, refl, refl))
+
+pub returns-then-load_inside-ne0-clause-looks : goal.returns-then-load_inside-ne0-clause-looks
+returns-then-load_inside-ne0-clause-looks g c =
+    let from = looked_from c.load_lock-lock.result c.load_state-state.result (known c.args.cpu.now) (known c.load_lock-lock.new.cpu) (known c.load_state-state.new.cpu)
+    c.load_lock-lock.ensures.view c.load_lock-lock.ensures.made c.load_state-state.ensures.view c.load_state-state.ensures.made in
+    looks_on (setup c.args.shared.now) c.load_lock-lock.result c.load_state-state.result seen.Going (known c.args.cpu.now) (known c.load_state-state.new.cpu) (known c.are_stops.new.cpu) (known c.are_stops-open.new.cpu) (known c.load_inside.new.cpu) c.are_stops.result c.are_stops-open.result
+    (ap not (eq-eqb (bit_and c.load_state-state.result 2) 0 c.if-state-ne0.false))
+    from c.if-are_stops.false c.are_stops.ensures.loads c.are_stops-open.ensures.loads
+    (inr (sym c.are_quiet.ensures.quiet ∙ c.if-not-are_quiet.false, c.load_inside.result, inr (c.if-load_inside-ne0.true, refl), both (known c.load_inside.new.cpu) (with_inside_loaded c.load_inside.result (known c.are_stops-open.new.cpu)) c.load_inside.ensures.view c.load_inside.ensures.made))
+
+pub returns-clause-looks : goal.returns-clause-looks
+returns-clause-looks g c =
+    let from = looked_from c.load_lock-lock.result c.load_state-state.result (known c.args.cpu.now) (known c.load_lock-lock.new.cpu) (known c.load_state-state.new.cpu)
+    c.load_lock-lock.ensures.view c.load_lock-lock.ensures.made c.load_state-state.ensures.view c.load_state-state.ensures.made in
+    looks_on (setup c.args.shared.now) c.load_lock-lock.result c.load_state-state.result seen.Ended (known c.args.cpu.now) (known c.load_state-state.new.cpu) (known c.are_stops.new.cpu) (known c.are_stops-open.new.cpu) (known c.load_inside.new.cpu) c.are_stops.result c.are_stops-open.result
+    (ap not (eq-eqb (bit_and c.load_state-state.result 2) 0 c.if-state-ne0.false))
+    from c.if-are_stops.false c.are_stops.ensures.loads c.are_stops-open.ensures.loads
+    (inr (sym c.are_quiet.ensures.quiet ∙ c.if-not-are_quiet.false, c.load_inside.result, inl (c.if-load_inside-ne0.false, refl), both (known c.load_inside.new.cpu) (with_inside_loaded c.load_inside.result (known c.are_stops-open.new.cpu)) c.load_inside.ensures.view c.load_inside.ensures.made))

@@ -10,9 +10,10 @@ use Rattle.lq_model.specs.declared.machine.Phase.TheVariants.{Active}
 use Rattle.lq_table.specs.Views.{View, Setup, PacketPart, HolderPart, FirstPart, Left}
 use Rattle.lq_table.specs.Rule.{shown, IsResting}
 use Rattle.lq_table.specs.Purges.{purging, HoldsAtMost, HoldPackets}
-use Rattle.lq_table.specs.Sees.{view, setup, steps}
-use Rattle.lq_table.specs.Made.{Made, ◌⊳◌, did_load_state}
-use Rattle.lq_control.specs.Steps.{PurgesHeld}
+use Rattle.lq_table.specs.Sees.{view, known, setup}
+use Rattle.lq_table.specs.Made.{Known}
+use Rattle.lq_control.specs.Steps.{PurgesHeld, purge_started}
+use Rattle.lq_control.proofs.StepLemmas.{both}
 use Rattle.lq_table.specs.Solo.{IsSole, account_of, solo}
 use Rattle.lq_ring.proofs.Seats.{seat_on}
 use Rattle.lq_ring.specs.Fates.{fates_onto}
@@ -223,16 +224,17 @@ returns-clause-account g c = let w = of_station g c in account_five (cause.Hung 
 pub returns-clause-device : goal.returns-clause-device
 returns-clause-device g c = device_five (cause.Hung (unit g c)) (lost g c) c.take_lock.ensures.got.0 (v0 g c) (view c.wait_until_left.new.cpu) (v2 g c) (v4 g c) (view c.end_resize.new.cpu) (look g c) (got g c) (c.take_lock.ensures.sole (sole g c)).0 (c.take_lock.ensures.sole (sole g c)).1 (purged g c) c.end_resize.ensures.kept.1 c.end_resize.ensures.kept.0.1 c.end_resize.ensures.sole c.requires.sole
 
-pub returns-clause-made : goal.returns-clause-made
-returns-clause-made g c =
-    let k = setup c.args.shared.now in let m = c.begin_hung_purge.ensures.made in let count = c.purge_held-purged.result in let locked = steps c.take_lock.new.cpu in let purged_ = steps c.purge_held-purged.new.cpu in (
-      steps c.wait_until_left.new.cpu,
+pub returns-clause-purges : goal.returns-clause-purges
+returns-clause-purges g c =
+    let k = setup c.args.shared.now in let b = c.begin_hung_purge.ensures in let e = c.end_resize.ensures in let locked = known c.take_lock.new.cpu in let count = c.purge_held-purged.result in
+    let by = cause.Hung locked.view.holder.station.unit in let slot = locked.view.holder.slot in
+    let started = both (known c.begin_hung_purge.new.cpu) (purge_started by b.begun.0 b.made.0 locked) b.begun.1 b.made.1 in
+    let held_ = subst (λ (n : ℕ). PurgesHeld k (cause.Hung n) slot count (known c.begin_hung_purge.new.cpu) (known c.purge_held-purged.new.cpu)) (sym (of_unit g c)) (c.purge_held-purged.ensures.purges slot (ap (λ (x : View). x.packets.owed) (begun g c))) in (
+      known c.wait_until_left.new.cpu,
       locked,
-      purged_,
-      m.0,
-      c.wait_until_left.ensures.made,
-      c.take_lock.ensures.made,
-      subst (λ (u : ℕ). PurgesHeld k (cause.Hung u) count (locked ⊳ did_load_state m.0) purged_) (of_station g c)
-          (subst (λ (xs : List Made). PurgesHeld k (cause.Hung (unit g c)) count xs purged_) m.1 c.purge_held-purged.ensures.made),
-      (v4 g c, view c.end_resize.new.cpu, c.end_resize.ensures.ends),
+      known c.purge_held-purged.new.cpu,
+      c.wait_until_left.ensures.waits,
+      c.take_lock.ensures.takes,
+      record { bands = b.begun.0; state = b.made.0; knows = b.begun.4; purges = subst (λ (x : Known). PurgesHeld k by slot count x (known c.purge_held-purged.new.cpu)) started held_ },
+      (record { calm = record { share = e.kept.0.1; state = e.kept.1; settled = e.kept.0.8 }; sole = e.sole }, e.ends),
     )

@@ -1,6 +1,6 @@
 use Rattle.std.proofs.Common.{[], refl, sym, ◌∙◌, subst}
 use Rattle.lq_table.specs.Views.{View}
-use Rattle.lq_table.specs.Sees.{view, setup, steps}
+use Rattle.lq_table.specs.Sees.{view, known, setup}
 use Rattle.lq_ring.proofs.Seats.{seat_on}
 use Rattle.lq_control.specs.Finish.{AreAllDone}
 use Rattle.lq_control.proofs.EndStepLemmas.{sends_more}
@@ -21,7 +21,7 @@ loop-n-init g c = let k = setup c.args.shared.now in let v = view c.args.cpu.now
   sent = sent_none k v v refl;
   fates = ([], refl);
   done = λ _. refl;
-  made = refl;
+  sends = refl;
 }
 
 pub loop-n-preserved : goal.loop-n-preserved
@@ -38,6 +38,6 @@ loop-n-preserved g c =
       turns = s.turns;
       sent = sent_then k (view c.args.cpu.now) (view c.loop-n.cpu) (view c.send_left.new.cpu) i.sent s.sent;
       fates = keeps_then (view c.args.cpu.now) (view c.loop-n.cpu) (view c.send_left.new.cpu) i.fates s.fates;
-      made = sends_more k c.loop-n.n (steps c.args.cpu.now) (steps c.loop-n.cpu) (steps c.send_left.new.cpu) i.made s.made;
+      sends = sends_more k c.loop-n.n (known c.args.cpu.now) (known c.loop-n.cpu) (known c.send_left.new.cpu) i.sends s.sends;
       done = λ all. s.done (subst (λ (x : View). AreAllDone k x.turns) (sym (i.done all)) all) ∙ i.done all;
     }

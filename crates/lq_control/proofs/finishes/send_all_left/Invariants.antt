@@ -1,6 +1,6 @@
 use Rattle.std.proofs.Common.{◌≡◌, false}
 use Rattle.lq_model.specs.declared.machine.Position.TheVariants.{Idle}
-use Rattle.lq_table.specs.Sees.{view, setup, steps, position, IsSeatOf, IsSameSeat}
+use Rattle.lq_table.specs.Sees.{view, known, setup, position, IsSeatOf, IsSameSeat}
 use Rattle.lq_qdisc.specs.Calls.{KeepsFates}
 use Rattle.lq_qdisc.specs.Sends.{IsReadyToSend}
 use Rattle.lq_control.specs.EndSteps.{SendsLeftBelow}
@@ -21,5 +21,5 @@ invariant-loop-n g l = record {
   sent : IsSent (setup l.shared) (view l.fn.cpu) (view l.cpu);
   fates : KeepsFates (view l.fn.cpu) (view l.cpu);
   done : AreAllDone (setup l.shared) (view l.fn.cpu).turns → view l.cpu ≡ view l.fn.cpu;
-  made : SendsLeftBelow (setup l.shared) l.n (steps l.fn.cpu) (steps l.cpu);
+  sends : SendsLeftBelow (setup l.shared) l.n (known l.fn.cpu) (known l.cpu);
 }

@@ -6,7 +6,7 @@ use Rattle.lq_model.specs.Plan.{owner_in, rank_in, station_in}
 use Rattle.lq_model.specs.declared.fate.Info.{Info}
 use Rattle.lq_table.specs.Views.{View}
 use Rattle.lq_table.specs.Rule.{times}
-use Rattle.lq_table.specs.Sees.{view, setup, steps}
+use Rattle.lq_table.specs.Sees.{view, known, setup}
 use Rattle.lq_control.specs.Finish.{count_below, AreTurnsFrom}
 use Rattle.lq_control.proofs.EndStepLemmas.{sends_if_left}
 use Rattle.lq_control.proofs.FinishLemmas.{keeps_then, sent_none, sent_then, sent_by, turns_elsewhere, in_turn, turns_past, turns_sent, not_left}
@@ -149,15 +149,15 @@ returns-then-load_turn-info-clause-fates g c =
 pub returns-else-load_turn-info-clause-fates : goal.returns-else-load_turn-info-clause-fates
 returns-else-load_turn-info-clause-fates g c = ([], ap (λ (x : View). x.settled) c.load_turn.ensures.same.1)
 
-pub returns-then-info-number-clause-made : goal.returns-then-info-number-clause-made
-returns-then-info-number-clause-made g c =
+pub returns-then-info-number-clause-sends : goal.returns-then-info-number-clause-sends
+returns-then-info-number-clause-sends g c =
     let k = setup c.args.shared.now in let n = c.args.n in
     let info : Info = get_or c.infos.result.now n (record { owner = 0; station = 0; band = 0; queue = 0; rank = 0 }) in
     let here : slice_get k.infos n ≡ Some info = ap (λ (xs : List Info). slice_get xs n) (sym c.infos.ensures) ∙ slice_get-get_or c.infos.result.now n (record { owner = 0; station = 0; band = 0; queue = 0; rank = 0 }) (subst (λ (xs : List Info). n < length xs) (sym c.infos.ensures) c.requires.packet) in
     inl (λ (e : station_in k.infos n ≡ k.station). c.if-info-number.true (sym (ap (λ (o : Option Info). option_map_or (λ (i : Info). i.station) o 0) here) ∙ e ∙ sym c.number.ensures), refl)
 
-pub returns-then-load_turn-info-clause-made : goal.returns-then-load_turn-info-clause-made
-returns-then-load_turn-info-clause-made g c =
+pub returns-then-load_turn-info-clause-sends : goal.returns-then-load_turn-info-clause-sends
+returns-then-load_turn-info-clause-sends g c =
     let k = setup c.args.shared.now in let n = c.args.n in
     let info : Info = get_or c.infos.result.now n (record { owner = 0; station = 0; band = 0; queue = 0; rank = 0 }) in
     let here : slice_get k.infos n ≡ Some info = ap (λ (xs : List Info). slice_get xs n) (sym c.infos.ensures) ∙ slice_get-get_or c.infos.result.now n (record { owner = 0; station = 0; band = 0; queue = 0; rank = 0 }) (subst (λ (xs : List Info). n < length xs) (sym c.infos.ensures) c.requires.packet) in
@@ -173,11 +173,11 @@ returns-then-load_turn-info-clause-made g c =
     let v1 = view c.load_turn.new.cpu in let v2 = view c.transmit-sending.new.cpu in let v3 = view c.drain.new.cpu in
     let due : slice_index v1.turns (owner_in k.infos n) ≡ 2 * rank_in k.infos n = (λ j. slice_index (e1 j).turns (owner j)) ∙ (now ∙ sym (ap (λ (r : ℕ). 2 * r) rank_is)) in
     let sent = c.transmit-sending.ensures.in_turn due in
-    sends_if_left k n c.load_turn.result info _ _ _ here st c.load_turn.ensures.made
-    (inr ((let t = c.if-load_turn-info.true in omega arith), c.transmit-sending.result, steps c.transmit-sending.new.cpu, (v1, v2, sent), c.drain.ensures.made))
+    sends_if_left k n c.load_turn.result info _ _ _ here st e1 c.load_turn.ensures.made
+    (inr ((let t = c.if-load_turn-info.true in omega arith), c.transmit-sending.result, known c.transmit-sending.new.cpu, sent, c.drain.ensures.drains))
 
-pub returns-else-load_turn-info-clause-made : goal.returns-else-load_turn-info-clause-made
-returns-else-load_turn-info-clause-made g c =
+pub returns-else-load_turn-info-clause-sends : goal.returns-else-load_turn-info-clause-sends
+returns-else-load_turn-info-clause-sends g c =
     let info : Info = get_or c.infos.result.now c.args.n (record { owner = 0; station = 0; band = 0; queue = 0; rank = 0 }) in
     let here : slice_get (setup c.args.shared.now).infos c.args.n ≡ Some info = ap (λ (xs : List Info). slice_get xs c.args.n) (sym c.infos.ensures) ∙ slice_get-get_or c.infos.result.now c.args.n (record { owner = 0; station = 0; band = 0; queue = 0; rank = 0 }) (subst (λ (xs : List Info). c.args.n < length xs) (sym c.infos.ensures) c.requires.packet) in
-    sends_if_left (setup c.args.shared.now) c.args.n c.load_turn.result info _ _ _ here (c.if-info-number.false ∙ c.number.ensures) c.load_turn.ensures.made (inl ((let t = c.if-load_turn-info.false in let r = ap (λ (o : Option Info). option_map_or (λ (i : Info). i.rank) o 0) here in omega arith), refl))
+    sends_if_left (setup c.args.shared.now) c.args.n c.load_turn.result info _ _ _ here (c.if-info-number.false ∙ c.number.ensures) c.load_turn.ensures.same.1 c.load_turn.ensures.made (inl ((let t = c.if-load_turn-info.false in let r = ap (λ (o : Option Info). option_map_or (λ (i : Info). i.rank) o 0) here in omega arith), refl))

@@ -1,7 +1,7 @@
 use Rattle.std.proofs.Common.{◌≡◌, rules, refl, None, [], sym, ap, ◌∙◌, subst}
 use Rattle.lq_model.specs.Account.{Account}
 use Rattle.lq_table.specs.Views.{View, FirstPart, SharePart, first_account}
-use Rattle.lq_table.specs.Sees.{view, setup, steps}
+use Rattle.lq_table.specs.Sees.{view, known, setup}
 use Rattle.lq_table.specs.Solo.{Solo, account_of, solo}
 use Rattle.lq_ring.proofs.Seats.{seat_on}
 use Rattle.lq_qdisc.specs.Alone.{account_in}
@@ -73,8 +73,8 @@ loop-preserved g c =
       low = d.raised;
       served = served_then v0 v1 v6 i.served more;
       alike = λ h. alike_further infos start (solo v0) (solo v4) (subst (λ (s : Solo). IsEndedAlike infos start (solo v0) s) (sym same4) (i.alike h)) (ap (λ (s : Solo). s.raised) same4 ∙ i.low) (solo v5) (solo v6) active n.alone d.alone;
-      on = serves_more k (steps c.args.cpu.now) (steps c.loop.cpu) (steps c.begin_control.new.cpu) (steps c.look.new.cpu) (steps c.end_control.new.cpu) (steps c.irq.new.cpu) (steps c.drain.new.cpu)
-          i.on b.made (subst (λ (x : Seen). LooksBy k x (steps c.begin_control.new.cpu) (steps c.look.new.cpu)) c.in-Going.is l.made) e.made (v4, v5, n.wakes) d.made;
+      on = serves_more k (known c.args.cpu.now) (known c.loop.cpu) (known c.begin_control.new.cpu) (known c.look.new.cpu) (known c.end_control.new.cpu) (known c.irq.new.cpu) (known c.drain.new.cpu)
+          i.on b.view b.made (subst (λ (x : Seen). LooksBy k x (known c.begin_control.new.cpu) (known c.look.new.cpu)) c.in-Going.is l.looks) e.view e.made n.wakes d.drains;
     }
 
 pub returns-in-Ended-clause-fates : goal.returns-in-Ended-clause-fates
@@ -97,8 +97,8 @@ returns-in-Hung-clause-alone g c = λ h.
     let infos = c.args.shared.now.infos.now in let start : Account = first_account (setup c.args.shared.now) in let v0 = view c.args.cpu.now in
     subst (λ (s : Solo). IsEndedAlike infos start (solo v0) s) (sym (solo_looked (view c.loop.cpu) (view c.begin_control.new.cpu) (view c.look.new.cpu) c.begin_control.ensures.view c.look.ensures.same.1)) (c.loop.invariant.alike h)
 
-pub returns-in-Ended-clause-made : goal.returns-in-Ended-clause-made
-returns-in-Ended-clause-made g c = serves_to_end (setup c.args.shared.now) c.look.result seen.Ended _ _ _ _ c.in-Ended.is c.loop.invariant.on c.begin_control.ensures.made c.look.ensures.made
+pub returns-in-Ended-clause-serves : goal.returns-in-Ended-clause-serves
+returns-in-Ended-clause-serves g c = serves_to_end (setup c.args.shared.now) c.look.result seen.Ended (known c.args.cpu.now) (known c.loop.cpu) (known c.begin_control.new.cpu) (known c.look.new.cpu) c.in-Ended.is c.loop.invariant.on c.begin_control.ensures.view c.begin_control.ensures.made c.look.ensures.looks
 
-pub returns-in-Hung-clause-made : goal.returns-in-Hung-clause-made
-returns-in-Hung-clause-made g c = serves_to_end (setup c.args.shared.now) c.look.result seen.Hung _ _ _ _ c.in-Hung.is c.loop.invariant.on c.begin_control.ensures.made c.look.ensures.made
+pub returns-in-Hung-clause-serves : goal.returns-in-Hung-clause-serves
+returns-in-Hung-clause-serves g c = serves_to_end (setup c.args.shared.now) c.look.result seen.Hung (known c.args.cpu.now) (known c.loop.cpu) (known c.begin_control.new.cpu) (known c.look.new.cpu) c.in-Hung.is c.loop.invariant.on c.begin_control.ensures.view c.begin_control.ensures.made c.look.ensures.looks

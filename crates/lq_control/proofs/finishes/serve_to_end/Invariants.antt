@@ -1,7 +1,7 @@
 use Rattle.std.proofs.Common.{◌≡◌, false}
 use Rattle.lq_model.specs.declared.machine.Position.TheVariants.{Idle}
 use Rattle.lq_table.specs.Views.{first_account}
-use Rattle.lq_table.specs.Sees.{view, setup, steps, position, IsSeatOf, IsSameSeat}
+use Rattle.lq_table.specs.Sees.{view, known, setup, position, IsSeatOf, IsSameSeat}
 use Rattle.lq_table.specs.Solo.{solo}
 use Rattle.lq_qdisc.specs.Alone.{IsAlone}
 use Rattle.lq_qdisc.specs.Sends.{IsReadyToSend}
@@ -22,5 +22,5 @@ invariant-loop g l = record {
   served : IsServed (view l.fn.cpu) (view l.cpu);
   alike : IsAlone l.shared.infos.now (first_account (setup l.shared)) (solo (view l.fn.cpu))
       → IsEndedAlike l.shared.infos.now (first_account (setup l.shared)) (solo (view l.fn.cpu)) (solo (view l.cpu));
-  on : ServesOn (setup l.shared) (steps l.fn.cpu) (steps l.cpu);
+  on : ServesOn (setup l.shared) (known l.fn.cpu) (known l.cpu);
 }

@@ -1,4 +1,4 @@
-use Rattle.lq_table.specs.Sees.{view, steps, IsSeatOf, IsElseSame}
+use Rattle.lq_table.specs.Sees.{view, known, IsSeatOf, IsElseSame}
 use Rattle.lq_control.specs.EndSteps.{FindsBusy}
 use Rattle.lq_control.specs.Finish.{IsLook}
 use Rattle.lq_control.proofs.finishes.wait_until_left.Given as goal
@@ -10,5 +10,5 @@ invariant-loop g l = record {
   seat : IsSeatOf l.shared l.cpu;
   still : IsElseSame l.fn.cpu l.cpu;
   look : IsLook (view l.fn.cpu) (view l.cpu);
-  busy : FindsBusy (steps l.fn.cpu) (steps l.cpu);
+  busy : FindsBusy (known l.fn.cpu) (known l.cpu);
 }

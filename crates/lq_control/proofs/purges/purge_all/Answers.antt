@@ -1,12 +1,13 @@
-use Rattle.std.proofs.Common.{ℕ, ◌<◌, refl, sym, ap, ◌∙◌, subst, Some, length, List}
+use Rattle.std.proofs.Common.{ℕ, ◌<◌, refl, sym, ap, ◌∙◌, subst, Some, length}
 use Rattle.std.specs.Prelude.{IfSome}
 use Rattle.lq_model.specs.declared.fate.Cause.TheVariants as cause
 use Rattle.lq_table.specs.Views.{View, Setup, PacketPart}
 use Rattle.lq_table.specs.Rule.{shown}
 use Rattle.lq_table.specs.Purges.{HoldsAtMost, HoldPackets}
-use Rattle.lq_table.specs.Sees.{view, setup, steps}
-use Rattle.lq_table.specs.Made.{Made}
-use Rattle.lq_control.specs.Steps.{PurgesHeld}
+use Rattle.lq_table.specs.Sees.{view, setup, known}
+use Rattle.lq_table.specs.Made.{Known}
+use Rattle.lq_control.specs.Steps.{PurgesHeld, purge_started}
+use Rattle.lq_control.proofs.StepLemmas.{both}
 use Rattle.lq_control.proofs.Purge.{purged_of, slot_within}
 use Rattle.lq_control.proofs.purges.purge_all.Goals as goal
 
@@ -42,6 +43,17 @@ returns-clause-purged g c =
       b.4,
     )
 
-pub returns-clause-made : goal.returns-clause-made
-returns-clause-made g c = let seen = c.begin_purge-event.ensures.made in let k = setup c.args.shared.now in let event = c.begin_purge-event.result in
-    (event, seen.0, c.begin_purge-event.ensures.event, subst (λ (xs : List Made). PurgesHeld k (cause.Event event) c.purge_held.result xs (steps c.purge_held.new.cpu)) seen.1 c.purge_held.ensures.made)
+pub returns-clause-purges : goal.returns-clause-purges
+returns-clause-purges g c =
+    let k = setup c.args.shared.now in let b = c.begin_purge-event.ensures.begun in let seen = c.begin_purge-event.ensures.made in let event = c.begin_purge-event.result in let slot = (view c.args.cpu.now).holder.slot in
+    let started = both (known c.begin_purge-event.new.cpu) (purge_started (cause.Event event) b.0 seen.0 (known c.args.cpu.now)) b.1 seen.1 in (
+      event,
+      c.begin_purge-event.ensures.event,
+      record {
+        bands = b.0;
+        state = seen.0;
+        knows = b.4;
+        purges = subst (λ (x : Known). PurgesHeld k (cause.Event event) slot c.purge_held.result x (known c.purge_held.new.cpu)) started
+            (c.purge_held.ensures.purges slot (ap (λ (x : View). x.packets.owed) b.1));
+      },
+    )

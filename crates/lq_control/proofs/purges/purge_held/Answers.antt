@@ -2,12 +2,14 @@ use Rattle.std.proofs.Common.{◌≡◌, ◌+◌, ℕ, refl, sym, ap, ◌∙◌,
 use Rattle.std.proofs.lemmas.Option.{same_Some}
 use Rattle.lq_model.specs.Machine.{Purge}
 use Rattle.lq_model.specs.declared.machine.Seat.{Seat}
-use Rattle.lq_table.specs.Controls.{purge_going, no_missed, resetting_missed_in}
+use Rattle.lq_table.specs.Controls.{purge_going, no_missed, resetting_draining, resetting_missed_in}
 use Rattle.lq_table.specs.Views.{View, Left, PacketPart}
 use Rattle.lq_table.specs.Purges.{first_purge}
 use Rattle.lq_table.specs.Rule.{IsResting}
-use Rattle.lq_table.specs.Sees.{view, steps}
+use Rattle.lq_table.specs.Sees.{view, known}
 use Rattle.lq_table.specs.Made.{Made, ◌⊳◌, did_clear_draining}
+use Rattle.lq_control.specs.Steps.{bits_reset}
+use Rattle.lq_control.proofs.StepLemmas.{both}
 use Rattle.lq_ring.proofs.Seats.{seat_on}
 use Rattle.lq_control.proofs.Purge.{still_then, still_purged, rests_purged, left1, left2, left3, purge1, purge2, purge3, purge4, emptied, count_all, slot_few}
 use Rattle.lq_control.proofs.purges.purge_held.Goals as goal
@@ -202,21 +204,21 @@ returns-clause-emptied g c s l owed left =
       omega arith,
     )
 
-pub returns-clause-made : goal.returns-clause-made
-returns-clause-made g c =
-    let s = c.requires.slot in record {
-      slot = s.0;
+pub returns-clause-purges : goal.returns-clause-purges
+returns-clause-purges g c s owed =
+    let m = c.reset_missed.ensures in let d = c.reset_draining.ensures in let three = known c.purge_band-high.new.cpu in
+    record {
       low = c.purge_band-low.result;
       mid = c.purge_band-mid.result;
       high = c.purge_band-high.result;
-      emptied = steps c.purge_slot-slot.new.cpu;
-      one = steps c.purge_band-low.new.cpu;
-      two = steps c.purge_band-mid.new.cpu;
-      three = steps c.purge_band-high.new.cpu;
-      requeued = c.purge_slot-slot.ensures.made s.0 s.2;
-      first = (view c.purge_slot-slot.new.cpu, view c.purge_band-low.new.cpu, c.purge_band-low.ensures.purges);
-      second = (view c.purge_band-low.new.cpu, view c.purge_band-mid.new.cpu, c.purge_band-mid.ensures.purges);
-      third = (view c.purge_band-mid.new.cpu, view c.purge_band-high.new.cpu, c.purge_band-high.ensures.purges);
-      cleared = c.reset_draining.ensures.made ∙ ap (λ (xs : List Made). xs ⊳ did_clear_draining) c.reset_missed.ensures.made;
-      counted = ap (λ (n : ℕ). n + c.purge_band-low.result + c.purge_band-mid.result + c.purge_band-high.result) (c.purge_slot-slot.ensures.purged s.0 s.2).1;
+      emptied = known c.purge_slot-slot.new.cpu;
+      one = known c.purge_band-low.new.cpu;
+      two = known c.purge_band-mid.new.cpu;
+      three = three;
+      requeued = c.purge_slot-slot.ensures.purges s owed;
+      first = c.purge_band-low.ensures.purges;
+      second = c.purge_band-mid.ensures.purges;
+      third = c.purge_band-high.ensures.purges;
+      cleared = both (known c.reset_draining.new.cpu) (bits_reset three) (d.view ∙ ap resetting_draining m.view) (d.made ∙ ap (λ (xs : List Made). xs ⊳ did_clear_draining) m.made);
+      counted = ap (λ (n : ℕ). n + c.purge_band-low.result + c.purge_band-mid.result + c.purge_band-high.result) (c.purge_slot-slot.ensures.purged s owed).1;
     }

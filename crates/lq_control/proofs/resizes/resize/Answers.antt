@@ -1,11 +1,11 @@
-use Rattle.std.proofs.Common.{◌≡◌, true, sym, ap, ◌∙◌, subst, List}
+use Rattle.std.proofs.Common.{◌≡◌, true, sym, ap, ◌∙◌, subst}
 use Rattle.lq_model.specs.Account.{Resize}
 use Rattle.lq_model.specs.Alone.{changed}
 use Rattle.lq_model.specs.declared.plan.EventKind.TheVariants as kind
 use Rattle.lq_model.specs.declared.fate.Fate.TheVariants as fate
 use Rattle.lq_table.specs.Views.{View, first_account}
 use Rattle.lq_table.specs.Controls.{beginning_control}
-use Rattle.lq_table.specs.Sees.{view, setup, steps}
+use Rattle.lq_table.specs.Sees.{view, setup, known}
 use Rattle.lq_table.specs.Solo.{IsSole, solo, heard, locked_to}
 use Rattle.lq_table.specs.Told.{got_in_control}
 use Rattle.lq_run.specs.Runs.{ended}
@@ -13,8 +13,9 @@ use Rattle.lq_ring.specs.Fates.{fates_onto}
 use Rattle.lq_ring.specs.Resized.{all_lost, having_resized}
 use Rattle.lq_control.proofs.Alone.{resize_alone, resized_same, stepped_at}
 use Rattle.lq_control.proofs.Sole.{lost_dropped}
-use Rattle.lq_table.specs.Made.{Made}
-use Rattle.lq_control.specs.Steps.{TakesLock}
+use Rattle.lq_table.specs.Made.{Known}
+use Rattle.lq_control.specs.Steps.{TakesLock, control_begun}
+use Rattle.lq_control.proofs.StepLemmas.{both}
 use Rattle.lq_control.proofs.resizes.resize.Goals as goal
 
 pub returns-clause-shrunk : goal.returns-clause-shrunk
@@ -42,6 +43,13 @@ returns-clause-alone g c = λ plan h.
     stepped_at infos start (changed plan event (kind.Resize len)) v (heard (Resize len event) v) (solo (view c.end_resize.new.cpu))
     (returns-clause-sole g c h.sender.sole ∙ resized_same infos start (Resize len event) v h) (resize_alone infos start len event plan v h)
 
-pub returns-clause-made : goal.returns-clause-made
-returns-clause-made g c = let first = c.begin_control.ensures.made in
-    (first.0, steps c.take_lock.new.cpu, steps c.resize_all-shrunk.new.cpu, subst (λ (xs : List Made). TakesLock xs (steps c.take_lock.new.cpu)) first.1 c.take_lock.ensures.made, (view c.take_lock.new.cpu, view c.resize_all-shrunk.new.cpu, c.resize_all-shrunk.ensures.resizes), (view c.resize_all-shrunk.new.cpu, view c.end_resize.new.cpu, c.end_resize.ensures.ends))
+pub returns-clause-resizes : goal.returns-clause-resizes
+returns-clause-resizes g c =
+    let first = c.begin_control.ensures in let e = c.end_resize.ensures in (
+      first.made.0,
+      known c.take_lock.new.cpu,
+      known c.resize_all-shrunk.new.cpu,
+      subst (λ (x : Known). TakesLock x (known c.take_lock.new.cpu)) (both (known c.begin_control.new.cpu) (control_begun first.made.0 (known c.args.cpu.now)) first.view first.made.1) c.take_lock.ensures.takes,
+      c.resize_all-shrunk.ensures.resizes,
+      (record { calm = record { share = e.kept.0.1; state = e.kept.1; settled = e.kept.0.8 }; sole = e.sole }, e.ends),
+    )

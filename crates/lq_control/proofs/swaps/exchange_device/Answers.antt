@@ -1,21 +1,23 @@
-use Rattle.std.proofs.Common.{◌≡◌, false, sym, ap, ◌∙◌, subst, arith, ◌∷◌, Option, Contains, List}
+use Rattle.std.proofs.Common.{◌≡◌, false, sym, ap, ◌∙◌, subst, arith, ◌∷◌, ◌-◌, Option, Contains}
 use Rattle.std.specs.Prelude.{is_some}
 use Rattle.std.specs.Option.{unwrap_or}
 use Rattle.lq_device.specs.Station.{StationState}
 use Rattle.lq_model.specs.Device.{DeviceState}
 use Rattle.lq_table.specs.Views.{View, Setup, no_station}
 use Rattle.lq_table.specs.Rule.{HasServed, latest_unit, station_count, units_of}
-use Rattle.lq_table.specs.Controls.{IsExchange}
-use Rattle.lq_table.specs.Sees.{view, setup, steps}
-use Rattle.lq_table.specs.Made.{Made, ◌⊳◌, did_store_stop, did_unlock}
+use Rattle.lq_table.specs.Controls.{IsExchange, swapping}
+use Rattle.lq_table.specs.Sees.{view, known, setup}
+use Rattle.lq_table.specs.Made.{Known, ◌⊳◌, did_store_stop}
 use Rattle.lq_table.specs.Solo.{Solo, device_to, heard, locked_to, solo}
 use Rattle.lq_model.specs.Account.{Swap}
+use Rattle.lq_control.specs.Steps.{exchanged, opened_on, unlocked}
+use Rattle.lq_control.proofs.StepLemmas.{both}
 use Rattle.lq_control.proofs.swaps.exchange_device.Goals as goal
 
 pub exchange-requires-clause-station : goal.exchange-requires-clause-station
 exchange-requires-clause-station g c _ _ =
     let h = (view c.take_lock.new.cpu).holder in let changed = (c.change_device-old.ensures.changed h c.take_lock.ensures.station.1).0 in let unit = c.args.unit in
-    let now = c.change_device-old.ensures.same.3 in
+    let now = ap (λ (x : Known). x.view) c.change_device-old.ensures.same.3 in
     let about : (view c.change_device-old.new.cpu).share.about ≡ Rattle.lq_table.specs.Sees.setup c.args.shared.now = ap (λ (x : View). x.share.about) now ∙ (ap (λ (x : View). x.share.about) c.take_lock.ensures.got.1 ∙ c.requires.seat.2) in
     let units : (view c.change_device-old.new.cpu).holder.units ≡ Rattle.lq_table.specs.Rule.units_of (view c.args.cpu.now).trail = ap (λ (x : View). x.holder.units) now ∙ c.take_lock.ensures.units c.requires.at.1 in
     let above = c.requires.unit.1 in let first = above.first in (
@@ -33,7 +35,7 @@ exchange-requires-clause-station g c _ _ =
 
 pub returns-clause-served : goal.returns-clause-served
 returns-clause-served g c =
-    let h = (view c.take_lock.new.cpu).holder in let old = (c.change_device-old.ensures.changed h c.take_lock.ensures.station.1).1 in let now = c.change_device-old.ensures.same.3 in
+    let h = (view c.take_lock.new.cpu).holder in let old = (c.change_device-old.ensures.changed h c.take_lock.ensures.station.1).1 in let now = ap (λ (x : Known). x.view) c.change_device-old.ensures.same.3 in
     let origin = ap (λ (x : View). x.control.origin) now ∙ ap (λ (x : View). x.control.origin) c.take_lock.ensures.got.1 in
     subst (λ (z : DeviceState × DeviceState). HasServed c.args.shared.now.infos.now c.args.shared.now.station z.0 z.1) (λ j. (origin j, (ap (λ (x : View). x.holder.station.device) now ∙ sym old) j)) c.exchange.ensures.served
 
@@ -45,7 +47,7 @@ returns-clause-came g c =
 
 pub returns-clause-gone : goal.returns-clause-gone
 returns-clause-gone g c =
-    let h = (view c.take_lock.new.cpu).holder in let old = (c.change_device-old.ensures.changed h c.take_lock.ensures.station.1).1 in let now = c.change_device-old.ensures.same.3 in let before = view c.change_device-old.new.cpu in
+    let h = (view c.take_lock.new.cpu).holder in let old = (c.change_device-old.ensures.changed h c.take_lock.ensures.station.1).1 in let now = ap (λ (x : Known). x.view) c.change_device-old.ensures.same.3 in let before = view c.change_device-old.new.cpu in
     let exchanged = ap (λ (x : View). x.control.gone) c.release.ensures.released ∙ (ap (λ (x : View). x.control.gone) c.open_queues.ensures.opened.1 ∙ ap (λ (x : View). x.control.gone) c.exchange.ensures.view) in
     let units : before.holder.units ≡ units_of (view c.args.cpu.now).trail = ap (λ (x : View). x.holder.units) now ∙ c.take_lock.ensures.units c.requires.at.1 in
     let unit = c.exchange.ensures.unit ∙ ap (latest_unit c.args.shared.now.station) units in
@@ -57,8 +59,19 @@ returns-clause-sole g c = λ sole.
     let device = (g.D.TxDevice.state c.args.device) in
     let exchanged = ap solo c.exchange.ensures.view ∙ ap (λ (o : Option StationState). device_to (unwrap_or o no_station).device (heard (Swap (unwrap_or o no_station).unit) (solo before))) changed in
     ap solo c.release.ensures.released ∙ (ap (locked_to false) (c.open_queues.ensures.step ∙ exchanged)
-    ∙ ap (λ (s : Solo). locked_to false (device_to device (heard (Swap c.args.unit) s))) (ap solo c.change_device-old.ensures.same.3 ∙ (c.take_lock.ensures.sole sole).0))
+    ∙ ap (λ (s : Solo). locked_to false (device_to device (heard (Swap c.args.unit) s))) (ap (λ (x : Known). solo x.view) c.change_device-old.ensures.same.3 ∙ (c.take_lock.ensures.sole sole).0))
 
-pub returns-clause-made : goal.returns-clause-made
-returns-clause-made g c = let k = setup c.args.shared.now in
-    (steps c.take_lock.new.cpu, c.take_lock.ensures.made, c.release.ensures.made ∙ ap (λ (xs : List Made). xs ⊳ did_unlock) (c.open_queues.ensures.made (steps c.take_lock.new.cpu) (c.exchange.ensures.made ∙ ap (λ (xs : List Made). xs ⊳ did_store_stop k 0 0) c.change_device-old.ensures.made)))
+pub returns-clause-exchanges : goal.returns-clause-exchanges
+returns-clause-exchanges g c =
+    let k = setup c.args.shared.now in let locked = known c.take_lock.new.cpu in let came = g.D.TxDevice.state c.args.device in
+    let changed = c.change_device-old.ensures.changed locked.view.holder c.take_lock.ensures.station.1 in let now = c.change_device-old.ensures.same.3 in let x = c.exchange.ensures in
+    let swapped = both (known c.exchange.new.cpu) (exchanged k c.args.unit came locked)
+    (x.view ∙ (λ j. swapping (unwrap_or (changed.0 j) no_station) (now j).view)) (x.made ∙ ap (λ (y : Known). y.steps ⊳ did_store_stop k 0 0) now) in
+    let about : locked.view.share.about ≡ k = ap (λ (v : View). v.share.about) c.take_lock.ensures.got.1 ∙ c.requires.seat.2 in record {
+      locked = locked;
+      takes = c.take_lock.ensures.takes;
+      goes = changed.1;
+      away = subst (λ (z : Setup). HasServed z.infos z.station locked.view.control.origin locked.view.holder.station.device × (locked.view.holder.station.unit ≡ latest_unit z.station locked.view.holder.units)) (sym about)
+          (subst (λ (y : Known). HasServed k.infos k.station y.view.control.origin y.view.holder.station.device × (y.view.holder.station.unit ≡ latest_unit k.station y.view.holder.units)) now (x.served, x.unit));
+      is = c.release.ensures.by ∙ ap unlocked (c.open_queues.ensures.opens ∙ ap (opened_on k (k.queues - 1)) swapped);
+    }

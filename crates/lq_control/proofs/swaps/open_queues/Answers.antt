@@ -1,8 +1,7 @@
-use Rattle.std.proofs.Common.{rules, ◌≡◌, ◌+◌, ◌-◌, refl, ap, ◌∙◌, arith, List}
+use Rattle.std.proofs.Common.{rules, ◌≡◌, ◌+◌, ◌-◌, refl, ap, ◌∙◌, arith}
 use Rattle.lq_table.specs.Views.{View, Setup}
 use Rattle.lq_table.specs.Controls.{shut_after, opening_next}
-use Rattle.lq_table.specs.Sees.{view, setup}
-use Rattle.lq_table.specs.Made.{Made, ◌⊳◌, did_store_stop}
+use Rattle.lq_table.specs.Sees.{view, known, setup}
 use Rattle.lq_control.proofs.StepLemmas.{opened_more}
 use Rattle.lq_table.specs.Solo.{solo}
 use Rattle.lq_ring.proofs.Seats.{seat_on}
@@ -15,7 +14,8 @@ loop-queue-init g c = let v = view c.args.cpu.now in record {
   same = ((refl, refl), refl, refl, refl);
   opened = (v.whole, (λ j. record v { holder = record v.holder { shut = c.requires.shut j } }), refl);
   step = refl;
-  made = λ old e. e;
+  from = omega arith;
+  opens = refl;
 }
 
 pub loop-queue-preserved : goal.loop-queue-preserved
@@ -27,5 +27,6 @@ loop-queue-preserved g c =
       same = (search rules);
       opened = (y.whole, is ∙ (λ j. all_opened (shut_after ((let q : n ≡ n + 1 - 1 = omega arith in q) j) (at j)) y.whole v), i.opened.2);
       step = ap solo c.open_xoff.ensures.view ∙ i.step;
-      made = λ old e. c.open_xoff.ensures.made ∙ (ap (λ (xs : List Made). xs ⊳ did_store_stop (setup c.args.shared.now) n 0) (i.made old e) ∙ opened_more (setup c.args.shared.now) n old);
+      from = (let from = i.from in omega arith);
+      opens = opened_more (setup c.args.shared.now) n (known c.args.cpu.now) (known c.loop-queue.cpu) (known c.open_xoff.new.cpu) i.from i.opens c.open_xoff.ensures.view c.open_xoff.ensures.made;
     }

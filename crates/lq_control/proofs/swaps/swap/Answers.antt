@@ -4,11 +4,11 @@ use Rattle.lq_model.specs.Alone.{changed}
 use Rattle.lq_model.specs.declared.plan.EventKind.TheVariants as kind
 use Rattle.lq_model.specs.Device.{DeviceState}
 use Rattle.lq_table.specs.Views.{View, FirstPart, first_account}
-use Rattle.lq_table.specs.Sees.{view, setup, steps}
-use Rattle.lq_table.specs.Made.{Made, ◌⊳◌, did_load_base}
+use Rattle.lq_table.specs.Sees.{view, known, setup}
 use Rattle.lq_table.specs.Solo.{Solo, device_to, heard, locked_to, solo}
 use Rattle.lq_table.specs.Rule.{HasServed, latest_unit, units_of}
 use Rattle.lq_qdisc.specs.Alone.{HasAll}
+use Rattle.lq_control.proofs.StepLemmas.{reopened}
 use Rattle.lq_control.proofs.Alone.{downed, downed_at, stepped_at, swap_alone}
 use Rattle.lq_control.proofs.swaps.swap.Goals as goal
 
@@ -41,6 +41,12 @@ returns-clause-served g c =
 pub returns-clause-came : goal.returns-clause-came
 returns-clause-came g c = ap (λ (x : View). x.control.origin) c.end_control.ensures.view ∙ (ap (λ (x : View). x.control.origin) c.clear_deactivated.ensures.view ∙ c.exchange_device-old.ensures.came)
 
-pub returns-clause-made : goal.returns-clause-made
-returns-clause-made g c = let last = c.end_control.ensures.made in
-    (steps c.wait_until_clear.new.cpu, steps c.exchange_device-old.new.cpu, c.deactivate.result, (steps c.deactivate.new.cpu, c.deactivate.ensures.made, c.wait_until_clear.ensures.made), c.exchange_device-old.ensures.made, (last.0, last.1 ∙ ap (λ (xs : List Made). xs ⊳ did_load_base last.0) c.clear_deactivated.ensures.made))
+pub returns-clause-swaps : goal.returns-clause-swaps
+returns-clause-swaps g c = (
+  known c.wait_until_clear.new.cpu,
+  known c.exchange_device-old.new.cpu,
+  c.deactivate.result,
+  (known c.deactivate.new.cpu, c.deactivate.ensures.deactivates, c.wait_until_clear.ensures.waits),
+  c.exchange_device-old.ensures.exchanges,
+  reopened (known c.exchange_device-old.new.cpu) (known c.clear_deactivated.new.cpu) (known c.end_control.new.cpu) c.clear_deactivated.ensures.view c.clear_deactivated.ensures.made c.end_control.ensures.view c.end_control.ensures.made,
+)

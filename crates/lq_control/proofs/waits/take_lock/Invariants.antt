@@ -1,5 +1,5 @@
 use Rattle.std.proofs.Common.{◌≡◌}
-use Rattle.lq_table.specs.Sees.{view, steps, IsSeatOf, IsElseSame}
+use Rattle.lq_table.specs.Sees.{view, known, IsSeatOf, IsElseSame}
 use Rattle.lq_control.specs.Steps.{TriesLock}
 use Rattle.lq_control.proofs.waits.take_lock.Given as goal
 
@@ -10,5 +10,5 @@ invariant-loop g l = record {
   seat : IsSeatOf l.shared l.cpu;
   still : IsElseSame l.fn.cpu l.cpu;
   same : view l.cpu ≡ view l.fn.cpu;
-  made : TriesLock (steps l.fn.cpu) (steps l.cpu);
+  tries : TriesLock (known l.fn.cpu) (known l.cpu);
 }

@@ -1,7 +1,7 @@
 use Rattle.std.proofs.Common.{◌≡◌}
 use Rattle.lq_model.specs.declared.machine.Phase.{Phase}
 use Rattle.lq_model.specs.declared.machine.Phase.TheVariants.{Closing}
-use Rattle.lq_table.specs.Sees.{view, steps, IsSeatOf, IsElseSame}
+use Rattle.lq_table.specs.Sees.{view, known, IsSeatOf, IsElseSame}
 use Rattle.lq_control.specs.Control.{phased}
 use Rattle.lq_control.specs.Steps.{FindsCalls}
 use Rattle.lq_control.proofs.waits.wait_for_calls.Given as goal
@@ -13,5 +13,5 @@ invariant-loop g l = record {
   seat : IsSeatOf l.shared l.cpu;
   still : IsElseSame l.fn.cpu l.cpu;
   phased : (p : Phase) × (view l.cpu ≡ phased Closing p (view l.fn.cpu));
-  made : FindsCalls (steps l.fn.cpu) (steps l.cpu);
+  calls : FindsCalls (known l.fn.cpu) (known l.cpu);
 }
