@@ -1,16 +1,16 @@
 -- Steps of the end of a station: one more, and one after the other.
-use Rattle.std.proofs.Common.{◌≡◌, ◌≢◌, ℕ, suc, ◌+◌, inr, Bool, true, false, Option, Some, slice_get, sym, subst, ap, ◌∙◌, arith}
+use Rattle.std.proofs.Common.{◌≡◌, ◌≢◌, ℕ, suc, ◌+◌, inr, Bool, true, false, List, Option, Some, slice_get, sym, subst, ap, ◌∙◌, arith}
 use Rattle.std.specs.Option.{option_map_or}
 use Rattle.lq_model.specs.Plan.{owner_in}
 use Rattle.lq_model.specs.declared.fate.Info.{Info}
 use Rattle.lq_table.specs.Views.{Setup}
 use Rattle.lq_table.specs.Controls.{beginning_control, finding, returning}
-use Rattle.lq_table.specs.Told.{is_set, loading, looking}
-use Rattle.lq_table.specs.Made.{Known, ◌⊳◌, did_load_base, did_load_inside, did_load_lock, did_load_state, did_load_stop, did_load_turn}
+use Rattle.lq_table.specs.Told.{is_set, looking}
+use Rattle.lq_table.specs.Made.{Known, Made, ◌⊳◌, did_load_base, did_load_inside, did_load_lock, did_load_state, did_load_turn}
 use Rattle.lq_qdisc.specs.Steps.{with_state_loaded}
-use Rattle.lq_control.specs.Steps.{DrainsBy, control_begun, control_over, with_inside_loaded, with_lock_loaded}
+use Rattle.lq_control.specs.Steps.{DrainsBy, with_control_begun, with_control_ended, with_inside_loaded, with_words_loaded}
 use Rattle.lq_qdisc.specs.Sends.{WakesBelow}
-use Rattle.lq_control.specs.EndSteps.{FindsBusy, inside, scheduled, LoadsStops, LooksBy, LooksInside, SendsIfLeft, SendsLeft, SendsLeftBelow, ServesOn, ServesToEnd, WaitsUntilLeft, are_quiet, not_looked, one_more, stops_loaded, with_stop_loaded, with_turn_loaded}
+use Rattle.lq_control.specs.EndSteps.{FindsBusy, inside, scheduled, LoadsStops, LooksBy, LooksInside, SendsIfLeft, SendsLeft, SendsLeftBelow, ServesOn, ServesToEnd, WaitsUntilLeft, are_quiet, not_looked, one_more, with_turn_loaded}
 use Rattle.lq_control.specs.declared.finishes.Seen.{Seen}
 use Rattle.lq_control.specs.declared.finishes.Seen.TheVariants as seen
 use Rattle.lq_control.proofs.StepLemmas.{both}
@@ -29,27 +29,15 @@ sends_if_left k n turn info old mid new here at same made h =
       subst (λ (x : Known). SendsLeft k n turn x new) (both mid (with_turn_loaded info.owner turn old) same made ∙ ap (λ (o : ℕ). with_turn_loaded o turn old) owner) h,
     )
 
--- one more stop word was loaded
-pub stops_more : (k : Setup) (word queue found : ℕ) (old a b : Known) → found ≡ word → a ≡ stops_loaded k word queue old → b.view ≡ loading found a.view → b.steps ≡ a.steps ⊳ did_load_stop k queue found → b ≡ stops_loaded k word (queue + 1) old
-stops_more k word queue found old a b same e v m =
-    let up : suc queue ≡ queue + 1 = omega arith in
-    both b (with_stop_loaded k queue found a) v m ∙ ((λ j. with_stop_loaded k queue (same j) (e j)) ∙ ap (λ n. stops_loaded k word n old) up)
-
-pub stops_at : (k : Setup) (word queue found : ℕ) (old a b : Known) → a ≡ stops_loaded k word queue old → b.view ≡ loading found a.view → b.steps ≡ a.steps ⊳ did_load_stop k queue found → b ≡ with_stop_loaded k queue found (stops_loaded k word queue old)
-stops_at k word queue found old a b e v m = both b (with_stop_loaded k queue found a) v m ∙ ap (with_stop_loaded k queue found) e
-
-pub begun_from : (old new : Known) (found : ℕ) → new.view ≡ beginning_control old.view → new.steps ≡ old.steps ⊳ did_load_base found → new ≡ control_begun found old
-begun_from old new found v m = both new (control_begun found old) v m
-
 pub serves_more : (k : Setup) (old a begun looked left woken next : Known) → ServesOn k old a → begun.view ≡ beginning_control a.view → (found : ℕ) × (begun.steps ≡ a.steps ⊳ did_load_base found) → LooksBy k seen.Going begun looked
     → left.view ≡ returning looked.view → (found : ℕ) × (left.steps ≡ looked.steps ⊳ did_load_base found) → WakesBelow k k.queues left woken → DrainsBy k woken next → ServesOn k old next
 serves_more k old a begun looked left woken next h bv b l ev e w d =
-    one_more a looked woken next b.0 e.0 h (subst (λ (x : Known). LooksBy k seen.Going x looked) (both begun (control_begun b.0 a) bv b.1) l)
-    (subst (λ (x : Known). WakesBelow k k.queues x woken) (both left (control_over e.0 looked) ev e.1) w) d
+    one_more a looked woken next b.0 e.0 h (subst (λ (x : Known). LooksBy k seen.Going x looked) (both begun (with_control_begun b.0 a) bv b.1) l)
+    (subst (λ (x : Known). WakesBelow k k.queues x woken) (both left (with_control_ended e.0 looked) ev e.1) w) d
 
 pub serves_to_end : (k : Setup) (answer is : Seen) (old a begun looked : Known) → answer ≡ is → ServesOn k old a → begun.view ≡ beginning_control a.view → (found : ℕ) × (begun.steps ≡ a.steps ⊳ did_load_base found) → LooksBy k answer begun looked → ServesToEnd k is old looked
 serves_to_end k answer is old a begun looked same h v b l =
-    (a, b.0, h, subst (λ (x : Known). LooksBy k is x looked) (both begun (control_begun b.0 a) v b.1) (subst (λ (x : Seen). LooksBy k x begun looked) same l))
+    (a, b.0, h, subst (λ (x : Known). LooksBy k is x looked) (both begun (with_control_begun b.0 a) v b.1) (subst (λ (x : Seen). LooksBy k x begun looked) same l))
 
 pub busy_then : (a b c : Known) → FindsBusy a b → FindsBusy b c → FindsBusy a c
 busy_then a b c h not_looked = h
@@ -72,11 +60,11 @@ pub busy_scheduled : (old new : Known) (state : ℕ) → is_set 1 state ≡ true
 busy_scheduled old new state set e = subst (FindsBusy old) (sym e) (scheduled old state not_looked set)
 
 -- the run lock is loaded, and then the state
-pub looked_from : (lock state : ℕ) (old a b : Known) → a.view ≡ old.view → a.steps ≡ old.steps ⊳ did_load_lock lock → b.view ≡ looking state a.view → b.steps ≡ a.steps ⊳ did_load_state state → b ≡ with_state_loaded state (with_lock_loaded lock old)
-looked_from lock state old a b v m w s = both b (with_state_loaded state a) w s ∙ ap (with_state_loaded state) (both a (with_lock_loaded lock old) v m)
+pub looked_from : (lock state : ℕ) (old a b : Known) → a.steps ≡ old.steps ⊳ did_load_lock lock → b.view ≡ old.view → b.steps ≡ a.steps ⊳ did_load_state state → b ≡ with_words_loaded lock state old
+looked_from lock state old a b m w s = both b (with_words_loaded lock state old) w (s ∙ ap (λ (xs : List Made). xs ⊳ did_load_state state) m)
 
 -- a look at a station that is active, and not all of whose queues are hung
-pub looks_on : (k : Setup) (lock state : ℕ) (answer : Seen) (old b one two new : Known) (hung are_open : Bool) → is_set 2 state ≡ false → b ≡ with_state_loaded state (with_lock_loaded lock old)
+pub looks_on : (k : Setup) (lock state : ℕ) (answer : Seen) (old b one two new : Known) (hung are_open : Bool) → is_set 2 state ≡ false → b ≡ with_words_loaded lock state old
     → hung ≡ false → LoadsStops k 2 hung b one → LoadsStops k 0 are_open one two → LooksInside (are_quiet are_open lock state) answer two new → LooksBy k answer old new
 looks_on k lock state answer old b one two new hung are_open active from not_hung stops opens rest =
     (lock, state, inr (active, inr (one, two, are_open, subst (λ (x : Known). LoadsStops k 2 false x one) from (subst (λ (h : Bool). LoadsStops k 2 h b one) not_hung stops), opens, rest)))

@@ -10,3 +10,5 @@ pub mod Rounds
 pub mod EndingLemmas
 pub mod StepLemmas
 pub mod EndStepLemmas
+-- what the calls' relations come to
+pub mod Laws

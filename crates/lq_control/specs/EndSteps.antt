@@ -9,7 +9,7 @@ use Rattle.lq_qdisc.specs.declared.answers.Sending.{Sending}
 use Rattle.lq_table.specs.Views.{Setup}
 use Rattle.lq_table.specs.Told.{is_set, loading}
 use Rattle.lq_table.specs.Made.{Known, ◌⊳◌, did_load_stop, did_load_turn}
-use Rattle.lq_control.specs.Steps.{DrainsBy, PurgesBy, TakesLock, control_begun, control_over, with_inside_loaded, with_lock_loaded}
+use Rattle.lq_control.specs.Steps.{DrainsBy, PurgesBy, TakesLock, with_control_begun, with_control_ended, with_inside_loaded, with_words_loaded}
 use Rattle.lq_control.specs.declared.finishes.Seen.{Seen}
 use Rattle.lq_control.specs.declared.finishes.Seen.TheVariants as seen
 
@@ -69,8 +69,8 @@ LooksAtQueues k lock state answer old new =
 -- the run lock is loaded, and then the state
 abbrev pub LooksBy : Setup → Seen → Known → Known → Type 0
 LooksBy k answer old new = (lock state : ℕ)
-    × (((is_set 2 state ≡ true) × (answer ≡ seen.Ended) × (new ≡ with_state_loaded state (with_lock_loaded lock old)))
-    ⊎ ((is_set 2 state ≡ false) × LooksAtQueues k lock state answer (with_state_loaded state (with_lock_loaded lock old)) new))
+    × (((is_set 2 state ≡ true) × (answer ≡ seen.Ended) × (new ≡ with_words_loaded lock state old))
+    ⊎ ((is_set 2 state ≡ false) × LooksAtQueues k lock state answer (with_words_loaded lock state old) new))
 
 -- SERVED TO THE END
 
@@ -78,11 +78,11 @@ LooksBy k answer old new = (lock state : ℕ)
 pub data ServesOn (k : Setup) (old : Known) : Known → Type 0 where
   none_yet : ServesOn k old old
   one_more : (last looked woken next : Known) (begun left : ℕ) → ServesOn k old last
-      → LooksBy k seen.Going (control_begun begun last) looked → WakesBelow k k.queues (control_over left looked) woken → DrainsBy k woken next → ServesOn k old next
+      → LooksBy k seen.Going (with_control_begun begun last) looked → WakesBelow k k.queues (with_control_ended left looked) woken → DrainsBy k woken next → ServesOn k old next
 
 -- up to a look that finds it otherwise
 abbrev pub ServesToEnd : Setup → Seen → Known → Known → Type 0
-ServesToEnd k answer old new = (last : Known) × (begun : ℕ) × ServesOn k old last × LooksBy k answer (control_begun begun last) new
+ServesToEnd k answer old new = (last : Known) × (begun : ℕ) × ServesOn k old last × LooksBy k answer (with_control_begun begun last) new
 
 -- THE PURGE OF A HUNG STATION
 
@@ -107,4 +107,4 @@ PurgesHungBy k count old new = (left locked purged : Known) × WaitsUntilLeft ol
 abbrev pub FinishesBy : Setup → ℕ → Known → Known → Type 0
 FinishesBy k count old new = (sent ended : Known) × SendsLeftBelow k (length k.infos) old sent
     × ((ServesToEnd k seen.Hung sent ended × PurgesHungBy k count ended new)
-    ⊎ (ServesToEnd k seen.Ended sent ended × (count ≡ 0) × (found : ℕ) × (new ≡ control_over found ended)))
+    ⊎ (ServesToEnd k seen.Ended sent ended × (count ≡ 0) × (found : ℕ) × (new ≡ with_control_ended found ended)))

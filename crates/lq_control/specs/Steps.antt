@@ -13,7 +13,7 @@ use Rattle.lq_model.specs.declared.fate.Fate.TheVariants as fate
 use Rattle.lq_band.specs.Three.{Three}
 use Rattle.lq_run.specs.Tries.{TriesOnce}
 use Rattle.lq_ring.specs.Changes.{PurgesBand, ResizesAll}
-use Rattle.lq_qdisc.specs.Steps.{InterruptsBy, ReleasesBy, with_state_loaded}
+use Rattle.lq_qdisc.specs.Steps.{InterruptsBy, ReleasesBy}
 use Rattle.lq_table.specs.Views.{Setup}
 use Rattle.lq_table.specs.Rule.{shown, units_of}
 use Rattle.lq_table.specs.Told.{is_set, paying, unlocking}
@@ -26,29 +26,33 @@ use Rattle.lq_control.specs.Control.{IsServed}
 -- ONE STEP
 
 -- a call of control begins, and ends
-abbrev pub control_begun : ℕ → Known → Known
-control_begun found k = record { view = beginning_control k.view; steps = k.steps ⊳ did_load_base found }
+abbrev pub with_control_begun : ℕ → Known → Known
+with_control_begun found k = record { view = beginning_control k.view; steps = k.steps ⊳ did_load_base found }
 
-abbrev pub control_over : ℕ → Known → Known
-control_over found k = record { view = returning k.view; steps = k.steps ⊳ did_load_base found }
+abbrev pub with_control_ended : ℕ → Known → Known
+with_control_ended found k = record { view = returning k.view; steps = k.steps ⊳ did_load_base found }
 
 -- DEACTIVATED is set for this event, which was set before or not, and cleared
-abbrev pub deactivated : ℕ → Bool → Known → Known
-deactivated event was k = record { view = closing event k.view; steps = k.steps ⊳ did_set_deactivated event was }
+abbrev pub with_deactivated_set : ℕ → Bool → Known → Known
+with_deactivated_set event was k = record { view = closing event k.view; steps = k.steps ⊳ did_set_deactivated event was }
 
-abbrev pub activated : Known → Known
-activated k = record { view = opening k.view; steps = k.steps ⊳ did_clear_deactivated }
+abbrev pub with_deactivated_cleared : Known → Known
+with_deactivated_cleared k = record { view = opening k.view; steps = k.steps ⊳ did_clear_deactivated }
 
--- the calls inside, and the run lock's word, are loaded
+-- the calls inside are loaded
 abbrev pub with_inside_loaded : ℕ → Known → Known
 with_inside_loaded found k = record { view = finding found k.view; steps = k.steps ⊳ did_load_inside found }
 
+-- the run lock's word is loaded, and that and then the state: neither tells control anything of its own call
 abbrev pub with_lock_loaded : ℕ → Known → Known
 with_lock_loaded found k = record { view = k.view; steps = k.steps ⊳ did_load_lock found }
 
+abbrev pub with_words_loaded : ℕ → ℕ → Known → Known
+with_words_loaded lock state k = record { view = k.view; steps = k.steps ⊳ did_load_lock lock ⊳ did_load_state state }
+
 -- the run lock is released
-abbrev pub unlocked : Known → Known
-unlocked k = record { view = unlocking k.view; steps = k.steps ⊳ did_unlock }
+abbrev pub with_lock_released : Known → Known
+with_lock_released k = record { view = unlocking k.view; steps = k.steps ⊳ did_unlock }
 
 -- WAITS
 
@@ -61,9 +65,9 @@ pub record ServesBy (k : Setup) (old new : Known) : Type 0 where
 -- call of control was left; or it wasn't, and found the lock held, or found it free and SCHED set.
 pub data Rounds (k : Setup) (old : Known) : Known → Type 0 where
   none_yet : Rounds k old old
-  served : (last next : Known) (found : ℕ) → Rounds k old last → last.view.place.raised ≡ true → ServesBy k last next → Rounds k old (control_begun found next)
+  served : (last next : Known) (found : ℕ) → Rounds k old last → last.view.place.raised ≡ true → ServesBy k last next → Rounds k old (with_control_begun found next)
   locked : (last : Known) (found : ℕ) → Rounds k old last → last.view.place.raised ≡ false → found ≢ 0 → Rounds k old (with_lock_loaded found last)
-  scheduled : (last : Known) (state : ℕ) → Rounds k old last → last.view.place.raised ≡ false → is_set 1 state ≡ true → Rounds k old (with_state_loaded state (with_lock_loaded 0 last))
+  scheduled : (last : Known) (state : ℕ) → Rounds k old last → last.view.place.raised ≡ false → is_set 1 state ≡ true → Rounds k old (with_words_loaded 0 state last)
 
 -- the seat isn't raised, and the lock is found free, and SCHED clear after that
 pub record FindsClear (old new : Known) : Type 0 where
@@ -71,7 +75,7 @@ pub record FindsClear (old new : Known) : Type 0 where
   pub low : old.view.place.raised ≡ false
   pub clear : is_set 1 state ≡ false
   pub sees : IsSole old.view → SeesState old.view state
-  pub is : new ≡ with_state_loaded state (with_lock_loaded 0 old)
+  pub is : new ≡ with_words_loaded 0 state old
 
 -- `some_qdisc_is_busy` of net/sched/sch_generic.c, for which `dev_deactivate_many` waits
 abbrev pub WaitsUntilClear : Setup → Known → Known → Type 0
@@ -112,8 +116,8 @@ pub record TakesLock (old new : Known) : Type 0 where
 -- PURGES
 
 -- a purge begins with a load of the state: these are the packets of the bands
-abbrev pub purge_started : Cause → Three Band → ℕ → Known → Known
-purge_started cause bands state k = record { view = purging cause bands k.view; steps = k.steps ⊳ did_load_state state }
+abbrev pub with_purge_begun : Cause → Three Band → ℕ → Known → Known
+with_purge_begun cause bands state k = record { view = purging cause bands k.view; steps = k.steps ⊳ did_load_state state }
 
 -- the fate of the packet that was in the requeue slot is stored, if there was one
 abbrev pub PurgesSlot : Setup → Fate → Option ℕ → Known → Known → Type 0
@@ -121,8 +125,8 @@ PurgesSlot k f None old new = new ≡ old
 PurgesSlot k f (Some n) old new = new ≡ record { view = paying old.view; steps = old.steps ⊳ did_store_fate k n (word_of f) }
 
 -- MISSED and DRAINING are cleared after the last packet
-abbrev pub bits_reset : Known → Known
-bits_reset k = record { view = resetting_draining (resetting_missed k.view); steps = k.steps ⊳ did_clear_missed ⊳ did_clear_draining }
+abbrev pub with_bits_cleared : Known → Known
+with_bits_cleared k = record { view = resetting_draining (resetting_missed k.view); steps = k.steps ⊳ did_clear_missed ⊳ did_clear_draining }
 
 -- a purge that has begun with this packet in the requeue slot: that and then the three bands are purged, and both bits cleared. So many
 -- packets were purged.
@@ -138,7 +142,7 @@ pub record PurgesHeld (k : Setup) (cause : Cause) (slot : Option ℕ) (count : �
   pub first : PurgesBand k 0 (fate.Purged cause) low emptied one
   pub second : PurgesBand k 1 (fate.Purged cause) mid one two
   pub third : PurgesBand k 2 (fate.Purged cause) high two three
-  pub cleared : new ≡ bits_reset three
+  pub cleared : new ≡ with_bits_cleared three
   pub counted : count ≡ length (option_to_list slot) + low + mid + high
 
 -- `dev_reset_queue` and `qdisc_reset` of net/sched/sch_generic.c with `pfifo_fast_reset`: what lies in the requeue slot and in the bands
@@ -147,7 +151,7 @@ pub record PurgesBy (k : Setup) (cause : Cause) (count : ℕ) (old new : Known) 
   pub bands : Three Band
   pub state : ℕ
   pub knows : AreKnown old.view bands
-  pub purges : PurgesHeld k cause old.view.holder.slot count (purge_started cause bands state old) new
+  pub purges : PurgesHeld k cause old.view.holder.slot count (with_purge_begun cause bands state old) new
 
 -- A DEACTIVATION
 
@@ -158,10 +162,10 @@ pub record Deactivates (k : Setup) (event count : ℕ) (old new : Known) : Type 
   pub calm : Known
   pub locked : Known
   pub purged : Known
-  pub waits : WaitsForCalls (deactivated event was old) calm
+  pub waits : WaitsForCalls (with_deactivated_set event was old) calm
   pub takes : TakesLock calm locked
   pub purges : PurgesBy k (cause.Event event) count locked purged
-  pub released : new ≡ unlocked purged
+  pub released : new ≡ with_lock_released purged
 
 -- and to the end of its waits
 abbrev pub DeactivatesWhole : Setup → ℕ → ℕ → Known → Known → Type 0
@@ -170,36 +174,36 @@ DeactivatesWhole k event count old new = (free : Known) × Deactivates k event c
 -- THE CALLS
 
 abbrev pub Downs : Setup → ℕ → ℕ → Known → Known → Type 0
-Downs k event count old new = (clear : Known) × (found : ℕ) × DeactivatesWhole k event count old clear × (new ≡ control_over found clear)
+Downs k event count old new = (clear : Known) × (found : ℕ) × DeactivatesWhole k event count old clear × (new ≡ with_control_ended found clear)
 
 -- `transition_one_qdisc` of net/sched/sch_generic.c, for `dev_activate`: DEACTIVATED is cleared
 abbrev pub Ups : Known → Known → Type 0
-Ups old new = (first last : ℕ) × (new ≡ control_over last (activated (control_begun first old)))
+Ups old new = (first last : ℕ) × (new ≡ with_control_ended last (with_deactivated_cleared (with_control_begun first old)))
 
 -- so it is, and the call ends
 abbrev pub Reopens : Known → Known → Type 0
-Reopens old new = (found : ℕ) × (new ≡ control_over found (activated old))
+Reopens old new = (found : ℕ) × (new ≡ with_control_ended found (with_deactivated_cleared old))
 
 -- a live resize: `pfifo_fast_change_tx_queue_len` of net/sched/sch_generic.c under the run lock
 abbrev pub ResizesLive : Setup → ℕ → ℕ → ℕ → Known → Known → Type 0
-ResizesLive k event len count old new = (found : ℕ) × (locked resized : Known) × TakesLock (control_begun found old) locked × ResizesAll k len event count locked resized × ReleasesBy resized new
+ResizesLive k event len count old new = (found : ℕ) × (locked resized : Known) × TakesLock (with_control_begun found old) locked × ResizesAll k len event count locked resized × ReleasesBy resized new
 
 -- the empty rings of a station that was purged: no packet is dropped
 abbrev pub Relengths : Setup → ℕ → ℕ → Known → Known → Type 0
-Relengths k event len old new = (locked resized : Known) × TakesLock old locked × ResizesAll k len event 0 locked resized × (new ≡ unlocked resized)
+Relengths k event len old new = (locked resized : Known) × TakesLock old locked × ResizesAll k len event 0 locked resized × (new ≡ with_lock_released resized)
 
 -- `dev_qdisc_change_tx_queue_len` of net/sched/sch_generic.c
 abbrev pub ChangesLength : Setup → ℕ → ℕ → ℕ → Known → Known → Type 0
 ChangesLength k event len count old new = (clear changed : Known) × DeactivatesWhole k event count old clear × Relengths k event len clear changed × Reopens changed new
 
 -- the station has this unit and its device, and the first queue's stop word is stored as open
-abbrev pub exchanged : Setup → ℕ → DeviceState → Known → Known
-exchanged k unit device old = record { view = swapping (with_device (shown old.view.holder) unit device) old.view; steps = old.steps ⊳ did_store_stop k 0 0 }
+abbrev pub with_device_exchanged : Setup → ℕ → DeviceState → Known → Known
+with_device_exchanged k unit device old = record { view = swapping (with_device (shown old.view.holder) unit device) old.view; steps = old.steps ⊳ did_store_stop k 0 0 }
 
 -- so are the stop words of so many queues after the first, in ascending order
-abbrev pub opened_on : Setup → ℕ → Known → Known
-opened_on k zero old = old
-opened_on k (suc more) old = record { view = opening_next (suc more) (opened_on k more old).view; steps = (opened_on k more old).steps ⊳ did_store_stop k (suc more) 0 }
+abbrev pub with_queues_opened : Setup → ℕ → Known → Known
+with_queues_opened k zero old = old
+with_queues_opened k (suc more) old = record { view = opening_next (suc more) (with_queues_opened k more old).view; steps = (with_queues_opened k more old).steps ⊳ did_store_stop k (suc more) 0 }
 
 -- Under the run lock: a driver's open, with `netif_tx_start_all_queues` of include/linux/netdevice.h. The device that goes is the one that
 -- came with the latest unit, and has served the station.
@@ -208,7 +212,7 @@ pub record ExchangesDevice (k : Setup) (unit : ℕ) (came went : DeviceState) (o
   pub takes : TakesLock old locked
   pub goes : went ≡ locked.view.holder.station.device
   pub away : GoesAway locked.view
-  pub is : new ≡ unlocked (opened_on k (k.queues - 1) (exchanged k unit came locked))
+  pub is : new ≡ with_lock_released (with_queues_opened k (k.queues - 1) (with_device_exchanged k unit came locked))
 
 -- an exchange of the device, while the station is deactivated; so many packets are purged
 abbrev pub Swaps : Setup → ℕ → ℕ → DeviceState → DeviceState → Known → Known → Type 0

@@ -11,7 +11,7 @@ ghost use Rattle.lq_table.specs.Views.{HolderPart, WholePart, first_account};
 ghost use Rattle.lq_table.specs.Rule.{shown, units_of, latest_unit, station_count, HasServed};
 ghost use Rattle.lq_table.specs.Controls.{shut_after};
 ghost use Rattle.lq_table.specs.Sees.{view, known, setup, position, slot, IsSeatOf, IsSameSeat, IsElseSame};
-ghost use Rattle.lq_control.specs.Steps.{ExchangesDevice, Swaps, opened_on};
+ghost use Rattle.lq_control.specs.Steps.{ExchangesDevice, Swaps, with_queues_opened};
 ghost use Rattle.lq_qdisc.specs.Sends.{IsReadyToSend};
 ghost use Rattle.lq_control.specs.Control.{IsIn, IsKeptByControl, Stores, all_opened, IsAfterUnits};
 ghost use Rattle.lq_control.specs.Alone.{DoesSwap};
@@ -43,7 +43,7 @@ fn open_queues<'a, D: TxDevice>(shared: &Shared<'a, D>, cpu: &mut Cpu<D>)
     requires shut { (view cpu.old).holder.shut ≡ shut_after 0 shared.now.queues }
     ensures same { IsElseSame cpu.old cpu.new }
     ensures opened { (w : WholePart) × (view cpu.new ≡ all_opened None w (view cpu.old)) × (w.told ≡ (view cpu.old).whole.told) }
-    ensures opens { known cpu.new ≡ opened_on (setup shared.now) (shared.now.queues - 1) (known cpu.old) }
+    ensures opens { known cpu.new ≡ with_queues_opened (setup shared.now) (shared.now.queues - 1) (known cpu.old) }
     ensures step { solo (view cpu.new) ≡ solo (view cpu.old) }
 {
     for queue in 1..shared.queues() {

@@ -11,7 +11,7 @@ ghost use Rattle.lq_table.specs.Solo.{IsSole, IsAccounts, solo, locked_to};
 ghost use Rattle.lq_table.specs.Told.{IsKnownSlot, got_in_control};
 ghost use Rattle.lq_run.specs.Runs.{HasStation, HasNone, Rests};
 ghost use Rattle.lq_control.specs.Control.{phased, with_lock_free};
-ghost use Rattle.lq_control.specs.Steps.{TakesLock, WaitsForCalls, unlocked};
+ghost use Rattle.lq_control.specs.Steps.{TakesLock, WaitsForCalls, with_lock_released};
 
 use crossbeam_utils::Backoff;
 use lq_device::TxDevice;
@@ -74,7 +74,7 @@ pub(crate) fn release<'a, D: TxDevice>(shared: &Shared<'a, D>, cpu: &mut Cpu<D>)
     ensures same { IsSameSeat cpu.old cpu.new × (cpu.new.indices ≡ cpu.old.indices) }
     ensures released { view cpu.new ≡ with_lock_free (view cpu.old) }
     ensures empty { HasNone cpu.new }
-    ensures by { known cpu.new ≡ unlocked (known cpu.old) }
+    ensures by { known cpu.new ≡ with_lock_released (known cpu.old) }
 {
     shared.move_station(cpu);
     shared.unlock(cpu);

@@ -7,7 +7,7 @@ use Rattle.lq_table.specs.Views.{View}
 use Rattle.lq_table.specs.Controls.{closing}
 use Rattle.lq_table.specs.Sees.{view, setup, known}
 use Rattle.lq_table.specs.Made.{Known}
-use Rattle.lq_control.specs.Steps.{PurgesBy, WaitsForCalls, deactivated}
+use Rattle.lq_control.specs.Steps.{PurgesBy, WaitsForCalls, with_deactivated_set}
 use Rattle.lq_control.proofs.StepLemmas.{both}
 use Rattle.lq_table.specs.Solo.{IsSole}
 use Rattle.lq_table.specs.Told.{got_in_control}
@@ -48,7 +48,7 @@ returns-clause-deactivates g c =
       calm = known c.wait_for_calls.new.cpu;
       locked = known c.take_lock.new.cpu;
       purged = known c.purge_all-purged.new.cpu;
-      waits = subst (λ (x : Known). WaitsForCalls x (known c.wait_for_calls.new.cpu)) (both (known c.set_deactivated.new.cpu) (deactivated event set.made.0 (known c.args.cpu.now)) set.view set.made.1) c.wait_for_calls.ensures.waits;
+      waits = subst (λ (x : Known). WaitsForCalls x (known c.wait_for_calls.new.cpu)) (both (known c.set_deactivated.new.cpu) (with_deactivated_set event set.made.0 (known c.args.cpu.now)) set.view set.made.1) c.wait_for_calls.ensures.waits;
       takes = c.take_lock.ensures.takes;
       purges = subst (λ (e : ℕ). PurgesBy k (cause.Event e) c.purge_all-purged.result (known c.take_lock.new.cpu) (known c.purge_all-purged.new.cpu)) same p.2;
       released = c.release.ensures.by;

@@ -4,7 +4,7 @@ use Rattle.lq_table.specs.Sees.{view, known, setup}
 use Rattle.lq_table.specs.Solo.{solo}
 use Rattle.lq_model.specs.Alone.{changed}
 use Rattle.lq_model.specs.declared.plan.EventKind.TheVariants as kind
-use Rattle.lq_control.specs.Steps.{control_over}
+use Rattle.lq_control.specs.Steps.{with_control_ended}
 use Rattle.lq_control.proofs.StepLemmas.{both}
 use Rattle.lq_control.proofs.Alone.{down_alone, downed, downed_at, stepped_at}
 use Rattle.lq_control.proofs.activates.down.Goals as goal
@@ -21,5 +21,5 @@ returns-clause-downs g c = let last = c.end_control.ensures in let clear = known
   clear,
   last.made.0,
   (known c.deactivate-purged.new.cpu, c.deactivate-purged.ensures.deactivates, c.wait_until_clear.ensures.waits),
-  both (known c.end_control.new.cpu) (control_over last.made.0 clear) last.view last.made.1,
+  both (known c.end_control.new.cpu) (with_control_ended last.made.0 clear) last.view last.made.1,
 )

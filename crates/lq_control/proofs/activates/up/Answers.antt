@@ -5,7 +5,7 @@ use Rattle.lq_table.specs.Solo.{heard, solo}
 use Rattle.lq_model.specs.Account.{Up}
 use Rattle.lq_model.specs.Alone.{changed}
 use Rattle.lq_model.specs.declared.plan.EventKind.TheVariants as kind
-use Rattle.lq_control.specs.Steps.{activated, control_begun, control_over}
+use Rattle.lq_control.specs.Steps.{with_deactivated_cleared, with_control_begun, with_control_ended}
 use Rattle.lq_control.proofs.StepLemmas.{both}
 use Rattle.lq_control.proofs.Alone.{stepped_at, up_alone}
 use Rattle.lq_control.proofs.activates.up.Goals as goal
@@ -23,7 +23,7 @@ returns-clause-ups g c =
     let first = c.begin_control.ensures in let mid = c.clear_deactivated.ensures in let last = c.end_control.ensures in let k = known c.args.cpu.now in (
       first.made.0,
       last.made.0,
-      both (known c.end_control.new.cpu) (control_over last.made.0 (known c.clear_deactivated.new.cpu)) last.view last.made.1
-          ∙ ap (control_over last.made.0) (both (known c.clear_deactivated.new.cpu) (activated (known c.begin_control.new.cpu)) mid.view mid.made
-          ∙ ap activated (both (known c.begin_control.new.cpu) (control_begun first.made.0 k) first.view first.made.1)),
+      both (known c.end_control.new.cpu) (with_control_ended last.made.0 (known c.clear_deactivated.new.cpu)) last.view last.made.1
+          ∙ ap (with_control_ended last.made.0) (both (known c.clear_deactivated.new.cpu) (with_deactivated_cleared (known c.begin_control.new.cpu)) mid.view mid.made
+          ∙ ap with_deactivated_cleared (both (known c.begin_control.new.cpu) (with_control_begun first.made.0 k) first.view first.made.1)),
     )

@@ -10,7 +10,7 @@ use Rattle.lq_table.specs.Solo.{Solo, account_of, solo}
 use Rattle.lq_qdisc.specs.Alone.{IsAlone, account_in}
 use Rattle.lq_qdisc.proofs.AloneSteps.{account_at, count_of}
 use Rattle.lq_control.specs.declared.finishes.Seen.TheVariants.{Hung, Ended}
-use Rattle.lq_control.specs.Steps.{control_over}
+use Rattle.lq_control.specs.Steps.{with_control_ended}
 use Rattle.lq_control.specs.EndSteps.{ServesToEnd}
 use Rattle.lq_control.proofs.StepLemmas.{both}
 use Rattle.lq_control.specs.Ending.{IsEndedAlike, IsFinishedAlone}
@@ -153,4 +153,4 @@ returns-then-serve_to_end-clause-finishes g c = let k = setup c.args.shared.now 
 
 pub returns-clause-finishes : goal.returns-clause-finishes
 returns-clause-finishes g c = let k = setup c.args.shared.now in let e = c.end_control.ensures in let sent = known c.send_all_left.new.cpu in let ended = known c.serve_to_end.new.cpu in
-    (sent, ended, c.send_all_left.ensures.sends, inr (subst (λ (b : Bool). ServesToEnd k (if b then Hung else Ended) sent ended) c.if-serve_to_end.false c.serve_to_end.ensures.serves, refl, e.made.0, both (known c.end_control.new.cpu) (control_over e.made.0 ended) e.view e.made.1))
+    (sent, ended, c.send_all_left.ensures.sends, inr (subst (λ (b : Bool). ServesToEnd k (if b then Hung else Ended) sent ended) c.if-serve_to_end.false c.serve_to_end.ensures.serves, refl, e.made.0, both (known c.end_control.new.cpu) (with_control_ended e.made.0 ended) e.view e.made.1))

@@ -106,12 +106,12 @@ returns-then-not-are_quiet-clause-shows g c =
 
 pub returns-then-state-ne0-clause-looks : goal.returns-then-state-ne0-clause-looks
 returns-then-state-ne0-clause-looks g c = let from = looked_from c.load_lock-lock.result c.load_state-state.result (known c.args.cpu.now) (known c.load_lock-lock.new.cpu) (known c.load_state-state.new.cpu)
-    c.load_lock-lock.ensures.view c.load_lock-lock.ensures.made c.load_state-state.ensures.view c.load_state-state.ensures.made in (c.load_lock-lock.result, c.load_state-state.result, inl (ap not (not_eqb (bit_and c.load_state-state.result 2) 0 c.if-state-ne0.true), refl, from))
+    c.load_lock-lock.ensures.made (c.load_state-state.ensures.view ∙ (control_looked c.load_state-state.result false (view c.load_lock-lock.new.cpu) (ap (λ (x : View). x.place.position) c.load_lock-lock.ensures.view ∙ c.requires.at.0) ∙ c.load_lock-lock.ensures.view)) c.load_state-state.ensures.made in (c.load_lock-lock.result, c.load_state-state.result, inl (ap not (not_eqb (bit_and c.load_state-state.result 2) 0 c.if-state-ne0.true), refl, from))
 
 pub returns-then-are_stops-clause-looks : goal.returns-then-are_stops-clause-looks
 returns-then-are_stops-clause-looks g c =
     let from = looked_from c.load_lock-lock.result c.load_state-state.result (known c.args.cpu.now) (known c.load_lock-lock.new.cpu) (known c.load_state-state.new.cpu)
-    c.load_lock-lock.ensures.view c.load_lock-lock.ensures.made c.load_state-state.ensures.view c.load_state-state.ensures.made in
+    c.load_lock-lock.ensures.made (c.load_state-state.ensures.view ∙ (control_looked c.load_state-state.result false (view c.load_lock-lock.new.cpu) (ap (λ (x : View). x.place.position) c.load_lock-lock.ensures.view ∙ c.requires.at.0) ∙ c.load_lock-lock.ensures.view)) c.load_state-state.ensures.made in
     let k = setup c.args.shared.now in let new = known c.are_stops.new.cpu in (
       c.load_lock-lock.result,
       c.load_state-state.result,
@@ -127,7 +127,7 @@ returns-then-are_stops-clause-looks g c =
 pub returns-then-not-are_quiet-clause-looks : goal.returns-then-not-are_quiet-clause-looks
 returns-then-not-are_quiet-clause-looks g c =
     let from = looked_from c.load_lock-lock.result c.load_state-state.result (known c.args.cpu.now) (known c.load_lock-lock.new.cpu) (known c.load_state-state.new.cpu)
-    c.load_lock-lock.ensures.view c.load_lock-lock.ensures.made c.load_state-state.ensures.view c.load_state-state.ensures.made in
+    c.load_lock-lock.ensures.made (c.load_state-state.ensures.view ∙ (control_looked c.load_state-state.result false (view c.load_lock-lock.new.cpu) (ap (λ (x : View). x.place.position) c.load_lock-lock.ensures.view ∙ c.requires.at.0) ∙ c.load_lock-lock.ensures.view)) c.load_state-state.ensures.made in
     looks_on (setup c.args.shared.now) c.load_lock-lock.result c.load_state-state.result seen.Going (known c.args.cpu.now) (known c.load_state-state.new.cpu) (known c.are_stops.new.cpu) (known c.are_stops-open.new.cpu) (known c.are_stops-open.new.cpu) c.are_stops.result c.are_stops-open.result
     (ap not (eq-eqb (bit_and c.load_state-state.result 2) 0 c.if-state-ne0.false))
     from c.if-are_stops.false c.are_stops.ensures.loads c.are_stops-open.ensures.loads (inl (sym c.are_quiet.ensures.quiet ∙ c.if-not-are_quiet.true, refl, refl))
@@ -135,7 +135,7 @@ returns-then-not-are_quiet-clause-looks g c =
 pub returns-then-load_inside-ne0-clause-looks : goal.returns-then-load_inside-ne0-clause-looks
 returns-then-load_inside-ne0-clause-looks g c =
     let from = looked_from c.load_lock-lock.result c.load_state-state.result (known c.args.cpu.now) (known c.load_lock-lock.new.cpu) (known c.load_state-state.new.cpu)
-    c.load_lock-lock.ensures.view c.load_lock-lock.ensures.made c.load_state-state.ensures.view c.load_state-state.ensures.made in
+    c.load_lock-lock.ensures.made (c.load_state-state.ensures.view ∙ (control_looked c.load_state-state.result false (view c.load_lock-lock.new.cpu) (ap (λ (x : View). x.place.position) c.load_lock-lock.ensures.view ∙ c.requires.at.0) ∙ c.load_lock-lock.ensures.view)) c.load_state-state.ensures.made in
     looks_on (setup c.args.shared.now) c.load_lock-lock.result c.load_state-state.result seen.Going (known c.args.cpu.now) (known c.load_state-state.new.cpu) (known c.are_stops.new.cpu) (known c.are_stops-open.new.cpu) (known c.load_inside.new.cpu) c.are_stops.result c.are_stops-open.result
     (ap not (eq-eqb (bit_and c.load_state-state.result 2) 0 c.if-state-ne0.false))
     from c.if-are_stops.false c.are_stops.ensures.loads c.are_stops-open.ensures.loads
@@ -144,7 +144,7 @@ returns-then-load_inside-ne0-clause-looks g c =
 pub returns-clause-looks : goal.returns-clause-looks
 returns-clause-looks g c =
     let from = looked_from c.load_lock-lock.result c.load_state-state.result (known c.args.cpu.now) (known c.load_lock-lock.new.cpu) (known c.load_state-state.new.cpu)
-    c.load_lock-lock.ensures.view c.load_lock-lock.ensures.made c.load_state-state.ensures.view c.load_state-state.ensures.made in
+    c.load_lock-lock.ensures.made (c.load_state-state.ensures.view ∙ (control_looked c.load_state-state.result false (view c.load_lock-lock.new.cpu) (ap (λ (x : View). x.place.position) c.load_lock-lock.ensures.view ∙ c.requires.at.0) ∙ c.load_lock-lock.ensures.view)) c.load_state-state.ensures.made in
     looks_on (setup c.args.shared.now) c.load_lock-lock.result c.load_state-state.result seen.Ended (known c.args.cpu.now) (known c.load_state-state.new.cpu) (known c.are_stops.new.cpu) (known c.are_stops-open.new.cpu) (known c.load_inside.new.cpu) c.are_stops.result c.are_stops-open.result
     (ap not (eq-eqb (bit_and c.load_state-state.result 2) 0 c.if-state-ne0.false))
     from c.if-are_stops.false c.are_stops.ensures.loads c.are_stops-open.ensures.loads

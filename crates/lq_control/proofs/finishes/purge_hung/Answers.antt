@@ -12,7 +12,7 @@ use Rattle.lq_table.specs.Rule.{shown, IsResting}
 use Rattle.lq_table.specs.Purges.{purging, HoldsAtMost, HoldPackets}
 use Rattle.lq_table.specs.Sees.{view, known, setup}
 use Rattle.lq_table.specs.Made.{Known}
-use Rattle.lq_control.specs.Steps.{PurgesHeld, purge_started}
+use Rattle.lq_control.specs.Steps.{PurgesHeld, with_purge_begun}
 use Rattle.lq_control.proofs.StepLemmas.{both}
 use Rattle.lq_table.specs.Solo.{IsSole, account_of, solo}
 use Rattle.lq_ring.proofs.Seats.{seat_on}
@@ -228,7 +228,7 @@ pub returns-clause-purges : goal.returns-clause-purges
 returns-clause-purges g c =
     let k = setup c.args.shared.now in let b = c.begin_hung_purge.ensures in let e = c.end_resize.ensures in let locked = known c.take_lock.new.cpu in let count = c.purge_held-purged.result in
     let by = cause.Hung locked.view.holder.station.unit in let slot = locked.view.holder.slot in
-    let started = both (known c.begin_hung_purge.new.cpu) (purge_started by b.begun.0 b.made.0 locked) b.begun.1 b.made.1 in
+    let started = both (known c.begin_hung_purge.new.cpu) (with_purge_begun by b.begun.0 b.made.0 locked) b.begun.1 b.made.1 in
     let held_ = subst (λ (n : ℕ). PurgesHeld k (cause.Hung n) slot count (known c.begin_hung_purge.new.cpu) (known c.purge_held-purged.new.cpu)) (sym (of_unit g c)) (c.purge_held-purged.ensures.purges slot (ap (λ (x : View). x.packets.owed) (begun g c))) in (
       known c.wait_until_left.new.cpu,
       locked,

@@ -6,7 +6,7 @@ use Rattle.lq_table.specs.Rule.{shown}
 use Rattle.lq_table.specs.Purges.{HoldsAtMost, HoldPackets}
 use Rattle.lq_table.specs.Sees.{view, setup, known}
 use Rattle.lq_table.specs.Made.{Known}
-use Rattle.lq_control.specs.Steps.{PurgesHeld, purge_started}
+use Rattle.lq_control.specs.Steps.{PurgesHeld, with_purge_begun}
 use Rattle.lq_control.proofs.StepLemmas.{both}
 use Rattle.lq_control.proofs.Purge.{purged_of, slot_within}
 use Rattle.lq_control.proofs.purges.purge_all.Goals as goal
@@ -46,7 +46,7 @@ returns-clause-purged g c =
 pub returns-clause-purges : goal.returns-clause-purges
 returns-clause-purges g c =
     let k = setup c.args.shared.now in let b = c.begin_purge-event.ensures.begun in let seen = c.begin_purge-event.ensures.made in let event = c.begin_purge-event.result in let slot = (view c.args.cpu.now).holder.slot in
-    let started = both (known c.begin_purge-event.new.cpu) (purge_started (cause.Event event) b.0 seen.0 (known c.args.cpu.now)) b.1 seen.1 in (
+    let started = both (known c.begin_purge-event.new.cpu) (with_purge_begun (cause.Event event) b.0 seen.0 (known c.args.cpu.now)) b.1 seen.1 in (
       event,
       c.begin_purge-event.ensures.event,
       record {

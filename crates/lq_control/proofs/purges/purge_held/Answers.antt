@@ -8,7 +8,7 @@ use Rattle.lq_table.specs.Purges.{first_purge}
 use Rattle.lq_table.specs.Rule.{IsResting}
 use Rattle.lq_table.specs.Sees.{view, known}
 use Rattle.lq_table.specs.Made.{Made, ◌⊳◌, did_clear_draining}
-use Rattle.lq_control.specs.Steps.{bits_reset}
+use Rattle.lq_control.specs.Steps.{with_bits_cleared}
 use Rattle.lq_control.proofs.StepLemmas.{both}
 use Rattle.lq_ring.proofs.Seats.{seat_on}
 use Rattle.lq_control.proofs.Purge.{still_then, still_purged, rests_purged, left1, left2, left3, purge1, purge2, purge3, purge4, emptied, count_all, slot_few}
@@ -219,6 +219,6 @@ returns-clause-purges g c s owed =
       first = c.purge_band-low.ensures.purges;
       second = c.purge_band-mid.ensures.purges;
       third = c.purge_band-high.ensures.purges;
-      cleared = both (known c.reset_draining.new.cpu) (bits_reset three) (d.view ∙ ap resetting_draining m.view) (d.made ∙ ap (λ (xs : List Made). xs ⊳ did_clear_draining) m.made);
+      cleared = both (known c.reset_draining.new.cpu) (with_bits_cleared three) (d.view ∙ ap resetting_draining m.view) (d.made ∙ ap (λ (xs : List Made). xs ⊳ did_clear_draining) m.made);
       counted = ap (λ (n : ℕ). n + c.purge_band-low.result + c.purge_band-mid.result + c.purge_band-high.result) (c.purge_slot-slot.ensures.purged s owed).1;
     }

@@ -14,7 +14,7 @@ use Rattle.lq_ring.specs.Resized.{all_lost, having_resized}
 use Rattle.lq_control.proofs.Alone.{resize_alone, resized_same, stepped_at}
 use Rattle.lq_control.proofs.Sole.{lost_dropped}
 use Rattle.lq_table.specs.Made.{Known}
-use Rattle.lq_control.specs.Steps.{TakesLock, control_begun}
+use Rattle.lq_control.specs.Steps.{TakesLock, with_control_begun}
 use Rattle.lq_control.proofs.StepLemmas.{both}
 use Rattle.lq_control.proofs.resizes.resize.Goals as goal
 
@@ -49,7 +49,7 @@ returns-clause-resizes g c =
       first.made.0,
       known c.take_lock.new.cpu,
       known c.resize_all-shrunk.new.cpu,
-      subst (λ (x : Known). TakesLock x (known c.take_lock.new.cpu)) (both (known c.begin_control.new.cpu) (control_begun first.made.0 (known c.args.cpu.now)) first.view first.made.1) c.take_lock.ensures.takes,
+      subst (λ (x : Known). TakesLock x (known c.take_lock.new.cpu)) (both (known c.begin_control.new.cpu) (with_control_begun first.made.0 (known c.args.cpu.now)) first.view first.made.1) c.take_lock.ensures.takes,
       c.resize_all-shrunk.ensures.resizes,
       (record { calm = record { share = e.kept.0.1; state = e.kept.1; settled = e.kept.0.8 }; sole = e.sole }, e.ends),
     )

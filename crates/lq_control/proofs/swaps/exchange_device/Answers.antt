@@ -10,7 +10,7 @@ use Rattle.lq_table.specs.Sees.{view, known, setup}
 use Rattle.lq_table.specs.Made.{Known, ◌⊳◌, did_store_stop}
 use Rattle.lq_table.specs.Solo.{Solo, device_to, heard, locked_to, solo}
 use Rattle.lq_model.specs.Account.{Swap}
-use Rattle.lq_control.specs.Steps.{exchanged, opened_on, unlocked}
+use Rattle.lq_control.specs.Steps.{with_device_exchanged, with_queues_opened, with_lock_released}
 use Rattle.lq_control.proofs.StepLemmas.{both}
 use Rattle.lq_control.proofs.swaps.exchange_device.Goals as goal
 
@@ -65,7 +65,7 @@ pub returns-clause-exchanges : goal.returns-clause-exchanges
 returns-clause-exchanges g c =
     let k = setup c.args.shared.now in let locked = known c.take_lock.new.cpu in let came = g.D.TxDevice.state c.args.device in
     let changed = c.change_device-old.ensures.changed locked.view.holder c.take_lock.ensures.station.1 in let now = c.change_device-old.ensures.same.3 in let x = c.exchange.ensures in
-    let swapped = both (known c.exchange.new.cpu) (exchanged k c.args.unit came locked)
+    let swapped = both (known c.exchange.new.cpu) (with_device_exchanged k c.args.unit came locked)
     (x.view ∙ (λ j. swapping (unwrap_or (changed.0 j) no_station) (now j).view)) (x.made ∙ ap (λ (y : Known). y.steps ⊳ did_store_stop k 0 0) now) in
     let about : locked.view.share.about ≡ k = ap (λ (v : View). v.share.about) c.take_lock.ensures.got.1 ∙ c.requires.seat.2 in record {
       locked = locked;
@@ -73,5 +73,5 @@ returns-clause-exchanges g c =
       goes = changed.1;
       away = subst (λ (z : Setup). HasServed z.infos z.station locked.view.control.origin locked.view.holder.station.device × (locked.view.holder.station.unit ≡ latest_unit z.station locked.view.holder.units)) (sym about)
           (subst (λ (y : Known). HasServed k.infos k.station y.view.control.origin y.view.holder.station.device × (y.view.holder.station.unit ≡ latest_unit k.station y.view.holder.units)) now (x.served, x.unit));
-      is = c.release.ensures.by ∙ ap unlocked (c.open_queues.ensures.opens ∙ ap (opened_on k (k.queues - 1)) swapped);
+      is = c.release.ensures.by ∙ ap with_lock_released (c.open_queues.ensures.opens ∙ ap (with_queues_opened k (k.queues - 1)) swapped);
     }

@@ -1,0 +1,249 @@
+-- What the relations of control's calls come to: what is kept, which events came, which fates were stored, and how many.
+use Rattle.std.proofs.Common.{◌≡◌, ◌<◌, ◌+◌, ℕ, Bool, true, false, List, [], ◌∷◌, ◌++◌, length, Option, Some, None, refl, sym, ap, ◌∙◌, subst, arith}
+use Rattle.std.proofs.lemmas.List.{append_assoc}
+use Rattle.std.specs.Prelude.{if◌then◌else◌}
+use Rattle.std.specs.Option.{option_map, option_to_list}
+use Rattle.lq_model.specs.Account.{Account, Event, Down, Purge as PurgeEvent, held}
+use Rattle.lq_model.specs.Band.{Band, held_of}
+use Rattle.lq_model.specs.Control.{is_control}
+use Rattle.lq_model.specs.Device.{DeviceState}
+use Rattle.lq_model.specs.declared.machine.Position.TheVariants.{Idle}
+use Rattle.lq_model.specs.declared.fate.Cause.{Cause}
+use Rattle.lq_model.specs.declared.fate.Cause.TheVariants as cause
+use Rattle.lq_model.specs.declared.fate.Fate.{Fate}
+use Rattle.lq_model.specs.declared.fate.Fate.TheVariants as fate
+use Rattle.lq_band.specs.Three.{Three, at}
+use Rattle.lq_run.specs.Tries.{TriedAs, TriesOnce}
+use Rattle.lq_ring.specs.Fates.{fates_onto}
+use Rattle.lq_table.specs.Controls.{opening, resetting_missed}
+use Rattle.lq_table.specs.Purges.{first_purge, purging}
+use Rattle.lq_table.specs.Rule.{account}
+use Rattle.lq_table.specs.Solo.{IsAccounts, IsSole, account_of}
+use Rattle.lq_table.specs.Told.{and_settled, got_in_call, got_in_control, paying, unlocking_call, unlocking_control}
+use Rattle.lq_table.specs.Views.{FirstPart, HolderPart, Left, PacketPart, Setup, SharePart, State, View, no_packets}
+use Rattle.lq_table.specs.Made.{Known}
+use Rattle.lq_qdisc.specs.Calls.{KeepsFates}
+use Rattle.lq_control.specs.Control.{IsKeptByControl, IsPurgeDone, IsPurged, IsServed, KeepsDevice, Stores, all_purged}
+use Rattle.lq_control.specs.Steps.{Deactivates, DeactivatesWhole, Downs, DrainsBy, FindsCalls, FindsClear, Interrupted, PurgesBy, PurgesHeld, PurgesSlot, Rounds, TakesLock, TriesLock, Ups, WaitsForCalls, WaitsUntilClear, held as tried, inside, locked, none_yet, not_looked, not_tried, not_yet, once_more, scheduled, served, with_deactivated_set, with_purge_begun}
+use Rattle.lq_control.proofs.Purge.{count_all, emptied, left1, purge1, purge2, left2, purged_of}
+use Rattle.lq_control.proofs.Served.{served_none, served_then}
+
+-- LINKS
+
+-- what a wait, and the run lock's steps, leave as it was
+pub record IsCalmly (v w : View) : Type 0 where
+  pub share : w.share ≡ v.share
+  pub packets : w.packets ≡ v.packets
+  pub turns : w.turns ≡ v.turns
+  pub first : w.control.first ≡ v.control.first
+  pub origin : w.control.origin ≡ v.control.origin
+  pub gone : w.control.gone ≡ v.control.gone
+  pub told : w.whole.told ≡ v.whole.told
+  pub state : w.whole.state ≡ v.whole.state
+  pub settled : w.settled ≡ v.settled
+  pub trail : w.trail ≡ v.trail
+
+calm_same : (v : View) → IsCalmly v v
+calm_same v = record { share = refl; packets = refl; turns = refl; first = refl; origin = refl; gone = refl; told = refl; state = refl; settled = refl; trail = refl }
+
+calm_then : (v w x : View) → IsCalmly v w → IsCalmly w x → IsCalmly v x
+calm_then v w x a b = record {
+  share = b.share ∙ a.share;
+  packets = b.packets ∙ a.packets;
+  turns = b.turns ∙ a.turns;
+  first = b.first ∙ a.first;
+  origin = b.origin ∙ a.origin;
+  gone = b.gone ∙ a.gone;
+  told = b.told ∙ a.told;
+  state = b.state ∙ a.state;
+  settled = b.settled ∙ a.settled;
+  trail = b.trail ∙ a.trail;
+}
+
+-- a step after which the seat knows this
+calm_by : (v to w : View) → IsCalmly v to → w ≡ to → IsCalmly v w
+calm_by v to w calm e = subst (IsCalmly v) (sym e) calm
+
+calm_if : (b : Bool) (v x y : View) → IsCalmly v x → IsCalmly v y → IsCalmly v (if b then x else y)
+calm_if true v x y one other = one
+calm_if false v x y one other = other
+
+calls_calm : (old new : Known) → FindsCalls old new → IsCalmly old.view new.view
+calls_calm old new not_looked = calm_same old.view
+calls_calm old new (inside last found h some) = calm_then old.view last.view _ (calls_calm old last h) (record { share = refl; packets = refl; turns = refl; first = refl; origin = refl; gone = refl; told = refl; state = refl; settled = refl; trail = refl })
+
+waits_calm : (old new : Known) → WaitsForCalls old new → IsCalmly old.view new.view
+waits_calm old new w = calm_by old.view _ new.view (calm_then old.view w.0.view _ (calls_calm old w.0 w.1) (record { share = refl; packets = refl; turns = refl; first = refl; origin = refl; gone = refl; told = refl; state = refl; settled = refl; trail = refl })) (ap (λ (x : Known). x.view) w.2)
+
+got_calm : (v w : View) → TriedAs true v w → IsCalmly v w
+got_calm v w t = calm_by v _ w (calm_if (is_control v.place.position) v (got_in_control t.0 v) (got_in_call t.0 v)
+    (record { share = refl; packets = refl; turns = refl; first = refl; origin = refl; gone = refl; told = refl; state = refl; settled = refl; trail = refl })
+    (record { share = refl; packets = refl; turns = refl; first = refl; origin = refl; gone = refl; told = refl; state = refl; settled = refl; trail = refl })) t.1
+
+held_calm : (v w : View) → TriedAs false v w → IsCalmly v w
+held_calm v w t = calm_by v _ w (record { share = refl; packets = refl; turns = refl; first = refl; origin = refl; gone = refl; told = refl; state = refl; settled = refl; trail = refl }) t
+
+tries_calm : (old new : Known) → TriesLock old new → IsCalmly old.view new.view
+tries_calm old new not_tried = calm_same old.view
+tries_calm old new (tried last next h once) = calm_then old.view last.view next.view (tries_calm old last h) (held_calm last.view next.view once.0)
+
+pub takes_calm : (old new : Known) → TakesLock old new → IsCalmly old.view new.view
+takes_calm old new t = calm_then old.view t.last.view new.view (tries_calm old t.last t.tries) (got_calm t.last.view new.view t.gets.0)
+
+released_calm : (v w : View) → w ≡ (if is_control v.place.position then unlocking_control v else unlocking_call v) → IsCalmly v w
+released_calm v w e = calm_by v _ w (calm_if (is_control v.place.position) v (unlocking_control v) (unlocking_call v)
+    (record { share = refl; packets = refl; turns = refl; first = refl; origin = refl; gone = refl; told = refl; state = refl; settled = refl; trail = refl })
+    (record { share = refl; packets = refl; turns = refl; first = refl; origin = refl; gone = refl; told = refl; state = refl; settled = refl; trail = refl })) e
+
+-- SOFT INTERRUPTS
+
+interrupted_served : (k : Setup) (old new : Known) → Interrupted k old new → IsServed old.view new.view
+interrupted_served k old new not_yet = served_none old.view old.view refl
+interrupted_served k old new (once_more last next h raised one) = served_then old.view last.view next.view (interrupted_served k old last h) one.served
+
+pub drains_served : (k : Setup) (old new : Known) → DrainsBy k old new → IsServed old.view new.view
+drains_served k old new d = interrupted_served k old new d.0
+
+rounds_served : (k : Setup) (old new : Known) → Rounds k old new → IsServed old.view new.view
+rounds_served k old new none_yet = served_none old.view old.view refl
+rounds_served k old new (served last next found h raised one) =
+    served_then old.view next.view _ (served_then old.view last.view next.view (rounds_served k old last h) one.served)
+    (record { kept = record { share = refl; turns = refl; first = refl; told = refl }; control = refl; trail = refl; fates = ([], refl) })
+rounds_served k old new (locked last found h low some) = rounds_served k old last h
+rounds_served k old new (scheduled last state h low set) = rounds_served k old last h
+
+pub waits_served : (k : Setup) (old new : Known) → WaitsUntilClear k old new → IsServed old.view new.view
+waits_served k old new w = served_then old.view w.0.view new.view (rounds_served k old w.0 w.1) (served_none w.0.view new.view (ap (λ (x : Known). x.view) w.2.is))
+
+-- PURGES
+
+paid : (k : Setup) (by : Cause) (s : Option ℕ) (old new : Known) → old.view.packets.owed ≡ option_map (λ n. (n, fate.Purged by)) s → PurgesSlot k (fate.Purged by) s old new
+    → new.view ≡ record old.view { packets = record old.view.packets { owed = None }; settled = fates_onto (fate.Purged by) (option_to_list s) old.view.settled }
+paid k by None old new owed e = ap (λ (x : Known). x.view) e ∙ (λ j. record old.view { packets = record old.view.packets { owed = owed j } })
+paid k by (Some n) old new owed e = ap (λ (x : Known). x.view) e ∙ (λ j. record (paying old.view) { settled = and_settled (owed j) old.view.settled })
+
+purges_done : (k : Setup) (by : Cause) (bands : Three Band) (s : Option ℕ) (count : ℕ) (old new : Known) → old.view.packets.owed ≡ option_map (λ n. (n, fate.Purged by)) s → old.view.control.purge ≡ Some first_purge
+    → old.view.holder.left ≡ Some (record { cause = by; bands = bands }) → PurgesHeld k by s count old new → IsPurgeDone by (all_purged s bands) old.view new.view × (count ≡ length (all_purged s bands))
+purges_done k by bands s count old new owed purge left h =
+    let l : Left = record { cause = by; bands = bands } in let e = paid k by s old h.emptied owed h.requeued in
+    let low = h.first.purged first_purge l (ap (λ (x : View). x.control.purge) e ∙ purge) (ap (λ (x : View). x.holder.left) e ∙ left) in
+    let mid = h.second.purged purge1 (left1 l) (ap (λ (x : View). x.control.purge) low.0.is) (ap (λ (x : View). x.holder.left) low.0.is) in
+    let high = h.third.purged purge2 (left2 l) (ap (λ (x : View). x.control.purge) mid.0.is) (ap (λ (x : View). x.holder.left) mid.0.is) in
+    let n = count_all s l in let n0 = h.counted in let n1 = low.1 in let n2 = mid.1 in let n3 = high.1 in (
+      emptied by s l old.view h.emptied.view h.one.view h.two.view h.three.view (resetting_missed h.three.view) new.view refl e low.0 mid.0 high.0 refl (ap (λ (x : Known). x.view) h.cleared),
+      omega arith,
+    )
+
+pub purges_all : (k : Setup) (by : Cause) (count : ℕ) (old new : Known) → old.view.packets.owed ≡ None → (p : PurgesBy k by count old new)
+    → IsPurged by (all_purged old.view.holder.slot p.bands) old.view new.view × (count ≡ length (all_purged old.view.holder.slot p.bands))
+purges_all k by count old new none_owed p =
+    let begun : Known = with_purge_begun by p.bands p.state old in let done = purges_done k by p.bands old.view.holder.slot count begun new refl refl refl p.purges in
+    (purged_of by p.bands (all_purged old.view.holder.slot p.bands) old.view begun.view new.view none_owed refl done.0, done.1)
+
+-- DEACTIVATIONS
+
+-- these events came, what control keeps is kept, and so many packets are purged by this event: for a seat that has the table alone all
+-- that its account holds
+pub record Leaves (events : List Event) (event count : ℕ) (v w : View) : Type 0 where
+  pub kept : IsKeptByControl v w
+  pub trail : w.trail ≡ events ++ v.trail
+  pub lost : List ℕ
+  pub stores : Stores (fate.Purged (cause.Event event)) lost v w
+  pub counted : count ≡ length lost
+  pub all : IsSole v → lost ≡ held (account_of v)
+
+-- more came, and no fate but those that soft interrupts store
+leaves_more : (more events : List Event) (event count : ℕ) (v w x : View) → Leaves events event count v w → IsKeptByControl w x → x.trail ≡ more ++ w.trail → KeepsFates w x → Leaves (more ++ events) event count v x
+leaves_more more events event count v w x l k trail fates = record {
+  kept = record { share = k.share ∙ l.kept.share; turns = k.turns ∙ l.kept.turns; first = k.first ∙ l.kept.first; told = k.told ∙ l.kept.told };
+  trail = trail ∙ (ap (λ (es : List Event). more ++ es) l.trail ∙ sym (append_assoc more events v.trail));
+  lost = l.lost;
+  stores = (fates.0 ++ l.stores.0, fates.1 ∙ (ap (λ (fs : List (ℕ × Fate)). fates.0 ++ fs) l.stores.1 ∙ sym (append_assoc fates.0 l.stores.0 (fates_onto (fate.Purged (cause.Event event)) l.lost v.settled))));
+  counted = l.counted;
+  all = l.all;
+}
+
+sole_calm : (v w : View) → IsCalmly v w → IsSole v → IsSole w
+sole_calm v w c sole = (ap (λ (s : SharePart). s.shares) c.share ∙ sole.0, c.told ∙ sole.1)
+
+account_calm : (v w : View) → IsCalmly v w → account_of w ≡ account_of v
+account_calm v w c = λ j. account (c.share j).about (c.state j)
+
+all_held : (slot : Option ℕ) (bands : Three Band) (a : Account) → slot ≡ a.slot → ((b : ℕ) → b < 3 → at b bands ≡ a.bands b) → all_purged slot bands ≡ held a
+all_held slot bands a same each = λ j. option_to_list (same j) ++ (held_of (each 0 (omega arith) j) ++ (held_of (each 1 (omega arith) j) ++ held_of (each 2 (omega arith) j)))
+
+module _ (k : Setup) (event count : ℕ) (old new : Known) (bare : old.view.packets ≡ no_packets) (d : Deactivates k event count old new) where
+  abbrev begun : Known
+  begun = with_deactivated_set event d.was old
+
+  waited : IsCalmly begun.view d.calm.view
+  waited = waits_calm begun d.calm d.waits
+
+  taken : IsCalmly begun.view d.locked.view
+  taken = calm_then begun.view d.calm.view d.locked.view waited (takes_calm d.calm d.locked d.takes)
+
+  abbrev lost : List ℕ
+  lost = all_purged d.locked.view.holder.slot d.purges.bands
+
+  purged_all : IsPurged (cause.Event event) lost d.locked.view d.purged.view × (count ≡ length lost)
+  purged_all = purges_all k (cause.Event event) count d.locked d.purged (ap (λ (p : PacketPart). p.owed) (taken.packets ∙ bare)) d.purges
+
+  over : IsCalmly d.purged.view new.view
+  over = released_calm d.purged.view new.view (ap (λ (x : Known). x.view) d.released)
+
+  is_all : IsSole old.view → lost ≡ held (account_of old.view)
+  is_all sole =
+      let now = account_calm begun.view d.locked.view taken in let known : IsAccounts d.locked.view = d.takes.accounts (sole_calm begun.view d.calm.view waited sole) in
+      all_held d.locked.view.holder.slot d.purges.bands (account_of begun.view) (ap (λ (h : HolderPart). h.slot) known ∙ ap (λ (a : Account). a.slot) now)
+      (λ b below. d.purges.knows (sole_calm begun.view d.locked.view taken sole) b below ∙ ap (λ (a : Account). a.bands b) now)
+
+  pub deactivates_leaves : Leaves (PurgeEvent (cause.Event event) ∷ Down event ∷ []) event count old.view new.view
+  deactivates_leaves = let is = purged_all.0.is in record {
+    kept = record {
+      share = over.share ∙ (ap (λ (x : View). x.share) is ∙ taken.share);
+      turns = over.turns ∙ (ap (λ (x : View). x.turns) is ∙ taken.turns);
+      first = over.first ∙ (ap (λ (x : View). x.control.first) is ∙ taken.first);
+      told = over.told ∙ (ap (λ (x : View). x.whole.told) is ∙ (purged_all.0.told ∙ taken.told));
+    };
+    trail = over.trail ∙ (ap (λ (x : View). x.trail) is ∙ ap (λ (es : List Event). PurgeEvent (cause.Event event) ∷ es) taken.trail);
+    lost = lost;
+    stores = ([], over.settled ∙ (ap (λ (x : View). x.settled) is ∙ ap (λ (fs : List (ℕ × Fate)). fates_onto (fate.Purged (cause.Event event)) lost fs) taken.settled));
+    counted = purged_all.1;
+    all = is_all;
+  }
+
+  pub deactivates_device : KeepsDevice old.view new.view
+  deactivates_device = let is = purged_all.0.is in record {
+    origin = over.origin ∙ (ap (λ (x : View). x.control.origin) is ∙ taken.origin);
+    gone = over.gone ∙ (ap (λ (x : View). x.control.gone) is ∙ taken.gone);
+  }
+
+pub whole_leaves : (k : Setup) (event count : ℕ) (old new : Known) → old.view.packets ≡ no_packets → DeactivatesWhole k event count old new → Leaves (PurgeEvent (cause.Event event) ∷ Down event ∷ []) event count old.view new.view × KeepsDevice old.view new.view
+whole_leaves k event count old new bare (free, d, w) =
+    let s = waits_served k free new w in let v = deactivates_device k event count old free bare d in (
+      leaves_more [] (PurgeEvent (cause.Event event) ∷ Down event ∷ []) event count old.view free.view new.view (deactivates_leaves k event count old free bare d) s.kept s.trail s.fates,
+      record { origin = ap (λ (c : FirstPart). c.origin) s.control ∙ v.origin; gone = ap (λ (c : FirstPart). c.gone) s.control ∙ v.gone },
+    )
+
+-- THE CALLS
+
+pub ups_view : (old new : Known) → old.view.place.position ≡ Idle → Ups old new → new.view ≡ opening old.view
+ups_view old new at u = ap (λ (x : Known). x.view) u.2 ∙ (λ j. record (opening old.view) { place = record old.view.place { position = sym at j } })
+
+pub downs_leaves : (k : Setup) (event count : ℕ) (old new : Known) → old.view.packets ≡ no_packets → Downs k event count old new → Leaves (PurgeEvent (cause.Event event) ∷ Down event ∷ []) event count old.view new.view × KeepsDevice old.view new.view
+downs_leaves k event count old new bare (clear, found, whole, e) =
+    let l = whole_leaves k event count old clear bare whole in let is = ap (λ (x : Known). x.view) e in (
+      leaves_more [] (PurgeEvent (cause.Event event) ∷ Down event ∷ []) event count old.view clear.view new.view l.0
+      (record { share = ap (λ (x : View). x.share) is; turns = ap (λ (x : View). x.turns) is; first = ap (λ (x : View). x.control.first) is; told = ap (λ (x : View). x.whole.told) is })
+      (ap (λ (x : View). x.trail) is) ([], ap (λ (x : View). x.settled) is),
+      record { origin = ap (λ (x : View). x.control.origin) is ∙ l.1.origin; gone = ap (λ (x : View). x.control.gone) is ∙ l.1.gone },
+    )
+
+-- the seat isn't raised after it, and one that has the table alone found SCHED clear
+pub downs_clear : (k : Setup) (event count : ℕ) (old new : Known) → Downs k event count old new → (new.view.place.raised ≡ false) × (IsSole new.view → new.view.whole.qdisc.sched ≡ false)
+downs_clear k event count old new (clear, found, (free, d, (last, rounds, f)), e) =
+    let is = ap (λ (x : Known). x.view) e in let at = ap (λ (x : Known). x.view) f.is in (
+      ap (λ (x : View). x.place.raised) is ∙ (ap (λ (x : View). x.place.raised) at ∙ f.low),
+      λ sole. ap (λ (x : View). x.whole.qdisc.sched) is ∙ (ap (λ (x : View). x.whole.qdisc.sched) at
+      ∙ (sym (f.sees (subst IsSole at (subst IsSole is sole))).scheduled ∙ f.clear)),
+    )
