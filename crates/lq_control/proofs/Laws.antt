@@ -1,9 +1,9 @@
 -- What the relations of control's calls come to: what is kept, which events came, which fates were stored, and how many.
-use Rattle.std.proofs.Common.{◌≡◌, ◌<◌, ◌+◌, ℕ, Bool, true, false, List, [], ◌∷◌, ◌++◌, length, Option, Some, None, refl, sym, ap, ◌∙◌, subst, arith}
+use Rattle.std.proofs.Common.{◌≡◌, ◌<◌, ◌+◌, ◌-◌, ℕ, zero, suc, Bool, drop, true, false, List, [], ◌∷◌, ◌++◌, length, Option, Some, None, refl, sym, ap, ◌∙◌, subst, arith}
 use Rattle.std.proofs.lemmas.List.{append_assoc}
 use Rattle.std.specs.Prelude.{if◌then◌else◌}
 use Rattle.std.specs.Option.{option_map, option_to_list}
-use Rattle.lq_model.specs.Account.{Account, Event, Down, Purge as PurgeEvent, held}
+use Rattle.lq_model.specs.Account.{Account, Event, Down, Purge as PurgeEvent, Resize, Swap, Up, held, held_in}
 use Rattle.lq_model.specs.Band.{Band, held_of}
 use Rattle.lq_model.specs.Control.{is_control}
 use Rattle.lq_model.specs.Device.{DeviceState}
@@ -13,18 +13,19 @@ use Rattle.lq_model.specs.declared.fate.Cause.TheVariants as cause
 use Rattle.lq_model.specs.declared.fate.Fate.{Fate}
 use Rattle.lq_model.specs.declared.fate.Fate.TheVariants as fate
 use Rattle.lq_band.specs.Three.{Three, at}
-use Rattle.lq_run.specs.Tries.{TriedAs, TriesOnce}
+use Rattle.lq_run.specs.Tries.{EndsRun, TriedAs, TriesOnce, scheduled_where}
 use Rattle.lq_ring.specs.Fates.{fates_onto}
-use Rattle.lq_table.specs.Controls.{opening, resetting_missed}
+use Rattle.lq_ring.specs.Resized.{all_lost}
+use Rattle.lq_table.specs.Controls.{opening, opening_next, resetting_missed}
 use Rattle.lq_table.specs.Purges.{first_purge, purging}
-use Rattle.lq_table.specs.Rule.{account}
+use Rattle.lq_table.specs.Rule.{HasServed, account, latest_unit, units_of}
 use Rattle.lq_table.specs.Solo.{IsAccounts, IsSole, account_of}
-use Rattle.lq_table.specs.Told.{and_settled, got_in_call, got_in_control, paying, unlocking_call, unlocking_control}
+use Rattle.lq_table.specs.Told.{and_settled, got_in_call, got_in_control, is_set, looking, paying, unlocking, unlocking_call, unlocking_control}
 use Rattle.lq_table.specs.Views.{FirstPart, HolderPart, Left, PacketPart, Setup, SharePart, State, View, no_packets}
 use Rattle.lq_table.specs.Made.{Known}
 use Rattle.lq_qdisc.specs.Calls.{KeepsFates}
-use Rattle.lq_control.specs.Control.{IsKeptByControl, IsPurgeDone, IsPurged, IsServed, KeepsDevice, Stores, all_purged}
-use Rattle.lq_control.specs.Steps.{Deactivates, DeactivatesWhole, Downs, DrainsBy, FindsCalls, FindsClear, Interrupted, PurgesBy, PurgesHeld, PurgesSlot, Rounds, TakesLock, TriesLock, Ups, WaitsForCalls, WaitsUntilClear, held as tried, inside, locked, none_yet, not_looked, not_tried, not_yet, once_more, scheduled, served, with_deactivated_set, with_purge_begun}
+use Rattle.lq_control.specs.Control.{IsKeptByControl, IsPurgeDone, IsPurged, IsServed, KeepsDevice, Stores, all_dropped, all_purged}
+use Rattle.lq_control.specs.Steps.{ChangesLength, Deactivates, DeactivatesWhole, Downs, DrainsBy, ExchangesDevice, ResizesLive, Swaps, FindsCalls, FindsClear, Interrupted, PurgesBy, PurgesHeld, PurgesSlot, Rounds, TakesLock, TriesLock, Ups, WaitsForCalls, WaitsUntilClear, held as tried, inside, locked, none_yet, not_looked, not_tried, not_yet, once_more, scheduled, served, with_control_begun, with_deactivated_set, with_device_exchanged, with_purge_begun, with_queues_opened}
 use Rattle.lq_control.proofs.Purge.{count_all, emptied, left1, purge1, purge2, left2, purged_of}
 use Rattle.lq_control.proofs.Served.{served_none, served_then}
 
@@ -246,4 +247,144 @@ downs_clear k event count old new (clear, found, (free, d, (last, rounds, f)), e
       ap (λ (x : View). x.place.raised) is ∙ (ap (λ (x : View). x.place.raised) at ∙ f.low),
       λ sole. ap (λ (x : View). x.whole.qdisc.sched) is ∙ (ap (λ (x : View). x.whole.qdisc.sched) at
       ∙ (sym (f.sees (subst IsSole at (subst IsSole is sole))).scheduled ∙ f.clear)),
+    )
+
+-- a length is changed
+
+sched_calm : (b was : Bool) (v : View) → IsCalmly v (scheduled_where b was v)
+sched_calm true was v = record { share = refl; packets = refl; turns = refl; first = refl; origin = refl; gone = refl; told = refl; state = refl; settled = refl; trail = refl }
+sched_calm false was v = calm_same v
+
+ends_calm : (old new : Known) → EndsRun old new → IsCalmly old.view new.view
+ends_calm old new (state, was, view, steps) =
+    let u : View = unlocking old.view in let l : View = looking state u in
+    let look : IsCalmly u l = record { share = refl; packets = refl; turns = refl; first = refl; origin = refl; gone = refl; told = refl; state = refl; settled = refl; trail = refl } in
+    calm_by old.view _ new.view (calm_then old.view u _ (released_calm old.view u refl) (calm_then u l _ look (sched_calm (is_set 4 state) was l))) view
+
+-- the event came, what control keeps is kept, and so many packets have Shrunk by it: for a seat that has the table alone those that its
+-- account drops
+pub record Shrinks (len event count : ℕ) (v w : View) : Type 0 where
+  pub kept : IsKeptByControl v w
+  pub device : KeepsDevice v w
+  pub trail : w.trail ≡ Resize len event ∷ v.trail
+  pub lost : List ℕ
+  pub settled : w.settled ≡ fates_onto (fate.Shrunk event) lost v.settled
+  pub counted : count ≡ length lost
+  pub all : IsSole v → lost ≡ all_dropped len (account_of v)
+
+pub resizes_shrinks : (k : Setup) (event len count : ℕ) (old new : Known) → ResizesLive k event len count old new → Shrinks len event count old.view new.view
+resizes_shrinks k event len count old new (found, taken_at, resized, takes, r, ends) =
+    let begun : Known = with_control_begun found old in let a : IsCalmly begun.view taken_at.view = takes_calm begun taken_at takes in let z = ends_calm resized new ends.1 in
+    let band = λ (sole : IsSole old.view) (b : ℕ) (h : b < 3). r.is_known.1 (sole_calm begun.view taken_at.view a sole) b h ∙ ap (λ (x : Account). held_in x b) (account_calm begun.view taken_at.view a) in record {
+      kept = record {
+        share = z.share ∙ (ap (λ (x : View). x.share) r.is ∙ a.share);
+        turns = z.turns ∙ (ap (λ (x : View). x.turns) r.is ∙ a.turns);
+        first = z.first ∙ (ap (λ (x : View). x.control.first) r.is ∙ a.first);
+        told = z.told ∙ (ap (λ (x : View). x.whole.told) r.is ∙ a.told);
+      };
+      device = record {
+        origin = z.origin ∙ (ap (λ (x : View). x.control.origin) r.is ∙ a.origin);
+        gone = z.gone ∙ (ap (λ (x : View). x.control.gone) r.is ∙ a.gone);
+      };
+      trail = z.trail ∙ (ap (λ (x : View). x.trail) r.is ∙ ap (λ (es : List Event). Resize len event ∷ es) a.trail);
+      lost = all_lost len r.held;
+      settled = z.settled ∙ (ap (λ (x : View). x.settled) r.is ∙ ap (λ (fs : List (ℕ × Fate)). fates_onto (fate.Shrunk event) (all_lost len r.held) fs) a.settled);
+      counted = r.counted;
+      all = λ sole. (λ j. drop len (band sole 0 (omega arith) j) ++ (drop len (band sole 1 (omega arith) j) ++ drop len (band sole 2 (omega arith) j)));
+    }
+
+no_element : (xs : List ℕ) → 0 ≡ length xs → xs ≡ []
+no_element [] none = refl
+no_element (x ∷ xs) none = absurd (omega arith)
+
+pub changes_leaves : (k : Setup) (event len count : ℕ) (old new : Known) → old.view.packets ≡ no_packets → ChangesLength k event len count old new
+    → Leaves (Up ∷ Resize len event ∷ PurgeEvent (cause.Event event) ∷ Down event ∷ []) event count old.view new.view × KeepsDevice old.view new.view
+changes_leaves k event len count old new bare (clear, changed, whole, (taken_at, resized, takes, r, freed), (found, e)) =
+    let l = whole_leaves k event count old clear bare whole in let a = takes_calm clear taken_at takes in let z = released_calm resized.view changed.view (ap (λ (x : Known). x.view) freed) in let is = ap (λ (x : Known). x.view) e in
+    let none : fates_onto (fate.Shrunk event) (all_lost len r.held) taken_at.view.settled ≡ taken_at.view.settled = ap (λ (xs : List ℕ). fates_onto (fate.Shrunk event) xs taken_at.view.settled) (no_element (all_lost len r.held) r.counted) in (
+      leaves_more (Up ∷ Resize len event ∷ []) (PurgeEvent (cause.Event event) ∷ Down event ∷ []) event count old.view clear.view new.view l.0
+      (record {
+        share = ap (λ (x : View). x.share) is ∙ (z.share ∙ (ap (λ (x : View). x.share) r.is ∙ a.share));
+        turns = ap (λ (x : View). x.turns) is ∙ (z.turns ∙ (ap (λ (x : View). x.turns) r.is ∙ a.turns));
+        first = ap (λ (x : View). x.control.first) is ∙ (z.first ∙ (ap (λ (x : View). x.control.first) r.is ∙ a.first));
+        told = ap (λ (x : View). x.whole.told) is ∙ (z.told ∙ (ap (λ (x : View). x.whole.told) r.is ∙ a.told));
+      })
+      (ap (λ (x : View). x.trail) is ∙ ap (λ (es : List Event). Up ∷ es) (z.trail ∙ (ap (λ (x : View). x.trail) r.is ∙ ap (λ (es : List Event). Resize len event ∷ es) a.trail)))
+      ([], ap (λ (x : View). x.settled) is ∙ (z.settled ∙ (ap (λ (x : View). x.settled) r.is ∙ (none ∙ a.settled)))),
+      record {
+        origin = ap (λ (x : View). x.control.origin) is ∙ (z.origin ∙ (ap (λ (x : View). x.control.origin) r.is ∙ (a.origin ∙ l.1.origin)));
+        gone = ap (λ (x : View). x.control.gone) is ∙ (z.gone ∙ (ap (λ (x : View). x.control.gone) r.is ∙ (a.gone ∙ l.1.gone)));
+      },
+    )
+
+-- the device is exchanged
+
+opened_part : {X : Type 0} (part : View → X) → ((n : ℕ) (v : View) → part (opening_next n v) ≡ part v) → (k : Setup) (more : ℕ) (old : Known) → part (with_queues_opened k more old).view ≡ part old.view
+opened_part part kept k zero old = refl
+opened_part part kept k (suc more) old = kept (suc more) (with_queues_opened k more old).view ∙ opened_part part kept k more old
+
+module _ (k : Setup) (unit : ℕ) (came went : DeviceState) (old new : Known) (x : ExchangesDevice k unit came went old new) where
+  abbrev placed : Known
+  placed = with_device_exchanged k unit came x.locked
+
+  abbrev opened : Known
+  opened = with_queues_opened k (k.queues - 1) placed
+
+  had : IsCalmly old.view x.locked.view
+  had = takes_calm old x.locked x.takes
+
+  given : IsCalmly opened.view new.view
+  given = released_calm opened.view new.view (ap (λ (y : Known). y.view) x.is)
+
+  exchange_keeps : IsKeptByControl old.view new.view
+  exchange_keeps = record {
+    share = given.share ∙ (opened_part (λ v. v.share) (λ n v. refl) k (k.queues - 1) placed ∙ had.share);
+    turns = given.turns ∙ (opened_part (λ v. v.turns) (λ n v. refl) k (k.queues - 1) placed ∙ had.turns);
+    first = given.first ∙ (opened_part (λ v. v.control.first) (λ n v. refl) k (k.queues - 1) placed ∙ had.first);
+    told = given.told ∙ (opened_part (λ v. v.whole.told) (λ n v. refl) k (k.queues - 1) placed ∙ had.told);
+  }
+
+  exchange_trail : new.view.trail ≡ Swap unit ∷ old.view.trail
+  exchange_trail = given.trail ∙ (opened_part (λ v. v.trail) (λ n v. refl) k (k.queues - 1) placed ∙ ap (λ (es : List Event). Swap unit ∷ es) had.trail)
+
+  exchange_settled : new.view.settled ≡ old.view.settled
+  exchange_settled = given.settled ∙ (opened_part (λ v. v.settled) (λ n v. refl) k (k.queues - 1) placed ∙ had.settled)
+
+  exchange_came : new.view.control.origin ≡ came
+  exchange_came = given.origin ∙ opened_part (λ v. v.control.origin) (λ n v. refl) k (k.queues - 1) placed
+
+  exchange_gone : old.view.control.first ≡ true → new.view.control.gone ≡ (latest_unit old.view.share.about.station (units_of old.view.trail), went.accepted) ∷ old.view.control.gone
+  exchange_gone first = given.gone ∙ (opened_part (λ v. v.control.gone) (λ n v. refl) k (k.queues - 1) placed
+      ∙ (λ j. ((x.away.1 ∙ (λ i. latest_unit (had.share i).about.station (x.takes.units first i))) j, (sym x.goes j).accepted) ∷ had.gone j))
+
+  exchange_served : HasServed old.view.share.about.infos old.view.share.about.station old.view.control.origin went
+  exchange_served = subst (λ (d : DeviceState). HasServed old.view.share.about.infos old.view.share.about.station old.view.control.origin d) (sym x.goes)
+      (subst (λ (z : SharePart × DeviceState). HasServed z.0.about.infos z.0.about.station z.1 x.locked.view.holder.station.device) (λ j. (had.share j, had.origin j)) x.away.0)
+
+-- what an exchange tells of the device that came and the one that went
+pub record ExchangesFor (came went : DeviceState) (v w : View) : Type 0 where
+  pub origin : w.control.origin ≡ came
+  pub gone : w.control.gone ≡ (latest_unit v.share.about.station (units_of v.trail), went.accepted) ∷ v.control.gone
+  pub has_served : HasServed v.share.about.infos v.share.about.station v.control.origin went
+
+pub swaps_leaves : (k : Setup) (event unit : ℕ) (came went : DeviceState) (old new : Known) → old.view.packets ≡ no_packets → old.view.control.first ≡ true → Swaps k event unit came went old new
+    → ((count : ℕ) × Leaves (Up ∷ Swap unit ∷ PurgeEvent (cause.Event event) ∷ Down event ∷ []) event count old.view new.view) × ExchangesFor came went old.view new.view
+swaps_leaves k event unit came went old new bare first (clear, changed, count, whole, x, (found, e)) =
+    let l = whole_leaves k event count old clear bare whole in let is = ap (λ (y : Known). y.view) e in let kept = exchange_keeps k unit came went clear changed x in
+    let units : units_of clear.view.trail ≡ units_of old.view.trail = ap units_of l.0.trail in (
+      (count, leaves_more (Up ∷ Swap unit ∷ []) (PurgeEvent (cause.Event event) ∷ Down event ∷ []) event count old.view clear.view new.view l.0
+      (record {
+        share = ap (λ (y : View). y.share) is ∙ kept.share;
+        turns = ap (λ (y : View). y.turns) is ∙ kept.turns;
+        first = ap (λ (y : View). y.control.first) is ∙ kept.first;
+        told = ap (λ (y : View). y.whole.told) is ∙ kept.told;
+      })
+      (ap (λ (y : View). y.trail) is ∙ ap (λ (es : List Event). Up ∷ es) (exchange_trail k unit came went clear changed x))
+      ([], ap (λ (y : View). y.settled) is ∙ exchange_settled k unit came went clear changed x)),
+      record {
+        origin = ap (λ (y : View). y.control.origin) is ∙ exchange_came k unit came went clear changed x;
+        gone = ap (λ (y : View). y.control.gone) is ∙ (exchange_gone k unit came went clear changed x (l.0.kept.first ∙ first)
+            ∙ (λ j. (latest_unit (l.0.kept.share j).about.station (units j), went.accepted) ∷ l.1.gone j));
+        has_served = subst (λ (z : SharePart × DeviceState). HasServed z.0.about.infos z.0.about.station z.1 went) (λ j. (l.0.kept.share j, l.1.origin j)) (exchange_served k unit came went clear changed x);
+      },
     )
