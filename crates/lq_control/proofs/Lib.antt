@@ -11,4 +11,4 @@ pub mod EndingLemmas
 pub mod StepLemmas
 pub mod EndStepLemmas
 -- what the calls' relations come to
-pub mod Laws
+pub mod CallLaws

@@ -12,3 +12,5 @@ pub mod Ending
 pub mod Steps
 -- the steps of the end of a station
 pub mod EndSteps
+-- what the steps of its calls come to
+pub mod Comes

@@ -5,6 +5,7 @@
 mod activates;
 mod drains;
 mod finishes;
+mod laws;
 mod purges;
 mod resizes;
 mod swaps;
@@ -15,5 +16,8 @@ mod waits;
 pub use activates::{down, up};
 pub use drains::drain;
 pub use finishes::finish;
+pub use laws::{
+    a_resize_drops_the_last, an_exchange_hands_the_old_device_back, deactivations_purge_all,
+};
 pub use resizes::{resize, tx_queue_len};
 pub use swaps::swap;

@@ -25,6 +25,7 @@ use Rattle.lq_table.specs.Views.{FirstPart, HolderPart, Left, PacketPart, Setup,
 use Rattle.lq_table.specs.Made.{Known}
 use Rattle.lq_qdisc.specs.Calls.{KeepsFates}
 use Rattle.lq_control.specs.Control.{IsKeptByControl, IsPurgeDone, IsPurged, IsServed, KeepsDevice, Stores, all_dropped, all_purged}
+use Rattle.lq_control.specs.Comes.{ExchangesFor, Leaves, Shrinks}
 use Rattle.lq_control.specs.Steps.{ChangesLength, Deactivates, DeactivatesWhole, Downs, DrainsBy, ExchangesDevice, ResizesLive, Swaps, FindsCalls, FindsClear, Interrupted, PurgesBy, PurgesHeld, PurgesSlot, Rounds, TakesLock, TriesLock, Ups, WaitsForCalls, WaitsUntilClear, held as tried, inside, locked, none_yet, not_looked, not_tried, not_yet, once_more, scheduled, served, with_control_begun, with_deactivated_set, with_device_exchanged, with_purge_begun, with_queues_opened}
 use Rattle.lq_control.proofs.Purge.{count_all, emptied, left1, purge1, purge2, left2, purged_of}
 use Rattle.lq_control.proofs.Served.{served_none, served_then}
@@ -98,13 +99,6 @@ released_calm v w e = calm_by v _ w (calm_if (is_control v.place.position) v (un
 
 -- SOFT INTERRUPTS
 
-interrupted_served : (k : Setup) (old new : Known) → Interrupted k old new → IsServed old.view new.view
-interrupted_served k old new not_yet = served_none old.view old.view refl
-interrupted_served k old new (once_more last next h raised one) = served_then old.view last.view next.view (interrupted_served k old last h) one.served
-
-pub drains_served : (k : Setup) (old new : Known) → DrainsBy k old new → IsServed old.view new.view
-drains_served k old new d = interrupted_served k old new d.0
-
 rounds_served : (k : Setup) (old new : Known) → Rounds k old new → IsServed old.view new.view
 rounds_served k old new none_yet = served_none old.view old.view refl
 rounds_served k old new (served last next found h raised one) =
@@ -142,16 +136,6 @@ purges_all k by count old new none_owed p =
     (purged_of by p.bands (all_purged old.view.holder.slot p.bands) old.view begun.view new.view none_owed refl done.0, done.1)
 
 -- DEACTIVATIONS
-
--- these events came, what control keeps is kept, and so many packets are purged by this event: for a seat that has the table alone all
--- that its account holds
-pub record Leaves (events : List Event) (event count : ℕ) (v w : View) : Type 0 where
-  pub kept : IsKeptByControl v w
-  pub trail : w.trail ≡ events ++ v.trail
-  pub lost : List ℕ
-  pub stores : Stores (fate.Purged (cause.Event event)) lost v w
-  pub counted : count ≡ length lost
-  pub all : IsSole v → lost ≡ held (account_of v)
 
 -- more came, and no fate but those that soft interrupts store
 leaves_more : (more events : List Event) (event count : ℕ) (v w x : View) → Leaves events event count v w → IsKeptByControl w x → x.trail ≡ more ++ w.trail → KeepsFates w x → Leaves (more ++ events) event count v x
@@ -228,9 +212,6 @@ whole_leaves k event count old new bare (free, d, w) =
 
 -- THE CALLS
 
-pub ups_view : (old new : Known) → old.view.place.position ≡ Idle → Ups old new → new.view ≡ opening old.view
-ups_view old new at u = ap (λ (x : Known). x.view) u.2 ∙ (λ j. record (opening old.view) { place = record old.view.place { position = sym at j } })
-
 pub downs_leaves : (k : Setup) (event count : ℕ) (old new : Known) → old.view.packets ≡ no_packets → Downs k event count old new → Leaves (PurgeEvent (cause.Event event) ∷ Down event ∷ []) event count old.view new.view × KeepsDevice old.view new.view
 downs_leaves k event count old new bare (clear, found, whole, e) =
     let l = whole_leaves k event count old clear bare whole in let is = ap (λ (x : Known). x.view) e in (
@@ -260,17 +241,6 @@ ends_calm old new (state, was, view, steps) =
     let u : View = unlocking old.view in let l : View = looking state u in
     let look : IsCalmly u l = record { share = refl; packets = refl; turns = refl; first = refl; origin = refl; gone = refl; told = refl; state = refl; settled = refl; trail = refl } in
     calm_by old.view _ new.view (calm_then old.view u _ (released_calm old.view u refl) (calm_then u l _ look (sched_calm (is_set 4 state) was l))) view
-
--- the event came, what control keeps is kept, and so many packets have Shrunk by it: for a seat that has the table alone those that its
--- account drops
-pub record Shrinks (len event count : ℕ) (v w : View) : Type 0 where
-  pub kept : IsKeptByControl v w
-  pub device : KeepsDevice v w
-  pub trail : w.trail ≡ Resize len event ∷ v.trail
-  pub lost : List ℕ
-  pub settled : w.settled ≡ fates_onto (fate.Shrunk event) lost v.settled
-  pub counted : count ≡ length lost
-  pub all : IsSole v → lost ≡ all_dropped len (account_of v)
 
 pub resizes_shrinks : (k : Setup) (event len count : ℕ) (old new : Known) → ResizesLive k event len count old new → Shrinks len event count old.view new.view
 resizes_shrinks k event len count old new (found, taken_at, resized, takes, r, ends) =
@@ -361,30 +331,25 @@ module _ (k : Setup) (unit : ℕ) (came went : DeviceState) (old new : Known) (x
   exchange_served = subst (λ (d : DeviceState). HasServed old.view.share.about.infos old.view.share.about.station old.view.control.origin d) (sym x.goes)
       (subst (λ (z : SharePart × DeviceState). HasServed z.0.about.infos z.0.about.station z.1 x.locked.view.holder.station.device) (λ j. (had.share j, had.origin j)) x.away.0)
 
--- what an exchange tells of the device that came and the one that went
-pub record ExchangesFor (came went : DeviceState) (v w : View) : Type 0 where
-  pub origin : w.control.origin ≡ came
-  pub gone : w.control.gone ≡ (latest_unit v.share.about.station (units_of v.trail), went.accepted) ∷ v.control.gone
-  pub has_served : HasServed v.share.about.infos v.share.about.station v.control.origin went
-
-pub swaps_leaves : (k : Setup) (event unit : ℕ) (came went : DeviceState) (old new : Known) → old.view.packets ≡ no_packets → old.view.control.first ≡ true → Swaps k event unit came went old new
-    → ((count : ℕ) × Leaves (Up ∷ Swap unit ∷ PurgeEvent (cause.Event event) ∷ Down event ∷ []) event count old.view new.view) × ExchangesFor came went old.view new.view
-swaps_leaves k event unit came went old new bare first (clear, changed, count, whole, x, (found, e)) =
+pub swaps_leaves : (k : Setup) (event unit : ℕ) (came went : DeviceState) (old new : Known) → old.view.packets ≡ no_packets → Swaps k event unit came went old new
+    → (count : ℕ) × Leaves (Up ∷ Swap unit ∷ PurgeEvent (cause.Event event) ∷ Down event ∷ []) event count old.view new.view
+swaps_leaves k event unit came went old new bare (clear, changed, count, whole, x, (found, e)) =
     let l = whole_leaves k event count old clear bare whole in let is = ap (λ (y : Known). y.view) e in let kept = exchange_keeps k unit came went clear changed x in
-    let units : units_of clear.view.trail ≡ units_of old.view.trail = ap units_of l.0.trail in (
-      (count, leaves_more (Up ∷ Swap unit ∷ []) (PurgeEvent (cause.Event event) ∷ Down event ∷ []) event count old.view clear.view new.view l.0
-      (record {
-        share = ap (λ (y : View). y.share) is ∙ kept.share;
-        turns = ap (λ (y : View). y.turns) is ∙ kept.turns;
-        first = ap (λ (y : View). y.control.first) is ∙ kept.first;
-        told = ap (λ (y : View). y.whole.told) is ∙ kept.told;
-      })
-      (ap (λ (y : View). y.trail) is ∙ ap (λ (es : List Event). Up ∷ es) (exchange_trail k unit came went clear changed x))
-      ([], ap (λ (y : View). y.settled) is ∙ exchange_settled k unit came went clear changed x)),
-      record {
-        origin = ap (λ (y : View). y.control.origin) is ∙ exchange_came k unit came went clear changed x;
-        gone = ap (λ (y : View). y.control.gone) is ∙ (exchange_gone k unit came went clear changed x (l.0.kept.first ∙ first)
-            ∙ (λ j. (latest_unit (l.0.kept.share j).about.station (units j), went.accepted) ∷ l.1.gone j));
-        has_served = subst (λ (z : SharePart × DeviceState). HasServed z.0.about.infos z.0.about.station z.1 went) (λ j. (l.0.kept.share j, l.1.origin j)) (exchange_served k unit came went clear changed x);
-      },
-    )
+    (count, leaves_more (Up ∷ Swap unit ∷ []) (PurgeEvent (cause.Event event) ∷ Down event ∷ []) event count old.view clear.view new.view l.0
+    (record {
+      share = ap (λ (y : View). y.share) is ∙ kept.share;
+      turns = ap (λ (y : View). y.turns) is ∙ kept.turns;
+      first = ap (λ (y : View). y.control.first) is ∙ kept.first;
+      told = ap (λ (y : View). y.whole.told) is ∙ kept.told;
+    })
+    (ap (λ (y : View). y.trail) is ∙ ap (λ (es : List Event). Up ∷ es) (exchange_trail k unit came went clear changed x))
+    ([], ap (λ (y : View). y.settled) is ∙ exchange_settled k unit came went clear changed x))
+
+pub swaps_devices : (k : Setup) (event unit : ℕ) (came went : DeviceState) (old new : Known) → old.view.packets ≡ no_packets → old.view.control.first ≡ true → Swaps k event unit came went old new → ExchangesFor came went old.view new.view
+swaps_devices k event unit came went old new bare first (clear, changed, count, whole, x, (found, e)) =
+    let l = whole_leaves k event count old clear bare whole in let is = ap (λ (y : Known). y.view) e in let units : units_of clear.view.trail ≡ units_of old.view.trail = ap units_of l.0.trail in record {
+      origin = ap (λ (y : View). y.control.origin) is ∙ exchange_came k unit came went clear changed x;
+      gone = ap (λ (y : View). y.control.gone) is ∙ (exchange_gone k unit came went clear changed x (l.0.kept.first ∙ first)
+          ∙ (λ j. (latest_unit (l.0.kept.share j).about.station (units j), went.accepted) ∷ l.1.gone j));
+      has_served = subst (λ (z : SharePart × DeviceState). HasServed z.0.about.infos z.0.about.station z.1 went) (λ j. (l.0.kept.share j, l.1.origin j)) (exchange_served k unit came went clear changed x);
+    }

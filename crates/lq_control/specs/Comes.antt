@@ -1,0 +1,38 @@
+-- What the relations of control's calls come to.
+use Rattle.std.specs.Prelude.{◌≡◌, ℕ, List, ◌∷◌, ◌++◌, length}
+use Rattle.lq_model.specs.Account.{Event, Resize, held}
+use Rattle.lq_model.specs.Device.{DeviceState}
+use Rattle.lq_model.specs.declared.fate.Cause.TheVariants as cause
+use Rattle.lq_model.specs.declared.fate.Fate.TheVariants as fate
+use Rattle.lq_ring.specs.Fates.{fates_onto}
+use Rattle.lq_table.specs.Rule.{HasServed, latest_unit, units_of}
+use Rattle.lq_table.specs.Solo.{IsSole, account_of}
+use Rattle.lq_table.specs.Views.{View}
+use Rattle.lq_control.specs.Control.{IsKeptByControl, KeepsDevice, Stores, all_dropped}
+
+-- these events came, what control keeps is kept, and so many packets are purged by this event: for a seat that has the table alone all
+-- that its account holds
+pub record Leaves (events : List Event) (event count : ℕ) (v w : View) : Type 0 where
+  pub kept : IsKeptByControl v w
+  pub trail : w.trail ≡ events ++ v.trail
+  pub lost : List ℕ
+  pub stores : Stores (fate.Purged (cause.Event event)) lost v w
+  pub counted : count ≡ length lost
+  pub all : IsSole v → lost ≡ held (account_of v)
+
+-- the event came, what control keeps is kept, and so many packets have Shrunk by it: for a seat that has the table alone those that its
+-- account drops
+pub record Shrinks (len event count : ℕ) (v w : View) : Type 0 where
+  pub kept : IsKeptByControl v w
+  pub device : KeepsDevice v w
+  pub trail : w.trail ≡ Resize len event ∷ v.trail
+  pub lost : List ℕ
+  pub settled : w.settled ≡ fates_onto (fate.Shrunk event) lost v.settled
+  pub counted : count ≡ length lost
+  pub all : IsSole v → lost ≡ all_dropped len (account_of v)
+
+-- what an exchange tells of the device that came and the one that went
+pub record ExchangesFor (came went : DeviceState) (v w : View) : Type 0 where
+  pub origin : w.control.origin ≡ came
+  pub gone : w.control.gone ≡ (latest_unit v.share.about.station (units_of v.trail), went.accepted) ∷ v.control.gone
+  pub has_served : HasServed v.share.about.infos v.share.about.station v.control.origin went

@@ -1,0 +1,38 @@
+//! What the relations of control's calls say of events, fates and devices, for every seat.
+ghost use Rattle.std.specs.Prelude.{◌≡◌, ℕ, [], ◌∷◌, true, false};
+ghost use Rattle.lq_model.specs.Account.{Down, Purge, Resize, Swap, Up};
+ghost use Rattle.lq_model.specs.Device.{DeviceState};
+ghost use Rattle.lq_model.specs.declared.fate.Cause.TheVariants as cause;
+ghost use Rattle.lq_table.specs.Made.{Known};
+ghost use Rattle.lq_table.specs.Solo.{IsSole};
+ghost use Rattle.lq_table.specs.Views.{Setup, no_packets};
+ghost use Rattle.lq_control.specs.Comes.{ExchangesFor, Leaves, Shrinks};
+ghost use Rattle.lq_control.specs.Control.{KeepsDevice};
+ghost use Rattle.lq_control.specs.Steps.{ChangesLength, Downs, ResizesLive, Swaps};
+
+/// A call that deactivates the station purges all that it held, by the plan's event, which comes with the others of the call in
+/// order; so many packets get that fate as are counted. After a down the seat isn't raised, and one that has the table alone found
+/// SCHED clear.
+pub fn deactivations_purge_all()
+    ensures down { (k : Setup) (event count : ℕ) (old new : Known) → old.view.packets ≡ no_packets → Downs k event count old new
+        → Leaves (Purge (cause.Event event) ∷ Down event ∷ []) event count old.view new.view × KeepsDevice old.view new.view }
+    ensures clear { (k : Setup) (event count : ℕ) (old new : Known) → Downs k event count old new
+        → (new.view.place.raised ≡ false) × (IsSole new.view → new.view.whole.qdisc.sched ≡ false) }
+    ensures length { (k : Setup) (event len count : ℕ) (old new : Known) → old.view.packets ≡ no_packets → ChangesLength k event len count old new
+        → Leaves (Up ∷ Resize len event ∷ Purge (cause.Event event) ∷ Down event ∷ []) event count old.view new.view × KeepsDevice old.view new.view }
+    ensures swap { (k : Setup) (event unit : ℕ) (came went : DeviceState) (old new : Known) → old.view.packets ≡ no_packets → Swaps k event unit came went old new
+        → (count : ℕ) × Leaves (Up ∷ Swap unit ∷ Purge (cause.Event event) ∷ Down event ∷ []) event count old.view new.view }
+{}
+
+/// After an exchange the new device is the one that came; the old one is that of the station's latest unit, what it has accepted is
+/// kept, and it has served the station since it came.
+pub fn an_exchange_hands_the_old_device_back()
+    ensures { (k : Setup) (event unit : ℕ) (came went : DeviceState) (old new : Known) → old.view.packets ≡ no_packets → old.view.control.first ≡ true
+        → Swaps k event unit came went old new → ExchangesFor came went old.view new.view }
+{}
+
+/// A live resize stores Shrunk, by the plan's event, of so many packets as are counted: of a seat that has the table alone those
+/// that its account drops.
+pub fn a_resize_drops_the_last()
+    ensures { (k : Setup) (event len count : ℕ) (old new : Known) → ResizesLive k event len count old new → Shrinks len event count old.view new.view }
+{}
