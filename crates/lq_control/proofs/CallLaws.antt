@@ -1,5 +1,5 @@
 -- What the relations of control's calls come to: what is kept, which events came, which fates were stored, and how many.
-use Rattle.std.proofs.Common.{◌≡◌, ◌<◌, ◌+◌, ◌-◌, ℕ, zero, suc, Bool, drop, true, false, List, [], ◌∷◌, ◌++◌, length, Option, Some, None, refl, sym, ap, ◌∙◌, subst, arith}
+use Rattle.std.proofs.Common.{◌≡◌, ◌<◌, ◌-◌, ℕ, zero, suc, Bool, drop, true, false, List, [], ◌∷◌, ◌++◌, length, Option, Some, None, refl, sym, ap, ◌∙◌, subst, arith}
 use Rattle.std.proofs.lemmas.List.{append_assoc}
 use Rattle.std.specs.Prelude.{if◌then◌else◌}
 use Rattle.std.specs.Option.{option_map, option_to_list}
@@ -7,26 +7,25 @@ use Rattle.lq_model.specs.Account.{Account, Event, Down, Purge as PurgeEvent, Re
 use Rattle.lq_model.specs.Band.{Band, held_of}
 use Rattle.lq_model.specs.Control.{is_control}
 use Rattle.lq_model.specs.Device.{DeviceState}
-use Rattle.lq_model.specs.declared.machine.Position.TheVariants.{Idle}
 use Rattle.lq_model.specs.declared.fate.Cause.{Cause}
 use Rattle.lq_model.specs.declared.fate.Cause.TheVariants as cause
 use Rattle.lq_model.specs.declared.fate.Fate.{Fate}
 use Rattle.lq_model.specs.declared.fate.Fate.TheVariants as fate
 use Rattle.lq_band.specs.Three.{Three, at}
-use Rattle.lq_run.specs.Tries.{EndsRun, TriedAs, TriesOnce, scheduled_where}
+use Rattle.lq_run.specs.Tries.{EndsRun, TriedAs, scheduled_where}
 use Rattle.lq_ring.specs.Fates.{fates_onto}
 use Rattle.lq_ring.specs.Resized.{all_lost}
-use Rattle.lq_table.specs.Controls.{opening, opening_next, resetting_missed}
-use Rattle.lq_table.specs.Purges.{first_purge, purging}
+use Rattle.lq_table.specs.Controls.{opening_next, resetting_missed}
+use Rattle.lq_table.specs.Purges.{first_purge}
 use Rattle.lq_table.specs.Rule.{HasServed, account, latest_unit, units_of}
 use Rattle.lq_table.specs.Solo.{IsAccounts, IsSole, account_of}
 use Rattle.lq_table.specs.Told.{and_settled, got_in_call, got_in_control, is_set, looking, paying, unlocking, unlocking_call, unlocking_control}
-use Rattle.lq_table.specs.Views.{FirstPart, HolderPart, Left, PacketPart, Setup, SharePart, State, View, no_packets}
+use Rattle.lq_table.specs.Views.{FirstPart, HolderPart, Left, PacketPart, Setup, SharePart, View, no_packets}
 use Rattle.lq_table.specs.Made.{Known}
 use Rattle.lq_qdisc.specs.Calls.{KeepsFates}
-use Rattle.lq_control.specs.Control.{IsKeptByControl, IsPurgeDone, IsPurged, IsServed, KeepsDevice, Stores, all_dropped, all_purged}
-use Rattle.lq_control.specs.Comes.{ExchangesFor, Leaves, Shrinks}
-use Rattle.lq_control.specs.Steps.{ChangesLength, Deactivates, DeactivatesWhole, Downs, DrainsBy, ExchangesDevice, ResizesLive, Swaps, FindsCalls, FindsClear, Interrupted, PurgesBy, PurgesHeld, PurgesSlot, Rounds, TakesLock, TriesLock, Ups, WaitsForCalls, WaitsUntilClear, held as tried, inside, locked, none_yet, not_looked, not_tried, not_yet, once_more, scheduled, served, with_control_begun, with_deactivated_set, with_device_exchanged, with_purge_begun, with_queues_opened}
+use Rattle.lq_control.specs.Control.{IsKeptByControl, IsPurgeDone, IsPurged, IsServed, KeepsDevice, all_purged}
+use Rattle.lq_control.specs.Comes.{ExchangesFor, LeavesPurged, Shrinks}
+use Rattle.lq_control.specs.Steps.{ChangesLength, Deactivates, DeactivatesWhole, Downs, ExchangesDevice, ResizesLive, Swaps, FindsCalls, PurgesBy, PurgesHeld, PurgesSlot, Rounds, TakesLock, TriesLock, WaitsForCalls, WaitsUntilClear, held as tried, inside, locked, none_yet, not_looked, not_tried, scheduled, served, with_control_begun, with_deactivated_set, with_device_exchanged, with_purge_begun, with_queues_opened}
 use Rattle.lq_control.proofs.Purge.{count_all, emptied, left1, purge1, purge2, left2, purged_of}
 use Rattle.lq_control.proofs.Served.{served_none, served_then}
 
@@ -138,7 +137,7 @@ purges_all k by count old new none_owed p =
 -- DEACTIVATIONS
 
 -- more came, and no fate but those that soft interrupts store
-leaves_more : (more events : List Event) (event count : ℕ) (v w x : View) → Leaves events event count v w → IsKeptByControl w x → x.trail ≡ more ++ w.trail → KeepsFates w x → Leaves (more ++ events) event count v x
+leaves_more : (more events : List Event) (event count : ℕ) (v w x : View) → LeavesPurged events event count v w → IsKeptByControl w x → x.trail ≡ more ++ w.trail → KeepsFates w x → LeavesPurged (more ++ events) event count v x
 leaves_more more events event count v w x l k trail fates = record {
   kept = record { share = k.share ∙ l.kept.share; turns = k.turns ∙ l.kept.turns; first = k.first ∙ l.kept.first; told = k.told ∙ l.kept.told };
   trail = trail ∙ (ap (λ (es : List Event). more ++ es) l.trail ∙ sym (append_assoc more events v.trail));
@@ -182,7 +181,7 @@ module _ (k : Setup) (event count : ℕ) (old new : Known) (bare : old.view.pack
       all_held d.locked.view.holder.slot d.purges.bands (account_of begun.view) (ap (λ (h : HolderPart). h.slot) known ∙ ap (λ (a : Account). a.slot) now)
       (λ b below. d.purges.knows (sole_calm begun.view d.locked.view taken sole) b below ∙ ap (λ (a : Account). a.bands b) now)
 
-  pub deactivates_leaves : Leaves (PurgeEvent (cause.Event event) ∷ Down event ∷ []) event count old.view new.view
+  pub deactivates_leaves : LeavesPurged (PurgeEvent (cause.Event event) ∷ Down event ∷ []) event count old.view new.view
   deactivates_leaves = let is = purged_all.0.is in record {
     kept = record {
       share = over.share ∙ (ap (λ (x : View). x.share) is ∙ taken.share);
@@ -203,7 +202,7 @@ module _ (k : Setup) (event count : ℕ) (old new : Known) (bare : old.view.pack
     gone = over.gone ∙ (ap (λ (x : View). x.control.gone) is ∙ taken.gone);
   }
 
-pub whole_leaves : (k : Setup) (event count : ℕ) (old new : Known) → old.view.packets ≡ no_packets → DeactivatesWhole k event count old new → Leaves (PurgeEvent (cause.Event event) ∷ Down event ∷ []) event count old.view new.view × KeepsDevice old.view new.view
+pub whole_leaves : (k : Setup) (event count : ℕ) (old new : Known) → old.view.packets ≡ no_packets → DeactivatesWhole k event count old new → LeavesPurged (PurgeEvent (cause.Event event) ∷ Down event ∷ []) event count old.view new.view × KeepsDevice old.view new.view
 whole_leaves k event count old new bare (free, d, w) =
     let s = waits_served k free new w in let v = deactivates_device k event count old free bare d in (
       leaves_more [] (PurgeEvent (cause.Event event) ∷ Down event ∷ []) event count old.view free.view new.view (deactivates_leaves k event count old free bare d) s.kept s.trail s.fates,
@@ -212,12 +211,12 @@ whole_leaves k event count old new bare (free, d, w) =
 
 -- THE CALLS
 
-pub downs_leaves : (k : Setup) (event count : ℕ) (old new : Known) → old.view.packets ≡ no_packets → Downs k event count old new → Leaves (PurgeEvent (cause.Event event) ∷ Down event ∷ []) event count old.view new.view × KeepsDevice old.view new.view
+pub downs_leaves : (k : Setup) (event count : ℕ) (old new : Known) → old.view.packets ≡ no_packets → Downs k event count old new → LeavesPurged (PurgeEvent (cause.Event event) ∷ Down event ∷ []) event count old.view new.view × KeepsDevice old.view new.view
 downs_leaves k event count old new bare (clear, found, whole, e) =
     let l = whole_leaves k event count old clear bare whole in let is = ap (λ (x : Known). x.view) e in (
       leaves_more [] (PurgeEvent (cause.Event event) ∷ Down event ∷ []) event count old.view clear.view new.view l.0
-      (record { share = ap (λ (x : View). x.share) is; turns = ap (λ (x : View). x.turns) is; first = ap (λ (x : View). x.control.first) is; told = ap (λ (x : View). x.whole.told) is })
-      (ap (λ (x : View). x.trail) is) ([], ap (λ (x : View). x.settled) is),
+          (record { share = ap (λ (x : View). x.share) is; turns = ap (λ (x : View). x.turns) is; first = ap (λ (x : View). x.control.first) is; told = ap (λ (x : View). x.whole.told) is })
+          (ap (λ (x : View). x.trail) is) ([], ap (λ (x : View). x.settled) is),
       record { origin = ap (λ (x : View). x.control.origin) is ∙ l.1.origin; gone = ap (λ (x : View). x.control.gone) is ∙ l.1.gone },
     )
 
@@ -227,7 +226,7 @@ downs_clear k event count old new (clear, found, (free, d, (last, rounds, f)), e
     let is = ap (λ (x : Known). x.view) e in let at = ap (λ (x : Known). x.view) f.is in (
       ap (λ (x : View). x.place.raised) is ∙ (ap (λ (x : View). x.place.raised) at ∙ f.low),
       λ sole. ap (λ (x : View). x.whole.qdisc.sched) is ∙ (ap (λ (x : View). x.whole.qdisc.sched) at
-      ∙ (sym (f.sees (subst IsSole at (subst IsSole is sole))).scheduled ∙ f.clear)),
+          ∙ (sym (f.sees (subst IsSole at (subst IsSole is sole))).scheduled ∙ f.clear)),
     )
 
 -- a length is changed
@@ -268,19 +267,19 @@ no_element [] none = refl
 no_element (x ∷ xs) none = absurd (omega arith)
 
 pub changes_leaves : (k : Setup) (event len count : ℕ) (old new : Known) → old.view.packets ≡ no_packets → ChangesLength k event len count old new
-    → Leaves (Up ∷ Resize len event ∷ PurgeEvent (cause.Event event) ∷ Down event ∷ []) event count old.view new.view × KeepsDevice old.view new.view
+    → LeavesPurged (Up ∷ Resize len event ∷ PurgeEvent (cause.Event event) ∷ Down event ∷ []) event count old.view new.view × KeepsDevice old.view new.view
 changes_leaves k event len count old new bare (clear, changed, whole, (taken_at, resized, takes, r, freed), (found, e)) =
     let l = whole_leaves k event count old clear bare whole in let a = takes_calm clear taken_at takes in let z = released_calm resized.view changed.view (ap (λ (x : Known). x.view) freed) in let is = ap (λ (x : Known). x.view) e in
     let none : fates_onto (fate.Shrunk event) (all_lost len r.held) taken_at.view.settled ≡ taken_at.view.settled = ap (λ (xs : List ℕ). fates_onto (fate.Shrunk event) xs taken_at.view.settled) (no_element (all_lost len r.held) r.counted) in (
       leaves_more (Up ∷ Resize len event ∷ []) (PurgeEvent (cause.Event event) ∷ Down event ∷ []) event count old.view clear.view new.view l.0
-      (record {
-        share = ap (λ (x : View). x.share) is ∙ (z.share ∙ (ap (λ (x : View). x.share) r.is ∙ a.share));
-        turns = ap (λ (x : View). x.turns) is ∙ (z.turns ∙ (ap (λ (x : View). x.turns) r.is ∙ a.turns));
-        first = ap (λ (x : View). x.control.first) is ∙ (z.first ∙ (ap (λ (x : View). x.control.first) r.is ∙ a.first));
-        told = ap (λ (x : View). x.whole.told) is ∙ (z.told ∙ (ap (λ (x : View). x.whole.told) r.is ∙ a.told));
-      })
-      (ap (λ (x : View). x.trail) is ∙ ap (λ (es : List Event). Up ∷ es) (z.trail ∙ (ap (λ (x : View). x.trail) r.is ∙ ap (λ (es : List Event). Resize len event ∷ es) a.trail)))
-      ([], ap (λ (x : View). x.settled) is ∙ (z.settled ∙ (ap (λ (x : View). x.settled) r.is ∙ (none ∙ a.settled)))),
+          (record {
+            share = ap (λ (x : View). x.share) is ∙ (z.share ∙ (ap (λ (x : View). x.share) r.is ∙ a.share));
+            turns = ap (λ (x : View). x.turns) is ∙ (z.turns ∙ (ap (λ (x : View). x.turns) r.is ∙ a.turns));
+            first = ap (λ (x : View). x.control.first) is ∙ (z.first ∙ (ap (λ (x : View). x.control.first) r.is ∙ a.first));
+            told = ap (λ (x : View). x.whole.told) is ∙ (z.told ∙ (ap (λ (x : View). x.whole.told) r.is ∙ a.told));
+          })
+          (ap (λ (x : View). x.trail) is ∙ ap (λ (es : List Event). Up ∷ es) (z.trail ∙ (ap (λ (x : View). x.trail) r.is ∙ ap (λ (es : List Event). Resize len event ∷ es) a.trail)))
+          ([], ap (λ (x : View). x.settled) is ∙ (z.settled ∙ (ap (λ (x : View). x.settled) r.is ∙ (none ∙ a.settled)))),
       record {
         origin = ap (λ (x : View). x.control.origin) is ∙ (z.origin ∙ (ap (λ (x : View). x.control.origin) r.is ∙ (a.origin ∙ l.1.origin)));
         gone = ap (λ (x : View). x.control.gone) is ∙ (z.gone ∙ (ap (λ (x : View). x.control.gone) r.is ∙ (a.gone ∙ l.1.gone)));
@@ -332,18 +331,20 @@ module _ (k : Setup) (unit : ℕ) (came went : DeviceState) (old new : Known) (x
       (subst (λ (z : SharePart × DeviceState). HasServed z.0.about.infos z.0.about.station z.1 x.locked.view.holder.station.device) (λ j. (had.share j, had.origin j)) x.away.0)
 
 pub swaps_leaves : (k : Setup) (event unit : ℕ) (came went : DeviceState) (old new : Known) → old.view.packets ≡ no_packets → Swaps k event unit came went old new
-    → (count : ℕ) × Leaves (Up ∷ Swap unit ∷ PurgeEvent (cause.Event event) ∷ Down event ∷ []) event count old.view new.view
+    → (count : ℕ) × LeavesPurged (Up ∷ Swap unit ∷ PurgeEvent (cause.Event event) ∷ Down event ∷ []) event count old.view new.view
 swaps_leaves k event unit came went old new bare (clear, changed, count, whole, x, (found, e)) =
-    let l = whole_leaves k event count old clear bare whole in let is = ap (λ (y : Known). y.view) e in let kept = exchange_keeps k unit came went clear changed x in
-    (count, leaves_more (Up ∷ Swap unit ∷ []) (PurgeEvent (cause.Event event) ∷ Down event ∷ []) event count old.view clear.view new.view l.0
-    (record {
-      share = ap (λ (y : View). y.share) is ∙ kept.share;
-      turns = ap (λ (y : View). y.turns) is ∙ kept.turns;
-      first = ap (λ (y : View). y.control.first) is ∙ kept.first;
-      told = ap (λ (y : View). y.whole.told) is ∙ kept.told;
-    })
-    (ap (λ (y : View). y.trail) is ∙ ap (λ (es : List Event). Up ∷ es) (exchange_trail k unit came went clear changed x))
-    ([], ap (λ (y : View). y.settled) is ∙ exchange_settled k unit came went clear changed x))
+    let l = whole_leaves k event count old clear bare whole in let is = ap (λ (y : Known). y.view) e in let kept = exchange_keeps k unit came went clear changed x in (
+      count,
+      leaves_more (Up ∷ Swap unit ∷ []) (PurgeEvent (cause.Event event) ∷ Down event ∷ []) event count old.view clear.view new.view l.0
+          (record {
+            share = ap (λ (y : View). y.share) is ∙ kept.share;
+            turns = ap (λ (y : View). y.turns) is ∙ kept.turns;
+            first = ap (λ (y : View). y.control.first) is ∙ kept.first;
+            told = ap (λ (y : View). y.whole.told) is ∙ kept.told;
+          })
+          (ap (λ (y : View). y.trail) is ∙ ap (λ (es : List Event). Up ∷ es) (exchange_trail k unit came went clear changed x))
+          ([], ap (λ (y : View). y.settled) is ∙ exchange_settled k unit came went clear changed x),
+    )
 
 pub swaps_devices : (k : Setup) (event unit : ℕ) (came went : DeviceState) (old new : Known) → old.view.packets ≡ no_packets → old.view.control.first ≡ true → Swaps k event unit came went old new → ExchangesFor came went old.view new.view
 swaps_devices k event unit came went old new bare first (clear, changed, count, whole, x, (found, e)) =

@@ -1,19 +1,18 @@
 -- What control knows of a table that its seat has alone.
-use Rattle.std.proofs.Common.{◌≡◌, ◌<◌, ℕ, true, false, List, ◌++◌, drop, sym, ap, ◌∙◌, subst, arith}
+use Rattle.std.proofs.Common.{◌≡◌, ◌<◌, ℕ, true, false, List, ◌++◌, sym, ap, ◌∙◌, subst, arith}
 use Rattle.std.specs.Option.{option_to_list}
-use Rattle.lq_model.specs.Account.{Account, Down, Purge as PurgeEvent, held, held_in}
+use Rattle.lq_model.specs.Account.{Account, Down, Purge as PurgeEvent, held}
 use Rattle.lq_model.specs.Band.{Band, held_of}
 use Rattle.lq_model.specs.declared.fate.Cause.TheVariants as cause
 use Rattle.lq_model.specs.declared.machine.Phase.{Phase}
 use Rattle.lq_model.specs.declared.machine.Phase.TheVariants.{Quiet}
 use Rattle.lq_band.specs.Three.{Three}
 use Rattle.lq_table.specs.Views.{View, HolderPart}
-use Rattle.lq_table.specs.Controls.{closing, beginning_control}
+use Rattle.lq_table.specs.Controls.{closing}
 use Rattle.lq_table.specs.Purges.{AreKnown}
 use Rattle.lq_table.specs.Solo.{IsSole, IsAccounts, Solo, solo, account_of, locked_to, missed_to, draining_to, heard}
 use Rattle.lq_table.specs.Told.{got_in_control}
-use Rattle.lq_ring.specs.Resized.{all_lost, IsKnownHeld}
-use Rattle.lq_control.specs.Control.{IsPurged, all_purged, all_dropped, phased, with_lock_free, deactivated_solo}
+use Rattle.lq_control.specs.Control.{IsPurged, all_purged, phased, with_lock_free, deactivated_solo}
 
 -- what a purge takes is what the account holds
 pub purged_held : (event : ℕ) (p : Phase) (d : HolderPart) (bands : Three Band) (v v3 : View) → v3 ≡ got_in_control d (phased Quiet p (closing event v)) → IsSole v → IsAccounts v3 → AreKnown v3 bands → all_purged v3.holder.slot bands ≡ held (account_of v)
@@ -30,9 +29,3 @@ deactivated_is event n p lost v v2 v3 v4 v5 same e2 s3 purged e5 =
     let s4 = ap solo purged.is ∙ purged.alone in
     let after = λ (m : ℕ) (s : Solo). locked_to false (missed_to false (draining_to false (heard (PurgeEvent (cause.Event m)) s))) in
     ap solo e5 ∙ (ap (λ (s : Solo). locked_to false s) s4 ∙ (λ j. after (same j) ((s3 ∙ ap (locked_to true) s2) j)))
-
--- what a resize drops is what the account's drops
-pub lost_dropped : (len : ℕ) (held : ℕ → List ℕ) (d : HolderPart) (v v2 : View) → v2 ≡ got_in_control d (beginning_control v) → IsKnownHeld v2 held → IsSole v → all_lost len held ≡ all_dropped len (account_of v)
-lost_dropped len held d v v2 e known sole =
-    let band = λ (b : ℕ) (h : b < 3). known.1 (subst IsSole (sym e) sole) b h ∙ ap (λ (x : View). held_in (account_of x) b) e in
-    λ j. drop len (band 0 (omega arith) j) ++ (drop len (band 1 (omega arith) j) ++ drop len (band 2 (omega arith) j))

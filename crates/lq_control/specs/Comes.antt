@@ -12,7 +12,7 @@ use Rattle.lq_control.specs.Control.{IsKeptByControl, KeepsDevice, Stores, all_d
 
 -- these events came, what control keeps is kept, and so many packets are purged by this event: for a seat that has the table alone all
 -- that its account holds
-pub record Leaves (events : List Event) (event count : ℕ) (v w : View) : Type 0 where
+pub record LeavesPurged (events : List Event) (event count : ℕ) (v w : View) : Type 0 where
   pub kept : IsKeptByControl v w
   pub trail : w.trail ≡ events ++ v.trail
   pub lost : List ℕ

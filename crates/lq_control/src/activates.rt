@@ -1,5 +1,5 @@
 //! A station is activated and deactivated.
-ghost use Rattle.std.specs.Prelude.{◌≡◌, ℕ, ◌∷◌, true, false, None, List, length};
+ghost use Rattle.std.specs.Prelude.{◌≡◌, ℕ, ◌∷◌, true, false, List, length};
 ghost use Rattle.lq_model.specs.Account.{Down, Purge, Up, held};
 ghost use Rattle.lq_model.specs.declared.fate.Cause.TheVariants as cause;
 ghost use Rattle.lq_model.specs.declared.fate.Fate.TheVariants as fate;
@@ -12,9 +12,9 @@ ghost use Rattle.lq_table.specs.Sees.{view, known, setup, position, IsSeatOf, Is
 ghost use Rattle.lq_ring.specs.Fates.{fates_onto};
 ghost use Rattle.lq_qdisc.specs.Sends.{IsReadyToSend};
 ghost use Rattle.lq_control.specs.Steps.{Deactivates, Downs, Ups};
-ghost use Rattle.lq_control.specs.Control.{IsIn, IsKeptByControl, KeepsDevice, Stores, deactivated_solo};
+ghost use Rattle.lq_control.specs.Control.{IsIn, IsKeptByControl, KeepsDevice, deactivated_solo};
 ghost use Rattle.lq_control.specs.Alone.{DoesEventAlone};
-ghost use Rattle.lq_table.specs.Solo.{IsSole, account_of, solo, heard};
+ghost use Rattle.lq_table.specs.Solo.{IsSole, account_of, solo};
 
 use crate::drains::wait_until_clear;
 use crate::purges::purge_all;
@@ -31,7 +31,6 @@ pub fn up<'a, D: TxDevice>(shared: &Shared<'a, D>, cpu: &mut Cpu<D>)
     requires deactivated { IsIn Purged (view cpu.old) }
     ensures same { IsElseSame cpu.old cpu.new }
     ensures opened { view cpu.new ≡ opening (view cpu.old) }
-    ensures step { solo (view cpu.new) ≡ heard Up (solo (view cpu.old)) }
     ensures ups { Ups (known cpu.old) (known cpu.new) }
     ensures alone { (event : ℕ) → DoesEventAlone shared.now.infos.now (first_account (setup shared.now)) event kind.Up (solo (view cpu.old)) (solo (view cpu.new)) }
 {
@@ -55,9 +54,6 @@ pub fn down<'a, D: TxDevice, R: Wait>(
     ensures same { IsSameSeat cpu.old cpu.new × IsKeptByControl (view cpu.old) (view cpu.new) × KeepsDevice (view cpu.old) (view cpu.new) }
     ensures at { (position cpu.new ≡ Idle) × IsReadyToSend cpu.new × IsIn Purged (view cpu.new) }
     ensures trail { (view cpu.new).trail ≡ Purge (cause.Event event) ∷ Down event ∷ (view cpu.old).trail }
-    ensures purged { (lost : List ℕ) × Stores (fate.Purged (cause.Event event)) lost (view cpu.old) (view cpu.new) × (result ≡ length lost) × (IsSole (view cpu.old) → lost ≡ held (account_of (view cpu.old))) }
-    ensures raised { (view cpu.new).place.raised ≡ false }
-    ensures clear { IsSole (view cpu.new) → (view cpu.new).whole.qdisc.sched ≡ false }
     ensures downs { Downs (setup shared.now) event result (known cpu.old) (known cpu.new) }
     ensures alone { DoesEventAlone shared.now.infos.now (first_account (setup shared.now)) event kind.Down (solo (view cpu.old)) (solo (view cpu.new)) }
 {

@@ -1,5 +1,5 @@
 //! The soft interrupts of control's own seat.
-ghost use Rattle.std.specs.Prelude.{◌≡◌, ℕ, true, false, List, IsSome};
+ghost use Rattle.std.specs.Prelude.{◌≡◌, true, false, IsSome};
 ghost use Rattle.lq_model.specs.Alone.{served};
 ghost use Rattle.lq_model.specs.declared.machine.Position.TheVariants.{Idle, Control};
 ghost use Rattle.lq_table.specs.Views.{first_account};
@@ -26,7 +26,6 @@ pub fn drain<'a, D: TxDevice, R: Wait>(rt: &R, shared: &Shared<'a, D>, cpu: &mut
     ensures same { IsSameSeat cpu.old cpu.new }
     ensures served { IsServed (view cpu.old) (view cpu.new) }
     ensures at { (position cpu.new ≡ Idle) × IsReadyToSend cpu.new }
-    ensures raised { (view cpu.new).place.raised ≡ false }
     ensures drains { DrainsBy (setup shared.now) (known cpu.old) (known cpu.new) }
     ensures alone { Does shared.now.infos.now (first_account (setup shared.now)) (served shared.now.infos.now) (solo (view cpu.old)) (solo (view cpu.new)) }
 {

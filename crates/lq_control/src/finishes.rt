@@ -16,7 +16,7 @@ ghost use Rattle.lq_control.specs.declared.finishes.Seen.TheVariants.{Hung, Ende
 ghost use Rattle.lq_control.specs.Control.{IsIn, IsKeptByControl};
 ghost use Rattle.lq_control.specs.Ending.{FinishesAlone, IsEndedAlike, purged_as_hung};
 ghost use Rattle.lq_control.specs.EndSteps.{FindsBusy, FinishesBy, LoadsStops, LooksBy, PurgesHungBy, SendsIfLeft, SendsLeftBelow, ServesToEnd, WaitsUntilLeft, are_quiet as quiet};
-ghost use Rattle.lq_control.specs.Finish.{AreFor, AreTurnsFrom, AreAllDone, AreKept, IsSent, IsLook, IsActiveOrPurged, Shows, Hangs, IsFinished, FinishEnds, ArePurgesHung};
+ghost use Rattle.lq_control.specs.Finish.{AreFor, AreTurnsFrom, AreAllDone, AreKept, IsSent, IsLook, IsActiveOrPurged, Shows, Hangs, IsFinished, FinishEnds};
 
 use crate::drains::drain;
 use crate::purges::purge_held;
@@ -249,7 +249,6 @@ pub fn finish<'a, D: TxDevice, R: Wait>(rt: &R, shared: &Shared<'a, D>, cpu: &mu
     ensures at { (position cpu.new ≡ Idle) × ((view cpu.new).place.raised ≡ false) × IsReadyToSend cpu.new }
     ensures turns { AreAllDone (setup shared.now) (view cpu.new).turns }
     ensures ends { FinishEnds (setup shared.now) result (view cpu.old) (view cpu.new) }
-    ensures hung { ArePurgesHung (view cpu.old) (view cpu.new) }
     ensures fates { KeepsFates (view cpu.old) (view cpu.new) }
     ensures finished { IsFinished (setup shared.now) (view cpu.new) }
     ensures alone { AreAllDone (setup shared.now) (view cpu.old).turns

@@ -6,7 +6,7 @@ ghost use Rattle.lq_model.specs.declared.fate.Cause.TheVariants as cause;
 ghost use Rattle.lq_table.specs.Made.{Known};
 ghost use Rattle.lq_table.specs.Solo.{IsSole};
 ghost use Rattle.lq_table.specs.Views.{Setup, no_packets};
-ghost use Rattle.lq_control.specs.Comes.{ExchangesFor, Leaves, Shrinks};
+ghost use Rattle.lq_control.specs.Comes.{ExchangesFor, LeavesPurged, Shrinks};
 ghost use Rattle.lq_control.specs.Control.{KeepsDevice};
 ghost use Rattle.lq_control.specs.Steps.{ChangesLength, Downs, ResizesLive, Swaps};
 
@@ -15,13 +15,13 @@ ghost use Rattle.lq_control.specs.Steps.{ChangesLength, Downs, ResizesLive, Swap
 /// SCHED clear.
 pub fn deactivations_purge_all()
     ensures down { (k : Setup) (event count : ℕ) (old new : Known) → old.view.packets ≡ no_packets → Downs k event count old new
-        → Leaves (Purge (cause.Event event) ∷ Down event ∷ []) event count old.view new.view × KeepsDevice old.view new.view }
+        → LeavesPurged (Purge (cause.Event event) ∷ Down event ∷ []) event count old.view new.view × KeepsDevice old.view new.view }
     ensures clear { (k : Setup) (event count : ℕ) (old new : Known) → Downs k event count old new
         → (new.view.place.raised ≡ false) × (IsSole new.view → new.view.whole.qdisc.sched ≡ false) }
     ensures length { (k : Setup) (event len count : ℕ) (old new : Known) → old.view.packets ≡ no_packets → ChangesLength k event len count old new
-        → Leaves (Up ∷ Resize len event ∷ Purge (cause.Event event) ∷ Down event ∷ []) event count old.view new.view × KeepsDevice old.view new.view }
+        → LeavesPurged (Up ∷ Resize len event ∷ Purge (cause.Event event) ∷ Down event ∷ []) event count old.view new.view × KeepsDevice old.view new.view }
     ensures swap { (k : Setup) (event unit : ℕ) (came went : DeviceState) (old new : Known) → old.view.packets ≡ no_packets → Swaps k event unit came went old new
-        → (count : ℕ) × Leaves (Up ∷ Swap unit ∷ Purge (cause.Event event) ∷ Down event ∷ []) event count old.view new.view }
+        → (count : ℕ) × LeavesPurged (Up ∷ Swap unit ∷ Purge (cause.Event event) ∷ Down event ∷ []) event count old.view new.view }
 {}
 
 /// After an exchange the new device is the one that came; the old one is that of the station's latest unit, what it has accepted is

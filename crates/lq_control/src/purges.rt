@@ -1,5 +1,5 @@
 //! A purge: `qdisc_reset` of net/sched/sch_generic.c, with `pfifo_fast_reset`, by control that has the run lock.
-ghost use Rattle.std.specs.Prelude.{◌≡◌, ℕ, ◌+◌, ◌<◌, ◌≤◌, true, false, [], Some, None, Option, MatchOption, IfSome, length};
+ghost use Rattle.std.specs.Prelude.{◌≡◌, ℕ, ◌+◌, ◌<◌, true, Some, None, Option, IfSome, length};
 ghost use Rattle.std.specs.Option.{option_map, option_to_list};
 ghost use Rattle.lq_account.specs.Trail.{down_of};
 ghost use Rattle.lq_model.specs.Band.{Band};
@@ -11,10 +11,10 @@ ghost use Rattle.lq_band.specs.Three.{Three as Of};
 ghost use Rattle.lq_table.specs.Views.{Left, no_packets};
 ghost use Rattle.lq_table.specs.Purges.{first_purge, HoldsAtMost, HoldPackets, AreKnown};
 ghost use Rattle.lq_table.specs.Rule.{shown, IsResting};
-ghost use Rattle.lq_table.specs.Sees.{view, known, setup, position, slot, IsSeatOf, IsSameSeat, IsElseSame};
+ghost use Rattle.lq_table.specs.Sees.{view, known, setup, position, slot, IsSeatOf, IsSameSeat};
 ghost use Rattle.lq_control.specs.Steps.{PurgesBy, PurgesHeld, PurgesSlot};
 ghost use Rattle.lq_table.specs.Told.{IsKnownSlot};
-ghost use Rattle.lq_run.specs.Runs.{HasStation, Rests};
+ghost use Rattle.lq_run.specs.Runs.{Rests};
 ghost use Rattle.lq_ring.specs.Put.{no_locks};
 ghost use Rattle.lq_ring.specs.Take.{CarriesStation};
 ghost use Rattle.lq_ring.specs.Fates.{fates_onto};

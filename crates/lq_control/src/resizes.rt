@@ -1,7 +1,7 @@
 //! The length of a station's rings is changed.
-ghost use Rattle.std.specs.Prelude.{◌≡◌, ◌<◌, ◌≤◌, ℕ, ◌∷◌, true, false, None, List, length};
-ghost use Rattle.lq_model.specs.Account.{Resize, Down, Purge, Up, held};
-ghost use Rattle.lq_table.specs.Solo.{IsSole, account_of, solo, heard, locked_to};
+ghost use Rattle.std.specs.Prelude.{◌≡◌, ◌<◌, ◌≤◌, ◌∷◌, true, false};
+ghost use Rattle.lq_model.specs.Account.{Resize, Down, Purge, Up};
+ghost use Rattle.lq_table.specs.Solo.{IsSole, solo, heard, locked_to};
 ghost use Rattle.lq_run.specs.Runs.{ended};
 ghost use Rattle.lq_model.specs.declared.fate.Cause.TheVariants as cause;
 ghost use Rattle.lq_model.specs.declared.fate.Fate.TheVariants as fate;
@@ -11,9 +11,8 @@ ghost use Rattle.lq_model.specs.declared.machine.Position.TheVariants.{Idle, Con
 ghost use Rattle.lq_table.specs.Views.{first_account};
 ghost use Rattle.lq_table.specs.Sees.{view, known, setup, position, IsSeatOf, IsSameSeat};
 ghost use Rattle.lq_control.specs.Steps.{ChangesLength, Relengths, ResizesLive};
-ghost use Rattle.lq_ring.specs.Fates.{fates_onto};
 ghost use Rattle.lq_qdisc.specs.Sends.{IsReadyToSend};
-ghost use Rattle.lq_control.specs.Control.{IsIn, IsKeptByControl, KeepsDevice, Stores, all_dropped};
+ghost use Rattle.lq_control.specs.Control.{IsIn, IsKeptByControl, KeepsDevice};
 ghost use Rattle.lq_control.specs.Alone.{DoesEventAlone};
 
 use crate::activates::deactivate;
@@ -42,7 +41,6 @@ pub fn resize<'a, D: TxDevice, R: Wait>(
     ensures same { IsSameSeat cpu.old cpu.new × IsKeptByControl (view cpu.old) (view cpu.new) × KeepsDevice (view cpu.old) (view cpu.new) }
     ensures at { (position cpu.new ≡ Idle) × IsReadyToSend cpu.new × IsIn Active (view cpu.new) }
     ensures trail { (view cpu.new).trail ≡ Resize len event ∷ (view cpu.old).trail }
-    ensures shrunk { (lost : List ℕ) × ((view cpu.new).settled ≡ fates_onto (fate.Shrunk event) lost (view cpu.old).settled) × (result ≡ length lost) × (IsSole (view cpu.old) → lost ≡ all_dropped len (account_of (view cpu.old))) }
     ensures sole { IsSole (view cpu.old) → solo (view cpu.new) ≡ ended (heard (Resize len event) (locked_to true (solo (view cpu.old)))) }
     ensures resizes { ResizesLive (setup shared.now) event len result (known cpu.old) (known cpu.new) }
     ensures alone { DoesEventAlone shared.now.infos.now (first_account (setup shared.now)) event (kind.Resize len) (solo (view cpu.old)) (solo (view cpu.new)) }
@@ -95,7 +93,6 @@ pub fn tx_queue_len<'a, D: TxDevice, R: Wait>(
     ensures same { IsSameSeat cpu.old cpu.new × IsKeptByControl (view cpu.old) (view cpu.new) × KeepsDevice (view cpu.old) (view cpu.new) }
     ensures at { (position cpu.new ≡ Idle) × IsReadyToSend cpu.new × IsIn Active (view cpu.new) }
     ensures trail { (view cpu.new).trail ≡ Up ∷ Resize len event ∷ Purge (cause.Event event) ∷ Down event ∷ (view cpu.old).trail }
-    ensures purged { (lost : List ℕ) × Stores (fate.Purged (cause.Event event)) lost (view cpu.old) (view cpu.new) × (result ≡ length lost) × (IsSole (view cpu.old) → lost ≡ held (account_of (view cpu.old))) }
     ensures changes { ChangesLength (setup shared.now) event len result (known cpu.old) (known cpu.new) }
     ensures alone { DoesEventAlone shared.now.infos.now (first_account (setup shared.now)) event (kind.TxQueueLen len) (solo (view cpu.old)) (solo (view cpu.new)) }
 {

@@ -1,8 +1,8 @@
 //! The device of a station is exchanged.
-ghost use Rattle.std.specs.Prelude.{◌≡◌, ◌<◌, ◌-◌, ◌≤◌, ℕ, ◌∷◌, [], true, false, Some, None, List, length, Contains};
+ghost use Rattle.std.specs.Prelude.{◌≡◌, ◌<◌, ◌-◌, ◌≤◌, ◌∷◌, [], true, false, Some, None};
 ghost use Rattle.lq_device.specs.Station.{with_device};
-ghost use Rattle.lq_model.specs.Account.{Down, Purge, Swap, Up, held};
-ghost use Rattle.lq_table.specs.Solo.{IsSole, account_of, solo, heard, locked_to, device_to};
+ghost use Rattle.lq_model.specs.Account.{Down, Purge, Swap, Up};
+ghost use Rattle.lq_table.specs.Solo.{IsSole, solo, heard, locked_to, device_to};
 ghost use Rattle.lq_model.specs.declared.fate.Cause.TheVariants as cause;
 ghost use Rattle.lq_model.specs.declared.fate.Fate.TheVariants as fate;
 ghost use Rattle.lq_model.specs.declared.machine.Phase.TheVariants.{Active, Purged};
@@ -13,7 +13,7 @@ ghost use Rattle.lq_table.specs.Controls.{shut_after};
 ghost use Rattle.lq_table.specs.Sees.{view, known, setup, position, slot, IsSeatOf, IsSameSeat, IsElseSame};
 ghost use Rattle.lq_control.specs.Steps.{ExchangesDevice, Swaps, with_queues_opened};
 ghost use Rattle.lq_qdisc.specs.Sends.{IsReadyToSend};
-ghost use Rattle.lq_control.specs.Control.{IsIn, IsKeptByControl, Stores, all_opened, IsAfterUnits};
+ghost use Rattle.lq_control.specs.Control.{IsIn, IsKeptByControl, all_opened, IsAfterUnits};
 ghost use Rattle.lq_control.specs.Alone.{DoesSwap};
 
 use crate::activates::deactivate;
@@ -103,10 +103,6 @@ pub fn swap<'a, D: TxDevice, R: Wait>(
     ensures same { IsSameSeat cpu.old cpu.new × IsKeptByControl (view cpu.old) (view cpu.new) }
     ensures at { (position cpu.new ≡ Idle) × IsReadyToSend cpu.new × IsIn Active (view cpu.new) }
     ensures trail { (view cpu.new).trail ≡ Up ∷ Swap unit ∷ Purge (cause.Event event) ∷ Down event ∷ (view cpu.old).trail }
-    ensures purged { (lost : List ℕ) × Stores (fate.Purged (cause.Event event)) lost (view cpu.old) (view cpu.new) × (IsSole (view cpu.old) → lost ≡ held (account_of (view cpu.old))) }
-    ensures gone { (view cpu.new).control.gone ≡ (latest_unit shared.now.station (units_of (view cpu.old).trail), (D.state result).accepted) ∷ (view cpu.old).control.gone }
-    ensures served { HasServed shared.now.infos.now shared.now.station (view cpu.old).control.origin (D.state result) }
-    ensures came { (view cpu.new).control.origin ≡ D.state device }
     ensures swaps { Swaps (setup shared.now) event unit (D.state device) (D.state result) (known cpu.old) (known cpu.new) }
     ensures alone { DoesSwap shared.now.infos.now (first_account (setup shared.now)) event unit (D.state device) (solo (view cpu.old)) (solo (view cpu.new)) }
 {

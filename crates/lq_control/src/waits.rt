@@ -1,5 +1,5 @@
 //! The loops in which control waits for senders. Each pauses between two looks by a `Backoff`, and looks at nothing but one word.
-ghost use Rattle.std.specs.Prelude.{◌≡◌, ℕ, ◌<◌, true, false, [], ◌∷◌, None, Some};
+ghost use Rattle.std.specs.Prelude.{◌≡◌, ◌<◌, true, false, None};
 ghost use Rattle.lq_model.specs.Machine.{is_closed};
 ghost use Rattle.lq_model.specs.declared.machine.Phase.{Phase};
 ghost use Rattle.lq_model.specs.declared.machine.Phase.TheVariants.{Closing, Quiet};

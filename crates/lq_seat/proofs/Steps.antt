@@ -4,6 +4,7 @@ use Rattle.std.specs.Prelude.{◌↔◌, ◌<◌, ◌==◌, ◌+◌, ◌*◌, sl
 use Rattle.lq_account.proofs.Lists.{cons-in}
 use Rattle.lq_account.specs.Controls.{with_control}
 use Rattle.lq_account.specs.Trail.{down_of, is_own}
+use Rattle.lq_control.specs.Comes.{ExchangesFor}
 use Rattle.lq_control.specs.Control.{IsKeptByControl, KeepsDevice}
 use Rattle.lq_control.specs.Finish.{AreAllDone, FinishEnds, PurgesHung}
 use Rattle.lq_model.specs.Account.{Account, Event, Join, Full, Refuse, Direct, Purge}
@@ -22,7 +23,7 @@ use Rattle.lq_qdisc.specs.declared.answers.Sending.TheVariants as sending
 use Rattle.lq_seat.specs.Calls.{Came, Changes, DoesEvent, Drains, Exchanges, SendsPacket}
 use Rattle.lq_seat.specs.Ends.{EndsTrail}
 use Rattle.lq_seat.specs.Rests.{AreUnitsSmall}
-use Rattle.lq_seat.specs.State.{HasServed, IsHere, SeatState, TableState, seat_account, latest_unit, seat_seen, table_seen, solo_of, units_of}
+use Rattle.lq_seat.specs.State.{IsHere, SeatState, TableState, seat_account, seat_seen, table_seen, solo_of, units_of}
 use Rattle.lq_table.specs.Sees.{IsSameSeat, setup, view}
 use Rattle.lq_table.specs.Solo.{Solo, solo}
 use Rattle.lq_table.specs.Views.{Setup, View, first_account}
@@ -168,12 +169,10 @@ module _ {D : Type 0} (sh : Shared D) (c c' : Cpu D) (made : (view c).share.abou
   }
 
   pub exchanged-drained : (plan : Plan) (event : ℕ) (params : Params) (came went : DeviceState) (s : SeatState) → IsSameSeat c c' → IsKeptByControl (view c) (view c')
-      → (view c').trail ≡ with_control plan event (kind.Swap params) (view c).trail → (view c').control.origin ≡ came
-      → (view c').control.gone ≡ (latest_unit sh.station (units_of (view c).trail), went.accepted) ∷ (view c).control.gone
-      → HasServed sh.infos.now sh.station (view c).control.origin went
+      → (view c').trail ≡ with_control plan event (kind.Swap params) (view c).trail → ExchangesFor came went (view c) (view c')
       → (came.told ≡ Some (new_device params) → Does sh.infos.now (first_account (setup sh)) (changed plan event (kind.Swap params)) (solo (view c)) (solo (view c')))
       → Drains (seat_seen c') s → Exchanges plan event params came went (seat_seen c) s
-  exchanged-drained plan event params came went s same kept trail origin gone has_served alone drains = record {
+  exchanged-drained plan event params came went s same kept trail devices alone drains = record {
     is = drains.is ∙ (λ i. record (seat_seen c) {
       table = same.0 i;
       made = (kept.share i).about;
@@ -183,18 +182,15 @@ module _ {D : Type 0} (sh : Shared D) (c c' : Cpu D) (made : (view c).share.abou
       raised = false;
       turns = kept.turns i;
       trail = trail i;
-      origin = origin i;
-      gone = gone-is i;
+      origin = devices.origin i;
+      gone = devices.gone i;
       told = kept.told i;
       whole = s.whole;
       steps = s.steps;
     });
-    has_served = subst (λ (k : Setup). HasServed k.infos k.station (view c).control.origin went) (sym made) has_served;
+    has_served = devices.has_served;
     alone = λ tells. drained-on (λ k. changed plan event (kind.Swap params)) (seat_seen c) (seat_seen c') s (ap (λ x. x.about) kept.share) (does-here (λ k. changed plan event (kind.Swap params)) (alone tells)) drains;
   }
-    where
-      gone-is : (view c').control.gone ≡ (latest_unit (view c).share.about.station (units_of (view c).trail), went.accepted) ∷ (view c).control.gone
-      gone-is = gone ∙ ap (λ (k : Setup). (latest_unit k.station (units_of (view c).trail), went.accepted) ∷ (view c).control.gone) (sym made)
 
 -- EVENTS
 

@@ -10,13 +10,11 @@ use Rattle.lq_control.proofs.StepLemmas.{both}
 use Rattle.lq_control.proofs.Alone.{stepped_at, up_alone}
 use Rattle.lq_control.proofs.activates.up.Goals as goal
 
-pub returns-clause-step : goal.returns-clause-step
-returns-clause-step g c = ap solo c.end_control.ensures.view ∙ (ap solo c.clear_deactivated.ensures.view ∙ ap (λ (v : View). heard Up (solo v)) c.begin_control.ensures.view)
-
 pub returns-clause-alone : goal.returns-clause-alone
 returns-clause-alone g c = λ event plan h.
     let infos = c.args.shared.now.infos.now in let start = first_account (setup c.args.shared.now) in let v = solo (view c.args.cpu.now) in
-    stepped_at infos start (changed plan event kind.Up) v (heard Up v) (solo (view c.end_control.new.cpu)) (returns-clause-step g c) (up_alone infos start event plan v h)
+    let is = ap solo c.end_control.ensures.view ∙ (ap solo c.clear_deactivated.ensures.view ∙ ap (λ (v : View). heard Up (solo v)) c.begin_control.ensures.view) in
+    stepped_at infos start (changed plan event kind.Up) v (heard Up v) (solo (view c.end_control.new.cpu)) is (up_alone infos start event plan v h)
 
 pub returns-clause-ups : goal.returns-clause-ups
 returns-clause-ups g c =

@@ -16,7 +16,7 @@ use Rattle.lq_control.proofs.StepLemmas.{both}
 use Rattle.lq_control.specs.Ending.{IsEndedAlike, IsFinishedAlone}
 use Rattle.lq_control.specs.Finish.{AreAllDone, AreAllStops, Hangs, IsOver, IsFinished, Shows}
 use Rattle.lq_control.proofs.EndingLemmas.{AreValues, over_finishes, purged_finishes}
-use Rattle.lq_control.proofs.FinishLemmas.{all_done, purges_hung, keeps_then, fates_before}
+use Rattle.lq_control.proofs.FinishLemmas.{all_done, keeps_then, fates_before}
 use Rattle.lq_control.proofs.FinishSteps.{finished, finished_purged, made_kept}
 use Rattle.lq_control.proofs.finishes.finish.Given as given
 use Rattle.lq_control.proofs.finishes.finish.Goals as goal
@@ -73,9 +73,6 @@ returns-then-serve_to_end-clause-ends g c = let s = c.send_all_left.ensures in l
   ends = inr (view c.serve_to_end.new.cpu, t.still.1, record { hung = (shows g c).hung; unit = (shows g c).unit; account = p.account; counted = p.purged.1; trail = p.trail; device = p.device; step = p.step });
 }
 
-pub returns-then-serve_to_end-clause-hung : goal.returns-then-serve_to_end-clause-hung
-returns-then-serve_to_end-clause-hung g c = purges_hung (setup c.args.shared.now) c.purge_hung.result (view c.args.cpu.now) (view c.purge_hung.new.cpu) (returns-then-serve_to_end-clause-ends g c)
-
 pub returns-then-serve_to_end-clause-fates : goal.returns-then-serve_to_end-clause-fates
 returns-then-serve_to_end-clause-fates g c =
     let v0 = view c.args.cpu.now in let v1 = view c.send_all_left.new.cpu in let v2 = view c.serve_to_end.new.cpu in let v3 = view c.purge_hung.new.cpu in
@@ -125,9 +122,6 @@ returns-clause-ends g c = let s = c.send_all_left.ensures in let t = c.serve_to_
   turns = ap (λ (x : View). x.turns) e ∙ t.same.1.turns;
   ends = inl (ap (λ (x : View). x.trail) e ∙ t.still.1, refl);
 }
-
-pub returns-clause-hung : goal.returns-clause-hung
-returns-clause-hung g c = purges_hung (setup c.args.shared.now) 0 (view c.args.cpu.now) (view c.end_control.new.cpu) (returns-clause-ends g c)
 
 pub returns-clause-fates : goal.returns-clause-fates
 returns-clause-fates g c =

@@ -2,32 +2,18 @@ use Rattle.std.proofs.Common.{◌≡◌, true, sym, ap, ◌∙◌, subst}
 use Rattle.lq_model.specs.Account.{Resize}
 use Rattle.lq_model.specs.Alone.{changed}
 use Rattle.lq_model.specs.declared.plan.EventKind.TheVariants as kind
-use Rattle.lq_model.specs.declared.fate.Fate.TheVariants as fate
-use Rattle.lq_table.specs.Views.{View, first_account}
+use Rattle.lq_table.specs.Views.{first_account}
 use Rattle.lq_table.specs.Controls.{beginning_control}
 use Rattle.lq_table.specs.Sees.{view, setup, known}
 use Rattle.lq_table.specs.Solo.{IsSole, solo, heard, locked_to}
 use Rattle.lq_table.specs.Told.{got_in_control}
 use Rattle.lq_run.specs.Runs.{ended}
-use Rattle.lq_ring.specs.Fates.{fates_onto}
 use Rattle.lq_ring.specs.Resized.{all_lost, having_resized}
 use Rattle.lq_control.proofs.Alone.{resize_alone, resized_same, stepped_at}
-use Rattle.lq_control.proofs.Sole.{lost_dropped}
 use Rattle.lq_table.specs.Made.{Known}
 use Rattle.lq_control.specs.Steps.{TakesLock, with_control_begun}
 use Rattle.lq_control.proofs.StepLemmas.{both}
 use Rattle.lq_control.proofs.resizes.resize.Goals as goal
-
-pub returns-clause-shrunk : goal.returns-clause-shrunk
-returns-clause-shrunk g c =
-    let v = view c.args.cpu.now in let len = c.args.len in let got = c.take_lock.ensures.got in let v2 = view c.take_lock.new.cpu in
-    let e2 : v2 ≡ got_in_control got.0 (beginning_control v) = got.1 ∙ ap (got_in_control got.0) c.begin_control.ensures.view in
-    let r = c.resize_all-shrunk.ensures.resizes in (
-      all_lost len r.held,
-      c.end_resize.ensures.kept.0.8 ∙ (ap (λ (x : View). x.settled) r.is ∙ ap (λ (x : View). fates_onto (fate.Shrunk c.args.event) (all_lost len r.held) x.settled) e2),
-      r.counted,
-      λ sole. lost_dropped len r.held got.0 v v2 e2 r.is_known sole,
-    )
 
 pub returns-clause-sole : goal.returns-clause-sole
 returns-clause-sole g c sole =

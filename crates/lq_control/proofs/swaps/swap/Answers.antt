@@ -1,12 +1,11 @@
-use Rattle.std.proofs.Common.{ℕ, false, true, ◌∷◌, List, sym, ap, ◌∙◌, subst, Contains}
+use Rattle.std.proofs.Common.{false, true, List, sym, ap, ◌∙◌, subst, Contains}
 use Rattle.lq_model.specs.Account.{Event, Swap, Up}
 use Rattle.lq_model.specs.Alone.{changed}
 use Rattle.lq_model.specs.declared.plan.EventKind.TheVariants as kind
-use Rattle.lq_model.specs.Device.{DeviceState}
-use Rattle.lq_table.specs.Views.{View, FirstPart, first_account}
+use Rattle.lq_table.specs.Views.{first_account}
 use Rattle.lq_table.specs.Sees.{view, known, setup}
 use Rattle.lq_table.specs.Solo.{Solo, device_to, heard, locked_to, solo}
-use Rattle.lq_table.specs.Rule.{HasServed, latest_unit, units_of}
+use Rattle.lq_table.specs.Rule.{units_of}
 use Rattle.lq_qdisc.specs.Alone.{HasAll}
 use Rattle.lq_control.proofs.StepLemmas.{reopened}
 use Rattle.lq_control.proofs.Alone.{downed, downed_at, stepped_at, swap_alone}
@@ -24,22 +23,6 @@ returns-clause-alone g c = λ plan params is_unit told h.
     let is = ap solo c.end_control.ensures.view ∙ (ap solo c.clear_deactivated.ensures.view
     ∙ (ap (heard Up) (c.exchange_device-old.ensures.sole (subst HasAll (sym down) h.sender.sole)) ∙ ap (λ (s : Solo). heard Up (locked_to false (device_to device (heard (Swap unit) (locked_to true s))))) down)) in
     stepped_at infos start (changed plan event (kind.Swap params)) v (heard Up (device_to device (heard (Swap unit) (downed event v)))) (solo (view c.end_control.new.cpu)) is (swap_alone infos start event unit device v plan params is_unit told h)
-
-pub returns-clause-gone : goal.returns-clause-gone
-returns-clause-gone g c =
-    let trail = c.wait_until_clear.ensures.served.trail ∙ c.deactivate.ensures.trail in
-    let gone = ap (λ (x : FirstPart). x.gone) c.wait_until_clear.ensures.served.control ∙ c.deactivate.ensures.same.2.gone in
-    let accepted = (g.D.TxDevice.state c.exchange_device-old.result).accepted in
-    ap (λ (x : View). x.control.gone) c.end_control.ensures.view ∙ (ap (λ (x : View). x.control.gone) c.clear_deactivated.ensures.view ∙ (c.exchange_device-old.ensures.gone
-    ∙ ap (λ (z : List Event × List (ℕ × List ℕ)). (latest_unit c.args.shared.now.station (units_of z.0), accepted) ∷ z.1) (λ j. (trail j, gone j))))
-
-pub returns-clause-served : goal.returns-clause-served
-returns-clause-served g c =
-    let origin = ap (λ (x : FirstPart). x.origin) c.wait_until_clear.ensures.served.control ∙ c.deactivate.ensures.same.2.origin in
-    subst (λ (d : DeviceState). HasServed c.args.shared.now.infos.now c.args.shared.now.station d (g.D.TxDevice.state c.exchange_device-old.result)) origin c.exchange_device-old.ensures.served
-
-pub returns-clause-came : goal.returns-clause-came
-returns-clause-came g c = ap (λ (x : View). x.control.origin) c.end_control.ensures.view ∙ (ap (λ (x : View). x.control.origin) c.clear_deactivated.ensures.view ∙ c.exchange_device-old.ensures.came)
 
 pub returns-clause-swaps : goal.returns-clause-swaps
 returns-clause-swaps g c = (

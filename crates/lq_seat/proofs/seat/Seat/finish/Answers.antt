@@ -1,5 +1,6 @@
 use Rattle.std.proofs.Common.{◌≡◌, ◌<◌, refl, ⊎_elim, sym, ap, ◌∙◌, subst, arith}
 use Rattle.lq_account.specs.Trail.{down_of}
+use Rattle.lq_control.proofs.FinishLemmas.{purges_hung}
 use Rattle.lq_control.specs.Finish.{AreAllDone, AreTurnsFrom, IsFinished, count_all, count_below}
 use Rattle.lq_model.specs.Alone.{finished}
 use Rattle.lq_qdisc.specs.Alone.{IsAlone, running}
@@ -68,7 +69,7 @@ returns g c =
       };
       trail = ends-trail (setup sh) c.finish-purged.result cpu now done e.ends;
       ended = record { nothing_held = ended.nothing_held; hand_empty = ended.hand_empty; decided = ended.decided };
-      hung = λ none unit there. ⊎_elim (λ old. absurd (none unit old)) (λ was. (sym was.0, was.1)) (e.hung unit there);
+      hung = λ none unit there. ⊎_elim (λ old. absurd (none unit old)) (λ was. (sym was.0, was.1)) (purges_hung (setup sh) c.finish-purged.result (view cpu) (view now) e.ends unit there);
       alone = λ alone.
           let had = subst (λ (k : Setup). IsAlone k.infos (first_account k) (solo (view cpu))) made alone in
           subst (λ (k : Setup). (running (first_account k) (solo (view now))).account.fates ≡ (finished (view cpu).share.about.infos (running (first_account (view cpu).share.about) (solo (view cpu)))).account.fates) (sym made')
