@@ -18,13 +18,16 @@ use Rattle.lq_model.specs.declared.plan.EventKind.{EventKind}
 use Rattle.lq_model.specs.declared.plan.EventKind.TheVariants as kind
 use Rattle.lq_qdisc.specs.Alone.{BringsAlone, Does}
 use Rattle.lq_qdisc.specs.Sends.{IsCallKept, came_as, trail_with}
+use Rattle.lq_qdisc.specs.Steps.{TransmitsBy}
 use Rattle.lq_qdisc.specs.declared.answers.Sending.{Sending}
 use Rattle.lq_qdisc.specs.declared.answers.Sending.TheVariants as sending
 use Rattle.lq_seat.specs.Calls.{Came, Changes, DoesEvent, Drains, Exchanges, SendsPacket}
 use Rattle.lq_seat.specs.Ends.{EndsTrail}
 use Rattle.lq_seat.specs.Rests.{AreUnitsSmall}
-use Rattle.lq_seat.specs.State.{IsHere, SeatState, TableState, seat_account, seat_seen, table_seen, solo_of, units_of}
-use Rattle.lq_table.specs.Sees.{IsSameSeat, setup, view}
+use Rattle.lq_seat.specs.Steps.{ControlsBy, ExchangesBy, Makes, Transmits}
+use Rattle.lq_seat.specs.State.{IsHere, SeatState, TableState, seat_account, seat_state, seat_seen, table_seen, solo_of, units_of}
+use Rattle.lq_table.specs.Made.{Known}
+use Rattle.lq_table.specs.Sees.{IsSameSeat, known, setup, view}
 use Rattle.lq_table.specs.Solo.{Solo, solo}
 use Rattle.lq_table.specs.Views.{Setup, View, first_account}
 use Rattle.lq_table.specs.declared.shared.Cpu.{Cpu}
@@ -113,18 +116,22 @@ drained-on step old mid new made does drains =
     (subst (λ (k : Setup). Does k.infos (first_account k) (served k.infos) (solo_of mid) (solo_of new)) made drains.alone)
 
 module _ {D : Type 0} (sh : Shared D) (c c' : Cpu D) (made : (view c).share.about ≡ setup sh) where
+  -- a call that the seat made at the table
+  pub call-made : (call : Setup → Known → Known → Type 0) → c'.known.seat.table_id ≡ c.known.seat.table_id → call (setup sh) (known c) (known c') → Makes call (seat_seen c) (seat_seen c')
+  call-made call same did = (known c, known c', refl, ap (λ t. seat_state t (known c')) (sym same), subst (λ (k : Setup). call k (known c) (known c')) (sym made) did)
+
   -- a step of the run of one sender, as the table's rule has it
   does-here : (step : Setup → RunningStation → RunningStation) → Does sh.infos.now (first_account (setup sh)) (step (setup sh)) (solo (view c)) (solo (view c'))
       → Does (view c).share.about.infos (first_account (view c).share.about) (step (view c).share.about) (solo_of (seat_seen c)) (solo_of (seat_seen c'))
   does-here step does = subst (λ (k : Setup). Does k.infos (first_account k) (step k) (solo (view c)) (solo (view c'))) (sym made) does
 
-  pub sent-drained : (n : ℕ) (answer : Sending) (s : SeatState) → IsCallKept c c'
+  pub sent-drained : (n : ℕ) (answer : Sending) (s : SeatState) → IsCallKept c c' → TransmitsBy (setup sh) n answer (known c) (known c')
       → (view c').turns ≡ slice_set (view c).turns (owner_in sh.infos.now n) (2 * rank_in sh.infos.now n + 2)
       → (view c').trail ≡ trail_with (came_as sh.infos.now n answer) (view c) → is_some (came_as sh.infos.now n answer) ≡ true
       → ((view c).control.first ≡ true → (event : ℕ) → (answer ≡ sending.Refused event) ↔ (down_of (view c).trail ≡ Some event))
       → BringsAlone sh.infos.now (first_account (setup sh)) (brought_in sh.infos.now sh.bypass n) (solo (view c)) (solo (view c'))
       → Drains (seat_seen c') s → SendsPacket n (seat_seen c) s
-  sent-drained n answer s kept turns trail came first brings drains = record {
+  sent-drained n answer s kept transmits turns trail came first brings drains = record {
     is = drains.is ∙ (λ i. record (seat_seen c) {
       table = kept.seat.0 i;
       made = (kept.share i).about;
@@ -140,6 +147,7 @@ module _ {D : Type 0} (sh : Shared D) (c c' : Cpu D) (made : (view c).share.abou
       whole = s.whole;
       steps = s.steps;
     });
+    by = (seat_seen c', ap (λ x. x.about) kept.share, call-made (Transmits n) kept.seat.0 (answer, transmits), drains.by);
     came = λ is-first owner. subst (Came n (view c).trail) (sym (ap (λ (x : SeatState). x.trail) drains.is ∙ trail))
         (came-first sh.infos.now n answer (view c) owner came (first is-first));
     alone = let k = (view c).share.about in brought-served k.infos (first_account k) (brought_in k.infos k.bypass n) (solo (view c)) (solo (view c')) (solo_of s)
@@ -151,8 +159,9 @@ module _ {D : Type 0} (sh : Shared D) (c c' : Cpu D) (made : (view c).share.abou
       turns-are = turns ∙ ap (λ (k : Setup). slice_set (view c).turns (owner_in k.infos n) (2 * rank_in k.infos n + 2)) (sym made)
 
   pub changed-by : (plan : Plan) (event : ℕ) (kind : EventKind) → IsSameSeat c c' → IsKeptByControl (view c) (view c') → KeepsDevice (view c) (view c') → (view c').trail ≡ with_control plan event kind (view c).trail
-      → Does sh.infos.now (first_account (setup sh)) (changed plan event kind) (solo (view c)) (solo (view c')) → Changes plan event kind (seat_seen c) (seat_seen c')
-  changed-by plan event kind same kept device trail alone = record {
+      → Does sh.infos.now (first_account (setup sh)) (changed plan event kind) (solo (view c)) (solo (view c')) → ControlsBy event kind (setup sh) (known c) (known c')
+      → Changes plan event kind (seat_seen c) (seat_seen c')
+  changed-by plan event kind same kept device trail alone controls = record {
     is = λ i. record (seat_seen c') {
       table = same.0 i;
       made = (kept.share i).about;
@@ -165,14 +174,15 @@ module _ {D : Type 0} (sh : Shared D) (c c' : Cpu D) (made : (view c).share.abou
       gone = device.gone i;
       told = kept.told i;
     };
+    by = call-made (ControlsBy event kind) same.0 controls;
     alone = does-here (λ k. changed plan event kind) alone;
   }
 
   pub exchanged-drained : (plan : Plan) (event : ℕ) (params : Params) (came went : DeviceState) (s : SeatState) → IsSameSeat c c' → IsKeptByControl (view c) (view c')
       → (view c').trail ≡ with_control plan event (kind.Swap params) (view c).trail → ExchangesFor came went (view c) (view c')
       → (came.told ≡ Some (new_device params) → Does sh.infos.now (first_account (setup sh)) (changed plan event (kind.Swap params)) (solo (view c)) (solo (view c')))
-      → Drains (seat_seen c') s → Exchanges plan event params came went (seat_seen c) s
-  exchanged-drained plan event params came went s same kept trail devices alone drains = record {
+      → ExchangesBy event came went (setup sh) (known c) (known c') → Drains (seat_seen c') s → Exchanges plan event params came went (seat_seen c) s
+  exchanged-drained plan event params came went s same kept trail devices alone exchanges drains = record {
     is = drains.is ∙ (λ i. record (seat_seen c) {
       table = same.0 i;
       made = (kept.share i).about;
@@ -188,6 +198,7 @@ module _ {D : Type 0} (sh : Shared D) (c c' : Cpu D) (made : (view c).share.abou
       whole = s.whole;
       steps = s.steps;
     });
+    by = (seat_seen c', ap (λ x. x.about) kept.share, call-made (ExchangesBy event came went) same.0 exchanges, drains.by);
     has_served = devices.has_served;
     alone = λ tells. drained-on (λ k. changed plan event (kind.Swap params)) (seat_seen c) (seat_seen c') s (ap (λ x. x.about) kept.share) (does-here (λ k. changed plan event (kind.Swap params)) (alone tells)) drains;
   }
@@ -198,6 +209,7 @@ module _ {D : Type 0} (sh : Shared D) (c c' : Cpu D) (made : (view c).share.abou
 pub changed-drained : (plan : Plan) (event : ℕ) (kind : EventKind) (old mid new : SeatState) → Changes plan event kind old mid → Drains mid new → DoesEvent plan event kind old new
 changed-drained plan event kind old mid new changes drains = record {
   is = drains.is ∙ ap (λ (x : SeatState). record x { raised = false; whole = new.whole; steps = new.steps }) changes.is;
+  by = (mid, ap (λ (x : SeatState). x.made) changes.is, changes.by, drains.by);
   alone = drained-on (λ k. changed plan event kind) old mid new (ap (λ (x : SeatState). x.made) changes.is) changes.alone drains;
 }
 

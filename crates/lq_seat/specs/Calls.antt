@@ -13,9 +13,8 @@ use Rattle.lq_model.specs.declared.plan.EventKind.{EventKind}
 use Rattle.lq_model.specs.declared.plan.EventKind.TheVariants as kind
 use Rattle.lq_plan.specs.Limits.{IsKindWithin}
 use Rattle.lq_qdisc.specs.Alone.{Does}
-use Rattle.lq_qdisc.specs.Sends.{WakesBelow}
-use Rattle.lq_seat.specs.State.{HasServed, SeatState, first_account, latest_unit, no_device, solo_of, seat_state, station_count, times, units_of}
-use Rattle.lq_table.specs.Made.{Known}
+use Rattle.lq_seat.specs.State.{HasServed, SeatState, first_account, latest_unit, no_device, solo_of, station_count, times, units_of}
+use Rattle.lq_seat.specs.Steps.{ControlsBy, ExchangesBy, DoesInterrupts, LooksAtStops, Makes, MakesAndServes, Transmits}
 pub use Rattle.lq_table.specs.Told.{with_turns, without}
 
 -- for a seat that has the table alone and whose device tells, the station is just as after this step of the run of one sender
@@ -50,23 +49,21 @@ turns_after n s = slice_set s.turns (owner_in s.made.infos n) (2 * rank_in s.mad
 pub record SendsPacket (n : ℕ) (old new : SeatState) : Type 0 where
   pub is : new ≡ record old { turns = turns_after n old; raised = false; trail = new.trail; whole = new.whole; steps = new.steps }
   pub came : old.first ≡ true → owner_in old.made.infos n ≡ 0 → Came n old.trail new.trail
+  pub by : MakesAndServes (Transmits n) old new
   pub alone : DoesAlone (λ r. served old.made.infos (brought_in old.made.infos old.made.bypass n r)) old new
 
 -- WAKES AND SOFT INTERRUPTS
 
--- the stop word of each queue was looked at, and exchanged where it was 1: from what the seat then knew to what it knew after
-abbrev pub LooksAtStops : SeatState → SeatState → Type 0
-LooksAtStops old new = (before : Known) × (after : Known) × (seat_state old.table before ≡ old) × (seat_state old.table after ≡ new) × WakesBelow old.made old.made.queues before after
-
 -- the queues were woken, and the seat may owe a soft interrupt
 pub record WakesQueues (old new : SeatState) : Type 0 where
   pub is : new ≡ record old { raised = new.raised; whole = new.whole; steps = new.steps }
-  pub stops : LooksAtStops old new
+  pub by : Makes LooksAtStops old new
   pub alone : DoesAlone opened old new
 
 -- soft interrupts were done until none was owed
 pub record Drains (old new : SeatState) : Type 0 where
   pub is : new ≡ record old { raised = false; whole = new.whole; steps = new.steps }
+  pub by : Makes DoesInterrupts old new
   pub alone : DoesAlone (served old.made.infos) old new
 
 -- EVENTS
@@ -88,11 +85,13 @@ pub record MayChange (kind : EventKind) (s : SeatState) : Type 0 where
 -- an event of the plan that is no exchange of the device was done, up to the soft interrupts
 pub record Changes (plan : Plan) (event : ℕ) (kind : EventKind) (old new : SeatState) : Type 0 where
   pub is : new ≡ record old { raised = new.raised; trail = with_control plan event kind old.trail; whole = new.whole; steps = new.steps }
+  pub by : Makes (ControlsBy event kind) old new
   pub alone : DoesAlone (changed plan event kind) old new
 
 -- it was done, and no soft interrupt is owed
 pub record DoesEvent (plan : Plan) (event : ℕ) (kind : EventKind) (old new : SeatState) : Type 0 where
   pub is : new ≡ record old { raised = false; trail = with_control plan event kind old.trail; whole = new.whole; steps = new.steps }
+  pub by : MakesAndServes (ControlsBy event kind) old new
   pub alone : DoesAlone (λ r. served old.made.infos (changed plan event kind r)) old new
 
 -- the seat may have its device exchanged for this one, of this unit
@@ -114,6 +113,7 @@ pub record Exchanges (plan : Plan) (event : ℕ) (params : Params) (came went : 
     whole = new.whole;
     steps = new.steps;
   }
+  pub by : MakesAndServes (ExchangesBy event came went) old new
   pub has_served : HasServed old.made.infos old.made.station old.origin went
   pub alone : came.told ≡ Some (new_device params) → DoesAlone (λ r. served old.made.infos (changed plan event (kind.Swap params) r)) old new
 

@@ -12,6 +12,7 @@ use Rattle.lq_model.specs.declared.fate.Fate.{Fate}
 use Rattle.lq_model.specs.declared.fate.Fate.TheVariants as fate
 use Rattle.lq_model.specs.declared.fate.Info.{Info}
 use Rattle.lq_seat.specs.State.{HasAllOf, HasAlone, HasServed, SeatState, seat_account, running_of, times}
+use Rattle.lq_seat.specs.Steps.{EndsStation, Makes}
 use Rattle.lq_table.specs.Closes.{HaveSent}
 
 -- THE LAST CALL
@@ -49,6 +50,7 @@ pub record HasDecidedAll (s : SeatState) : Type 0 where
 -- the station was brought to its end
 pub record Finishes (old new : SeatState) : Type 0 where
   pub is : new ≡ record old { trail = new.trail; whole = new.whole; steps = new.steps }
+  pub by : Makes EndsStation old new
   pub trail : EndsTrail old new
   pub ended : HasDecidedAll new
   pub hung : HasNoHang old.trail → PurgesHungOnly new

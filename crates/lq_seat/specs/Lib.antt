@@ -2,6 +2,8 @@
 pub mod State
 -- what holds of a seat between two calls
 pub mod Rests
+-- the steps of its calls
+pub mod Steps
 -- what the calls make of a seat
 pub mod Calls
 -- the end of a station

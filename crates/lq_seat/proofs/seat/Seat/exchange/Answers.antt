@@ -35,4 +35,4 @@ returns g c plan params is =
     subst (λ (s : SeatState). Exchanges plan event params (g.D.TxDevice.state c.args.device) (g.D.TxDevice.state c.swap-old.result) s c.drain.new.self) c.self.view_is
     (exchanged-drained sh cpu c.swap-old.new.cpu made plan event params (g.D.TxDevice.state c.args.device) (g.D.TxDevice.state c.swap-old.result) c.drain.new.self e.same.0 e.same.1
     (e.trail ∙ ap (λ u. Up ∷ Swap u ∷ Purge (cause.Event event) ∷ Down event ∷ old.trail) (sym is))
-    devices (λ tells. e.alone plan params is tells) c.drain.ensures)
+    devices (λ tells. e.alone plan params is tells) (c.args.brought.unit, e.swaps) c.drain.ensures)

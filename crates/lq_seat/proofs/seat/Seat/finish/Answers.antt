@@ -4,11 +4,12 @@ use Rattle.lq_control.proofs.FinishLemmas.{purges_hung}
 use Rattle.lq_control.specs.Finish.{AreAllDone, AreTurnsFrom, IsFinished, count_all, count_below}
 use Rattle.lq_model.specs.Alone.{finished}
 use Rattle.lq_qdisc.specs.Alone.{IsAlone, running}
-use Rattle.lq_seat.proofs.Steps.{ends-keeps, ends-trail, made-is}
+use Rattle.lq_seat.proofs.Steps.{call-made, ends-keeps, ends-trail, made-is}
 use Rattle.lq_seat.proofs.seat.Seat.finish.Goals as goal
 use Rattle.lq_seat.specs.Ends.{Finishes, MayFinish}
 use Rattle.lq_seat.specs.Rests.{AreUnitsSmall, phase_by}
 use Rattle.lq_seat.specs.State.{IsWellMade, SeatState, seat_seen, units_of}
+use Rattle.lq_seat.specs.Steps.{EndsStation}
 use Rattle.lq_table.specs.Sees.{view, setup}
 use Rattle.lq_table.specs.Solo.{solo}
 use Rattle.lq_table.specs.Views.{Setup, first_account}
@@ -67,6 +68,7 @@ returns g c =
         gone = (control i).gone;
         told = e.kept.2 i;
       };
+      by = call-made sh cpu now made EndsStation e.same.0 (c.finish-purged.result, e.finishes);
       trail = ends-trail (setup sh) c.finish-purged.result cpu now done e.ends;
       ended = record { nothing_held = ended.nothing_held; hand_empty = ended.hand_empty; decided = ended.decided };
       hung = λ none unit there. ⊎_elim (λ old. absurd (none unit old)) (λ was. (sym was.0, was.1)) (purges_hung (setup sh) c.finish-purged.result (view cpu) (view now) e.ends unit there);

@@ -36,5 +36,5 @@ returns g c =
     let turn = subst (λ (k : Setup). slice_index old.turns (owner_in k.infos c.args.n) ≡ 2 * rank_in k.infos c.args.n) made next.turn in
     let sent = c.transmit-sending.ensures.in_turn turn in
     subst (λ (s : SeatState). SendsPacket c.args.n s c.drain.new.self) c.self.view_is
-    (sent-drained sh cpu c.transmit-sending.new.cpu made c.args.n c.transmit-sending.result c.drain.new.self c.transmit-sending.ensures.kept sent.turns sent.trail sent.came
+    (sent-drained sh cpu c.transmit-sending.new.cpu made c.args.n c.transmit-sending.result c.drain.new.self c.transmit-sending.ensures.kept sent sent.turns sent.trail sent.came
     (c.transmit-sending.ensures.first turn) (c.transmit-sending.ensures.alone turn (ap (λ (s : SeatState). s.raised) c.self.view_is ∙ c.requires.raised)) c.drain.ensures)

@@ -1,0 +1,48 @@
+-- What a sender's calls at its seat do: the steps of the calls of the crates below, in the order in which they are made.
+use Rattle.std.specs.Prelude.{◌≡◌, ℕ}
+use Rattle.lq_control.specs.EndSteps.{FinishesBy}
+use Rattle.lq_control.specs.Steps.{ChangesLength, Downs, DrainsBy, ResizesLive, Swaps, Ups}
+use Rattle.lq_model.specs.Device.{DeviceState}
+use Rattle.lq_model.specs.declared.plan.EventKind.{EventKind}
+use Rattle.lq_model.specs.declared.plan.EventKind.TheVariants as kind
+use Rattle.lq_qdisc.specs.Sends.{WakesBelow}
+use Rattle.lq_qdisc.specs.Steps.{TransmitsBy}
+use Rattle.lq_qdisc.specs.declared.answers.Sending.{Sending}
+use Rattle.lq_seat.specs.State.{SeatState, Setup, seat_state}
+use Rattle.lq_table.specs.Made.{Known}
+
+-- The seat made the steps of this call, at a table that was made of its setup: from what it then knew to what it knew after.
+abbrev pub Makes : (Setup → Known → Known → Type 0) → SeatState → SeatState → Type 0
+Makes call old new = (before : Known) × (after : Known) × (seat_state old.table before ≡ old) × (seat_state old.table after ≡ new) × call old.made before after
+
+-- packet n is transmitted, in its turn
+abbrev pub Transmits : ℕ → Setup → Known → Known → Type 0
+Transmits n k old new = (answer : Sending) × TransmitsBy k n answer old new
+
+-- the stop word of each queue is looked at, and exchanged where it is 1
+abbrev pub LooksAtStops : Setup → Known → Known → Type 0
+LooksAtStops k old new = WakesBelow k k.queues old new
+
+-- soft interrupts are done, one after the other
+abbrev pub DoesInterrupts : Setup → Known → Known → Type 0
+DoesInterrupts k old new = DrainsBy k old new
+
+-- and then those of soft interrupts
+abbrev pub MakesAndServes : (Setup → Known → Known → Type 0) → SeatState → SeatState → Type 0
+MakesAndServes call old new = (between : SeatState) × (between.made ≡ old.made) × Makes call old between × Makes DoesInterrupts between new
+
+-- an event of the plan is done that exchanges no device
+abbrev pub ControlsBy : ℕ → EventKind → Setup → Known → Known → Type 0
+ControlsBy event kind.Down k old new = (count : ℕ) × Downs k event count old new
+ControlsBy event kind.Up k old new = Ups old new
+ControlsBy event (kind.Resize len) k old new = (count : ℕ) × ResizesLive k event len count old new
+ControlsBy event (kind.TxQueueLen len) k old new = (count : ℕ) × ChangesLength k event len count old new
+ControlsBy event (kind.Swap params) k old new = ⊥
+
+-- the device is exchanged
+abbrev pub ExchangesBy : ℕ → DeviceState → DeviceState → Setup → Known → Known → Type 0
+ExchangesBy event came went k old new = (unit : ℕ) × Swaps k event unit came went old new
+
+-- the station is brought to its end
+abbrev pub EndsStation : Setup → Known → Known → Type 0
+EndsStation k old new = (count : ℕ) × FinishesBy k count old new
