@@ -6,6 +6,8 @@ pub mod Units
 pub mod Ways
 -- a sender's seats, where one or all of them did something
 pub mod Seats
+-- a sender's calls at a seat
+pub mod Calls
 -- where the units' devices are
 pub mod Devices
 -- the exchanges are undone

@@ -10,13 +10,13 @@ use Rattle.lq_account.specs.Progress.{start_of}
 use Rattle.lq_model.specs.Alone.{RunningStation, changed, changed_at, changed_where, served, with_event}
 use Rattle.lq_model.specs.Device.{DeviceState}
 use Rattle.lq_model.proofs.Reach.{at-own-swap, swap-apart}
-use Rattle.lq_model.specs.Plan.{Plan, is_at, is_swap, queues_at}
+use Rattle.lq_model.specs.Plan.{Plan, is_at, is_swap}
 use Rattle.lq_model.specs.declared.fate.Info.{Info}
 use Rattle.lq_model.specs.declared.device.Params.{Params}
 use Rattle.lq_model.specs.declared.plan.EventKind.{EventKind}
 use Rattle.lq_model.specs.declared.plan.EventKind.TheVariants.{Swap}
 use Rattle.lq_model.specs.declared.plan.EventPlan.{EventPlan}
-use Rattle.lq_plan.specs.Limits.{is_out_of_order, max_len_at}
+use Rattle.lq_plan.specs.Limits.{is_out_of_order}
 use Rattle.lq_qdisc.specs.Alone.{Does, IsAlone, running}
 use Rattle.lq_account.specs.Controls.{with_control}
 use Rattle.lq_seat.specs.Calls.{DoesAlone, DoesEvent, Drains, Exchanges, SendsPacket, WakesQueues}
@@ -192,15 +192,6 @@ keep-set cpus i c c' there keeps = record {
 
 pub seats-kept : (old new : List SeatState) → KeepAll old new → KeepSeats old new
 seats-kept old new keeps = record { long = keeps.long; each = λ j c c' at at'. seat-kept c c' (keeps.each j c c' at at') }
-
-pub seats-set : (cpus : List SeatState) (i : ℕ) (c c' : SeatState) → slice_get cpus i ≡ Some c → KeepsSeat c c' → KeepSeats cpus (slice_set cpus i c')
-seats-set cpus i c c' there keeps = record {
-  long = length-set cpus i c';
-  each = λ j d d' at at'. each-set (λ (j : ℕ) (x : SeatState). (d : SeatState) → slice_get cpus j ≡ Some d → KeepsSeat d x) cpus i c' (slice_get_within cpus i c there)
-      (λ d at. subst (λ (z : SeatState). KeepsSeat z c') (same_Some c d (sym there ∙ at)) keeps)
-      (λ j x other at d at'. subst (λ (z : SeatState). KeepsSeat d z) (same_Some d x (sym at' ∙ at)) (seat-kept d d (keeps-itself d)))
-      j d' at' d at;
-}
 
 pub runs-set : (plan : Plan) (infos : List Info) (cpus : List SeatState) (stations : List RunningStation) (i : ℕ) (c c' : SeatState) (step : RunningStation → RunningStation) → slice_get cpus i ≡ Some c
     → Does infos (start_of plan i) step (solo_of c) (solo_of c') → AreRunAlone plan infos cpus stations → AreRunAlone plan infos (slice_set cpus i c') (changed_at i step stations)

@@ -16,7 +16,9 @@ use Rattle.lq_senders.specs.Seats.{Keeps}
 use Rattle.lq_senders.specs.Lanes.{AllDid, AreOthers, AreSeats, KeepAll, KeepSeats, LaneStands, AreRunAlone, StandsInRun, WokenOrNot}
 use Rattle.lq_senders.specs.Units.{DevicesStand, DoTell}
 use Rattle.lq_senders.specs.Way.{IsOnWay, numbers_from}
-use Rattle.lq_senders.proofs.Seats.{drains-keep, here-kept, keeps-itself, keeps-on, made-of, mapped-at, own-step, owner-kept, seat-kept, seat-on, seats-kept, wakes-keep}
+use Rattle.lq_senders.specs.Woken.{OtherCalls}
+use Rattle.lq_senders.proofs.Calls.{calls-on, none-called}
+use Rattle.lq_senders.proofs.Seats.{drains-keep, here-kept, keeps-itself, keeps-on, made-of, mapped-at, own-step, owner-kept, seat-kept, seat-on, wakes-keep}
 use Rattle.lq_senders.proofs.Ways.{below-or-at}
 
 pub event-there : {X : Type 0} (xs : List X) (j : ℕ) → j < length xs → (x : X) × (slice_get xs j ≡ Some x)
@@ -178,11 +180,18 @@ seats-on a b c one two = record {
       seat-on x y.0 z (one.each j x y.0 at y.1) (two.each j y.0 z y.1 at');
 }
 
+pub called-on : (a b c : List SeatState) → AllDid OtherCalls a b → AllDid OtherCalls b c → AllDid OtherCalls a c
+called-on a b c one two = record {
+  long = two.long ∙ one.long;
+  each = λ j x z at at'. let y = some-there b a j x one.long at in
+      calls-on x y.0 z (one.each j x y.0 at y.1) (two.each j y.0 z y.1 at');
+}
+
 -- the events from `next` on to `e` were done, each of which stands before packet n
 pub record FirstEvents (plan : Plan) (infos : List Info) (tables : List TableState) (next n e : ℕ) (start : List SeatState) (brought : List DeviceState) (now : List SeatState) (spares : List DeviceState) : Type 0 where
   pub done : (k : ℕ) (event : EventPlan) → next ≤ k → k < e → slice_get plan.events k ≡ Some event → event.before ≤ n
   pub stands : (m : ℕ) → LaneStands plan infos 0 next m tables start → LaneStands plan infos 0 e m tables now
-  pub keeps : KeepSeats start now
+  pub calls : AllDid OtherCalls start now
   pub devices : (units : List DeviceState) → DevicesStand plan infos units next start brought → DevicesStand plan infos units e now spares
   pub runs : (units : List DeviceState) → DevicesStand plan infos units next start brought → DoTell plan units
       → (stations : List RunningStation) → AreRunAlone plan infos start stations → AreRunAlone plan infos now (with_events plan infos (numbers_from next (e - next)) stations)
@@ -191,24 +200,24 @@ pub no-events-yet : (plan : Plan) (infos : List Info) (tables : List TableState)
 no-events-yet plan infos tables next n cpus spares = record {
   done = λ k event above below. absurd (omega arith);
   stands = λ m lane. lane;
-  keeps = seats-kept cpus cpus (keep-none cpus);
+  calls = none-called cpus;
   devices = λ units stand. stand;
   runs = λ units stand tell stations runs. let none : next - next ≡ 0 = omega arith in subst (λ c. AreRunAlone plan infos cpus (with_events plan infos (numbers_from next c) stations)) (sym none) runs;
 }
 
 pub one-event-more : (plan : Plan) (infos : List Info) (tables : List TableState) (next n e : ℕ) (event : EventPlan) (start : List SeatState) (brought : List DeviceState) (now : List SeatState) (spares : List DeviceState) (new : List SeatState) (left : List DeviceState)
     → next ≤ e → slice_get plan.events e ≡ Some event → event.before ≤ n
-    → ((m : ℕ) → LaneStands plan infos 0 e m tables now → LaneStands plan infos 0 (e + 1) m tables new) → KeepSeats now new
+    → ((m : ℕ) → LaneStands plan infos 0 e m tables now → LaneStands plan infos 0 (e + 1) m tables new) → AllDid OtherCalls now new
     → ((units : List DeviceState) → DevicesStand plan infos units e now spares → DevicesStand plan infos units (e + 1) new left)
     → ((units : List DeviceState) → DevicesStand plan infos units e now spares → DoTell plan units → (stations : List RunningStation) → AreRunAlone plan infos now stations → AreRunAlone plan infos new (with_event plan infos e stations))
     → FirstEvents plan infos tables next n e start brought now spares → FirstEvents plan infos tables next n (e + 1) start brought new left
-one-event-more plan infos tables next n e event start brought now spares new left le there before stands keeps devices runs first = record {
+one-event-more plan infos tables next n e event start brought now spares new left le there before stands calls devices runs first = record {
   done = λ k late above below at. elim (below-or-at k e (let b : k < e + 1 = below in omega arith)) [
     | inl less ↦ first.done k late above less at
     | inr same ↦ subst (λ (x : EventPlan). x.before ≤ n) (same_Some event late (sym there ∙ (ap (slice_get plan.events) (sym same) ∙ at))) before
   ];
   stands = λ m lane. stands m (first.stands m lane);
-  keeps = seats-on start now new first.keeps keeps;
+  calls = called-on start now new first.calls calls;
   devices = λ units stand. devices units (first.devices units stand);
   runs = λ units stand tell stations was. subst (AreRunAlone plan infos new) (with-events-next plan infos next e stations le)
       (runs units (first.devices units stand) tell (with_events plan infos (numbers_from next (e - next)) stations) (first.runs units stand tell stations was));

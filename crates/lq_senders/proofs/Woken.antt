@@ -9,11 +9,10 @@ use Rattle.lq_model.specs.Plan.{Plan}
 use Rattle.lq_model.specs.declared.fate.Info.{Info}
 use Rattle.lq_seat.specs.Calls.{WakesQueues, Drains}
 use Rattle.lq_seat.specs.State.{SeatState}
-use Rattle.lq_senders.specs.Seats.{KeepsSeat}
-use Rattle.lq_senders.specs.Lanes.{AllDid, KeepSeats, WokenOrNot}
-use Rattle.lq_senders.specs.Woken.{AllWoke, WokeTimes, count_sent}
-use Rattle.lq_senders.proofs.Seats.{drains-keep, keeps-itself, seat-kept, seat-on, seats-kept}
-use Rattle.lq_senders.proofs.Turns.{keep-did, keep-none, some-there}
+use Rattle.lq_senders.specs.Lanes.{AllDid, WokenOrNot}
+use Rattle.lq_senders.specs.Woken.{AllWoke, OtherCalls, WokeTimes, count_sent, not_called}
+use Rattle.lq_senders.proofs.Calls.{calls-on, drains-call, none-called}
+use Rattle.lq_senders.proofs.Turns.{some-there}
 
 -- HOW MANY PACKETS
 
@@ -50,27 +49,27 @@ quotient-more k e some =
 
 -- ONE SEAT
 
-woke-on : (count : ℕ) (old mid new : SeatState) → WokeTimes count old mid → KeepsSeat mid new → WokeTimes count old new
-woke-on zero old mid new woke keeps = seat-on old mid new woke keeps
-woke-on (suc count) old mid new (before, woken, (earlier, (wakes, later))) keeps = (before, woken, (earlier, (wakes, seat-on woken mid new later keeps)))
+woke-on : (count : ℕ) (old mid new : SeatState) → WokeTimes count old mid → OtherCalls mid new → WokeTimes count old new
+woke-on zero old mid new woke calls = calls-on old mid new woke calls
+woke-on (suc count) old mid new (before, woken, (earlier, (wakes, later))) calls = (before, woken, (earlier, (wakes, calls-on woken mid new later calls)))
 
 -- ALL SEATS
 
 pub woke-none : (cpus : List SeatState) → AllWoke 0 cpus cpus
-woke-none cpus = let same = seats-kept cpus cpus (keep-none cpus) in record { long = refl; each = λ j c c' at-old at-new. same.each j c c' at-old at-new }
+woke-none cpus = let same = none-called cpus in record { long = refl; each = λ j c c' at-old at-new. same.each j c c' at-old at-new }
 
-pub woke-kept : (count : ℕ) (old mid new : List SeatState) → AllWoke count old mid → KeepSeats mid new → AllWoke count old new
-woke-kept count old mid new woke keeps = record {
-  long = keeps.long ∙ woke.long;
+pub woke-called : (count : ℕ) (old mid new : List SeatState) → AllWoke count old mid → AllDid OtherCalls mid new → AllWoke count old new
+woke-called count old mid new woke calls = record {
+  long = calls.long ∙ woke.long;
   each = λ j c d at-old at-new. let half = some-there mid old j c woke.long at-old in
-      woke-on count c half.0 d (woke.each j c half.0 at-old half.1) (keeps.each j half.0 d half.1 at-new);
+      woke-on count c half.0 d (woke.each j c half.0 at-old half.1) (calls.each j half.0 d half.1 at-new);
 }
 
 woke-more : (count : ℕ) (old mid new : List SeatState) → AllWoke count old mid → AllDid WakesQueues mid new → AllWoke (suc count) old new
 woke-more count old mid new woke did = record {
   long = did.long ∙ woke.long;
   each = λ j c d at-old at-new. let half = some-there mid old j c woke.long at-old in
-      (half.0, d, (woke.each j c half.0 at-old half.1, (did.each j half.0 d half.1 at-new, seat-kept d d (keeps-itself d))));
+      (half.0, d, (woke.each j c half.0 at-old half.1, (did.each j half.0 d half.1 at-new, not_called)));
 }
 
 -- the wakes after packet k, if there are any, and the soft interrupts
@@ -78,13 +77,14 @@ pub woke-turned : (plan : Plan) (k : ℕ) (start old mid new : List SeatState) �
     → AllWoke (k / plan.irq_every) start old → AllWoke ((k + 1) / plan.irq_every) start new
 woke-turned plan k start old mid new some turned drained woke = go (quotient-more k plan.irq_every some) turned
   where
+    calls : AllDid OtherCalls mid new
+    calls = record { long = drained.long; each = λ j c c' at at'. drains-call c c' (drained.each j c c' at at') }
+
     go : (((k + 1) % plan.irq_every ≡ 0) × ((k + 1) / plan.irq_every ≡ suc (k / plan.irq_every))) ⊎ (((k + 1) % plan.irq_every ≢ 0) × ((k + 1) / plan.irq_every ≡ k / plan.irq_every))
         → WokenOrNot plan k old mid → AllWoke ((k + 1) / plan.irq_every) start new
     go (inl now) (inl woken) = subst (λ count. AllWoke count start new) (sym now.1)
-        (woke-kept (suc (k / plan.irq_every)) start mid new (woke-more (k / plan.irq_every) start old mid woke woken.1)
-        (seats-kept mid new (keep-did Drains drains-keep mid new drained)))
+        (woke-called (suc (k / plan.irq_every)) start mid new (woke-more (k / plan.irq_every) start old mid woke woken.1) calls)
     go (inr later) (inr same) = subst (λ count. AllWoke count start new) (sym later.1)
-        (woke-kept (k / plan.irq_every) start mid new (subst (λ cpus. AllWoke (k / plan.irq_every) start cpus) (sym same.1) woke)
-        (seats-kept mid new (keep-did Drains drains-keep mid new drained)))
+        (woke-called (k / plan.irq_every) start mid new (subst (λ cpus. AllWoke (k / plan.irq_every) start cpus) (sym same.1) woke) calls)
     go (inl now) (inr same) = absurd (same.0 now.0)
     go (inr later) (inl woken) = absurd (later.0 woken.0)

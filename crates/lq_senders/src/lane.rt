@@ -5,7 +5,7 @@ ghost use Rattle.lq_seat.specs.State.{SeatState};
 ghost use Rattle.lq_senders.specs.Lanes.{AllDid, AreSeats, IsSendable, IsSending, KeepAll, KeepSeats, LaneDone, LaneStands, AreRunAlone, WokenOrNot};
 ghost use Rattle.lq_senders.specs.Units.{DevicesStand, DoTell};
 ghost use Rattle.lq_senders.specs.Way.{IsSplitAt, numbers_from};
-ghost use Rattle.lq_senders.specs.Woken.{AllWoke, count_sent};
+ghost use Rattle.lq_senders.specs.Woken.{AllWoke, OtherCalls, count_sent};
 ghost use Rattle.lq_model.specs.Alone.{RunningStation, served, with_events, with_packet, with_wakes};
 ghost use Rattle.lq_model.specs.Device.{DeviceState};
 ghost use Rattle.lq_model.specs.Plan.{owner_in};
@@ -32,6 +32,7 @@ fn send_packet<'r, 'a, R: Wait, D: TxDevice, G: Gate>(
         → (owner_in run.now.infos.now n ≡ 0 → IsSplitAt run.now.plan.now count n)
         → LaneStands run.now.plan.now run.now.infos.now (owner_in run.now.infos.now n) count (n + 1) run.now.tables.now seats.new.items }
     ensures keeps { KeepAll seats.old.items seats.new.items }
+    ensures calls { AllDid OtherCalls seats.old.items seats.new.items }
     ensures runs { (stations : List RunningStation) → AreRunAlone run.now.plan.now run.now.infos.now seats.old.items stations
         → AreRunAlone run.now.plan.now run.now.infos.now seats.new.items (with_packet run.now.plan.now run.now.infos.now n stations) }
 {
@@ -115,7 +116,7 @@ fn events_before<'r, 'a, R: Wait, D: TxDevice, G: Gate>(
     ensures left { (k : ℕ) (event : AnEvent) → result ≤ k → slice_get run.now.plan.now.events k ≡ Some event → n < event.before }
     ensures stands { (m : ℕ) → LaneStands run.now.plan.now run.now.infos.now 0 next m run.now.tables.now sender.old.seats.items
         → LaneStands run.now.plan.now run.now.infos.now 0 result m run.now.tables.now sender.new.seats.items }
-    ensures keeps { KeepSeats sender.old.seats.items sender.new.seats.items }
+    ensures calls { AllDid OtherCalls sender.old.seats.items sender.new.seats.items }
     ensures devices { (units : List DeviceState) → DevicesStand run.now.plan.now run.now.infos.now units next sender.old.seats.items (map D.state sender.old.spares.items)
         → DevicesStand run.now.plan.now run.now.infos.now units result sender.new.seats.items (map D.state sender.new.spares.items) }
     ensures runs { (units : List DeviceState) → DevicesStand run.now.plan.now run.now.infos.now units next sender.old.seats.items (map D.state sender.old.spares.items) → DoTell run.now.plan.now units
@@ -150,7 +151,7 @@ pub fn events_of<'r, 'a, R: Wait, D: TxDevice, G: Gate>(
     ensures left { sender.old.owner ≡ 0 → (k : ℕ) (event : AnEvent) → result ≤ k → slice_get run.now.plan.now.events k ≡ Some event → n < event.before }
     ensures stands { (m : ℕ) → LaneStands run.now.plan.now run.now.infos.now sender.old.owner next m run.now.tables.now sender.old.seats.items
         → LaneStands run.now.plan.now run.now.infos.now sender.old.owner result m run.now.tables.now sender.new.seats.items }
-    ensures keeps { KeepSeats sender.old.seats.items sender.new.seats.items }
+    ensures calls { AllDid OtherCalls sender.old.seats.items sender.new.seats.items }
     ensures devices { (units : List DeviceState) → DevicesStand run.now.plan.now run.now.infos.now units next sender.old.seats.items (map D.state sender.old.spares.items)
         → DevicesStand run.now.plan.now run.now.infos.now units result sender.new.seats.items (map D.state sender.new.spares.items) }
     ensures runs { (units : List DeviceState) → DevicesStand run.now.plan.now run.now.infos.now units next sender.old.seats.items (map D.state sender.old.spares.items) → DoTell run.now.plan.now units

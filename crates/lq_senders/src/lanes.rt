@@ -1,10 +1,10 @@
 //! Senders side by side.
 ghost use Rattle.std.specs.Prelude.{◌≡◌, ℕ, ◌≤◌, ◌-◌, ◌/◌, List, length, map};
 ghost use Rattle.lq_seat.specs.Calls.{SendsPacket};
-ghost use Rattle.lq_senders.specs.Lanes.{AllOwn, AreDoneLanes, AreReadyLanes, IsDoneLane, IsReadyLane, IsSendable, KeepSeats, LaneDone, LaneStands, AreRunAlone, after_sending};
+ghost use Rattle.lq_senders.specs.Lanes.{AllDid, AllOwn, AreDoneLanes, AreReadyLanes, IsDoneLane, IsReadyLane, IsSendable, KeepSeats, LaneDone, LaneStands, AreRunAlone, after_sending};
 ghost use Rattle.lq_senders.specs.Units.{DevicesStand, DoTell};
 ghost use Rattle.lq_senders.specs.Way.{numbers_from};
-ghost use Rattle.lq_senders.specs.Woken.{AllWoke, count_sent};
+ghost use Rattle.lq_senders.specs.Woken.{AllWoke, OtherCalls, count_sent};
 ghost use Rattle.lq_model.specs.Alone.{RunningStation, with_events};
 ghost use Rattle.lq_model.specs.Device.{DeviceState};
 
@@ -30,7 +30,7 @@ fn events_left<'r, 'a, R: Wait, D: TxDevice, G: Gate>(
     ensures owner { sender.new.owner ≡ sender.old.owner }
     ensures stands { (m : ℕ) → LaneStands run.now.plan.now run.now.infos.now sender.old.owner next m run.now.tables.now sender.old.seats.items
         → LaneStands run.now.plan.now run.now.infos.now sender.old.owner (length run.now.plan.now.events) m run.now.tables.now sender.new.seats.items }
-    ensures keeps { KeepSeats sender.old.seats.items sender.new.seats.items }
+    ensures calls { AllDid OtherCalls sender.old.seats.items sender.new.seats.items }
     ensures devices { sender.old.owner ≡ 0 → (units : List DeviceState) → DevicesStand run.now.plan.now run.now.infos.now units next sender.old.seats.items (map D.state sender.old.spares.items)
         → DevicesStand run.now.plan.now run.now.infos.now units (length run.now.plan.now.events) sender.new.seats.items (map D.state sender.new.spares.items) }
     ensures runs { sender.old.owner ≡ 0 → (units : List DeviceState) → DevicesStand run.now.plan.now run.now.infos.now units next sender.old.seats.items (map D.state sender.old.spares.items) → DoTell run.now.plan.now units

@@ -2,8 +2,9 @@
 ghost use Rattle.std.specs.Prelude.{◌≡◌, ℕ, ◌+◌, ◌<◌, ◌≤◌, List, true, false, map, length, slice_get};
 ghost use Rattle.lq_seat.specs.Calls.{MayChange};
 ghost use Rattle.lq_seat.specs.State.{IsHere};
-ghost use Rattle.lq_senders.specs.Lanes.{DoesEventAt, IsSendable, KeepAll, KeepSeats, LaneStands, AreRunAlone};
+ghost use Rattle.lq_senders.specs.Lanes.{AllDid, DoesEventAt, IsSendable, KeepAll, LaneStands, AreRunAlone};
 ghost use Rattle.lq_senders.specs.Units.{DevicesStand, DoTell};
+ghost use Rattle.lq_senders.specs.Woken.{OtherCalls};
 ghost use Rattle.lq_model.specs.Alone.{RunningStation, with_event};
 ghost use Rattle.lq_model.specs.Device.{DeviceState};
 ghost use Rattle.lq_model.specs.Plan.{is_at, is_swap, is_swap_kind, unit_of_swap};
@@ -72,6 +73,7 @@ fn do_next_event<'r, 'a, R: Wait, D: TxDevice, G: Gate>(
     ensures stands { (n : ℕ) → LaneStands run.now.plan.now run.now.infos.now 0 e n run.now.tables.now seats.old.items
         → LaneStands run.now.plan.now run.now.infos.now 0 (e + 1) n run.now.tables.now seats.new.items }
     ensures keeps { KeepAll seats.old.items seats.new.items }
+    ensures calls { AllDid OtherCalls seats.old.items seats.new.items }
     ensures runs { (stations : List RunningStation) → AreRunAlone run.now.plan.now run.now.infos.now seats.old.items stations
         → AreRunAlone run.now.plan.now run.now.infos.now seats.new.items (with_event run.now.plan.now run.now.infos.now e stations) }
 {
@@ -97,7 +99,7 @@ fn exchange_next<'r, 'a, R: Wait, D: TxDevice, G: Gate>(
     ensures owner { sender.new.owner ≡ sender.old.owner }
     ensures stands { (n : ℕ) → LaneStands run.now.plan.now run.now.infos.now 0 e n run.now.tables.now sender.old.seats.items
         → LaneStands run.now.plan.now run.now.infos.now 0 (e + 1) n run.now.tables.now sender.new.seats.items }
-    ensures keeps { KeepSeats sender.old.seats.items sender.new.seats.items }
+    ensures calls { AllDid OtherCalls sender.old.seats.items sender.new.seats.items }
     ensures devices { (units : List DeviceState) → DevicesStand run.now.plan.now run.now.infos.now units e sender.old.seats.items (map D.state sender.old.spares.items)
         → DevicesStand run.now.plan.now run.now.infos.now units (e + 1) sender.new.seats.items (map D.state sender.new.spares.items) }
     ensures runs { (units : List DeviceState) → DevicesStand run.now.plan.now run.now.infos.now units e sender.old.seats.items (map D.state sender.old.spares.items) → DoTell run.now.plan.now units
@@ -128,7 +130,7 @@ pub fn do_any_event<'r, 'a, R: Wait, D: TxDevice, G: Gate>(
     ensures owner { sender.new.owner ≡ sender.old.owner }
     ensures stands { (n : ℕ) → LaneStands run.now.plan.now run.now.infos.now 0 e n run.now.tables.now sender.old.seats.items
         → LaneStands run.now.plan.now run.now.infos.now 0 (e + 1) n run.now.tables.now sender.new.seats.items }
-    ensures keeps { KeepSeats sender.old.seats.items sender.new.seats.items }
+    ensures calls { AllDid OtherCalls sender.old.seats.items sender.new.seats.items }
     ensures devices { (units : List DeviceState) → DevicesStand run.now.plan.now run.now.infos.now units e sender.old.seats.items (map D.state sender.old.spares.items)
         → DevicesStand run.now.plan.now run.now.infos.now units (e + 1) sender.new.seats.items (map D.state sender.new.spares.items) }
     ensures runs { (units : List DeviceState) → DevicesStand run.now.plan.now run.now.infos.now units e sender.old.seats.items (map D.state sender.old.spares.items) → DoTell run.now.plan.now units

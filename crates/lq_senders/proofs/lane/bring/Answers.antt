@@ -3,10 +3,11 @@ use Rattle.std.proofs.lemmas.Bool.{cases_order}
 use Rattle.lq_model.specs.Plan.{owner_in}
 use Rattle.lq_senders.specs.Lanes.{LaneStands}
 use Rattle.lq_senders.specs.Woken.{count_sent}
+use Rattle.lq_senders.proofs.Calls.{called-keep}
 use Rattle.lq_senders.proofs.Devices.{devices-kept}
 use Rattle.lq_senders.proofs.Seats.{seats-kept}
 use Rattle.lq_senders.proofs.Turns.{keep-on, seats-on}
-use Rattle.lq_senders.proofs.Woken.{woke-kept}
+use Rattle.lq_senders.proofs.Woken.{woke-called}
 use Rattle.lq_senders.proofs.lane.bring.Goals as goal
 
 pub send_packet-requires-clause-stands : goal.send_packet-requires-clause-stands
@@ -59,7 +60,8 @@ returns-clause-stands g c =
 
 pub returns-clause-keeps : goal.returns-clause-keeps
 returns-clause-keeps g c =
-    seats-on c.args.sender.now.seats.items c.events_of-next.new.sender.seats.items c.turn.new.seats.items c.events_of-next.ensures.keeps
+    seats-on c.args.sender.now.seats.items c.events_of-next.new.sender.seats.items c.turn.new.seats.items
+    (called-keep c.args.sender.now.seats.items c.events_of-next.new.sender.seats.items c.events_of-next.ensures.calls)
     (seats-kept c.events_of-next.new.sender.seats.items c.turn.new.seats.items
     (keep-on c.events_of-next.new.sender.seats.items c.send_packet.new.seats.items c.turn.new.seats.items c.send_packet.ensures.keeps c.turn.ensures.keeps))
 
@@ -97,6 +99,6 @@ pub returns-clause-woke : goal.returns-clause-woke
 returns-clause-woke g c start woke =
     let times = c.args.at.sent / c.args.run.now.plan.now.irq_every in
     c.turn.ensures.woke start
-    (woke-kept times start c.events_of-next.new.sender.seats.items c.send_packet.new.seats.items
-    (woke-kept times start c.args.sender.now.seats.items c.events_of-next.new.sender.seats.items woke c.events_of-next.ensures.keeps)
-    (seats-kept c.events_of-next.new.sender.seats.items c.send_packet.new.seats.items c.send_packet.ensures.keeps))
+    (woke-called times start c.events_of-next.new.sender.seats.items c.send_packet.new.seats.items
+    (woke-called times start c.args.sender.now.seats.items c.events_of-next.new.sender.seats.items woke c.events_of-next.ensures.calls)
+    c.send_packet.ensures.calls)

@@ -24,8 +24,8 @@ returns-then-event-n-clause-left g c k event above there =
 pub returns-then-event-n-clause-stands : goal.returns-then-event-n-clause-stands
 returns-then-event-n-clause-stands g c m lane = c.loop-e.invariant.first.stands m lane
 
-pub returns-then-event-n-clause-keeps : goal.returns-then-event-n-clause-keeps
-returns-then-event-n-clause-keeps g c = c.loop-e.invariant.first.keeps
+pub returns-then-event-n-clause-calls : goal.returns-then-event-n-clause-calls
+returns-then-event-n-clause-calls g c = c.loop-e.invariant.first.calls
 
 pub returns-then-event-n-clause-runs : goal.returns-then-event-n-clause-runs
 returns-then-event-n-clause-runs g c units stand tell stations runs = c.loop-e.invariant.first.runs units stand tell stations runs
@@ -46,7 +46,7 @@ loop-e-preserved g c =
       owner = c.do_any_event.ensures.owner ∙ c.loop-e.invariant.owner;
       first = one-event-more c.args.run.now.plan.now c.args.run.now.infos.now c.args.run.now.tables.now c.args.next c.args.n c.loop-e.e c.event.result c.args.sender.now.seats.items (map g.D.TxDevice.state c.args.sender.now.spares.items)
           c.loop-e.sender.seats.items (map g.D.TxDevice.state c.loop-e.sender.spares.items) c.do_any_event.new.sender.seats.items (map g.D.TxDevice.state c.do_any_event.new.sender.spares.items)
-          c.loop-e.auto.e c.event.ensures.event (omega arith) c.do_any_event.ensures.stands c.do_any_event.ensures.keeps c.do_any_event.ensures.devices c.do_any_event.ensures.runs c.loop-e.invariant.first;
+          c.loop-e.auto.e c.event.ensures.event (omega arith) c.do_any_event.ensures.stands c.do_any_event.ensures.calls c.do_any_event.ensures.devices c.do_any_event.ensures.runs c.loop-e.invariant.first;
     }
 
 pub returns-clause-done : goal.returns-clause-done
@@ -64,8 +64,8 @@ returns-clause-stands g c m lane =
     let same : c.loop-e.e ≡ c.events.result = let last = c.events.ensures.events in omega arith in
     (subst (λ (e : ℕ). FirstEvents c.args.run.now.plan.now c.args.run.now.infos.now c.args.run.now.tables.now c.args.next c.args.n e c.args.sender.now.seats.items (map g.D.TxDevice.state c.args.sender.now.spares.items) c.loop-e.sender.seats.items (map g.D.TxDevice.state c.loop-e.sender.spares.items)) same c.loop-e.invariant.first).stands m lane
 
-pub returns-clause-keeps : goal.returns-clause-keeps
-returns-clause-keeps g c = c.loop-e.invariant.first.keeps
+pub returns-clause-calls : goal.returns-clause-calls
+returns-clause-calls g c = c.loop-e.invariant.first.calls
 
 pub returns-clause-runs : goal.returns-clause-runs
 returns-clause-runs g c units stand tell stations runs =

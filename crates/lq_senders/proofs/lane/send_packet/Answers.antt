@@ -6,6 +6,7 @@ use Rattle.lq_model.specs.declared.fate.Info.{Info}
 use Rattle.lq_seat.specs.Calls.{MaySendNext}
 use Rattle.lq_seat.specs.State.{IsHere, Setup, TableState}
 use Rattle.lq_senders.specs.Lanes.{StandsAt}
+use Rattle.lq_senders.proofs.Calls.{called-set, sends-call}
 use Rattle.lq_senders.proofs.Seats.{keep-set, made-of, seat-at, sends-keep, table-at}
 use Rattle.lq_senders.proofs.Sent.{lane-sent, owner-is, rank-is, runs-sent, station-is}
 use Rattle.lq_senders.proofs.lane.send_packet.Goals as goal
@@ -60,6 +61,14 @@ returns-clause-keeps g c =
     keep-set c.args.seats.now.items station c.index_mut.result.now c.send.new.self
     (seat-at c.args.run.now.plan.now infos sender count n c.args.run.now.tables.now c.args.seats.now.items lane station c.index_mut.result.now within c.index_mut.ensures.value)
     (sends-keep n c.index_mut.result.now c.send.new.self c.send.ensures)
+
+pub returns-clause-calls : goal.returns-clause-calls
+returns-clause-calls g c =
+    let infos = c.args.run.now.infos.now in let n = c.args.n in let sender = owner_in infos n in let count = c.requires.stands.0 in let lane = c.requires.stands.1 in
+    let station = (info-of infos n).station in let within = (c.requires.sendable.within n no_info c.requires.packet).station in
+    called-set c.args.seats.now.items station c.index_mut.result.now c.send.new.self
+    (seat-at c.args.run.now.plan.now infos sender count n c.args.run.now.tables.now c.args.seats.now.items lane station c.index_mut.result.now within c.index_mut.ensures.value)
+    (sends-call n c.index_mut.result.now c.send.new.self c.send.ensures)
 
 pub returns-clause-runs : goal.returns-clause-runs
 returns-clause-runs g c stations runs =

@@ -1,10 +1,11 @@
 use Rattle.std.proofs.Common.{◌≡◌, ℕ, ◌+◌, ◌/◌, ap, length, map, refl, sym, ◌∙◌, subst, arith}
 use Rattle.lq_model.specs.Alone.{with_events, after_packets}
 use Rattle.lq_senders.specs.Lanes.{IsSending, LaneDone, LaneStands, AreRunAlone}
+use Rattle.lq_senders.proofs.Calls.{called-keep}
 use Rattle.lq_senders.proofs.Turns.{seats-on}
 use Rattle.lq_senders.specs.Woken.{AllWoke, count_sent}
 use Rattle.lq_senders.proofs.Sending.{events-after-are, sending-start}
-use Rattle.lq_senders.proofs.Woken.{woke-kept}
+use Rattle.lq_senders.proofs.Woken.{woke-called}
 use Rattle.lq_senders.proofs.lanes.send_loop.Goals as goal
 
 pub loop-n-init : goal.loop-n-init
@@ -44,7 +45,8 @@ pub returns-clause-stands : goal.returns-clause-stands
 returns-clause-stands g c = done g c.before
 
 pub returns-clause-keeps : goal.returns-clause-keeps
-returns-clause-keeps g c = seats-on c.args.sender.now.seats.items c.loop-n.sender.seats.items c.events_left.new.sender.seats.items c.loop-n.invariant.sending.keeps c.events_left.ensures.keeps
+returns-clause-keeps g c = seats-on c.args.sender.now.seats.items c.loop-n.sender.seats.items c.events_left.new.sender.seats.items c.loop-n.invariant.sending.keeps
+    (called-keep c.loop-n.sender.seats.items c.events_left.new.sender.seats.items c.events_left.ensures.calls)
 
 pub returns-clause-devices : goal.returns-clause-devices
 returns-clause-devices g c zero_th units stand =
@@ -75,4 +77,4 @@ returns-clause-woke g c =
     let same : c.loop-n.n ≡ length c.args.run.now.infos.now = omega arith in
     subst (λ (k : ℕ). AllWoke (k / c.args.run.now.plan.now.irq_every) c.args.sender.now.seats.items c.events_left.new.sender.seats.items)
     (own.sending.sent ∙ ap (λ (n : ℕ). count_sent c.args.run.now.infos.now c.loop-n.sender.owner n) same ∙ ap (λ (s : ℕ). count_sent c.args.run.now.infos.now s (length c.args.run.now.infos.now)) own.owner)
-    (woke-kept (c.loop-n.at.sent / c.args.run.now.plan.now.irq_every) c.args.sender.now.seats.items c.loop-n.sender.seats.items c.events_left.new.sender.seats.items own.sending.woke c.events_left.ensures.keeps)
+    (woke-called (c.loop-n.at.sent / c.args.run.now.plan.now.irq_every) c.args.sender.now.seats.items c.loop-n.sender.seats.items c.events_left.new.sender.seats.items own.sending.woke c.events_left.ensures.calls)

@@ -2,7 +2,7 @@ use Rattle.std.proofs.Common.{sym, ap, ◌∙◌, subst, arith}
 use Rattle.lq_model.specs.Plan.{is_at}
 use Rattle.lq_seat.specs.State.{IsHere, Setup, TableState}
 use Rattle.lq_senders.specs.Lanes.{AllDid, DoesEventAt, StandsAt}
-use Rattle.lq_senders.proofs.Events.{all-keep, all-run, all-stand, may-do-at}
+use Rattle.lq_senders.proofs.Events.{all-called, all-keep, all-run, all-stand, may-do-at}
 use Rattle.lq_senders.proofs.Rounds.{all-did, none-did, one-more-did}
 use Rattle.lq_senders.proofs.Seats.{made-of, read-at}
 use Rattle.lq_senders.proofs.swaps.do_next_event.Goals as goal
@@ -51,6 +51,11 @@ returns-clause-stands g c n lane =
 pub returns-clause-keeps : goal.returns-clause-keeps
 returns-clause-keeps g c =
     all-keep c.args.run.now.plan.now c.args.run.now.infos.now c.args.e c.event-event.result c.event-event.ensures.event c.stays_within_limits.ensures.order c.stays_within_limits.ensures.stations
+    c.args.run.now.tables.now c.args.seats.now.items c.loop-j.seats.items (did g c)
+
+pub returns-clause-calls : goal.returns-clause-calls
+returns-clause-calls g c =
+    all-called c.args.run.now.plan.now c.args.run.now.infos.now c.args.e c.event-event.result c.event-event.ensures.event c.stays_within_limits.ensures.order c.stays_within_limits.ensures.stations
     c.args.run.now.tables.now c.args.seats.now.items c.loop-j.seats.items (did g c)
 
 pub returns-clause-runs : goal.returns-clause-runs

@@ -8,8 +8,9 @@ use Rattle.lq_seat.specs.Calls.{DoesAlone, MayDoEvent, Exchanges}
 use Rattle.lq_seat.specs.State.{HasServed, IsHere, SeatState, Setup, TableState, latest_unit, setup_of, station_count, units_of}
 use Rattle.lq_senders.specs.Lanes.{StandsAt}
 use Rattle.lq_senders.specs.Units.{DevicesStand, MayBeBrought}
+use Rattle.lq_senders.proofs.Calls.{called-set, exchange-call}
 use Rattle.lq_senders.proofs.Orders.{may-do-next}
-use Rattle.lq_senders.proofs.Seats.{exchange-changes, lane-event, made-of, runs-event, seat-at, seats-set, stands-at, table-at}
+use Rattle.lq_senders.proofs.Seats.{exchange-changes, lane-event, made-of, runs-event, seat-at, stands-at, table-at}
 use Rattle.lq_senders.proofs.Devices.{devices-exchanged, first-comes, some-spare, spares-turned}
 use Rattle.lq_senders.proofs.Units.{swap-params, unit-on-trail, unit-within, units-few}
 use Rattle.lq_senders.proofs.swaps.exchange_next.Goals as goal
@@ -69,13 +70,13 @@ returns-clause-stands g c n lane =
     (exchange-changes c.args.run.now.plan.now c.args.e event.kind swap.0 (g.D.TxDevice.state c.remove-device.result) (g.D.TxDevice.state c.exchange-old.result) c.index_mut.result.now c.exchange-old.new.self swap.1 (did g c swap.0))
     lane
 
-pub returns-clause-keeps : goal.returns-clause-keeps
-returns-clause-keeps g c =
+pub returns-clause-calls : goal.returns-clause-calls
+returns-clause-calls g c =
     let event = c.event-station.result in let station = event.station in let within = c.event-station.ensures.within.station in let at = c.event-station.ensures.event in
     let swap = swap-params event.kind (c.requires.swap event at) in
-    seats-set c.args.sender.now.seats.items station c.index_mut.result.now c.exchange-old.new.self
+    called-set c.args.sender.now.seats.items station c.index_mut.result.now c.exchange-old.new.self
     (seat-at c.args.run.now.plan.now c.args.run.now.infos.now 0 c.args.e c.requires.stands.0 c.args.run.now.tables.now c.args.sender.now.seats.items c.requires.stands.1 station c.index_mut.result.now within c.index_mut.ensures.value)
-    (exchange-changes c.args.run.now.plan.now c.args.e event.kind swap.0 (g.D.TxDevice.state c.remove-device.result) (g.D.TxDevice.state c.exchange-old.result) c.index_mut.result.now c.exchange-old.new.self swap.1 (did g c swap.0)).keeps
+    (exchange-call c.args.run.now.plan.now c.args.e swap.0 (g.D.TxDevice.state c.remove-device.result) (g.D.TxDevice.state c.exchange-old.result) c.index_mut.result.now c.exchange-old.new.self (did g c swap.0))
 
 pub returns-clause-devices : goal.returns-clause-devices
 returns-clause-devices g c units stand =
