@@ -129,6 +129,14 @@ AreReadyLanes {D} plan infos tables lanes = (i : ℕ) (l : Sender D) → slice_g
 abbrev pub AreDoneLanes : {D : Type 0} → Plan → List Info → List TableState → List (Sender D) → Type 0
 AreDoneLanes {D} plan infos tables lanes = (i : ℕ) (l : Sender D) → slice_get lanes i ≡ Some l → IsDoneLane plan infos tables i l.owner l.seats.items
 
+-- each of a sender's stations was woken once for each `irq_every` of its packets
+abbrev pub IsWoken : Plan → List Info → ℕ → List SeatState → List SeatState → Type 0
+IsWoken plan infos sender old new = AllWoke (count_sent infos sender (length infos) / plan.irq_every) old new
+
+-- so were those of the sender at each place
+abbrev pub AreWoken : {D : Type 0} → Plan → List Info → List (Sender D) → List (Sender D) → Type 0
+AreWoken {D} plan infos old new = (i : ℕ) (l l' : Sender D) → slice_get old i ≡ Some l → slice_get new i ≡ Some l' → IsWoken plan infos l.owner l.seats.items l'.seats.items
+
 -- packets of the plan's stations and senders, numbered by rank
 pub record IsSendable (plan : Plan) (infos : List Info) : Type 0 where
   pub few : length infos ≤ 1000000

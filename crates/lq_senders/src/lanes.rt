@@ -1,10 +1,10 @@
 //! Senders side by side.
-ghost use Rattle.std.specs.Prelude.{◌≡◌, ℕ, ◌≤◌, ◌-◌, ◌/◌, List, length, map};
+ghost use Rattle.std.specs.Prelude.{◌≡◌, ℕ, ◌≤◌, ◌-◌, List, length, map};
 ghost use Rattle.lq_seat.specs.Calls.{SendsPacket};
-ghost use Rattle.lq_senders.specs.Lanes.{AllDid, AllOwn, AreDoneLanes, AreReadyLanes, IsDoneLane, IsReadyLane, IsSendable, KeepSeats, LaneDone, LaneStands, AreRunAlone, after_sending};
+ghost use Rattle.lq_senders.specs.Lanes.{AllDid, AllOwn, AreDoneLanes, AreReadyLanes, AreWoken, IsDoneLane, IsReadyLane, IsSendable, IsWoken, KeepSeats, LaneDone, LaneStands, AreRunAlone, after_sending};
 ghost use Rattle.lq_senders.specs.Units.{DevicesStand, DoTell};
 ghost use Rattle.lq_senders.specs.Way.{numbers_from};
-ghost use Rattle.lq_senders.specs.Woken.{AllWoke, OtherCalls, count_sent};
+ghost use Rattle.lq_senders.specs.Woken.{OtherCalls};
 ghost use Rattle.lq_model.specs.Alone.{RunningStation, with_events};
 ghost use Rattle.lq_model.specs.Device.{DeviceState};
 
@@ -59,7 +59,7 @@ pub fn send_loop<'r, 'a, R: Wait, D: TxDevice, G: Gate>(
     ensures runs { sender.old.owner ≡ 0 → (units : List DeviceState) → DevicesStand run.now.plan.now run.now.infos.now units 0 sender.old.seats.items (map D.state sender.old.spares.items) → DoTell run.now.plan.now units
         → AllOwn run.now.infos.now → (from : List RunningStation) → AreRunAlone run.now.plan.now run.now.infos.now sender.old.seats.items from
         → AreRunAlone run.now.plan.now run.now.infos.now sender.new.seats.items (after_sending run.now.plan.now run.now.infos.now from) }
-    ensures woke { AllWoke (count_sent run.now.infos.now sender.old.owner (length run.now.infos.now) / run.now.plan.now.irq_every) sender.old.seats.items sender.new.seats.items }
+    ensures woke { IsWoken run.now.plan.now run.now.infos.now sender.old.owner sender.old.seats.items sender.new.seats.items }
 {
     run.plan.stays_within_limits();
     let mut at = Progress { sent: 0, next: 0 };
@@ -78,8 +78,9 @@ fn send_other<'r, 'a, R: Wait, D: TxDevice, G: Gate>(
 )
     requires sendable { IsSendable run.now.plan.now run.now.infos.now }
     requires ready { (place : ℕ) × IsReadyLane run.now.plan.now run.now.infos.now run.now.tables.now place sender.old.owner sender.old.seats.items }
-    ensures { (place : ℕ) → IsReadyLane run.now.plan.now run.now.infos.now run.now.tables.now place sender.old.owner sender.old.seats.items
+    ensures done { (place : ℕ) → IsReadyLane run.now.plan.now run.now.infos.now run.now.tables.now place sender.old.owner sender.old.seats.items
         → IsDoneLane run.now.plan.now run.now.infos.now run.now.tables.now place sender.new.owner sender.new.seats.items }
+    ensures woke { IsWoken run.now.plan.now run.now.infos.now sender.old.owner sender.old.seats.items sender.new.seats.items }
 {
     send_loop(rt, run, sender);
 }
@@ -92,7 +93,8 @@ fn others_send<'r, 'a, R: Threads + Wait + Sync, D: TxDevice, G: Gate>(
 )
     requires sendable { IsSendable run.now.plan.now run.now.infos.now }
     requires ready { AreReadyLanes run.now.plan.now run.now.infos.now run.now.tables.now senders.old }
-    ensures { AreDoneLanes run.now.plan.now run.now.infos.now run.now.tables.now senders.new }
+    ensures done { AreDoneLanes run.now.plan.now run.now.infos.now run.now.tables.now senders.new }
+    ensures woke { AreWoken run.now.plan.now run.now.infos.now senders.old senders.new }
 {
     let threads = senders.len();
     if threads > 0 {
@@ -102,7 +104,8 @@ fn others_send<'r, 'a, R: Threads + Wait + Sync, D: TxDevice, G: Gate>(
             threads,
             &|i, sender: &mut Sender<D>|
                 requires { IsSendable run.now.plan.now run.now.infos.now × IsReadyLane run.now.plan.now run.now.infos.now run.now.tables.now i sender.old.owner sender.old.seats.items }
-                ensures { IsDoneLane run.entry.now.plan.now run.entry.now.infos.now run.entry.now.tables.now i sender.new.owner sender.new.seats.items }
+                ensures { IsDoneLane run.entry.now.plan.now run.entry.now.infos.now run.entry.now.tables.now i sender.new.owner sender.new.seats.items
+                    × IsWoken run.entry.now.plan.now run.entry.now.infos.now sender.old.owner sender.old.seats.items sender.new.seats.items }
             { send_other(rt, run, sender) },
         );
     }
@@ -120,6 +123,7 @@ fn first_sent<'r, 'a, R: Wait, D: TxDevice, G: Gate>(
     ensures owner { result.owner ≡ 0 }
     ensures stands { LaneDone run.now.plan.now run.now.infos.now 0 run.now.tables.now result.seats.items }
     ensures keeps { KeepSeats sender.seats.items result.seats.items }
+    ensures woke { IsWoken run.now.plan.now run.now.infos.now 0 sender.seats.items result.seats.items }
     ensures devices { (units : List DeviceState) → DevicesStand run.now.plan.now run.now.infos.now units 0 sender.seats.items (map D.state sender.spares.items)
         → DevicesStand run.now.plan.now run.now.infos.now units (length run.now.plan.now.events) result.seats.items (map D.state result.spares.items) }
     ensures runs { (units : List DeviceState) → DevicesStand run.now.plan.now run.now.infos.now units 0 sender.seats.items (map D.state sender.spares.items) → DoTell run.now.plan.now units
@@ -138,6 +142,7 @@ fn others_sent<'r, 'a, R: Threads + Wait + Sync, D: TxDevice, G: Gate>(
     requires sendable { IsSendable run.now.plan.now run.now.infos.now }
     requires ready { AreReadyLanes run.now.plan.now run.now.infos.now run.now.tables.now senders.items }
     ensures done { AreDoneLanes run.now.plan.now run.now.infos.now run.now.tables.now result.items }
+    ensures woke { AreWoken run.now.plan.now run.now.infos.now senders.items result.items }
     ensures long { length result.items ≡ length senders.items }
 {
     others_send(rt, run, senders.as_mut_slice());
@@ -158,12 +163,14 @@ pub fn all_send<'r, 'a, R: Threads + Wait + Sync, D: TxDevice, G: Gate>(
     requires others { AreReadyLanes run.now.plan.now run.now.infos.now run.now.tables.now others.items }
     ensures first { LaneDone run.now.plan.now run.now.infos.now 0 run.now.tables.now result.0.seats.items }
     ensures keeps { KeepSeats first.seats.items result.0.seats.items }
+    ensures first_woke { IsWoken run.now.plan.now run.now.infos.now 0 first.seats.items result.0.seats.items }
     ensures devices { (units : List DeviceState) → DevicesStand run.now.plan.now run.now.infos.now units 0 first.seats.items (map D.state first.spares.items)
         → DevicesStand run.now.plan.now run.now.infos.now units (length run.now.plan.now.events) result.0.seats.items (map D.state result.0.spares.items) }
     ensures runs { (units : List DeviceState) → DevicesStand run.now.plan.now run.now.infos.now units 0 first.seats.items (map D.state first.spares.items) → DoTell run.now.plan.now units
         → AllOwn run.now.infos.now → (from : List RunningStation) → AreRunAlone run.now.plan.now run.now.infos.now first.seats.items from
         → AreRunAlone run.now.plan.now run.now.infos.now result.0.seats.items (after_sending run.now.plan.now run.now.infos.now from) }
     ensures others { AreDoneLanes run.now.plan.now run.now.infos.now run.now.tables.now result.1.items }
+    ensures others_woke { AreWoken run.now.plan.now run.now.infos.now others.items result.1.items }
     ensures long { length result.1.items ≡ length others.items }
 {
     thread::join(
@@ -172,6 +179,7 @@ pub fn all_send<'r, 'a, R: Threads + Wait + Sync, D: TxDevice, G: Gate>(
             requires { IsSendable run.now.plan.now run.now.infos.now × (first.owner ≡ 0) × LaneStands run.now.plan.now run.now.infos.now 0 0 0 run.now.tables.now first.seats.items
                 × ((units : List DeviceState) × DevicesStand run.now.plan.now run.now.infos.now units 0 first.seats.items (map D.state first.spares.items)) }
             ensures { LaneDone run.entry.now.plan.now run.entry.now.infos.now 0 run.entry.now.tables.now result.seats.items × KeepSeats first.seats.items result.seats.items
+                × IsWoken run.entry.now.plan.now run.entry.now.infos.now 0 first.seats.items result.seats.items
                 × ((units : List DeviceState) → DevicesStand run.entry.now.plan.now run.entry.now.infos.now units 0 first.seats.items (map D.state first.spares.items)
                 → DevicesStand run.entry.now.plan.now run.entry.now.infos.now units (length run.entry.now.plan.now.events) result.seats.items (map D.state result.spares.items))
                 × ((units : List DeviceState) → DevicesStand run.entry.now.plan.now run.entry.now.infos.now units 0 first.seats.items (map D.state first.spares.items) → DoTell run.entry.now.plan.now units
@@ -180,7 +188,8 @@ pub fn all_send<'r, 'a, R: Threads + Wait + Sync, D: TxDevice, G: Gate>(
         { first_sent(rt, run, first) },
         move || -> Vec<Sender<D>>
             requires { IsSendable run.now.plan.now run.now.infos.now × AreReadyLanes run.now.plan.now run.now.infos.now run.now.tables.now others.items }
-            ensures { AreDoneLanes run.entry.now.plan.now run.entry.now.infos.now run.entry.now.tables.now result.items × (length result.items ≡ length others.items) }
+            ensures { AreDoneLanes run.entry.now.plan.now run.entry.now.infos.now run.entry.now.tables.now result.items × (length result.items ≡ length others.items)
+                × AreWoken run.entry.now.plan.now run.entry.now.infos.now others.items result.items }
         { others_sent(rt, run, others) },
     )
 }

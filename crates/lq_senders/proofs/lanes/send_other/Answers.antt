@@ -3,8 +3,8 @@ use Rattle.lq_senders.specs.Lanes.{AreOthers}
 use Rattle.lq_senders.proofs.Turns.{others-keep}
 use Rattle.lq_senders.proofs.lanes.send_other.Goals as goal
 
-pub returns : goal.returns
-returns g c place ready = record {
+pub returns-clause-done : goal.returns-clause-done
+returns-clause-done g c place ready = record {
   owner_is = c.send_loop.ensures.owner ∙ ready.owner_is;
   stands = c.send_loop.ensures.stands;
   others = subst (λ o. AreOthers o c.send_loop.new.sender.seats.items) (sym c.send_loop.ensures.owner)
