@@ -20,7 +20,7 @@ use Rattle.lq_seat.specs.State.{new_seat, SeatState, TableState, IsTableOf, setu
 use Rattle.lq_senders.specs.Fates.{AllTell}
 use Rattle.lq_table.specs.Ended.{EndedState, ended_state}
 use Rattle.lq_senders.specs.Lanes.{AllOwn, AreRunAlone, after_sending}
-use Rattle.lq_senders.specs.Units.{DevicesStand, DoTell, SameDevices, by_unit, unit_at}
+use Rattle.lq_senders.specs.Units.{DevicesStand, DoTell, by_unit, unit_at}
 use Rattle.lq_senders.specs.Way.{down_after_events}
 
 -- A STATION AT ITS END
@@ -89,15 +89,6 @@ pub record FirstClosed (plan : Plan) (infos : List Info) (count : ℕ) (cpus : L
 -- the accounts of these stations have the fates that those of the run of one sender have
 abbrev pub HaveFatesAlone : List SeatState → List RunningStation → Type 0
 HaveFatesAlone cpus stations = (j : ℕ) (c : SeatState) → slice_get cpus j ≡ Some c → (s : RunningStation) × (slice_get stations j ≡ Some s) × ((seat_account c).fates ≡ s.account.fates)
-
--- Each station of the plan, of whose seats these were the first sender's, is closed, and its account has come to its end. Where
--- no other sender was, the fates are those of the run of one sender.
-pub record HasEnded (plan : Plan) (infos : List Info) (others : ℕ) (start : List SeatState) (closed : List ClosedState) : Type 0 where
-  pub seats : List SeatState
-  pub one_each : length seats ≡ length plan.stations
-  pub closed_are : FirstClosed plan infos (length plan.stations) seats closed
-  pub devices : SameDevices start seats
-  pub alone : others ≡ 0 → (from : List RunningStation) → AreRunAlone plan infos start from → HaveFatesAlone seats (map (finished infos) from)
 
 -- All packets were sent, and each station was closed: the first sender began with these seats and spare devices, and those are
 -- the spare devices that it ended with.

@@ -1,6 +1,7 @@
 -- What a run begins with: its packets, its stations over their devices, and a seat there for each sender.
 use Rattle.std.specs.Prelude.{All, ◌≡◌, ◌<◌, ◌≤◌, ℕ, ◌+◌, true, false, List, [], length, map, take, drop, count_by, slice_get, slice_index, Some, vec_capacity}
 use Rattle.lq_device.specs.Station.{StationState}
+use Rattle.lq_device.specs.declared.device.TxDevice.{Ghosts}
 use Rattle.lq_model.specs.Capture.{Packets}
 use Rattle.lq_model.specs.Device.{DeviceState, IsConfigured}
 use Rattle.lq_model.specs.Plan.{Plan, infos_of, is_swap, unit_count, unit_of_swap}
@@ -13,6 +14,8 @@ use Rattle.lq_plan.specs.Packets.{IsInfoWithin}
 use Rattle.lq_seat.specs.Ends.{MayCloseBy}
 use Rattle.lq_seat.specs.State.{new_seat, SeatState, TableState, IsTableOf, setup_of, IsHere, station_count, times}
 use Rattle.lq_senders.specs.Ends.{ClosedState}
+use Rattle.lq_senders.specs.declared.ready.Units.{Units}
+use Rattle.lq_senders.specs.declared.room.Room.{Room}
 use Rattle.lq_senders.specs.declared.sender.Sender.{Sender}
 
 -- PACKETS
@@ -113,6 +116,29 @@ pub record IsEmptyLane {D : Type 0} (plan : Plan) (place : ℕ) (l : Sender D) :
 pub record AreEmptyLanes {D : Type 0} (plan : Plan) (lanes : List (Sender D)) : Type 0 where
   pub one_each : length lanes + 1 ≡ plan.senders
   pub each : (i : ℕ) (l : Sender D) → slice_get lanes i ≡ Some l → IsEmptyLane plan i l
+
+-- ROOM
+
+-- empty lists, with room for the seats of the other senders, the stations and the packets
+pub record HasRoomForRun {D : Type 0} {g : Ghosts D} (plan : Plan) (packets : ℕ) (room : Room D g) : Type 0 where
+  pub others : AreEmptyLanes plan room.others.items
+  pub none_closed : room.closed.items ≡ []
+  pub no_home : room.homes.items ≡ []
+  pub no_fate : room.fates.items ≡ []
+  pub none_ended : room.ended.items ≡ []
+  pub closed : length plan.stations ≤ vec_capacity room.closed
+  pub homes : length plan.stations ≤ vec_capacity room.homes
+  pub fates : packets ≤ vec_capacity room.fates
+  pub ended : length plan.stations ≤ vec_capacity room.ended
+
+-- no unit's device, with room for all of them
+pub record HasRoomForUnits {D : Type 0} (plan : Plan) (units : Units D) : Type 0 where
+  pub no_table : units.stations.tables.items ≡ []
+  pub no_seat : units.stations.cpus.items ≡ []
+  pub no_spare : units.spares.items ≡ []
+  pub tables : length plan.stations ≤ vec_capacity units.stations.tables
+  pub seats : length plan.stations ≤ vec_capacity units.stations.cpus
+  pub spares : count_by is_swap plan.events ≤ vec_capacity units.spares
 
 -- A RUN THAT MAY BEGIN
 

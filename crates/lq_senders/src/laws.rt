@@ -5,6 +5,7 @@ ghost use Rattle.lq_senders.specs.Ends.{AreBack, AreOver, ClosedState, FatesRead
 ghost use Rattle.lq_senders.specs.Fates.{AreFatesOf, IsEndedAs};
 ghost use Rattle.lq_senders.specs.Lanes.{IsSendable};
 ghost use Rattle.lq_senders.specs.OwnPackets.{alone_at};
+ghost use Rattle.lq_senders.specs.Setup.{IsRunBy};
 ghost use Rattle.lq_model.specs.Alone.{alone};
 ghost use Rattle.lq_model.specs.Device.{DeviceState};
 ghost use Rattle.lq_model.specs.Plan.{Plan, is_swap, station_in, unit_count};
@@ -15,6 +16,11 @@ ghost use Rattle.lq_model.specs.declared.fate.Info.{Info};
 ghost use Rattle.lq_model.specs.declared.plan.EventKind.TheVariants as kind;
 
 use lq_model::one_fate_a_word;
+
+/// The packets of a capture under a plan may be sent.
+pub fn runs_may_be_sent()
+    ensures { (plan : Plan) (infos : List Info) → IsRunBy plan infos → IsSendable plan infos }
+{}
 
 /// What the sole seats know at the close makes the fates.
 pub fn ends_make_fates()

@@ -7,6 +7,7 @@ mod lanes;
 mod laws;
 mod read;
 mod ready;
+mod room;
 mod send;
 mod sender;
 mod setup;
@@ -19,11 +20,11 @@ pub use ends::end_run;
 pub use lanes::{all_send, send_loop};
 pub use laws::{
     ends_make_fates, one_child_is_offered, runs_are_readable, runs_keep_boxes, runs_leave_devices,
-    runs_leave_stations, runs_make_fates, stations_run_apart,
+    runs_leave_stations, runs_make_fates, runs_may_be_sent, stations_run_apart,
 };
 pub use lq_gate::{Free, Gate};
 pub use read::read_fates;
 pub use send::send_all;
-pub use sender::{Progress, Run, Sender};
+pub use sender::{Job, Progress, Run, Sender, Senders};
 pub use undo::undo_exchanges;
 pub use whole::run;

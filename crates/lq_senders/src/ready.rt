@@ -1,17 +1,37 @@
 //! All devices that a run takes leave the bench.
-ghost use Rattle.std.specs.Prelude.{◌≡◌, ◌≤◌, ◌+◌, [], IfOk, OnOk, OnErr, count_by, drop, length, map, vec_len, vec_capacity};
+ghost use Rattle.std.specs.Prelude.{◌≡◌, ◌≤◌, ◌+◌, IfOk, OnOk, OnErr, drop, map, vec_len, vec_capacity};
 ghost use Rattle.lq_senders.specs.Fates.{identities_of};
 ghost use Rattle.lq_senders.specs.Lanes.{IsSendable};
-ghost use Rattle.lq_senders.specs.Setup.{AreTablesReady};
-ghost use Rattle.lq_model.specs.Plan.{is_swap, unit_count};
+ghost use Rattle.lq_senders.specs.Setup.{AreTablesReady, HasRoomForUnits};
+ghost use Rattle.lq_model.specs.Plan.{unit_count};
 
-use crate::setup::{Stations, configure_units, open_all};
+use crate::setup::{Stations, configure_units, open_all, room_apart, room_for};
 use crate::spares::{configure_spares, take_spares};
 use lq_device::TxDevice;
 use lq_model::{Info, NoMemory};
 use lq_plan::Plan;
-use lq_seat::{Seat, Table};
 use std::alloc::Global;
+
+/// The devices of a plan's units: those of the stations in tables of their own, and those that exchanges bring to spare.
+#[derive(Drop)]
+pub struct Units<'a, D: TxDevice> {
+    pub stations: Stations<'a, D>,
+    pub spares: Vec<D>,
+}
+
+/// No unit's device, with room for all of them.
+pub fn room_for_units<'a, D: TxDevice>(alloc: Global, plan: &Plan) -> Result<Units<'a, D>, NoMemory>
+    ensures { IfOk result (λ units. HasRoomForUnits plan.now units) }
+{
+    let count = plan.stations() as usize;
+    let tables = room_apart(alloc, count)?;
+    let cpus = room_apart(alloc, count)?;
+    let spares = room_for(alloc, plan.units() as usize - count)?;
+    Ok(Units {
+        stations: Stations { tables, cpus },
+        spares,
+    })
+}
 
 /// Configures the device of each unit and takes it out of the bench: those of the stations into tables of their own, and those
 /// that exchanges bring to spare.
@@ -24,15 +44,12 @@ pub fn make_ready<'a, D: TxDevice>(
     plan: &Plan,
     infos: &'a [Info],
     bench: &mut Vec<D>,
-    tables: Vec<Table<'a, D>>,
-    cpus: Vec<Seat<D>>,
-    spares: &mut Vec<D>,
-) -> Result<Stations<'a, D>, NoMemory>
+    units: Units<'a, D>,
+) -> Result<Units<'a, D>, NoMemory>
     requires sendable { IsSendable plan.now infos.now }
-    requires units { unit_count plan.now ≤ vec_len bench.old }
-    requires none_yet { (tables.items ≡ []) × (cpus.items ≡ []) × (spares.old.items ≡ []) }
-    requires room { (length plan.now.stations ≤ vec_capacity tables) × (length plan.now.stations ≤ vec_capacity cpus) × (count_by is_swap plan.now.events ≤ vec_capacity spares.old) }
-    ensures ready { IfOk result (λ s. AreTablesReady plan.now infos.now (map D.state bench.old.items) s.tables.items s.cpus.items (map D.state spares.new.items)) }
+    requires devices { unit_count plan.now ≤ vec_len bench.old }
+    requires room { HasRoomForUnits plan.now units }
+    ensures ready { IfOk result (λ u. AreTablesReady plan.now infos.now (map D.state bench.old.items) u.stations.tables.items u.stations.cpus.items (map D.state u.spares.items)) }
     ensures rest { OnOk result (bench.new.items ≡ drop (unit_count plan.now) bench.old.items) }
     ensures less { OnOk result (unit_count plan.now + vec_len bench.new ≡ vec_len bench.old) }
     ensures back_room { OnOk result (vec_len bench.new + unit_count plan.now ≤ vec_capacity bench.new) }
@@ -42,8 +59,12 @@ pub fn make_ready<'a, D: TxDevice>(
 {
     configure_units(plan, infos, bench)?;
     configure_spares(plan, infos, bench)?;
-    let stations = open_all(alloc, plan, infos, bench, tables, cpus)?;
+    let Units {
+        stations,
+        mut spares,
+    } = units;
+    let stations = open_all(alloc, plan, infos, bench, stations)?;
     let exchanges = (plan.units() - plan.stations()) as usize;
-    take_spares(bench, spares, exchanges);
-    Ok(stations)
+    take_spares(bench, &mut spares, exchanges);
+    Ok(Units { stations, spares })
 }

@@ -1,11 +1,20 @@
-//! What the senders of a run share, and a sender.
+//! What a run is asked to do, what its senders share, and a sender.
 use lq_device::TxDevice;
 use lq_gate::Gate;
 use lq_model::Info;
 use lq_plan::Plan;
 use lq_seat::{Seat, Table};
 
+/// What a run is asked to do: to send the packets under the plan. Each sender passes the gate.
+#[derive(Drop)]
+pub struct Job<'r, G: Gate> {
+    pub plan: &'r Plan,
+    pub infos: &'r [Info],
+    pub gate: &'r G,
+}
+
 /// What all senders of a run share: the plan, the packets, the stations' tables, and the gate that each sender passes.
+#[derive(Drop)]
 pub struct Run<'r, 'a, D: TxDevice, G: Gate> {
     pub plan: &'r Plan,
     pub infos: &'r [Info],
@@ -20,6 +29,13 @@ pub struct Sender<D: TxDevice> {
     pub seats: Vec<Seat<D>>,
     /// The devices of the exchanges to come, in order, and then those that exchanges took away. They are the first sender's.
     pub spares: Vec<D>,
+}
+
+/// The senders of a run.
+#[derive(Drop)]
+pub struct Senders<D: TxDevice> {
+    pub first: Sender<D>,
+    pub others: Vec<Sender<D>>,
 }
 
 /// How far a sender is: how many packets it sent, and the plan's event that it does next.

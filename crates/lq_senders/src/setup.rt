@@ -7,12 +7,13 @@ ghost use Rattle.lq_seat.specs.Calls.{without};
 ghost use Rattle.lq_seat.specs.State.{station_count};
 ghost use Rattle.lq_senders.specs.Fates.{identities_of};
 ghost use Rattle.lq_senders.specs.Lanes.{AreReadyLanes, IsReadyLane, IsSendable};
-ghost use Rattle.lq_senders.specs.Setup.{AreConfigured, AreEmptyLanes, AreOpened, AreSplitting, AreWhole, IsEmptyLane, IsRunBy, origins_of};
+ghost use Rattle.lq_senders.specs.Setup.{AreConfigured, AreEmptyLanes, AreOpened, AreSplitting, AreWhole, IsEmptyLane, origins_of};
 ghost use Rattle.lq_senders.specs.Units.{SameDevices};
 ghost use Rattle.lq_model.specs.Device.{DeviceState};
 
-use crate::sender::Sender;
+use crate::sender::{Run, Sender};
 use lq_device::TxDevice;
+use lq_gate::Gate;
 use lq_model::{Info, NoMemory};
 use lq_plan::Plan;
 use lq_seat::{Seat, Table};
@@ -39,15 +40,6 @@ pub fn room_apart<T>(alloc: Global, count: usize) -> Result<Vec<T>, NoMemory>
     ensures room { IfOk result (λ list. count ≤ vec_capacity list) }
 {
     room_for(alloc, count.saturating_add(APART))
-}
-
-/// The packets of a capture under a plan may be sent.
-pub fn may_be_sent(plan: &Plan, infos: &[Info])
-    requires { IsRunBy plan.now infos.now }
-    ensures { IsSendable plan.now infos.now }
-{
-    let _ = &plan;
-    let _ = &infos;
 }
 
 /// How many packets go to a station.
@@ -98,35 +90,41 @@ pub fn lanes_for<D: TxDevice>(alloc: Global, plan: &Plan) -> Result<Vec<Sender<D
     Ok(lanes)
 }
 
+/// The tables of a plan's stations, and a seat at each.
+#[derive(Drop)]
+pub struct Stations<'a, D: TxDevice> {
+    pub tables: Vec<Table<'a, D>>,
+    pub cpus: Vec<Seat<D>>,
+}
+
 /// Takes the device of each station out of the bench, into a table of its own, up to the first for which there is no room.
 fn open_stations<'a, D: TxDevice>(
     alloc: Global,
     plan: &Plan,
     infos: &'a [Info],
     bench: &mut Vec<D>,
-    tables: &mut Vec<Table<'a, D>>,
-    cpus: &mut Vec<Seat<D>>,
+    stations: &mut Stations<'a, D>,
 ) -> Result<(), NoMemory>
     requires sendable { IsSendable plan.now infos.now }
     requires units { length plan.now.stations ≤ vec_len bench.old }
     requires configured { (before : List DeviceState)
         × AreConfigured plan.now infos.now (length plan.now.stations) before (map D.state bench.old.items) }
-    requires none_yet { (tables.old.items ≡ []) × (cpus.old.items ≡ []) }
-    requires room { (length plan.now.stations ≤ vec_capacity tables.old) × (length plan.now.stations ≤ vec_capacity cpus.old) }
-    ensures opened { AreOpened plan.now infos.now (map D.state bench.old.items) tables.new.items cpus.new.items }
-    ensures few { vec_len tables.new ≤ length plan.now.stations }
-    ensures all { OnOk result (vec_len tables.new ≡ length plan.now.stations) }
-    ensures states { map D.state bench.new.items ≡ drop (vec_len tables.new) (map D.state bench.old.items) }
-    ensures others { drop (length plan.now.stations - vec_len tables.new) bench.new.items ≡ drop (length plan.now.stations) bench.old.items }
-    ensures len { vec_len tables.new + vec_len bench.new ≡ vec_len bench.old }
+    requires none_yet { (stations.old.tables.items ≡ []) × (stations.old.cpus.items ≡ []) }
+    requires room { (length plan.now.stations ≤ vec_capacity stations.old.tables) × (length plan.now.stations ≤ vec_capacity stations.old.cpus) }
+    ensures opened { AreOpened plan.now infos.now (map D.state bench.old.items) stations.new.tables.items stations.new.cpus.items }
+    ensures few { vec_len stations.new.tables ≤ length plan.now.stations }
+    ensures all { OnOk result (vec_len stations.new.tables ≡ length plan.now.stations) }
+    ensures states { map D.state bench.new.items ≡ drop (vec_len stations.new.tables) (map D.state bench.old.items) }
+    ensures others { drop (length plan.now.stations - vec_len stations.new.tables) bench.new.items ≡ drop (length plan.now.stations) bench.old.items }
+    ensures len { vec_len stations.new.tables + vec_len bench.new ≡ vec_len bench.old }
     ensures capacity { vec_capacity bench.new ≡ vec_capacity bench.old }
 {
     for station in 0..plan.stations() {
         let device = bench.remove(0);
         match Table::open(alloc, plan, infos, station, device) {
             Ok((table, cpu)) => {
-                tables.push_reserved(table);
-                cpus.push_reserved(cpu);
+                stations.tables.push_reserved(table);
+                stations.cpus.push_reserved(cpu);
             }
             Err(device) => {
                 let _laid_back = bench.insert(0, device);
@@ -160,13 +158,6 @@ fn give_all_back<'a, D: TxDevice>(
     }
 }
 
-/// The tables of a plan's stations, and a seat at each.
-#[derive(Drop)]
-pub struct Stations<'a, D: TxDevice> {
-    pub tables: Vec<Table<'a, D>>,
-    pub cpus: Vec<Seat<D>>,
-}
-
 /// Takes the device of each station out of the bench, into a table of its own.
 ///
 /// # NoMemory
@@ -177,15 +168,14 @@ pub fn open_all<'a, D: TxDevice>(
     plan: &Plan,
     infos: &'a [Info],
     bench: &mut Vec<D>,
-    mut tables: Vec<Table<'a, D>>,
-    mut cpus: Vec<Seat<D>>,
+    mut stations: Stations<'a, D>,
 ) -> Result<Stations<'a, D>, NoMemory>
     requires sendable { IsSendable plan.now infos.now }
     requires units { length plan.now.stations ≤ vec_len bench.old }
     requires configured { (before : List DeviceState)
         × AreConfigured plan.now infos.now (length plan.now.stations) before (map D.state bench.old.items) }
-    requires none_yet { (tables.items ≡ []) × (cpus.items ≡ []) }
-    requires room { (length plan.now.stations ≤ vec_capacity tables) × (length plan.now.stations ≤ vec_capacity cpus) }
+    requires none_yet { (stations.tables.items ≡ []) × (stations.cpus.items ≡ []) }
+    requires room { (length plan.now.stations ≤ vec_capacity stations.tables) × (length plan.now.stations ≤ vec_capacity stations.cpus) }
     ensures opened { IfOk result (λ s. AreOpened plan.now infos.now (map D.state bench.old.items) s.tables.items s.cpus.items) }
     ensures all { IfOk result (λ s. vec_len s.tables ≡ length plan.now.stations) }
     ensures rest { OnOk result (bench.new.items ≡ drop (length plan.now.stations) bench.old.items) }
@@ -195,57 +185,51 @@ pub fn open_all<'a, D: TxDevice>(
     ensures len { OnErr result (vec_len bench.new ≡ vec_len bench.old) }
     ensures boxes { OnErr result (identities_of (map D.state bench.new.items) ≡ identities_of (map D.state bench.old.items)) }
 {
-    match open_stations(alloc, plan, infos, bench, &mut tables, &mut cpus) {
-        Ok(()) => Ok(Stations { tables, cpus }),
+    match open_stations(alloc, plan, infos, bench, &mut stations) {
+        Ok(()) => Ok(stations),
         Err(NoMemory) => {
+            let Stations { tables, cpus } = stations;
             give_all_back(tables, cpus, bench);
             Err(NoMemory)
         }
     }
 }
 
-/// Splits a seat at each station off for the sender whose lane is at this place. Takes no memory.
-fn split_lane<'a, D: TxDevice>(
-    plan: &Plan,
-    infos: &[Info],
-    tables: &[Table<'a, D>],
+/// Splits a seat at each station off for the sender of this lane. Takes no memory.
+fn split_lane<'r, 'a, D: TxDevice, G: Gate>(
+    run: &Run<'r, 'a, D, G>,
     cpus: &mut Vec<Seat<D>>,
-    place: usize,
     lane: &mut Sender<D>,
 )
-    requires empty { IsEmptyLane plan.now place lane.old }
-    requires sender { place + 1 < plan.now.senders }
-    requires splitting { AreSplitting plan.now infos.now (place + 1) tables.now cpus.old.items }
-    ensures splitting { AreSplitting plan.now infos.now (place + 2) tables.now cpus.new.items }
-    ensures ready { IsReadyLane plan.now infos.now tables.now place lane.new.owner lane.new.seats.items }
+    requires empty { IsEmptyLane run.now.plan.now (lane.old.owner - 1) lane.old }
+    requires sender { lane.old.owner < run.now.plan.now.senders }
+    requires splitting { AreSplitting run.now.plan.now run.now.infos.now lane.old.owner run.now.tables.now cpus.old.items }
+    ensures splitting { AreSplitting run.now.plan.now run.now.infos.now (lane.old.owner + 1) run.now.tables.now cpus.new.items }
+    ensures ready { IsReadyLane run.now.plan.now run.now.infos.now run.now.tables.now (lane.old.owner - 1) lane.new.owner lane.new.seats.items }
     ensures devices { SameDevices cpus.old.items cpus.new.items }
 {
-    plan.stays_within_limits();
-    let _ = &infos;
-    let _ = place;
-    for j in 0..tables.len() {
-        let other = cpus[j].split(&tables[j], lane.owner);
+    run.plan.stays_within_limits();
+    for j in 0..run.tables.len() {
+        let other = cpus[j].split(&run.tables[j], lane.owner);
         lane.seats.push_reserved(other);
     }
 }
 
 /// Splits the seats of all senders but the first off. Takes no memory.
-pub fn split_lanes<'a, D: TxDevice>(
-    plan: &Plan,
-    infos: &[Info],
-    tables: &[Table<'a, D>],
+pub fn split_lanes<'r, 'a, D: TxDevice, G: Gate>(
+    run: &Run<'r, 'a, D, G>,
     cpus: &mut Vec<Seat<D>>,
     lanes: &mut Vec<Sender<D>>,
 )
-    requires empty { AreEmptyLanes plan.now lanes.old.items }
-    requires splitting { AreSplitting plan.now infos.now 1 tables.now cpus.old.items }
-    ensures splitting { AreSplitting plan.now infos.now plan.now.senders tables.now cpus.new.items }
-    ensures ready { AreReadyLanes plan.now infos.now tables.now lanes.new.items }
-    ensures one_each { length lanes.new.items + 1 ≡ plan.now.senders }
+    requires empty { AreEmptyLanes run.now.plan.now lanes.old.items }
+    requires splitting { AreSplitting run.now.plan.now run.now.infos.now 1 run.now.tables.now cpus.old.items }
+    ensures splitting { AreSplitting run.now.plan.now run.now.infos.now run.now.plan.now.senders run.now.tables.now cpus.new.items }
+    ensures ready { AreReadyLanes run.now.plan.now run.now.infos.now run.now.tables.now lanes.new.items }
+    ensures one_each { length lanes.new.items + 1 ≡ run.now.plan.now.senders }
     ensures devices { SameDevices cpus.old.items cpus.new.items }
-    ensures alone { plan.now.senders ≡ 1 → cpus.new.items ≡ cpus.old.items }
+    ensures alone { run.now.plan.now.senders ≡ 1 → cpus.new.items ≡ cpus.old.items }
 {
     for place in 0..lanes.len() {
-        split_lane(plan, infos, tables, cpus, place, &mut lanes[place]);
+        split_lane(run, cpus, &mut lanes[place]);
     }
 }

@@ -71,8 +71,7 @@ pub fn take_spares<D: TxDevice>(bench: &mut Vec<D>, spares: &mut Vec<D>, count: 
     ensures len { count + vec_len bench.new ≡ vec_len bench.old }
     ensures capacity { vec_capacity bench.new ≡ vec_capacity bench.old }
 {
-    for place in 0..count {
-        let _ = place;
+    for _place in 0..count {
         spares.push_reserved(bench.remove(0));
     }
 }

@@ -13,7 +13,7 @@ loop-station-init g c = record {
   tables_len = omega arith;
   seats = refl;
   seats_len = omega arith;
-  closed = subst (λ (l : List ClosedState). FirstClosed c.args.plan.now c.args.infos.now 0 c.args.cpus.items l) (sym (ap (map closed_state) c.requires.none_yet)) (none-closed c.args.plan.now c.args.infos.now c.args.cpus.items);
+  closed = subst (λ (l : List ClosedState). FirstClosed c.args.job.now.plan.now c.args.job.now.infos.now 0 c.args.cpus.items l) (sym (ap (map closed_state) c.requires.none_yet)) (none-closed c.args.job.now.plan.now c.args.job.now.infos.now c.args.cpus.items);
   room = c.requires.room;
 }
 
@@ -37,7 +37,7 @@ seat-here g c =
     let seats_len = inv.seats_len in let ok = c.args.shared.ok.0 in let ok' = c.args.cpus.ok.0 in let here = c.loop-station.cpus.ok.0 in
     next-left c.loop-station._station c.args.cpus.items c.loop-station.cpus.items c.remove-cpu.result inv.seats (omega arith) c.remove-cpu.ensures.value
 
-at : (g : _) (c : After-remove-cpu g) → MayCloseAt c.args.plan.now c.args.infos.now c.loop-station._station c.remove-table.result c.remove-cpu.result
+at : (g : _) (c : After-remove-cpu g) → MayCloseAt c.args.job.now.plan.now c.args.job.now.infos.now c.loop-station._station c.remove-table.result c.remove-cpu.result
 at g c = c.requires.may.each c.loop-station._station c.remove-table.result c.remove-cpu.result (table-here g c) (seat-here g c)
 
 pub close-ended-requires-clause-here : goal.close-ended-requires-clause-here
@@ -66,14 +66,14 @@ loop-station-preserved g c =
       tables_len = let less = c.remove-table.ensures.len in omega arith;
       seats = c.remove-cpu.ensures.items ∙ (ap (drop 1) inv.seats ∙ drop-drop 1 k c.args.cpus.items);
       seats_len = let less = c.remove-cpu.ensures.len in omega arith;
-      closed = subst (λ (l : List ClosedState). FirstClosed c.args.plan.now c.args.infos.now (k + 1) c.args.cpus.items l) (sym (ap (map closed_state) c.push_reserved.ensures.items ∙ map-append closed_state now (ended ∷ [])))
-          (one-closed c.args.plan.now c.args.infos.now k c.args.cpus.items (map closed_state now) c.remove-cpu.result (closed_state ended) at-c
-          (closes-as c.args.plan.now c.args.infos.now k c.remove-table.result c.remove-cpu.result (closed_state ended) (c.requires.may.each k c.remove-table.result c.remove-cpu.result at-t at-c) done.closed done.plan done.sound) inv.closed);
+      closed = subst (λ (l : List ClosedState). FirstClosed c.args.job.now.plan.now c.args.job.now.infos.now (k + 1) c.args.cpus.items l) (sym (ap (map closed_state) c.push_reserved.ensures.items ∙ map-append closed_state now (ended ∷ [])))
+          (one-closed c.args.job.now.plan.now c.args.job.now.infos.now k c.args.cpus.items (map closed_state now) c.remove-cpu.result (closed_state ended) at-c
+          (closes-as c.args.job.now.plan.now c.args.job.now.infos.now k c.remove-table.result c.remove-cpu.result (closed_state ended) (c.requires.may.each k c.remove-table.result c.remove-cpu.result at-t at-c) done.closed done.plan done.sound) inv.closed);
       room = let room = inv.room in let same = c.push_reserved.ensures.capacity in omega arith;
     }
 
 pub returns : goal.returns
 returns g c =
     let test = c.loop-station-test.false in let e = c.stations-station-end.ensures.stations in let stop = c.loop-station.auto._station-end in
-    let same : c.loop-station._station ≡ length c.args.plan.now.stations = omega arith in
-    subst (λ (k : ℕ). FirstClosed c.args.plan.now c.args.infos.now k c.args.cpus.items (map closed_state c.loop-station.closed.items)) same c.loop-station.invariant.closed
+    let same : c.loop-station._station ≡ length c.args.job.now.plan.now.stations = omega arith in
+    subst (λ (k : ℕ). FirstClosed c.args.job.now.plan.now c.args.job.now.infos.now k c.args.cpus.items (map closed_state c.loop-station.closed.items)) same c.loop-station.invariant.closed

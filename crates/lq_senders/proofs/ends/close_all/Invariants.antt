@@ -8,6 +8,6 @@ invariant-loop-station g l = record {
   tables_len : l._station + l.shared.len ≡ l.fn.shared.len;
   seats : l.cpus.items ≡ drop l._station l.fn.cpus.items;
   seats_len : l._station + l.cpus.len ≡ l.fn.cpus.len;
-  closed : FirstClosed l.fn.plan l.fn.infos l._station l.fn.cpus.items (map closed_state l.closed.items);
-  room : length l.fn.plan.stations ≤ l.closed.cap;
+  closed : FirstClosed l.job.plan.now l.job.infos.now l._station l.fn.cpus.items (map closed_state l.closed.items);
+  room : length l.job.plan.now.stations ≤ l.closed.cap;
 }

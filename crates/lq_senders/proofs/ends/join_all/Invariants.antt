@@ -6,8 +6,8 @@ use Rattle.lq_senders.proofs.ends.join_all.Given as goal
 
 abbrev pub invariant-loop-lane : goal.invariant-loop-lane
 invariant-loop-lane g l = record {
-  joined : LaneJoined l.fn.plan l.fn.infos l.others.len l.shared l.cpus.items;
-  others : AreDoneLanes l.fn.plan l.fn.infos l.shared l.others.items;
+  joined : LaneJoined l.run.plan.now l.run.infos.now l.others.len l.run.tables.now l.cpus.items;
+  others : AreDoneLanes l.run.plan.now l.run.infos.now l.run.tables.now l.others.items;
   devices : SameDevices l.fn.cpus.items l.cpus.items;
   fewer : l.others.len ≤ l.fn.others.len;
   alone : l.fn.others.len ≡ 0 → l.cpus.items ≡ l.fn.cpus.items;

@@ -1,10 +1,11 @@
+use Rattle.std.proofs.Common.{◌-◌}
 use Rattle.lq_senders.specs.Joins.{JoinsDown}
 use Rattle.lq_senders.specs.Units.{SameDevices}
 use Rattle.lq_senders.proofs.ends.join_lane.Given as goal
 
 abbrev pub invariant-loop-other : goal.invariant-loop-other
 invariant-loop-other g l = record {
-  down : JoinsDown l.fn.plan l.fn.infos l.fn.place l.others.len l.shared l.cpus.items l.others.items;
+  down : JoinsDown l.run.plan.now l.run.infos.now (l.fn.lane.owner - 1) l.others.len l.run.tables.now l.cpus.items l.others.items;
   devices : SameDevices l.fn.cpus.items l.cpus.items;
 }
 

@@ -38,7 +38,7 @@ returns-clause-ready g c =
     let so_many : (c.units.result - c.stations.result) ≡ k = let units = c.units.ensures.units in let stations = c.stations.ensures.stations in omega arith in
     record {
       devices = map state after;
-      units = let units = c.requires.units in let ok = c.args.bench.now.ok.0 in let long = length-map before state in omega arith;
+      units = let units = c.requires.devices in let ok = c.args.bench.now.ok.0 in let long = length-map before state in omega arith;
       configured = still-configured plan infos (map state before) (map state mid) (map state after) c.in_ok-configure_units.ensures.ok c.in_ok-configure_spares.ensures.ok;
       brought = brought-configured state plan infos before mid (map state after) c.in_ok-configure_units.ensures.others c.in_ok-configure_spares.ensures.ok;
       opened = c.in_ok-stations.ensures.opened;

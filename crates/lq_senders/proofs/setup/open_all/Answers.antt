@@ -4,20 +4,20 @@ use Rattle.lq_senders.proofs.setup.open_all.Goals as goal
 
 pub give_all_back-requires-clause-whole : goal.give_all_back-requires-clause-whole
 give_all_back-requires-clause-whole g c κs within =
-    whole-opened c.args.plan.now c.args.infos.now (map g.D.TxDevice.state c.args.bench.now.items) c.open_stations.new.tables.items c.open_stations.new.cpus.items c.open_stations.ensures.opened
+    whole-opened c.args.plan.now c.args.infos.now (map g.D.TxDevice.state c.args.bench.now.items) c.open_stations.new.stations.tables.items c.open_stations.new.stations.cpus.items c.open_stations.ensures.opened
 
 pub returns-in-Ok-clause-rest : goal.returns-in-Ok-clause-rest
 returns-in-Ok-clause-rest g c =
-    let none : length c.args.plan.now.stations - c.open_stations.new.tables.len ≡ 0 = let all = c.in-Ok.ensures.all in omega arith in
+    let none : length c.args.plan.now.stations - c.open_stations.new.stations.tables.len ≡ 0 = let all = c.in-Ok.ensures.all in omega arith in
     sym (ap (λ k. drop k c.open_stations.new.bench.items) none) ∙ c.in-Ok.ensures.others
 
 pub returns-in-Err-clause-others : goal.returns-in-Err-clause-others
 returns-in-Err-clause-others g c =
-    rest-again c.open_stations.new.tables.len (length c.args.plan.now.stations) c.args.bench.now.items c.open_stations.new.bench.items c.give_all_back.new.bench.items
+    rest-again c.open_stations.new.stations.tables.len (length c.args.plan.now.stations) c.args.bench.now.items c.open_stations.new.bench.items c.give_all_back.new.bench.items
     c.open_stations.ensures.few c.give_all_back.ensures.rest c.open_stations.ensures.others
 
 pub returns-in-Err-clause-boxes : goal.returns-in-Err-clause-boxes
 returns-in-Err-clause-boxes g c =
     boxes-again g.D.TxDevice.state c.args.plan.now c.args.infos.now c.args.bench.now.items c.open_stations.new.bench.items c.give_all_back.new.bench.items
-    c.open_stations.new.tables.items c.open_stations.new.cpus.items c.open_stations.ensures.opened
-    (c.open_stations.ensures.states ∙ ap (λ k. drop k (map g.D.TxDevice.state c.args.bench.now.items)) c.open_stations.new.tables.ok.0) c.give_all_back.ensures.boxes
+    c.open_stations.new.stations.tables.items c.open_stations.new.stations.cpus.items c.open_stations.ensures.opened
+    (c.open_stations.ensures.states ∙ ap (λ k. drop k (map g.D.TxDevice.state c.args.bench.now.items)) c.open_stations.new.stations.tables.ok.0) c.give_all_back.ensures.boxes

@@ -70,7 +70,7 @@ loop-station-preserved g c =
     let some : 0 < length c.loop-station.bench.items = let test = c.loop-station-test.true in let e = c.stations-station-end.ensures.stations in let len = own.len in let ok = c.loop-station.bench.ok.0 in let units = c.requires.units in omega arith in
     let there = mapped-at state all k device (first-left k all c.loop-station.bench.items device own.rest some c.remove-device.ensures.value) in
     let new : IsOpenedAt plan infos (map state all) k t cpu = opened-here plan infos (map state all) k (state device) t cpu there c.in-Ok.ensures.table c.in-Ok.ensures.seat in
-    let so_many : length c.loop-station.tables.items ≡ k = let ok = c.loop-station.tables.ok.0 in let e = own.so_many in omega arith in
+    let so_many : length c.loop-station.stations.tables.items ≡ k = let ok = c.loop-station.stations.tables.ok.0 in let e = own.so_many in omega arith in
     record {
       rest = c.remove-device.ensures.items ∙ (ap (drop 1) own.rest ∙ drop-drop 1 k all);
       len = let len = own.len in let less = c.remove-device.ensures.len in omega arith;
@@ -81,8 +81,8 @@ loop-station-preserved g c =
       seats_room = let room = own.seats_room in let same = c.push_reserved-in-Ok.ensures.capacity in omega arith;
       opened =
           subst (λ ts. AreOpened plan infos (map state all) ts c.push_reserved-in-Ok.new.self.items) (sym c.push_reserved.ensures.items)
-          (subst (λ cs. AreOpened plan infos (map state all) (c.loop-station.tables.items ++ t ∷ []) cs) (sym c.push_reserved-in-Ok.ensures.items)
-          (opened-more plan infos (map state all) c.loop-station.tables.items c.loop-station.cpus.items t cpu own.opened
+          (subst (λ cs. AreOpened plan infos (map state all) (c.loop-station.stations.tables.items ++ t ∷ []) cs) (sym c.push_reserved-in-Ok.ensures.items)
+          (opened-more plan infos (map state all) c.loop-station.stations.tables.items c.loop-station.stations.cpus.items t cpu own.opened
           (subst (λ j. IsOpenedAt plan infos (map state all) j t cpu) (sym so_many) new)));
     }
 

@@ -8,9 +8,9 @@ invariant-loop-station g l = record {
   rest : l.bench.items ≡ drop l.station l.fn.bench.items;
   len : l.station + l.bench.len ≡ l.fn.bench.len;
   capacity : l.bench.cap ≡ l.fn.bench.cap;
-  so_many : l.tables.len ≡ l.station;
-  seats : l.cpus.len ≡ l.station;
-  room : length l.plan.stations ≤ l.tables.cap;
-  seats_room : length l.plan.stations ≤ l.cpus.cap;
-  opened : AreOpened l.plan l.infos (map g.D.TxDevice.state l.fn.bench.items) l.tables.items l.cpus.items;
+  so_many : l.stations.tables.len ≡ l.station;
+  seats : l.stations.cpus.len ≡ l.station;
+  room : length l.plan.stations ≤ l.stations.tables.cap;
+  seats_room : length l.plan.stations ≤ l.stations.cpus.cap;
+  opened : AreOpened l.plan l.infos (map g.D.TxDevice.state l.fn.bench.items) l.stations.tables.items l.stations.cpus.items;
 }

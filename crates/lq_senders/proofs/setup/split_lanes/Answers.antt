@@ -1,10 +1,12 @@
-use Rattle.std.proofs.Common.{refl, subst, arith}
+use Rattle.std.proofs.Common.{◌≡◌, ℕ, ◌+◌, ◌-◌, refl, subst, arith}
 use Rattle.std.proofs.lemmas.Option.{slice_get_within}
-use Rattle.lq_senders.specs.Setup.{AreSplitting}
+use Rattle.lq_senders.specs.Lanes.{IsReadyLane}
+use Rattle.lq_senders.specs.Setup.{AreSplitting, IsEmptyLane}
 use Rattle.lq_senders.proofs.Seats.{read-at}
 use Rattle.lq_senders.proofs.Joins.{devices-on, same-devices}
 use Rattle.lq_senders.proofs.Splits.{lanes-more}
 use Rattle.lq_senders.proofs.setup.split_lanes.Goals as goal
+use Rattle.lq_senders.proofs.setup.split_lanes.Goals.{After-index_mut}
 
 pub loop-place-init : goal.loop-place-init
 loop-place-init g c = record {
@@ -15,22 +17,39 @@ loop-place-init g c = record {
   alone = λ none. refl;
 }
 
-pub split_lane-requires-clause-empty : goal.split_lane-requires-clause-empty
-split_lane-requires-clause-empty g c κs within =
+-- the lane has no seat yet
+empty : (g : _) (c : After-index_mut g) → IsEmptyLane c.args.run.now.plan.now c.loop-place.place c.index_mut.result.now
+empty g c =
     let own = c.loop-place.invariant in let test = c.loop-place-test.true in let len = own.len in let ok = c.loop-place.lanes.ok.0 in
     own.lanes.empty c.loop-place.place c.index_mut.result.now (omega arith) (read-at c.loop-place.lanes.items c.loop-place.place c.index_mut.result.now (omega arith) c.index_mut.ensures.value)
 
+place-is : (g : _) (c : After-index_mut g) → c.index_mut.result.now.owner - 1 ≡ c.loop-place.place
+place-is g c = let is = (empty g c).owner_is in omega arith
+
+pub split_lane-requires-clause-empty : goal.split_lane-requires-clause-empty
+split_lane-requires-clause-empty g c κs within =
+    let place = place-is g c in
+    subst (λ (k : ℕ). IsEmptyLane c.args.run.now.plan.now k c.index_mut.result.now) (omega arith) (empty g c)
+
 pub split_lane-requires-clause-sender : goal.split_lane-requires-clause-sender
 split_lane-requires-clause-sender g c κs within =
-    let test = c.loop-place-test.true in let one_each = c.requires.empty.one_each in let ok = c.args.lanes.now.ok.0 in omega arith
+    let is = (empty g c).owner_is in let test = c.loop-place-test.true in let one_each = c.requires.empty.one_each in let ok = c.args.lanes.now.ok.0 in
+    let len = c.loop-place.invariant.len in omega arith
+
+pub split_lane-requires-clause-splitting : goal.split_lane-requires-clause-splitting
+split_lane-requires-clause-splitting g c κs within =
+    let is = (empty g c).owner_is in
+    subst (λ (n : ℕ). AreSplitting c.args.run.now.plan.now c.args.run.now.infos.now n c.args.run.now.tables.now c.loop-place.cpus.items) (omega arith) c.loop-place.invariant.splitting
 
 pub loop-place-preserved : goal.loop-place-preserved
 loop-place-preserved g c =
-    let own = c.loop-place.invariant in let test = c.loop-place-test.true in let len = own.len in let ok = c.loop-place.lanes.ok.0 in
+    let own = c.loop-place.invariant in let test = c.loop-place-test.true in let len = own.len in let ok = c.loop-place.lanes.ok.0 in let place = place-is g c.before.before in let is = (empty g c.before.before).owner_is in
+    let plan = c.args.run.now.plan.now in let infos = c.args.run.now.infos.now in let tables = c.args.run.now.tables.now in let new = c.split_lane.new.lane in
     record {
       len = own.len;
-      lanes = lanes-more c.args.plan.now c.args.infos.now c.loop-place.place c.args.tables.now c.loop-place.lanes.items c.split_lane.new.lane (omega arith) own.lanes c.split_lane.ensures.ready;
-      splitting = subst (λ n. AreSplitting c.args.plan.now c.args.infos.now n c.args.tables.now c.split_lane.new.cpus.items) (omega arith) c.split_lane.ensures.splitting;
+      lanes = lanes-more plan infos c.loop-place.place tables c.loop-place.lanes.items new (omega arith) own.lanes
+          (subst (λ (k : ℕ). IsReadyLane plan infos tables k new.owner new.seats.items) place c.split_lane.ensures.ready);
+      splitting = subst (λ n. AreSplitting plan infos n tables c.split_lane.new.cpus.items) (omega arith) c.split_lane.ensures.splitting;
       devices = devices-on c.args.cpus.now.items c.loop-place.cpus.items c.split_lane.new.cpus.items own.devices c.split_lane.ensures.devices;
       alone = λ none. absurd (omega arith);
     }
@@ -40,7 +59,7 @@ returns g c =
     let own = c.loop-place.invariant in let past = c.loop-place-test.false in let below = c.loop-place.auto.place-end in let one_each = c.requires.empty.one_each in
     let ok = c.args.lanes.now.ok.0 in let len = own.len in let fill = c.loop-place.lanes.ok.0 in
     record {
-      splitting = subst (λ n. AreSplitting c.args.plan.now c.args.infos.now n c.args.tables.now c.loop-place.cpus.items) (omega arith) own.splitting;
+      splitting = subst (λ n. AreSplitting c.args.run.now.plan.now c.args.run.now.infos.now n c.args.run.now.tables.now c.loop-place.cpus.items) (omega arith) own.splitting;
       ready = λ i l at. own.lanes.ready i l (let inside = slice_get_within c.loop-place.lanes.items i l at in omega arith) at;
       one_each = omega arith;
       devices = own.devices;

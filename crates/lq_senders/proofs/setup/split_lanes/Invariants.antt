@@ -8,8 +8,8 @@ use Rattle.lq_senders.proofs.setup.split_lanes.Given as goal
 abbrev pub invariant-loop-place : goal.invariant-loop-place
 invariant-loop-place g l = record {
   len : l.lanes.len ≡ l.fn.lanes.len;
-  lanes : LanesSplit l.plan l.fn.infos l.place l.tables l.lanes.items;
-  splitting : AreSplitting l.plan l.fn.infos (l.place + 1) l.tables l.cpus.items;
+  lanes : LanesSplit l.run.plan.now l.run.infos.now l.place l.run.tables.now l.lanes.items;
+  splitting : AreSplitting l.run.plan.now l.run.infos.now (l.place + 1) l.run.tables.now l.cpus.items;
   devices : SameDevices l.fn.cpus.items l.cpus.items;
   alone : l.place ≡ 0 → l.cpus.items ≡ l.fn.cpus.items;
 }

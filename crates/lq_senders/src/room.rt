@@ -1,0 +1,49 @@
+//! The memory of a run but that of its units, which is all taken before a device leaves the bench.
+ghost use Rattle.std.specs.Prelude.{IfOk, length};
+ghost use Rattle.lq_senders.specs.Setup.{HasRoomForRun};
+
+use crate::sender::Sender;
+use crate::setup::{lanes_for, room_for};
+use lq_device::TxDevice;
+use lq_model::{Fate, Info, NoMemory};
+use lq_plan::Plan;
+use lq_table::{Closed, Ended};
+use std::alloc::Global;
+
+/// Empty lists, with room for what a run lays into them.
+#[derive(Drop)]
+pub struct Room<D: TxDevice> {
+    /// The senders but the first, each with room for its seats.
+    pub others: Vec<Sender<D>>,
+    /// The stations' closed tables.
+    pub closed: Vec<Closed<D>>,
+    /// The devices that come out of them.
+    pub homes: Vec<D>,
+    /// The fate of each packet.
+    pub fates: Vec<Fate>,
+    /// What stays of each station.
+    pub ended: Vec<Ended<D>>,
+}
+
+/// Takes the memory of a run of so many packets.
+pub fn take_room<D: TxDevice>(
+    alloc: Global,
+    plan: &Plan,
+    infos: &[Info],
+) -> Result<Room<D>, NoMemory>
+    ensures { IfOk result (λ room. HasRoomForRun plan.now (length infos.now) room) }
+{
+    let count = plan.stations() as usize;
+    let fates = room_for(alloc, infos.len())?;
+    let others = lanes_for(alloc, plan)?;
+    let closed = room_for(alloc, count)?;
+    let ended = room_for(alloc, count)?;
+    let homes = room_for(alloc, count)?;
+    Ok(Room {
+        others,
+        closed,
+        homes,
+        fates,
+        ended,
+    })
+}
