@@ -102,11 +102,11 @@ pub fn send<'a, A: Abort + Wait, D: TxDevice>(
     let infos = shared.infos();
     assert!(rt; (n as usize) < infos.len());
     let info = infos[n as usize];
-    assert!(rt; info.owner == owner);
+    assert!(rt; info.owner as u32 == owner);
     assert!(rt; owner < shared.senders());
-    assert!(rt; info.station == shared.number());
+    assert!(rt; info.station as u32 == shared.number());
     assert!(rt; info.band < 3);
-    assert!(rt; info.queue < shared.queues());
+    assert!(rt; (info.queue as u32) < shared.queues());
     let sending = transmit(rt, shared, cpu, n);
     drain(rt, shared, cpu);
     sending
