@@ -1,9 +1,10 @@
 //! What a sender does: it puts its packets, and keeps those that it found full.
-ghost use Rattle.std.specs.Prelude.{◌≡◌, ◌+◌, ◌<◌, length};
+ghost use Rattle.std.specs.Prelude.{◌≡◌, ℕ, ◌+◌, ◌<◌, length};
 ghost use Rattle.lq_tap_run.specs.Lanes.{AreDone, AreReady, CanPut, LaneHasRoom, IsLaneDone, IsLaneReady, LaneStandsAt};
 
+use crate::shared::Run;
 use lq_gate::Gate;
-use lq_tap::{Tap, TapSeat, end_sender, put};
+use lq_tap::{TapSeat, end_sender, put};
 use std::marker::Sync;
 use std::sync::Wait;
 use std::thread;
@@ -16,88 +17,53 @@ pub struct Lane {
     pub full: Vec<(u32, u32)>,
 }
 
-/// Puts packet `n`, the sender's packet `k`.
-fn put_next<R: Wait>(
-    rt: &R,
-    tap: &Tap,
-    packets: u32,
-    senders: u32,
-    sender: u32,
-    lane: &mut Lane,
-    k: u32,
-    n: u32,
-)
-    requires may { CanPut tap.now packets senders }
-    requires stands { LaneStandsAt tap.now packets senders sender k n lane.old }
-    requires next { n < packets }
-    requires room { LaneHasRoom packets senders lane.old }
-    ensures stands { LaneStandsAt tap.now packets senders sender (k + 1) (n + senders) lane.new }
-    ensures room { LaneHasRoom packets senders lane.new }
+/// Puts packet `n`, the next of the sender's.
+fn put_next<'r, R: Wait, G: Gate>(rt: &R, run: &Run<'r, G>, lane: &mut Lane, n: u32)
+    requires may { CanPut run.now.tap.now run.now.packets run.now.senders }
+    requires stands { (sender : ℕ) × (k : ℕ) × LaneStandsAt run.now.tap.now run.now.packets run.now.senders sender k n lane.old }
+    requires next { n < run.now.packets }
+    requires room { LaneHasRoom run.now.packets run.now.senders lane.old }
+    ensures stands { (sender k : ℕ) → LaneStandsAt run.now.tap.now run.now.packets run.now.senders sender k n lane.old
+        → LaneStandsAt run.now.tap.now run.now.packets run.now.senders sender (k + 1) (n + run.now.senders) lane.new }
+    ensures room { LaneHasRoom run.now.packets run.now.senders lane.new }
 {
-    let _ = packets;
-    let _ = senders;
-    let _ = sender;
-    let _ = k;
-    if let Err(full) = put(rt, tap, &mut lane.seat, n) {
+    if let Err(full) = put(rt, run.tap, &mut lane.seat, n) {
         lane.full.push_reserved((n, full.seen));
     }
 }
 
 /// Puts a sender's packets, in ascending number.
-fn put_all<R: Wait, G: Gate>(
-    rt: &R,
-    tap: &Tap,
-    packets: u32,
-    senders: u32,
-    sender: u32,
-    lane: &mut Lane,
-    gate: &G,
-)
-    requires may { CanPut tap.now packets senders }
-    requires ready { IsLaneReady tap.now packets senders sender lane.old }
-    ensures { IsLaneDone tap.now packets senders sender lane.new }
+fn put_all<'r, R: Wait, G: Gate>(rt: &R, run: &Run<'r, G>, sender: u32, lane: &mut Lane)
+    requires may { CanPut run.now.tap.now run.now.packets run.now.senders }
+    requires ready { IsLaneReady run.now.tap.now run.now.packets run.now.senders sender lane.old }
+    ensures { IsLaneDone run.now.tap.now run.now.packets run.now.senders sender lane.new }
 {
     let mut n = sender;
     let mut k = 0;
-    while n < packets {
-        gate.pass(sender, k);
-        put_next(rt, tap, packets, senders, sender, lane, k, n);
-        n += senders;
+    while n < run.packets {
+        run.gate.pass(sender, k);
+        put_next(rt, run, lane, n);
+        n += run.senders;
         k += 1;
     }
-    end_sender(tap, &mut lane.seat);
+    end_sender(run.tap, &mut lane.seat);
 }
 
 /// Puts the packets of the sender at this place.
-fn put_from<R: Wait, G: Gate>(
-    rt: &R,
-    tap: &Tap,
-    packets: u32,
-    senders: u32,
-    place: usize,
-    lane: &mut Lane,
-    gate: &G,
-)
-    requires may { CanPut tap.now packets senders }
-    requires ready { IsLaneReady tap.now packets senders place lane.old }
-    ensures { IsLaneDone tap.now packets senders place lane.new }
+fn put_from<'r, R: Wait, G: Gate>(rt: &R, run: &Run<'r, G>, place: usize, lane: &mut Lane)
+    requires may { CanPut run.now.tap.now run.now.packets run.now.senders }
+    requires ready { IsLaneReady run.now.tap.now run.now.packets run.now.senders place lane.old }
+    ensures { IsLaneDone run.now.tap.now run.now.packets run.now.senders place lane.new }
 {
-    put_all(rt, tap, packets, senders, place as u32, lane, gate);
+    put_all(rt, run, place as u32, lane);
 }
 
 /// All senders, side by side.
-fn senders_put<R: Threads + Wait + Sync, G: Gate>(
-    rt: &R,
-    tap: &Tap,
-    packets: u32,
-    senders: u32,
-    lanes: &mut [Lane],
-    gate: &G,
-)
-    requires may { CanPut tap.now packets senders }
-    requires count { length lanes.old ≡ senders }
-    requires ready { AreReady tap.now packets senders lanes.old }
-    ensures { AreDone tap.now packets senders lanes.new }
+fn senders_put<'r, R: Threads + Wait + Sync, G: Gate>(rt: &R, run: &Run<'r, G>, lanes: &mut [Lane])
+    requires may { CanPut run.now.tap.now run.now.packets run.now.senders }
+    requires count { length lanes.old ≡ run.now.senders }
+    requires ready { AreReady run.now.tap.now run.now.packets run.now.senders lanes.old }
+    ensures { AreDone run.now.tap.now run.now.packets run.now.senders lanes.new }
 {
     let threads = lanes.len();
     thread::for_each_mut(
@@ -105,27 +71,25 @@ fn senders_put<R: Threads + Wait + Sync, G: Gate>(
         lanes,
         threads,
         &|i, lane: &mut Lane|
-            requires { CanPut tap.now packets senders × IsLaneReady tap.now packets senders i lane.old }
-            ensures { IsLaneDone tap.entry.now packets senders i lane.new }
-        { put_from(rt, tap, packets, senders, i, lane, gate) },
+            requires { CanPut run.now.tap.now run.now.packets run.now.senders
+                × IsLaneReady run.now.tap.now run.now.packets run.now.senders i lane.old }
+            ensures { IsLaneDone run.entry.now.tap.now run.entry.now.packets run.entry.now.senders i lane.new }
+        { put_from(rt, run, i, lane) },
     );
 }
 
 /// The lanes after the last packet.
-pub fn all_put<R: Threads + Wait + Sync, G: Gate>(
+pub fn all_put<'r, R: Threads + Wait + Sync, G: Gate>(
     rt: &R,
-    tap: &Tap,
-    packets: u32,
-    senders: u32,
+    run: &Run<'r, G>,
     mut lanes: Vec<Lane>,
-    gate: &G,
 ) -> Vec<Lane>
-    requires may { CanPut tap.now packets senders }
-    requires count { length lanes.items ≡ senders }
-    requires ready { AreReady tap.now packets senders lanes.items }
-    ensures done { AreDone tap.now packets senders result.items }
-    ensures count { length result.items ≡ senders }
+    requires may { CanPut run.now.tap.now run.now.packets run.now.senders }
+    requires count { length lanes.items ≡ run.now.senders }
+    requires ready { AreReady run.now.tap.now run.now.packets run.now.senders lanes.items }
+    ensures done { AreDone run.now.tap.now run.now.packets run.now.senders result.items }
+    ensures count { length result.items ≡ run.now.senders }
 {
-    senders_put(rt, tap, packets, senders, lanes.as_mut_slice(), gate);
+    senders_put(rt, run, lanes.as_mut_slice());
     lanes
 }

@@ -6,6 +6,7 @@ mod fates;
 mod lanes;
 mod reader;
 mod run;
+mod shared;
 
 pub use lq_gate::{Free, Gate};
 pub use lq_tap_fates::TapFate;

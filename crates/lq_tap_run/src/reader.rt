@@ -3,6 +3,7 @@ ghost use Rattle.std.specs.Prelude.{◌≡◌, ◌+◌, ◌<◌, ◌≤◌, ◌+
 ghost use Rattle.lq_tap.specs.Sees.{IsReaderOf, view};
 ghost use Rattle.lq_tap_run.specs.Reads.{HasRead, IsReaderDone, ReadsOn};
 
+use crate::shared::Run;
 use lq_gate::Gate;
 use lq_tap::{Tap, TapSeat, ended, get_batch, give_back};
 use std::sync::Wait;
@@ -44,29 +45,27 @@ fn read_half<R: Wait>(rt: &R, tap: &Tap, seat: &mut TapSeat, read: &mut Vec<u32>
 }
 
 /// Reads until all senders have ended and a batch that came later is empty.
-fn read_all<R: Wait, G: Gate>(
+fn read_all<'r, R: Wait, G: Gate>(
     rt: &R,
-    tap: &Tap,
-    senders: u32,
+    run: &Run<'r, G>,
     seat: &mut TapSeat,
     read: &mut Vec<u32>,
     batch: &mut [u32],
-    gate: &G,
 )
-    requires read { HasRead tap.now seat.old read.old.items }
+    requires read { HasRead run.now.tap.now seat.old read.old.items }
     requires room { (view seat.old).about.packets ≤ vec_capacity read.old }
     requires batch { (0 < length batch.old) × (length batch.old ≤ 64) }
-    ensures read { HasRead tap.now seat.new read.new.items × IsReaderDone seat.new }
+    ensures read { HasRead run.now.tap.now seat.new read.new.items × IsReaderDone seat.new }
     ensures on { ReadsOn seat.old seat.new }
 {
     let mut k = 0u32;
     for _ in rt.forever() {
-        let over = ended(tap, seat);
-        gate.pass(senders, k);
-        let count = get_batch(rt, tap, seat, batch);
+        let over = ended(run.tap, seat);
+        run.gate.pass(run.senders, k);
+        let count = get_batch(rt, run.tap, seat, batch);
         if count > 0 {
             k = k.wrapping_add(1);
-            read_half(rt, tap, seat, read, &batch[..count]);
+            read_half(rt, run.tap, seat, read, &batch[..count]);
         } else if over {
             return;
         }
@@ -75,26 +74,18 @@ fn read_all<R: Wait, G: Gate>(
 }
 
 /// The reader after the last batch.
-pub fn all_read<R: Wait, G: Gate>(
-    rt: &R,
-    tap: &Tap,
-    senders: u32,
-    mut reader: Reader,
-    gate: &G,
-) -> Reader
-    requires read { HasRead tap.now reader.seat reader.read.items }
+pub fn all_read<'r, R: Wait, G: Gate>(rt: &R, run: &Run<'r, G>, mut reader: Reader) -> Reader
+    requires read { HasRead run.now.tap.now reader.seat reader.read.items }
     requires room { (view reader.seat).about.packets ≤ vec_capacity reader.read }
     requires batch { (0 < vec_len reader.batch) × (vec_len reader.batch ≤ 64) }
-    ensures { HasRead tap.now result.seat result.read.items × IsReaderDone result.seat × ReadsOn reader.seat result.seat }
+    ensures { HasRead run.now.tap.now result.seat result.read.items × IsReaderDone result.seat × ReadsOn reader.seat result.seat }
 {
     read_all(
         rt,
-        tap,
-        senders,
+        run,
         &mut reader.seat,
         &mut reader.read,
         reader.batch.as_mut_slice(),
-        gate,
     );
     reader
 }

@@ -12,6 +12,7 @@ ghost use Rattle.lq_tap_run.specs.Runs.{AreSplit, HasJoined};
 use crate::fates::{mark_full, mark_read, unknown};
 use crate::lanes::{Lane, all_put};
 use crate::reader::{Reader, all_read};
+use crate::shared::Run;
 use lq_gate::Gate;
 use lq_model::NoMemory;
 use lq_tap::{Tap, TapSeat, senders_in_order};
@@ -84,90 +85,105 @@ fn make_reader(alloc: Global, packets: u32, batch: u32, seat: TapSeat) -> Result
 }
 
 /// The senders and the reader side by side, or the senders first where no further thread can be had.
-fn put_and_read<R: Threads + Wait + Sync, G: Gate>(
+fn put_and_read<'r, R: Threads + Wait + Sync, G: Gate>(
     rt: &R,
-    tap: &Tap,
-    packets: u32,
-    senders: u32,
+    run: &Run<'r, G>,
     lanes: Vec<Lane>,
     reader: Reader,
-    gate: &G,
 ) -> (Vec<Lane>, Reader)
-    requires made { (len : ℕ) × IsMadeFor packets len senders tap.now }
-    requires few { (packets ≤ 1000000) × (senders ≤ 8) × (0 < senders) }
-    requires count { length lanes.items ≡ senders }
-    requires ready { AreReady tap.now packets senders lanes.items }
-    requires read { HasRead tap.now reader.seat reader.read.items }
-    requires room { packets ≤ vec_capacity reader.read }
+    requires made { (len : ℕ) × IsMadeFor run.now.packets len run.now.senders run.now.tap.now }
+    requires few { (run.now.packets ≤ 1000000) × (run.now.senders ≤ 8) × (0 < run.now.senders) }
+    requires count { length lanes.items ≡ run.now.senders }
+    requires ready { AreReady run.now.tap.now run.now.packets run.now.senders lanes.items }
+    requires read { HasRead run.now.tap.now reader.seat reader.read.items }
+    requires room { run.now.packets ≤ vec_capacity reader.read }
     requires batch { (0 < vec_len reader.batch) × (vec_len reader.batch ≤ 64) }
-    ensures lanes { AreDone tap.now packets senders result.0.items × (length result.0.items ≡ senders) }
-    ensures reader { HasRead tap.now result.1.seat result.1.read.items × IsReaderDone result.1.seat × ReadsOn reader.seat result.1.seat }
+    ensures lanes { AreDone run.now.tap.now run.now.packets run.now.senders result.0.items × (length result.0.items ≡ run.now.senders) }
+    ensures reader { HasRead run.now.tap.now result.1.seat result.1.read.items × IsReaderDone result.1.seat × ReadsOn reader.seat result.1.seat }
 {
+    // Each side makes a `Run` of its own: of a closure that captures this one `join` would tell nothing.
+    let Run {
+        tap,
+        packets,
+        senders,
+        gate,
+    } = *run;
     thread::join(
         rt,
         move || -> Vec<Lane>
             requires { ((len : ℕ) × IsMadeFor packets len senders tap.now) × (packets ≤ 1000000) × (senders ≤ 8) × (0 < senders)
                 × (length lanes.items ≡ senders) × AreReady tap.now packets senders lanes.items }
             ensures { AreDone tap.entry.now packets senders result.items × (length result.items ≡ senders) }
-        { all_put(rt, tap, packets, senders, lanes, gate) },
+        {
+            let shared = Run {
+                tap,
+                packets,
+                senders,
+                gate,
+            };
+            all_put(rt, &shared, lanes)
+        },
         move || -> Reader
             requires { HasRead tap.now reader.seat reader.read.items × ((view reader.seat).about.packets ≤ vec_capacity reader.read)
                 × (0 < vec_len reader.batch) × (vec_len reader.batch ≤ 64) }
             ensures { HasRead tap.entry.now result.seat result.read.items × IsReaderDone result.seat × ReadsOn reader.seat result.seat }
-        { all_read(rt, tap, senders, reader, gate) },
+        {
+            let shared = Run {
+                tap,
+                packets,
+                senders,
+                gate,
+            };
+            all_read(rt, &shared, reader)
+        },
     )
 }
 
 /// Joins all senders' seats into the reader's, and marks what they found full.
-fn join_all(
-    tap: &Tap,
-    packets: u32,
-    senders: u32,
+fn join_all<'r, G: Gate>(
+    run: &Run<'r, G>,
     seat: &mut TapSeat,
     mut lanes: Vec<Lane>,
     fates: &mut Vec<TapFate>,
 )
-    requires senders { 0 < senders }
-    requires seat { AreSplit tap.now senders senders seat.old × IsReaderDone seat.old }
-    requires lanes { AreDone tap.now packets senders lanes.items × (length lanes.items ≡ senders) }
-    requires fates { AreMarkedFull packets [] fates.old.items }
-    ensures joined { HasJoined tap.now packets senders 0 seat.new × IsSettled (view seat.new) }
+    requires senders { 0 < run.now.senders }
+    requires seat { AreSplit run.now.tap.now run.now.senders run.now.senders seat.old × IsReaderDone seat.old }
+    requires lanes { AreDone run.now.tap.now run.now.packets run.now.senders lanes.items × (length lanes.items ≡ run.now.senders) }
+    requires fates { AreMarkedFull run.now.packets [] fates.old.items }
+    ensures joined { HasJoined run.now.tap.now run.now.packets run.now.senders 0 seat.new × IsSettled (view seat.new) }
     ensures reader { ((view seat.new).reader.taken ≡ (view seat.old).reader.taken) × ((view seat.new).reader.destroyed ≡ (view seat.old).reader.destroyed) }
-    ensures fates { AreMarkedFull packets (view seat.new).sender.fulls fates.new.items }
+    ensures fates { AreMarkedFull run.now.packets (view seat.new).sender.fulls fates.new.items }
 {
     while let Some(lane) = lanes.pop() {
         let Lane { seat: from, full } = lane;
         mark_full(fates, &full);
-        tap.join(seat, from);
+        run.tap.join(seat, from);
     }
 }
 
 /// The fates, once the senders and the reader are done.
-fn decide(
-    tap: &Tap,
-    packets: u32,
-    senders: u32,
-    len: u32,
+fn decide<'r, G: Gate>(
+    run: &Run<'r, G>,
     reader: Reader,
     lanes: Vec<Lane>,
     mut fates: Vec<TapFate>,
 ) -> Tapped
-    requires made { IsMadeFor packets len senders tap.now }
-    requires few { (packets ≤ 1000000) × (0 < senders) }
-    requires read { HasRead tap.now reader.seat reader.read.items }
+    requires made { (len : ℕ) × IsMadeFor run.now.packets len run.now.senders run.now.tap.now }
+    requires few { (run.now.packets ≤ 1000000) × (0 < run.now.senders) }
+    requires read { HasRead run.now.tap.now reader.seat reader.read.items }
     requires over { IsReaderDone reader.seat }
-    requires split { AreSplit tap.now senders senders reader.seat }
-    requires lanes { AreDone tap.now packets senders lanes.items × (length lanes.items ≡ senders) }
-    requires fates { AreMarkedFull packets [] fates.items }
-    ensures { IsTapRun packets senders len result.fates.items result.read.items }
+    requires split { AreSplit run.now.tap.now run.now.senders run.now.senders reader.seat }
+    requires lanes { AreDone run.now.tap.now run.now.packets run.now.senders lanes.items × (length lanes.items ≡ run.now.senders) }
+    requires fates { AreMarkedFull run.now.packets [] fates.items }
+    ensures { (len : ℕ) → IsMadeFor run.now.packets len run.now.senders run.now.tap.now
+        → IsTapRun run.now.packets run.now.senders len result.fates.items result.read.items }
 {
-    let _ = len;
     let Reader {
         mut seat,
         read,
         batch: _,
     } = reader;
-    join_all(tap, packets, senders, &mut seat, lanes, &mut fates);
+    join_all(run, &mut seat, lanes, &mut fates);
     mark_read(&mut fates, &read);
     Tapped { fates, read }
 }
@@ -195,7 +211,13 @@ pub fn tap_all<R: Threads + Wait + Sync, G: Gate>(
     let (tap, mut seat) = Tap::make(alloc, packets, len, senders)?;
     let lanes = make_lanes(alloc, &tap, packets, senders, &mut seat)?;
     let reader = make_reader(alloc, packets, batch, seat)?;
-    let (lanes, reader) = put_and_read(rt, &tap, packets, senders, lanes, reader, gate);
-    let tapped = decide(&tap, packets, senders, len, reader, lanes, fates);
+    let run = Run {
+        tap: &tap,
+        packets,
+        senders,
+        gate,
+    };
+    let (lanes, reader) = put_and_read(rt, &run, lanes, reader);
+    let tapped = decide(&run, reader, lanes, fates);
     Ok(tapped)
 }

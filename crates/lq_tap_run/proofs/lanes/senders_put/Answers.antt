@@ -13,6 +13,6 @@ returns g c = λ i lane at. (
     let same : length c.for_each_mut.new.s ≡ length c.args.lanes.now = c.for_each_mut.auto.s in
     let lt : i < length c.args.lanes.now = subst (λ k. i < k) same (slice_get_within c.for_each_mut.new.s i lane at) in
     let done = (c.for_each_mut.ensures i lane lt).1 in
-    let is : IsLaneDone c.args.tap.now c.args.packets c.args.senders i done.after_call.now = assumption (done.call) in
-    subst (λ (l : Lane). IsLaneDone c.args.tap.now c.args.packets c.args.senders i l) (done.left ∙ get_or_from_slice_get c.for_each_mut.new.s i lane lane at) is
+    let is : IsLaneDone c.args.run.now.tap.now c.args.run.now.packets c.args.run.now.senders i done.after_call.now = assumption (done.call) in
+    subst (λ (l : Lane). IsLaneDone c.args.run.now.tap.now c.args.run.now.packets c.args.run.now.senders i l) (done.left ∙ get_or_from_slice_get c.for_each_mut.new.s i lane lane at) is
     )

@@ -6,7 +6,7 @@ use Rattle.lq_tap_run.proofs.reader.read_all.Given as goal
 
 abbrev pub invariant-loop : goal.invariant-loop
 invariant-loop g l = record {
-  read : HasRead l.tap l.seat l.read.items;
+  read : HasRead l.run.tap.now l.seat l.read.items;
   on : ReadsOn l.fn.seat l.seat;
   room : (view l.fn.seat).about.packets ≤ vec_capacity l.read;
   long : length l.batch ≡ length l.fn.batch;

@@ -8,25 +8,25 @@ use Rattle.lq_tap_run.proofs.Seating.{full_below, last_done, once_joined, rest_d
 use Rattle.lq_tap_run.proofs.run.join_all.Goals as goal
 
 pub mark_full-requires : goal.mark_full-requires
-mark_full-requires c =
+mark_full-requires g c =
     let inv = c.loop-lane.invariant in
     let lane = c.in-Some.lane in
     let rest : List Lane = c.pop.new.self.items in
-    let done = last_done c.args.tap.now c.args.packets c.args.senders c.loop-lane.lanes.items rest lane inv.lanes c.in-Some.ensures.items in
+    let done = last_done c.args.run.now.tap.now c.args.run.now.packets c.args.run.now.senders c.loop-lane.lanes.items rest lane inv.lanes c.in-Some.ensures.items in
     record {
       known = subst (λ (fs : List (ℕ × ℕ)). All (λ n. n < length c.loop-lane.fates.items) (numbers_of fs)) (sym c.deref.ensures.value)
-          (full_below c.args.tap.now c.args.packets c.args.senders (length rest) (length c.loop-lane.fates.items) lane done inv.marked.long);
+          (full_below c.args.run.now.tap.now c.args.run.now.packets c.args.run.now.senders (length rest) (length c.loop-lane.fates.items) lane done inv.marked.long);
     }
 
 pub join-requires-clause-other : goal.join-requires-clause-other
-join-requires-clause-other c =
+join-requires-clause-other g c =
     let inv = c.loop-lane.invariant in
     let rest : List Lane = c.pop.new.self.items in
-    let done = last_done c.args.tap.now c.args.packets c.args.senders c.loop-lane.lanes.items rest c.in-Some.lane inv.lanes c.in-Some.ensures.items in
+    let done = last_done c.args.run.now.tap.now c.args.run.now.packets c.args.run.now.senders c.loop-lane.lanes.items rest c.in-Some.lane inv.lanes c.in-Some.ensures.items in
     (done.seat, done.over)
 
 pub loop-lane-preserved : goal.loop-lane-preserved
-loop-lane-preserved c =
+loop-lane-preserved g c =
     let inv = c.loop-lane.invariant in
     let lane = c.in-Some.lane in
     let rest : List Lane = c.pop.new.self.items in
@@ -35,7 +35,7 @@ loop-lane-preserved c =
     let more = c.in-Some.ensures.len in
     let long : length rest ≡ left = omega arith in
     let one : c.loop-lane.lanes.len ≡ left + 1 = omega arith in
-    let done = last_done c.args.tap.now c.args.packets c.args.senders c.loop-lane.lanes.items rest lane inv.lanes c.in-Some.ensures.items in
+    let done = last_done c.args.run.now.tap.now c.args.run.now.packets c.args.run.now.senders c.loop-lane.lanes.items rest lane inv.lanes c.in-Some.ensures.items in
     let old : View = view c.loop-lane.seat in
     let from : View = view lane.seat in
     let new : View = view c.join.new.into in
@@ -49,15 +49,15 @@ loop-lane-preserved c =
       joined = record {
         reader = c.join.ensures.seat;
         out_is = out;
-        once = once_joined c.args.packets c.args.senders left from old new is
-            (λ m. subst (λ k. brought_by_lane m old ≡ one_where (leb k (m % c.args.senders) && ltb m c.args.packets)) one (inv.joined.once m))
-            (λ m. subst (λ k. brought_by_lane m from ≡ one_where (eqb (m % c.args.senders) k && ltb m c.args.packets)) long (done.once m));
+        once = once_joined c.args.run.now.packets c.args.run.now.senders left from old new is
+            (λ m. subst (λ k. brought_by_lane m old ≡ one_where (leb k (m % c.args.run.now.senders) && ltb m c.args.run.now.packets)) one (inv.joined.once m))
+            (λ m. subst (λ k. brought_by_lane m from ≡ one_where (eqb (m % c.args.run.now.senders) k && ltb m c.args.run.now.packets)) long (done.once m));
       };
       settled = λ none. c.join.ensures.settled (out ∙ none) over;
       over = over;
       taken = ap (λ (v : View). v.reader.taken) is ∙ inv.taken;
       destroyed = ap (λ (v : View). v.reader.destroyed) is ∙ inv.destroyed;
-      marked = subst (λ (fs : List (ℕ × ℕ)). AreMarkedFull c.args.packets fs c.mark_full.new.fates.items) (sym fulls) (c.mark_full.ensures c.args.packets old.sender.fulls inv.marked);
-      lanes = rest_done c.args.tap.now c.args.packets c.args.senders c.loop-lane.lanes.items rest lane inv.lanes c.in-Some.ensures.items;
+      marked = subst (λ (fs : List (ℕ × ℕ)). AreMarkedFull c.args.run.now.packets fs c.mark_full.new.fates.items) (sym fulls) (c.mark_full.ensures c.args.run.now.packets old.sender.fulls inv.marked);
+      lanes = rest_done c.args.run.now.tap.now c.args.run.now.packets c.args.run.now.senders c.loop-lane.lanes.items rest lane inv.lanes c.in-Some.ensures.items;
       few = (let few = inv.few in omega arith);
     }

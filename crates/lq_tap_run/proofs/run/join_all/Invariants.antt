@@ -8,16 +8,16 @@ use Rattle.lq_tap_run.specs.Runs.{HasJoined}
 use Rattle.lq_tap_run.proofs.run.join_all.Given as goal
 
 abbrev pub invariant-loop-lane : goal.invariant-loop-lane
-invariant-loop-lane l = record {
-  joined : HasJoined l.tap l.packets l.senders l.lanes.len l.seat;
+invariant-loop-lane g l = record {
+  joined : HasJoined l.run.tap.now l.run.packets l.run.senders l.lanes.len l.seat;
   settled : l.lanes.len ≡ 0 → IsSettled (view l.seat);
   over : IsReaderDone l.seat;
   taken : (view l.seat).reader.taken ≡ (view l.fn.seat).reader.taken;
   destroyed : (view l.seat).reader.destroyed ≡ (view l.fn.seat).reader.destroyed;
-  marked : AreMarkedFull l.packets (view l.seat).sender.fulls l.fates.items;
-  lanes : AreDone l.tap l.packets l.senders l.lanes.items;
-  few : l.lanes.len ≤ l.senders;
+  marked : AreMarkedFull l.run.packets (view l.seat).sender.fulls l.fates.items;
+  lanes : AreDone l.run.tap.now l.run.packets l.run.senders l.lanes.items;
+  few : l.lanes.len ≤ l.run.senders;
 }
 
 abbrev pub decreases-loop-lane : goal.decreases-loop-lane
-decreases-loop-lane l = l.lanes.len
+decreases-loop-lane g l = l.lanes.len

@@ -1,0 +1,12 @@
+//! What the senders and the reader of a run share.
+use lq_gate::Gate;
+use lq_tap::Tap;
+
+/// The ring of a run, how many packets it is for, how many senders it has, and the gate that all pass.
+#[derive(Drop)]
+pub struct Run<'r, G: Gate> {
+    pub tap: &'r Tap,
+    pub packets: u32,
+    pub senders: u32,
+    pub gate: &'r G,
+}
