@@ -106,7 +106,7 @@ module _ (tap : Tap) (packets senders sender k n : ℕ) (lane : Lane) (may : Can
   some_senders = may.few_senders.0
 
   senders_are : (view lane.seat).about.senders ≡ senders
-  senders_are = ap (λ (s : Setup). s.senders) stands.seat.0.1 ∙ may.made.1.2
+  senders_are = ap (λ (s : Setup). s.senders) stands.seat.0.1 ∙ may.made.2
 
   number_on : n + senders ≡ sender + (k + 1) * senders
   number_on = ap (λ m. m + senders) stands.number ∙ omega arith

@@ -24,7 +24,7 @@ pub record HasBrought (packets senders sender n : ℕ) (v : View) : Type 0 where
 
 -- the tap is one for so many packets and senders
 pub record CanPut (tap : Tap) (packets senders : ℕ) : Type 0 where
-  pub made : (len : ℕ) × IsMadeFor packets len senders tap
+  pub made : IsMadeFor packets tap.len senders tap
   pub few_packets : packets ≤ 1000000
   pub few_senders : (0 < senders) × (senders ≤ 8)
 

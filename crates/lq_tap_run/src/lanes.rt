@@ -1,6 +1,6 @@
 //! What a sender does: it puts its packets, and keeps those that it found full.
 ghost use Rattle.std.specs.Prelude.{◌≡◌, ℕ, ◌+◌, ◌<◌, length};
-ghost use Rattle.lq_tap_run.specs.Lanes.{AreDone, AreReady, CanPut, LaneHasRoom, IsLaneDone, IsLaneReady, LaneStandsAt};
+ghost use Rattle.lq_tap_run.specs.Lanes.{AreDone, AreReady, LaneHasRoom, IsLaneDone, IsLaneReady, LaneStandsAt};
 
 use crate::shared::Run;
 use lq_gate::Gate;
@@ -19,7 +19,6 @@ pub struct Lane {
 
 /// Puts packet `n`, the next of the sender's.
 fn put_next<'r, R: Wait, G: Gate>(rt: &R, run: &Run<'r, G>, lane: &mut Lane, n: u32)
-    requires may { CanPut run.now.tap.now run.now.packets run.now.senders }
     requires stands { (sender : ℕ) × (k : ℕ) × LaneStandsAt run.now.tap.now run.now.packets run.now.senders sender k n lane.old }
     requires next { n < run.now.packets }
     requires room { LaneHasRoom run.now.packets run.now.senders lane.old }
@@ -34,8 +33,7 @@ fn put_next<'r, R: Wait, G: Gate>(rt: &R, run: &Run<'r, G>, lane: &mut Lane, n: 
 
 /// Puts a sender's packets, in ascending number.
 fn put_all<'r, R: Wait, G: Gate>(rt: &R, run: &Run<'r, G>, sender: u32, lane: &mut Lane)
-    requires may { CanPut run.now.tap.now run.now.packets run.now.senders }
-    requires ready { IsLaneReady run.now.tap.now run.now.packets run.now.senders sender lane.old }
+    requires { IsLaneReady run.now.tap.now run.now.packets run.now.senders sender lane.old }
     ensures { IsLaneDone run.now.tap.now run.now.packets run.now.senders sender lane.new }
 {
     let mut n = sender;
@@ -51,8 +49,7 @@ fn put_all<'r, R: Wait, G: Gate>(rt: &R, run: &Run<'r, G>, sender: u32, lane: &m
 
 /// Puts the packets of the sender at this place.
 fn put_from<'r, R: Wait, G: Gate>(rt: &R, run: &Run<'r, G>, place: usize, lane: &mut Lane)
-    requires may { CanPut run.now.tap.now run.now.packets run.now.senders }
-    requires ready { IsLaneReady run.now.tap.now run.now.packets run.now.senders place lane.old }
+    requires { IsLaneReady run.now.tap.now run.now.packets run.now.senders place lane.old }
     ensures { IsLaneDone run.now.tap.now run.now.packets run.now.senders place lane.new }
 {
     put_all(rt, run, place as u32, lane);
@@ -60,7 +57,6 @@ fn put_from<'r, R: Wait, G: Gate>(rt: &R, run: &Run<'r, G>, place: usize, lane: 
 
 /// All senders, side by side.
 fn senders_put<'r, R: Threads + Wait + Sync, G: Gate>(rt: &R, run: &Run<'r, G>, lanes: &mut [Lane])
-    requires may { CanPut run.now.tap.now run.now.packets run.now.senders }
     requires count { length lanes.old ≡ run.now.senders }
     requires ready { AreReady run.now.tap.now run.now.packets run.now.senders lanes.old }
     ensures { AreDone run.now.tap.now run.now.packets run.now.senders lanes.new }
@@ -71,8 +67,7 @@ fn senders_put<'r, R: Threads + Wait + Sync, G: Gate>(rt: &R, run: &Run<'r, G>, 
         lanes,
         threads,
         &|i, lane: &mut Lane|
-            requires { CanPut run.now.tap.now run.now.packets run.now.senders
-                × IsLaneReady run.now.tap.now run.now.packets run.now.senders i lane.old }
+            requires { IsLaneReady run.now.tap.now run.now.packets run.now.senders i lane.old }
             ensures { IsLaneDone run.entry.now.tap.now run.entry.now.packets run.entry.now.senders i lane.new }
         { put_from(rt, run, i, lane) },
     );
@@ -84,7 +79,6 @@ pub fn all_put<'r, R: Threads + Wait + Sync, G: Gate>(
     run: &Run<'r, G>,
     mut lanes: Vec<Lane>,
 ) -> Vec<Lane>
-    requires may { CanPut run.now.tap.now run.now.packets run.now.senders }
     requires count { length lanes.items ≡ run.now.senders }
     requires ready { AreReady run.now.tap.now run.now.packets run.now.senders lanes.items }
     ensures done { AreDone run.now.tap.now run.now.packets run.now.senders result.items }

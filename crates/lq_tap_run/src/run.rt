@@ -4,7 +4,7 @@ ghost use Rattle.lq_tap.specs.Sees.{IsMadeFor, IsReaderOf, setup, view};
 ghost use Rattle.lq_tap.specs.Settled.{IsSettled};
 ghost use Rattle.lq_tap.specs.Views.{counting, first_view};
 ghost use Rattle.lq_tap_fates.specs.Fates.{IsTapRun, IsTapWithin};
-ghost use Rattle.lq_tap_run.specs.Lanes.{AreDone, AreReady};
+ghost use Rattle.lq_tap_run.specs.Lanes.{AreDone, AreReady, CanPut};
 ghost use Rattle.lq_tap_run.specs.Marks.{AreMarked, AreMarkedFull};
 ghost use Rattle.lq_tap_run.specs.Reads.{HasRead, IsReaderDone, ReadsOn};
 ghost use Rattle.lq_tap_run.specs.Runs.{AreSplit, HasJoined};
@@ -91,8 +91,6 @@ fn put_and_read<'r, R: Threads + Wait + Sync, G: Gate>(
     lanes: Vec<Lane>,
     reader: Reader,
 ) -> (Vec<Lane>, Reader)
-    requires made { (len : ℕ) × IsMadeFor run.now.packets len run.now.senders run.now.tap.now }
-    requires few { (run.now.packets ≤ 1000000) × (run.now.senders ≤ 8) × (0 < run.now.senders) }
     requires count { length lanes.items ≡ run.now.senders }
     requires ready { AreReady run.now.tap.now run.now.packets run.now.senders lanes.items }
     requires read { HasRead run.now.tap.now reader.seat reader.read.items }
@@ -111,8 +109,7 @@ fn put_and_read<'r, R: Threads + Wait + Sync, G: Gate>(
     thread::join(
         rt,
         move || -> Vec<Lane>
-            requires { ((len : ℕ) × IsMadeFor packets len senders tap.now) × (packets ≤ 1000000) × (senders ≤ 8) × (0 < senders)
-                × (length lanes.items ≡ senders) × AreReady tap.now packets senders lanes.items }
+            requires { CanPut tap.now packets senders × (length lanes.items ≡ senders) × AreReady tap.now packets senders lanes.items }
             ensures { AreDone tap.entry.now packets senders result.items × (length result.items ≡ senders) }
         {
             let shared = Run {
@@ -124,7 +121,7 @@ fn put_and_read<'r, R: Threads + Wait + Sync, G: Gate>(
             all_put(rt, &shared, lanes)
         },
         move || -> Reader
-            requires { HasRead tap.now reader.seat reader.read.items × ((view reader.seat).about.packets ≤ vec_capacity reader.read)
+            requires { CanPut tap.now packets senders × HasRead tap.now reader.seat reader.read.items × ((view reader.seat).about.packets ≤ vec_capacity reader.read)
                 × (0 < vec_len reader.batch) × (vec_len reader.batch ≤ 64) }
             ensures { HasRead tap.entry.now result.seat result.read.items × IsReaderDone result.seat × ReadsOn reader.seat result.seat }
         {
@@ -146,7 +143,6 @@ fn join_all<'r, G: Gate>(
     mut lanes: Vec<Lane>,
     fates: &mut Vec<TapFate>,
 )
-    requires senders { 0 < run.now.senders }
     requires seat { AreSplit run.now.tap.now run.now.senders run.now.senders seat.old × IsReaderDone seat.old }
     requires lanes { AreDone run.now.tap.now run.now.packets run.now.senders lanes.items × (length lanes.items ≡ run.now.senders) }
     requires fates { AreMarkedFull run.now.packets [] fates.old.items }
@@ -168,15 +164,12 @@ fn decide<'r, G: Gate>(
     lanes: Vec<Lane>,
     mut fates: Vec<TapFate>,
 ) -> Tapped
-    requires made { (len : ℕ) × IsMadeFor run.now.packets len run.now.senders run.now.tap.now }
-    requires few { (run.now.packets ≤ 1000000) × (0 < run.now.senders) }
     requires read { HasRead run.now.tap.now reader.seat reader.read.items }
     requires over { IsReaderDone reader.seat }
     requires split { AreSplit run.now.tap.now run.now.senders run.now.senders reader.seat }
     requires lanes { AreDone run.now.tap.now run.now.packets run.now.senders lanes.items × (length lanes.items ≡ run.now.senders) }
     requires fates { AreMarkedFull run.now.packets [] fates.items }
-    ensures { (len : ℕ) → IsMadeFor run.now.packets len run.now.senders run.now.tap.now
-        → IsTapRun run.now.packets run.now.senders len result.fates.items result.read.items }
+    ensures { IsTapRun run.now.packets run.now.senders run.now.tap.now.len result.fates.items result.read.items }
 {
     let Reader {
         mut seat,

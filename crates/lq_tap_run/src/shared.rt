@@ -1,4 +1,6 @@
 //! What the senders and the reader of a run share.
+ghost use Rattle.lq_tap_run.specs.Lanes.{CanPut};
+
 use lq_gate::Gate;
 use lq_tap::Tap;
 
@@ -9,4 +11,5 @@ pub struct Run<'r, G: Gate> {
     pub packets: u32,
     pub senders: u32,
     pub gate: &'r G,
+    pub ghost may: { CanPut tap.now packets senders },
 }

@@ -7,5 +7,5 @@ loop-n-preserved g c =
       stands = c.put_next.ensures.stands c.args.sender c.loop-n.k own.stands;
       room = c.put_next.ensures.room;
       few = let test = c.loop-n-test.true in omega arith;
-      less = let less = own.less in let some = c.requires.may.few_senders.0 in omega arith;
+      less = let less = own.less in let some = c.args.run.now.may.few_senders.0 in omega arith;
     }

@@ -6,7 +6,7 @@ use Rattle.lq_tap_run.proofs.lanes.senders_put.Goals as goal
 
 pub for_each_mut-requires-clause-accepts : goal.for_each_mut-requires-clause-accepts
 for_each_mut-requires-clause-accepts g c κs within =
-    λ i p lt at. ((c.requires.may, c.requires.ready i p.now (slice_get-get_or c.args.lanes.now i p.now lt ∙ ap Some (sym at))), search rules)
+    λ i p lt at. (c.requires.ready i p.now (slice_get-get_or c.args.lanes.now i p.now lt ∙ ap Some (sym at)), search rules)
 
 pub returns : goal.returns
 returns g c = λ i lane at. (
