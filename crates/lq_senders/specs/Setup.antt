@@ -153,6 +153,11 @@ pub record AreTablesReady (plan : Plan) (infos : List Info) (before : List Devic
   pub all : length tables ≡ length plan.stations
   pub spares_are : spares ≡ take (count_by is_swap plan.events) (drop (length plan.stations) devices)
 
+-- the same of the devices of all units, each seen by its state
+abbrev pub AreUnitsReady : {D : Type 0} → (D → DeviceState) → Plan → List Info → List DeviceState → Units D → Type 0
+AreUnitsReady state plan infos before units =
+    AreTablesReady plan infos before units.stations.tables.items units.stations.cpus.items (map state units.spares.items)
+
 -- WHAT COMES BACK
 
 -- each station lies in its closed table

@@ -76,7 +76,8 @@ pub fn end_run<'r, 'a, R: Wait, D: TxDevice, G: Gate>(
     others: Vec<Sender<D>>,
 )
     requires sendable { IsSendable run.now.plan.now run.now.infos.now }
-    requires first { LaneDone run.now.plan.now run.now.infos.now 0 run.now.tables.now cpus.old.items × AreFirst (length others.items) cpus.old.items }
+    requires first { LaneDone run.now.plan.now run.now.infos.now 0 run.now.tables.now cpus.old.items
+        × AreFirst (length others.items) cpus.old.items }
     requires others { AreDoneLanes run.now.plan.now run.now.infos.now run.now.tables.now others.items }
     requires senders { length others.items + 1 ≡ run.now.plan.now.senders }
     requires few { length run.now.plan.now.stations ≤ 256 }

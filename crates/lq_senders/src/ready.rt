@@ -2,7 +2,7 @@
 ghost use Rattle.std.specs.Prelude.{◌≡◌, ◌≤◌, ◌+◌, IfOk, OnOk, OnErr, drop, map, vec_len, vec_capacity};
 ghost use Rattle.lq_senders.specs.Fates.{identities_of};
 ghost use Rattle.lq_senders.specs.Lanes.{IsSendable};
-ghost use Rattle.lq_senders.specs.Setup.{AreTablesReady, HasRoomForUnits};
+ghost use Rattle.lq_senders.specs.Setup.{AreUnitsReady, HasRoomForUnits};
 ghost use Rattle.lq_model.specs.Plan.{unit_count};
 
 use crate::setup::{Stations, configure_units, open_all, room_apart, room_for};
@@ -49,7 +49,7 @@ pub fn make_ready<'a, D: TxDevice>(
     requires sendable { IsSendable plan.now infos.now }
     requires devices { unit_count plan.now ≤ vec_len bench.old }
     requires room { HasRoomForUnits plan.now units }
-    ensures ready { IfOk result (λ u. AreTablesReady plan.now infos.now (map D.state bench.old.items) u.stations.tables.items u.stations.cpus.items (map D.state u.spares.items)) }
+    ensures ready { IfOk result (λ u. AreUnitsReady D.state plan.now infos.now (map D.state bench.old.items) u) }
     ensures rest { OnOk result (bench.new.items ≡ drop (unit_count plan.now) bench.old.items) }
     ensures less { OnOk result (unit_count plan.now + vec_len bench.new ≡ vec_len bench.old) }
     ensures back_room { OnOk result (vec_len bench.new + unit_count plan.now ≤ vec_capacity bench.new) }

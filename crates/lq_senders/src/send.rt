@@ -3,7 +3,7 @@ ghost use Rattle.std.specs.Prelude.{◌≡◌, ◌≤◌, ◌+◌, ◌++◌, [],
 ghost use Rattle.lq_senders.specs.Fates.{AreEnded, AreFatesOf, identities_of};
 ghost use Rattle.lq_table.specs.Ended.{ended_state};
 ghost use Rattle.lq_senders.specs.Lanes.{IsSendable};
-ghost use Rattle.lq_senders.specs.Setup.{AreTablesReady, HasRoomForRun, IsRunBy};
+ghost use Rattle.lq_senders.specs.Setup.{AreUnitsReady, HasRoomForRun, IsRunBy};
 ghost use Rattle.lq_model.specs.Device.{DeviceState};
 ghost use Rattle.lq_model.specs.Plan.{unit_count};
 
@@ -30,7 +30,7 @@ use std::thread::Threads;
 
 /// What a run leaves.
 #[derive(Drop)]
-struct Left<D: TxDevice> {
+struct Results<D: TxDevice> {
     /// Packet n has the n-th fate.
     fates: Vec<Fate>,
     /// What stays of each station.
@@ -45,19 +45,17 @@ fn send_ready<'r, 'a, R: Threads + Wait + Sync, D: TxDevice, G: Gate>(
     units: Units<'a, D>,
     mut room: Room<D>,
     bench: &mut Vec<D>,
-) -> Left<D>
+) -> Results<D>
     requires sendable { IsSendable job.now.plan.now job.now.infos.now }
-    requires ready { (before : List DeviceState)
-        × AreTablesReady job.now.plan.now job.now.infos.now before units.stations.tables.items units.stations.cpus.items (map D.state units.spares.items) }
+    requires ready { (before : List DeviceState) × AreUnitsReady D.state job.now.plan.now job.now.infos.now before units }
     requires room { HasRoomForRun job.now.plan.now (length job.now.infos.now) room }
     requires bench_room { vec_len bench.old + unit_count job.now.plan.now ≤ vec_capacity bench.old }
-    ensures fates { (before : List DeviceState)
-        → AreTablesReady job.now.plan.now job.now.infos.now before units.entry.stations.tables.items units.entry.stations.cpus.items (map D.state units.entry.spares.items)
+    ensures fates { (before : List DeviceState) → AreUnitsReady D.state job.now.plan.now job.now.infos.now before units.entry
         → AreFatesOf job.now.plan.now job.now.infos.now result.fates.items before (map D.state bench.new.items) }
     ensures ended { AreEnded job.now.plan.now job.now.infos.now result.fates.items (map ended_state result.ended.items) }
-    ensures boxes { (before : List DeviceState)
-        → AreTablesReady job.now.plan.now job.now.infos.now before units.entry.stations.tables.items units.entry.stations.cpus.items (map D.state units.entry.spares.items)
-        → identities_of (map D.state bench.new.items) ≡ take (unit_count job.now.plan.now) (identities_of before) ++ identities_of (map D.state bench.old.items) }
+    ensures boxes { (before : List DeviceState) → AreUnitsReady D.state job.now.plan.now job.now.infos.now before units.entry
+        → identities_of (map D.state bench.new.items)
+        ≡ take (unit_count job.now.plan.now) (identities_of before) ++ identities_of (map D.state bench.old.items) }
     ensures rest { drop (unit_count job.now.plan.now) bench.new.items ≡ bench.old.items }
     ensures len { vec_len bench.new ≡ unit_count job.now.plan.now + vec_len bench.old }
 {
@@ -89,7 +87,7 @@ fn send_ready<'r, 'a, R: Threads + Wait + Sync, D: TxDevice, G: Gate>(
     read_fates(room.closed.as_slice(), job.infos, &mut room.fates);
     take_apart(room.closed, &mut room.homes, &mut room.ended);
     hand_back(job.plan, room.homes, spares, bench);
-    Left {
+    Results {
         fates: room.fates,
         ended: room.ended,
     }

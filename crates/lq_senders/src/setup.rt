@@ -110,12 +110,14 @@ fn open_stations<'a, D: TxDevice>(
     requires configured { (before : List DeviceState)
         × AreConfigured plan.now infos.now (length plan.now.stations) before (map D.state bench.old.items) }
     requires none_yet { (stations.old.tables.items ≡ []) × (stations.old.cpus.items ≡ []) }
-    requires room { (length plan.now.stations ≤ vec_capacity stations.old.tables) × (length plan.now.stations ≤ vec_capacity stations.old.cpus) }
+    requires room { (length plan.now.stations ≤ vec_capacity stations.old.tables)
+        × (length plan.now.stations ≤ vec_capacity stations.old.cpus) }
     ensures opened { AreOpened plan.now infos.now (map D.state bench.old.items) stations.new.tables.items stations.new.cpus.items }
     ensures few { vec_len stations.new.tables ≤ length plan.now.stations }
     ensures all { OnOk result (vec_len stations.new.tables ≡ length plan.now.stations) }
     ensures states { map D.state bench.new.items ≡ drop (vec_len stations.new.tables) (map D.state bench.old.items) }
-    ensures others { drop (length plan.now.stations - vec_len stations.new.tables) bench.new.items ≡ drop (length plan.now.stations) bench.old.items }
+    ensures others { drop (length plan.now.stations - vec_len stations.new.tables) bench.new.items
+        ≡ drop (length plan.now.stations) bench.old.items }
     ensures len { vec_len stations.new.tables + vec_len bench.new ≡ vec_len bench.old }
     ensures capacity { vec_capacity bench.new ≡ vec_capacity bench.old }
 {
