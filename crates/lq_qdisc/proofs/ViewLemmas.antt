@@ -5,9 +5,9 @@ use Rattle.lq_table.specs.Views.{View, Setup}
 use Rattle.lq_table.specs.Made.{Known}
 use Rattle.lq_table.specs.Told.{entering, passing}
 use Rattle.lq_table.specs.Solo.{solo}
-use Rattle.lq_qdisc.proofs.ViewRelations.{Attempts, Directs, FollowsDirect, Goes, GoesPast, GoesThrough, GoesThroughHeld, Hands, Interrupts, LastTurn, Runs, RunsToEnd, Sends, Transmits, TriesToPass}
+use Rattle.lq_qdisc.proofs.ViewRelations.{Attempts, Directs, FollowsDirect, Goes, GoesPast, GoesThrough, GoesThroughHeld, Hands, Interrupts, LastTurn, Runs, RunsToEnd, Sends, TriesToPass}
 use Rattle.lq_qdisc.specs.Sends.{Enqueues}
-use Rattle.lq_qdisc.specs.Steps.{AttemptsBy, DirectsBy, EndsBy, EnqueuesBy, FollowsBy, GoesBy, GoesHeldBy, GoesPastBy, GoesThroughBy, HandsBy, InterruptsBy, RunsBy, RunsToEndBy, SendsBy, TransmitsBy, TriesToPassBy, transmit_begun, with_state_loaded}
+use Rattle.lq_qdisc.specs.Steps.{AttemptsBy, DirectsBy, EndsBy, EnqueuesBy, FollowsBy, GoesBy, GoesHeldBy, GoesPastBy, GoesThroughBy, HandsBy, InterruptsBy, RunsBy, RunsToEndBy, SendsBy, TriesToPassBy, with_state_loaded}
 use Rattle.lq_qdisc.specs.declared.answers.Ran.{Ran}
 use Rattle.lq_qdisc.specs.declared.answers.RunEnd.{RunEnd}
 use Rattle.lq_qdisc.specs.declared.answers.RunEnd.TheVariants as end
