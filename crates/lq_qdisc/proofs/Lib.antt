@@ -15,7 +15,6 @@ pub mod AlonePast
 pub mod AloneSteps
 pub mod AloneCalls
 pub mod SendLemmas
-pub mod RaisedLemmas
 -- when the first seat's packet is refused
 pub mod FirstLemmas
 pub mod TransmitLemmas

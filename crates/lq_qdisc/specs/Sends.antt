@@ -9,7 +9,7 @@ use Rattle.lq_run.specs.Runs.{HasNone, after_got, after_missed, after_begin, end
 use Rattle.lq_ring.specs.Put.{no_locks, putting, dropping_full as dropped}
 use Rattle.lq_table.specs.Views.{View, Setup, no_packets}
 use Rattle.lq_table.specs.Made.{Known, Made, ◌⊳◌, did_load_stop, did_wake, did_set_sched}
-use Rattle.lq_table.specs.Told.{is_set, looking, on_trail, bringing, entering, passing, paying, schedules, scheduling, waking, refusing as refused}
+use Rattle.lq_table.specs.Told.{is_set, looking, on_trail, bringing, entering, passing, paying, scheduling, waking, refusing as refused}
 use Rattle.lq_table.specs.Solo.{IsSole, IsAccounts, account_of, solo, heard, sched_cleared, sched_set, SeesState}
 use Rattle.lq_table.specs.SolePut.{SeesEnd}
 use Rattle.lq_table.specs.Sees.{view, IsSameSeat}
@@ -136,10 +136,6 @@ pub record IsDue (due : Bool) (old new : View) : Type 0 where
   pub active : is_set 2 first ≡ false → (due ≡ true) × (new ≡ passing (looking first old))
   pub deactivated : is_set 2 first ≡ true → (second : ℕ) × (due ≡ not (is_set 2 second)) × (new ≡ looking second (passing (looking first old))) × (solo new ≡ sched_cleared (solo old))
       × (IsSole old → is_set 2 second ≡ is_some (account_of old).down)
-
--- After it the seat is raised only where it set SCHED after that was cleared: as its run ended.
-abbrev pub IsRaisedAgain : View → Type 0
-IsRaisedAgain new = (new.place.raised ≡ false) ⊎ ((was : Bool) × (before : View) × (schedules before.place.position ≡ true) × (new ≡ passing (scheduling was before)))
 
 -- the stop word of a queue was found other than 1: as it was looked at, or as it was exchanged after that
 abbrev pub FindsOpen : Setup → ℕ → List Made → List Made → Type 0

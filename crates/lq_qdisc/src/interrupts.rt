@@ -10,7 +10,7 @@ ghost use Rattle.lq_table.specs.Solo.{solo};
 ghost use Rattle.lq_table.specs.Told.{at_rest};
 ghost use Rattle.lq_qdisc.specs.Calls.{KeepsFates};
 ghost use Rattle.lq_qdisc.specs.Steps.{InterruptsBy, IsDueBy};
-ghost use Rattle.lq_qdisc.specs.Sends.{IsCallKept, IsRaisedAgain, IsReadyToSend, IsStill, Wakes, WakesBelow};
+ghost use Rattle.lq_qdisc.specs.Sends.{IsCallKept, IsReadyToSend, IsStill, Wakes, WakesBelow};
 
 use crate::sends::{attempt, is_deactivated};
 use lq_device::TxDevice;
@@ -31,7 +31,6 @@ pub fn softirq<'a, D: TxDevice>(shared: &Shared<'a, D>, cpu: &mut Cpu<D>)
     ensures ready { IsReadyToSend cpu.new }
     ensures still { IsStill (view cpu.old) (view cpu.new) }
     ensures interrupts { InterruptsBy (setup shared.now) (known cpu.old) (known cpu.new) }
-    ensures again { IsRaisedAgain (view cpu.new) }
     ensures alone { BringsAlone shared.now.infos.now (first_account (setup shared.now)) (λ s. s) (solo (view cpu.old)) (solo (view cpu.new)) }
 {
     shared.enter(cpu);

@@ -5,7 +5,7 @@ ghost use Rattle.lq_model.specs.declared.fate.Fate.TheVariants.{Refused};
 ghost use Rattle.lq_model.specs.declared.machine.Attempt.{Attempt};
 ghost use Rattle.lq_model.specs.declared.machine.Attempt.TheVariants.{Direct as ToPass};
 ghost use Rattle.lq_model.specs.declared.machine.Position.TheVariants.{Check, Gate, Idle, Leave, Put, Recheck, Try1};
-ghost use Rattle.lq_run.specs.Runs.{IsRaisedBySched, begins};
+ghost use Rattle.lq_run.specs.Runs.{begins};
 ghost use Rattle.lq_ring.specs.Put.{no_locks, put_leads_to};
 ghost use Rattle.lq_model.specs.Words.{word_of};
 ghost use Rattle.lq_table.specs.Made.{Known, ◌⊳◌, did_store_fate};
@@ -58,7 +58,6 @@ fn run_to_end<'a, D: TxDevice>(shared: &Shared<'a, D>, cpu: &mut Cpu<D>)
     ensures fates { KeepsFates (view cpu.old) (view cpu.new) }
     ensures at { position cpu.new ≡ Leave }
     ensures left { IsFreeInside cpu.new }
-    ensures sched { IsRaisedBySched (view cpu.old) (view cpu.new) }
     ensures served { RunsToEndBy (setup shared.now) (known cpu.old) (known cpu.new) }
 {
     run(shared, cpu);
@@ -74,7 +73,6 @@ pub(crate) fn attempt<'a, D: TxDevice>(shared: &Shared<'a, D>, cpu: &mut Cpu<D>)
     ensures fates { KeepsFates (view cpu.old) (view cpu.new) }
     ensures at { position cpu.new ≡ Leave }
     ensures left { IsFreeInside cpu.new }
-    ensures sched { IsRaisedBySched (view cpu.old) (view cpu.new) }
     ensures attempted { AttemptsBy (setup shared.now) (known cpu.old) (known cpu.new) }
 {
     if begin(shared, cpu) {

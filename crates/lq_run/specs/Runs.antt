@@ -1,12 +1,12 @@
 -- Where a try of the run lock leads, and what a call leaves as it was.
-use Rattle.std.specs.Prelude.{◌≡◌, ◌⊎◌, ℕ, Bool, true, false, if◌then◌else◌, [], ◌∷◌, Some, None}
+use Rattle.std.specs.Prelude.{◌≡◌, ℕ, Bool, true, false, if◌then◌else◌, [], ◌∷◌, Some, None}
 use Rattle.lq_model.specs.declared.machine.Attempt.TheVariants.{Queued, Direct, Interrupt}
 use Rattle.lq_model.specs.declared.machine.Position.{Position}
 use Rattle.lq_model.specs.declared.machine.Position.TheVariants.{Try1, Recheck, Leave, Put}
 use Rattle.lq_model.specs.Steps.{dequeue_begins}
 use Rattle.lq_table.specs.Views.{View}
 use Rattle.lq_table.specs.Rule.{shown, IsResting}
-use Rattle.lq_table.specs.Told.{seen_by, schedules, scheduling}
+use Rattle.lq_table.specs.Told.{seen_by}
 use Rattle.lq_table.specs.Solo.{Solo, missed_to, sched_set, locked_to}
 use Rattle.lq_table.specs.Sees.{view, slot, IsSameSeat}
 use Rattle.lq_table.specs.declared.shared.Cpu.{Cpu}
@@ -45,12 +45,6 @@ after_begin got s = locked_to true (if got then s else missed_to true s)
 -- the lock is free after the end of a run, and the table scheduled where MISSED is set
 abbrev pub ended : Solo → Solo
 ended s = if s.whole.missed then sched_set s.whole.scheduled (locked_to false s) else locked_to false s
-
--- THE RAISED MARK
-
--- It is as it was, or SCHED was set, which raises the seat where that was clear.
-abbrev pub IsRaisedBySched : View → View → Type 0
-IsRaisedBySched old new = (new.place.raised ≡ old.place.raised) ⊎ ((was : Bool) × (before : View) × (schedules before.place.position ≡ true) × (new ≡ scheduling was before))
 
 -- WHAT A CALL LEAVES
 

@@ -12,7 +12,7 @@ ghost use Rattle.lq_table.specs.Told.{IsKnownSlot, tries_lock, got, finding_lock
 ghost use Rattle.lq_table.specs.Solo.{IsSole, IsAccounts, solo, locked_to, missed_to, sched_set, sched_cleared};
 ghost use Rattle.lq_table.specs.Made.{◌⊳◌, did_clear_sched, did_set_sched};
 ghost use Rattle.lq_run.specs.Tries.{BeginsBy, EndsRun, SetsMissed, TriesOnce};
-ghost use Rattle.lq_run.specs.Runs.{after_got, after_missed, run_got, after_begin, ended, HasStation, HasNone, Rests, IsElseKept, IsEventless, IsRaisedBySched};
+ghost use Rattle.lq_run.specs.Runs.{after_got, after_missed, run_got, after_begin, ended, HasStation, HasNone, Rests, IsElseKept, IsEventless};
 
 use lq_device::TxDevice;
 use lq_model::state::MISSED;
@@ -88,7 +88,6 @@ pub fn end<'a, D: TxDevice>(shared: &Shared<'a, D>, cpu: &mut Cpu<D>)
     ensures at { (position cpu.new ≡ AtLeave) × HasNone cpu.new × ((view cpu.new).holder ≡ (view cpu.old).holder) }
     ensures sole { IsSole (view cpu.old) → solo (view cpu.new) ≡ ended (solo (view cpu.old)) }
     ensures ends { EndsRun (known cpu.old) (known cpu.new) }
-    ensures sched { IsRaisedBySched (view cpu.old) (view cpu.new) }
 {
     shared.move_station(cpu);
     shared.unlock(cpu);
