@@ -1,6 +1,6 @@
 //! A station is activated and deactivated.
-ghost use Rattle.std.specs.Prelude.{◌≡◌, ℕ, ◌∷◌, true, false, List, length};
-ghost use Rattle.lq_model.specs.Account.{Down, Purge, Up, held};
+ghost use Rattle.std.specs.Prelude.{◌≡◌, ℕ, ◌∷◌, true, false};
+ghost use Rattle.lq_model.specs.Account.{Down, Purge, Up};
 ghost use Rattle.lq_model.specs.declared.fate.Cause.TheVariants as cause;
 ghost use Rattle.lq_model.specs.declared.fate.Fate.TheVariants as fate;
 ghost use Rattle.lq_model.specs.declared.plan.EventKind.TheVariants as kind;
@@ -9,12 +9,11 @@ ghost use Rattle.lq_model.specs.declared.machine.Position.TheVariants.{Idle, Con
 ghost use Rattle.lq_table.specs.Controls.{opening};
 ghost use Rattle.lq_table.specs.Views.{first_account};
 ghost use Rattle.lq_table.specs.Sees.{view, known, setup, position, IsSeatOf, IsSameSeat, IsElseSame};
-ghost use Rattle.lq_ring.specs.Fates.{fates_onto};
 ghost use Rattle.lq_qdisc.specs.Sends.{IsReadyToSend};
 ghost use Rattle.lq_control.specs.Steps.{Deactivates, Downs, Ups};
 ghost use Rattle.lq_control.specs.Control.{IsIn, IsKeptByControl, KeepsDevice, deactivated_solo};
 ghost use Rattle.lq_control.specs.Alone.{DoesEventAlone};
-ghost use Rattle.lq_table.specs.Solo.{IsSole, account_of, solo};
+ghost use Rattle.lq_table.specs.Solo.{IsSole, solo};
 
 use crate::drains::wait_until_clear;
 use crate::purges::purge_all;
@@ -76,7 +75,6 @@ pub(crate) fn deactivate<'a, D: TxDevice, R: Wait>(
     ensures same { IsSameSeat cpu.old cpu.new × IsKeptByControl (view cpu.old) (view cpu.new) × KeepsDevice (view cpu.old) (view cpu.new) }
     ensures at { (position cpu.new ≡ Control false) × IsReadyToSend cpu.new × IsIn Purged (view cpu.new) }
     ensures trail { (view cpu.new).trail ≡ Purge (cause.Event event) ∷ Down event ∷ (view cpu.old).trail }
-    ensures purged { (lost : List ℕ) × ((view cpu.new).settled ≡ fates_onto (fate.Purged (cause.Event event)) lost (view cpu.old).settled) × (result ≡ length lost) × (IsSole (view cpu.old) → lost ≡ held (account_of (view cpu.old))) }
     ensures sole { IsSole (view cpu.old) → solo (view cpu.new) ≡ deactivated_solo event (solo (view cpu.old)) }
     ensures deactivates { Deactivates (setup shared.now) event result (known cpu.old) (known cpu.new) }
 {

@@ -82,8 +82,6 @@ pub(crate) fn wait_until_clear<'a, D: TxDevice, R: Wait>(
     ensures same { IsSameSeat cpu.old cpu.new }
     ensures served { IsServed (view cpu.old) (view cpu.new) }
     ensures at { (position cpu.new ≡ Control false) × IsReadyToSend cpu.new }
-    ensures raised { (view cpu.new).place.raised ≡ false }
-    ensures clear { IsSole (view cpu.new) → (view cpu.new).whole.qdisc.sched ≡ false }
     ensures off { IsSole (view cpu.old) → IsSome (account_of (view cpu.old)).down → solo (view cpu.new) ≡ unmarked (solo (view cpu.old)) }
     ensures waits { WaitsUntilClear (setup shared.now) (known cpu.old) (known cpu.new) }
 {

@@ -68,7 +68,6 @@ fn relength<'a, D: TxDevice, R: Wait>(
     ensures at { (position cpu.new ≡ Control false) × IsReadyToSend cpu.new × IsIn Purged (view cpu.new) }
     ensures trail { (view cpu.new).trail ≡ Resize len event ∷ (view cpu.old).trail }
     ensures relengths { Relengths (setup shared.now) event len (known cpu.old) (known cpu.new) }
-    ensures none_lost { (view cpu.new).settled ≡ (view cpu.old).settled }
     ensures sole { IsSole (view cpu.old) → solo (view cpu.new) ≡ locked_to false (heard (Resize len event) (locked_to true (solo (view cpu.old)))) }
 {
     take_lock(rt, shared, cpu);

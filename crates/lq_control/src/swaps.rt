@@ -8,7 +8,7 @@ ghost use Rattle.lq_model.specs.declared.fate.Fate.TheVariants as fate;
 ghost use Rattle.lq_model.specs.declared.machine.Phase.TheVariants.{Active, Purged};
 ghost use Rattle.lq_model.specs.declared.machine.Position.TheVariants.{Idle, Control};
 ghost use Rattle.lq_table.specs.Views.{HolderPart, WholePart, first_account};
-ghost use Rattle.lq_table.specs.Rule.{shown, units_of, latest_unit, station_count, HasServed};
+ghost use Rattle.lq_table.specs.Rule.{shown, station_count};
 ghost use Rattle.lq_table.specs.Controls.{shut_after};
 ghost use Rattle.lq_table.specs.Sees.{view, known, setup, position, slot, IsSeatOf, IsSameSeat, IsElseSame};
 ghost use Rattle.lq_control.specs.Steps.{ExchangesDevice, Swaps, with_queues_opened};
@@ -67,11 +67,7 @@ fn exchange_device<'a, D: TxDevice, R: Wait>(
     ensures same { IsSameSeat cpu.old cpu.new × IsKeptByControl (view cpu.old) (view cpu.new) }
     ensures at { (position cpu.new ≡ Control false) × IsReadyToSend cpu.new × IsIn Purged (view cpu.new) }
     ensures trail { (view cpu.new).trail ≡ Swap unit ∷ (view cpu.old).trail }
-    ensures gone { (view cpu.new).control.gone ≡ (latest_unit shared.now.station (units_of (view cpu.old).trail), (D.state result).accepted) ∷ (view cpu.old).control.gone }
-    ensures served { HasServed shared.now.infos.now shared.now.station (view cpu.old).control.origin (D.state result) }
-    ensures came { (view cpu.new).control.origin ≡ D.state device }
     ensures exchanges { ExchangesDevice (setup shared.now) unit (D.state device) (D.state result) (known cpu.old) (known cpu.new) }
-    ensures none_stored { (view cpu.new).settled ≡ (view cpu.old).settled }
     ensures sole { IsSole (view cpu.old) → solo (view cpu.new) ≡ locked_to false (device_to (D.state device) (heard (Swap unit) (locked_to true (solo (view cpu.old))))) }
 {
     take_lock(rt, shared, cpu);

@@ -1,7 +1,6 @@
 use Rattle.std.proofs.Common.{◌≡◌, sym, ap, ◌∙◌, subst, ℕ}
 use Rattle.std.proofs.lemmas.Option.{same_Some}
 use Rattle.lq_account.specs.Trail.{down_of}
-use Rattle.lq_model.specs.declared.fate.Fate.TheVariants as fate
 use Rattle.lq_model.specs.declared.fate.Cause.TheVariants as cause
 use Rattle.lq_table.specs.Views.{View}
 use Rattle.lq_table.specs.Controls.{closing}
@@ -11,23 +10,9 @@ use Rattle.lq_control.specs.Steps.{PurgesBy, WaitsForCalls, with_deactivated_set
 use Rattle.lq_control.proofs.StepLemmas.{both}
 use Rattle.lq_table.specs.Solo.{IsSole}
 use Rattle.lq_table.specs.Told.{got_in_control}
-use Rattle.lq_ring.specs.Fates.{fates_onto}
 use Rattle.lq_control.specs.Control.{all_purged, phased}
-use Rattle.lq_control.proofs.Sole.{purged_held, deactivated_is}
+use Rattle.lq_control.proofs.Sole.{deactivated_is}
 use Rattle.lq_control.proofs.activates.deactivate.Goals as goal
-
-pub returns-clause-purged : goal.returns-clause-purged
-returns-clause-purged g c =
-    let v = view c.args.cpu.now in let event = c.args.event in let q = c.wait_for_calls.ensures.quiet in let got = c.take_lock.ensures.got in let v3 = view c.take_lock.new.cpu in
-    let e2 : view c.wait_for_calls.new.cpu ≡ phased _ q.0 (closing event v) = q.1 ∙ ap (phased _ q.0) c.set_deactivated.ensures.view in
-    let e3 : v3 ≡ got_in_control got.0 (phased _ q.0 (closing event v)) = got.1 ∙ ap (got_in_control got.0) e2 in
-    let p = c.purge_all-purged.ensures.purged in let lost = all_purged v3.holder.slot p.1 in
-    let same : p.0 ≡ event = same_Some _ _ (sym p.2 ∙ ap (λ (x : View). down_of x.trail) e3) in (
-      lost,
-      ap (λ (x : View). x.settled) c.release.ensures.released ∙ (ap (λ (x : View). x.settled) p.3.is ∙ (λ j. fates_onto (fate.Purged (cause.Event (same j))) lost ((ap (λ (x : View). x.settled) e3) j))),
-      p.4,
-      λ sole. purged_held event q.0 got.0 p.1 v v3 e3 sole (c.take_lock.ensures.sole (subst IsSole (sym e2) sole)).1 p.5,
-    )
 
 pub returns-clause-sole : goal.returns-clause-sole
 returns-clause-sole g c sole =

@@ -1,8 +1,7 @@
-use Rattle.std.proofs.Common.{◌≡◌, false, sym, ap, ◌∙◌, subst, arith, ◌∷◌, ◌-◌, Option, Contains}
+use Rattle.std.proofs.Common.{◌≡◌, false, sym, ap, ◌∙◌, subst, arith, ◌-◌, Option, Contains}
 use Rattle.std.specs.Prelude.{is_some}
 use Rattle.std.specs.Option.{unwrap_or}
 use Rattle.lq_device.specs.Station.{StationState}
-use Rattle.lq_model.specs.Device.{DeviceState}
 use Rattle.lq_table.specs.Views.{View, Setup, no_station}
 use Rattle.lq_table.specs.Rule.{HasServed, latest_unit, station_count, units_of}
 use Rattle.lq_table.specs.Controls.{IsExchange, swapping}
@@ -32,26 +31,6 @@ exchange-requires-clause-station g c _ _ =
         small = c.requires.unit.0;
       },
     )
-
-pub returns-clause-served : goal.returns-clause-served
-returns-clause-served g c =
-    let h = (view c.take_lock.new.cpu).holder in let old = (c.change_device-old.ensures.changed h c.take_lock.ensures.station.1).1 in let now = ap (λ (x : Known). x.view) c.change_device-old.ensures.same.3 in
-    let origin = ap (λ (x : View). x.control.origin) now ∙ ap (λ (x : View). x.control.origin) c.take_lock.ensures.got.1 in
-    subst (λ (z : DeviceState × DeviceState). HasServed c.args.shared.now.infos.now c.args.shared.now.station z.0 z.1) (λ j. (origin j, (ap (λ (x : View). x.holder.station.device) now ∙ sym old) j)) c.exchange.ensures.served
-
-pub returns-clause-came : goal.returns-clause-came
-returns-clause-came g c =
-    let changed = (c.change_device-old.ensures.changed (view c.take_lock.new.cpu).holder c.take_lock.ensures.station.1).0 in
-    ap (λ (x : View). x.control.origin) c.release.ensures.released ∙ (ap (λ (x : View). x.control.origin) c.open_queues.ensures.opened.1
-    ∙ (ap (λ (x : View). x.control.origin) c.exchange.ensures.view ∙ ap (λ (o : Option StationState). (unwrap_or o no_station).device) changed))
-
-pub returns-clause-gone : goal.returns-clause-gone
-returns-clause-gone g c =
-    let h = (view c.take_lock.new.cpu).holder in let old = (c.change_device-old.ensures.changed h c.take_lock.ensures.station.1).1 in let now = ap (λ (x : Known). x.view) c.change_device-old.ensures.same.3 in let before = view c.change_device-old.new.cpu in
-    let exchanged = ap (λ (x : View). x.control.gone) c.release.ensures.released ∙ (ap (λ (x : View). x.control.gone) c.open_queues.ensures.opened.1 ∙ ap (λ (x : View). x.control.gone) c.exchange.ensures.view) in
-    let units : before.holder.units ≡ units_of (view c.args.cpu.now).trail = ap (λ (x : View). x.holder.units) now ∙ c.take_lock.ensures.units c.requires.at.1 in
-    let unit = c.exchange.ensures.unit ∙ ap (latest_unit c.args.shared.now.station) units in
-    exchanged ∙ (λ j. (unit j, ((ap (λ (x : View). x.holder.station.device) now ∙ sym old) j).accepted) ∷ (ap (λ (x : View). x.control.gone) now ∙ ap (λ (x : View). x.control.gone) c.take_lock.ensures.got.1) j)
 
 pub returns-clause-sole : goal.returns-clause-sole
 returns-clause-sole g c = λ sole.
