@@ -2,7 +2,7 @@
 ghost use Rattle.std.specs.Prelude.{◌≡◌, IfOk, map, drop, string_bytes};
 ghost use Rattle.std.specs.Process.{exit_status};
 ghost use Rattle.std.specs.Vec.Iter.{into_iter_items};
-ghost use Rattle.lq_device.specs.Bench.{unconfigured};
+ghost use Rattle.lq_device.specs.Bench.{bench_state};
 ghost use Rattle.lq_top.specs.Command.{command_of_words, bytes_of_words};
 ghost use Rattle.lq_top.specs.Names.{MayDo};
 ghost use Rattle.lq_top.specs.Program.{IsCodeOfCall, IsCodeOfFiles, IsCodeOfLine, IsCodeOfWords, TellsTexts, new_bench};
@@ -63,25 +63,15 @@ fn words_of(alloc: Global, texts: &[String]) -> Result<Vec<&str>, AllocError>
     Ok(words)
 }
 
-/// A device of the built-in bench in a box. It was never configured.
-fn new_device(alloc: Global) -> Result<Box<dyn TxDevice>, AllocError>
-    ensures { IfOk result (λ device. ⟦<Box<dyn TxDevice> as TxDevice>⟧.state device ≡ unconfigured) }
-{
-    Ok(Box::new(alloc, BenchDevice::new(alloc))?)
-}
-
-/// The 16 devices of the built-in bench in their boxes, none of them configured.
-fn bench_devices(alloc: Global) -> Result<Vec<Box<dyn TxDevice>>, NoMemory>
-    ensures { IfOk result (λ devices. map ⟦<Box<dyn TxDevice> as TxDevice>⟧.state devices.items ≡ new_bench) }
+/// The 16 devices of the built-in bench, none of them configured.
+fn bench_devices(alloc: Global) -> Result<Vec<BenchDevice>, NoMemory>
+    ensures { IfOk result (λ devices. map bench_state devices.items ≡ new_bench) }
 {
     let Ok(mut devices) = Vec::with_capacity(alloc, DEVICES) else {
         return Err(NoMemory);
     };
     while devices.len() < DEVICES {
-        let Ok(device) = new_device(alloc) else {
-            return Err(NoMemory);
-        };
-        devices.push_reserved(device);
+        devices.push_reserved(BenchDevice::new(alloc));
     }
     Ok(devices)
 }
@@ -104,7 +94,7 @@ fn code_on<R: Threads + Wait + Sync, H: Host, D: TxDevice>(
 }
 
 /// The exit status of the program with these words over a host: the code of the status that [`lqtx`] answers on a bench of 16
-/// boxed devices that were never configured; or 6 where there was no memory for the devices, and then nothing is done.
+/// built-in devices that were never configured; or 6 where there was no memory for the devices, and then nothing is done.
 pub fn run_words<R: Threads + Wait + Sync, H: Host>(
     rt: &R,
     alloc: Global,
@@ -147,7 +137,7 @@ fn code<R: Runtime + AllocGlobal + Threads + Wait + Sync>(rt: &R, args: io::Resu
 }
 
 /// All that `main` does with the arguments that the program was given: `lqtx` with the words behind the program's own name, over
-/// real files, standard output and a bench of 16 boxed devices that were never configured. The exit status is the code of the
+/// real files, standard output and a bench of 16 built-in devices that were never configured. The exit status is the code of the
 /// status that it answers; 6 where there was no memory for the words, the devices or the host; 9 where the arguments can't be had
 /// for another cause, as one that isn't UTF-8.
 pub fn run_program<R: Runtime + AllocGlobal + Threads + Wait + Sync>(
