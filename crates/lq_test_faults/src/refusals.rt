@@ -4,55 +4,108 @@ use lq_test_fixture::{
     EIGHT_STATIONS, HEADER, PLAN, RUN, call, call_on, host_of, host_with, three_frames,
 };
 use lq_top::{Free, Status};
+use std::alloc::Global;
+use std::marker::Sync;
+use std::sync::Wait;
 use std::test::Fail;
+use std::thread::Threads;
 
-const USAGE: &[u8] =
-    b"usage: lqtx run PLAN CAPTURE OUT | lqtx gen NUMBER COUNT OUT | lqtx trace FILE | lqtx tap SENDERS LEN BATCH CAPTURE OUT\n";
+const USAGE: &str =
+    "usage: lqtx run PLAN CAPTURE OUT | lqtx gen NUMBER COUNT OUT | lqtx trace FILE | lqtx tap SENDERS LEN BATCH CAPTURE OUT\n";
 
-/// Command lines that aren't of the table, with the program's own name in front.
-const COMMANDS: [&str; 29] = [
-    "lqtx",
-    "lqtx run",
-    "lqtx run p c",
-    "lqtx run p c o o",
-    "lqtx run p c ",
-    "lqtx run p -c o",
-    "lqtx run - c o",
-    "lqtx Run p c o",
-    "lqtx p run c o",
-    "lqtx -- run p c o",
-    "lqtx run -- p c o",
-    "lqtx run p c --",
-    "lqtx run p c -",
-    "lqtx run p c o --",
-    "lqtx --",
-    "lqtx --help",
-    "lqtx -h",
-    "lqtx --version",
-    "lqtx run --help",
-    "lqtx help",
-    "lqtx help run",
-    "lqtx gen 1 2",
-    "lqtx gen 1 2 g g",
-    "lqtx gen 1 2 -g",
-    "lqtx trace",
-    "lqtx trace t t",
-    "lqtx trace t t t",
-    "lqtx trace -t",
-    "lqtx run p",
+/// Files that a run, `gen` or a tap would make.
+const OUTPUTS: [&str; 5] = ["o.0.pcap", "o.fates", "g", "t.pcap", "t.fates"];
+
+/// The call is refused with this code and line, and made no file.
+fn check_refused(host: &MemHost, status: Status, code: u8, line: &str) -> Result<(), Fail> {
+    let made = OUTPUTS.iter().any(|name| host.file(name).is_some());
+    if status.code() == code && host.output() == line.as_bytes() && !made {
+        return Ok(());
+    }
+    Err(Fail::new(format_args!("not refused so: {line}")))
+}
+
+/// Command lines that aren't of the table, with a bar between the words.
+const COMMANDS: [&str; 59] = [
+    "run",
+    "run|p|c",
+    "run|p|c|o|o",
+    "run|p|c|",
+    "run|p|-c|o",
+    "run|-|c|o",
+    "Run|p|c|o",
+    "p|run|c|o",
+    "--|run|p|c|o",
+    "run|--|p|c|o",
+    "run|p|c|--",
+    "run|p|c|-",
+    "run|p|c|o|--",
+    "run|p",
+    "run p c o",
+    "--",
+    "--help",
+    "-h",
+    "--version",
+    "run|--help",
+    "help",
+    "help|run",
+    "trace",
+    "trace|t|t",
+    "trace|t|t|t",
+    "trace|-t",
+    "gen|1|2",
+    "gen|1|2|g|g",
+    "gen|1|2|-g",
+    // a number out of its range, or not written as a number
+    "gen|4294967296|1|g",
+    "gen|99999999999999999999|1|g",
+    "gen|1|1000001|g",
+    "gen|01|2|g",
+    "gen|1|02|g",
+    "gen|00|2|g",
+    "gen|+1|2|g",
+    "gen|1|+2|g",
+    "gen|1|2x|g",
+    "gen|0x1|2|g",
+    "gen|1_0|2|g",
+    "gen|1| 2|g",
+    "tap|0|8|4|c|t",
+    "tap|9|8|4|c|t",
+    "tap|1|0|4|c|t",
+    "tap|1|4097|4|c|t",
+    "tap|1|8|0|c|t",
+    "tap|1|8|65|c|t",
+    "tap|01|8|4|c|t",
+    "tap|1|08|4|c|t",
+    "tap|1|8|04|c|t",
+    "tap|00|8|4|c|t",
+    "tap|+1|8|4|c|t",
+    "tap|1|+8|4|c|t",
+    "tap|1|-8|4|c|t",
+    "tap|1|8|+4|c|t",
+    "tap|1|8|-4|c|t",
+    "tap|1|8 |4|c|t",
+    "tap|1|8|4.0|c|t",
+    "tap|1|4294967304|4|c|t",
 ];
+
+fn refused_words<R: Threads + Wait + Sync>(
+    rt: &R,
+    alloc: Global,
+    words: &[&str],
+) -> Result<(), Fail> {
+    let mut host = host_with(alloc, &three_frames(alloc)?)?;
+    let status = call(rt, alloc, words, &mut host, &Free)?;
+    check_refused(&host, status, 2, USAGE)
+}
 
 #[test]
 fn tells_how_it_is_called(rt: HostRuntime) -> Result<(), Fail> {
     let alloc = rt.alloc();
-    let capture = three_frames(alloc)?;
+    refused_words(&rt, alloc, &[])?;
     for command in COMMANDS {
-        let words = command.split(' ').skip(1).collect::<Vec<&str>>(alloc)?;
-        let mut host = host_with(alloc, &capture)?;
-        let status = call(&rt, alloc, &words, &mut host, &Free)?;
-        assert_eq!(rt; status.code(), 2, "{command}");
-        assert_eq!(rt; host.output(), USAGE);
-        assert!(rt; host.file("o.0.pcap").is_none());
+        let words = command.split('|').collect::<Vec<&str>>(alloc)?;
+        refused_words(&rt, alloc, &words)?;
     }
     Ok(())
 }
@@ -67,7 +120,7 @@ fn takes_help_and_version_as_names(rt: HostRuntime) -> Result<(), Fail> {
         host.put_file(name, PLAN)?;
         let status = call(&rt, alloc, &["run", name, "c", "o"], &mut host, &Free)?;
         assert_eq!(rt; status, Status::Done, "{name}");
-        assert_eq!(rt; host.file("o.0.pcap").ok_or("no file")?, &capture[..]);
+        assert_eq!(rt; host.file("o.0.pcap"), Some(capture.as_slice()));
     }
     Ok(())
 }
@@ -123,10 +176,7 @@ fn refuses_plans_with_the_least_reason(rt: HostRuntime) -> Result<(), Fail> {
     for (plan, line) in PLANS {
         let mut host = host_of(alloc, plan, b"no capture")?;
         let status = call(&rt, alloc, &RUN, &mut host, &Free)?;
-        assert_eq!(rt; status.code(), 3, "{line}");
-        assert_eq!(rt; host.output(), line.as_bytes());
-        assert!(rt; host.file("o.0.pcap").is_none());
-        assert!(rt; host.file("o.fates").is_none());
+        check_refused(&host, status, 3, line)?;
     }
     Ok(())
 }
@@ -139,33 +189,48 @@ const SWAPPED: &[u8] =
 const GROUPED: &[u8] =
     b"version = 3\n[[station]]\nmq = 2\n[[station]]\n[[event]]\nbefore = 0\nkind = \"swap\"\nstation = 1\n";
 
-/// Plans that need more units than the bench has. The capture isn't opened: it isn't there.
+/// Plans that need more units than the bench has, and how many that has. The capture isn't opened: it isn't there.
+const SHORT: [(&[u8], usize, &str); 4] = [
+    (EIGHT_STATIONS, 7, "bench refused: needs 8 units, has 7\n"),
+    (SWAPPED, 8, "bench refused: needs 9 units, has 8\n"),
+    (GROUPED, 3, "bench refused: needs 4 units, has 3\n"),
+    (PLAN, 0, "bench refused: needs 1 units, has 0\n"),
+];
+
 #[test]
 fn refuses_plans_that_need_more_units(rt: HostRuntime) -> Result<(), Fail> {
     let alloc = rt.alloc();
-    let rows = [
-        (
-            EIGHT_STATIONS,
-            7,
-            3,
-            "bench refused: needs 8 units, has 7\n",
-        ),
-        (SWAPPED, 8, 3, "bench refused: needs 9 units, has 8\n"),
-        (GROUPED, 3, 3, "bench refused: needs 4 units, has 3\n"),
-        (PLAN, 0, 3, "bench refused: needs 1 units, has 0\n"),
-    ];
-    for (plan, devices, code, line) in rows {
+    for (plan, devices, line) in SHORT {
         let mut host = MemHost::new(alloc);
         host.put_file("p", plan)?;
         let status = call_on(&rt, alloc, &RUN, &mut host, devices, &Free)?;
-        assert_eq!(rt; status.code(), code, "{line}");
-        assert_eq!(rt; host.output(), line.as_bytes());
-        assert!(rt; host.file("o.0.pcap").is_none());
+        check_refused(&host, status, 3, line)?;
     }
     Ok(())
 }
 
-/// A header, changed at some places.
+/// The capture is refused for this reason.
+fn refused_capture<R: Threads + Wait + Sync>(
+    rt: &R,
+    alloc: Global,
+    capture: &[u8],
+    why: &str,
+) -> Result<(), Fail> {
+    let mut host = host_with(alloc, capture)?;
+    let status = call(rt, alloc, &RUN, &mut host, &Free)?;
+    let line = format!(in alloc; "capture refused: {why}\n")?;
+    check_refused(&host, status, 4, line.as_str())
+}
+
+/// A header, changed at some places, and why it is refused.
+const HEADERS: [(&[(usize, u8)], &str); 2] = [
+    (&[(4, 3)], "3 Version at 4"),
+    (
+        &[(0, 0x1f), (1, 0x8b), (2, 8), (3, 0), (4, 3)],
+        "2 Magic at 0",
+    ),
+];
+
 fn header_with(changes: &[(usize, u8)]) -> [u8; 24] {
     let mut header = HEADER;
     for (place, byte) in changes {
@@ -179,78 +244,74 @@ fn header_with(changes: &[(usize, u8)]) -> [u8; 24] {
 #[test]
 fn refuses_captures_with_their_place(rt: HostRuntime) -> Result<(), Fail> {
     let alloc = rt.alloc();
-    let three = three_frames(alloc)?;
+    for (changes, why) in HEADERS {
+        refused_capture(&rt, alloc, &header_with(changes), why)?;
+    }
     let mut long = HEADER.to_vec(alloc)?;
     long.extend_from_slice(&[0, 0, 0, 0, 0, 0, 0, 0, 1, 0, 4, 0, 1, 0, 4, 0])?;
-    let major = header_with(&[(4, 3)]);
-    let zipped = header_with(&[(0, 0x1f), (1, 0x8b), (2, 8), (3, 0), (4, 3)]);
-    let rows = [
-        (three.get(..173).ok_or("short")?, "6 CutData at 124"),
-        (three.get(..134).ok_or("short")?, "4 CutRecordHeader at 124"),
-        (major.as_slice(), "3 Version at 4"),
-        (zipped.as_slice(), "2 Magic at 0"),
-        (three.get(..23).ok_or("short")?, "1 ShortHeader at 23"),
-        (b"".as_slice(), "1 ShortHeader at 0"),
-        (long.as_slice(), "5 LongRecord at 24"),
-    ];
-    for (capture, why) in rows {
-        let mut host = host_with(alloc, capture)?;
-        let status = call(&rt, alloc, &RUN, &mut host, &Free)?;
-        assert_eq!(rt; status.code(), 4, "{why}");
-        let line = format!(in alloc; "capture refused: {why}\n")?;
-        assert_eq!(rt; host.output(), line.as_bytes());
-        assert!(rt; host.file("o.0.pcap").is_none());
-    }
-    Ok(())
+    refused_capture(&rt, alloc, &long, "5 LongRecord at 24")
 }
 
 /// What a capture of three frames gives that is cut to lengths from the first to the second: how many packets, or
-/// why it is refused.
-const CUTS: [(usize, usize, Option<u32>, &str); 11] = [
-    (0, 23, None, "1 ShortHeader"),
-    (24, 24, Some(0), ""),
-    (25, 39, None, "4 CutRecordHeader at 24"),
-    (40, 73, None, "6 CutData at 24"),
-    (74, 74, Some(1), ""),
-    (75, 89, None, "4 CutRecordHeader at 74"),
-    (90, 123, None, "6 CutData at 74"),
-    (124, 124, Some(2), ""),
-    (125, 139, None, "4 CutRecordHeader at 124"),
-    (140, 173, None, "6 CutData at 124"),
-    (174, 174, Some(3), ""),
+/// why it is refused, where a short header is refused at its length.
+const CUTS: [(usize, usize, Result<u32, &str>); 11] = [
+    (0, 23, Err("1 ShortHeader")),
+    (24, 24, Ok(0)),
+    (25, 39, Err("4 CutRecordHeader at 24")),
+    (40, 73, Err("6 CutData at 24")),
+    (74, 74, Ok(1)),
+    (75, 89, Err("4 CutRecordHeader at 74")),
+    (90, 123, Err("6 CutData at 74")),
+    (124, 124, Ok(2)),
+    (125, 139, Err("4 CutRecordHeader at 124")),
+    (140, 173, Err("6 CutData at 124")),
+    (174, 174, Ok(3)),
 ];
+
+/// So many packets are sent, and the capture is written again.
+fn sent_again<R: Threads + Wait + Sync>(
+    rt: &R,
+    alloc: Global,
+    capture: &[u8],
+    count: u32,
+) -> Result<(), Fail> {
+    let mut host = host_with(alloc, capture)?;
+    let status = call(rt, alloc, &RUN, &mut host, &Free)?;
+    let output = format!(in alloc;
+        "unit 0 sent {count}\nstation 0 full 0 shrunk 0 purged 0 refused 0\ntotal {count} sent {count} full 0 shrunk 0 purged 0 refused 0\n"
+    )?;
+    let told = status == Status::Done && host.output() == output.as_bytes();
+    if told && host.file("o.0.pcap") == Some(capture) {
+        return Ok(());
+    }
+    Err(Fail::new(format_args!("{count} packets not written again")))
+}
+
+fn check_cut<R: Threads + Wait + Sync>(
+    rt: &R,
+    alloc: Global,
+    capture: &[u8],
+    given: Result<u32, &str>,
+) -> Result<(), Fail> {
+    let len = capture.len();
+    match given {
+        Ok(count) => sent_again(rt, alloc, capture, count),
+        Err(why) if len < HEADER.len() => {
+            let why = format!(in alloc; "{why} at {len}")?;
+            refused_capture(rt, alloc, capture, why.as_str())
+        }
+        Err(why) => refused_capture(rt, alloc, capture, why),
+    }
+}
 
 #[test]
 fn answers_each_cut_of_a_capture(rt: HostRuntime) -> Result<(), Fail> {
     let alloc = rt.alloc();
     let three = three_frames(alloc)?;
     let mut lengths = 0u32;
-    for (first, last, sent, why) in CUTS {
+    for (first, last, given) in CUTS {
         for len in first..last + 1 {
-            let capture = three.get(..len).ok_or("short")?;
-            let mut host = host_with(alloc, capture)?;
-            let status = call(&rt, alloc, &RUN, &mut host, &Free)?;
-            let output = match sent {
-                Some(n) => {
-                    assert_eq!(rt; status, Status::Done, "{len} bytes");
-                    assert_eq!(rt; host.file("o.0.pcap").ok_or("no file")?, capture);
-                    format!(in alloc;
-                        "unit 0 sent {n}\nstation 0 full 0 shrunk 0 purged 0 refused 0\ntotal {n} sent {n} full 0 shrunk 0 purged 0 refused 0\n"
-                    )?
-                }
-                None => {
-                    assert_eq!(rt; status.code(), 4, "{len} bytes");
-                    assert!(rt; host.file("o.0.pcap").is_none());
-                    let at = if len < 24 {
-                        format!(in alloc; " at {len}")?
-                    } else {
-                        String::new(alloc)
-                    };
-                    let place = at.as_str();
-                    format!(in alloc; "capture refused: {why}{place}\n")?
-                }
-            };
-            assert_eq!(rt; host.output(), output.as_bytes(), "{len} bytes");
+            check_cut(&rt, alloc, three.get(..len).ok_or("short")?, given)?;
             lengths = lengths.wrapping_add(1);
         }
     }

@@ -6,11 +6,7 @@ mod checks;
 mod fates;
 mod flaw;
 mod planned;
-#[cfg(test)]
-mod tap_tests;
 mod taps;
-#[cfg(test)]
-mod tests;
 
 pub use checks::check_run;
 pub use flaw::Flaw;
@@ -22,7 +18,7 @@ use std::marker::Sync;
 use std::sync::Wait;
 use std::test::Fail;
 use std::thread::Threads;
-pub use taps::{TapCounts, TapShape, check_tap};
+pub use taps::{TapCounts, TapShape, Wrong, check_tap, check_tap_lines};
 
 /// The header of a capture in little-endian order: microseconds, version 2.4, snapshot length 262,144, Ethernet.
 pub const HEADER: [u8; 24] = [
@@ -109,7 +105,10 @@ pub fn call_on<R: Threads + Wait + Sync, G: Gate>(
     Ok(lqtx(rt, alloc, words, host, &mut bench, &mut ended, gate))
 }
 
-/// The same on a bench of one device.
+/// How many devices the program has.
+const DEVICES: usize = 16;
+
+/// The same on a bench of as many devices as the program has.
 pub fn call<R: Threads + Wait + Sync, G: Gate>(
     rt: &R,
     alloc: Global,
@@ -117,5 +116,5 @@ pub fn call<R: Threads + Wait + Sync, G: Gate>(
     host: &mut MemHost,
     gate: &G,
 ) -> Result<Status, AllocError> {
-    call_on(rt, alloc, words, host, 1, gate)
+    call_on(rt, alloc, words, host, DEVICES, gate)
 }

@@ -14,7 +14,7 @@ const BATCHED: usize = 32;
 
 const BATCH: usize = 16;
 
-/// What is wrong with the lines.
+/// What is wrong with the lines of a tap.
 pub type Wrong = &'static str;
 
 const NO_MEMORY: Wrong = "no memory";
@@ -152,7 +152,7 @@ fn check_fates(fates: &[Told], counts: TapCounts, len: usize) -> Result<(), Wron
 }
 
 /// What a text of so many packets' fates tells, which is checked: the counts, and the packets that were read, in order.
-pub fn check_lines(
+pub fn check_tap_lines(
     alloc: Global,
     text: &[u8],
     count: u32,
@@ -180,7 +180,7 @@ pub fn check_tap(
     shape: TapShape,
 ) -> Result<TapCounts, Fail> {
     let text = host.file("t.fates").ok_or("no fates")?;
-    let (counts, read) = check_lines(alloc, text, count, shape)?;
+    let (counts, read) = check_tap_lines(alloc, text, count, shape)?;
     let records = records_of(alloc, capture, &read)?;
     if host.file("t.pcap").ok_or("no capture")? != records.as_slice() {
         return Err("a capture that isn't the packets read".into());

@@ -1,9 +1,14 @@
 //! The command `gen`: its file, and the counts of its run.
+use crate::done::call_done;
 use lq_host::{HostCall, MemHost};
 use lq_pcap::gen_capture;
 use lq_test_fixture::{HEADER, call, call_on};
 use lq_top::{Free, Status};
+use std::alloc::Global;
+use std::marker::Sync;
+use std::sync::Wait;
 use std::test::Fail;
+use std::thread::Threads;
 
 /// The two records of the capture that 1 generates, byte for byte.
 const TWO_RECORDS: [u8; 100] = [
@@ -13,30 +18,50 @@ const TWO_RECORDS: [u8; 100] = [
     0, 0x45, 0x10, 0, 0x14, 0, 1, 0, 0, 0x40, 0xfd, 0, 0, 0x0a, 0, 0, 0xe3, 0x0a, 0, 1, 1,
 ];
 
-/// Counts of packets, and how many of them are sent; the others find their ring full.
+/// Numbers, counts of packets, and how many of them are sent; the others find their ring full. The least number and the greatest one
+/// are numbers.
 ///
 /// Of 256, packet 192 finds the queue stopped by the run of packet 191, with 45 packets taken from band 1. The tail stands
 /// at slot 0 and the head at 13, so that band 1 takes 19 of its 32 packets.
-const COUNTS: [(u32, u32); 4] = [(0, 0), (2, 2), (64, 64), (256, 243)];
+const COUNTS: [(&str, u32, u32); 6] = [
+    ("1", 0, 0),
+    ("1", 2, 2),
+    ("1", 64, 64),
+    ("1", 256, 243),
+    ("0", 0, 0),
+    ("4294967295", 1, 1),
+];
+
+fn output_of(alloc: Global, count: u32, sent: u32) -> Result<String, Fail> {
+    let full = count.saturating_sub(sent);
+    Ok(format!(in alloc;
+        "unit 0 sent {sent}\nstation 0 full {full} shrunk 0 purged 0 refused 0\ntotal {count} sent {sent} full {full} shrunk 0 purged 0 refused 0\n"
+    )?)
+}
 
 #[test]
 fn counts_the_fates_of_a_generated_capture(rt: HostRuntime) -> Result<(), Fail> {
     let alloc = rt.alloc();
-    for (count, sent) in COUNTS {
+    for (number, count, sent) in COUNTS {
         let text = format!(in alloc; "{count}")?;
-        let mut host = MemHost::new(alloc);
-        let words = ["gen", "1", text.as_str(), "g"];
-        let status = call(&rt, alloc, &words, &mut host, &Free)?;
-        assert_eq!(rt; status, Status::Done, "{count} packets");
-        let full = count.saturating_sub(sent);
-        let output = format!(in alloc;
-            "unit 0 sent {sent}\nstation 0 full {full} shrunk 0 purged 0 refused 0\ntotal {count} sent {sent} full {full} shrunk 0 purged 0 refused 0\n"
-        )?;
-        assert_eq!(rt; host.output(), output.as_bytes());
-        assert!(rt; host.file("g.0.pcap").is_none());
-        assert!(rt; host.file("g.fates").is_none());
+        let words = ["gen", number, text.as_str(), "g"];
+        let done = call_done(&rt, alloc, number, &words, MemHost::new(alloc), &Free)?;
+        done.told(output_of(alloc, count, sent)?.as_bytes())?;
+        done.has_no_file("g.0.pcap")?;
+        done.has_no_file("g.fates")?;
     }
     Ok(())
+}
+
+fn check_generated<R: Threads + Wait + Sync>(
+    rt: &R,
+    alloc: Global,
+    count: &str,
+    bytes: &[u8],
+) -> Result<(), Fail> {
+    let words = ["gen", "1", count, "g"];
+    let done = call_done(rt, alloc, count, &words, MemHost::new(alloc), &Free)?;
+    done.has_file("g", bytes)
 }
 
 #[test]
@@ -44,55 +69,18 @@ fn writes_the_generated_capture(rt: HostRuntime) -> Result<(), Fail> {
     let alloc = rt.alloc();
     let mut two = HEADER.to_vec(alloc)?;
     two.extend_from_slice(&TWO_RECORDS)?;
-    for (count, bytes) in [("0", HEADER.as_slice()), ("2", &two[..])] {
-        let mut host = MemHost::new(alloc);
-        let status = call(&rt, alloc, &["gen", "1", count, "g"], &mut host, &Free)?;
-        assert_eq!(rt; status, Status::Done);
-        assert_eq!(rt; host.file("g").ok_or("no file")?, bytes);
-    }
-    Ok(())
-}
-
-/// The greatest number and the least one are numbers; what a number may not be is Usage, and makes no file.
-#[test]
-fn reads_its_numbers_whole(rt: HostRuntime) -> Result<(), Fail> {
-    let alloc = rt.alloc();
-    let rows = [
-        ("0", "0", 0),
-        ("4294967295", "1", 0),
-        ("4294967296", "1", 2),
-        ("99999999999999999999", "1", 2),
-        ("01", "2", 2),
-        ("1", "02", 2),
-        ("00", "2", 2),
-        ("+1", "2", 2),
-        ("1", "+2", 2),
-        ("1", "2x", 2),
-        ("0x1", "2", 2),
-        ("1_0", "2", 2),
-        ("1", " 2", 2),
-        ("1", "1000001", 2),
-    ];
-    for (number, count, code) in rows {
-        let mut host = MemHost::new(alloc);
-        let status = call(&rt, alloc, &["gen", number, count, "g"], &mut host, &Free)?;
-        assert_eq!(rt; status.code(), code, "gen {number} {count} g");
-        assert_eq!(rt; host.file("g").is_some(), code == 0);
-    }
-    Ok(())
+    check_generated(&rt, alloc, "0", &HEADER)?;
+    check_generated(&rt, alloc, "2", &two)
 }
 
 #[test]
 fn gives_the_same_each_time(rt: HostRuntime) -> Result<(), Fail> {
     let alloc = rt.alloc();
-    let mut hosts = [MemHost::new(alloc), MemHost::new(alloc)];
-    for host in &mut hosts {
-        let status = call(&rt, alloc, &["gen", "5", "200000", "g"], host, &Free)?;
-        assert_eq!(rt; status, Status::Done);
-    }
-    assert_eq!(rt; hosts[0].output(), hosts[1].output());
-    assert_eq!(rt; hosts[0].file("g"), hosts[1].file("g"));
-    Ok(())
+    let words = ["gen", "5", "200000", "g"];
+    let first = call_done(&rt, alloc, "first", &words, MemHost::new(alloc), &Free)?;
+    let second = call_done(&rt, alloc, "second", &words, MemHost::new(alloc), &Free)?;
+    second.told(first.host.output())?;
+    second.has_file("g", first.host.file("g").ok_or("no capture")?)
 }
 
 #[test]
@@ -119,8 +107,7 @@ fn a_write_fails_between_its_pieces(rt: HostRuntime) -> Result<(), Fail> {
         host.fail_at(HostCall::Write, k)?;
         let status = call(&rt, alloc, &["gen", "1", "2000", "g"], &mut host, &Free)?;
         assert_eq!(rt; status, Status::Fault, "write {k}");
-        let prefix = capture.get(..written).ok_or("short")?;
-        assert_eq!(rt; host.file("g").ok_or("no file")?, prefix);
+        assert_eq!(rt; host.file("g"), capture.get(..written), "write {k}");
         assert_eq!(rt; host.output(), b"".as_slice());
     }
     Ok(())

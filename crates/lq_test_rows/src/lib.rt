@@ -1,17 +1,19 @@
-//! Tests of the top call over a host in memory: the worked rows, each with its files and its output.
-//! What a contract says is not tested again; these rows show that the contracts mean what they should.
+//! Tests of the top call over a host in memory: the worked rows as tables, each with its files and its output, and the runs of several
+//! senders, whose files are checked. What a contract says is not tested again; these rows show that the contracts mean what they should.
 #![tactic(auto)]
 
 #[cfg(test)]
-mod exchanges;
+mod captures;
 #[cfg(test)]
-mod gate;
+mod checks;
+#[cfg(test)]
+mod done;
+#[cfg(test)]
+mod gates;
 #[cfg(test)]
 mod generated;
 #[cfg(test)]
-mod groups;
-#[cfg(test)]
-mod meeting;
+mod holds;
 #[cfg(test)]
 mod overlap;
 #[cfg(test)]
@@ -23,6 +25,6 @@ mod schedules;
 #[cfg(test)]
 mod senders;
 #[cfg(test)]
-mod tap;
+mod swaps;
 #[cfg(test)]
-mod wakes;
+mod tap;

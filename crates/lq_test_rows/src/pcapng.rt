@@ -1,8 +1,12 @@
-//! Captures in the pcapng format: runs that are done, and the lines that refuse others.
-use lq_test_fixture::{PLAN, RUN, call, call_on, host_of, host_with};
-use lq_top::{Free, Status};
+//! Captures in the pcapng format: their blocks, and the lines that refuse others.
+use crate::done::run;
+use lq_test_fixture::{RUN, call, host_with};
+use lq_top::Free;
 use std::alloc::{AllocError, Global};
+use std::marker::Sync;
+use std::sync::Wait;
 use std::test::Fail;
+use std::thread::Threads;
 
 /// A section header block in little-endian order that says nothing of its section's length.
 pub const SECTION: [u8; 28] = [
@@ -60,26 +64,6 @@ pub fn section_of(
     Ok(bytes)
 }
 
-#[test]
-fn writes_one_packet_again(rt: HostRuntime) -> Result<(), Fail> {
-    let alloc = rt.alloc();
-    let rows = vec![in alloc;
-        (joined(alloc, &[&SECTION, &ETHERNET, &FRAME])?, 1),
-        (joined(alloc, &[&SECTION])?, 0),
-    ]?;
-    for (capture, count) in rows.iter() {
-        let mut host = host_with(alloc, capture)?;
-        let status = call(&rt, alloc, &RUN, &mut host, &Free)?;
-        assert_eq!(rt; status, Status::Done, "{count} packets");
-        assert_eq!(rt; host.file("o.0.pcap").ok_or("no file")?, capture.as_slice());
-        let output = format!(in alloc;
-            "unit 0 sent {count}\nstation 0 full 0 shrunk 0 purged 0 refused 0\ntotal {count} sent {count} full 0 shrunk 0 purged 0 refused 0\n"
-        )?;
-        assert_eq!(rt; host.output(), output.as_bytes());
-    }
-    Ok(())
-}
-
 /// Each packet goes by the link type of its own interface, and each file has both interfaces.
 #[test]
 fn reads_two_interfaces(rt: HostRuntime) -> Result<(), Fail> {
@@ -88,60 +72,67 @@ fn reads_two_interfaces(rt: HostRuntime) -> Result<(), Fail> {
         alloc,
         &[&SECTION, &ETHERNET, &FRAME, &NAMES, &RAW_IP, &PACKET],
     )?;
-    let mut host = host_of(alloc, b"[[station]]\n[[station]]\n", &capture)?;
-    let status = call_on(&rt, alloc, &RUN, &mut host, 2, &Free)?;
-    assert_eq!(rt; status, Status::Done);
+    let done = run(&rt, alloc, "[[station]]\n[[station]]\n", &capture, &Free)?;
     let first = joined(alloc, &[&SECTION, &ETHERNET, &RAW_IP, &FRAME])?;
-    assert_eq!(rt; host.file("o.0.pcap").ok_or("no file")?, first.as_slice());
+    done.has_file("o.0.pcap", &first)?;
     let second = joined(alloc, &[&SECTION, &ETHERNET, &RAW_IP, &PACKET])?;
-    assert_eq!(rt; host.file("o.1.pcap").ok_or("no file")?, second.as_slice());
-    assert_eq!(rt;
-        host.file("o.fates").ok_or("no file")?,
-        &b"0 sent 0 0\n1 sent 1 0\n"[..]
-    );
-    Ok(())
+    done.has_file("o.1.pcap", &second)?;
+    done.has_file("o.fates", b"0 sent 0 0\n1 sent 1 0\n")
+}
+
+/// The capture of these blocks is refused, with this reason and place.
+fn check_refused<R: Threads + Wait + Sync>(
+    rt: &R,
+    alloc: Global,
+    blocks: &[&[u8]],
+    reason: &str,
+) -> Result<(), Fail> {
+    let mut host = host_with(alloc, &joined(alloc, blocks)?)?;
+    let status = call(rt, alloc, &RUN, &mut host, &Free)?;
+    let line = format!(in alloc; "capture refused: {reason}\n")?;
+    let told = status.code() == 4 && host.output() == line.as_bytes();
+    if told && host.file("o.0.pcap").is_none() {
+        return Ok(());
+    }
+    Err(Fail::new(format_args!("not refused so: {reason}")))
 }
 
 #[test]
 fn refuses_what_is_no_section(rt: HostRuntime) -> Result<(), Fail> {
+    let mut other = FRAME;
+    other[8] = 1;
     let alloc = rt.alloc();
-    let mut other_interface = FRAME;
-    other_interface[8] = 1;
-    let rows = vec![in alloc;
-        (
-            joined(alloc, &[&SECTION, &ETHERNET, &FRAME[..67]])?,
-            "10 CutBlock at 48"
-        ),
-        (joined(alloc, &[&SECTION, &FRAME])?, "13 NoInterface at 28"),
-        (
-            joined(alloc, &[&SECTION, &ETHERNET, &other_interface])?,
-            "13 NoInterface at 48"
-        ),
-        (
-            joined(alloc, &[&SECTION, &SECTION])?,
-            "15 SecondSection at 28"
-        ),
-        (
-            joined(alloc, &[&SECTION, &ETHERNET[..16], &SECTION[4..8]])?,
-            "11 BlockLength at 44"
-        ),
-        (
-            joined(alloc, &[&SECTION[..8], &SECTION[12..]])?,
-            "12 ByteOrder at 8"
-        ),
-        (
-            joined(alloc, &[&SECTION, &NAMES, &NAMES[..8]])?,
-            "10 CutBlock at 44"
-        ),
-        (joined(alloc, &[&SECTION[..4]])?, "10 CutBlock at 0"),
-    ]?;
-    for (capture, reason) in rows.iter() {
-        let mut host = host_of(alloc, PLAN, capture)?;
-        let status = call(&rt, alloc, &RUN, &mut host, &Free)?;
-        assert_eq!(rt; status.code(), 4, "{reason}");
-        let line = format!(in alloc; "capture refused: {reason}\n")?;
-        assert_eq!(rt; host.output(), line.as_bytes());
-        assert!(rt; host.file("o.0.pcap").is_none());
-    }
-    Ok(())
+    check_refused(
+        &rt,
+        alloc,
+        &[&SECTION, &ETHERNET, &FRAME[..67]],
+        "10 CutBlock at 48",
+    )?;
+    check_refused(&rt, alloc, &[&SECTION, &FRAME], "13 NoInterface at 28")?;
+    check_refused(
+        &rt,
+        alloc,
+        &[&SECTION, &ETHERNET, &other],
+        "13 NoInterface at 48",
+    )?;
+    check_refused(&rt, alloc, &[&SECTION, &SECTION], "15 SecondSection at 28")?;
+    check_refused(
+        &rt,
+        alloc,
+        &[&SECTION, &ETHERNET[..16], &SECTION[4..8]],
+        "11 BlockLength at 44",
+    )?;
+    check_refused(
+        &rt,
+        alloc,
+        &[&SECTION[..8], &SECTION[12..]],
+        "12 ByteOrder at 8",
+    )?;
+    check_refused(
+        &rt,
+        alloc,
+        &[&SECTION, &NAMES, &NAMES[..8]],
+        "10 CutBlock at 44",
+    )?;
+    check_refused(&rt, alloc, &[&SECTION[..4]], "10 CutBlock at 0")
 }

@@ -1,11 +1,15 @@
 //! The command `trace`. The files of examples/schedules, without their comments: each ends with no packet held and nobody
 //! on the way. Step numbers and packets sent are counted by hand from the comments of the files.
+use crate::done::call_done;
 use lq_host::{HostCall, MemHost};
 use lq_run_core::TraceReason;
 use lq_test_fixture::call;
 use lq_top::{Free, Status};
 use std::alloc::Global;
+use std::marker::Sync;
+use std::sync::Wait;
 use std::test::Fail;
+use std::thread::Threads;
 
 /// `second-try.schedule`
 const SECOND_TRY: &str = "seats 2 len 4 bypass 0
@@ -127,6 +131,61 @@ const BYPASS_LOOKS_UNDER_THE_LOCK: &str = "seats 2 len 4 bypass 1
 0 step 12
 ";
 
+/// The same up to where the wake comes between the holder's look at the stop word and its setting of DRAINING: the seat that woke
+/// the queue is raised, and its soft interrupt is still to come.
+const WAKE_RAISES_ITS_SEAT: &str = "seats 2 len 4 bypass 0
+0 send 1
+0 step 8
+0 stop
+0 step 1
+1 send 1
+1 step 7
+0 step 3
+1 wake
+1 step 2
+0 step 4
+";
+
+/// What each leaves.
+const DONE: [(&str, &str); 9] = [
+    (
+        SECOND_TRY,
+        "steps 41\nstate 0 lock 0 xoff 0 inside 0\nheld 0 sent 2 full 0\nseat 0 idle\nseat 1 idle\n",
+    ),
+    (
+        SECOND_TRY_FINDS_NOTHING,
+        "steps 58\nstate 0 lock 0 xoff 0 inside 0\nheld 0 sent 3 full 0\nseat 0 idle\nseat 1 idle\n",
+    ),
+    (
+        RELEASE_THEN_LOOK,
+        "steps 47\nstate 0 lock 0 xoff 0 inside 0\nheld 0 sent 2 full 0\nseat 0 idle\nseat 1 idle\n",
+    ),
+    (
+        CLEAR_THEN_LOOK,
+        "steps 53\nstate 0 lock 0 xoff 0 inside 0\nheld 0 sent 2 full 0\nseat 0 idle\nseat 1 idle\n",
+    ),
+    (
+        LOOK_AT_THE_STOP_WORD_AGAIN,
+        "steps 55\nstate 0 lock 0 xoff 0 inside 0\nheld 0 sent 2 full 0\nseat 0 idle\nseat 1 idle\n",
+    ),
+    (
+        WAKE_AFTER_THE_SECOND_LOOK,
+        "steps 48\nstate 0 lock 0 xoff 0 inside 0\nheld 0 sent 2 full 0\nseat 0 idle\nseat 1 idle\n",
+    ),
+    (
+        SOFT_INTERRUPT_CLEARS_FIRST,
+        "steps 53\nstate 0 lock 0 xoff 0 inside 0\nheld 0 sent 2 full 0\nseat 0 idle\nseat 1 idle\n",
+    ),
+    (
+        BYPASS_LOOKS_UNDER_THE_LOCK,
+        "steps 49\nstate 0 lock 0 xoff 0 inside 0\nheld 0 sent 2 full 0\nseat 0 idle\nseat 1 idle\n",
+    ),
+    (
+        WAKE_RAISES_ITS_SEAT,
+        "steps 26\nstate 9 lock 0 xoff 0 inside 0\nheld 1 sent 1 full 0\nseat 0 idle\nseat 1 idle raised\n",
+    ),
+];
+
 /// A host with these bytes as the schedule `t`.
 fn host_of(alloc: Global, schedule: &[u8]) -> Result<MemHost, Fail> {
     let mut host = MemHost::new(alloc);
@@ -137,44 +196,12 @@ fn host_of(alloc: Global, schedule: &[u8]) -> Result<MemHost, Fail> {
 #[test]
 fn nothing_is_left_behind(rt: HostRuntime) -> Result<(), Fail> {
     let alloc = rt.alloc();
-    let rows = [
-        (SECOND_TRY, 41, 2),
-        (SECOND_TRY_FINDS_NOTHING, 58, 3),
-        (RELEASE_THEN_LOOK, 47, 2),
-        (CLEAR_THEN_LOOK, 53, 2),
-        (LOOK_AT_THE_STOP_WORD_AGAIN, 55, 2),
-        (WAKE_AFTER_THE_SECOND_LOOK, 48, 2),
-        (SOFT_INTERRUPT_CLEARS_FIRST, 53, 2),
-        (BYPASS_LOOKS_UNDER_THE_LOCK, 49, 2),
-    ];
-    for (schedule, steps, sent) in rows {
-        let mut host = host_of(alloc, schedule.as_bytes())?;
-        let status = call(&rt, alloc, &["trace", "t"], &mut host, &Free)?;
-        assert_eq!(rt; status, Status::Done, "{schedule}");
-        let text = format!(in alloc;
-            "steps {steps}\nstate 0 lock 0 xoff 0 inside 0\nheld 0 sent {sent} full 0\nseat 0 idle\nseat 1 idle\n"
-        )?;
-        assert_eq!(rt; host.output(), text.as_bytes());
-        assert_eq!(rt; host.file("t").ok_or("no file")?, schedule.as_bytes());
+    for (schedule, output) in &DONE {
+        let host = host_of(alloc, schedule.as_bytes())?;
+        let done = call_done(&rt, alloc, schedule, &["trace", "t"], host, &Free)?;
+        done.told(output.as_bytes())?;
+        done.has_file("t", schedule.as_bytes())?;
     }
-    Ok(())
-}
-
-/// Where the wake comes between the holder's look at the stop word and its setting of DRAINING, the seat that woke the queue
-/// is raised, and its soft interrupt is still to come.
-#[test]
-fn wake_raises_its_seat(rt: HostRuntime) -> Result<(), Fail> {
-    let alloc = rt.alloc();
-    let schedule = WAKE_AFTER_THE_SECOND_LOOK
-        .strip_suffix("1 softirq\n1 step 22\n")
-        .ok_or("no soft interrupt")?;
-    let mut host = host_of(alloc, schedule.as_bytes())?;
-    let status = call(&rt, alloc, &["trace", "t"], &mut host, &Free)?;
-    assert_eq!(rt; status, Status::Done);
-    assert_eq!(rt;
-        host.output(),
-        b"steps 26\nstate 9 lock 0 xoff 0 inside 0\nheld 1 sent 1 full 0\nseat 0 idle\nseat 1 idle raised\n".as_slice()
-    );
     Ok(())
 }
 
@@ -206,15 +233,28 @@ const REFUSED: [(&str, TraceReason, u32, &str); 4] = [
     ),
 ];
 
+/// The schedule of these bytes is refused so.
+fn check_refused<R: Threads + Wait + Sync>(
+    rt: &R,
+    alloc: Global,
+    schedule: &[u8],
+    (reason, line): (TraceReason, u32),
+    output: &str,
+) -> Result<(), Fail> {
+    let mut host = host_of(alloc, schedule)?;
+    let status = call(rt, alloc, &["trace", "t"], &mut host, &Free)?;
+    let is_so = status == Status::Trace { reason, line } && status.code() == 7;
+    if is_so && host.output() == output.as_bytes() {
+        return Ok(());
+    }
+    Err(Fail::new(format_args!("not refused so: {output}")))
+}
+
 #[test]
 fn tells_the_first_line_that_fails(rt: HostRuntime) -> Result<(), Fail> {
     let alloc = rt.alloc();
     for (schedule, reason, line, output) in REFUSED {
-        let mut host = host_of(alloc, schedule.as_bytes())?;
-        let status = call(&rt, alloc, &["trace", "t"], &mut host, &Free)?;
-        assert_eq!(rt; status, Status::Trace { reason, line }, "{schedule}");
-        assert_eq!(rt; status.code(), 7);
-        assert_eq!(rt; host.output(), output.as_bytes());
+        check_refused(&rt, alloc, schedule.as_bytes(), (reason, line), output)?;
     }
     Ok(())
 }
@@ -223,21 +263,24 @@ fn tells_the_first_line_that_fails(rt: HostRuntime) -> Result<(), Fail> {
 #[test]
 fn longest_schedule(rt: HostRuntime) -> Result<(), Fail> {
     let alloc = rt.alloc();
-    let mut bytes = Vec::new(alloc);
-    for _ in 0..65_536 {
-        bytes.push(b'\n')?;
-    }
-    for output in [
-        b"trace refused: 1 Syntax at line 65537\n".as_slice(),
-        b"trace refused: 5 TooLong at line 0\n",
-    ] {
-        let mut host = host_of(alloc, &bytes)?;
-        let status = call(&rt, alloc, &["trace", "t"], &mut host, &Free)?;
-        assert_eq!(rt; status.code(), 7);
-        assert_eq!(rt; host.output(), output);
-        bytes.push(b'\n')?;
-    }
-    Ok(())
+    let mut bytes = vec![in alloc; b'\n'; 65_536]?;
+    let cut = (TraceReason::Syntax, 65_537);
+    check_refused(
+        &rt,
+        alloc,
+        &bytes,
+        cut,
+        "trace refused: 1 Syntax at line 65537\n",
+    )?;
+    bytes.push(b'\n')?;
+    let long = (TraceReason::TooLong, 0);
+    check_refused(
+        &rt,
+        alloc,
+        &bytes,
+        long,
+        "trace refused: 5 TooLong at line 0\n",
+    )
 }
 
 /// Each kind of call that it makes fails once: it writes nothing.

@@ -1,189 +1,163 @@
 //! Taps: the worked rows, that the reader goes beside the senders and gives back, and many runs of eight senders, each checked.
-use crate::pcapng::{ETHERNET, FRAME, PACKET, RAW_IP, SECTION, joined};
+use crate::done::{Done, call_done};
+use crate::holds::{Holds, Order};
+use crate::pcapng::section_of;
 use lq_pcap::gen_capture;
-use lq_test_fixture::{TapShape, call, capture_of, check_tap, host_with, records_of, three_frames};
-use lq_top::{Free, Gate, Status};
-use std::alloc::{AllocError, Global};
-use std::hint::spin_loop;
-use std::sync::atomic::{AtomicBool, Ordering};
+use lq_test_fixture::{TapShape, capture_of, check_tap, host_with, records_of, three_frames};
+use std::alloc::Global;
+use std::marker::Sync;
+use std::sync::Wait;
 use std::test::Fail;
+use std::thread::Threads;
 
-/// A wait gives up after so many turns.
-const TURNS: u32 = 20_000_000;
-
-/// A pass of the gate: of which sender, or of the reader, and its `k`.
-type Pass = (u32, u32);
-
-/// A pass that is held until another one has come.
-#[derive(Drop)]
-struct Hold {
-    held: Pass,
-    until: Pass,
-    came: AtomicBool,
+/// Calls the tap with these words on a capture, with a gate that holds its threads.
+fn tap<'a, R: Threads + Wait + Sync>(
+    rt: &R,
+    alloc: Global,
+    [senders, len, batch]: [&'a str; 3],
+    capture: &[u8],
+    orders: &[Order],
+) -> Result<Done<'a>, Fail> {
+    let gate = Holds::new(alloc, orders)?;
+    let words = ["tap", senders, len, batch, "c", "t"];
+    let done = call_done(rt, alloc, batch, &words, host_with(alloc, capture)?, &gate)?;
+    if gate.gave_up() {
+        return Err(Fail::new("a pass that was held too long"));
+    }
+    Ok(done)
 }
 
-/// A gate that holds passes, and tells whether one was held too long.
-#[derive(Drop)]
-struct Holds {
-    holds: Vec<Hold>,
-    gave_up: AtomicBool,
+/// A tap of three packets, whose threads are held so that what it leaves is known.
+struct Row {
+    words: [&'static str; 3],
+    orders: &'static [Order],
+    fates: &'static str,
+    read: &'static [usize],
+    output: &'static str,
 }
 
-impl Holds {
-    fn new(alloc: Global, passes: &[(Pass, Pass)]) -> Result<Holds, AllocError> {
-        let mut holds = Vec::new(alloc);
-        for (held, until) in passes {
-            holds.push(Hold {
-                held: *held,
-                until: *until,
-                came: AtomicBool::new(false),
-            })?;
-        }
-        Ok(Holds {
-            holds,
-            gave_up: AtomicBool::new(false),
-        })
-    }
-
-    fn wait_for(&self, came: &AtomicBool) {
-        for _ in 0..TURNS {
-            if came.load(Ordering::SeqCst) {
-                return;
-            }
-            spin_loop();
-        }
-        self.gave_up.store(true, Ordering::SeqCst);
-    }
-
-    fn gave_up(&self) -> bool {
-        self.gave_up.load(Ordering::SeqCst)
-    }
-}
-
-impl Gate for Holds {
-    fn pass(&self, sender: u32, k: u32) {
-        for hold in self.holds.iter() {
-            if hold.until == (sender, k) {
-                hold.came.store(true, Ordering::SeqCst);
-            }
-        }
-        for hold in self.holds.iter() {
-            if hold.held == (sender, k) {
-                self.wait_for(&hold.came);
-            }
-        }
-    }
-}
-
-#[test]
-fn reads_all_where_the_ring_has_room(rt: HostRuntime) -> Result<(), Fail> {
-    let alloc = rt.alloc();
-    let captures = vec![in alloc;
-        three_frames(alloc)?,
-        joined(
-            alloc,
-            &[&SECTION, &ETHERNET, &RAW_IP, &FRAME, &PACKET, &FRAME]
-        )?,
-    ]?;
-    for capture in captures.iter() {
-        let mut host = host_with(alloc, capture)?;
-        let status = call(
-            &rt,
-            alloc,
-            &["tap", "1", "8", "4", "c", "t"],
-            &mut host,
-            &Free,
-        )?;
-        assert_eq!(rt; status, Status::Done);
-        assert_eq!(rt;
-            host.file("t.pcap").ok_or("no capture")?,
-            capture.as_slice()
-        );
-        assert_eq!(rt;
-            host.file("t.fates").ok_or("no fates")?,
-            b"0 read 0\n1 read 1\n2 read 2\n".as_slice()
-        );
-        assert_eq!(rt; host.output(), b"total 3 read 3 full 0 lost 0\n".as_slice());
-    }
-    Ok(())
-}
-
-/// Words that are no tap: a number out of its range, or not written as a number.
-const NO_TAPS: [[&str; 3]; 18] = [
-    ["0", "8", "4"],
-    ["9", "8", "4"],
-    ["1", "0", "4"],
-    ["1", "4097", "4"],
-    ["1", "8", "0"],
-    ["1", "8", "65"],
-    ["01", "8", "4"],
-    ["1", "08", "4"],
-    ["1", "8", "04"],
-    ["00", "8", "4"],
-    ["+1", "8", "4"],
-    ["1", "+8", "4"],
-    ["1", "-8", "4"],
-    ["1", "8", "+4"],
-    ["1", "8", "-4"],
-    ["1", "8 ", "4"],
-    ["1", "8", "4.0"],
-    ["1", "4294967304", "4"],
+const ROWS: [Row; 4] = [
+    // all have room
+    Row {
+        words: ["1", "8", "4"],
+        orders: &[],
+        fates: "0 read 0\n1 read 1\n2 read 2\n",
+        read: &[0, 1, 2],
+        output: "total 3 read 3 full 0 lost 0\n",
+    },
+    // two senders, of which the first has one packet more: it is held until the reader has the second's
+    Row {
+        words: ["2", "8", "4"],
+        orders: &[((0, 0), (2, 1))],
+        fates: "0 read 1\n1 read 0\n2 read 2\n",
+        read: &[1, 0, 2],
+        output: "total 3 read 3 full 0 lost 0\n",
+    },
+    // A ring of one slot: packet 1 comes while packet 0 is in it, and packet 2 after packet 0 was taken. The reader is held before its
+    // first batch until the sender has come to packet 2, and that packet until the reader has taken a batch.
+    Row {
+        words: ["1", "1", "1"],
+        orders: &[((1, 0), (0, 2)), ((0, 2), (1, 1))],
+        fates: "0 read 0\n1 full 0\n2 read 1\n",
+        read: &[0, 2],
+        output: "total 3 read 2 full 1 lost 0\n",
+    },
+    // The reader finds two packets in the ring and takes both, and the sender's third is held until two batches weren't empty: so the
+    // second of them had what the reader gave back of the first.
+    Row {
+        words: ["1", "8", "4"],
+        orders: &[((1, 0), (0, 2)), ((0, 2), (1, 2))],
+        fates: "0 read 0\n1 read 1\n2 read 2\n",
+        read: &[0, 1, 2],
+        output: "total 3 read 3 full 0 lost 0\n",
+    },
 ];
 
+/// What a row's tap leaves of this capture, with the records of the packets that it reads.
+fn check_row<R: Threads + Wait + Sync>(
+    rt: &R,
+    alloc: Global,
+    row: &Row,
+    capture: &[u8],
+    read: &[u8],
+) -> Result<(), Fail> {
+    let done = tap(rt, alloc, row.words, capture, row.orders)?;
+    done.has_file("t.fates", row.fates.as_bytes())?;
+    done.has_file("t.pcap", read)?;
+    done.told(row.output.as_bytes())
+}
+
 #[test]
-fn refuses_numbers_that_are_none(rt: HostRuntime) -> Result<(), Fail> {
+fn leaves_what_each_row_says(rt: HostRuntime) -> Result<(), Fail> {
     let alloc = rt.alloc();
-    let capture = three_frames(alloc)?;
-    for [senders, len, batch] in NO_TAPS {
-        let mut host = host_with(alloc, &capture)?;
-        let status = call(
+    let classic = three_frames(alloc)?;
+    let frames = [(0, 1, 0), (0, 2, 1), (0, 3, 0)];
+    let pcapng = section_of(alloc, &frames, &[0, 1, 2])?;
+    for row in &ROWS {
+        check_row(
             &rt,
             alloc,
-            &["tap", senders, len, batch, "c", "t"],
-            &mut host,
-            &Free,
+            row,
+            &classic,
+            &records_of(alloc, &classic, row.read)?,
         )?;
-        assert_eq!(rt; status, Status::Usage, "{senders} {len} {batch}");
-        assert!(rt; host.file("t.fates").is_none());
+        check_row(
+            &rt,
+            alloc,
+            row,
+            &pcapng,
+            &section_of(alloc, &frames, row.read)?,
+        )?;
     }
     Ok(())
 }
 
-/// A tap, and how many packets its capture has.
-struct Row {
+/// A tap that reads each of so many packets, all of which have room.
+struct Roomy {
     words: [&'static str; 3],
     shape: TapShape,
     count: u32,
+    orders: &'static [Order],
 }
 
-/// The greatest and the least numbers, and senders that don't divide the packets: some have fewer than others, or none. All packets
-/// have room.
-const ROOMY: [Row; 4] = [
-    Row {
+/// The greatest and the least numbers; senders that don't divide the packets, so that some have fewer than others, or none; and a first
+/// sender that is held until the reader has taken a batch.
+const ROOMY: [Roomy; 5] = [
+    Roomy {
         words: ["8", "4096", "64"],
         shape: TapShape {
             senders: 8,
             len: 4096,
         },
         count: 3,
+        orders: &[],
     },
-    Row {
+    Roomy {
         words: ["3", "5", "1"],
         shape: TapShape { senders: 3, len: 5 },
         count: 5,
+        orders: &[],
     },
-    Row {
+    Roomy {
         words: ["7", "40", "3"],
         shape: TapShape {
             senders: 7,
             len: 40,
         },
         count: 40,
+        orders: &[],
     },
-    Row {
+    Roomy {
         words: ["8", "1", "1"],
         shape: TapShape { senders: 8, len: 1 },
         count: 0,
+        orders: &[],
+    },
+    Roomy {
+        words: ["2", "8", "2"],
+        shape: TapShape { senders: 2, len: 8 },
+        count: 6,
+        orders: &[((0, 1), (2, 1))],
     },
 ];
 
@@ -191,105 +165,23 @@ const ROOMY: [Row; 4] = [
 fn reads_the_packets_of_all_senders(rt: HostRuntime) -> Result<(), Fail> {
     let alloc = rt.alloc();
     for row in &ROOMY {
-        let [senders, len, batch] = row.words;
         let capture = gen_capture(alloc, 1, row.count.min(1_000_000))?;
-        let mut host = host_with(alloc, &capture)?;
-        let words = ["tap", senders, len, batch, "c", "t"];
-        let status = call(&rt, alloc, &words, &mut host, &Free)?;
-        assert_eq!(rt; status, Status::Done);
-        let counts = check_tap(alloc, &host, &capture, row.count, row.shape)?;
+        let done = tap(&rt, alloc, row.words, &capture, row.orders)?;
+        let counts = check_tap(alloc, &done.host, &capture, row.count, row.shape)?;
         assert_eq!(rt; counts.read, row.count as usize);
     }
     Ok(())
 }
 
-/// Two senders, of which the first has one packet more: it is held until the reader has the second's.
-#[test]
-fn reads_in_the_order_of_the_ring(rt: HostRuntime) -> Result<(), Fail> {
-    let alloc = rt.alloc();
-    let capture = three_frames(alloc)?;
-    let mut host = host_with(alloc, &capture)?;
-    let gate = Holds::new(alloc, &[((0, 0), (2, 1))])?;
-    let words = ["tap", "2", "8", "4", "c", "t"];
-    let status = call(&rt, alloc, &words, &mut host, &gate)?;
-    assert_eq!(rt; status, Status::Done);
-    assert!(rt; !gate.gave_up());
-    assert_eq!(rt;
-        host.file("t.fates").ok_or("no fates")?,
-        b"0 read 1\n1 read 0\n2 read 2\n".as_slice()
-    );
-    let records = records_of(alloc, &capture, &[1, 0, 2])?;
-    assert_eq!(rt;
-        host.file("t.pcap").ok_or("no capture")?,
-        records.as_slice()
-    );
-    assert_eq!(rt; host.output(), b"total 3 read 3 full 0 lost 0\n".as_slice());
-    Ok(())
-}
-
-/// A ring of one slot: packet 1 comes while packet 0 is in it, and packet 2 after packet 0 was taken. The reader is held before its
-/// first batch until the sender has come to packet 2, and that packet until the reader has taken a batch.
-#[test]
-fn drops_what_finds_the_ring_full(rt: HostRuntime) -> Result<(), Fail> {
-    let alloc = rt.alloc();
-    let frames = three_frames(alloc)?;
-    let rows = vec![in alloc;
-        (records_of(alloc, &frames, &[0, 2])?, frames),
-        (
-            joined(alloc, &[&SECTION, &ETHERNET, &RAW_IP, &FRAME, &FRAME])?,
-            joined(
-                alloc,
-                &[&SECTION, &ETHERNET, &RAW_IP, &FRAME, &PACKET, &FRAME]
-            )?
-        ),
-    ]?;
-    for (read, capture) in rows.iter() {
-        let mut host = host_with(alloc, capture)?;
-        let gate = Holds::new(alloc, &[((1, 0), (0, 2)), ((0, 2), (1, 1))])?;
-        let words = ["tap", "1", "1", "1", "c", "t"];
-        let status = call(&rt, alloc, &words, &mut host, &gate)?;
-        assert_eq!(rt; status, Status::Done);
-        assert!(rt; !gate.gave_up());
-        assert_eq!(rt;
-            host.file("t.fates").ok_or("no fates")?,
-            b"0 read 0\n1 full 0\n2 read 1\n".as_slice()
-        );
-        assert_eq!(rt; host.file("t.pcap").ok_or("no capture")?, read.as_slice());
-        assert_eq!(rt; host.output(), b"total 3 read 2 full 1 lost 0\n".as_slice());
-    }
-    Ok(())
-}
-
-/// The reader finds two packets in the ring and takes both, and the sender's third is held until two batches weren't empty: so the
-/// second of them had what the reader gave back of the first.
-#[test]
-fn gives_back_what_it_does_not_read(rt: HostRuntime) -> Result<(), Fail> {
-    let alloc = rt.alloc();
-    let capture = three_frames(alloc)?;
-    let mut host = host_with(alloc, &capture)?;
-    let gate = Holds::new(alloc, &[((1, 0), (0, 2)), ((0, 2), (1, 2))])?;
-    let words = ["tap", "1", "8", "4", "c", "t"];
-    let status = call(&rt, alloc, &words, &mut host, &gate)?;
-    assert_eq!(rt; status, Status::Done);
-    assert!(rt; !gate.gave_up());
-    assert_eq!(rt;
-        host.file("t.pcap").ok_or("no capture")?,
-        capture.as_slice()
-    );
-    Ok(())
-}
-
-/// The first sender is held until the reader has taken a batch.
+/// A reader that went on only when the senders have ended would give up: the first sender is held until the reader has taken a batch.
+/// The ring hasn't room for all packets.
 #[test]
 fn reads_while_a_sender_is_under_way(rt: HostRuntime) -> Result<(), Fail> {
     let alloc = rt.alloc();
     let capture = capture_of(alloc, &[(0, 1, 0); 6])?;
-    let mut host = host_with(alloc, &capture)?;
-    let gate = Holds::new(alloc, &[((0, 1), (2, 1))])?;
-    let words = ["tap", "2", "4", "2", "c", "t"];
-    let status = call(&rt, alloc, &words, &mut host, &gate)?;
-    assert_eq!(rt; status, Status::Done);
-    assert!(rt; !gate.gave_up());
+    let done = tap(&rt, alloc, ["2", "4", "2"], &capture, &[((0, 1), (2, 1))])?;
+    let shape = TapShape { senders: 2, len: 4 };
+    check_tap(alloc, &done.host, &capture, 6, shape)?;
     Ok(())
 }
 
@@ -303,6 +195,29 @@ const RUNS: u32 = 200;
 
 const PACKETS: u32 = 203;
 
+fn check_many<R: Threads + Wait + Sync>(
+    rt: &R,
+    alloc: Global,
+    capture: &[u8],
+    len: u32,
+    batch: u32,
+) -> Result<(), Fail> {
+    let (slots, most) = (format!(in alloc; "{len}")?, format!(in alloc; "{batch}")?);
+    let done = tap(
+        rt,
+        alloc,
+        ["8", slots.as_str(), most.as_str()],
+        capture,
+        &[],
+    )?;
+    let shape = TapShape {
+        senders: 8,
+        len: len as usize,
+    };
+    check_tap(alloc, &done.host, capture, PACKETS, shape)?;
+    Ok(())
+}
+
 #[test]
 fn settles_each_packet_of_eight_senders(rt: HostRuntime) -> Result<(), Fail> {
     let alloc = rt.alloc();
@@ -310,16 +225,7 @@ fn settles_each_packet_of_eight_senders(rt: HostRuntime) -> Result<(), Fail> {
     for run in 0..RUNS {
         let len = LENGTHS[run as usize % LENGTHS.len()];
         let batch = BATCHES[run as usize % BATCHES.len()];
-        let (slots, most) = (format!(in alloc; "{len}")?, format!(in alloc; "{batch}")?);
-        let mut host = host_with(alloc, &capture)?;
-        let words = ["tap", "8", slots.as_str(), most.as_str(), "c", "t"];
-        let status = call(&rt, alloc, &words, &mut host, &Free)?;
-        assert_eq!(rt; status, Status::Done, "{len} {batch}");
-        let shape = TapShape {
-            senders: 8,
-            len: len as usize,
-        };
-        check_tap(alloc, &host, &capture, PACKETS, shape)?;
+        check_many(&rt, alloc, &capture, len, batch)?;
     }
     Ok(())
 }

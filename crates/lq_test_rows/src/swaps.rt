@@ -1,8 +1,9 @@
-//! Devices exchanged under load: eight senders over one station, whose device is exchanged twice.
+//! Devices that are swapped under load: eight senders over one station, whose device is swapped twice.
 use lq_device::{BenchDevice, NoMemory, Params, Tx, TxDevice};
 use lq_pcap::gen_capture;
 use lq_test_fixture::{RUN, check_run, host_of};
 use lq_top::{Free, Status, lqtx};
+use std::alloc::{AllocError, Global};
 use std::sync::atomic::{AtomicU32, Ordering};
 use std::test::Fail;
 
@@ -42,20 +43,25 @@ impl<'a> TxDevice for Counted<'a> {
     }
 }
 
-/// No device is dropped while they are exchanged, and each once with the bench.
-#[test]
-fn exchanges_devices_under_load(rt: HostRuntime) -> Result<(), Fail> {
-    let alloc = rt.alloc();
-    let capture = gen_capture(alloc, 2, PACKETS)?;
-    let mut host = host_of(alloc, PLAN, &capture)?;
-    let drops = AtomicU32::new(0);
+fn bench_of(alloc: Global, drops: &AtomicU32) -> Result<Vec<Counted<'_>>, AllocError> {
     let mut bench = Vec::new(alloc);
     for _ in 0..3 {
         bench.push(Counted {
             device: BenchDevice::new(alloc),
-            drops: &drops,
+            drops,
         })?;
     }
+    Ok(bench)
+}
+
+/// No device is dropped while they are swapped, and each once with the bench.
+#[test]
+fn swaps_devices_under_load(rt: HostRuntime) -> Result<(), Fail> {
+    let alloc = rt.alloc();
+    let capture = gen_capture(alloc, 2, PACKETS)?;
+    let mut host = host_of(alloc, PLAN, &capture)?;
+    let drops = AtomicU32::new(0);
+    let mut bench = bench_of(alloc, &drops)?;
     let mut ended = Vec::new(alloc);
     let status = lqtx(&rt, alloc, &RUN, &mut host, &mut bench, &mut ended, &Free);
     assert_eq!(rt; status, Status::Done);

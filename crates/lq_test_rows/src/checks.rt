@@ -1,11 +1,10 @@
-//! That the check of a run takes a right one and refuses each kind of wrong line and file. The packets, the lines and the files are
-//! made by hand.
-use crate::allowed::{Run, Tally, check_fates, sent_lists};
-use crate::fates::fates_told;
-use crate::{Flaw, capture_of, check_run, host_of, records_of};
+//! That the checks of runs and taps take right ones and refuse each kind of wrong line and file. The packets, the lines and the files
+//! are made by hand.
 use lq_host::{Host, MemHost};
-use lq_model::Info;
-use lq_plan::read_plan;
+use lq_test_fixture::{
+    Flaw, HEADER, TapCounts, TapShape, Wrong, capture_of, check_run, check_tap_lines, host_of,
+    records_of,
+};
 use std::alloc::Global;
 use std::test::Fail;
 
@@ -53,26 +52,27 @@ len = 3
 /// How many packets there are. Those of even numbers are the first sender's.
 const COUNT: usize = 18;
 
-/// The station and the band of each packet, and a line that may come of it.
-const PACKETS: [(u8, u8, &str); COUNT] = [
-    (0, 0, "0 sent 0 0"),
-    (0, 0, "1 sent 0 1"),
-    (0, 0, "2 shrunk 1"),
-    (0, 0, "3 full 2"),
-    (0, 0, "4 purged 2"),
-    (0, 0, "5 refused 2"),
-    (0, 0, "6 refused 2"),
-    (0, 1, "7 sent 0 3"),
-    (0, 0, "8 sent 0 2"),
-    (1, 0, "9 sent 1 0"),
-    (2, 0, "10 purged 5"),
-    (2, 1, "11 sent 2 0"),
-    (0, 0, "12 sent 3 0"),
-    (0, 0, "13 sent 3 1"),
-    (0, 0, "14 purged hung"),
-    (0, 0, "15 full 14"),
-    (1, 0, "16 sent 1 1"),
-    (1, 0, "17 full 16"),
+/// The frame of each packet, and a line that may come of it. Its type of service is that of the band; its destination is that of the
+/// station, or of the root, of whose children its source chooses one.
+const PACKETS: [((u8, u8, u8), &str); COUNT] = [
+    ((0x10, 0, 0), "0 sent 0 0"),
+    ((0x10, 0, 0), "1 sent 0 1"),
+    ((0x10, 0, 0), "2 shrunk 1"),
+    ((0x10, 0, 0), "3 full 2"),
+    ((0x10, 0, 0), "4 purged 2"),
+    ((0x10, 0, 0), "5 refused 2"),
+    ((0x10, 0, 0), "6 refused 2"),
+    ((0, 0, 0), "7 sent 0 3"),
+    ((0x10, 0, 0), "8 sent 0 2"),
+    ((0x10, 0, 1), "9 sent 1 0"),
+    ((0x10, 1, 1), "10 purged 5"),
+    ((0, 1, 1), "11 sent 2 0"),
+    ((0x10, 0, 0), "12 sent 3 0"),
+    ((0x10, 0, 0), "13 sent 3 1"),
+    ((0x10, 0, 0), "14 purged hung"),
+    ((0x10, 0, 0), "15 full 14"),
+    ((0x10, 0, 1), "16 sent 1 1"),
+    ((0x10, 0, 1), "17 full 16"),
 ];
 
 /// Lines in the place of packets' own.
@@ -88,52 +88,30 @@ fn line_at<'a>(n: usize, own: &'a str, changes: Changes<'a>) -> &'a str {
 }
 
 /// The right text, with these lines in the place of packets' own.
-fn text_with(alloc: Global, changes: Changes<'_>) -> Result<String, Flaw> {
+fn text_with(alloc: Global, changes: Changes<'_>) -> Result<String, Fail> {
     let mut text = String::new(alloc);
-    for (n, (_, _, own)) in PACKETS.iter().enumerate() {
+    for (n, (_, own)) in PACKETS.iter().enumerate() {
         text.push_str(line_at(n, own, changes))?;
         text.push_str("\n")?;
     }
     Ok(text)
 }
 
-fn packets(alloc: Global) -> Result<Vec<Info>, Flaw> {
-    let mut packets = Vec::new(alloc);
-    let mut owner = 0;
-    for (station, band, _) in PACKETS {
-        packets.push(Info {
-            rank: 0,
-            owner,
-            station,
-            band,
-            queue: 0,
-        })?;
-        owner = 1 - owner.min(1);
-    }
-    Ok(packets)
+/// What the check says of a run with this text and no capture of a unit.
+fn flaw_in(alloc: Global, text: &str) -> Result<Option<Flaw>, Fail> {
+    let frames = PACKETS
+        .iter()
+        .map(|(frame, _)| *frame)
+        .collect::<Vec<(u8, u8, u8)>>(alloc)?;
+    let capture = capture_of(alloc, &frames)?;
+    let mut host = MemHost::new(alloc);
+    host.put_file("o.fates", text.as_bytes())?;
+    Ok(check_run(alloc, &host, PLAN, &capture).err())
 }
 
-/// What the check says of a text.
-fn check_text(alloc: Global, text: &str) -> Result<(), Flaw> {
-    let Ok(plan) = read_plan(alloc, PLAN) else {
-        return Err(Flaw::Input);
-    };
-    let packets = packets(alloc)?;
-    let fates = fates_told(alloc, text.as_bytes(), packets.len())?;
-    let run = Run {
-        plan: &plan,
-        packets: &packets,
-        fates: &fates,
-    };
-    let tally = Tally::of(&run);
-    check_fates(&run, &tally)?;
-    let _ = sent_lists(alloc, &run, &tally)?;
-    Ok(())
-}
-
-fn check_changed(alloc: Global, changes: Changes<'_>) -> Result<(), Flaw> {
+fn flaw_with(alloc: Global, changes: Changes<'_>) -> Result<Option<Flaw>, Fail> {
     let text = text_with(alloc, changes)?;
-    check_text(alloc, text.as_str())
+    flaw_in(alloc, text.as_str())
 }
 
 /// A wrong line in the place of a packet's own, and what is wrong then.
@@ -201,17 +179,19 @@ const WRONG: [(usize, &str, Flaw); 47] = [
     (15, "15 sent 0 4", Flaw::Order(3)),
 ];
 
+/// Of right lines the first file that is missed is told.
+const MISSED: Flaw = Flaw::Capture(0);
+
 #[test]
 fn refuses_each_wrong_line(rt: HostRuntime) -> Result<(), Fail> {
     let alloc = rt.alloc();
-    check_changed(alloc, &[])?;
+    assert_eq!(rt; flaw_with(alloc, &[])?, Some(MISSED));
     for (n, line, flaw) in WRONG {
-        let answer = check_changed(alloc, &[(n, line)]);
-        assert_eq!(rt; answer, Err(flaw), "{line:?}");
+        assert_eq!(rt; flaw_with(alloc, &[(n, line)])?, Some(flaw), "{line:?}");
     }
     // a sender's packets of one band in the other order
-    let turned = check_changed(alloc, &[(0, "0 sent 0 2"), (8, "8 sent 0 0")]);
-    assert_eq!(rt; turned, Err(Flaw::Order(0)));
+    let turned = flaw_with(alloc, &[(0, "0 sent 0 2"), (8, "8 sent 0 0")])?;
+    assert_eq!(rt; turned, Some(Flaw::Order(0)));
     Ok(())
 }
 
@@ -220,9 +200,9 @@ fn refuses_another_number_of_lines(rt: HostRuntime) -> Result<(), Fail> {
     let alloc = rt.alloc();
     let text = text_with(alloc, &[])?;
     let (fewer, _) = text.as_str().split_once("17 ").ok_or("no last line")?;
-    assert_eq!(rt; check_text(alloc, fewer), Err(Flaw::Line(17)));
+    assert_eq!(rt; flaw_in(alloc, fewer)?, Some(Flaw::Line(17)));
     let more = format!(in alloc; "{text}18 sent 1 2\n")?;
-    assert_eq!(rt; check_text(alloc, more.as_str()), Err(Flaw::MoreLines));
+    assert_eq!(rt; flaw_in(alloc, more.as_str())?, Some(Flaw::MoreLines));
     Ok(())
 }
 
@@ -266,22 +246,131 @@ const CHANGED: [(&str, &[usize], Flaw); 5] = [
     ("o.mq0.pcap", &[1, 0], Flaw::Joint(0)),
 ];
 
+/// What the check says of a run over the root with these counts, where a file has other packets than its own.
+fn flaw_of(
+    alloc: Global,
+    counts: &str,
+    changed: Option<(&str, &[usize])>,
+) -> Result<Option<Flaw>, Fail> {
+    let capture = capture_of(alloc, &[(0, 1, 0), (0, 0, 0), (0, 3, 0)])?;
+    let mut host = host_after(alloc, &capture, counts)?;
+    if let Some((name, packets)) = changed {
+        host.put_file(name, &records_of(alloc, &capture, packets)?)?;
+    }
+    Ok(check_run(alloc, &host, ROOT, &capture).err())
+}
+
 #[test]
 fn refuses_each_wrong_file(rt: HostRuntime) -> Result<(), Fail> {
     let alloc = rt.alloc();
-    let capture = capture_of(alloc, &[(0, 1, 0), (0, 0, 0), (0, 3, 0)])?;
-    let right = host_after(alloc, &capture, COUNTS)?;
-    assert_eq!(rt; check_run(alloc, &right, ROOT, &capture), Ok(3));
+    assert_eq!(rt; flaw_of(alloc, COUNTS, None)?, None);
     for (name, packets, flaw) in CHANGED {
-        let mut host = host_after(alloc, &capture, COUNTS)?;
-        host.put_file(name, &records_of(alloc, &capture, packets)?)?;
-        let answer = check_run(alloc, &host, ROOT, &capture);
-        assert_eq!(rt; answer, Err(flaw), "{name}");
+        let found = flaw_of(alloc, COUNTS, Some((name, packets)))?;
+        assert_eq!(rt; found, Some(flaw), "{name}");
     }
     let (without, _) = COUNTS.split_once("mq ").ok_or("no line of the root")?;
-    let host = host_after(alloc, &capture, without)?;
-    assert_eq!(rt; check_run(alloc, &host, ROOT, &capture), Err(Flaw::Counts));
-    let none = host_of(alloc, ROOT, &capture)?;
-    assert_eq!(rt; check_run(alloc, &none, ROOT, &capture), Err(Flaw::Text));
+    assert_eq!(rt; flaw_of(alloc, without, None)?, Some(Flaw::Counts));
+    let none = MemHost::new(alloc);
+    assert_eq!(rt; check_run(alloc, &none, ROOT, &HEADER), Err(Flaw::Text));
+    Ok(())
+}
+
+/// The lines of a tap's four packets of one sender, over a ring of one slot.
+const RIGHT: &str = "0 read 0\n1 full 0\n2 lost\n3 read 1\n";
+
+/// Other lines of a tap over a ring of so many slots, and what is wrong with them.
+struct Lines {
+    len: usize,
+    lines: &'static str,
+    wrong: Wrong,
+}
+
+const WRONG_LINES: [Lines; 13] = [
+    // a packet that saw itself, one that is none, and one that wasn't in the ring either
+    Lines {
+        len: 1,
+        lines: "0 read 0\n1 full 1\n2 lost\n3 read 1\n",
+        wrong: "a packet full or lost without a cause",
+    },
+    Lines {
+        len: 1,
+        lines: "0 read 0\n1 full 4\n2 lost\n3 read 1\n",
+        wrong: "a packet full or lost without a cause",
+    },
+    Lines {
+        len: 1,
+        lines: "0 full 1\n1 full 0\n2 lost\n3 read 0\n",
+        wrong: "a packet full or lost without a cause",
+    },
+    // three came in, which fill the ring: none is lost then, and none where all have room
+    Lines {
+        len: 3,
+        lines: RIGHT,
+        wrong: "a packet full or lost without a cause",
+    },
+    Lines {
+        len: 4,
+        lines: "0 read 0\n1 full 0\n2 read 1\n3 read 2\n",
+        wrong: "not all read, where all have room",
+    },
+    Lines {
+        len: 1,
+        lines: "0 lost\n1 lost\n2 lost\n3 read 0\n",
+        wrong: "more lost than read",
+    },
+    Lines {
+        len: 1,
+        lines: "0 read 0\n1 full 0\n2 lost\n3 read 0\n",
+        wrong: "a place twice",
+    },
+    Lines {
+        len: 1,
+        lines: "0 read 0\n1 full 0\n2 lost\n3 read 2\n",
+        wrong: "a place too high",
+    },
+    Lines {
+        len: 1,
+        lines: "0 read 1\n1 full 0\n2 lost\n3 read 0\n",
+        wrong: "a sender's packets out of order",
+    },
+    Lines {
+        len: 1,
+        lines: "0 read 0\n1 full 0\n2 lost\n",
+        wrong: "another number of fates",
+    },
+    // lines of another packet, of no tap, and cut off
+    Lines {
+        len: 1,
+        lines: "0 read 0\n1 full 0\n3 lost\n2 read 1\n",
+        wrong: "a line that tells no fate",
+    },
+    Lines {
+        len: 1,
+        lines: "0 read 0\n1 full 0\n2 sent 0 1\n3 read 1\n",
+        wrong: "a line that tells no fate",
+    },
+    Lines {
+        len: 1,
+        lines: "0 read 0\n1 full\n2 lost\n3 read 1\n",
+        wrong: "a line that tells no fate",
+    },
+];
+
+#[test]
+fn takes_right_lines_of_a_tap_alone(rt: HostRuntime) -> Result<(), Fail> {
+    let alloc = rt.alloc();
+    let shape = |len: usize| TapShape { senders: 1, len };
+    let (counts, read) = check_tap_lines(alloc, RIGHT.as_bytes(), 4, shape(1))?;
+    let told = TapCounts {
+        read: 2,
+        full: 1,
+        lost: 1,
+    };
+    assert_eq!(rt; counts, told);
+    assert_eq!(rt; read.as_slice(), [0usize, 3].as_slice());
+    for row in &WRONG_LINES {
+        let found = check_tap_lines(alloc, row.lines.as_bytes(), 4, shape(row.len)).err();
+        assert_eq!(rt; found, Some(row.wrong), "{}", row.lines);
+    }
     Ok(())
 }
