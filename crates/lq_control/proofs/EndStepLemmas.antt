@@ -8,6 +8,7 @@ use Rattle.lq_table.specs.Controls.{beginning_control, finding, returning}
 use Rattle.lq_table.specs.Told.{is_set, looking}
 use Rattle.lq_table.specs.Made.{Known, Made, ◌⊳◌, did_load_base, did_load_inside, did_load_lock, did_load_state, did_load_turn}
 use Rattle.lq_qdisc.specs.Steps.{with_state_loaded}
+use Rattle.lq_control.specs.Control.{IsServed}
 use Rattle.lq_control.specs.Steps.{DrainsBy, with_control_begun, with_control_ended, with_inside_loaded, with_words_loaded}
 use Rattle.lq_qdisc.specs.Sends.{WakesBelow}
 use Rattle.lq_control.specs.EndSteps.{FindsBusy, inside, scheduled, LoadsStops, LooksBy, LooksInside, SendsIfLeft, SendsLeft, SendsLeftBelow, ServesOn, ServesToEnd, WaitsUntilLeft, are_quiet, not_looked, one_more, with_turn_loaded}
@@ -35,9 +36,15 @@ serves_more k old a begun looked left woken next h bv b l ev e w d =
     one_more a looked woken next b.0 e.0 h (subst (λ (x : Known). LooksBy k seen.Going x looked) (both begun (with_control_begun b.0 a) bv b.1) l)
     (subst (λ (x : Known). WakesBelow k k.queues x woken) (both left (with_control_ended e.0 looked) ev e.1) w) d
 
-pub serves_to_end : (k : Setup) (answer is : Seen) (old a begun looked : Known) → answer ≡ is → ServesOn k old a → begun.view ≡ beginning_control a.view → (found : ℕ) × (begun.steps ≡ a.steps ⊳ did_load_base found) → LooksBy k answer begun looked → ServesToEnd k is old looked
-serves_to_end k answer is old a begun looked same h v b l =
-    (a, b.0, h, subst (λ (x : Known). LooksBy k is x looked) (both begun (with_control_begun b.0 a) v b.1) (subst (λ (x : Seen). LooksBy k x begun looked) same l))
+pub serves_to_end : (k : Setup) (answer is : Seen) (old a begun looked : Known) → answer ≡ is → ServesOn k old a → begun.view ≡ beginning_control a.view → (found : ℕ) × (begun.steps ≡ a.steps ⊳ did_load_base found) → LooksBy k answer begun looked
+    → IsServed old.view looked.view → ServesToEnd k is old looked
+serves_to_end k answer is old a begun looked same h v b l served = record {
+  last = a;
+  begun = b.0;
+  serves = h;
+  looks = subst (λ (x : Known). LooksBy k is x looked) (both begun (with_control_begun b.0 a) v b.1) (subst (λ (x : Seen). LooksBy k x begun looked) same l);
+  served = served;
+}
 
 pub busy_then : (a b c : Known) → FindsBusy a b → FindsBusy b c → FindsBusy a c
 busy_then a b c h not_looked = h

@@ -1,5 +1,5 @@
 -- The lemmas on the end of a station: what is left is sent in order, and after the last look or the purge nothing is held.
-use Rattle.std.proofs.Common.{◌≡◌, ◌≢◌, inl, inr, ⊎_elim, ℕ, zero, suc, ◌+◌, ◌*◌, ◌<◌, ◌≤◌, Bool, true, false, List, [], ◌∷◌, ◌++◌, length, take, Contains, Some, None, refl, sym, ap, ◌∙◌, subst, arith, get_or, slice_index, slice_get, eqb-true}
+use Rattle.std.proofs.Common.{◌≡◌, ◌≢◌, ⊎_elim, ℕ, zero, suc, ◌+◌, ◌*◌, ◌<◌, ◌≤◌, Bool, true, false, List, [], ◌∷◌, ◌++◌, length, take, Contains, Some, None, refl, sym, ap, ◌∙◌, subst, arith, get_or, slice_index, slice_get, eqb-true}
 use Rattle.std.specs.Prelude.{◌==◌, ◌&&◌, cond, count_by, slice_set}
 use Rattle.std.proofs.lemmas.Bool.{cond_both, eq-eqb}
 use Rattle.std.proofs.lemmas.List.{append_assoc, get_or-set_same, get_or-set_other, length-set}
@@ -8,80 +8,20 @@ use Rattle.std.proofs.lemmas.List.Sums.{count_by_more_yes, count_by_more_no, sum
 use Rattle.std.proofs.lemmas.Option.{get_or_from_slice_get, slice_get_cases}
 use mathlib.Core.Logic.{dite}
 use native.Mathlib.Decide.{ℕ_discrete}
-use Rattle.lq_model.specs.Account.{Account, Event, Join, Full, Refuse, Direct, Purge}
-use Rattle.lq_model.specs.Device.{DeviceState}
-use Rattle.lq_model.specs.declared.fate.Cause.{Cause}
-use Rattle.lq_model.specs.declared.fate.Cause.TheVariants as cause
+use Rattle.lq_model.specs.Account.{Event, Join, Full, Refuse, Direct}
 use Rattle.lq_model.specs.Legal.{brought}
 use Rattle.lq_model.specs.Plan.{owner_in}
 use Rattle.lq_model.specs.declared.fate.Info.{Info}
 use Rattle.lq_account.specs.Trail.{is_own}
-use Rattle.lq_account.proofs.Lists.{none-in, cons-in}
+use Rattle.lq_account.proofs.Lists.{none-in}
 use Rattle.lq_table.specs.Views.{View, Setup}
-use Rattle.lq_table.specs.Solo.{account_of}
 use Rattle.lq_model.specs.declared.fate.Fate.{Fate}
 use Rattle.lq_ring.specs.Fates.{fates_onto}
 use Rattle.lq_qdisc.specs.Calls.{KeepsFates}
 use Rattle.lq_qdisc.specs.Sends.{came_as, trail_with}
 use Rattle.lq_qdisc.specs.declared.answers.Sending.{Sending}
 use Rattle.lq_qdisc.specs.declared.answers.Sending.TheVariants as sending
-use Rattle.lq_control.specs.Finish.{is_packet_of, count_below, count_all, IsTurn, AreTurnsFrom, AreAllDone, IsSent, PurgesHung, FinishEnds, ArePurgesHung}
-
--- THE TRAIL
-
-pub sent_none : (k : Setup) (v w : View) → w.trail ≡ v.trail → IsSent k v w
-sent_none k v w e = record { events = []; trail = e; first = λ x is. absurd (none-in [] x refl is) }
-
-pub sent_then : (k : Setup) (v w x : View) → IsSent k v w → IsSent k w x → IsSent k v x
-sent_then k v w x a b = record {
-  events = b.events ++ a.events;
-  trail = b.trail ∙ (ap (λ (es : List Event). b.events ++ es) a.trail ∙ sym (append_assoc b.events a.events v.trail));
-  first = λ e is. ⊎_elim (b.first e) (a.first e) (Contains-append_cases b.events a.events e is);
-}
-
-only : (e x : Event) → Contains (e ∷ []) x → e ≡ x
-only e x (zero, below, at) = at
-only e x (suc i, below, at) = absurd (omega arith)
-
-sent_if : (k : Setup) (e : Event) (n : ℕ) (v w : View) (b : Bool) → brought e ≡ Some n → (b ≡ true → owner_in k.infos n ≡ 0) → w.trail ≡ cond b (e ∷ v.trail) v.trail → IsSent k v w
-sent_if k e n v w true is own t = record { events = e ∷ []; trail = t; first = λ x there. (n, ap brought (sym (only e x there)) ∙ is, own refl) }
-sent_if k e n v w false is own t = sent_none k v w t
-
-pub sent_by : (k : Setup) (n : ℕ) (answer : Sending) (v w : View) → v.share.about ≡ k → w.trail ≡ trail_with (came_as k.infos n answer) v → IsSent k v w
-sent_by k n sending.Direct v w about t = sent_if k (Direct n) n v w (owner_in k.infos n == 0) refl (eqb-true (owner_in k.infos n) 0) (t ∙ ap (λ (s : Setup). cond (is_own s.infos (Direct n)) (Direct n ∷ v.trail) v.trail) about)
-sent_by k n sending.Queued v w about t = let e : Event = Join n (Rattle.lq_model.specs.Plan.band_in k.infos n) in sent_if k e n v w (owner_in k.infos n == 0) refl (eqb-true (owner_in k.infos n) 0) (t ∙ ap (λ (s : Setup). cond (is_own s.infos e) (e ∷ v.trail) v.trail) about)
-sent_by k n (sending.FullSeen seen) v w about t = let e : Event = Full n seen in sent_if k e n v w (owner_in k.infos n == 0) refl (eqb-true (owner_in k.infos n) 0) (t ∙ ap (λ (s : Setup). cond (is_own s.infos e) (e ∷ v.trail) v.trail) about)
-sent_by k n (sending.Refused event) v w about t = let e : Event = Refuse n event in sent_if k e n v w (owner_in k.infos n == 0) refl (eqb-true (owner_in k.infos n) 0) (t ∙ ap (λ (s : Setup). cond (is_own s.infos e) (e ∷ v.trail) v.trail) about)
-sent_by k n (sending.OutOfTurn found) v w about t = sent_none k v w t
-
--- THE PURGE OF A HUNG STATION
-
-abbrev unit_purged : Event → ℕ
-unit_purged (Purge (cause.Hung unit)) = unit
-unit_purged event = 0
-
-purge_no_packet : (cause : Cause) (n : ℕ) → brought (Purge cause) ≡ Some n → ⊥
-purge_no_packet cause n e = let none : brought (Purge cause) ≡ None = refl in cc
-
--- transmits put no purge on the trail
-sent_no_purge : (k : Setup) (v w : View) (unit : ℕ) → IsSent k v w → Contains w.trail (Purge (cause.Hung unit)) → Contains v.trail (Purge (cause.Hung unit))
-sent_no_purge k v w unit s there = ⊎_elim
-    (λ sent. let first = s.first (Purge (cause.Hung unit)) sent in absurd (purge_no_packet (cause.Hung unit) first.0 first.1))
-    (λ before. before)
-    (Contains-append_cases s.events v.trail (Purge (cause.Hung unit)) (subst (λ (es : List Event). Contains es (Purge (cause.Hung unit))) s.trail there))
-
-purged_now : (before w : View) (purged unit : ℕ) → PurgesHung purged before w → Purge (cause.Hung before.whole.state.station.unit) ≡ Purge (cause.Hung unit) → ((account_of w).unit ≡ unit) × (w.whole.state.station.device.hung ≡ true)
-purged_now before w purged unit p e = (ap (λ (a : Account). a.unit) p.account ∙ (p.unit ∙ ap unit_purged e), ap (λ (d : DeviceState). d.hung) p.device ∙ p.hung)
-
-pub purges_hung : (k : Setup) (purged : ℕ) (v w : View) → FinishEnds k purged v w → ArePurgesHung v w
-purges_hung k purged v w e unit there = ⊎_elim
-    (λ none. inl (sent_no_purge k v e.sent unit e.is_sent (subst (λ (es : List Event). Contains es (Purge (cause.Hung unit))) none.0 there)))
-    (λ (some : (before : View) × (before.trail ≡ e.sent.trail) × PurgesHung purged before w). let p = some.2 in let before = some.0 in
-    ⊎_elim
-    (λ same. inr (purged_now before w purged unit p same))
-    (λ earlier. inl (sent_no_purge k v e.sent unit e.is_sent (subst (λ (es : List Event). Contains es (Purge (cause.Hung unit))) some.1 earlier)))
-    (cons-in (Purge (cause.Hung before.whole.state.station.unit)) before.trail (Purge (cause.Hung unit)) (subst (λ (es : List Event). Contains es (Purge (cause.Hung unit))) p.trail there)))
-    e.ends
+use Rattle.lq_control.specs.Finish.{is_packet_of, count_below, count_all, IsTurn, AreTurnsFrom, AreAllDone, IsSent}
 
 -- FATES
 
@@ -91,6 +31,37 @@ keeps_then v w x a b = (b.0 ++ a.0, b.1 ∙ (ap (λ (fs : List (ℕ × Fate)). b
 pub fates_before : (f : Fate) (ns : List ℕ) (fates : List (ℕ × Fate)) → (more : List (ℕ × Fate)) × (fates_onto f ns fates ≡ more ++ fates)
 fates_before f [] fates = ([], refl)
 fates_before f (n ∷ ns) fates = let more = fates_before f ns ((n, f) ∷ fates) in (more.0 ++ (n, f) ∷ [], more.1 ∙ sym (append_assoc more.0 ((n, f) ∷ []) fates))
+
+-- THE TRAIL
+
+pub sent_none : (k : Setup) (v w : View) → w.trail ≡ v.trail → KeepsFates v w → IsSent k v w
+sent_none k v w e fates = record { events = []; trail = e; first = λ x is. absurd (none-in [] x refl is); fates = fates }
+
+pub sent_same : (k : Setup) (v w : View) → w ≡ v → IsSent k v w
+sent_same k v w e = sent_none k v w (ap (λ (x : View). x.trail) e) ([], ap (λ (x : View). x.settled) e)
+
+pub sent_then : (k : Setup) (v w x : View) → IsSent k v w → IsSent k w x → IsSent k v x
+sent_then k v w x a b = record {
+  events = b.events ++ a.events;
+  trail = b.trail ∙ (ap (λ (es : List Event). b.events ++ es) a.trail ∙ sym (append_assoc b.events a.events v.trail));
+  first = λ e is. ⊎_elim (b.first e) (a.first e) (Contains-append_cases b.events a.events e is);
+  fates = keeps_then v w x a.fates b.fates;
+}
+
+only : (e x : Event) → Contains (e ∷ []) x → e ≡ x
+only e x (zero, below, at) = at
+only e x (suc i, below, at) = absurd (omega arith)
+
+sent_if : (k : Setup) (e : Event) (n : ℕ) (v w : View) (b : Bool) → brought e ≡ Some n → (b ≡ true → owner_in k.infos n ≡ 0) → w.trail ≡ cond b (e ∷ v.trail) v.trail → KeepsFates v w → IsSent k v w
+sent_if k e n v w true is own t fates = record { events = e ∷ []; trail = t; first = λ x there. (n, ap brought (sym (only e x there)) ∙ is, own refl); fates = fates }
+sent_if k e n v w false is own t fates = sent_none k v w t fates
+
+pub sent_by : (k : Setup) (n : ℕ) (answer : Sending) (v w : View) → v.share.about ≡ k → w.trail ≡ trail_with (came_as k.infos n answer) v → KeepsFates v w → IsSent k v w
+sent_by k n sending.Direct v w about t fates = sent_if k (Direct n) n v w (owner_in k.infos n == 0) refl (eqb-true (owner_in k.infos n) 0) (t ∙ ap (λ (s : Setup). cond (is_own s.infos (Direct n)) (Direct n ∷ v.trail) v.trail) about) fates
+sent_by k n sending.Queued v w about t fates = let e : Event = Join n (Rattle.lq_model.specs.Plan.band_in k.infos n) in sent_if k e n v w (owner_in k.infos n == 0) refl (eqb-true (owner_in k.infos n) 0) (t ∙ ap (λ (s : Setup). cond (is_own s.infos e) (e ∷ v.trail) v.trail) about) fates
+sent_by k n (sending.FullSeen seen) v w about t fates = let e : Event = Full n seen in sent_if k e n v w (owner_in k.infos n == 0) refl (eqb-true (owner_in k.infos n) 0) (t ∙ ap (λ (s : Setup). cond (is_own s.infos e) (e ∷ v.trail) v.trail) about) fates
+sent_by k n (sending.Refused event) v w about t fates = let e : Event = Refuse n event in sent_if k e n v w (owner_in k.infos n == 0) refl (eqb-true (owner_in k.infos n) 0) (t ∙ ap (λ (s : Setup). cond (is_own s.infos e) (e ∷ v.trail) v.trail) about) fates
+sent_by k n (sending.OutOfTurn found) v w about t fates = sent_none k v w t fates
 
 -- TURNS
 

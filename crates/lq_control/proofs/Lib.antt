@@ -12,3 +12,4 @@ pub mod StepLemmas
 pub mod EndStepLemmas
 -- what the calls' relations come to
 pub mod CallLaws
+pub mod EndLaws

@@ -1,14 +1,16 @@
 -- What the relations of control's calls come to.
-use Rattle.std.specs.Prelude.{◌≡◌, ℕ, List, ◌∷◌, ◌++◌, length}
-use Rattle.lq_model.specs.Account.{Event, Resize, held}
+use Rattle.std.specs.Prelude.{◌≡◌, ◌⊎◌, ℕ, List, ◌∷◌, ◌++◌, length}
+use Rattle.lq_model.specs.Account.{Event, Purge, Resize, held}
 use Rattle.lq_model.specs.Device.{DeviceState}
 use Rattle.lq_model.specs.declared.fate.Cause.TheVariants as cause
 use Rattle.lq_model.specs.declared.fate.Fate.TheVariants as fate
 use Rattle.lq_ring.specs.Fates.{fates_onto}
 use Rattle.lq_table.specs.Rule.{HasServed, latest_unit, units_of}
 use Rattle.lq_table.specs.Solo.{IsSole, account_of}
-use Rattle.lq_table.specs.Views.{View}
+use Rattle.lq_table.specs.Views.{View, Setup}
+use Rattle.lq_qdisc.specs.Calls.{KeepsFates}
 use Rattle.lq_control.specs.Control.{IsKeptByControl, KeepsDevice, Stores, all_dropped}
+use Rattle.lq_control.specs.Finish.{AreAllDone, ArePurgesHung}
 
 -- these events came, what control keeps is kept, and so many packets are purged by this event: for a seat that has the table alone all
 -- that its account holds
@@ -36,3 +38,16 @@ pub record ExchangesFor (came went : DeviceState) (v w : View) : Type 0 where
   pub origin : w.control.origin ≡ came
   pub gone : w.control.gone ≡ (latest_unit v.share.about.station (units_of v.trail), went.accepted) ∷ v.control.gone
   pub has_served : HasServed v.share.about.infos v.share.about.station v.control.origin went
+
+-- nothing comes on the trail, and 0 is counted; or the purge of what a hung device left, by the account's unit
+abbrev pub PurgesAtMost : ℕ → View → View → Type 0
+PurgesAtMost count v w = ((w.trail ≡ v.trail) × (count ≡ 0)) ⊎ (w.trail ≡ Purge (cause.Hung (account_of w).unit) ∷ v.trail)
+
+-- all packets of the station were transmitted, and fates that were stored stay so
+pub record ComesToEnd (k : Setup) (count : ℕ) (v w : View) : Type 0 where
+  pub done : AreAllDone k w.turns
+  pub fates : KeepsFates v w
+  pub hung : ArePurgesHung v w
+  -- where all were transmitted before
+  pub turns : AreAllDone k v.turns → w.turns ≡ v.turns
+  pub purges : AreAllDone k v.turns → PurgesAtMost count v w

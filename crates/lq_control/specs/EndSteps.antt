@@ -9,6 +9,8 @@ use Rattle.lq_qdisc.specs.declared.answers.Sending.{Sending}
 use Rattle.lq_table.specs.Views.{Setup}
 use Rattle.lq_table.specs.Told.{is_set, loading}
 use Rattle.lq_table.specs.Made.{Known, ◌⊳◌, did_load_stop, did_load_turn}
+use Rattle.lq_control.specs.Control.{IsServed}
+use Rattle.lq_control.specs.Finish.{AreAllDone, IsSent, PurgesHung}
 use Rattle.lq_control.specs.Steps.{DrainsBy, PurgesBy, TakesLock, with_control_begun, with_control_ended, with_inside_loaded, with_words_loaded}
 use Rattle.lq_control.specs.declared.finishes.Seen.{Seen}
 use Rattle.lq_control.specs.declared.finishes.Seen.TheVariants as seen
@@ -34,6 +36,13 @@ SendsIfLeft k n old new =
 abbrev pub SendsLeftBelow : Setup → ℕ → Known → Known → Type 0
 SendsLeftBelow k zero old new = new ≡ old
 SendsLeftBelow k (suc n) old new = (between : Known) × SendsLeftBelow k n old between × SendsIfLeft k n between new
+
+-- all packets are, in ascending order: so each of the station was transmitted, and where each was before nothing changes
+pub record SendsAllLeft (k : Setup) (old new : Known) : Type 0 where
+  pub sends : SendsLeftBelow k (length k.infos) old new
+  pub brings : IsSent k old.view new.view
+  pub done : AreAllDone k new.view.turns
+  pub none : AreAllDone k old.view.turns → new.view ≡ old.view
 
 -- A LOOK AT THE WORDS
 
@@ -80,9 +89,13 @@ pub data ServesOn (k : Setup) (old : Known) : Known → Type 0 where
   one_more : (last looked woken next : Known) (begun left : ℕ) → ServesOn k old last
       → LooksBy k seen.Going (with_control_begun begun last) looked → WakesBelow k k.queues (with_control_ended left looked) woken → DrainsBy k woken next → ServesOn k old next
 
--- up to a look that finds it otherwise
-abbrev pub ServesToEnd : Setup → Seen → Known → Known → Type 0
-ServesToEnd k answer old new = (last : Known) × (begun : ℕ) × ServesOn k old last × LooksBy k answer (with_control_begun begun last) new
+-- up to a look that finds it otherwise; no event of control or the first sender came
+pub record ServesToEnd (k : Setup) (answer : Seen) (old new : Known) : Type 0 where
+  pub last : Known
+  pub begun : ℕ
+  pub serves : ServesOn k old last
+  pub looks : LooksBy k answer (with_control_begun begun last) new
+  pub served : IsServed old.view new.view
 
 -- THE PURGE OF A HUNG STATION
 
@@ -96,15 +109,28 @@ pub data FindsBusy (old : Known) : Known → Type 0 where
 abbrev pub WaitsUntilLeft : Known → Known → Type 0
 WaitsUntilLeft old new = (last : Known) × (state : ℕ) × FindsBusy old last × (is_set 1 state ≡ false) × (new ≡ with_state_loaded state (with_inside_loaded 0 last))
 
--- under the run lock, with the unit of the station that came with that as the cause: so many packets are purged
-abbrev pub PurgesHungBy : Setup → ℕ → Known → Known → Type 0
-PurgesHungBy k count old new = (left locked purged : Known) × WaitsUntilLeft old left × TakesLock left locked
-    × PurgesBy k (cause.Hung locked.view.holder.station.unit) count locked purged × ReleasesBy purged new
+-- Under the run lock, with the unit of the station that came with that as the cause: so many packets are purged, which are all that were
+-- held.
+pub record PurgesHungBy (k : Setup) (count : ℕ) (old new : Known) : Type 0 where
+  pub left : Known
+  pub locked : Known
+  pub purged : Known
+  pub waits : WaitsUntilLeft old left
+  pub takes : TakesLock left locked
+  pub purges : PurgesBy k (cause.Hung locked.view.holder.station.unit) count locked purged
+  pub releases : ReleasesBy purged new
+  pub comes_to : PurgesHung count old.view new.view
 
 -- THE CALL
 
--- what is left is sent, and the station served to its end; where it hangs it is purged, and the number of packets purged is answered
+-- the station is served until it hangs, and purged: the number of packets purged is answered
+abbrev pub EndsHung : Setup → ℕ → Known → Known → Type 0
+EndsHung k count old new = (hung : Known) × ServesToEnd k seen.Hung old hung × PurgesHungBy k count hung new
+
+-- it is served until it is deactivated or its words are quiet, and the call of control is left: 0 is answered
+abbrev pub EndsQuiet : Setup → ℕ → Known → Known → Type 0
+EndsQuiet k count old new = (over : Known) × (found : ℕ) × ServesToEnd k seen.Ended old over × (count ≡ 0) × (new ≡ with_control_ended found over)
+
+-- what is left is sent, and the station brought to its end
 abbrev pub FinishesBy : Setup → ℕ → Known → Known → Type 0
-FinishesBy k count old new = (sent ended : Known) × SendsLeftBelow k (length k.infos) old sent
-    × ((ServesToEnd k seen.Hung sent ended × PurgesHungBy k count ended new)
-    ⊎ (ServesToEnd k seen.Ended sent ended × (count ≡ 0) × (found : ℕ) × (new ≡ with_control_ended found ended)))
+FinishesBy k count old new = (sent : Known) × SendsAllLeft k old sent × (EndsHung k count sent new ⊎ EndsQuiet k count sent new)

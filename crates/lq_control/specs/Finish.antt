@@ -3,8 +3,10 @@ use Rattle.std.specs.Prelude.{◌≡◌, ◌⊎◌, ℕ, ◌+◌, ◌*◌, ◌<�
 use Rattle.lq_model.specs.Account.{Event, Purge, after, held}
 use Rattle.lq_model.specs.Legal.{brought}
 use Rattle.lq_model.specs.Plan.{owner_in, station_in, rank_in}
+use Rattle.lq_model.specs.declared.fate.Cause.{Cause}
 use Rattle.lq_model.specs.declared.fate.Cause.TheVariants as cause
 use Rattle.lq_model.specs.declared.fate.Fate.{Fate}
+use Rattle.lq_model.specs.declared.fate.Fate.TheVariants as fate
 use Rattle.lq_model.specs.declared.fate.Info.{Info}
 use Rattle.lq_model.specs.declared.machine.Phase.{Phase}
 use Rattle.lq_model.specs.declared.machine.Phase.TheVariants.{Active, Purged}
@@ -12,6 +14,8 @@ use Rattle.lq_table.specs.Views.{View, Setup}
 use Rattle.lq_table.specs.Rule.{AreInfos, times}
 use Rattle.lq_table.specs.AtRest.{IsFatedOrHeld}
 use Rattle.lq_table.specs.Solo.{account_of, solo}
+use Rattle.lq_ring.specs.Fates.{fates_onto}
+use Rattle.lq_qdisc.specs.Calls.{KeepsFates}
 use Rattle.lq_control.specs.Ending.{purged_as_hung}
 use Rattle.lq_control.specs.Control.{IsIn}
 use Rattle.lq_control.specs.declared.finishes.Seen.{Seen}
@@ -58,11 +62,12 @@ AreAllDone k turns = (o : ℕ) → o < k.senders → slice_index turns o ≡ 2 *
 abbrev pub BroughtFirst : List Info → List Event → Type 0
 BroughtFirst infos events = (e : Event) → Contains events e → (n : ℕ) × (brought e ≡ Some n) × (owner_in infos n ≡ 0)
 
--- what transmits of the seat put on the trail
+-- what transmits of the seat put on the trail; fates that were stored stay so
 pub record IsSent (k : Setup) (v w : View) : Type 0 where
   pub events : List Event
   pub trail : w.trail ≡ events ++ v.trail
   pub first : BroughtFirst k.infos events
+  pub fates : KeepsFates v w
 
 -- WHAT IS LEFT
 
@@ -108,25 +113,22 @@ pub record IsFinished (k : Setup) (v : View) : Type 0 where
   pub hand_empty : (account_of v).hand ≡ None
   pub decided : (n : ℕ) → n < length k.infos → station_in k.infos n ≡ k.station → (f : Fate) × ((account_of v).fates n ≡ Some f)
 
--- The purge of what a hung device left when the seat's view was `before`: all that was held has Purged by its unit as its fate.
-pub record PurgesHung (purged : ℕ) (before w : View) : Type 0 where
-  pub hung : before.whole.state.station.device.hung ≡ true
-  pub unit : (account_of before).unit ≡ before.whole.state.station.unit
-  pub account : account_of w ≡ after (Purge (cause.Hung before.whole.state.station.unit)) (account_of before)
-  pub counted : purged ≡ length (held (account_of before))
-  pub trail : w.trail ≡ Purge (cause.Hung before.whole.state.station.unit) ∷ before.trail
-  pub device : w.whole.state.station.device ≡ before.whole.state.station.device
-  -- so its event is the only one that came after what the seat knew before
-  pub step : solo w ≡ purged_as_hung before.whole.state.station.unit (solo before)
+-- the cause of a purge where the device of the present unit hangs
+abbrev pub hung_cause : View → Cause
+hung_cause v = cause.Hung v.whole.state.station.unit
 
--- What transmits of the seat brought comes on the trail, nothing where all packets were transmitted before; and after it nothing,
--- or the purge of what the hung device left.
-pub record FinishEnds (k : Setup) (purged : ℕ) (v w : View) : Type 0 where
-  pub sent : View
-  pub is_sent : IsSent k v sent
-  pub none_sent : AreAllDone k v.turns → sent ≡ v
-  pub turns : w.turns ≡ sent.turns
-  pub ends : ((w.trail ≡ sent.trail) × (purged ≡ 0)) ⊎ ((before : View) × (before.trail ≡ sent.trail) × PurgesHung purged before w)
+-- The purge of what a hung device left: just what was held has Purged by its unit as its fate, which is stored, and is counted.
+pub record PurgesHung (count : ℕ) (v w : View) : Type 0 where
+  pub hung : v.whole.state.station.device.hung ≡ true
+  pub unit : (account_of v).unit ≡ v.whole.state.station.unit
+  pub trail : w.trail ≡ Purge (hung_cause v) ∷ v.trail
+  pub account : account_of w ≡ after (Purge (hung_cause v)) (account_of v)
+  pub settled : w.settled ≡ fates_onto (fate.Purged (hung_cause v)) (held (account_of v)) v.settled
+  pub counted : count ≡ length (held (account_of v))
+  pub turns : w.turns ≡ v.turns
+  pub device : w.whole.state.station.device ≡ v.whole.state.station.device
+  -- so its event is the only one that came after what the seat knew before
+  pub step : solo w ≡ purged_as_hung v.whole.state.station.unit (solo v)
 
 -- Each purge of a hung station on the trail came before, or is by the present unit, whose device hangs.
 abbrev pub ArePurgesHung : View → View → Type 0

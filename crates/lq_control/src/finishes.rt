@@ -1,22 +1,17 @@
 //! The end of a station, once all its seats are joined.
-ghost use Rattle.std.specs.Prelude.{◌≡◌, ℕ, ◌<◌, ◌*◌, true, false, None, Some, ◌∷◌, length, slice_index, ◌+◌, if◌then◌else◌};
-ghost use Rattle.lq_model.specs.Account.{Purge, after, held};
-ghost use Rattle.lq_model.specs.declared.fate.Cause.TheVariants as cause;
-ghost use Rattle.lq_model.specs.declared.fate.Fate.TheVariants as fate;
+ghost use Rattle.std.specs.Prelude.{◌≡◌, ℕ, ◌<◌, true, false, None, length, slice_index, ◌+◌, if◌then◌else◌};
 ghost use Rattle.lq_model.specs.declared.machine.Phase.TheVariants.{Active};
 ghost use Rattle.lq_model.specs.declared.machine.Position.TheVariants.{Idle, Control};
 ghost use Rattle.lq_table.specs.Sees.{view, known, setup, position, IsSeatOf, IsSameSeat, IsElseSame};
 ghost use Rattle.lq_table.specs.Solo.{IsSole, account_of, solo};
 ghost use Rattle.lq_table.specs.Views.{first_account};
 ghost use Rattle.lq_qdisc.specs.Alone.{IsAlone};
-ghost use Rattle.lq_qdisc.specs.Calls.{KeepsFates};
-ghost use Rattle.lq_qdisc.specs.Sends.{IsReadyToSend};
-ghost use Rattle.lq_ring.specs.Fates.{fates_onto};
+ghost use Rattle.lq_qdisc.specs.Sends.{IsCallKept, IsReadyToSend};
 ghost use Rattle.lq_control.specs.declared.finishes.Seen.TheVariants.{Hung, Ended};
-ghost use Rattle.lq_control.specs.Control.{IsIn, IsKeptByControl};
-ghost use Rattle.lq_control.specs.Ending.{FinishesAlone, IsEndedAlike, purged_as_hung};
-ghost use Rattle.lq_control.specs.EndSteps.{FindsBusy, FinishesBy, LoadsStops, LooksBy, PurgesHungBy, SendsIfLeft, SendsLeftBelow, ServesToEnd, WaitsUntilLeft, are_quiet as quiet};
-ghost use Rattle.lq_control.specs.Finish.{AreFor, AreTurnsFrom, AreAllDone, AreKept, IsSent, IsLook, IsActiveOrPurged, Shows, Hangs, IsFinished, FinishEnds};
+ghost use Rattle.lq_control.specs.Control.{IsIn};
+ghost use Rattle.lq_control.specs.Ending.{FinishesAlone, IsEndedAlike};
+ghost use Rattle.lq_control.specs.EndSteps.{FindsBusy, FinishesBy, LoadsStops, LooksBy, PurgesHungBy, SendsAllLeft, SendsIfLeft, ServesToEnd, WaitsUntilLeft, are_quiet as quiet};
+ghost use Rattle.lq_control.specs.Finish.{AreFor, AreTurnsFrom, AreAllDone, AreKept, IsSent, IsLook, IsActiveOrPurged, Shows, Hangs, IsFinished};
 
 use crate::drains::drain;
 use crate::purges::purge_held;
@@ -48,13 +43,11 @@ fn send_left<'a, D: TxDevice, R: Wait>(rt: &R, shared: &Shared<'a, D>, cpu: &mut
     requires made { AreFor (setup shared.now) (view cpu.old) }
     requires packet { n < length shared.now.infos.now }
     requires turns { AreTurnsFrom (setup shared.now) n (view cpu.old).turns }
-    ensures same { IsSameSeat cpu.old cpu.new }
-    ensures kept { ((view cpu.new).share ≡ (view cpu.old).share) × ((view cpu.new).control ≡ (view cpu.old).control) × ((view cpu.new).whole.told ≡ (view cpu.old).whole.told) }
+    ensures kept { IsCallKept cpu.old cpu.new }
     ensures at { (position cpu.new ≡ Idle) × IsReadyToSend cpu.new }
     ensures raised { (view cpu.new).place.raised ≡ false }
     ensures turns { AreTurnsFrom (setup shared.now) (n + 1) (view cpu.new).turns }
     ensures sent { IsSent (setup shared.now) (view cpu.old) (view cpu.new) }
-    ensures fates { KeepsFates (view cpu.old) (view cpu.new) }
     ensures done { AreAllDone (setup shared.now) (view cpu.old).turns → view cpu.new ≡ view cpu.old }
     ensures sends { SendsIfLeft (setup shared.now) n (known cpu.old) (known cpu.new) }
 {
@@ -75,15 +68,10 @@ fn send_all_left<'a, D: TxDevice, R: Wait>(rt: &R, shared: &Shared<'a, D>, cpu: 
     requires raised { (view cpu.old).place.raised ≡ false }
     requires made { AreFor (setup shared.now) (view cpu.old) }
     requires turns { AreTurnsFrom (setup shared.now) 0 (view cpu.old).turns }
-    ensures same { IsSameSeat cpu.old cpu.new }
-    ensures kept { ((view cpu.new).share ≡ (view cpu.old).share) × ((view cpu.new).control ≡ (view cpu.old).control) × ((view cpu.new).whole.told ≡ (view cpu.old).whole.told) }
+    ensures kept { IsCallKept cpu.old cpu.new }
     ensures at { (position cpu.new ≡ Idle) × IsReadyToSend cpu.new }
     ensures raised { (view cpu.new).place.raised ≡ false }
-    ensures turns { AreTurnsFrom (setup shared.now) (length shared.now.infos.now) (view cpu.new).turns }
-    ensures sent { IsSent (setup shared.now) (view cpu.old) (view cpu.new) }
-    ensures fates { KeepsFates (view cpu.old) (view cpu.new) }
-    ensures done { AreAllDone (setup shared.now) (view cpu.old).turns → view cpu.new ≡ view cpu.old }
-    ensures sends { SendsLeftBelow (setup shared.now) (length shared.now.infos.now) (known cpu.old) (known cpu.new) }
+    ensures sends { SendsAllLeft (setup shared.now) (known cpu.old) (known cpu.new) }
 {
     for n in 0..shared.infos().len() {
         send_left(rt, shared, cpu, n as u32);
@@ -149,10 +137,8 @@ fn serve_to_end<'a, D: TxDevice, R: Wait>(rt: &R, shared: &Shared<'a, D>, cpu: &
     requires seat { IsSeatOf shared.now cpu.old }
     requires at { (position cpu.old ≡ Idle) × ((view cpu.old).control.first ≡ true) × ((view cpu.old).place.raised ≡ false) × IsReadyToSend cpu.old }
     requires sole { IsSole (view cpu.old) × IsActiveOrPurged (view cpu.old) }
-    ensures same { IsSameSeat cpu.old cpu.new × IsKeptByControl (view cpu.old) (view cpu.new) }
+    ensures same { IsSameSeat cpu.old cpu.new }
     ensures at { (position cpu.new ≡ Control false) × IsReadyToSend cpu.new × ((view cpu.new).place.raised ≡ false) }
-    ensures still { ((view cpu.new).control ≡ (view cpu.old).control) × ((view cpu.new).trail ≡ (view cpu.old).trail) }
-    ensures fates { KeepsFates (view cpu.old) (view cpu.new) }
     ensures kept { AreKept (setup shared.now) (view cpu.new) }
     ensures shows { Shows (if result then Hung else Ended) (view cpu.new) }
     ensures alone { IsAlone shared.now.infos.now (first_account (setup shared.now)) (solo (view cpu.old))
@@ -211,15 +197,9 @@ fn purge_hung<'a, D: TxDevice, R: Wait>(rt: &R, shared: &Shared<'a, D>, cpu: &mu
     requires at { (position cpu.old ≡ Control false) × ((view cpu.old).control.first ≡ true) × IsReadyToSend cpu.old }
     requires sole { IsSole (view cpu.old) }
     requires hung { Hangs (view cpu.old) }
-    ensures same { IsSameSeat cpu.old cpu.new × IsKeptByControl (view cpu.old) (view cpu.new) }
+    ensures kept { IsCallKept cpu.old cpu.new }
     ensures at { (position cpu.new ≡ Idle) × IsReadyToSend cpu.new × IsIn Active (view cpu.new) }
     ensures raised { (view cpu.new).place.raised ≡ (view cpu.old).place.raised }
-    ensures trail { (view cpu.new).trail ≡ Purge (cause.Hung (view cpu.old).whole.state.station.unit) ∷ (view cpu.old).trail }
-    ensures control { (view cpu.new).control ≡ (view cpu.old).control }
-    ensures purged { ((view cpu.new).settled ≡ fates_onto (fate.Purged (cause.Hung (view cpu.old).whole.state.station.unit)) (held (account_of (view cpu.old))) (view cpu.old).settled) × (result ≡ length (held (account_of (view cpu.old)))) }
-    ensures step { solo (view cpu.new) ≡ purged_as_hung (view cpu.old).whole.state.station.unit (solo (view cpu.old)) }
-    ensures account { account_of (view cpu.new) ≡ after (Purge (cause.Hung (view cpu.old).whole.state.station.unit)) (account_of (view cpu.old)) }
-    ensures device { (view cpu.new).whole.state.station.device ≡ (view cpu.old).whole.state.station.device }
     ensures purges { PurgesHungBy (setup shared.now) result (known cpu.old) (known cpu.new) }
 {
     wait_until_left(rt, shared, cpu);
@@ -244,12 +224,8 @@ pub fn finish<'a, D: TxDevice, R: Wait>(rt: &R, shared: &Shared<'a, D>, cpu: &mu
     requires sole { IsSole (view cpu.old) × IsActiveOrPurged (view cpu.old) }
     requires made { AreFor (setup shared.now) (view cpu.old) }
     requires turns { AreTurnsFrom (setup shared.now) 0 (view cpu.old).turns }
-    ensures same { IsSameSeat cpu.old cpu.new }
-    ensures kept { ((view cpu.new).share ≡ (view cpu.old).share) × ((view cpu.new).control ≡ (view cpu.old).control) × ((view cpu.new).whole.told ≡ (view cpu.old).whole.told) }
+    ensures kept { IsCallKept cpu.old cpu.new }
     ensures at { (position cpu.new ≡ Idle) × ((view cpu.new).place.raised ≡ false) × IsReadyToSend cpu.new }
-    ensures turns { AreAllDone (setup shared.now) (view cpu.new).turns }
-    ensures ends { FinishEnds (setup shared.now) result (view cpu.old) (view cpu.new) }
-    ensures fates { KeepsFates (view cpu.old) (view cpu.new) }
     ensures finished { IsFinished (setup shared.now) (view cpu.new) }
     ensures alone { AreAllDone (setup shared.now) (view cpu.old).turns
         → FinishesAlone shared.now.infos.now (first_account (setup shared.now)) (solo (view cpu.old)) (solo (view cpu.new)) }

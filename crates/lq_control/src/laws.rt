@@ -6,8 +6,9 @@ ghost use Rattle.lq_model.specs.declared.fate.Cause.TheVariants as cause;
 ghost use Rattle.lq_table.specs.Made.{Known};
 ghost use Rattle.lq_table.specs.Solo.{IsSole};
 ghost use Rattle.lq_table.specs.Views.{Setup, no_packets};
-ghost use Rattle.lq_control.specs.Comes.{ExchangesFor, LeavesPurged, Shrinks};
+ghost use Rattle.lq_control.specs.Comes.{ComesToEnd, ExchangesFor, LeavesPurged, Shrinks};
 ghost use Rattle.lq_control.specs.Control.{KeepsDevice};
+ghost use Rattle.lq_control.specs.EndSteps.{FinishesBy};
 ghost use Rattle.lq_control.specs.Steps.{ChangesLength, Downs, ResizesLive, Swaps};
 
 /// A call that deactivates the station purges all that it held, by the plan's event, which comes with the others of the call in
@@ -35,4 +36,10 @@ pub fn an_exchange_hands_the_old_device_back()
 /// that its account drops.
 pub fn a_resize_drops_the_last()
     ensures { (k : Setup) (event len count : ℕ) (old new : Known) → ResizesLive k event len count old new → Shrinks len event count old.view new.view }
+{}
+
+/// At its end a station's packets were all transmitted, and fates that were stored stay so. Each purge of a hung station on the trail
+/// came before, or is by the present unit, whose device hangs. Where all were transmitted before, nothing else comes on the trail.
+pub fn an_end_purges_what_hangs()
+    ensures { (k : Setup) (count : ℕ) (old new : Known) → FinishesBy k count old new → ComesToEnd k count old.view new.view }
 {}

@@ -17,7 +17,8 @@ pub use activates::{down, up};
 pub use drains::drain;
 pub use finishes::finish;
 pub use laws::{
-    a_resize_drops_the_last, an_exchange_hands_the_old_device_back, deactivations_purge_all,
+    a_resize_drops_the_last, an_end_purges_what_hangs, an_exchange_hands_the_old_device_back,
+    deactivations_purge_all,
 };
 pub use resizes::{resize, tx_queue_len};
 pub use swaps::swap;

@@ -1,12 +1,12 @@
 -- What a seat knows after a call, and after the soft interrupts that follow it.
-use Rattle.std.proofs.Common.{◌≡◌, ℕ, Bool, true, false, cond, List, ◌∷◌, inl, inr, ⊎_elim, Option, Some, None, refl, sym, ap, ap₂, ◌∙◌, subst, is_some}
+use Rattle.std.proofs.Common.{◌≡◌, ℕ, Bool, true, false, cond, List, ◌∷◌, inl, inr, ⊎_elim, Option, Some, None, refl, sym, ap, ◌∙◌, subst, is_some}
 use Rattle.std.specs.Prelude.{◌↔◌, ◌<◌, ◌==◌, ◌+◌, ◌*◌, slice_set}
 use Rattle.lq_account.proofs.Lists.{cons-in}
 use Rattle.lq_account.specs.Controls.{with_control}
 use Rattle.lq_account.specs.Trail.{down_of, is_own}
-use Rattle.lq_control.specs.Comes.{ExchangesFor}
+use Rattle.lq_control.specs.Comes.{ComesToEnd, ExchangesFor}
 use Rattle.lq_control.specs.Control.{IsKeptByControl, KeepsDevice}
-use Rattle.lq_control.specs.Finish.{AreAllDone, FinishEnds, PurgesHung}
+use Rattle.lq_control.specs.Finish.{AreAllDone}
 use Rattle.lq_model.specs.Account.{Account, Event, Join, Full, Refuse, Direct, Purge}
 use Rattle.lq_model.specs.Alone.{RunningStation, brought_in, changed, new_device, served}
 use Rattle.lq_model.specs.Device.{DeviceState}
@@ -222,17 +222,8 @@ one-unit-more station unit units small were = record {
 -- THE END
 
 -- a station all of whose packets were sent gets at most the purge of what a hung device left
-pub ends-trail : {D : Type 0} (k : Setup) (purged : ℕ) (c c' : Cpu D) → AreAllDone k (view c).turns → FinishEnds k purged (view c) (view c') → EndsTrail (seat_seen c) (seat_seen c')
-ends-trail k purged c c' done ends = ⊎_elim
-    (λ same. inl (same.0 ∙ unsent))
-    (λ (hung : (before : View) × (before.trail ≡ ends.sent.trail) × PurgesHung purged before (view c')).
-    let p = hung.2 in
-    let unit : (seat_account (seat_seen c')).unit ≡ hung.0.whole.state.station.unit = ap (λ a. a.unit) p.account ∙ p.unit in
-    inr (p.trail ∙ ap₂ (λ unit trail. Purge (cause.Hung unit) ∷ trail) (sym unit) (hung.1 ∙ unsent)))
-    ends.ends
-  where
-    unsent : ends.sent.trail ≡ (view c).trail
-    unsent = ap (λ v. v.trail) (ends.none_sent done)
+pub ends-trail : {D : Type 0} (k : Setup) (purged : ℕ) (c c' : Cpu D) → AreAllDone k (view c).turns → ComesToEnd k purged (view c) (view c') → EndsTrail (seat_seen c) (seat_seen c')
+ends-trail k purged c c' done ends = ⊎_elim (λ same. inl same.0) (λ purges. inr purges) (ends.purges done)
 
 -- what a purge of a hung station doesn't touch on the trail is as it was
 pub ends-keeps : {X : Type 0} (f : List Event → X) → ((unit : ℕ) (trail : List Event) → f (Purge (cause.Hung unit) ∷ trail) ≡ f trail) → (old new : SeatState) → EndsTrail old new

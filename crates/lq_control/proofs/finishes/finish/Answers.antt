@@ -1,8 +1,6 @@
-use Rattle.std.proofs.Common.{◌≡◌, ℕ, ◌<◌, Bool, List, [], ⊎_elim, inl, inr, refl, sym, ap, ◌∙◌, subst, slice_index}
+use Rattle.std.proofs.Common.{◌≡◌, ℕ, ◌<◌, Bool, List, ⊎_elim, inl, inr, refl, sym, ap, ◌∙◌, subst, slice_index}
 use Rattle.std.specs.Prelude.{is_some, if◌then◌else◌}
 use Rattle.lq_model.specs.Account.{Account, held}
-use Rattle.lq_model.specs.declared.fate.Cause.TheVariants as cause
-use Rattle.lq_model.specs.declared.fate.Fate.TheVariants as fate
 use Rattle.lq_model.specs.declared.fate.Info.{Info}
 use Rattle.lq_table.specs.Views.{View, Setup, SharePart, first_account}
 use Rattle.lq_table.specs.Sees.{view, known, setup}
@@ -14,9 +12,8 @@ use Rattle.lq_control.specs.Steps.{with_control_ended}
 use Rattle.lq_control.specs.EndSteps.{ServesToEnd}
 use Rattle.lq_control.proofs.StepLemmas.{both}
 use Rattle.lq_control.specs.Ending.{IsEndedAlike, IsFinishedAlone}
-use Rattle.lq_control.specs.Finish.{AreAllDone, AreAllStops, Hangs, IsOver, IsFinished, Shows}
+use Rattle.lq_control.specs.Finish.{AreAllDone, AreAllStops, Hangs, IsOver, IsFinished, Shows, hung_cause}
 use Rattle.lq_control.proofs.EndingLemmas.{AreValues, over_finishes, purged_finishes}
-use Rattle.lq_control.proofs.FinishLemmas.{all_done, keeps_then, fates_before}
 use Rattle.lq_control.proofs.FinishSteps.{finished, finished_purged, made_kept}
 use Rattle.lq_control.proofs.finishes.finish.Given as given
 use Rattle.lq_control.proofs.finishes.finish.Goals as goal
@@ -39,56 +36,43 @@ module _ (k : Setup) (infos : List Info) (v0 v1 v2 : View) (about : v2.share.abo
 
 -- where the station hangs
 module _ (g : given.Over) (c : goal.After-purge_hung g) where
-  abbrev k : Setup
-  k = setup c.args.shared.now
-
   abbrev v0 : View
   v0 = view c.args.cpu.now
 
   abbrev v2 : View
   v2 = view c.serve_to_end.new.cpu
 
-  turns : AreAllDone k v2.turns
-  turns = subst (AreAllDone k) (sym c.serve_to_end.ensures.same.1.turns) (all_done k (view c.send_all_left.new.cpu).turns c.send_all_left.ensures.turns)
+  turns : AreAllDone (setup c.args.shared.now) v2.turns
+  turns = subst (AreAllDone (setup c.args.shared.now)) (sym c.serve_to_end.ensures.serves.served.kept.turns) c.send_all_left.ensures.sends.done
 
   share : v2.share ≡ v0.share
-  share = c.serve_to_end.ensures.same.1.share ∙ c.send_all_left.ensures.kept.0
+  share = c.serve_to_end.ensures.serves.served.kept.share ∙ c.send_all_left.ensures.kept.share
 
   shows : Hangs v2
   shows = subst (λ (b : Bool). Shows (if b then Hung else Ended) v2) c.if-serve_to_end.true c.serve_to_end.ensures.shows
 
 pub returns-then-serve_to_end-clause-kept : goal.returns-then-serve_to_end-clause-kept
-returns-then-serve_to_end-clause-kept g c = let s = c.send_all_left.ensures in let t = c.serve_to_end.ensures in let p = c.purge_hung.ensures in
-    (p.same.1.share ∙ share g c, p.control ∙ (t.still.0 ∙ s.kept.1), p.same.1.told ∙ (t.same.1.told ∙ s.kept.2))
-
-pub returns-then-serve_to_end-clause-turns : goal.returns-then-serve_to_end-clause-turns
-returns-then-serve_to_end-clause-turns g c = subst (AreAllDone (setup c.args.shared.now)) (sym c.purge_hung.ensures.same.1.turns) (turns g c)
-
-pub returns-then-serve_to_end-clause-ends : goal.returns-then-serve_to_end-clause-ends
-returns-then-serve_to_end-clause-ends g c = let s = c.send_all_left.ensures in let t = c.serve_to_end.ensures in let p = c.purge_hung.ensures in record {
-  sent = view c.send_all_left.new.cpu;
-  is_sent = s.sent;
-  none_sent = s.done;
-  turns = p.same.1.turns ∙ t.same.1.turns;
-  ends = inr (view c.serve_to_end.new.cpu, t.still.1, record { hung = (shows g c).hung; unit = (shows g c).unit; account = p.account; counted = p.purged.1; trail = p.trail; device = p.device; step = p.step });
+returns-then-serve_to_end-clause-kept g c = let s = c.send_all_left.ensures.kept in let t = c.serve_to_end.ensures in let p = c.purge_hung.ensures.kept in record {
+  seat = (p.seat.0 ∙ (t.same.0 ∙ s.seat.0), p.seat.1 ∙ (t.same.1 ∙ s.seat.1));
+  share = p.share ∙ share g c;
+  control = p.control ∙ (t.serves.served.control ∙ s.control);
+  told = p.told ∙ (t.serves.served.kept.told ∙ s.told);
 }
 
-pub returns-then-serve_to_end-clause-fates : goal.returns-then-serve_to_end-clause-fates
-returns-then-serve_to_end-clause-fates g c =
-    let v0 = view c.args.cpu.now in let v1 = view c.send_all_left.new.cpu in let v2 = view c.serve_to_end.new.cpu in let v3 = view c.purge_hung.new.cpu in
-    let more = fates_before (fate.Purged (cause.Hung v2.whole.state.station.unit)) (held (account_of v2)) v2.settled in
-    keeps_then v0 v1 v3 c.send_all_left.ensures.fates (keeps_then v1 v2 v3 c.serve_to_end.ensures.fates (more.0, c.purge_hung.ensures.purged.0 ∙ more.1))
-
 pub returns-then-serve_to_end-clause-finished : goal.returns-then-serve_to_end-clause-finished
-returns-then-serve_to_end-clause-finished g c = let v2 = view c.serve_to_end.new.cpu in
-    finished_purged (setup c.args.shared.now) v2 (made_kept (setup c.args.shared.now) (view c.args.cpu.now) v2 (share g c) c.requires.made) (turns g c) (cause.Hung v2.whole.state.station.unit) (view c.purge_hung.new.cpu) c.serve_to_end.ensures.kept c.purge_hung.ensures.account
+returns-then-serve_to_end-clause-finished g c = let k = setup c.args.shared.now in let v2 = view c.serve_to_end.new.cpu in
+    finished_purged k v2 (made_kept k (view c.args.cpu.now) v2 (share g c) c.requires.made) (turns g c) (hung_cause v2) (view c.purge_hung.new.cpu) c.serve_to_end.ensures.kept c.purge_hung.ensures.purges.comes_to.account
 
 pub returns-then-serve_to_end-clause-alone : goal.returns-then-serve_to_end-clause-alone
 returns-then-serve_to_end-clause-alone g c = λ done h.
     let k = setup c.args.shared.now in let infos = c.args.shared.now.infos.now in let v0 = view c.args.cpu.now in let v1 = view c.send_all_left.new.cpu in let v2 = view c.serve_to_end.new.cpu in
     let about : v2.share.about ≡ k = ap (λ (x : SharePart). x.about) (share g c) ∙ c.requires.seat.2 in let same = is k infos v0 v1 v2 about in
-    purged_finishes infos (first_account k) (solo v0) (solo v2) (alike_from k infos v0 v1 v2 about (c.send_all_left.ensures.done done) c.serve_to_end.ensures.alone h) v2.whole.state.station.unit (solo (view c.purge_hung.new.cpu)) c.serve_to_end.ensures.at.2
-    (ap (λ (a : Account). a.down) same ∙ (shows g c).up) (values_are k infos v0 v1 v2 about 2 (shows g c).stops) (ap (λ (a : Account). a.unit) same ∙ (shows g c).unit) c.purge_hung.ensures.step
+    purged_finishes infos (first_account k) (solo v0) (solo v2) (alike_from k infos v0 v1 v2 about (c.send_all_left.ensures.sends.none done) c.serve_to_end.ensures.alone h) v2.whole.state.station.unit (solo (view c.purge_hung.new.cpu)) c.serve_to_end.ensures.at.2
+    (ap (λ (a : Account). a.down) same ∙ (shows g c).up) (values_are k infos v0 v1 v2 about 2 (shows g c).stops) (ap (λ (a : Account). a.unit) same ∙ (shows g c).unit) c.purge_hung.ensures.purges.comes_to.step
+
+pub returns-then-serve_to_end-clause-finishes : goal.returns-then-serve_to_end-clause-finishes
+returns-then-serve_to_end-clause-finishes g c = let k = setup c.args.shared.now in let sent = known c.send_all_left.new.cpu in let hung = known c.serve_to_end.new.cpu in
+    (sent, c.send_all_left.ensures.sends, inl (hung, subst (λ (b : Bool). ServesToEnd k (if b then Hung else Ended) sent hung) c.if-serve_to_end.true c.serve_to_end.ensures.serves, c.purge_hung.ensures.purges))
 
 -- where it doesn't
 module _ (g : given.Over) (c : goal.After-end_control g) where
@@ -99,34 +83,21 @@ module _ (g : given.Over) (c : goal.After-end_control g) where
   w2 = view c.serve_to_end.new.cpu
 
   turns_done : AreAllDone (setup c.args.shared.now) w2.turns
-  turns_done = subst (AreAllDone (setup c.args.shared.now)) (sym c.serve_to_end.ensures.same.1.turns) (all_done (setup c.args.shared.now) (view c.send_all_left.new.cpu).turns c.send_all_left.ensures.turns)
+  turns_done = subst (AreAllDone (setup c.args.shared.now)) (sym c.serve_to_end.ensures.serves.served.kept.turns) c.send_all_left.ensures.sends.done
 
   share_same : w2.share ≡ w0.share
-  share_same = c.serve_to_end.ensures.same.1.share ∙ c.send_all_left.ensures.kept.0
+  share_same = c.serve_to_end.ensures.serves.served.kept.share ∙ c.send_all_left.ensures.kept.share
 
   over : IsOver w2
   over = subst (λ (b : Bool). Shows (if b then Hung else Ended) w2) c.if-serve_to_end.false c.serve_to_end.ensures.shows
 
 pub returns-clause-kept : goal.returns-clause-kept
-returns-clause-kept g c = let s = c.send_all_left.ensures in let t = c.serve_to_end.ensures in let e = c.end_control.ensures.view in
-    (ap (λ (x : View). x.share) e ∙ share_same g c, ap (λ (x : View). x.control) e ∙ (t.still.0 ∙ s.kept.1), ap (λ (x : View). x.whole.told) e ∙ (t.same.1.told ∙ s.kept.2))
-
-pub returns-clause-turns : goal.returns-clause-turns
-returns-clause-turns g c = subst (λ (x : View). AreAllDone (setup c.args.shared.now) x.turns) (sym c.end_control.ensures.view) (turns_done g c)
-
-pub returns-clause-ends : goal.returns-clause-ends
-returns-clause-ends g c = let s = c.send_all_left.ensures in let t = c.serve_to_end.ensures in let e = c.end_control.ensures.view in record {
-  sent = view c.send_all_left.new.cpu;
-  is_sent = s.sent;
-  none_sent = s.done;
-  turns = ap (λ (x : View). x.turns) e ∙ t.same.1.turns;
-  ends = inl (ap (λ (x : View). x.trail) e ∙ t.still.1, refl);
+returns-clause-kept g c = let s = c.send_all_left.ensures.kept in let t = c.serve_to_end.ensures in let e = c.end_control.ensures in record {
+  seat = (e.same.0.0 ∙ (t.same.0 ∙ s.seat.0), e.same.0.1 ∙ (t.same.1 ∙ s.seat.1));
+  share = ap (λ (x : View). x.share) e.view ∙ share_same g c;
+  control = ap (λ (x : View). x.control) e.view ∙ (t.serves.served.control ∙ s.control);
+  told = ap (λ (x : View). x.whole.told) e.view ∙ (t.serves.served.kept.told ∙ s.told);
 }
-
-pub returns-clause-fates : goal.returns-clause-fates
-returns-clause-fates g c =
-    let v0 = view c.args.cpu.now in let v1 = view c.send_all_left.new.cpu in let v2 = view c.serve_to_end.new.cpu in let v3 = view c.end_control.new.cpu in
-    keeps_then v0 v1 v3 c.send_all_left.ensures.fates (keeps_then v1 v2 v3 c.serve_to_end.ensures.fates ([], ap (λ (x : View). x.settled) c.end_control.ensures.view))
 
 pub returns-clause-finished : goal.returns-clause-finished
 returns-clause-finished g c = let k = setup c.args.shared.now in let v2 = view c.serve_to_end.new.cpu in
@@ -138,13 +109,18 @@ returns-clause-alone g c = λ done h.
     let k = setup c.args.shared.now in let infos = c.args.shared.now.infos.now in let v0 = view c.args.cpu.now in let v1 = view c.send_all_left.new.cpu in let v2 = view c.serve_to_end.new.cpu in
     let about : v2.share.about ≡ k = ap (λ (x : SharePart). x.about) (share_same g c) ∙ c.requires.seat.2 in let same = is k infos v0 v1 v2 about in
     subst (λ (x : Solo). IsFinishedAlone infos (first_account k) (solo v0) x) (sym (ap solo c.end_control.ensures.view))
-    (over_finishes infos (first_account k) (solo v0) (solo v2) (alike_from k infos v0 v1 v2 about (c.send_all_left.ensures.done done) c.serve_to_end.ensures.alone h) (ap held same ∙ (over g c).nothing_held)
+    (over_finishes infos (first_account k) (solo v0) (solo v2) (alike_from k infos v0 v1 v2 about (c.send_all_left.ensures.sends.none done) c.serve_to_end.ensures.alone h) (ap held same ∙ (over g c).nothing_held)
     (⊎_elim (λ down. inl (ap (λ (a : Account). is_some a.down) same ∙ down)) (λ opens. inr (values_are k infos v0 v1 v2 about 0 opens)) (over g c).over))
 
-pub returns-then-serve_to_end-clause-finishes : goal.returns-then-serve_to_end-clause-finishes
-returns-then-serve_to_end-clause-finishes g c = let k = setup c.args.shared.now in let sent = known c.send_all_left.new.cpu in let ended = known c.serve_to_end.new.cpu in
-    (sent, ended, c.send_all_left.ensures.sends, inl (subst (λ (b : Bool). ServesToEnd k (if b then Hung else Ended) sent ended) c.if-serve_to_end.true c.serve_to_end.ensures.serves, c.purge_hung.ensures.purges))
-
 pub returns-clause-finishes : goal.returns-clause-finishes
-returns-clause-finishes g c = let k = setup c.args.shared.now in let e = c.end_control.ensures in let sent = known c.send_all_left.new.cpu in let ended = known c.serve_to_end.new.cpu in
-    (sent, ended, c.send_all_left.ensures.sends, inr (subst (λ (b : Bool). ServesToEnd k (if b then Hung else Ended) sent ended) c.if-serve_to_end.false c.serve_to_end.ensures.serves, refl, e.made.0, both (known c.end_control.new.cpu) (with_control_ended e.made.0 ended) e.view e.made.1))
+returns-clause-finishes g c = let k = setup c.args.shared.now in let e = c.end_control.ensures in let sent = known c.send_all_left.new.cpu in let over_ = known c.serve_to_end.new.cpu in (
+  sent,
+  c.send_all_left.ensures.sends,
+  inr (
+    over_,
+    e.made.0,
+    subst (λ (b : Bool). ServesToEnd k (if b then Hung else Ended) sent over_) c.if-serve_to_end.false c.serve_to_end.ensures.serves,
+    refl,
+    both (known c.end_control.new.cpu) (with_control_ended e.made.0 over_) e.view e.made.1,
+  ),
+)

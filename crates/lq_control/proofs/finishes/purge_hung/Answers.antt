@@ -20,7 +20,7 @@ use Rattle.lq_ring.specs.Fates.{fates_onto}
 use Rattle.lq_table.specs.Told.{got_in_control}
 use Rattle.lq_control.specs.Control.{IsPurgeDone, IsPurged, all_purged}
 use Rattle.lq_control.specs.Ending.{purged_as_hung}
-use Rattle.lq_control.specs.Finish.{IsLook}
+use Rattle.lq_control.specs.Finish.{IsLook, PurgesHung}
 use Rattle.lq_control.proofs.Purge.{purged_of, slot_within}
 use Rattle.lq_control.proofs.FinishSteps.{control_kept, sole_kept, station_known, lost_is, account_five, solo_five, device_five, raised_five}
 use Rattle.lq_control.proofs.finishes.purge_hung.Given as given
@@ -172,18 +172,15 @@ module _ (g : given.Over) (c : goal.After-end_resize g) where
   of_station : unit ≡ v0.whole.state.station.unit
   of_station = sym of_unit ∙ ap (λ (s : StationState). s.unit) (station_known c.take_lock.ensures.got.0 v0 (view c.wait_until_left.new.cpu) v2 look got (c.take_lock.ensures.sole sole).1)
 
-pub returns-clause-same : goal.returns-clause-same
-returns-clause-same g c =
+pub returns-clause-kept : goal.returns-clause-kept
+returns-clause-kept g c =
     let kept = c.end_resize.ensures.kept.0 in let is = (purged g c).is in let got_ = got g c in let look_ = (look g c).1 in
-    let a = c.wait_until_left.ensures.same.0.0 in let b = c.take_lock.ensures.same.0 in let d = c.begin_hung_purge.ensures.same.0 in let e = c.purge_held-purged.ensures.same.0 in let f = kept.0 in (
-      (f.0 ∙ (e.0 ∙ (d.0 ∙ (b.0 ∙ a.0))), f.1 ∙ (e.1 ∙ (d.1 ∙ (b.1 ∙ a.1)))),
-      record {
-        share = kept.1 ∙ share g c;
-        turns = kept.7 ∙ (ap (λ (x : View). x.turns) is ∙ (ap (λ (x : View). x.turns) got_ ∙ ap (λ (x : View). x.turns) look_));
-        first = ap (λ (x : FirstPart). x.first) (kept.4 ∙ control g c);
-        told = kept.5 ∙ (ap (λ (x : View). x.whole.told) is ∙ ((purged g c).told ∙ (ap (λ (x : View). x.whole.told) got_ ∙ ap (λ (x : View). x.whole.told) look_)));
-      },
-    )
+    let a = c.wait_until_left.ensures.same.0.0 in let b = c.take_lock.ensures.same.0 in let d = c.begin_hung_purge.ensures.same.0 in let e = c.purge_held-purged.ensures.same.0 in let f = kept.0 in record {
+      seat = (f.0 ∙ (e.0 ∙ (d.0 ∙ (b.0 ∙ a.0))), f.1 ∙ (e.1 ∙ (d.1 ∙ (b.1 ∙ a.1))));
+      share = kept.1 ∙ share g c;
+      control = kept.4 ∙ control g c;
+      told = kept.5 ∙ (ap (λ (x : View). x.whole.told) is ∙ ((purged g c).told ∙ (ap (λ (x : View). x.whole.told) got_ ∙ ap (λ (x : View). x.whole.told) look_)));
+    }
 
 pub returns-clause-at : goal.returns-clause-at
 returns-clause-at g c =
@@ -201,40 +198,37 @@ returns-clause-at g c =
 pub returns-clause-raised : goal.returns-clause-raised
 returns-clause-raised g c = raised_five (cause.Hung (unit g c)) (lost g c) c.take_lock.ensures.got.0 (v0 g c) (view c.wait_until_left.new.cpu) (v2 g c) (v4 g c) (view c.end_resize.new.cpu) (look g c) (got g c) (c.take_lock.ensures.sole (sole g c)).0 (c.take_lock.ensures.sole (sole g c)).1 (purged g c) c.end_resize.ensures.kept.1 c.end_resize.ensures.kept.0.1 c.end_resize.ensures.sole c.requires.sole
 
-pub returns-clause-trail : goal.returns-clause-trail
-returns-clause-trail g c = let w = of_station g c in let is = (purged g c).is in let got_ = got g c in let look_ = (look g c).1 in
-    c.end_resize.ensures.kept.0.9 ∙ (ap (λ (x : View). x.trail) is ∙ (λ j. Purge (cause.Hung (w j)) ∷ (ap (λ (x : View). x.trail) got_ ∙ ap (λ (x : View). x.trail) look_) j))
-
-pub returns-clause-control : goal.returns-clause-control
-returns-clause-control g c = c.end_resize.ensures.kept.0.4 ∙ control g c
-
-pub returns-clause-purged : goal.returns-clause-purged
-returns-clause-purged g c = let w = of_station g c in let is = (purged g c).is in let got_ = got g c in let look_ = (look g c).1 in
-    let all = lost_is (cause.Hung (unit g c)) (lost g c) c.take_lock.ensures.got.0 (v0 g c) (view c.wait_until_left.new.cpu) (v2 g c) (v4 g c) (view c.end_resize.new.cpu) (look g c) (got g c) (c.take_lock.ensures.sole (sole g c)).0 (c.take_lock.ensures.sole (sole g c)).1 (purged g c) c.end_resize.ensures.kept.1 c.end_resize.ensures.kept.0.1 c.end_resize.ensures.sole c.requires.sole c.begin_hung_purge.ensures.begun.0 c.begin_hung_purge.ensures.begun.4 in (
-      c.end_resize.ensures.kept.0.8 ∙ (ap (λ (x : View). x.settled) is ∙ (λ j. fates_onto (fate.Purged (cause.Hung (w j))) (all j) ((ap (λ (x : View). x.settled) got_ ∙ ap (λ (x : View). x.settled) look_) j))),
-      (emptied g c).1 ∙ ap length all,
-    )
-
-pub returns-clause-step : goal.returns-clause-step
-returns-clause-step g c = let w = of_station g c in solo_five (cause.Hung (unit g c)) (lost g c) c.take_lock.ensures.got.0 (v0 g c) (view c.wait_until_left.new.cpu) (v2 g c) (v4 g c) (view c.end_resize.new.cpu) (look g c) (got g c) (c.take_lock.ensures.sole (sole g c)).0 (c.take_lock.ensures.sole (sole g c)).1 (purged g c) c.end_resize.ensures.kept.1 c.end_resize.ensures.kept.0.1 c.end_resize.ensures.sole c.requires.sole ∙ (λ j. purged_as_hung (w j) (solo (v0 g c)))
-
-pub returns-clause-account : goal.returns-clause-account
-returns-clause-account g c = let w = of_station g c in account_five (cause.Hung (unit g c)) (lost g c) c.take_lock.ensures.got.0 (v0 g c) (view c.wait_until_left.new.cpu) (v2 g c) (v4 g c) (view c.end_resize.new.cpu) (look g c) (got g c) (c.take_lock.ensures.sole (sole g c)).0 (c.take_lock.ensures.sole (sole g c)).1 (purged g c) c.end_resize.ensures.kept.1 c.end_resize.ensures.kept.0.1 c.end_resize.ensures.sole c.requires.sole ∙ (λ j. after (Purge (cause.Hung (w j))) (account_of (v0 g c)))
-
-pub returns-clause-device : goal.returns-clause-device
-returns-clause-device g c = device_five (cause.Hung (unit g c)) (lost g c) c.take_lock.ensures.got.0 (v0 g c) (view c.wait_until_left.new.cpu) (v2 g c) (v4 g c) (view c.end_resize.new.cpu) (look g c) (got g c) (c.take_lock.ensures.sole (sole g c)).0 (c.take_lock.ensures.sole (sole g c)).1 (purged g c) c.end_resize.ensures.kept.1 c.end_resize.ensures.kept.0.1 c.end_resize.ensures.sole c.requires.sole
+-- what it comes to
+comes_to : (g : given.Over) (c : goal.After-end_resize g) → PurgesHung c.purge_held-purged.result (view c.args.cpu.now) (view c.end_resize.new.cpu)
+comes_to g c =
+    let w = of_station g c in let is = (purged g c).is in let got_ = got g c in let look_ = (look g c).1 in let kept = c.end_resize.ensures.kept in let u = unit g c in let locked = c.take_lock.ensures.sole (sole g c) in
+    let step = solo_five (cause.Hung u) (lost g c) c.take_lock.ensures.got.0 (v0 g c) (view c.wait_until_left.new.cpu) (v2 g c) (v4 g c) (view c.end_resize.new.cpu) (look g c) got_ locked.0 locked.1 (purged g c) kept.1 kept.0.1 c.end_resize.ensures.sole c.requires.sole in
+    let account = account_five (cause.Hung u) (lost g c) c.take_lock.ensures.got.0 (v0 g c) (view c.wait_until_left.new.cpu) (v2 g c) (v4 g c) (view c.end_resize.new.cpu) (look g c) got_ locked.0 locked.1 (purged g c) kept.1 kept.0.1 c.end_resize.ensures.sole c.requires.sole in
+    let device = device_five (cause.Hung u) (lost g c) c.take_lock.ensures.got.0 (v0 g c) (view c.wait_until_left.new.cpu) (v2 g c) (v4 g c) (view c.end_resize.new.cpu) (look g c) got_ locked.0 locked.1 (purged g c) kept.1 kept.0.1 c.end_resize.ensures.sole c.requires.sole in
+    let all = lost_is (cause.Hung u) (lost g c) c.take_lock.ensures.got.0 (v0 g c) (view c.wait_until_left.new.cpu) (v2 g c) (v4 g c) (view c.end_resize.new.cpu) (look g c) got_ locked.0 locked.1 (purged g c) kept.1 kept.0.1 c.end_resize.ensures.sole c.requires.sole c.begin_hung_purge.ensures.begun.0 c.begin_hung_purge.ensures.begun.4 in record {
+      hung = c.requires.hung.hung;
+      unit = c.requires.hung.unit;
+      trail = kept.0.9 ∙ (ap (λ (x : View). x.trail) is ∙ (λ j. Purge (cause.Hung (w j)) ∷ (ap (λ (x : View). x.trail) got_ ∙ ap (λ (x : View). x.trail) look_) j));
+      account = account ∙ (λ j. after (Purge (cause.Hung (w j))) (account_of (v0 g c)));
+      settled = kept.0.8 ∙ (ap (λ (x : View). x.settled) is ∙ (λ j. fates_onto (fate.Purged (cause.Hung (w j))) (all j) ((ap (λ (x : View). x.settled) got_ ∙ ap (λ (x : View). x.settled) look_) j)));
+      counted = (emptied g c).1 ∙ ap length all;
+      turns = kept.0.7 ∙ (ap (λ (x : View). x.turns) is ∙ (ap (λ (x : View). x.turns) got_ ∙ ap (λ (x : View). x.turns) look_));
+      device = device;
+      step = step ∙ (λ j. purged_as_hung (w j) (solo (v0 g c)));
+    }
 
 pub returns-clause-purges : goal.returns-clause-purges
 returns-clause-purges g c =
     let k = setup c.args.shared.now in let b = c.begin_hung_purge.ensures in let e = c.end_resize.ensures in let locked = known c.take_lock.new.cpu in let count = c.purge_held-purged.result in
     let by = cause.Hung locked.view.holder.station.unit in let slot = locked.view.holder.slot in
     let started = both (known c.begin_hung_purge.new.cpu) (with_purge_begun by b.begun.0 b.made.0 locked) b.begun.1 b.made.1 in
-    let held_ = subst (λ (n : ℕ). PurgesHeld k (cause.Hung n) slot count (known c.begin_hung_purge.new.cpu) (known c.purge_held-purged.new.cpu)) (sym (of_unit g c)) (c.purge_held-purged.ensures.purges slot (ap (λ (x : View). x.packets.owed) (begun g c))) in (
-      known c.wait_until_left.new.cpu,
-      locked,
-      known c.purge_held-purged.new.cpu,
-      c.wait_until_left.ensures.waits,
-      c.take_lock.ensures.takes,
-      record { bands = b.begun.0; state = b.made.0; knows = b.begun.4; purges = subst (λ (x : Known). PurgesHeld k by slot count x (known c.purge_held-purged.new.cpu)) started held_ },
-      (record { calm = record { share = e.kept.0.1; state = e.kept.1; settled = e.kept.0.8 }; sole = e.sole }, e.ends),
-    )
+    let held_ = subst (λ (n : ℕ). PurgesHeld k (cause.Hung n) slot count (known c.begin_hung_purge.new.cpu) (known c.purge_held-purged.new.cpu)) (sym (of_unit g c)) (c.purge_held-purged.ensures.purges slot (ap (λ (x : View). x.packets.owed) (begun g c))) in record {
+      left = known c.wait_until_left.new.cpu;
+      locked = locked;
+      purged = known c.purge_held-purged.new.cpu;
+      waits = c.wait_until_left.ensures.waits;
+      takes = c.take_lock.ensures.takes;
+      purges = record { bands = b.begun.0; state = b.made.0; knows = b.begun.4; purges = subst (λ (x : Known). PurgesHeld k by slot count x (known c.purge_held-purged.new.cpu)) started held_ };
+      releases = (record { calm = record { share = e.kept.0.1; state = e.kept.1; settled = e.kept.0.8 }; sole = e.sole }, e.ends);
+      comes_to = comes_to g c;
+    }

@@ -1,8 +1,7 @@
 use Rattle.std.proofs.Common.{◌≡◌, false}
 use Rattle.lq_model.specs.declared.machine.Position.TheVariants.{Idle}
-use Rattle.lq_table.specs.Sees.{view, known, setup, position, IsSeatOf, IsSameSeat}
-use Rattle.lq_qdisc.specs.Calls.{KeepsFates}
-use Rattle.lq_qdisc.specs.Sends.{IsReadyToSend}
+use Rattle.lq_table.specs.Sees.{view, known, setup, position, IsSeatOf}
+use Rattle.lq_qdisc.specs.Sends.{IsCallKept, IsReadyToSend}
 use Rattle.lq_control.specs.EndSteps.{SendsLeftBelow}
 use Rattle.lq_control.specs.Finish.{AreTurnsFrom, AreAllDone, IsSent}
 use Rattle.lq_control.proofs.finishes.send_all_left.Given as goal
@@ -10,16 +9,12 @@ use Rattle.lq_control.proofs.finishes.send_all_left.Given as goal
 abbrev pub invariant-loop-n : goal.invariant-loop-n
 invariant-loop-n g l = record {
   seat : IsSeatOf l.shared l.cpu;
-  same : IsSameSeat l.fn.cpu l.cpu;
+  kept : IsCallKept l.fn.cpu l.cpu;
   at : position l.cpu ≡ Idle;
   ready : IsReadyToSend l.cpu;
   low : (view l.cpu).place.raised ≡ false;
-  share : (view l.cpu).share ≡ (view l.fn.cpu).share;
-  control : (view l.cpu).control ≡ (view l.fn.cpu).control;
-  told : (view l.cpu).whole.told ≡ (view l.fn.cpu).whole.told;
   turns : AreTurnsFrom (setup l.shared) l.n (view l.cpu).turns;
   sent : IsSent (setup l.shared) (view l.fn.cpu) (view l.cpu);
-  fates : KeepsFates (view l.fn.cpu) (view l.cpu);
   done : AreAllDone (setup l.shared) (view l.fn.cpu).turns → view l.cpu ≡ view l.fn.cpu;
   sends : SendsLeftBelow (setup l.shared) l.n (known l.fn.cpu) (known l.cpu);
 }

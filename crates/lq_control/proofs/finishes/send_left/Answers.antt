@@ -1,4 +1,4 @@
-use Rattle.std.proofs.Common.{◌≡◌, ◌<◌, ◌≤◌, ◌+◌, ◌*◌, ℕ, List, [], inl, inr, refl, length, get_or, slice_index, slice_get, Option, Some, sym, ap, ◌∙◌, subst, arith}
+use Rattle.std.proofs.Common.{◌≡◌, ◌<◌, ◌≤◌, ◌+◌, ◌*◌, ℕ, List, inl, inr, refl, length, get_or, slice_index, slice_get, Option, Some, sym, ap, ◌∙◌, subst, arith}
 use Rattle.std.specs.Prelude.{slice_set}
 use Rattle.std.specs.Option.{option_map_or}
 use Rattle.std.proofs.lemmas.Option.{slice_get-get_or}
@@ -9,7 +9,7 @@ use Rattle.lq_table.specs.Rule.{times}
 use Rattle.lq_table.specs.Sees.{view, known, setup}
 use Rattle.lq_control.specs.Finish.{count_below, AreTurnsFrom}
 use Rattle.lq_control.proofs.EndStepLemmas.{sends_if_left}
-use Rattle.lq_control.proofs.FinishLemmas.{keeps_then, sent_none, sent_then, sent_by, turns_elsewhere, in_turn, turns_past, turns_sent, not_left}
+use Rattle.lq_control.proofs.FinishLemmas.{sent_none, sent_same, sent_then, sent_by, turns_elsewhere, in_turn, turns_past, turns_sent, not_left}
 use Rattle.lq_control.proofs.finishes.send_left.Goals as goal
 
 pub returns-then-info-number-clause-turns : goal.returns-then-info-number-clause-turns
@@ -93,8 +93,15 @@ returns-then-load_turn-info-clause-sent g c =
     let v1 = view c.load_turn.new.cpu in let v2 = view c.transmit-sending.new.cpu in let v3 = view c.drain.new.cpu in
     let due : slice_index v1.turns (owner_in k.infos n) ≡ 2 * rank_in k.infos n = (λ j. slice_index (e1 j).turns (owner j)) ∙ (now ∙ sym (ap (λ (r : ℕ). 2 * r) rank_is)) in
     let sent = c.transmit-sending.ensures.in_turn due in
-    sent_then k v0 v1 v3 (sent_none k v0 v1 (ap (λ (x : View). x.trail) e1))
-    (sent_then k v1 v2 v3 (sent_by k n c.transmit-sending.result v1 v2 (ap (λ (x : View). x.share.about) e1 ∙ c.requires.seat.2) sent.trail) (sent_none k v2 v3 c.drain.ensures.served.trail))
+    sent_then k v0 v1 v3 (sent_same k v0 v1 e1)
+    (sent_then k v1 v2 v3 (sent_by k n c.transmit-sending.result v1 v2 (ap (λ (x : View). x.share.about) e1 ∙ c.requires.seat.2) sent.trail c.transmit-sending.ensures.fates)
+    (sent_none k v2 v3 c.drain.ensures.served.trail c.drain.ensures.served.fates))
+
+pub returns-then-info-number-clause-sent : goal.returns-then-info-number-clause-sent
+returns-then-info-number-clause-sent g c = let v = view c.args.cpu.now in sent_same (setup c.args.shared.now) v v refl
+
+pub returns-else-load_turn-info-clause-sent : goal.returns-else-load_turn-info-clause-sent
+returns-else-load_turn-info-clause-sent g c = sent_same (setup c.args.shared.now) (view c.args.cpu.now) (view c.load_turn.new.cpu) c.load_turn.ensures.same.1
 
 pub returns-then-load_turn-info-clause-done : goal.returns-then-load_turn-info-clause-done
 returns-then-load_turn-info-clause-done g c done =
@@ -123,31 +130,6 @@ returns-else-load_turn-info-clause-turns g c =
     let v0 = view c.args.cpu.now in let e1 : view c.load_turn.new.cpu ≡ v0 = c.load_turn.ensures.same.1 in
     let word = c.load_turn.ensures.word (c.requires.made.owners info.owner lt) in
     subst (λ (x : View). AreTurnsFrom k (n + 1) x.turns) (sym e1) (turns_past k n info here st rank lt v0.turns c.requires.turns (let w = word in let f = c.if-load_turn-info.false in omega arith))
-
-pub returns-then-info-number-clause-fates : goal.returns-then-info-number-clause-fates
-returns-then-info-number-clause-fates g c = ([], refl)
-
-pub returns-then-load_turn-info-clause-fates : goal.returns-then-load_turn-info-clause-fates
-returns-then-load_turn-info-clause-fates g c =
-    let k = setup c.args.shared.now in let n = c.args.n in
-    let info : Info = get_or c.infos.result.now n (record { owner = 0; station = 0; band = 0; queue = 0; rank = 0 }) in
-    let here : slice_get k.infos n ≡ Some info = ap (λ (xs : List Info). slice_get xs n) (sym c.infos.ensures) ∙ slice_get-get_or c.infos.result.now n (record { owner = 0; station = 0; band = 0; queue = 0; rank = 0 }) (subst (λ (xs : List Info). n < length xs) (sym c.infos.ensures) c.requires.packet) in
-    let st : info.station ≡ k.station = c.if-info-number.false ∙ c.number.ensures in
-    let owner : owner_in k.infos n ≡ info.owner = ap (λ (o : Option Info). option_map_or (λ (i : Info). i.owner) o 0) here in
-    let rank_is : rank_in k.infos n ≡ info.rank = ap (λ (o : Option Info). option_map_or (λ (i : Info). i.rank) o 0) here in
-    let lt : info.owner < k.senders = subst (λ (o : ℕ). o < k.senders) owner (c.requires.made.infos.owners n c.requires.packet) in
-    let rank : info.rank ≡ count_below k.infos info.owner info.station n = c.requires.made.ranks n info here in
-    let v0 = view c.args.cpu.now in let e1 : view c.load_turn.new.cpu ≡ v0 = c.load_turn.ensures.same.1 in
-    let word = c.load_turn.ensures.word (c.requires.made.owners info.owner lt) in
-    let left : slice_index v0.turns info.owner ≤ 2 * info.rank = (let w = word in let t = c.if-load_turn-info.true in omega arith) in
-    let now : slice_index v0.turns info.owner ≡ 2 * info.rank = in_turn k n info here st rank lt v0.turns c.requires.turns left in
-    let v1 = view c.load_turn.new.cpu in let v2 = view c.transmit-sending.new.cpu in let v3 = view c.drain.new.cpu in
-    let due : slice_index v1.turns (owner_in k.infos n) ≡ 2 * rank_in k.infos n = (λ j. slice_index (e1 j).turns (owner j)) ∙ (now ∙ sym (ap (λ (r : ℕ). 2 * r) rank_is)) in
-    let sent = c.transmit-sending.ensures.in_turn due in
-    keeps_then v0 v1 v3 ([], ap (λ (x : View). x.settled) e1) (keeps_then v1 v2 v3 c.transmit-sending.ensures.fates c.drain.ensures.served.fates)
-
-pub returns-else-load_turn-info-clause-fates : goal.returns-else-load_turn-info-clause-fates
-returns-else-load_turn-info-clause-fates g c = ([], ap (λ (x : View). x.settled) c.load_turn.ensures.same.1)
 
 pub returns-then-info-number-clause-sends : goal.returns-then-info-number-clause-sends
 returns-then-info-number-clause-sends g c =

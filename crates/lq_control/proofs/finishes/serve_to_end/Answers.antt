@@ -1,5 +1,6 @@
 use Rattle.std.proofs.Common.{◌≡◌, rules, refl, None, [], sym, ap, ◌∙◌, subst}
 use Rattle.lq_model.specs.Account.{Account}
+use Rattle.lq_table.specs.Controls.{beginning_control}
 use Rattle.lq_table.specs.Views.{View, FirstPart, SharePart, first_account}
 use Rattle.lq_table.specs.Sees.{view, known, setup}
 use Rattle.lq_table.specs.Solo.{Solo, account_of, solo}
@@ -9,7 +10,7 @@ use Rattle.lq_qdisc.proofs.AloneSteps.{account_at}
 use Rattle.lq_control.specs.Control.{IsServed}
 use Rattle.lq_control.specs.EndSteps.{LooksBy, none_yet}
 use Rattle.lq_control.specs.Ending.{IsEndedAlike}
-use Rattle.lq_control.specs.Finish.{Shows}
+use Rattle.lq_control.specs.Finish.{IsLook, Shows}
 use Rattle.lq_control.specs.declared.finishes.Seen.{Seen}
 use Rattle.lq_control.specs.declared.finishes.Seen.TheVariants as seen
 use Rattle.lq_control.proofs.EndStepLemmas.{serves_more, serves_to_end}
@@ -17,6 +18,10 @@ use Rattle.lq_control.proofs.EndingLemmas.{alike_further, alike_same}
 use Rattle.lq_control.proofs.Served.{served_none, served_then}
 use Rattle.lq_control.proofs.FinishSteps.{ready_kept, served_begun, served_looked, served_returned, solo_looked}
 use Rattle.lq_control.proofs.finishes.serve_to_end.Goals as goal
+
+-- what was served, up to this look
+served_to_look : (v0 v1 v2 v3 : View) → IsServed v0 v1 → v2 ≡ beginning_control v1 → IsLook v2 v3 → IsServed v0 v3
+served_to_look v0 v1 v2 v3 served begun look = served_then v0 v1 v3 served (served_then v1 v2 v3 (served_begun v1 v2 begun) (served_looked v2 v3 look))
 
 pub loop-init : goal.loop-init
 loop-init g c = let v = view c.args.cpu.now in record {
@@ -77,20 +82,10 @@ loop-preserved g c =
           i.on b.view b.made (subst (λ (x : Seen). LooksBy k x (known c.begin_control.new.cpu) (known c.look.new.cpu)) c.in-Going.is l.looks) e.view e.made n.wakes d.drains;
     }
 
-pub returns-in-Ended-clause-fates : goal.returns-in-Ended-clause-fates
-returns-in-Ended-clause-fates g c =
-    let i = c.loop.invariant in let v0 = view c.args.cpu.now in let v1 = view c.loop.cpu in let v2 = view c.begin_control.new.cpu in let v3 = view c.look.new.cpu in
-    (served_then v0 v1 v3 i.served (served_then v1 v2 v3 (served_begun v1 v2 c.begin_control.ensures.view) (served_looked v2 v3 c.look.ensures.same.1))).fates
-
 pub returns-in-Ended-clause-alone : goal.returns-in-Ended-clause-alone
 returns-in-Ended-clause-alone g c = λ h.
     let infos = c.args.shared.now.infos.now in let start : Account = first_account (setup c.args.shared.now) in let v0 = view c.args.cpu.now in
     subst (λ (s : Solo). IsEndedAlike infos start (solo v0) s) (sym (solo_looked (view c.loop.cpu) (view c.begin_control.new.cpu) (view c.look.new.cpu) c.begin_control.ensures.view c.look.ensures.same.1)) (c.loop.invariant.alike h)
-
-pub returns-in-Hung-clause-fates : goal.returns-in-Hung-clause-fates
-returns-in-Hung-clause-fates g c =
-    let i = c.loop.invariant in let v0 = view c.args.cpu.now in let v1 = view c.loop.cpu in let v2 = view c.begin_control.new.cpu in let v3 = view c.look.new.cpu in
-    (served_then v0 v1 v3 i.served (served_then v1 v2 v3 (served_begun v1 v2 c.begin_control.ensures.view) (served_looked v2 v3 c.look.ensures.same.1))).fates
 
 pub returns-in-Hung-clause-alone : goal.returns-in-Hung-clause-alone
 returns-in-Hung-clause-alone g c = λ h.
@@ -98,7 +93,11 @@ returns-in-Hung-clause-alone g c = λ h.
     subst (λ (s : Solo). IsEndedAlike infos start (solo v0) s) (sym (solo_looked (view c.loop.cpu) (view c.begin_control.new.cpu) (view c.look.new.cpu) c.begin_control.ensures.view c.look.ensures.same.1)) (c.loop.invariant.alike h)
 
 pub returns-in-Ended-clause-serves : goal.returns-in-Ended-clause-serves
-returns-in-Ended-clause-serves g c = serves_to_end (setup c.args.shared.now) c.look.result seen.Ended (known c.args.cpu.now) (known c.loop.cpu) (known c.begin_control.new.cpu) (known c.look.new.cpu) c.in-Ended.is c.loop.invariant.on c.begin_control.ensures.view c.begin_control.ensures.made c.look.ensures.looks
+returns-in-Ended-clause-serves g c = let i = c.loop.invariant in let b = c.begin_control.ensures in let l = c.look.ensures in
+    serves_to_end (setup c.args.shared.now) c.look.result seen.Ended (known c.args.cpu.now) (known c.loop.cpu) (known c.begin_control.new.cpu) (known c.look.new.cpu) c.in-Ended.is i.on b.view b.made l.looks
+    (served_to_look (view c.args.cpu.now) (view c.loop.cpu) (view c.begin_control.new.cpu) (view c.look.new.cpu) i.served b.view l.same.1)
 
 pub returns-in-Hung-clause-serves : goal.returns-in-Hung-clause-serves
-returns-in-Hung-clause-serves g c = serves_to_end (setup c.args.shared.now) c.look.result seen.Hung (known c.args.cpu.now) (known c.loop.cpu) (known c.begin_control.new.cpu) (known c.look.new.cpu) c.in-Hung.is c.loop.invariant.on c.begin_control.ensures.view c.begin_control.ensures.made c.look.ensures.looks
+returns-in-Hung-clause-serves g c = let i = c.loop.invariant in let b = c.begin_control.ensures in let l = c.look.ensures in
+    serves_to_end (setup c.args.shared.now) c.look.result seen.Hung (known c.args.cpu.now) (known c.loop.cpu) (known c.begin_control.new.cpu) (known c.look.new.cpu) c.in-Hung.is i.on b.view b.made l.looks
+    (served_to_look (view c.args.cpu.now) (view c.loop.cpu) (view c.begin_control.new.cpu) (view c.look.new.cpu) i.served b.view l.same.1)

@@ -11,6 +11,6 @@ finish-requires-clause-made g c _ _ = only_made c.args.shared.now c.check_turns.
 
 pub returns : goal.returns
 returns g c = let o = c.check_turns.ensures.only in let f = c.finish.ensures in record {
-  done = only_ended c.args.shared.now c.check_turns.new.cpu c.finish.new.cpu o f.same f.kept.0 f.at.0 f.at.1 f.at.2;
-  sole = (ap (λ (s : SharePart). s.shares) f.kept.0 ∙ o.sole.0, f.kept.2 ∙ o.sole.1);
+  done = only_ended c.args.shared.now c.check_turns.new.cpu c.finish.new.cpu o f.kept.seat f.kept.share f.at.0 f.at.1 f.at.2;
+  sole = (ap (λ (s : SharePart). s.shares) f.kept.share ∙ o.sole.0, f.kept.told ∙ o.sole.1);
 }
