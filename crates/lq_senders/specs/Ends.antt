@@ -118,7 +118,7 @@ pub record FatesRead (infos : List Info) (closed : List ClosedState) (count : �
 -- THE WHOLE RUN
 
 -- the devices of a bench before the run were configured as the plan has it, and the seats are over these, with those of the
--- exchanges to spare; where there is one sender, nothing was split off
+-- swaps to spare; where there is one sender, nothing was split off
 pub record AreOver (plan : Plan) (infos : List Info) (before : List DeviceState) (others : ℕ) (start : List SeatState) (brought : List DeviceState) : Type 0 where
   pub bench : unit_count plan ≤ length before
   pub units : List DeviceState

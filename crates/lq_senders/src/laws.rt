@@ -57,7 +57,7 @@ pub fn runs_keep_boxes()
         → (unit : ℕ) (old new : DeviceState) → unit < unit_count plan → slice_get before unit ≡ Some old → slice_get after unit ≡ Some new → new.identity ≡ old.identity }
 {}
 
-/// One table is closed for each station, and as many devices are spare as there are exchanges.
+/// One table is closed for each station, and as many devices are spare as there are swaps.
 pub fn runs_leave_devices()
     ensures { (plan : Plan) (infos : List Info) (before : List DeviceState) (others : ℕ) (start : List SeatState) (brought : List DeviceState) (closed : List ClosedState) (spares : List DeviceState)
         → HasSentAll plan infos others start brought closed spares → AreOver plan infos before others start brought

@@ -1,4 +1,4 @@
-//! The devices that a plan's exchanges bring: they are configured where they stand in the bench, behind those of the stations,
+//! The devices that a plan's swaps bring: they are configured where they stand in the bench, behind those of the stations,
 //! and leave it together.
 ghost use Rattle.std.specs.Prelude.{◌≡◌, ◌≤◌, ◌<◌, ◌+◌, ◌++◌, [], OnOk, drop, take, length, map, vec_len, vec_capacity};
 ghost use Rattle.lq_senders.specs.Fates.{identities_of};
@@ -43,7 +43,7 @@ fn configure_spare<D: TxDevice>(
     }
 }
 
-/// Configures the devices that the plan's exchanges bring.
+/// Configures the devices that the plan's swaps bring.
 pub fn configure_spares<D: TxDevice>(
     plan: &Plan,
     infos: &[Info],

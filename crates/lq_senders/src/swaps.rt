@@ -1,4 +1,4 @@
-//! The plan's events, exchanges of a device among them.
+//! The plan's events, swaps of a device among them.
 ghost use Rattle.std.specs.Prelude.{◌≡◌, ℕ, ◌+◌, ◌<◌, ◌≤◌, List, true, false, map, length, slice_get};
 ghost use Rattle.lq_seat.specs.Calls.{MayChange};
 ghost use Rattle.lq_seat.specs.State.{IsHere};
@@ -18,14 +18,14 @@ use lq_plan::{Plan, is_at};
 use lq_seat::{Brought, Seat, Table};
 use std::sync::Wait;
 
-/// Whether an event exchanges a device.
-pub fn is_exchange(kind: EventKind) -> bool
+/// Whether an event swaps a device.
+pub fn is_swap_kind(kind: EventKind) -> bool
     ensures { result ≡ is_swap_kind kind }
 {
     matches!(kind, EventKind::Swap { .. })
 }
 
-/// The unit that an exchange brings, as the plan's event `e`.
+/// The unit that a swap brings, as the plan's event `e`.
 pub fn brought_unit(plan: &Plan, e: u32) -> u32
     requires { e ≤ length plan.now.events }
     ensures { result ≡ unit_of_swap plan.now e }
@@ -33,7 +33,7 @@ pub fn brought_unit(plan: &Plan, e: u32) -> u32
     plan.stays_within_limits();
     let mut unit = plan.stations();
     for k in 0..e {
-        if is_exchange(plan.event(k).kind) {
+        if is_swap_kind(plan.event(k).kind) {
             unit += 1;
         }
     }
@@ -58,7 +58,7 @@ fn event_at<'a, R: Wait, D: TxDevice>(
     }
 }
 
-/// Does event `e`, the plan's next, which isn't an exchange of a device: at each of its stations, the children of one group, in
+/// Does event `e`, the plan's next, which isn't a swap of a device: at each of its stations, the children of one group, in
 /// ascending order.
 fn do_next_event<'r, 'a, R: Wait, D: TxDevice, G: Gate>(
     rt: &R,
@@ -84,9 +84,9 @@ fn do_next_event<'r, 'a, R: Wait, D: TxDevice, G: Gate>(
     }
 }
 
-/// Does event `e`, the plan's next, which exchanges a device: the first of the spare ones comes, and the one that goes is the last
+/// Does event `e`, the plan's next, which swaps a device: the first of the spare ones comes, and the one that goes is the last
 /// of them.
-fn exchange_next<'r, 'a, R: Wait, D: TxDevice, G: Gate>(
+fn swap_next<'r, 'a, R: Wait, D: TxDevice, G: Gate>(
     rt: &R,
     run: &Run<'r, 'a, D, G>,
     sender: &mut Sender<D>,
@@ -112,7 +112,7 @@ fn exchange_next<'r, 'a, R: Wait, D: TxDevice, G: Gate>(
     let device = sender.spares.remove(0);
     let brought = Brought { event: e, unit };
     let table = &run.tables[station as usize];
-    let old = sender.seats[station as usize].exchange(rt, table, brought, device);
+    let old = sender.seats[station as usize].swap(rt, table, brought, device);
     sender.spares.push_reserved(old);
 }
 
@@ -137,8 +137,8 @@ pub fn do_any_event<'r, 'a, R: Wait, D: TxDevice, G: Gate>(
         → (stations : List RunningStation) → AreRunAlone run.now.plan.now run.now.infos.now sender.old.seats.items stations
         → AreRunAlone run.now.plan.now run.now.infos.now sender.new.seats.items (with_event run.now.plan.now run.now.infos.now e stations) }
 {
-    if is_exchange(run.plan.event(e).kind) {
-        exchange_next(rt, run, sender, e);
+    if is_swap_kind(run.plan.event(e).kind) {
+        swap_next(rt, run, sender, e);
     } else {
         do_next_event(rt, run, &mut sender.seats, e);
     }
