@@ -131,6 +131,11 @@ pub record AreOver (plan : Plan) (infos : List Info) (before : List DeviceState)
 abbrev pub AreBack : Plan → List ClosedState → List DeviceState → List DeviceState → Type 0
 AreBack plan closed spares after = (unit : ℕ) (device : DeviceState) → slice_get (by_unit plan (map home_device closed) spares) unit ≡ Some device → slice_get after unit ≡ Some device
 
+-- each unit's device is the one that stood there before
+abbrev pub SameBoxes : Plan → List DeviceState → List DeviceState → Type 0
+SameBoxes plan before after = (unit : ℕ) (old new : DeviceState) → unit < unit_count plan → slice_get before unit ≡ Some old → slice_get after unit ≡ Some new
+    → new.identity ≡ old.identity
+
 -- What is known of a unit's device after the run: the unit is one of a station, whose account has that it sent what the device
 -- accepted; the device was asked for nothing but packets of the station, and hangs as it tells.
 pub record UnitEnds (plan : Plan) (infos : List Info) (after : List DeviceState) (views : ℕ → SeatState) (unit : ℕ) : Type 0 where

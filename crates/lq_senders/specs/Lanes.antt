@@ -13,7 +13,7 @@ use Rattle.lq_seat.specs.Calls.{DoesEvent, WakesQueues}
 use Rattle.lq_seat.specs.State.{SeatState, TableState, IsHere, IsTableOf, solo_of, times, AreInfos}
 use Rattle.lq_senders.specs.Seats.{Keeps, KeepsSeat}
 use Rattle.lq_senders.specs.Units.{DevicesStand, DoTell}
-use Rattle.lq_senders.specs.Way.{IsOnWay}
+use Rattle.lq_senders.specs.Way.{IsOnWay, StandEarlier}
 use Rattle.lq_senders.specs.Woken.{AllWoke, count_sent}
 use Rattle.lq_senders.specs.declared.sender.Sender.{Sender}
 
@@ -94,7 +94,7 @@ pub record IsSending (plan : Plan) (infos : List Info) (tables : List TableState
   pub sent : k ≡ count_sent infos sender n
   pub woke : AllWoke (k / plan.irq_every) start now
   pub stands : LaneStands plan infos sender next n tables now
-  pub earlier : (j : ℕ) (event : EventPlan) → j < next → slice_get plan.events j ≡ Some event → event.before < n
+  pub earlier : StandEarlier plan next n
   pub keeps : KeepSeats start now
   pub devices : (units : List DeviceState) → DevicesStand plan infos units 0 start brought → DevicesStand plan infos units next now spares
   -- where all packets are the first sender's, and the devices that swaps bring tell, its seats are the stations of the run of

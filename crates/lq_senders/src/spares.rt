@@ -50,7 +50,8 @@ pub fn configure_spares<D: TxDevice>(
     bench: &mut Vec<D>,
 ) -> Result<(), NoMemory>
     requires units { unit_count plan.now ≤ vec_len bench.old }
-    ensures ok { OnOk result (AreSparesConfigured plan.now infos.now (length plan.now.events) (map D.state bench.old.items) (map D.state bench.new.items)) }
+    ensures ok { OnOk result (AreSparesConfigured plan.now infos.now (length plan.now.events)
+        (map D.state bench.old.items) (map D.state bench.new.items)) }
     ensures others { drop (unit_count plan.now) bench.new.items ≡ drop (unit_count plan.now) bench.old.items }
     ensures len { vec_len bench.new ≡ vec_len bench.old }
     ensures boxes { identities_of (map D.state bench.new.items) ≡ identities_of (map D.state bench.old.items) }

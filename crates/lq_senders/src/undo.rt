@@ -84,7 +84,8 @@ pub fn hand_back<D: TxDevice>(
     requires homes { length homes.items ≡ length plan.now.stations }
     requires spares { length spares.items ≡ count_by is_swap plan.now.events }
     requires room { vec_len bench.old + unit_count plan.now ≤ vec_capacity bench.old }
-    ensures states { map D.state bench.new.items ≡ by_unit plan.now (map D.state homes.items) (map D.state spares.items) ++ map D.state bench.old.items }
+    ensures states { map D.state bench.new.items
+        ≡ by_unit plan.now (map D.state homes.items) (map D.state spares.items) ++ map D.state bench.old.items }
     ensures rest { drop (unit_count plan.now) bench.new.items ≡ bench.old.items }
     ensures len { vec_len bench.new ≡ unit_count plan.now + vec_len bench.old }
 {
