@@ -19,7 +19,7 @@ use Rattle.lq_qdisc.proofs.ViewRelations.{Interrupts}
 use Rattle.lq_qdisc.specs.Alone.{HasAll, IsAlone, account_in, running, telling_of}
 use Rattle.lq_qdisc.proofs.AloneCalls.{entering_solo}
 use Rattle.lq_qdisc.proofs.AloneSteps.{account_at}
-use Rattle.lq_control.specs.Alone.{DoesSwap, unmarked}
+use Rattle.lq_control.specs.Alone.{DoesSwapAlone, unmarked}
 use Rattle.lq_control.specs.Control.{deactivated_solo}
 
 -- it is alone, and its station is just as after a step
@@ -163,9 +163,9 @@ relength_alone infos start len event plan v h =
     let resize = resize_alone infos start len event plan (downed event v) down.0 in
     (((up_alone infos start event plan (heard (Resize len event) (downed event v)) resize.0).0), refl)
 
--- EXCHANGES
+-- SWAPS
 
-pub swap_alone : (infos : List Info) (start : Account) (event unit : ℕ) (device : DeviceState) (v : Solo) → DoesSwap infos start event unit device v (heard Up (device_to device (heard (Swap unit) (downed event v))))
+pub swap_alone : (infos : List Info) (start : Account) (event unit : ℕ) (device : DeviceState) (v : Solo) → DoesSwapAlone infos start event unit device v (heard Up (device_to device (heard (Swap unit) (downed event v))))
 swap_alone infos start event unit device v plan params is_unit told h = (
   record {
     sender = record {

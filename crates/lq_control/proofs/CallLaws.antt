@@ -24,8 +24,8 @@ use Rattle.lq_table.specs.Views.{FirstPart, HolderPart, Left, PacketPart, Setup,
 use Rattle.lq_table.specs.Made.{Known}
 use Rattle.lq_qdisc.specs.Calls.{KeepsFates}
 use Rattle.lq_control.specs.Control.{IsKeptByControl, IsPurgeDone, IsPurged, IsServed, KeepsDevice, all_purged}
-use Rattle.lq_control.specs.Comes.{ExchangesFor, LeavesPurged, Shrinks}
-use Rattle.lq_control.specs.Steps.{ChangesLength, Deactivates, DeactivatesWhole, Downs, ExchangesDevice, ResizesLive, Swaps, FindsCalls, PurgesBy, PurgesHeld, PurgesSlot, Rounds, TakesLock, TriesLock, WaitsForCalls, WaitsUntilClear, held as tried, inside, locked, none_yet, not_looked, not_tried, scheduled, served, with_control_begun, with_deactivated_set, with_device_exchanged, with_purge_begun, with_queues_opened}
+use Rattle.lq_control.specs.Comes.{LeavesPurged, Shrinks, SwapsFor}
+use Rattle.lq_control.specs.Steps.{ChangesLength, Deactivates, DeactivatesWhole, Downs, ResizesLive, Swaps, SwapsDevice, FindsCalls, PurgesBy, PurgesHeld, PurgesSlot, Rounds, TakesLock, TriesLock, WaitsForCalls, WaitsUntilClear, held as tried, inside, locked, none_yet, not_looked, not_tried, scheduled, served, with_control_begun, with_deactivated_set, with_device_swapped, with_purge_begun, with_queues_opened}
 use Rattle.lq_control.proofs.Purge.{count_all, emptied, left1, purge1, purge2, left2, purged_of}
 use Rattle.lq_control.proofs.Served.{served_none, served_then}
 
@@ -286,15 +286,15 @@ changes_leaves k event len count old new bare (clear, changed, whole, (taken_at,
       },
     )
 
--- the device is exchanged
+-- the device is swapped
 
 opened_part : {X : Type 0} (part : View → X) → ((n : ℕ) (v : View) → part (opening_next n v) ≡ part v) → (k : Setup) (more : ℕ) (old : Known) → part (with_queues_opened k more old).view ≡ part old.view
 opened_part part kept k zero old = refl
 opened_part part kept k (suc more) old = kept (suc more) (with_queues_opened k more old).view ∙ opened_part part kept k more old
 
-module _ (k : Setup) (unit : ℕ) (came went : DeviceState) (old new : Known) (x : ExchangesDevice k unit came went old new) where
+module _ (k : Setup) (unit : ℕ) (came went : DeviceState) (old new : Known) (x : SwapsDevice k unit came went old new) where
   abbrev placed : Known
-  placed = with_device_exchanged k unit came x.locked
+  placed = with_device_swapped k unit came x.locked
 
   abbrev opened : Known
   opened = with_queues_opened k (k.queues - 1) placed
@@ -305,35 +305,35 @@ module _ (k : Setup) (unit : ℕ) (came went : DeviceState) (old new : Known) (x
   given : IsCalmly opened.view new.view
   given = released_calm opened.view new.view (ap (λ (y : Known). y.view) x.is)
 
-  exchange_keeps : IsKeptByControl old.view new.view
-  exchange_keeps = record {
+  swap_keeps : IsKeptByControl old.view new.view
+  swap_keeps = record {
     share = given.share ∙ (opened_part (λ v. v.share) (λ n v. refl) k (k.queues - 1) placed ∙ had.share);
     turns = given.turns ∙ (opened_part (λ v. v.turns) (λ n v. refl) k (k.queues - 1) placed ∙ had.turns);
     first = given.first ∙ (opened_part (λ v. v.control.first) (λ n v. refl) k (k.queues - 1) placed ∙ had.first);
     told = given.told ∙ (opened_part (λ v. v.whole.told) (λ n v. refl) k (k.queues - 1) placed ∙ had.told);
   }
 
-  exchange_trail : new.view.trail ≡ Swap unit ∷ old.view.trail
-  exchange_trail = given.trail ∙ (opened_part (λ v. v.trail) (λ n v. refl) k (k.queues - 1) placed ∙ ap (λ (es : List Event). Swap unit ∷ es) had.trail)
+  swap_trail : new.view.trail ≡ Swap unit ∷ old.view.trail
+  swap_trail = given.trail ∙ (opened_part (λ v. v.trail) (λ n v. refl) k (k.queues - 1) placed ∙ ap (λ (es : List Event). Swap unit ∷ es) had.trail)
 
-  exchange_settled : new.view.settled ≡ old.view.settled
-  exchange_settled = given.settled ∙ (opened_part (λ v. v.settled) (λ n v. refl) k (k.queues - 1) placed ∙ had.settled)
+  swap_settled : new.view.settled ≡ old.view.settled
+  swap_settled = given.settled ∙ (opened_part (λ v. v.settled) (λ n v. refl) k (k.queues - 1) placed ∙ had.settled)
 
-  exchange_came : new.view.control.origin ≡ came
-  exchange_came = given.origin ∙ opened_part (λ v. v.control.origin) (λ n v. refl) k (k.queues - 1) placed
+  swap_came : new.view.control.origin ≡ came
+  swap_came = given.origin ∙ opened_part (λ v. v.control.origin) (λ n v. refl) k (k.queues - 1) placed
 
-  exchange_gone : old.view.control.first ≡ true → new.view.control.gone ≡ (latest_unit old.view.share.about.station (units_of old.view.trail), went.accepted) ∷ old.view.control.gone
-  exchange_gone first = given.gone ∙ (opened_part (λ v. v.control.gone) (λ n v. refl) k (k.queues - 1) placed
+  swap_gone : old.view.control.first ≡ true → new.view.control.gone ≡ (latest_unit old.view.share.about.station (units_of old.view.trail), went.accepted) ∷ old.view.control.gone
+  swap_gone first = given.gone ∙ (opened_part (λ v. v.control.gone) (λ n v. refl) k (k.queues - 1) placed
       ∙ (λ j. ((x.away.1 ∙ (λ i. latest_unit (had.share i).about.station (x.takes.units first i))) j, (sym x.goes j).accepted) ∷ had.gone j))
 
-  exchange_served : HasServed old.view.share.about.infos old.view.share.about.station old.view.control.origin went
-  exchange_served = subst (λ (d : DeviceState). HasServed old.view.share.about.infos old.view.share.about.station old.view.control.origin d) (sym x.goes)
+  swap_served : HasServed old.view.share.about.infos old.view.share.about.station old.view.control.origin went
+  swap_served = subst (λ (d : DeviceState). HasServed old.view.share.about.infos old.view.share.about.station old.view.control.origin d) (sym x.goes)
       (subst (λ (z : SharePart × DeviceState). HasServed z.0.about.infos z.0.about.station z.1 x.locked.view.holder.station.device) (λ j. (had.share j, had.origin j)) x.away.0)
 
 pub swaps_leaves : (k : Setup) (event unit : ℕ) (came went : DeviceState) (old new : Known) → old.view.packets ≡ no_packets → Swaps k event unit came went old new
     → (count : ℕ) × LeavesPurged (Up ∷ Swap unit ∷ PurgeEvent (cause.Event event) ∷ Down event ∷ []) event count old.view new.view
 swaps_leaves k event unit came went old new bare (clear, changed, count, whole, x, (found, e)) =
-    let l = whole_leaves k event count old clear bare whole in let is = ap (λ (y : Known). y.view) e in let kept = exchange_keeps k unit came went clear changed x in (
+    let l = whole_leaves k event count old clear bare whole in let is = ap (λ (y : Known). y.view) e in let kept = swap_keeps k unit came went clear changed x in (
       count,
       leaves_more (Up ∷ Swap unit ∷ []) (PurgeEvent (cause.Event event) ∷ Down event ∷ []) event count old.view clear.view new.view l.0
           (record {
@@ -342,15 +342,15 @@ swaps_leaves k event unit came went old new bare (clear, changed, count, whole, 
             first = ap (λ (y : View). y.control.first) is ∙ kept.first;
             told = ap (λ (y : View). y.whole.told) is ∙ kept.told;
           })
-          (ap (λ (y : View). y.trail) is ∙ ap (λ (es : List Event). Up ∷ es) (exchange_trail k unit came went clear changed x))
-          ([], ap (λ (y : View). y.settled) is ∙ exchange_settled k unit came went clear changed x),
+          (ap (λ (y : View). y.trail) is ∙ ap (λ (es : List Event). Up ∷ es) (swap_trail k unit came went clear changed x))
+          ([], ap (λ (y : View). y.settled) is ∙ swap_settled k unit came went clear changed x),
     )
 
-pub swaps_devices : (k : Setup) (event unit : ℕ) (came went : DeviceState) (old new : Known) → old.view.packets ≡ no_packets → old.view.control.first ≡ true → Swaps k event unit came went old new → ExchangesFor came went old.view new.view
+pub swaps_devices : (k : Setup) (event unit : ℕ) (came went : DeviceState) (old new : Known) → old.view.packets ≡ no_packets → old.view.control.first ≡ true → Swaps k event unit came went old new → SwapsFor came went old.view new.view
 swaps_devices k event unit came went old new bare first (clear, changed, count, whole, x, (found, e)) =
     let l = whole_leaves k event count old clear bare whole in let is = ap (λ (y : Known). y.view) e in let units : units_of clear.view.trail ≡ units_of old.view.trail = ap units_of l.0.trail in record {
-      origin = ap (λ (y : View). y.control.origin) is ∙ exchange_came k unit came went clear changed x;
-      gone = ap (λ (y : View). y.control.gone) is ∙ (exchange_gone k unit came went clear changed x (l.0.kept.first ∙ first)
+      origin = ap (λ (y : View). y.control.origin) is ∙ swap_came k unit came went clear changed x;
+      gone = ap (λ (y : View). y.control.gone) is ∙ (swap_gone k unit came went clear changed x (l.0.kept.first ∙ first)
           ∙ (λ j. (latest_unit (l.0.kept.share j).about.station (units j), went.accepted) ∷ l.1.gone j));
-      has_served = subst (λ (z : SharePart × DeviceState). HasServed z.0.about.infos z.0.about.station z.1 went) (λ j. (l.0.kept.share j, l.1.origin j)) (exchange_served k unit came went clear changed x);
+      has_served = subst (λ (z : SharePart × DeviceState). HasServed z.0.about.infos z.0.about.station z.1 went) (λ j. (l.0.kept.share j, l.1.origin j)) (swap_served k unit came went clear changed x);
     }

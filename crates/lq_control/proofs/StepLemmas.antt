@@ -1,4 +1,4 @@
--- Steps of a wait, one more and one after the other, and of an exchange.
+-- Steps of a wait, one more and one after the other, and of a swap.
 use Rattle.std.proofs.Common.{◌≡◌, ◌≢◌, ℕ, zero, suc, ◌+◌, ◌-◌, ◌<◌, ◌≤◌, true, false, List, [], ◌++◌, drop, length, refl, sym, subst, ap, ◌∙◌, arith}
 use Rattle.lq_table.specs.Views.{Setup}
 use Rattle.lq_table.specs.Controls.{beginning_control, finding, opening, opening_next, returning}

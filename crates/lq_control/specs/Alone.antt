@@ -16,9 +16,9 @@ use Rattle.lq_qdisc.specs.Alone.{Does}
 abbrev pub DoesEventAlone : List Info → Account → ℕ → EventKind → Solo → Solo → Type 0
 DoesEventAlone infos start event kind old new = (plan : Plan) → Does infos start (changed plan event kind) old new
 
--- the same of an exchange for this unit, whose device was just configured
-abbrev pub DoesSwap : List Info → Account → ℕ → ℕ → DeviceState → Solo → Solo → Type 0
-DoesSwap infos start event unit device old new =
+-- the same of a swap for this unit, whose device was just configured
+abbrev pub DoesSwapAlone : List Info → Account → ℕ → ℕ → DeviceState → Solo → Solo → Type 0
+DoesSwapAlone infos start event unit device old new =
     (plan : Plan) (params : Params) → unit_of_swap plan event ≡ unit → device.told ≡ Some (new_device params) → Does infos start (changed plan event (kind.Swap params)) old new
 
 -- what it knows, without the raised mark and SCHED

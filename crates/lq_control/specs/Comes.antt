@@ -33,8 +33,8 @@ pub record Shrinks (len event count : ℕ) (v w : View) : Type 0 where
   pub counted : count ≡ length lost
   pub all : IsSole v → lost ≡ all_dropped len (account_of v)
 
--- what an exchange tells of the device that came and the one that went
-pub record ExchangesFor (came went : DeviceState) (v w : View) : Type 0 where
+-- what a swap tells of the device that came and the one that went
+pub record SwapsFor (came went : DeviceState) (v w : View) : Type 0 where
   pub origin : w.control.origin ≡ came
   pub gone : w.control.gone ≡ (latest_unit v.share.about.station (units_of v.trail), went.accepted) ∷ v.control.gone
   pub has_served : HasServed v.share.about.infos v.share.about.station v.control.origin went

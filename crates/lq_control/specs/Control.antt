@@ -25,7 +25,7 @@ pub record IsKeptByControl (v w : View) : Type 0 where
   pub first : w.control.first ≡ v.control.first
   pub told : w.whole.told ≡ v.whole.told
 
--- the device that came, and those that exchanges took away, are as they were
+-- the device that came, and those that swaps took away, are as they were
 pub record KeepsDevice (v w : View) : Type 0 where
   pub origin : w.control.origin ≡ v.control.origin
   pub gone : w.control.gone ≡ v.control.gone
@@ -65,14 +65,14 @@ all_dropped len a = dropped_in len a 0 ++ (dropped_in len a 1 ++ dropped_in len 
 abbrev pub deactivated_solo : ℕ → Solo → Solo
 deactivated_solo event s = locked_to false (missed_to false (draining_to false (heard (PurgeEvent (cause.Event event)) (locked_to true (heard (Down event) s)))))
 
--- EXCHANGES
+-- SWAPS
 
 -- the unit is above every one that the station had
 pub record IsAfterUnits (station : ℕ) (trail : List Event) (unit : ℕ) : Type 0 where
   pub first : station < unit
   pub later : (u : ℕ) → Contains (units_of trail) u → u < unit
 
--- an exchange of the device has stored the stop words as this says
+-- a swap of the device has stored the stop words as this says
 abbrev pub all_opened : Option ℕ → WholePart → View → View
 all_opened shut whole v = record v { holder = record v.holder { shut = shut }; whole = whole }
 

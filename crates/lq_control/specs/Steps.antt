@@ -197,8 +197,8 @@ abbrev pub ChangesLength : Setup → ℕ → ℕ → ℕ → Known → Known →
 ChangesLength k event len count old new = (clear changed : Known) × DeactivatesWhole k event count old clear × Relengths k event len clear changed × Reopens changed new
 
 -- the station has this unit and its device, and the first queue's stop word is stored as open
-abbrev pub with_device_exchanged : Setup → ℕ → DeviceState → Known → Known
-with_device_exchanged k unit device old = record { view = swapping (with_device (shown old.view.holder) unit device) old.view; steps = old.steps ⊳ did_store_stop k 0 0 }
+abbrev pub with_device_swapped : Setup → ℕ → DeviceState → Known → Known
+with_device_swapped k unit device old = record { view = swapping (with_device (shown old.view.holder) unit device) old.view; steps = old.steps ⊳ did_store_stop k 0 0 }
 
 -- so are the stop words of so many queues after the first, in ascending order
 abbrev pub with_queues_opened : Setup → ℕ → Known → Known
@@ -207,13 +207,13 @@ with_queues_opened k (suc more) old = record { view = opening_next (suc more) (w
 
 -- Under the run lock: a driver's open, with `netif_tx_start_all_queues` of include/linux/netdevice.h. The device that goes is the one that
 -- came with the latest unit, and has served the station.
-pub record ExchangesDevice (k : Setup) (unit : ℕ) (came went : DeviceState) (old new : Known) : Type 0 where
+pub record SwapsDevice (k : Setup) (unit : ℕ) (came went : DeviceState) (old new : Known) : Type 0 where
   pub locked : Known
   pub takes : TakesLock old locked
   pub goes : went ≡ locked.view.holder.station.device
   pub away : GoesAway locked.view
-  pub is : new ≡ with_lock_released (with_queues_opened k (k.queues - 1) (with_device_exchanged k unit came locked))
+  pub is : new ≡ with_lock_released (with_queues_opened k (k.queues - 1) (with_device_swapped k unit came locked))
 
--- an exchange of the device, while the station is deactivated; so many packets are purged
+-- a swap of the device, while the station is deactivated; so many packets are purged
 abbrev pub Swaps : Setup → ℕ → ℕ → DeviceState → DeviceState → Known → Known → Type 0
-Swaps k event unit came went old new = (clear changed : Known) × (count : ℕ) × DeactivatesWhole k event count old clear × ExchangesDevice k unit came went clear changed × Reopens changed new
+Swaps k event unit came went old new = (clear changed : Known) × (count : ℕ) × DeactivatesWhole k event count old clear × SwapsDevice k unit came went clear changed × Reopens changed new

@@ -6,7 +6,7 @@ ghost use Rattle.lq_model.specs.declared.fate.Cause.TheVariants as cause;
 ghost use Rattle.lq_table.specs.Made.{Known};
 ghost use Rattle.lq_table.specs.Solo.{IsSole};
 ghost use Rattle.lq_table.specs.Views.{Setup, no_packets};
-ghost use Rattle.lq_control.specs.Comes.{ComesToEnd, ExchangesFor, LeavesPurged, Shrinks};
+ghost use Rattle.lq_control.specs.Comes.{ComesToEnd, SwapsFor, LeavesPurged, Shrinks};
 ghost use Rattle.lq_control.specs.Control.{KeepsDevice};
 ghost use Rattle.lq_control.specs.EndSteps.{FinishesBy};
 ghost use Rattle.lq_control.specs.Steps.{ChangesLength, Downs, ResizesLive, Swaps};
@@ -25,11 +25,11 @@ pub fn deactivations_purge_all()
         → (count : ℕ) × LeavesPurged (Up ∷ Swap unit ∷ Purge (cause.Event event) ∷ Down event ∷ []) event count old.view new.view }
 {}
 
-/// After an exchange the new device is the one that came; the old one is that of the station's latest unit, what it has accepted is
+/// After a swap the new device is the one that came; the old one is that of the station's latest unit, what it has accepted is
 /// kept, and it has served the station since it came.
-pub fn an_exchange_hands_the_old_device_back()
+pub fn a_swap_hands_the_old_device_back()
     ensures { (k : Setup) (event unit : ℕ) (came went : DeviceState) (old new : Known) → old.view.packets ≡ no_packets → old.view.control.first ≡ true
-        → Swaps k event unit came went old new → ExchangesFor came went old.view new.view }
+        → Swaps k event unit came went old new → SwapsFor came went old.view new.view }
 {}
 
 /// A live resize stores Shrunk, by the plan's event, of so many packets as are counted: of a seat that has the table alone those

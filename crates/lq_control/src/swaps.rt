@@ -1,4 +1,4 @@
-//! The device of a station is exchanged.
+//! The device of a station is swapped.
 ghost use Rattle.std.specs.Prelude.{◌≡◌, ◌<◌, ◌-◌, ◌≤◌, ◌∷◌, [], true, false, Some, None};
 ghost use Rattle.lq_device.specs.Station.{with_device};
 ghost use Rattle.lq_model.specs.Account.{Down, Purge, Swap, Up};
@@ -11,10 +11,10 @@ ghost use Rattle.lq_table.specs.Views.{HolderPart, WholePart, first_account};
 ghost use Rattle.lq_table.specs.Rule.{shown, station_count};
 ghost use Rattle.lq_table.specs.Controls.{shut_after};
 ghost use Rattle.lq_table.specs.Sees.{view, known, setup, position, slot, IsSeatOf, IsSameSeat, IsElseSame};
-ghost use Rattle.lq_control.specs.Steps.{ExchangesDevice, Swaps, with_queues_opened};
+ghost use Rattle.lq_control.specs.Steps.{Swaps, SwapsDevice, with_queues_opened};
 ghost use Rattle.lq_qdisc.specs.Sends.{IsReadyToSend};
 ghost use Rattle.lq_control.specs.Control.{IsIn, IsKeptByControl, all_opened, IsAfterUnits};
-ghost use Rattle.lq_control.specs.Alone.{DoesSwap};
+ghost use Rattle.lq_control.specs.Alone.{DoesSwapAlone};
 
 use crate::activates::deactivate;
 use crate::drains::wait_until_clear;
@@ -23,7 +23,7 @@ use lq_device::TxDevice;
 use lq_table::{Cpu, Shared};
 use std::sync::Wait;
 
-/// Exchanges the device of the station that the seat carries.
+/// Swaps the device of the station that the seat carries.
 fn change_device<D: TxDevice>(cpu: &mut Cpu<D>, unit: u32, device: D) -> D
     requires station { (h : HolderPart) × (cpu.old.station ≡ Some (shown h)) }
     requires device { ((D.state device).accepted ≡ []) × ((D.state device).hung ≡ false) }
@@ -36,7 +36,7 @@ fn change_device<D: TxDevice>(cpu: &mut Cpu<D>, unit: u32, device: D) -> D
     station.change(unit, device)
 }
 
-/// Opens the queues after the first, whose stop word the exchange has stored.
+/// Opens the queues after the first, whose stop word the swap has stored.
 fn open_queues<'a, D: TxDevice>(shared: &Shared<'a, D>, cpu: &mut Cpu<D>)
     requires seat { IsSeatOf shared.now cpu.old }
     requires at { (position cpu.old ≡ Control true) × IsIn Purged (view cpu.old) }
@@ -51,8 +51,8 @@ fn open_queues<'a, D: TxDevice>(shared: &Shared<'a, D>, cpu: &mut Cpu<D>)
     }
 }
 
-/// Exchanges the device of a station that is deactivated and purged, under the run lock, and opens its queues.
-fn exchange_device<'a, D: TxDevice, R: Wait>(
+/// Swaps the device of a station that is deactivated and purged, under the run lock, and opens its queues.
+fn swap_device<'a, D: TxDevice, R: Wait>(
     rt: &R,
     shared: &Shared<'a, D>,
     cpu: &mut Cpu<D>,
@@ -67,7 +67,7 @@ fn exchange_device<'a, D: TxDevice, R: Wait>(
     ensures same { IsSameSeat cpu.old cpu.new × IsKeptByControl (view cpu.old) (view cpu.new) }
     ensures at { (position cpu.new ≡ Control false) × IsReadyToSend cpu.new × IsIn Purged (view cpu.new) }
     ensures trail { (view cpu.new).trail ≡ Swap unit ∷ (view cpu.old).trail }
-    ensures exchanges { ExchangesDevice (setup shared.now) unit (D.state device) (D.state result) (known cpu.old) (known cpu.new) }
+    ensures swaps { SwapsDevice (setup shared.now) unit (D.state device) (D.state result) (known cpu.old) (known cpu.new) }
     ensures sole { IsSole (view cpu.old) → solo (view cpu.new) ≡ locked_to false (device_to (D.state device) (heard (Swap unit) (locked_to true (solo (view cpu.old))))) }
 {
     take_lock(rt, shared, cpu);
@@ -78,7 +78,7 @@ fn exchange_device<'a, D: TxDevice, R: Wait>(
     old
 }
 
-/// Exchanges the device of an active station while it is deactivated: what the station held gets Purged as its fate, by the
+/// Swaps the device of an active station while it is deactivated: what the station held gets Purged as its fate, by the
 /// plan's event, and its queues are open afterwards. `unit` is above every unit that the station had, and the device was asked
 /// nothing and has room for all packets of the station. The old device comes back: the one that came with the latest unit, which was
 /// asked for packets of the station alone and hangs as it told, and what it has accepted is what the seat knows that unit to have
@@ -100,11 +100,11 @@ pub fn swap<'a, D: TxDevice, R: Wait>(
     ensures at { (position cpu.new ≡ Idle) × IsReadyToSend cpu.new × IsIn Active (view cpu.new) }
     ensures trail { (view cpu.new).trail ≡ Up ∷ Swap unit ∷ Purge (cause.Event event) ∷ Down event ∷ (view cpu.old).trail }
     ensures swaps { Swaps (setup shared.now) event unit (D.state device) (D.state result) (known cpu.old) (known cpu.new) }
-    ensures alone { DoesSwap shared.now.infos.now (first_account (setup shared.now)) event unit (D.state device) (solo (view cpu.old)) (solo (view cpu.new)) }
+    ensures alone { DoesSwapAlone shared.now.infos.now (first_account (setup shared.now)) event unit (D.state device) (solo (view cpu.old)) (solo (view cpu.new)) }
 {
     deactivate(rt, shared, cpu, event);
     wait_until_clear(rt, shared, cpu);
-    let old = exchange_device(rt, shared, cpu, unit, device);
+    let old = swap_device(rt, shared, cpu, unit, device);
     shared.clear_deactivated(cpu);
     shared.end_control(cpu);
     old

@@ -47,7 +47,7 @@ has-word (fate.Refused event) g small h same = let w = rest-of g h in let low = 
 
 -- FATES
 
--- a unit that sent is the station's first, or an exchange brought it; and what was purged as hung has such an event
+-- a unit that sent is the station's first, or a swap brought it; and what was purged as hung has such an event
 record AreCaused (station : ℕ) (past : List Event) (a : Account) : Type 0 where
   pub sent : (n unit serial : ℕ) → a.fates n ≡ Some (fate.Sent unit serial) → (unit ≡ station) ⊎ Contains (units_of past) unit
   pub hung : (n unit : ℕ) → a.fates n ≡ Some (fate.Purged (cause.Hung unit)) → Contains past (Purge (cause.Hung unit))

@@ -4,7 +4,7 @@ use Rattle.std.specs.Prelude.{◌↔◌, ◌<◌, ◌==◌, ◌+◌, ◌*◌, sl
 use Rattle.lq_account.proofs.Lists.{cons-in}
 use Rattle.lq_account.specs.Controls.{with_control}
 use Rattle.lq_account.specs.Trail.{down_of, is_own}
-use Rattle.lq_control.specs.Comes.{ComesToEnd, ExchangesFor}
+use Rattle.lq_control.specs.Comes.{ComesToEnd, SwapsFor}
 use Rattle.lq_control.specs.Control.{IsKeptByControl, KeepsDevice}
 use Rattle.lq_control.specs.Finish.{AreAllDone}
 use Rattle.lq_model.specs.Account.{Account, Event, Join, Full, Refuse, Direct, Purge}
@@ -21,10 +21,10 @@ use Rattle.lq_qdisc.specs.Sends.{IsCallKept, came_as, trail_with}
 use Rattle.lq_qdisc.specs.Steps.{TransmitsBy}
 use Rattle.lq_qdisc.specs.declared.answers.Sending.{Sending}
 use Rattle.lq_qdisc.specs.declared.answers.Sending.TheVariants as sending
-use Rattle.lq_seat.specs.Calls.{Came, Changes, DoesEvent, Drains, Exchanges, SendsPacket}
+use Rattle.lq_seat.specs.Calls.{Came, Changes, DoesEvent, DoesSwap, Drains, SendsPacket}
 use Rattle.lq_seat.specs.Ends.{EndsTrail}
 use Rattle.lq_seat.specs.Rests.{AreUnitsSmall}
-use Rattle.lq_seat.specs.Steps.{ControlsBy, ExchangesBy, Makes, Transmits}
+use Rattle.lq_seat.specs.Steps.{ControlsBy, Makes, SwapsBy, Transmits}
 use Rattle.lq_seat.specs.State.{IsHere, SeatState, TableState, seat_account, seat_state, seat_seen, table_seen, solo_of, units_of}
 use Rattle.lq_table.specs.Made.{Known}
 use Rattle.lq_table.specs.Sees.{IsSameSeat, known, setup, view}
@@ -178,11 +178,11 @@ module _ {D : Type 0} (sh : Shared D) (c c' : Cpu D) (made : (view c).share.abou
     alone = does-here (λ k. changed plan event kind) alone;
   }
 
-  pub exchanged-drained : (plan : Plan) (event : ℕ) (params : Params) (came went : DeviceState) (s : SeatState) → IsSameSeat c c' → IsKeptByControl (view c) (view c')
-      → (view c').trail ≡ with_control plan event (kind.Swap params) (view c).trail → ExchangesFor came went (view c) (view c')
+  pub swapped-drained : (plan : Plan) (event : ℕ) (params : Params) (came went : DeviceState) (s : SeatState) → IsSameSeat c c' → IsKeptByControl (view c) (view c')
+      → (view c').trail ≡ with_control plan event (kind.Swap params) (view c).trail → SwapsFor came went (view c) (view c')
       → (came.told ≡ Some (new_device params) → Does sh.infos.now (first_account (setup sh)) (changed plan event (kind.Swap params)) (solo (view c)) (solo (view c')))
-      → ExchangesBy event came went (setup sh) (known c) (known c') → Drains (seat_seen c') s → Exchanges plan event params came went (seat_seen c) s
-  exchanged-drained plan event params came went s same kept trail devices alone exchanges drains = record {
+      → SwapsBy event came went (setup sh) (known c) (known c') → Drains (seat_seen c') s → DoesSwap plan event params came went (seat_seen c) s
+  swapped-drained plan event params came went s same kept trail devices alone swaps drains = record {
     is = drains.is ∙ (λ i. record (seat_seen c) {
       table = same.0 i;
       made = (kept.share i).about;
@@ -198,7 +198,7 @@ module _ {D : Type 0} (sh : Shared D) (c c' : Cpu D) (made : (view c).share.abou
       whole = s.whole;
       steps = s.steps;
     });
-    by = (seat_seen c', ap (λ x. x.about) kept.share, call-made (ExchangesBy event came went) same.0 exchanges, drains.by);
+    by = (seat_seen c', ap (λ x. x.about) kept.share, call-made (SwapsBy event came went) same.0 swaps, drains.by);
     has_served = devices.has_served;
     alone = λ tells. drained-on (λ k. changed plan event (kind.Swap params)) (seat_seen c) (seat_seen c') s (ap (λ x. x.about) kept.share) (does-here (λ k. changed plan event (kind.Swap params)) (alone tells)) drains;
   }

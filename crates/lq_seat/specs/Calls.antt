@@ -14,7 +14,7 @@ use Rattle.lq_model.specs.declared.plan.EventKind.TheVariants as kind
 use Rattle.lq_plan.specs.Limits.{IsKindWithin}
 use Rattle.lq_qdisc.specs.Alone.{Does}
 use Rattle.lq_seat.specs.State.{HasServed, SeatState, first_account, latest_unit, no_device, solo_of, station_count, times, units_of}
-use Rattle.lq_seat.specs.Steps.{ControlsBy, ExchangesBy, DoesInterrupts, LooksAtStops, Makes, MakesAndServes, Transmits}
+use Rattle.lq_seat.specs.Steps.{ControlsBy, DoesInterrupts, LooksAtStops, Makes, MakesAndServes, SwapsBy, Transmits}
 pub use Rattle.lq_table.specs.Told.{with_turns, without}
 
 -- for a seat that has the table alone and whose device tells, the station is just as after this step of the run of one sender
@@ -82,7 +82,7 @@ pub record MayChange (kind : EventKind) (s : SeatState) : Type 0 where
   pub within : IsKindWithin s.made.max_len kind
   pub may : MayDoEvent kind s.trail
 
--- an event of the plan that is no exchange of the device was done, up to the soft interrupts
+-- an event of the plan that is no swap of the device was done, up to the soft interrupts
 pub record Changes (plan : Plan) (event : ℕ) (kind : EventKind) (old new : SeatState) : Type 0 where
   pub is : new ≡ record old { raised = new.raised; trail = with_control plan event kind old.trail; whole = new.whole; steps = new.steps }
   pub by : Makes (ControlsBy event kind) old new
@@ -94,8 +94,8 @@ pub record DoesEvent (plan : Plan) (event : ℕ) (kind : EventKind) (old new : S
   pub by : MakesAndServes (ControlsBy event kind) old new
   pub alone : DoesAlone (λ r. served old.made.infos (changed plan event kind r)) old new
 
--- the seat may have its device exchanged for this one, of this unit
-pub record MayExchange (unit : ℕ) (device : DeviceState) (s : SeatState) : Type 0 where
+-- the seat may have its device swapped for this one, of this unit
+pub record MaySwap (unit : ℕ) (device : DeviceState) (s : SeatState) : Type 0 where
   pub first : s.first ≡ true
   pub active : down_of s.trail ≡ None
   pub small : unit < 256
@@ -103,8 +103,8 @@ pub record MayExchange (unit : ℕ) (device : DeviceState) (s : SeatState) : Typ
   pub fresh : (device.accepted ≡ []) × (device.asked ≡ []) × (device.hung ≡ false)
   pub room : station_count s.made.infos s.made.station ≤ device.spare
 
--- the device was exchanged: one came, and the other went
-pub record Exchanges (plan : Plan) (event : ℕ) (params : Params) (came went : DeviceState) (old new : SeatState) : Type 0 where
+-- the device was swapped: one came, and the other went
+pub record DoesSwap (plan : Plan) (event : ℕ) (params : Params) (came went : DeviceState) (old new : SeatState) : Type 0 where
   pub is : new ≡ record old {
     raised = false;
     trail = with_control plan event (kind.Swap params) old.trail;
@@ -113,7 +113,7 @@ pub record Exchanges (plan : Plan) (event : ℕ) (params : Params) (came went : 
     whole = new.whole;
     steps = new.steps;
   }
-  pub by : MakesAndServes (ExchangesBy event came went) old new
+  pub by : MakesAndServes (SwapsBy event came went) old new
   pub has_served : HasServed old.made.infos old.made.station old.origin went
   pub alone : came.told ≡ Some (new_device params) → DoesAlone (λ r. served old.made.infos (changed plan event (kind.Swap params) r)) old new
 

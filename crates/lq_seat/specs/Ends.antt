@@ -66,7 +66,7 @@ pub record MayCloseBy (s : SeatState) : Type 0 where
   pub sole : HasAllOf s
 
 -- what a sole first seat knows at the close: its events came in order, and the trail is theirs; the device is the one that came,
--- and accepted what its unit sent, as did each that an exchange took away
+-- and accepted what its unit sent, as did each that a swap took away
 pub record IsSoundAtClose (infos : List Info) (station : ℕ) (start : Account) (s : SeatState) : Type 0 where
   pub orderly : IsOrderly infos station start s.whole.past
   pub trail : trail_of infos s.whole.past ≡ s.trail

@@ -20,7 +20,7 @@ phase_by (Some event) = Purged
 abbrev pub phase_of : List Event → Phase
 phase_of trail = phase_by (down_of trail)
 
--- the units of a station, which are its number and those that exchanges brought, are numbers of 8 bits
+-- the units of a station, which are its number and those that swaps brought, are numbers of 8 bits
 pub record AreUnitsSmall (station : ℕ) (units : List ℕ) : Type 0 where
   pub first : station < 256
   pub later : (unit : ℕ) → Contains units unit → unit < 256

@@ -49,7 +49,7 @@ pub record IsWellMade (k : Setup) : Type 0 where
 
 -- the table, and what it was made of; the seat's shares and owners, and whether it is the first one; whether it owes a soft
 -- interrupt; the turn words, twice the count of each owner's packets that were brought; control's trail, the device that came and what
--- each unit sent that an exchange took away, as the first seat knows them; whether it was told the whole station, and that; and the
+-- each unit sent that a swap took away, as the first seat knows them; whether it was told the whole station, and that; and the
 -- steps that the seat made on the table's words, the latest first
 pub record SeatState : Type 0 where
   pub table : TableId

@@ -31,7 +31,7 @@ DoesInterrupts k old new = DrainsBy k old new
 abbrev pub MakesAndServes : (Setup → Known → Known → Type 0) → SeatState → SeatState → Type 0
 MakesAndServes call old new = (between : SeatState) × (between.made ≡ old.made) × Makes call old between × Makes DoesInterrupts between new
 
--- an event of the plan is done that exchanges no device
+-- an event of the plan is done that swaps no device
 abbrev pub ControlsBy : ℕ → EventKind → Setup → Known → Known → Type 0
 ControlsBy event kind.Down k old new = (count : ℕ) × Downs k event count old new
 ControlsBy event kind.Up k old new = Ups old new
@@ -39,9 +39,9 @@ ControlsBy event (kind.Resize len) k old new = (count : ℕ) × ResizesLive k ev
 ControlsBy event (kind.TxQueueLen len) k old new = (count : ℕ) × ChangesLength k event len count old new
 ControlsBy event (kind.Swap params) k old new = ⊥
 
--- the device is exchanged
-abbrev pub ExchangesBy : ℕ → DeviceState → DeviceState → Setup → Known → Known → Type 0
-ExchangesBy event came went k old new = (unit : ℕ) × Swaps k event unit came went old new
+-- the device is swapped
+abbrev pub SwapsBy : ℕ → DeviceState → DeviceState → Setup → Known → Known → Type 0
+SwapsBy event came went k old new = (unit : ℕ) × Swaps k event unit came went old new
 
 -- the station is brought to its end
 abbrev pub EndsStation : Setup → Known → Known → Type 0

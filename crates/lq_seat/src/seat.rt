@@ -2,7 +2,7 @@
 ghost use Rattle.std.specs.Prelude.{◌≡◌, ◌<◌, ◌≤◌, true, false};
 ghost use Rattle.lq_model.specs.Plan.{Plan as PlanRecord, is_swap_kind, unit_of_swap};
 ghost use Rattle.lq_model.specs.declared.device.Params.{Params};
-ghost use Rattle.lq_seat.specs.Calls.{Changes, DoesEvent, Drains, Exchanges, IsBeside, MaySendNext, Joins, MayChange, MayExchange, SendsPacket, WakesQueues, keeping_seat, offspring_seat};
+ghost use Rattle.lq_seat.specs.Calls.{Changes, DoesEvent, DoesSwap, Drains, IsBeside, MaySendNext, Joins, MayChange, MaySwap, SendsPacket, WakesQueues, keeping_seat, offspring_seat};
 ghost use Rattle.lq_seat.specs.Ends.{Finishes, MayFinish};
 ghost use Rattle.lq_seat.specs.State.{IsHere, times};
 
@@ -32,7 +32,7 @@ impl<D: TxDevice> Model for Seat<D> {
     ghost invariant = { λ s. IsSeatBetween s.cpu };
 }
 
-/// The plan's event that exchanges a device, and the unit that it brings.
+/// The plan's event that swaps a device, and the unit that it brings.
 #[derive(Clone, Copy, Drop)]
 pub struct Brought {
     pub event: u32,
@@ -67,7 +67,7 @@ impl<D: TxDevice> Seat<D> {
         lq_control::drain(rt, &table.shared, &mut self.cpu);
     }
 
-    /// Does an event of the plan, which isn't an exchange of the device, up to the soft interrupts.
+    /// Does an event of the plan, which isn't a swap of the device, up to the soft interrupts.
     fn change<'a, R: Wait>(&mut self, rt: &R, table: &Table<'a, D>, event: u32, kind: EventKind)
         requires here { IsHere table.now self.old }
         requires may { MayChange kind self.old × (is_swap_kind kind ≡ false) }
@@ -89,7 +89,7 @@ impl<D: TxDevice> Seat<D> {
         }
     }
 
-    /// Does the plan's event `event`, which isn't an exchange of the device, and what soft interrupts the seat then owes.
+    /// Does the plan's event `event`, which isn't a swap of the device, and what soft interrupts the seat then owes.
     pub fn do_event<'a, R: Wait>(
         &mut self,
         rt: &R,
@@ -105,8 +105,8 @@ impl<D: TxDevice> Seat<D> {
         self.drain(rt, table);
     }
 
-    /// Exchanges the station's device for that of the unit which an event of the plan brings. The old device comes back.
-    pub fn exchange<'a, R: Wait>(
+    /// Swaps the station's device for that of the unit which an event of the plan brings. The old device comes back.
+    pub fn swap<'a, R: Wait>(
         &mut self,
         rt: &R,
         table: &Table<'a, D>,
@@ -114,9 +114,9 @@ impl<D: TxDevice> Seat<D> {
         device: D,
     ) -> D
         requires here { IsHere table.now self.old }
-        requires may { MayExchange brought.unit (D.state device) self.old }
+        requires may { MaySwap brought.unit (D.state device) self.old }
         ensures { (plan : PlanRecord) (params : Params) → unit_of_swap plan brought.event ≡ brought.unit
-            → Exchanges plan brought.event params (D.state device) (D.state result) self.old self.new }
+            → DoesSwap plan brought.event params (D.state device) (D.state result) self.old self.new }
     {
         let old = swap(
             rt,

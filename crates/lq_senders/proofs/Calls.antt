@@ -6,11 +6,11 @@ use Rattle.lq_model.specs.Device.{DeviceState}
 use Rattle.lq_model.specs.Plan.{Plan}
 use Rattle.lq_model.specs.declared.device.Params.{Params}
 use Rattle.lq_model.specs.declared.plan.EventKind.{EventKind}
-use Rattle.lq_seat.specs.Calls.{DoesEvent, Drains, Exchanges, SendsPacket}
+use Rattle.lq_seat.specs.Calls.{DoesEvent, DoesSwap, Drains, SendsPacket}
 use Rattle.lq_seat.specs.State.{SeatState}
 use Rattle.lq_senders.specs.Lanes.{AllDid, KeepSeats}
 use Rattle.lq_senders.specs.Seats.{KeepsSeat}
-use Rattle.lq_senders.specs.Woken.{OtherCall, OtherCalls, sent, drained, event_done, exchanged, not_called, one_more}
+use Rattle.lq_senders.specs.Woken.{OtherCall, OtherCalls, sent, drained, event_done, swapped, not_called, one_more}
 use Rattle.lq_senders.proofs.Seats.{each-set, drains-keep, event-keeps, keeps-itself, seat-kept, seat-on, sends-keep}
 
 -- ONE SEAT
@@ -28,15 +28,15 @@ drains-call v w drains = one_more v w not_called (drained drains)
 pub event-call : (plan : Plan) (e : ℕ) (kind : EventKind) (v w : SeatState) → DoesEvent plan e kind v w → OtherCalls v w
 event-call plan e kind v w does = one_more v w not_called (event_done plan e kind does)
 
-pub exchange-call : (plan : Plan) (e : ℕ) (params : Params) (came went : DeviceState) (v w : SeatState) → Exchanges plan e params came went v w → OtherCalls v w
-exchange-call plan e params came went v w does = one_more v w not_called (exchanged plan e params came went does)
+pub swap-call : (plan : Plan) (e : ℕ) (params : Params) (came went : DeviceState) (v w : SeatState) → DoesSwap plan e params came went v w → OtherCalls v w
+swap-call plan e params came went v w does = one_more v w not_called (swapped plan e params came went does)
 
 -- what each leaves of the seat
 call-keeps : (v w : SeatState) → OtherCall v w → KeepsSeat v w
 call-keeps v w (sent n sends) = seat-kept v w (sends-keep n v w sends)
 call-keeps v w (drained drains) = seat-kept v w (drains-keep v w drains)
 call-keeps v w (event_done plan e kind does) = seat-kept v w (event-keeps plan e kind v w does)
-call-keeps v w (exchanged plan e params came went does) = subst (KeepsSeat v) (sym does.is) refl
+call-keeps v w (swapped plan e params came went does) = subst (KeepsSeat v) (sym does.is) refl
 
 calls-keep : (v w : SeatState) → OtherCalls v w → KeepsSeat v w
 calls-keep v w not_called = seat-kept v v (keeps-itself v)

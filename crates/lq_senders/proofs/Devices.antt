@@ -19,7 +19,7 @@ use Rattle.lq_senders.proofs.Turns.{event-there, some-there}
 use Rattle.lq_senders.proofs.Units.{one_where, unit-elsewhere, unit-here, unit-more, unit-stays, unit-within}
 use Rattle.lq_senders.proofs.Ways.{below-or-at}
 
--- so many exchanges more
+-- so many swaps more
 pub swaps-more : (plan : Plan) (count : ℕ) (event : EventPlan) → slice_get plan.events count ≡ Some event → (b : Bool) → is_swap event ≡ b → swaps_before plan (suc count) ≡ swaps_before plan count + one_where b
 swaps-more plan count event there b is = let more = unit-more plan count event there b is in omega (arith, more)
 
@@ -44,7 +44,7 @@ has-first f [] y ys same = absurd cc
 has-first f (x ∷ xs) y ys same = omega arith
 
 module _ (plan : Plan) (infos : List Info) (units : List DeviceState) where
-  -- the first spare device is that of the next exchange
+  -- the first spare device is that of the next swap
   first-spare : (count : ℕ) (event : EventPlan) (cpus : List SeatState) (spares : List DeviceState) → slice_get plan.events count ≡ Some event → is_swap event ≡ true
       → (stand : DevicesStand plan infos units count cpus spares)
       → (came : DeviceState) × (slice_get units (unit_of_swap plan count) ≡ Some came) × (spares ≡ came ∷ (drop (suc (unit_of_swap plan count)) units ++ stand.taken))
@@ -86,7 +86,7 @@ module _ (plan : Plan) (infos : List Info) (units : List DeviceState) where
   pub devices-kept : (count : ℕ) (old new : List SeatState) (spares : List DeviceState) → KeepAll old new → DevicesStand plan infos units count old spares → DevicesStand plan infos units count new spares
   devices-kept count old new spares keeps = devices-same count old new spares (record { long = keeps.long; each = λ j c c' at at'. let own = keeps.each j c c' at at' in (ap (λ (s : SeatState). s.origin) own, ap (λ (s : SeatState). s.gone) own) })
 
-  -- an event that exchanges no device
+  -- an event that swaps no device
   pub devices-past : (count : ℕ) (event : EventPlan) (cpus : List SeatState) (spares : List DeviceState) → slice_get plan.events count ≡ Some event → is_swap event ≡ false
       → DevicesStand plan infos units count cpus spares → DevicesStand plan infos units (suc count) cpus spares
   devices-past count event cpus spares there none stand = record {
@@ -102,13 +102,13 @@ module _ (plan : Plan) (infos : List Info) (units : List DeviceState) where
     ];
   }
 
-  -- an exchange: this device came, and that one went
-  pub devices-exchanged : (count : ℕ) (event : EventPlan) (cpus : List SeatState) (spares : List DeviceState) (c c' : SeatState) (came went : DeviceState) → slice_get plan.events count ≡ Some event → is_swap event ≡ true
+  -- a swap: this device came, and that one went
+  pub devices-swapped : (count : ℕ) (event : EventPlan) (cpus : List SeatState) (spares : List DeviceState) (c c' : SeatState) (came went : DeviceState) → slice_get plan.events count ≡ Some event → is_swap event ≡ true
       → slice_get cpus event.station ≡ Some c → slice_get units (unit_of_swap plan count) ≡ Some came → c'.origin ≡ came
       → HasServed infos event.station c.origin went
       → c'.gone ≡ (unit_at plan event.station count, went.accepted) ∷ c.gone
       → DevicesStand plan infos units count cpus spares → DevicesStand plan infos units (suc count) (slice_set cpus event.station c') (drop 1 spares ++ went ∷ [])
-  devices-exchanged count event cpus spares c c' came went there swap at-c brought origin has_served gone stand = record {
+  devices-swapped count event cpus spares c c' came went there swap at-c brought origin has_served gone stand = record {
     units_are = stand.units_are;
     home = each-set (λ (j : ℕ) (x : SeatState). slice_get units (unit_at plan j (suc count)) ≡ Some x.origin) cpus event.station c' (slice_get_within cpus event.station c at-c)
         (ap (slice_get units) (unit-here plan event.station count event there (at-own-swap event swap) ∙ ap (λ b. cond b (unit_of_swap plan count) (unit_at plan event.station count)) swap) ∙ (brought ∙ ap Some (sym origin)))
@@ -131,7 +131,7 @@ module _ (plan : Plan) (infos : List Info) (units : List DeviceState) where
           ∙ (append-next (drop (suc (unit_of_swap plan count)) units) stand.taken (went ∷ [])
           ∙ ap (λ u. drop u units ++ (stand.taken ++ went ∷ [])) same)
 
-      -- one that an earlier exchange took
+      -- one that an earlier swap took
       before : (e : ℕ) (late : EventPlan) → e < count → slice_get plan.events e ≡ Some late → is_swap late ≡ true → IsTaken plan infos units (stand.taken ++ went ∷ []) (slice_set cpus event.station c') e late
       before e late below at is = let took = stand.each e late below at is in record {
         origin = took.origin;

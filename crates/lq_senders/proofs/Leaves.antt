@@ -149,7 +149,7 @@ module _ (plan : Plan) (infos : List Info) (others : ℕ) (start : List SeatStat
     lie : LieAt IsUnit plan last homes spares
     lie = record {
       stations = length-mapped home_device closed ∙ ran.closed_are.so_many;
-      exchanges = spares-long;
+      swaps = spares-long;
       home = home-unit;
       taken = taken-unit;
       back = λ k device above at. absurd (
@@ -169,9 +169,9 @@ module _ (plan : Plan) (infos : List Info) (others : ℕ) (start : List SeatStat
         | inl station ↦
             (let x = event-there (undone plan last (homes, spares)).0 unit (let long = by-units.stations in omega arith) in
             (x.0, back unit x.0 (get-push-old (undone plan last (homes, spares)).0 (undone plan last (homes, spares)).1 x.0 unit x.1), by-units.home unit x.0 x.1))
-        | inr exchange ↦
+        | inr swap ↦
             (let k = unit - length plan.stations in let first = by-units.stations in
-            let x = event-there (undone plan last (homes, spares)).1 k (let long = by-units.exchanges in omega arith) in
+            let x = event-there (undone plan last (homes, spares)).1 k (let long = by-units.swaps in omega arith) in
             let at : length plan.stations + k ≡ unit = omega arith in let at' : length (undone plan last (homes, spares)).0 + k ≡ unit = omega arith in (
               x.0,
               back unit x.0 (ap (slice_get ((undone plan last (homes, spares)).0 ++ (undone plan last (homes, spares)).1)) (sym at') ∙ (get-past (undone plan last (homes, spares)).0 (undone plan last (homes, spares)).1 k ∙ x.1)),

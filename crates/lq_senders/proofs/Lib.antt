@@ -10,7 +10,7 @@ pub mod Seats
 pub mod Calls
 -- where the units' devices are
 pub mod Devices
--- the exchanges are undone
+-- the swaps are undone
 pub mod Undone
 -- a packet was sent
 pub mod Sent
@@ -56,7 +56,7 @@ pub mod FatesOfRun
 pub mod FatesRead
 -- the fates that a whole run leaves
 pub mod Leaves
--- the devices that exchanges bring are configured
+-- the devices that swaps bring are configured
 pub mod SpareDevices
 -- closed stations are taken apart, and the devices go back to the bench
 pub mod HandsBack

@@ -1,4 +1,4 @@
--- A run begins over the devices of a bench: those of the stations lie in their tables, and those of the exchanges are to spare.
+-- A run begins over the devices of a bench: those of the stations lie in their tables, and those of the swaps are to spare.
 use Rattle.std.proofs.Common.{◌≡◌, inl, inr, ℕ, zero, suc, ◌+◌, ◌<◌, ◌≤◌, List, [], ◌∷◌, length, refl, ap, arith, Some, Result, Ok, Err, OnErr, sym, ◌∙◌, subst, map, take, drop, count_by, slice_get}
 use Rattle.std.specs.Prelude.{option_map}
 use Rattle.std.proofs.lemmas.List.{append-nil, drop-take, length-take-le}
@@ -37,7 +37,7 @@ same-past n k xs ys from same = sym (get-drop xs k) ∙ (ap (λ l. slice_get l 0
 
 -- CONFIGURED
 
--- those of the stations stay as they are while those that exchanges bring are configured
+-- those of the stations stay as they are while those that swaps bring are configured
 pub still-configured : (plan : Plan) (infos : List Info) (before mid after : List DeviceState) → AreConfigured plan infos (length plan.stations) before mid
     → AreSparesConfigured plan infos (length plan.events) mid after → AreConfigured plan infos (length plan.stations) before after
 still-configured plan infos before mid after stations spares = record {
@@ -45,7 +45,7 @@ still-configured plan infos before mid after stations spares = record {
   configured = λ station s old new below planned was is. stations.configured station s old new below planned was (sym (spares.apart station below) ∙ is);
 }
 
--- those that exchanges bring were as they had been before
+-- those that swaps bring were as they had been before
 pub brought-configured : {X : Type 0} (state : X → DeviceState) (plan : Plan) (infos : List Info) (first mid : List X) (after : List DeviceState)
     → drop (length plan.stations) mid ≡ drop (length plan.stations) first → AreSparesConfigured plan infos (length plan.events) (map state mid) after
     → AreBroughtAsConfigured plan infos (map state first) after

@@ -45,7 +45,7 @@ module _ (plan : Plan) (station : ℕ) where
         let next = event-there plan.events count (omega arith) in
         subst (λ (u : ℕ). unit_at plan station count ≤ u) (sym (unit-next plan station count next.0 next.1)) (next-under count next.0 next.1 (is_swap_at station next.0) refl (unit-under count (omega arith))).0
 
-    -- one that an exchange took away never comes back
+    -- one that a swap took away never comes back
     pub unit-left : (count e : ℕ) (event : EventPlan) → count ≤ length plan.events → e < count → slice_get plan.events e ≡ Some event → is_swap event ≡ true → is_at station event ≡ true
         → unit_at plan station e < unit_at plan station count
     unit-left zero e event within less there swap here = absurd (omega arith)

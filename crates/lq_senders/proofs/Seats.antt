@@ -19,7 +19,7 @@ use Rattle.lq_model.specs.declared.plan.EventPlan.{EventPlan}
 use Rattle.lq_plan.specs.Limits.{is_out_of_order}
 use Rattle.lq_qdisc.specs.Alone.{Does, IsAlone, running}
 use Rattle.lq_account.specs.Controls.{with_control}
-use Rattle.lq_seat.specs.Calls.{DoesAlone, DoesEvent, Drains, Exchanges, SendsPacket, WakesQueues}
+use Rattle.lq_seat.specs.Calls.{DoesAlone, DoesEvent, DoesSwap, Drains, SendsPacket, WakesQueues}
 use Rattle.lq_seat.specs.State.{SeatState, TableState, IsTableOf, setup_of, IsHere, solo_of, Setup, first_account, times}
 use Rattle.lq_senders.specs.Seats.{Keeps, KeepsSeat}
 use Rattle.lq_senders.specs.Lanes.{StandsInRun, StandsAt, LaneStands, KeepAll, KeepSeats, AreRunAlone}
@@ -145,8 +145,8 @@ event-changes plan e kind v w does = record {
   trail = ap (λ (s : SeatState). s.trail) does.is;
 }
 
-pub exchange-changes : (plan : Plan) (e : ℕ) (kind : EventKind) (params : Params) (came went : DeviceState) (v w : SeatState) → kind ≡ Swap params → Exchanges plan e params came went v w → EventChanges plan e kind v w
-exchange-changes plan e kind params came went v w is does = subst (λ k. EventChanges plan e k v w) (sym is) (record {
+pub swap-changes : (plan : Plan) (e : ℕ) (kind : EventKind) (params : Params) (came went : DeviceState) (v w : SeatState) → kind ≡ Swap params → DoesSwap plan e params came went v w → EventChanges plan e kind v w
+swap-changes plan e kind params came went v w is does = subst (λ k. EventChanges plan e k v w) (sym is) (record {
   keeps = subst (KeepsSeat v) (sym does.is) refl;
   raised = ap (λ (s : SeatState). s.raised) does.is;
   turns = ap (λ (s : SeatState). s.turns) does.is;
@@ -214,7 +214,7 @@ pub stands-at : (plan : Plan) (infos : List Info) (sender count n : ℕ) (tables
 stands-at plan infos sender count n tables cpus lane station t c within is-t is-c =
     lane.each station t c (table-at plan infos sender count n tables cpus lane station t within is-t) (seat-at plan infos sender count n tables cpus lane station c within is-c)
 
--- an exchange of the plan, at its one station
+-- a swap of the plan, at its one station
 pub lane-event : (plan : Plan) (infos : List Info) (e n : ℕ) (tables : List TableState) (cpus : List SeatState) (event : EventPlan) (t : TableState) (c c' : SeatState)
     → slice_get plan.events e ≡ Some event → is_swap event ≡ true → event.station < 8 → is_out_of_order plan.events ≡ false
     → slice_get tables event.station ≡ Some t → slice_get cpus event.station ≡ Some c → EventChanges plan e event.kind c c'

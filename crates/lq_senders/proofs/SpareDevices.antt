@@ -1,4 +1,4 @@
--- The devices that exchanges bring are configured.
+-- The devices that swaps bring are configured.
 use Rattle.std.proofs.Common.{◌≡◌, inl, inr, ℕ, ◌+◌, ◌≤◌, true, List, ap, arith, Some, sym, ◌∙◌, subst, slice_get, map}
 use Rattle.std.specs.Prelude.{slice_set, option_map}
 use Rattle.std.proofs.lemmas.Bool.{cases_eq}

@@ -1,4 +1,4 @@
--- The exchanges are undone: each device comes to the place of its unit.
+-- The swaps are undone: each device comes to the place of its unit.
 use Rattle.std.proofs.Common.{◌≡◌, ℕ, zero, suc, ◌+◌, ◌<◌, ◌≤◌, Bool, true, false, cond, List, inl, inr, length, map, slice_get, count_by, Some, refl, sym, ap, ◌∙◌, subst, arith}
 use Rattle.std.specs.Prelude.{slice_set}
 use Rattle.std.proofs.lemmas.List.{length-set, map-set}
@@ -38,7 +38,7 @@ trade f plan e place event homes spares x y there swap place-is at-x at-y = firs
 
 -- WHAT HOLDS OF EACH UNIT'S DEVICE
 
--- a later exchange has a later place
+-- a later swap has a later place
 swaps-rise : (plan : Plan) (count e : ℕ) (event : EventPlan) → count ≤ length plan.events → e < count → slice_get plan.events e ≡ Some event → is_swap event ≡ true → swaps_before plan e < swaps_before plan count
 swaps-rise plan zero e event within below there swap = absurd (omega arith)
 swaps-rise plan (suc count) e event within below there swap =
@@ -49,10 +49,10 @@ swaps-rise plan (suc count) e event within below there swap =
     ]
 
 module _ {X : Type 0} (P : ℕ → X → Type 0) (plan : Plan) where
-  -- P holds of each device and its unit, where the exchanges below `count` are still to be undone
+  -- P holds of each device and its unit, where the swaps below `count` are still to be undone
   pub record LieAt (count : ℕ) (homes spares : List X) : Type 0 where
     pub stations : length homes ≡ length plan.stations
-    pub exchanges : length spares ≡ count_by is_swap plan.events
+    pub swaps : length spares ≡ count_by is_swap plan.events
     pub home : (j : ℕ) (x : X) → slice_get homes j ≡ Some x → P (unit_at plan j count) x
     pub taken : (e : ℕ) (event : EventPlan) (x : X) → e < count → slice_get plan.events e ≡ Some event → is_swap event ≡ true → slice_get spares (swaps_before plan e) ≡ Some x → P (unit_at plan event.station e) x
     pub back : (k : ℕ) (x : X) → swaps_before plan count ≤ k → slice_get spares k ≡ Some x → P (length plan.stations + k) x
@@ -62,17 +62,17 @@ module _ {X : Type 0} (P : ℕ → X → Type 0) (plan : Plan) where
       → let new = cond b (traded event.station homes (swaps_before plan count) spares (slice_get homes event.station) (slice_get spares (swaps_before plan count))) (homes, spares) in LieAt count new.0 new.1
   one-undone count event homes spares within station there false none lie = record {
     stations = lie.stations;
-    exchanges = lie.exchanges;
+    swaps = lie.swaps;
     home = λ j x at. subst (λ u. P u x) (unit-stays plan j count event there none) (lie.home j x at);
     taken = λ e late x below at swap go. lie.taken e late x (omega arith) at swap go;
     back = λ k x above at. lie.back k x (let more : swaps_before plan (suc count) ≡ swaps_before plan count + 0 = swaps-more plan count event there false none in omega arith) at;
   }
   one-undone count event homes spares within station there true swap lie =
       let x = event-there homes event.station (let long = lie.stations in omega arith) in
-      let y = event-there spares (swaps_before plan count) (let long = lie.exchanges in let below = unit-within plan count event there swap in omega arith) in
+      let y = event-there spares (swaps_before plan count) (let long = lie.swaps in let below = unit-within plan count event there swap in omega arith) in
       subst (λ (new : List X × List X). LieAt count new.0 new.1) (λ i. traded event.station homes (swaps_before plan count) spares (sym x.1 i) (sym y.1 i)) (record {
         stations = length-set homes event.station y.0 ∙ lie.stations;
-        exchanges = length-set spares (swaps_before plan count) x.0 ∙ lie.exchanges;
+        swaps = length-set spares (swaps_before plan count) x.0 ∙ lie.swaps;
         home = each-set (λ (j : ℕ) (z : X). P (unit_at plan j count) z) homes event.station y.0 (slice_get_within homes event.station x.0 x.1)
             (lie.taken count event y.0 (omega arith) there swap y.1)
             (λ j z other at. subst (λ u. P u z) (unit-elsewhere plan j count event there (swap-apart j event swap other)) (lie.home j z at));

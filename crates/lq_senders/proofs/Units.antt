@@ -34,7 +34,7 @@ unit-after plan count event there b is = let same : suc count ≡ count + 1 = om
 pub unit-rises : (plan : Plan) (count unit : ℕ) (event : EventPlan) → slice_get plan.events count ≡ Some event → unit < unit_of_swap plan count → unit < unit_of_swap plan (suc count)
 unit-rises plan count unit event there below = let more = unit-more plan count event there (is_swap event) refl in omega arith
 
--- there are as many units, the one that an exchange brings among them
+-- there are as many units, the one that a swap brings among them
 pub unit-within : (plan : Plan) (count : ℕ) (event : EventPlan) → slice_get plan.events count ≡ Some event → is_swap event ≡ true → unit_of_swap plan count < unit_count plan
 unit-within plan count event there swap =
     let more : unit_of_swap plan (count + 1) ≡ unit_of_swap plan count + 1 = unit-after plan count event there true swap in
@@ -43,7 +43,7 @@ unit-within plan count event there swap =
 pub units-few : (plan : Plan) → unit_count plan ≤ length plan.stations + length plan.events
 units-few plan = let few = count_by-le-length is_swap plan.events in omega arith
 
--- what an exchange is
+-- what a swap is
 pub swap-params : (k : EventKind) → is_swap_kind k ≡ true → (params : Params) × (k ≡ kind.Swap params)
 swap-params (kind.Swap params) is = (params, refl)
 swap-params kind.Down is = absurd cc
@@ -91,7 +91,7 @@ pub unit-stays : (plan : Plan) (station count : ℕ) (event : EventPlan) → sli
 unit-stays plan station count event there none = unit-next plan station count event there
     ∙ ap (λ b. cond (b && is_at station event) (unit_of_swap plan count) (unit_at plan station count)) none
 
--- a unit on the trail was brought by its exchange
+-- a unit on the trail was brought by its swap
 pub unit-on-trail : (trail : List Event) (unit : ℕ) → Contains (units_of trail) unit → Contains trail (Swap unit)
 unit-on-trail [] unit h = absurd (none-in [] unit refl h)
 unit-on-trail (Swap u ∷ trail) unit h = elim (cons-in u (units_of trail) unit h) [

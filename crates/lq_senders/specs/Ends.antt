@@ -118,7 +118,7 @@ pub record FatesRead (infos : List Info) (closed : List ClosedState) (count : �
 -- THE WHOLE RUN
 
 -- the devices of a bench before the run were configured as the plan has it, and the seats are over these, with those of the
--- exchanges to spare; where there is one sender, nothing was split off
+-- swaps to spare; where there is one sender, nothing was split off
 pub record AreOver (plan : Plan) (infos : List Info) (before : List DeviceState) (others : ℕ) (start : List SeatState) (brought : List DeviceState) : Type 0 where
   pub bench : unit_count plan ≤ length before
   pub units : List DeviceState
@@ -130,6 +130,11 @@ pub record AreOver (plan : Plan) (infos : List Info) (before : List DeviceState)
 -- the devices of the closed tables and the spare ones are back in the bench, each at the place of its unit
 abbrev pub AreBack : Plan → List ClosedState → List DeviceState → List DeviceState → Type 0
 AreBack plan closed spares after = (unit : ℕ) (device : DeviceState) → slice_get (by_unit plan (map home_device closed) spares) unit ≡ Some device → slice_get after unit ≡ Some device
+
+-- each unit's device is the one that stood there before
+abbrev pub SameBoxes : Plan → List DeviceState → List DeviceState → Type 0
+SameBoxes plan before after = (unit : ℕ) (old new : DeviceState) → unit < unit_count plan → slice_get before unit ≡ Some old → slice_get after unit ≡ Some new
+    → new.identity ≡ old.identity
 
 -- What is known of a unit's device after the run: the unit is one of a station, whose account has that it sent what the device
 -- accepted; the device was asked for nothing but packets of the station, and hangs as it tells.

@@ -67,7 +67,7 @@ pub record AreFatesOf (plan : Plan) (infos : List Info) (fates : List Fate) (bef
   pub asked : (unit : ℕ) (device : DeviceState) → unit < unit_count plan → slice_get after unit ≡ Some device → All (IsCallOfUnit plan infos unit) device.asked
   -- packets are purged as hung only where the unit's device hangs
   pub hung : (n unit : ℕ) (device : DeviceState) → slice_get fates n ≡ Some (Purged (Hung unit)) → slice_get after unit ≡ Some device → device.hung ≡ true
-  -- each unit was configured as its station or its exchange says: its device tells these parameters, if it told any before
+  -- each unit was configured as its station or its swap says: its device tells these parameters, if it told any before
   pub configured : (unit : ℕ) (params : Params) (old new : DeviceState) → IsConfiguredWith plan unit params → slice_get before unit ≡ Some old → slice_get after unit ≡ Some new
       → told_params new ≡ option_map (λ _. params) old.told
   -- a device that tells hung as it told, whatever the others do

@@ -13,7 +13,7 @@ use Rattle.lq_seat.specs.Calls.{DoesEvent, WakesQueues}
 use Rattle.lq_seat.specs.State.{SeatState, TableState, IsHere, IsTableOf, solo_of, times, AreInfos}
 use Rattle.lq_senders.specs.Seats.{Keeps, KeepsSeat}
 use Rattle.lq_senders.specs.Units.{DevicesStand, DoTell}
-use Rattle.lq_senders.specs.Way.{IsOnWay}
+use Rattle.lq_senders.specs.Way.{IsOnWay, StandEarlier}
 use Rattle.lq_senders.specs.Woken.{AllWoke, count_sent}
 use Rattle.lq_senders.specs.declared.sender.Sender.{Sender}
 
@@ -50,7 +50,7 @@ pub record KeepAll (old new : List SeatState) : Type 0 where
   pub long : length new ≡ length old
   pub each : (j : ℕ) (c c' : SeatState) → slice_get old j ≡ Some c → slice_get new j ≡ Some c' → Keeps c c'
 
--- the same, where the devices of some may have been exchanged
+-- the same, where the devices of some may have been swapped
 pub record KeepSeats (old new : List SeatState) : Type 0 where
   pub long : length new ≡ length old
   pub each : (j : ℕ) (c c' : SeatState) → slice_get old j ≡ Some c → slice_get new j ≡ Some c' → KeepsSeat c c'
@@ -94,10 +94,10 @@ pub record IsSending (plan : Plan) (infos : List Info) (tables : List TableState
   pub sent : k ≡ count_sent infos sender n
   pub woke : AllWoke (k / plan.irq_every) start now
   pub stands : LaneStands plan infos sender next n tables now
-  pub earlier : (j : ℕ) (event : EventPlan) → j < next → slice_get plan.events j ≡ Some event → event.before < n
+  pub earlier : StandEarlier plan next n
   pub keeps : KeepSeats start now
   pub devices : (units : List DeviceState) → DevicesStand plan infos units 0 start brought → DevicesStand plan infos units next now spares
-  -- where all packets are the first sender's, and the devices that exchanges bring tell, its seats are the stations of the run of
+  -- where all packets are the first sender's, and the devices that swaps bring tell, its seats are the stations of the run of
   -- one sender
   pub alone : (units : List DeviceState) → DevicesStand plan infos units 0 start brought → DoTell plan units → sender ≡ 0 → AllOwn infos → (from : List RunningStation) → AreRunAlone plan infos start from
       → (k ≡ n) × ((j : ℕ) (event : EventPlan) → next ≤ j → slice_get plan.events j ≡ Some event → n ≤ event.before) × AreRunAlone plan infos now (after_packets plan infos from n)

@@ -18,3 +18,5 @@ pub mod Fates
 pub mod Ends
 -- what a run begins with
 pub mod Setup
+-- what the calls of a run say of its plan, its packets and its tables
+pub mod Runs

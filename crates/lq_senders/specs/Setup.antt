@@ -35,7 +35,7 @@ pub record AreConfigured (plan : Plan) (infos : List Info) (count : ℕ) (before
   pub configured : (station : ℕ) (s : StationPlan) (old new : DeviceState) → station < count → slice_get plan.stations station ≡ Some s
       → slice_get before station ≡ Some old → slice_get after station ≡ Some new → IsConfigured s.params (station_count infos station) old new
 
--- the devices that the first so many events bring were configured, each as its exchange says and with room for its station's packets
+-- the devices that the first so many events bring were configured, each as its swap says and with room for its station's packets
 pub record AreSparesConfigured (plan : Plan) (infos : List Info) (count : ℕ) (before after : List DeviceState) : Type 0 where
   pub same_length : length after ≡ length before
   pub apart : (unit : ℕ) → unit < length plan.stations → slice_get after unit ≡ slice_get before unit
@@ -142,7 +142,7 @@ pub record HasRoomForUnits {D : Type 0} (plan : Plan) (units : Units D) : Type 0
 
 -- A RUN THAT MAY BEGIN
 
--- The tables are new, over the devices of a bench, which were configured as they stood there; those that exchanges bring are
+-- The tables are new, over the devices of a bench, which were configured as they stood there; those that swaps bring are
 -- to spare.
 pub record AreTablesReady (plan : Plan) (infos : List Info) (before : List DeviceState) (tables : List TableState) (cpus : List SeatState) (spares : List DeviceState) : Type 0 where
   pub devices : List DeviceState

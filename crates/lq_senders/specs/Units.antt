@@ -1,4 +1,4 @@
--- Which unit a station has, where its device is exchanged, and where the devices of the other units are.
+-- Which unit a station has, where its device is swapped, and where the devices of the other units are.
 use Rattle.std.specs.Prelude.{◌≡◌, ◌<◌, ◌≤◌, ℕ, zero, suc, ◌+◌, Bool, true, false, ◌&&◌, if◌then◌else◌, List, [], ◌∷◌, ◌++◌, take, drop, length, count_by, slice_get, slice_set, Option, Some, None, Contains}
 use Rattle.lq_model.specs.Alone.{new_device}
 use Rattle.lq_model.specs.Device.{DeviceState}
@@ -11,7 +11,7 @@ use Rattle.lq_seat.specs.State.{SeatState, HasServed, station_count}
 
 -- UNITS
 
--- whether the event exchanges the station's device
+-- whether the event swaps the station's device
 abbrev pub is_swap_at : ℕ → EventPlan → Bool
 is_swap_at station event = is_swap event && is_at station event
 
@@ -24,7 +24,7 @@ unit_among plan station (event ∷ events) e unit = unit_among plan station even
 abbrev pub unit_at : Plan → ℕ → ℕ → ℕ
 unit_at plan station count = unit_among plan station (take count plan.events) 0 station
 
--- how many of the first so many events exchange a device
+-- how many of the first so many events swap a device
 abbrev pub swaps_before : Plan → ℕ → ℕ
 swaps_before plan count = count_by is_swap (take count plan.events)
 
@@ -43,12 +43,12 @@ pub record AreUnits (plan : Plan) (infos : List Info) (units : List DeviceState)
   pub may_come : (e : ℕ) (event : EventPlan) (device : DeviceState) → slice_get plan.events e ≡ Some event → is_swap event ≡ true → slice_get units (unit_of_swap plan e) ≡ Some device
       → MayBeBrought infos event.station device
 
--- those that exchanges bring tell what the plan configures them with
+-- those that swaps bring tell what the plan configures them with
 abbrev pub DoTell : Plan → List DeviceState → Type 0
 DoTell plan units = (e : ℕ) (event : EventPlan) (params : Params) (device : DeviceState) → slice_get plan.events e ≡ Some event → event.kind ≡ kind.Swap params
     → slice_get units (unit_of_swap plan e) ≡ Some device → device.told ≡ Some (new_device params)
 
--- the device that the exchange numbered e took away: its unit came to the station as this one, and its seat knows what it sent
+-- the device that the swap numbered e took away: its unit came to the station as this one, and its seat knows what it sent
 pub record IsTaken (plan : Plan) (infos : List Info) (units taken : List DeviceState) (cpus : List SeatState) (e : ℕ) (event : EventPlan) : Type 0 where
   pub origin : DeviceState
   pub device : DeviceState
@@ -57,7 +57,7 @@ pub record IsTaken (plan : Plan) (infos : List Info) (units taken : List DeviceS
   pub has_served : HasServed infos event.station origin device
   pub gone : (c : SeatState) → slice_get cpus event.station ≡ Some c → Contains c.gone (unit_at plan event.station e, device.accepted)
 
--- After the first so many events each station has its unit's device, and the spare devices are those of the exchanges that are
+-- After the first so many events each station has its unit's device, and the spare devices are those of the swaps that are
 -- left, in order, and then those that the others took away.
 pub record DevicesStand (plan : Plan) (infos : List Info) (units : List DeviceState) (count : ℕ) (cpus : List SeatState) (spares : List DeviceState) : Type 0 where
   pub units_are : AreUnits plan infos units
@@ -72,14 +72,14 @@ pub record SameDevices (old new : List SeatState) : Type 0 where
   pub long : length new ≡ length old
   pub each : (j : ℕ) (c c' : SeatState) → slice_get old j ≡ Some c → slice_get new j ≡ Some c' → (c'.origin ≡ c.origin) × (c'.gone ≡ c.gone)
 
--- THE EXCHANGES UNDONE
+-- THE SWAPS UNDONE
 
 -- two places are exchanged, where there are both
 abbrev pub traded : {X : Type 0} → ℕ → List X → ℕ → List X → Option X → Option X → List X × List X
 traded i xs k ys (Some x) (Some y) = (slice_set xs i y, slice_set ys k x)
 traded i xs k ys x y = (xs, ys)
 
--- of devices by station, and those that exchanges took away in order: an exchange is undone
+-- of devices by station, and those that swaps took away in order: a swap is undone
 abbrev pub undone_event : {X : Type 0} → Plan → ℕ → Option EventPlan → List X → List X → List X × List X
 undone_event plan e None homes spares = (homes, spares)
 undone_event plan e (Some event) homes spares =

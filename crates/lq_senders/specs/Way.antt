@@ -27,11 +27,21 @@ pub record EndsAsPlanned (plan : Plan) (station : ℕ) (a : Account) : Type 0 wh
   pub unit : a.unit ≡ unit_at plan station (length plan.events)
   pub len : a.len ≡ length_after (filter (is_at station) plan.events) (len_of plan station)
 
--- the first so many events stand before packet n, and the others after it
+-- the first so many events stand before packet n
+abbrev pub StandBefore : Plan → ℕ → ℕ → Type 0
+StandBefore plan count n = (k : ℕ) (event : EventPlan) → k < count → slice_get plan.events k ≡ Some event → event.before ≤ n
+
+-- or already before a lower one
+abbrev pub StandEarlier : Plan → ℕ → ℕ → Type 0
+StandEarlier plan count n = (k : ℕ) (event : EventPlan) → k < count → slice_get plan.events k ≡ Some event → event.before < n
+
+-- the others stand after it
+abbrev pub StandAfter : Plan → ℕ → ℕ → Type 0
+StandAfter plan count n = (k : ℕ) (event : EventPlan) → count ≤ k → slice_get plan.events k ≡ Some event → n < event.before
+
+-- both
 abbrev pub IsSplitAt : Plan → ℕ → ℕ → Type 0
-IsSplitAt plan count n =
-    ((k : ℕ) (event : EventPlan) → k < count → slice_get plan.events k ≡ Some event → event.before ≤ n)
-    × ((k : ℕ) (event : EventPlan) → count ≤ k → slice_get plan.events k ≡ Some event → n < event.before)
+IsSplitAt plan count n = StandBefore plan count n × StandAfter plan count n
 
 -- the first so many events of the plan were done, each where the plan has it among the first sender's packets
 pub record IsOnWay (plan : Plan) (station count : ℕ) (trail : List Event) : Type 0 where

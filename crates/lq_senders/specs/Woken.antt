@@ -5,19 +5,19 @@ use Rattle.lq_model.specs.Plan.{Plan}
 use Rattle.lq_model.specs.declared.device.Params.{Params}
 use Rattle.lq_model.specs.declared.fate.Info.{Info}
 use Rattle.lq_model.specs.declared.plan.EventKind.{EventKind}
-use Rattle.lq_seat.specs.Calls.{DoesEvent, Drains, Exchanges, SendsPacket, WakesQueues}
+use Rattle.lq_seat.specs.Calls.{DoesEvent, DoesSwap, Drains, SendsPacket, WakesQueues}
 use Rattle.lq_seat.specs.State.{SeatState}
 
 -- how many of the first n packets are a sender's
 abbrev pub count_sent : List Info → ℕ → ℕ → ℕ
 count_sent infos sender n = count_by (λ info. info.owner == sender) (take n infos)
 
--- A sender's call at a seat that is no wake: a packet, soft interrupts, an event of the plan, or an exchange of the device.
+-- A sender's call at a seat that is no wake: a packet, soft interrupts, an event of the plan, or a swap of the device.
 pub data OtherCall (old new : SeatState) : Type 0 where
   sent : (n : ℕ) → SendsPacket n old new → OtherCall old new
   drained : Drains old new → OtherCall old new
   event_done : (plan : Plan) (e : ℕ) (kind : EventKind) → DoesEvent plan e kind old new → OtherCall old new
-  exchanged : (plan : Plan) (e : ℕ) (params : Params) (came went : DeviceState) → Exchanges plan e params came went old new → OtherCall old new
+  swapped : (plan : Plan) (e : ℕ) (params : Params) (came went : DeviceState) → DoesSwap plan e params came went old new → OtherCall old new
 
 -- such calls, one after the other
 pub data OtherCalls (old : SeatState) : SeatState → Type 0 where

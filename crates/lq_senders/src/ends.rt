@@ -1,12 +1,11 @@
 //! The end of a run: seats are joined, stations finished and closed.
-ghost use Rattle.std.specs.Prelude.{◌≡◌, ℕ, ◌+◌, ◌-◌, ◌≤◌, List, [], length, map, vec_capacity};
-ghost use Rattle.lq_seat.specs.Calls.{Joins};
+ghost use Rattle.std.specs.Prelude.{◌≡◌, ◌+◌, ◌-◌, ◌≤◌, [], length, map, vec_capacity};
 ghost use Rattle.lq_seat.specs.Ends.{Finishes};
-ghost use Rattle.lq_senders.specs.Ends.{AllMayClose, FirstClosed, HaveFatesAlone, closed_state};
-ghost use Rattle.lq_senders.specs.Joins.{AreFirst, LaneJoined};
-ghost use Rattle.lq_senders.specs.Lanes.{AllDid, AreDoneLanes, AreRunAlone, IsDoneLane, IsSendable, LaneDone};
+ghost use Rattle.lq_senders.specs.Ends.{AllMayClose, FirstClosed, closed_state};
+ghost use Rattle.lq_senders.specs.Joins.{AreFirst};
+ghost use Rattle.lq_senders.specs.Lanes.{AllDid, IsSendable};
+ghost use Rattle.lq_senders.specs.Runs.{LaneIsDone, LanesAreDone, SeatsDone, SeatsEndAlone, SeatsJoined};
 ghost use Rattle.lq_senders.specs.Units.{SameDevices};
-ghost use Rattle.lq_model.specs.Alone.{RunningStation, finished};
 
 use crate::sender::{Job, Run, Sender};
 use lq_device::TxDevice;
@@ -21,10 +20,10 @@ fn join_lane<'r, 'a, D: TxDevice, G: Gate>(
     cpus: &mut Vec<Seat<D>>,
     lane: Sender<D>,
 )
-    requires first { LaneJoined run.now.plan.now run.now.infos.now lane.owner run.now.tables.now cpus.old.items }
-    requires other { IsDoneLane run.now.plan.now run.now.infos.now run.now.tables.now (lane.owner - 1) lane.owner lane.seats.items }
+    requires first { SeatsJoined run.now lane.owner cpus.old.items }
+    requires other { LaneIsDone run.now (lane.owner - 1) lane }
     requires few { length run.now.plan.now.stations ≤ 256 }
-    ensures joined { LaneJoined run.now.plan.now run.now.infos.now (lane.owner - 1) run.now.tables.now cpus.new.items }
+    ensures joined { SeatsJoined run.now (lane.owner - 1) cpus.new.items }
     ensures devices { SameDevices cpus.old.items cpus.new.items }
 {
     let mut others = lane.seats;
@@ -40,10 +39,10 @@ fn join_all<'r, 'a, D: TxDevice, G: Gate>(
     cpus: &mut Vec<Seat<D>>,
     mut others: Vec<Sender<D>>,
 )
-    requires first { LaneJoined run.now.plan.now run.now.infos.now (length others.items) run.now.tables.now cpus.old.items }
-    requires others { AreDoneLanes run.now.plan.now run.now.infos.now run.now.tables.now others.items }
+    requires first { SeatsJoined run.now (length others.items) cpus.old.items }
+    requires others { LanesAreDone run.now others.items }
     requires few { length run.now.plan.now.stations ≤ 256 }
-    ensures joined { LaneJoined run.now.plan.now run.now.infos.now 0 run.now.tables.now cpus.new.items }
+    ensures joined { SeatsJoined run.now 0 cpus.new.items }
     ensures devices { SameDevices cpus.old.items cpus.new.items }
     ensures alone { length others.items ≡ 0 → cpus.new.items ≡ cpus.old.items }
 {
@@ -59,7 +58,7 @@ fn finish_all<'r, 'a, R: Wait, D: TxDevice, G: Gate>(
     cpus: &mut Vec<Seat<D>>,
 )
     requires sendable { IsSendable run.now.plan.now run.now.infos.now }
-    requires joined { LaneJoined run.now.plan.now run.now.infos.now 0 run.now.tables.now cpus.old.items }
+    requires joined { SeatsJoined run.now 0 cpus.old.items }
     ensures { AllDid Finishes cpus.old.items cpus.new.items }
 {
     for j in 0..run.tables.len() {
@@ -76,15 +75,13 @@ pub fn end_run<'r, 'a, R: Wait, D: TxDevice, G: Gate>(
     others: Vec<Sender<D>>,
 )
     requires sendable { IsSendable run.now.plan.now run.now.infos.now }
-    requires first { LaneDone run.now.plan.now run.now.infos.now 0 run.now.tables.now cpus.old.items
-        × AreFirst (length others.items) cpus.old.items }
-    requires others { AreDoneLanes run.now.plan.now run.now.infos.now run.now.tables.now others.items }
+    requires first { SeatsDone run.now 0 cpus.old.items × AreFirst (length others.items) cpus.old.items }
+    requires others { LanesAreDone run.now others.items }
     requires senders { length others.items + 1 ≡ run.now.plan.now.senders }
     requires few { length run.now.plan.now.stations ≤ 256 }
     ensures may { AllMayClose run.now.plan.now run.now.infos.now run.now.tables.now cpus.new.items }
     ensures devices { SameDevices cpus.old.items cpus.new.items }
-    ensures alone { length others.items ≡ 0 → (from : List RunningStation) → AreRunAlone run.now.plan.now run.now.infos.now cpus.old.items from
-        → HaveFatesAlone cpus.new.items (map (finished run.now.infos.now) from) }
+    ensures alone { length others.items ≡ 0 → SeatsEndAlone run.now cpus.old.items cpus.new.items }
 {
     join_all(run, cpus, others);
     finish_all(rt, run, cpus);
@@ -100,7 +97,8 @@ pub fn close_all<'r, 'a, D: TxDevice, G: Gate>(
     requires may { AllMayClose job.now.plan.now job.now.infos.now shared.items cpus.items }
     requires none_yet { closed.old.items ≡ [] }
     requires room { length job.now.plan.now.stations ≤ vec_capacity closed.old }
-    ensures { FirstClosed job.now.plan.now job.now.infos.now (length job.now.plan.now.stations) cpus.items (map closed_state closed.new.items) }
+    ensures { FirstClosed job.now.plan.now job.now.infos.now (length job.now.plan.now.stations) cpus.items
+        (map closed_state closed.new.items) }
 {
     for _station in 0..job.plan.stations() {
         let table = shared.remove(0);

@@ -1,12 +1,12 @@
 //! What a sender does at its seats.
-ghost use Rattle.std.specs.Prelude.{◌≡◌, ℕ, ◌+◌, ◌<◌, ◌≤◌, ◌-◌, ◌/◌, List, map, length, slice_get};
-ghost use Rattle.lq_seat.specs.Calls.{SendsPacket, WakesQueues, Drains};
+ghost use Rattle.std.specs.Prelude.{◌≡◌, ℕ, ◌+◌, ◌<◌, ◌≤◌, ◌-◌, ◌/◌, List, length, slice_get};
+ghost use Rattle.lq_seat.specs.Calls.{WakesQueues, Drains};
 ghost use Rattle.lq_seat.specs.State.{SeatState};
-ghost use Rattle.lq_senders.specs.Lanes.{AllDid, AreSeats, IsSendable, IsSending, KeepAll, KeepSeats, LaneDone, LaneStands, AreRunAlone, WokenOrNot};
-ghost use Rattle.lq_senders.specs.Units.{DevicesStand, DoTell};
-ghost use Rattle.lq_senders.specs.Way.{IsSplitAt, numbers_from};
+ghost use Rattle.lq_senders.specs.Lanes.{AllDid, AreSeats, IsSendable, KeepAll, KeepSeats, WokenOrNot};
+ghost use Rattle.lq_senders.specs.Runs.{ComesTo, DevicesGoOn, HasDevices, RunsAs, SeatsDone, SeatsGoOn, SeatsRunAs, SeatsStand, events_on, packet_brought, turn_ended};
+ghost use Rattle.lq_senders.specs.Way.{IsSplitAt, StandAfter, StandBefore, StandEarlier};
 ghost use Rattle.lq_senders.specs.Woken.{AllWoke, OtherCalls, count_sent};
-ghost use Rattle.lq_model.specs.Alone.{RunningStation, served, with_events, with_packet, with_wakes};
+ghost use Rattle.lq_model.specs.Alone.{with_packet};
 ghost use Rattle.lq_model.specs.Device.{DeviceState};
 ghost use Rattle.lq_model.specs.Plan.{owner_in};
 ghost use Rattle.lq_model.specs.declared.plan.EventPlan.{EventPlan as AnEvent};
@@ -27,14 +27,13 @@ fn send_packet<'r, 'a, R: Wait, D: TxDevice, G: Gate>(
 )
     requires packet { n < length run.now.infos.now }
     requires sendable { IsSendable run.now.plan.now run.now.infos.now }
-    requires stands { (count : ℕ) × LaneStands run.now.plan.now run.now.infos.now (owner_in run.now.infos.now n) count n run.now.tables.now seats.old.items }
-    ensures stands { (count : ℕ) → LaneStands run.now.plan.now run.now.infos.now (owner_in run.now.infos.now n) count n run.now.tables.now seats.old.items
+    requires stands { (count : ℕ) × SeatsStand run.now (owner_in run.now.infos.now n) count n seats.old.items }
+    ensures stands { (count : ℕ) → SeatsStand run.now (owner_in run.now.infos.now n) count n seats.old.items
         → (owner_in run.now.infos.now n ≡ 0 → IsSplitAt run.now.plan.now count n)
-        → LaneStands run.now.plan.now run.now.infos.now (owner_in run.now.infos.now n) count (n + 1) run.now.tables.now seats.new.items }
+        → SeatsStand run.now (owner_in run.now.infos.now n) count (n + 1) seats.new.items }
     ensures keeps { KeepAll seats.old.items seats.new.items }
     ensures calls { AllDid OtherCalls seats.old.items seats.new.items }
-    ensures runs { (stations : List RunningStation) → AreRunAlone run.now.plan.now run.now.infos.now seats.old.items stations
-        → AreRunAlone run.now.plan.now run.now.infos.now seats.new.items (with_packet run.now.plan.now run.now.infos.now n stations) }
+    ensures runs { SeatsRunAs run.now (with_packet run.now.plan.now run.now.infos.now n) seats.old.items seats.new.items }
 {
     let station = run.infos[n as usize].station;
     let table = &run.tables[station as usize];
@@ -84,12 +83,10 @@ fn turn<'r, 'a, R: Wait, D: TxDevice, G: Gate>(
     k: u32,
 )
     requires number { k < 1000000 }
-    requires stands { (sender : ℕ) × (count : ℕ) × (n : ℕ) × LaneStands run.now.plan.now run.now.infos.now sender count n run.now.tables.now seats.old.items }
-    ensures stands { (sender count n : ℕ) → LaneStands run.now.plan.now run.now.infos.now sender count n run.now.tables.now seats.old.items
-        → LaneStands run.now.plan.now run.now.infos.now sender count n run.now.tables.now seats.new.items }
+    requires stands { (sender : ℕ) × (count : ℕ) × (n : ℕ) × SeatsStand run.now sender count n seats.old.items }
+    ensures stands { (sender count : ℕ) → SeatsGoOn run.now sender count count seats.old.items seats.new.items }
     ensures keeps { KeepAll seats.old.items seats.new.items }
-    ensures runs { (stations : List RunningStation) → AreRunAlone run.now.plan.now run.now.infos.now seats.old.items stations
-        → AreRunAlone run.now.plan.now run.now.infos.now seats.new.items (map (served run.now.infos.now) (with_wakes run.now.plan.now k stations)) }
+    ensures runs { SeatsRunAs run.now (turn_ended run.now k) seats.old.items seats.new.items }
     ensures woke { (start : List SeatState) → AllWoke (k / run.now.plan.now.irq_every) start seats.old.items
         → AllWoke ((k + 1) / run.now.plan.now.irq_every) start seats.new.items }
 {
@@ -108,20 +105,16 @@ fn events_before<'r, 'a, R: Wait, D: TxDevice, G: Gate>(
 ) -> u32
     requires next { next ≤ length run.now.plan.now.events }
     requires sendable { IsSendable run.now.plan.now run.now.infos.now }
-    requires stands { (m : ℕ) × LaneStands run.now.plan.now run.now.infos.now 0 next m run.now.tables.now sender.old.seats.items }
-    requires devices { (units : List DeviceState) × DevicesStand run.now.plan.now run.now.infos.now units next sender.old.seats.items (map D.state sender.old.spares.items) }
+    requires stands { (m : ℕ) × SeatsStand run.now 0 next m sender.old.seats.items }
+    requires devices { (units : List DeviceState) × HasDevices D.state run.now units next sender.old }
     ensures owner { sender.new.owner ≡ sender.old.owner }
     ensures within { (next ≤ result) × (result ≤ length run.now.plan.now.events) }
     ensures done { (k : ℕ) (event : AnEvent) → next ≤ k → k < result → slice_get run.now.plan.now.events k ≡ Some event → event.before ≤ n }
-    ensures left { (k : ℕ) (event : AnEvent) → result ≤ k → slice_get run.now.plan.now.events k ≡ Some event → n < event.before }
-    ensures stands { (m : ℕ) → LaneStands run.now.plan.now run.now.infos.now 0 next m run.now.tables.now sender.old.seats.items
-        → LaneStands run.now.plan.now run.now.infos.now 0 result m run.now.tables.now sender.new.seats.items }
+    ensures left { StandAfter run.now.plan.now result n }
+    ensures stands { SeatsGoOn run.now 0 next result sender.old.seats.items sender.new.seats.items }
     ensures calls { AllDid OtherCalls sender.old.seats.items sender.new.seats.items }
-    ensures devices { (units : List DeviceState) → DevicesStand run.now.plan.now run.now.infos.now units next sender.old.seats.items (map D.state sender.old.spares.items)
-        → DevicesStand run.now.plan.now run.now.infos.now units result sender.new.seats.items (map D.state sender.new.spares.items) }
-    ensures runs { (units : List DeviceState) → DevicesStand run.now.plan.now run.now.infos.now units next sender.old.seats.items (map D.state sender.old.spares.items) → DoTell run.now.plan.now units
-        → (stations : List RunningStation) → AreRunAlone run.now.plan.now run.now.infos.now sender.old.seats.items stations
-        → AreRunAlone run.now.plan.now run.now.infos.now sender.new.seats.items (with_events run.now.plan.now run.now.infos.now (numbers_from next (result - next)) stations) }
+    ensures devices { DevicesGoOn D.state run.now next result sender.old sender.new }
+    ensures runs { RunsAs D.state run.now next (events_on run.now next (result - next)) sender.old sender.new }
 {
     run.plan.stays_within_limits();
     for e in next..run.plan.events() {
@@ -143,20 +136,16 @@ pub fn events_of<'r, 'a, R: Wait, D: TxDevice, G: Gate>(
 ) -> u32
     requires next { next ≤ length run.now.plan.now.events }
     requires sendable { IsSendable run.now.plan.now run.now.infos.now }
-    requires stands { (m : ℕ) × LaneStands run.now.plan.now run.now.infos.now sender.old.owner next m run.now.tables.now sender.old.seats.items }
-    requires devices { sender.old.owner ≡ 0 → (units : List DeviceState) × DevicesStand run.now.plan.now run.now.infos.now units next sender.old.seats.items (map D.state sender.old.spares.items) }
+    requires stands { (m : ℕ) × SeatsStand run.now sender.old.owner next m sender.old.seats.items }
+    requires devices { sender.old.owner ≡ 0 → (units : List DeviceState) × HasDevices D.state run.now units next sender.old }
     ensures owner { sender.new.owner ≡ sender.old.owner }
     ensures within { (next ≤ result) × (result ≤ length run.now.plan.now.events) }
     ensures done { (k : ℕ) (event : AnEvent) → next ≤ k → k < result → slice_get run.now.plan.now.events k ≡ Some event → event.before ≤ n }
-    ensures left { sender.old.owner ≡ 0 → (k : ℕ) (event : AnEvent) → result ≤ k → slice_get run.now.plan.now.events k ≡ Some event → n < event.before }
-    ensures stands { (m : ℕ) → LaneStands run.now.plan.now run.now.infos.now sender.old.owner next m run.now.tables.now sender.old.seats.items
-        → LaneStands run.now.plan.now run.now.infos.now sender.old.owner result m run.now.tables.now sender.new.seats.items }
+    ensures left { sender.old.owner ≡ 0 → StandAfter run.now.plan.now result n }
+    ensures stands { SeatsGoOn run.now sender.old.owner next result sender.old.seats.items sender.new.seats.items }
     ensures calls { AllDid OtherCalls sender.old.seats.items sender.new.seats.items }
-    ensures devices { (units : List DeviceState) → DevicesStand run.now.plan.now run.now.infos.now units next sender.old.seats.items (map D.state sender.old.spares.items)
-        → DevicesStand run.now.plan.now run.now.infos.now units result sender.new.seats.items (map D.state sender.new.spares.items) }
-    ensures runs { (units : List DeviceState) → DevicesStand run.now.plan.now run.now.infos.now units next sender.old.seats.items (map D.state sender.old.spares.items) → DoTell run.now.plan.now units
-        → (stations : List RunningStation) → AreRunAlone run.now.plan.now run.now.infos.now sender.old.seats.items stations
-        → AreRunAlone run.now.plan.now run.now.infos.now sender.new.seats.items (with_events run.now.plan.now run.now.infos.now (numbers_from next (result - next)) stations) }
+    ensures devices { DevicesGoOn D.state run.now next result sender.old sender.new }
+    ensures runs { RunsAs D.state run.now next (events_on run.now next (result - next)) sender.old sender.new }
 {
     if sender.owner == 0 {
         events_before(rt, run, sender, next, n)
@@ -176,7 +165,7 @@ fn pass_before<'r, 'a, D: TxDevice, G: Gate>(
     requires own { owner_in run.now.infos.now n ≡ sender.now.owner }
     requires number { at.sent ≡ count_sent run.now.infos.now sender.now.owner n }
     requires events { sender.now.owner ≡ 0 → IsSplitAt run.now.plan.now at.next n }
-    requires stands { LaneStands run.now.plan.now run.now.infos.now sender.now.owner at.next n run.now.tables.now sender.now.seats.items }
+    requires stands { SeatsStand run.now sender.now.owner at.next n sender.now.seats.items }
 {
     run.gate.pass(sender.owner, at.sent);
 }
@@ -184,7 +173,7 @@ fn pass_before<'r, 'a, D: TxDevice, G: Gate>(
 /// Passes the gate after a sender's last packet, with how many it sent. All of the plan's events were done.
 pub fn pass_last<'r, 'a, D: TxDevice, G: Gate>(run: &Run<'r, 'a, D, G>, sender: &Sender<D>, k: u32)
     requires number { k ≡ count_sent run.now.infos.now sender.now.owner (length run.now.infos.now) }
-    requires done { LaneDone run.now.plan.now run.now.infos.now sender.now.owner run.now.tables.now sender.now.seats.items }
+    requires done { SeatsDone run.now sender.now.owner sender.now.seats.items }
 {
     run.gate.pass(sender.owner, k);
 }
@@ -203,21 +192,17 @@ fn bring<'r, 'a, R: Wait, D: TxDevice, G: Gate>(
     requires sent { at.sent ≡ count_sent run.now.infos.now sender.old.owner n }
     requires sendable { IsSendable run.now.plan.now run.now.infos.now }
     requires next { at.next ≤ length run.now.plan.now.events }
-    requires earlier { (j : ℕ) (event : AnEvent) → j < at.next → slice_get run.now.plan.now.events j ≡ Some event → event.before < n }
-    requires stands { LaneStands run.now.plan.now run.now.infos.now sender.old.owner at.next n run.now.tables.now sender.old.seats.items }
-    requires devices { sender.old.owner ≡ 0 → (units : List DeviceState) × DevicesStand run.now.plan.now run.now.infos.now units at.next sender.old.seats.items (map D.state sender.old.spares.items) }
+    requires earlier { StandEarlier run.now.plan.now at.next n }
+    requires stands { SeatsStand run.now sender.old.owner at.next n sender.old.seats.items }
+    requires devices { sender.old.owner ≡ 0 → (units : List DeviceState) × HasDevices D.state run.now units at.next sender.old }
     ensures owner { sender.new.owner ≡ sender.old.owner }
     ensures within { (at.next ≤ result) × (result ≤ length run.now.plan.now.events) }
-    ensures done { (j : ℕ) (event : AnEvent) → j < result → slice_get run.now.plan.now.events j ≡ Some event → event.before ≤ n }
-    ensures left { sender.old.owner ≡ 0 → (j : ℕ) (event : AnEvent) → result ≤ j → slice_get run.now.plan.now.events j ≡ Some event → n < event.before }
-    ensures stands { LaneStands run.now.plan.now run.now.infos.now sender.old.owner result (n + 1) run.now.tables.now sender.new.seats.items }
+    ensures done { StandBefore run.now.plan.now result n }
+    ensures left { sender.old.owner ≡ 0 → StandAfter run.now.plan.now result n }
+    ensures stands { SeatsStand run.now sender.old.owner result (n + 1) sender.new.seats.items }
     ensures keeps { KeepSeats sender.old.seats.items sender.new.seats.items }
-    ensures devices { (units : List DeviceState) → DevicesStand run.now.plan.now run.now.infos.now units at.next sender.old.seats.items (map D.state sender.old.spares.items)
-        → DevicesStand run.now.plan.now run.now.infos.now units result sender.new.seats.items (map D.state sender.new.spares.items) }
-    ensures runs { (units : List DeviceState) → DevicesStand run.now.plan.now run.now.infos.now units at.next sender.old.seats.items (map D.state sender.old.spares.items) → DoTell run.now.plan.now units
-        → (stations : List RunningStation) → AreRunAlone run.now.plan.now run.now.infos.now sender.old.seats.items stations
-        → AreRunAlone run.now.plan.now run.now.infos.now sender.new.seats.items (map (served run.now.infos.now) (with_wakes run.now.plan.now at.sent (with_packet run.now.plan.now run.now.infos.now n
-        (with_events run.now.plan.now run.now.infos.now (numbers_from at.next (result - at.next)) stations)))) }
+    ensures devices { DevicesGoOn D.state run.now at.next result sender.old sender.new }
+    ensures runs { RunsAs D.state run.now at.next (packet_brought run.now at.next (result - at.next) at.sent n) sender.old sender.new }
     ensures woke { (start : List SeatState) → AllWoke (at.sent / run.now.plan.now.irq_every) start sender.old.seats.items
         → AllWoke ((at.sent + 1) / run.now.plan.now.irq_every) start sender.new.seats.items }
 {
@@ -243,12 +228,12 @@ pub fn come_to<'r, 'a, R: Wait, D: TxDevice, G: Gate>(
     requires packet { n < length run.now.infos.now }
     requires sendable { IsSendable run.now.plan.now run.now.infos.now }
     requires sending { (start : List SeatState) × (brought : List DeviceState)
-        × IsSending run.now.plan.now run.now.infos.now run.now.tables.now sender.old.owner n at.sent at.next start brought sender.old.seats.items (map D.state sender.old.spares.items) }
-    requires devices { sender.old.owner ≡ 0 → (units : List DeviceState) × DevicesStand run.now.plan.now run.now.infos.now units at.next sender.old.seats.items (map D.state sender.old.spares.items) }
+        × ComesTo D.state run.now sender.old.owner n at start brought sender.old }
+    requires devices { sender.old.owner ≡ 0 → (units : List DeviceState) × HasDevices D.state run.now units at.next sender.old }
     ensures owner { sender.new.owner ≡ sender.old.owner }
     ensures sending { (start : List SeatState) (brought : List DeviceState)
-        → IsSending run.now.plan.now run.now.infos.now run.now.tables.now sender.old.owner n at.sent at.next start brought sender.old.seats.items (map D.state sender.old.spares.items)
-        → IsSending run.now.plan.now run.now.infos.now run.now.tables.now sender.old.owner (n + 1) result.sent result.next start brought sender.new.seats.items (map D.state sender.new.spares.items) }
+        → ComesTo D.state run.now sender.old.owner n at start brought sender.old
+        → ComesTo D.state run.now sender.old.owner (n + 1) result start brought sender.new }
 {
     if run.infos[n as usize].owner as u32 == sender.owner {
         let next = bring(rt, run, sender, at, n);

@@ -1,11 +1,8 @@
 //! Senders side by side.
-ghost use Rattle.std.specs.Prelude.{◌≡◌, ℕ, ◌≤◌, ◌-◌, List, length, map};
-ghost use Rattle.lq_seat.specs.Calls.{SendsPacket};
-ghost use Rattle.lq_senders.specs.Lanes.{AllDid, AllOwn, AreDoneLanes, AreReadyLanes, AreWoken, IsDoneLane, IsReadyLane, IsSendable, IsWoken, KeepSeats, LaneDone, LaneStands, AreRunAlone, after_sending};
-ghost use Rattle.lq_senders.specs.Units.{DevicesStand, DoTell};
-ghost use Rattle.lq_senders.specs.Way.{numbers_from};
+ghost use Rattle.std.specs.Prelude.{◌≡◌, ℕ, ◌≤◌, ◌-◌, List, length};
+ghost use Rattle.lq_senders.specs.Lanes.{AllDid, IsSendable, KeepSeats};
+ghost use Rattle.lq_senders.specs.Runs.{DevicesGoOn, HasDevices, LaneIsDone, LaneIsReady, LanesAreDone, LanesAreReady, LanesWoken, RunsAs, SeatsDone, SeatsGoOn, SeatsStand, SeatsWoken, SendsAllAlone, events_on};
 ghost use Rattle.lq_senders.specs.Woken.{OtherCalls};
-ghost use Rattle.lq_model.specs.Alone.{RunningStation, with_events};
 ghost use Rattle.lq_model.specs.Device.{DeviceState};
 
 use crate::lane::{come_to, events_of, pass_last};
@@ -25,17 +22,15 @@ fn events_left<'r, 'a, R: Wait, D: TxDevice, G: Gate>(
 )
     requires next { next ≤ length run.now.plan.now.events }
     requires sendable { IsSendable run.now.plan.now run.now.infos.now }
-    requires stands { (m : ℕ) × LaneStands run.now.plan.now run.now.infos.now sender.old.owner next m run.now.tables.now sender.old.seats.items }
-    requires devices { sender.old.owner ≡ 0 → (units : List DeviceState) × DevicesStand run.now.plan.now run.now.infos.now units next sender.old.seats.items (map D.state sender.old.spares.items) }
+    requires stands { (m : ℕ) × SeatsStand run.now sender.old.owner next m sender.old.seats.items }
+    requires devices { sender.old.owner ≡ 0 → (units : List DeviceState) × HasDevices D.state run.now units next sender.old }
     ensures owner { sender.new.owner ≡ sender.old.owner }
-    ensures stands { (m : ℕ) → LaneStands run.now.plan.now run.now.infos.now sender.old.owner next m run.now.tables.now sender.old.seats.items
-        → LaneStands run.now.plan.now run.now.infos.now sender.old.owner (length run.now.plan.now.events) m run.now.tables.now sender.new.seats.items }
+    ensures stands { SeatsGoOn run.now sender.old.owner next (length run.now.plan.now.events)
+        sender.old.seats.items sender.new.seats.items }
     ensures calls { AllDid OtherCalls sender.old.seats.items sender.new.seats.items }
-    ensures devices { sender.old.owner ≡ 0 → (units : List DeviceState) → DevicesStand run.now.plan.now run.now.infos.now units next sender.old.seats.items (map D.state sender.old.spares.items)
-        → DevicesStand run.now.plan.now run.now.infos.now units (length run.now.plan.now.events) sender.new.seats.items (map D.state sender.new.spares.items) }
-    ensures runs { sender.old.owner ≡ 0 → (units : List DeviceState) → DevicesStand run.now.plan.now run.now.infos.now units next sender.old.seats.items (map D.state sender.old.spares.items) → DoTell run.now.plan.now units
-        → (stations : List RunningStation) → AreRunAlone run.now.plan.now run.now.infos.now sender.old.seats.items stations
-        → AreRunAlone run.now.plan.now run.now.infos.now sender.new.seats.items (with_events run.now.plan.now run.now.infos.now (numbers_from next (length run.now.plan.now.events - next)) stations) }
+    ensures devices { sender.old.owner ≡ 0 → DevicesGoOn D.state run.now next (length run.now.plan.now.events) sender.old sender.new }
+    ensures runs { sender.old.owner ≡ 0
+        → RunsAs D.state run.now next (events_on run.now next (length run.now.plan.now.events - next)) sender.old sender.new }
 {
     run.plan.stays_within_limits();
     let _last = events_of(rt, run, sender, next, u32::MAX);
@@ -49,17 +44,14 @@ pub fn send_loop<'r, 'a, R: Wait, D: TxDevice, G: Gate>(
     sender: &mut Sender<D>,
 )
     requires sendable { IsSendable run.now.plan.now run.now.infos.now }
-    requires stands { LaneStands run.now.plan.now run.now.infos.now sender.old.owner 0 0 run.now.tables.now sender.old.seats.items }
-    requires devices { sender.old.owner ≡ 0 → (units : List DeviceState) × DevicesStand run.now.plan.now run.now.infos.now units 0 sender.old.seats.items (map D.state sender.old.spares.items) }
+    requires stands { SeatsStand run.now sender.old.owner 0 0 sender.old.seats.items }
+    requires devices { sender.old.owner ≡ 0 → (units : List DeviceState) × HasDevices D.state run.now units 0 sender.old }
     ensures owner { sender.new.owner ≡ sender.old.owner }
-    ensures stands { LaneDone run.now.plan.now run.now.infos.now sender.new.owner run.now.tables.now sender.new.seats.items }
+    ensures stands { SeatsDone run.now sender.new.owner sender.new.seats.items }
     ensures keeps { KeepSeats sender.old.seats.items sender.new.seats.items }
-    ensures devices { sender.old.owner ≡ 0 → (units : List DeviceState) → DevicesStand run.now.plan.now run.now.infos.now units 0 sender.old.seats.items (map D.state sender.old.spares.items)
-        → DevicesStand run.now.plan.now run.now.infos.now units (length run.now.plan.now.events) sender.new.seats.items (map D.state sender.new.spares.items) }
-    ensures runs { sender.old.owner ≡ 0 → (units : List DeviceState) → DevicesStand run.now.plan.now run.now.infos.now units 0 sender.old.seats.items (map D.state sender.old.spares.items) → DoTell run.now.plan.now units
-        → AllOwn run.now.infos.now → (from : List RunningStation) → AreRunAlone run.now.plan.now run.now.infos.now sender.old.seats.items from
-        → AreRunAlone run.now.plan.now run.now.infos.now sender.new.seats.items (after_sending run.now.plan.now run.now.infos.now from) }
-    ensures woke { IsWoken run.now.plan.now run.now.infos.now sender.old.owner sender.old.seats.items sender.new.seats.items }
+    ensures devices { sender.old.owner ≡ 0 → DevicesGoOn D.state run.now 0 (length run.now.plan.now.events) sender.old sender.new }
+    ensures runs { sender.old.owner ≡ 0 → SendsAllAlone D.state run.now sender.old sender.new }
+    ensures woke { SeatsWoken run.now sender.old.owner sender.old.seats.items sender.new.seats.items }
 {
     run.plan.stays_within_limits();
     let mut at = Progress { sent: 0, next: 0 };
@@ -77,10 +69,9 @@ fn send_other<'r, 'a, R: Wait, D: TxDevice, G: Gate>(
     sender: &mut Sender<D>,
 )
     requires sendable { IsSendable run.now.plan.now run.now.infos.now }
-    requires ready { (place : ℕ) × IsReadyLane run.now.plan.now run.now.infos.now run.now.tables.now place sender.old.owner sender.old.seats.items }
-    ensures done { (place : ℕ) → IsReadyLane run.now.plan.now run.now.infos.now run.now.tables.now place sender.old.owner sender.old.seats.items
-        → IsDoneLane run.now.plan.now run.now.infos.now run.now.tables.now place sender.new.owner sender.new.seats.items }
-    ensures woke { IsWoken run.now.plan.now run.now.infos.now sender.old.owner sender.old.seats.items sender.new.seats.items }
+    requires ready { (place : ℕ) × LaneIsReady run.now place sender.old }
+    ensures done { (place : ℕ) → LaneIsReady run.now place sender.old → LaneIsDone run.now place sender.new }
+    ensures woke { SeatsWoken run.now sender.old.owner sender.old.seats.items sender.new.seats.items }
 {
     send_loop(rt, run, sender);
 }
@@ -92,9 +83,9 @@ fn others_send<'r, 'a, R: Threads + Wait + Sync, D: TxDevice, G: Gate>(
     senders: &mut [Sender<D>],
 )
     requires sendable { IsSendable run.now.plan.now run.now.infos.now }
-    requires ready { AreReadyLanes run.now.plan.now run.now.infos.now run.now.tables.now senders.old }
-    ensures done { AreDoneLanes run.now.plan.now run.now.infos.now run.now.tables.now senders.new }
-    ensures woke { AreWoken run.now.plan.now run.now.infos.now senders.old senders.new }
+    requires ready { LanesAreReady run.now senders.old }
+    ensures done { LanesAreDone run.now senders.new }
+    ensures woke { LanesWoken run.now senders.old senders.new }
 {
     let threads = senders.len();
     if threads > 0 {
@@ -103,9 +94,9 @@ fn others_send<'r, 'a, R: Threads + Wait + Sync, D: TxDevice, G: Gate>(
             senders,
             threads,
             &|i, sender: &mut Sender<D>|
-                requires { IsSendable run.now.plan.now run.now.infos.now × IsReadyLane run.now.plan.now run.now.infos.now run.now.tables.now i sender.old.owner sender.old.seats.items }
-                ensures { IsDoneLane run.entry.now.plan.now run.entry.now.infos.now run.entry.now.tables.now i sender.new.owner sender.new.seats.items
-                    × IsWoken run.entry.now.plan.now run.entry.now.infos.now sender.old.owner sender.old.seats.items sender.new.seats.items }
+                requires { IsSendable run.now.plan.now run.now.infos.now × LaneIsReady run.now i sender.old }
+                ensures { LaneIsDone run.entry.now i sender.new
+                    × SeatsWoken run.entry.now sender.old.owner sender.old.seats.items sender.new.seats.items }
             { send_other(rt, run, sender) },
         );
     }
@@ -118,17 +109,14 @@ fn first_sent<'r, 'a, R: Wait, D: TxDevice, G: Gate>(
 ) -> Sender<D>
     requires sendable { IsSendable run.now.plan.now run.now.infos.now }
     requires owner { sender.owner ≡ 0 }
-    requires stands { LaneStands run.now.plan.now run.now.infos.now 0 0 0 run.now.tables.now sender.seats.items }
-    requires devices { (units : List DeviceState) × DevicesStand run.now.plan.now run.now.infos.now units 0 sender.seats.items (map D.state sender.spares.items) }
+    requires stands { SeatsStand run.now 0 0 0 sender.seats.items }
+    requires devices { (units : List DeviceState) × HasDevices D.state run.now units 0 sender }
     ensures owner { result.owner ≡ 0 }
-    ensures stands { LaneDone run.now.plan.now run.now.infos.now 0 run.now.tables.now result.seats.items }
+    ensures stands { SeatsDone run.now 0 result.seats.items }
     ensures keeps { KeepSeats sender.seats.items result.seats.items }
-    ensures woke { IsWoken run.now.plan.now run.now.infos.now 0 sender.seats.items result.seats.items }
-    ensures devices { (units : List DeviceState) → DevicesStand run.now.plan.now run.now.infos.now units 0 sender.seats.items (map D.state sender.spares.items)
-        → DevicesStand run.now.plan.now run.now.infos.now units (length run.now.plan.now.events) result.seats.items (map D.state result.spares.items) }
-    ensures runs { (units : List DeviceState) → DevicesStand run.now.plan.now run.now.infos.now units 0 sender.seats.items (map D.state sender.spares.items) → DoTell run.now.plan.now units
-        → AllOwn run.now.infos.now → (from : List RunningStation) → AreRunAlone run.now.plan.now run.now.infos.now sender.seats.items from
-        → AreRunAlone run.now.plan.now run.now.infos.now result.seats.items (after_sending run.now.plan.now run.now.infos.now from) }
+    ensures woke { SeatsWoken run.now 0 sender.seats.items result.seats.items }
+    ensures devices { DevicesGoOn D.state run.now 0 (length run.now.plan.now.events) sender result }
+    ensures runs { SendsAllAlone D.state run.now sender result }
 {
     send_loop(rt, run, &mut sender);
     sender
@@ -140,9 +128,9 @@ fn others_sent<'r, 'a, R: Threads + Wait + Sync, D: TxDevice, G: Gate>(
     mut senders: Vec<Sender<D>>,
 ) -> Vec<Sender<D>>
     requires sendable { IsSendable run.now.plan.now run.now.infos.now }
-    requires ready { AreReadyLanes run.now.plan.now run.now.infos.now run.now.tables.now senders.items }
-    ensures done { AreDoneLanes run.now.plan.now run.now.infos.now run.now.tables.now result.items }
-    ensures woke { AreWoken run.now.plan.now run.now.infos.now senders.items result.items }
+    requires ready { LanesAreReady run.now senders.items }
+    ensures done { LanesAreDone run.now result.items }
+    ensures woke { LanesWoken run.now senders.items result.items }
     ensures long { length result.items ≡ length senders.items }
 {
     others_send(rt, run, senders.as_mut_slice());
@@ -158,38 +146,32 @@ pub fn all_send<'r, 'a, R: Threads + Wait + Sync, D: TxDevice, G: Gate>(
 ) -> (Sender<D>, Vec<Sender<D>>)
     requires sendable { IsSendable run.now.plan.now run.now.infos.now }
     requires owner { first.owner ≡ 0 }
-    requires first { LaneStands run.now.plan.now run.now.infos.now 0 0 0 run.now.tables.now first.seats.items }
-    requires devices { (units : List DeviceState) × DevicesStand run.now.plan.now run.now.infos.now units 0 first.seats.items (map D.state first.spares.items) }
-    requires others { AreReadyLanes run.now.plan.now run.now.infos.now run.now.tables.now others.items }
-    ensures first { LaneDone run.now.plan.now run.now.infos.now 0 run.now.tables.now result.0.seats.items }
+    requires first { SeatsStand run.now 0 0 0 first.seats.items }
+    requires devices { (units : List DeviceState) × HasDevices D.state run.now units 0 first }
+    requires others { LanesAreReady run.now others.items }
+    ensures first { SeatsDone run.now 0 result.0.seats.items }
     ensures keeps { KeepSeats first.seats.items result.0.seats.items }
-    ensures first_woke { IsWoken run.now.plan.now run.now.infos.now 0 first.seats.items result.0.seats.items }
-    ensures devices { (units : List DeviceState) → DevicesStand run.now.plan.now run.now.infos.now units 0 first.seats.items (map D.state first.spares.items)
-        → DevicesStand run.now.plan.now run.now.infos.now units (length run.now.plan.now.events) result.0.seats.items (map D.state result.0.spares.items) }
-    ensures runs { (units : List DeviceState) → DevicesStand run.now.plan.now run.now.infos.now units 0 first.seats.items (map D.state first.spares.items) → DoTell run.now.plan.now units
-        → AllOwn run.now.infos.now → (from : List RunningStation) → AreRunAlone run.now.plan.now run.now.infos.now first.seats.items from
-        → AreRunAlone run.now.plan.now run.now.infos.now result.0.seats.items (after_sending run.now.plan.now run.now.infos.now from) }
-    ensures others { AreDoneLanes run.now.plan.now run.now.infos.now run.now.tables.now result.1.items }
-    ensures others_woke { AreWoken run.now.plan.now run.now.infos.now others.items result.1.items }
+    ensures first_woke { SeatsWoken run.now 0 first.seats.items result.0.seats.items }
+    ensures devices { DevicesGoOn D.state run.now 0 (length run.now.plan.now.events) first result.0 }
+    ensures runs { SendsAllAlone D.state run.now first result.0 }
+    ensures others { LanesAreDone run.now result.1.items }
+    ensures others_woke { LanesWoken run.now others.items result.1.items }
     ensures long { length result.1.items ≡ length others.items }
 {
     thread::join(
         rt,
         move || -> Sender<D>
-            requires { IsSendable run.now.plan.now run.now.infos.now × (first.owner ≡ 0) × LaneStands run.now.plan.now run.now.infos.now 0 0 0 run.now.tables.now first.seats.items
-                × ((units : List DeviceState) × DevicesStand run.now.plan.now run.now.infos.now units 0 first.seats.items (map D.state first.spares.items)) }
-            ensures { LaneDone run.entry.now.plan.now run.entry.now.infos.now 0 run.entry.now.tables.now result.seats.items × KeepSeats first.seats.items result.seats.items
-                × IsWoken run.entry.now.plan.now run.entry.now.infos.now 0 first.seats.items result.seats.items
-                × ((units : List DeviceState) → DevicesStand run.entry.now.plan.now run.entry.now.infos.now units 0 first.seats.items (map D.state first.spares.items)
-                → DevicesStand run.entry.now.plan.now run.entry.now.infos.now units (length run.entry.now.plan.now.events) result.seats.items (map D.state result.spares.items))
-                × ((units : List DeviceState) → DevicesStand run.entry.now.plan.now run.entry.now.infos.now units 0 first.seats.items (map D.state first.spares.items) → DoTell run.entry.now.plan.now units
-                → AllOwn run.entry.now.infos.now → (from : List RunningStation) → AreRunAlone run.entry.now.plan.now run.entry.now.infos.now first.seats.items from
-                → AreRunAlone run.entry.now.plan.now run.entry.now.infos.now result.seats.items (after_sending run.entry.now.plan.now run.entry.now.infos.now from)) }
+            requires { IsSendable run.now.plan.now run.now.infos.now × (first.owner ≡ 0) × SeatsStand run.now 0 0 0 first.seats.items
+                × ((units : List DeviceState) × HasDevices D.state run.now units 0 first) }
+            ensures { SeatsDone run.entry.now 0 result.seats.items × KeepSeats first.seats.items result.seats.items
+                × SeatsWoken run.entry.now 0 first.seats.items result.seats.items
+                × DevicesGoOn D.state run.entry.now 0 (length run.entry.now.plan.now.events) first result
+                × SendsAllAlone D.state run.entry.now first result }
         { first_sent(rt, run, first) },
         move || -> Vec<Sender<D>>
-            requires { IsSendable run.now.plan.now run.now.infos.now × AreReadyLanes run.now.plan.now run.now.infos.now run.now.tables.now others.items }
-            ensures { AreDoneLanes run.entry.now.plan.now run.entry.now.infos.now run.entry.now.tables.now result.items × (length result.items ≡ length others.items)
-                × AreWoken run.entry.now.plan.now run.entry.now.infos.now others.items result.items }
+            requires { IsSendable run.now.plan.now run.now.infos.now × LanesAreReady run.now others.items }
+            ensures { LanesAreDone run.entry.now result.items × (length result.items ≡ length others.items)
+                × LanesWoken run.entry.now others.items result.items }
         { others_sent(rt, run, others) },
     )
 }

@@ -1,14 +1,14 @@
 //! The laws of runs, each the contract of a function that does nothing.
 ghost use Rattle.std.specs.Prelude.{◌≡◌, ◌≢◌, ◌<◌, ℕ, List, [], ◌∷◌, Some, None, true, count_by, length, slice_get};
 ghost use Rattle.lq_seat.specs.State.{SeatState};
-ghost use Rattle.lq_senders.specs.Ends.{AreBack, AreOver, ClosedState, FatesRead, HasSentAll, IsReadable, RunEnds};
+ghost use Rattle.lq_senders.specs.Ends.{AreBack, AreOver, ClosedState, FatesRead, HasSentAll, IsReadable, RunEnds, SameBoxes};
 ghost use Rattle.lq_senders.specs.Fates.{AreFatesOf, IsEndedAs};
 ghost use Rattle.lq_senders.specs.Lanes.{IsSendable};
 ghost use Rattle.lq_senders.specs.OwnPackets.{alone_at};
 ghost use Rattle.lq_senders.specs.Setup.{IsRunBy};
 ghost use Rattle.lq_model.specs.Alone.{alone};
 ghost use Rattle.lq_model.specs.Device.{DeviceState};
-ghost use Rattle.lq_model.specs.Plan.{Plan, is_swap, station_in, unit_count};
+ghost use Rattle.lq_model.specs.Plan.{Plan, is_swap, station_in};
 ghost use Rattle.lq_model.specs.Runs.{group_event_at, group_of_two, no_rules, packets_to, station};
 ghost use Rattle.lq_model.specs.declared.fate.Fate.{Fate};
 ghost use Rattle.lq_model.specs.declared.fate.Fate.TheVariants.{Refused, Sent};
@@ -30,13 +30,16 @@ pub fn ends_make_fates()
 
 /// After a run each packet's fate can be read off its station's closed table.
 pub fn runs_are_readable()
-    ensures { (plan : Plan) (infos : List Info) (others : ℕ) (start : List SeatState) (brought : List DeviceState) (closed : List ClosedState) (spares : List DeviceState)
+    ensures { (plan : Plan) (infos : List Info) (others : ℕ) (start : List SeatState) (brought : List DeviceState)
+        (closed : List ClosedState) (spares : List DeviceState)
         → HasSentAll plan infos others start brought closed spares → IsSendable plan infos → IsReadable infos closed }
 {}
 
 /// A run leaves the fates that are read off its closed tables.
 pub fn runs_make_fates()
-    ensures { (plan : Plan) (infos : List Info) (before after : List DeviceState) (others : ℕ) (start : List SeatState) (brought : List DeviceState) (closed : List ClosedState) (spares : List DeviceState) (fates : List Fate)
+    ensures { (plan : Plan) (infos : List Info) (before after : List DeviceState)
+        (others : ℕ) (start : List SeatState) (brought : List DeviceState) (closed : List ClosedState) (spares : List DeviceState)
+        (fates : List Fate)
         → HasSentAll plan infos others start brought closed spares → IsSendable plan infos → AreOver plan infos before others start brought
         → FatesRead infos closed (length infos) fates → AreBack plan closed spares after → AreFatesOf plan infos fates before after }
 {
@@ -45,21 +48,24 @@ pub fn runs_make_fates()
 
 /// What stays of each station has these fates.
 pub fn runs_leave_stations()
-    ensures { (plan : Plan) (infos : List Info) (others : ℕ) (start : List SeatState) (brought : List DeviceState) (closed : List ClosedState) (spares : List DeviceState) (fates : List Fate)
+    ensures { (plan : Plan) (infos : List Info) (others : ℕ) (start : List SeatState) (brought : List DeviceState)
+        (closed : List ClosedState) (spares : List DeviceState) (fates : List Fate)
         → HasSentAll plan infos others start brought closed spares → FatesRead infos closed (length infos) fates
         → (j : ℕ) (x : ClosedState) → slice_get closed j ≡ Some x → IsEndedAs plan infos fates j x.ended }
 {}
 
 /// Each box stands again where it stood.
 pub fn runs_keep_boxes()
-    ensures { (plan : Plan) (infos : List Info) (before after : List DeviceState) (others : ℕ) (start : List SeatState) (brought : List DeviceState) (closed : List ClosedState) (spares : List DeviceState)
-        → HasSentAll plan infos others start brought closed spares → AreOver plan infos before others start brought → AreBack plan closed spares after
-        → (unit : ℕ) (old new : DeviceState) → unit < unit_count plan → slice_get before unit ≡ Some old → slice_get after unit ≡ Some new → new.identity ≡ old.identity }
+    ensures { (plan : Plan) (infos : List Info) (before after : List DeviceState)
+        (others : ℕ) (start : List SeatState) (brought : List DeviceState) (closed : List ClosedState) (spares : List DeviceState)
+        → HasSentAll plan infos others start brought closed spares → AreOver plan infos before others start brought
+        → AreBack plan closed spares after → SameBoxes plan before after }
 {}
 
-/// One table is closed for each station, and as many devices are spare as there are exchanges.
+/// One table is closed for each station, and as many devices are spare as there are swaps.
 pub fn runs_leave_devices()
-    ensures { (plan : Plan) (infos : List Info) (before : List DeviceState) (others : ℕ) (start : List SeatState) (brought : List DeviceState) (closed : List ClosedState) (spares : List DeviceState)
+    ensures { (plan : Plan) (infos : List Info) (before : List DeviceState)
+        (others : ℕ) (start : List SeatState) (brought : List DeviceState) (closed : List ClosedState) (spares : List DeviceState)
         → HasSentAll plan infos others start brought closed spares → AreOver plan infos before others start brought
         → (length closed ≡ length plan.stations) × (length spares ≡ count_by is_swap plan.events) }
 {}

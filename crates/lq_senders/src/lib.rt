@@ -26,5 +26,5 @@ pub use lq_gate::{Free, Gate};
 pub use read::read_fates;
 pub use send::send_all;
 pub use sender::{Job, Progress, Run, Sender, Senders};
-pub use undo::undo_exchanges;
+pub use undo::undo_swaps;
 pub use whole::run;

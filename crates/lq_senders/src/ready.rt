@@ -12,7 +12,7 @@ use lq_model::{Info, NoMemory};
 use lq_plan::Plan;
 use std::alloc::Global;
 
-/// The devices of a plan's units: those of the stations in tables of their own, and those that exchanges bring to spare.
+/// The devices of a plan's units: those of the stations in tables of their own, and those that swaps bring to spare.
 #[derive(Drop)]
 pub struct Units<'a, D: TxDevice> {
     pub stations: Stations<'a, D>,
@@ -34,7 +34,7 @@ pub fn room_for_units<'a, D: TxDevice>(alloc: Global, plan: &Plan) -> Result<Uni
 }
 
 /// Configures the device of each unit and takes it out of the bench: those of the stations into tables of their own, and those
-/// that exchanges bring to spare.
+/// that swaps bring to spare.
 ///
 /// # NoMemory
 ///
@@ -64,7 +64,7 @@ pub fn make_ready<'a, D: TxDevice>(
         mut spares,
     } = units;
     let stations = open_all(alloc, plan, infos, bench, stations)?;
-    let exchanges = (plan.units() - plan.stations()) as usize;
-    take_spares(bench, &mut spares, exchanges);
+    let swaps = (plan.units() - plan.stations()) as usize;
+    take_spares(bench, &mut spares, swaps);
     Ok(Units { stations, spares })
 }

@@ -94,7 +94,7 @@ fn send_ready<'r, 'a, R: Threads + Wait + Sync, D: TxDevice, G: Gate>(
 }
 
 /// Sends the packets through the plan's stations, and lays out what stays of them: packet n has the n-th fate. Each station
-/// begins with the device of the bench at its place, and the plan's exchanges bring those after them, in order. All are back
+/// begins with the device of the bench at its place, and the plan's swaps bring those after them, in order. All are back
 /// in their places at the end.
 ///
 /// # NoMemory

@@ -27,7 +27,7 @@ pub struct Run<'r, 'a, D: TxDevice, G: Gate> {
 pub struct Sender<D: TxDevice> {
     pub owner: u32,
     pub seats: Vec<Seat<D>>,
-    /// The devices of the exchanges to come, in order, and then those that exchanges took away. They are the first sender's.
+    /// The devices of the swaps to come, in order, and then those that swaps took away. They are the first sender's.
     pub spares: Vec<D>,
 }
 

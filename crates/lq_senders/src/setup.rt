@@ -2,12 +2,12 @@
 //!
 //! All memory but that of the tables is taken before a device leaves the bench. Where there is none for a table, those
 //! opened before it end, and each device is back in the bench.
-ghost use Rattle.std.specs.Prelude.{◌≡◌, ◌≤◌, ◌<◌, ◌+◌, ◌-◌, ◌++◌, ℕ, [], List, IfOk, OnOk, OnErr, drop, length, map, vec_len, vec_capacity};
-ghost use Rattle.lq_seat.specs.Calls.{without};
+ghost use Rattle.std.specs.Prelude.{◌≡◌, ◌≤◌, ◌<◌, ◌+◌, ◌-◌, ◌++◌, [], List, IfOk, OnOk, OnErr, drop, length, map, vec_len, vec_capacity};
 ghost use Rattle.lq_seat.specs.State.{station_count};
 ghost use Rattle.lq_senders.specs.Fates.{identities_of};
-ghost use Rattle.lq_senders.specs.Lanes.{AreReadyLanes, IsReadyLane, IsSendable};
-ghost use Rattle.lq_senders.specs.Setup.{AreConfigured, AreEmptyLanes, AreOpened, AreSplitting, AreWhole, IsEmptyLane, origins_of};
+ghost use Rattle.lq_senders.specs.Lanes.{IsSendable};
+ghost use Rattle.lq_senders.specs.Runs.{LaneIsReady, LanesAreReady, SeatsSplit};
+ghost use Rattle.lq_senders.specs.Setup.{AreConfigured, AreEmptyLanes, AreOpened, AreWhole, IsEmptyLane, origins_of};
 ghost use Rattle.lq_senders.specs.Units.{SameDevices};
 ghost use Rattle.lq_model.specs.Device.{DeviceState};
 
@@ -205,9 +205,9 @@ fn split_lane<'r, 'a, D: TxDevice, G: Gate>(
 )
     requires empty { IsEmptyLane run.now.plan.now (lane.old.owner - 1) lane.old }
     requires sender { lane.old.owner < run.now.plan.now.senders }
-    requires splitting { AreSplitting run.now.plan.now run.now.infos.now lane.old.owner run.now.tables.now cpus.old.items }
-    ensures splitting { AreSplitting run.now.plan.now run.now.infos.now (lane.old.owner + 1) run.now.tables.now cpus.new.items }
-    ensures ready { IsReadyLane run.now.plan.now run.now.infos.now run.now.tables.now (lane.old.owner - 1) lane.new.owner lane.new.seats.items }
+    requires splitting { SeatsSplit run.now lane.old.owner cpus.old.items }
+    ensures splitting { SeatsSplit run.now (lane.old.owner + 1) cpus.new.items }
+    ensures ready { LaneIsReady run.now (lane.old.owner - 1) lane.new }
     ensures devices { SameDevices cpus.old.items cpus.new.items }
 {
     run.plan.stays_within_limits();
@@ -224,9 +224,9 @@ pub fn split_lanes<'r, 'a, D: TxDevice, G: Gate>(
     lanes: &mut Vec<Sender<D>>,
 )
     requires empty { AreEmptyLanes run.now.plan.now lanes.old.items }
-    requires splitting { AreSplitting run.now.plan.now run.now.infos.now 1 run.now.tables.now cpus.old.items }
-    ensures splitting { AreSplitting run.now.plan.now run.now.infos.now run.now.plan.now.senders run.now.tables.now cpus.new.items }
-    ensures ready { AreReadyLanes run.now.plan.now run.now.infos.now run.now.tables.now lanes.new.items }
+    requires splitting { SeatsSplit run.now 1 cpus.old.items }
+    ensures splitting { SeatsSplit run.now run.now.plan.now.senders cpus.new.items }
+    ensures ready { LanesAreReady run.now lanes.new.items }
     ensures one_each { length lanes.new.items + 1 ≡ run.now.plan.now.senders }
     ensures devices { SameDevices cpus.old.items cpus.new.items }
     ensures alone { run.now.plan.now.senders ≡ 1 → cpus.new.items ≡ cpus.old.items }

@@ -1,4 +1,4 @@
-//! The devices that a plan's exchanges bring: they are configured where they stand in the bench, behind those of the stations,
+//! The devices that a plan's swaps bring: they are configured where they stand in the bench, behind those of the stations,
 //! and leave it together.
 ghost use Rattle.std.specs.Prelude.{◌≡◌, ◌≤◌, ◌<◌, ◌+◌, ◌++◌, [], OnOk, drop, take, length, map, vec_len, vec_capacity};
 ghost use Rattle.lq_senders.specs.Fates.{identities_of};
@@ -43,14 +43,15 @@ fn configure_spare<D: TxDevice>(
     }
 }
 
-/// Configures the devices that the plan's exchanges bring.
+/// Configures the devices that the plan's swaps bring.
 pub fn configure_spares<D: TxDevice>(
     plan: &Plan,
     infos: &[Info],
     bench: &mut Vec<D>,
 ) -> Result<(), NoMemory>
     requires units { unit_count plan.now ≤ vec_len bench.old }
-    ensures ok { OnOk result (AreSparesConfigured plan.now infos.now (length plan.now.events) (map D.state bench.old.items) (map D.state bench.new.items)) }
+    ensures ok { OnOk result (AreSparesConfigured plan.now infos.now (length plan.now.events)
+        (map D.state bench.old.items) (map D.state bench.new.items)) }
     ensures others { drop (unit_count plan.now) bench.new.items ≡ drop (unit_count plan.now) bench.old.items }
     ensures len { vec_len bench.new ≡ vec_len bench.old }
     ensures boxes { identities_of (map D.state bench.new.items) ≡ identities_of (map D.state bench.old.items) }

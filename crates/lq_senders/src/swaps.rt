@@ -1,11 +1,11 @@
-//! The plan's events, exchanges of a device among them.
-ghost use Rattle.std.specs.Prelude.{◌≡◌, ℕ, ◌+◌, ◌<◌, ◌≤◌, List, true, false, map, length, slice_get};
+//! The plan's events, swaps of a device among them.
+ghost use Rattle.std.specs.Prelude.{◌≡◌, ℕ, ◌+◌, ◌<◌, ◌≤◌, List, true, false, length, slice_get};
 ghost use Rattle.lq_seat.specs.Calls.{MayChange};
 ghost use Rattle.lq_seat.specs.State.{IsHere};
-ghost use Rattle.lq_senders.specs.Lanes.{AllDid, DoesEventAt, IsSendable, KeepAll, LaneStands, AreRunAlone};
-ghost use Rattle.lq_senders.specs.Units.{DevicesStand, DoTell};
+ghost use Rattle.lq_senders.specs.Lanes.{AllDid, DoesEventAt, IsSendable, KeepAll};
+ghost use Rattle.lq_senders.specs.Runs.{DevicesGoOn, HasDevices, RunsAs, SeatsGoOn, SeatsRunAs, SeatsStand};
 ghost use Rattle.lq_senders.specs.Woken.{OtherCalls};
-ghost use Rattle.lq_model.specs.Alone.{RunningStation, with_event};
+ghost use Rattle.lq_model.specs.Alone.{with_event};
 ghost use Rattle.lq_model.specs.Device.{DeviceState};
 ghost use Rattle.lq_model.specs.Plan.{is_at, is_swap, is_swap_kind, unit_of_swap};
 ghost use Rattle.lq_model.specs.declared.plan.EventPlan.{EventPlan as AnEvent};
@@ -18,14 +18,14 @@ use lq_plan::{Plan, is_at};
 use lq_seat::{Brought, Seat, Table};
 use std::sync::Wait;
 
-/// Whether an event exchanges a device.
-pub fn is_exchange(kind: EventKind) -> bool
+/// Whether an event swaps a device.
+pub fn is_swap_kind(kind: EventKind) -> bool
     ensures { result ≡ is_swap_kind kind }
 {
     matches!(kind, EventKind::Swap { .. })
 }
 
-/// The unit that an exchange brings, as the plan's event `e`.
+/// The unit that a swap brings, as the plan's event `e`.
 pub fn brought_unit(plan: &Plan, e: u32) -> u32
     requires { e ≤ length plan.now.events }
     ensures { result ≡ unit_of_swap plan.now e }
@@ -33,7 +33,7 @@ pub fn brought_unit(plan: &Plan, e: u32) -> u32
     plan.stays_within_limits();
     let mut unit = plan.stations();
     for k in 0..e {
-        if is_exchange(plan.event(k).kind) {
+        if is_swap_kind(plan.event(k).kind) {
             unit += 1;
         }
     }
@@ -58,7 +58,7 @@ fn event_at<'a, R: Wait, D: TxDevice>(
     }
 }
 
-/// Does event `e`, the plan's next, which isn't an exchange of a device: at each of its stations, the children of one group, in
+/// Does event `e`, the plan's next, which isn't a swap of a device: at each of its stations, the children of one group, in
 /// ascending order.
 fn do_next_event<'r, 'a, R: Wait, D: TxDevice, G: Gate>(
     rt: &R,
@@ -69,13 +69,11 @@ fn do_next_event<'r, 'a, R: Wait, D: TxDevice, G: Gate>(
     requires event { e < length run.now.plan.now.events }
     requires no_swap { (event : AnEvent) → slice_get run.now.plan.now.events e ≡ Some event → is_swap event ≡ false }
     requires sendable { IsSendable run.now.plan.now run.now.infos.now }
-    requires stands { (n : ℕ) × LaneStands run.now.plan.now run.now.infos.now 0 e n run.now.tables.now seats.old.items }
-    ensures stands { (n : ℕ) → LaneStands run.now.plan.now run.now.infos.now 0 e n run.now.tables.now seats.old.items
-        → LaneStands run.now.plan.now run.now.infos.now 0 (e + 1) n run.now.tables.now seats.new.items }
+    requires stands { (n : ℕ) × SeatsStand run.now 0 e n seats.old.items }
+    ensures stands { SeatsGoOn run.now 0 e (e + 1) seats.old.items seats.new.items }
     ensures keeps { KeepAll seats.old.items seats.new.items }
     ensures calls { AllDid OtherCalls seats.old.items seats.new.items }
-    ensures runs { (stations : List RunningStation) → AreRunAlone run.now.plan.now run.now.infos.now seats.old.items stations
-        → AreRunAlone run.now.plan.now run.now.infos.now seats.new.items (with_event run.now.plan.now run.now.infos.now e stations) }
+    ensures runs { SeatsRunAs run.now (with_event run.now.plan.now run.now.infos.now e) seats.old.items seats.new.items }
 {
     run.plan.stays_within_limits();
     let event = run.plan.event(e);
@@ -84,9 +82,9 @@ fn do_next_event<'r, 'a, R: Wait, D: TxDevice, G: Gate>(
     }
 }
 
-/// Does event `e`, the plan's next, which exchanges a device: the first of the spare ones comes, and the one that goes is the last
+/// Does event `e`, the plan's next, which swaps a device: the first of the spare ones comes, and the one that goes is the last
 /// of them.
-fn exchange_next<'r, 'a, R: Wait, D: TxDevice, G: Gate>(
+fn swap_next<'r, 'a, R: Wait, D: TxDevice, G: Gate>(
     rt: &R,
     run: &Run<'r, 'a, D, G>,
     sender: &mut Sender<D>,
@@ -94,17 +92,13 @@ fn exchange_next<'r, 'a, R: Wait, D: TxDevice, G: Gate>(
 )
     requires event { e < length run.now.plan.now.events }
     requires swap { (event : AnEvent) → slice_get run.now.plan.now.events e ≡ Some event → is_swap event ≡ true }
-    requires stands { (n : ℕ) × LaneStands run.now.plan.now run.now.infos.now 0 e n run.now.tables.now sender.old.seats.items }
-    requires devices { (units : List DeviceState) × DevicesStand run.now.plan.now run.now.infos.now units e sender.old.seats.items (map D.state sender.old.spares.items) }
+    requires stands { (n : ℕ) × SeatsStand run.now 0 e n sender.old.seats.items }
+    requires devices { (units : List DeviceState) × HasDevices D.state run.now units e sender.old }
     ensures owner { sender.new.owner ≡ sender.old.owner }
-    ensures stands { (n : ℕ) → LaneStands run.now.plan.now run.now.infos.now 0 e n run.now.tables.now sender.old.seats.items
-        → LaneStands run.now.plan.now run.now.infos.now 0 (e + 1) n run.now.tables.now sender.new.seats.items }
+    ensures stands { SeatsGoOn run.now 0 e (e + 1) sender.old.seats.items sender.new.seats.items }
     ensures calls { AllDid OtherCalls sender.old.seats.items sender.new.seats.items }
-    ensures devices { (units : List DeviceState) → DevicesStand run.now.plan.now run.now.infos.now units e sender.old.seats.items (map D.state sender.old.spares.items)
-        → DevicesStand run.now.plan.now run.now.infos.now units (e + 1) sender.new.seats.items (map D.state sender.new.spares.items) }
-    ensures runs { (units : List DeviceState) → DevicesStand run.now.plan.now run.now.infos.now units e sender.old.seats.items (map D.state sender.old.spares.items) → DoTell run.now.plan.now units
-        → (stations : List RunningStation) → AreRunAlone run.now.plan.now run.now.infos.now sender.old.seats.items stations
-        → AreRunAlone run.now.plan.now run.now.infos.now sender.new.seats.items (with_event run.now.plan.now run.now.infos.now e stations) }
+    ensures devices { DevicesGoOn D.state run.now e (e + 1) sender.old sender.new }
+    ensures runs { RunsAs D.state run.now e (with_event run.now.plan.now run.now.infos.now e) sender.old sender.new }
 {
     run.plan.stays_within_limits();
     let station = run.plan.event(e).station;
@@ -112,7 +106,7 @@ fn exchange_next<'r, 'a, R: Wait, D: TxDevice, G: Gate>(
     let device = sender.spares.remove(0);
     let brought = Brought { event: e, unit };
     let table = &run.tables[station as usize];
-    let old = sender.seats[station as usize].exchange(rt, table, brought, device);
+    let old = sender.seats[station as usize].swap(rt, table, brought, device);
     sender.spares.push_reserved(old);
 }
 
@@ -125,20 +119,16 @@ pub fn do_any_event<'r, 'a, R: Wait, D: TxDevice, G: Gate>(
 )
     requires event { e < length run.now.plan.now.events }
     requires sendable { IsSendable run.now.plan.now run.now.infos.now }
-    requires stands { (n : ℕ) × LaneStands run.now.plan.now run.now.infos.now 0 e n run.now.tables.now sender.old.seats.items }
-    requires devices { (units : List DeviceState) × DevicesStand run.now.plan.now run.now.infos.now units e sender.old.seats.items (map D.state sender.old.spares.items) }
+    requires stands { (n : ℕ) × SeatsStand run.now 0 e n sender.old.seats.items }
+    requires devices { (units : List DeviceState) × HasDevices D.state run.now units e sender.old }
     ensures owner { sender.new.owner ≡ sender.old.owner }
-    ensures stands { (n : ℕ) → LaneStands run.now.plan.now run.now.infos.now 0 e n run.now.tables.now sender.old.seats.items
-        → LaneStands run.now.plan.now run.now.infos.now 0 (e + 1) n run.now.tables.now sender.new.seats.items }
+    ensures stands { SeatsGoOn run.now 0 e (e + 1) sender.old.seats.items sender.new.seats.items }
     ensures calls { AllDid OtherCalls sender.old.seats.items sender.new.seats.items }
-    ensures devices { (units : List DeviceState) → DevicesStand run.now.plan.now run.now.infos.now units e sender.old.seats.items (map D.state sender.old.spares.items)
-        → DevicesStand run.now.plan.now run.now.infos.now units (e + 1) sender.new.seats.items (map D.state sender.new.spares.items) }
-    ensures runs { (units : List DeviceState) → DevicesStand run.now.plan.now run.now.infos.now units e sender.old.seats.items (map D.state sender.old.spares.items) → DoTell run.now.plan.now units
-        → (stations : List RunningStation) → AreRunAlone run.now.plan.now run.now.infos.now sender.old.seats.items stations
-        → AreRunAlone run.now.plan.now run.now.infos.now sender.new.seats.items (with_event run.now.plan.now run.now.infos.now e stations) }
+    ensures devices { DevicesGoOn D.state run.now e (e + 1) sender.old sender.new }
+    ensures runs { RunsAs D.state run.now e (with_event run.now.plan.now run.now.infos.now e) sender.old sender.new }
 {
-    if is_exchange(run.plan.event(e).kind) {
-        exchange_next(rt, run, sender, e);
+    if is_swap_kind(run.plan.event(e).kind) {
+        swap_next(rt, run, sender, e);
     } else {
         do_next_event(rt, run, &mut sender.seats, e);
     }

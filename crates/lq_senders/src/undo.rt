@@ -7,7 +7,7 @@ ghost use Rattle.lq_senders.specs.Units.{by_unit, undone, undone_event};
 ghost use Rattle.lq_model.specs.Plan.{is_swap, unit_count};
 
 use crate::spares::lay_back;
-use crate::swaps::{brought_unit, is_exchange};
+use crate::swaps::{brought_unit, is_swap_kind};
 use lq_device::TxDevice;
 use lq_model::EventPlan;
 use lq_plan::Plan;
@@ -33,7 +33,7 @@ pub fn take_apart<D: TxDevice>(
     }
 }
 
-/// Undoes event `e`, if it exchanged a device.
+/// Undoes event `e`, if it swapped a device.
 fn undo_event<D: TxDevice>(plan: &Plan, homes: &mut Vec<D>, spares: &mut Vec<D>, e: u32)
     requires event { e < length plan.now.events }
     requires homes { length homes.old.items ≡ length plan.now.stations }
@@ -50,15 +50,15 @@ fn undo_event<D: TxDevice>(plan: &Plan, homes: &mut Vec<D>, spares: &mut Vec<D>,
         mq: _,
         kind,
     } = plan.event(e);
-    if is_exchange(kind) {
+    if is_swap_kind(kind) {
         let place = brought_unit(plan, e) - plan.stations();
         mem::swap(&mut homes[station as usize], &mut spares[place as usize]);
     }
 }
 
-/// Undoes the plan's exchanges, the latest first: each device that one took away comes back to its station, and the device that it
+/// Undoes the plan's swaps, the latest first: each device that one took away comes back to its station, and the device that it
 /// brought comes to its place. Then the stations have the units that they began with, and the others are in order.
-pub fn undo_exchanges<D: TxDevice>(plan: &Plan, homes: &mut Vec<D>, spares: &mut Vec<D>)
+pub fn undo_swaps<D: TxDevice>(plan: &Plan, homes: &mut Vec<D>, spares: &mut Vec<D>)
     requires homes { length homes.old.items ≡ length plan.now.stations }
     requires spares { length spares.old.items ≡ count_by is_swap plan.now.events }
     ensures undone { (map D.state homes.new.items, map D.state spares.new.items)
@@ -84,11 +84,12 @@ pub fn hand_back<D: TxDevice>(
     requires homes { length homes.items ≡ length plan.now.stations }
     requires spares { length spares.items ≡ count_by is_swap plan.now.events }
     requires room { vec_len bench.old + unit_count plan.now ≤ vec_capacity bench.old }
-    ensures states { map D.state bench.new.items ≡ by_unit plan.now (map D.state homes.items) (map D.state spares.items) ++ map D.state bench.old.items }
+    ensures states { map D.state bench.new.items
+        ≡ by_unit plan.now (map D.state homes.items) (map D.state spares.items) ++ map D.state bench.old.items }
     ensures rest { drop (unit_count plan.now) bench.new.items ≡ bench.old.items }
     ensures len { vec_len bench.new ≡ unit_count plan.now + vec_len bench.old }
 {
-    undo_exchanges(plan, &mut homes, &mut spares);
+    undo_swaps(plan, &mut homes, &mut spares);
     lay_back(spares, bench);
     lay_back(homes, bench);
 }

@@ -17,7 +17,7 @@ use std::marker::Sync;
 use std::sync::Wait;
 use std::thread::Threads;
 
-/// Sends all packets side by side, and brings each station to its end. The devices that exchanges took away come back, in order.
+/// Sends all packets side by side, and brings each station to its end. The devices that swaps took away come back, in order.
 /// Takes no memory: `closed` has the room for the stations.
 pub fn run<'r, 'a, R: Threads + Wait + Sync, D: TxDevice, G: Gate>(
     rt: &R,

@@ -1,4 +1,4 @@
--- The first seat after a call, and the units that its exchanges brought.
+-- The first seat after a call, and the units that its swaps brought.
 use Rattle.std.proofs.Common.{◌≡◌, ◌<◌, ◌≤◌, ◌+◌, ℕ, zero, suc, List, length, slice_index_or, Contains, refl, sym, ap, ◌∷◌, ◌∙◌, subst, arith, Bool, if◌then◌else◌, ◌==◌}
 use Rattle.lq_model.specs.declared.machine.Phase.{Phase}
 use Rattle.lq_model.specs.Account.{Event, Up, Swap, Purge, Down}
@@ -47,10 +47,10 @@ first_joined p us t b a o q g f seat same e = let r = f.between.ready in let con
   brought = ap (λ (v : View). units_of v.trail) e ∙ (ap (λ (x : Bool). units_of (if x then (view b).trail else (view o).trail)) f.first ∙ f.brought);
 }
 
--- an exchange brings the next unit, and leaves the first seat as it was but for that
-pub first_exchanged : {D : Type 0} (t : Shared D) (b a : Cpu D) (k unit n event : ℕ) (cause : Cause) → IsFirst Active (units_from_first k) t b → IsSameSeat b a → IsKeptByControl (view b) (view a) → position a ≡ Idle → IsReadyToSend a → IsIn Active (view a)
+-- a swap brings the next unit, and leaves the first seat as it was but for that
+pub first_swapped : {D : Type 0} (t : Shared D) (b a : Cpu D) (k unit n event : ℕ) (cause : Cause) → IsFirst Active (units_from_first k) t b → IsSameSeat b a → IsKeptByControl (view b) (view a) → position a ≡ Idle → IsReadyToSend a → IsIn Active (view a)
     → (view a).trail ≡ Up ∷ Swap unit ∷ Purge cause ∷ Down event ∷ (view b).trail → unit ≡ k + 1 → n ≡ k + 1 → IsFirst Active (units_from_first n) t a
-first_exchanged t b a k unit n event cause f same kept at ready phase trail next more = let seat = f.between.seat in
+first_swapped t b a k unit n event cause f same kept at ready phase trail next more = let seat = f.between.seat in
     let unit_is : unit ≡ suc k = omega arith in let n_is : n ≡ suc k = omega arith in record {
       between = record { seat = (same.0 ∙ seat.0, subst (λ (s : SharePart). 0 < s.shares) (sym kept.share) seat.1, ap (λ (s : SharePart). s.about) kept.share ∙ seat.2); at = at; ready = ready };
       first = kept.first ∙ f.first;

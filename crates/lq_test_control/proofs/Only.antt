@@ -117,8 +117,8 @@ module _ {D : Type 0} where
   seat_kept : (t : Shared D) (b a : Cpu D) → IsSeatOf t b → IsSameSeat b a → (view a).share ≡ (view b).share → IsSeatOf t a
   seat_kept t b a seat same share = (same.0 ∙ seat.0, subst (λ (s : SharePart). 0 < s.shares) (sym share) seat.1, ap (λ (s : SharePart). s.about) share ∙ seat.2)
 
-  pub only_exchanged : (t : Shared D) (b a : Cpu D) → IsOnly t b → IsSameSeat b a → IsKeptByControl (view b) (view a) → position a ≡ Idle → IsReadyToSend a → IsIn Active (view a) → IsOnly t a
-  only_exchanged t b a o same kept at ready active =
+  pub only_swapped : (t : Shared D) (b a : Cpu D) → IsOnly t b → IsSameSeat b a → IsKeptByControl (view b) (view a) → position a ≡ Idle → IsReadyToSend a → IsIn Active (view a) → IsOnly t a
+  only_swapped t b a o same kept at ready active =
       only_kept t b a o (record { seat = seat_kept t b a o.between.seat same kept.share; at = at; ready = ready }) active kept.first kept.share kept.told (ap (λ (ts : List ℕ). length ts) kept.turns)
 
   pub only_looked : (t : Shared D) (b a : Cpu D) → IsOnly t b → IsElseSame b a → view a ≡ view b → IsOnly t a

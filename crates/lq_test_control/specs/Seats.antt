@@ -44,7 +44,7 @@ module _ {D : Type 0} where
     pub between : IsBetweenCalls t c
     pub owns : 0 < times owner (view c).share.owners
 
-  -- the first seat, in this phase, whose exchanges brought these units
+  -- the first seat, in this phase, whose swaps brought these units
   pub record IsFirst (phase : Phase) (units : List ℕ) (t : Shared D) (c : Cpu D) : Type 0 where
     pub between : IsBetweenCalls t c
     pub first : (view c).control.first ≡ true

@@ -1,4 +1,4 @@
-//! An exchange of the device and the end of a hung station, on one thread: what is answered and what becomes of each packet was
+//! A swap of the device and the end of a hung station, on one thread: what is answered and what becomes of each packet was
 //! told by hand from the rules.
 ghost use Rattle.std.specs.Prelude.{◌≡◌, ℕ, ◌<◌, ◌≤◌, [], false, length};
 ghost use Rattle.lq_qdisc.specs.Plain.{IsPlainPacket};
@@ -96,8 +96,8 @@ fn send_next<'a, A: Abort + Wait, D: TxDevice>(
     send(rt, shared, cpu, 1, n)
 }
 
-/// Exchanges the device of the station for the one of unit 1.
-fn exchange<'a, A: Abort + Wait, D: TxDevice>(
+/// Swaps the device of the station for the one of unit 1.
+fn swap_device<'a, A: Abort + Wait, D: TxDevice>(
     rt: &A,
     shared: &Shared<'a, D>,
     cpu: &mut Cpu<D>,
@@ -156,14 +156,14 @@ fn close<'a, A: Abort, D: TxDevice>(rt: &A, shared: Shared<'a, D>, cpu: Cpu<D>, 
 }
 
 #[test]
-fn an_exchange_purges_what_is_held(rt: HostRuntime) {
+fn a_swap_purges_what_is_held(rt: HostRuntime) {
     let infos = [info(0), info(1), info(2), info(3)];
     let first = device(&rt, rt.alloc(), 1, &infos);
     let (shared, mut cpu) = table(&rt, rt.alloc(), &infos, first);
     assert_eq!(rt; send_next(&rt, &shared, &mut cpu, 0), Sending::Direct);
     assert_eq!(rt; send_next(&rt, &shared, &mut cpu, 1), Sending::Direct);
     let second = device(&rt, rt.alloc(), 1, shared.infos());
-    let old = exchange(&rt, &shared, &mut cpu, second, 5);
+    let old = swap_device(&rt, &shared, &mut cpu, second, 5);
     assert_eq!(rt; old.accepted(), [0].as_slice());
     assert_eq!(rt; send_next(&rt, &shared, &mut cpu, 2), Sending::Direct);
     assert_eq!(rt; send_next(&rt, &shared, &mut cpu, 3), Sending::Direct);

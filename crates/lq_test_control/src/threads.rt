@@ -22,7 +22,7 @@ use std::sync::Wait;
 use std::thread;
 use std::thread::Threads;
 
-/// How many calls of control there are. Each is an event of its own number, and the last exchange is one more.
+/// How many calls of control there are. Each is an event of its own number, and the last swap is one more.
 const ROUNDS: u32 = 1000;
 
 const PACKETS: u32 = 12000;
@@ -58,8 +58,8 @@ fn begun<A: Abort, D: TxDevice>(rt: &A, device: D, infos: &[Info]) -> D
     device
 }
 
-/// The device of the station is exchanged, for one of the next unit.
-fn exchange<'a, A: Abort + Wait, D: TxDevice>(
+/// The device of the station is swapped, for one of the next unit.
+fn swap_device<'a, A: Abort + Wait, D: TxDevice>(
     rt: &A,
     shared: &Shared<'a, D>,
     cpu: &mut Cpu<D>,
@@ -78,7 +78,7 @@ fn exchange<'a, A: Abort + Wait, D: TxDevice>(
     old.push(back).expect(rt, "memory");
 }
 
-/// One call of control: a resize, a deactivation and an activation, a change of the queue length, and an exchange in turn. It
+/// One call of control: a resize, a deactivation and an activation, a change of the queue length, and a swap in turn. It
 /// answers how many packets that dropped, where this is told.
 fn control_once<'a, A: Abort + Wait, D: TxDevice>(
     rt: &A,
@@ -103,7 +103,7 @@ fn control_once<'a, A: Abort + Wait, D: TxDevice>(
         2 => Some(tx_queue_len(rt, shared, cpu, len, event)),
         _ => {
             let next = fresh.pop().expect(rt, "a device");
-            exchange(rt, shared, cpu, old, next, event);
+            swap_device(rt, shared, cpu, old, next, event);
             None
         }
     }
@@ -382,7 +382,7 @@ fn control_beside_three_senders(rt: HostRuntime) {
     join_sender(&shared, &mut cpu, mid);
     join_sender(&shared, &mut cpu, high);
     let last = fresh.pop().expect(&rt, "a device");
-    exchange(&rt, &shared, &mut cpu, &mut old, last, ROUNDS);
+    swap_device(&rt, &shared, &mut cpu, &mut old, last, ROUNDS);
     wake(&rt, &shared, &mut cpu);
     let fates = fates(&rt, rt.alloc(), shared, cpu);
     let sent = check_fates(&rt, &fates, &old);

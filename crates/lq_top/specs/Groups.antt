@@ -17,7 +17,7 @@ use Rattle.lq_top.specs.Written.{FileText}
 -- WHAT THEY SENT
 
 -- the packets that each child of group j sent, in order of serial. A child is a station, whose unit has its number: no device of a
--- multi-queue root is exchanged.
+-- multi-queue root is swapped.
 abbrev pub sent_by_children : Plan → List Fate → ℕ → List (List ℕ)
 sent_by_children plan fates j = map (λ k. sent_of fates (first_at plan.groups j + k)) (first_numbers (mq_at plan.groups j))
 

@@ -11,8 +11,8 @@ use Rattle.lq_control.proofs.StepLemmas.{reopened}
 use Rattle.lq_control.proofs.Alone.{downed, downed_at, stepped_at, swap_alone}
 use Rattle.lq_control.proofs.swaps.swap.Goals as goal
 
-pub exchange_device-old-requires-clause-unit : goal.exchange_device-old-requires-clause-unit
-exchange_device-old-requires-clause-unit g c _ _ =
+pub swap_device-old-requires-clause-unit : goal.swap_device-old-requires-clause-unit
+swap_device-old-requires-clause-unit g c _ _ =
     let trail = c.wait_until_clear.ensures.served.trail ∙ c.deactivate.ensures.trail in let u = c.requires.unit in
     (u.0, record { first = u.1.first; later = λ n h. u.1.later n (subst (λ (es : List Event). Contains (units_of es) n) trail h) })
 
@@ -21,15 +21,15 @@ returns-clause-alone g c = λ plan params is_unit told h.
     let infos = c.args.shared.now.infos.now in let start = first_account (setup c.args.shared.now) in let v = solo (view c.args.cpu.now) in let unit = c.args.unit in let event = c.args.event in let device = (g.D.TxDevice.state c.args.device) in
     let down = downed_at (setup c.args.shared.now) event (view c.args.cpu.now) (view c.deactivate.new.cpu) (view c.wait_until_clear.new.cpu) c.deactivate.ensures.same.1.share c.requires.seat.2 h.sender.sole (c.deactivate.ensures.sole h.sender.sole) c.wait_until_clear.ensures.off in
     let is = ap solo c.end_control.ensures.view ∙ (ap solo c.clear_deactivated.ensures.view
-    ∙ (ap (heard Up) (c.exchange_device-old.ensures.sole (subst HasAll (sym down) h.sender.sole)) ∙ ap (λ (s : Solo). heard Up (locked_to false (device_to device (heard (Swap unit) (locked_to true s))))) down)) in
+    ∙ (ap (heard Up) (c.swap_device-old.ensures.sole (subst HasAll (sym down) h.sender.sole)) ∙ ap (λ (s : Solo). heard Up (locked_to false (device_to device (heard (Swap unit) (locked_to true s))))) down)) in
     stepped_at infos start (changed plan event (kind.Swap params)) v (heard Up (device_to device (heard (Swap unit) (downed event v)))) (solo (view c.end_control.new.cpu)) is (swap_alone infos start event unit device v plan params is_unit told h)
 
 pub returns-clause-swaps : goal.returns-clause-swaps
 returns-clause-swaps g c = (
   known c.wait_until_clear.new.cpu,
-  known c.exchange_device-old.new.cpu,
+  known c.swap_device-old.new.cpu,
   c.deactivate.result,
   (known c.deactivate.new.cpu, c.deactivate.ensures.deactivates, c.wait_until_clear.ensures.waits),
-  c.exchange_device-old.ensures.exchanges,
-  reopened (known c.exchange_device-old.new.cpu) (known c.clear_deactivated.new.cpu) (known c.end_control.new.cpu) c.clear_deactivated.ensures.view c.clear_deactivated.ensures.made c.end_control.ensures.view c.end_control.ensures.made,
+  c.swap_device-old.ensures.swaps,
+  reopened (known c.swap_device-old.new.cpu) (known c.clear_deactivated.new.cpu) (known c.end_control.new.cpu) c.clear_deactivated.ensures.view c.clear_deactivated.ensures.made c.end_control.ensures.view c.end_control.ensures.made,
 )

@@ -1,8 +1,8 @@
 use Rattle.std.proofs.Common.{arith}
 use Rattle.lq_table.specs.Sees.{view}
 use Rattle.lq_test_control.proofs.Firsts.{count_few, counted_after}
-use Rattle.lq_test_control.proofs.Only.{only_exchanged}
-use Rattle.lq_test_control.proofs.one_thread.exchange.Goals as goal
+use Rattle.lq_test_control.proofs.Only.{only_swapped}
+use Rattle.lq_test_control.proofs.one_thread.swap_device.Goals as goal
 
 pub swap-requires-clause-unit : goal.swap-requires-clause-unit
 swap-requires-clause-unit g c _ _ = (omega arith, counted_after c.args.shared.now.station 0 (view c.args.cpu.now).trail c.requires.only.station c.requires.none)
@@ -15,5 +15,5 @@ swap-requires-clause-device g c _ _ =
 
 pub returns : goal.returns
 returns g c = let s = c.swap.ensures in record {
-  only = only_exchanged c.args.shared.now c.args.cpu.now c.swap.new.cpu c.requires.only s.same.0 s.same.1 s.at.0 s.at.1 s.at.2;
+  only = only_swapped c.args.shared.now c.args.cpu.now c.swap.new.cpu c.requires.only s.same.0 s.same.1 s.at.0 s.at.1 s.at.2;
 }

@@ -3,8 +3,8 @@ use Rattle.std.proofs.lemmas.Grind.{common_steps}
 use Rattle.lq_model.specs.declared.fate.Info.{Info}
 use Rattle.lq_table.specs.Sees.{view}
 use Rattle.lq_control.specs.Control.{IsAfterUnits}
-use Rattle.lq_test_control.proofs.Firsts.{count_few, counted_after, first_exchanged}
-use Rattle.lq_test_control.proofs.threads.exchange.Goals as goal
+use Rattle.lq_test_control.proofs.Firsts.{count_few, counted_after, first_swapped}
+use Rattle.lq_test_control.proofs.threads.swap_device.Goals as goal
 
 pub swap-back-requires-clause-unit : goal.swap-back-requires-clause-unit
 swap-back-requires-clause-unit g c _ _ =
@@ -23,5 +23,5 @@ pub returns : goal.returns
 returns g c =
     let many : length c.args.old.now.items ≡ c.len-2.result = omega (arith, c.args.old.now.ok.0) in let s = c.swap-back.ensures in
     let grown : length c.push.new.self.items ≡ length c.args.old.now.items + 1 = grind (arith, common_steps, c.push.ensures.items, c.expect.ensures) in record {
-      first = first_exchanged c.args.shared.now c.args.cpu.now c.swap-back.new.cpu (length c.args.old.now.items) (c.len-2.result + 1) _ _ _ c.requires.first s.same.0 s.same.1 s.at.0 s.at.1 s.at.2 s.trail (omega arith) grown;
+      first = first_swapped c.args.shared.now c.args.cpu.now c.swap-back.new.cpu (length c.args.old.now.items) (c.len-2.result + 1) _ _ _ c.requires.first s.same.0 s.same.1 s.at.0 s.at.1 s.at.2 s.trail (omega arith) grown;
     }

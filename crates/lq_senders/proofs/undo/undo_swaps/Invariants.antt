@@ -1,6 +1,6 @@
 use Rattle.std.proofs.Common.{◌≡◌, ◌≤◌, length, map}
 use Rattle.lq_senders.specs.Units.{undone}
-use Rattle.lq_senders.proofs.undo.undo_exchanges.Given as goal
+use Rattle.lq_senders.proofs.undo.undo_swaps.Given as goal
 
 abbrev pub invariant-loop-e : goal.invariant-loop-e
 invariant-loop-e g l =

@@ -3,9 +3,9 @@ use Rattle.lq_account.specs.Trail.{down_of}
 use Rattle.lq_control.specs.Control.{IsIn}
 use Rattle.lq_model.specs.Account.{Down, Purge, Swap, Up}
 use Rattle.lq_model.specs.declared.fate.Cause.TheVariants as cause
-use Rattle.lq_seat.proofs.Steps.{exchanged-drained, made-is, one-unit-more}
-use Rattle.lq_seat.proofs.seat.Seat.exchange.Goals as goal
-use Rattle.lq_seat.specs.Calls.{Exchanges}
+use Rattle.lq_seat.proofs.Steps.{swapped-drained, made-is, one-unit-more}
+use Rattle.lq_seat.proofs.seat.Seat.swap.Goals as goal
+use Rattle.lq_seat.specs.Calls.{DoesSwap}
 use Rattle.lq_seat.specs.Rests.{AreUnitsSmall, phase_by}
 use Rattle.lq_seat.specs.State.{IsWellMade, SeatState, units_of}
 use Rattle.lq_control.proofs.CallLaws.{swaps_devices}
@@ -32,7 +32,7 @@ returns g c plan params is =
     let made = made-is sh cpu c.args.table.now c.args.self.now c.table.view_is c.self.view_is c.requires.here in
     let devices = swaps_devices (setup sh) event c.args.brought.unit (g.D.TxDevice.state c.args.device) (g.D.TxDevice.state c.swap-old.result) (known cpu) (known c.swap-old.new.cpu) c.self.invariant.ready.1
     (ap (λ (s : SeatState). s.first) c.self.view_is ∙ c.requires.may.first) e.swaps in
-    subst (λ (s : SeatState). Exchanges plan event params (g.D.TxDevice.state c.args.device) (g.D.TxDevice.state c.swap-old.result) s c.drain.new.self) c.self.view_is
-    (exchanged-drained sh cpu c.swap-old.new.cpu made plan event params (g.D.TxDevice.state c.args.device) (g.D.TxDevice.state c.swap-old.result) c.drain.new.self e.same.0 e.same.1
+    subst (λ (s : SeatState). DoesSwap plan event params (g.D.TxDevice.state c.args.device) (g.D.TxDevice.state c.swap-old.result) s c.drain.new.self) c.self.view_is
+    (swapped-drained sh cpu c.swap-old.new.cpu made plan event params (g.D.TxDevice.state c.args.device) (g.D.TxDevice.state c.swap-old.result) c.drain.new.self e.same.0 e.same.1
     (e.trail ∙ ap (λ u. Up ∷ Swap u ∷ Purge (cause.Event event) ∷ Down event ∷ old.trail) (sym is))
     devices (λ tells. e.alone plan params is tells) (c.args.brought.unit, e.swaps) c.drain.ensures)

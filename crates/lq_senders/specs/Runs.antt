@@ -1,0 +1,106 @@
+-- What the calls of a run say of its plan, its packets and its tables.
+use Rattle.std.specs.Prelude.{◌≡◌, ℕ, List, length, map}
+use Rattle.lq_model.specs.Alone.{RunningStation, finished, served, with_events, with_packet, with_wakes}
+use Rattle.lq_model.specs.Device.{DeviceState}
+use Rattle.lq_seat.specs.State.{SeatState}
+use Rattle.lq_senders.specs.Ends.{HaveFatesAlone}
+use Rattle.lq_senders.specs.Joins.{LaneJoined}
+use Rattle.lq_senders.specs.Lanes.{AllOwn, AreDoneLanes, AreReadyLanes, AreRunAlone, AreWoken, IsDoneLane, IsReadyLane, IsSending, IsWoken, LaneDone, LaneStands, after_sending}
+use Rattle.lq_senders.specs.Setup.{AreSplitting}
+use Rattle.lq_senders.specs.Units.{DevicesStand, DoTell}
+use Rattle.lq_senders.specs.Way.{numbers_from}
+use Rattle.lq_senders.specs.declared.sender.Progress.{Progress}
+use Rattle.lq_senders.specs.declared.sender.Run.{Run}
+use Rattle.lq_senders.specs.declared.sender.Sender.{Sender}
+
+module _ {D G : Type 0} where
+  -- SEATS
+
+  -- a sender's seats, where its packets below n were sent and the first so many events of the plan done
+  abbrev pub SeatsStand : Run D G → ℕ → ℕ → ℕ → List SeatState → Type 0
+  SeatsStand run sender count n seats = LaneStands run.plan.now run.infos.now sender count n run.tables.now seats
+
+  -- they stood where so many events are done, and stand where so many are, at whichever packet
+  abbrev pub SeatsGoOn : Run D G → ℕ → ℕ → ℕ → List SeatState → List SeatState → Type 0
+  SeatsGoOn run sender before after old new = (n : ℕ) → SeatsStand run sender before n old → SeatsStand run sender after n new
+
+  -- all of the plan's events were done, and all packets sent
+  abbrev pub SeatsDone : Run D G → ℕ → List SeatState → Type 0
+  SeatsDone run sender seats = LaneDone run.plan.now run.infos.now sender run.tables.now seats
+
+  -- each was woken once for each `irq_every` of the sender's packets
+  abbrev pub SeatsWoken : Run D G → ℕ → List SeatState → List SeatState → Type 0
+  SeatsWoken run sender old new = IsWoken run.plan.now run.infos.now sender old new
+
+  -- those of the senders from `next` on are still to be split off the first sender's
+  abbrev pub SeatsSplit : Run D G → ℕ → List SeatState → Type 0
+  SeatsSplit run next seats = AreSplitting run.plan.now run.infos.now next run.tables.now seats
+
+  -- so many lanes are still to be joined into the first sender's
+  abbrev pub SeatsJoined : Run D G → ℕ → List SeatState → Type 0
+  SeatsJoined run out seats = LaneJoined run.plan.now run.infos.now out run.tables.now seats
+
+  -- as the stations of the run of one sender they went from any to these
+  abbrev pub SeatsRunAs : Run D G → (List RunningStation → List RunningStation) → List SeatState → List SeatState → Type 0
+  SeatsRunAs run step old new = (stations : List RunningStation) → AreRunAlone run.plan.now run.infos.now old stations → AreRunAlone run.plan.now run.infos.now new (step stations)
+
+  -- they end with the fates of the run of one sender
+  abbrev pub SeatsEndAlone : Run D G → List SeatState → List SeatState → Type 0
+  SeatsEndAlone run old new = (from : List RunningStation) → AreRunAlone run.plan.now run.infos.now old from → HaveFatesAlone new (map (finished run.infos.now) from)
+
+  -- THE FIRST SENDER, WITH ITS DEVICES
+
+  -- its stations have the devices that they have after so many events, and the others are its spare ones
+  abbrev pub HasDevices : (D → DeviceState) → Run D G → List DeviceState → ℕ → Sender D → Type 0
+  HasDevices state run units count sender = DevicesStand run.plan.now run.infos.now units count sender.seats.items (map state sender.spares.items)
+
+  abbrev pub DevicesGoOn : (D → DeviceState) → Run D G → ℕ → ℕ → Sender D → Sender D → Type 0
+  DevicesGoOn state run before after old new = (units : List DeviceState) → HasDevices state run units before old → HasDevices state run units after new
+
+  -- where the devices that swaps bring tell, its seats are the stations of the run of one sender
+  abbrev pub RunsAs : (D → DeviceState) → Run D G → ℕ → (List RunningStation → List RunningStation) → Sender D → Sender D → Type 0
+  RunsAs state run count step old new = (units : List DeviceState) → HasDevices state run units count old → DoTell run.plan.now units → SeatsRunAs run step old.seats.items new.seats.items
+
+  -- where all packets are its own, too, over the whole run
+  abbrev pub SendsAllAlone : (D → DeviceState) → Run D G → Sender D → Sender D → Type 0
+  SendsAllAlone state run old new = (units : List DeviceState) → HasDevices state run units 0 old → DoTell run.plan.now units → AllOwn run.infos.now
+      → SeatsRunAs run (after_sending run.plan.now run.infos.now) old.seats.items new.seats.items
+
+  -- THE RUN OF ONE SENDER
+
+  -- so many events of the plan, from this one on
+  abbrev pub events_on : Run D G → ℕ → ℕ → List RunningStation → List RunningStation
+  events_on run next count stations = with_events run.plan.now run.infos.now (numbers_from next count) stations
+
+  -- queues are woken after the sender's packet k, where the plan wakes them there, and soft interrupts done
+  abbrev pub turn_ended : Run D G → ℕ → List RunningStation → List RunningStation
+  turn_ended run k stations = map (served run.infos.now) (with_wakes run.plan.now k stations)
+
+  -- so many events, then packet n, which is the sender's packet k
+  abbrev pub packet_brought : Run D G → ℕ → ℕ → ℕ → ℕ → List RunningStation → List RunningStation
+  packet_brought run next count k n stations = turn_ended run k (with_packet run.plan.now run.infos.now n (events_on run next count stations))
+
+  -- A SENDER ON ITS WAY
+
+  -- so far it is before packet n, from these seats and spare devices on
+  abbrev pub ComesTo : (D → DeviceState) → Run D G → ℕ → ℕ → Progress → List SeatState → List DeviceState → Sender D → Type 0
+  ComesTo state run owner n at start brought sender =
+      IsSending run.plan.now run.infos.now run.tables.now owner n at.sent at.next start brought sender.seats.items (map state sender.spares.items)
+
+  -- THE OTHER SENDERS
+
+  -- the lane at this place among theirs, before the run and after it
+  abbrev pub LaneIsReady : Run D G → ℕ → Sender D → Type 0
+  LaneIsReady run place sender = IsReadyLane run.plan.now run.infos.now run.tables.now place sender.owner sender.seats.items
+
+  abbrev pub LaneIsDone : Run D G → ℕ → Sender D → Type 0
+  LaneIsDone run place sender = IsDoneLane run.plan.now run.infos.now run.tables.now place sender.owner sender.seats.items
+
+  abbrev pub LanesAreReady : Run D G → List (Sender D) → Type 0
+  LanesAreReady run lanes = AreReadyLanes run.plan.now run.infos.now run.tables.now lanes
+
+  abbrev pub LanesAreDone : Run D G → List (Sender D) → Type 0
+  LanesAreDone run lanes = AreDoneLanes run.plan.now run.infos.now run.tables.now lanes
+
+  abbrev pub LanesWoken : Run D G → List (Sender D) → List (Sender D) → Type 0
+  LanesWoken run old new = AreWoken run.plan.now run.infos.now old new
