@@ -1,13 +1,14 @@
 -- What control's calls leave of a station with one sender.
-use Rattle.std.proofs.Common.{◌≡◌, ℕ, zero, suc, Bool, true, false, not, [], ◌∷◌, ◌++◌, List, Option, IsSome, map, drop, take, option_to_list, refl, sym, ap, ap₂, ◌∙◌, subst, arith, inl, ◌<◌, ◌≤◌}
+use Rattle.std.proofs.Common.{◌≡◌, ℕ, zero, suc, Bool, true, false, not, [], ◌∷◌, ◌++◌, List, Option, Some, IsSome, map, drop, take, option_to_list, refl, sym, ap, ap₂, ◌∙◌, subst, arith, inl, ◌<◌, ◌≤◌}
 use Rattle.std.specs.Prelude.{is_some, slice_index}
 use Rattle.std.proofs.lemmas.Bool.{true≢false}
 use Rattle.std.proofs.lemmas.List.{length-map}
 use Rattle.lq_account.proofs.Purges.{purge_empties}
 use Rattle.lq_model.specs.Account.{Account, Event, Down, Purge, Resize, Swap, Up, after, held, held_in}
-use Rattle.lq_model.specs.Alone.{RunningStation, changed}
+use Rattle.lq_model.specs.Alone.{RunningStation, changed, new_device}
 use Rattle.lq_model.specs.Device.{DeviceState, Telling}
-use Rattle.lq_model.specs.Plan.{Plan}
+use Rattle.lq_model.specs.Plan.{Plan, unit_of_swap}
+use Rattle.lq_model.specs.declared.device.Params.{Params}
 use Rattle.lq_model.specs.declared.fate.Cause.TheVariants as cause
 use Rattle.lq_model.specs.declared.fate.Info.{Info}
 use Rattle.lq_model.specs.declared.plan.EventKind.TheVariants as kind
@@ -19,7 +20,7 @@ use Rattle.lq_qdisc.proofs.ViewRelations.{Interrupts}
 use Rattle.lq_qdisc.specs.Alone.{HasAll, IsAlone, account_in, running, telling_of}
 use Rattle.lq_qdisc.proofs.AloneCalls.{entering_solo}
 use Rattle.lq_qdisc.proofs.AloneSteps.{account_at}
-use Rattle.lq_control.specs.Alone.{DoesSwapAlone, unmarked}
+use Rattle.lq_control.specs.Alone.{unmarked}
 use Rattle.lq_control.specs.Control.{deactivated_solo}
 
 -- it is alone, and its station is just as after a step
@@ -165,7 +166,8 @@ relength_alone infos start len event plan v h =
 
 -- SWAPS
 
-pub swap_alone : (infos : List Info) (start : Account) (event unit : ℕ) (device : DeviceState) (v : Solo) → DoesSwapAlone infos start event unit device v (heard Up (device_to device (heard (Swap unit) (downed event v))))
+pub swap_alone : (infos : List Info) (start : Account) (event unit : ℕ) (device : DeviceState) (v : Solo) → (plan : Plan) (params : Params) → unit_of_swap plan event ≡ unit → device.told ≡ Some (new_device params)
+    → IsAlone infos start v → IsStepped infos start (changed plan event (kind.Swap params)) v (heard Up (device_to device (heard (Swap unit) (downed event v))))
 swap_alone infos start event unit device v plan params is_unit told h = (
   record {
     sender = record {

@@ -4,7 +4,8 @@ use Rattle.lq_model.specs.Account.{Account, Purge, is_hung}
 use Rattle.lq_model.specs.Alone.{RunningStation, finished}
 use Rattle.lq_model.specs.declared.fate.Cause.TheVariants as cause
 use Rattle.lq_model.specs.declared.fate.Info.{Info}
-use Rattle.lq_table.specs.Solo.{Solo, heard, locked_to, missed_to, draining_to}
+use Rattle.lq_table.specs.Views.{View, Setup, first_account}
+use Rattle.lq_table.specs.Solo.{Solo, solo, heard, locked_to, missed_to, draining_to}
 use Rattle.lq_qdisc.specs.Alone.{IsAlone, account_in, running}
 
 -- Wakes and soft interrupts go on towards the same end.
@@ -12,6 +13,10 @@ pub record IsEndedAlike (infos : List Info) (start : Account) (old now : Solo) :
   pub alone : IsAlone infos start now
   pub down : (account_in start now).down ≡ (account_in start old).down
   pub ends : finished infos (running start now) ≡ finished infos (running start old)
+
+-- those of a seat that has the table alone do
+abbrev pub EndsAlike : Setup → View → View → Type 0
+EndsAlike k old new = IsAlone k.infos (first_account k) (solo old) → IsEndedAlike k.infos (first_account k) (solo old) (solo new)
 
 -- what it held was purged as hung by this unit, and MISSED and DRAINING are clear
 abbrev pub purged_as_hung : ℕ → Solo → Solo
@@ -28,5 +33,5 @@ pub record IsFinishedAlone (infos : List Info) (start : Account) (old new : Solo
   pub fates : (account_in start new).fates ≡ (finished infos (running start old)).account.fates
   pub active : (account_in start old).down ≡ None → running start new ≡ cleared_if_hung (finished infos (running start old))
 
-abbrev pub FinishesAlone : List Info → Account → Solo → Solo → Type 0
-FinishesAlone infos start old new = IsAlone infos start old → IsFinishedAlone infos start old new
+abbrev pub FinishesAlone : Setup → View → View → Type 0
+FinishesAlone k old new = IsAlone k.infos (first_account k) (solo old) → IsFinishedAlone k.infos (first_account k) (solo old) (solo new)

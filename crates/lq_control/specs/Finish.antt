@@ -84,9 +84,12 @@ IsLook v w = (p : Phase) × (w ≡ record v { whole = record v.whole { qdisc = r
 abbrev pub IsActiveOrPurged : View → Type 0
 IsActiveOrPurged v = IsIn Active v ⊎ IsIn Purged v
 
--- each queue has this stop value
+-- each of the first so many queues has this stop value, and each of all
+abbrev pub AreStopsBelow : ℕ → ℕ → View → Type 0
+AreStopsBelow queues word v = (queue : ℕ) → queue < queues → slice_index (account_of v).stops queue ≡ word
+
 abbrev pub AreAllStops : ℕ → View → Type 0
-AreAllStops word v = (queue : ℕ) → queue < v.share.about.queues → slice_index (account_of v).stops queue ≡ word
+AreAllStops word v = AreStopsBelow v.share.about.queues word v
 
 -- nothing is held, and the station is deactivated, or all its queues are open
 pub record IsOver (v : View) : Type 0 where

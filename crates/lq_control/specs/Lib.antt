@@ -2,6 +2,8 @@
 pub mod Plain
 -- what the calls of control leave
 pub mod Control
+-- what they ask of a seat, and what they leave of it
+pub mod Seats
 -- what is left of a station, and its end
 pub mod Finish
 -- what they do of a seat that has the table alone

@@ -2,14 +2,14 @@
 ghost use Rattle.std.specs.Prelude.{◌≡◌, true, false, IsSome};
 ghost use Rattle.lq_model.specs.Alone.{served};
 ghost use Rattle.lq_model.specs.declared.machine.Position.TheVariants.{Idle, Control};
-ghost use Rattle.lq_table.specs.Views.{first_account};
 ghost use Rattle.lq_table.specs.Sees.{view, known, setup, position, IsSeatOf, IsSameSeat, IsElseSame};
 ghost use Rattle.lq_table.specs.Solo.{IsSole, account_of, solo};
 ghost use Rattle.lq_qdisc.specs.Alone.{Does};
 ghost use Rattle.lq_qdisc.specs.Sends.{IsReadyToSend};
-ghost use Rattle.lq_control.specs.Control.{IsServed};
-ghost use Rattle.lq_control.specs.Alone.{unmarked};
+ghost use Rattle.lq_control.specs.Control.{IsServed, OwesNoInterrupt};
+ghost use Rattle.lq_control.specs.Alone.{unmarked, ServesAlone, ChangesOnlyMarks};
 ghost use Rattle.lq_control.specs.Steps.{DrainsBy, FindsClear, Rounds, WaitsUntilClear};
+ghost use Rattle.lq_control.specs.Seats.{IsFirstReadyAt};
 
 use crossbeam_utils::Backoff;
 use lq_device::TxDevice;
@@ -27,7 +27,7 @@ pub fn drain<'a, D: TxDevice, R: Wait>(rt: &R, shared: &Shared<'a, D>, cpu: &mut
     ensures served { IsServed (view cpu.old) (view cpu.new) }
     ensures at { (position cpu.new ≡ Idle) × IsReadyToSend cpu.new }
     ensures drains { DrainsBy (setup shared.now) (known cpu.old) (known cpu.new) }
-    ensures alone { Does shared.now.infos.now (first_account (setup shared.now)) (served shared.now.infos.now) (solo (view cpu.old)) (solo (view cpu.new)) }
+    ensures alone { ServesAlone (setup shared.now) (view cpu.old) (view cpu.new) }
 {
     for _ in rt.forever() {
         if !cpu.raised() {
@@ -53,12 +53,12 @@ fn is_clear<'a, D: TxDevice>(shared: &Shared<'a, D>, cpu: &mut Cpu<D>) -> bool
 /// Does the soft interrupt of a raised seat; or else tells whether the run lock is free and SCHED is clear.
 fn serves_or_is_clear<'a, D: TxDevice>(shared: &Shared<'a, D>, cpu: &mut Cpu<D>) -> bool
     requires seat { IsSeatOf shared.now cpu.old }
-    requires at { (position cpu.old ≡ Control false) × ((view cpu.old).control.first ≡ true) × IsReadyToSend cpu.old }
+    requires at { IsFirstReadyAt (Control false) cpu.old }
     ensures same { IsSameSeat cpu.old cpu.new }
     ensures served { IsServed (view cpu.old) (view cpu.new) }
     ensures at { (position cpu.new ≡ Control false) × IsReadyToSend cpu.new }
-    ensures clear { result ≡ true → ((view cpu.new).place.raised ≡ false) × (IsSole (view cpu.new) → (view cpu.new).whole.qdisc.sched ≡ false) }
-    ensures off { IsSole (view cpu.old) → IsSome (account_of (view cpu.old)).down → unmarked (solo (view cpu.new)) ≡ unmarked (solo (view cpu.old)) }
+    ensures clear { result ≡ true → OwesNoInterrupt (view cpu.new) }
+    ensures off { ChangesOnlyMarks (view cpu.old) (view cpu.new) }
     ensures found { result ≡ true → FindsClear (known cpu.old) (known cpu.new) }
     ensures again { result ≡ false → Rounds (setup shared.now) (known cpu.old) (known cpu.new) }
 {
@@ -78,7 +78,7 @@ pub(crate) fn wait_until_clear<'a, D: TxDevice, R: Wait>(
     cpu: &mut Cpu<D>,
 )
     requires seat { IsSeatOf shared.now cpu.old }
-    requires at { (position cpu.old ≡ Control false) × ((view cpu.old).control.first ≡ true) × IsReadyToSend cpu.old }
+    requires at { IsFirstReadyAt (Control false) cpu.old }
     ensures same { IsSameSeat cpu.old cpu.new }
     ensures served { IsServed (view cpu.old) (view cpu.new) }
     ensures at { (position cpu.new ≡ Control false) × IsReadyToSend cpu.new }

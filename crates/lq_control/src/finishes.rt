@@ -1,17 +1,16 @@
 //! The end of a station, once all its seats are joined.
-ghost use Rattle.std.specs.Prelude.{◌≡◌, ℕ, ◌<◌, true, false, None, length, slice_index, ◌+◌, if◌then◌else◌};
+ghost use Rattle.std.specs.Prelude.{◌≡◌, ◌<◌, true, false, None, length, ◌+◌, if◌then◌else◌};
 ghost use Rattle.lq_model.specs.declared.machine.Phase.TheVariants.{Active};
 ghost use Rattle.lq_model.specs.declared.machine.Position.TheVariants.{Idle, Control};
 ghost use Rattle.lq_table.specs.Sees.{view, known, setup, position, IsSeatOf, IsSameSeat, IsElseSame};
-ghost use Rattle.lq_table.specs.Solo.{IsSole, account_of, solo};
-ghost use Rattle.lq_table.specs.Views.{first_account};
-ghost use Rattle.lq_qdisc.specs.Alone.{IsAlone};
+ghost use Rattle.lq_table.specs.Solo.{IsSole};
 ghost use Rattle.lq_qdisc.specs.Sends.{IsCallKept, IsReadyToSend};
 ghost use Rattle.lq_control.specs.declared.finishes.Seen.TheVariants.{Hung, Ended};
 ghost use Rattle.lq_control.specs.Control.{IsIn};
-ghost use Rattle.lq_control.specs.Ending.{FinishesAlone, IsEndedAlike};
+ghost use Rattle.lq_control.specs.Ending.{FinishesAlone, EndsAlike};
 ghost use Rattle.lq_control.specs.EndSteps.{FindsBusy, FinishesBy, LoadsStops, LooksBy, PurgesHungBy, SendsAllLeft, SendsIfLeft, ServesToEnd, WaitsUntilLeft, are_quiet as quiet};
-ghost use Rattle.lq_control.specs.Finish.{AreFor, AreTurnsFrom, AreAllDone, AreKept, IsSent, IsLook, IsActiveOrPurged, Shows, Hangs, IsFinished};
+ghost use Rattle.lq_control.specs.Finish.{AreFor, AreTurnsFrom, AreAllDone, AreKept, IsSent, IsLook, IsActiveOrPurged, Shows, Hangs, IsFinished, AreStopsBelow};
+ghost use Rattle.lq_control.specs.Seats.{IsFirstReadyAt, IsReadyAt};
 
 use crate::drains::drain;
 use crate::purges::purge_held;
@@ -83,7 +82,8 @@ fn are_stops<'a, D: TxDevice>(shared: &Shared<'a, D>, cpu: &mut Cpu<D>, word: u6
     requires seat { IsSeatOf shared.now cpu.old }
     requires at { position cpu.old ≡ Control false }
     ensures same { IsElseSame cpu.old cpu.new × (view cpu.new ≡ view cpu.old) }
-    ensures sole { IsSole (view cpu.old) → (view cpu.old).whole.state.shut ≡ None → result ≡ true → (queue : ℕ) → queue < shared.now.queues → slice_index (account_of (view cpu.old)).stops queue ≡ word }
+    ensures sole { IsSole (view cpu.old) → (view cpu.old).whole.state.shut ≡ None → result ≡ true
+        → AreStopsBelow shared.now.queues word (view cpu.old) }
     ensures loads { LoadsStops (setup shared.now) word result (known cpu.old) (known cpu.new) }
 {
     for queue in 0..shared.queues() {
@@ -106,7 +106,7 @@ fn are_quiet(opened: bool, lock: u64, state: u64) -> bool
 /// open.
 fn look<'a, D: TxDevice>(shared: &Shared<'a, D>, cpu: &mut Cpu<D>) -> Seen
     requires seat { IsSeatOf shared.now cpu.old }
-    requires at { (position cpu.old ≡ Control false) × ((view cpu.old).control.first ≡ true) × IsReadyToSend cpu.old }
+    requires at { IsFirstReadyAt (Control false) cpu.old }
     requires sole { IsSole (view cpu.old) × IsActiveOrPurged (view cpu.old) }
     ensures same { IsElseSame cpu.old cpu.new × IsLook (view cpu.old) (view cpu.new) }
     ensures kept { AreKept (setup shared.now) (view cpu.new) }
@@ -135,14 +135,13 @@ fn look<'a, D: TxDevice>(shared: &Shared<'a, D>, cpu: &mut Cpu<D>) -> Seen
 /// its queues and does soft interrupts. True where it is hung. The seat is in a call of control afterwards.
 fn serve_to_end<'a, D: TxDevice, R: Wait>(rt: &R, shared: &Shared<'a, D>, cpu: &mut Cpu<D>) -> bool
     requires seat { IsSeatOf shared.now cpu.old }
-    requires at { (position cpu.old ≡ Idle) × ((view cpu.old).control.first ≡ true) × ((view cpu.old).place.raised ≡ false) × IsReadyToSend cpu.old }
+    requires at { IsFirstReadyAt Idle cpu.old × ((view cpu.old).place.raised ≡ false) }
     requires sole { IsSole (view cpu.old) × IsActiveOrPurged (view cpu.old) }
     ensures same { IsSameSeat cpu.old cpu.new }
     ensures at { (position cpu.new ≡ Control false) × IsReadyToSend cpu.new × ((view cpu.new).place.raised ≡ false) }
     ensures kept { AreKept (setup shared.now) (view cpu.new) }
     ensures shows { Shows (if result then Hung else Ended) (view cpu.new) }
-    ensures alone { IsAlone shared.now.infos.now (first_account (setup shared.now)) (solo (view cpu.old))
-        → IsEndedAlike shared.now.infos.now (first_account (setup shared.now)) (solo (view cpu.old)) (solo (view cpu.new)) }
+    ensures alone { EndsAlike (setup shared.now) (view cpu.old) (view cpu.new) }
     ensures serves { ServesToEnd (setup shared.now) (if result then Hung else Ended) (known cpu.old) (known cpu.new) }
 {
     let backoff = Backoff::new();
@@ -194,11 +193,11 @@ fn wait_until_left<'a, D: TxDevice, R: Wait>(rt: &R, shared: &Shared<'a, D>, cpu
 /// fate, by the hung unit. It answers their number.
 fn purge_hung<'a, D: TxDevice, R: Wait>(rt: &R, shared: &Shared<'a, D>, cpu: &mut Cpu<D>) -> u32
     requires seat { IsSeatOf shared.now cpu.old }
-    requires at { (position cpu.old ≡ Control false) × ((view cpu.old).control.first ≡ true) × IsReadyToSend cpu.old }
+    requires at { IsFirstReadyAt (Control false) cpu.old }
     requires sole { IsSole (view cpu.old) }
     requires hung { Hangs (view cpu.old) }
     ensures kept { IsCallKept cpu.old cpu.new }
-    ensures at { (position cpu.new ≡ Idle) × IsReadyToSend cpu.new × IsIn Active (view cpu.new) }
+    ensures at { IsReadyAt Idle Active cpu.new }
     ensures raised { (view cpu.new).place.raised ≡ (view cpu.old).place.raised }
     ensures purges { PurgesHungBy (setup shared.now) result (known cpu.old) (known cpu.new) }
 {
@@ -220,15 +219,14 @@ fn purge_hung<'a, D: TxDevice, R: Wait>(rt: &R, shared: &Shared<'a, D>, cpu: &mu
 /// of the station has a fate. Where no packet is left this is the end of the run of one sender.
 pub fn finish<'a, D: TxDevice, R: Wait>(rt: &R, shared: &Shared<'a, D>, cpu: &mut Cpu<D>) -> u32
     requires seat { IsSeatOf shared.now cpu.old }
-    requires at { (position cpu.old ≡ Idle) × ((view cpu.old).control.first ≡ true) × ((view cpu.old).place.raised ≡ false) × IsReadyToSend cpu.old }
+    requires at { IsFirstReadyAt Idle cpu.old × ((view cpu.old).place.raised ≡ false) }
     requires sole { IsSole (view cpu.old) × IsActiveOrPurged (view cpu.old) }
     requires made { AreFor (setup shared.now) (view cpu.old) }
     requires turns { AreTurnsFrom (setup shared.now) 0 (view cpu.old).turns }
     ensures kept { IsCallKept cpu.old cpu.new }
     ensures at { (position cpu.new ≡ Idle) × ((view cpu.new).place.raised ≡ false) × IsReadyToSend cpu.new }
     ensures finished { IsFinished (setup shared.now) (view cpu.new) }
-    ensures alone { AreAllDone (setup shared.now) (view cpu.old).turns
-        → FinishesAlone shared.now.infos.now (first_account (setup shared.now)) (solo (view cpu.old)) (solo (view cpu.new)) }
+    ensures alone { AreAllDone (setup shared.now) (view cpu.old).turns → FinishesAlone (setup shared.now) (view cpu.old) (view cpu.new) }
     ensures finishes { FinishesBy (setup shared.now) result (known cpu.old) (known cpu.new) }
 {
     send_all_left(rt, shared, cpu);

@@ -1,13 +1,12 @@
 //! What the relations of control's calls say of events, fates and devices, for every seat.
-ghost use Rattle.std.specs.Prelude.{◌≡◌, ℕ, [], ◌∷◌, true, false};
+ghost use Rattle.std.specs.Prelude.{◌≡◌, ℕ, [], ◌∷◌, true};
 ghost use Rattle.lq_model.specs.Account.{Down, Purge, Resize, Swap, Up};
 ghost use Rattle.lq_model.specs.Device.{DeviceState};
 ghost use Rattle.lq_model.specs.declared.fate.Cause.TheVariants as cause;
 ghost use Rattle.lq_table.specs.Made.{Known};
-ghost use Rattle.lq_table.specs.Solo.{IsSole};
 ghost use Rattle.lq_table.specs.Views.{Setup, no_packets};
 ghost use Rattle.lq_control.specs.Comes.{ComesToEnd, SwapsFor, LeavesPurged, Shrinks};
-ghost use Rattle.lq_control.specs.Control.{KeepsDevice};
+ghost use Rattle.lq_control.specs.Control.{KeepsDevice, OwesNoInterrupt};
 ghost use Rattle.lq_control.specs.EndSteps.{FinishesBy};
 ghost use Rattle.lq_control.specs.Steps.{ChangesLength, Downs, ResizesLive, Swaps};
 
@@ -18,24 +17,29 @@ pub fn deactivations_purge_all()
     ensures down { (k : Setup) (event count : ℕ) (old new : Known) → old.view.packets ≡ no_packets → Downs k event count old new
         → LeavesPurged (Purge (cause.Event event) ∷ Down event ∷ []) event count old.view new.view × KeepsDevice old.view new.view }
     ensures clear { (k : Setup) (event count : ℕ) (old new : Known) → Downs k event count old new
-        → (new.view.place.raised ≡ false) × (IsSole new.view → new.view.whole.qdisc.sched ≡ false) }
-    ensures length { (k : Setup) (event len count : ℕ) (old new : Known) → old.view.packets ≡ no_packets → ChangesLength k event len count old new
-        → LeavesPurged (Up ∷ Resize len event ∷ Purge (cause.Event event) ∷ Down event ∷ []) event count old.view new.view × KeepsDevice old.view new.view }
-    ensures swap { (k : Setup) (event unit : ℕ) (came went : DeviceState) (old new : Known) → old.view.packets ≡ no_packets → Swaps k event unit came went old new
+        → OwesNoInterrupt new.view }
+    ensures length { (k : Setup) (event len count : ℕ) (old new : Known) → old.view.packets ≡ no_packets
+        → ChangesLength k event len count old new
+        → LeavesPurged (Up ∷ Resize len event ∷ Purge (cause.Event event) ∷ Down event ∷ []) event count old.view new.view
+        × KeepsDevice old.view new.view }
+    ensures swap { (k : Setup) (event unit : ℕ) (came went : DeviceState) (old new : Known) → old.view.packets ≡ no_packets
+        → Swaps k event unit came went old new
         → (count : ℕ) × LeavesPurged (Up ∷ Swap unit ∷ Purge (cause.Event event) ∷ Down event ∷ []) event count old.view new.view }
 {}
 
 /// After a swap the new device is the one that came; the old one is that of the station's latest unit, what it has accepted is
 /// kept, and it has served the station since it came.
 pub fn a_swap_hands_the_old_device_back()
-    ensures { (k : Setup) (event unit : ℕ) (came went : DeviceState) (old new : Known) → old.view.packets ≡ no_packets → old.view.control.first ≡ true
+    ensures { (k : Setup) (event unit : ℕ) (came went : DeviceState) (old new : Known)
+        → old.view.packets ≡ no_packets → old.view.control.first ≡ true
         → Swaps k event unit came went old new → SwapsFor came went old.view new.view }
 {}
 
 /// A live resize stores Shrunk, by the plan's event, of so many packets as are counted: of a seat that has the table alone those
 /// that its account drops.
 pub fn a_resize_drops_the_last()
-    ensures { (k : Setup) (event len count : ℕ) (old new : Known) → ResizesLive k event len count old new → Shrinks len event count old.view new.view }
+    ensures { (k : Setup) (event len count : ℕ) (old new : Known) → ResizesLive k event len count old new
+        → Shrinks len event count old.view new.view }
 {}
 
 /// At its end a station's packets were all transmitted, and fates that were stored stay so. Each purge of a hung station on the trail

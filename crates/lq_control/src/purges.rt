@@ -1,24 +1,17 @@
 //! A purge: `qdisc_reset` of net/sched/sch_generic.c, with `pfifo_fast_reset`, by control that has the run lock.
-ghost use Rattle.std.specs.Prelude.{◌≡◌, ℕ, ◌+◌, ◌<◌, true, Some, None, Option, IfSome, length};
-ghost use Rattle.std.specs.Option.{option_map, option_to_list};
+ghost use Rattle.std.specs.Prelude.{◌≡◌, ℕ, ◌+◌, ◌<◌, Some, Option};
 ghost use Rattle.lq_account.specs.Trail.{down_of};
-ghost use Rattle.lq_model.specs.Band.{Band};
-ghost use Rattle.lq_model.specs.Control.{is_quiet};
 ghost use Rattle.lq_model.specs.declared.fate.Cause.TheVariants as cause_of;
 ghost use Rattle.lq_model.specs.declared.fate.Fate.TheVariants as fate;
-ghost use Rattle.lq_model.specs.declared.machine.Position.TheVariants.{Control};
-ghost use Rattle.lq_band.specs.Three.{Three as Of};
-ghost use Rattle.lq_table.specs.Views.{Left, no_packets};
-ghost use Rattle.lq_table.specs.Purges.{first_purge, HoldsAtMost, HoldPackets, AreKnown};
-ghost use Rattle.lq_table.specs.Rule.{shown, IsResting};
-ghost use Rattle.lq_table.specs.Sees.{view, known, setup, position, slot, IsSeatOf, IsSameSeat};
+ghost use Rattle.lq_table.specs.Views.{no_packets};
+ghost use Rattle.lq_table.specs.Sees.{view, known, setup, slot, IsSeatOf, IsSameSeat};
 ghost use Rattle.lq_control.specs.Steps.{PurgesBy, PurgesHeld, PurgesSlot};
 ghost use Rattle.lq_table.specs.Told.{IsKnownSlot};
 ghost use Rattle.lq_run.specs.Runs.{Rests};
 ghost use Rattle.lq_ring.specs.Put.{no_locks};
 ghost use Rattle.lq_ring.specs.Take.{CarriesStation};
-ghost use Rattle.lq_ring.specs.Fates.{fates_onto};
-ghost use Rattle.lq_control.specs.Control.{all_purged, IsPurgeDone, IsPurged};
+ghost use Rattle.lq_control.specs.Control.{OwesPurged, IsSlotPurged, AllArePurged, IsPurgedByDown};
+ghost use Rattle.lq_control.specs.Seats.{MayBeginPurge, HasBegunPurge, HasSlotToPurge, HasBandsToPurge, HasRingsAtRest};
 
 use lq_device::TxDevice;
 use lq_model::{Cause, Fate};
@@ -29,12 +22,12 @@ use lq_table::{Cpu, Shared};
 /// answers their number.
 fn purge_slot<'a, D: TxDevice>(shared: &Shared<'a, D>, cpu: &mut Cpu<D>, cause: Cause) -> u32
     requires seat { IsSeatOf shared.now cpu.old }
-    requires slot { (s : Option ℕ) × (cpu.old.station ≡ Some (shown (record (view cpu.old).holder { slot = s }))) × ((view cpu.old).packets.owed ≡ option_map (λ n. (n, fate.Purged cause)) s) × ((view cpu.old).holder.slot ≡ None) × IfSome s (λ n. n < length shared.now.infos.now) }
+    requires slot { HasSlotToPurge shared.now cause cpu.old }
     ensures same { IsSameSeat cpu.old cpu.new × (slot cpu.new ≡ slot cpu.old) }
-    ensures purged { (s : Option ℕ) → (view cpu.old).packets.owed ≡ option_map (λ n. (n, fate.Purged cause)) s → (view cpu.new ≡ record (view cpu.old) { packets = record (view cpu.old).packets { owed = None }; settled = fates_onto (fate.Purged cause) (option_to_list s) (view cpu.old).settled })
-        × (result ≡ length (option_to_list s)) }
+    ensures purged { IsSlotPurged cause result (view cpu.old) (view cpu.new) }
     ensures station { CarriesStation cpu.new }
-    ensures purges { (s : Option ℕ) → (view cpu.old).packets.owed ≡ option_map (λ n. (n, fate.Purged cause)) s → PurgesSlot (setup shared.now) (fate.Purged cause) s (known cpu.old) (known cpu.new) }
+    ensures purges { (s : Option ℕ) → OwesPurged cause s (view cpu.old)
+        → PurgesSlot (setup shared.now) (fate.Purged cause) s (known cpu.old) (known cpu.new) }
 {
     let Some(station) = &mut cpu.station else {
         unreachable!()
@@ -53,14 +46,15 @@ pub(crate) fn purge_held<'a, D: TxDevice>(
     cause: Cause,
 ) -> u32
     requires seat { IsSeatOf shared.now cpu.old }
-    requires at { (position cpu.old ≡ Control true) × ((view cpu.old).control.purge ≡ Some first_purge) × ((view cpu.old).packets.fresh ≡ None) }
-    requires slot { (s : Option ℕ) × (cpu.old.station ≡ Some (shown (record (view cpu.old).holder { slot = s }))) × ((view cpu.old).packets.owed ≡ option_map (λ n. (n, fate.Purged cause)) s) × ((view cpu.old).holder.slot ≡ None) × IfSome s (λ n. n < length shared.now.infos.now) }
-    requires bands { (l : Left) × ((view cpu.old).holder.left ≡ Some l) × (l.cause ≡ cause) × HoldsAtMost (view cpu.old).holder.size l.bands × HoldPackets shared.now.infos.now l.bands }
-    requires rests { IsResting (view cpu.old).holder.size (view cpu.old).holder.ends × ((view cpu.old).holder.resizing ≡ None) × ((view cpu.old).locks ≡ no_locks) }
+    requires at { HasBegunPurge cpu.old }
+    requires slot { HasSlotToPurge shared.now cause cpu.old }
+    requires bands { HasBandsToPurge shared.now cause cpu.old }
+    requires rests { HasRingsAtRest cpu.old }
     ensures same { IsSameSeat cpu.old cpu.new × (slot cpu.new ≡ slot cpu.old) }
-    ensures emptied { (s : Option ℕ) (l : Left) → (view cpu.old).packets.owed ≡ option_map (λ n. (n, fate.Purged cause)) s → (view cpu.old).holder.left ≡ Some l → IsPurgeDone cause (all_purged s l.bands) (view cpu.old) (view cpu.new) × (result ≡ length (all_purged s l.bands)) }
+    ensures emptied { AllArePurged cause result (view cpu.old) (view cpu.new) }
     ensures station { CarriesStation cpu.new }
-    ensures purges { (s : Option ℕ) → (view cpu.old).packets.owed ≡ option_map (λ n. (n, fate.Purged cause)) s → PurgesHeld (setup shared.now) cause s result (known cpu.old) (known cpu.new) }
+    ensures purges { (s : Option ℕ) → OwesPurged cause s (view cpu.old)
+        → PurgesHeld (setup shared.now) cause s result (known cpu.old) (known cpu.new) }
 {
     let slot = purge_slot(shared, cpu, cause);
     let low = purge_band(shared, cpu, 0, cause);
@@ -75,15 +69,15 @@ pub(crate) fn purge_held<'a, D: TxDevice>(
 /// deactivated it. It answers their number.
 pub(crate) fn purge_all<'a, D: TxDevice>(shared: &Shared<'a, D>, cpu: &mut Cpu<D>) -> u32
     requires seat { IsSeatOf shared.now cpu.old }
-    requires at { (position cpu.old ≡ Control true) × (is_quiet (view cpu.old).control.phase ≡ true) × ((view cpu.old).control.purge ≡ None) }
+    requires at { MayBeginPurge cpu.old }
     requires bare { ((view cpu.old).packets ≡ no_packets) × ((view cpu.old).locks ≡ no_locks) }
     requires rests { Rests cpu.old × IsKnownSlot (view cpu.old).share.about (view cpu.old).holder.slot }
     requires station { CarriesStation cpu.old }
     ensures same { IsSameSeat cpu.old cpu.new × (slot cpu.new ≡ slot cpu.old) }
-    ensures purged { (event : ℕ) × (bands : Of Band) × (down_of (view cpu.old).trail ≡ Some event) × IsPurged (cause_of.Event event) (all_purged (view cpu.old).holder.slot bands) (view cpu.old) (view cpu.new) × (result ≡ length (all_purged (view cpu.old).holder.slot bands))
-        × AreKnown (view cpu.old) bands }
+    ensures purged { IsPurgedByDown result (view cpu.old) (view cpu.new) }
     ensures station { CarriesStation cpu.new }
-    ensures purges { (event : ℕ) × (down_of (view cpu.old).trail ≡ Some event) × PurgesBy (setup shared.now) (cause_of.Event event) result (known cpu.old) (known cpu.new) }
+    ensures purges { (event : ℕ) × (down_of (view cpu.old).trail ≡ Some event)
+        × PurgesBy (setup shared.now) (cause_of.Event event) result (known cpu.old) (known cpu.new) }
 {
     let event = shared.begin_purge(cpu);
     purge_held(shared, cpu, Cause::Event(event))

@@ -1,20 +1,19 @@
 //! The device of a station is swapped.
-ghost use Rattle.std.specs.Prelude.{◌≡◌, ◌<◌, ◌-◌, ◌≤◌, ◌∷◌, [], true, false, Some, None};
+ghost use Rattle.std.specs.Prelude.{◌≡◌, ◌<◌, ◌-◌, ◌∷◌, [], true, false, Some, None};
 ghost use Rattle.lq_device.specs.Station.{with_device};
 ghost use Rattle.lq_model.specs.Account.{Down, Purge, Swap, Up};
-ghost use Rattle.lq_table.specs.Solo.{IsSole, solo, heard, locked_to, device_to};
+ghost use Rattle.lq_table.specs.Solo.{IsSole, solo};
 ghost use Rattle.lq_model.specs.declared.fate.Cause.TheVariants as cause;
-ghost use Rattle.lq_model.specs.declared.fate.Fate.TheVariants as fate;
 ghost use Rattle.lq_model.specs.declared.machine.Phase.TheVariants.{Active, Purged};
 ghost use Rattle.lq_model.specs.declared.machine.Position.TheVariants.{Idle, Control};
-ghost use Rattle.lq_table.specs.Views.{HolderPart, WholePart, first_account};
-ghost use Rattle.lq_table.specs.Rule.{shown, station_count};
+ghost use Rattle.lq_table.specs.Views.{HolderPart, WholePart};
+ghost use Rattle.lq_table.specs.Rule.{shown};
 ghost use Rattle.lq_table.specs.Controls.{shut_after};
-ghost use Rattle.lq_table.specs.Sees.{view, known, setup, position, slot, IsSeatOf, IsSameSeat, IsElseSame};
-ghost use Rattle.lq_control.specs.Steps.{Swaps, SwapsDevice, with_queues_opened};
-ghost use Rattle.lq_qdisc.specs.Sends.{IsReadyToSend};
-ghost use Rattle.lq_control.specs.Control.{IsIn, IsKeptByControl, all_opened, IsAfterUnits};
+ghost use Rattle.lq_table.specs.Sees.{view, known, setup, position, IsSeatOf, IsSameSeat, IsElseSame};
+ghost use Rattle.lq_control.specs.Steps.{SwapsDevice, Swaps, with_queues_opened};
+ghost use Rattle.lq_control.specs.Control.{IsIn, IsKeptByControl, all_opened, IsAfterUnits, swapped_solo, IsFreshFor};
 ghost use Rattle.lq_control.specs.Alone.{DoesSwapAlone};
+ghost use Rattle.lq_control.specs.Seats.{IsFirstReadyAt, IsReadyAt, ChangesOnlyStation};
 
 use crate::activates::deactivate;
 use crate::drains::wait_until_clear;
@@ -27,8 +26,9 @@ use std::sync::Wait;
 fn change_device<D: TxDevice>(cpu: &mut Cpu<D>, unit: u32, device: D) -> D
     requires station { (h : HolderPart) × (cpu.old.station ≡ Some (shown h)) }
     requires device { ((D.state device).accepted ≡ []) × ((D.state device).hung ≡ false) }
-    ensures same { IsSameSeat cpu.old cpu.new × (cpu.new.indices ≡ cpu.old.indices) × (slot cpu.new ≡ slot cpu.old) × (known cpu.new ≡ known cpu.old) }
-    ensures changed { (h : HolderPart) → cpu.old.station ≡ Some (shown h) → (cpu.new.station ≡ Some (with_device (shown h) unit (D.state device))) × (D.state result ≡ h.station.device) }
+    ensures same { ChangesOnlyStation cpu.old cpu.new }
+    ensures changed { (h : HolderPart) → cpu.old.station ≡ Some (shown h)
+        → (cpu.new.station ≡ Some (with_device (shown h) unit (D.state device))) × (D.state result ≡ h.station.device) }
 {
     let Some(station) = &mut cpu.station else {
         unreachable!()
@@ -60,15 +60,15 @@ fn swap_device<'a, D: TxDevice, R: Wait>(
     device: D,
 ) -> D
     requires seat { IsSeatOf shared.now cpu.old }
-    requires at { (position cpu.old ≡ Control false) × ((view cpu.old).control.first ≡ true) × IsReadyToSend cpu.old }
+    requires at { IsFirstReadyAt (Control false) cpu.old }
     requires purged { IsIn Purged (view cpu.old) }
     requires unit { (unit < 256) × IsAfterUnits shared.now.station (view cpu.old).trail unit }
-    requires device { ((D.state device).accepted ≡ []) × ((D.state device).hung ≡ false) × (station_count shared.now.infos.now shared.now.station ≤ (D.state device).spare) × ((D.state device).asked ≡ []) }
+    requires device { IsFreshFor shared.now.infos.now shared.now.station (D.state device) }
     ensures same { IsSameSeat cpu.old cpu.new × IsKeptByControl (view cpu.old) (view cpu.new) }
-    ensures at { (position cpu.new ≡ Control false) × IsReadyToSend cpu.new × IsIn Purged (view cpu.new) }
+    ensures at { IsReadyAt (Control false) Purged cpu.new }
     ensures trail { (view cpu.new).trail ≡ Swap unit ∷ (view cpu.old).trail }
     ensures swaps { SwapsDevice (setup shared.now) unit (D.state device) (D.state result) (known cpu.old) (known cpu.new) }
-    ensures sole { IsSole (view cpu.old) → solo (view cpu.new) ≡ locked_to false (device_to (D.state device) (heard (Swap unit) (locked_to true (solo (view cpu.old))))) }
+    ensures sole { IsSole (view cpu.old) → solo (view cpu.new) ≡ swapped_solo unit (D.state device) (solo (view cpu.old)) }
 {
     take_lock(rt, shared, cpu);
     let old = change_device(cpu, unit, device);
@@ -92,15 +92,15 @@ pub fn swap<'a, D: TxDevice, R: Wait>(
     event: u32,
 ) -> D
     requires seat { IsSeatOf shared.now cpu.old }
-    requires at { (position cpu.old ≡ Idle) × ((view cpu.old).control.first ≡ true) × IsReadyToSend cpu.old }
+    requires at { IsFirstReadyAt Idle cpu.old }
     requires active { IsIn Active (view cpu.old) }
     requires unit { (unit < 256) × IsAfterUnits shared.now.station (view cpu.old).trail unit }
-    requires device { ((D.state device).accepted ≡ []) × ((D.state device).hung ≡ false) × (station_count shared.now.infos.now shared.now.station ≤ (D.state device).spare) × ((D.state device).asked ≡ []) }
+    requires device { IsFreshFor shared.now.infos.now shared.now.station (D.state device) }
     ensures same { IsSameSeat cpu.old cpu.new × IsKeptByControl (view cpu.old) (view cpu.new) }
-    ensures at { (position cpu.new ≡ Idle) × IsReadyToSend cpu.new × IsIn Active (view cpu.new) }
+    ensures at { IsReadyAt Idle Active cpu.new }
     ensures trail { (view cpu.new).trail ≡ Up ∷ Swap unit ∷ Purge (cause.Event event) ∷ Down event ∷ (view cpu.old).trail }
     ensures swaps { Swaps (setup shared.now) event unit (D.state device) (D.state result) (known cpu.old) (known cpu.new) }
-    ensures alone { DoesSwapAlone shared.now.infos.now (first_account (setup shared.now)) event unit (D.state device) (solo (view cpu.old)) (solo (view cpu.new)) }
+    ensures alone { DoesSwapAlone (setup shared.now) event unit (D.state device) (view cpu.old) (view cpu.new) }
 {
     deactivate(rt, shared, cpu, event);
     wait_until_clear(rt, shared, cpu);

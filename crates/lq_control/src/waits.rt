@@ -1,17 +1,15 @@
 //! The loops in which control waits for senders. Each pauses between two looks by a `Backoff`, and looks at nothing but one word.
-ghost use Rattle.std.specs.Prelude.{◌≡◌, ◌<◌, true, false, None};
-ghost use Rattle.lq_model.specs.Machine.{is_closed};
+ghost use Rattle.std.specs.Prelude.{◌≡◌, ◌<◌, true, false};
 ghost use Rattle.lq_model.specs.declared.machine.Phase.{Phase};
 ghost use Rattle.lq_model.specs.declared.machine.Phase.TheVariants.{Closing, Quiet};
 ghost use Rattle.lq_model.specs.declared.machine.Position.TheVariants.{Control};
-ghost use Rattle.lq_table.specs.Views.{HolderPart};
-ghost use Rattle.lq_table.specs.Rule.{IsResting, units_of};
-ghost use Rattle.lq_table.specs.Sees.{view, known, position, slot, IsSeatOf, IsSameSeat, IsElseSame};
+ghost use Rattle.lq_table.specs.Rule.{units_of};
+ghost use Rattle.lq_table.specs.Sees.{view, known, position, IsSeatOf, IsSameSeat, IsElseSame};
 ghost use Rattle.lq_table.specs.Solo.{IsSole, IsAccounts, solo, locked_to};
-ghost use Rattle.lq_table.specs.Told.{IsKnownSlot, got_in_control};
 ghost use Rattle.lq_run.specs.Runs.{HasStation, HasNone, Rests};
-ghost use Rattle.lq_control.specs.Control.{phased, with_lock_free};
+ghost use Rattle.lq_control.specs.Control.{phased, with_lock_free, GetsStation};
 ghost use Rattle.lq_control.specs.Steps.{TakesLock, WaitsForCalls, with_lock_released};
+ghost use Rattle.lq_control.specs.Seats.{MayRelease};
 
 use crossbeam_utils::Backoff;
 use lq_device::TxDevice;
@@ -48,7 +46,7 @@ pub(crate) fn take_lock<'a, D: TxDevice, R: Wait>(rt: &R, shared: &Shared<'a, D>
     requires at { position cpu.old ≡ Control false }
     requires empty { HasNone cpu.old }
     ensures same { IsSameSeat cpu.old cpu.new × (cpu.new.indices ≡ cpu.old.indices) }
-    ensures got { (d : HolderPart) × (view cpu.new ≡ got_in_control d (view cpu.old)) × IsResting d.size d.ends × (0 < d.size) × (d.hand ≡ None) × (d.resizing ≡ None) × (d.shut ≡ None) × IsKnownSlot (view cpu.old).share.about d.slot }
+    ensures got { GetsStation (view cpu.old) (view cpu.new) }
     ensures units { (view cpu.old).control.first ≡ true → (view cpu.new).holder.units ≡ units_of (view cpu.old).trail }
     ensures station { HasStation cpu.new }
     ensures takes { TakesLock (known cpu.old) (known cpu.new) }
@@ -68,7 +66,7 @@ pub(crate) fn take_lock<'a, D: TxDevice, R: Wait>(rt: &R, shared: &Shared<'a, D>
 /// Gives the station back and releases the run lock of a deactivated station.
 pub(crate) fn release<'a, D: TxDevice>(shared: &Shared<'a, D>, cpu: &mut Cpu<D>)
     requires seat { IsSeatOf shared.now cpu.old }
-    requires at { (position cpu.old ≡ Control true) × (is_closed (view cpu.old).control.phase ≡ true) × ((view cpu.old).control.purge ≡ None) × ((view cpu.old).holder.shut ≡ None) }
+    requires at { MayRelease cpu.old }
     requires rests { Rests cpu.old }
     requires back { HasStation cpu.old }
     ensures same { IsSameSeat cpu.old cpu.new × (cpu.new.indices ≡ cpu.old.indices) }

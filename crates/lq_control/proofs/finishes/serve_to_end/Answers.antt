@@ -29,9 +29,9 @@ loop-init g c = let v = view c.args.cpu.now in record {
   ends = (search rules);
   seat = c.requires.seat;
   same = (refl, refl);
-  at = c.requires.at.0;
-  ready = c.requires.at.3;
-  low = c.requires.at.2;
+  at = c.requires.at.0.0;
+  ready = c.requires.at.0.2;
+  low = c.requires.at.1;
   served = served_none v v refl;
   alike = λ h. alike_same c.args.shared.now.infos.now (first_account (setup c.args.shared.now)) (solo v) h;
   on = none_yet;
