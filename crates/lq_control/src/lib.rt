@@ -17,7 +17,7 @@ pub use activates::{down, up};
 pub use drains::drain;
 pub use finishes::finish;
 pub use laws::{
-    a_resize_drops_the_last, an_end_purges_what_hangs, a_swap_hands_the_old_device_back,
+    a_resize_drops_the_last, a_swap_hands_the_old_device_back, an_end_purges_what_hangs,
     deactivations_purge_all,
 };
 pub use resizes::{resize, tx_queue_len};
