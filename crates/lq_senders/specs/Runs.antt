@@ -1,5 +1,5 @@
 -- What the calls of a run say of its plan, its packets and its tables.
-use Rattle.std.specs.Prelude.{◌≡◌, ℕ, List, length, map}
+use Rattle.std.specs.Prelude.{ℕ, List, map}
 use Rattle.lq_model.specs.Alone.{RunningStation, finished, served, with_events, with_packet, with_wakes}
 use Rattle.lq_model.specs.Device.{DeviceState}
 use Rattle.lq_seat.specs.State.{SeatState}

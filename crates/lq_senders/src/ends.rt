@@ -3,7 +3,7 @@ ghost use Rattle.std.specs.Prelude.{◌≡◌, ◌+◌, ◌-◌, ◌≤◌, [], 
 ghost use Rattle.lq_seat.specs.Ends.{Finishes};
 ghost use Rattle.lq_senders.specs.Ends.{AllMayClose, FirstClosed, closed_state};
 ghost use Rattle.lq_senders.specs.Joins.{AreFirst};
-ghost use Rattle.lq_senders.specs.Lanes.{AllDid, IsSendable};
+ghost use Rattle.lq_senders.specs.Lanes.{AllDid};
 ghost use Rattle.lq_senders.specs.Runs.{LaneIsDone, LanesAreDone, SeatsDone, SeatsEndAlone, SeatsJoined};
 ghost use Rattle.lq_senders.specs.Units.{SameDevices};
 
@@ -22,10 +22,10 @@ fn join_lane<'r, 'a, D: TxDevice, G: Gate>(
 )
     requires first { SeatsJoined run.now lane.owner cpus.old.items }
     requires other { LaneIsDone run.now (lane.owner - 1) lane }
-    requires few { length run.now.plan.now.stations ≤ 256 }
     ensures joined { SeatsJoined run.now (lane.owner - 1) cpus.new.items }
     ensures devices { SameDevices cpus.old.items cpus.new.items }
 {
+    run.plan.stays_within_limits();
     let mut others = lane.seats;
     while let Some(other) = others.pop() {
         let j = others.len();
@@ -41,7 +41,6 @@ fn join_all<'r, 'a, D: TxDevice, G: Gate>(
 )
     requires first { SeatsJoined run.now (length others.items) cpus.old.items }
     requires others { LanesAreDone run.now others.items }
-    requires few { length run.now.plan.now.stations ≤ 256 }
     ensures joined { SeatsJoined run.now 0 cpus.new.items }
     ensures devices { SameDevices cpus.old.items cpus.new.items }
     ensures alone { length others.items ≡ 0 → cpus.new.items ≡ cpus.old.items }
@@ -57,7 +56,6 @@ fn finish_all<'r, 'a, R: Wait, D: TxDevice, G: Gate>(
     run: &Run<'r, 'a, D, G>,
     cpus: &mut Vec<Seat<D>>,
 )
-    requires sendable { IsSendable run.now.plan.now run.now.infos.now }
     requires joined { SeatsJoined run.now 0 cpus.old.items }
     ensures { AllDid Finishes cpus.old.items cpus.new.items }
 {
@@ -74,11 +72,9 @@ pub fn end_run<'r, 'a, R: Wait, D: TxDevice, G: Gate>(
     cpus: &mut Vec<Seat<D>>,
     others: Vec<Sender<D>>,
 )
-    requires sendable { IsSendable run.now.plan.now run.now.infos.now }
     requires first { SeatsDone run.now 0 cpus.old.items × AreFirst (length others.items) cpus.old.items }
     requires others { LanesAreDone run.now others.items }
     requires senders { length others.items + 1 ≡ run.now.plan.now.senders }
-    requires few { length run.now.plan.now.stations ≤ 256 }
     ensures may { AllMayClose run.now.plan.now run.now.infos.now run.now.tables.now cpus.new.items }
     ensures devices { SameDevices cpus.old.items cpus.new.items }
     ensures alone { length others.items ≡ 0 → SeatsEndAlone run.now cpus.old.items cpus.new.items }

@@ -2,7 +2,7 @@
 ghost use Rattle.std.specs.Prelude.{◌≡◌, ℕ, ◌+◌, ◌<◌, ◌≤◌, ◌-◌, ◌/◌, List, length, slice_get};
 ghost use Rattle.lq_seat.specs.Calls.{WakesQueues, Drains};
 ghost use Rattle.lq_seat.specs.State.{SeatState};
-ghost use Rattle.lq_senders.specs.Lanes.{AllDid, AreSeats, IsSendable, KeepAll, KeepSeats, WokenOrNot};
+ghost use Rattle.lq_senders.specs.Lanes.{AllDid, AreSeats, KeepAll, KeepSeats, WokenOrNot};
 ghost use Rattle.lq_senders.specs.Runs.{ComesTo, DevicesGoOn, HasDevices, RunsAs, SeatsDone, SeatsGoOn, SeatsRunAs, SeatsStand, events_on, packet_brought, turn_ended};
 ghost use Rattle.lq_senders.specs.Way.{IsSplitAt, StandAfter, StandBefore, StandEarlier};
 ghost use Rattle.lq_senders.specs.Woken.{AllWoke, OtherCalls, count_sent};
@@ -26,7 +26,6 @@ fn send_packet<'r, 'a, R: Wait, D: TxDevice, G: Gate>(
     n: u32,
 )
     requires packet { n < length run.now.infos.now }
-    requires sendable { IsSendable run.now.plan.now run.now.infos.now }
     requires stands { (count : ℕ) × SeatsStand run.now (owner_in run.now.infos.now n) count n seats.old.items }
     ensures stands { (count : ℕ) → SeatsStand run.now (owner_in run.now.infos.now n) count n seats.old.items
         → (owner_in run.now.infos.now n ≡ 0 → IsSplitAt run.now.plan.now count n)
@@ -104,7 +103,6 @@ fn events_before<'r, 'a, R: Wait, D: TxDevice, G: Gate>(
     n: u32,
 ) -> u32
     requires next { next ≤ length run.now.plan.now.events }
-    requires sendable { IsSendable run.now.plan.now run.now.infos.now }
     requires stands { (m : ℕ) × SeatsStand run.now 0 next m sender.old.seats.items }
     requires devices { (units : List DeviceState) × HasDevices D.state run.now units next sender.old }
     ensures owner { sender.new.owner ≡ sender.old.owner }
@@ -135,7 +133,6 @@ pub fn events_of<'r, 'a, R: Wait, D: TxDevice, G: Gate>(
     n: u32,
 ) -> u32
     requires next { next ≤ length run.now.plan.now.events }
-    requires sendable { IsSendable run.now.plan.now run.now.infos.now }
     requires stands { (m : ℕ) × SeatsStand run.now sender.old.owner next m sender.old.seats.items }
     requires devices { sender.old.owner ≡ 0 → (units : List DeviceState) × HasDevices D.state run.now units next sender.old }
     ensures owner { sender.new.owner ≡ sender.old.owner }
@@ -190,7 +187,6 @@ fn bring<'r, 'a, R: Wait, D: TxDevice, G: Gate>(
     requires packet { n < length run.now.infos.now }
     requires few { at.sent ≤ n }
     requires sent { at.sent ≡ count_sent run.now.infos.now sender.old.owner n }
-    requires sendable { IsSendable run.now.plan.now run.now.infos.now }
     requires next { at.next ≤ length run.now.plan.now.events }
     requires earlier { StandEarlier run.now.plan.now at.next n }
     requires stands { SeatsStand run.now sender.old.owner at.next n sender.old.seats.items }
@@ -226,7 +222,6 @@ pub fn come_to<'r, 'a, R: Wait, D: TxDevice, G: Gate>(
     n: u32,
 ) -> Progress
     requires packet { n < length run.now.infos.now }
-    requires sendable { IsSendable run.now.plan.now run.now.infos.now }
     requires sending { (start : List SeatState) × (brought : List DeviceState)
         × ComesTo D.state run.now sender.old.owner n at start brought sender.old }
     requires devices { sender.old.owner ≡ 0 → (units : List DeviceState) × HasDevices D.state run.now units at.next sender.old }

@@ -1,6 +1,6 @@
 //! Senders side by side.
 ghost use Rattle.std.specs.Prelude.{◌≡◌, ℕ, ◌≤◌, ◌-◌, List, length};
-ghost use Rattle.lq_senders.specs.Lanes.{AllDid, IsSendable, KeepSeats};
+ghost use Rattle.lq_senders.specs.Lanes.{AllDid, KeepSeats};
 ghost use Rattle.lq_senders.specs.Runs.{DevicesGoOn, HasDevices, LaneIsDone, LaneIsReady, LanesAreDone, LanesAreReady, LanesWoken, RunsAs, SeatsDone, SeatsGoOn, SeatsStand, SeatsWoken, SendsAllAlone, events_on};
 ghost use Rattle.lq_senders.specs.Woken.{OtherCalls};
 ghost use Rattle.lq_model.specs.Device.{DeviceState};
@@ -21,7 +21,6 @@ fn events_left<'r, 'a, R: Wait, D: TxDevice, G: Gate>(
     next: u32,
 )
     requires next { next ≤ length run.now.plan.now.events }
-    requires sendable { IsSendable run.now.plan.now run.now.infos.now }
     requires stands { (m : ℕ) × SeatsStand run.now sender.old.owner next m sender.old.seats.items }
     requires devices { sender.old.owner ≡ 0 → (units : List DeviceState) × HasDevices D.state run.now units next sender.old }
     ensures owner { sender.new.owner ≡ sender.old.owner }
@@ -43,7 +42,6 @@ pub fn send_loop<'r, 'a, R: Wait, D: TxDevice, G: Gate>(
     run: &Run<'r, 'a, D, G>,
     sender: &mut Sender<D>,
 )
-    requires sendable { IsSendable run.now.plan.now run.now.infos.now }
     requires stands { SeatsStand run.now sender.old.owner 0 0 sender.old.seats.items }
     requires devices { sender.old.owner ≡ 0 → (units : List DeviceState) × HasDevices D.state run.now units 0 sender.old }
     ensures owner { sender.new.owner ≡ sender.old.owner }
@@ -68,7 +66,6 @@ fn send_other<'r, 'a, R: Wait, D: TxDevice, G: Gate>(
     run: &Run<'r, 'a, D, G>,
     sender: &mut Sender<D>,
 )
-    requires sendable { IsSendable run.now.plan.now run.now.infos.now }
     requires ready { (place : ℕ) × LaneIsReady run.now place sender.old }
     ensures done { (place : ℕ) → LaneIsReady run.now place sender.old → LaneIsDone run.now place sender.new }
     ensures woke { SeatsWoken run.now sender.old.owner sender.old.seats.items sender.new.seats.items }
@@ -82,7 +79,6 @@ fn others_send<'r, 'a, R: Threads + Wait + Sync, D: TxDevice, G: Gate>(
     run: &Run<'r, 'a, D, G>,
     senders: &mut [Sender<D>],
 )
-    requires sendable { IsSendable run.now.plan.now run.now.infos.now }
     requires ready { LanesAreReady run.now senders.old }
     ensures done { LanesAreDone run.now senders.new }
     ensures woke { LanesWoken run.now senders.old senders.new }
@@ -94,7 +90,7 @@ fn others_send<'r, 'a, R: Threads + Wait + Sync, D: TxDevice, G: Gate>(
             senders,
             threads,
             &|i, sender: &mut Sender<D>|
-                requires { IsSendable run.now.plan.now run.now.infos.now × LaneIsReady run.now i sender.old }
+                requires { LaneIsReady run.now i sender.old }
                 ensures { LaneIsDone run.entry.now i sender.new
                     × SeatsWoken run.entry.now sender.old.owner sender.old.seats.items sender.new.seats.items }
             { send_other(rt, run, sender) },
@@ -107,7 +103,6 @@ fn first_sent<'r, 'a, R: Wait, D: TxDevice, G: Gate>(
     run: &Run<'r, 'a, D, G>,
     mut sender: Sender<D>,
 ) -> Sender<D>
-    requires sendable { IsSendable run.now.plan.now run.now.infos.now }
     requires owner { sender.owner ≡ 0 }
     requires stands { SeatsStand run.now 0 0 0 sender.seats.items }
     requires devices { (units : List DeviceState) × HasDevices D.state run.now units 0 sender }
@@ -127,7 +122,6 @@ fn others_sent<'r, 'a, R: Threads + Wait + Sync, D: TxDevice, G: Gate>(
     run: &Run<'r, 'a, D, G>,
     mut senders: Vec<Sender<D>>,
 ) -> Vec<Sender<D>>
-    requires sendable { IsSendable run.now.plan.now run.now.infos.now }
     requires ready { LanesAreReady run.now senders.items }
     ensures done { LanesAreDone run.now result.items }
     ensures woke { LanesWoken run.now senders.items result.items }
@@ -144,7 +138,6 @@ pub fn all_send<'r, 'a, R: Threads + Wait + Sync, D: TxDevice, G: Gate>(
     first: Sender<D>,
     others: Vec<Sender<D>>,
 ) -> (Sender<D>, Vec<Sender<D>>)
-    requires sendable { IsSendable run.now.plan.now run.now.infos.now }
     requires owner { first.owner ≡ 0 }
     requires first { SeatsStand run.now 0 0 0 first.seats.items }
     requires devices { (units : List DeviceState) × HasDevices D.state run.now units 0 first }
@@ -161,7 +154,7 @@ pub fn all_send<'r, 'a, R: Threads + Wait + Sync, D: TxDevice, G: Gate>(
     thread::join(
         rt,
         move || -> Sender<D>
-            requires { IsSendable run.now.plan.now run.now.infos.now × (first.owner ≡ 0) × SeatsStand run.now 0 0 0 first.seats.items
+            requires { (first.owner ≡ 0) × SeatsStand run.now 0 0 0 first.seats.items
                 × ((units : List DeviceState) × HasDevices D.state run.now units 0 first) }
             ensures { SeatsDone run.entry.now 0 result.seats.items × KeepSeats first.seats.items result.seats.items
                 × SeatsWoken run.entry.now 0 first.seats.items result.seats.items
@@ -169,7 +162,7 @@ pub fn all_send<'r, 'a, R: Threads + Wait + Sync, D: TxDevice, G: Gate>(
                 × SendsAllAlone D.state run.entry.now first result }
         { first_sent(rt, run, first) },
         move || -> Vec<Sender<D>>
-            requires { IsSendable run.now.plan.now run.now.infos.now × LanesAreReady run.now others.items }
+            requires { LanesAreReady run.now others.items }
             ensures { LanesAreDone run.entry.now result.items × (length result.items ≡ length others.items)
                 × LanesWoken run.entry.now others.items result.items }
         { others_sent(rt, run, others) },

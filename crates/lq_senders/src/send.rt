@@ -2,7 +2,6 @@
 ghost use Rattle.std.specs.Prelude.{◌≡◌, ◌≤◌, ◌+◌, ◌++◌, [], List, IfOk, OnErr, drop, take, length, map, vec_capacity, vec_len};
 ghost use Rattle.lq_senders.specs.Fates.{AreEnded, AreFatesOf, identities_of};
 ghost use Rattle.lq_table.specs.Ended.{ended_state};
-ghost use Rattle.lq_senders.specs.Lanes.{IsSendable};
 ghost use Rattle.lq_senders.specs.Setup.{AreUnitsReady, HasRoomForRun, IsRunBy};
 ghost use Rattle.lq_model.specs.Device.{DeviceState};
 ghost use Rattle.lq_model.specs.Plan.{unit_count};
@@ -46,7 +45,6 @@ fn send_ready<'r, 'a, R: Threads + Wait + Sync, D: TxDevice, G: Gate>(
     mut room: Room<D>,
     bench: &mut Vec<D>,
 ) -> Results<D>
-    requires sendable { IsSendable job.now.plan.now job.now.infos.now }
     requires ready { (before : List DeviceState) × AreUnitsReady D.state job.now.plan.now job.now.infos.now before units }
     requires room { HasRoomForRun job.now.plan.now (length job.now.infos.now) room }
     requires bench_room { vec_len bench.old + unit_count job.now.plan.now ≤ vec_capacity bench.old }

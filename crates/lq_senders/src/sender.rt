@@ -1,16 +1,19 @@
 //! What a run is asked to do, what its senders share, and a sender.
+ghost use Rattle.lq_senders.specs.Lanes.{IsSendable};
+
 use lq_device::TxDevice;
 use lq_gate::Gate;
 use lq_model::Info;
 use lq_plan::Plan;
 use lq_seat::{Seat, Table};
 
-/// What a run is asked to do: to send the packets under the plan. Each sender passes the gate.
+/// What a run is asked to do: to send packets under the plan, which allows them. Each sender passes the gate.
 #[derive(Drop)]
 pub struct Job<'r, G: Gate> {
     pub plan: &'r Plan,
     pub infos: &'r [Info],
     pub gate: &'r G,
+    pub ghost sendable: { IsSendable plan.now infos.now },
 }
 
 /// What all senders of a run share: the plan, the packets, the stations' tables, and the gate that each sender passes.
@@ -20,6 +23,7 @@ pub struct Run<'r, 'a, D: TxDevice, G: Gate> {
     pub infos: &'r [Info],
     pub tables: &'r [Table<'a, D>],
     pub gate: &'r G,
+    pub ghost sendable: { IsSendable plan.now infos.now },
 }
 
 /// One sender, with its seats by station.

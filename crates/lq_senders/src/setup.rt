@@ -34,7 +34,8 @@ pub fn room_for<T>(alloc: Global, count: usize) -> Result<Vec<T>, NoMemory>
 /// seats and of tables.
 const APART: usize = 2;
 
-/// The same with room behind the list that stays empty, so that no other sender's list shares a line of the processor's cache with its last item.
+/// The same with room behind the list that stays empty, so that no other sender's list shares a line of the processor's cache
+/// with its last item.
 pub fn room_apart<T>(alloc: Global, count: usize) -> Result<Vec<T>, NoMemory>
     ensures empty { IfOk result (λ list. list.items ≡ []) }
     ensures room { IfOk result (λ list. count ≤ vec_capacity list) }

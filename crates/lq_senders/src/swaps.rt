@@ -2,7 +2,7 @@
 ghost use Rattle.std.specs.Prelude.{◌≡◌, ℕ, ◌+◌, ◌<◌, ◌≤◌, List, true, false, length, slice_get};
 ghost use Rattle.lq_seat.specs.Calls.{MayChange};
 ghost use Rattle.lq_seat.specs.State.{IsHere};
-ghost use Rattle.lq_senders.specs.Lanes.{AllDid, DoesEventAt, IsSendable, KeepAll};
+ghost use Rattle.lq_senders.specs.Lanes.{AllDid, DoesEventAt, KeepAll};
 ghost use Rattle.lq_senders.specs.Runs.{DevicesGoOn, HasDevices, RunsAs, SeatsGoOn, SeatsRunAs, SeatsStand};
 ghost use Rattle.lq_senders.specs.Woken.{OtherCalls};
 ghost use Rattle.lq_model.specs.Alone.{with_event};
@@ -68,7 +68,6 @@ fn do_next_event<'r, 'a, R: Wait, D: TxDevice, G: Gate>(
 )
     requires event { e < length run.now.plan.now.events }
     requires no_swap { (event : AnEvent) → slice_get run.now.plan.now.events e ≡ Some event → is_swap event ≡ false }
-    requires sendable { IsSendable run.now.plan.now run.now.infos.now }
     requires stands { (n : ℕ) × SeatsStand run.now 0 e n seats.old.items }
     ensures stands { SeatsGoOn run.now 0 e (e + 1) seats.old.items seats.new.items }
     ensures keeps { KeepAll seats.old.items seats.new.items }
@@ -118,7 +117,6 @@ pub fn do_any_event<'r, 'a, R: Wait, D: TxDevice, G: Gate>(
     e: u32,
 )
     requires event { e < length run.now.plan.now.events }
-    requires sendable { IsSendable run.now.plan.now run.now.infos.now }
     requires stands { (n : ℕ) × SeatsStand run.now 0 e n sender.old.seats.items }
     requires devices { (units : List DeviceState) × HasDevices D.state run.now units e sender.old }
     ensures owner { sender.new.owner ≡ sender.old.owner }

@@ -2,7 +2,7 @@
 ghost use Rattle.std.specs.Prelude.{◌≡◌, ◌≤◌, ◌+◌, ℕ, List, [], length, map, vec_capacity};
 ghost use Rattle.lq_senders.specs.Ends.{HasSentAll, closed_state};
 ghost use Rattle.lq_senders.specs.Joins.{AreFirst};
-ghost use Rattle.lq_senders.specs.Lanes.{AreReadyLanes, IsSendable, LaneStands};
+ghost use Rattle.lq_senders.specs.Lanes.{AreReadyLanes, LaneStands};
 ghost use Rattle.lq_senders.specs.Units.{DevicesStand};
 ghost use Rattle.lq_model.specs.Device.{DeviceState};
 
@@ -26,7 +26,6 @@ pub fn run<'r, 'a, R: Threads + Wait + Sync, D: TxDevice, G: Gate>(
     senders: Senders<D>,
     closed: &mut Vec<Closed<D>>,
 ) -> Vec<D>
-    requires sendable { IsSendable job.now.plan.now job.now.infos.now }
     requires owner { senders.first.owner ≡ 0 }
     requires first { LaneStands job.now.plan.now job.now.infos.now 0 0 0 tables.items senders.first.seats.items
         × AreFirst (length senders.others.items) senders.first.seats.items }

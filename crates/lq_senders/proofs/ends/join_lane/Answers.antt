@@ -16,7 +16,7 @@ loop-other-init g c = record {
 
 pub offset_bounds-run-j : goal.offset_bounds-run-j
 offset_bounds-run-j g c =
-    let below = c.loop-other.invariant.down.below in let all = c.loop-other.invariant.down.all in let few = c.requires.few in let more = c.in-Some.ensures.len in let j = c.len-j.ensures in omega arith
+    let below = c.loop-other.invariant.down.below in let all = c.loop-other.invariant.down.all in let few = c.stays_within_limits.ensures.stations in let more = c.in-Some.ensures.len in let j = c.len-j.ensures in omega arith
 
 pub bounds-run-j : goal.bounds-run-j
 bounds-run-j g c = let below = c.loop-other.invariant.down.below in let more = c.in-Some.ensures.len in let j = c.len-j.ensures in omega arith

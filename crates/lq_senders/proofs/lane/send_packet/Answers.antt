@@ -21,7 +21,7 @@ there : (g : _) (c : goal.After-index_mut g)
     → StandsAt c.args.run.now.plan.now c.args.run.now.infos.now (owner_in c.args.run.now.infos.now c.args.n) c.requires.stands.0 c.args.n (info-of c.args.run.now.infos.now c.args.n).station c.index-run-station.result c.index_mut.result.now
 there g c =
     let infos = c.args.run.now.infos.now in let n = c.args.n in let sender = owner_in infos n in let count = c.requires.stands.0 in
-    let lane = c.requires.stands.1 in let station = (info-of infos n).station in let within = (c.requires.sendable.within n no_info c.requires.packet).station in
+    let lane = c.requires.stands.1 in let station = (info-of infos n).station in let within = (c.args.run.now.sendable.within n no_info c.requires.packet).station in
     lane.each station c.index-run-station.result c.index_mut.result.now
     (table-at c.args.run.now.plan.now infos sender count n c.args.run.now.tables.now c.args.seats.now.items lane station c.index-run-station.result within c.index-run-station.is)
     (seat-at c.args.run.now.plan.now infos sender count n c.args.run.now.tables.now c.args.seats.now.items lane station c.index_mut.result.now within c.index_mut.ensures.value)
@@ -40,16 +40,16 @@ send-requires-clause-next g c κs within =
       within = c.requires.packet;
       station = station-is infos n info at;
       own = (there g c).stands.owner;
-      turn = (there g c).stands.turn ∙ ap (λ r. 2 * r) (ap (λ o. count_below infos o info.station n) (owner-is infos n info at) ∙ sym (rank-is infos n info c.requires.sendable.ranks at));
+      turn = (there g c).stands.turn ∙ ap (λ r. 2 * r) (ap (λ o. count_below infos o info.station n) (owner-is infos n info at) ∙ sym (rank-is infos n info c.args.run.now.sendable.ranks at));
     })
 
 pub returns-clause-stands : goal.returns-clause-stands
 returns-clause-stands g c count lane split =
     let infos = c.args.run.now.infos.now in let n = c.args.n in let sender = owner_in infos n in
-    let info = info-of infos n in let station = info.station in let within = (c.requires.sendable.within n no_info c.requires.packet).station in
+    let info = info-of infos n in let station = info.station in let within = (c.args.run.now.sendable.within n no_info c.requires.packet).station in
     let at = slice_get-get_or infos n no_info c.requires.packet in
     lane-sent c.args.run.now.plan.now infos sender count n c.args.run.now.tables.now c.args.seats.now.items info c.index-run-station.result c.index_mut.result.now c.send.new.self
-    c.requires.sendable.ranks at (sym (owner-is infos n info at))
+    c.args.run.now.sendable.ranks at (sym (owner-is infos n info at))
     (table-at c.args.run.now.plan.now infos sender count n c.args.run.now.tables.now c.args.seats.now.items lane station c.index-run-station.result within c.index-run-station.is)
     (seat-at c.args.run.now.plan.now infos sender count n c.args.run.now.tables.now c.args.seats.now.items lane station c.index_mut.result.now within c.index_mut.ensures.value)
     split c.send.ensures lane
@@ -57,7 +57,7 @@ returns-clause-stands g c count lane split =
 pub returns-clause-keeps : goal.returns-clause-keeps
 returns-clause-keeps g c =
     let infos = c.args.run.now.infos.now in let n = c.args.n in let sender = owner_in infos n in let count = c.requires.stands.0 in let lane = c.requires.stands.1 in
-    let station = (info-of infos n).station in let within = (c.requires.sendable.within n no_info c.requires.packet).station in
+    let station = (info-of infos n).station in let within = (c.args.run.now.sendable.within n no_info c.requires.packet).station in
     keep-set c.args.seats.now.items station c.index_mut.result.now c.send.new.self
     (seat-at c.args.run.now.plan.now infos sender count n c.args.run.now.tables.now c.args.seats.now.items lane station c.index_mut.result.now within c.index_mut.ensures.value)
     (sends-keep n c.index_mut.result.now c.send.new.self c.send.ensures)
@@ -65,7 +65,7 @@ returns-clause-keeps g c =
 pub returns-clause-calls : goal.returns-clause-calls
 returns-clause-calls g c =
     let infos = c.args.run.now.infos.now in let n = c.args.n in let sender = owner_in infos n in let count = c.requires.stands.0 in let lane = c.requires.stands.1 in
-    let station = (info-of infos n).station in let within = (c.requires.sendable.within n no_info c.requires.packet).station in
+    let station = (info-of infos n).station in let within = (c.args.run.now.sendable.within n no_info c.requires.packet).station in
     called-set c.args.seats.now.items station c.index_mut.result.now c.send.new.self
     (seat-at c.args.run.now.plan.now infos sender count n c.args.run.now.tables.now c.args.seats.now.items lane station c.index_mut.result.now within c.index_mut.ensures.value)
     (sends-call n c.index_mut.result.now c.send.new.self c.send.ensures)
@@ -73,7 +73,7 @@ returns-clause-calls g c =
 pub returns-clause-runs : goal.returns-clause-runs
 returns-clause-runs g c stations runs =
     let infos = c.args.run.now.infos.now in let n = c.args.n in let sender = owner_in infos n in let count = c.requires.stands.0 in let lane = c.requires.stands.1 in
-    let info = info-of infos n in let station = info.station in let within = (c.requires.sendable.within n no_info c.requires.packet).station in
+    let info = info-of infos n in let station = info.station in let within = (c.args.run.now.sendable.within n no_info c.requires.packet).station in
     runs-sent c.args.run.now.plan.now infos sender count n c.args.run.now.tables.now c.args.seats.now.items stations info c.index-run-station.result c.index_mut.result.now c.send.new.self
     (slice_get-get_or infos n no_info c.requires.packet)
     (table-at c.args.run.now.plan.now infos sender count n c.args.run.now.tables.now c.args.seats.now.items lane station c.index-run-station.result within c.index-run-station.is)

@@ -32,7 +32,7 @@ events_left-requires-clause-devices g c κs within zero_th = let stand = c.requi
 -- the sender is through
 done : (g : _) (c : goal.After-events_left g) → LaneDone c.args.run.now.plan.now c.args.run.now.infos.now c.events_left.new.sender.owner c.args.run.now.tables.now c.events_left.new.sender.seats.items
 done g c =
-    let own = c.loop-n.invariant in let test = c.loop-n-test.false in let stop = c.loop-n.auto.n-end in let few = c.requires.sendable.few in
+    let own = c.loop-n.invariant in let test = c.loop-n-test.false in let stop = c.loop-n.auto.n-end in let few = c.args.run.now.sendable.few in
     let same : c.loop-n.n ≡ length c.args.run.now.infos.now = omega arith in
     subst (λ (s : ℕ). LaneDone c.args.run.now.plan.now c.args.run.now.infos.now s c.args.run.now.tables.now c.events_left.new.sender.seats.items) (sym c.events_left.ensures.owner)
     (c.events_left.ensures.stands (length c.args.run.now.infos.now)
@@ -54,7 +54,7 @@ returns-clause-devices g c zero_th units stand =
 
 pub returns-clause-runs : goal.returns-clause-runs
 returns-clause-runs g c zero_th units stand tell own from begins =
-    let inv = c.loop-n.invariant in let test = c.loop-n-test.false in let stop = c.loop-n.auto.n-end in let few = c.requires.sendable.few in let states = map g.D.TxDevice.state in
+    let inv = c.loop-n.invariant in let test = c.loop-n-test.false in let stop = c.loop-n.auto.n-end in let few = c.args.run.now.sendable.few in let states = map g.D.TxDevice.state in
     let same : c.loop-n.n ≡ length c.args.run.now.infos.now = omega arith in
     let sending = subst (λ (n : ℕ). IsSending c.args.run.now.plan.now c.args.run.now.infos.now c.args.run.now.tables.now c.loop-n.sender.owner n c.loop-n.at.sent c.loop-n.at.next c.args.sender.now.seats.items (states c.args.sender.now.spares.items)
     c.loop-n.sender.seats.items (states c.loop-n.sender.spares.items)) same inv.sending in
@@ -65,7 +65,7 @@ returns-clause-runs g c zero_th units stand tell own from begins =
 
 pub pass_last-requires-clause-number : goal.pass_last-requires-clause-number
 pass_last-requires-clause-number g c κs within =
-    let test = c.loop-n-test.false in let stop = c.loop-n.auto.n-end in let few = c.requires.sendable.few in let same : c.loop-n.n ≡ length c.args.run.now.infos.now = omega arith in
+    let test = c.loop-n-test.false in let stop = c.loop-n.auto.n-end in let few = c.args.run.now.sendable.few in let same : c.loop-n.n ≡ length c.args.run.now.infos.now = omega arith in
     c.loop-n.invariant.sending.sent ∙ (ap (λ (n : ℕ). count_sent c.args.run.now.infos.now c.loop-n.sender.owner n) same ∙ ap (λ (s : ℕ). count_sent c.args.run.now.infos.now s (length c.args.run.now.infos.now)) (sym c.events_left.ensures.owner))
 
 pub pass_last-requires-clause-done : goal.pass_last-requires-clause-done
@@ -73,7 +73,7 @@ pass_last-requires-clause-done g c κs within = done g c
 
 pub returns-clause-woke : goal.returns-clause-woke
 returns-clause-woke g c =
-    let own = c.loop-n.invariant in let test = c.loop-n-test.false in let stop = c.loop-n.auto.n-end in let few = c.requires.sendable.few in
+    let own = c.loop-n.invariant in let test = c.loop-n-test.false in let stop = c.loop-n.auto.n-end in let few = c.args.run.now.sendable.few in
     let same : c.loop-n.n ≡ length c.args.run.now.infos.now = omega arith in
     subst (λ (k : ℕ). AllWoke (k / c.args.run.now.plan.now.irq_every) c.args.sender.now.seats.items c.events_left.new.sender.seats.items)
     (own.sending.sent ∙ ap (λ (n : ℕ). count_sent c.args.run.now.infos.now c.loop-n.sender.owner n) same ∙ ap (λ (s : ℕ). count_sent c.args.run.now.infos.now s (length c.args.run.now.infos.now)) own.owner)

@@ -6,8 +6,8 @@ use Rattle.lq_senders.proofs.send.send_all.Goals as goal
 pub make_ready-requires-clause-sendable : goal.make_ready-requires-clause-sendable
 make_ready-requires-clause-sendable g c κs within = c.runs_may_be_sent.ensures c.args.plan.now c.args.infos.now c.requires.run
 
-pub send_ready-left-requires-clause-sendable : goal.send_ready-left-requires-clause-sendable
-send_ready-left-requires-clause-sendable g c κs within = c.runs_may_be_sent.ensures c.args.plan.now c.args.infos.now c.requires.run
+pub invariant_of-job : goal.invariant_of-job
+invariant_of-job g c = record { sendable = c.runs_may_be_sent.ensures c.args.plan.now c.args.infos.now c.requires.run }
 
 pub returns-clause-fates : goal.returns-clause-fates
 returns-clause-fates g c = c.send_ready-left.ensures.fates (map g.D.TxDevice.state c.args.bench.now.items) c.in_ok-units.ensures.ready

@@ -41,7 +41,7 @@ pub read_fates-requires-clause-readable : goal.read_fates-requires-clause-readab
 read_fates-requires-clause-readable g c κs within =
     let h = closed_state {D = g.row.D.Denot} {g = g.D.TxDevice} in let states = map g.D.TxDevice.state in
     subst (λ (xs : List _). IsReadable c.args.job.now.infos.now (map h xs)) (sym c.as_slice-2.ensures.value)
-    (c.runs_are_readable.ensures c.args.job.now.plan.now c.args.job.now.infos.now (length c.split_lanes.new.lanes.items) c.split_lanes.new.cpus.items (states c.args.units.spares.items) (map h c.run-spares.new.closed.items) (states c.run-spares.result.items) c.run-spares.ensures c.requires.sendable)
+    (c.runs_are_readable.ensures c.args.job.now.plan.now c.args.job.now.infos.now (length c.split_lanes.new.lanes.items) c.split_lanes.new.cpus.items (states c.args.units.spares.items) (map h c.run-spares.new.closed.items) (states c.run-spares.result.items) c.run-spares.ensures c.args.job.now.sendable)
 
 pub take_apart-requires-clause-home : goal.take_apart-requires-clause-home
 take_apart-requires-clause-home g c κs within =
@@ -90,7 +90,7 @@ returns-clause-fates g c before ready =
     let rest = states c.args.bench.now.items in
     let after = states c.hand_back.new.bench.items in
     let fates = c.read_fates.new.fates.items in
-    c.runs_make_fates.ensures plan infos before after others start brought closed spares fates c.run-spares.ensures c.requires.sendable
+    c.runs_make_fates.ensures plan infos before after others start brought closed spares fates c.run-spares.ensures c.args.job.now.sendable
     (are-over plan infos before c.args.units.stations.tables.items c.args.units.stations.cpus.items brought ready start c.split_lanes.ensures.devices others c.split_lanes.ensures.one_each c.split_lanes.ensures.alone)
     (subst (λ (xs : List _). FatesRead infos (map h xs) (length infos) fates) c.as_slice-2.ensures.value c.read_fates.ensures)
     (are-back plan closed spares after rest (c.hand_back.ensures.states ∙ ap (λ homes. by_unit plan homes spares ++ rest) c.take_apart.ensures.homes))
