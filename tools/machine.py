@@ -333,7 +333,7 @@ def read_schedule(data):
             elif "#" in line:
                 hint = "a comment has a line of its own; "
             elif len(words) > 1 and words[1] in ("down", "up", "swap", "resize"):
-                hint = "a schedule begins no deactivation, activation, resize or exchange; "
+                hint = "a schedule begins no deactivation, activation, resize or swap; "
             raise Fault(SYNTAX, number, f"{hint}a line is one of {FORMS}")
         yield number, seat, action
     if not has_setup:

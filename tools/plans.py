@@ -257,7 +257,7 @@ def children_of(root):
 
 
 def faults_of_groups(root, lines):
-    """What may not be together in a plan of groups: too many children, several queues of a child, an exchange of what they share."""
+    """What may not be together in a plan of groups: too many children, several queues of a child, a swap of what they share."""
     children = children_of(root)
     if sum(map(len, children)) > CHILDREN:
         yield Fault(RANGE, None, "the top, `station`", f"{sum(map(len, children))} children in all are more than {CHILDREN}")
@@ -294,7 +294,7 @@ def places_of(root, capture):
 
 
 def units_of(root):
-    """How many units a plan needs: one for each child, and one for each exchange."""
+    """How many units a plan needs: one for each child, and one for each swap."""
     return len(stations_of(root)) + sum(it.get("kind") == "swap" for it in tables_at(root, "event"))
 
 

@@ -30,7 +30,7 @@ def new_line(plan, j, room):
 
 def event_line(event):
     if event.kind == "swap":
-        return f"exchange {event.station} {' '.join(map(str, event.params))}"
+        return f"swap {event.station} {' '.join(map(str, event.params))}"
     return f"{event.kind} {event.station}" + (f" {event.length}" if event.length else "")
 
 
@@ -115,7 +115,7 @@ class Run:
             result = device.tx_queue_len(it.length, e)
         else:
             lines = device.units()
-            device.exchange(e, self.next_unit, it.params)
+            device.swap(e, self.next_unit, it.params)
             self.next_unit += 1
         self.tell(result, lines + device.words(True))
 

@@ -596,7 +596,7 @@ static int resize_live(struct net_device *dev, u32 len)
 }
 
 /* Another device in the place of this one, which is down. */
-static void exchange(struct net_device *dev, const u32 *params)
+static void swap_device(struct net_device *dev, const u32 *params)
 {
 	struct bench *b = netdev_priv(dev);
 	u32 i;
@@ -726,10 +726,10 @@ static int on_device(struct net_device *dev, const char *name, char *rest)
 	}
 	if (!strcmp(name, "resize") && sscanf(rest, "%u", &value) == 1)
 		return resize_live(dev, value);
-	if (!strcmp(name, "exchange") &&
+	if (!strcmp(name, "swap") &&
 	    sscanf(rest, "%u %u %u %u", &params[0], &params[1], &params[2],
 		   &params[3]) == 4) {
-		exchange(dev, params);
+		swap_device(dev, params);
 		return 0;
 	}
 	if (!strcmp(name, "receive") && sscanf(rest, "%u %n", &value, &at) == 1)

@@ -249,7 +249,7 @@ def small_events(kind):
         "down and up": [Event(2, "down", 0, None, none), Event(4, "up", 0, None, none)],
         "resize": [Event(3, "resize", 0, 1, none), Event(5, "resize", 0, 3, none)],
         "length": [Event(3, "tx_queue_len", 0, 4, none)],
-        "exchange": [Event(4, "swap", 0, None, Params(1))],
+        "swap": [Event(4, "swap", 0, None, Params(1))],
     }[kind]
 
 
@@ -265,6 +265,6 @@ def small_plans():
                     for hang in (0, 3):
                         for irq_every in (1, 2, 1000):
                             for bypass in (True, False):
-                                for events in ("none", "down", "down and up", "resize", "length", "exchange"):
+                                for events in ("none", "down", "down and up", "resize", "length", "swap"):
                                     station = StationPlan(length, 1, 1, bypass, Params(burst, every, limit, hang))
                                     yield Plan(1, "round", irq_every, [station], small_events(events)), frames

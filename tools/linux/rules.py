@@ -322,7 +322,7 @@ class Station:
         self.set_length(length, event)
         self.run_end()
 
-    def exchange(self, unit, params):
+    def swap(self, unit, params):
         self.configure(unit, params)
         self.stops = [OPEN] * len(self.stops)
 
@@ -402,9 +402,9 @@ class Device:
             station.resize(length, event)
         self.drain()
 
-    def exchange(self, event, unit, params):
+    def swap(self, event, unit, params):
         self.down(event)
-        self.stations[0].exchange(unit, params)
+        self.stations[0].swap(unit, params)
         self.up()
 
     def units(self):

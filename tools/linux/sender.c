@@ -12,7 +12,7 @@
  *   down J, up J		takes a device down or up, and tells the words
  *   tx_queue_len J LEN		changes the length, and tells the words
  *   resize J LEN		the same while it is active
- *   exchange J BURST BUSY_EVERY BUSY_LIMIT HANG_AFTER
+ *   swap J BURST BUSY_EVERY BUSY_LIMIT HANG_AFTER
  *   finish ROUNDS		wakes each device until nothing is held
  *   address J			gives a device 10.J+1.0.1/24
  *   datagram MARK J TOS HOW	a datagram to 10.J+1.0.2
@@ -516,7 +516,7 @@ static int do_event(const char *line)
 		told(set_tx_queue_len(j, len));
 	} else if (sscanf(line, "resize %d %d", &j, &len) == 2) {
 		told(tell("%s", line));
-	} else if (sscanf(line, "exchange %d %n", &j, &at) == 1) {
+	} else if (sscanf(line, "swap %d %n", &j, &at) == 1) {
 		told(set_up(j, 0));
 		tell("%s", line);
 		copy_answer();

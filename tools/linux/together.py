@@ -22,7 +22,7 @@ def steps_of_sender(plan, packets, sender):
 
 def case_of(name, plan, packets, frames):
     if any(it.kind in ("resize", "swap") for it in plan.events):
-        raise Refused("a kernel has no live resize and no exchange of a device beside running senders; with several senders a "
+        raise Refused("a kernel has no live resize and no swap of a device beside running senders; with several senders a "
                       "plan may have down, up and tx_queue_len")
     first = firsts(plan)
     yield f"case {name}"

@@ -1,5 +1,5 @@
 //! Many runs of eight senders over stations that stop, are busy, hang, are shortened, deactivated and activated, and whose devices
-//! are exchanged, and over taps; each of them is checked. `lq_stress ROUNDS PACKETS` makes so many rounds of each plan and each tap, of
+//! are swapped, and over taps; each of them is checked. `lq_stress ROUNDS PACKETS` makes so many rounds of each plan and each tap, of
 //! so many packets, and `lq_stress ROUNDS PACKETS taps` of the taps alone; with no words a few short ones.
 #![tactic(auto)]
 

@@ -156,7 +156,7 @@ const PLANS: [(&[u8], &str); 16] = [
         b"version = 3\n[[station]]\nmq = 2\nqueues = 2\n",
         "plan refused: 5 Range\n",
     ),
-    // the device of a child is exchanged
+    // the device of a child is swapped
     (
         b"version = 3\n[[station]]\nmq = 2\n[[event]]\nbefore = 0\nkind = \"swap\"\nstation = 0\n",
         "plan refused: 5 Range\n",
@@ -185,7 +185,7 @@ fn refuses_plans_with_the_least_reason(rt: HostRuntime) -> Result<(), Fail> {
 const SWAPPED: &[u8] =
     b"[[station]]\n[[station]]\n[[station]]\n[[station]]\n[[station]]\n[[station]]\n[[station]]\n[[station]]\n[[event]]\nbefore = 0\nkind = \"swap\"\nstation = 0\n";
 
-/// Two children and a station whose device is exchanged.
+/// Two children and a station whose device is swapped.
 const GROUPED: &[u8] =
     b"version = 3\n[[station]]\nmq = 2\n[[station]]\n[[event]]\nbefore = 0\nkind = \"swap\"\nstation = 1\n";
 

@@ -106,7 +106,7 @@ pub struct Unit {
     pub params: Params,
 }
 
-/// The unit of this number: the stations' first ones come first, and then those that exchanges bring, in order.
+/// The unit of this number: the stations' first ones come first, and then those that swaps bring, in order.
 pub fn unit_at(plan: &Plan, unit: u32) -> Option<Unit> {
     if unit < plan.stations() {
         let params = plan.station(unit).params;

@@ -9,7 +9,7 @@ use std::alloc::Global;
 use std::test::Fail;
 
 /// A station of its own, 0, and a root over stations 1 and 2. The rings of station 0 get two slots before packet 2 and one again
-/// before packet 4; it is deactivated by event 2 and activated before packet 8, and event 4 exchanges its device, unit 0, for unit
+/// before packet 4; it is deactivated by event 2 and activated before packet 8, and event 4 swaps its device, unit 0, for unit
 /// 3, which hangs after two packets. Event 5 deactivates stations 1 and 2 for a while, and leaves their rings three slots.
 const PLAN: &[u8] = b"version = 3
 senders = 2
@@ -133,7 +133,7 @@ const WRONG: [(usize, &str, Flaw); 47] = [
     (9, "9 sent 0 4", Flaw::Unit(9)),
     (11, "11 sent 1 2", Flaw::Unit(11)),
     (9, "9 sent 4 0", Flaw::Unit(9)),
-    // a packet of the first sender: the unit that the exchange brings later, and the one that it took away before
+    // a packet of the first sender: the unit that the swap brings later, and the one that it took away before
     (8, "8 sent 3 2", Flaw::Unit(8)),
     (12, "12 sent 0 4", Flaw::Unit(12)),
     // seen: the packet itself, one of another band, of another station, of another child, one that was dropped as full, one that was
