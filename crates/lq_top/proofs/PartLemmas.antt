@@ -1,0 +1,120 @@
+-- Texts that are made in parts: what a write of one of them leaves, and which are written.
+use Rattle.std.proofs.Common.{◌≡◌, ◌≤◌, ◌<◌, ◌++◌, [], ℕ, List, Option, Some, IfSome, length, take, drop, refl, sym, ap, ◌∙◌, append_assoc, append-nil, arith, subst}
+use Rattle.std.proofs.lemmas.List.{take-append-drop}
+use Rattle.std.proofs.Math.Seq.{take-length}
+use Rattle.lq_host.specs.Host.{HostState, wrote}
+use Rattle.lq_host.proofs.HostLemmas.{wrote-nil, wrote_more}
+use Rattle.lq_top.specs.Parts.{IsFront, IsPart, IsStreamed}
+use Rattle.lq_top.specs.declared.parts.Part.{Part}
+use Rattle.lq_top.proofs.PieceLemmas.{streamed_cut, streamed_none, streamed_pushed, streamed_written, written_cut}
+
+-- A TEXT BEHIND WHAT IS KEPT
+
+-- a text that was split
+pub both_parts : (n : ℕ) (first more text : List ℕ) → first ≡ take n text → more ≡ drop n text → first ++ more ≡ text
+both_parts n first more text first_is more_is = ap (λ b. b ++ more) first_is ∙ ap (λ b. take n text ++ b) more_is ∙ take-append-drop n text
+
+-- all of it is kept, and nothing is written
+pub all_kept : (old : HostState) (h : ℕ) (rest first text kept : List ℕ) (n : ℕ) → kept ≡ rest ++ first → first ≡ take n text → n ≡ length text → IsStreamed old h old kept [] (rest ++ text)
+all_kept old h rest first text kept n kept_is first_is whole =
+    let same : first ≡ text = first_is ∙ ap (λ k. take k text) whole ∙ take-length text in
+    streamed_none old h kept [] (rest ++ text) (append-nil kept ∙ kept_is ∙ ap (λ b. rest ++ b) same)
+
+-- what is kept and the front of the text are in the buffer
+pushed_is_streamed :
+    (old : HostState) (h : ℕ) (rest first more text pushed : List ℕ) → pushed ≡ rest ++ first → first ++ more ≡ text → IsStreamed old h old pushed more (rest ++ text)
+pushed_is_streamed old h rest first more text pushed pushed_is split =
+    streamed_none old h pushed more (rest ++ text) (ap (λ b. b ++ more) pushed_is ∙ append_assoc rest first more ∙ ap (λ b. rest ++ b) split)
+
+-- it was stopped in the write of the first piece
+pub piece_cut :
+    (old : HostState) (h : ℕ) (new : HostState) (rest first more text pushed bytes : List ℕ) → pushed ≡ rest ++ first → first ++ more ≡ text → bytes ≡ pushed → IsFront old h new bytes
+    → IsFront old h new (rest ++ text)
+piece_cut old h new rest first more text pushed bytes pushed_is split same part =
+    written_cut old h old new pushed bytes more (rest ++ text) same (pushed_is_streamed old h rest first more text pushed pushed_is split) part
+
+-- the first piece is written
+pub piece_written :
+    (old : HostState) (h : ℕ) (mid : HostState) (rest first more text pushed bytes : List ℕ) → pushed ≡ rest ++ first → first ++ more ≡ text → bytes ≡ pushed → mid ≡ wrote old h bytes
+    → IsStreamed old h mid more [] (rest ++ text)
+piece_written old h mid rest first more text pushed bytes pushed_is split same wrote_is = (
+  pushed,
+  wrote_is ∙ ap (wrote old h) same,
+  ap (λ b. pushed ++ b) (append-nil more) ∙ ap (λ b. b ++ more) pushed_is ∙ append_assoc rest first more ∙ ap (λ b. rest ++ b) split,
+)
+
+-- it was stopped in the write of the pieces behind it
+pub pieces_cut :
+    (old : HostState) (h : ℕ) (mid new : HostState) (whole last more text : List ℕ) → IsStreamed old h mid more [] text → whole ++ last ≡ more → IsFront mid h new whole → IsFront old h new text
+pieces_cut old h mid new whole last more text s split part =
+    written_cut old h mid new whole whole last text refl (streamed_pushed old h mid more [] whole last text s (split ∙ sym (append-nil more))) part
+
+-- they are written, and the last bytes are kept
+pub pieces_written :
+    (old : HostState) (h : ℕ) (mid new : HostState) (whole last more kept text : List ℕ) → IsStreamed old h mid more [] text → whole ++ last ≡ more → new ≡ wrote mid h whole → kept ≡ last
+    → IsStreamed old h new kept [] text
+pieces_written old h mid new whole last more kept text s split wrote_is kept_is = (
+  s.0 ++ whole,
+  wrote_more old h s.0 whole mid new s.1 wrote_is,
+  append_assoc s.0 whole (kept ++ []) ∙ ap (λ b. s.0 ++ b) (ap (λ b. whole ++ b) (append-nil kept ∙ kept_is) ∙ split ∙ sym (append-nil more)) ∙ s.2,
+)
+
+-- A PART OF A TEXT
+
+-- the part is written behind what is kept, and what follows it is to come
+pub part_written :
+    (old : HostState) (h : ℕ) (mid new : HostState) (rest bytes kept todo left text : List ℕ) → IsStreamed old h mid rest todo text → bytes ++ left ≡ todo
+    → IsStreamed mid h new kept [] (rest ++ bytes) → IsStreamed old h new kept left text
+part_written old h mid new rest bytes kept todo left text s split w =
+    let joined : w.0 ++ kept ≡ rest ++ bytes = ap (λ b. w.0 ++ b) (sym (append-nil kept)) ∙ w.2 in (
+      s.0 ++ w.0,
+      wrote_more old h s.0 w.0 mid new s.1 w.1,
+      append_assoc s.0 w.0 (kept ++ left)
+          ∙ ap (λ b. s.0 ++ b) (sym (append_assoc w.0 kept left) ∙ ap (λ b. b ++ left) joined ∙ append_assoc rest bytes left ∙ ap (λ b. rest ++ b) split) ∙ s.2,
+    )
+
+-- it was stopped in the write of the part
+pub part_cut :
+    (old : HostState) (h : ℕ) (mid new : HostState) (rest bytes todo left text : List ℕ) → IsStreamed old h mid rest todo text → bytes ++ left ≡ todo → IsFront mid h new (rest ++ bytes)
+    → IsFront old h new text
+part_cut old h mid new rest bytes todo left text s split part =
+    written_cut old h mid new (rest ++ bytes) (rest ++ bytes) left text refl
+    (streamed_pushed old h mid rest todo (rest ++ bytes) left text s (append_assoc rest bytes left ∙ ap (λ b. rest ++ b) split)) part
+
+-- a text to come was streamed, behind what is kept
+pub streamed_on :
+    (old : HostState) (h : ℕ) (mid new : HostState) (rest kept todo left text : List ℕ) → IsStreamed old h mid rest todo text → IsStreamed mid h new kept left (rest ++ todo)
+    → IsStreamed old h new kept left text
+streamed_on old h mid new rest kept todo left text s w = (
+  s.0 ++ w.0,
+  wrote_more old h s.0 w.0 mid new s.1 w.1,
+  append_assoc s.0 w.0 (kept ++ left) ∙ ap (λ b. s.0 ++ b) w.2 ∙ s.2,
+)
+
+-- it was stopped on the way
+pub streamed_stop :
+    (old : HostState) (h : ℕ) (mid new : HostState) (rest todo text : List ℕ) → IsStreamed old h mid rest todo text → IsFront mid h new (rest ++ todo) → IsFront old h new text
+streamed_stop old h mid new rest todo text s part =
+    written_cut old h mid new (rest ++ todo) (rest ++ todo) [] text refl (streamed_pushed old h mid rest todo (rest ++ todo) [] text s (append-nil (rest ++ todo))) part
+
+-- all of it was written
+pub streamed_all :
+    (old : HostState) (h : ℕ) (mid new : HostState) (rest todo text : List ℕ) → IsStreamed old h mid rest todo text → new ≡ wrote mid h (rest ++ todo) → new ≡ wrote old h text
+streamed_all old h mid new rest todo text s wrote_is = wrote_more old h s.0 (rest ++ todo) mid new s.1 wrote_is ∙ ap (wrote old h) s.2
+
+-- WHAT A PART SAYS
+
+pub part_text :
+    (from : ℕ → List ℕ) (count : ℕ) (part : Part) (end next : ℕ) → IsPart from count part → part.end ≡ Some end → part.start ≡ next → part.text.items ++ from end ≡ from next
+part_text from count part end next is ended begun =
+    subst (λ (e : Option ℕ). IfSome e (λ k. part.text.items ++ from k ≡ from part.start)) ended is.text ∙ ap from begun
+
+pub part_order : (from : ℕ → List ℕ) (count : ℕ) (part : Part) (end next : ℕ) → IsPart from count part → part.end ≡ Some end → part.start ≡ next → (next ≤ end) × (end ≤ count)
+part_order from count part end next is ended begun =
+    let order = subst (λ (e : Option ℕ). IfSome e (λ k. (part.start ≤ k) × (k ≤ count))) ended is.within in
+    (let le = order.0 in omega arith, order.1)
+
+pub part_further : (from : ℕ → List ℕ) (count : ℕ) (part : Part) (end next : ℕ) → IsPart from count part → part.end ≡ Some end → part.start ≡ next → next < count → next < end
+part_further from count part end next is ended begun left =
+    let more : part.start < count → part.start < end = subst (λ (e : Option ℕ). IfSome e (λ k. part.start < count → part.start < k)) ended is.some in
+    let lt : part.start < end = more (omega arith) in omega arith
