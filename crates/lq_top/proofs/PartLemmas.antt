@@ -1,10 +1,10 @@
 -- Texts that are made in parts: what a write of one of them leaves, and which are written.
-use Rattle.std.proofs.Common.{◌≡◌, ◌≤◌, ◌<◌, ◌++◌, [], ℕ, List, Option, Some, IfSome, length, take, drop, refl, sym, ap, ◌∙◌, append_assoc, append-nil, arith, subst}
+use Rattle.std.proofs.Common.{◌≡◌, ◌≤◌, ◌<◌, ◌++◌, [], ℕ, zero, suc, List, Option, Some, IfSome, length, take, drop, refl, sym, ap, ◌∙◌, append_assoc, append-nil, arith, subst}
 use Rattle.std.proofs.lemmas.List.{take-append-drop}
 use Rattle.std.proofs.Math.Seq.{take-length}
 use Rattle.lq_host.specs.Host.{HostState, wrote}
 use Rattle.lq_host.proofs.HostLemmas.{wrote-nil, wrote_more}
-use Rattle.lq_top.specs.Parts.{IsFront, IsPart, IsStreamed}
+use Rattle.lq_top.specs.Parts.{IsFront, IsPart, IsPartAt, IsStreamed}
 use Rattle.lq_top.specs.declared.parts.Part.{Part}
 use Rattle.lq_top.proofs.PieceLemmas.{streamed_cut, streamed_none, streamed_pushed, streamed_written, written_cut}
 
@@ -118,3 +118,17 @@ pub part_further : (from : ℕ → List ℕ) (count : ℕ) (part : Part) (end ne
 part_further from count part end next is ended begun left =
     let more : part.start < count → part.start < end = subst (λ (e : Option ℕ). IfSome e (λ k. part.start < count → part.start < k)) ended is.some in
     let lt : part.start < end = more (omega arith) in omega arith
+
+-- once one part more is written, or left out
+pub further_on :
+    (from : ℕ → List ℕ) (count at i next after : ℕ) (part : Part) → IsPartAt from count at i part → at < count → (i ≡ 0 → next ≡ at) → (0 < i → (at < next) × (next ≤ count))
+    → (next ≤ count → (next ≤ after) × (after ≤ count)) → (part.start ≡ next → next < count → next < after) → (at < after) × (after ≤ count)
+further_on from count at zero next after part is lt begins past order further =
+    let same : next ≡ at = begins refl in
+    let o = order (omega arith) in
+    let on : next < after = further (is.first refl ∙ sym same) (omega arith) in
+    (omega arith, o.1)
+further_on from count at (suc i) next after part is lt begins past order further =
+    let p = past (omega arith) in
+    let o = order p.1 in
+    (let low = p.0 in let high = o.0 in omega arith, o.1)
