@@ -7,7 +7,7 @@ use Rattle.lq_top.proofs.GroupPackets.{group_below}
 use Rattle.lq_top.proofs.groups.write_group.Goals as goal
 
 pub write_packets_file-requires-clause-known : goal.write_packets_file-requires-clause-known
-write_packets_file-requires-clause-known g c =
+write_packets_file-requires-clause-known g c κs within =
     subst (λ (xs : List ℕ). All (λ n. n < (packets_of_file c.args.capture.now).count) xs) (sym (c.deref.ensures.value ∙ c.in_ok-sent.ensures))
     (group_below c.args.plan.now c.args.fates.now c.args.j c.requires.serials (packets_of_file c.args.capture.now).count c.requires.known)
 
