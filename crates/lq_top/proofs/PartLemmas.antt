@@ -3,10 +3,10 @@ use Rattle.std.proofs.Common.{◌≡◌, ◌≤◌, ◌<◌, ◌++◌, [], ℕ, 
 use Rattle.std.proofs.lemmas.List.{take-append-drop}
 use Rattle.std.proofs.Math.Seq.{take-length}
 use Rattle.lq_host.specs.Host.{HostState, wrote}
-use Rattle.lq_host.proofs.HostLemmas.{wrote-nil, wrote_more}
+use Rattle.lq_host.proofs.HostLemmas.{wrote_more}
 use Rattle.lq_top.specs.Parts.{IsFront, IsPart, IsPartAt, IsStreamed}
 use Rattle.lq_top.specs.declared.parts.Part.{Part}
-use Rattle.lq_top.proofs.PieceLemmas.{streamed_cut, streamed_none, streamed_pushed, streamed_written, written_cut}
+use Rattle.lq_top.proofs.PieceLemmas.{streamed_none, streamed_pushed, written_cut}
 
 -- A TEXT BEHIND WHAT IS KEPT
 

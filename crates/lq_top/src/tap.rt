@@ -128,7 +128,15 @@ fn tap_capture<R: Threads + Wait + Sync, H: Host, G: Gate>(
         words.batch,
         gate,
     )?;
-    write_tap(rt, alloc, host, words.out, capture, &tapped.fates, &tapped.read)?;
+    write_tap(
+        rt,
+        alloc,
+        host,
+        words.out,
+        capture,
+        &tapped.fates,
+        &tapped.read,
+    )?;
     Ok(Status::Done)
 }
 

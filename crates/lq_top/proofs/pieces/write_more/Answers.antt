@@ -1,6 +1,5 @@
 use Rattle.std.proofs.Common.{◌≡◌, ◌*◌, ◌/◌, ◌++◌, ◌∙◌, ap, length, refl, arith}
 use Rattle.lq_host.proofs.HostLemmas.{wrote_none}
-use Rattle.lq_top.specs.Parts.{IsStreamed}
 use Rattle.lq_top.proofs.MoveLemmas.{on_err_any}
 use Rattle.lq_top.proofs.PartLemmas.{all_kept, both_parts, piece_cut, piece_written, pieces_cut, pieces_written}
 use Rattle.lq_top.proofs.pieces.write_more.Goals as goal

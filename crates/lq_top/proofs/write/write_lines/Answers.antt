@@ -1,4 +1,4 @@
-use Rattle.std.proofs.Common.{◌≡◌, ◌++◌, ◌∙◌, List, ap, ℕ, subst}
+use Rattle.std.proofs.Common.{◌++◌, ◌∙◌, List, ap, ℕ, subst}
 use Rattle.std.proofs.lemmas.Result.{on_ok_weaker, on_err_weaker}
 use Rattle.lq_host.specs.Host.{wrote}
 use Rattle.lq_top.specs.Lines.{lines_of}
