@@ -1,10 +1,10 @@
 -- Texts that are made in parts: what a write of one of them leaves, and which are written.
-use Rattle.std.proofs.Common.{◌≡◌, ◌≤◌, ◌<◌, ◌++◌, [], ℕ, zero, suc, List, Option, Some, IfSome, length, take, drop, refl, sym, ap, ◌∙◌, append_assoc, append-nil, arith, subst}
+use Rattle.std.proofs.Common.{◌≡◌, ◌≤◌, ◌<◌, ◌++◌, [], ℕ, zero, suc, List, length, take, drop, refl, sym, ap, ◌∙◌, append_assoc, append-nil, arith}
 use Rattle.std.proofs.lemmas.List.{take-append-drop}
 use Rattle.std.proofs.Math.Seq.{take-length}
 use Rattle.lq_host.specs.Host.{HostState, wrote}
 use Rattle.lq_host.proofs.HostLemmas.{wrote_more}
-use Rattle.lq_top.specs.Parts.{IsFront, IsPart, IsPartAt, IsStreamed}
+use Rattle.lq_top.specs.Parts.{IsFront, IsPartAt, IsStreamed}
 use Rattle.lq_top.specs.declared.parts.Part.{Part}
 use Rattle.lq_top.proofs.PieceLemmas.{streamed_none, streamed_pushed, written_cut}
 
@@ -59,27 +59,7 @@ pieces_written old h mid new whole last more kept text s split wrote_is kept_is 
   append_assoc s.0 whole (kept ++ []) ∙ ap (λ b. s.0 ++ b) (ap (λ b. whole ++ b) (append-nil kept ∙ kept_is) ∙ split ∙ sym (append-nil more)) ∙ s.2,
 )
 
--- A PART OF A TEXT
-
--- the part is written behind what is kept, and what follows it is to come
-pub part_written :
-    (old : HostState) (h : ℕ) (mid new : HostState) (rest bytes kept todo left text : List ℕ) → IsStreamed old h mid rest todo text → bytes ++ left ≡ todo
-    → IsStreamed mid h new kept [] (rest ++ bytes) → IsStreamed old h new kept left text
-part_written old h mid new rest bytes kept todo left text s split w =
-    let joined : w.0 ++ kept ≡ rest ++ bytes = ap (λ b. w.0 ++ b) (sym (append-nil kept)) ∙ w.2 in (
-      s.0 ++ w.0,
-      wrote_more old h s.0 w.0 mid new s.1 w.1,
-      append_assoc s.0 w.0 (kept ++ left)
-          ∙ ap (λ b. s.0 ++ b) (sym (append_assoc w.0 kept left) ∙ ap (λ b. b ++ left) joined ∙ append_assoc rest bytes left ∙ ap (λ b. rest ++ b) split) ∙ s.2,
-    )
-
--- it was stopped in the write of the part
-pub part_cut :
-    (old : HostState) (h : ℕ) (mid new : HostState) (rest bytes todo left text : List ℕ) → IsStreamed old h mid rest todo text → bytes ++ left ≡ todo → IsFront mid h new (rest ++ bytes)
-    → IsFront old h new text
-part_cut old h mid new rest bytes todo left text s split part =
-    written_cut old h mid new (rest ++ bytes) (rest ++ bytes) left text refl
-    (streamed_pushed old h mid rest todo (rest ++ bytes) left text s (append_assoc rest bytes left ∙ ap (λ b. rest ++ b) split)) part
+-- SEVERAL PARTS
 
 -- a text to come was streamed, behind what is kept
 pub streamed_on :
@@ -101,23 +81,6 @@ streamed_stop old h mid new rest todo text s part =
 pub streamed_all :
     (old : HostState) (h : ℕ) (mid new : HostState) (rest todo text : List ℕ) → IsStreamed old h mid rest todo text → new ≡ wrote mid h (rest ++ todo) → new ≡ wrote old h text
 streamed_all old h mid new rest todo text s wrote_is = wrote_more old h s.0 (rest ++ todo) mid new s.1 wrote_is ∙ ap (wrote old h) s.2
-
--- WHAT A PART SAYS
-
-pub part_text :
-    (from : ℕ → List ℕ) (count : ℕ) (part : Part) (end next : ℕ) → IsPart from count part → part.end ≡ Some end → part.start ≡ next → part.text.items ++ from end ≡ from next
-part_text from count part end next is ended begun =
-    subst (λ (e : Option ℕ). IfSome e (λ k. part.text.items ++ from k ≡ from part.start)) ended is.text ∙ ap from begun
-
-pub part_order : (from : ℕ → List ℕ) (count : ℕ) (part : Part) (end next : ℕ) → IsPart from count part → part.end ≡ Some end → part.start ≡ next → (next ≤ end) × (end ≤ count)
-part_order from count part end next is ended begun =
-    let order = subst (λ (e : Option ℕ). IfSome e (λ k. (part.start ≤ k) × (k ≤ count))) ended is.within in
-    (let le = order.0 in omega arith, order.1)
-
-pub part_further : (from : ℕ → List ℕ) (count : ℕ) (part : Part) (end next : ℕ) → IsPart from count part → part.end ≡ Some end → part.start ≡ next → next < count → next < end
-part_further from count part end next is ended begun left =
-    let more : part.start < count → part.start < end = subst (λ (e : Option ℕ). IfSome e (λ k. part.start < count → part.start < k)) ended is.some in
-    let lt : part.start < end = more (omega arith) in omega arith
 
 -- once one part more is written, or left out
 pub further_on :
