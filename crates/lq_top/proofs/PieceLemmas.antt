@@ -1,24 +1,17 @@
 -- Texts that are written through a buffer: what was written, what stands in the buffer, and what is still to come.
-use Rattle.std.proofs.Common.{◌≡◌, ◌<◌, ◌≤◌, ◌+◌, get_or, ◌++◌, [], ℕ, List, length, take, drop, refl, sym, ap, ◌∙◌, append_assoc, append-nil, length-append, arith, None, Result, Ok, OnOk, OnErr, subst}
+use Rattle.std.proofs.Common.{◌≡◌, ◌<◌, ◌+◌, get_or, ◌++◌, [], ℕ, List, length, take, drop, refl, sym, ap, ◌∙◌, append_assoc, append-nil, length-append, arith, None, Result, Ok, OnOk, OnErr, subst}
 use Rattle.std.specs.Fmt.{decimal}
 use Rattle.std.specs.List.{flat_map}
-use Rattle.std.proofs.lemmas.List.{at_drop_more, take-append-drop, take_at}
+use Rattle.std.proofs.lemmas.List.{at_drop_all, at_drop_more, take-append-drop, take_at}
 use Rattle.lq_host.specs.Host.{HostState, Writes, closed, filed, opened_handle, wrote}
 use Rattle.lq_host.proofs.HostLemmas.{file_made, wrote-nil, wrote_more}
 use Rattle.lq_pcapng.specs.File.{piece_of, text_of}
 use Rattle.lq_pcapng.specs.declared.file.CaptureFile.{CaptureFile}
 use Rattle.lq_pcapng.specs.declared.file.CaptureFile.TheVariants.{Classic, Pcapng}
 use Rattle.lq_top.specs.Lines.{lines_of}
+use Rattle.lq_top.specs.Parts.{IsFront, IsStreamed, lines_from, packets_from}
 use Rattle.lq_top.specs.Written.{FileHasPrefix}
 use Rattle.lq_top.proofs.MoveLemmas.{some_front}
-
--- of a text, a front was written, more stands in the buffer, and the rest is still to come
-abbrev pub IsStreamed : HostState → ℕ → HostState → List ℕ → List ℕ → List ℕ → Type 0
-IsStreamed old h new buffer rest text = (front : List ℕ) × (new ≡ wrote old h front) × (front ++ (buffer ++ rest) ≡ text)
-
--- a front of the text was written
-abbrev pub IsFront : HostState → ℕ → HostState → List ℕ → Type 0
-IsFront old h new text = (n : ℕ) × (n ≤ length text) × (new ≡ wrote old h (take n text))
 
 -- nothing was written yet
 pub streamed_none : (old : HostState) (h : ℕ) (buffer rest text : List ℕ) → buffer ++ rest ≡ text → IsStreamed old h old buffer rest text
@@ -67,10 +60,6 @@ written_whole old h mid new buffer bytes rest text same none s wrote_is =
 
 -- THE PACKETS OF A CAPTURE
 
--- the packets from number i on
-abbrev pub packets_from : CaptureFile → List ℕ → ℕ → List ℕ
-packets_from c packets i = flat_map (piece_of c) (drop i packets)
-
 begun : (c : CaptureFile) (packets : List ℕ) → text_of c [] ++ flat_map (piece_of c) packets ≡ text_of c packets
 begun (Classic c) packets = rw append-nil refl
 begun (Pcapng c) packets = rw append-nil refl
@@ -84,30 +73,32 @@ start_pushed old h c packets buffer pushed none pushed_is =
     ([], sym (wrote-nil old h), ap (λ b. b ++ rest) (pushed_is ∙ ap (λ b. b ++ text_of c []) none) ∙ begun c packets)
 
 -- the next packet is in the buffer
-pub packet_pushed :
-    (old : HostState) (h : ℕ) (mid : HostState) (c : CaptureFile) (packets : List ℕ) (i : ℕ) (buffer pushed text : List ℕ) → i < length packets
-    → IsStreamed old h mid buffer (packets_from c packets i) text → pushed ≡ buffer ++ piece_of c (get_or packets i 0) → IsStreamed old h mid pushed (packets_from c packets (i + 1)) text
-packet_pushed old h mid c packets i buffer pushed text within s pushed_is =
+pub packet_next :
+    (c : CaptureFile) (packets : List ℕ) (i : ℕ) (buffer pushed : List ℕ) → i < length packets → pushed ≡ buffer ++ piece_of c (get_or packets i 0)
+    → pushed ++ packets_from c packets (i + 1) ≡ buffer ++ packets_from c packets i
+packet_next c packets i buffer pushed within pushed_is =
     let piece = piece_of c (get_or packets i 0) in
     let next : packets_from c packets i ≡ piece ++ packets_from c packets (i + 1) = at_drop_more (flat_map (piece_of c)) packets i 0 within in
-    streamed_pushed old h mid buffer (packets_from c packets i) pushed (packets_from c packets (i + 1)) text s
-    (ap (λ b. b ++ packets_from c packets (i + 1)) pushed_is ∙ append_assoc buffer piece (packets_from c packets (i + 1)) ∙ ap (λ b. buffer ++ b) (sym next))
+    ap (λ b. b ++ packets_from c packets (i + 1)) pushed_is ∙ append_assoc buffer piece (packets_from c packets (i + 1)) ∙ ap (λ b. buffer ++ b) (sym next)
+
+-- no packet is left
+pub packets_end : (c : CaptureFile) (packets : List ℕ) → packets_from c packets (length packets) ≡ []
+packets_end c packets = at_drop_all (flat_map (piece_of c)) packets (length packets) (omega arith)
 
 -- THE LINES OF FATES
 
--- the lines from packet n on
-abbrev pub lines_from : {F : Type 0} → (F → List ℕ) → List F → ℕ → List ℕ
-lines_from words fates n = lines_of words n (drop n fates)
-
 -- the next line is in the buffer
-pub line_pushed :
-    {F : Type 0} (old : HostState) (h : ℕ) (mid : HostState) (words : F → List ℕ) (fates : List F) (n : ℕ) (d : F) (buffer pushed text : List ℕ) → n < length fates
-    → IsStreamed old h mid buffer (lines_from words fates n) text → pushed ≡ buffer ++ (decimal n ++ words (get_or fates n d)) → IsStreamed old h mid pushed (lines_from words fates (n + 1)) text
-line_pushed old h mid words fates n d buffer pushed text within s pushed_is =
+pub line_next :
+    {F : Type 0} (words : F → List ℕ) (fates : List F) (n : ℕ) (d : F) (buffer pushed : List ℕ) → n < length fates → pushed ≡ buffer ++ (decimal n ++ words (get_or fates n d))
+    → pushed ++ lines_from words fates (n + 1) ≡ buffer ++ lines_from words fates n
+line_next words fates n d buffer pushed within pushed_is =
     let line = decimal n ++ words (get_or fates n d) in
     let next : lines_from words fates n ≡ line ++ lines_from words fates (n + 1) = at_drop_more (lines_of words n) fates n d within in
-    streamed_pushed old h mid buffer (lines_from words fates n) pushed (lines_from words fates (n + 1)) text s
-    (ap (λ b. b ++ lines_from words fates (n + 1)) pushed_is ∙ append_assoc buffer line (lines_from words fates (n + 1)) ∙ ap (λ b. buffer ++ b) (sym next))
+    ap (λ b. b ++ lines_from words fates (n + 1)) pushed_is ∙ append_assoc buffer line (lines_from words fates (n + 1)) ∙ ap (λ b. buffer ++ b) (sym next)
+
+-- no line is left
+pub lines_end : {F : Type 0} (words : F → List ℕ) (fates : List F) → lines_from words fates (length fates) ≡ []
+lines_end words fates = at_drop_all (lines_of words (length fates)) fates (length fates) (omega arith)
 
 -- FILES
 

@@ -1,7 +1,6 @@
 -- The command line, and the call on the built-in bench.
-use Rattle.std.proofs.Common.{◌≡◌, ◌<◌, ◌↔◌, ◌++◌, ◌∷◌, ◌∙◌, [], ℕ, List, length, drop, map, IfSome, IsSome, Option, Some, None, Result, Ok, Err, Vec, String, Global, string_bytes, refl, sym, ap, subst, inl, inr, arith}
+use Rattle.std.proofs.Common.{◌≡◌, ◌<◌, ◌↔◌, ◌++◌, ◌∷◌, ◌∙◌, [], ℕ, List, length, drop, map, IfSome, IsSome, Option, Some, None, Result, Ok, Err, Vec, String, Global, string_bytes, refl, sym, ap, subst, inl, arith}
 use Rattle.std.specs.Option.{option_to_list}
-use Rattle.std.specs.Vec.Iter.{into_iter_items}
 use Rattle.std.specs.declared.io.Error.{Error}
 use Rattle.lq_model.specs.Device.{DeviceState}
 use Rattle.lq_host.specs.Host.{HostState}

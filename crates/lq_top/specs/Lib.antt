@@ -6,6 +6,8 @@ pub mod Groups
 pub mod Written
 -- the command line
 pub mod Command
+-- texts made in parts and written through a buffer
+pub mod Parts
 -- a line for each fate
 pub mod Lines
 -- what a tap that is done leaves

@@ -8,6 +8,7 @@ ghost use Rattle.lq_top.specs.Stop.{StopsFor};
 ghost use Rattle.lq_top.specs.Written.{FileIsCut, FilesAreCut, file_written, files_written};
 
 use crate::answer::Stop;
+use crate::source::Packets;
 use crate::write::write_packets_file;
 use lq_fates::{push_bytes, sent_of};
 use lq_host::Host;
@@ -16,6 +17,8 @@ use lq_mq::{joint, mq_text};
 use lq_pcapng::CaptureFile;
 use lq_plan::Plan;
 use std::alloc::{AllocError, Global};
+use std::marker::Sync;
+use std::thread::Threads;
 
 /// The name of the capture that the packets of a group's children go to.
 fn name_of_group_capture(alloc: Global, out: &str, j: u32) -> Result<String, AllocError>
@@ -62,7 +65,8 @@ fn sent_by_group(alloc: Global, plan: &Plan, fates: &[Fate], j: u32) -> Result<V
 }
 
 /// Makes the file of group `j`: the capture of the packets that its children sent.
-fn write_group<H: Host>(
+fn write_group<R: Threads + Sync, H: Host>(
+    rt: &R,
     alloc: Global,
     host: &mut H,
     out: &str,
@@ -82,9 +86,13 @@ fn write_group<H: Host>(
         (H.state host.old) (H.state host.new)) }
     ensures cause { StopsFor (H.fault_count host.old) (H.fault_count host.new) result }
 {
-    let packets = sent_by_group(alloc, plan, fates, j)?;
+    let sent = sent_by_group(alloc, plan, fates, j)?;
     let name = name_of_group_capture(alloc, out, j)?;
-    write_packets_file(alloc, host, name.as_str(), capture, &packets)
+    let packets = Packets {
+        capture,
+        numbers: &sent,
+    };
+    write_packets_file(rt, alloc, host, name.as_str(), &packets)
 }
 
 /// Whether group `j` is a multi-queue root: it has more than one child.
@@ -96,7 +104,8 @@ fn is_root(plan: &Plan, j: u32) -> bool
 }
 
 /// Makes the files of the multi-queue roots, in ascending order.
-pub fn write_groups<H: Host>(
+pub fn write_groups<R: Threads + Sync, H: Host>(
+    rt: &R,
     alloc: Global,
     host: &mut H,
     out: &str,
@@ -116,7 +125,7 @@ pub fn write_groups<H: Host>(
 {
     for j in 0..plan.groups() {
         if is_root(plan, j) {
-            write_group(alloc, host, out, plan, capture, fates, j)?;
+            write_group(rt, alloc, host, out, plan, capture, fates, j)?;
         }
     }
     Ok(())

@@ -5,9 +5,10 @@ ghost use Rattle.std.specs.Fmt.{decimal};
 use lq_fates::push_fate_line;
 use lq_model::{Fate, NoMemory};
 use lq_tap_fates::{TapFate, push_tap_fate_line};
+use std::marker::Sync;
 
 /// A fate that has a line.
-pub trait Line: Copy {
+pub trait Line: Copy + Sync {
     /// What the line says behind the packet's number.
     ghost words: { Self → List ℕ };
 

@@ -18,6 +18,8 @@ use lq_model::{Fate, Info};
 use lq_pcapng::CaptureFile;
 use lq_plan::Plan;
 use std::alloc::Global;
+use std::marker::Sync;
+use std::thread::Threads;
 
 /// Writes the counts of the fates to standard output, and a line for each multi-queue root.
 pub fn write_counts<H: Host>(
@@ -42,7 +44,8 @@ pub fn write_counts<H: Host>(
 }
 
 /// Writes all that tells what became of a run's packets. Only the text of the counts is in memory as a whole.
-pub fn write_run<H: Host>(
+pub fn write_run<R: Threads + Sync, H: Host>(
+    rt: &R,
     alloc: Global,
     host: &mut H,
     out: &str,
@@ -63,8 +66,8 @@ pub fn write_run<H: Host>(
         (H.state host.old) (H.state host.new)) }
     ensures cause { StopsFor (H.fault_count host.old) (H.fault_count host.new) result }
 {
-    write_units(alloc, host, out, capture, fates, plan.units())?;
-    write_groups(alloc, host, out, plan, capture, fates)?;
-    write_fates(alloc, host, out, fates)?;
+    write_units(rt, alloc, host, out, capture, fates, plan.units())?;
+    write_groups(rt, alloc, host, out, plan, capture, fates)?;
+    write_fates(rt, alloc, host, out, fates)?;
     write_counts(alloc, host, plan, infos, fates)
 }

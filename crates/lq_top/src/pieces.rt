@@ -1,6 +1,7 @@
 //! Texts that are written in pieces of 65,536 bytes, the last one shorter.
-ghost use Rattle.std.specs.Prelude.{◌≡◌, ◌*◌, ◌≤◌, ◌<◌, ℕ, drop, length, take, vec_len, OnOk, OnErr};
+ghost use Rattle.std.specs.Prelude.{◌≡◌, ◌*◌, ◌++◌, ◌≤◌, ◌<◌, [], ℕ, drop, length, take, vec_len, OnOk, OnErr};
 ghost use Rattle.lq_host.specs.Host.{IsWriter, wrote};
+ghost use Rattle.lq_top.specs.Parts.{IsFront, IsStreamed};
 ghost use Rattle.lq_top.specs.Stop.{StopsFor};
 
 use crate::answer::Stop;
@@ -56,5 +57,35 @@ pub fn write_whole_pieces<H: Host>(host: &mut H, h: u32, buffer: &mut Vec<u8>) -
     let whole = buffer.len() / PIECE * PIECE;
     write_text(host, h, &buffer[..whole])?;
     drop_front(buffer, whole);
+    Ok(())
+}
+
+/// Writes a text to a handle behind the bytes that are kept from before, in whole pieces, and keeps the bytes behind them, which
+/// are fewer than a piece. Where it stops, a prefix of both was written.
+pub fn write_more<H: Host>(
+    host: &mut H,
+    h: u32,
+    rest: &mut Vec<u8>,
+    text: &[u8],
+) -> Result<(), Stop>
+    requires writer { IsWriter ((H.state host.old).handles h) }
+    requires short { vec_len rest.old < PIECE }
+    ensures handles { (H.state host.new).handles ≡ (H.state host.old).handles }
+    ensures ok { OnOk result (IsStreamed (H.state host.old) h (H.state host.new) rest.new.items [] (rest.old.items ++ text.now)) }
+    ensures short { OnOk result (vec_len rest.new < PIECE) }
+    ensures err { OnErr result (IsFront (H.state host.old) h (H.state host.new) (rest.old.items ++ text.now)) }
+    ensures cause { StopsFor (H.fault_count host.old) (H.fault_count host.new) result }
+{
+    let fill = text.len().min(PIECE - rest.len());
+    let (first, more) = text.split_at(fill);
+    rest.extend_from_slice(first)?;
+    if rest.len() < PIECE {
+        return Ok(());
+    }
+    write_text(host, h, rest)?;
+    rest.clear();
+    let (whole, last) = more.split_at(more.len() / PIECE * PIECE);
+    write_text(host, h, whole)?;
+    rest.extend_from_slice(last)?;
     Ok(())
 }

@@ -18,6 +18,7 @@ use crate::answer::{Status, Stop};
 use crate::command::TapOperands;
 use crate::read::read_capture_file;
 use crate::refusal::refuse;
+use crate::source::Packets;
 use crate::write::{write_fates, write_output, write_packets_file};
 use lq_host::Host;
 use lq_pcap::Frames as _;
@@ -38,7 +39,8 @@ fn name_of_read(alloc: Global, out: &str) -> Result<String, AllocError>
 }
 
 /// Makes the file of the packets that were read.
-fn write_read<H: Host>(
+fn write_read<R: Threads + Sync, H: Host>(
+    rt: &R,
     alloc: Global,
     host: &mut H,
     out: &str,
@@ -55,7 +57,11 @@ fn write_read<H: Host>(
     ensures cause { StopsFor (H.fault_count host.old) (H.fault_count host.new) result }
 {
     let name = name_of_read(alloc, out)?;
-    write_packets_file(alloc, host, name.as_str(), capture, read)
+    let packets = Packets {
+        capture,
+        numbers: read,
+    };
+    write_packets_file(rt, alloc, host, name.as_str(), &packets)
 }
 
 /// Writes the counts of the fates to standard output.
@@ -71,7 +77,8 @@ fn write_total<H: Host>(alloc: Global, host: &mut H, fates: &[TapFate]) -> Resul
 }
 
 /// Writes all that tells what became of a tap's packets.
-fn write_tap<H: Host>(
+fn write_tap<R: Threads + Sync, H: Host>(
+    rt: &R,
     alloc: Global,
     host: &mut H,
     out: &str,
@@ -89,8 +96,8 @@ fn write_tap<H: Host>(
         (H.state host.old) (H.state host.new)) }
     ensures cause { StopsFor (H.fault_count host.old) (H.fault_count host.new) result }
 {
-    write_read(alloc, host, out, capture, read)?;
-    write_fates(alloc, host, out, fates)?;
+    write_read(rt, alloc, host, out, capture, read)?;
+    write_fates(rt, alloc, host, out, fates)?;
     write_total(alloc, host, fates)
 }
 
@@ -121,7 +128,15 @@ fn tap_capture<R: Threads + Wait + Sync, H: Host, G: Gate>(
         words.batch,
         gate,
     )?;
-    write_tap(alloc, host, words.out, capture, &tapped.fates, &tapped.read)?;
+    write_tap(
+        rt,
+        alloc,
+        host,
+        words.out,
+        capture,
+        &tapped.fates,
+        &tapped.read,
+    )?;
     Ok(Status::Done)
 }
 

@@ -63,7 +63,7 @@ fn run_capture<R: Threads + Wait + Sync, H: Host, G: Gate, D: TxDevice>(
     let _count = capture.len();
     let infos = infos(alloc, plan, capture)?;
     let fates = send_all(rt, alloc, plan, &infos, bench, ended, gate)?;
-    match write_run(alloc, host, out, plan, capture, &infos, &fates) {
+    match write_run(rt, alloc, host, out, plan, capture, &infos, &fates) {
         Ok(()) => Ok(Status::Done),
         Err(stop) => {
             ended.clear();

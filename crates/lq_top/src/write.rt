@@ -1,5 +1,5 @@
 //! What a call writes: a text to a file or to standard output, and the files of units and fates.
-ghost use Rattle.std.specs.Prelude.{◌≡◌, [], ◌⊎◌, ◌≤◌, ℕ, length, take, OnOk, OnErr, ◌<◌, All, IfOk, string_bytes};
+ghost use Rattle.std.specs.Prelude.{◌≡◌, [], ◌⊎◌, ◌≤◌, ℕ, length, take, OnOk, OnErr, ◌<◌, All, IfOk, string_bytes, vec_len};
 ghost use Rattle.lq_host.specs.Host.{IsWriter, wrote, filed};
 ghost use Rattle.lq_top.specs.Stop.{StopsFor};
 ghost use Rattle.lq_top.specs.Written.{FileHasPrefix, OutputHasPrefix, FileIsCut, FilesAreCut, file_written, files_written};
@@ -10,15 +10,16 @@ ghost use Rattle.lq_top.specs.Lines.{lines_file, lines_of};
 
 use crate::answer::{Stop, and_finished};
 use crate::lines::Line;
-use crate::pieces::{PIECE, write_text, write_whole_pieces};
+use crate::parts::{Buffers, make_buffers, write_source};
+use crate::pieces::{write_text, write_whole_pieces};
+use crate::source::{Lines, Packets};
 use lq_fates::sent_of;
 use lq_host::Host;
 use lq_model::Fate;
 use lq_pcapng::CaptureFile;
 use std::alloc::{AllocError, Global};
-
-/// The most bytes of the line of a fate: of the numbers of the packet, the unit and the serial, and between them.
-const LONGEST_LINE: usize = 48;
+use std::marker::Sync;
+use std::thread::Threads;
 
 /// Makes a file of a text. Where it stops, the file is as before, or has a prefix of the text.
 pub fn write_file<H: Host>(host: &mut H, name: &str, text: &[u8]) -> Result<(), Stop>
@@ -60,99 +61,81 @@ fn name_of_fates(alloc: Global, out: &str) -> Result<String, AllocError>
     format!(in alloc; "{out}.fates")
 }
 
-/// A buffer for the capture in the format of another with these of its packets. It has room for the whole text, or for what
-/// stands in it at once where that is less: what stands before the packets, or the longest packet behind less than a piece.
-fn make_buffer(alloc: Global, capture: &CaptureFile, sent: &[u32]) -> Result<Vec<u8>, AllocError>
-    requires { All (λ n. n < (packets_of_file capture.now).count) sent.now }
-    ensures { IfOk result (λ buffer. buffer.items ≡ []) }
-{
-    let start = capture.start_len();
-    let mut whole = start;
-    let mut longest = 0;
-    for n in sent {
-        let len = capture.piece_len(*n as usize);
-        whole = whole.saturating_add(len);
-        longest = longest.max(len);
-    }
-    Vec::with_capacity(alloc, whole.min(start.max(PIECE.saturating_add(longest))))
-}
-
 /// Writes the capture in the format of another with these of its packets, in the order of the list, to a handle. Where it
 /// stops, a prefix was written.
-fn write_packets<H: Host>(
+fn write_packets<R: Threads + Sync, H: Host>(
+    rt: &R,
     host: &mut H,
     h: u32,
-    capture: &CaptureFile,
-    sent: &[u32],
-    buffer: &mut Vec<u8>,
+    packets: &Packets<'_>,
+    mut buffers: Buffers,
 ) -> Result<(), Stop>
     requires writer { IsWriter ((H.state host.old).handles h) }
-    requires known { All (λ n. n < (packets_of_file capture.now).count) sent.now }
-    requires empty { buffer.old.items ≡ [] }
+    requires known { All (λ n. n < (packets_of_file packets.now.capture.now).count) packets.now.numbers.now }
+    requires empty { buffers.rest.items ≡ [] }
+    requires parts { 0 < vec_len buffers.parts }
     ensures handles { (H.state host.new).handles ≡ (H.state host.old).handles }
-    ensures ok { OnOk result (H.state host.new ≡ wrote (H.state host.old) h (text_of capture.now sent.now)) }
-    ensures err { OnErr result ((n : ℕ) × (n ≤ length (text_of capture.now sent.now))
-        × (H.state host.new ≡ wrote (H.state host.old) h (take n (text_of capture.now sent.now)))) }
+    ensures ok { OnOk result (H.state host.new ≡ wrote (H.state host.old) h (text_of packets.now.capture.now packets.now.numbers.now)) }
+    ensures err { OnErr result ((n : ℕ) × (n ≤ length (text_of packets.now.capture.now packets.now.numbers.now))
+        × (H.state host.new ≡ wrote (H.state host.old) h (take n (text_of packets.now.capture.now packets.now.numbers.now)))) }
     ensures cause { StopsFor (H.fault_count host.old) (H.fault_count host.new) result }
 {
-    capture.push_start(buffer)?;
-    write_whole_pieces(host, h, buffer)?;
-    for n in sent {
-        capture.push_packet(buffer, *n as usize)?;
-        write_whole_pieces(host, h, buffer)?;
-    }
-    write_text(host, h, buffer)
+    packets.capture.push_start(&mut buffers.rest)?;
+    write_whole_pieces(host, h, &mut buffers.rest)?;
+    write_source(rt, host, h, packets, buffers)
 }
 
 /// Makes a file of the capture in the format of another with these of its packets. Where it stops, the file is as before, or
 /// has a prefix of the text.
-fn write_capture<H: Host>(
+fn write_capture<R: Threads + Sync, H: Host>(
+    rt: &R,
     host: &mut H,
     name: &str,
-    capture: &CaptureFile,
-    sent: &[u32],
-    buffer: &mut Vec<u8>,
+    packets: &Packets<'_>,
+    buffers: Buffers,
 ) -> Result<(), Stop>
     requires may { H.may_create name.now }
-    requires known { All (λ n. n < (packets_of_file capture.now).count) sent.now }
-    requires empty { buffer.old.items ≡ [] }
+    requires known { All (λ n. n < (packets_of_file packets.now.capture.now).count) packets.now.numbers.now }
+    requires empty { buffers.rest.items ≡ [] }
+    requires parts { 0 < vec_len buffers.parts }
     ensures handles { (H.state host.new).handles ≡ (H.state host.old).handles }
     ensures ok { OnOk result (H.state host.new
-        ≡ filed (H.state host.old) name.now (text_of capture.now sent.now)) }
+        ≡ filed (H.state host.old) name.now (text_of packets.now.capture.now packets.now.numbers.now)) }
     ensures err { OnErr result ((H.state host.new ≡ H.state host.old)
-        ⊎ FileHasPrefix name.now (text_of capture.now sent.now) (H.state host.old) (H.state host.new)) }
+        ⊎ FileHasPrefix name.now (text_of packets.now.capture.now packets.now.numbers.now) (H.state host.old) (H.state host.new)) }
     ensures cause { StopsFor (H.fault_count host.old) (H.fault_count host.new) result }
 {
     let h = host.create(name)?;
-    let packets = write_packets(host, h, capture, sent, buffer);
+    let records = write_packets(rt, host, h, packets, buffers);
     let end = host.finish(h);
-    and_finished(packets, end)?;
+    and_finished(records, end)?;
     Ok(())
 }
 
-/// Makes a file of the capture in the format of another with these of its packets, through a buffer of its own.
-pub fn write_packets_file<H: Host>(
+/// Makes a file of the capture in the format of another with these of its packets, through buffers of its own.
+pub fn write_packets_file<R: Threads + Sync, H: Host>(
+    rt: &R,
     alloc: Global,
     host: &mut H,
     name: &str,
-    capture: &CaptureFile,
-    packets: &[u32],
+    packets: &Packets<'_>,
 ) -> Result<(), Stop>
     requires may { H.may_create name.now }
-    requires known { All (λ n. n < (packets_of_file capture.now).count) packets.now }
+    requires known { All (λ n. n < (packets_of_file packets.now.capture.now).count) packets.now.numbers.now }
     ensures handles { (H.state host.new).handles ≡ (H.state host.old).handles }
     ensures ok { OnOk result (H.state host.new
-        ≡ filed (H.state host.old) name.now (text_of capture.now packets.now)) }
+        ≡ filed (H.state host.old) name.now (text_of packets.now.capture.now packets.now.numbers.now)) }
     ensures err { OnErr result ((H.state host.new ≡ H.state host.old)
-        ⊎ FileHasPrefix name.now (text_of capture.now packets.now) (H.state host.old) (H.state host.new)) }
+        ⊎ FileHasPrefix name.now (text_of packets.now.capture.now packets.now.numbers.now) (H.state host.old) (H.state host.new)) }
     ensures cause { StopsFor (H.fault_count host.old) (H.fault_count host.new) result }
 {
-    let mut buffer = make_buffer(alloc, capture, packets)?;
-    write_capture(host, name, capture, packets, &mut buffer)
+    let buffers = make_buffers(alloc, packets.numbers.len())?;
+    write_capture(rt, host, name, packets, buffers)
 }
 
 /// Makes the file of a unit: the capture of the packets that it sent.
-fn write_unit<H: Host>(
+fn write_unit<R: Threads + Sync, H: Host>(
+    rt: &R,
     alloc: Global,
     host: &mut H,
     out: &str,
@@ -172,11 +155,16 @@ fn write_unit<H: Host>(
 {
     let sent = sent_of(alloc, fates, unit)?;
     let name = name_of_capture(alloc, out, unit)?;
-    write_packets_file(alloc, host, name.as_str(), capture, &sent)
+    let packets = Packets {
+        capture,
+        numbers: &sent,
+    };
+    write_packets_file(rt, alloc, host, name.as_str(), &packets)
 }
 
 /// Makes the files of the first so many units, in ascending order.
-pub fn write_units<H: Host>(
+pub fn write_units<R: Threads + Sync, H: Host>(
+    rt: &R,
     alloc: Global,
     host: &mut H,
     out: &str,
@@ -195,42 +183,42 @@ pub fn write_units<H: Host>(
     ensures cause { StopsFor (H.fault_count host.old) (H.fault_count host.new) result }
 {
     for unit in 0..units {
-        write_unit(alloc, host, out, capture, fates, unit)?;
+        write_unit(rt, alloc, host, out, capture, fates, unit)?;
     }
     Ok(())
 }
 
 /// Writes the lines that tell each packet's fate to a handle. Where it stops, a prefix was written.
-fn write_lines<H: Host, F: Line>(
+fn write_lines<R: Threads + Sync, H: Host, F: Line>(
+    rt: &R,
     host: &mut H,
     h: u32,
     fates: &[F],
-    buffer: &mut Vec<u8>,
+    buffers: Buffers,
 ) -> Result<(), Stop>
     requires writer { IsWriter ((H.state host.old).handles h) }
-    requires empty { buffer.old.items ≡ [] }
+    requires empty { buffers.rest.items ≡ [] }
+    requires parts { 0 < vec_len buffers.parts }
     ensures handles { (H.state host.new).handles ≡ (H.state host.old).handles }
     ensures ok { OnOk result (H.state host.new ≡ wrote (H.state host.old) h (lines_of F.words 0 fates.now)) }
     ensures err { OnErr result ((n : ℕ) × (n ≤ length (lines_of F.words 0 fates.now))
         × (H.state host.new ≡ wrote (H.state host.old) h (take n (lines_of F.words 0 fates.now)))) }
     ensures cause { StopsFor (H.fault_count host.old) (H.fault_count host.new) result }
 {
-    for (n, fate) in fates.iter().enumerate() {
-        fate.push_line(buffer, n)?;
-        write_whole_pieces(host, h, buffer)?;
-    }
-    write_text(host, h, buffer)
+    write_source(rt, host, h, &Lines { fates }, buffers)
 }
 
 /// Makes a file of the lines that tell each packet's fate. Where it stops, the file is as before, or has a prefix of them.
-fn write_fates_file<H: Host, F: Line>(
+fn write_fates_file<R: Threads + Sync, H: Host, F: Line>(
+    rt: &R,
     host: &mut H,
     name: &str,
     fates: &[F],
-    buffer: &mut Vec<u8>,
+    buffers: Buffers,
 ) -> Result<(), Stop>
     requires may { H.may_create name.now }
-    requires empty { buffer.old.items ≡ [] }
+    requires empty { buffers.rest.items ≡ [] }
+    requires parts { 0 < vec_len buffers.parts }
     ensures handles { (H.state host.new).handles ≡ (H.state host.old).handles }
     ensures ok { OnOk result (H.state host.new
         ≡ filed (H.state host.old) name.now (lines_of F.words 0 fates.now)) }
@@ -239,14 +227,15 @@ fn write_fates_file<H: Host, F: Line>(
     ensures cause { StopsFor (H.fault_count host.old) (H.fault_count host.new) result }
 {
     let h = host.create(name)?;
-    let lines = write_lines(host, h, fates, buffer);
+    let lines = write_lines(rt, host, h, fates, buffers);
     let end = host.finish(h);
     and_finished(lines, end)?;
     Ok(())
 }
 
 /// Makes the file that tells each packet's fate.
-pub fn write_fates<H: Host, F: Line>(
+pub fn write_fates<R: Threads + Sync, H: Host, F: Line>(
+    rt: &R,
     alloc: Global,
     host: &mut H,
     out: &str,
@@ -260,11 +249,7 @@ pub fn write_fates<H: Host, F: Line>(
         (H.state host.old) (H.state host.new)) }
     ensures cause { StopsFor (H.fault_count host.old) (H.fault_count host.new) result }
 {
-    let room = fates
-        .len()
-        .saturating_mul(LONGEST_LINE)
-        .min(PIECE + LONGEST_LINE);
-    let mut buffer = Vec::with_capacity(alloc, room)?;
+    let buffers = make_buffers(alloc, fates.len())?;
     let name = name_of_fates(alloc, out)?;
-    write_fates_file(host, name.as_str(), fates, &mut buffer)
+    write_fates_file(rt, host, name.as_str(), fates, buffers)
 }

@@ -7,7 +7,7 @@ use Rattle.lq_top.proofs.TapLemmas.{has_cut, read_below}
 use Rattle.lq_top.proofs.tap.tap_capture.Goals as goal
 
 pub write_tap-requires-clause-known : goal.write_tap-requires-clause-known
-write_tap-requires-clause-known g c =
+write_tap-requires-clause-known g c κs within =
     let words = c.args.words.now in
     let count = (packets_of_file c.args.capture.now).count in
     let fates = c.in_ok-tapped.tapped.fates.items in

@@ -7,7 +7,7 @@ use Rattle.lq_top.proofs.PieceLemmas.{made_front, made_whole}
 use Rattle.lq_top.proofs.write.write_fates_file.Goals as goal
 
 pub write_lines-lines-requires-clause-writer : goal.write_lines-lines-requires-clause-writer
-write_lines-lines-requires-clause-writer g c =
+write_lines-lines-requires-clause-writer g c κs within =
     opened-writer _ (g.H.Host.state c.create.new.self) c.in_ok-h.h c.args.name.now c.in_ok-h.ensures.ok
 
 pub finish-end-requires-clause-open : goal.finish-end-requires-clause-open

@@ -7,7 +7,7 @@ use Rattle.lq_top.proofs.TextLemmas.{sent_below}
 use Rattle.lq_top.proofs.write.write_unit.Goals as goal
 
 pub write_packets_file-requires-clause-known : goal.write_packets_file-requires-clause-known
-write_packets_file-requires-clause-known g c =
+write_packets_file-requires-clause-known g c κs within =
     subst (λ (xs : List ℕ). All (λ n. n < (packets_of_file c.args.capture.now).count) xs) (sym (c.deref.ensures.value ∙ c.in_ok-sent.ensures))
     (sent_below c.args.fates.now c.args.unit (packets_of_file c.args.capture.now).count c.requires.serials c.requires.known)
 
