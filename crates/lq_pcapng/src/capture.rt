@@ -97,16 +97,6 @@ impl NgCapture {
         block(&self.bytes, self.is_little_endian(), 0)
     }
 
-    /// How many bytes the section header block and the interface description blocks take, or `usize::MAX` where that is
-    /// less.
-    pub(crate) fn start_len(&self) -> usize {
-        let mut len = self.section().len();
-        for i in 0..self.interface_count() {
-            len = len.saturating_add(self.interface(i).len());
-        }
-        len
-    }
-
     /// Whether the numbers of the section have their lowest byte first.
     pub fn is_little_endian(&self) -> bool
         ensures { result ≡ order_of self.now }

@@ -1,5 +1,5 @@
 //! A capture in either format.
-ghost use Rattle.std.specs.Prelude.{◌≡◌, length, ◌≤◌, ◌<◌, ◌++◌, [], OnOk};
+ghost use Rattle.std.specs.Prelude.{◌≡◌, ◌≤◌, ◌<◌, ◌++◌, [], OnOk};
 ghost use Rattle.lq_pcap.specs.Reading.{Gives};
 ghost use Rattle.lq_pcapng.specs.File.{capture_file_of, is_pcapng, packets_of_file, piece_of, text_of};
 
@@ -80,26 +80,6 @@ impl Frames for CaptureFile {
 }
 
 impl CaptureFile {
-    /// How many bytes stand before the packets. It is a size to reserve, so no clause speaks of it: one that is wrong costs
-    /// time alone.
-    pub fn start_len(&self) -> usize {
-        match self {
-            CaptureFile::Classic(capture) => capture.header().len(),
-            CaptureFile::Pcapng(capture) => capture.start_len(),
-        }
-    }
-
-    /// How many bytes a written packet `i` takes.
-    pub fn piece_len(&self, i: usize) -> usize
-        requires { i < (packets_of_file self.now).count }
-        ensures { result ≡ length (piece_of self.now i) }
-    {
-        match self {
-            CaptureFile::Classic(capture) => capture.whole(i).len(),
-            CaptureFile::Pcapng(capture) => capture.block(i).len(),
-        }
-    }
-
     /// Writes the capture with none of its packets to the end of `out`: what stands before them.
     ///
     /// # NoMemory
