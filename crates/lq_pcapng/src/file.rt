@@ -1,5 +1,5 @@
 //! A capture in either format.
-ghost use Rattle.std.specs.Prelude.{◌≡◌, ◌≤◌, ◌<◌, ◌++◌, [], OnOk};
+ghost use Rattle.std.specs.Prelude.{◌≡◌, ◌<◌, ◌++◌, [], OnOk};
 ghost use Rattle.lq_pcap.specs.Reading.{Gives};
 ghost use Rattle.lq_pcapng.specs.File.{capture_file_of, is_pcapng, packets_of_file, piece_of, text_of};
 
