@@ -39,16 +39,25 @@ fn output_of(alloc: Global, count: u32, sent: u32) -> Result<String, Fail> {
     )?)
 }
 
+/// So many packets that a number generates, and how many of them are sent.
+fn check_counts<R: Threads + Wait + Sync>(
+    rt: &R,
+    alloc: Global,
+    (number, count, sent): (&str, u32, u32),
+) -> Result<(), Fail> {
+    let text = format!(in alloc; "{count}")?;
+    let words = ["gen", number, text.as_str(), "g"];
+    let done = call_done(rt, alloc, "gen", &words, MemHost::new(alloc), &Free)?;
+    let output = output_of(alloc, count, sent)?;
+    done.told(output.as_bytes())?;
+    done.has_no_file("g.0.pcap")?;
+    done.has_no_file("g.fates")
+}
+
 #[test]
 fn counts_the_fates_of_a_generated_capture(rt: HostRuntime) -> Result<(), Fail> {
-    let alloc = rt.alloc();
-    for (number, count, sent) in COUNTS {
-        let text = format!(in alloc; "{count}")?;
-        let words = ["gen", number, text.as_str(), "g"];
-        let done = call_done(&rt, alloc, number, &words, MemHost::new(alloc), &Free)?;
-        done.told(output_of(alloc, count, sent)?.as_bytes())?;
-        done.has_no_file("g.0.pcap")?;
-        done.has_no_file("g.fates")?;
+    for row in COUNTS {
+        check_counts(&rt, rt.alloc(), row)?;
     }
     Ok(())
 }
