@@ -2,7 +2,7 @@
 ghost use Rattle.std.specs.Prelude.{◌≡◌, ◌<◌, ◌≤◌, true, false};
 ghost use Rattle.lq_model.specs.Plan.{Plan as PlanRecord, is_swap_kind, unit_of_swap};
 ghost use Rattle.lq_model.specs.declared.device.Params.{Params};
-ghost use Rattle.lq_seat.specs.Calls.{Changes, DoesEvent, DoesSwap, Drains, IsBeside, MaySendNext, Joins, MayChange, MaySwap, SendsPacket, WakesQueues, keeping_seat, offspring_seat};
+ghost use Rattle.lq_seat.specs.Calls.{Changes, DoesEvent, DoesSwap, Drains, IsBeside, LoadsBase, MaySendNext, Joins, MayChange, MaySwap, SendsPacket, WakesQueues, keeping_seat, offspring_seat};
 ghost use Rattle.lq_seat.specs.Ends.{Finishes, MayFinish};
 ghost use Rattle.lq_seat.specs.State.{IsHere, times};
 
@@ -156,7 +156,8 @@ impl<D: TxDevice> Seat<D> {
         requires here { IsHere table.now self.old }
         requires first { self.old.first ≡ true }
         requires beside { IsBeside self.old other }
-        ensures { Joins self.old other self.new }
+        ensures joins { Joins self.old other self.new }
+        ensures loads { LoadsBase self.old self.new }
     {
         let Seat { cpu } = other;
         table.shared.join(&mut self.cpu, cpu);

@@ -58,8 +58,8 @@ loop-other-preserved g c =
     record {
       down = subst (λ (k : ℕ). JoinsDown plan infos place k c.args.run.now.tables.now (slice_set c.loop-other.cpus.items c.len-j.result c.join.new.self) c.pop.new.self.items) j
           (join-one plan infos place c.len-j.result c.args.run.now.tables.now c.loop-other.cpus.items c.loop-other.others.items c.pop.new.self.items c.index-run-j.result c.index_mut.result.now c.in-Some.other c.join.new.self
-          c.in-Some.ensures.items so_many (read-at c.args.run.now.tables.now c.len-j.result c.index-run-j.result (omega arith) c.index-run-j.is) at-d c.join.ensures now);
-      devices = devices-joined c.len-j.result c.args.cpus.now.items c.loop-other.cpus.items c.index_mut.result.now c.in-Some.other c.join.new.self at-d c.join.ensures c.loop-other.invariant.devices;
+          c.in-Some.ensures.items so_many (read-at c.args.run.now.tables.now c.len-j.result c.index-run-j.result (omega arith) c.index-run-j.is) at-d c.join.ensures.joins now);
+      devices = devices-joined c.len-j.result c.args.cpus.now.items c.loop-other.cpus.items c.index_mut.result.now c.in-Some.other c.join.new.self at-d c.join.ensures.joins c.loop-other.invariant.devices;
     }
 
 pub returns-clause-joined : goal.returns-clause-joined
