@@ -1,5 +1,4 @@
 -- what the tests know of the first seat between two calls
-pub mod Plain
 -- what the calls of control leave
 pub mod Control
 -- what they ask of a seat, and what they leave of it

@@ -9,8 +9,6 @@ mod laws;
 mod purges;
 mod resizes;
 mod swaps;
-#[cfg(test)]
-mod tests;
 mod waits;
 
 pub use activates::{down, up};

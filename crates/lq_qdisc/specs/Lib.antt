@@ -11,6 +11,5 @@ pub mod Stations
 -- what the calls do of a seat that has the table alone
 pub mod Alone
 -- what the tests keep of a seat and of the packets
-pub mod Plain
 -- the steps of its calls
 pub mod Steps

@@ -7,8 +7,6 @@ mod interrupts;
 mod runs;
 mod sends;
 mod takes;
-#[cfg(test)]
-mod tests;
 mod transmits;
 
 pub use answers::{Ran, RunEnd, Sending, Taken, Through, Why};

@@ -6,8 +6,6 @@ mod purges;
 mod puts;
 mod resize;
 mod takes;
-#[cfg(test)]
-mod tests;
 mod turns;
 
 pub use purges::purge_band;

@@ -12,8 +12,6 @@ mod qdisc;
 mod schedule;
 mod start;
 mod steps;
-#[cfg(test)]
-mod tests;
 mod trace_run;
 mod trace_text;
 

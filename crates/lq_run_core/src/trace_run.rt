@@ -214,6 +214,3 @@ pub fn trace(alloc: Global, text: &[u8]) -> Result<Vec<u8>, TraceRefusal>
         Err(_) => Err(TraceRefusal::NoMemory),
     }
 }
-
-#[cfg(test)]
-mod tests;

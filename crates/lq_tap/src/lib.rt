@@ -12,8 +12,6 @@ mod seats;
 mod shared;
 mod slots;
 mod takes;
-#[cfg(test)]
-mod tests;
 mod view;
 
 pub use ends::{end_sender, ended};

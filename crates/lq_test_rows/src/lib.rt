@@ -15,11 +15,15 @@ mod generated;
 #[cfg(test)]
 mod holds;
 #[cfg(test)]
+mod machine;
+#[cfg(test)]
 mod overlap;
 #[cfg(test)]
 mod pcapng;
 #[cfg(test)]
 mod rows;
+#[cfg(test)]
+mod schedule_texts;
 #[cfg(test)]
 mod schedules;
 #[cfg(test)]

@@ -1,0 +1,27 @@
+use Rattle.std.proofs.Common.{◌≡◌, ℕ, ◌+◌, List, length, ap, subst, arith, rules}
+use Rattle.std.proofs.lemmas.Grind.{common_steps}
+use Rattle.lq_model.specs.declared.fate.Info.{Info}
+use Rattle.lq_table.specs.Sees.{view}
+use Rattle.lq_control.specs.Control.{IsAfterUnits}
+use Rattle.lq_test_table.proofs.Firsts.{count_few, counted_after, first_swapped}
+use Rattle.lq_test_table.proofs.threads.swap_device.Goals as goal
+
+pub swap-back-requires-clause-unit : goal.swap-back-requires-clause-unit
+swap-back-requires-clause-unit g c _ _ =
+    let many : length c.args.old.now.items ≡ c.len-2.result = omega (arith, c.args.old.now.ok.0) in
+    let trail = (view c.args.cpu.now).trail in
+    let after = counted_after c.args.shared.now.station (length c.args.old.now.items) trail (search rules) c.requires.first.brought in
+    ((omega arith), subst (λ (n : ℕ). IsAfterUnits c.args.shared.now.station trail (n + 1)) many after)
+
+pub swap-back-requires-clause-device : goal.swap-back-requires-clause-device
+swap-back-requires-clause-device g c _ _ =
+    let d = c.begun-new.ensures in
+    let few = count_few c.args.shared.now.infos.now c.args.shared.now.station in
+    (d.0, d.1, omega (arith, few, d.2, ap (λ (x : List Info). length x) c.infos.ensures), d.3)
+
+pub returns : goal.returns
+returns g c =
+    let many : length c.args.old.now.items ≡ c.len-2.result = omega (arith, c.args.old.now.ok.0) in let s = c.swap-back.ensures in
+    let grown : length c.push.new.self.items ≡ length c.args.old.now.items + 1 = grind (arith, common_steps, c.push.ensures.items, c.expect.ensures) in record {
+      first = first_swapped c.args.shared.now c.args.cpu.now c.swap-back.new.cpu (length c.args.old.now.items) (c.len-2.result + 1) _ _ _ c.requires.first s.same.0 s.same.1 s.at.0 s.at.1 s.at.2 s.trail (omega arith) grown;
+    }

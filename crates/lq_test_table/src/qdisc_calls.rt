@@ -1,0 +1,333 @@
+//! Worked rows on one thread: what is answered and what becomes of each packet was told by hand from the rules.
+ghost use Rattle.std.specs.Prelude.{◌≤◌, length};
+ghost use Rattle.lq_test_table.specs.Plain.{IsFirstOwnerAtRest};
+
+use crate::plain::{PARAMS, STOPPING, check_packets, info_at, sent};
+use lq_device::{BenchDevice, Station, StationPlan, TxDevice};
+use lq_model::{Fate, Info, Params};
+use lq_qdisc::{Sending, irq, softirq, transmit};
+use lq_table::{Closed, Cpu, Shared};
+use std::alloc::Global;
+use std::process::Abort;
+use std::sync::Wait;
+
+fn plan(len: u32, bypass: bool, params: Params) -> StationPlan {
+    StationPlan {
+        len,
+        max_len: len,
+        bypass,
+        params,
+        queues: 1,
+    }
+}
+
+/// The table of these packets, and its one seat.
+fn table<'a, A: Abort>(
+    rt: &A,
+    alloc: Global,
+    infos: &'a [Info],
+    plan: StationPlan,
+    queues: u32,
+) -> (Shared<'a, BenchDevice>, Cpu<BenchDevice>)
+    ensures { IsFirstOwnerAtRest result.0 result.1 }
+{
+    assert!(rt; infos.len() <= 100);
+    assert!(rt; 0 < plan.len);
+    assert!(rt; plan.len <= plan.max_len);
+    assert!(rt; plan.max_len <= 100);
+    assert!(rt; 0 < queues);
+    assert!(rt; queues <= 8);
+    check_packets(rt, infos, queues);
+    let mut device = BenchDevice::new(alloc);
+    device
+        .configure(&plan.params, infos.len())
+        .expect(rt, "memory");
+    let station = Station::new(0, device);
+    let plan = StationPlan { queues, ..plan };
+    Shared::make(alloc, infos, 0, plan, queues, 2, station)
+        .ok()
+        .expect(rt, "memory")
+}
+
+/// The soft interrupt of a seat that is raised.
+fn interrupt<'a, D: TxDevice>(shared: &Shared<'a, D>, cpu: &mut Cpu<D>)
+    requires rests { IsFirstOwnerAtRest shared.now cpu.old }
+    ensures rests { IsFirstOwnerAtRest shared.now cpu.new }
+{
+    if cpu.raised() {
+        softirq(shared, cpu);
+    }
+}
+
+/// Soft interrupts while the seat is raised, of which no row here has more than two in a row.
+fn drain<'a, D: TxDevice>(shared: &Shared<'a, D>, cpu: &mut Cpu<D>)
+    requires rests { IsFirstOwnerAtRest shared.now cpu.old }
+    ensures rests { IsFirstOwnerAtRest shared.now cpu.new }
+{
+    interrupt(shared, cpu);
+    interrupt(shared, cpu);
+}
+
+/// Interrupts of the driver, with the soft interrupts that they raise.
+fn wake<'a, D: TxDevice>(shared: &Shared<'a, D>, cpu: &mut Cpu<D>, times: u32)
+    requires rests { IsFirstOwnerAtRest shared.now cpu.old }
+    ensures rests { IsFirstOwnerAtRest shared.now cpu.new }
+{
+    for _ in 0..times {
+        irq(shared, cpu);
+        drain(shared, cpu);
+    }
+}
+
+fn send<'a, A: Abort + Wait, D: TxDevice>(
+    rt: &A,
+    shared: &Shared<'a, D>,
+    cpu: &mut Cpu<D>,
+    n: u32,
+) -> Sending
+    requires rests { IsFirstOwnerAtRest shared.now cpu.old }
+    ensures rests { IsFirstOwnerAtRest shared.now cpu.new }
+{
+    let n = n as usize;
+    let infos = shared.infos();
+    assert!(rt; n < infos.len());
+    assert!(rt; infos[n].owner == 1);
+    assert!(rt; shared.senders() == 2);
+    assert!(rt; infos[n].station as u32 == shared.number());
+    assert!(rt; infos[n].band < 3);
+    assert!(rt; (infos[n].queue as u32) < shared.queues());
+    transmit(rt, shared, cpu, n as u32)
+}
+
+/// Sends the packets from 0 on, with the soft interrupts after each, and compares the answers.
+fn send_all<'a, A: Abort + Wait, D: TxDevice>(
+    rt: &A,
+    shared: &Shared<'a, D>,
+    cpu: &mut Cpu<D>,
+    answers: &[Sending],
+)
+    requires rests { IsFirstOwnerAtRest shared.now cpu.old }
+    requires few { length answers.now ≤ 100 }
+    ensures rests { IsFirstOwnerAtRest shared.now cpu.new }
+{
+    for n in 0..answers.len() {
+        assert_eq!(rt; send(rt, shared, cpu, n as u32), answers[n]);
+        drain(shared, cpu);
+    }
+}
+
+/// Closes the table, and compares the packets' fates.
+fn close<'a, A: Abort, D: TxDevice>(
+    rt: &A,
+    shared: Shared<'a, D>,
+    cpu: Cpu<D>,
+    fates: &[Option<Fate>],
+) -> Closed<D>
+    requires rests { IsFirstOwnerAtRest shared cpu }
+{
+    assert!(rt; !cpu.raised());
+    let packets = shared.infos().len();
+    assert_eq!(rt; fates.len(), packets);
+    let closed = shared.close(cpu);
+    for n in 0..packets {
+        assert_eq!(rt; closed.fate(n as u32), fates[n]);
+    }
+    closed
+}
+
+/// Sends packets of these bands and queues, wakes as often as `wakes` says, and compares what became of each.
+fn play<A: Abort + Wait>(
+    rt: &A,
+    alloc: Global,
+    infos: &[Info],
+    plan: StationPlan,
+    queues: u32,
+    answers: &[Sending],
+    wakes: u32,
+    fates: &[Option<Fate>],
+) -> Closed<BenchDevice>
+    requires few { length answers.now ≤ 100 }
+{
+    let (shared, mut cpu) = table(rt, alloc, infos, plan, queues);
+    send_all(rt, &shared, &mut cpu, answers);
+    wake(&shared, &mut cpu, wakes);
+    close(rt, shared, cpu, fates)
+}
+
+// Packet 0 stops the queue, and packet 1 is requeued. It is served first, and then the bands from the lowest on.
+#[test]
+fn stopped_queue_requeues(rt: HostRuntime) {
+    let infos = [
+        info_at(0, 1, 0),
+        info_at(1, 2, 0),
+        info_at(2, 1, 0),
+        info_at(3, 0, 0),
+    ];
+    let (shared, mut cpu) = table(&rt, rt.alloc(), &infos, plan(8, true, STOPPING), 1);
+    assert_eq!(rt;
+        send(&rt, &shared, &mut cpu, 1),
+        Sending::OutOfTurn { found: 0 }
+    );
+    let answers = [
+        Sending::Direct,
+        Sending::Direct,
+        Sending::Queued,
+        Sending::Queued,
+    ];
+    send_all(&rt, &shared, &mut cpu, &answers);
+    wake(&shared, &mut cpu, 3);
+    close(&rt, shared, cpu, &[sent(0), sent(1), sent(3), sent(2)]);
+}
+
+#[test]
+fn stopped_queue_without_bypass(rt: HostRuntime) {
+    let infos = [
+        info_at(0, 1, 0),
+        info_at(1, 2, 0),
+        info_at(2, 1, 0),
+        info_at(3, 0, 0),
+    ];
+    let answers = [Sending::Queued; 4];
+    let fates = [sent(0), sent(3), sent(2), sent(1)];
+    play(
+        &rt,
+        rt.alloc(),
+        &infos,
+        plan(8, false, STOPPING),
+        1,
+        &answers,
+        3,
+        &fates,
+    );
+}
+
+// Each second call of the device is busy, three times: the packet is sent by the call after it.
+#[test]
+fn busy_device_requeues(rt: HostRuntime) {
+    let infos = [
+        info_at(0, 1, 0),
+        info_at(1, 1, 0),
+        info_at(2, 1, 0),
+        info_at(3, 1, 0),
+        info_at(4, 1, 0),
+    ];
+    let busy = Params {
+        busy_every: 2,
+        busy_limit: 3,
+        ..PARAMS
+    };
+    let fates = [sent(0), sent(1), sent(2), sent(3), sent(4)];
+    play(
+        &rt,
+        rt.alloc(),
+        &infos,
+        plan(8, true, busy),
+        1,
+        &[Sending::Direct; 5],
+        0,
+        &fates,
+    );
+}
+
+// A hung queue stays hung, and what it holds is left to the end of the run.
+#[test]
+fn hung_device_keeps_its_packets(rt: HostRuntime) {
+    let infos = [
+        info_at(0, 1, 0),
+        info_at(1, 1, 0),
+        info_at(2, 1, 0),
+        info_at(3, 1, 0),
+    ];
+    let hanging = Params {
+        hang_after: 2,
+        ..PARAMS
+    };
+    let answers = [
+        Sending::Direct,
+        Sending::Direct,
+        Sending::Direct,
+        Sending::Queued,
+    ];
+    let fates = [sent(0), sent(1), None, None];
+    let closed = play(
+        &rt,
+        rt.alloc(),
+        &infos,
+        plan(8, true, hanging),
+        1,
+        &answers,
+        2,
+        &fates,
+    );
+    let words = closed.words();
+    assert_eq!(rt; (words.xoff, words.lock, words.inside), (2, 0, 0));
+}
+
+#[test]
+fn full_band_drops(rt: HostRuntime) {
+    let infos = [
+        info_at(0, 1, 0),
+        info_at(1, 1, 0),
+        info_at(2, 1, 0),
+        info_at(3, 1, 0),
+    ];
+    let answers = [
+        Sending::Direct,
+        Sending::Direct,
+        Sending::Queued,
+        Sending::FullSeen(2),
+    ];
+    let fates = [sent(0), sent(1), sent(2), Some(Fate::Full { seen: 2 })];
+    play(
+        &rt,
+        rt.alloc(),
+        &infos,
+        plan(1, true, STOPPING),
+        1,
+        &answers,
+        2,
+        &fates,
+    );
+}
+
+// Each second packet that the device accepts stops its own queue of two: packet 3 waits in the requeue slot for queue 0. After the
+// first wake it is sent and stops that queue again, so packet 5 is requeued. After the second 5 and 6 are sent, 6 stops queue
+// 1, and 7 is requeued. After the third 7 and 4 are sent.
+#[test]
+fn two_queues_stop_apart(rt: HostRuntime) {
+    let infos = [
+        info_at(0, 1, 0),
+        info_at(1, 1, 0),
+        info_at(2, 1, 1),
+        info_at(3, 1, 0),
+        info_at(4, 2, 1),
+        info_at(5, 0, 0),
+        info_at(6, 0, 1),
+        info_at(7, 1, 1),
+    ];
+    let stopping = Params { burst: 2, ..PARAMS };
+    let (direct, queued) = (Sending::Direct, Sending::Queued);
+    let answers = [
+        direct, direct, direct, direct, queued, queued, queued, queued,
+    ];
+    let fates = [
+        sent(0),
+        sent(1),
+        sent(2),
+        sent(3),
+        sent(7),
+        sent(4),
+        sent(5),
+        sent(6),
+    ];
+    play(
+        &rt,
+        rt.alloc(),
+        &infos,
+        plan(8, true, stopping),
+        2,
+        &answers,
+        3,
+        &fates,
+    );
+}

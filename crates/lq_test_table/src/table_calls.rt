@@ -1,0 +1,26 @@
+//! A table that is made and closed: with memory there is no refusal, and nothing was sent.
+use crate::plain::PARAMS;
+use lq_device::{BenchDevice, Station, StationPlan};
+use lq_table::Shared;
+
+const PLAN: StationPlan = StationPlan {
+    len: 2,
+    max_len: 4,
+    bypass: true,
+    params: PARAMS,
+    queues: 1,
+};
+
+#[test]
+fn a_table_without_packets_is_made_and_closed(rt: HostRuntime) {
+    let station = Station::new(0, BenchDevice::new(rt.alloc()));
+    let (shared, mut cpu) = Shared::make(rt.alloc(), &[], 0, PLAN, 1, 3, station)
+        .ok()
+        .expect(&rt, "memory");
+    assert_eq!(rt; shared.load_turn(&mut cpu, 2), 0);
+    let closed = shared.close(cpu);
+    let words = closed.words();
+    assert_eq!(rt; words.state, 0);
+    assert_eq!(rt; words.lock, 0);
+    assert_eq!(rt; words.size, 2);
+}

@@ -1,0 +1,391 @@
+//! Three senders beside control, each on a thread of its own.
+ghost use Rattle.std.specs.Prelude.{◌≡◌, ℕ, ◌<◌, ◌≤◌, List, [], false, length};
+ghost use Rattle.std.specs.Thread.{IsSync};
+ghost use Rattle.lq_model.specs.declared.machine.Phase.TheVariants.{Active};
+ghost use Rattle.lq_table.specs.Rule.{times};
+ghost use Rattle.lq_table.specs.Sees.{view};
+ghost use Rattle.lq_table.specs.Told.{keeping};
+ghost use Rattle.lq_test_table.specs.Seats.{IsDone, IsFirst, IsSender, units_from_first};
+
+use crate::recorder::Recorder;
+use crate::seats::Sender;
+use crate::tables::{fates, packets, send, table, wake};
+use lq_control::{down, drain, resize, swap, tx_queue_len, up};
+use lq_device::TxDevice;
+use lq_model::{Cause, Fate, Info, Params};
+use lq_qdisc::Sending;
+use lq_table::{Cpu, Shared};
+use std::alloc::Global;
+use std::marker::Sync;
+use std::process::Abort;
+use std::sync::Wait;
+use std::thread;
+use std::thread::Threads;
+
+/// How many calls of control there are. Each is an event of its own number, and the last swap is one more.
+const ROUNDS: u32 = 1000;
+
+const PACKETS: u32 = 12000;
+
+/// The length of the rings at first, which is the longest.
+const LEN: u32 = 4;
+
+/// A device stops its queue after so many packets.
+const BURST: u32 = 7;
+
+/// So many devices, none of which is configured.
+fn devices<A: Abort>(rt: &A, alloc: Global, count: u32) -> Vec<Recorder> {
+    let mut all = Vec::new(alloc);
+    for _ in 0..count {
+        let one = Recorder::new(alloc, 0, 0).expect(rt, "memory");
+        all.push(one).expect(rt, "memory");
+    }
+    all
+}
+
+/// The device, begun anew with room for all packets.
+fn begun<A: Abort, D: TxDevice>(rt: &A, device: D, infos: &[Info]) -> D
+    ensures { ((D.state result).accepted ≡ []) × ((D.state result).hung ≡ false) × (length infos.now ≤ (D.state result).spare) × ((D.state result).asked ≡ []) }
+{
+    let mut device = device;
+    let params = Params {
+        burst: BURST,
+        busy_every: 0,
+        busy_limit: 0,
+        hang_after: 0,
+    };
+    device.configure(&params, infos.len()).expect(rt, "memory");
+    device
+}
+
+/// The device of the station is swapped, for one of the next unit.
+fn swap_device<'a, A: Abort + Wait, D: TxDevice>(
+    rt: &A,
+    shared: &Shared<'a, D>,
+    cpu: &mut Cpu<D>,
+    old: &mut Vec<D>,
+    fresh: D,
+    event: u32,
+)
+    requires first { IsFirst Active (units_from_first (length old.old.items)) shared.now cpu.old }
+    ensures first { IsFirst Active (units_from_first (length old.new.items)) shared.now cpu.new }
+{
+    assert!(rt; shared.number() == 0);
+    assert!(rt; old.len() < 255);
+    let unit = old.len() as u32 + 1;
+    let new = begun(rt, fresh, shared.infos());
+    let back = swap(rt, shared, cpu, unit, new, event);
+    old.push(back).expect(rt, "memory");
+}
+
+/// One call of control: a resize, a deactivation and an activation, a change of the queue length, and a swap in turn. It
+/// answers how many packets that dropped, where this is told.
+fn control_once<'a, A: Abort + Wait, D: TxDevice>(
+    rt: &A,
+    shared: &Shared<'a, D>,
+    cpu: &mut Cpu<D>,
+    old: &mut Vec<D>,
+    fresh: &mut Vec<D>,
+    event: u32,
+) -> Option<u32>
+    requires first { IsFirst Active (units_from_first (length old.old.items)) shared.now cpu.old }
+    ensures first { IsFirst Active (units_from_first (length old.new.items)) shared.now cpu.new }
+{
+    let len = 1 + event / 4 % LEN;
+    assert!(rt; len <= shared.max_len());
+    match event % 4 {
+        0 => Some(resize(rt, shared, cpu, len, event)),
+        1 => {
+            let purged = down(rt, shared, cpu, event);
+            up(shared, cpu);
+            Some(purged)
+        }
+        2 => Some(tx_queue_len(rt, shared, cpu, len, event)),
+        _ => {
+            let next = fresh.pop().expect(rt, "a device");
+            swap_device(rt, shared, cpu, old, next, event);
+            None
+        }
+    }
+}
+
+/// What control did: the devices that came back, by unit, and what each round answered.
+#[derive(Drop)]
+struct Done<D: TxDevice> {
+    cpu: Cpu<D>,
+    old: Vec<D>,
+    /// The devices that are left.
+    fresh: Vec<D>,
+    lost: Vec<Option<u32>>,
+}
+
+/// All rounds of control, with an interrupt of the driver after each.
+fn control<'a, A: Abort + Wait, D: TxDevice>(
+    rt: &A,
+    alloc: Global,
+    shared: &Shared<'a, D>,
+    mut cpu: Cpu<D>,
+    mut fresh: Vec<D>,
+) -> Done<D>
+    requires first { IsFirst Active [] shared.now cpu }
+    ensures first { IsFirst Active (units_from_first (length result.old.items)) shared.now result.cpu }
+{
+    let mut old = Vec::new(alloc);
+    let mut lost = Vec::new(alloc);
+    for event in 0..ROUNDS {
+        let count = control_once(rt, shared, &mut cpu, &mut old, &mut fresh, event);
+        lost.push(count).expect(rt, "memory");
+        wake(rt, shared, &mut cpu);
+    }
+    Done {
+        cpu,
+        old,
+        fresh,
+        lost,
+    }
+}
+
+/// A sender sends its packets, and wakes the queue from time to time.
+fn send_own<'a, A: Abort + Wait, D: TxDevice>(
+    rt: &A,
+    shared: &Shared<'a, D>,
+    cpu: &mut Cpu<D>,
+    owner: u32,
+)
+    requires sender { IsSender shared.now owner cpu.old }
+    ensures sender { IsSender shared.now owner cpu.new }
+{
+    let infos = shared.infos();
+    for n in 0..infos.len() {
+        if infos[n].owner as u32 == owner {
+            let sending = send(rt, shared, cpu, owner, n as u32);
+            assert!(rt; !matches!(sending, Sending::OutOfTurn { .. }));
+        }
+        if n % 16 == 0 {
+            wake(rt, shared, cpu);
+        }
+    }
+}
+
+/// The same by its seat, which is not raised afterwards.
+fn send_to_end<'a, A: Abort + Wait, D: TxDevice>(
+    rt: &A,
+    shared: &Shared<'a, D>,
+    mut sender: Sender<D>,
+) -> Sender<D>
+    requires sender { IsSender shared.now sender.owner sender.cpu }
+    ensures done { IsDone shared.now result.cpu }
+{
+    send_own(rt, shared, &mut sender.cpu, sender.owner);
+    drain(rt, shared, &mut sender.cpu);
+    sender
+}
+
+/// Two senders side by side.
+fn two_send<'a, R: Abort + Threads + Wait + Sync, D: TxDevice>(
+    rt: &R,
+    shared: &Shared<'a, D>,
+    one: Sender<D>,
+    other: Sender<D>,
+) -> (Sender<D>, Sender<D>)
+    requires one { IsSender shared.now one.owner one.cpu }
+    requires other { IsSender shared.now other.owner other.cpu }
+    ensures done { IsDone shared.now result.0.cpu × IsDone shared.now result.1.cpu }
+{
+    thread::join(
+        rt,
+        move || -> Sender<D>
+            requires { IsSender shared.now one.owner one.cpu }
+            ensures { IsDone shared.entry.now result.cpu }
+        { send_to_end(rt, shared, one) },
+        move || -> Sender<D>
+            requires { IsSender shared.now other.owner other.cpu }
+            ensures { IsDone shared.entry.now result.cpu }
+        { send_to_end(rt, shared, other) },
+    )
+}
+
+/// Control and a sender side by side.
+fn control_and_send<'a, R: Abort + Threads + Wait + Sync, D: TxDevice>(
+    rt: &R,
+    alloc: Global,
+    shared: &Shared<'a, D>,
+    first: Cpu<D>,
+    fresh: Vec<D>,
+    sender: Sender<D>,
+) -> (Done<D>, Sender<D>)
+    requires first { IsFirst Active [] shared.now first }
+    requires sender { IsSender shared.now sender.owner sender.cpu }
+    ensures first { IsFirst Active (units_from_first (length result.0.old.items)) shared.now result.0.cpu }
+    ensures done { IsDone shared.now result.1.cpu }
+{
+    thread::join(
+        rt,
+        move || -> Done<D>
+            requires { IsFirst Active [] shared.now first }
+            ensures { IsFirst Active (units_from_first (length result.old.items)) shared.entry.now result.cpu }
+        { control(rt, alloc, shared, first, fresh) },
+        move || -> Sender<D>
+            requires { IsSender shared.now sender.owner sender.cpu }
+            ensures { IsDone shared.entry.now result.cpu }
+        { send_to_end(rt, shared, sender) },
+    )
+}
+
+/// All four side by side.
+fn run<'a, R: Abort + Threads + Wait + Sync, D: TxDevice>(
+    rt: &R,
+    alloc: Global,
+    shared: &Shared<'a, D>,
+    first: Cpu<D>,
+    fresh: Vec<D>,
+    low: Sender<D>,
+    mid: Sender<D>,
+    high: Sender<D>,
+) -> ((Done<D>, Sender<D>), (Sender<D>, Sender<D>))
+    requires first { IsFirst Active [] shared.now first }
+    requires low { IsSender shared.now low.owner low.cpu }
+    requires mid { IsSender shared.now mid.owner mid.cpu }
+    requires high { IsSender shared.now high.owner high.cpu }
+    ensures first { IsFirst Active (units_from_first (length result.0.0.old.items)) shared.now result.0.0.cpu }
+    ensures low { IsDone shared.now result.0.1.cpu }
+    ensures others { IsDone shared.now result.1.0.cpu × IsDone shared.now result.1.1.cpu }
+{
+    thread::join(
+        rt,
+        move || -> (Done<D>, Sender<D>)
+            requires { IsFirst Active [] shared.now first × IsSender shared.now low.owner low.cpu }
+            ensures { IsFirst Active (units_from_first (length result.0.old.items)) shared.entry.now result.0.cpu × IsDone shared.entry.now result.1.cpu }
+        { control_and_send(rt, alloc, shared, first, fresh, low) },
+        move || -> (Sender<D>, Sender<D>)
+            requires { IsSender shared.now mid.owner mid.cpu × IsSender shared.now high.owner high.cpu }
+            ensures { IsDone shared.entry.now result.0.cpu × IsDone shared.entry.now result.1.cpu }
+        { two_send(rt, shared, mid, high) },
+    )
+}
+
+/// A seat is split off for a sender.
+fn split_sender<'a, D: TxDevice>(
+    shared: &Shared<'a, D>,
+    first: &mut Cpu<D>,
+    owner: u32,
+) -> Sender<D>
+    requires first { IsFirst Active [] shared.now first.old }
+    requires owner { (2 ≤ (view first.old).share.shares) × (0 < times owner (view first.old).share.owners) × (0 < owner) }
+    ensures first { IsFirst Active [] shared.now first.new }
+    ensures left { view first.new ≡ keeping owner (view first.old) }
+    ensures sender { IsSender shared.now result.owner result.cpu }
+{
+    let cpu = shared.split(first, owner);
+    Sender { owner, cpu }
+}
+
+/// The seat of a sender is joined into the first.
+fn join_sender<'a, D: TxDevice>(shared: &Shared<'a, D>, first: &mut Cpu<D>, sender: Sender<D>)
+    requires sender { IsDone shared.now sender.cpu }
+    requires first { (units : List ℕ) × IsFirst Active units shared.now first.old }
+    ensures first { (units : List ℕ) → IsFirst Active units shared.now first.old → IsFirst Active units shared.now first.new }
+{
+    let Sender { owner: _, cpu } = sender;
+    shared.join(first, cpu);
+}
+
+/// Each packet's fate is settled: where it was sent, its device accepted it at just that place. It answers how many were sent.
+fn check_fates<A: Abort>(rt: &A, fates: &[Fate], old: &[Recorder]) -> usize {
+    assert!(rt; fates.len() <= 100000);
+    let mut sent = 0usize;
+    for n in 0..fates.len() {
+        if let Fate::Sent { unit, serial } = fates[n] {
+            let device = old.get(unit as usize).expect(rt, "a unit");
+            assert_eq!(rt;
+                device.accepted().get(serial as usize).copied(),
+                Some(n as u32)
+            );
+            sent = sent.saturating_add(1);
+        }
+    }
+    sent
+}
+
+/// Each sender's packets of one band ascend in the list of each device. It answers how many packets all accepted.
+fn check_order<A: Abort>(rt: &A, infos: &[Info], old: &[Recorder]) -> usize {
+    let mut sent = 0usize;
+    for device in old {
+        sent = sent.saturating_add(device.accepted().len());
+        check_device(rt, infos, device.accepted());
+    }
+    sent
+}
+
+fn check_device<A: Abort>(rt: &A, infos: &[Info], accepted: &[u32]) {
+    let mut next = [0u32; 12];
+    for packet in accepted {
+        let info = infos.get(*packet as usize).expect(rt, "a packet");
+        assert!(rt; info.owner < 4);
+        assert!(rt; info.band < 3);
+        let lane = (info.owner * 3 + info.band) as usize;
+        assert!(rt; next[lane] <= info.rank);
+        assert!(rt; info.rank < 100000);
+        next[lane] = info.rank + 1;
+    }
+}
+
+/// The event by which a packet was dropped from what the station held.
+fn dropped_by(fate: Fate) -> Option<u32> {
+    match fate {
+        Fate::Shrunk { event } => Some(event),
+        Fate::Purged {
+            cause: Cause::Event(event),
+        } => Some(event),
+        _ => None,
+    }
+}
+
+/// How many packets this event dropped.
+fn count_dropped(fates: &[Fate], event: u32) -> u32 {
+    let mut dropped = 0u32;
+    for fate in fates {
+        if dropped_by(*fate) == Some(event) {
+            dropped = dropped.saturating_add(1);
+        }
+    }
+    dropped
+}
+
+/// Each round of control dropped as many packets as it answered.
+fn check_lost<A: Abort>(rt: &A, fates: &[Fate], lost: &[Option<u32>]) {
+    assert!(rt; lost.len() <= 1000);
+    for event in 0..lost.len() {
+        if let Some(told) = lost[event] {
+            let dropped = count_dropped(fates, event as u32);
+            assert_eq!(rt; dropped, told, "event {event}");
+        }
+    }
+}
+
+#[test]
+fn control_beside_three_senders(rt: HostRuntime) {
+    let infos = packets(&rt, rt.alloc(), PACKETS, true);
+    let (shared, mut first) = table(&rt, rt.alloc(), &infos, LEN, BURST);
+    let low = split_sender(&shared, &mut first, 1);
+    let mid = split_sender(&shared, &mut first, 2);
+    let high = split_sender(&shared, &mut first, 3);
+    let fresh = devices(&rt, rt.alloc(), ROUNDS / 4 + 1);
+    let ((done, low), (mid, high)) = run(&rt, rt.alloc(), &shared, first, fresh, low, mid, high);
+    let Done {
+        mut cpu,
+        mut old,
+        mut fresh,
+        lost,
+    } = done;
+    join_sender(&shared, &mut cpu, low);
+    join_sender(&shared, &mut cpu, mid);
+    join_sender(&shared, &mut cpu, high);
+    let last = fresh.pop().expect(&rt, "a device");
+    swap_device(&rt, &shared, &mut cpu, &mut old, last, ROUNDS);
+    wake(&rt, &shared, &mut cpu);
+    let fates = fates(&rt, rt.alloc(), shared, cpu);
+    let sent = check_fates(&rt, &fates, &old);
+    assert_eq!(rt; check_order(&rt, &infos, &old), sent);
+    check_lost(&rt, &fates, &lost);
+}
