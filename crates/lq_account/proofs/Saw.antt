@@ -5,12 +5,13 @@ use Rattle.std.proofs.lemmas.Option.{slice_get_cases}
 use Rattle.lq_model.specs.Band.{batch}
 use Rattle.lq_model.specs.Account.{Account, Event, Join, Full, Refuse, Resize, held_in, new_account, after}
 use Rattle.lq_model.specs.Legal.{brought, brought_by, MayCome, MayDrop, IsInTurn, IsPlanned}
-use Rattle.lq_model.specs.Plan.{Plan, station_in, band_in}
+use Rattle.lq_model.specs.Plan.{Plan, band_in}
 use Rattle.lq_model.specs.Settled.{is_let_in, let_in, GivesLength, IsFullFate}
 use Rattle.lq_model.specs.declared.fate.Fate.{Fate}
 use Rattle.lq_model.specs.declared.fate.Fate.TheVariants as fate
 use Rattle.lq_model.specs.declared.fate.Info.{Info}
 use Rattle.lq_model.specs.declared.plan.StationPlan.{StationPlan}
+use Rattle.lq_account.specs.Accounts.{AreDecided}
 use Rattle.lq_account.specs.Places.{AreBrought, KeepsOrder, Precedes}
 use Rattle.lq_account.specs.Progress.{len_of}
 use Rattle.lq_account.proofs.Lists.{none-in, here-in, drop-in, get-in}
@@ -131,10 +132,6 @@ module _ (plan : Plan) (infos : List Info) (station : ℕ) (past : List Event) (
   }
 
 -- WHEN ALL IS DECIDED
-
--- each packet of the station has just the fate that the list has
-abbrev pub AreDecided : List Info → List Fate → ℕ → Account → Type 0
-AreDecided infos fates station a = (n : ℕ) → n < length infos → station_in infos n ≡ station → (f : Fate) × (slice_get fates n ≡ Some f) × (a.fates n ≡ Some f)
 
 module _ (plan : Plan) (infos : List Info) (fates : List Fate) (station : ℕ) (past : List Event) (a : Account) (known : AreBrought infos station past a) (decided : AreDecided infos fates station a) where
   info-of : (n : ℕ) → n < length infos → (info : Info) × (slice_get infos n ≡ Some info)

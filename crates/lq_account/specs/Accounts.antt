@@ -27,6 +27,18 @@ pub record HaveAllCome (plan : Plan) (station : ℕ) (past : List Event) : Type 
 abbrev pub NoSwapAfterHang : List Event → Type 0
 NoSwapAfterHang past = (later : List Event) (before : List Event) (old new : ℕ) → past ≡ later ++ Swap new ∷ before → Contains before (Purge (Hung old)) → ⊥
 
+-- THE PACKETS
+
+-- each is of a station of the plan
+abbrev pub AreOfStations : Plan → List Info → Type 0
+AreOfStations plan infos = (n : ℕ) → n < length infos → station_in infos n < length plan.stations
+
+-- each of the station has just the fate that the list has
+abbrev pub AreDecided : List Info → List Fate → ℕ → Account → Type 0
+AreDecided infos fates station a = (n : ℕ) → n < length infos → station_in infos n ≡ station → (fate : Fate) × (slice_get fates n ≡ Some fate) × (a.fates n ≡ Some fate)
+
+-- CLOSED ACCOUNTS
+
 -- A station's account is closed: a legal list of events leaves nothing held and nothing in hand, all events of the plan have
 -- come, and each packet of the station has just the fate that the list of fates has for it.
 pub record IsClosed (plan : Plan) (infos : List Info) (fates : List Fate) (station : ℕ) (past : List Event) (a : Account) : Type 0 where
@@ -36,7 +48,11 @@ pub record IsClosed (plan : Plan) (infos : List Info) (fates : List Fate) (stati
   pub hand_empty : a.hand ≡ None
   pub events : HaveAllCome plan station past
   pub no_swap_after_hang : NoSwapAfterHang past
-  pub decided : (n : ℕ) → n < length infos → station_in infos n ≡ station → (fate : Fate) × (slice_get fates n ≡ Some fate) × (a.fates n ≡ Some fate)
+  pub decided : AreDecided infos fates station a
+
+-- each station's account is closed by these events
+abbrev pub AreClosed : Plan → List Info → List Fate → (ℕ → List Event) → (ℕ → Account) → Type 0
+AreClosed plan infos fates pasts accounts = (station : ℕ) → station < length plan.stations → IsClosed plan infos fates station (pasts station) (accounts station)
 
 -- WHAT FOLLOWS
 
@@ -58,5 +74,5 @@ pub record IsSettledStation (plan : Plan) (infos : List Info) (fates : List Fate
 -- each station of the plan, where each packet is of a station
 pub record AreSettledStations (plan : Plan) (infos : List Info) (fates : List Fate) (accounts : ℕ → Account) : Type 0 where
   pub one_each : length fates ≡ length infos
-  pub of_plan : (n : ℕ) → n < length infos → station_in infos n < length plan.stations
+  pub of_plan : AreOfStations plan infos
   pub each : (station : ℕ) → station < length plan.stations → IsSettledStation plan infos fates station (accounts station)

@@ -3,11 +3,12 @@ use Rattle.std.specs.Prelude.{◌≡◌, ℕ, ◌+◌, ◌<◌, ◌≤◌, true,
 use Rattle.lq_model.specs.Account.{held}
 use Rattle.lq_model.specs.Alone.{RunningStation, alone}
 use Rattle.lq_model.specs.Band.{Band, held_of, stale_count}
-use Rattle.lq_model.specs.Plan.{Plan, station_in, band_in}
+use Rattle.lq_model.specs.Plan.{Plan, band_in}
 use Rattle.lq_model.specs.Settled.{IsInSenderOrder, IsSettled}
 use Rattle.lq_model.specs.declared.fate.Fate.{Fate}
 use Rattle.lq_model.specs.declared.fate.Info.{Info}
 use Rattle.lq_model.specs.declared.plan.StationPlan.{StationPlan}
+use Rattle.lq_account.specs.Accounts.{AreOfStations}
 use Rattle.lq_account.specs.OneQueue.{AreOfOneQueue, IsOfOneQueue}
 use Rattle.lq_account.specs.Progress.{IsAt}
 
@@ -32,7 +33,7 @@ pub record IsPlain (plan : Plan) (infos : List Info) : Type 0 where
   pub no_events : plan.events ≡ []
   pub have_slots : (station : ℕ) (s : StationPlan) → slice_get plan.stations station ≡ Some s → 0 < s.len
   pub one_queue : (station : ℕ) (s : StationPlan) → slice_get plan.stations station ≡ Some s → s.queues ≡ 1
-  pub stations : (n : ℕ) → n < length infos → station_in infos n < length plan.stations
+  pub stations : AreOfStations plan infos
   pub bands : (n : ℕ) → band_in infos n < 3
   pub queues : AreOfOneQueue infos
 

@@ -1,5 +1,5 @@
 -- Lists of events that many senders make, and what of them the first sender's seat knows while others send.
-use Rattle.std.specs.Prelude.{◌≡◌, ◌<◌, ℕ, Bool, true, false, ◌==◌, List, [], ◌∷◌, Option, Some, None, Contains, filter, filter_map}
+use Rattle.std.specs.Prelude.{◌≡◌, ◌<◌, ℕ, Bool, true, false, ◌==◌, List, [], ◌∷◌, Option, Some, None, Contains, filter, filter_map, length}
 use Rattle.lq_model.specs.Account.{Account, Event, Join, Full, Refuse, Direct, Resize, Down, Purge, Swap, Up, new_account, held, after_all}
 use Rattle.lq_model.specs.Legal.{IsPlanned, IsEventAt, brought_by, resize_event, Comes}
 use Rattle.lq_model.specs.Plan.{Plan, owner_in, unit_of_swap}
@@ -92,6 +92,10 @@ pub record IsTrailNext (plan : Plan) (station : ℕ) (trail : List Event) (event
 abbrev pub IsTrail : Plan → ℕ → List Event → Type 0
 IsTrail plan station [] = Unit {0}
 IsTrail plan station (event ∷ trail) = IsTrail plan station trail × IsTrailNext plan station trail event
+
+-- each station's events have a trail as the plan asks
+abbrev pub AreTrails : Plan → List Info → (ℕ → List Event) → Type 0
+AreTrails plan infos pasts = (station : ℕ) → station < length plan.stations → IsTrail plan station (trail_of infos (pasts station))
 
 -- each of the first so many events of the plan that resizes the station or exchanges its device has come, and what control did is
 -- just what they all ask of the station, in order

@@ -3,11 +3,11 @@ ghost use Rattle.std.specs.Prelude.{◌≡◌, ℕ, List, [], ◌∷◌, ◌<◌
 ghost use Rattle.lq_model.specs.Account.{Account, Down, Event, Resize, Swap};
 ghost use Rattle.lq_model.specs.Legal.{IsLegal, down_event, resize_event};
 ghost use Rattle.lq_model.specs.Complete.{IsComplete};
-ghost use Rattle.lq_model.specs.Plan.{Plan, station_in};
+ghost use Rattle.lq_model.specs.Plan.{Plan};
 ghost use Rattle.lq_model.specs.Settled.{IsInSenderOrder, IsSentList, IsSettled, IsUnitOf, MeetsEvents};
 ghost use Rattle.lq_model.specs.declared.fate.Fate.{Fate};
 ghost use Rattle.lq_model.specs.declared.fate.Info.{Info};
-ghost use Rattle.lq_account.specs.Accounts.{AreSettledStations, IsClosed, IsSettledStation};
+ghost use Rattle.lq_account.specs.Accounts.{AreOfStations, AreSettledStations, IsClosed, IsSettledStation};
 
 pub mod one_queue;
 pub mod one_sender;
@@ -44,7 +44,7 @@ pub fn law_of_accounts()
 /// hangs either none is purged; without a resize to a shorter length none is shrunk; a band that is offered too few packets
 /// to fill its ring drops none as full; and where all of this holds each packet is sent.
 pub fn complete_fates()
-    ensures { (plan : Plan) (infos : List Info) (fates : List Fate) → ((n : ℕ) → n < length infos → station_in infos n < length plan.stations)
+    ensures { (plan : Plan) (infos : List Info) (fates : List Fate) → AreOfStations plan infos
         → IsSettled plan infos fates → IsComplete plan infos fates }
 {}
 

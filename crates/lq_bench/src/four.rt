@@ -29,7 +29,8 @@ fn split_sender<'a, D: TxDevice>(
     owner: u32,
 ) -> Sender<D>
     requires first { IsBenchSeatAtRest shared.now first.old }
-    requires owner { (2 ≤ (view first.old).share.shares) × (0 < times owner (view first.old).share.owners) × (0 < owner) × (owner < 4) }
+    requires owner { (2 ≤ (view first.old).share.shares) × (0 < times owner (view first.old).share.owners)
+        × (0 < owner) × (owner < 4) }
     ensures first { IsBenchSeatAtRest shared.now first.new }
     ensures left { view first.new ≡ keeping owner (view first.old) }
     ensures sender { IsBenchSender shared.now result.owner result.cpu }

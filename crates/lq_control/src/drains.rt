@@ -82,7 +82,8 @@ pub(crate) fn wait_until_clear<'a, D: TxDevice, R: Wait>(
     ensures same { IsSameSeat cpu.old cpu.new }
     ensures served { IsServed (view cpu.old) (view cpu.new) }
     ensures at { (position cpu.new ≡ Control false) × IsReadyToSend cpu.new }
-    ensures off { IsSole (view cpu.old) → IsSome (account_of (view cpu.old)).down → solo (view cpu.new) ≡ unmarked (solo (view cpu.old)) }
+    ensures off { IsSole (view cpu.old) → IsSome (account_of (view cpu.old)).down
+        → solo (view cpu.new) ≡ unmarked (solo (view cpu.old)) }
     ensures waits { WaitsUntilClear (setup shared.now) (known cpu.old) (known cpu.new) }
 {
     let backoff = Backoff::new();

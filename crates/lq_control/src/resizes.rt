@@ -40,7 +40,8 @@ pub fn resize<'a, D: TxDevice, R: Wait>(
     ensures same { KeepsSeatAndDevice cpu.old cpu.new }
     ensures at { IsReadyAt Idle Active cpu.new }
     ensures trail { (view cpu.new).trail ≡ Resize len event ∷ (view cpu.old).trail }
-    ensures sole { IsSole (view cpu.old) → solo (view cpu.new) ≡ ended (heard (Resize len event) (locked_to true (solo (view cpu.old)))) }
+    ensures sole { IsSole (view cpu.old)
+        → solo (view cpu.new) ≡ ended (heard (Resize len event) (locked_to true (solo (view cpu.old)))) }
     ensures resizes { ResizesLive (setup shared.now) event len result (known cpu.old) (known cpu.new) }
     ensures alone { DoesEventAlone (setup shared.now) event (kind.Resize len) (view cpu.old) (view cpu.new) }
 {

@@ -104,6 +104,6 @@ pub fn stopped_queue_blocks_the_shared_bands()
 pub fn each_child_is_a_station()
     ensures without_events { HaveFates (group_of_two (station 1000 true no_rules) []) (packets_to (1 ∷ 0 ∷ 1 ∷ []))
         (Sent 1 0 ∷ Sent 0 0 ∷ Sent 1 1 ∷ []) }
-    ensures deactivated { HaveFates (group_of_two (station 1000 true no_rules) (group_event_at 2 kind.Down ∷ [])) (packets_to (1 ∷ 0 ∷ 1 ∷ 0 ∷ []))
-        (Sent 1 0 ∷ Sent 0 0 ∷ Refused 0 ∷ Refused 0 ∷ []) }
+    ensures deactivated { HaveFates (group_of_two (station 1000 true no_rules) (group_event_at 2 kind.Down ∷ []))
+        (packets_to (1 ∷ 0 ∷ 1 ∷ 0 ∷ [])) (Sent 1 0 ∷ Sent 0 0 ∷ Refused 0 ∷ Refused 0 ∷ []) }
 {}

@@ -1,5 +1,5 @@
 -- What reading a capture answers, and what it finds on the way.
-use Rattle.std.specs.Prelude.{◌≡◌, ℕ, ◌+◌, ◌≤◌, ◌<◌, Bool, true, false, List, length, map, drop, slice_index, Option, None, Some, Result, Ok, Err}
+use Rattle.std.specs.Prelude.{◌≡◌, ℕ, ◌+◌, ◌≤◌, ◌<◌, Bool, true, false, if◌then◌else◌, List, [], ◌∷◌, ◌++◌, length, map, drop, slice_index, Option, None, Some, Result, Ok, Err}
 use Rattle.lq_model.specs.Capture.{Refusal}
 use Rattle.lq_pcapng.specs.Pcapng.{block_fault, block_in, captured_length, data_place, interface_number, is_interface, is_little_endian, is_packet, is_section, length_fault, padded, section_fault, total_length}
 use Rattle.lq_model.specs.declared.capture.CaptureReason.{CaptureReason}
@@ -49,6 +49,10 @@ block_at little_endian bytes place = block_in little_endian (drop place bytes)
 
 abbrev pub blocks_at : Bool → List ℕ → List ℕ → List (List ℕ)
 blocks_at little_endian bytes places = map (block_at little_endian bytes) places
+
+-- these places, and behind them this one where it is that of such a block
+abbrev pub noted_if : Bool → ℕ → List ℕ → List ℕ
+noted_if is_such place places = places ++ (if is_such then place ∷ [] else [])
 
 -- the block at this place has at least 12 bytes, which the file has
 pub record IsWholeAt (little_endian : Bool) (bytes : List ℕ) (place : ℕ) : Type 0 where

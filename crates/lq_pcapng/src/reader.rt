@@ -1,8 +1,8 @@
 // Reading a capture in the pcapng format: the blocks one after the other, each as its type asks.
-ghost use Rattle.std.specs.Prelude.{◌≡◌, ◌+◌, ◌≤◌, ◌<◌, ◌++◌, ◌∷◌, ◌==◌, ◌||◌, if◌then◌else◌, [], drop, length, IfErr, IfOk, OnOk};
+ghost use Rattle.std.specs.Prelude.{◌≡◌, ◌≤◌, ◌==◌, ◌||◌, drop, length, IfErr, IfOk, OnOk};
 ghost use Rattle.lq_pcapng.specs.Pcapng.{body_fault, is_little_endian, pcapng_of, section_fault, total_length};
 ghost use Rattle.lq_pcap.specs.Reading.{Gives};
-ghost use Rattle.lq_pcapng.specs.Reading.{AreInterfaces, IsTested, IsWholeLength, blocks_at};
+ghost use Rattle.lq_pcapng.specs.Reading.{AreInterfaces, IsTested, IsWholeLength, blocks_at, noted_if};
 ghost use Rattle.lq_pcapng.specs.View.{IsRead, capture_at};
 
 use crate::capture::NgCapture;
@@ -89,7 +89,8 @@ fn whole_len(
 ) -> Result<usize, CaptureRefusal>
     requires within { place ≤ length bytes.now }
     requires interfaces { AreInterfaces little_endian bytes.now places.now.interfaces.items }
-    ensures { IsWholeLength little_endian place (blocks_at little_endian bytes.now places.now.interfaces.items) (length places.now.packets) (drop place bytes.now) result }
+    ensures { IsWholeLength little_endian place (blocks_at little_endian bytes.now places.now.interfaces.items)
+        (length places.now.packets) (drop place bytes.now) result }
 {
     let rest = &bytes[place..];
     if rest.len() < MIN_BLOCK {
@@ -112,7 +113,8 @@ fn check_body(
 ) -> Result<(), CaptureReason>
     requires long { 12 ≤ length block.now }
     requires interfaces { AreInterfaces little_endian bytes.now places.now.interfaces.items }
-    ensures { IsTested (body_fault little_endian (blocks_at little_endian bytes.now places.now.interfaces.items) (length places.now.packets) block.now) result }
+    ensures { IsTested (body_fault little_endian (blocks_at little_endian bytes.now places.now.interfaces.items)
+        (length places.now.packets) block.now) result }
 {
     match number(block, little_endian, TYPE) {
         SECTION => Err(CaptureReason::SecondSection),
@@ -126,8 +128,8 @@ fn check_body(
 impl BlockPlaces {
     // Keeps the place of a block of this type, if it is one of an interface or of a packet.
     fn note(&mut self, block_type: u32, place: usize) -> Result<(), CaptureRefusal>
-        ensures interfaces { OnOk result (self.new.interfaces.items ≡ self.old.interfaces.items ++ (if block_type == 1 then place ∷ [] else [])) }
-        ensures packets { OnOk result (self.new.packets ≡ self.old.packets ++ (if (block_type == 6) || (block_type == 3) then place ∷ [] else [])) }
+        ensures interfaces { OnOk result (self.new.interfaces.items ≡ noted_if (block_type == 1) place self.old.interfaces.items) }
+        ensures packets { OnOk result (self.new.packets ≡ noted_if ((block_type == 6) || (block_type == 3)) place self.old.packets) }
         ensures err { IfErr result (λ refusal. refusal ≡ CaptureRefusal.NoMemory) }
     {
         match block_type {

@@ -26,12 +26,20 @@ document_of root = record { root = root; stations = tables_at (codes "station") 
 abbrev pub document_view : CodeDocument → Document
 document_view d = record { root = table_view d.root.now; stations = tables_view d.stations.items; events = tables_view d.events.items }
 
+-- a station has this fault, by the keys of this version
+abbrev pub has_station_fault : Version → Fault → Members → Bool
+has_station_fault version fault station = has_fault fault (station_keys version station) station
+
+-- an event has this fault, by the keys that these stations ask
+abbrev pub has_event_fault : Fault → List Members → Members → Bool
+has_event_fault fault stations event = has_fault fault (event_keys stations event) event
+
 -- a table of the document has this fault, by the keys of this version
 abbrev pub has_fault_in : Version → Fault → Document → Bool
 has_fault_in version fault d =
     has_fault fault (root_keys version) d.root
-    || (list_any (λ station. has_fault fault (station_keys version station) station) d.stations
-    || list_any (λ event. has_fault fault (event_keys d.stations event) event) d.events)
+    || (list_any (λ station. has_station_fault version fault station) d.stations
+    || list_any (λ event. has_event_fault fault d.stations event) d.events)
 
 -- GROUPS
 

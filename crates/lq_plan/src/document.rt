@@ -1,11 +1,10 @@
 // A document and its faults.
-ghost use Rattle.std.specs.Prelude.{◌≡◌, map, nat_lt, sum, IfOk};
+ghost use Rattle.std.specs.Prelude.{◌≡◌, nat_lt, sum, IfOk};
 ghost use Rattle.std.specs.List.{list_any};
 ghost use Rattle.toml.specs.View.{table_view};
 ghost use Rattle.lq_model.specs.Plan.{mq_at};
-ghost use Rattle.lq_plan.specs.Document.{document_of, document_view, groups_in, has_fault_in, has_group_fault, swaps_group};
-ghost use Rattle.lq_plan.specs.Faults.{has_fault};
-ghost use Rattle.lq_plan.specs.Keys.{event_keys, group_in, station_keys, version_of};
+ghost use Rattle.lq_plan.specs.Document.{document_of, document_view, groups_in, has_event_fault, has_fault_in, has_group_fault, has_station_fault, swaps_group};
+ghost use Rattle.lq_plan.specs.Keys.{group_in, version_of};
 ghost use Rattle.lq_plan.specs.Reading.{first_fault};
 ghost use Rattle.lq_plan.specs.Tables.{tables_view};
 ghost use Rattle.lq_plan.specs.Values.{tables_at};
@@ -132,13 +131,13 @@ fn tables_at<'a>(alloc: Global, table: &'a Table, name: &str) -> Result<Vec<&'a 
 }
 
 fn a_station_has_fault(fault: Fault, version: Version, stations: &[&Table]) -> bool
-    ensures { result ≡ list_any (λ station. has_fault fault (station_keys version (table_view station.now)) (table_view station.now)) stations.now }
+    ensures { result ≡ list_any (λ station. has_station_fault version fault (table_view station.now)) stations.now }
 {
     stations.iter().any(|station| has_fault(fault, &station_keys(version, station), station))
 }
 
 fn an_event_has_fault(fault: Fault, stations: &[&Table], events: &[&Table]) -> bool
-    ensures { result ≡ list_any (λ event. has_fault fault (event_keys (tables_view stations.now) (table_view event.now)) (table_view event.now)) events.now }
+    ensures { result ≡ list_any (λ event. has_event_fault fault (tables_view stations.now) (table_view event.now)) events.now }
 {
     events.iter().any(|event| has_fault(fault, &event_keys(stations, event), event))
 }

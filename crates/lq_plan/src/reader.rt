@@ -1,13 +1,12 @@
 // Reading a text as a plan.
-ghost use Rattle.std.specs.Prelude.{◌≡◌, ◌≤◌, ◌++◌, ℕ, map, length, replicate, sum, IfOk, IfErr, OnOk, Ok, Some, slice_get};
+ghost use Rattle.std.specs.Prelude.{◌≡◌, ◌≤◌, ◌++◌, map, length, replicate, sum, IfOk, IfErr, OnOk, Ok};
 ghost use Rattle.std.specs.List.{flat_map};
-ghost use Rattle.toml.specs.Data.{Members};
 ghost use Rattle.toml.specs.View.{table_view};
 ghost use Rattle.lq_plan.specs.Limits.{AreParamsWithin, IsKindWithin, IsStationWithin};
 ghost use Rattle.lq_plan.specs.Document.{groups_in};
 ghost use Rattle.lq_plan.specs.Keys.{event_word_in, mq_in};
 ghost use Rattle.lq_plan.specs.Reading.{IsEventSmall, IsPlanRefusal, children_in, event_in, kind_as, params_in, plan_from, plan_of, split_in, station_plan_in};
-ghost use Rattle.lq_plan.specs.Tables.{tables_view};
+ghost use Rattle.lq_plan.specs.Tables.{EachTable, tables_view};
 
 use crate::document::Document;
 use crate::keys::{event_word, group_of, len_of, max_len_of, mq_of, queues_of};
@@ -84,8 +83,8 @@ fn read_split(root: &Table) -> Split
 }
 
 fn read_stations(alloc: Global, stations: &[&Table]) -> Result<Vec<StationPlan>, AllocError>
-    requires within { (j : ℕ) (station : Members) → slice_get (tables_view stations.now) j ≡ Some station → IsStationWithin (station_plan_in station) }
-    requires few { (j : ℕ) (station : Members) → slice_get (tables_view stations.now) j ≡ Some station → mq_in station ≤ 8 }
+    requires within { EachTable (λ station. IsStationWithin (station_plan_in station)) stations.now }
+    requires few { EachTable (λ station. mq_in station ≤ 8) stations.now }
     ensures { IfOk result (λ plans. plans.items ≡ flat_map children_in (tables_view stations.now)) }
 {
     let mut plans = Vec::with_capacity(alloc, stations.len())?;
@@ -112,7 +111,7 @@ fn push_children(
 
 // Of how many stations each is the group.
 fn read_groups(alloc: Global, stations: &[&Table]) -> Result<Vec<u32>, AllocError>
-    requires { (j : ℕ) (station : Members) → slice_get (tables_view stations.now) j ≡ Some station → mq_in station ≤ 8 }
+    requires { EachTable (λ station. mq_in station ≤ 8) stations.now }
     ensures { IfOk result (λ groups. groups.items ≡ groups_in (tables_view stations.now)) }
 {
     let mut groups = Vec::with_capacity(alloc, stations.len())?;
@@ -153,7 +152,7 @@ fn read_events(
     events: &[&Table],
 ) -> Result<Vec<EventPlan>, AllocError>
     requires few { (length groups.now ≤ 8) × (sum groups.now ≤ 8) }
-    requires each { (j : ℕ) (event : Members) → slice_get (tables_view events.now) j ≡ Some event → IsEventSmall (length groups.now) event }
+    requires each { EachTable (IsEventSmall (length groups.now)) events.now }
     ensures { IfOk result (λ plans. plans.items ≡ map (event_in groups.now) (tables_view events.now)) }
 {
     let mut plans = Vec::with_capacity(alloc, events.len())?;

@@ -11,8 +11,8 @@ use Rattle.lq_model.specs.Positions.{Holds, IsHidden}
 use Rattle.lq_model.specs.Kept.{BlockedDraining, IsInductive, LockFreeMissed, LookedClear}
 use Rattle.lq_model.specs.Quiet.{IsQuiet, Reaches}
 use Rattle.lq_model.specs.Machine.{Machine, Qdisc, first_machine, seat_at}
-use Rattle.lq_model.specs.Steps.{with_seat, is_idle}
-use Rattle.lq_run_core.specs.Mistakes.{LeavesBehind, about_to_look, both_idle, clears_and_leaves, clears_after_its_look, drains_without_a_look, found_deactivated, left_clear, left_draining, left_in_slot, left_missed, missed_meanwhile, looked_again, about_to_release, misses_for_good, about_to_miss, numbered_packet, releases_after_its_look}
+use Rattle.lq_model.specs.Steps.{is_idle}
+use Rattle.lq_run_core.specs.Mistakes.{LeavesBehind, after_step, about_to_look, both_idle, clears_and_leaves, clears_after_its_look, drains_without_a_look, found_deactivated, left_clear, left_draining, left_in_slot, left_missed, missed_meanwhile, looked_again, about_to_release, misses_for_good, about_to_miss, numbered_packet, releases_after_its_look}
 use Rattle.lq_run_core.proofs.First.{first-inductive}
 use Rattle.lq_run_core.proofs.OneQueue.{one-open}
 use Rattle.lq_run_core.proofs.Reached.{Action, played, reached-inductive}
@@ -59,7 +59,7 @@ between = played about_to_release missed_meanwhile (sends 1 1 ++ steps 1 6) refl
 looked-reached : Reaches start missed_meanwhile
 looked-reached = played start missed_meanwhile (sends 0 0 ++ (steps 0 13 ++ (sends 1 1 ++ steps 1 6))) refl
 
-pub end-looks : LeavesBehind missed_meanwhile (with_seat missed_meanwhile 0 (releases_after_its_look about_to_release.qdisc.missed missed_meanwhile.qdisc (seat_at missed_meanwhile 0))) LockFreeMissed
+pub end-looks : LeavesBehind missed_meanwhile (after_step missed_meanwhile 0 (releases_after_its_look about_to_release.qdisc.missed)) LockFreeMissed
     left_missed (numbered_packet 1 1)
 end-looks = record {
   reached = looked-reached;
@@ -73,7 +73,7 @@ end-looks = record {
 missing-reached : Reaches start about_to_miss
 missing-reached = played start about_to_miss (sends 0 0 ++ (steps 0 13 ++ (sends 1 1 ++ (steps 1 4 ++ steps 0 3)))) refl
 
-pub begin-gives-up : LeavesBehind about_to_miss (with_seat about_to_miss 1 (misses_for_good (Queued (numbered_packet 1 1)) about_to_miss.qdisc (seat_at about_to_miss 1))) LockFreeMissed
+pub begin-gives-up : LeavesBehind about_to_miss (after_step about_to_miss 1 (misses_for_good (Queued (numbered_packet 1 1)))) LockFreeMissed
     left_missed (numbered_packet 1 1)
 begin-gives-up = record {
   reached = missing-reached;
@@ -89,7 +89,7 @@ begin-gives-up = record {
 looked-again-reached : Reaches start looked_again
 looked-again-reached = played start looked_again (sends 0 0 ++ (steps 0 4 ++ (sends 1 1 ++ (steps 1 7 ++ (steps 0 18 ++ (sends 1 2 ++ steps 1 6)))))) refl
 
-pub missed-cleared : LeavesBehind looked_again (with_seat looked_again 0 (clears_after_its_look looked_again.qdisc (seat_at looked_again 0))) LookedClear
+pub missed-cleared : LeavesBehind looked_again (after_step looked_again 0 clears_after_its_look) LookedClear
     left_clear (numbered_packet 2 1)
 missed-cleared = record {
   reached = looked-again-reached;
@@ -100,7 +100,7 @@ missed-cleared = record {
   holds = in-band left_clear.qdisc 2 2 1 refl;
 }
   where
-    shown : IsHidden (with_seat looked_again 0 (clears_after_its_look looked_again.qdisc (seat_at looked_again 0))) (numbered_packet 2 1) → ⊥
+    shown : IsHidden (after_step looked_again 0 clears_after_its_look) (numbered_packet 2 1) → ⊥
     shown (zero, e) = cc
     shown (suc zero, e) = cc
     shown (suc (suc i), e) = cc
@@ -111,7 +111,7 @@ about-to-look-reached : Reaches start about_to_look
 about-to-look-reached = played start about_to_look
     (sends 0 0 ++ (steps 0 7 ++ (Does 0 Stop ∷ (steps 0 2 ++ (Starts 1 (Wakes 0) ∷ (steps 1 2 ++ (Starts 1 Interrupts ∷ (steps 1 7 ++ (sends 1 1 ++ (steps 1 5 ++ steps 0 1)))))))))) refl
 
-pub draining-set : LeavesBehind about_to_look (with_seat about_to_look 0 (drains_without_a_look (NoneTaken 0) about_to_look.qdisc (seat_at about_to_look 0))) BlockedDraining
+pub draining-set : LeavesBehind about_to_look (after_step about_to_look 0 (drains_without_a_look (NoneTaken 0))) BlockedDraining
     left_draining (numbered_packet 1 1)
 draining-set = record {
   reached = about-to-look-reached;
@@ -138,7 +138,7 @@ found-reached : Reaches start found_deactivated
 unfolding deactivated found
 found-reached = played start found_deactivated (deactivated ++ found) refl
 
-pub soft-interrupt-gives-up : LeavesBehind found_deactivated (with_seat found_deactivated 1 (clears_and_leaves found_deactivated.qdisc (seat_at found_deactivated 1))) LockFreeMissed
+pub soft-interrupt-gives-up : LeavesBehind found_deactivated (after_step found_deactivated 1 clears_and_leaves) LockFreeMissed
     left_in_slot (numbered_packet 1 0)
 soft-interrupt-gives-up = record {
   reached = found-reached;

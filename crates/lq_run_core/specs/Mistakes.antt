@@ -11,8 +11,8 @@ use Rattle.lq_model.specs.declared.machine.Seat.{Seat}
 use Rattle.lq_model.specs.Positions.{Holds}
 use Rattle.lq_model.specs.Kept.{IsInductive}
 use Rattle.lq_model.specs.Quiet.{IsQuiet, Reaches}
-use Rattle.lq_model.specs.Machine.{Machine, Qdisc, first_machine, first_qdisc}
-use Rattle.lq_model.specs.Steps.{After, gives_up, goes_to}
+use Rattle.lq_model.specs.Machine.{Machine, Qdisc, first_machine, first_qdisc, seat_at}
+use Rattle.lq_model.specs.Steps.{After, gives_up, goes_to, with_seat}
 
 -- MISTAKES, each as what its step leaves
 
@@ -37,6 +37,10 @@ abbrev pub clears_and_leaves : Qdisc → Seat → After
 clears_and_leaves q s = goes_to (record q { sched = false }) s Leave
 
 -- WHAT A MISTAKE LEADS TO
+
+-- the machine after this step of this seat
+abbrev pub after_step : Machine → ℕ → (Qdisc → Seat → After) → Machine
+after_step m i step = with_seat m i (step m.qdisc (seat_at m i))
 
 -- From a machine that keeps the invariant, since two seats come to it from the start, the mistake leads to one that breaks this
 -- sentence; and from there the steps of the seats lead on to a quiet machine that holds a packet.

@@ -1,5 +1,5 @@
 -- What a schedule leaves of the machine, and the text that tells it.
-use Rattle.std.specs.Prelude.{ℕ, zero, suc, ◌+◌, nat_lt, if◌then◌else◌, List, [], ◌∷◌, length, Option, Some, None, option_map, option_and_then, Result, Ok, Err, ◌≡◌, ⊤}
+use Rattle.std.specs.Prelude.{ℕ, zero, suc, ◌+◌, nat_lt, Bool, if◌then◌else◌, MatchBool, List, [], ◌∷◌, length, Option, Some, None, option_map, option_and_then, Result, Ok, Err, ◌≡◌, ⊤}
 use Rattle.std.specs.Option.{ok_or}
 use Rattle.lq_model.specs.declared.machine.Answer.{Answer}
 use Rattle.lq_model.specs.Machine.{Machine, first_machine}
@@ -65,6 +65,10 @@ lines_done p n (line ∷ more) = line_done p n line >>= λ next. lines_done next
 -- what a schedule leaves, or the first line that fails; where every line is passed over, the line after the last
 unfoldable pub schedule_done : List ℕ → Result Progress TraceRefusal
 schedule_done text = lines_done None 1 (lines text) >>= λ p. ok_or p (Refused Syntax (length (lines text) + 1))
+
+-- true where it can be done, and this is what it leaves; false where it can't
+abbrev pub IsDoneWherePossible : {A : Type 0} → Bool → Option A → A → Type 0
+IsDoneWherePossible could done left = MatchBool could (done ≡ Some left) (done ≡ None)
 
 -- the answer, seen by view, is what is wanted; want of memory is free
 abbrev pub Tells : {A B : Type 0} → (A → B) → Result A TraceRefusal → Result B TraceRefusal → Type 0

@@ -34,7 +34,8 @@ pub fn quiet_holds_nothing()
 
 /// No packet is handed to the device past the bands while one of the same owner is held.
 pub fn direct_comes_alone()
-    ensures { (m : Machine) (i : ℕ) (p r : Packet) → IsInductive m → (seat_at m i).position ≡ Xmit p true → Holds m r → r.owner ≢ p.owner }
+    ensures { (m : Machine) (i : ℕ) (p r : Packet) → IsInductive m
+        → (seat_at m i).position ≡ Xmit p true → Holds m r → r.owner ≢ p.owner }
 {}
 
 /// With one queue there is one stop word: a dequeue begins at it, a hang stores it once, it is what keeps a

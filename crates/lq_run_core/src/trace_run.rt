@@ -1,9 +1,9 @@
 //! A schedule worked on a machine.
-ghost use Rattle.std.specs.Prelude.{◌≡◌, ◌+◌, ◌<◌, ◌≤◌, ◌^◌, ◌∷◌, length, MatchBool, IfOk, IfSome, Some, None};
+ghost use Rattle.std.specs.Prelude.{◌≡◌, ◌+◌, ◌<◌, ◌≤◌, ◌^◌, ◌∷◌, length, IfOk, None};
 ghost use Rattle.lq_model.specs.Machine.{Machine as State};
 ghost use Rattle.lq_run_core.specs.Numbered.{NumberedMachine};
 ghost use Rattle.lq_run_core.specs.Schedule.{IsActionInRange, lines, is_passed_over, words};
-ghost use Rattle.lq_run_core.specs.Trace.{steps_of, action_done, command_done, told_line_done, line_done, schedule_done, Tells, sends_so_far, steps_so_far};
+ghost use Rattle.lq_run_core.specs.Trace.{steps_of, action_done, command_done, told_line_done, line_done, schedule_done, IsDoneWherePossible, Tells, sends_so_far, steps_so_far};
 ghost use Rattle.lq_run_core.specs.TraceText.{schedule_text};
 
 use crate::machine::Machine;
@@ -70,7 +70,7 @@ fn is_passed_over(line: &[u8]) -> bool
 /// So many steps of a seat, each with this answer; false where one of them can't be done.
 fn do_steps(machine: &mut Machine, seat: u32, answer: Answer, count: u32) -> bool
     requires { seat < length machine.old.machine.seats }
-    ensures done { MatchBool result (steps_of count seat answer machine.old.machine ≡ Some machine.new.machine) (steps_of count seat answer machine.old.machine ≡ None) }
+    ensures done { IsDoneWherePossible result (steps_of count seat answer machine.old.machine) machine.new.machine }
     ensures next { machine.new.next ≡ machine.old.next }
 {
     for _ in 0..count {
@@ -87,7 +87,7 @@ fn do_action(progress: &mut Progress, seat: u32, action: Action) -> bool
     requires in_range { IsActionInRange action progress.old.running.machine }
     requires sends { progress.old.running.next < 1000000 }
     requires steps { progress.old.steps < 2 ^ 63 }
-    ensures done { MatchBool result (action_done progress.old seat action ≡ Some progress.new) (action_done progress.old seat action ≡ None) }
+    ensures done { IsDoneWherePossible result (action_done progress.old seat action) progress.new }
     ensures sends { progress.new.running.next ≤ progress.old.running.next + 1 }
     ensures steps { progress.new.steps ≤ progress.old.steps + 2 ^ 32 }
 {

@@ -107,7 +107,8 @@ fn events_before<'r, 'a, R: Wait, D: TxDevice, G: Gate>(
     requires devices { (units : List DeviceState) × HasDevices D.state run.now units next sender.old }
     ensures owner { sender.new.owner ≡ sender.old.owner }
     ensures within { (next ≤ result) × (result ≤ length run.now.plan.now.events) }
-    ensures done { (k : ℕ) (event : AnEvent) → next ≤ k → k < result → slice_get run.now.plan.now.events k ≡ Some event → event.before ≤ n }
+    ensures done { (k : ℕ) (event : AnEvent) → next ≤ k → k < result
+        → slice_get run.now.plan.now.events k ≡ Some event → event.before ≤ n }
     ensures left { StandAfter run.now.plan.now result n }
     ensures stands { SeatsGoOn run.now 0 next result sender.old.seats.items sender.new.seats.items }
     ensures calls { AllDid OtherCalls sender.old.seats.items sender.new.seats.items }
@@ -137,7 +138,8 @@ pub fn events_of<'r, 'a, R: Wait, D: TxDevice, G: Gate>(
     requires devices { sender.old.owner ≡ 0 → (units : List DeviceState) × HasDevices D.state run.now units next sender.old }
     ensures owner { sender.new.owner ≡ sender.old.owner }
     ensures within { (next ≤ result) × (result ≤ length run.now.plan.now.events) }
-    ensures done { (k : ℕ) (event : AnEvent) → next ≤ k → k < result → slice_get run.now.plan.now.events k ≡ Some event → event.before ≤ n }
+    ensures done { (k : ℕ) (event : AnEvent) → next ≤ k → k < result
+        → slice_get run.now.plan.now.events k ≡ Some event → event.before ≤ n }
     ensures left { sender.old.owner ≡ 0 → StandAfter run.now.plan.now result n }
     ensures stands { SeatsGoOn run.now sender.old.owner next result sender.old.seats.items sender.new.seats.items }
     ensures calls { AllDid OtherCalls sender.old.seats.items sender.new.seats.items }

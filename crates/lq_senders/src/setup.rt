@@ -178,7 +178,8 @@ pub fn open_all<'a, D: TxDevice>(
     requires configured { (before : List DeviceState)
         × AreConfigured plan.now infos.now (length plan.now.stations) before (map D.state bench.old.items) }
     requires none_yet { (stations.tables.items ≡ []) × (stations.cpus.items ≡ []) }
-    requires room { (length plan.now.stations ≤ vec_capacity stations.tables) × (length plan.now.stations ≤ vec_capacity stations.cpus) }
+    requires room { (length plan.now.stations ≤ vec_capacity stations.tables)
+        × (length plan.now.stations ≤ vec_capacity stations.cpus) }
     ensures opened { IfOk result (λ s. AreOpened plan.now infos.now (map D.state bench.old.items) s.tables.items s.cpus.items) }
     ensures all { IfOk result (λ s. vec_len s.tables ≡ length plan.now.stations) }
     ensures rest { OnOk result (bench.new.items ≡ drop (length plan.now.stations) bench.old.items) }

@@ -1,8 +1,8 @@
 //! The end of a sender, and what the reader sees of it.
 ghost use Rattle.std.specs.Prelude.{◌≡◌, ℕ, true, ◌==◌};
-ghost use Rattle.lq_tap.specs.Told.{having_ended, having_seen_ended};
-ghost use Rattle.lq_tap.specs.Made.{◌⊳◌, Noted, Rises, Loads, did_end, did_load_ended};
-ghost use Rattle.lq_tap.specs.Sees.{view, steps, IsReaderOf, IsSenderOf};
+ghost use Rattle.lq_tap.specs.Told.{having_ended};
+ghost use Rattle.lq_tap.specs.Made.{◌⊳◌, Noted, Rises, Loads, did_end};
+ghost use Rattle.lq_tap.specs.Sees.{view, steps, IsReaderOf, IsSenderOf, SeesEnded};
 ghost use Rattle.lq_tap.specs.Plays.{end_noted, ended_seen};
 
 use crate::shared::{Tap, TapSeat};
@@ -37,7 +37,7 @@ pub fn end_sender(tap: &Tap, seat: &mut TapSeat)
 pub fn ended(tap: &Tap, seat: &mut TapSeat) -> bool
     requires seat { IsReaderOf tap.now seat.old }
     ensures seat { IsReaderOf tap.now seat.new }
-    ensures found { (found : ℕ) × (result ≡ (found == tap.now.senders)) × (view seat.new ≡ having_seen_ended found (view seat.old)) × (steps seat.new ≡ steps seat.old ⊳ did_load_ended found) }
+    ensures found { (found : ℕ) × (result ≡ (found == tap.now.senders)) × SeesEnded found seat.old seat.new }
 {
     tap.table.shared.load::<SeeEnded>(&mut seat.seat, ENDED) == tap.senders as u64
 }

@@ -18,6 +18,7 @@ pub fn given_back_again()
 
 /// Where the ring has a slot for each packet, none is full and none is destroyed: every packet that was put was taken.
 pub fn room_for_all()
-    ensures none_full { (v : View) → IsSettled v → v.about.packets ≤ v.about.len → (n seen : ℕ) → Contains v.sender.fulls (n, seen) → ⊥ }
+    ensures none_full { (v : View) → IsSettled v → v.about.packets ≤ v.about.len
+        → (n seen : ℕ) → Contains v.sender.fulls (n, seen) → ⊥ }
     ensures none_lost { (v : View) → IsSettled v → v.about.packets ≤ v.about.len → length v.reader.destroyed ≡ 0 }
 {}

@@ -1,11 +1,10 @@
 //! The two locks of a `ptr_ring`: `producer_lock`, whose word has the producer index too, and `consumer_lock`.
 ghost use Rattle.std.specs.Prelude.{◌≡◌, ◌*◌, ◌/◌, ◌%◌, ◌<◌, true, false, [], ◌∷◌};
-ghost use Rattle.lq_band.specs.Ring.{unlocked, locked_at, index_given, IsAtRest};
+ghost use Rattle.lq_band.specs.Ring.{unlocked, index_given};
 ghost use Rattle.lq_tap.specs.Made.{◌⊳◌, Noted, Loads, Stores, Exchanges, did_load_producer, did_take_producer, did_give_producer, did_take_consumer, did_give_consumer};
 ghost use Rattle.lq_tap.specs.Plays.{with_lock, producer_seen, producer_taken, producer_given, with_consumer, beginning, consumer_taken, consumer_given, done_giving, return_ended};
-ghost use Rattle.lq_tap.specs.Rule.{consumer_of};
 ghost use Rattle.lq_tap.specs.Steps.{LocksProducer, LocksConsumer};
-ghost use Rattle.lq_tap.specs.Sees.{view, steps, slot, IsSeatOf, IsSameSeat, IsElseSame};
+ghost use Rattle.lq_tap.specs.Sees.{view, steps, slot, IsSeatOf, IsSameSeat, IsElseSame, GetsProducerAt, GetsEnds, HasEnds};
 
 use crate::shared::{Tap, TapSeat};
 use crate::view::{Consumer, Knowledge};
@@ -80,7 +79,7 @@ impl Tap {
         requires even { seen % 2 ≡ 0 }
         requires free { (view seat.old).lock.holds ≡ false }
         ensures same { IsElseSame seat.old seat.new }
-        ensures got { result ≡ true → (view seat.new ≡ with_lock (locked_at (seen / 2)) (view seat.old)) × (seen / 2 < self.now.len) }
+        ensures got { result ≡ true → GetsProducerAt self.now (seen / 2) seat.old seat.new }
         ensures missed { result ≡ false → view seat.new ≡ view seat.old }
         ensures steps { steps seat.new ≡ steps seat.old ⊳ did_take_producer seen result }
     {
@@ -109,7 +108,7 @@ impl Tap {
         requires seat { IsSeatOf self.now seat.old }
         requires free { (view seat.old).lock ≡ unlocked }
         ensures same { IsElseSame seat.old seat.new }
-        ensures locked { (view seat.new ≡ with_lock (locked_at result) (view seat.old)) × (result < self.now.len) }
+        ensures locked { GetsProducerAt self.now result seat.old seat.new }
         ensures steps { LocksProducer result (steps seat.old) (steps seat.new) }
     {
         let backoff = Backoff::new();
@@ -130,7 +129,7 @@ impl Tap {
     fn take_for_batch(&self, seat: &mut TapSeat) -> bool
         requires seat { IsSeatOf self.now seat.old × ((view seat.old).reader.reads ≡ true) }
         ensures same { IsSameSeat seat.old seat.new }
-        ensures got { result ≡ true → (view seat.new ≡ beginning (view seat.old)) × (slot seat.new ≡ (0, consumer_of (view seat.old).reader.ends) ∷ slot seat.old) × IsAtRest self.now.len (view seat.old).reader.ends }
+        ensures got { result ≡ true → (view seat.new ≡ beginning (view seat.old)) × GetsEnds self.now seat.old seat.new }
         ensures missed { result ≡ false → (view seat.new ≡ view seat.old) × (slot seat.new ≡ slot seat.old) }
         ensures steps { steps seat.new ≡ steps seat.old ⊳ did_take_consumer result }
     {
@@ -144,7 +143,7 @@ impl Tap {
     fn take_to_return(&self, seat: &mut TapSeat) -> bool
         requires seat { IsSeatOf self.now seat.old × ((view seat.old).reader.reads ≡ true) }
         ensures same { IsSameSeat seat.old seat.new }
-        ensures got { result ≡ true → (view seat.new ≡ with_consumer true (view seat.old)) × (slot seat.new ≡ (0, consumer_of (view seat.old).reader.ends) ∷ slot seat.old) × IsAtRest self.now.len (view seat.old).reader.ends }
+        ensures got { result ≡ true → (view seat.new ≡ with_consumer true (view seat.old)) × GetsEnds self.now seat.old seat.new }
         ensures missed { result ≡ false → (view seat.new ≡ view seat.old) × (slot seat.new ≡ slot seat.old) }
         ensures steps { steps seat.new ≡ steps seat.old ⊳ did_take_consumer result }
     {
@@ -158,7 +157,7 @@ impl Tap {
     pub(crate) fn lock_for_batch<R: Wait>(&self, rt: &R, seat: &mut TapSeat)
         requires seat { IsSeatOf self.now seat.old × ((view seat.old).reader.reads ≡ true) }
         ensures same { IsSameSeat seat.old seat.new }
-        ensures locked { (view seat.new ≡ beginning (view seat.old)) × (slot seat.new ≡ (0, consumer_of (view seat.old).reader.ends) ∷ slot seat.old) × IsAtRest self.now.len (view seat.old).reader.ends }
+        ensures locked { (view seat.new ≡ beginning (view seat.old)) × GetsEnds self.now seat.old seat.new }
         ensures steps { LocksConsumer (steps seat.old) (steps seat.new) }
     {
         let backoff = Backoff::new();
@@ -175,7 +174,7 @@ impl Tap {
     pub(crate) fn lock_to_return<R: Wait>(&self, rt: &R, seat: &mut TapSeat)
         requires seat { IsSeatOf self.now seat.old × ((view seat.old).reader.reads ≡ true) }
         ensures same { IsSameSeat seat.old seat.new }
-        ensures locked { (view seat.new ≡ with_consumer true (view seat.old)) × (slot seat.new ≡ (0, consumer_of (view seat.old).reader.ends) ∷ slot seat.old) × IsAtRest self.now.len (view seat.old).reader.ends }
+        ensures locked { (view seat.new ≡ with_consumer true (view seat.old)) × GetsEnds self.now seat.old seat.new }
         ensures steps { LocksConsumer (steps seat.old) (steps seat.new) }
     {
         let backoff = Backoff::new();
@@ -192,7 +191,7 @@ impl Tap {
     pub(crate) fn give_after_batch(&self, seat: &mut TapSeat)
         requires seat { IsSeatOf self.now seat.old × ((view seat.old).reader.reads ≡ true) }
         requires lock { (view seat.old).reader.holds ≡ true }
-        requires ends { (slot seat.old ≡ (0, consumer_of (view seat.old).reader.ends) ∷ []) × IsAtRest self.now.len (view seat.old).reader.ends }
+        requires ends { HasEnds self.now seat.old }
         ensures same { IsSameSeat seat.old seat.new × (slot seat.new ≡ []) }
         ensures given { view seat.new ≡ with_consumer false (view seat.old) }
         ensures steps { steps seat.new ≡ steps seat.old ⊳ did_give_consumer }
@@ -206,7 +205,7 @@ impl Tap {
     pub(crate) fn give_after_return(&self, seat: &mut TapSeat)
         requires seat { IsSeatOf self.now seat.old × ((view seat.old).reader.reads ≡ true) }
         requires lock { (view seat.old).reader.holds ≡ true }
-        requires ends { (slot seat.old ≡ (0, consumer_of (view seat.old).reader.ends) ∷ []) × IsAtRest self.now.len (view seat.old).reader.ends }
+        requires ends { HasEnds self.now seat.old }
         ensures same { IsSameSeat seat.old seat.new × (slot seat.new ≡ []) }
         ensures given { view seat.new ≡ done_giving (view seat.old) }
         ensures steps { steps seat.new ≡ steps seat.old ⊳ did_give_consumer }

@@ -16,8 +16,10 @@ pub fn put<R: Wait>(rt: &R, tap: &Tap, seat: &mut TapSeat, n: u32) -> Result<(),
     requires seat { IsSenderOf tap.now seat.old }
     requires packet { ((view seat.old).sender.going ≡ true) × ((view seat.old).sender.next ≡ n) × (n < tap.now.packets) }
     ensures seat { IsSenderOf tap.now seat.new }
-    ensures view { MatchResult result (λ _. view seat.new ≡ having_put n (view seat.old)) (λ full. view seat.new ≡ having_found_full n full.seen (view seat.old)) }
-    ensures steps { MatchResult result (λ _. Puts tap.now.len n (steps seat.old) (steps seat.new)) (λ full. FindsFull full.seen (steps seat.old) (steps seat.new)) }
+    ensures view { MatchResult result (λ _. view seat.new ≡ having_put n (view seat.old))
+        (λ full. view seat.new ≡ having_found_full n full.seen (view seat.old)) }
+    ensures steps { MatchResult result (λ _. Puts tap.now.len n (steps seat.old) (steps seat.new))
+        (λ full. FindsFull full.seen (steps seat.old) (steps seat.new)) }
     ensures other { IfErr result (λ full. (full.seen ≢ n) × (full.seen < tap.now.packets)) }
 {
     let index = tap.lock_producer(rt, seat);

@@ -1,12 +1,11 @@
 //! Giving back: `ptr_ring_unconsume` of include/linux/ptr_ring.h, which `vhost_net_buf_unproduce` of drivers/vhost/net.c calls.
-ghost use Rattle.std.specs.Prelude.{◌≡◌, ◌≢◌, ◌+◌, ◌-◌, ◌<◌, ◌≤◌, ℕ, true, false, List, [], ◌∷◌, ◌++◌, length, drop};
+ghost use Rattle.std.specs.Prelude.{◌≡◌, ◌+◌, ◌-◌, ◌<◌, ◌≤◌, ℕ, true, false, List, [], ◌∷◌, ◌++◌, length, drop};
 ghost use Rattle.lq_ring_core.specs.Ring.{place_before};
 ghost use Rattle.lq_band.specs.Ring.{cleared_at};
-ghost use Rattle.lq_tap.specs.Made.{◌⊳◌, did_load_slot, did_store_slot};
 ghost use Rattle.lq_tap.specs.Told.{having_given_back, place_back};
-ghost use Rattle.lq_tap.specs.Plays.{destroying, having_put_back, without_batch, IsFresh};
+ghost use Rattle.lq_tap.specs.Plays.{without_batch, IsFresh};
 ghost use Rattle.lq_tap.specs.Steps.{GivesBack, PutsBack};
-ghost use Rattle.lq_tap.specs.Sees.{view, steps, IsReaderOf, IsSeatOf, IsElseSame};
+ghost use Rattle.lq_tap.specs.Sees.{view, steps, IsReaderOf, IsSeatOf, IsElseSame, HasEmptiedAll, HasHeadAt, PutsOneBack, DestroysRest};
 
 use crate::shared::{Tap, TapSeat};
 use crate::view::Consumer;
@@ -18,13 +17,13 @@ impl Tap {
     fn put_one_back(&self, seat: &mut TapSeat, place: u32, n: u32, left: usize) -> bool
         requires seat { IsSeatOf self.now seat.old × ((view seat.old).reader.reads ≡ true) × ((view seat.old).reader.holds ≡ true) }
         requires lock { IsFresh (view seat.old).lock }
-        requires clear { ((view seat.old).reader.ends.tail ≡ (view seat.old).reader.ends.head) × ((view seat.old).reader.ends.edge ≡ (view seat.old).reader.ends.head) }
+        requires clear { HasEmptiedAll seat.old }
         requires place { (place ≡ place_before self.now.len (view seat.old).reader.ends.head 1) × (place < self.now.len) }
         requires left { (0 < left) × (left ≤ length (view seat.old).reader.batch) }
         requires last { (rest : List ℕ) × ((view seat.old).reader.batch ≡ rest ++ n ∷ []) }
         ensures same { IsElseSame seat.old seat.new }
-        ensures put { result ≡ true → (view seat.new ≡ having_put_back (view seat.old)) × (steps seat.new ≡ steps seat.old ⊳ did_load_slot place 0 ⊳ did_store_slot place (n + 1)) }
-        ensures lost { result ≡ false → (view seat.new ≡ destroying left (view seat.old)) × ((found : ℕ) × (found ≢ 0) × (steps seat.new ≡ steps seat.old ⊳ did_load_slot place found)) }
+        ensures put { result ≡ true → PutsOneBack place n seat.old seat.new }
+        ensures lost { result ≡ false → DestroysRest place left seat.old seat.new }
     {
         if self.slot_before(seat, place, left) != 0 {
             return false;
@@ -41,7 +40,7 @@ impl Tap {
         requires batch { (read : List ℕ) × ((view seat.old).reader.batch ≡ read ++ batch.now) }
         ensures same { IsElseSame seat.old seat.new × ((view seat.new).lock ≡ (view seat.old).lock) }
         ensures count { result.0 ≤ length batch.now }
-        ensures head { (result.1 ≡ place_back self.now.len first (length batch.now - result.0)) × (result.1 < self.now.len) × ((view seat.new).reader.ends ≡ cleared_at result.1) }
+        ensures head { (result.1 ≡ place_back self.now.len first (length batch.now - result.0)) × HasHeadAt self.now result.1 seat.new }
         ensures view { without_batch (view seat.new) ≡ having_given_back batch.now result.0 (view seat.old) }
         ensures steps { PutsBack self.now.len first (drop result.0 batch.now) result.0 (steps seat.old) (steps seat.new) }
     {

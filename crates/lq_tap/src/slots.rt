@@ -3,11 +3,11 @@ ghost use Rattle.std.specs.Prelude.{◌≡◌, ◌≢◌, ℕ, ◌+◌, ◌-◌,
 ghost use Rattle.lq_band.specs.Ring.{with_room, having_stored, all_empty, IsAtRest};
 ghost use Rattle.lq_ring_core.specs.Ring.{place_before};
 ghost use Rattle.lq_tap.specs.Made.{◌⊳◌, Noted, Loads, Stores, did_load_slot, did_store_slot};
-ghost use Rattle.lq_tap.specs.Told.{having_put, having_found_full};
+ghost use Rattle.lq_tap.specs.Told.{having_put};
 ghost use Rattle.lq_tap.specs.Views.{AreFew};
 ghost use Rattle.lq_tap.specs.Plays.{with_lock, with_ends, producer_slot_seen, producer_slot_stored, finding_none, taking, head_slot_seen, emptying, slot_emptied, destroying, slot_before_seen, putting_back, slot_before_stored};
 ghost use Rattle.lq_tap.specs.Steps.{emptied_below};
-ghost use Rattle.lq_tap.specs.Sees.{view, steps, IsSeatOf, IsElseSame};
+ghost use Rattle.lq_tap.specs.Sees.{view, steps, IsSeatOf, IsElseSame, HasLockAtIndex, HasLockWithRoom, FindsNextFull, IsNextToEmpty, HasSlotsToEmpty, HasEmptiedAll};
 
 use crate::shared::{Tap, TapSeat};
 use crate::view::{Consumer, Knowledge};
@@ -70,10 +70,10 @@ impl Tap {
     pub(crate) fn producer_slot(&self, seat: &mut TapSeat, index: u32) -> u64
         requires seat { IsSeatOf self.now seat.old }
         requires packet { ((view seat.old).sender.going ≡ true) × ((view seat.old).sender.next < self.now.packets) }
-        requires lock { ((view seat.old).lock.holds ≡ true) × ((view seat.old).lock.stored ≡ false) × (index ≡ (view seat.old).lock.index) × (index < self.now.len) }
+        requires lock { HasLockAtIndex self.now index seat.old }
         ensures same { IsElseSame seat.old seat.new }
         ensures room { result ≡ 0 → view seat.new ≡ with_lock (with_room (view seat.old).lock) (view seat.old) }
-        ensures full { result ≢ 0 → (view seat.new ≡ having_found_full (view seat.old).sender.next (result - 1) (view seat.old)) × (result - 1 ≢ (view seat.old).sender.next) × (result ≤ self.now.packets) }
+        ensures full { result ≢ 0 → FindsNextFull self.now result seat.old seat.new }
         ensures steps { steps seat.new ≡ steps seat.old ⊳ did_load_slot index result }
     {
         self.table
@@ -85,7 +85,7 @@ impl Tap {
     pub(crate) fn store_slot(&self, seat: &mut TapSeat, index: u32, n: u32)
         requires seat { IsSeatOf self.now seat.old }
         requires packet { ((view seat.old).sender.going ≡ true) × ((view seat.old).sender.next ≡ n) × (n < self.now.packets) }
-        requires lock { ((view seat.old).lock.holds ≡ true) × ((view seat.old).lock.stored ≡ false) × (index ≡ (view seat.old).lock.index) × (index < self.now.len) }
+        requires lock { HasLockAtIndex self.now index seat.old }
         requires room { (view seat.old).lock.room ≡ true }
         ensures same { IsElseSame seat.old seat.new }
         ensures put { view seat.new ≡ with_lock (having_stored (view seat.old).lock) (having_put n (view seat.old)) }
@@ -115,7 +115,7 @@ impl Tap {
     /// Empties the slot below the edge.
     fn zero_slot(&self, seat: &mut TapSeat, place: u32)
         requires seat { IsSeatOf self.now seat.old × ((view seat.old).reader.reads ≡ true) × ((view seat.old).reader.holds ≡ true) }
-        requires edge { ((view seat.old).reader.ends.tail < (view seat.old).reader.ends.edge) × (place + 1 ≡ (view seat.old).reader.ends.edge) × (place < self.now.len) }
+        requires edge { IsNextToEmpty self.now place seat.old }
         ensures same { IsElseSame seat.old seat.new }
         ensures emptied { view seat.new ≡ emptying (view seat.old) }
         ensures steps { steps seat.new ≡ steps seat.old ⊳ did_store_slot place 0 }
@@ -129,7 +129,7 @@ impl Tap {
     /// `ptr_ring_unconsume`.
     pub(crate) fn zero_down(&self, seat: &mut TapSeat, tail: u32, head: u32)
         requires seat { IsSeatOf self.now seat.old × ((view seat.old).reader.reads ≡ true) × ((view seat.old).reader.holds ≡ true) }
-        requires ends { ((view seat.old).reader.ends ≡ record { head = head; tail = tail; edge = head }) × (tail ≤ head) × (tail < self.now.len) × (head ≤ self.now.len) }
+        requires ends { HasSlotsToEmpty self.now tail head seat.old }
         ensures same { IsElseSame seat.old seat.new }
         ensures emptied { view seat.new ≡ with_ends (all_empty self.now.len (view seat.old).reader.ends) (view seat.old) }
         ensures steps { steps seat.new ≡ emptied_below head (head - tail) (steps seat.old) }
@@ -143,7 +143,7 @@ impl Tap {
         requires named { left ≡ K.left }
         requires seat { IsSeatOf self.now seat.old × ((view seat.old).reader.reads ≡ true) × ((view seat.old).reader.holds ≡ true) }
         requires lock { ((view seat.old).lock.holds ≡ true) × ((view seat.old).lock.stored ≡ false) }
-        requires clear { ((view seat.old).reader.ends.tail ≡ (view seat.old).reader.ends.head) × ((view seat.old).reader.ends.edge ≡ (view seat.old).reader.ends.head) }
+        requires clear { HasEmptiedAll seat.old }
         requires place { (place ≡ place_before self.now.len (view seat.old).reader.ends.head 1) × (place < self.now.len) }
         requires left { (0 < left) × (left ≤ length (view seat.old).reader.batch) }
         ensures same { IsElseSame seat.old seat.new }
@@ -161,7 +161,7 @@ impl Tap {
     pub(crate) fn slot_before(&self, seat: &mut TapSeat, place: u32, left: usize) -> u64
         requires seat { IsSeatOf self.now seat.old × ((view seat.old).reader.reads ≡ true) × ((view seat.old).reader.holds ≡ true) }
         requires lock { ((view seat.old).lock.holds ≡ true) × ((view seat.old).lock.stored ≡ false) }
-        requires clear { ((view seat.old).reader.ends.tail ≡ (view seat.old).reader.ends.head) × ((view seat.old).reader.ends.edge ≡ (view seat.old).reader.ends.head) }
+        requires clear { HasEmptiedAll seat.old }
         requires place { (place ≡ place_before self.now.len (view seat.old).reader.ends.head 1) × (place < self.now.len) }
         requires left { (0 < left) × (left ≤ length (view seat.old).reader.batch) }
         ensures same { IsElseSame seat.old seat.new }
@@ -175,8 +175,8 @@ impl Tap {
     /// Puts the last packet of the batch there, where it was loaded as 0 under both locks.
     pub(crate) fn store_before(&self, seat: &mut TapSeat, place: u32, n: u32)
         requires seat { IsSeatOf self.now seat.old × ((view seat.old).reader.reads ≡ true) × ((view seat.old).reader.holds ≡ true) }
-        requires lock { ((view seat.old).lock.holds ≡ true) × ((view seat.old).lock.stored ≡ false) × ((view seat.old).lock.room ≡ true) }
-        requires clear { ((view seat.old).reader.ends.tail ≡ (view seat.old).reader.ends.head) × ((view seat.old).reader.ends.edge ≡ (view seat.old).reader.ends.head) }
+        requires lock { HasLockWithRoom seat.old }
+        requires clear { HasEmptiedAll seat.old }
         requires place { (place ≡ place_before self.now.len (view seat.old).reader.ends.head 1) × (place < self.now.len) }
         requires last { (rest : List ℕ) × ((view seat.old).reader.batch ≡ rest ++ n ∷ []) }
         ensures same { IsElseSame seat.old seat.new }

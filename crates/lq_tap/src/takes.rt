@@ -1,13 +1,12 @@
 //! Batches: `ptr_ring_consume_batched` of include/linux/ptr_ring.h, which `vhost_net_buf_produce` of drivers/vhost/net.c calls.
 ghost use Rattle.std.specs.Prelude.{◌≡◌, ◌+◌, ◌<◌, ◌≤◌, true, [], length, take, drop, All, IfSome, IfNone};
 ghost use Rattle.lq_band.specs.Ring.{taken_on, after_take, IsAtRest};
-ghost use Rattle.lq_tap.specs.Made.{◌⊳◌, did_load_slot};
 ghost use Rattle.lq_tap.specs.Told.{having_taken};
 ghost use Rattle.lq_tap.specs.Views.{AreFew};
-ghost use Rattle.lq_tap.specs.Plays.{with_ends, finding_none, having_taken_one, rest_at};
+ghost use Rattle.lq_tap.specs.Plays.{with_ends, rest_at};
 ghost use Rattle.lq_tap.specs.Rule.{consumer_of};
-ghost use Rattle.lq_tap.specs.Steps.{GetsBatch, TakesAll, took, emptied_below, emptied_after};
-ghost use Rattle.lq_tap.specs.Sees.{view, steps, IsReaderOf, IsSeatOf, IsElseSame};
+ghost use Rattle.lq_tap.specs.Steps.{GetsBatch, TakesAll, emptied_below, emptied_after};
+ghost use Rattle.lq_tap.specs.Sees.{view, steps, IsReaderOf, IsSeatOf, IsElseSame, FindsNone, TakesOne};
 
 use crate::shared::{Tap, TapSeat};
 use crate::view::Consumer;
@@ -23,7 +22,8 @@ impl Tap {
         ensures same { IsElseSame seat.old seat.new }
         ensures view { view seat.new ≡ with_ends (after_take self.now.len (rest_at ends)) (view seat.old) }
         ensures steps { steps seat.new ≡ emptied_below (ends.head + 1) (emptied_after self.now.len (rest_at ends)) (steps seat.old) }
-        ensures ends { (result ≡ consumer_of (after_take self.now.len (rest_at ends))) × IsAtRest self.now.len (after_take self.now.len (rest_at ends)) }
+        ensures ends { (result ≡ consumer_of (after_take self.now.len (rest_at ends)))
+            × IsAtRest self.now.len (after_take self.now.len (rest_at ends)) }
     {
         let head = ends.head + 1;
         if ends.tail + batch(self.len) <= head || head == self.len {
@@ -46,10 +46,11 @@ impl Tap {
         requires seat { IsSeatOf self.now seat.old × ((view seat.old).reader.reads ≡ true) × ((view seat.old).reader.holds ≡ true) }
         requires ends { ((view seat.old).reader.ends ≡ rest_at ends) × IsAtRest self.now.len (rest_at ends) }
         ensures same { IsElseSame seat.old seat.new }
-        ensures none { IfNone result ((view seat.new ≡ finding_none (view seat.old)) × (steps seat.new ≡ steps seat.old ⊳ did_load_slot ends.head 0)) }
-        ensures taken { IfSome result (λ r. (view seat.new ≡ having_taken_one r.0 (view seat.old)) × (steps seat.new ≡ took self.now.len (rest_at ends) r.0 (steps seat.old)) × (r.0 < self.now.packets)) }
+        ensures none { IfNone result (FindsNone ends.head seat.old seat.new) }
+        ensures taken { IfSome result (λ r. TakesOne self.now ends r.0 seat.old seat.new) }
         ensures few { AreFew (view seat.new) }
-        ensures ends { IfSome result (λ r. (rest_at r.1 ≡ after_take self.now.len (rest_at ends)) × IsAtRest self.now.len (rest_at r.1)) }
+        ensures ends { IfSome result (λ r. (rest_at r.1 ≡ after_take self.now.len (rest_at ends))
+            × IsAtRest self.now.len (rest_at r.1)) }
     {
         let found = self.head_slot(seat, ends.head);
         if found == 0 {
@@ -99,7 +100,8 @@ pub fn get_batch<R: Wait>(rt: &R, tap: &Tap, seat: &mut TapSeat, out: &mut [u32]
     ensures count { result ≤ length out.old }
     ensures out { (length out.new ≡ length out.old) × (drop result out.new ≡ drop result out.old) }
     ensures view { view seat.new ≡ having_taken (take result out.new) (view seat.old) }
-    ensures steps { GetsBatch tap.now.len (view seat.old).reader.ends (take result out.new) (length out.old) (steps seat.old) (steps seat.new) }
+    ensures steps { GetsBatch tap.now.len (view seat.old).reader.ends (take result out.new) (length out.old)
+        (steps seat.old) (steps seat.new) }
     ensures packets { All (λ n. n < tap.now.packets) (take result out.new) }
     ensures few { AreFew (view seat.new) }
 {

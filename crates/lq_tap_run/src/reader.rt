@@ -1,7 +1,7 @@
 //! What the reader does: it takes batches, reads the first half of each, and gives the rest back.
 ghost use Rattle.std.specs.Prelude.{◌≡◌, ◌+◌, ◌<◌, ◌≤◌, ◌++◌, length, vec_capacity, vec_len};
 ghost use Rattle.lq_tap.specs.Sees.{IsReaderOf, view};
-ghost use Rattle.lq_tap_run.specs.Reads.{HasRead, IsReaderDone, ReadsOn};
+ghost use Rattle.lq_tap_run.specs.Reads.{HasRead, HasReadAll, IsReaderDone, ReadsOn};
 
 use crate::shared::Run;
 use lq_gate::Gate;
@@ -78,7 +78,7 @@ pub fn all_read<'r, R: Wait, G: Gate>(rt: &R, run: &Run<'r, G>, mut reader: Read
     requires read { HasRead run.now.tap.now reader.seat reader.read.items }
     requires room { (view reader.seat).about.packets ≤ vec_capacity reader.read }
     requires batch { (0 < vec_len reader.batch) × (vec_len reader.batch ≤ 64) }
-    ensures { HasRead run.now.tap.now result.seat result.read.items × IsReaderDone result.seat × ReadsOn reader.seat result.seat }
+    ensures { HasReadAll run.now.tap.now reader.seat result }
 {
     read_all(
         rt,

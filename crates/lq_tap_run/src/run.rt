@@ -1,12 +1,12 @@
 //! The whole run: its memory is taken first, then the senders and the reader run side by side, and then their seats are joined.
-ghost use Rattle.std.specs.Prelude.{◌≡◌, ◌+◌, ◌<◌, ◌≤◌, ◌-◌, ℕ, [], true, IfOk, length, vec_capacity, vec_len};
+ghost use Rattle.std.specs.Prelude.{◌≡◌, ◌+◌, ◌<◌, ◌≤◌, ◌-◌, ℕ, [], IfOk, length, vec_capacity, vec_len};
 ghost use Rattle.lq_tap.specs.Sees.{IsMadeFor, IsReaderOf, setup, view};
 ghost use Rattle.lq_tap.specs.Settled.{IsSettled};
-ghost use Rattle.lq_tap.specs.Views.{counting, first_view};
+ghost use Rattle.lq_tap.specs.Views.{first_view};
 ghost use Rattle.lq_tap_fates.specs.Fates.{IsTapRun, IsTapWithin};
 ghost use Rattle.lq_tap_run.specs.Lanes.{AreDone, AreReady, CanPut};
-ghost use Rattle.lq_tap_run.specs.Marks.{AreMarked, AreMarkedFull};
-ghost use Rattle.lq_tap_run.specs.Reads.{HasRead, IsReaderDone, ReadsOn};
+ghost use Rattle.lq_tap_run.specs.Marks.{AreMarkedFull};
+ghost use Rattle.lq_tap_run.specs.Reads.{CanRead, HasRead, HasReadAll, IsReaderDone, KeepsReads};
 ghost use Rattle.lq_tap_run.specs.Runs.{AreSplit, HasJoined};
 
 use crate::fates::{mark_full, mark_read, unknown};
@@ -97,7 +97,7 @@ fn put_and_read<'r, R: Threads + Wait + Sync, G: Gate>(
     requires room { run.now.packets ≤ vec_capacity reader.read }
     requires batch { (0 < vec_len reader.batch) × (vec_len reader.batch ≤ 64) }
     ensures lanes { AreDone run.now.tap.now run.now.packets run.now.senders result.0.items × (length result.0.items ≡ run.now.senders) }
-    ensures reader { HasRead run.now.tap.now result.1.seat result.1.read.items × IsReaderDone result.1.seat × ReadsOn reader.seat result.1.seat }
+    ensures reader { HasReadAll run.now.tap.now reader.seat result.1 }
 {
     // Each side makes a `Run` of its own: of a closure that captures this one `join` would tell nothing.
     let Run {
@@ -121,9 +121,8 @@ fn put_and_read<'r, R: Threads + Wait + Sync, G: Gate>(
             all_put(rt, &shared, lanes)
         },
         move || -> Reader
-            requires { CanPut tap.now packets senders × HasRead tap.now reader.seat reader.read.items × ((view reader.seat).about.packets ≤ vec_capacity reader.read)
-                × (0 < vec_len reader.batch) × (vec_len reader.batch ≤ 64) }
-            ensures { HasRead tap.entry.now result.seat result.read.items × IsReaderDone result.seat × ReadsOn reader.seat result.seat }
+            requires { CanPut tap.now packets senders × CanRead tap.now reader }
+            ensures { HasReadAll tap.entry.now reader.seat result }
         {
             let shared = Run {
                 tap,
@@ -147,7 +146,7 @@ fn join_all<'r, G: Gate>(
     requires lanes { AreDone run.now.tap.now run.now.packets run.now.senders lanes.items × (length lanes.items ≡ run.now.senders) }
     requires fates { AreMarkedFull run.now.packets [] fates.old.items }
     ensures joined { HasJoined run.now.tap.now run.now.packets run.now.senders 0 seat.new × IsSettled (view seat.new) }
-    ensures reader { ((view seat.new).reader.taken ≡ (view seat.old).reader.taken) × ((view seat.new).reader.destroyed ≡ (view seat.old).reader.destroyed) }
+    ensures reader { KeepsReads seat.old seat.new }
     ensures fates { AreMarkedFull run.now.packets (view seat.new).sender.fulls fates.new.items }
 {
     while let Some(lane) = lanes.pop() {

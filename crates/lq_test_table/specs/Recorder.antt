@@ -1,5 +1,5 @@
 -- What callers see of a device whose list can be read.
-use Rattle.std.specs.Prelude.{ℕ, ◌-◌, false, None, vec_len, vec_capacity}
+use Rattle.std.specs.Prelude.{◌≡◌, ℕ, ◌-◌, ◌≤◌, false, [], None, vec_len, vec_capacity}
 use Rattle.lq_model.specs.Device.{DeviceState}
 use Rattle.lq_device.specs.Asked.{asked_list}
 use Rattle.lq_test_table.specs.declared.recorder.Recorder.{Recorder}
@@ -18,3 +18,7 @@ recorder_state d = record {
   hung = false;
   told = None;
 }
+
+-- A device that was asked nothing, so that it has accepted nothing, doesn't hang, and has room for so many packets.
+abbrev pub IsFreshWithRoom : ℕ → DeviceState → Type 0
+IsFreshWithRoom room d = (d.accepted ≡ []) × (d.hung ≡ false) × (room ≤ d.spare) × (d.asked ≡ [])

@@ -51,6 +51,10 @@ module _ {D : Type 0} where
     pub phase_is : IsIn phase (view c)
     pub brought : units_of (view c).trail ≡ units
 
+  -- the first seat of an active station, after so many swaps
+  abbrev pub IsFirstAfterSwaps : ℕ → Shared D → Cpu D → Type 0
+  IsFirstAfterSwaps swaps t c = IsFirst Active (units_from_first swaps) t c
+
   -- with each of the four owners, and all shares
   pub record HasAllShares (c : Cpu D) : Type 0 where
     pub shares : (view c).share.shares ≡ 1024

@@ -1,10 +1,11 @@
 //! A swap of the device and the end of a hung station, on one thread: what is answered and what becomes of each packet was
 //! told by hand from the rules.
-ghost use Rattle.std.specs.Prelude.{◌≡◌, ℕ, ◌<◌, ◌≤◌, [], false, length};
+ghost use Rattle.std.specs.Prelude.{◌≡◌, ℕ, ◌<◌, [], length};
 ghost use Rattle.lq_control.specs.Finish.{AreTurnsFrom};
 ghost use Rattle.lq_table.specs.Rule.{units_of};
 ghost use Rattle.lq_table.specs.Sees.{view, setup};
 ghost use Rattle.lq_table.specs.Solo.{IsSole};
+ghost use Rattle.lq_test_table.specs.Recorder.{IsFreshWithRoom};
 ghost use Rattle.lq_test_table.specs.Seats.{IsDone, IsOnly};
 
 use crate::plain::{PARAMS, check_packets, info};
@@ -31,7 +32,7 @@ fn table<'a, A: Abort, D: TxDevice>(
     infos: &'a [Info],
     device: D,
 ) -> (Shared<'a, D>, Cpu<D>)
-    requires device { ((D.state device).accepted ≡ []) × ((D.state device).hung ≡ false) × (length infos.now ≤ (D.state device).spare) × ((D.state device).asked ≡ []) }
+    requires device { IsFreshWithRoom (length infos.now) (D.state device) }
     ensures only { IsOnly result.0 result.1 }
     ensures none { units_of (view result.1).trail ≡ [] }
 {
@@ -74,7 +75,7 @@ fn swap_device<'a, A: Abort + Wait, D: TxDevice>(
 ) -> D
     requires only { IsOnly shared.now cpu.old }
     requires none { units_of (view cpu.old).trail ≡ [] }
-    requires device { ((D.state new).accepted ≡ []) × ((D.state new).hung ≡ false) × (length shared.now.infos.now ≤ (D.state new).spare) × ((D.state new).asked ≡ []) }
+    requires device { IsFreshWithRoom (length shared.now.infos.now) (D.state new) }
     ensures only { IsOnly shared.now cpu.new }
 {
     swap(rt, shared, cpu, 1, new, event)

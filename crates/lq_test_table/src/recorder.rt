@@ -1,6 +1,6 @@
 //! A device whose list can be read.
-ghost use Rattle.std.specs.Prelude.{◌≡◌, ◌≤◌, [], false, IfOk};
-ghost use Rattle.lq_test_table.specs.Recorder.{recorder_state};
+ghost use Rattle.std.specs.Prelude.{◌≡◌, IfOk};
+ghost use Rattle.lq_test_table.specs.Recorder.{IsFreshWithRoom, recorder_state};
 
 use lq_device::{Asked, TxDevice};
 use lq_model::{NoMemory, Params, Tx};
@@ -21,7 +21,7 @@ pub struct Recorder {
 impl Recorder {
     /// A device that has room for so many packets.
     pub fn new(alloc: Global, burst: u32, room: usize) -> Result<Recorder, NoMemory>
-        ensures { IfOk result (λ d. ((recorder_state d).accepted ≡ []) × ((recorder_state d).hung ≡ false) × (room ≤ (recorder_state d).spare) × ((recorder_state d).asked ≡ [])) }
+        ensures { IfOk result (λ d. IsFreshWithRoom room (recorder_state d)) }
     {
         let Ok(accepted) = Vec::with_capacity(alloc, room) else {
             return Err(NoMemory);

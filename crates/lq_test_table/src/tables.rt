@@ -3,7 +3,7 @@ ghost use Rattle.std.specs.Prelude.{◌≡◌, ℕ, ◌+◌, ◌<◌, ◌≤◌,
 ghost use Rattle.lq_model.specs.declared.machine.Phase.TheVariants.{Active};
 ghost use Rattle.lq_table.specs.Sees.{view};
 ghost use Rattle.lq_table.specs.Rule.{units_of};
-ghost use Rattle.lq_test_table.specs.Recorder.{recorder_state};
+ghost use Rattle.lq_test_table.specs.Recorder.{IsFreshWithRoom, recorder_state};
 ghost use Rattle.lq_test_table.specs.Seats.{HasAllShares, IsBetweenCalls, IsFirst, IsKeptFirst, IsSender, IsTheirs};
 
 use crate::recorder::Recorder;
@@ -50,7 +50,7 @@ fn check_packets<A: Abort>(rt: &A, infos: &[Info])
 
 /// A new device, with room for all packets.
 pub fn device<A: Abort>(rt: &A, alloc: Global, burst: u32, infos: &[Info]) -> Recorder
-    ensures { ((recorder_state result).accepted ≡ []) × ((recorder_state result).hung ≡ false) × (length infos.now ≤ (recorder_state result).spare) × ((recorder_state result).asked ≡ []) }
+    ensures { IsFreshWithRoom (length infos.now) (recorder_state result) }
 {
     Recorder::new(alloc, burst, infos.len()).expect(rt, "memory")
 }

@@ -1,6 +1,6 @@
 //! The tap on one thread, slot by slot: with memory, and where nobody else has a lock, no call refuses without a cause.
-ghost use Rattle.std.specs.Prelude.{◌≡◌, ◌+◌, ◌<◌, ◌≤◌, ℕ, true, false, [], List, ◌++◌, length, Ok};
-ghost use Rattle.lq_tap.specs.Sees.{view, IsReaderOf, IsSenderOf};
+ghost use Rattle.std.specs.Prelude.{◌≡◌, ◌+◌, ◌≤◌, Ok};
+ghost use Rattle.lq_tap.specs.Sees.{IsSenderBefore};
 
 use crate::plain::with_memory;
 use lq_ring_core::Full;
@@ -11,8 +11,8 @@ use std::sync::Wait;
 /// Puts so many packets of the only sender, each with room.
 fn put_some<R: Wait + Abort>(rt: &R, tap: &Tap, seat: &mut TapSeat, first: u32, count: u32)
     requires tap { (tap.now.senders ≡ 1) × (first + count ≤ tap.now.packets) × (tap.now.packets ≤ 1000000) }
-    requires seat { IsSenderOf tap.now seat.old × ((view seat.old).sender.going ≡ true) × ((view seat.old).sender.next ≡ first) }
-    ensures seat { IsSenderOf tap.now seat.new × ((view seat.new).sender.going ≡ true) × ((view seat.new).sender.next ≡ first + count) }
+    requires seat { IsSenderBefore tap.now first seat.old }
+    ensures seat { IsSenderBefore tap.now (first + count) seat.new }
 {
     for n in first..first + count {
         assert_eq!(rt; put(rt, tap, seat, n), Ok(()));

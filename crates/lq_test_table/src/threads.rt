@@ -1,11 +1,12 @@
 //! Three senders beside control, each on a thread of its own.
-ghost use Rattle.std.specs.Prelude.{◌≡◌, ℕ, ◌<◌, ◌≤◌, List, [], false, length};
+ghost use Rattle.std.specs.Prelude.{◌≡◌, ℕ, ◌<◌, ◌≤◌, List, [], length};
 ghost use Rattle.std.specs.Thread.{IsSync};
 ghost use Rattle.lq_model.specs.declared.machine.Phase.TheVariants.{Active};
 ghost use Rattle.lq_table.specs.Rule.{times};
 ghost use Rattle.lq_table.specs.Sees.{view};
 ghost use Rattle.lq_table.specs.Told.{keeping};
-ghost use Rattle.lq_test_table.specs.Seats.{IsDone, IsFirst, IsSender, units_from_first};
+ghost use Rattle.lq_test_table.specs.Recorder.{IsFreshWithRoom};
+ghost use Rattle.lq_test_table.specs.Seats.{IsDone, IsFirst, IsFirstAfterSwaps, IsSender};
 
 use crate::recorder::Recorder;
 use crate::seats::Sender;
@@ -45,7 +46,7 @@ fn devices<A: Abort>(rt: &A, alloc: Global, count: u32) -> Vec<Recorder> {
 
 /// The device, begun anew with room for all packets.
 fn begun<A: Abort, D: TxDevice>(rt: &A, device: D, infos: &[Info]) -> D
-    ensures { ((D.state result).accepted ≡ []) × ((D.state result).hung ≡ false) × (length infos.now ≤ (D.state result).spare) × ((D.state result).asked ≡ []) }
+    ensures { IsFreshWithRoom (length infos.now) (D.state result) }
 {
     let mut device = device;
     let params = Params {
@@ -67,8 +68,8 @@ fn swap_device<'a, A: Abort + Wait, D: TxDevice>(
     fresh: D,
     event: u32,
 )
-    requires first { IsFirst Active (units_from_first (length old.old.items)) shared.now cpu.old }
-    ensures first { IsFirst Active (units_from_first (length old.new.items)) shared.now cpu.new }
+    requires first { IsFirstAfterSwaps (length old.old.items) shared.now cpu.old }
+    ensures first { IsFirstAfterSwaps (length old.new.items) shared.now cpu.new }
 {
     assert!(rt; shared.number() == 0);
     assert!(rt; old.len() < 255);
@@ -88,8 +89,8 @@ fn control_once<'a, A: Abort + Wait, D: TxDevice>(
     fresh: &mut Vec<D>,
     event: u32,
 ) -> Option<u32>
-    requires first { IsFirst Active (units_from_first (length old.old.items)) shared.now cpu.old }
-    ensures first { IsFirst Active (units_from_first (length old.new.items)) shared.now cpu.new }
+    requires first { IsFirstAfterSwaps (length old.old.items) shared.now cpu.old }
+    ensures first { IsFirstAfterSwaps (length old.new.items) shared.now cpu.new }
 {
     let len = 1 + event / 4 % LEN;
     assert!(rt; len <= shared.max_len());
@@ -128,7 +129,7 @@ fn control<'a, A: Abort + Wait, D: TxDevice>(
     mut fresh: Vec<D>,
 ) -> Done<D>
     requires first { IsFirst Active [] shared.now cpu }
-    ensures first { IsFirst Active (units_from_first (length result.old.items)) shared.now result.cpu }
+    ensures first { IsFirstAfterSwaps (length result.old.items) shared.now result.cpu }
 {
     let mut old = Vec::new(alloc);
     let mut lost = Vec::new(alloc);
@@ -216,14 +217,14 @@ fn control_and_send<'a, R: Abort + Threads + Wait + Sync, D: TxDevice>(
 ) -> (Done<D>, Sender<D>)
     requires first { IsFirst Active [] shared.now first }
     requires sender { IsSender shared.now sender.owner sender.cpu }
-    ensures first { IsFirst Active (units_from_first (length result.0.old.items)) shared.now result.0.cpu }
+    ensures first { IsFirstAfterSwaps (length result.0.old.items) shared.now result.0.cpu }
     ensures done { IsDone shared.now result.1.cpu }
 {
     thread::join(
         rt,
         move || -> Done<D>
             requires { IsFirst Active [] shared.now first }
-            ensures { IsFirst Active (units_from_first (length result.old.items)) shared.entry.now result.cpu }
+            ensures { IsFirstAfterSwaps (length result.old.items) shared.entry.now result.cpu }
         { control(rt, alloc, shared, first, fresh) },
         move || -> Sender<D>
             requires { IsSender shared.now sender.owner sender.cpu }
@@ -247,7 +248,7 @@ fn run<'a, R: Abort + Threads + Wait + Sync, D: TxDevice>(
     requires low { IsSender shared.now low.owner low.cpu }
     requires mid { IsSender shared.now mid.owner mid.cpu }
     requires high { IsSender shared.now high.owner high.cpu }
-    ensures first { IsFirst Active (units_from_first (length result.0.0.old.items)) shared.now result.0.0.cpu }
+    ensures first { IsFirstAfterSwaps (length result.0.0.old.items) shared.now result.0.0.cpu }
     ensures low { IsDone shared.now result.0.1.cpu }
     ensures others { IsDone shared.now result.1.0.cpu × IsDone shared.now result.1.1.cpu }
 {
@@ -255,7 +256,7 @@ fn run<'a, R: Abort + Threads + Wait + Sync, D: TxDevice>(
         rt,
         move || -> (Done<D>, Sender<D>)
             requires { IsFirst Active [] shared.now first × IsSender shared.now low.owner low.cpu }
-            ensures { IsFirst Active (units_from_first (length result.0.old.items)) shared.entry.now result.0.cpu × IsDone shared.entry.now result.1.cpu }
+            ensures { IsFirstAfterSwaps (length result.0.old.items) shared.entry.now result.0.cpu × IsDone shared.entry.now result.1.cpu }
         { control_and_send(rt, alloc, shared, first, fresh, low) },
         move || -> (Sender<D>, Sender<D>)
             requires { IsSender shared.now mid.owner mid.cpu × IsSender shared.now high.owner high.cpu }

@@ -63,8 +63,8 @@ fn run_and_count<R: Threads + Wait + Sync, H: Host, G: Gate, D: TxDevice>(
     requires runnable { IsRunnable (vec_len bench.old) plan.now }
     requires none_yet { ended.old.items ≡ [] }
     ensures answer { IfOk result (λ answer. answer ≡ Status.Done) }
-    ensures ok { OnOk result (HasCounted (run_of out.now plan.now capture.now)
-        (H.state host.old) (H.state host.new) (map D.state bench.old.items) (map D.state bench.new.items) (map ended_state ended.new.items)) }
+    ensures ok { OnOk result (HasCounted (run_of out.now plan.now capture.now) (H.state host.old) (H.state host.new)
+        (map D.state bench.old.items) (map D.state bench.new.items) (map ended_state ended.new.items)) }
     ensures err { OnErr result (AreCountsCut (run_of out.now plan.now capture.now)
         (H.state host.old) (H.state host.new) (map D.state bench.old.items) (map D.state bench.new.items)) }
     ensures others { drop (unit_count plan.now) bench.new.items ≡ drop (unit_count plan.now) bench.old.items }
@@ -103,8 +103,8 @@ fn generate<R: Threads + Wait + Sync, H: Host, G: Gate, D: TxDevice>(
     requires runnable { IsRunnable (vec_len bench.old) plan.now }
     requires none_yet { ended.old.items ≡ [] }
     ensures does { CompletesOrStops (by_generated words.now.out.now (generated_capture words.now.number words.now.count) plan.now
-        (with_refusal (as_classic (capture_of (generated_capture words.now.number words.now.count)))))
-        (H.state host.old) (H.state host.new) (map D.state bench.old.items) (map D.state bench.new.items) (map ended_state ended.new.items) result }
+        (with_refusal (as_classic (capture_of (generated_capture words.now.number words.now.count))))) (H.state host.old) (H.state host.new)
+        (map D.state bench.old.items) (map D.state bench.new.items) (map ended_state ended.new.items) result }
     ensures answer { IfOk result (λ answer. answer ≡ Status.Done) }
     ensures others { drop (unit_count plan.now) bench.new.items ≡ drop (unit_count plan.now) bench.old.items }
     ensures len { vec_len bench.new ≡ vec_len bench.old }
@@ -134,8 +134,8 @@ pub fn gen_command<R: Threads + Wait + Sync, H: Host, G: Gate, D: TxDevice>(
     requires may { H.may_create words.now.out.now }
     requires few { words.now.count ≤ 1000000 }
     requires none_yet { ended.old.items ≡ [] }
-    ensures does { CompletesOrStops (verdict_of_gen (gen_words words.now) (vec_len bench.old))
-        (H.state host.old) (H.state host.new) (map D.state bench.old.items) (map D.state bench.new.items) (map ended_state ended.new.items) result }
+    ensures does { CompletesOrStops (verdict_of_gen (gen_words words.now) (vec_len bench.old)) (H.state host.old) (H.state host.new)
+        (map D.state bench.old.items) (map D.state bench.new.items) (map ended_state ended.new.items) result }
     ensures answer { IfOk result IsCommandStatus }
     ensures others { let units = units_changed_by (verdict_of_gen (gen_words words.now) (vec_len bench.old)) in
         drop units bench.new.items ≡ drop units bench.old.items }

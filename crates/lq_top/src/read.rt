@@ -149,7 +149,8 @@ pub fn read_schedule_file<H: Host>(
     requires { H.may_open name.now }
     ensures text { IfOk result (λ read. IfSome (H.state host.old).told (λ c.
         option_map limited_trace_of (c.files name.now) ≡ Some (result_map_both (λ text. text.items) (λ refusal. refusal) read))) }
-    ensures some { IfOk result (λ read. (bytes : List ℕ) × (limited_trace_of bytes ≡ result_map_both (λ text. text.items) (λ refusal. refusal) read)) }
+    ensures some { IfOk result (λ read. (bytes : List ℕ)
+        × (limited_trace_of bytes ≡ result_map_both (λ text. text.items) (λ refusal. refusal) read)) }
     ensures not_usage { IfOk result (λ read. IfErr read (λ refusal. refusal ≢ Refusal.Usage)) }
     ensures same { H.state host.new ≡ H.state host.old }
     ensures cause { StopsFor (H.fault_count host.old) (H.fault_count host.new) result }

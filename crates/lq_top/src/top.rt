@@ -48,8 +48,8 @@ fn run_capture<R: Threads + Wait + Sync, H: Host, G: Gate, D: TxDevice>(
     requires runnable { IsRunnable (vec_len bench.old) plan.now }
     requires none_yet { ended.old.items ≡ [] }
     ensures answer { IfOk result (λ answer. answer ≡ Status.Done) }
-    ensures ok { OnOk result (HasRun (run_of out.now plan.now capture.now)
-        (H.state host.old) (H.state host.new) (map D.state bench.old.items) (map D.state bench.new.items) (map ended_state ended.new.items)) }
+    ensures ok { OnOk result (HasRun (run_of out.now plan.now capture.now) (H.state host.old) (H.state host.new)
+        (map D.state bench.old.items) (map D.state bench.new.items) (map ended_state ended.new.items)) }
     ensures err { OnErr result (Stops (Runs (run_of out.now plan.now capture.now))
         (H.state host.old) (H.state host.new) (map D.state bench.old.items) (map D.state bench.new.items)) }
     ensures others { drop (unit_count plan.now) bench.new.items ≡ drop (unit_count plan.now) bench.old.items }
@@ -85,10 +85,10 @@ fn run_command<R: Threads + Wait + Sync, H: Host, G: Gate, D: TxDevice>(
     requires may { MayRun H.may_open H.may_create (run_words words.now) }
     requires none_yet { ended.old.items ≡ [] }
     ensures does { IfSome (H.state host.old).told (λ c.
-        CompletesOrStops (verdict_of_run (run_words words.now) c.files (vec_len bench.old))
-        (H.state host.old) (H.state host.new) (map D.state bench.old.items) (map D.state bench.new.items) (map ended_state ended.new.items) result) }
-    ensures some { CompletesOrStopsOfSome (Some (OfRun (run_words words.now))) (vec_len bench.old)
-        (H.state host.old) (H.state host.new) (map D.state bench.old.items) (map D.state bench.new.items) (map ended_state ended.new.items) result }
+        CompletesOrStops (verdict_of_run (run_words words.now) c.files (vec_len bench.old)) (H.state host.old) (H.state host.new)
+        (map D.state bench.old.items) (map D.state bench.new.items) (map ended_state ended.new.items) result) }
+    ensures some { CompletesOrStopsOfSome (Some (OfRun (run_words words.now))) (vec_len bench.old) (H.state host.old) (H.state host.new)
+        (map D.state bench.old.items) (map D.state bench.new.items) (map ended_state ended.new.items) result }
     ensures answer { IfOk result IsCommandStatus }
     ensures others { IfSome (H.state host.old).told (λ c.
         let units = units_changed_by (verdict_of_run (run_words words.now) c.files (vec_len bench.old)) in
@@ -128,10 +128,10 @@ fn do_command<R: Threads + Wait + Sync, H: Host, G: Gate, D: TxDevice>(
     requires within { AreOperandsWithin (Some (command_words command.now)) }
     requires none_yet { ended.old.items ≡ [] }
     ensures does { IfSome (H.state host.old).told (λ c.
-        CompletesOrStops (verdict_of_command (command_words command.now) c.files (vec_len bench.old))
-        (H.state host.old) (H.state host.new) (map D.state bench.old.items) (map D.state bench.new.items) (map ended_state ended.new.items) result) }
-    ensures some { CompletesOrStopsOfSome (Some (command_words command.now)) (vec_len bench.old)
-        (H.state host.old) (H.state host.new) (map D.state bench.old.items) (map D.state bench.new.items) (map ended_state ended.new.items) result }
+        CompletesOrStops (verdict_of_command (command_words command.now) c.files (vec_len bench.old)) (H.state host.old) (H.state host.new)
+        (map D.state bench.old.items) (map D.state bench.new.items) (map ended_state ended.new.items) result) }
+    ensures some { CompletesOrStopsOfSome (Some (command_words command.now)) (vec_len bench.old) (H.state host.old) (H.state host.new)
+        (map D.state bench.old.items) (map D.state bench.new.items) (map ended_state ended.new.items) result }
     ensures answer { IfOk result IsCommandStatus }
     ensures others { IfSome (H.state host.old).told (λ c.
         let units = units_changed_by (verdict_of_command (command_words command.now) c.files (vec_len bench.old)) in
@@ -198,11 +198,11 @@ pub fn lqtx<R: Threads + Wait + Sync, H: Host, G: Gate, D: TxDevice>(
     // fault or want of memory, a part of what was to be written. Where the host doesn't tell what its files hold, that is
     // so of some bytes of theirs.
     ensures outcome { IfSome (H.state host.old).told (λ c.
-        Outcome (verdict_of (bytes_of_words words.now) c.files (vec_len bench.old))
-        (H.state host.old) (H.state host.new) (map D.state bench.old.items) (map D.state bench.new.items) (map ended_state ended.new.items) result) }
+        Outcome (verdict_of (bytes_of_words words.now) c.files (vec_len bench.old)) (H.state host.old) (H.state host.new)
+        (map D.state bench.old.items) (map D.state bench.new.items) (map ended_state ended.new.items) result) }
 
-    ensures some { OutcomeOfSome (command_of_words (bytes_of_words words.now)) (vec_len bench.old)
-        (H.state host.old) (H.state host.new) (map D.state bench.old.items) (map D.state bench.new.items) (map ended_state ended.new.items) result }
+    ensures some { OutcomeOfSome (command_of_words (bytes_of_words words.now)) (vec_len bench.old) (H.state host.old) (H.state host.new)
+        (map D.state bench.old.items) (map D.state bench.new.items) (map ended_state ended.new.items) result }
 
     // The causes: Usage, also where the host tells nothing; Fault exactly where a call of the host failed; and what comes
     // where neither a fault nor want of memory does.

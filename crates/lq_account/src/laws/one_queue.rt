@@ -13,9 +13,9 @@ ghost use Rattle.lq_account.specs.Progress.{start_of};
 /// the queue isn't open, and the station is woken and served until it is done, so the numbers of turns and rounds that the
 /// definitions have are always enough.
 pub fn one_queue_has_one_stop_value()
-    ensures events { (plan : Plan) (infos : List Info) (station : ℕ) (past : List Event) (a : Account) → AreOfOneQueue infos → queues_at plan.stations station ≡ 1
-        → IsLegal plan infos station (start_of plan station) past → a ≡ after_all (start_of plan station) past
-        → MeetsOneStopValue infos station past a }
+    ensures events { (plan : Plan) (infos : List Info) (station : ℕ) (past : List Event) (a : Account) → AreOfOneQueue infos
+        → queues_at plan.stations station ≡ 1 → IsLegal plan infos station (start_of plan station) past
+        → a ≡ after_all (start_of plan station) past → MeetsOneStopValue infos station past a }
     ensures serving { (infos : List Info) (s : RunningStation) → AreOfOneQueue infos → IsOfOneQueue s → IsServedByTurns infos s }
     ensures finish { (infos : List Info) (s : RunningStation) → AreOfOneQueue infos → IsOfOneQueue s → IsFinishedByRounds infos s }
 {}

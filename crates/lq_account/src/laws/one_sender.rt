@@ -1,5 +1,5 @@
 //! The run of one sender.
-ghost use Rattle.std.specs.Prelude.{◌≡◌, ◌≢◌, ◌+◌, ◌<◌, ℕ, Bool, List, [], Some, None, length, slice_get};
+ghost use Rattle.std.specs.Prelude.{◌≡◌, ◌≢◌, ◌+◌, ◌<◌, ℕ, Bool, List, [], Some, length, slice_get};
 ghost use Rattle.lq_model.specs.Account.{held};
 ghost use Rattle.lq_model.specs.Alone.{RunningStation, brought_in, finished, new_station, opened, served};
 ghost use Rattle.lq_model.specs.Plan.{Plan, station_in};
@@ -12,8 +12,8 @@ ghost use Rattle.lq_account.specs.Sender.{AreAloneSettled, IsInRun, IsPlain};
 /// own is brought to it and one of another station passes it by; and serving, wakes and its end bring no packet. At its end
 /// it holds nothing.
 pub fn one_sender_makes_legal_events()
-    ensures begins { (plan : Plan) (infos : List Info) (station : ℕ) (s : StationPlan) → slice_get plan.stations station ≡ Some s → 0 < s.len → s.queues ≡ 1
-        → IsInRun plan infos station 0 (new_station station s) }
+    ensures begins { (plan : Plan) (infos : List Info) (station : ℕ) (s : StationPlan) → slice_get plan.stations station ≡ Some s
+        → 0 < s.len → s.queues ≡ 1 → IsInRun plan infos station 0 (new_station station s) }
     ensures passes { (plan : Plan) (infos : List Info) (station n : ℕ) (s : RunningStation) → station_in infos n ≢ station
         → IsInRun plan infos station n s → IsInRun plan infos station (n + 1) s }
     ensures brought { (plan : Plan) (infos : List Info) (station n : ℕ) (bypass : Bool) (s : RunningStation) → AreOfOneQueue infos

@@ -46,8 +46,8 @@ pub fn step_leaves_alone()
 /// seat's own transmit.
 pub fn packets_come_from()
     ensures hand { (q : Qdisc) (s : Seat) (answer : Answer) (p : Packet) → may_answer s.position answer q ≡ true
-        → in_hand (step_at s.position answer q s).seat.position ≡ Some p
-        → (in_hand s.position ≡ Some p) ⊎ ((own_packet s.position ≡ Some p) ⊎ ((q.slot ≡ Some p) ⊎ ((band : ℕ) × Contains (band_at q band) p))) }
+        → in_hand (step_at s.position answer q s).seat.position ≡ Some p → (in_hand s.position ≡ Some p)
+        ⊎ ((own_packet s.position ≡ Some p) ⊎ ((q.slot ≡ Some p) ⊎ ((band : ℕ) × Contains (band_at q band) p))) }
     ensures slot { (q : Qdisc) (s : Seat) (answer : Answer) (p : Packet) → may_answer s.position answer q ≡ true
         → (step_at s.position answer q s).qdisc.slot ≡ Some p → (q.slot ≡ Some p) ⊎ (in_hand s.position ≡ Some p) }
     ensures bands { (q : Qdisc) (s : Seat) (answer : Answer) (band : ℕ) (p : Packet) → may_answer s.position answer q ≡ true

@@ -9,7 +9,8 @@ ghost use Rattle.std.specs.Prelude.{Bool, ℕ};
 /// Whatever steps, starts and steps of control came, in whatever order: the machine keeps the invariant, and where it is
 /// quiet it holds no packet.
 pub fn reached_and_quiet_holds_nothing()
-    ensures kept { (seats len : ℕ) (bypass : Bool) (queues : ℕ) (m : Machine) → Reaches (first_machine seats len bypass queues) m → IsInductive m }
-    ensures quiet { (seats len : ℕ) (bypass : Bool) (queues : ℕ) (m : Machine) (p : Packet) → Reaches (first_machine seats len bypass queues) m
-        → IsQuiet m → Holds m p → ⊥ }
+    ensures kept { (seats len : ℕ) (bypass : Bool) (queues : ℕ) (m : Machine)
+        → Reaches (first_machine seats len bypass queues) m → IsInductive m }
+    ensures quiet { (seats len : ℕ) (bypass : Bool) (queues : ℕ) (m : Machine) (p : Packet)
+        → Reaches (first_machine seats len bypass queues) m → IsQuiet m → Holds m p → ⊥ }
 {}
