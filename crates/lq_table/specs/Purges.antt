@@ -1,6 +1,6 @@
 -- What the steps of a purge tell. In the account the purge is one event at its beginning; what control does from there on is to
 -- take the packets from the bands and to store their fates.
-use Rattle.std.specs.Prelude.{◌≡◌, ◌≢◌, ℕ, ◌+◌, ◌-◌, ◌*◌, ◌<◌, ◌≤◌, false, List, [], ◌∷◌, Contains, Option, Some, None, length, slice_set}
+use Rattle.std.specs.Prelude.{◌≡◌, ◌≢◌, ℕ, ◌+◌, ◌-◌, ◌*◌, ◌<◌, ◌≤◌, true, false, not, nat_lt, List, [], ◌∷◌, Contains, Option, Some, None, length, slice_set}
 use Rattle.std.specs.List.{slice_get}
 use Rattle.std.specs.Option.{option_map}
 use Rattle.lq_device.specs.Station.{StationState}
@@ -49,6 +49,10 @@ HoldPackets infos bands = (b n : ℕ) → b < 3 → Contains (held_of (at b band
 abbrev pub AreKnown : View → Three Band → Type 0
 AreKnown v bands = IsSole v → (b : ℕ) → b < 3 → at b bands ≡ (account_of v).bands b
 
+-- a purge of this cause began, with these bands before it
+abbrev pub BeginsPurge : Cause → View → View → Type 0
+BeginsPurge c v w = (bands : Three Band) × (w ≡ purging c bands v) × HoldsAtMost v.holder.size bands × HoldPackets v.share.about.infos bands × AreKnown v bands
+
 -- for the event that deactivated the station, which the word tells, and with it the trail
 abbrev pub purge_begun : Step (Option StationState) → Sat → ℕ → Sat → Type 0
 purge_begun _ m found m' = (e : ℕ) × (bits : ℕ) × (bands : Three Band) × (e < 4294967296) × (bits < 16) × (found ≡ bits + 256 * (e + 1)) × HoldsAtMost m.0.holder.size bands × HoldPackets m.0.share.about.infos bands × AreKnown m.0 bands × (down_of m.0.trail ≡ Some e) × (m' ≡ (purging (cause.Event e) bands m.0, m.1))
@@ -58,6 +62,10 @@ abbrev pub hung_purge_begun : Step (Option StationState) → Sat → ℕ → Sat
 hung_purge_begun _ m found m' = (bands : Three Band) × HoldsAtMost m.0.holder.size bands × HoldPackets m.0.share.about.infos bands × AreKnown m.0 bands × (m' ≡ (purging (cause.Hung m.0.holder.station.unit) bands m.0, m.1))
 
 -- THE TAKES
+
+-- this holds of the purge that is half done, and of what it leaves
+abbrev pub OfPurge : View → (Purge → Left → Type 0) → Type 0
+OfPurge v holds = (u : Purge) (l : Left) → v.control.purge ≡ Some u → v.holder.left ≡ Some l → holds u l
 
 -- control took the first packet from the band b
 abbrev pub purged_one : ℕ → Left → Left
@@ -88,3 +96,7 @@ purge_seen b u l _ m found m' =
     (found ≡ 0 → (held_of (at b l.bands) ≡ []) × (m' ≡ (passing_band u m.0, m.1)))
     × (found ≢ 0 → (slice_get (held_of (at b l.bands)) 0 ≡ Some (found - 1)) × (m' ≡ (taking_purged b (found - 1) l m.0, m.1)))
     × (found ≤ 1000000)
+
+-- the purge has passed the last band, and no resize is half done
+abbrev pub HasPassedBands : View → Type 0
+HasPassedBands v = (u : Purge) × (l : Left) × (v.control.purge ≡ Some u) × (not (nat_lt u.band 3) ≡ true) × (v.holder.left ≡ Some l) × (v.holder.resizing ≡ None)

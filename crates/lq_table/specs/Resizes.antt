@@ -11,6 +11,7 @@ use Rattle.lq_band.specs.Three.{Three, at, put, all_three}
 use Rattle.lq_band.specs.Ring.{at_start, locked_at}
 use Rattle.lq_band.specs.HalfResized.{IsBeforeResize}
 use Rattle.lq_table.specs.Views.{View, HalfResize, Work}
+use Rattle.lq_table.specs.Rule.{IsResting}
 use Rattle.lq_table.specs.Told.{Sat}
 use Rattle.lq_table.specs.Rings.{with_lock_at}
 use Rattle.lq_table.specs.Solo.{IsSole, account_of}
@@ -49,6 +50,21 @@ with_work b w t = record t { works = put b w t.works }
 abbrev pub with_resizing : Option HalfResize → View → View
 with_resizing o v = record v { holder = record v.holder { resizing = o }; whole = record v.whole { state = record v.whole.state { resizing = o } } }
 
+-- the slot i of a band was emptied
+abbrev pub clearing : ℕ → ℕ → HalfResize → View → View
+clearing b i t v = with_resizing (Some (with_work b (out_of i (at b t.works)) t)) v
+
+-- the packet n was put into the slot i of a band, and these stay in the hand
+abbrev pub filling : ℕ → ℕ → ℕ → List ℕ → HalfResize → View → View
+filling b i n hand t v = with_resizing (Some (with_work b (into i n hand (at b t.works)) t)) v
+
+abbrev pub IsResizing : View → Type 0
+IsResizing v = (t : HalfResize) × (v.holder.resizing ≡ Some t)
+
+-- control has the packet n of a band in hand as the latest, and the slot i is empty
+abbrev pub MayFill : ℕ → ℕ → ℕ → View → Type 0
+MayFill b i n v = (t : HalfResize) × (hand : List ℕ) × (v.holder.resizing ≡ Some t) × ((at b t.works).hand ≡ n ∷ hand) × (slice_index (at b t.works).slots i ≡ 0)
+
 -- THE BEGINNING
 
 -- it may begin while the station is active, and while it is deactivated once the purge has ended, when nothing is held
@@ -77,7 +93,20 @@ beginning t v = record v {
   trail = Resize t.len t.event ∷ v.trail;
 }
 
--- control knows what each band held, and the slots, in which the held packets stand from the head on; after a purge none was held
+-- no purge, no resize and no take is half done
+abbrev pub HasNothingHalfDone : View → Type 0
+HasNothingHalfDone v = (v.control.purge ≡ None) × (v.holder.resizing ≡ None) × IsResting v.holder.size v.holder.ends
+
+-- The resize to this length began, for this event: control knows what each band held, and the slots, in which the held packets stand
+-- from the head on; after a purge none was held.
+abbrev pub BeginsResize : List Info → ℕ → ℕ → ℕ → View → View → Type 0
+BeginsResize infos limit len event v w = (held : ℕ → List ℕ) × (slots : Three (List ℕ)) × (w ≡ beginning (resizing_of len event held slots) v)
+    × ((b : ℕ) → b < 3 → IsBeforeResize v.holder.size limit (at b slots) (held b) (at b v.holder.ends))
+    × ((b n : ℕ) → b < 3 → Contains (held b) n → (band_in infos n ≡ b) × (n < length infos))
+    × (v.control.phase ≡ Purged → (b : ℕ) → b < 3 → held b ≡ [])
+    × (IsSole v → (b : ℕ) → b < 3 → held b ≡ held_in (account_of v) b)
+
+-- the load of the size word that begins it
 abbrev pub resize_begun : List Info → ℕ → ℕ → ℕ → Step (Option StationState) → Sat → ℕ → Sat → Type 0
 resize_begun infos limit len event _ m found m' = (held : ℕ → List ℕ) × (slots : Three (List ℕ)) × (m' ≡ (beginning (resizing_of len event held slots) m.0, m.1))
     × ((b : ℕ) → b < 3 → IsBeforeResize m.0.holder.size limit (at b slots) (held b) (at b m.0.holder.ends))
@@ -89,10 +118,10 @@ resize_begun infos limit len event _ m found m' = (held : ℕ → List ℕ) × (
 
 abbrev pub slot_cleared : ℕ → ℕ → HalfResize → Step (Option StationState) → Sat → ℕ → Sat → Type 0
 slot_cleared b i t _ m found m' =
-    (found ≡ slice_index (at b t.works).slots i) × (m' ≡ (with_resizing (Some (with_work b (out_of i (at b t.works)) t)) m.0, m.1)) × (is_member found (at b t.works) ≡ true → found ≤ 1000000)
+    (found ≡ slice_index (at b t.works).slots i) × (m' ≡ (clearing b i t m.0, m.1)) × (is_member found (at b t.works) ≡ true → found ≤ 1000000)
 
 abbrev pub slot_filled : ℕ → ℕ → ℕ → List ℕ → HalfResize → Step (Option StationState) → Sat → ℕ → Sat → Type 0
-slot_filled b i n hand t _ m found m' = m' ≡ (with_resizing (Some (with_work b (into i n hand (at b t.works)) t)) m.0, m.1)
+slot_filled b i n hand t _ m found m' = m' ≡ (filling b i n hand t m.0, m.1)
 
 abbrev pub producer_set : ℕ → ℕ → Step (Option StationState) → Sat → ℕ → Sat → Type 0
 producer_set b i _ m found m' = m' ≡ (with_lock_at b (locked_at i) m.0, m.1)

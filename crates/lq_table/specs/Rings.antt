@@ -6,7 +6,7 @@ use Rattle.lq_model.specs.Positions.{holds_lock}
 use Rattle.lq_model.specs.declared.fate.Fate.TheVariants as fate
 use Rattle.lq_model.specs.declared.machine.Answer.TheVariants.{Plain, FullSlot}
 use Rattle.lq_band.specs.Three.{at, put}
-use Rattle.lq_band.specs.Ring.{Lock, unlocked, locked_at, sized_if, with_room, having_stored, taken_on, emptied_on}
+use Rattle.lq_band.specs.Ring.{Lock, unlocked, locked_at, index_given, sized_if, with_room, having_stored, taken_on, emptied_on}
 use Rattle.lq_table.specs.Views.{View, machine_packet}
 use Rattle.lq_table.specs.Told.{Sat, seen_by, seen_band, moved, past_with, on_trail}
 use Rattle.atomic_table.specs.Table.{Step}
@@ -21,6 +21,10 @@ with_lock_at b l v = record v { locks = put b l v.locks }
 abbrev pub got_producer : ℕ → ℕ → ℕ → Step (Option StationState) → Sat → ℕ → Sat → Type 0
 got_producer b i limit _ m found m' = (found ≡ 2 * i → (m' ≡ (with_lock_at b (locked_at i) m.0, m.1)) × (i < limit)) × (found ≢ 2 * i → m' ≡ m)
 
+-- this is the index with which the lock is given back, by the size that was loaded under it
+abbrev pub IsIndexGiven : ℕ → Lock → Type 0
+IsIndexGiven index l = (size : ℕ) × (l.size ≡ Some size) × (index ≡ index_given size l)
+
 abbrev pub producer_given : ℕ → Step (Option StationState) → Sat → ℕ → Sat → Type 0
 producer_given b _ m found m' = m' ≡ (with_lock_at b unlocked m.0, m.1)
 
@@ -34,6 +38,10 @@ size_loaded limit _ m found m' = (m' ≡ (sized found m.0, m.1)) × (0 < found) 
 -- the packet was dropped as full, where it saw that other one
 abbrev pub dropping : ℕ → ℕ → View → View
 dropping n seen v = record (moved FullSlot (seen_by v) (λ h. h) (past_with (Full n seen)) v) { packets = record v.packets { fresh = None; owed = Some (n, fate.Full seen) }; trail = on_trail (Full n seen) v }
+
+-- the packet that the seat brings was dropped, unless the slot was found empty
+abbrev pub DropsUnlessEmpty : ℕ → View → View → Type 0
+DropsUnlessEmpty found v w = (n : ℕ) → v.packets.fresh ≡ Some n → found ≢ 0 → w ≡ dropping n (found - 1) v
 
 -- the packet joined the band
 abbrev pub joining : ℕ → ℕ → View → View

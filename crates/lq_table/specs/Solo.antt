@@ -1,8 +1,8 @@
 -- What a seat knows that has the table alone, without its place, and what the steps make of that.
-use Rattle.std.specs.Prelude.{◌≡◌, ◌≢◌, ℕ, ◌+◌, ◌-◌, ◌*◌, ◌<◌, slice_get, ◌&&◌, ◌==◌, Some, None, Bool, true, false, not, ◌||◌, List, Option, ◌∷◌, filter, is_some, slice_index, if◌then◌else◌}
+use Rattle.std.specs.Prelude.{◌≡◌, ◌≢◌, ℕ, ◌+◌, ◌-◌, ◌*◌, ◌/◌, ◌<◌, slice_get, ◌&&◌, ◌==◌, Some, None, Bool, true, false, not, ◌||◌, List, Option, ◌∷◌, filter, is_some, slice_index, if◌then◌else◌}
 use Rattle.lq_account.specs.Trail.{down_of}
 use Rattle.lq_device.specs.Station.{StationState}
-use Rattle.lq_model.specs.Account.{Account, Event, held_in, Empty, Send, Pick, Back}
+use Rattle.lq_model.specs.Account.{Account, Event, held_in, Empty, Send, Pick, Back, Refuse, Direct}
 use Rattle.lq_model.specs.declared.fate.Fate.{Fate}
 use Rattle.lq_model.specs.declared.fate.Fate.TheVariants as fate
 use Rattle.lq_model.specs.Device.{DeviceState}
@@ -10,7 +10,7 @@ use Rattle.lq_model.specs.Machine.{bit}
 use Rattle.lq_model.specs.Positions.{holds_lock, in_hand}
 use Rattle.lq_table.specs.Views.{View}
 use Rattle.lq_table.specs.Rule.{account, holders}
-use Rattle.lq_table.specs.Told.{lock_looked, missed_looked, Sat, IsPacketOf, is_dequeue, is_set, looked, checked, rechecked, missed_now, scheduled_now, stop_loaded, stop_looked, woken, tried}
+use Rattle.lq_table.specs.Told.{lock_looked, missed_looked, Sat, IsPacketOf, is_dequeue, is_set, some_bit, missing, looked, checked, rechecked, missed_now, scheduled_now, stop_loaded, stop_looked, woken, tried}
 use Rattle.lq_table.specs.Rings.{head_seen}
 use Rattle.atomic_table.specs.Table.{Step}
 
@@ -54,6 +54,10 @@ solo v = record {
 abbrev pub IsSole : View → Type 0
 IsSole v = (v.share.shares ≡ 1024) × (v.whole.told ≡ true)
 
+-- this holds, if it has all shares and was told the state
+abbrev pub IfSole : View → Type 0 → Type 0
+IfSole v holds = v.share.shares ≡ 1024 → v.whole.told ≡ true → holds
+
 -- the account as it knows it
 abbrev pub account_of : View → Account
 account_of v = account v.share.about v.whole.state
@@ -78,6 +82,14 @@ locked_to bit v = record v { whole = record v.whole { locked = bit } }
 
 abbrev pub heard : Event → Solo → Solo
 heard event v = record v { whole = record v.whole { past = event ∷ v.whole.past } }
+
+-- the state was loaded in a transmit of the packet n: it is refused where DEACTIVATED is set, by the event above the bits
+abbrev pub checked_as : ℕ → ℕ → Solo → Solo
+checked_as n word v = if is_set 2 word then heard (Refuse n (word / 256 - 1)) v else v
+
+-- and under the run lock: the packet goes past the bands where neither MISSED nor DRAINING is set
+abbrev pub rechecked_as : ℕ → ℕ → Solo → Solo
+rechecked_as n word v = if some_bit word then v else heard (Direct n) v
 
 -- a packet that the holder has in hand goes to the requeue slot
 abbrev pub laid : View → Solo → Solo
@@ -110,6 +122,10 @@ picks (Some n) v = heard Pick v
 abbrev pub stop_found : ℕ → View → Solo → Solo
 stop_found x v w = if is_dequeue v.place.position && (x == 0) then picks v.holder.slot w else w
 
+-- MISSED is found set, which does as its set does
+abbrev pub FindsMissed : View → View → Type 0
+FindsMissed v w = (w ≡ missing true v) × (solo w ≡ missed_to true (solo v))
+
 -- WHAT A STEP TELLS A SOLE SEAT
 
 -- the state word
@@ -134,6 +150,14 @@ SeesChecked v found = (IsSole v → SeesState v found) × (v.control.first ≡ t
 -- what the holder has is the account's
 abbrev pub IsAccounts : View → Type 0
 IsAccounts v = v.holder ≡ holders v.whole.state (account_of v) v.holder.size
+
+-- a look at the run lock answers whether it is held; where it is that is a failed try
+abbrev pub SeesLock : Bool → View → View → Type 0
+SeesLock held v w = (held ≡ v.whole.qdisc.locked) × (held ≡ true → solo w ≡ locked_to true (solo v))
+
+-- a try of the run lock gets it just where it was free, and after it the lock is held; what the holder has is the account's
+abbrev pub TriesLock : Bool → View → View → Type 0
+TriesLock gets v w = (solo w ≡ locked_to true (solo v)) × (gets ≡ not v.whole.qdisc.locked) × (gets ≡ true → IsAccounts w)
 
 abbrev pub looked_all : Step (Option StationState) → Sat → ℕ → Sat → Type 0
 looked_all s m found m' = looked s m found m' × (IsSole m.0 → SeesState m.0 found)

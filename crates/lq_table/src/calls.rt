@@ -1,9 +1,10 @@
 //! The steps on the count of calls inside.
-ghost use Rattle.std.specs.Prelude.{◌≡◌, ℕ, ◌<◌, ◌⊎◌, true, is_some, None, ◌∷◌};
+ghost use Rattle.std.specs.Prelude.{◌≡◌, ℕ, ◌<◌, true, is_some, ◌∷◌};
 ghost use Rattle.lq_model.specs.declared.machine.Position.TheVariants.{Leave as AtLeave};
 ghost use Rattle.lq_table.specs.Marks.{marks_of};
 ghost use Rattle.lq_table.specs.Sees.{view, position, IsSeatOf, IsElseSame, steps};
-ghost use Rattle.lq_table.specs.Told.{at_rest, bringing_packet, entering, passing};
+ghost use Rattle.lq_table.specs.Seats.{ComesToKnow};
+ghost use Rattle.lq_table.specs.Told.{at_rest, bringing_packet, entering, passing, MayEnter};
 ghost use Rattle.lq_table.specs.Solo.{solo, entered_as};
 ghost use Rattle.lq_table.specs.Made.{did_enter, did_leave};
 
@@ -19,9 +20,9 @@ impl<'a, D: TxDevice> Shared<'a, D> {
     fn enter_seat(&self, seat: &mut Seat<Option<Station<D>>, Knowledge>, marks: &mut Marks)
         requires seat { (seat.old.table_id ≡ self.now.table.shared.table_id) × (0 < seat.old.me.0.view.share.shares) }
         requires at { at_rest seat.old.me.0.view.place.position ≡ true }
-        requires call { (is_some (bringing_packet seat.old.me.0.view) ≡ true) ⊎ ((seat.old.me.0.view.place.raised ≡ true) × (seat.old.me.0.view.packets.busy ≡ None)) }
+        requires call { MayEnter seat.old.me.0.view }
         requires told { marks.old ≡ marks_of seat.old.me.0.view }
-        ensures seat { (seat.new.table_id ≡ seat.old.table_id) × (seat.new.id ≡ seat.old.id) × (seat.new.me.1 ≡ seat.old.me.1) × (seat.new.me.0.view ≡ entering seat.old.me.0.view) }
+        ensures seat { ComesToKnow (entering seat.old.me.0.view) seat.old seat.new }
         ensures told { marks.new ≡ marks_of seat.new.me.0.view }
         ensures made { seat.new.me.0.steps ≡ did_enter ∷ seat.old.me.0.steps }
     {
@@ -35,7 +36,7 @@ impl<'a, D: TxDevice> Shared<'a, D> {
     pub fn enter(&self, cpu: &mut Cpu<D>)
         requires seat { IsSeatOf self.now cpu.old }
         requires at { at_rest (position cpu.old) ≡ true }
-        requires call { (is_some (bringing_packet (view cpu.old)) ≡ true) ⊎ (((view cpu.old).place.raised ≡ true) × ((view cpu.old).packets.busy ≡ None)) }
+        requires call { MayEnter (view cpu.old) }
         ensures same { IsElseSame cpu.old cpu.new }
         ensures view { view cpu.new ≡ entering (view cpu.old) }
         ensures step { solo (view cpu.new) ≡ entered_as (is_some (bringing_packet (view cpu.old))) (solo (view cpu.old)) }

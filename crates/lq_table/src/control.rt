@@ -1,14 +1,13 @@
 //! The steps of control, which the first seat alone does.
-ghost use Rattle.std.specs.Prelude.{◌≡◌, ◌<◌, ℕ, Bool, true, false, not, nat_lt, Some, None, is_some, ◌∷◌, ◌+◌};
-ghost use Rattle.lq_model.specs.Machine.{Purge};
-ghost use Rattle.lq_model.specs.declared.machine.Phase.TheVariants.{Active, Purged};
+ghost use Rattle.std.specs.Prelude.{◌≡◌, ◌<◌, ℕ, Bool, true, false, Some, None, is_some, ◌∷◌, ◌+◌};
+ghost use Rattle.lq_model.specs.declared.machine.Phase.TheVariants.{Purged};
 ghost use Rattle.lq_model.specs.declared.machine.Position.TheVariants.{Idle as AtIdle, Control as AtControl};
-ghost use Rattle.lq_table.specs.Views.{Left};
 ghost use Rattle.lq_table.specs.Rule.{HasServed, latest_unit};
 ghost use Rattle.lq_table.specs.Sees.{view, position, carried, IsSeatOf, IsElseSame, steps, setup};
+ghost use Rattle.lq_table.specs.Purges.{HasPassedBands};
 ghost use Rattle.lq_table.specs.AtRest.{IsSoleAtRest, KnowsRest};
 ghost use Rattle.lq_table.specs.Told.{at_rest};
-ghost use Rattle.lq_table.specs.Controls.{beginning_control, returning, closing, finding, opening, resetting_missed, resetting_draining, IsExchange, GoesAway, swapping, opening_next};
+ghost use Rattle.lq_table.specs.Controls.{beginning_control, returning, closing, finding, opening, resetting_missed, resetting_draining, GoesAway, swapping, opening_next, IsExchangeFor, MayDeactivate};
 ghost use Rattle.lq_table.specs.Made.{did_load_inside, did_load_lock, did_store_stop, did_clear_deactivated, did_clear_draining, did_clear_missed, did_load_base, did_set_deactivated};
 
 use crate::places::{BASE, INSIDE, LOCK, STATE, XOFF};
@@ -50,7 +49,7 @@ impl<'a, D: TxDevice> Shared<'a, D> {
         requires named { event ≡ K.event }
         requires seat { IsSeatOf self.now cpu.old }
         requires at { at_rest (position cpu.old) ≡ true }
-        requires active { ((view cpu.old).control.first ≡ true) × ((view cpu.old).control.phase ≡ Active) × ((view cpu.old).control.purge ≡ None) }
+        requires active { MayDeactivate (view cpu.old) }
         ensures same { IsElseSame cpu.old cpu.new }
         ensures view { view cpu.new ≡ closing K.event (view cpu.old) }
         ensures made { (was : Bool) × (steps cpu.new ≡ did_set_deactivated event was ∷ steps cpu.old) }
@@ -65,7 +64,7 @@ impl<'a, D: TxDevice> Shared<'a, D> {
     pub fn set_deactivated(&self, cpu: &mut Cpu<D>, event: u32)
         requires seat { IsSeatOf self.now cpu.old }
         requires at { at_rest (position cpu.old) ≡ true }
-        requires active { ((view cpu.old).control.first ≡ true) × ((view cpu.old).control.phase ≡ Active) × ((view cpu.old).control.purge ≡ None) }
+        requires active { MayDeactivate (view cpu.old) }
         ensures same { IsElseSame cpu.old cpu.new }
         ensures view { view cpu.new ≡ closing event (view cpu.old) }
         ensures made { (was : Bool) × (steps cpu.new ≡ did_set_deactivated event was ∷ steps cpu.old) }
@@ -118,7 +117,7 @@ impl<'a, D: TxDevice> Shared<'a, D> {
     pub fn reset_missed(&self, cpu: &mut Cpu<D>)
         requires seat { IsSeatOf self.now cpu.old }
         requires at { position cpu.old ≡ AtControl true }
-        requires purge { (u : Purge) × (l : Left) × ((view cpu.old).control.purge ≡ Some u) × (not (nat_lt u.band 3) ≡ true) × ((view cpu.old).holder.left ≡ Some l) × ((view cpu.old).holder.resizing ≡ None) }
+        requires purge { HasPassedBands (view cpu.old) }
         ensures same { IsElseSame cpu.old cpu.new }
         ensures view { view cpu.new ≡ resetting_missed (view cpu.old) }
         ensures made { steps cpu.new ≡ did_clear_missed ∷ steps cpu.old }
@@ -133,7 +132,7 @@ impl<'a, D: TxDevice> Shared<'a, D> {
     pub fn reset_draining(&self, cpu: &mut Cpu<D>)
         requires seat { IsSeatOf self.now cpu.old }
         requires at { position cpu.old ≡ AtControl true }
-        requires purge { (u : Purge) × (l : Left) × ((view cpu.old).control.purge ≡ Some u) × (not (nat_lt u.band 3) ≡ true) × ((view cpu.old).holder.left ≡ Some l) × ((view cpu.old).holder.resizing ≡ None) }
+        requires purge { HasPassedBands (view cpu.old) }
         ensures same { IsElseSame cpu.old cpu.new }
         ensures view { view cpu.new ≡ resetting_draining (view cpu.old) }
         ensures made { steps cpu.new ≡ did_clear_draining ∷ steps cpu.old }
@@ -148,7 +147,7 @@ impl<'a, D: TxDevice> Shared<'a, D> {
         requires seat { IsSeatOf self.now cpu.old }
         requires at { (position cpu.old ≡ AtControl true) × ((view cpu.old).holder.shut ≡ None) }
         requires purged { ((view cpu.old).control.phase ≡ Purged) × ((view cpu.old).control.purge ≡ None) }
-        requires station { IsExchange (view cpu.old).share.about.infos (view cpu.old).share.about.station (view cpu.old).holder.units K.station }
+        requires station { IsExchangeFor (view cpu.old) K.station }
         ensures same { IsElseSame cpu.old cpu.new }
         ensures view { view cpu.new ≡ swapping K.station (view cpu.old) }
         ensures old { GoesAway (view cpu.old) }
@@ -167,7 +166,7 @@ impl<'a, D: TxDevice> Shared<'a, D> {
         requires seat { IsSeatOf self.now cpu.old }
         requires at { (position cpu.old ≡ AtControl true) × ((view cpu.old).holder.shut ≡ None) }
         requires purged { ((view cpu.old).control.phase ≡ Purged) × ((view cpu.old).control.purge ≡ None) }
-        requires station { (is_some cpu.old.station ≡ true) × IsExchange (view cpu.old).share.about.infos (view cpu.old).share.about.station (view cpu.old).holder.units (carried cpu.old) }
+        requires station { (is_some cpu.old.station ≡ true) × IsExchangeFor (view cpu.old) (carried cpu.old) }
         ensures same { IsElseSame cpu.old cpu.new }
         ensures view { view cpu.new ≡ swapping (carried cpu.old) (view cpu.old) }
         ensures served { HasServed self.now.infos.now self.now.station (view cpu.old).control.origin (view cpu.old).holder.station.device }

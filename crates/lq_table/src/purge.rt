@@ -1,18 +1,14 @@
 //! The steps of a purge by control: `qdisc_reset` of net/sched/sch_generic.c, with `pfifo_fast_reset`, on a station that
 //! is deactivated or whose device hangs. It takes the packets out of the requeue slot and the rings, whose fate is Purged.
-ghost use Rattle.std.specs.Prelude.{◌≡◌, ◌≢◌, ℕ, ◌+◌, ◌*◌, ◌-◌, ◌<◌, ◌≤◌, true, false, [], Some, None, is_some, slice_index, ◌∷◌};
-ghost use Rattle.std.specs.List.{slice_get};
+ghost use Rattle.std.specs.Prelude.{◌≡◌, ◌≢◌, ℕ, ◌+◌, ◌*◌, ◌-◌, ◌<◌, ◌≤◌, true, Some, None, ◌∷◌};
 ghost use Rattle.lq_account.specs.Trail.{down_of};
-ghost use Rattle.lq_model.specs.Band.{Band, held_of};
 ghost use Rattle.lq_model.specs.Control.{is_quiet};
-ghost use Rattle.lq_model.specs.Machine.{Purge};
 ghost use Rattle.lq_model.specs.declared.fate.Cause.TheVariants as cause;
 ghost use Rattle.lq_model.specs.declared.machine.Position.TheVariants.{Control};
-ghost use Rattle.lq_band.specs.Three.{at, Three as Of};
-ghost use Rattle.lq_band.specs.Ring.{is_emptying};
 ghost use Rattle.lq_table.specs.Views.{Left};
-ghost use Rattle.lq_table.specs.Sees.{view, position, carried, ends_at, IsSeatOf, IsElseSame, steps, setup};
-ghost use Rattle.lq_table.specs.Purges.{purging, HoldsAtMost, HoldPackets, AreKnown, purge_begun, hung_purge_begun, taking_purged, passing_band, purge_seen};
+ghost use Rattle.lq_table.specs.Sees.{view, position, ends_at, IsSeatOf, IsElseSame, steps, setup};
+ghost use Rattle.lq_table.specs.Seats.{CarriesHead, IsBetweenTakes, IsPurging, IsPurgingBand, MayPurgeHung, PassesBand, PurgesFirst};
+ghost use Rattle.lq_table.specs.Purges.{purge_begun, hung_purge_begun, purge_seen, BeginsPurge, OfPurge};
 ghost use Rattle.lq_table.specs.Made.{Noted, Loads, did_load_slot, did_load_state};
 
 use crate::places::STATE;
@@ -77,7 +73,7 @@ impl<'a, D: TxDevice> Shared<'a, D> {
         requires calm { ((view cpu.old).control.purge ≡ None) × ((view cpu.old).holder.resizing ≡ None) }
         requires packets { ((view cpu.old).packets.owed ≡ None) × ((view cpu.old).packets.fresh ≡ None) }
         ensures same { IsElseSame cpu.old cpu.new }
-        ensures begun { (bands : Of Band) × (view cpu.new ≡ purging (cause.Event result) bands (view cpu.old)) × HoldsAtMost (view cpu.old).holder.size bands × HoldPackets (view cpu.old).share.about.infos bands × AreKnown (view cpu.old) bands }
+        ensures begun { BeginsPurge (cause.Event result) (view cpu.old) (view cpu.new) }
         ensures event { down_of (view cpu.old).trail ≡ Some result }
         ensures made { (found : ℕ) × (steps cpu.new ≡ did_load_state found ∷ steps cpu.old) }
     {
@@ -92,11 +88,11 @@ impl<'a, D: TxDevice> Shared<'a, D> {
     /// the only seat, while its device hangs.
     pub fn begin_hung_purge(&self, cpu: &mut Cpu<D>)
         requires seat { IsSeatOf self.now cpu.old }
-        requires at { (position cpu.old ≡ Control true) × ((view cpu.old).share.shares ≡ 1024) × ((view cpu.old).holder.station.device.hung ≡ true) }
+        requires at { MayPurgeHung cpu.old }
         requires calm { ((view cpu.old).control.purge ≡ None) × ((view cpu.old).holder.resizing ≡ None) }
         requires packets { ((view cpu.old).packets.owed ≡ None) × ((view cpu.old).packets.fresh ≡ None) }
         ensures same { IsElseSame cpu.old cpu.new }
-        ensures begun { (bands : Of Band) × (view cpu.new ≡ purging (cause.Hung (view cpu.old).holder.station.unit) bands (view cpu.old)) × HoldsAtMost (view cpu.old).holder.size bands × HoldPackets (view cpu.old).share.about.infos bands × AreKnown (view cpu.old) bands }
+        ensures begun { BeginsPurge (cause.Hung (view cpu.old).holder.station.unit) (view cpu.old) (view cpu.new) }
         ensures made { (found : ℕ) × (steps cpu.new ≡ did_load_state found ∷ steps cpu.old) }
     {
         self.table
@@ -108,13 +104,13 @@ impl<'a, D: TxDevice> Shared<'a, D> {
         requires named { band ≡ K.band }
         requires seat { IsSeatOf self.now cpu.old }
         requires band { band < 3 }
-        requires at { (position cpu.old ≡ Control true) × ((view cpu.old).control.purge ≡ Some K.purge) × (K.purge.band ≡ band) × ((view cpu.old).holder.left ≡ Some K.left) }
+        requires at { IsPurging band K.purge K.left cpu.old }
         requires packets { ((view cpu.old).packets.owed ≡ None) × ((view cpu.old).packets.fresh ≡ None) }
-        requires rests { ((view cpu.old).holder.resizing ≡ None) × (is_emptying (view cpu.old).holder.size (ends_at band cpu.old) ≡ false) }
+        requires rests { IsBetweenTakes band cpu.old }
         requires head { (head ≡ (ends_at band cpu.old).head) × (head < self.now.max_len) }
         ensures same { IsElseSame cpu.old cpu.new × (result ≤ 1000000) }
-        ensures none { result ≡ 0 → (held_of (at band K.left.bands) ≡ []) × (view cpu.new ≡ passing_band K.purge (view cpu.old)) }
-        ensures taken { result ≢ 0 → (slice_get (held_of (at band K.left.bands)) 0 ≡ Some (result - 1)) × (view cpu.new ≡ taking_purged band (result - 1) K.left (view cpu.old)) }
+        ensures none { result ≡ 0 → PassesBand band K.purge K.left cpu.old cpu.new }
+        ensures taken { result ≢ 0 → PurgesFirst band (result - 1) K.left cpu.old cpu.new }
         ensures made { steps cpu.new ≡ did_load_slot (setup self.now) band head result ∷ steps cpu.old }
     {
         let word = self.slot_word(band, head);
@@ -129,14 +125,14 @@ impl<'a, D: TxDevice> Shared<'a, D> {
     pub fn purge_slot(&self, cpu: &mut Cpu<D>, band: u32) -> u64
         requires seat { IsSeatOf self.now cpu.old }
         requires band { band < 3 }
-        requires at { (u : Purge) × (l : Left) × (position cpu.old ≡ Control true) × ((view cpu.old).control.purge ≡ Some u) × (u.band ≡ band) × ((view cpu.old).holder.left ≡ Some l) }
+        requires at { IsPurgingBand band cpu.old }
         requires packets { ((view cpu.old).packets.owed ≡ None) × ((view cpu.old).packets.fresh ≡ None) }
-        requires rests { ((view cpu.old).holder.resizing ≡ None) × (is_emptying (view cpu.old).holder.size (ends_at band cpu.old) ≡ false) }
-        requires station { (is_some cpu.old.station ≡ true) × (slice_index (carried cpu.old).heads band ≡ (ends_at band cpu.old).head) }
+        requires rests { IsBetweenTakes band cpu.old }
+        requires station { CarriesHead band cpu.old }
         requires head { (ends_at band cpu.old).head < self.now.max_len }
         ensures same { IsElseSame cpu.old cpu.new × (result ≤ 1000000) }
-        ensures none { (u : Purge) (l : Left) → (view cpu.old).control.purge ≡ Some u → (view cpu.old).holder.left ≡ Some l → result ≡ 0 → (held_of (at band l.bands) ≡ []) × (view cpu.new ≡ passing_band u (view cpu.old)) }
-        ensures taken { (l : Left) → (view cpu.old).holder.left ≡ Some l → result ≢ 0 → (slice_get (held_of (at band l.bands)) 0 ≡ Some (result - 1)) × (view cpu.new ≡ taking_purged band (result - 1) l (view cpu.old)) }
+        ensures none { OfPurge (view cpu.old) (λ u l. result ≡ 0 → PassesBand band u l cpu.old cpu.new) }
+        ensures taken { (l : Left) → (view cpu.old).holder.left ≡ Some l → result ≢ 0 → PurgesFirst band (result - 1) l cpu.old cpu.new }
         ensures made { steps cpu.new ≡ did_load_slot (setup self.now) band (ends_at band cpu.old).head result ∷ steps cpu.old }
     {
         let Some(station) = &cpu.station else {

@@ -1,22 +1,16 @@
 //! The steps of a resize: `ptr_ring_resize_multiple` of include/linux/ptr_ring.h, which
 //! `pfifo_fast_change_tx_queue_len` of net/sched/sch_generic.c calls. Control holds the run lock and the three producer
 //! locks. There the kernel moves the packets into new arrays; here control moves them in place, one step a call.
-ghost use Rattle.std.specs.Prelude.{◌≡◌, ℕ, ◌+◌, ◌*◌, ◌<◌, ◌≤◌, ◌∷◌, [], true, false, None, Some, List, length, slice_index, Contains};
-ghost use Rattle.lq_model.specs.Account.{held_in};
+ghost use Rattle.std.specs.Prelude.{◌≡◌, ℕ, ◌+◌, ◌*◌, ◌<◌, ◌≤◌, ◌∷◌, [], true, false, Some, List, slice_index};
 ghost use Rattle.lq_model.specs.Positions.{holds_lock};
-ghost use Rattle.lq_model.specs.Plan.{band_in};
-ghost use Rattle.lq_model.specs.declared.machine.Phase.TheVariants.{Purged};
 ghost use Rattle.lq_model.specs.declared.machine.Position.TheVariants.{Control};
-ghost use Rattle.lq_ring_core.specs.Slots.{round};
-ghost use Rattle.lq_band.specs.Three.{at, Three as Of};
+ghost use Rattle.lq_band.specs.Three.{at};
 ghost use Rattle.lq_band.specs.Ring.{locked_at};
-ghost use Rattle.lq_band.specs.HalfResized.{IsBeforeResize, IsRefilled};
 ghost use Rattle.lq_table.specs.Views.{HalfResize};
-ghost use Rattle.lq_table.specs.Rule.{IsResting};
-ghost use Rattle.lq_table.specs.Sees.{view, position, lock_at, ends_at, IsSeatOf, IsElseSame, steps, setup};
+ghost use Rattle.lq_table.specs.Sees.{view, position, lock_at, IsSeatOf, IsElseSame, steps, setup};
+ghost use Rattle.lq_table.specs.Seats.{AreRefilled, ClearsSlot, FillsSlot};
 ghost use Rattle.lq_table.specs.Rings.{with_lock_at};
-ghost use Rattle.lq_table.specs.Solo.{IsSole, account_of};
-ghost use Rattle.lq_table.specs.Resizes.{may_resize, resizing_of, beginning, with_resizing, with_work, out_of, into, is_member, restarted, resize_begun, slot_cleared, slot_filled, producer_set, size_stored};
+ghost use Rattle.lq_table.specs.Resizes.{may_resize, restarted, resize_begun, slot_cleared, slot_filled, producer_set, size_stored, BeginsResize, HasNothingHalfDone, IsResizing, MayFill, filling};
 ghost use Rattle.lq_table.specs.Made.{Noted, did_load_size, Loads, Stores, Swaps, did_set_producer, did_store_size, did_store_slot, did_swap_slot};
 
 use crate::places::{SIZE, producer_word};
@@ -129,14 +123,10 @@ impl<'a, D: TxDevice> Shared<'a, D> {
         requires seat { IsSeatOf self.now cpu.old }
         requires len { (0 < len) × (len ≤ self.now.max_len) }
         requires at { (position cpu.old ≡ Control true) × (may_resize (view cpu.old).control.phase ≡ true) }
-        requires rests { ((view cpu.old).control.purge ≡ None) × ((view cpu.old).holder.resizing ≡ None) × IsResting (view cpu.old).holder.size (view cpu.old).holder.ends }
+        requires rests { HasNothingHalfDone (view cpu.old) }
         requires locks { (b : ℕ) → b < 3 → ((lock_at b cpu.old).holds ≡ true) × ((lock_at b cpu.old).stored ≡ false) }
         ensures same { IsElseSame cpu.old cpu.new }
-        ensures begun { (held : ℕ → List ℕ) × (slots : Of (List ℕ)) × (view cpu.new ≡ beginning (resizing_of K.len K.event held slots) (view cpu.old))
-            × ((b : ℕ) → b < 3 → IsBeforeResize (view cpu.old).holder.size K.limit (at b slots) (held b) (ends_at b cpu.old))
-            × ((b n : ℕ) → b < 3 → Contains (held b) n → (band_in K.infos n ≡ b) × (n < length K.infos))
-            × ((view cpu.old).control.phase ≡ Purged → (b : ℕ) → b < 3 → held b ≡ [])
-            × (IsSole (view cpu.old) → (b : ℕ) → b < 3 → held b ≡ held_in (account_of (view cpu.old)) b) }
+        ensures begun { BeginsResize K.infos K.limit K.len K.event (view cpu.old) (view cpu.new) }
         ensures made { (found : ℕ) × (steps cpu.new ≡ did_load_size found ∷ steps cpu.old) }
     {
         self.table
@@ -153,14 +143,10 @@ impl<'a, D: TxDevice> Shared<'a, D> {
         requires seat { IsSeatOf self.now cpu.old }
         requires len { (0 < len) × (len ≤ self.now.max_len) }
         requires at { (position cpu.old ≡ Control true) × (may_resize (view cpu.old).control.phase ≡ true) }
-        requires rests { ((view cpu.old).control.purge ≡ None) × ((view cpu.old).holder.resizing ≡ None) × IsResting (view cpu.old).holder.size (view cpu.old).holder.ends }
+        requires rests { HasNothingHalfDone (view cpu.old) }
         requires locks { (b : ℕ) → b < 3 → ((lock_at b cpu.old).holds ≡ true) × ((lock_at b cpu.old).stored ≡ false) }
         ensures same { IsElseSame cpu.old cpu.new }
-        ensures begun { (held : ℕ → List ℕ) × (slots : Of (List ℕ)) × (view cpu.new ≡ beginning (resizing_of len event held slots) (view cpu.old))
-            × ((b : ℕ) → b < 3 → IsBeforeResize (view cpu.old).holder.size self.now.max_len (at b slots) (held b) (ends_at b cpu.old))
-            × ((b n : ℕ) → b < 3 → Contains (held b) n → (band_in self.now.infos.now n ≡ b) × (n < length self.now.infos.now))
-            × ((view cpu.old).control.phase ≡ Purged → (b : ℕ) → b < 3 → held b ≡ [])
-            × (IsSole (view cpu.old) → (b : ℕ) → b < 3 → held b ≡ held_in (account_of (view cpu.old)) b) }
+        ensures begun { BeginsResize self.now.infos.now self.now.max_len len event (view cpu.old) (view cpu.new) }
         ensures made { (found : ℕ) × (steps cpu.new ≡ did_load_size found ∷ steps cpu.old) }
     {
         self.begin_resize_of::<Brand>(cpu, len, event);
@@ -172,7 +158,7 @@ impl<'a, D: TxDevice> Shared<'a, D> {
         requires place { (band < 3) × (i < self.now.max_len) }
         requires holder { (holds_lock (position cpu.old) ≡ true) × ((view cpu.old).holder.resizing ≡ Some K.resizing) }
         ensures same { IsElseSame cpu.old cpu.new }
-        ensures cleared { (result ≡ slice_index (at band K.resizing.works).slots i) × (view cpu.new ≡ with_resizing (Some (with_work band (out_of i (at band K.resizing.works)) K.resizing)) (view cpu.old)) × (is_member result (at band K.resizing.works) ≡ true → result ≤ 1000000) }
+        ensures cleared { ClearsSlot band i K.resizing result cpu.old cpu.new }
         ensures made { steps cpu.new ≡ did_swap_slot (setup self.now) band i result ∷ steps cpu.old }
     {
         let word = self.slot_word(band, i);
@@ -186,9 +172,9 @@ impl<'a, D: TxDevice> Shared<'a, D> {
     pub fn clear_slot(&self, cpu: &mut Cpu<D>, band: u32, i: u32) -> u64
         requires seat { IsSeatOf self.now cpu.old }
         requires place { (band < 3) × (i < self.now.max_len) }
-        requires holder { (holds_lock (position cpu.old) ≡ true) × ((t : HalfResize) × ((view cpu.old).holder.resizing ≡ Some t)) }
+        requires holder { (holds_lock (position cpu.old) ≡ true) × IsResizing (view cpu.old) }
         ensures same { IsElseSame cpu.old cpu.new }
-        ensures cleared { (t : HalfResize) → (view cpu.old).holder.resizing ≡ Some t → (result ≡ slice_index (at band t.works).slots i) × (view cpu.new ≡ with_resizing (Some (with_work band (out_of i (at band t.works)) t)) (view cpu.old)) × (is_member result (at band t.works) ≡ true → result ≤ 1000000) }
+        ensures cleared { (t : HalfResize) → (view cpu.old).holder.resizing ≡ Some t → ClearsSlot band i t result cpu.old cpu.new }
         ensures made { steps cpu.new ≡ did_swap_slot (setup self.now) band i result ∷ steps cpu.old }
     {
         self.clear_slot_of::<Brand>(cpu, band, i)
@@ -201,7 +187,7 @@ impl<'a, D: TxDevice> Shared<'a, D> {
         requires holder { (holds_lock (position cpu.old) ≡ true) × ((view cpu.old).holder.resizing ≡ Some K.resizing) }
         requires hand { ((at band K.resizing.works).hand ≡ n ∷ K.hand) × (slice_index (at band K.resizing.works).slots i ≡ 0) }
         ensures same { IsElseSame cpu.old cpu.new }
-        ensures filled { view cpu.new ≡ with_resizing (Some (with_work band (into i n K.hand (at band K.resizing.works)) K.resizing)) (view cpu.old) }
+        ensures filled { view cpu.new ≡ filling band i n K.hand K.resizing (view cpu.old) }
         ensures made { steps cpu.new ≡ did_store_slot (setup self.now) band i (n + 1) ∷ steps cpu.old }
     {
         let word = self.slot_word(band, i);
@@ -216,9 +202,9 @@ impl<'a, D: TxDevice> Shared<'a, D> {
         requires seat { IsSeatOf self.now cpu.old }
         requires place { (band < 3) × (i < self.now.max_len) }
         requires holder { holds_lock (position cpu.old) ≡ true }
-        requires hand { (t : HalfResize) × (hand : List ℕ) × ((view cpu.old).holder.resizing ≡ Some t) × ((at band t.works).hand ≡ n ∷ hand) × (slice_index (at band t.works).slots i ≡ 0) }
+        requires hand { MayFill band i n (view cpu.old) }
         ensures same { IsElseSame cpu.old cpu.new }
-        ensures filled { (t : HalfResize) (hand : List ℕ) → (view cpu.old).holder.resizing ≡ Some t → (at band t.works).hand ≡ n ∷ hand → view cpu.new ≡ with_resizing (Some (with_work band (into i n hand (at band t.works)) t)) (view cpu.old) }
+        ensures filled { FillsSlot band i n cpu.old cpu.new }
         ensures made { steps cpu.new ≡ did_store_slot (setup self.now) band i (n + 1) ∷ steps cpu.old }
     {
         self.fill_slot_of::<Brand>(cpu, band, i, n);
@@ -228,7 +214,7 @@ impl<'a, D: TxDevice> Shared<'a, D> {
         requires named { (band ≡ K.band) × (index ≡ K.index) }
         requires seat { IsSeatOf self.now cpu.old }
         requires band { band < 3 }
-        requires holder { (holds_lock (position cpu.old) ≡ true) × ((t : HalfResize) × ((view cpu.old).holder.resizing ≡ Some t)) × ((lock_at band cpu.old).holds ≡ true) }
+        requires holder { (holds_lock (position cpu.old) ≡ true) × IsResizing (view cpu.old) × ((lock_at band cpu.old).holds ≡ true) }
         ensures same { IsElseSame cpu.old cpu.new }
         ensures set { view cpu.new ≡ with_lock_at band (locked_at index) (view cpu.old) }
         ensures made { steps cpu.new ≡ did_set_producer band index ∷ steps cpu.old }
@@ -244,7 +230,7 @@ impl<'a, D: TxDevice> Shared<'a, D> {
     pub fn set_producer(&self, cpu: &mut Cpu<D>, band: u32, index: u32)
         requires seat { IsSeatOf self.now cpu.old }
         requires band { band < 3 }
-        requires holder { (holds_lock (position cpu.old) ≡ true) × ((t : HalfResize) × ((view cpu.old).holder.resizing ≡ Some t)) × ((lock_at band cpu.old).holds ≡ true) }
+        requires holder { (holds_lock (position cpu.old) ≡ true) × IsResizing (view cpu.old) × ((lock_at band cpu.old).holds ≡ true) }
         ensures same { IsElseSame cpu.old cpu.new }
         ensures set { view cpu.new ≡ with_lock_at band (locked_at index) (view cpu.old) }
         ensures made { steps cpu.new ≡ did_set_producer band index ∷ steps cpu.old }
@@ -256,7 +242,7 @@ impl<'a, D: TxDevice> Shared<'a, D> {
         requires named { len ≡ K.resizing.len }
         requires seat { IsSeatOf self.now cpu.old }
         requires holder { (holds_lock (position cpu.old) ≡ true) × ((view cpu.old).holder.resizing ≡ Some K.resizing) }
-        requires ready { (b : ℕ) → b < 3 → IsRefilled (at b K.resizing.works).slots (at b K.resizing.works).kept K.resizing.len × (lock_at b cpu.old ≡ locked_at (round K.resizing.len (length (at b K.resizing.works).kept))) × ((at b K.resizing.works).waiting ≡ []) }
+        requires ready { AreRefilled K.resizing cpu.old }
         ensures same { IsElseSame cpu.old cpu.new }
         ensures restarted { view cpu.new ≡ restarted K.resizing (view cpu.old) }
         ensures made { steps cpu.new ≡ did_store_size len ∷ steps cpu.old }
@@ -272,8 +258,7 @@ impl<'a, D: TxDevice> Shared<'a, D> {
     pub fn store_size(&self, cpu: &mut Cpu<D>, len: u32)
         requires seat { IsSeatOf self.now cpu.old }
         requires holder { holds_lock (position cpu.old) ≡ true }
-        requires ready { (t : HalfResize) × ((view cpu.old).holder.resizing ≡ Some t) × (len ≡ t.len)
-            × ((b : ℕ) → b < 3 → IsRefilled (at b t.works).slots (at b t.works).kept t.len × (lock_at b cpu.old ≡ locked_at (round t.len (length (at b t.works).kept))) × ((at b t.works).waiting ≡ [])) }
+        requires ready { (t : HalfResize) × ((view cpu.old).holder.resizing ≡ Some t) × (len ≡ t.len) × AreRefilled t cpu.old }
         ensures same { IsElseSame cpu.old cpu.new }
         ensures restarted { (t : HalfResize) → (view cpu.old).holder.resizing ≡ Some t → view cpu.new ≡ restarted t (view cpu.old) }
         ensures made { steps cpu.new ≡ did_store_size len ∷ steps cpu.old }
