@@ -1,13 +1,12 @@
 -- What a purge and a resize of the rings do: the steps in the order in which they are made, and what the seat knows after them.
-use Rattle.std.specs.Prelude.{◌≡◌, ◌+◌, ◌<◌, ℕ, List, Some, length, Contains}
+use Rattle.std.specs.Prelude.{◌≡◌, ◌+◌, ℕ, Bool, true, false, List, Some, length}
 use Rattle.lq_model.specs.Band.{held_of}
 use Rattle.lq_model.specs.Machine.{Purge}
-use Rattle.lq_model.specs.Plan.{band_in}
 use Rattle.lq_band.specs.Three.{at}
 use Rattle.lq_model.specs.Words.{word_of}
 use Rattle.lq_model.specs.declared.fate.Fate.{Fate}
 use Rattle.lq_ring.specs.Purged.{IsBandPurged}
-use Rattle.lq_ring.specs.Resized.{IsKnownHeld, all_lost, having_resized}
+use Rattle.lq_ring.specs.Resized.{HoldOwnPackets, IsKnownHeld, all_lost, having_resized}
 use Rattle.lq_table.specs.Views.{Left, Setup}
 use Rattle.lq_table.specs.Made.{Known, Made, ◌⊳◌, did_give_producer, did_set_producer, did_load_size, did_store_size, did_load_slot, did_store_slot, did_swap_slot, did_store_fate}
 use Rattle.lq_ring.specs.Steps.{LocksProducer, zeroed}
@@ -17,6 +16,10 @@ use Rattle.lq_ring.specs.Steps.{LocksProducer, zeroed}
 -- The packet n was taken from the slot at the head, its fate was stored, and the slots taken are emptied as after a take.
 abbrev pub PurgesOne : Setup → ℕ → Fate → ℕ → List Made → List Made → Type 0
 PurgesOne k band fate n old new = (head : ℕ) × (zeroes : ℕ) × (new ≡ zeroed k band (head + 1) zeroes (old ⊳ did_load_slot k band head (n + 1) ⊳ did_store_fate k n (word_of fate)))
+
+-- a packet was, or else the slot at the head was loaded as 0
+abbrev pub PurgesOneOrNone : Setup → ℕ → Fate → Bool → List Made → List Made → Type 0
+PurgesOneOrNone k band fate one old new = (one ≡ true → (n : ℕ) × PurgesOne k band fate n old new) × (one ≡ false → (head : ℕ) × (new ≡ old ⊳ did_load_slot k band head 0))
 
 -- so were these packets, in order, up to one that is not
 pub data PurgesEach (k : Setup) (band : ℕ) (fate : Fate) (old : List Made) : ℕ → List Made → Type 0 where
@@ -49,6 +52,15 @@ TurnsBand k band index old new = (turned : List Made) × TurnsRing k band old tu
 abbrev pub LocksAll : List Made → List Made → Type 0
 LocksAll old new = (low mid high : ℕ) × (one two : List Made) × LocksProducer 0 low old one × LocksProducer 1 mid one two × LocksProducer 2 high two new
 
+-- Under them the size is loaded, with which the resize begins, the bands are turned, and the new size is stored;
+abbrev pub TurnsAll : Setup → ℕ → ℕ → ℕ → ℕ → List Made → List Made → Type 0
+TurnsAll k len low mid high old new = (begun : ℕ) × (one two three : List Made) × TurnsBand k 0 low (old ⊳ did_load_size begun) one × TurnsBand k 1 mid one two × TurnsBand k 2 high two three
+    × (new ≡ three ⊳ did_store_size len)
+
+-- and they are given back in the same order, after a load of the size.
+abbrev pub UnlocksAll : ℕ → ℕ → ℕ → List Made → List Made → Type 0
+UnlocksAll low mid high old new = (stored : ℕ) × (new ≡ old ⊳ did_load_size stored ⊳ did_give_producer 0 low ⊳ did_give_producer 1 mid ⊳ did_give_producer 2 high)
+
 -- The three producer locks are taken, the bands are turned, the size is stored, and the locks are given back with the new indices.
 pub record Resizes (k : Setup) (len : ℕ) (old new : List Made) : Type 0 where
   pub locked : List Made
@@ -72,7 +84,7 @@ pub record Resizes (k : Setup) (len : ℕ) (old new : List Made) : Type 0 where
 -- dropped.
 pub record ResizesAll (k : Setup) (len event count : ℕ) (old new : Known) : Type 0 where
   pub held : ℕ → List ℕ
-  pub packets : (b n : ℕ) → b < 3 → Contains (held b) n → (band_in k.infos n ≡ b) × (n < length k.infos)
+  pub packets : HoldOwnPackets k.infos held
   pub is_known : IsKnownHeld old.view held
   pub is : new.view ≡ having_resized len event (all_lost len held) old.view
   pub counted : count ≡ length (all_lost len held)

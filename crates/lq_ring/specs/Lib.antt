@@ -14,3 +14,5 @@ pub mod Purged
 pub mod Steps
 -- what a purge and a resize do, step by step
 pub mod Changes
+-- what its calls ask of a seat, and what they leave of it
+pub mod Seats

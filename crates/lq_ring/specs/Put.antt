@@ -1,15 +1,18 @@
 -- What a put makes of what a seat knows.
-use Rattle.std.specs.Prelude.{ℕ, Bool, if◌then◌else◌}
+use Rattle.std.specs.Prelude.{◌≡◌, ℕ, Bool, if◌then◌else◌, Result, MatchResult}
+use Rattle.lq_model.specs.Account.{Join, Full as FullEvent}
 use Rattle.lq_model.specs.Steps.{dequeue_begins}
 use Rattle.lq_model.specs.declared.machine.Attempt.TheVariants.{Queued}
 use Rattle.lq_model.specs.declared.machine.Packet.{Packet}
 use Rattle.lq_model.specs.declared.machine.Position.{Position}
 use Rattle.lq_model.specs.declared.machine.Position.TheVariants.{Try1}
+use Rattle.lq_ring_core.specs.declared.ring.Full.{Full}
 use Rattle.lq_band.specs.Three.{Three, put, all_three}
 use Rattle.lq_band.specs.Ring.{Lock, unlocked, locked_at}
 use Rattle.lq_table.specs.Views.{View}
 use Rattle.lq_table.specs.Told.{seen_by}
 use Rattle.lq_table.specs.Rings.{joining, dropping}
+use Rattle.lq_table.specs.Solo.{solo, heard}
 
 -- it has no producer lock
 abbrev pub no_locks : Three Lock
@@ -26,6 +29,14 @@ putting b n v = record (joining b n v) { locks = no_locks }
 -- it was dropped as full, and the producer lock was given back
 abbrev pub dropping_full : ℕ → ℕ → View → View
 dropping_full n seen v = record (dropping n seen v) { locks = no_locks }
+
+-- it joined or was dropped, as the answer says
+abbrev pub IsPutAs : ℕ → ℕ → Result (Unit {0}) Full → View → View → Type 0
+IsPutAs b n answer v w = MatchResult answer (λ _. w ≡ putting b n v) (λ full. w ≡ dropping_full n full.seen v)
+
+-- a seat that has the table alone hears which of the two came
+abbrev pub HearsPut : ℕ → ℕ → Result (Unit {0}) Full → View → View → Type 0
+HearsPut b n answer v w = MatchResult answer (λ _. solo w ≡ heard (Join n b) (solo v)) (λ full. solo w ≡ heard (FullEvent n full.seen) (solo v))
 
 -- where a put leads: one that has the run lock begins to dequeue, another tries that lock
 abbrev pub put_leads_to : Bool → Packet → View → Position

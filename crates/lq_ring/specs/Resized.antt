@@ -11,7 +11,7 @@ use Rattle.lq_band.specs.Ring.{Lock, at_start, locked_at}
 use Rattle.lq_table.specs.Views.{View}
 use Rattle.lq_model.specs.declared.fate.Fate.TheVariants as fate
 use Rattle.lq_ring.specs.Fates.{fates_onto}
-use Rattle.lq_ring.specs.Work.{work_at, IsTurner, IsWorkBegun, event_of_work}
+use Rattle.lq_ring.specs.Work.{work_at, ArePacketsOf, IsTurner, IsWorkBegun, event_of_work}
 
 -- the band b in a resize half done, whose work has not begun, where the station has its ends
 pub record IsReadyToResize (limit : ℕ) (infos : List Info) (st : StationState) (size len event b : ℕ) (v : View) : Type 0 where
@@ -20,7 +20,11 @@ pub record IsReadyToResize (limit : ℕ) (infos : List Info) (st : StationState)
   pub lock : (at b v.locks).holds ≡ true
   pub held : List ℕ
   pub whole : IsWorkBegun limit size (slice_index st.tails b) (slice_index st.heads b) len held (work_at b v)
-  pub packets : (n : ℕ) → Contains held n → (band_in infos n ≡ b) × (n < length infos)
+  pub packets : ArePacketsOf infos b held
+
+-- each packet that a band held is one of the capture, and of this band
+abbrev pub HoldOwnPackets : List Info → (ℕ → List ℕ) → Type 0
+HoldOwnPackets infos held = (b n : ℕ) → b < 3 → Contains (held b) n → (band_in infos n ≡ b) × (n < length infos)
 
 -- what the bands held: nothing where the station is deactivated and purged, and for a seat that has the table alone what its
 -- account says

@@ -1,12 +1,13 @@
 -- What a put and a take do: the steps in the order in which they are made, and what the seat knows after them.
-use Rattle.std.specs.Prelude.{◌≡◌, ◌≢◌, ℕ, zero, suc, ◌+◌, ◌-◌, ◌/◌, ◌%◌, true, false, List}
+use Rattle.std.specs.Prelude.{◌≡◌, ◌≢◌, ℕ, zero, suc, ◌+◌, ◌-◌, ◌/◌, ◌%◌, true, false, List, Option, Result, MatchOption, MatchResult}
+use Rattle.lq_ring_core.specs.declared.ring.Full.{Full}
 use Rattle.lq_ring_core.specs.Ring.{next_place}
 use Rattle.lq_band.specs.Three.{at}
-use Rattle.lq_band.specs.Ring.{taken_on}
+use Rattle.lq_band.specs.Ring.{Ends, is_emptying, taken_on}
 use Rattle.lq_table.specs.Views.{Setup}
 use Rattle.lq_table.specs.Rings.{finding_none}
 use Rattle.lq_ring.specs.Put.{putting, dropping_full}
-use Rattle.lq_ring.specs.Take.{consuming, emptied_count}
+use Rattle.lq_ring.specs.Take.{batch_length, consuming, emptied_count}
 use Rattle.lq_table.specs.Made.{Known, Made, ◌⊳◌, did_load_producer, did_take_producer, did_give_producer, did_load_size, did_load_slot, did_store_slot}
 
 -- PUTS
@@ -30,6 +31,10 @@ PutsAt k band index n old new = (size : ℕ) × (new ≡ old ⊳ did_load_size s
 abbrev pub FindsFullAt : Setup → ℕ → ℕ → ℕ → List Made → List Made → Type 0
 FindsFullAt k band index seen old new = (size : ℕ) × (new ≡ old ⊳ did_load_size size ⊳ did_load_slot k band index (seen + 1) ⊳ did_give_producer band index)
 
+-- one of these two, as the answer says
+abbrev pub PutsAtBy : Setup → ℕ → ℕ → ℕ → Result (Unit {0}) Full → List Made → List Made → Type 0
+PutsAtBy k band index n answer old new = MatchResult answer (λ _. PutsAt k band index n old new) (λ full. FindsFullAt k band index full.seen old new)
+
 -- `ptr_ring_produce` of include/linux/ptr_ring.h: the packet n joined the band
 abbrev pub Puts : Setup → ℕ → ℕ → Known → Known → Type 0
 Puts k band n old new = (new.view ≡ putting band n old.view) × (index : ℕ) × (locked : List Made) × LocksProducer band index old.steps locked × PutsAt k band index n locked new.steps
@@ -38,12 +43,20 @@ Puts k band n old new = (new.view ≡ putting band n old.view) × (index : ℕ) 
 abbrev pub FindsFull : Setup → ℕ → ℕ → ℕ → Known → Known → Type 0
 FindsFull k band n seen old new = (new.view ≡ dropping_full n seen old.view) × (index : ℕ) × (locked : List Made) × LocksProducer band index old.steps locked × FindsFullAt k band index seen locked new.steps
 
+-- one of these two, as the answer says
+abbrev pub PutsBy : Setup → ℕ → ℕ → Result (Unit {0}) Full → Known → Known → Type 0
+PutsBy k band n answer old new = MatchResult answer (λ _. Puts k band n old new) (λ full. FindsFull k band n full.seen old new)
+
 -- TAKES
 
 -- so many slots below head are emptied, the highest first
 abbrev pub zeroed : Setup → ℕ → ℕ → ℕ → List Made → List Made
 zeroed k band head zero steps = steps
 zeroed k band head (suc n) steps = zeroed k band head n steps ⊳ did_store_slot k band (head - 1 - n) 0
+
+-- where that is due, the slots that were taken are emptied, up to the head
+abbrev pub EmptiesBatch : Setup → ℕ → ℕ → Ends → List Made → List Made → Type 0
+EmptiesBatch k band size c old new = (is_emptying size c ≡ true → new ≡ zeroed k band c.head (batch_length c) old) × (is_emptying size c ≡ false → new ≡ old)
 
 -- `__ptr_ring_consume` of include/linux/ptr_ring.h: the slot at the head is loaded as 0
 abbrev pub FindsSlotEmpty : Setup → ℕ → Known → Known → Type 0
@@ -54,3 +67,7 @@ FindsSlotEmpty k band old new = (new.view ≡ finding_none band old.view)
 abbrev pub Takes : Setup → ℕ → ℕ → Known → Known → Type 0
 Takes k band n old new = let own = at band old.view.holder.ends in (new.view ≡ consuming band n old.view)
     × (size : ℕ) × (new.steps ≡ zeroed k band (own.head + 1) (emptied_count old.view.holder.size (taken_on own)) (old.steps ⊳ did_load_size size ⊳ did_load_slot k band own.head (n + 1)))
+
+-- one of these two, as the answer says
+abbrev pub TakesBy : Setup → ℕ → Option ℕ → Known → Known → Type 0
+TakesBy k band answer old new = MatchOption answer (FindsSlotEmpty k band old new) (λ n. Takes k band n old new)

@@ -1,14 +1,17 @@
 -- What control does to one band in a resize.
-use Rattle.std.specs.Prelude.{◌≡◌, ◌⊎◌, ℕ, zero, suc, ◌+◌, ◌-◌, ◌/◌, ◌==◌, if◌then◌else◌, true, List, [], ◌∷◌, ◌++◌, take, drop, slice_index, slice_set, option_map, Some}
+use Rattle.std.specs.Prelude.{◌≡◌, ◌⊎◌, ℕ, zero, suc, ◌+◌, ◌-◌, ◌/◌, ◌<◌, ◌≤◌, ◌≢◌, ◌==◌, if◌then◌else◌, true, false, List, [], ◌∷◌, ◌++◌, take, drop, length, slice_index, slice_set, option_map, Some, Contains}
 use Rattle.std.specs.Option.{unwrap_or}
 use Rattle.lq_band.specs.Three.{at}
 use Rattle.lq_band.specs.HalfResized.{IsBeforeResize, IsRefilled}
+use Rattle.lq_band.specs.Ring.{word_at}
+use Rattle.lq_model.specs.Plan.{band_in}
 use Rattle.lq_model.specs.Positions.{holds_lock}
 use Rattle.lq_model.specs.declared.fate.Fate.{Fate}
 use Rattle.lq_model.specs.declared.fate.Fate.TheVariants as fate
+use Rattle.lq_model.specs.declared.fate.Info.{Info}
 use Rattle.lq_ring.specs.Fates.{fates_onto}
 use Rattle.lq_table.specs.Views.{View, HalfResize, Work, no_resizing}
-use Rattle.lq_table.specs.Resizes.{is_word, with_work, settled_work, with_resizing}
+use Rattle.lq_table.specs.Resizes.{is_member, is_word, with_work, settled_work, with_resizing}
 
 -- the band's part of the resize that the seat has half done
 abbrev pub work_at : ℕ → View → Work
@@ -27,12 +30,48 @@ AreMembers members slots = (x : ℕ) → (slice_index slots x ≡ 0) ⊎ (is_wor
 abbrev pub members_of : Work → List ℕ
 members_of w = w.kept ++ w.waiting
 
+-- it has this many slots, each empty or with one of its packets
+abbrev pub HasSlots : ℕ → Work → Type 0
+HasSlots limit w = (length w.slots ≡ limit) × AreMembers (members_of w) w.slots
+
+-- each of these is a packet of the capture and of this band
+abbrev pub ArePacketsOf : List Info → ℕ → List ℕ → Type 0
+ArePacketsOf infos b ns = (n : ℕ) → Contains ns n → (band_in infos n ≡ b) × (n < length infos)
+
+-- the word of a slot; that of a packet that the band keeps or drops is at most 1000000, since a capture has no more packets
+abbrev pub IsSlotWord : ℕ → ℕ → Work → Type 0
+IsSlotWord i x w = (x ≡ slice_index w.slots i) × (is_member x w ≡ true → x ≤ 1000000)
+
+-- the packet of this word came into the hand last, and the slot is empty
+abbrev pub MayPutBack : ℕ → ℕ → Work → Type 0
+MayPutBack i x w = (hand : List ℕ) × (w.hand ≡ (x - 1) ∷ hand) × (slice_index w.slots i ≡ 0) × (x ≤ 1000000)
+
+-- no slot from the tail up to the head has a packet that the band keeps or drops
+abbrev pub AreStale : ℕ → ℕ → Work → Type 0
+AreStale tail head w = (j : ℕ) → tail ≤ j → j < head → is_member (slice_index w.slots j) w ≡ false
+
+-- so many of the first slots, up to the limit, have a word, and the slot after them, below the limit, has none
+abbrev pub AreFilledUpTo : ℕ → ℕ → List ℕ → Type 0
+AreFilledUpTo limit count slots = (count ≤ limit) × ((j : ℕ) → j < count → slice_index slots j ≢ 0) × (count < limit → slice_index slots count ≡ 0)
+
+-- nothing is in the hand, and so many slots from a place on have the dropped packets in order, and 0 behind the last
+abbrev pub HasDroppedFrom : ℕ → ℕ → Work → Type 0
+HasDroppedFrom from count w = (w.hand ≡ []) × ((n : ℕ) → n < count → slice_index w.slots (from + n) ≡ word_at w.waiting n)
+
+-- so many packets are kept, and so many dropped
+abbrev pub KeepsAndDrops : ℕ → ℕ → Work → Type 0
+KeepsAndDrops kept dropped w = (kept ≡ length w.kept) × (dropped ≡ length w.waiting)
+
 -- a word is put back from the hand into a slot, unless it is 0
 abbrev pub back_in : ℕ → ℕ → Work → Work
 back_in i x w = if x == 0 then w else record w { slots = slice_set w.slots i x; hand = drop 1 w.hand }
 
 abbrev pub with_slots : List ℕ → Work → Work
 with_slots s w = record w { slots = s }
+
+-- this is made of the band's slots
+abbrev pub changing_slots : ℕ → (List ℕ → List ℕ) → View → View
+changing_slots b change v = working b (with_slots (change (work_at b v).slots) (work_at b v)) v
 
 abbrev pub exchanged : ℕ → ℕ → List ℕ → List ℕ
 exchanged i j s = slice_set (slice_set s i (slice_index s j)) j (slice_index s i)
@@ -70,6 +109,18 @@ shrunk_to event n ns fates = fates_onto (fate.Shrunk event) (take n ns) fates
 -- the fate of the packet of a word, unless it is 0
 abbrev pub shrunk_if : ℕ → ℕ → List (ℕ × Fate) → List (ℕ × Fate)
 shrunk_if x event fates = if x == 0 then fates else (x - 1, fate.Shrunk event) ∷ fates
+
+-- a word is settled, unless it is 0, and its packet's fate stored
+abbrev pub settling_word : ℕ → ℕ → ℕ → View → View
+settling_word b x event v = having_settled (shrunk_if x event v.settled) (working b (settled_if x (work_at b v)) v)
+
+-- so many of the dropped packets, which stand from a place on, are settled, and their fates stored
+abbrev pub settling_dropped : ℕ → ℕ → ℕ → ℕ → View → View
+settling_dropped b event from n v = having_settled (shrunk_to event n (work_at b v).waiting v.settled) (working b (dropped_to from n (work_at b v)) v)
+
+-- the band's work is this now, and the fates of all packets that it dropped are stored
+abbrev pub having_turned : ℕ → ℕ → Work → View → View
+having_turned b event w v = having_settled (fates_onto (fate.Shrunk event) (work_at b v).waiting v.settled) (working b w v)
 
 abbrev pub event_of_work : View → ℕ
 event_of_work v = (unwrap_or v.holder.resizing no_resizing).event

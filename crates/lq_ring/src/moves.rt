@@ -1,13 +1,11 @@
 //! The exchanges of a resize on one band, which keep what stands in its slots and change only the order.
-ghost use Rattle.std.specs.Prelude.{◌≡◌, ◌≢◌, ℕ, ◌+◌, ◌*◌, ◌-◌, ◌/◌, ◌<◌, ◌≤◌, ◌∷◌, [], true, false, List, drop, length, slice_index, Contains, ◌==◌, if◌then◌else◌};
-ghost use Rattle.lq_model.specs.Plan.{band_in};
-ghost use Rattle.lq_band.specs.Ring.{word_at};
+ghost use Rattle.std.specs.Prelude.{◌≡◌, ◌≢◌, ◌+◌, ◌*◌, ◌-◌, ◌/◌, ◌<◌, ◌≤◌, drop, length, ◌==◌, if◌then◌else◌};
 ghost use Rattle.lq_table.specs.Sees.{view, steps, setup, IsSeatOf, IsElseSame};
 ghost use Rattle.lq_table.specs.Made.{◌⊳◌, did_swap_slot};
 ghost use Rattle.lq_ring.specs.Changes.{TurnsRing};
-ghost use Rattle.lq_table.specs.Resizes.{is_member, out_of};
-ghost use Rattle.lq_table.specs.Settled.{MayShrink};
-ghost use Rattle.lq_ring.specs.Work.{work_at, working, having_settled, IsTurner, AreMembers, members_of, back_in, with_slots, exchanged, reversed_to, rotated, zeroed_to, settled_if, shrunk_if, dropped_to, shrunk_to, event_of_work};
+ghost use Rattle.lq_table.specs.Resizes.{out_of};
+ghost use Rattle.lq_ring.specs.Seats.{IsDroppedWord};
+ghost use Rattle.lq_ring.specs.Work.{work_at, working, AreFilledUpTo, ArePacketsOf, AreStale, HasDroppedFrom, HasSlots, IsSlotWord, IsTurner, MayPutBack, back_in, changing_slots, exchanged, reversed_to, rotated, settling_dropped, settling_word, zeroed_to, event_of_work};
 
 use lq_device::TxDevice;
 use lq_model::Fate;
@@ -20,7 +18,7 @@ fn take_out<'a, D: TxDevice>(shared: &Shared<'a, D>, cpu: &mut Cpu<D>, band: u32
     requires turner { IsTurner (view cpu.old) }
     ensures same { IsElseSame cpu.old cpu.new }
     ensures made { steps cpu.new ≡ steps cpu.old ⊳ did_swap_slot (setup shared.now) band i result }
-    ensures found { (result ≡ slice_index (work_at band (view cpu.old)).slots i) × (is_member result (work_at band (view cpu.old)) ≡ true → result ≤ 1000000) }
+    ensures found { IsSlotWord i result (work_at band (view cpu.old)) }
     ensures taken { view cpu.new ≡ working band (out_of i (work_at band (view cpu.old))) (view cpu.old) }
 {
     shared.clear_slot(cpu, band, i)
@@ -31,7 +29,7 @@ fn put_back<'a, D: TxDevice>(shared: &Shared<'a, D>, cpu: &mut Cpu<D>, band: u32
     requires seat { IsSeatOf shared.now cpu.old }
     requires place { (band < 3) × (i < shared.now.max_len) }
     requires turner { IsTurner (view cpu.old) }
-    requires hand { x ≢ 0 → (hand : List ℕ) × ((work_at band (view cpu.old)).hand ≡ (x - 1) ∷ hand) × (slice_index (work_at band (view cpu.old)).slots i ≡ 0) × (x ≤ 1000000) }
+    requires hand { x ≢ 0 → MayPutBack i x (work_at band (view cpu.old)) }
     ensures same { IsElseSame cpu.old cpu.new }
     ensures made { TurnsRing (setup shared.now) band (steps cpu.old) (steps cpu.new) }
     ensures put { view cpu.new ≡ working band (back_in i x (work_at band (view cpu.old))) (view cpu.old) }
@@ -46,10 +44,10 @@ fn exchange<'a, D: TxDevice>(shared: &Shared<'a, D>, cpu: &mut Cpu<D>, band: u32
     requires seat { IsSeatOf shared.now cpu.old }
     requires place { (band < 3) × (i < j) × (j < shared.now.max_len) }
     requires turner { IsTurner (view cpu.old) }
-    requires slots { (length (work_at band (view cpu.old)).slots ≡ shared.now.max_len) × AreMembers (members_of (work_at band (view cpu.old))) (work_at band (view cpu.old)).slots }
+    requires slots { HasSlots shared.now.max_len (work_at band (view cpu.old)) }
     ensures same { IsElseSame cpu.old cpu.new }
     ensures made { TurnsRing (setup shared.now) band (steps cpu.old) (steps cpu.new) }
-    ensures exchanged { view cpu.new ≡ working band (with_slots (exchanged i j (work_at band (view cpu.old)).slots) (work_at band (view cpu.old))) (view cpu.old) }
+    ensures exchanged { view cpu.new ≡ changing_slots band (exchanged i j) (view cpu.old) }
 {
     let x = take_out(shared, cpu, band, i);
     let y = take_out(shared, cpu, band, j);
@@ -62,10 +60,10 @@ fn reverse<'a, D: TxDevice>(shared: &Shared<'a, D>, cpu: &mut Cpu<D>, band: u32,
     requires seat { IsSeatOf shared.now cpu.old }
     requires place { (band < 3) × (a ≤ b) × (b ≤ shared.now.max_len) }
     requires turner { IsTurner (view cpu.old) }
-    requires slots { (length (work_at band (view cpu.old)).slots ≡ shared.now.max_len) × AreMembers (members_of (work_at band (view cpu.old))) (work_at band (view cpu.old)).slots }
+    requires slots { HasSlots shared.now.max_len (work_at band (view cpu.old)) }
     ensures same { IsElseSame cpu.old cpu.new }
     ensures made { TurnsRing (setup shared.now) band (steps cpu.old) (steps cpu.new) }
-    ensures reversed { view cpu.new ≡ working band (with_slots (reversed_to a b ((b - a) / 2) (work_at band (view cpu.old)).slots) (work_at band (view cpu.old))) (view cpu.old) }
+    ensures reversed { view cpu.new ≡ changing_slots band (reversed_to a b ((b - a) / 2)) (view cpu.old) }
 {
     for k in 0..(b - a) / 2 {
         exchange(shared, cpu, band, a + k, b - 1 - k);
@@ -83,10 +81,10 @@ pub(crate) fn rotate<'a, D: TxDevice>(
     requires seat { IsSeatOf shared.now cpu.old }
     requires place { (band < 3) × (head ≤ size) × (size ≤ shared.now.max_len) }
     requires turner { IsTurner (view cpu.old) }
-    requires slots { (length (work_at band (view cpu.old)).slots ≡ shared.now.max_len) × AreMembers (members_of (work_at band (view cpu.old))) (work_at band (view cpu.old)).slots }
+    requires slots { HasSlots shared.now.max_len (work_at band (view cpu.old)) }
     ensures same { IsElseSame cpu.old cpu.new }
     ensures made { TurnsRing (setup shared.now) band (steps cpu.old) (steps cpu.new) }
-    ensures rotated { view cpu.new ≡ working band (with_slots (rotated head size (work_at band (view cpu.old)).slots) (work_at band (view cpu.old))) (view cpu.old) }
+    ensures rotated { view cpu.new ≡ changing_slots band (rotated head size) (view cpu.old) }
 {
     reverse(shared, cpu, band, 0, head);
     reverse(shared, cpu, band, head, size);
@@ -104,10 +102,10 @@ pub(crate) fn clear_stale<'a, D: TxDevice>(
     requires seat { IsSeatOf shared.now cpu.old }
     requires place { (band < 3) × (tail ≤ head) × (head ≤ shared.now.max_len) }
     requires turner { IsTurner (view cpu.old) }
-    requires stale { (j : ℕ) → tail ≤ j → j < head → is_member (slice_index (work_at band (view cpu.old)).slots j) (work_at band (view cpu.old)) ≡ false }
+    requires stale { AreStale tail head (work_at band (view cpu.old)) }
     ensures same { IsElseSame cpu.old cpu.new }
     ensures made { TurnsRing (setup shared.now) band (steps cpu.old) (steps cpu.new) }
-    ensures cleared { view cpu.new ≡ working band (with_slots (zeroed_to tail (head - tail) (work_at band (view cpu.old)).slots) (work_at band (view cpu.old))) (view cpu.old) }
+    ensures cleared { view cpu.new ≡ changing_slots band (zeroed_to tail (head - tail)) (view cpu.old) }
 {
     for n in 0..head - tail {
         take_out(shared, cpu, band, tail + n);
@@ -124,10 +122,10 @@ fn settle_word<'a, D: TxDevice>(
 ) -> u32
     requires seat { IsSeatOf shared.now cpu.old }
     requires turner { IsTurner (view cpu.old) }
-    requires word { x ≢ 0 → MayShrink band (x - 1) event (view cpu.old) × (band < 3) × (band_in shared.now.infos.now (x - 1) ≡ band) × (x - 1 < length shared.now.infos.now) × (x ≤ 1000000) }
+    requires word { x ≢ 0 → IsDroppedWord shared.now band event x cpu.old }
     ensures same { IsElseSame cpu.old cpu.new }
     ensures made { TurnsRing (setup shared.now) band (steps cpu.old) (steps cpu.new) }
-    ensures settled { view cpu.new ≡ having_settled (shrunk_if x event (view cpu.old).settled) (working band (settled_if x (work_at band (view cpu.old))) (view cpu.old)) }
+    ensures settled { view cpu.new ≡ settling_word band x event (view cpu.old) }
     ensures count { result ≡ (if x == 0 then 0 else 1) }
 {
     if x == 0 {
@@ -147,10 +145,10 @@ pub(crate) fn count_filled<'a, D: TxDevice>(
     requires seat { IsSeatOf shared.now cpu.old }
     requires place { (band < 3) × (limit ≤ shared.now.max_len) }
     requires turner { IsTurner (view cpu.old) }
-    requires slots { (length (work_at band (view cpu.old)).slots ≡ shared.now.max_len) × AreMembers (members_of (work_at band (view cpu.old))) (work_at band (view cpu.old)).slots }
+    requires slots { HasSlots shared.now.max_len (work_at band (view cpu.old)) }
     ensures same { IsElseSame cpu.old cpu.new × (view cpu.new ≡ view cpu.old) }
     ensures made { TurnsRing (setup shared.now) band (steps cpu.old) (steps cpu.new) }
-    ensures filled { (result ≤ limit) × ((j : ℕ) → j < result → slice_index (work_at band (view cpu.old)).slots j ≢ 0) × (result < limit → slice_index (work_at band (view cpu.old)).slots result ≡ 0) }
+    ensures filled { AreFilledUpTo limit result (work_at band (view cpu.old)).slots }
 {
     for i in 0..limit {
         let x = take_out(shared, cpu, band, i);
@@ -174,13 +172,13 @@ pub(crate) fn drop_rest<'a, D: TxDevice>(
     requires seat { IsSeatOf shared.now cpu.old }
     requires place { (band < 3) × (from ≤ to) × (to ≤ shared.now.max_len) }
     requires turner { IsTurner (view cpu.old) × (event_of_work (view cpu.old) ≡ event) }
-    requires rest { let w = work_at band (view cpu.old) in (w.hand ≡ []) × ((n : ℕ) → n < to - from → slice_index w.slots (from + n) ≡ word_at w.waiting n) }
-    requires packets { (n : ℕ) → Contains (work_at band (view cpu.old)).waiting n → (band_in shared.now.infos.now n ≡ band) × (n < length shared.now.infos.now) }
+    requires rest { HasDroppedFrom from (to - from) (work_at band (view cpu.old)) }
+    requires packets { ArePacketsOf shared.now.infos.now band (work_at band (view cpu.old)).waiting }
     ensures same { IsElseSame cpu.old cpu.new }
     ensures made { TurnsRing (setup shared.now) band (steps cpu.old) (steps cpu.new) }
-    ensures dropped { view cpu.new ≡ having_settled (shrunk_to event (to - from) (work_at band (view cpu.old)).waiting (view cpu.old).settled) (working band (dropped_to from (to - from) (work_at band (view cpu.old))) (view cpu.old)) }
+    ensures dropped { view cpu.new ≡ settling_dropped band event from (to - from) (view cpu.old) }
     ensures few { result ≤ to - from }
-    ensures count { result + length (drop (to - from) (work_at band (view cpu.old)).waiting) ≡ length (work_at band (view cpu.old)).waiting }
+    ensures count { let waiting = (work_at band (view cpu.old)).waiting in result + length (drop (to - from) waiting) ≡ length waiting }
 {
     let mut count = 0;
     for n in 0..to - from {

@@ -1,22 +1,15 @@
 //! The takes of a purge: `pfifo_fast_reset` of net/sched/sch_generic.c empties each ring by `__skb_array_consume`, with
 //! the zeroing that this does.
-ghost use Rattle.std.specs.Prelude.{◌≡◌, ◌≢◌, ℕ, ◌+◌, ◌-◌, ◌<◌, ◌≤◌, true, false, [], Some, None, List, length, Contains};
-ghost use Rattle.std.specs.List.{slice_get};
-ghost use Rattle.lq_model.specs.Band.{held_of};
-ghost use Rattle.lq_model.specs.Machine.{Purge};
+ghost use Rattle.std.specs.Prelude.{◌≡◌, ◌≢◌, ◌+◌, ◌-◌, ◌<◌, ◌≤◌, true, false, None};
 ghost use Rattle.lq_model.specs.Words.{HasWord};
 ghost use Rattle.lq_model.specs.declared.fate.Fate.TheVariants as fate;
-ghost use Rattle.lq_model.specs.declared.machine.Position.TheVariants.{Control};
-ghost use Rattle.lq_band.specs.Three.{at};
-ghost use Rattle.lq_table.specs.Views.{Left};
-ghost use Rattle.lq_table.specs.Purges.{passing_band};
 ghost use Rattle.lq_table.specs.Rule.{IsResting};
-ghost use Rattle.lq_table.specs.Sees.{view, known, steps, setup, position, slot, IsSeatOf, IsSameSeat};
-ghost use Rattle.lq_table.specs.Made.{◌⊳◌, did_load_slot};
-ghost use Rattle.lq_ring.specs.Changes.{PurgesBand, PurgesOne};
+ghost use Rattle.lq_table.specs.Sees.{view, known, steps, setup, slot, IsSeatOf, IsSameSeat};
+ghost use Rattle.lq_ring.specs.Changes.{PurgesBand, PurgesOneOrNone};
 ghost use Rattle.lq_ring.specs.Put.{no_locks};
 ghost use Rattle.lq_ring.specs.Take.{CarriesStation};
-ghost use Rattle.lq_ring.specs.Purged.{purging_one};
+ghost use Rattle.lq_ring.specs.Purged.{PassesBand, PurgesFirst};
+ghost use Rattle.lq_ring.specs.Seats.{HasRingsAtRestOf, IsPurging, IsPurgingRing};
 
 use crate::takes::discard_one;
 use lq_device::TxDevice;
@@ -34,17 +27,16 @@ fn purge_one<'a, D: TxDevice>(
 ) -> bool
     requires seat { IsSeatOf shared.now cpu.old }
     requires band { band < 3 }
-    requires at { (u : Purge) × (l : Left) × (position cpu.old ≡ Control true) × ((view cpu.old).control.purge ≡ Some u) × (u.band ≡ band) × ((view cpu.old).holder.left ≡ Some l) × (l.cause ≡ cause)
-        × ((n : ℕ) → Contains (held_of (at band l.bands)) n → n < length shared.now.infos.now) }
+    requires at { IsPurging shared.now band cause cpu.old }
     requires word { HasWord (fate.Purged cause) }
     requires packets { ((view cpu.old).packets.owed ≡ None) × ((view cpu.old).packets.fresh ≡ None) }
-    requires rests { IsResting (view cpu.old).holder.size (view cpu.old).holder.ends × ((view cpu.old).holder.resizing ≡ None) × ((view cpu.old).holder.size ≡ size) × (size ≤ shared.now.max_len) }
+    requires rests { HasRingsAtRestOf shared.now size cpu.old }
     requires station { CarriesStation cpu.old }
     ensures same { IsSameSeat cpu.old cpu.new × (slot cpu.new ≡ slot cpu.old) }
-    ensures none { result ≡ false → (u : Purge) (l : Left) → (view cpu.old).control.purge ≡ Some u → (view cpu.old).holder.left ≡ Some l → (held_of (at band l.bands) ≡ []) × (view cpu.new ≡ passing_band u (view cpu.old)) }
-    ensures taken { result ≡ true → (l : Left) → (view cpu.old).holder.left ≡ Some l → (n : ℕ) × (slice_get (held_of (at band l.bands)) 0 ≡ Some n) × (view cpu.new ≡ purging_one band n l (view cpu.old)) }
+    ensures none { result ≡ false → PassesBand band (view cpu.old) (view cpu.new) }
+    ensures taken { result ≡ true → PurgesFirst band (view cpu.old) (view cpu.new) }
     ensures station { CarriesStation cpu.new }
-    ensures made { (result ≡ true → (n : ℕ) × PurgesOne (setup shared.now) band (fate.Purged cause) n (steps cpu.old) (steps cpu.new)) × (result ≡ false → (head : ℕ) × (steps cpu.new ≡ steps cpu.old ⊳ did_load_slot (setup shared.now) band head 0)) }
+    ensures made { PurgesOneOrNone (setup shared.now) band (fate.Purged cause) result (steps cpu.old) (steps cpu.new) }
 {
     let found = shared.purge_slot(cpu, band);
     if found == 0 {
@@ -65,8 +57,7 @@ pub fn purge_band<'a, D: TxDevice>(
 ) -> u32
     requires seat { IsSeatOf shared.now cpu.old }
     requires band { band < 3 }
-    requires at { (u : Purge) × (l : Left) × (position cpu.old ≡ Control true) × ((view cpu.old).control.purge ≡ Some u) × (u.band ≡ band) × ((view cpu.old).holder.left ≡ Some l) × (l.cause ≡ cause)
-        × ((n : ℕ) → Contains (held_of (at band l.bands)) n → n < length shared.now.infos.now) × (length (held_of (at band l.bands)) ≤ (view cpu.old).holder.size) }
+    requires at { IsPurgingRing shared.now band cause cpu.old }
     requires word { HasWord (fate.Purged cause) }
     requires packets { ((view cpu.old).packets.owed ≡ None) × ((view cpu.old).packets.fresh ≡ None) }
     requires rests { IsResting (view cpu.old).holder.size (view cpu.old).holder.ends × ((view cpu.old).holder.resizing ≡ None) }

@@ -1,16 +1,13 @@
 //! Puts by many senders, under a band's producer lock.
 ghost use Rattle.std.specs.Prelude.{◌≡◌, ◌≢◌, ℕ, ◌+◌, ◌*◌, ◌-◌, ◌<◌, ◌≤◌, Bool, true, false, Some, None, MatchResult};
-ghost use Rattle.lq_model.specs.Account.{Join, Full as FullEvent};
 ghost use Rattle.lq_model.specs.declared.machine.Position.TheVariants.{Put};
 ghost use Rattle.lq_ring_core.specs.Ring.{next_place};
-ghost use Rattle.lq_band.specs.Three.{at};
-ghost use Rattle.lq_band.specs.Ring.{unlocked, locked_at};
-ghost use Rattle.lq_table.specs.Rings.{with_lock_at};
+ghost use Rattle.lq_band.specs.Ring.{unlocked};
 ghost use Rattle.lq_table.specs.Sees.{view, known, steps, setup, position, slot, packet_at, lock_at, IsSeatOf, IsSameSeat, IsElseSame, Brings};
-ghost use Rattle.lq_table.specs.Solo.{solo, heard};
 ghost use Rattle.lq_table.specs.SolePut.{SeesEnd};
-ghost use Rattle.lq_ring.specs.Steps.{FindsFull, FindsFullAt, LocksProducer, Puts, PutsAt};
-ghost use Rattle.lq_ring.specs.Put.{no_locks, just_locked, putting, dropping_full, put_leads_to};
+ghost use Rattle.lq_ring.specs.Steps.{LocksProducer, PutsAtBy, PutsBy};
+ghost use Rattle.lq_ring.specs.Put.{no_locks, HearsPut, IsPutAs};
+ghost use Rattle.lq_ring.specs.Seats.{GetsProducer, GoesOnFromPut, HasJustLocked};
 
 use crossbeam_utils::Backoff;
 use lq_device::TxDevice;
@@ -29,7 +26,7 @@ pub(crate) fn lock_producer<'a, D: TxDevice, R: Wait>(
     requires band { band < 3 }
     requires idle { lock_at band cpu.old ≡ unlocked }
     ensures same { IsSameSeat cpu.old cpu.new × (cpu.new.station ≡ cpu.old.station) × (slot cpu.new ≡ slot cpu.old) }
-    ensures locked { (view cpu.new ≡ with_lock_at band (locked_at result) (view cpu.old)) × (at band cpu.new.indices ≡ result) × (result < shared.now.max_len) }
+    ensures locked { GetsProducer shared.now band result cpu.old cpu.new }
     ensures made { LocksProducer band result (steps cpu.old) (steps cpu.new) }
 {
     let backoff = Backoff::new();
@@ -66,11 +63,11 @@ fn produce_locked<'a, D: TxDevice>(
     requires band { band < 3 }
     requires at { (holds : Bool) × (position cpu.old ≡ Put (packet_at shared.now n) holds) }
     requires packet { Brings shared.now n band cpu.old × ((view cpu.old).packets.owed ≡ None) }
-    requires locked { ((view cpu.old).locks ≡ just_locked band index) × (at band cpu.old.indices ≡ index) × (index < shared.now.max_len) × ((view cpu.old).holder.resizing ≡ None) }
+    requires locked { HasJustLocked shared.now band index cpu.old }
     ensures same { IsElseSame cpu.old cpu.new }
-    ensures put { MatchResult result (λ _. view cpu.new ≡ putting band n (view cpu.old)) (λ full. view cpu.new ≡ dropping_full n full.seen (view cpu.old)) }
+    ensures put { IsPutAs band n result (view cpu.old) (view cpu.new) }
     ensures sole { MatchResult result (λ _. SeesEnd band (view cpu.old) 0) (λ full. SeesEnd band (view cpu.old) (full.seen + 1)) }
-    ensures made { MatchResult result (λ _. PutsAt (setup shared.now) band index n (steps cpu.old) (steps cpu.new)) (λ full. FindsFullAt (setup shared.now) band index full.seen (steps cpu.old) (steps cpu.new)) }
+    ensures made { PutsAtBy (setup shared.now) band index n result (steps cpu.old) (steps cpu.new) }
 {
     let size = shared.load_size(cpu);
     let found = shared.producer_slot(cpu, band);
@@ -105,9 +102,9 @@ pub fn produce<'a, D: TxDevice, R: Wait>(
     requires packet { Brings shared.now n band cpu.old × ((view cpu.old).packets.owed ≡ None) }
     requires idle { ((view cpu.old).locks ≡ no_locks) × ((view cpu.old).holder.resizing ≡ None) }
     ensures same { IsSameSeat cpu.old cpu.new × (cpu.new.station ≡ cpu.old.station) × (slot cpu.new ≡ slot cpu.old) }
-    ensures puts { MatchResult result (λ _. Puts (setup shared.now) band n (known cpu.old) (known cpu.new)) (λ full. FindsFull (setup shared.now) band n full.seen (known cpu.old) (known cpu.new)) }
-    ensures at { (holds : Bool) → position cpu.old ≡ Put (packet_at shared.now n) holds → position cpu.new ≡ put_leads_to holds (packet_at shared.now n) (view cpu.old) }
-    ensures step { MatchResult result (λ _. solo (view cpu.new) ≡ heard (Join n band) (solo (view cpu.old))) (λ full. solo (view cpu.new) ≡ heard (FullEvent n full.seen) (solo (view cpu.old))) }
+    ensures puts { PutsBy (setup shared.now) band n result (known cpu.old) (known cpu.new) }
+    ensures at { GoesOnFromPut shared.now n cpu.old cpu.new }
+    ensures step { HearsPut band n result (view cpu.old) (view cpu.new) }
     ensures sole { MatchResult result (λ _. SeesEnd band (view cpu.old) 0) (λ full. SeesEnd band (view cpu.old) (full.seen + 1)) }
 {
     let index = lock_producer(rt, shared, cpu, band);

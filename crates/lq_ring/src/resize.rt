@@ -1,24 +1,15 @@
 //! A live resize of the three rings, which control does under the run lock and the three producer locks.
-ghost use Rattle.std.specs.Prelude.{◌≡◌, ◌≢◌, ℕ, ◌+◌, ◌*◌, ◌-◌, ◌<◌, ◌≤◌, true, false, Some, None, List, length, slice_index, Contains};
-ghost use Rattle.lq_device.specs.Station.{StationState};
-ghost use Rattle.lq_model.specs.Plan.{band_in};
-ghost use Rattle.lq_model.specs.declared.fate.Fate.TheVariants as fate;
-ghost use Rattle.lq_model.specs.declared.machine.Position.TheVariants.{Control};
+ghost use Rattle.std.specs.Prelude.{◌≡◌, ◌≢◌, ℕ, ◌+◌, ◌*◌, ◌-◌, ◌<◌, ◌≤◌, true, false, Some, None, length};
 ghost use Rattle.lq_ring_core.specs.Slots.{round};
-ghost use Rattle.lq_band.specs.Three.{all_three};
-ghost use Rattle.lq_band.specs.Ring.{at_start, locked_at};
-ghost use Rattle.lq_table.specs.Views.{HolderPart, Work};
-ghost use Rattle.lq_table.specs.Rings.{with_lock_at};
+ghost use Rattle.lq_table.specs.Views.{HolderPart};
 ghost use Rattle.lq_table.specs.Rule.{shown, IsResting};
-ghost use Rattle.lq_table.specs.Sees.{view, known, steps, setup, position, slot, lock_at, IsSeatOf, IsSameSeat, IsElseSame};
-ghost use Rattle.lq_table.specs.Made.{Made, ◌⊳◌, did_give_producer, did_load_size, did_store_size};
-ghost use Rattle.lq_ring.specs.Changes.{LocksAll, ResizesAll, TurnsBand};
+ghost use Rattle.lq_table.specs.Sees.{view, known, steps, setup, slot, lock_at, IsSeatOf, IsSameSeat, IsElseSame};
+ghost use Rattle.lq_ring.specs.Changes.{LocksAll, ResizesAll, TurnsAll, TurnsBand, UnlocksAll};
 ghost use Rattle.lq_ring.specs.Put.{no_locks};
 ghost use Rattle.lq_ring.specs.Take.{CarriesStation};
-ghost use Rattle.lq_ring.specs.Fates.{fates_onto};
-ghost use Rattle.lq_ring.specs.Work.{work_at, working, having_settled, IsWorkDone};
-ghost use Rattle.lq_table.specs.Resizes.{may_resize};
-ghost use Rattle.lq_ring.specs.Resized.{IsReadyToResize, IsKnownHeld, having_resized, locked_three, having_locks, all_lost};
+ghost use Rattle.lq_ring.specs.Work.{work_at};
+ghost use Rattle.lq_ring.specs.Resized.{having_locks};
+ghost use Rattle.lq_ring.specs.Seats.{HasLocksOfTurned, HasRestingRings, IsReadyToTurn, MayResize, RestartsEnds, TurnsAllBands, TurnsAndSets};
 
 use crate::puts::lock_producer;
 use crate::takes::{head_of, set_ends, tail_of};
@@ -60,9 +51,9 @@ fn turn_at<'a, D: TxDevice>(
 ) -> Turned
     requires seat { IsSeatOf shared.now cpu.old }
     requires place { (band < 3) × (len ≤ shared.now.max_len) }
-    requires ready { (st : StationState) × (cpu.old.station ≡ Some st) × IsReadyToResize shared.now.max_len shared.now.infos.now st size len event band (view cpu.old) }
+    requires ready { IsReadyToTurn shared.now band size len event cpu.old }
     ensures same { IsElseSame cpu.old cpu.new }
-    ensures turned { (w : Work) × (view cpu.new ≡ with_lock_at band (locked_at result.index) (having_settled (fates_onto (fate.Shrunk event) (work_at band (view cpu.old)).waiting (view cpu.old).settled) (working band w (view cpu.old)))) × IsWorkDone shared.now.max_len len (work_at band (view cpu.old)) w × (result.index ≡ round len (length w.kept)) }
+    ensures turned { TurnsAndSets shared.now band len event result.index cpu.old cpu.new }
     ensures count { (result.dropped ≡ length (work_at band (view cpu.old)).waiting) × (result.dropped ≤ size) }
     ensures made { TurnsBand (setup shared.now) band result.index (steps cpu.old) (steps cpu.new) }
 {
@@ -87,16 +78,14 @@ fn turn_all<'a, D: TxDevice>(
 ) -> AllTurned
     requires seat { IsSeatOf shared.now cpu.old }
     requires len { (0 < len) × (len ≤ shared.now.max_len) }
-    requires at { (position cpu.old ≡ Control true) × ((view cpu.old).control.purge ≡ None) × (may_resize (view cpu.old).control.phase ≡ true) }
-    requires rests { ((view cpu.old).holder.resizing ≡ None) × IsResting (view cpu.old).holder.size (view cpu.old).holder.ends × ((view cpu.old).holder.size ≡ size) }
+    requires at { MayResize cpu.old }
+    requires rests { HasRestingRings size cpu.old }
     requires station { CarriesStation cpu.old }
     requires locks { (b : ℕ) → b < 3 → ((lock_at b cpu.old).holds ≡ true) × ((lock_at b cpu.old).stored ≡ false) }
     ensures same { IsElseSame cpu.old cpu.new }
-    ensures resized { (held : ℕ → List ℕ) × (view cpu.new ≡ having_locks result.low.index result.mid.index result.high.index (having_resized len event (all_lost len held) (view cpu.old)))
-        × (result.low.dropped + result.mid.dropped + result.high.dropped ≡ length (all_lost len held))
-        × ((b n : ℕ) → b < 3 → Contains (held b) n → (band_in shared.now.infos.now n ≡ b) × (n < length shared.now.infos.now)) × IsKnownHeld (view cpu.old) held }
+    ensures resized { TurnsAllBands shared.now len event result cpu.old cpu.new }
     ensures few { (result.low.dropped ≤ size) × (result.mid.dropped ≤ size) × (result.high.dropped ≤ size) }
-    ensures made { (begun : ℕ) × (one two three : List Made) × TurnsBand (setup shared.now) 0 result.low.index (steps cpu.old ⊳ did_load_size begun) one × TurnsBand (setup shared.now) 1 result.mid.index one two × TurnsBand (setup shared.now) 2 result.high.index two three × (steps cpu.new ≡ three ⊳ did_store_size len) }
+    ensures made { TurnsAll (setup shared.now) len result.low.index result.mid.index result.high.index (steps cpu.old) (steps cpu.new) }
 {
     shared.begin_resize(cpu, len, event);
     let low = turn_at(shared, cpu, 0, size, len, event);
@@ -122,10 +111,10 @@ fn lock_all<'a, D: TxDevice, R: Wait>(rt: &R, shared: &Shared<'a, D>, cpu: &mut 
 /// Gives the three producer locks back, with the indices that the resize has set.
 fn unlock_all<'a, D: TxDevice>(shared: &Shared<'a, D>, cpu: &mut Cpu<D>, turned: AllTurned)
     requires seat { IsSeatOf shared.now cpu.old }
-    requires locks { ((view cpu.old).locks ≡ locked_three turned.low.index turned.mid.index turned.high.index) × ((view cpu.old).holder.resizing ≡ None) }
+    requires locks { HasLocksOfTurned turned cpu.old }
     ensures same { IsElseSame cpu.old cpu.new }
     ensures unlocked { view cpu.new ≡ record (view cpu.old) { locks = no_locks } }
-    ensures made { (stored : ℕ) × (steps cpu.new ≡ steps cpu.old ⊳ did_load_size stored ⊳ did_give_producer 0 turned.low.index ⊳ did_give_producer 1 turned.mid.index ⊳ did_give_producer 2 turned.high.index) }
+    ensures made { UnlocksAll turned.low.index turned.mid.index turned.high.index (steps cpu.old) (steps cpu.new) }
 {
     shared.load_size(cpu);
     shared.give_producer(cpu, 0, turned.low.index);
@@ -137,7 +126,7 @@ fn unlock_all<'a, D: TxDevice>(shared: &Shared<'a, D>, cpu: &mut Cpu<D>, turned:
 fn restart_ends<D: TxDevice>(cpu: &mut Cpu<D>)
     requires station { (h : HolderPart) × (cpu.old.station ≡ Some (shown h)) }
     ensures same { IsSameSeat cpu.old cpu.new × (slot cpu.new ≡ slot cpu.old) × (view cpu.new ≡ view cpu.old) }
-    ensures station { (h : HolderPart) → cpu.old.station ≡ Some (shown h) → cpu.new.station ≡ Some (shown (record h { ends = all_three at_start })) }
+    ensures station { RestartsEnds cpu.old cpu.new }
     ensures made { steps cpu.new ≡ steps cpu.old }
 {
     set_ends(cpu, 0, 0, 0);
@@ -161,7 +150,7 @@ pub fn resize_all<'a, D: TxDevice, R: Wait>(
 ) -> u32
     requires seat { IsSeatOf shared.now cpu.old }
     requires len { (0 < len) × (len ≤ shared.now.max_len) }
-    requires at { (position cpu.old ≡ Control true) × ((view cpu.old).control.purge ≡ None) × (may_resize (view cpu.old).control.phase ≡ true) }
+    requires at { MayResize cpu.old }
     requires rests { IsResting (view cpu.old).holder.size (view cpu.old).holder.ends × ((view cpu.old).holder.resizing ≡ None) }
     requires station { CarriesStation cpu.old }
     requires idle { (view cpu.old).locks ≡ no_locks }

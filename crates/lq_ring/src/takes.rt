@@ -1,20 +1,17 @@
 //! Takes by the holder of the run lock, which waits for nobody.
-ghost use Rattle.std.specs.Prelude.{◌≡◌, ◌≢◌, ℕ, ◌+◌, ◌*◌, ◌-◌, ◌<◌, ◌≤◌, Bool, true, false, Option, Some, None, MatchOption, IfSome, slice_get, slice_index};
+ghost use Rattle.std.specs.Prelude.{◌≡◌, ◌≢◌, ℕ, ◌+◌, ◌*◌, ◌-◌, ◌<◌, ◌≤◌, Bool, true, false, Option, Some, None, IfSome, slice_get, slice_index};
 ghost use Rattle.lq_device.specs.Station.{StationState, with_ends};
-ghost use Rattle.lq_model.specs.Account.{Take, held_in};
-ghost use Rattle.lq_model.specs.Positions.{holds_lock};
-ghost use Rattle.lq_model.specs.Steps.{after_band};
-ghost use Rattle.lq_model.specs.declared.machine.Position.TheVariants.{Scan, Gate};
-ghost use Rattle.lq_band.specs.Three.{at};
-ghost use Rattle.lq_band.specs.Ring.{all_empty, is_emptying};
-ghost use Rattle.lq_table.specs.Views.{machine_packet};
+ghost use Rattle.lq_model.specs.Account.{held_in};
+ghost use Rattle.lq_model.specs.declared.machine.Position.TheVariants.{Scan};
+ghost use Rattle.lq_band.specs.Ring.{is_emptying};
 ghost use Rattle.lq_table.specs.Rule.{IsResting};
 ghost use Rattle.lq_table.specs.Sees.{view, known, steps, setup, position, slot, ends_at, IsSeatOf, IsSameSeat, IsElseSame};
 ghost use Rattle.lq_table.specs.Told.{IsPacketOf};
-ghost use Rattle.lq_table.specs.Solo.{IsSole, account_of, solo, heard};
+ghost use Rattle.lq_table.specs.Solo.{IsSole, account_of};
 ghost use Rattle.lq_ring.specs.Put.{no_locks};
-ghost use Rattle.lq_ring.specs.Steps.{FindsSlotEmpty, Takes, zeroed};
-ghost use Rattle.lq_ring.specs.Take.{having_ends, emptied_times, CarriesStation};
+ghost use Rattle.lq_ring.specs.Seats.{CarriesEndsBeforeTake, CarriesNewEnds, GoesOnFromScan, HasBatchToEmpty, HoldsRings, HoldsRingsOf, KeepsSeatAndView};
+ghost use Rattle.lq_ring.specs.Steps.{EmptiesBatch, TakesBy, zeroed};
+ghost use Rattle.lq_ring.specs.Take.{AreJustTaken, CarriesStation, HearsTake, KnowsEnds, emptying_batch, having_emptied};
 
 use lq_device::TxDevice;
 use lq_model::batch;
@@ -45,7 +42,7 @@ pub(crate) fn tail_of<D: TxDevice>(cpu: &Cpu<D>, band: u32) -> u32
 pub(crate) fn set_ends<D: TxDevice>(cpu: &mut Cpu<D>, band: u32, head: u32, tail: u32)
     requires band { (band < 3) × (tail ≤ head) }
     requires station { (st : StationState) × (cpu.old.station ≡ Some st) }
-    ensures same { IsSameSeat cpu.old cpu.new × (cpu.new.indices ≡ cpu.old.indices) × (slot cpu.new ≡ slot cpu.old) × (view cpu.new ≡ view cpu.old) }
+    ensures same { KeepsSeatAndView cpu.old cpu.new }
     ensures made { steps cpu.new ≡ steps cpu.old }
     ensures station { (st : StationState) → cpu.old.station ≡ Some st → cpu.new.station ≡ Some (with_ends st band head tail) }
 {
@@ -65,10 +62,10 @@ fn zero_tail<'a, D: TxDevice>(
 )
     requires seat { IsSeatOf shared.now cpu.old }
     requires band { band < 3 }
-    requires holder { (holds_lock (position cpu.old) ≡ true) × ((view cpu.old).holder.resizing ≡ None) × ((view cpu.old).holder.size ≤ shared.now.max_len) }
-    requires ends { (ends_at band cpu.old ≡ record { head = head; tail = tail; edge = head }) × (tail < head) × (head ≤ (view cpu.old).holder.size) × (is_emptying (view cpu.old).holder.size (ends_at band cpu.old) ≡ true) }
+    requires holder { HoldsRings shared.now cpu.old }
+    requires ends { HasBatchToEmpty band tail head cpu.old }
     ensures same { IsElseSame cpu.old cpu.new }
-    ensures emptied { view cpu.new ≡ having_ends band (all_empty (view cpu.old).holder.size (ends_at band cpu.old)) (emptied_times (view cpu.old).holder.size (head - tail) (at band (view cpu.old).whole.state.ends)) (view cpu.old) }
+    ensures emptied { view cpu.new ≡ having_emptied band (view cpu.old).holder.size (head - tail) (view cpu.old) }
     ensures made { steps cpu.new ≡ zeroed (setup shared.now) band head (head - tail) (steps cpu.old) }
 {
     for n in 0..head - tail {
@@ -86,14 +83,14 @@ pub(crate) fn discard_one<'a, D: TxDevice>(
 )
     requires seat { IsSeatOf shared.now cpu.old }
     requires band { band < 3 }
-    requires holder { (holds_lock (position cpu.old) ≡ true) × ((view cpu.old).holder.resizing ≡ None) × ((view cpu.old).holder.size ≡ size) × (size ≤ shared.now.max_len) }
-    requires station { (st : StationState) × (cpu.old.station ≡ Some st) × (slice_index st.heads band + 1 ≡ (ends_at band cpu.old).head) × (slice_index st.tails band ≡ (ends_at band cpu.old).tail) }
-    requires ends { ((ends_at band cpu.old).edge ≡ (ends_at band cpu.old).head) × ((ends_at band cpu.old).tail < (ends_at band cpu.old).head) × ((ends_at band cpu.old).head ≤ size) }
+    requires holder { HoldsRingsOf shared.now size cpu.old }
+    requires station { CarriesEndsBeforeTake band cpu.old }
+    requires ends { AreJustTaken size (ends_at band cpu.old) }
     ensures same { IsSameSeat cpu.old cpu.new × (cpu.new.indices ≡ cpu.old.indices) × (slot cpu.new ≡ slot cpu.old) }
-    ensures emptied { is_emptying size (ends_at band cpu.old) ≡ true → view cpu.new ≡ having_ends band (all_empty size (ends_at band cpu.old)) (emptied_times size ((ends_at band cpu.old).head - (ends_at band cpu.old).tail) (at band (view cpu.old).whole.state.ends)) (view cpu.old) }
+    ensures emptied { is_emptying size (ends_at band cpu.old) ≡ true → view cpu.new ≡ emptying_batch band size (view cpu.old) }
     ensures rested { is_emptying size (ends_at band cpu.old) ≡ false → view cpu.new ≡ view cpu.old }
-    ensures station { (st : StationState) → cpu.old.station ≡ Some st → cpu.new.station ≡ Some (with_ends st band (ends_at band cpu.new).head (ends_at band cpu.new).tail) }
-    ensures made { (is_emptying size (ends_at band cpu.old) ≡ true → steps cpu.new ≡ zeroed (setup shared.now) band (ends_at band cpu.old).head ((ends_at band cpu.old).head - (ends_at band cpu.old).tail) (steps cpu.old)) × (is_emptying size (ends_at band cpu.old) ≡ false → steps cpu.new ≡ steps cpu.old) }
+    ensures station { CarriesNewEnds band cpu.old cpu.new }
+    ensures made { EmptiesBatch (setup shared.now) band size (ends_at band cpu.old) (steps cpu.old) (steps cpu.new) }
 {
     let head = head_of(cpu, band) + 1;
     let tail = tail_of(cpu, band);
@@ -119,13 +116,13 @@ pub fn consume<'a, D: TxDevice>(shared: &Shared<'a, D>, cpu: &mut Cpu<D>, band: 
     requires station { CarriesStation cpu.old }
     requires idle { (view cpu.old).locks ≡ no_locks }
     ensures same { IsSameSeat cpu.old cpu.new × (cpu.new.indices ≡ cpu.old.indices) × (slot cpu.new ≡ slot cpu.old) }
-    ensures takes { MatchOption result (FindsSlotEmpty (setup shared.now) band (known cpu.old) (known cpu.new)) (λ n. Takes (setup shared.now) band n (known cpu.old) (known cpu.new)) }
+    ensures takes { TakesBy (setup shared.now) band result (known cpu.old) (known cpu.new) }
     ensures packet { IfSome result (λ n. IsPacketOf (view cpu.old).share.about n) }
-    ensures at { MatchOption result ((second : Bool) → position cpu.old ≡ Scan band second → position cpu.new ≡ after_band band second) (λ n. position cpu.new ≡ Gate (machine_packet (view cpu.old).share.about.infos n) false) }
+    ensures at { GoesOnFromScan band result cpu.old cpu.new }
     ensures rests { IsResting (view cpu.new).holder.size (view cpu.new).holder.ends }
     ensures station { CarriesStation cpu.new }
-    ensures known { (view cpu.old).whole.state.ends ≡ (view cpu.old).holder.ends → (view cpu.new).whole.state.ends ≡ (view cpu.new).holder.ends }
-    ensures step { MatchOption result (solo (view cpu.new) ≡ solo (view cpu.old)) (λ n. solo (view cpu.new) ≡ heard (Take band) (solo (view cpu.old))) }
+    ensures known { KnowsEnds (view cpu.old) → KnowsEnds (view cpu.new) }
+    ensures step { HearsTake band result (view cpu.old) (view cpu.new) }
     ensures sole { IsSole (view cpu.old) → slice_get (held_in (account_of (view cpu.old)) band) 0 ≡ result }
 {
     let size = shared.load_size(cpu);

@@ -1,12 +1,9 @@
 //! A resize of one band.
-ghost use Rattle.std.specs.Prelude.{◌≡◌, ◌≢◌, ℕ, ◌+◌, ◌*◌, ◌-◌, ◌<◌, ◌≤◌, [], true, false, List, length, slice_index, Contains};
-ghost use Rattle.lq_model.specs.Plan.{band_in};
-ghost use Rattle.lq_model.specs.declared.fate.Fate.TheVariants as fate;
-ghost use Rattle.lq_table.specs.Views.{Work};
+ghost use Rattle.std.specs.Prelude.{◌≡◌, ◌≢◌, ℕ, ◌+◌, ◌*◌, ◌-◌, ◌<◌, ◌≤◌, [], true, false, List};
 ghost use Rattle.lq_table.specs.Sees.{view, steps, setup, IsSeatOf, IsElseSame};
 ghost use Rattle.lq_ring.specs.Changes.{TurnsRing};
-ghost use Rattle.lq_ring.specs.Fates.{fates_onto};
-ghost use Rattle.lq_ring.specs.Work.{work_at, working, having_settled, IsTurner, IsWorkBegun, IsWorkDone, event_of_work};
+ghost use Rattle.lq_ring.specs.Seats.{TurnsBandTo};
+ghost use Rattle.lq_ring.specs.Work.{work_at, ArePacketsOf, IsTurner, IsWorkBegun, KeepsAndDrops, event_of_work};
 
 use crate::moves::{clear_stale, count_filled, drop_rest, rotate};
 use lq_device::TxDevice;
@@ -40,12 +37,12 @@ pub(crate) fn turn_band<'a, D: TxDevice>(
     requires place { (band < 3) × (len ≤ shared.now.max_len) }
     requires turner { IsTurner (view cpu.old) × (event_of_work (view cpu.old) ≡ event) }
     requires whole { (held : List ℕ) × IsWorkBegun shared.now.max_len size tail head len held (work_at band (view cpu.old)) }
-    requires packets { (n : ℕ) → Contains (work_at band (view cpu.old)).waiting n → (band_in shared.now.infos.now n ≡ band) × (n < length shared.now.infos.now) }
+    requires packets { ArePacketsOf shared.now.infos.now band (work_at band (view cpu.old)).waiting }
     ensures same { IsElseSame cpu.old cpu.new }
-    ensures turned { (w : Work) × (view cpu.new ≡ having_settled (fates_onto (fate.Shrunk event) (work_at band (view cpu.old)).waiting (view cpu.old).settled) (working band w (view cpu.old))) × IsWorkDone shared.now.max_len len (work_at band (view cpu.old)) w }
+    ensures turned { TurnsBandTo shared.now band len event cpu.old cpu.new }
     ensures few { result.dropped ≤ size }
     ensures made { TurnsRing (setup shared.now) band (steps cpu.old) (steps cpu.new) }
-    ensures kept { (result.kept ≡ length (work_at band (view cpu.old)).kept) × (result.dropped ≡ length (work_at band (view cpu.old)).waiting) }
+    ensures kept { KeepsAndDrops result.kept result.dropped (work_at band (view cpu.old)) }
 {
     clear_stale(shared, cpu, band, tail, head);
     rotate(shared, cpu, band, head, size);
