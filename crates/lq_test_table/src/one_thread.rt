@@ -1,6 +1,6 @@
 //! A swap of the device and the end of a hung station, on one thread: what is answered and what becomes of each packet was
 //! told by hand from the rules.
-ghost use Rattle.std.specs.Prelude.{◌≡◌, ℕ, ◌<◌, [], length};
+ghost use Rattle.std.specs.Prelude.{◌≡◌, [], length};
 ghost use Rattle.lq_control.specs.Finish.{AreTurnsFrom};
 ghost use Rattle.lq_table.specs.Rule.{units_of};
 ghost use Rattle.lq_table.specs.Sees.{view, setup};
