@@ -154,7 +154,7 @@ module _ (k : Setup) (s : table.State (Option StationState) View) (r : Rule k s)
 
   -- the machine with all seats idle
   machine : IsInductive (record { qdisc = r.qdisc; seats = idle_seats })
-  machine = to_idles r.qdisc [] (seats_of s.views) rests r.parts.machine
+  machine = to_idles r.qdisc [] (seats_of s.views) rests r.parts.machine.invariant
 
   -- so nobody holds the lock, and no call is inside
   pub unlocked : r.qdisc.locked ≡ false
@@ -170,29 +170,29 @@ module _ (k : Setup) (s : table.State (Option StationState) View) (r : Rule k s)
         unlocked = unlocked;
         unscheduled = unscheduled;
         active = active;
-        queues_open = λ queue. ap (λ (x : ℕ). eqb x 0) (ap (λ (xs : List ℕ). get_or xs queue 0) r.parts.stands.xoff ∙ opens queue);
+        queues_open = λ queue. ap (λ (x : ℕ). eqb x 0) (ap (λ (xs : List ℕ). get_or xs queue 0) r.parts.station.stands.xoff ∙ opens queue);
         all_idle = idled_idle (seats_of s.views);
       } p held
 
   -- a purge half done, of an active station, would be control's, which some seat would be in
   pub no_purge : r.qdisc.deactivated ≡ false → r.qdisc.purge ≡ None
   no_purge active = none_if r.qdisc.purge (λ (u : Purge) now. ⊎_elim
-      (λ quiet. true≢false (sym (quiet_closed r.qdisc.phase quiet) ∙ (sym r.parts.machine.deactivation ∙ active)))
+      (λ quiet. true≢false (sym (quiet_closed r.qdisc.phase quiet) ∙ (sym r.parts.machine.invariant.deactivation ∙ active)))
       (λ all_control. absurd (let none : total (λ x. x.share.shares) s.views ≡ 0 = none_at_all (λ x. x.share.shares) s.views (λ j x there. ⊎_elim
       (λ (lives : is_live x ≡ true). let m = middle s.views j x there lives in absurd (rest_apart x.place.position (rest j x there lives)
       (ap (λ (t : Seat). t.position) (sym (here m.before m.after x.place) ∙ ap (λ (ss : List Seat). get_or ss (length m.before) idle_seat) (sym m.was))
       ∙ all_control (length m.before) (subst (λ (ss : List Seat). length m.before < length ss) (sym m.was) (inside m.before m.after x.place)))))
       (λ (gone : is_live x ≡ false). no_shares x.share.shares gone)
-      (cases_Bool (is_live x))) in let sum = r.parts.shares.sum in omega arith))
-      (r.parts.machine.purging u now).alone)
+      (cases_Bool (is_live x))) in let sum = r.parts.seats.shares.sum in omega arith))
+      (r.parts.machine.invariant.purging u now).alone)
 
   -- quiet words: nothing is held
   pub holds_nothing : AreQuiet (words_of k s.words) → (held (account k r.state) ≡ []) × (r.state.left ≡ None)
   holds_nothing quiet =
       let p = r.parts in let q = r.qdisc in let g = r.state in let a : Account = account k r.state in let e : ℕ = event_word a.down in
-      let unscheduled : q.sched ≡ false = sym (ap (is_set 1) p.stands.state ∙ has_sched q.sched q.deactivated q.missed q.draining e) ∙ quiet.unscheduled in
-      let active : q.deactivated ≡ false = sym (ap (is_set 2) p.stands.state ∙ has_deactivated q.sched q.deactivated q.missed q.draining e) ∙ quiet.active in
-      let left_none : g.left ≡ None = p.leaves.none_left (no_purge active) in let ties : Ties k.infos q a a.bands = subst (λ (o : Option Left). Ties k.infos q a (bands_now o a.bands)) left_none p.ties in
+      let unscheduled : q.sched ≡ false = sym (ap (is_set 1) p.station.stands.state ∙ has_sched q.sched q.deactivated q.missed q.draining e) ∙ quiet.unscheduled in
+      let active : q.deactivated ≡ false = sym (ap (is_set 2) p.station.stands.state ∙ has_deactivated q.sched q.deactivated q.missed q.draining e) ∙ quiet.active in
+      let left_none : g.left ≡ None = p.account.leaves.none_left (no_purge active) in let ties : Ties k.infos q a a.bands = subst (λ (o : Option Left). Ties k.infos q a (bands_now o a.bands)) left_none p.station.ties in
       (holds_none k.infos (machine_of q s.views) a ties (nothing unscheduled active (all_zero_below 0 (words_of k s.words).xoff quiet.queues_open)), left_none)
 
   abbrev W : Words
@@ -206,11 +206,11 @@ module _ (k : Setup) (s : table.State (Option StationState) View) (r : Rule k s)
 
   -- the station is at home
   pub home : AtHome W.xoff r.home D
-  home = r.parts.lends.home unlocked
+  home = r.parts.station.lends.home unlocked
 
   -- the ring of a band, where no purge is half done
   ring : r.state.left ≡ None → (b : ℕ) → b < 3 → IsRing W.size (at b W.slots) (at b W.producers) (locks_at b s.views) (a.bands b) (at b r.state.ends)
-  ring left_none b below = subst (λ (o : Option Left). IsRing W.size (at b W.slots) (at b W.producers) (locks_at b s.views) (bands_now o a.bands b) (at b r.state.ends)) left_none ((r.parts.rings.running home.calm).ring b below)
+  ring left_none b below = subst (λ (o : Option Left). IsRing W.size (at b W.slots) (at b W.producers) (locks_at b s.views) (bands_now o a.bands b) (at b r.state.ends)) left_none ((r.parts.station.rings.running home.calm).ring b below)
 
   band_empty : held a ≡ [] → (b : ℕ) → b < 3 → held_in a b ≡ []
   band_empty none b below = nothing_in (held_in a b) (λ n is. none-in (held a) n none (band-held a b n below is))
@@ -240,12 +240,12 @@ module _ (k : Setup) (s : table.State (Option StationState) View) (r : Rule k s)
           (no_locks locking b s.views refl no_lock_at) (no_locks stored_count b s.views refl no_lock_at) (band_empty k s r rest none b below)
           ∙ ap (λ (h : ℕ). 2 * round W.size h) (sym (head_at g.ends b below));
     };
-    decided = λ n inside st taken. let o : ℕ = owner_in k.infos n in let turn = p.given.turn o (r.setup.owners n inside) in
+    decided = λ n inside st taken. let o : ℕ = owner_in k.infos n in let turn = p.seats.given.turn o (r.setup.owners n inside) in
         let nobodys : total (λ u. has_turn k.infos o u.packets.busy) s.views ≡ 0 = none_at_all (λ u. has_turn k.infos o u.packets.busy) s.views (λ j u e. ap (λ (x : PacketPart). has_turn k.infos o x.busy) (nobody j u e).0) in
-        let came = p.given.over n inside st (let e = turn.1 in omega arith) in
-        let fate = decided k g.past (all_bands k.infos r.setup.bands) p.account.comes none (home k s r rest).hand_empty n came in
+        let came = p.seats.given.over n inside st (let e = turn.1 in omega arith) in
+        let fate = decided k g.past (all_bands k.infos r.setup.bands) p.account.accounted.comes none (home k s r rest).hand_empty n came in
         let stored : unstored s.views g.resizing g.left n ≡ 0 = nothing_owed n ∙ ap (waits n) left_none in
-        is_written (slice_index W.fates n) fate.0 (p.fates.stored.stored n stored ∙ ap word_or fate.1) (p.settled.written n);
+        is_written (slice_index W.fates n) fate.0 (p.station.fates.stored.stored n stored ∙ ap word_or fate.1) (p.seats.settled.written n);
   }
 
 -- BETWEEN ANY TWO STEPS
@@ -257,21 +257,21 @@ stands_for k s r = record {
   state = r.state;
   home = r.home;
   homes = r.deep;
-  invariant = r.parts.machine;
-  words = r.parts.stands;
-  packets = r.parts.ties;
-  stops = r.parts.stops;
-  events = record { comes = r.parts.account.comes; find_nothing = r.parts.find_nothing };
-  rings = r.parts.rings;
-  station = r.parts.lends;
-  fates = r.parts.fates;
-  sent = r.parts.sends;
-  device = r.parts.device;
+  invariant = r.parts.machine.invariant;
+  words = r.parts.station.stands;
+  packets = r.parts.station.ties;
+  stops = r.parts.station.stops;
+  events = record { comes = r.parts.account.accounted.comes; find_nothing = r.parts.account.find_nothing };
+  rings = r.parts.station.rings;
+  station = r.parts.station.lends;
+  fates = r.parts.station.fates;
+  sent = r.parts.account.sends;
+  device = r.parts.account.device;
 }
 
 -- a seat that is spent has nothing either
 nobodys : (k : Setup) (s : table.State (Option StationState) View) (r : Rule k s) → Each HasNothingOwn s.views → Each (λ u. (u.packets ≡ no_packets) × (u.locks ≡ all_three no_lock)) s.views
-nobodys k s r bare j u there = ⊎_elim (λ (lives : is_live u ≡ true). bare j u there lives) (λ (gone : is_live u ≡ false). r.parts.shares.spent j u there gone) (cases_Bool (is_live u))
+nobodys k s r bare j u there = ⊎_elim (λ (lives : is_live u ≡ true). bare j u there lives) (λ (gone : is_live u ≡ false). r.parts.seats.shares.spent j u there gone) (cases_Bool (is_live u))
 
 pub stands_for_nothing : (k : Setup) (s : table.State (Option StationState) View) (r : Rule k s) → IsTableQuiet k s → StandsForNothing k s
 unfolding home
@@ -279,8 +279,8 @@ stands_for_nothing k s r quiet = let x = holds_nothing k s r quiet.seats quiet.w
   stands_for k s r,
   record {
     account_empty = x.0;
-    lock = r.parts.stands.lock ∙ ap bit (unlocked k s r quiet.seats);
-    inside = r.parts.stands.inside ∙ none_inside k s r quiet.seats;
+    lock = r.parts.station.stands.lock ∙ ap bit (unlocked k s r quiet.seats);
+    inside = r.parts.station.stands.inside ∙ none_inside k s r quiet.seats;
     station = shown (holders r.state (account k r.state) (words_of k s.words).size);
     home = (home k s r quiet.seats).there;
     slot_empty = slot_is_empty k s r quiet.seats x.0;

@@ -49,13 +49,13 @@ module _ (k : Setup) (s : table.State (Option StationState) View) (r : Rule k s)
       (λ past. get_or_past (words_of k s.words).xoff queue 0 (let d = length-drop (stops_offset k) s.words in let w = r.wide in omega arith))
 
   ties_now : r.state.left ≡ None → Ties k.infos r.qdisc a a.bands
-  ties_now left_none = subst (λ (o : Option Left). Ties k.infos r.qdisc a (bands_now o a.bands)) left_none r.parts.ties
+  ties_now left_none = subst (λ (o : Option Left). Ties k.infos r.qdisc a (bands_now o a.bands)) left_none r.parts.station.ties
 
   shut_none : r.state.shut ≡ None
-  shut_none = free_none r.qdisc.phase r.qdisc.locked r.qdisc.xoff a.stops r.state.shut (unlocked k s r (rests k s r id v at_id all alone.1)) r.parts.stops
+  shut_none = free_none r.qdisc.phase r.qdisc.locked r.qdisc.xoff a.stops r.state.shut (unlocked k s r (rests k s r id v at_id all alone.1)) r.parts.station.stops
 
   stops_are : (queue : ℕ) → slice_index (words_of k s.words).xoff queue ≡ slice_index a.stops queue
-  stops_are queue = ap (λ (xs : List ℕ). slice_index xs queue) (sym r.parts.stands.xoff ∙ agree r.qdisc.phase r.qdisc.locked r.qdisc.xoff a.stops r.state.shut shut_none r.parts.stops)
+  stops_are queue = ap (λ (xs : List ℕ). slice_index xs queue) (sym r.parts.station.stands.xoff ∙ agree r.qdisc.phase r.qdisc.locked r.qdisc.xoff a.stops r.state.shut shut_none r.parts.station.stops)
 
   rest : IsRest k v r.qdisc r.state a
   unfolding lives
@@ -65,25 +65,25 @@ module _ (k : Setup) (s : table.State (Option StationState) View) (r : Rule k s)
       record {
         hand_empty = hand;
         shut = shut_none;
-        kept = λ n inside st own taken. let o : ℕ = owner_in k.infos n in let turn = p.given.turn o (r.setup.owners n inside) in
+        kept = λ n inside st own taken. let o : ℕ = owner_in k.infos n in let turn = p.seats.given.turn o (r.setup.owners n inside) in
             let nobodys : total (λ u. has_turn k.infos o u.packets.busy) s.views ≡ 0 = none_at_all (λ u. has_turn k.infos o u.packets.busy) s.views (λ j u e. ap (λ (x : PacketPart). has_turn k.infos o x.busy) (none_busy j u e).0) in
-            let word = (p.given.words_are id v at_id lives).1 o own in
-            placed_kept a n hand (all_placed k g.past (all_bands k.infos r.setup.bands) p.account.comes n (p.given.over n inside st (let e = turn.1 in omega arith)));
-        quiet = λ unscheduled up all_zero. let active : q.deactivated ≡ false = p.ties.down ∙ ap is_some up in
-            let left_none : g.left ≡ None = p.leaves.none_left (no_purge k s r (rests k s r id v at_id all alone.1) active) in
+            let word = (p.seats.given.words_are id v at_id lives).1 o own in
+            placed_kept a n hand (all_placed k g.past (all_bands k.infos r.setup.bands) p.account.accounted.comes n (p.seats.given.over n inside st (let e = turn.1 in omega arith)));
+        quiet = λ unscheduled up all_zero. let active : q.deactivated ≡ false = p.station.ties.down ∙ ap is_some up in
+            let left_none : g.left ≡ None = p.account.leaves.none_left (no_purge k s r (rests k s r id v at_id all alone.1) active) in
             holds_none k.infos (machine_of q s.views) a (ties_now left_none) (nothing k s r (rests k s r id v at_id all alone.1) unscheduled active (opens (λ queue h. stops_are queue ∙ all_zero queue h)));
-        purged = λ first phase no_purge_. let knows = p.firsts.knows id v at_id first in
-            holds_none k.infos (machine_of q s.views) a (ties_now (p.leaves.none_left (sym knows.1 ∙ no_purge_))) (p.machine.kept.purged_holds_nothing (sym knows.0 ∙ phase)).1;
-        down = λ first. sym p.ties.down ∙ (p.machine.deactivation ∙ ap is_closed (sym (p.firsts.knows id v at_id first).0));
-        unit = p.sends.unit;
-        hung = λ queue two. p.device.hung queue two;
+        purged = λ first phase no_purge_. let knows = p.machine.firsts.knows id v at_id first in
+            holds_none k.infos (machine_of q s.views) a (ties_now (p.account.leaves.none_left (sym knows.1 ∙ no_purge_))) (p.machine.invariant.kept.purged_holds_nothing (sym knows.0 ∙ phase)).1;
+        down = λ first. sym p.station.ties.down ∙ (p.machine.invariant.deactivation ∙ ap is_closed (sym (p.machine.firsts.knows id v at_id first).0));
+        unit = p.account.sends.unit;
+        hung = λ queue two. p.account.device.hung queue two;
       }
 
   pub knows_rest : KnowsRest v
   unfolding lives
   knows_rest = let some_share : 0 < v.share.shares = omega (arith, all) in
       subst (λ (z : Setup × Qdisc × State × Account). IsRest z.0 v z.1 z.2 z.3)
-      (λ j. (sym (r.parts.shares.about id v at_id lives) j, sym (knows_qdisc k s r id v at_id some_share alone.0) j, sym (knows_state k s r id v at_id some_share alone.0) j, sym (knows_account k s r id v at_id some_share alone.0) j)) rest
+      (λ j. (sym (r.parts.seats.shares.about id v at_id lives) j, sym (knows_qdisc k s r id v at_id some_share alone.0) j, sym (knows_state k s r id v at_id some_share alone.0) j, sym (knows_account k s r id v at_id some_share alone.0) j)) rest
 
 -- what a load of the run lock tells
 pub loads_lock : (k : Setup) (slots id : ℕ) (m : Sat) → 0 < k.queues → Allows (Rule k) slots id m lock_place (λ x. x) (lock_seen (step slots lock_place 0 0 none) m)

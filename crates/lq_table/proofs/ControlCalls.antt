@@ -18,8 +18,7 @@ use Rattle.lq_model.specs.Positions.{holds_lock, own_packet}
 use Rattle.lq_model.specs.Kept.{IsInductive}
 use Rattle.lq_table.specs.Places.{state_place}
 use Rattle.lq_table.specs.Views.{View, Setup, HolderPart, Left}
-use Rattle.lq_table.specs.Rule.{words_of, account, holders, bands_now, is_live, Rule}
-use Rattle.lq_table.proofs.UnitsKept.{gone_same}
+use Rattle.lq_table.specs.Rule.{words_of, account, holders, is_live, Rule}
 use Rattle.lq_table.specs.Told.{Sat}
 use Rattle.lq_table.specs.Controls.{beginning_control, control_begun, returning, returned, purge_ending, purge_going, no_missed, no_draining, resetting_missed, resetting_missed_in, missed_reset, resetting_draining, resetting_draining_in, draining_reset}
 use Rattle.lq_model.specs.Steps.{is_idle}
@@ -28,45 +27,31 @@ use Rattle.lq_table.proofs.ByName.{set_back}
 use Rattle.lq_table.proofs.Middle.{middle, begins_in, to_idle}
 use Rattle.lq_table.proofs.DirectKept.{two_ways}
 use Rattle.lq_table.proofs.PurgeDone.{ends_missed, ends_draining, goes_on_missed, goes_on_draining}
-use Rattle.lq_table.proofs.SettledKept.{settled_same}
-use Rattle.lq_table.proofs.GivenKept.{given_same}
-use Rattle.lq_table.proofs.TrailsKept.{trails_same}
-use Rattle.lq_table.proofs.Frames.{same_xoff, shares_same, hands_same, packets_same, fates_same, turns_same, rings_same, sole_step, rule_after, opened, closed, same_past, lends_step}
+use Rattle.lq_table.proofs.Frames.{same_xoff, rule_after, opened, closed, same_past, lends_step, moves}
+use Rattle.lq_table.proofs.SeatFrames.{seats_same}
+use Rattle.lq_table.proofs.StationFrames.{station_kept}
 
 module _ (k : Setup) where
   abbrev St : Type 0
   St = table.State (Option StationState) View
 
   -- a load of word 0 by which the seat's place alone changes, from outside the lock to outside
-  places : (s : St) (r : Rule k s) (id : ℕ) (v : View) (t : Seat) → get_elem? s.views id ≡ some v → is_live v ≡ true → 0 < v.share.shares
+  places : (s : St) (r : Rule k s) (id : ℕ) (v : View) (t : Seat) → get_elem? s.views id ≡ some v → is_live v ≡ true
       → ((here : get_elem? s.views id ≡ some v) (live : is_live v ≡ true) → IsInductive (record { qdisc = r.qdisc; seats = (middle s.views id v here live).before ++ t ∷ (middle s.views id v here live).after }))
       → holds_lock v.place.position ≡ false → holds_lock t.position ≡ false → ((y : Packet) → own_packet t.position ≡ Some y → own_packet v.place.position ≡ Some y) → v.control.first ≡ true
       → Rule k record { words = set s.words 0 (get_or s.words 0 0); homes = s.homes; views = set s.views id (record v { place = t }) }
-  places s r id v t here live some_share machine free free' own first =
+  places s r id v t here live machine free free' own first =
       let q = r.qdisc in let p = r.parts in let g = r.state in let a = account k g in let W = words_of k s.words in let D : HolderPart = holders g a W.size in let w : View = record v { place = t } in
       rule_after k s r 0 (get_or s.words 0 0) id s.homes r.home w W q g a r.deep (set_back k s.words 0) refl record {
-        shares = shares_same k s.views id v w here live p.shares refl;
-        machine = closed s.views id v here live w q t live refl (machine here live);
-        stands = p.stands;
-        ties = p.ties;
-        lends = lends_step k.infos W.xoff W.xoff g.past g.past same_past same_xoff q.locked r.home s.views D id v w here p.lends (λ _ h. absurd (true≢false (sym h ∙ free')));
-        sends = p.sends;
-        packets = packets_same k s.views id v w here g.past a p.packets refl refl;
-        hands = hands_same k s.views id v w here p.hands live refl own;
-        fates = fates_same k s.views id v w here W.fates a a g.resizing g.left p.fates refl (λ _. refl);
-        leaves = p.leaves;
-        turns = turns_same k s.views id v w here W.turns g.past p.turns refl refl;
-        rings = rings_same k s.views id v w here k.max_len W.size W.producers W.slots a.len (bands_now g.left a.bands) g.ends g.resizing p.rings refl (λ _ _ _ h. absurd (true≢false (sym h ∙ free)));
+        seats = seats_same k s r id v w here live q g refl refl refl (λ e1 e2. (e1, e2));
+        machine = moves k s r id v w here live q refl (closed s.views id v here live w q t live refl (machine here live)) own
+            (let knows = p.machine.firsts.knows id v here first in firsts_now s.views id v w here q.phase q.phase q.purge q.purge p.machine.firsts first refl knows.0 knows.1 refl);
+        station = station_kept k s r id v w here W r.home q g a refl (λ _. refl) refl (λ _ _ _ h. absurd (true≢false (sym h ∙ free)))
+            p.station.stands
+            p.station.ties
+            (lends_step k.infos W.xoff W.xoff g.past g.past same_past same_xoff q.locked r.home s.views D id v w here p.station.lends (λ _ h. absurd (true≢false (sym h ∙ free'))))
+            p.station.stops;
         account = p.account;
-        find_nothing = p.find_nothing;
-        gone = gone_same k s.views id v w here p.gone refl;
-        firsts = let knows = p.firsts.knows id v here first in firsts_now s.views id v w here q.phase q.phase q.purge q.purge p.firsts first refl knows.0 knows.1 refl;
-        sole = sole_step k s.views id v w here q q g g p.shares p.sole some_share refl refl (λ e1 e2. (e1, e2));
-        settled = settled_same s.views id v w here W.fates p.settled refl;
-        given = given_same k s.views id v w here W.turns p.given refl refl refl refl refl;
-        stops = p.stops;
-        device = p.device;
-        trails = trails_same k.infos s.views id v w here p.trails refl refl refl refl refl;
       }
 
   pub begins_control : (slots id : ℕ) (m : Sat) → m.0.place.position ≡ Idle → m.0.control.first ≡ true → 0 < m.0.share.shares → Allows (Rule k) slots id m 0 (λ x. x) (control_begun (step slots 0 0 0 none) m)
@@ -75,8 +60,8 @@ module _ (k : Setup) where
         beginning_control v,
         keeps,
         tt,
-        places s r id v t here live some_share
-            (λ here live. let mid = middle s.views id v here live in begins_in r.qdisc mid.before mid.after v.place Controls (ap is_idle position) tt (opened s.views id v here live r.qdisc r.parts.machine))
+        places s r id v t here live
+            (λ here live. let mid = middle s.views id v here live in begins_in r.qdisc mid.before mid.after v.place Controls (ap is_idle position) tt (opened s.views id v here live r.qdisc r.parts.machine.invariant))
             (ap holds_lock position) refl (λ y own. absurd cc) first,
         refl,
       )
@@ -87,9 +72,9 @@ module _ (k : Setup) where
         returning v,
         keeps,
         tt,
-        places s r id v t here live some_share
-            (λ here live. let mid = middle s.views id v here live in to_idle r.qdisc mid.before mid.after v.place (Control false) position refl (opened s.views id v here live r.qdisc r.parts.machine))
-            (ap holds_lock position) refl (λ y own. absurd cc) (r.parts.firsts.control id v here live (ap is_control position)),
+        places s r id v t here live
+            (λ here live. let mid = middle s.views id v here live in to_idle r.qdisc mid.before mid.after v.place (Control false) position refl (opened s.views id v here live r.qdisc r.parts.machine.invariant))
+            (ap holds_lock position) refl (λ y own. absurd cc) (r.parts.machine.firsts.control id v here live (ap is_control position)),
         refl,
       )
 

@@ -16,15 +16,15 @@ use Rattle.lq_table.proofs.Accounts.{contains_get}
 module _ (k : Setup) (s : table.State (Option StationState) View) (r : Rule k s) (id : ℕ) (v : View) (here : get_elem? s.views id ≡ some v) (live : is_live v ≡ true) where
   -- a packet that was brought
   pub knows_brought : (n : ℕ) → Contains (brought_by r.state.past) n → IsPacketOf v.share.about n
-  knows_brought n has = let p = r.parts in let known = p.account.brought.packets n has in
-      subst (λ (y : Setup). IsPacketOf y n) (sym (p.shares.about id v here live)) (known.0, r.setup.queues_are n known.0 known.1)
+  knows_brought n has = let p = r.parts in let known = p.account.accounted.brought.packets n has in
+      subst (λ (y : Setup). IsPacketOf y n) (sym (p.seats.shares.about id v here live)) (known.0, r.setup.queues_are n known.0 known.1)
 
   pub knows_slot : IsKnownSlot v.share.about (account k r.state).slot
   knows_slot = by (account k r.state).slot refl
     where
       by : (o : Option ℕ) → (account k r.state).slot ≡ o → IsKnownSlot v.share.about o
       by None e = tt
-      by (Some n) e = knows_brought n (r.parts.account.brought.slot n e)
+      by (Some n) e = knows_brought n (r.parts.account.accounted.brought.slot n e)
 
   pub knows_held : (b n : ℕ) → slice_get (held_in (account k r.state) b) 0 ≡ Some n → IsPacketOf v.share.about n
-  knows_held b n is = let a = account k r.state in knows_brought n (r.parts.account.brought.lines b n (drop-in (a.bands b).taken (a.bands b).line n (contains_get (held_in a b) 0 n is)))
+  knows_held b n is = let a = account k r.state in knows_brought n (r.parts.account.accounted.brought.lines b n (drop-in (a.bands b).taken (a.bands b).line n (contains_get (held_in a b) 0 n is)))

@@ -38,7 +38,7 @@ module _ (k : Setup) (slots id : ℕ) (m : Sat) where
 
   pub looks_missed : misses m.0.place.position ≡ true → 0 < m.0.share.shares → Allows (Rule k) slots id m state_place (λ x. x) (missed_looked_all (step slots state_place 0 0 none) m)
   looks_missed at some_share s r deep here small =
-      let n : ℕ = get_or s.words state_place 0 in let q = r.qdisc in let t = r.parts.stands in let e : ℕ = event_word (account k r.state).down in
+      let n : ℕ = get_or s.words state_place 0 in let q = r.qdisc in let t = r.parts.station.stands in let e : ℕ = event_word (account k r.state).down in
       let was : is_set 4 n ≡ q.missed = ap (is_set 4) t.state ∙ has_missed q.sched q.deactivated q.missed q.draining e in ⊎_elim
       (λ (found : is_set 4 n ≡ true). let z = misses_kept k slots id m at some_share s r deep here small in
       let missed : q.missed ≡ true = sym was ∙ found in

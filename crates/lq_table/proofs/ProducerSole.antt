@@ -54,9 +54,9 @@ module _ (k : Setup) (s : table.State (Option StationState) View) (r : Rule k s)
       (λ (some_ : 0 < total count s.views). let o = one_of count s.views some_ in let has = o.has in absurd (⊎_elim
       (λ (same : o.id ≡ id). let is : o.one ≡ v = some-injective o.one v (sym o.at_id ∙ (ap (get_elem? s.views) same ∙ here)) in
       let none_ : count o.one ≡ 0 = ap count is ∙ not_locking (at b v.locks) free in omega arith)
-      (λ (apart : o.id ≢ id). let two = total_two (λ (z : View). z.share.shares) s.views id o.id v o.one here o.at_id apart in let sum = r.parts.shares.sum in
+      (λ (apart : o.id ≢ id). let two = total_two (λ (z : View). z.share.shares) s.views id o.id v o.one here o.at_id apart in let sum = r.parts.seats.shares.sum in
       let no_share : o.one.share.shares ≡ 0 = omega (arith, all_shares) in
-      let spent = r.parts.shares.spent o.id o.one o.at_id (ap (λ (n : ℕ). nat_lt 0 n) no_share) in
+      let spent = r.parts.seats.shares.spent o.id o.one o.at_id (ap (λ (n : ℕ). nat_lt 0 n) no_share) in
       let none_ : count o.one ≡ 0 = ap (λ (ls : Three Lock). locking (at b ls)) spent.1 ∙ ap locking (at_all b unlocked) in omega arith)
       (cases_eq o.id id)))
       (λ none_. omega arith)
@@ -66,12 +66,12 @@ module _ (k : Setup) (s : table.State (Option StationState) View) (r : Rule k s)
   sees_producer b below some_share sole free =
       let p = r.parts in let g = r.state in let a = account k g in let W = words_of k s.words in let ls = locks_at b s.views in
       let none_ : total locking ls ≡ 0 = nobody_locks sole.0 b free in
-      let calm : g.resizing ≡ None = none_if g.resizing (λ t now. let one = ((p.rings.half_resized t now).ring b below).one in absurd (omega arith)) in
-      let run = p.rings.running calm in let ring = run.ring b below in
+      let calm : g.resizing ≡ None = none_if g.resizing (λ t now. let one = ((p.station.rings.half_resized t now).ring b below).one in absurd (omega arith)) in
+      let run = p.station.rings.running calm in let ring = run.ring b below in
       let stored : total stored_count ls ≡ 0 = let less = total_le stored_count locking ls (λ j l e. fewer l.stored l.holds (ring.knows j l e).stores) in omega arith in
       let index : ring.index ≡ producer_index b v =
       ap (λ (n : ℕ). index_behind W.size n ring.index) (sym stored) ∙ index_stands W.size (at b W.slots) (at b W.producers) ls (bands_now g.left a.bands b) (at b g.ends) ring
-      ∙ ap₂ (λ (n size : ℕ). n % size) (ap (λ (line : List ℕ). length line) (same_line g.left r.qdisc.purge a b below p.leaves)) run.size_is
+      ∙ ap₂ (λ (n size : ℕ). n % size) (ap (λ (line : List ℕ). length line) (same_line g.left r.qdisc.purge a b below p.account.leaves)) run.size_is
       ∙ ap (λ (x : Account). length (x.bands b).line % x.len) (sym (knows_account k s r id v here some_share sole)) in
       let word : at b W.producers ≡ 2 * ring.index = let is = ring.word_is in omega arith in
       producer_of k s.words b below ∙ word ∙ ap (λ (n : ℕ). 2 * n) index

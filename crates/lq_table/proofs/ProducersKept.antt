@@ -32,8 +32,8 @@ module _ (k : Setup) where
       → Rule k record { words = set s.words (producer_place b) x; homes = s.homes; views = set s.views id (with_lock_at b l v) }
   producer_step s r id b x v l calm below here some_share ring =
       let p = r.parts in let g = r.state in let a = account k g in let W = words_of k s.words in let w : View = with_lock_at b l v in
-      beside k s r (producer_place b) x id v (put b l v.locks) (put b x W.producers) W.slots here (lt-ltb 0 v.share.shares some_share) some_share (set_producer k s.words x b below (let wide = r.wide in omega arith))
-      (rings_step k s.views id v w here k.max_len W.size W.producers (put b x W.producers) W.slots W.slots a.len (bands_now g.left a.bands) (bands_now g.left a.bands) g.ends g.ends g.resizing b p.rings calm
+      beside k s r (producer_place b) x id v (put b l v.locks) (put b x W.producers) W.slots here (lt-ltb 0 v.share.shares some_share) (set_producer k s.words x b below (let wide = r.wide in omega arith))
+      (rings_step k s.views id v w here k.max_len W.size W.producers (put b x W.producers) W.slots W.slots a.len (bands_now g.left a.bands) (bands_now g.left a.bands) g.ends g.ends g.resizing b p.station.rings calm
       (subst (λ (z : ℕ × Lock). IsRing W.size (at b W.slots) z.0 (set (locks_at b s.views) id z.1) (bands_now g.left a.bands b) (at b g.ends)) (λ i. (sym (at_put_same b x W.producers) i, sym (at_put_same b l v.locks) i)) ring)
       (λ c h n. (refl, at_put_other b c x W.producers below h n, at_put_other b c l v.locks below h n, refl, refl)))
 
@@ -44,14 +44,14 @@ module _ (k : Setup) where
       dite (ℕ_discrete (get_or s.words (producer_place b) 0) (2 * i))
       (λ even. let w : View = with_lock_at b (locked_at i) v in
       let is : at b W.producers ≡ 2 * i = sym word ∙ even in
-      let calm : r.state.resizing ≡ None = calm_even k.max_len W.size W.producers W.slots _ _ _ r.state.resizing s.views b i p.rings below is in let old = (p.rings.running calm).ring b below in
+      let calm : r.state.resizing ≡ None = calm_even k.max_len W.size W.producers W.slots _ _ _ r.state.resizing s.views b i p.station.rings below is in let old = (p.station.rings.running calm).ring b below in
       let ring = locks _ _ _ _ _ _ id (at b v.locks) old (locks_here k s.views id v w here b) i free is in (
         w,
         keeps,
         tt,
         subst (λ c. Rule k (stepped s (producer_place b) (either c (2 * i + 1) (get_or s.words (producer_place b) 0)) id m.1 w keeps)) (sym (eq-eqb _ _ even))
             (producer_step s r id b (2 * i + 1) v (locked_at i) calm below here some_share (subst (λ (x : ℕ). IsRing W.size (at b W.slots) (x + 1) (set (locks_at b s.views) id (locked_at i)) (bands_now r.state.left (account k r.state).bands b) (at b r.state.ends)) is ring)),
-        ((λ _. (refl, let a = old.index_within in let w' = old.word_is in let o = old.one in let h = p.rings.within in omega arith)), λ no_. absurd (no_ even)),
+        ((λ _. (refl, let a = old.index_within in let w' = old.word_is in let o = old.one in let h = p.station.rings.within in omega arith)), λ no_. absurd (no_ even)),
       ))
       (λ odd. (
         v,
@@ -65,8 +65,8 @@ module _ (k : Setup) where
       → Allows (Rule k) slots id m (producer_place b) (λ _. 2 * i) (λ _. producer_given b (step slots (producer_place b) (2 * i) 0 none) m (2 * i))
   gives_producer slots id m b size i below has knows is some_share no_resizing s r deep here small =
       let v : View = m.0 in let p = r.parts in let g = r.state in let W = words_of k s.words in let D : HolderPart = holders g (account k g) W.size in
-      let calm : g.resizing ≡ None = calm_here k.infos k.max_len W.size W.producers W.slots _ _ _ r.qdisc.locked W.xoff r.home g.past D g.resizing s.views id v b p.rings p.lends refl here below has no_resizing in
-      let old = (p.rings.running calm).ring b below in let w : View = with_lock_at b unlocked v in
+      let calm : g.resizing ≡ None = calm_here k.infos k.max_len W.size W.producers W.slots _ _ _ r.qdisc.locked W.xoff r.home g.past D g.resizing s.views id v b p.station.rings p.station.lends refl here below has no_resizing in
+      let old = (p.station.rings.running calm).ring b below in let w : View = with_lock_at b unlocked v in
       let at_b = locks_here k s.views id v w here b in
       let same : size ≡ W.size = (old.knows id (at b v.locks) at_b).size_is size has knows in
       let ring = gives _ _ _ _ _ _ id (at b v.locks) old at_b has in (
@@ -94,20 +94,20 @@ module _ (k : Setup) where
   pub loads_size : (slots id : ℕ) (m : Sat) → 0 < m.0.share.shares → Allows (Rule k) slots id m size_place (λ n. n) (size_loaded k.max_len (step slots size_place 0 0 none) m)
   loads_size slots id m some_share s r deep here small =
       let v : View = m.0 in let p = r.parts in let g = r.state in let a = account k g in let W = words_of k s.words in let w : View = sized W.size v in let live = lt-ltb 0 v.share.shares some_share in
-      let first = p.rings.positive in let few = p.rings.within in
+      let first = p.station.rings.positive in let few = p.station.rings.within in
       let locks_sized : (b : ℕ) → locks_at b (set s.views id w) ≡ set (locks_at b s.views) id (sized_if W.size (at b v.locks)) = λ b. locks_after k s.views id v w here b ∙ ap (set (locks_at b s.views) id) (at_sized W.size b v) in (
         w,
         keeps,
         tt,
-        beside k s r size_place W.size id v w.locks W.producers W.slots here live some_share (set_back k s.words size_place) record {
-          positive = p.rings.positive;
-          within = p.rings.within;
-          running = λ calm. let x = p.rings.running calm in record {
+        beside k s r size_place W.size id v w.locks W.producers W.slots here live (set_back k s.words size_place) record {
+          positive = p.station.rings.positive;
+          within = p.station.rings.within;
+          running = λ calm. let x = p.station.rings.running calm in record {
             size_is = x.size_is;
             ring = λ b h. subst (λ (ls : List Lock). IsRing W.size (at b W.slots) (at b W.producers) ls (bands_now g.left a.bands b) (at b g.ends)) (sym (locks_sized b))
                 (sizes_if _ _ _ _ _ _ id (at b v.locks) (x.ring b h) (locks_here k s.views id v w here b));
           };
-          half_resized = λ t now. let x = p.rings.half_resized t now in record {
+          half_resized = λ t now. let x = p.station.rings.half_resized t now in record {
             len_is = x.len_is;
             len_positive = x.len_positive;
             len_within = x.len_within;
@@ -117,5 +117,5 @@ module _ (k : Setup) where
             control = control_same k s.views id v w here x.control (λ b h has. sized_holds W.size (at b v.locks) (sym (ap (λ (l : Lock). l.holds) (at_sized W.size b v)) ∙ has)) (λ l h. (l, h));
           };
         },
-        (refl, first, few, λ has. sym (ap (λ (h : HolderPart). h.size) (p.lends.knows id v here live has).is)),
+        (refl, first, few, λ has. sym (ap (λ (h : HolderPart). h.size) (p.station.lends.knows id v here live has).is)),
       )

@@ -43,11 +43,11 @@ module _ (k : Setup) where
   -- a seat that has all shares and doesn't hold the run lock leaves it free
   nobody : (s : table.State (Option StationState) View) (r : Rule k s) (id : ℕ) (v : View) → get_elem? s.views id ≡ some v → v.share.shares ≡ 1024 → holds_lock v.place.position ≡ false → r.qdisc.locked ≡ false
   nobody s r id v here all_shares free = false_if r.qdisc.locked (λ locked.
-      let p = r.parts in let all = total_holding s.views in let one = p.machine.kept.one_holder in let b = ap bit locked in
+      let p = r.parts in let all = total_holding s.views in let one = p.machine.invariant.kept.one_holder in let b = ap bit locked in
       let o = one_of holding s.views (omega arith) in let both = both_true (is_live o.one) (holds_lock o.one.place.position) o.has in
       ⊎_elim
       (λ (same : o.id ≡ id). let is : o.one ≡ v = some-injective o.one v (sym o.at_id ∙ (ap (get_elem? s.views) same ∙ here)) in true≢false (sym both.1 ∙ (ap (λ (z : View). holds_lock z.place.position) is ∙ free)))
-      (λ (apart : o.id ≢ id). let two = total_two (λ (z : View). z.share.shares) s.views id o.id v o.one here o.at_id apart in let sum = p.shares.sum in let some_ : 0 < o.one.share.shares = ltb-true 0 o.one.share.shares both.0 in absurd (omega (arith, all_shares)))
+      (λ (apart : o.id ≢ id). let two = total_two (λ (z : View). z.share.shares) s.views id o.id v o.one here o.at_id apart in let sum = p.seats.shares.sum in let some_ : 0 < o.one.share.shares = ltb-true 0 o.one.share.shares both.0 in absurd (omega (arith, all_shares)))
       (cases_eq o.id id))
 
   -- where no batch is being emptied the slot is occupied exactly where the account says that the band is full, by the packet that it
@@ -56,12 +56,12 @@ module _ (k : Setup) where
       → (at b v.locks).holds ≡ true → (at b v.locks).stored ≡ false → i ≡ (at b v.locks).index → 0 < v.share.shares → v.holder.resizing ≡ None → SeesEnd b v (get_or s.words (slot_word k b i) 0)
   sees_end s r0 id v b i n holds here below inside position has new is_index some_share no_resizing sole rests =
       let live = lt-ltb 0 v.share.shares some_share in let r = calm_rule k s r0 id v here live (ap may_be_inside position) (ap is_control position) in let p = r.parts in let g = r.state in let a = account k g in let W = words_of k s.words in let D : HolderPart = holders g a W.size in
-      let calm : g.resizing ≡ None = calm_here k.infos k.max_len W.size W.producers W.slots _ _ _ r.qdisc.locked W.xoff r.home g.past D g.resizing s.views id v b p.rings p.lends refl here below has no_resizing in
-      let run = p.rings.running calm in let old = run.ring b below in
+      let calm : g.resizing ≡ None = calm_here k.infos k.max_len W.size W.producers W.slots _ _ _ r.qdisc.locked W.xoff r.home g.past D g.resizing s.views id v b p.station.rings p.station.lends refl here below has no_resizing in
+      let run = p.station.rings.running calm in let old = run.ring b below in
       let word : get_or s.words (slot_word k b i) 0 ≡ get_or (at b W.slots) (at b v.locks).index 0 = slot_of k s.words b i below inside ∙ ap (λ (x : ℕ). get_or (at b W.slots) x 0) is_index in
       let rest : is_emptying W.size (at b g.ends) ≡ false = ⊎_elim
-      (λ (locked : holds_lock v.place.position ≡ true). let is = (p.lends.knows id v here live locked).is in subst (λ (z : HolderPart). is_emptying z.size (at b z.ends) ≡ false) is (rests locked))
-      (λ (free : holds_lock v.place.position ≡ false). (rest_at W.size b g.ends (p.lends.home (nobody s r0 id v here sole.0 free)).resting).3)
+      (λ (locked : holds_lock v.place.position ≡ true). let is = (p.station.lends.knows id v here live locked).is in subst (λ (z : HolderPart). is_emptying z.size (at b z.ends) ≡ false) is (rests locked))
+      (λ (free : holds_lock v.place.position ≡ false). (rest_at W.size b g.ends (p.station.lends.home (nobody s r0 id v here sole.0 free)).resting).3)
       (cases_Bool (holds_lock v.place.position)) in
       let same : account k g ≡ account_of v = sym (knows_account k s r0 id v here some_share sole) in
       let exact = full_exactly W.size (at b W.slots) (at b W.producers) _ (a.bands b) (at b g.ends) old id (at b v.locks) (locks_here k s.views id v v here b) has new rest in

@@ -40,15 +40,15 @@ use Rattle.lq_band.proofs.Three.{at_put_same, at_put_other, at_all, three_cases}
 use Rattle.lq_band.proofs.Times.{in_times, times_append, times_drop}
 use Rattle.lq_band.proofs.HalfResizedKept.{begins, unturned, reindexes, restarts, just_got}
 use Rattle.lq_table.specs.Places.{size_place, producer_place}
-use Rattle.lq_table.specs.Views.{View, Setup, State, HolderPart, HalfResize, Work, Left, machine_packet}
-use Rattle.lq_table.specs.Rule.{words_of, machine_of, account, holders, owes, waiting_of, unstored, bands_of, bands_now, Holder, IsLocker, IsResizing, IsResting, locks_at, KnowsPackets, Parts, Rule}
-use Rattle.lq_table.proofs.UnitsKept.{gone_same, gone_step}
+use Rattle.lq_table.specs.Views.{View, Setup, State, HolderPart, HalfResize, Work, machine_packet}
+use Rattle.lq_table.specs.Rule.{words_of, machine_of, account, holders, owes, waiting_of, unstored, bands_of, bands_now, Holder, IsLocker, IsResizing, IsResting, locks_at, KnowsPackets, Rule}
+use Rattle.lq_table.proofs.UnitsKept.{gone_step}
 use Rattle.lq_table.specs.Told.{Sat}
 use Rattle.lq_table.specs.Rings.{with_lock_at}
 use Rattle.lq_table.specs.Resizes.{may_resize, each_band, resizing_of, beginning, resize_begun, producer_set, restarted, size_stored}
 use Rattle.lq_table.proofs.Accounts.{quiet_after}
 use Rattle.lq_table.proofs.ByName.{slots_long, set_back, set_producer, set_size}
-use Rattle.lq_table.proofs.Facts.{map_none}
+use Rattle.lq_table.proofs.Facts.{map_none, leaving_rule}
 use Rattle.lq_table.proofs.HeldOnce.{no_fate, held_once}
 use Rattle.lq_table.proofs.Middle.{middle, controls_in}
 use Rattle.lq_table.proofs.Quiet.{beside}
@@ -56,11 +56,10 @@ use Rattle.lq_account.proofs.Changes.{band-held}
 use Rattle.lq_account.proofs.Lists.{none-in}
 use Rattle.lq_table.proofs.Ties.{nothing_in, holds_none}
 use Rattle.lq_table.proofs.ResizeSlotsKept.{resizing_rule, resizing_known}
-use Rattle.lq_table.proofs.SettledKept.{settled_same}
 use Rattle.lq_table.proofs.SoleFacts.{knows_account}
-use Rattle.lq_table.proofs.GivenKept.{given_same}
-use Rattle.lq_table.proofs.TrailsKept.{trails_same, trails_own}
-use Rattle.lq_table.proofs.Frames.{at_map, none_some, none_left, shares_same, hands_same, packets_same, turns_same, turns_past, locks_here, locks_same, locks_after, firsts_same, sole_step, account_step, rule_after, opened, closed, stays, lends_held}
+use Rattle.lq_table.proofs.Frames.{at_map, none_some, none_left, locks_here, locks_same, locks_after, firsts_same, rule_after, opened, closed, stays, lends_held, moves, holder_now}
+use Rattle.lq_table.proofs.SeatFrames.{seats_same, seats_ruled}
+use Rattle.lq_table.proofs.StationFrames.{stands_same, account_heard}
 
 -- a line in each owner's order has no packet twice
 distinct : (k : Setup) (line : List ℕ) → AllPairs (Precedes k.infos) line → IsDistinct line
@@ -109,102 +108,85 @@ module _ (k : Setup) where
   begins_resize slots id m len event position phase no_purge no_resizing rests locked some_len fits some_share s r2 deep here small =
       let v : View = m.0 in let live = lt-ltb 0 v.share.shares some_share in let holds : holds_lock v.place.position ≡ true = ap holds_lock position in
       let r1 = resizing_rule k s r2 None (resizing_known k s r2 id v None here some_share holds no_resizing) in
-      let first : v.control.first ≡ true = r1.parts.firsts.control id v here live (ap is_control position) in
-      let free : r1.qdisc.purge ≡ None = sym (r1.parts.firsts.knows id v here first).1 ∙ no_purge in
-      let r : Rule k s = record {
-        home = r1.home;
-        qdisc = r1.qdisc;
-        state = record r1.state { left = None };
-        setup = r1.setup;
-        wide = r1.wide;
-        deep = r1.deep;
-        parts = subst (λ (o : Option Left). Parts k (words_of k s.words) r1.home s.views r1.qdisc (record r1.state { left = o }) (account k r1.state)) (r1.parts.leaves.none_left free) r1.parts;
-      } in
-      let p = r.parts in let g = r.state in let a = account k g in let q = r.qdisc in let W = words_of k s.words in let mid = middle s.views id v here live in let run = p.rings.running refl in
+      let first : v.control.first ≡ true = r1.parts.machine.firsts.control id v here live (ap is_control position) in
+      let free : r1.qdisc.purge ≡ None = sym (r1.parts.machine.firsts.knows id v here first).1 ∙ no_purge in
+      let r : Rule k s = leaving_rule k s r1 None (r1.parts.account.leaves.none_left free) in
+      let p = r.parts in let g = r.state in let a = account k g in let q = r.qdisc in let W = words_of k s.words in let mid = middle s.views id v here live in let run = p.station.rings.running refl in
       let D : HolderPart = holders g a W.size in
-      let at_ : Holder k.infos W.xoff g.past D (Control true) v.holder = subst (λ (z : Position). Holder k.infos W.xoff g.past D z v.holder) position (p.lends.knows id v here live holds) in
+      let at_ : Holder k.infos W.xoff g.past D (Control true) v.holder = subst (λ (z : Position). Holder k.infos W.xoff g.past D z v.holder) position (p.station.lends.knows id v here live holds) in
       let held : ℕ → List ℕ = held_in a in let t : HalfResize = resizing_of len event held W.slots in let e : Event = Resize len event in let g' : State = record g { past = e ∷ g.past; resizing = Some t } in let a' : Account = after e a in
       let works : ℕ → Work = λ b. record { kept = take len (held b); waiting = drop len (held b); slots = at b W.slots; hand = [] } in let w : View = beginning t v in
       let rest : IsResting W.size g.ends = subst (λ (z : HolderPart). IsResting z.size z.ends) at_.is rests in
       let may : a.hand ≡ None = map_none (machine_packet k.infos) a.hand (sym at_.in_hand) in let drops : List ℕ = dropped_in len a 0 ++ (dropped_in len a 1 ++ dropped_in len a 2) in
       let same : (c : ℕ) → locks_at c (set s.views id w) ≡ locks_at c s.views = λ c. locks_same k s.views id v w here c refl in
-      let stays_decided = fate-stays k.infos k.station g.past a p.account.brought p.account.order p.account.free e may in
-      let none_held = λ (purged : q.phase ≡ Purged). holds_none k.infos (machine_of q s.views) a p.ties (p.machine.kept.purged_holds_nothing purged).1 in
-      let phase_is : v.control.phase ≡ q.phase = (p.firsts.knows id v here first).0 in
-      let empty : FindsNothing a e = λ x down. none_held (closed_purged q.phase (subst (λ (z : Phase). may_resize z ≡ true) phase_is phase) (sym p.machine.deactivation ∙ (p.ties.down ∙ ap is_some down))) in
+      let stays_decided = fate-stays k.infos k.station g.past a p.account.accounted.brought p.account.accounted.order p.account.accounted.free e may in
+      let none_held = λ (purged : q.phase ≡ Purged). holds_none k.infos (machine_of q s.views) a p.station.ties (p.machine.invariant.kept.purged_holds_nothing purged).1 in
+      let phase_is : v.control.phase ≡ q.phase = (p.machine.firsts.knows id v here first).0 in
+      let empty : FindsNothing a e = λ x down. none_held (closed_purged q.phase (subst (λ (z : Phase). may_resize z ≡ true) phase_is phase) (sym p.machine.invariant.deactivation ∙ (p.station.ties.down ∙ ap is_some down))) in
       let q' : Qdisc = record q { bands = map (λ (band : List Packet). take len band) q.bands; len = len } in
       let at_control : Seat = record v.place { position = Control true } in
       let stepped_ = controls_in q mid.before mid.after at_control (ResizeStep len) true refl refl (ap (λ (o : Option _). is_none o) free)
-      (subst (λ (u : Seat). IsInductive (record { qdisc = q; seats = mid.before ++ u ∷ mid.after })) (λ j. record v.place { position = position j }) (opened s.views id v here live q p.machine)) in
+      (subst (λ (u : Seat). IsInductive (record { qdisc = q; seats = mid.before ++ u ∷ mid.after })) (λ j. record v.place { position = position j }) (opened s.views id v here live q p.machine.invariant)) in
       let D' : HolderPart = holders g' a' W.size in let sums = λ (n : ℕ). times_append n (dropped_in len a 0) (dropped_in len a 1 ++ dropped_in len a 2) in let sums' = λ (n : ℕ). times_append n (dropped_in len a 1) (dropped_in len a 2) in (
         w,
         keeps,
         tt,
         rule_after k s r size_place W.size id s.homes r.home w W q' g' a' r.deep (set_back k s.words size_place) refl record {
-          shares = shares_same k s.views id v w here live p.shares refl;
-          machine = closed s.views id v here live w q' at_control live (λ j. record v.place { position = position j }) stepped_;
-          stands = record { state = p.stands.state; lock = p.stands.lock; xoff = p.stands.xoff; inside = p.stands.inside; bypass = p.stands.bypass };
-          ties = record { bands_are = ap (λ (bs : List (List Packet)). map (λ (band : List Packet). take len band) bs) p.ties.bands_are ∙ bands_cut k.infos a.bands len; slot = p.ties.slot; len = refl; down = p.ties.down };
-          lends = lends_held k s r id v here live holds w q.locked W.xoff (e ∷ g.past) D' refl
-              (subst (λ (z : Position). Holder k.infos W.xoff (e ∷ g.past) D' z w.holder) (sym position) record {
-                is = λ j. record (at_.is j) { resizing = Some t };
-                in_hand = at_.in_hand;
-                looked = λ _ y. absurd (omega arith);
-                stopping = tt;
-                alive = λ _. at_.alive refl;
-              });
-          sends = record { unit = p.sends.unit; sent = p.sends.sent; small = p.sends.small };
-          packets = each_step (λ u. KnowsPackets k g.past a u.share u.packets) (λ u. KnowsPackets k (e ∷ g.past) a' u.share u.packets) s.views id w p.packets
-              (let x = p.packets id v here in let y = quiet_after k g.past a a e v.share v.packets refl (λ _. refl) x in record { own = y.own; fresh = y.fresh; owed = λ n z h. stays_decided n z (x.owed n z h) })
-              (λ j u _ _ x. let y = quiet_after k g.past a a e u.share u.packets refl (λ _. refl) x in record { own = y.own; fresh = y.fresh; owed = λ n z h. stays_decided n z (x.owed n z h) });
-          hands = hands_same k s.views id v w here p.hands live refl (λ y own. own);
-          fates = record {
-            stored = decides (length k.infos) W.fates (unstored s.views None None) a.fates p.fates.stored (unstored (set s.views id w) (Some t) None) a'.fates drops
-                (λ n. let z = total_same (λ u. owes n u.packets.owed) s.views id v w here refl in let x = sums n in let y = sums' n in omega arith)
-                (λ n. let x = sums n in let y = sums' n in let x0 = times_drop n len (held_in a 0) in let x1 = times_drop n len (held_in a 1) in let x2 = times_drop n len (held_in a 2) in let o = held_once k g.past a p.account n in omega arith)
-                (λ n h. (no_fate a p.account.free n (waits-dropped len a n h), (fate.Shrunk event, with_fates_in drops n (fate.Shrunk event) a.fates h)))
-                (λ n out. with_fates_out drops n (fate.Shrunk event) a.fates out);
-            shrunk = λ u is n h. subst (λ (y : HalfResize). 0 < waiting_of n y.works → a'.fates n ≡ Some (fate.Shrunk y.event)) (same_Some t u is)
-                (λ some_. with_fates_in drops n (fate.Shrunk event) a.fates (in_times n drops (let x = sums n in let y = sums' n in omega arith))) h;
-            purged = λ l is. absurd (none_some is);
-          };
-          leaves = none_left _ _;
-          turns = turns_past k W.turns (set s.views id w) g.past (e ∷ g.past) (turns_same k s.views id v w here W.turns g.past p.turns refl refl) refl;
-          rings = record {
-            positive = p.rings.positive;
-            within = p.rings.within;
-            running = λ c. absurd (none_some (sym c));
-            half_resized = λ u is. subst (λ (y : HalfResize). IsResizing k.max_len W.producers W.slots (set s.views id w) len a'.bands y) (same_Some t u is) record {
-              len_is = refl;
-              len_positive = some_len;
-              len_within = fits;
-              kept = λ b h. sym (ap (λ (y : Work). y.kept) (each_at works b h));
-              ring = λ b h. subst (λ (y : List Lock × Work). IsHalfResized (at b W.slots) (at b W.producers) y.0 (resized (a.bands b) len) y.1.waiting y.1.slots y.1.hand)
-                  (λ j. (sym (same b) j, sym (each_at works b h) j))
-                  (begins _ _ _ _ _ _ (run.ring b h) id (at b v.locks) len (locks_here k s.views id v w here b) (locked b h).0 (locked b h).1 (rest_of W.size b g.ends rest).2 (distinct k (a.bands b).line (p.account.order.lines b)));
-              control = each_step (λ _. Unit {0}) IsLocker s.views id w (λ _ _ _. tt) (λ _ _ _. (live, holds))
-                  (λ j u apart at_j _ b h also. absurd (lock_alone (locks_at b s.views) id j (at b v.locks) (at b u.locks) (locks_here k s.views id v w here b) (at_map (λ (y : View). at b y.locks) s.views j u at_j) apart (run.ring b h).one (locked b h).0 also));
+          seats = seats_ruled k s r id v w here live e g.origin q' g' a' refl refl (λ j. (v.packets.fresh, v.settled, p.seats.trails.came id v here first j, e ∷ v.trail, v.whole.told)) first refl refl
+              (each_step (λ u. KnowsPackets k g.past a u.share u.packets) (λ u. KnowsPackets k (e ∷ g.past) a' u.share u.packets) s.views id w p.seats.packets
+              (let x = p.seats.packets id v here in let y = quiet_after k g.past a a e v.share v.packets refl (λ _. refl) x in record { own = y.own; fresh = y.fresh; owed = λ n z h. stays_decided n z (x.owed n z h) })
+              (λ j u _ _ x. let y = quiet_after k g.past a a e u.share u.packets refl (λ _. refl) x in record { own = y.own; fresh = y.fresh; owed = λ n z h. stays_decided n z (x.owed n z h) }))
+              (gone_step k s.views id v w here e tt p.seats.gone refl) (λ e1 e2. (ap (λ (z : Qdisc). record z { bands = map (λ (band : List Packet). take len band) z.bands; len = len }) e1, ap (λ (z : State). record z { past = e ∷ z.past; resizing = Some t }) e2));
+          machine = moves k s r id v w here live q' refl (closed s.views id v here live w q' at_control live (λ j. record v.place { position = position j }) stepped_) (λ y own. own)
+              (firsts_same k s.views id v w here q.phase q.phase q.purge q.purge p.machine.firsts live refl refl refl refl (λ h. h));
+          station = record {
+            stands = stands_same p.station.stands refl;
+            ties = record { bands_are = ap (λ (bs : List (List Packet)). map (λ (band : List Packet). take len band) bs) p.station.ties.bands_are ∙ bands_cut k.infos a.bands len; slot = p.station.ties.slot; len = refl; down = p.station.ties.down };
+            lends = lends_held k s r id v here live holds w q.locked W.xoff (e ∷ g.past) D' refl
+                (subst (λ (z : Position). Holder k.infos W.xoff (e ∷ g.past) D' z w.holder) (sym position) record {
+                  is = λ j. record (at_.is j) { resizing = Some t };
+                  in_hand = at_.in_hand;
+                  looked = λ _ y. absurd (omega arith);
+                  stopping = tt;
+                  alive = λ _. at_.alive refl;
+                });
+            fates = record {
+              stored = decides (length k.infos) W.fates (unstored s.views None None) a.fates p.station.fates.stored (unstored (set s.views id w) (Some t) None) a'.fates drops
+                  (λ n. let z = total_same (λ u. owes n u.packets.owed) s.views id v w here refl in let x = sums n in let y = sums' n in omega arith)
+                  (λ n. let x = sums n in let y = sums' n in let x0 = times_drop n len (held_in a 0) in let x1 = times_drop n len (held_in a 1) in let x2 = times_drop n len (held_in a 2) in let o = held_once k g.past a p.account.accounted n in omega arith)
+                  (λ n h. (no_fate a p.account.accounted.free n (waits-dropped len a n h), (fate.Shrunk event, with_fates_in drops n (fate.Shrunk event) a.fates h)))
+                  (λ n out. with_fates_out drops n (fate.Shrunk event) a.fates out);
+              shrunk = λ u is n h. subst (λ (y : HalfResize). 0 < waiting_of n y.works → a'.fates n ≡ Some (fate.Shrunk y.event)) (same_Some t u is)
+                  (λ some_. with_fates_in drops n (fate.Shrunk event) a.fates (in_times n drops (let x = sums n in let y = sums' n in omega arith))) h;
+              purged = λ l is. absurd (none_some is);
             };
+            rings = record {
+              positive = p.station.rings.positive;
+              within = p.station.rings.within;
+              running = λ c. absurd (none_some (sym c));
+              half_resized = λ u is. subst (λ (y : HalfResize). IsResizing k.max_len W.producers W.slots (set s.views id w) len a'.bands y) (same_Some t u is) record {
+                len_is = refl;
+                len_positive = some_len;
+                len_within = fits;
+                kept = λ b h. sym (ap (λ (y : Work). y.kept) (each_at works b h));
+                ring = λ b h. subst (λ (y : List Lock × Work). IsHalfResized (at b W.slots) (at b W.producers) y.0 (resized (a.bands b) len) y.1.waiting y.1.slots y.1.hand)
+                    (λ j. (sym (same b) j, sym (each_at works b h) j))
+                    (begins _ _ _ _ _ _ (run.ring b h) id (at b v.locks) len (locks_here k s.views id v w here b) (locked b h).0 (locked b h).1 (rest_of W.size b g.ends rest).2 (distinct k (a.bands b).line (p.account.accounted.order.lines b)));
+                control = each_step (λ _. Unit {0}) IsLocker s.views id w (λ _ _ _. tt) (λ _ _ _. (live, holds))
+                    (λ j u apart at_j _ b h also. absurd (lock_alone (locks_at b s.views) id j (at b v.locks) (at b u.locks) (locks_here k s.views id v w here b) (at_map (λ (y : View). at b y.locks) s.views j u at_j) apart (run.ring b h).one (locked b h).0 also));
+              };
+            };
+            stops = p.station.stops;
           };
-          account = account_step k g.past e p.account may tt tt;
-          find_nothing = (p.find_nothing, empty);
-          gone = gone_step k s.views id v w here e tt p.gone refl;
-          firsts = firsts_same k s.views id v w here q.phase q.phase q.purge q.purge p.firsts live refl refl refl refl (λ h. h);
-          sole = sole_step k s.views id v w here q q' g g' p.shares p.sole some_share refl refl
-              (λ e1 e2. (ap (λ (z : Qdisc). record z { bands = map (λ (band : List Packet). take len band) z.bands; len = len }) e1, ap (λ (z : State). record z { past = e ∷ z.past; resizing = Some t }) e2));
-          settled = settled_same s.views id v w here W.fates p.settled refl;
-          given = given_same k s.views id v w here W.turns p.given refl refl refl refl refl;
-          stops = p.stops;
-          device = p.device;
-          trails = trails_own k.infos s.views id v w here e refl p.trails p.firsts.one first refl refl (p.trails.came id v here first) refl;
+          account = account_heard k s r e refl may tt tt empty (none_left _ _);
         },
         (
           held,
           W.slots,
           refl,
           (λ b h. subst (λ (z : HolderPart). IsBeforeResize z.size k.max_len (at b W.slots) (held b) (at b z.ends)) (sym at_.is)
-              (unturned _ k.max_len _ _ _ _ _ (run.ring b h) (rest_of W.size b g.ends rest) (slots_long k s.words b r.wide h) (distinct k (a.bands b).line (p.account.order.lines b)))),
-          (λ b n _ h. (held-band k.infos k.station g.past a p.account.brought p.account.order b n h, (p.account.brought.packets n (held-brought p.account.brought b n h)).0)),
+              (unturned _ k.max_len _ _ _ _ _ (run.ring b h) (rest_of W.size b g.ends rest) (slots_long k s.words b r.wide h) (distinct k (a.bands b).line (p.account.accounted.order.lines b)))),
+          (λ b n _ h. (held-band k.infos k.station g.past a p.account.accounted.brought p.account.accounted.order b n h, (p.account.accounted.brought.packets n (held-brought p.account.accounted.brought b n h)).0)),
           (λ purged b below. nothing_in (held_in a b) (λ n is. none-in _ n (none_held (sym phase_is ∙ purged)) (band-held a b n below is))),
           λ sole b _. ap (λ (y : Account). held_in y b) (sym (knows_account k s r id v here some_share sole)),
         ),
@@ -216,14 +198,14 @@ module _ (k : Setup) where
   sets_producer slots id m b i t below holds under_way locked some_share s r1 deep here small =
       let v : View = m.0 in let r = resizing_rule k s r1 (Some t) (resizing_known k s r1 id v (Some t) here some_share holds under_way) in
       let p = r.parts in let g = r.state in let a = account k g in let W = words_of k s.words in let w : View = with_lock_at b (locked_at i) v in let live = lt-ltb 0 v.share.shares some_share in
-      let x : ℕ = 2 * i + 1 in let y = p.rings.half_resized t refl in
+      let x : ℕ = 2 * i + 1 in let y = p.station.rings.half_resized t refl in
       let new = reindexes _ _ _ _ _ _ _ id i (at b v.locks) (y.ring b below) (locks_here k s.views id v w here b) locked in (
         w,
         keeps,
         tt,
-        beside k s r (producer_place b) x id v (put b (locked_at i) v.locks) (put b x W.producers) W.slots here live some_share (set_producer k s.words x b below (let wide = r.wide in omega arith)) record {
-          positive = p.rings.positive;
-          within = p.rings.within;
+        beside k s r (producer_place b) x id v (put b (locked_at i) v.locks) (put b x W.producers) W.slots here live (set_producer k s.words x b below (let wide = r.wide in omega arith)) record {
+          positive = p.station.rings.positive;
+          within = p.station.rings.within;
           running = λ calm. absurd (none_some (sym calm));
           half_resized = λ u is. subst (λ (z : HalfResize). IsResizing k.max_len (put b x W.producers) W.slots (set s.views id w) a.len (bands_now g.left a.bands) z) (same_Some t u is) record {
             len_is = y.len_is;
@@ -250,59 +232,42 @@ module _ (k : Setup) where
   stores_size slots id m t holds under_way some_share ready s r1 deep here small =
       let v : View = m.0 in let r = resizing_rule k s r1 (Some t) (resizing_known k s r1 id v (Some t) here some_share holds under_way) in let live = lt-ltb 0 v.share.shares some_share in
       let p = r.parts in let g = r.state in let a = account k g in let q = r.qdisc in let W = words_of k s.words in let w : View = restarted t v in
-      let at_ = p.lends.knows id v here live holds in let mach = stays k s r id v w here live refl refl refl in
-      let res = p.rings.half_resized t refl in let ends' : Three Ends = all_three at_start in let g' : State = record g { ends = ends'; resizing = None } in let D' : HolderPart = holders g' a t.len in (
+      let at_ = p.station.lends.knows id v here live holds in let mach = stays k s r id v w here live refl refl refl in
+      let res = p.station.rings.half_resized t refl in let ends' : Three Ends = all_three at_start in let g' : State = record g { ends = ends'; resizing = None } in let D' : HolderPart = holders g' a t.len in (
         w,
         keeps,
         tt,
         rule_after k s r size_place t.len id s.homes r.home w (record W { size = t.len }) q g' a r.deep (set_size k s.words t.len (let wide = r.wide in omega arith)) refl record {
-          shares = shares_same k s.views id v w here live p.shares refl;
-          machine = mach.machine;
-          stands = record { state = p.stands.state; lock = p.stands.lock; xoff = p.stands.xoff; inside = p.stands.inside; bypass = p.stands.bypass };
-          ties = p.ties;
-          lends = lends_held k s r id v here live holds w q.locked W.xoff g.past D' refl record {
-            is = λ j. record (at_.is j) { size = t.len; ends = ends'; resizing = None };
-            in_hand = at_.in_hand;
-            looked = at_.looked;
-            stopping = at_.stopping;
-            alive = at_.alive;
-          };
-          sends = p.sends;
-          packets = packets_same k s.views id v w here g.past a p.packets refl refl;
-          hands = mach.hands;
-          fates = record {
-            stored = stored_as (length k.infos) W.fates (unstored s.views (Some t) g.left) a.fates p.fates.stored (unstored (set s.views id w) None g.left) a.fates
-                (λ n. let z = total_same (λ u. owes n u.packets.owed) s.views id v w here refl in let none_ : (b : ℕ) → b < 3 → times n (at b t.works).waiting ≡ 0 = λ b h. ap (times n) (ready b h).2 in let x0 = none_ 0 (omega arith) in let x1 = none_ 1 (omega arith) in let x2 = none_ 2 (omega arith) in omega arith)
-                (λ _. refl);
-            shrunk = λ u is. absurd (none_some is);
-            purged = p.fates.purged;
-          };
-          leaves = p.leaves;
-          turns = turns_same k s.views id v w here W.turns g.past p.turns refl refl;
-          rings = record {
-            positive = res.len_positive;
-            within = res.len_within;
-            running = λ _. record {
-              size_is = sym res.len_is;
-              ring = λ b h. let old = res.ring b h in let y = ready b h in let at_l = locks_here k s.views id v w here b in let few = old.one in let now = bands_now g.left a.bands b in
-                  let line : now.line ≡ (at b t.works).kept = res.kept b h in
-                  let index : old.index ≡ round t.len (length now.line) = sym (old.knows id (at b v.locks) at_l (ap (λ (x : Lock). x.holds) y.1)) ∙ (ap (λ (x : Lock). x.index) y.1 ∙ ap (λ (ls : List ℕ). round t.len (length ls)) (sym line)) in
-                  subst (λ (z : List Lock × Ends). IsRing t.len (at b W.slots) (at b W.producers) z.0 now z.1) (λ j. (sym (locks_same k s.views id v w here b refl) j, sym (at_all b at_start) j))
-                  (restarts t.len _ _ _ _ _ _ _ old res.len_positive (subst (λ (z : List ℕ × List ℕ). IsRefilled z.0 z.1 t.len) (λ j. (sym old.known_is j, sym line j)) y.0) index
-                  (just_got _ id _ (at b v.locks) at_l y.1 (omega arith)));
+          seats = seats_same k s r id v w here live q g' refl refl refl (λ e1 e2. (e1, ap (λ (z : State). record z { ends = ends'; resizing = None }) e2));
+          machine = mach;
+          station = record {
+            stands = stands_same p.station.stands refl;
+            ties = p.station.ties;
+            lends = lends_held k s r id v here live holds w q.locked W.xoff g.past D' refl (holder_now at_ refl (λ j. record (at_.is j) { size = t.len; ends = ends'; resizing = None }));
+            fates = record {
+              stored = stored_as (length k.infos) W.fates (unstored s.views (Some t) g.left) a.fates p.station.fates.stored (unstored (set s.views id w) None g.left) a.fates
+                  (λ n. let z = total_same (λ u. owes n u.packets.owed) s.views id v w here refl in let none_ : (b : ℕ) → b < 3 → times n (at b t.works).waiting ≡ 0 = λ b h. ap (times n) (ready b h).2 in let x0 = none_ 0 (omega arith) in let x1 = none_ 1 (omega arith) in let x2 = none_ 2 (omega arith) in omega arith)
+                  (λ _. refl);
+              shrunk = λ u is. absurd (none_some is);
+              purged = p.station.fates.purged;
             };
-            half_resized = λ u is. absurd (none_some is);
+            rings = record {
+              positive = res.len_positive;
+              within = res.len_within;
+              running = λ _. record {
+                size_is = sym res.len_is;
+                ring = λ b h. let old = res.ring b h in let y = ready b h in let at_l = locks_here k s.views id v w here b in let few = old.one in let now = bands_now g.left a.bands b in
+                    let line : now.line ≡ (at b t.works).kept = res.kept b h in
+                    let index : old.index ≡ round t.len (length now.line) = sym (old.knows id (at b v.locks) at_l (ap (λ (x : Lock). x.holds) y.1)) ∙ (ap (λ (x : Lock). x.index) y.1 ∙ ap (λ (ls : List ℕ). round t.len (length ls)) (sym line)) in
+                    subst (λ (z : List Lock × Ends). IsRing t.len (at b W.slots) (at b W.producers) z.0 now z.1) (λ j. (sym (locks_same k s.views id v w here b refl) j, sym (at_all b at_start) j))
+                    (restarts t.len _ _ _ _ _ _ _ old res.len_positive (subst (λ (z : List ℕ × List ℕ). IsRefilled z.0 z.1 t.len) (λ j. (sym old.known_is j, sym line j)) y.0) index
+                    (just_got _ id _ (at b v.locks) at_l y.1 (omega arith)));
+              };
+              half_resized = λ u is. absurd (none_some is);
+            };
+            stops = p.station.stops;
           };
           account = p.account;
-          find_nothing = p.find_nothing;
-          gone = gone_same k s.views id v w here p.gone refl;
-          firsts = mach.firsts;
-          sole = sole_step k s.views id v w here q q g g' p.shares p.sole some_share refl refl (λ e1 e2. (e1, ap (λ (z : State). record z { ends = ends'; resizing = None }) e2));
-          settled = settled_same s.views id v w here W.fates p.settled refl;
-          given = given_same k s.views id v w here W.turns p.given refl refl refl refl refl;
-          stops = p.stops;
-          device = p.device;
-          trails = trails_same k.infos s.views id v w here p.trails refl refl refl refl refl;
         },
         refl,
       )

@@ -26,14 +26,13 @@ use Rattle.lq_band.proofs.StoredKept.{stored_as}
 use Rattle.lq_band.proofs.HalfResizedKept.{clears, clears_other, fills}
 use Rattle.lq_table.specs.Views.{View, Setup, State, HolderPart, HalfResize, Work, Left}
 use Rattle.lq_table.specs.Rule.{words_of, slot_word, account, holders, owes, waiting_of, unstored, FatesStored, bands_now, Leaves, IsResizing, locks_at, Settled, Parts, Rule}
-use Rattle.lq_table.proofs.UnitsKept.{gone_same}
 use Rattle.lq_table.specs.Told.{Sat}
 use Rattle.lq_table.specs.Resizes.{is_word, is_member, hand_with, out_of, into, with_work, with_resizing, slot_cleared, slot_filled}
 use Rattle.lq_table.proofs.ByName.{slots_long, set_slot, slot_of}
 use Rattle.lq_table.proofs.SettledKept.{settled_same}
-use Rattle.lq_table.proofs.GivenKept.{given_same}
-use Rattle.lq_table.proofs.TrailsKept.{trails_same}
-use Rattle.lq_table.proofs.Frames.{none_some, shares_same, packets_same, turns_same, locks_same, control_same, sole_step, rule_after, stays, lends_held}
+use Rattle.lq_table.proofs.Frames.{none_some, packets_same, locks_same, control_same, rule_after, stays, lends_held, holder_now}
+use Rattle.lq_table.proofs.SeatFrames.{seats_settled, sole_on}
+use Rattle.lq_table.proofs.StationFrames.{stands_same}
 
 -- WORDS OF PACKETS
 
@@ -83,7 +82,7 @@ resizing_rule k s r o is = record {
 
 -- what the holder knows of the resize is so
 pub resizing_known : (k : Setup) (s : table.State (Option StationState) View) (r : Rule k s) (id : ℕ) (v : View) (o : Option HalfResize) → get_elem? s.views id ≡ some v → 0 < v.share.shares → holds_lock v.place.position ≡ true → v.holder.resizing ≡ o → r.state.resizing ≡ o
-resizing_known k s r id v o here some_share holds under_way = sym (ap (λ (h : HolderPart). h.resizing) (r.parts.lends.knows id v here (lt-ltb 0 v.share.shares some_share) holds).is) ∙ under_way
+resizing_known k s r id v o here some_share holds under_way = sym (ap (λ (h : HolderPart). h.resizing) (r.parts.station.lends.knows id v here (lt-ltb 0 v.share.shares some_share) holds).is) ∙ under_way
 
 -- a purge takes packets from a line, and leaves the line
 line_now : (left : Option Left) (purge : Option Purge) (a : Account) → Leaves left purge a → (b : ℕ) → b < 3 → (bands_now left a.bands b).line ≡ (a.bands b).line
@@ -101,58 +100,42 @@ module _ (k : Setup) where
   works_on s r1 i x id b v t y sb fs more here some_share holds under_way below is kept_same new stored settled_are =
       let r = resizing_rule k s r1 (Some t) (resizing_known k s r1 id v (Some t) here some_share holds under_way) in let live = lt-ltb 0 v.share.shares some_share in
       let p = r.parts in let g = r.state in let a = account k g in let q = r.qdisc in let W = words_of k s.words in let t' : HalfResize = with_work b y t in let w : View = record (with_resizing (Some t') v) { settled = more } in
-      let g' : State = record g { resizing = Some t' } in let D' : HolderPart = holders g' a W.size in let res = p.rings.half_resized t refl in let at_ = p.lends.knows id v here live holds in let mach = stays k s r id v w here live refl refl refl in
+      let g' : State = record g { resizing = Some t' } in let D' : HolderPart = holders g' a W.size in let res = p.station.rings.half_resized t refl in let at_ = p.station.lends.knows id v here live holds in let mach = stays k s r id v w here live refl refl refl in
       let same : (c : ℕ) → locks_at c (set s.views id w) ≡ locks_at c s.views = λ c. locks_same k s.views id v w here c refl in
       rule_after k s r i x id s.homes r.home w (record W { slots = put b sb W.slots; fates = fs }) q g' a r.deep is refl record {
-        shares = shares_same k s.views id v w here live p.shares refl;
-        machine = mach.machine;
-        stands = record { state = p.stands.state; lock = p.stands.lock; xoff = p.stands.xoff; inside = p.stands.inside; bypass = p.stands.bypass };
-        ties = p.ties;
-        lends = lends_held k s r id v here live holds w q.locked W.xoff g.past D' refl record {
-          is = λ j. record (at_.is j) { resizing = Some t' };
-          in_hand = at_.in_hand;
-          looked = at_.looked;
-          stopping = at_.stopping;
-          alive = at_.alive;
-        };
-        sends = p.sends;
-        packets = packets_same k s.views id v w here g.past a p.packets refl refl;
-        hands = mach.hands;
-        fates = stored;
-        leaves = p.leaves;
-        turns = turns_same k s.views id v w here W.turns g.past p.turns refl refl;
-        rings = record {
-          positive = p.rings.positive;
-          within = p.rings.within;
-          running = λ calm. absurd (none_some (sym calm));
-          half_resized = λ u now. subst (λ (z : HalfResize). IsResizing k.max_len W.producers (put b sb W.slots) (set s.views id w) a.len (bands_now g.left a.bands) z) (same_Some t' u now) record {
-            len_is = res.len_is;
-            len_positive = res.len_positive;
-            len_within = res.len_within;
-            kept = λ c l. res.kept c l ∙ ⊎_elim
-                (λ (e : c ≡ b). subst (λ (z : ℕ). (at z t.works).kept ≡ (at z t'.works).kept) (sym e) (sym kept_same ∙ sym (ap (λ (z : Work). z.kept) (at_put_same b y t.works))))
-                (λ (n : c ≢ b). sym (ap (λ (z : Work). z.kept) (at_put_other b c y t.works below l n)))
-                (cases_eq c b);
-            ring = λ c l. ⊎_elim
-                (λ (e : c ≡ b). subst (λ (z : ℕ). IsHalfResized (at z (put b sb W.slots)) (at z W.producers) (locks_at z (set s.views id w)) (bands_now g.left a.bands z) (at z t'.works).waiting (at z t'.works).slots (at z t'.works).hand) (sym e)
-                (subst (λ (z : List ℕ × List Lock × Work). IsHalfResized z.0 (at b W.producers) z.1 (bands_now g.left a.bands b) z.2.waiting z.2.slots z.2.hand)
-                (λ j. (sym (at_put_same b sb W.slots) j, sym (same b) j, sym (at_put_same b y t.works) j)) new))
-                (λ (n : c ≢ b). subst (λ (z : List ℕ × List Lock × Work). IsHalfResized z.0 (at c W.producers) z.1 (bands_now g.left a.bands c) z.2.waiting z.2.slots z.2.hand)
-                (λ j. (sym (at_put_other b c sb W.slots below l n) j, sym (same c) j, sym (at_put_other b c y t.works below l n) j)) (res.ring c l))
-                (cases_eq c b);
-            control = control_same k s.views id v w here res.control (λ c l z. z) (λ l h. (l, h));
+        seats = seats_settled k s r id v w here live fs q g' refl refl refl (packets_same k s.views id v w here g.past a p.seats.packets refl refl) settled_are
+            (sole_on k s r id v w here live q g' refl refl (λ e1 e2. (e1, ap (λ (z : State). record z { resizing = Some t' }) e2)));
+        machine = mach;
+        station = record {
+          stands = stands_same p.station.stands refl;
+          ties = p.station.ties;
+          lends = lends_held k s r id v here live holds w q.locked W.xoff g.past D' refl (holder_now at_ refl (λ j. record (at_.is j) { resizing = Some t' }));
+          fates = stored;
+          rings = record {
+            positive = p.station.rings.positive;
+            within = p.station.rings.within;
+            running = λ calm. absurd (none_some (sym calm));
+            half_resized = λ u now. subst (λ (z : HalfResize). IsResizing k.max_len W.producers (put b sb W.slots) (set s.views id w) a.len (bands_now g.left a.bands) z) (same_Some t' u now) record {
+              len_is = res.len_is;
+              len_positive = res.len_positive;
+              len_within = res.len_within;
+              kept = λ c l. res.kept c l ∙ ⊎_elim
+                  (λ (e : c ≡ b). subst (λ (z : ℕ). (at z t.works).kept ≡ (at z t'.works).kept) (sym e) (sym kept_same ∙ sym (ap (λ (z : Work). z.kept) (at_put_same b y t.works))))
+                  (λ (n : c ≢ b). sym (ap (λ (z : Work). z.kept) (at_put_other b c y t.works below l n)))
+                  (cases_eq c b);
+              ring = λ c l. ⊎_elim
+                  (λ (e : c ≡ b). subst (λ (z : ℕ). IsHalfResized (at z (put b sb W.slots)) (at z W.producers) (locks_at z (set s.views id w)) (bands_now g.left a.bands z) (at z t'.works).waiting (at z t'.works).slots (at z t'.works).hand) (sym e)
+                  (subst (λ (z : List ℕ × List Lock × Work). IsHalfResized z.0 (at b W.producers) z.1 (bands_now g.left a.bands b) z.2.waiting z.2.slots z.2.hand)
+                  (λ j. (sym (at_put_same b sb W.slots) j, sym (same b) j, sym (at_put_same b y t.works) j)) new))
+                  (λ (n : c ≢ b). subst (λ (z : List ℕ × List Lock × Work). IsHalfResized z.0 (at c W.producers) z.1 (bands_now g.left a.bands c) z.2.waiting z.2.slots z.2.hand)
+                  (λ j. (sym (at_put_other b c sb W.slots below l n) j, sym (same c) j, sym (at_put_other b c y t.works below l n) j)) (res.ring c l))
+                  (cases_eq c b);
+              control = control_same k s.views id v w here res.control (λ c l z. z) (λ l h. (l, h));
+            };
           };
+          stops = p.station.stops;
         };
         account = p.account;
-        find_nothing = p.find_nothing;
-        gone = gone_same k s.views id v w here p.gone refl;
-        firsts = mach.firsts;
-        sole = sole_step k s.views id v w here q q g g' p.shares p.sole some_share refl refl (λ e1 e2. (e1, ap (λ (z : State). record z { resizing = Some t' }) e2));
-        settled = settled_are;
-        given = given_same k s.views id v w here W.turns p.given refl refl refl refl refl;
-        stops = p.stops;
-        device = p.device;
-        trails = trails_same k.infos s.views id v w here p.trails refl refl refl refl refl;
       }
 
   -- where the same packets wait, the fates stand as they are
@@ -171,8 +154,8 @@ module _ (k : Setup) where
   resizing_packet : (s : table.State (Option StationState) View) (r : Rule k s) (t : HalfResize) → r.state.resizing ≡ Some t → (b : ℕ) → b < 3 → (n : ℕ) → Contains ((at b t.works).kept ++ (at b t.works).waiting) n → n < length k.infos
   resizing_packet s r t now b below n member =
       let p = r.parts in let a = account k r.state in ⊎_elim
-      (λ (kept : Contains (at b t.works).kept n). let line = subst (λ (ls : List ℕ). Contains ls n) (sym ((p.rings.half_resized t now).kept b below)) kept in (p.account.brought.packets n (p.account.brought.lines b n (subst (λ (ls : List ℕ). Contains ls n) (line_now r.state.left r.qdisc.purge a p.leaves b below) line))).0)
-      (λ (waiting : Contains (at b t.works).waiting n). (p.account.brought.packets n (p.account.brought.fates n _ (p.fates.shrunk t now n (let x = times_in n (at b t.works).waiting waiting in let y = waiting_at n b t.works in omega arith)))).0)
+      (λ (kept : Contains (at b t.works).kept n). let line = subst (λ (ls : List ℕ). Contains ls n) (sym ((p.station.rings.half_resized t now).kept b below)) kept in (p.account.accounted.brought.packets n (p.account.accounted.brought.lines b n (subst (λ (ls : List ℕ). Contains ls n) (line_now r.state.left r.qdisc.purge a p.account.leaves b below) line))).0)
+      (λ (waiting : Contains (at b t.works).waiting n). (p.account.accounted.brought.packets n (p.account.accounted.brought.fates n _ (p.station.fates.shrunk t now n (let x = times_in n (at b t.works).waiting waiting in let y = waiting_at n b t.works in omega arith)))).0)
       (Contains-append_cases (at b t.works).kept (at b t.works).waiting n member)
 
   module _ (slots id : ℕ) (m : Sat) (b i : ℕ) (t : HalfResize) (below : b < 3) (inside : i < k.max_len) (holds : holds_lock m.0.place.position ≡ true) (under_way : m.0.holder.resizing ≡ Some t) (some_share : 0 < m.0.share.shares) where
@@ -183,7 +166,7 @@ module _ (k : Setup) where
     pub clears_slot : length k.infos ≤ 1000000 → Allows (Rule k) slots id m word (λ _. 0) (slot_cleared b i t (step slots word 0 0 none) m)
     clears_slot few s r1 deep here small =
         let v : View = m.0 in let r = resizing_rule k s r1 (Some t) (resizing_known k s r1 id v (Some t) here some_share holds under_way) in let p = r.parts in let g = r.state in let W = words_of k s.words in
-        let a = account k g in let res = p.rings.half_resized t refl in let old = res.ring b below in let x : Work = at b t.works in let f : ℕ = get_or x.slots i 0 in
+        let a = account k g in let res = p.station.rings.half_resized t refl in let old = res.ring b below in let x : Work = at b t.works in let f : ℕ = get_or x.slots i 0 in
         let long : i < length (at b W.slots) = (let l = slots_long k s.words b r.wide below in omega arith) in
         let there : get_or (at b W.slots) i 0 ≡ f = ap (λ (xs : List ℕ). get_or xs i 0) old.known_is in
         let found : get_or s.words word 0 ≡ f = slot_of k s.words b i below inside ∙ there in
@@ -197,8 +180,8 @@ module _ (k : Setup) where
           with_resizing (Some (with_work b (out_of i x) t)) v,
           keeps,
           tt,
-          works_on s r word 0 id b v t (out_of i x) (set (at b W.slots) i 0) W.fates v.settled here some_share holds under_way below (set_slot k s.words 0 b i below inside) refl both.0 (fates_resizing s.views id v W.fates a b t (out_of i x) g.left here refl p.fates)
-              (settled_same s.views id v (with_resizing (Some (with_work b (out_of i x) t)) v) here W.fates p.settled refl),
+          works_on s r word 0 id b v t (out_of i x) (set (at b W.slots) i 0) W.fates v.settled here some_share holds under_way below (set_slot k s.words 0 b i below inside) refl both.0 (fates_resizing s.views id v W.fates a b t (out_of i x) g.left here refl p.station.fates)
+              (settled_same s.views id v (with_resizing (Some (with_work b (out_of i x) t)) v) here W.fates p.seats.settled refl),
           (found, refl, λ yes_. let y = both.1 (sym (ap (λ (z : ℕ). is_member z x) found) ∙ yes_) in let e : get_or s.words word 0 ≡ f = found in omega arith),
         )
 
@@ -207,12 +190,12 @@ module _ (k : Setup) where
     fills_slot n hand has_it empty_ s r1 deep here small =
         let v : View = m.0 in let r = resizing_rule k s r1 (Some t) (resizing_known k s r1 id v (Some t) here some_share holds under_way) in let p = r.parts in let g = r.state in let W = words_of k s.words in let a = account k g in
         let y : Work = at b t.works in
-        let old = subst (λ (ls : List ℕ). IsHalfResized (at b W.slots) (at b W.producers) (locks_at b s.views) (bands_now g.left a.bands b) y.waiting y.slots ls) has_it ((p.rings.half_resized t refl).ring b below) in
+        let old = subst (λ (ls : List ℕ). IsHalfResized (at b W.slots) (at b W.producers) (locks_at b s.views) (bands_now g.left a.bands b) y.waiting y.slots ls) has_it ((p.station.rings.half_resized t refl).ring b below) in
         let new = fills _ _ _ _ _ _ hand n old i (let l = slots_long k s.words b r.wide below in omega arith) (ap (λ (xs : List ℕ). get_or xs i 0) old.known_is ∙ empty_) in (
           with_resizing (Some (with_work b (into i n hand y) t)) v,
           keeps,
           tt,
-          works_on s r word (n + 1) id b v t (into i n hand y) (set (at b W.slots) i (n + 1)) W.fates v.settled here some_share holds under_way below (set_slot k s.words (n + 1) b i below inside) refl new (fates_resizing s.views id v W.fates a b t (into i n hand y) g.left here refl p.fates)
-              (settled_same s.views id v (with_resizing (Some (with_work b (into i n hand y) t)) v) here W.fates p.settled refl),
+          works_on s r word (n + 1) id b v t (into i n hand y) (set (at b W.slots) i (n + 1)) W.fates v.settled here some_share holds under_way below (set_slot k s.words (n + 1) b i below inside) refl new (fates_resizing s.views id v W.fates a b t (into i n hand y) g.left here refl p.station.fates)
+              (settled_same s.views id v (with_resizing (Some (with_work b (into i n hand y) t)) v) here W.fates p.seats.settled refl),
           refl,
         )

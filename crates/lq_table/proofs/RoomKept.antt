@@ -108,8 +108,8 @@ same_serial u s t e = ap serial_of (same_Some _ _ e)
 -- with a packet in hand the device has room
 pub has_room : (k : Setup) (s : table.State (Option StationState) View) (r : Rule k s) (n : ℕ) → (account k r.state).hand ≡ Some n → (0 < r.state.station.device.spare) × (length r.state.station.device.accepted < length k.infos)
 has_room k s r n hand =
-    let p = r.parts in let a = account k r.state in let xs : List ℕ = r.state.station.device.accepted in let acc = p.account in
-    let fate : (i l : ℕ) → slice_get xs i ≡ Some l → a.fates l ≡ Some (Sent a.unit i) = λ i l is. acc.sent l a.unit i (ap (λ (zs : List ℕ). slice_get zs i) p.sends.sent ∙ is) in
+    let p = r.parts in let a = account k r.state in let xs : List ℕ = r.state.station.device.accepted in let acc = p.account.accounted in
+    let fate : (i l : ℕ) → slice_get xs i ≡ Some l → a.fates l ≡ Some (Sent a.unit i) = λ i l is. acc.sent l a.unit i (ap (λ (zs : List ℕ). slice_get zs i) p.account.sends.sent ∙ is) in
     let once : (l : ℕ) → times l xs ≤ 1 = once_if xs (λ i j l is is'. same_serial a.unit i j (sym (fate i l is) ∙ fate j l is')) in
     let known : (l : ℕ) → 0 < times l xs → (f : Fate) × (a.fates l ≡ Some f) = λ l h. (let has = in_times l xs h in (Sent a.unit has.0, fate has.0 l (slice_get_read xs (length xs) has.0 l refl has.1 (sym has.2)))) in
     let new : times n xs ≡ 0 = times_none n xs (λ has. let f = known n (times_in n xs has) in acc.free n f.0 (in_hand hand) f.1) in
@@ -118,4 +118,4 @@ has_room k s r n hand =
     (λ l h. ⊎_elim (λ (same : l ≡ n). subst (λ (y : ℕ). (y < length k.infos) × (station_in k.infos y ≡ k.station)) (sym same) (acc.brought.packets n (acc.brought.hand n hand)))
     (λ (other : l ≢ n). let t = times_other l n xs other in let f = known l (omega arith) in acc.brought.packets l (acc.brought.fates l f.0 f.1)) (cases_eq l n)) in
     let all : station_count k.infos k.station ≤ length k.infos = count_by-le-length (λ (info : Info). info.station == k.station) k.infos in
-    let room = p.device.room in (omega arith, omega arith)
+    let room = p.account.device.room in (omega arith, omega arith)

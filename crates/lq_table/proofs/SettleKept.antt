@@ -48,17 +48,17 @@ module _ (k : Setup) where
       → Allows (Rule k) slots id m (fates_offset k + n) (λ _. word_of (fate.Shrunk event)) (λ _. fate_stored st b n (fate.Shrunk event) (step slots (fates_offset k + n) (word_of (fate.Shrunk event)) 0 none) m (word_of (fate.Shrunk event)))
   settles_shrunk slots id st m b n event below has_word some_share may s r1 deep here small =
       let v : View = m.0 in let t : HalfResize = may.resizing in let r = resizing_rule k s r1 (Some t) (resizing_known k s r1 id v (Some t) here some_share may.holds may.under_way) in
-      let p = r.parts in let g = r.state in let a = account k g in let W = words_of k s.words in let res = p.rings.half_resized t refl in
+      let p = r.parts in let g = r.state in let a = account k g in let W = words_of k s.words in let res = p.station.rings.half_resized t refl in
       let old : Work = at b t.works in let x : Work = settled_work old in let t' : HalfResize = with_work b x t in let w : View = record (with_resizing (Some t') v) { settled = (n, fate.Shrunk event) ∷ v.settled } in let x_waits : x.waiting ≡ may.waiting = ap (drop 1) may.first in let x_hand : x.hand ≡ may.hand = ap (drop 1) may.in_hand in
       let here_once : times n old.waiting ≡ times n may.waiting + 1 = ap (times n) may.first ∙ times_same n n may.waiting refl in
       let at_b = waiting_at n b t.works in
-      let is : a.fates n ≡ Some (fate.Shrunk event) = p.fates.shrunk t refl n (omega arith) ∙ ap (λ (z : ℕ). Some (fate.Shrunk z)) may.event_is in
-      let inside : n < length k.infos = (p.account.brought.packets n (p.account.brought.fates n (fate.Shrunk event) is)).0 in
+      let is : a.fates n ≡ Some (fate.Shrunk event) = p.station.fates.shrunk t refl n (omega arith) ∙ ap (λ (z : ℕ). Some (fate.Shrunk z)) may.event_is in
+      let inside : n < length k.infos = (p.account.accounted.brought.packets n (p.account.accounted.brought.fates n (fate.Shrunk event) is)).0 in
       let under_way = subst (λ (z : List ℕ × List ℕ). IsHalfResized (at b W.slots) (at b W.producers) (locks_at b s.views) (bands_now g.left a.bands b) z.0 old.slots z.1) (λ j. (may.first j, may.in_hand j)) (res.ring b below) in
       let now = bands_now g.left a.bands b in
       let out : Contains (now.line ++ may.waiting) n → ⊥ = λ h. ⊎_elim
-      (λ (line : Contains now.line n). ⊎_elim (λ held. p.account.free n (fate.Shrunk event) (waits-held a n held) is) (λ left. let o = p.fates.stored.once n in absurd (omega arith)) (held_there g.left a b n below under_way.none_taken line))
-      (λ (more : Contains may.waiting n). let y = times_in n may.waiting more in let o = p.fates.stored.once n in absurd (omega arith))
+      (λ (line : Contains now.line n). ⊎_elim (λ held. p.account.accounted.free n (fate.Shrunk event) (waits-held a n held) is) (λ left. let o = p.station.fates.stored.once n in absurd (omega arith)) (held_there g.left a b n below under_way.none_taken line))
+      (λ (more : Contains may.waiting n). let y = times_in n may.waiting more in let o = p.station.fates.stored.once n in absurd (omega arith))
       (Contains-append_cases now.line may.waiting n h) in
       let new = subst (λ (z : List ℕ × List ℕ). IsHalfResized (at b W.slots) (at b W.producers) (locks_at b s.views) now z.0 old.slots z.1) (λ j. (sym x_waits j, sym x_hand j)) (shrinks _ _ _ _ _ _ _ n under_way out) in
       let waits = λ (l : ℕ). waiting_put l b x t.works in
@@ -69,14 +69,14 @@ module _ (k : Setup) where
         tt,
         works_on k s r (fates_offset k + n) f id b v t x (at b W.slots) (set W.fates n f) ((n, fate.Shrunk event) ∷ v.settled) here some_share may.holds may.under_way below
             (set_fate k s.words f n inside ∙ (λ j. record W { slots = sym (put_at b W.slots) j; fates = set W.fates n f })) refl new record {
-              stored = settles (length k.infos) W.fates (unstored s.views (Some t) g.left) a.fates p.fates.stored (unstored (set s.views id w) (Some t') g.left) n (fate.Shrunk event) inside is
+              stored = settles (length k.infos) W.fates (unstored s.views (Some t) g.left) a.fates p.station.fates.stored (unstored (set s.views id w) (Some t') g.left) n (fate.Shrunk event) inside is
                   (let z = total_same (λ u. owes n u.packets.owed) s.views id v w here refl in let y = waits n in let e = ap (times n) x_waits in omega arith)
                   (λ l no_. let z = total_same (λ u. owes l u.packets.owed) s.views id v w here refl in let y = waits l in let e = ap (times l) x_waits in let c = ap (times l) may.first ∙ times_other l n may.waiting no_ in omega arith);
-              shrunk = λ u e l h. p.fates.shrunk t refl l (let y = waits l in let c = ap (times l) x_waits in let h' : 0 < waiting_of l t'.works = subst (λ (y : HalfResize). 0 < waiting_of l y.works) (sym (same_Some t' u e)) h in let q : times l old.waiting ≡ times l (n ∷ may.waiting) = ap (times l) may.first in omega arith)
+              shrunk = λ u e l h. p.station.fates.shrunk t refl l (let y = waits l in let c = ap (times l) x_waits in let h' : 0 < waiting_of l t'.works = subst (λ (y : HalfResize). 0 < waiting_of l y.works) (sym (same_Some t' u e)) h in let q : times l old.waiting ≡ times l (n ∷ may.waiting) = ap (times l) may.first in omega arith)
                   ∙ ap (λ (y : HalfResize). Some (fate.Shrunk y.event)) (same_Some t' u e);
-              purged = p.fates.purged;
+              purged = p.station.fates.purged;
             }
-            (settled_stored s.views id v w here W.fates n (fate.Shrunk event) has_word (p.fates.stored.zero n (omega arith)) (let long = p.fates.stored.long in omega arith) p.settled refl),
+            (settled_stored s.views id v w here W.fates n (fate.Shrunk event) has_word (p.station.fates.stored.zero n (omega arith)) (let long = p.station.fates.stored.long in omega arith) p.seats.settled refl),
         ap (λ (y : View). (y, m.1)) is_view,
       )
 

@@ -74,7 +74,7 @@ module _ (k : Setup) (slots id : ℕ) (m : Sat) where
   -- no other seat holds the run lock, so no exchange of the device is half done
   none_shut : m.0.place.position ≡ Idle → 0 < m.0.share.shares → (s : table.State (Option StationState) View) → Rule k s → get_elem? s.views id ≡ some m.0 → IsSole m.0 → m.0.whole.state.shut ≡ None
   none_shut at some_share s r here sole = ap (λ (g : State). g.shut) (knows_state k s r id m.0 here some_share sole)
-      ∙ free_none r.qdisc.phase r.qdisc.locked r.qdisc.xoff (account k r.state).stops r.state.shut (unlocked k s r (rests k s r id m.0 here sole.0 (ap at_rest at))) r.parts.stops
+      ∙ free_none r.qdisc.phase r.qdisc.locked r.qdisc.xoff (account k r.state).stops r.state.shut (unlocked k s r (rests k s r id m.0 here sole.0 (ap at_rest at))) r.parts.station.stops
 
   pub looks_stop_sole : (queue : ℕ) → m.0.place.position ≡ Idle → 0 < m.0.share.shares → Allows (Rule k) slots id m (xoff_word k queue) (λ n. n) (stop_looked_all queue (step slots (xoff_word k queue) 0 0 none) m)
   looks_stop_sole queue at some_share s r deep here small = (m.0, keeps, tt, rule_same k s r (xoff_word k queue) id m.0 here, (refl, λ sole. sees_stop k s r id m.0 here some_share sole (none_shut at some_share s r here sole) queue))
@@ -88,8 +88,8 @@ module _ (k : Setup) (slots id : ℕ) (m : Sat) where
       → (s : table.State (Option StationState) View) → Rule k s → get_elem? s.views id ≡ some m.0 → TellsHead b m.0 (get_or s.words (slot_word k b i) 0)
   sees_first b i second below inside position no_resizing rests is_head some_share s r0 here =
       let v : View = m.0 in let live = lt-ltb 0 v.share.shares some_share in let r = calm_rule k s r0 id v here live (ap may_be_inside position) (ap is_control position) in let p = r.parts in let g = r.state in let a = account k g in let W = words_of k s.words in
-      let at_scan = p.lends.knows id v here live (ap holds_lock position) in
-      let calm : g.resizing ≡ None = sym (ap (λ (x : HolderPart). x.resizing) at_scan.is) ∙ no_resizing in let old = (p.rings.running calm).ring b below in
+      let at_scan = p.station.lends.knows id v here live (ap holds_lock position) in
+      let calm : g.resizing ≡ None = sym (ap (λ (x : HolderPart). x.resizing) at_scan.is) ∙ no_resizing in let old = (p.station.rings.running calm).ring b below in
       let c : Ends = at b g.ends in let c_is : at b v.holder.ends ≡ c = ap (λ (x : HolderPart). at b x.ends) at_scan.is in
       let f : ℕ = get_or s.words (slot_word k b i) 0 in
       let word : f ≡ get_or (at b W.slots) c.head 0 = slot_of k s.words b i below inside ∙ ap (λ (x : ℕ). get_or (at b W.slots) x 0) (is_head ∙ ap (λ (x : Ends). x.head) c_is) in

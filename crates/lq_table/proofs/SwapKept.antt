@@ -18,25 +18,23 @@ use Rattle.lq_model.specs.Machine.{Qdisc}
 use Rattle.lq_model.specs.Control.{is_control, is_purged_phase}
 use Rattle.lq_model.specs.Positions.{holds_lock}
 use Rattle.lq_model.specs.Kept.{IsInductive}
-use Rattle.lq_band.proofs.Seats.{each_step}
 use Rattle.lq_table.specs.Places.{line_of}
 use Rattle.lq_table.specs.Views.{View, Setup, State, HolderPart, machine_packet, first_account}
-use Rattle.lq_table.specs.Rule.{HasServed, IsCallOf, IsDevice, latest_unit, Opening, AreStops, xoff_word, station_count, words_of, account, holders, last_sent, units_of, KnowsPackets, Holder, bands_now, Rule}
-use Rattle.lq_table.proofs.UnitsKept.{fewer, unit_is_latest, BringsNone, gone_same, gone_swap}
+use Rattle.lq_table.specs.Rule.{HasServed, IsCallOf, IsDevice, latest_unit, Opening, AreStops, xoff_word, station_count, words_of, account, holders, last_sent, units_of, Holder, Rule}
+use Rattle.lq_table.proofs.UnitsKept.{fewer, unit_is_latest, BringsNone, gone_swap}
 use Rattle.lq_table.specs.Told.{Sat}
 use Rattle.lq_table.specs.Controls.{IsExchange, shut_after, swapping, swapped, opening_next, next_opened, GoesAway}
 use Rattle.lq_table.proofs.StopsKept.{agree, after_open, no_two}
-use Rattle.lq_table.proofs.Frames.{is_locked}
-use Rattle.lq_table.proofs.SettledKept.{settled_same}
-use Rattle.lq_table.proofs.GivenKept.{given_same}
-use Rattle.lq_table.proofs.TrailsKept.{trails_own, trails_same}
+use Rattle.lq_table.proofs.Frames.{is_locked, moves}
 use Rattle.lq_model.specs.declared.fate.Info.{Info}
 use Rattle.lq_table.proofs.ByName.{set_xoff, xoff_long, xoff_within}
 use Rattle.lq_table.proofs.Middle.{middle, controls_in}
 use Rattle.lq_table.proofs.Facts.{map_none}
-use Rattle.lq_table.proofs.Accounts.{quiet_after, with_at_other}
-use Rattle.lq_table.proofs.Frames.{packets_same, shares_same, hands_same, fates_same, turns_same, turns_past, rings_same, sole_step, account_step, leaves_same, firsts_same, firsts_as, rule_after, opened, closed, lends_held}
+use Rattle.lq_table.proofs.Accounts.{with_at_other}
+use Rattle.lq_table.proofs.Frames.{leaves_same, firsts_same, firsts_as, rule_after, opened, closed, lends_held}
 use Rattle.lq_table.proofs.UpKept.{purged_idle}
+use Rattle.lq_table.proofs.SeatFrames.{seats_same, seats_ruled, packets_heard}
+use Rattle.lq_table.proofs.StationFrames.{station_kept, ties_same, account_after}
 
 -- a unit that no exchange brought and that isn't the first has sent nothing
 module _ (u : ℕ) (past : List Event) (a : Account) (h : (a.unit ≡ u → ⊥) × (a.sent u ≡ [])) where
@@ -96,24 +94,24 @@ module _ (k : Setup) where
       let v : View = m.0 in
       let q = r.qdisc in let p = r.parts in let g = r.state in let a = account k g in let W = words_of k s.words in let live = lt-ltb 0 v.share.shares some_share in let mid = middle s.views id v here live in let holds : holds_lock v.place.position ≡ true = ap holds_lock position in
       let D : HolderPart = holders g a W.size in let w : View = swapping st v in let e : Event = Swap st.unit in let a' : Account = after e a in
-      let at_ : Holder k.infos W.xoff g.past D (Control true) v.holder = subst (λ (z : Position). Holder k.infos W.xoff g.past D z v.holder) position (p.lends.knows id v here live holds) in
-      let first : v.control.first ≡ true = p.firsts.control id v here live (ap is_control position) in let knows = p.firsts.knows id v here first in
+      let at_ : Holder k.infos W.xoff g.past D (Control true) v.holder = subst (λ (z : Position). Holder k.infos W.xoff g.past D z v.holder) position (p.station.lends.knows id v here live holds) in
+      let first : v.control.first ≡ true = p.machine.firsts.control id v here live (ap is_control position) in let knows = p.machine.firsts.knows id v here first in
       let phase : q.phase ≡ Purged = sym knows.0 ∙ purged in let purge : q.purge ≡ None = sym knows.1 ∙ no_purge in
-      let idle = purged_idle k s r id v here live (p.leaves.none_left purge) phase (map_none (machine_packet k.infos) a.hand (sym at_.in_hand)) in
+      let idle = purged_idle k s r id v here live (p.account.leaves.none_left purge) phase (map_none (machine_packet k.infos) a.hand (sym at_.in_hand)) in
       let q' : Qdisc = record q { xoff = slice_set q.xoff 0 0 } in let xs : List ℕ = set W.xoff 0 0 in let n : ℕ = v.share.about.queues in let shut : Option ℕ = shut_after 0 n in let g' : State = record g { past = e ∷ g.past; station = st; origin = st.device; shut = shut } in let D' : HolderPart = holders g' a' W.size in
       let at_control : Seat = record v.place { position = Control true } in let is : v.place ≡ at_control = λ j. record v.place { position = position j } in
-      let stepped_ = controls_in q mid.before mid.after at_control (StoreOpen 0) true refl refl (ap₂ (λ (o : Option Rattle.lq_model.specs.Machine.Purge) (x : Phase). is_none o && is_purged_phase x) purge phase) (subst (λ (u : Seat). IsInductive (record { qdisc = q; seats = mid.before ++ u ∷ mid.after })) is (opened s.views id v here live q p.machine)) in
+      let stepped_ = controls_in q mid.before mid.after at_control (StoreOpen 0) true refl refl (ap₂ (λ (o : Option Rattle.lq_model.specs.Machine.Purge) (x : Phase). is_none o && is_purged_phase x) purge phase) (subst (λ (u : Seat). IsInductive (record { qdisc = q; seats = mid.before ++ u ∷ mid.after })) is (opened s.views id v here live q p.machine.invariant)) in
       let shut_none : g.shut ≡ None = sym (ap (λ (z : HolderPart). z.shut) at_.is) ∙ no_shut in
-      let long : n ≡ length q.xoff = (let l = xoff_long k s.words r.wide in let y = ap (λ (z : Setup). z.queues) (p.shares.about id v here live) in let x = ap length p.stands.xoff in omega arith) in
-      let some_word : 0 < n = (let y = ap (λ (z : Setup). z.queues) (p.shares.about id v here live) in omega arith) in
-      let was : q.xoff ≡ a.stops = agree q.phase q.locked q.xoff a.stops g.shut shut_none p.stops in let locked : q.locked ≡ true = is_locked k s r id v here live holds in
-      let unused_ : a.sent st.unit ≡ [] = (unused k st.unit (subst (λ (z : Setup). z.station ≡ st.unit → ⊥) (p.shares.about id v here live) is_new.other) g.past (λ h. is_new.new (subst (λ (z : HolderPart). Contains z.units st.unit) (sym at_.is) h))).1 in
-      let known = p.shares.about id v here live in let other : k.station ≡ st.unit → ⊥ = subst (λ (z : Setup). z.station ≡ st.unit → ⊥) known is_new.other in
+      let long : n ≡ length q.xoff = (let l = xoff_long k s.words r.wide in let y = ap (λ (z : Setup). z.queues) (p.seats.shares.about id v here live) in let x = ap length p.station.stands.xoff in omega arith) in
+      let some_word : 0 < n = (let y = ap (λ (z : Setup). z.queues) (p.seats.shares.about id v here live) in omega arith) in
+      let was : q.xoff ≡ a.stops = agree q.phase q.locked q.xoff a.stops g.shut shut_none p.station.stops in let locked : q.locked ≡ true = is_locked k s r id v here live holds in
+      let unused_ : a.sent st.unit ≡ [] = (unused k st.unit (subst (λ (z : Setup). z.station ≡ st.unit → ⊥) (p.seats.shares.about id v here live) is_new.other) g.past (λ h. is_new.new (subst (λ (z : HolderPart). Contains z.units st.unit) (sym at_.is) h))).1 in
+      let known = p.seats.shares.about id v here live in let other : k.station ≡ st.unit → ⊥ = subst (λ (z : Setup). z.station ≡ st.unit → ⊥) known is_new.other in
       let new_unit : BringsNone k g.past (Swap st.unit) = (other, λ h. is_new.new (subst (λ (z : HolderPart). Contains z.units st.unit) (sym at_.is) h)) in
-      let unit_is : v.holder.station.unit ≡ a.unit = ap (λ (z : HolderPart). z.station.unit) at_.is ∙ sym p.sends.unit in
-      let sent_is : a.sent v.holder.station.unit ≡ v.holder.station.device.accepted = ap a.sent unit_is ∙ (p.sends.sent ∙ sym (ap (λ (z : HolderPart). z.station.device.accepted) at_.is)) in
+      let unit_is : v.holder.station.unit ≡ a.unit = ap (λ (z : HolderPart). z.station.unit) at_.is ∙ sym p.account.sends.unit in
+      let sent_is : a.sent v.holder.station.unit ≡ v.holder.station.device.accepted = ap a.sent unit_is ∙ (p.account.sends.sent ∙ sym (ap (λ (z : HolderPart). z.station.device.accepted) at_.is)) in
       let goes_away : GoesAway v = (
-        subst (λ (z : Setup × DeviceState × DeviceState). HasServed z.0.infos z.0.station z.1 z.2) (λ j. (sym known j, sym (p.trails.came id v here first) j, (sym at_.is j).station.device)) p.device.served,
+        subst (λ (z : Setup × DeviceState × DeviceState). HasServed z.0.infos z.0.station z.1 z.2) (λ j. (sym known j, sym (p.seats.trails.came id v here first) j, (sym at_.is j).station.device)) p.account.device.served,
         unit_is ∙ (unit_is_latest k g.past ∙ (λ j. latest_unit (sym known j).station (sym at_.is j).units)),
       ) in
       let last_is : last_sent a' ≡ None = ap (λ (ns : List ℕ). slice_get ns (length ns - 1)) unused_ in (
@@ -121,36 +119,26 @@ module _ (k : Setup) where
         keeps,
         tt,
         rule_after k s r (line_of 3) 0 id s.homes r.home w (record W { xoff = xs }) q' g' a' r.deep (set_xoff k s.words 0 0 (xoff_within k s.words 0 r.wide (omega arith))) refl record {
-          shares = shares_same k s.views id v w here live p.shares refl;
-          machine = closed s.views id v here live w q' at_control live is stepped_;
-          stands = record { state = p.stands.state; lock = p.stands.lock; xoff = ap (λ (ls : List ℕ). slice_set ls 0 0) p.stands.xoff; inside = p.stands.inside; bypass = p.stands.bypass };
-          ties = record { bands_are = p.ties.bands_are; slot = p.ties.slot; len = p.ties.len; down = p.ties.down };
-          lends = lends_held k s r id v here live holds w q.locked xs (e ∷ g.past) D' refl
+          seats = seats_ruled k s r id v w here live e st.device q' g' a' refl refl refl first refl refl
+              (packets_heard k s r id v w here live e a' refl (λ _. refl) refl refl)
+              (gone_swap k s.views id v w here st.unit v.holder.station.unit v.holder.station.device.accepted new_unit p.seats.gone refl unit_is sent_is) (λ e1 e2. (ap (λ (z : Qdisc). record z { xoff = slice_set z.xoff 0 0 }) e1, ap (λ (z : State). record z { past = e ∷ z.past; station = st; origin = st.device; shut = shut }) e2));
+          machine = moves k s r id v w here live q' refl (closed s.views id v here live w q' at_control live is stepped_) (λ y own. own)
+              (firsts_as k s.views id v w here q.phase q.phase q.purge q.purge p.machine.firsts live refl refl refl refl refl refl (λ h. h));
+          station = station_kept k s r id v w here (record W { xoff = xs }) r.home q' g' a' refl (λ _. refl) refl (λ _ _ y h. (y, h))
+              (record { state = p.station.stands.state; lock = p.station.stands.lock; xoff = ap (λ (ls : List ℕ). slice_set ls 0 0) p.station.stands.xoff; inside = p.station.stands.inside; bypass = p.station.stands.bypass })
+              (ties_same p.station.ties refl refl)
+              (lends_held k s r id v here live holds w q.locked xs (e ∷ g.past) D' refl
               (subst (λ (z : Position). Holder k.infos xs (e ∷ g.past) D' z w.holder) (sym position) record {
                 is = λ j. record (at_.is j) { station = st; last = (sym last_is) j; shut = shut; units = st.unit ∷ (at_.is j).units };
                 in_hand = at_.in_hand;
                 looked = λ _ l. absurd (omega arith);
                 stopping = tt;
                 alive = λ _ hung. absurd (true≢false (sym hung ∙ is_new.alive));
-              });
-          sends = record { unit = refl; sent = unused_ ∙ sym is_new.accepted; small = is_new.small };
-          packets = each_step (λ u. KnowsPackets k g.past a u.share u.packets) (λ u. KnowsPackets k (e ∷ g.past) a' u.share u.packets) s.views id w p.packets
-              (quiet_after k g.past a a' e v.share v.packets refl (λ _. refl) (p.packets id v here)) (λ j u _ _ y. quiet_after k g.past a a' e u.share u.packets refl (λ _. refl) y);
-          hands = hands_same k s.views id v w here p.hands live refl (λ y own. own);
-          fates = fates_same k s.views id v w here W.fates a a' g.resizing g.left p.fates refl (λ _. refl);
-          leaves = leaves_same g.left q.purge q.purge a a' p.leaves refl refl;
-          turns = turns_past k W.turns _ g.past (e ∷ g.past) (turns_same k s.views id v w here W.turns g.past p.turns refl refl) refl;
-          rings = rings_same k s.views id v w here k.max_len W.size W.producers W.slots a.len (bands_now g.left a.bands) g.ends g.resizing p.rings refl (λ _ _ y h. (y, h));
-          account = account_step k g.past e p.account idle tt tt;
-          find_nothing = (p.find_nothing, tt);
-          gone = gone_swap k s.views id v w here st.unit v.holder.station.unit v.holder.station.device.accepted new_unit p.gone refl unit_is sent_is;
-          firsts = firsts_as k s.views id v w here q.phase q.phase q.purge q.purge p.firsts live refl refl refl refl refl refl (λ h. h);
-          sole = sole_step k s.views id v w here q q' g g' p.shares p.sole some_share refl refl (λ e1 e2. (ap (λ (z : Qdisc). record z { xoff = slice_set z.xoff 0 0 }) e1, ap (λ (z : State). record z { past = e ∷ z.past; station = st; origin = st.device; shut = shut }) e2));
-          settled = settled_same s.views id v w here W.fates p.settled refl;
-          given = given_same k s.views id v w here W.turns p.given refl refl refl refl refl;
-          stops = after_open q.xoff (map (λ _. 0) a.stops) 0 n q.phase q.locked phase locked long some_word (λ c l. absurd (omega arith)) (ap (map (λ _. 0)) (sym was));
-          device = exchanged k.infos k.station (map (λ _. 0) a.stops) st (subst (λ (z : Setup). station_count z.infos z.station ≤ st.device.spare) (p.shares.about id v here live) is_new.room) is_new.asked is_new.accepted is_new.alive (no_two a.stops);
-          trails = trails_own k.infos s.views id v w here e refl p.trails p.firsts.one first refl refl refl refl;
+              }))
+              (after_open q.xoff (map (λ _. 0) a.stops) 0 n q.phase q.locked phase locked long some_word (λ c l. absurd (omega arith)) (ap (map (λ _. 0)) (sym was)));
+          account = account_after k s r e a' refl idle tt tt tt (record { unit = refl; sent = unused_ ∙ sym is_new.accepted; small = is_new.small })
+              (exchanged k.infos k.station (map (λ _. 0) a.stops) st (subst (λ (z : Setup). station_count z.infos z.station ≤ st.device.spare) (p.seats.shares.about id v here live) is_new.room) is_new.asked is_new.accepted is_new.alive (no_two a.stops))
+              (leaves_same g.left q.purge q.purge a a' p.account.leaves refl refl);
         },
         (refl, goes_away),
       )
@@ -162,50 +150,37 @@ module _ (k : Setup) where
       let v : View = m.0 in
       let q = r.qdisc in let p = r.parts in let g = r.state in let a = account k g in let W = words_of k s.words in let live = lt-ltb 0 v.share.shares some_share in let mid = middle s.views id v here live in let holds : holds_lock v.place.position ≡ true = ap holds_lock position in
       let D : HolderPart = holders g a W.size in let w : View = opening_next queue v in let n : ℕ = v.share.about.queues in let shut : Option ℕ = shut_after queue n in
-      let at_ : Holder k.infos W.xoff g.past D (Control true) v.holder = subst (λ (z : Position). Holder k.infos W.xoff g.past D z v.holder) position (p.lends.knows id v here live holds) in
-      let first : v.control.first ≡ true = p.firsts.control id v here live (ap is_control position) in let knows = p.firsts.knows id v here first in
+      let at_ : Holder k.infos W.xoff g.past D (Control true) v.holder = subst (λ (z : Position). Holder k.infos W.xoff g.past D z v.holder) position (p.station.lends.knows id v here live holds) in
+      let first : v.control.first ≡ true = p.machine.firsts.control id v here live (ap is_control position) in let knows = p.machine.firsts.knows id v here first in
       let phase : q.phase ≡ Purged = sym knows.0 ∙ purged in let purge : q.purge ≡ None = sym knows.1 ∙ no_purge in
       let q' : Qdisc = record q { xoff = slice_set q.xoff queue 0 } in let xs : List ℕ = set W.xoff queue 0 in let g' : State = record g { shut = shut } in let D' : HolderPart = holders g' a W.size in
       let at_control : Seat = record v.place { position = Control true } in let is : v.place ≡ at_control = λ j. record v.place { position = position j } in
-      let stepped_ = controls_in q mid.before mid.after at_control (StoreOpen queue) true refl refl (ap₂ (λ (o : Option Rattle.lq_model.specs.Machine.Purge) (x : Phase). is_none o && is_purged_phase x) purge phase) (subst (λ (u : Seat). IsInductive (record { qdisc = q; seats = mid.before ++ u ∷ mid.after })) is (opened s.views id v here live q p.machine)) in
+      let stepped_ = controls_in q mid.before mid.after at_control (StoreOpen queue) true refl refl (ap₂ (λ (o : Option Rattle.lq_model.specs.Machine.Purge) (x : Phase). is_none o && is_purged_phase x) purge phase) (subst (λ (u : Seat). IsInductive (record { qdisc = q; seats = mid.before ++ u ∷ mid.after })) is (opened s.views id v here live q p.machine.invariant)) in
       let shut_is : g.shut ≡ Some queue = sym (ap (λ (z : HolderPart). z.shut) at_.is) ∙ is_shut in
-      let o : Opening queue q.phase q.locked q.xoff a.stops = subst (λ (z : Option ℕ). AreStops z q.phase q.locked q.xoff a.stops) shut_is p.stops in
-      let long : n ≡ length q.xoff = (let l = xoff_long k s.words r.wide in let y = ap (λ (z : Setup). z.queues) (p.shares.about id v here live) in let x = ap length p.stands.xoff in omega arith) in
-      let within : queue < n = (let y = ap (λ (z : Setup). z.queues) (p.shares.about id v here live) in omega arith) in
-      let none_hung : g.station.device.hung ≡ true → ⊥ = λ hangs. let two = at_.alive refl hangs 0 (let f = o.some_stored in let i = o.within in let x = ap length p.stands.xoff in omega arith) in let zero_ = o.opened 0 o.some_stored in let x = ap (λ (ls : List ℕ). slice_index ls 0) p.stands.xoff in absurd (omega arith) in (
+      let o : Opening queue q.phase q.locked q.xoff a.stops = subst (λ (z : Option ℕ). AreStops z q.phase q.locked q.xoff a.stops) shut_is p.station.stops in
+      let long : n ≡ length q.xoff = (let l = xoff_long k s.words r.wide in let y = ap (λ (z : Setup). z.queues) (p.seats.shares.about id v here live) in let x = ap length p.station.stands.xoff in omega arith) in
+      let within : queue < n = (let y = ap (λ (z : Setup). z.queues) (p.seats.shares.about id v here live) in omega arith) in
+      let none_hung : g.station.device.hung ≡ true → ⊥ = λ hangs. let two = at_.alive refl hangs 0 (let f = o.some_stored in let i = o.within in let x = ap length p.station.stands.xoff in omega arith) in let zero_ = o.opened 0 o.some_stored in let x = ap (λ (ls : List ℕ). slice_index ls 0) p.station.stands.xoff in absurd (omega arith) in (
         w,
         keeps,
         tt,
         rule_after k s r (xoff_word k queue) 0 id s.homes r.home w (record W { xoff = xs }) q' g' a r.deep (set_xoff k s.words 0 queue (xoff_within k s.words queue r.wide below)) refl record {
-          shares = shares_same k s.views id v w here live p.shares refl;
-          machine = closed s.views id v here live w q' at_control live is stepped_;
-          stands = record { state = p.stands.state; lock = p.stands.lock; xoff = ap (λ (ls : List ℕ). slice_set ls queue 0) p.stands.xoff; inside = p.stands.inside; bypass = p.stands.bypass };
-          ties = record { bands_are = p.ties.bands_are; slot = p.ties.slot; len = p.ties.len; down = p.ties.down };
-          lends = lends_held k s r id v here live holds w q.locked xs g.past D' refl
+          seats = seats_same k s r id v w here live q' g' refl refl refl (λ e1 e2. (ap (λ (z : Qdisc). record z { xoff = slice_set z.xoff queue 0 }) e1, ap (λ (z : State). record z { shut = shut }) e2));
+          machine = moves k s r id v w here live q' refl (closed s.views id v here live w q' at_control live is stepped_) (λ y own. own)
+              (firsts_same k s.views id v w here q.phase q.phase q.purge q.purge p.machine.firsts live refl refl refl refl (λ h. h));
+          station = station_kept k s r id v w here (record W { xoff = xs }) r.home q' g' a refl (λ _. refl) refl (λ _ _ y h. (y, h))
+              (record { state = p.station.stands.state; lock = p.station.stands.lock; xoff = ap (λ (ls : List ℕ). slice_set ls queue 0) p.station.stands.xoff; inside = p.station.stands.inside; bypass = p.station.stands.bypass })
+              (ties_same p.station.ties refl refl)
+              (lends_held k s r id v here live holds w q.locked xs g.past D' refl
               (subst (λ (z : Position). Holder k.infos xs g.past D' z w.holder) (sym position) record {
                 is = λ j. record (at_.is j) { shut = shut };
                 in_hand = at_.in_hand;
                 looked = λ _ l. absurd (omega arith);
                 stopping = tt;
                 alive = λ _ hangs. absurd (none_hung hangs);
-              });
-          sends = p.sends;
-          packets = packets_same k s.views id v w here g.past a p.packets refl refl;
-          hands = hands_same k s.views id v w here p.hands live refl (λ y own. own);
-          fates = fates_same k s.views id v w here W.fates a a g.resizing g.left p.fates refl (λ _. refl);
-          leaves = leaves_same g.left q.purge q.purge a a p.leaves refl refl;
-          turns = turns_same k s.views id v w here W.turns g.past p.turns refl refl;
-          rings = rings_same k s.views id v w here k.max_len W.size W.producers W.slots a.len (bands_now g.left a.bands) g.ends g.resizing p.rings refl (λ _ _ y h. (y, h));
+              }))
+              (after_open q.xoff a.stops queue n q.phase q.locked phase o.held long within o.opened o.all_open);
           account = p.account;
-          find_nothing = p.find_nothing;
-          gone = gone_same k s.views id v w here p.gone refl;
-          firsts = firsts_same k s.views id v w here q.phase q.phase q.purge q.purge p.firsts live refl refl refl refl (λ h. h);
-          sole = sole_step k s.views id v w here q q' g g' p.shares p.sole some_share refl refl (λ e1 e2. (ap (λ (z : Qdisc). record z { xoff = slice_set z.xoff queue 0 }) e1, ap (λ (z : State). record z { shut = shut }) e2));
-          settled = settled_same s.views id v w here W.fates p.settled refl;
-          given = given_same k s.views id v w here W.turns p.given refl refl refl refl refl;
-          stops = after_open q.xoff a.stops queue n q.phase q.locked phase o.held long within o.opened o.all_open;
-          device = p.device;
-          trails = trails_same k.infos s.views id v w here p.trails refl refl refl refl refl;
         },
         refl,
       )

@@ -21,14 +21,15 @@ use Rattle.lq_band.proofs.Seats.{total_set, each_step, each_same}
 use Rattle.lq_table.specs.Places.{turn_place}
 use Rattle.lq_table.specs.Views.{View, Setup, SharePart, HolderPart}
 use Rattle.lq_table.specs.Comes.{IsFresh}
-use Rattle.lq_table.specs.Rule.{words_of, times, is_live, account, holders, bands_now, Holder, KnowsPackets, KnowsTurn, KnowsWords, has_turn, Given, Turns, Rule}
+use Rattle.lq_table.specs.Rule.{words_of, times, is_live, account, holders, Holder, KnowsPackets, KnowsTurn, KnowsWords, has_turn, Given, Turns, Rule}
 use Rattle.lq_table.proofs.UnitsKept.{gone_same}
 use Rattle.lq_table.specs.Told.{Sat, bringing, turn_taken, giving_turn, turn_given, turn_seen}
 use Rattle.lq_table.proofs.ByName.{set_turn, turn_of_word}
 use Rattle.lq_table.proofs.Accounts.{owners_apart}
 use Rattle.lq_table.proofs.SettledKept.{settled_same}
 use Rattle.lq_table.proofs.TrailsKept.{trails_same}
-use Rattle.lq_table.proofs.Frames.{none_some, shares_same, fates_same, rings_same, sole_step, rule_after, rule_same, stays, lends_step, same_past, same_xoff}
+use Rattle.lq_table.proofs.Frames.{none_some, shares_same, sole_step, rule_after, rule_same, stays, lends_step, same_past, same_xoff}
+use Rattle.lq_table.proofs.StationFrames.{station_kept, stands_same}
 
 -- whose turn it is counts at that packet's owner
 has_mine : (infos : List Info) (n y : ℕ) → owner_in infos n ≡ y → has_turn infos y (Some n) ≡ 1
@@ -39,7 +40,7 @@ has_other infos n y e = ap (λ (b : Bool). if b then 1 else 0) (ne_eqb (owner_in
 
 module _ (k : Setup) (s : table.State (Option StationState) View) (r : Rule k s) (id : ℕ) (v w : View) (here : get_elem? s.views id ≡ some v) (live : is_live v ≡ true) (o : ℕ) (small : o < k.senders) (mine : 0 < times o v.share.owners) (x : ℕ) where
   same_word : get_or (set (words_of k s.words).turns o x) o 0 ≡ x
-  same_word = get_or-set_same (words_of k s.words).turns o x 0 (let l = r.parts.turns.long in omega arith)
+  same_word = get_or-set_same (words_of k s.words).turns o x 0 (let l = r.parts.seats.turns.long in omega arith)
 
   other_word : (y : ℕ) → y ≢ o → get_or (set (words_of k s.words).turns o x) y 0 ≡ get_or (words_of k s.words).turns y 0
   other_word y h = get_or-set_other (words_of k s.words).turns o y x 0 h
@@ -47,20 +48,20 @@ module _ (k : Setup) (s : table.State (Option StationState) View) (r : Rule k s)
   -- the other seats know of their turns what they knew
   others_turns : (j : ℕ) (u : View) → j ≢ id → get_elem? s.views j ≡ some u → KnowsTurn k (words_of k s.words).turns u.share u.packets → KnowsTurn k (set (words_of k s.words).turns o x) u.share u.packets
   others_turns j u apart at_j y = record {
-    busy = λ l h. let b = y.busy l h in (b.0, other_word (owner_in k.infos l) (λ e. owners_apart k s.views r.parts.shares id j v u o (owner_in k.infos l) small here at_j apart mine b.0 e) ∙ b.1);
+    busy = λ l h. let b = y.busy l h in (b.0, other_word (owner_in k.infos l) (λ e. owners_apart k s.views r.parts.seats.shares id j v u o (owner_in k.infos l) small here at_j apart mine b.0 e) ∙ b.1);
     fresh = y.fresh;
   }
 
   -- each seat knows the words of its owners
   words_after : w.share ≡ v.share → w.turns ≡ set v.turns o x → Each (λ u. is_live u ≡ true → KnowsWords k.senders (set (words_of k s.words).turns o x) u.share.owners u.turns) (set s.views id w)
-  words_after share turns = each_step (λ u. is_live u ≡ true → KnowsWords k.senders (words_of k s.words).turns u.share.owners u.turns) (λ u. is_live u ≡ true → KnowsWords k.senders (set (words_of k s.words).turns o x) u.share.owners u.turns) s.views id w r.parts.given.words_are
-      (λ _. let old = r.parts.given.words_are id v here live in (
+  words_after share turns = each_step (λ u. is_live u ≡ true → KnowsWords k.senders (words_of k s.words).turns u.share.owners u.turns) (λ u. is_live u ≡ true → KnowsWords k.senders (set (words_of k s.words).turns o x) u.share.owners u.turns) s.views id w r.parts.seats.given.words_are
+      (λ _. let old = r.parts.seats.given.words_are id v here live in (
         ap length turns ∙ (length-set v.turns o x ∙ old.0),
         λ y h. dite (ℕ_discrete y o)
             (λ same. ap (λ (ts : List ℕ). get_or ts y 0) turns ∙ (ap (λ (z : ℕ). get_or (set v.turns o x) z 0) same ∙ (get_or-set_same v.turns o x 0 (let l = old.0 in omega arith) ∙ (sym same_word ∙ ap (λ (z : ℕ). get_or (set (words_of k s.words).turns o x) z 0) (sym same)))))
             (λ other. ap (λ (ts : List ℕ). get_or ts y 0) turns ∙ (get_or-set_other v.turns o y x 0 other ∙ (old.1 y (subst (λ (z : SharePart). 0 < times y z.owners) share h) ∙ sym (other_word y other)))),
       ))
-      (λ j u apart at_j y live_u. let old = y live_u in (old.0, λ z h. old.1 z h ∙ sym (other_word z (λ e. owners_apart k s.views r.parts.shares id j v u o z small here at_j apart mine h e))))
+      (λ j u apart at_j y live_u. let old = y live_u in (old.0, λ z h. old.1 z h ∙ sym (other_word z (λ e. owners_apart k s.views r.parts.seats.shares id j v u o z small here at_j apart mine h e))))
 
   -- the rule after it, from the parts that speak of turns
   turn_stored : w.share ≡ v.share → w.place ≡ v.place → w.control ≡ v.control → w.locks ≡ v.locks → w.holder ≡ v.holder → w.whole ≡ v.whole → w.settled ≡ v.settled → w.trail ≡ v.trail → w.packets.owed ≡ v.packets.owed
@@ -70,30 +71,24 @@ module _ (k : Setup) (s : table.State (Option StationState) View) (r : Rule k s)
   turn_stored share place control locks holder whole settled trail owed packets turns given =
       let p = r.parts in let g = r.state in let a = account k g in let q = r.qdisc in let W = words_of k s.words in let D : HolderPart = holders g a W.size in let mach = stays k s r id v w here live place share control in
       rule_after k s r (turn_place o) x id s.homes r.home w (record W { turns = set W.turns o x }) q g a r.deep (set_turn k s.words x o small (let wide = r.wide in omega arith)) refl record {
-        shares = shares_same k s.views id v w here live p.shares share;
-        machine = mach.machine;
-        stands = record { state = p.stands.state; lock = p.stands.lock; xoff = p.stands.xoff; inside = p.stands.inside; bypass = p.stands.bypass };
-        ties = p.ties;
-        lends = lends_step k.infos W.xoff W.xoff g.past g.past same_past same_xoff q.locked r.home s.views D id v w here p.lends
-            (subst (λ (z : SharePart × Seat × HolderPart). nat_lt 0 z.0.shares ≡ true → holds_lock z.1.position ≡ true → Holder k.infos W.xoff g.past D z.1.position z.2) (λ j. (sym share j, sym place j, sym holder j)) (p.lends.knows id v here));
-        sends = p.sends;
-        packets = each_same (λ u. KnowsPackets k g.past a u.share u.packets) s.views id w p.packets packets;
-        hands = mach.hands;
-        fates = fates_same k s.views id v w here W.fates a a g.resizing g.left p.fates owed (λ _. refl);
-        leaves = p.leaves;
-        turns = turns;
-        rings = rings_same k s.views id v w here k.max_len W.size W.producers W.slots a.len (bands_now g.left a.bands) g.ends g.resizing p.rings locks
-            (λ _ _ l h. (ap (λ (z : SharePart). nat_lt 0 z.shares) share ∙ l, ap (λ (z : Seat). holds_lock z.position) place ∙ h));
+        seats = record {
+          shares = shares_same k s.views id v w here live p.seats.shares share;
+          packets = each_same (λ u. KnowsPackets k g.past a u.share u.packets) s.views id w p.seats.packets packets;
+          turns = turns;
+          given = given;
+          settled = settled_same s.views id v w here W.fates p.seats.settled settled;
+          trails = trails_same k.infos s.views id v w here p.seats.trails share (ap (λ z. z.first) control) (ap (λ z. z.origin) control) trail refl;
+          gone = gone_same k s.views id v w here p.seats.gone (ap (λ z. z.gone) control);
+          sole = sole_step k s.views id v w here q q g g p.seats.shares p.seats.sole (ltb-true 0 v.share.shares live) share (ap (λ z. z.told) whole) (λ e1 e2. (ap (λ z. z.qdisc) whole ∙ e1, ap (λ z. z.state) whole ∙ e2));
+        };
+        machine = mach;
+        station = station_kept k s r id v w here (record W { turns = set W.turns o x }) r.home q g a refl (λ _. refl) (λ j. (owed j, locks j)) (λ _ _ l h. (ap (λ (z : SharePart). nat_lt 0 z.shares) share ∙ l, ap (λ (z : Seat). holds_lock z.position) place ∙ h))
+            (stands_same p.station.stands refl)
+            p.station.ties
+            (lends_step k.infos W.xoff W.xoff g.past g.past same_past same_xoff q.locked r.home s.views D id v w here p.station.lends
+            (subst (λ (z : SharePart × Seat × HolderPart). nat_lt 0 z.0.shares ≡ true → holds_lock z.1.position ≡ true → Holder k.infos W.xoff g.past D z.1.position z.2) (λ j. (sym share j, sym place j, sym holder j)) (p.station.lends.knows id v here)))
+            p.station.stops;
         account = p.account;
-        find_nothing = p.find_nothing;
-        gone = gone_same k s.views id v w here p.gone (ap (λ z. z.gone) control);
-        firsts = mach.firsts;
-        sole = sole_step k s.views id v w here q q g g p.shares p.sole (ltb-true 0 v.share.shares live) share (ap (λ z. z.told) whole) (λ e1 e2. (ap (λ z. z.qdisc) whole ∙ e1, ap (λ z. z.state) whole ∙ e2));
-        settled = settled_same s.views id v w here W.fates p.settled settled;
-        given = given;
-        stops = p.stops;
-        device = p.device;
-        trails = trails_same k.infos s.views id v w here p.trails share (ap (λ z. z.first) control) (ap (λ z. z.origin) control) trail refl;
       }
 
 module _ (k : Setup) where
@@ -101,9 +96,9 @@ module _ (k : Setup) where
       → Allows (Rule k) slots id m (turn_place (owner_in k.infos n)) (λ x. either (eqb x (2 * rank_in k.infos n)) (2 * rank_in k.infos n + 1) x)
       (turn_taken n (owner_in k.infos n) (rank_in k.infos n) (step slots (turn_place (owner_in k.infos n)) (2 * rank_in k.infos n) (2 * rank_in k.infos n + 1) none) m)
   takes_turn slots id m n inside here_station mine idle some_share s r deep here small =
-      let v : View = m.0 in let live = lt-ltb 0 v.share.shares some_share in let p = r.parts in let g = r.state in let a = account k g in let W = words_of k s.words in let o : ℕ = owner_in k.infos n in let rank : ℕ = rank_in k.infos n in let t = p.turns in
-      let q = p.packets id v here in let o_in = q.own o mine in let word = turn_of_word k s.words o o_in in let known = (p.given.words_are id v here live).1 o mine in
-      let w : View = bringing n o rank v in let x : ℕ = 2 * rank + 1 in let gv = p.given in
+      let v : View = m.0 in let live = lt-ltb 0 v.share.shares some_share in let p = r.parts in let g = r.state in let a = account k g in let W = words_of k s.words in let o : ℕ = owner_in k.infos n in let rank : ℕ = rank_in k.infos n in let t = p.seats.turns in
+      let q = p.seats.packets id v here in let o_in = q.own o mine in let word = turn_of_word k s.words o o_in in let known = (p.seats.given.words_are id v here live).1 o mine in
+      let w : View = bringing n o rank v in let x : ℕ = 2 * rank + 1 in let gv = p.seats.given in
       dite (ℕ_discrete (get_or s.words (turn_place o) 0) (2 * rank))
       (λ free. let is : get_or W.turns o 0 ≡ 2 * rank = sym word ∙ free in let here_new = same_word k s r id v w here live o o_in mine x in let else_new = other_word k s r id v w here live o o_in mine x in
       let nobody : total (λ u. has_turn k.infos o u.packets.busy) s.views ≡ 0 = (let z = gv.turn o o_in in let e = z.1 in let one = gv.one o o_in in omega arith) in
@@ -114,7 +109,7 @@ module _ (k : Setup) where
         of_station = here_station;
         in_turn = λ l h same.
             let below = t.brought l h in let at_o : get_or W.turns (owner_in k.infos l) 0 ≡ 2 * rank = ap (λ (y : ℕ). get_or W.turns y 0) same ∙ is in
-            r.setup.ranked l n (p.account.brought.packets l h).0 inside same ((p.account.brought.packets l h).1 ∙ sym here_station) (omega arith);
+            r.setup.ranked l n (p.account.accounted.brought.packets l h).0 inside same ((p.account.accounted.brought.packets l h).1 ∙ sym here_station) (omega arith);
       } in (
         w,
         keeps,
@@ -171,10 +166,10 @@ module _ (k : Setup) where
       → Allows (Rule k) slots id m (turn_place (owner_in k.infos n)) (λ _. 2 * rank_in k.infos n + 2)
       (turn_given (owner_in k.infos n) (rank_in k.infos n) (step slots (turn_place (owner_in k.infos n)) (2 * rank_in k.infos n + 2) 0 none) m)
   gives_turn slots id m n busy none_fresh some_share s r deep here small =
-      let v : View = m.0 in let live = lt-ltb 0 v.share.shares some_share in let p = r.parts in let g = r.state in let a = account k g in let W = words_of k s.words in let o : ℕ = owner_in k.infos n in let rank : ℕ = rank_in k.infos n in let t = p.turns in
-      let q = p.packets id v here in let know = (t.knows id v here).busy n busy in let mine = know.0 in let o_in = q.own o mine in let w : View = giving_turn o rank v in let x : ℕ = 2 * rank + 2 in let gv = p.given in
+      let v : View = m.0 in let live = lt-ltb 0 v.share.shares some_share in let p = r.parts in let g = r.state in let a = account k g in let W = words_of k s.words in let o : ℕ = owner_in k.infos n in let rank : ℕ = rank_in k.infos n in let t = p.seats.turns in
+      let q = p.seats.packets id v here in let know = (t.knows id v here).busy n busy in let mine = know.0 in let o_in = q.own o mine in let w : View = giving_turn o rank v in let x : ℕ = 2 * rank + 2 in let gv = p.seats.given in
       let is : get_or W.turns o 0 ≡ 2 * rank + 1 = know.1 in let here_new = same_word k s r id v w here live o o_in mine x in let else_new = other_word k s r id v w here live o o_in mine x in
-      let came : Contains (brought_by g.past) n = gv.now id v here n busy none_fresh in let of_n = p.account.brought.packets n came in
+      let came : Contains (brought_by g.past) n = gv.now id v here n busy none_fresh in let of_n = p.account.accounted.brought.packets n came in
       let mine_now : (y : ℕ) → total (λ u. has_turn k.infos y u.packets.busy) (set s.views id w) + has_turn k.infos y (Some n) ≡ total (λ u. has_turn k.infos y u.packets.busy) s.views =
       λ y. (let a = total_set (λ u. has_turn k.infos y u.packets.busy) s.views id v w here in let b : has_turn k.infos y v.packets.busy ≡ has_turn k.infos y (Some n) = ap (has_turn k.infos y) busy in omega arith) in (
         w,
@@ -215,4 +210,4 @@ module _ (k : Setup) where
 
   pub loads_turn : (slots id o : ℕ) (m : Sat) → o < k.senders → 0 < m.0.share.shares → Allows (Rule k) slots id m (turn_place o) (λ x. x) (turn_seen o (step slots (turn_place o) 0 0 none) m)
   loads_turn slots id o m below some_share s r deep here small =
-      let v : View = m.0 in (v, keeps, tt, rule_same k s r (turn_place o) id v here, (refl, λ mine. turn_of_word k s.words o below ∙ sym ((r.parts.given.words_are id v here (lt-ltb 0 v.share.shares some_share)).1 o mine)))
+      let v : View = m.0 in (v, keeps, tt, rule_same k s r (turn_place o) id v here, (refl, λ mine. turn_of_word k s.words o below ∙ sym ((r.parts.seats.given.words_are id v here (lt-ltb 0 v.share.shares some_share)).1 o mine)))

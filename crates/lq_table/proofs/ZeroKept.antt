@@ -11,21 +11,19 @@ use Rattle.lq_band.proofs.Three.{at_put_same, at_put_other}
 use Rattle.lq_band.proofs.Kept.{empties}
 use Rattle.lq_table.specs.Views.{View, Setup, State, HolderPart}
 use Rattle.lq_table.specs.Rule.{words_of, slot_word, account, holders, bands_now, locks_at, Rule}
-use Rattle.lq_table.proofs.UnitsKept.{gone_same}
 use Rattle.lq_table.specs.Told.{Sat}
 use Rattle.lq_table.specs.Rings.{emptying, slot_emptied}
 use Rattle.lq_table.proofs.ByName.{set_slot}
-use Rattle.lq_table.proofs.SettledKept.{settled_same}
-use Rattle.lq_table.proofs.GivenKept.{given_same}
-use Rattle.lq_table.proofs.TrailsKept.{trails_same}
-use Rattle.lq_table.proofs.Frames.{shares_same, packets_same, fates_same, turns_same, locks_here, rings_step, sole_step, rule_after, stays, lends_held}
+use Rattle.lq_table.proofs.Frames.{fates_same, locks_here, rings_step, rule_after, stays, lends_held, holder_now}
+use Rattle.lq_table.proofs.SeatFrames.{seats_same}
+use Rattle.lq_table.proofs.StationFrames.{stands_same}
 
 module _ (k : Setup) where
   pub empties_slot : (slots id : ℕ) (m : Sat) (b i : ℕ) → b < 3 → i < k.max_len → holds_lock m.0.place.position ≡ true → m.0.holder.resizing ≡ None → is_emptying m.0.holder.size (at b m.0.holder.ends) ≡ true → i + 1 ≡ (at b m.0.holder.ends).edge → 0 < m.0.share.shares
       → Allows (Rule k) slots id m (slot_word k b i) (λ _. 0) (λ _. slot_emptied b (step slots (slot_word k b i) 0 0 none) m 0)
   empties_slot slots id m b i below inside holds no_resizing busy is_edge some_share s r deep here small =
       let v : View = m.0 in let p = r.parts in let g = r.state in let a = account k g in let q = r.qdisc in let W = words_of k s.words in let live = lt-ltb 0 v.share.shares some_share in let D : HolderPart = holders g a W.size in
-      let at_ = p.lends.knows id v here live holds in let calm : g.resizing ≡ None = sym (ap (λ (x : HolderPart). x.resizing) at_.is) ∙ no_resizing in let old = (p.rings.running calm).ring b below in
+      let at_ = p.station.lends.knows id v here live holds in let calm : g.resizing ≡ None = sym (ap (λ (x : HolderPart). x.resizing) at_.is) ∙ no_resizing in let old = (p.station.rings.running calm).ring b below in
       let c : Ends = at b g.ends in let c_is : at b v.holder.ends ≡ c = ap (λ (x : HolderPart). at b x.ends) at_.is in let size_is : v.holder.size ≡ W.size = ap (λ (x : HolderPart). x.size) at_.is in
       let going : is_emptying W.size c ≡ true = subst (λ (z : ℕ × Ends). is_emptying z.0 z.1 ≡ true) (λ j. (size_is j, c_is j)) busy in
       let edge : c.edge - 1 ≡ i = (let x : (at b v.holder.ends).edge ≡ c.edge = ap (λ (x : Ends). x.edge) c_is in omega arith) in
@@ -35,37 +33,20 @@ module _ (k : Setup) where
         keeps,
         tt,
         rule_after k s r (slot_word k b i) 0 id s.homes r.home w (record W { slots = ss }) q g' a r.deep (set_slot k s.words 0 b i below inside) refl record {
-          shares = shares_same k s.views id v w here live p.shares refl;
-          machine = mach.machine;
-          stands = record { state = p.stands.state; lock = p.stands.lock; xoff = p.stands.xoff; inside = p.stands.inside; bypass = p.stands.bypass };
-          ties = p.ties;
-          lends = lends_held k s r id v here live holds w q.locked W.xoff g.past D' refl record {
-            is = λ j. record (at_.is j) { ends = put b (emptied_on (at_.is j).size (at b (at_.is j).ends)) (at_.is j).ends };
-            in_hand = at_.in_hand;
-            looked = at_.looked;
-            stopping = at_.stopping;
-            alive = at_.alive;
+          seats = seats_same k s r id v w here live q g' refl refl refl (λ e1 e2. (e1, λ j. record (e2 j) { ends = put b (emptied_on (size_is j) (at b (e2 j).ends)) (e2 j).ends }));
+          machine = mach;
+          station = record {
+            stands = stands_same p.station.stands refl;
+            ties = p.station.ties;
+            lends = lends_held k s r id v here live holds w q.locked W.xoff g.past D' refl (holder_now at_ refl (λ j. record (at_.is j) { ends = put b (emptied_on (at_.is j).size (at b (at_.is j).ends)) (at_.is j).ends }));
+            fates = fates_same k s.views id v w here W.fates a a g.resizing g.left p.station.fates refl (λ _. refl);
+            rings = rings_step k s.views id v w here k.max_len W.size W.producers W.producers W.slots ss a.len (bands_now g.left a.bands) (bands_now g.left a.bands) g.ends ends' g.resizing b p.station.rings calm
+                (subst (λ (z : List ℕ × List Lock × Ends). IsRing W.size z.0 (at b W.producers) z.1 (bands_now g.left a.bands b) z.2)
+                (λ j. ((ap (λ (x : ℕ). set (at b W.slots) x 0) edge ∙ sym (at_put_same b (set (at b W.slots) i 0) W.slots)) j, sym (set_again (locks_at b s.views) id (at b v.locks) (locks_here k s.views id v w here b)) j, sym (at_put_same b (emptied_on W.size c) g.ends) j)) ring)
+                (λ x h no_. (at_put_other b x (set (at b W.slots) i 0) W.slots below h no_, refl, refl, refl, at_put_other b x (emptied_on W.size c) g.ends below h no_));
+            stops = p.station.stops;
           };
-          sends = p.sends;
-          packets = packets_same k s.views id v w here g.past a p.packets refl refl;
-          hands = mach.hands;
-          fates = fates_same k s.views id v w here W.fates a a g.resizing g.left p.fates refl (λ _. refl);
-          leaves = p.leaves;
-          turns = turns_same k s.views id v w here W.turns g.past p.turns refl refl;
-          rings = rings_step k s.views id v w here k.max_len W.size W.producers W.producers W.slots ss a.len (bands_now g.left a.bands) (bands_now g.left a.bands) g.ends ends' g.resizing b p.rings calm
-              (subst (λ (z : List ℕ × List Lock × Ends). IsRing W.size z.0 (at b W.producers) z.1 (bands_now g.left a.bands b) z.2)
-              (λ j. ((ap (λ (x : ℕ). set (at b W.slots) x 0) edge ∙ sym (at_put_same b (set (at b W.slots) i 0) W.slots)) j, sym (set_again (locks_at b s.views) id (at b v.locks) (locks_here k s.views id v w here b)) j, sym (at_put_same b (emptied_on W.size c) g.ends) j)) ring)
-              (λ x h no_. (at_put_other b x (set (at b W.slots) i 0) W.slots below h no_, refl, refl, refl, at_put_other b x (emptied_on W.size c) g.ends below h no_));
           account = p.account;
-          find_nothing = p.find_nothing;
-          gone = gone_same k s.views id v w here p.gone refl;
-          firsts = mach.firsts;
-          sole = sole_step k s.views id v w here q q g g' p.shares p.sole some_share refl refl (λ e1 e2. (e1, λ j. record (e2 j) { ends = put b (emptied_on (size_is j) (at b (e2 j).ends)) (e2 j).ends }));
-          settled = settled_same s.views id v w here W.fates p.settled refl;
-          given = given_same k s.views id v w here W.turns p.given refl refl refl refl refl;
-          stops = p.stops;
-          device = p.device;
-          trails = trails_same k.infos s.views id v w here p.trails refl refl refl refl refl;
         },
         refl,
       )
