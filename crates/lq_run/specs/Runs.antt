@@ -1,14 +1,16 @@
 -- Where a try of the run lock leads, and what a call leaves as it was.
-use Rattle.std.specs.Prelude.{◌≡◌, ℕ, Bool, true, false, if◌then◌else◌, [], ◌∷◌, Some, None}
+use Rattle.std.specs.Prelude.{◌≡◌, ◌<◌, ℕ, Bool, true, false, not, if◌then◌else◌, [], ◌∷◌, Some, None}
 use Rattle.lq_model.specs.declared.machine.Attempt.TheVariants.{Queued, Direct, Interrupt}
 use Rattle.lq_model.specs.declared.machine.Position.{Position}
-use Rattle.lq_model.specs.declared.machine.Position.TheVariants.{Try1, Recheck, Leave, Put}
+use Rattle.lq_model.specs.declared.machine.Phase.TheVariants.{Active}
+use Rattle.lq_model.specs.declared.machine.Position.TheVariants.{Control, Try1, Recheck, Leave, Put}
 use Rattle.lq_model.specs.Steps.{dequeue_begins}
 use Rattle.lq_table.specs.Views.{View}
 use Rattle.lq_table.specs.Rule.{shown, IsResting}
-use Rattle.lq_table.specs.Told.{seen_by}
-use Rattle.lq_table.specs.Solo.{Solo, missed_to, sched_set, locked_to}
-use Rattle.lq_table.specs.Sees.{view, slot, IsSameSeat}
+use Rattle.lq_table.specs.Told.{seen_by, scheduling, IsKnownSlot}
+use Rattle.lq_table.specs.Solo.{Solo, IsSole, IsAccounts, solo, missed_to, sched_set, locked_to}
+use Rattle.lq_table.specs.Made.{◌⊳◌, did_set_sched}
+use Rattle.lq_table.specs.Sees.{view, position, steps, slot, IsSameSeat}
 use Rattle.lq_table.specs.declared.shared.Cpu.{Cpu}
 
 -- where a dequeue begins
@@ -42,6 +44,10 @@ run_got run position = run
 abbrev pub after_begin : Bool → Solo → Solo
 after_begin got s = locked_to true (if got then s else missed_to true s)
 
+-- the answer is whether the lock was free; where it was, what the holder has is the account's
+abbrev pub BeginsAlone : Bool → View → View → Type 0
+BeginsAlone got v w = (got ≡ not v.whole.qdisc.locked) × (solo w ≡ after_begin got (solo v)) × (got ≡ true → IsAccounts w)
+
 -- the lock is free after the end of a run, and the table scheduled where MISSED is set
 abbrev pub ended : Solo → Solo
 ended s = if s.whole.missed then sched_set s.whole.scheduled (locked_to false s) else locked_to false s
@@ -60,6 +66,20 @@ module _ {D : Type 0} where
   abbrev pub Rests : Cpu D → Type 0
   Rests c = IsResting (view c).holder.size (view c).holder.ends × ((view c).holder.resizing ≡ None)
 
+  -- the seat has the run lock and goes on from there: it carries the station, with nothing in hand, no take, resize or exchange is half
+  -- done, and a packet in the requeue slot is one of the capture
+  abbrev pub BeginsAsHolder : Cpu D → Cpu D → Type 0
+  BeginsAsHolder b a = (position a ≡ after_got (view a) (position b)) × HasStation a × Rests a × (0 < (view a).holder.size) × ((view a).holder.hand ≡ None) × ((view a).holder.shut ≡ None)
+      × IsKnownSlot (view a).share.about (view a).holder.slot × ((view a).place.run ≡ run_got (view b).place.run (position b))
+
+  -- it stands here, carries no station, and knows of the station what it knew
+  abbrev pub StandsWithoutStation : Position → Cpu D → Cpu D → Type 0
+  StandsWithoutStation at b a = (position a ≡ at) × HasNone a × ((view a).holder ≡ (view b).holder)
+
+  -- the run lock of an active station may be released by control: no purge and no exchange is half done
+  abbrev pub MayReleaseActive : Cpu D → Type 0
+  MayReleaseActive c = (position c ≡ Control true) × ((view c).control.phase ≡ Active) × ((view c).control.purge ≡ None) × ((view c).holder.shut ≡ None)
+
   -- what the run lock's steps leave as it was
   abbrev pub IsElseKept : Cpu D → Cpu D → Type 0
   IsElseKept b a = IsSameSeat b a × ((view a).share ≡ (view b).share) × ((view a).packets ≡ (view b).packets) × ((view a).locks ≡ (view b).locks) × ((view a).control ≡ (view b).control) × ((view a).whole.told ≡ (view b).whole.told)
@@ -68,3 +88,15 @@ module _ {D : Type 0} where
   -- nor did an event come
   abbrev pub IsEventless : Cpu D → Cpu D → Type 0
   IsEventless b a = (view a).whole.state ≡ (view b).whole.state
+
+  -- the raised mark is as it was
+  abbrev pub IsRaisedAsBefore : Cpu D → Cpu D → Type 0
+  IsRaisedAsBefore b a = (view a).place.raised ≡ (view b).place.raised
+
+  -- a seat that was raised is so still
+  abbrev pub StaysRaised : Cpu D → Cpu D → Type 0
+  StaysRaised b a = (view b).place.raised ≡ true → (view a).place.raised ≡ true
+
+  -- SCHED is set, and the seat raised where it was clear
+  abbrev pub SetsSched : Cpu D → Cpu D → Type 0
+  SetsSched b a = (was : Bool) × (view a ≡ scheduling was (view b)) × (solo (view a) ≡ sched_set was (solo (view b))) × (IsSole (view b) → was ≡ (view b).whole.qdisc.sched) × (steps a ≡ steps b ⊳ did_set_sched was)

@@ -1,18 +1,16 @@
 //! The run lock is tried and released, and what was missed meanwhile is scheduled.
 #![tactic(auto)]
 
-ghost use Rattle.std.specs.Prelude.{◌≡◌, ℕ, ◌<◌, Bool, true, false, not, [], ◌∷◌, Some, None};
-ghost use Rattle.lq_model.specs.declared.machine.Position.TheVariants.{Try1, Unlock as AtUnlock, Leave as AtLeave, Idle as AtIdle, Control as AtControl};
-ghost use Rattle.lq_model.specs.declared.machine.Phase.TheVariants.{Active};
+ghost use Rattle.std.specs.Prelude.{◌≡◌, ℕ, true, false, []};
+ghost use Rattle.lq_model.specs.declared.machine.Position.TheVariants.{Try1, Unlock as AtUnlock, Leave as AtLeave, Idle as AtIdle};
 ghost use Rattle.lq_model.specs.declared.machine.Attempt.{Attempt};
-ghost use Rattle.lq_table.specs.Views.{HolderPart};
-ghost use Rattle.lq_table.specs.Rule.{shown, units_of, IsResting};
 ghost use Rattle.lq_table.specs.Sees.{view, known, steps, position, slot, IsSeatOf, IsSameSeat, IsElseSame};
-ghost use Rattle.lq_table.specs.Told.{IsKnownSlot, tries_lock, got, finding_locked, misses, missing, schedules, scheduling, clears_sched, passing};
-ghost use Rattle.lq_table.specs.Solo.{IsSole, IsAccounts, solo, locked_to, missed_to, sched_set, sched_cleared};
-ghost use Rattle.lq_table.specs.Made.{◌⊳◌, did_clear_sched, did_set_sched};
+ghost use Rattle.lq_table.specs.Seats.{GetsLock};
+ghost use Rattle.lq_table.specs.Told.{tries_lock, finding_locked, misses, missing, schedules, clears_sched, passing};
+ghost use Rattle.lq_table.specs.Solo.{IsSole, solo, missed_to, sched_cleared, TriesLock};
+ghost use Rattle.lq_table.specs.Made.{◌⊳◌, did_clear_sched};
 ghost use Rattle.lq_run.specs.Tries.{BeginsBy, EndsRun, SetsMissed, TriesOnce};
-ghost use Rattle.lq_run.specs.Runs.{after_got, after_missed, run_got, after_begin, ended, HasStation, HasNone, Rests, IsElseKept, IsEventless};
+ghost use Rattle.lq_run.specs.Runs.{after_missed, ended, HasStation, HasNone, Rests, IsElseKept, IsEventless, BeginsAlone, BeginsAsHolder, IsRaisedAsBefore, StandsWithoutStation, MayReleaseActive, SetsSched, StaysRaised};
 
 use lq_device::TxDevice;
 use lq_model::state::MISSED;
@@ -24,9 +22,9 @@ pub fn try_run_lock<'a, D: TxDevice>(shared: &Shared<'a, D>, cpu: &mut Cpu<D>) -
     requires seat { IsSeatOf shared.now cpu.old }
     requires at { tries_lock (position cpu.old) ≡ true }
     ensures seat { IsSameSeat cpu.old cpu.new × (cpu.new.station ≡ cpu.old.station) × (cpu.new.indices ≡ cpu.old.indices) }
-    ensures got { result ≡ true → (d : HolderPart) × (view cpu.new ≡ got d (view cpu.old)) × (slot cpu.new ≡ (0, Some (shown d)) ∷ slot cpu.old) × IsResting d.size d.ends × (0 < d.size) × (d.hand ≡ None) × (d.resizing ≡ None) × (d.shut ≡ None) × IsKnownSlot (view cpu.old).share.about d.slot × ((view cpu.old).control.first ≡ true → d.units ≡ units_of (view cpu.old).trail) }
+    ensures got { result ≡ true → GetsLock cpu.old cpu.new }
     ensures held { result ≡ false → (view cpu.new ≡ finding_locked (view cpu.old)) × (slot cpu.new ≡ slot cpu.old) }
-    ensures sole { IsSole (view cpu.old) → (solo (view cpu.new) ≡ locked_to true (solo (view cpu.old))) × (result ≡ not (view cpu.old).whole.qdisc.locked) × (result ≡ true → IsAccounts (view cpu.new)) }
+    ensures sole { IsSole (view cpu.old) → TriesLock result (view cpu.old) (view cpu.new) }
     ensures tries { TriesOnce result (known cpu.old) (known cpu.new) }
 {
     if shared.look_lock(cpu) {
@@ -56,11 +54,10 @@ pub fn begin<'a, D: TxDevice>(shared: &Shared<'a, D>, cpu: &mut Cpu<D>) -> bool
     requires seat { IsSeatOf shared.now cpu.old }
     requires at { (a : Attempt) × (position cpu.old ≡ Try1 a) }
     requires empty { HasNone cpu.old }
-    ensures kept { IsElseKept cpu.old cpu.new × IsEventless cpu.old cpu.new × ((view cpu.new).place.raised ≡ (view cpu.old).place.raised) }
-    ensures got { result ≡ true → (position cpu.new ≡ after_got (view cpu.new) (position cpu.old)) × HasStation cpu.new × Rests cpu.new × (0 < (view cpu.new).holder.size) × ((view cpu.new).holder.hand ≡ None) × ((view cpu.new).holder.shut ≡ None) × IsKnownSlot (view cpu.new).share.about (view cpu.new).holder.slot
-        × ((view cpu.new).place.run ≡ run_got (view cpu.old).place.run (position cpu.old)) }
-    ensures missed { result ≡ false → (position cpu.new ≡ after_missed (position cpu.old)) × HasNone cpu.new × ((view cpu.new).holder ≡ (view cpu.old).holder) }
-    ensures sole { IsSole (view cpu.old) → (result ≡ not (view cpu.old).whole.qdisc.locked) × (solo (view cpu.new) ≡ after_begin result (solo (view cpu.old))) × (result ≡ true → IsAccounts (view cpu.new)) }
+    ensures kept { IsElseKept cpu.old cpu.new × IsEventless cpu.old cpu.new × IsRaisedAsBefore cpu.old cpu.new }
+    ensures got { result ≡ true → BeginsAsHolder cpu.old cpu.new }
+    ensures missed { result ≡ false → StandsWithoutStation (after_missed (position cpu.old)) cpu.old cpu.new }
+    ensures sole { IsSole (view cpu.old) → BeginsAlone result (view cpu.old) (view cpu.new) }
     ensures begins { BeginsBy result (known cpu.old) (known cpu.new) }
 {
     if try_run_lock(shared, cpu) {
@@ -84,8 +81,8 @@ pub fn end<'a, D: TxDevice>(shared: &Shared<'a, D>, cpu: &mut Cpu<D>)
     requires at { position cpu.old ≡ AtUnlock }
     requires rests { Rests cpu.old }
     requires back { HasStation cpu.old }
-    ensures kept { IsElseKept cpu.old cpu.new × IsEventless cpu.old cpu.new × ((view cpu.old).place.raised ≡ true → (view cpu.new).place.raised ≡ true) }
-    ensures at { (position cpu.new ≡ AtLeave) × HasNone cpu.new × ((view cpu.new).holder ≡ (view cpu.old).holder) }
+    ensures kept { IsElseKept cpu.old cpu.new × IsEventless cpu.old cpu.new × StaysRaised cpu.old cpu.new }
+    ensures at { StandsWithoutStation AtLeave cpu.old cpu.new }
     ensures sole { IsSole (view cpu.old) → solo (view cpu.new) ≡ ended (solo (view cpu.old)) }
     ensures ends { EndsRun (known cpu.old) (known cpu.new) }
 {
@@ -101,12 +98,12 @@ pub fn end<'a, D: TxDevice>(shared: &Shared<'a, D>, cpu: &mut Cpu<D>)
 /// end of a run.
 pub fn end_resize<'a, D: TxDevice>(shared: &Shared<'a, D>, cpu: &mut Cpu<D>)
     requires seat { IsSeatOf shared.now cpu.old }
-    requires at { (position cpu.old ≡ AtControl true) × ((view cpu.old).control.phase ≡ Active) × ((view cpu.old).control.purge ≡ None) × ((view cpu.old).holder.shut ≡ None) }
+    requires at { MayReleaseActive cpu.old }
     requires rests { Rests cpu.old }
     requires back { HasStation cpu.old }
     ensures kept { IsElseKept cpu.old cpu.new × IsEventless cpu.old cpu.new }
-    ensures at { (position cpu.new ≡ AtIdle) × HasNone cpu.new × ((view cpu.new).holder ≡ (view cpu.old).holder) }
-    ensures raised { (view cpu.old).place.raised ≡ true → (view cpu.new).place.raised ≡ true }
+    ensures at { StandsWithoutStation AtIdle cpu.old cpu.new }
+    ensures raised { StaysRaised cpu.old cpu.new }
     ensures sole { IsSole (view cpu.old) → solo (view cpu.new) ≡ ended (solo (view cpu.old)) }
     ensures ends { EndsRun (known cpu.old) (known cpu.new) }
 {
@@ -123,7 +120,7 @@ pub fn schedule<'a, D: TxDevice>(shared: &Shared<'a, D>, cpu: &mut Cpu<D>)
     requires seat { IsSeatOf shared.now cpu.old }
     requires at { schedules (position cpu.old) ≡ true }
     ensures same { IsElseSame cpu.old cpu.new }
-    ensures view { (was : Bool) × (view cpu.new ≡ scheduling was (view cpu.old)) × (solo (view cpu.new) ≡ sched_set was (solo (view cpu.old))) × (IsSole (view cpu.old) → was ≡ (view cpu.old).whole.qdisc.sched) × (steps cpu.new ≡ steps cpu.old ⊳ did_set_sched was) }
+    ensures view { SetsSched cpu.old cpu.new }
 {
     shared.set_sched(cpu);
 }
