@@ -14,3 +14,5 @@ pub mod Alone
 pub mod Plain
 -- the steps of its calls
 pub mod Steps
+-- what its calls ask of a seat, and what they leave of it
+pub mod Seats
