@@ -60,6 +60,10 @@ with_back position g = if is_some (in_hand position) then past_with Back g else 
 abbrev pub after_blocked : Position → Position
 after_blocked position = if is_some (in_hand position) then Again else Unlock
 
+-- A seat that has the table alone, where the queue is stopped or hung: MISSED is cleared and DRAINING set, and what follows is done.
+abbrev pub ClearsMissedAlone : ℕ → (Solo → Solo) → View → View → Type 0
+ClearsMissedAlone queue follow old new = IsSole old → slice_index (account_of old).stops queue ≢ 0 → solo new ≡ follow (draining_to true (missed_to false (solo old)))
+
 -- DEQUEUE
 
 -- the events of finding each band below this one empty, the latest first, before those that came earlier
@@ -95,6 +99,10 @@ pub record Finds (n : ℕ) (old new : View) : Type 0 where
 -- MISSED and DRAINING are clear
 abbrev pub cleared : Solo → Solo
 cleared v = draining_to false (missed_to false v)
+
+-- what it has as holder and the state beside the machine are as they were, and a seat that has the table alone knows this
+abbrev pub KeepsHolder : Solo → View → View → Type 0
+KeepsHolder now old new = (new.holder ≡ old.holder) × (new.whole.state ≡ old.whole.state) × (solo new ≡ now)
 
 -- The bands were found empty: once where both bits were loaded clear after that, and else once more after their clearing.
 pub record FindsEmpty (old new : View) : Type 0 where

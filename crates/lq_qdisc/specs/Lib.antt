@@ -13,3 +13,5 @@ pub mod Alone
 -- what the tests keep of a seat and of the packets
 -- the steps of its calls
 pub mod Steps
+-- what its calls ask of a seat, and what they leave of it
+pub mod Seats

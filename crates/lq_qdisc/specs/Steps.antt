@@ -1,5 +1,5 @@
 -- What the calls do: the steps in the order in which they are made, and what the seat knows after them, with the values that they found.
-use Rattle.std.specs.Prelude.{◌≡◌, ◌≢◌, ◌⊎◌, ◌↔◌, ◌≤◌, ◌*◌, ◌+◌, ℕ, zero, suc, Bool, true, false, not, ◌&&◌, is_some, slice_set, List, Option, Some, None}
+use Rattle.std.specs.Prelude.{◌≡◌, ◌≢◌, ◌⊎◌, ◌↔◌, ◌<◌, ◌≤◌, ◌*◌, ◌+◌, ℕ, zero, suc, Bool, true, false, not, ◌&&◌, is_some, slice_set, List, Option, Some, None, MatchOption}
 use Rattle.lq_model.specs.Account.{Direct as DirectEvent}
 use Rattle.lq_model.specs.Plan.{band_in, owner_in, queue_in, rank_in}
 use Rattle.lq_model.specs.Words.{word_of}
@@ -10,7 +10,7 @@ use Rattle.lq_model.specs.declared.state.TheConstants.{QUOTA}
 use Rattle.lq_run.specs.Tries.{BeginsBy, EndsRun}
 use Rattle.lq_ring.specs.Steps.{FindsSlotEmpty, FindsFull, Puts, Takes}
 use Rattle.lq_table.specs.Views.{Setup}
-use Rattle.lq_table.specs.Told.{is_set, some_bit, entering, fate_sent, going, giving_turn, loading, looking, passing}
+use Rattle.lq_table.specs.Told.{is_set, some_bit, entering, fate_sent, going, giving_turn, loading, looking, passing, setting}
 use Rattle.lq_table.specs.Solo.{IsSole, SeesDown, SeesState, solo, heard, missed_to}
 use Rattle.lq_table.specs.Made.{Known, Made, ◌⊳◌, did_load_stop, did_load_state, did_clear_missed, did_clear_draining, did_set_missed, did_set_draining, did_clear_sched, did_store_stop, did_store_fate, did_take_turn, did_give_turn, did_enter, did_leave}
 use Rattle.lq_qdisc.specs.Calls.{Dequeues, SeesOneQueue, finding_stopped}
@@ -40,6 +40,15 @@ ClearsMaybe k queue again old new =
     ((again ≡ 0) × (was : Bool) × (new ≡ old ⊳ did_clear_missed ⊳ did_load_stop k queue again ⊳ did_set_missed was))
     ⊎ ((again ≢ 0) × (was : Bool) × (new ≡ old ⊳ did_clear_missed ⊳ did_load_stop k queue again ⊳ did_set_draining was))
 
+-- with what the seat knows after it
+abbrev pub ClearsMissedBy : Setup → ℕ → Known → Known → Type 0
+ClearsMissedBy k queue old new = (again : ℕ) × (new.view ≡ setting (loading again (passing old.view))) × ClearsMaybe k queue again old.steps new.steps
+
+-- and MISSED is set after that
+abbrev pub ClearsAndSetsBy : Setup → ℕ → Known → Known → Type 0
+ClearsAndSetsBy k queue old new = (again : ℕ) × (new.view ≡ setting (setting (loading again (passing old.view))))
+    × (cleared : List Made) × (was : Bool) × ClearsMaybe k queue again old.steps cleared × (new.steps ≡ cleared ⊳ did_set_missed was)
+
 -- the queue is found stopped
 abbrev pub FindsStopWord : Setup → ℕ → Known → Known → Type 0
 FindsStopWord k queue old new = (first again : ℕ) × (first ≢ 0) × (new.view ≡ finding_stopped first again old.view) × ClearsMaybe k queue again (old.steps ⊳ did_load_stop k queue first) new.steps
@@ -61,6 +70,14 @@ taken_as (Some n) = taken.Packet n
 -- MISSED and DRAINING are cleared
 abbrev pub both_cleared : Known → Known
 both_cleared k = record { view = passing (passing k.view); steps = k.steps ⊳ did_clear_missed ⊳ did_clear_draining }
+
+-- the seat has cleared both
+abbrev pub ClearsBothBy : Known → Known → Type 0
+ClearsBothBy old new = (new.view ≡ passing (passing old.view)) × (new.steps ≡ old.steps ⊳ did_clear_missed ⊳ did_clear_draining)
+
+-- the state is loaded; whether MISSED or DRAINING is set in it, the answer says
+abbrev pub LoadsBitsBy : Bool → Known → Known → Type 0
+LoadsBitsBy answer old new = (state : ℕ) × (answer ≡ some_bit state) × (new.view ≡ looking state old.view) × (new.steps ≡ old.steps ⊳ did_load_state state)
 
 -- `pfifo_fast_dequeue` of net/sched/sch_generic.c: the bands are scanned. Where they are empty the state is loaded, and where MISSED or
 -- DRAINING is set both are cleared, and the bands scanned once more.
@@ -140,6 +157,10 @@ EndsBy k end.Quota old new = (new.view ≡ passing old.view) × (solo new.view �
 EndsBy k end.Stopped old new = (DequeuesBy k taken.Stopped old new × SeesOneQueue taken.Stopped old.view) ⊎ HandsBy k (through.Back why.Stopped) old new
 EndsBy k end.Busy old new = HandsBy k (through.Back why.Busy) old new
 
+-- a turn of a run: a packet was sent, or the run came to this end
+abbrev pub RestartsBy : Setup → Option RunEnd → Known → Known → Type 0
+RestartsBy k answer old new = MatchOption answer (HandsBy k through.Yes old new) (λ end_. EndsBy k end_ old new)
+
 -- `__qdisc_run` of net/sched/sch_generic.c: so many packets were sent, at most as many as the quota, and it came to this end: by the quota
 -- exactly where it sent as many.
 pub record RunsBy (k : Setup) (ran : Ran) (old new : Known) : Type 0 where
@@ -187,6 +208,10 @@ EnqueuesBy k n (sending.OutOfTurn found) old new = ⊥
 abbrev pub GoesThroughBy : Setup → ℕ → Sending → Known → Known → Type 0
 GoesThroughBy k n answer old new = (put : Known) × EnqueuesBy k n answer old put × AttemptsBy k put new
 
+-- by a seat that has it, which then serves the bands
+abbrev pub EnqueuesAndRunsBy : Setup → ℕ → Sending → Known → Known → Type 0
+EnqueuesAndRunsBy k n answer old new = (put : Known) × EnqueuesBy k n answer old put × RunsToEndBy k put new
+
 -- under the run lock, since MISSED or DRAINING was loaded there
 pub record GoesHeldBy (k : Setup) (n : ℕ) (answer : Sending) (old new : Known) : Type 0 where
   pub state : ℕ
@@ -202,6 +227,10 @@ abbrev pub FollowsBy : Setup → Through → Known → Known → Type 0
 FollowsBy k through.Yes old new = (state : ℕ) × (IsSole old.view → SeesState old.view state) × (solo (looking state old.view) ≡ solo old.view)
     × (((some_bit state ≡ true) × RunsToEndBy k (with_state_loaded state old) new) ⊎ ((some_bit state ≡ false) × ReleasesBy (with_state_loaded state old) new))
 FollowsBy k (through.Back reason) old new = ReleasesBy old new
+
+-- the packet n, which is in hand, goes past the bands with this result, and what follows it is done
+abbrev pub PassesBandsBy : Setup → ℕ → Known → Known → Type 0
+PassesBandsBy k n old new = (handed : Through) × (after : Known) × DirectsBy k handed n (queue_in k.infos n) old after × FollowsBy k handed after new
 
 -- a load of the state under the run lock, after which the packet n is in hand
 abbrev pub gone : ℕ → ℕ → Known → Known
@@ -230,6 +259,11 @@ TriesToPassBy k n answer old new = ((missed : Known) × MissesBy old missed × G
 abbrev pub RefusesBy : Setup → ℕ → Sending → ℕ → Known → Known → Type 0
 RefusesBy k n answer state old new = (event : ℕ) × (answer ≡ sending.Refused event) × IsRefused n event state old.view new.view
     × (new.steps ≡ old.steps ⊳ did_load_state state ⊳ did_store_fate k n (word_of (fate.Refused event)))
+
+-- its fate is stored, where the state was loaded as this word
+abbrev pub StoresRefused : Setup → ℕ → ℕ → Sending → List Made → List Made → Type 0
+StoresRefused k n state answer old new = (event : ℕ) × (bits : ℕ) × (bits < 16) × (state ≡ bits + 256 * (event + 1)) × (answer ≡ sending.Refused event)
+    × (new ≡ old ⊳ did_store_fate k n (word_of (fate.Refused event)))
 
 -- `__dev_xmit_skb` of net/core/dev.c, the part for a qdisc with `TCQ_F_NOLOCK`
 pub record GoesBy (k : Setup) (n : ℕ) (answer : Sending) (old new : Known) : Type 0 where

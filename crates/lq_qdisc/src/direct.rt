@@ -1,22 +1,23 @@
 //! Handing a packet to the device.
-ghost use Rattle.std.specs.Prelude.{◌≡◌, ◌≢◌, ℕ, ◌<◌, ◌≤◌, Bool, true, false, length, slice_index, List, [], ◌∷◌, is_some, Some, None};
+ghost use Rattle.std.specs.Prelude.{◌≡◌, ◌<◌, ◌≤◌, Bool, true, false, length, [], ◌∷◌, is_some, Some, None};
 ghost use Rattle.lq_device.specs.Station.{StationState, HasAnswered, with_slot};
 ghost use Rattle.lq_model.specs.Account.{Back};
 ghost use Rattle.lq_model.specs.Device.{is_busy, is_hang};
 ghost use Rattle.lq_model.specs.Plan.{queue_in};
 ghost use Rattle.lq_model.specs.Words.{word_of};
-ghost use Rattle.lq_model.specs.declared.device.Tx.{Tx as Answer};
 ghost use Rattle.lq_model.specs.declared.device.Tx.TheVariants.{Busy as NotSent};
 ghost use Rattle.lq_model.specs.declared.machine.Blocked.TheVariants.{InHand};
 ghost use Rattle.lq_model.specs.declared.machine.Position.TheVariants.{BlockedClear, Gate, StoreXoff, Unlock, Xmit};
 ghost use Rattle.lq_table.specs.Rule.{shown};
 ghost use Rattle.lq_table.specs.Sees.{view, known, steps, setup, position, slot, packet_at, carried, IsSeatOf, IsSameSeat, IsElseSame};
-ghost use Rattle.lq_table.specs.Told.{HasRoom, IsPacketOf, fate_sent, loading, passing, setting, requeuing};
-ghost use Rattle.lq_table.specs.Solo.{IsSole, account_of, solo, heard, missed_to, draining_to, device_to};
-ghost use Rattle.lq_table.specs.Made.{Made, did_set_missed, did_store_fate, ◌⊳◌};
-ghost use Rattle.lq_qdisc.specs.Steps.{ClearsMaybe, DirectsBy, OffersBy, hung_stored, stops_stored};
-ghost use Rattle.lq_qdisc.specs.Calls.{IsServing, IsKeptInRun, IsSettledSame};
-ghost use Rattle.lq_qdisc.specs.Direct.{IsSentAs, SeesOpen, StaysAt, hearing_hung, hearing_stops, hung_below, position_after, run_after, sent_leads, stopped_by};
+ghost use Rattle.lq_table.specs.Told.{HasRoom, IsPacketOf, fate_sent, requeuing};
+ghost use Rattle.lq_table.specs.Solo.{solo, heard, missed_to, device_to};
+ghost use Rattle.lq_table.specs.Made.{did_set_missed, did_store_fate, ◌⊳◌};
+ghost use Rattle.lq_ring.specs.Seats.{KeepsSeatAndView};
+ghost use Rattle.lq_qdisc.specs.Steps.{ClearsAndSetsBy, DirectsBy, OffersBy, hung_stored, stops_stored};
+ghost use Rattle.lq_qdisc.specs.Calls.{ClearsMissedAlone, IsServing, IsKeptInRun, IsSettledSame};
+ghost use Rattle.lq_qdisc.specs.Direct.{SeesOpen, StaysAt, hearing_hung, hearing_stops, hung_below, run_after, sent_leads, stopped_by};
+ghost use Rattle.lq_qdisc.specs.Seats.{CarriesAccepted, CarriesDeviceWithRoom, GoesOnFrom, HandsOver, StoresSent};
 ghost use Rattle.lq_qdisc.specs.declared.answers.Through.TheVariants.{Yes};
 
 use crate::answers::{Through, Why};
@@ -38,7 +39,7 @@ pub fn direct_xmit<'a, D: TxDevice>(shared: &Shared<'a, D>, cpu: &mut Cpu<D>, n:
     requires hand { (view cpu.old).holder.hand ≡ Some n }
     ensures kept { IsKeptInRun cpu.old cpu.new }
     ensures serving { IsServing cpu.new }
-    ensures at { (direct : Bool) → position cpu.old ≡ Gate (packet_at shared.now n) direct → position cpu.new ≡ position_after result direct (view cpu.new) }
+    ensures at { GoesOnFrom (Gate (packet_at shared.now n)) result cpu.old cpu.new }
     ensures run { (view cpu.new).place.run ≡ run_after result (view cpu.old).place.run }
     ensures empty { result ≡ Yes → ((view cpu.new).holder.hand ≡ None) × ((view cpu.new).holder.slot ≡ None) }
     ensures trail { (view cpu.new).trail ≡ (view cpu.old).trail }
@@ -55,7 +56,7 @@ pub fn direct_xmit<'a, D: TxDevice>(shared: &Shared<'a, D>, cpu: &mut Cpu<D>, n:
 /// Lays packet `n` into the requeue slot, which is empty.
 fn put_back<D: TxDevice>(cpu: &mut Cpu<D>, n: u32)
     requires station { (st : StationState) × (cpu.old.station ≡ Some st) × (st.slot ≡ None) }
-    ensures same { IsSameSeat cpu.old cpu.new × (cpu.new.indices ≡ cpu.old.indices) × (slot cpu.new ≡ slot cpu.old) × (view cpu.new ≡ view cpu.old) }
+    ensures same { KeepsSeatAndView cpu.old cpu.new }
     ensures station { (st : StationState) → cpu.old.station ≡ Some st → cpu.new.station ≡ Some (with_slot st (Some n)) }
     ensures made { steps cpu.new ≡ steps cpu.old }
 {
@@ -79,8 +80,8 @@ fn lay_aside<'a, D: TxDevice>(shared: &Shared<'a, D>, cpu: &mut Cpu<D>, n: u32, 
     ensures fates { IsSettledSame cpu.old cpu.new }
     ensures holder { (view cpu.new).holder ≡ record (view cpu.old).holder { slot = Some n; hand = None } }
     ensures heard { (view cpu.new).whole.state.past ≡ Back ∷ (view cpu.old).whole.state.past }
-    ensures stopped { (again : ℕ) × (view cpu.new ≡ setting (setting (loading again (passing (view cpu.old))))) × (cleared : List Made) × (was : Bool) × ClearsMaybe (setup shared.now) queue again (steps cpu.old) cleared × (steps cpu.new ≡ cleared ⊳ did_set_missed was) }
-    ensures sole { IsSole (view cpu.old) → slice_index (account_of (view cpu.old)).stops queue ≢ 0 → solo (view cpu.new) ≡ missed_to true (heard Back (draining_to true (missed_to false (solo (view cpu.old))))) }
+    ensures stopped { ClearsAndSetsBy (setup shared.now) queue (known cpu.old) (known cpu.new) }
+    ensures sole { ClearsMissedAlone queue (λ s. missed_to true (heard Back s)) (view cpu.old) (view cpu.new) }
 {
     maybe_clear_missed(shared, cpu, queue);
     put_back(cpu, n);
@@ -89,10 +90,10 @@ fn lay_aside<'a, D: TxDevice>(shared: &Shared<'a, D>, cpu: &mut Cpu<D>, n: u32, 
 
 /// Hands packet `n` to the device. Gives its answer, and the fate that the packet has where it was accepted.
 fn hand_over<D: TxDevice>(cpu: &mut Cpu<D>, queue: u32, n: u32) -> (Tx, Fate)
-    requires station { (st : StationState) × (cpu.old.station ≡ Some st) × (0 < st.device.spare) × (st.device.hung ≡ false) × (length st.device.accepted < 1000000) }
-    ensures same { IsSameSeat cpu.old cpu.new × (cpu.new.indices ≡ cpu.old.indices) × (slot cpu.new ≡ slot cpu.old) × (view cpu.new ≡ view cpu.old) }
+    requires station { CarriesDeviceWithRoom cpu.old }
+    ensures same { KeepsSeatAndView cpu.old cpu.new }
     ensures station { cpu.new.station ≡ Some (carried cpu.new) }
-    ensures handed { (st : StationState) → cpu.old.station ≡ Some st → (result.1 ≡ fate_sent st) × HasAnswered result.0 queue n st (carried cpu.new) }
+    ensures handed { HandsOver n queue result.0 result.1 cpu.old cpu.new }
     ensures made { steps cpu.new ≡ steps cpu.old }
 {
     let Some(station) = &mut cpu.station else {
@@ -120,7 +121,7 @@ fn store_hung<'a, D: TxDevice>(shared: &Shared<'a, D>, cpu: &mut Cpu<D>)
     requires at { (direct : Bool) × (position cpu.old ≡ StoreXoff 0 true direct) }
     requires hung { (view cpu.old).holder.station.device.hung ≡ true }
     ensures same { IsElseSame cpu.old cpu.new }
-    ensures at { (direct : Bool) → position cpu.old ≡ StoreXoff 0 true direct → position cpu.new ≡ position_after Yes direct (view cpu.new) }
+    ensures at { GoesOnFrom (StoreXoff 0 true) Yes cpu.old cpu.new }
     ensures stays { StaysAt (view cpu.old) (view cpu.new) }
     ensures heard { (view cpu.new).whole.state.past ≡ hung_below shared.now.queues (view cpu.old).whole.state.past }
     ensures step { solo (view cpu.new) ≡ hearing_hung shared.now.queues (solo (view cpu.old)) }
@@ -155,10 +156,10 @@ fn settle_sent<'a, D: TxDevice>(shared: &Shared<'a, D>, cpu: &mut Cpu<D>, n: u32
     requires at { (direct : Bool) × (position cpu.old ≡ Xmit (packet_at shared.now n) direct) }
     requires hand { (view cpu.old).holder.hand ≡ Some n }
     requires room { HasRoom (view cpu.old).holder }
-    requires accepted { (answer : Answer) × (is_busy answer ≡ false) × HasAnswered answer (queue_in shared.now.infos.now n) n (shown (view cpu.old).holder) (carried cpu.old) }
+    requires accepted { CarriesAccepted shared.now n cpu.old }
     requires fate { fate ≡ fate_sent (view cpu.old).holder.station }
     ensures same { IsElseSame cpu.old cpu.new }
-    ensures sent { (answer : Answer) → (direct : Bool) → is_busy answer ≡ false → HasAnswered answer (queue_in shared.now.infos.now n) n (shown (view cpu.old).holder) (carried cpu.old) → position cpu.old ≡ Xmit (packet_at shared.now n) direct → IsSentAs answer n (queue_in shared.now.infos.now n) direct (carried cpu.old) (view cpu.old) (view cpu.new) }
+    ensures sent { StoresSent shared.now n cpu.old cpu.new }
     ensures made { steps cpu.new ≡ steps cpu.old ⊳ did_store_fate (setup shared.now) n (word_of fate) }
 {
     shared.settle(cpu, n, fate);
@@ -172,7 +173,7 @@ fn stop<'a, D: TxDevice>(shared: &Shared<'a, D>, cpu: &mut Cpu<D>, queue: u32, a
     requires at { (direct : Bool) × (position cpu.old ≡ sent_leads answer queue direct (view cpu.old)) }
     requires hung { (view cpu.old).holder.station.device.hung ≡ is_hang answer }
     ensures same { IsElseSame cpu.old cpu.new }
-    ensures at { (direct : Bool) → position cpu.old ≡ sent_leads answer queue direct (view cpu.old) → position cpu.new ≡ position_after Yes direct (view cpu.new) }
+    ensures at { GoesOnFrom (λ direct. sent_leads answer queue direct (view cpu.old)) Yes cpu.old cpu.new }
     ensures stays { StaysAt (view cpu.old) (view cpu.new) }
     ensures heard { (view cpu.new).whole.state.past ≡ stopped_by answer queue shared.now.queues (view cpu.old).whole.state.past }
     ensures step { solo (view cpu.new) ≡ hearing_stops answer queue shared.now.queues (solo (view cpu.old)) }
@@ -196,7 +197,7 @@ fn offer<'a, D: TxDevice>(shared: &Shared<'a, D>, cpu: &mut Cpu<D>, n: u32, queu
     requires open { SeesOpen queue (view cpu.old) }
     ensures kept { IsKeptInRun cpu.old cpu.new }
     ensures serving { IsServing cpu.new }
-    ensures at { (direct : Bool) → position cpu.old ≡ Xmit (packet_at shared.now n) direct → position cpu.new ≡ position_after result direct (view cpu.new) }
+    ensures at { GoesOnFrom (Xmit (packet_at shared.now n)) result cpu.old cpu.new }
     ensures run { (view cpu.new).place.run ≡ run_after result (view cpu.old).place.run }
     ensures empty { result ≡ Yes → ((view cpu.new).holder.hand ≡ None) × ((view cpu.new).holder.slot ≡ None) }
     ensures trail { (view cpu.new).trail ≡ (view cpu.old).trail }

@@ -4,13 +4,14 @@ ghost use Rattle.lq_model.specs.declared.machine.Attempt.TheVariants.{Interrupt}
 ghost use Rattle.lq_model.specs.declared.machine.Position.TheVariants.{Idle, Leave, Soft, Try1};
 ghost use Rattle.lq_model.specs.Alone.{opened};
 ghost use Rattle.lq_table.specs.Views.{first_account};
-ghost use Rattle.lq_qdisc.specs.Alone.{BringsAlone, Does};
+ghost use Rattle.lq_qdisc.specs.Alone.{Does};
 ghost use Rattle.lq_table.specs.Sees.{view, known, setup, position, IsSeatOf, IsElseSame};
 ghost use Rattle.lq_table.specs.Solo.{solo};
 ghost use Rattle.lq_table.specs.Told.{at_rest};
 ghost use Rattle.lq_qdisc.specs.Calls.{KeepsFates};
 ghost use Rattle.lq_qdisc.specs.Steps.{InterruptsBy, IsDueBy};
-ghost use Rattle.lq_qdisc.specs.Sends.{IsCallKept, IsReadyToSend, IsStill, Wakes, WakesBelow};
+ghost use Rattle.lq_qdisc.specs.Sends.{IsCallKept, IsReadyToSend, IsStill, IsStillWithHolder, Wakes, WakesBelow};
+ghost use Rattle.lq_qdisc.specs.Seats.{BringsStation};
 
 use crate::sends::{attempt, is_deactivated};
 use lq_device::TxDevice;
@@ -31,7 +32,7 @@ pub fn softirq<'a, D: TxDevice>(shared: &Shared<'a, D>, cpu: &mut Cpu<D>)
     ensures ready { IsReadyToSend cpu.new }
     ensures still { IsStill (view cpu.old) (view cpu.new) }
     ensures interrupts { InterruptsBy (setup shared.now) (known cpu.old) (known cpu.new) }
-    ensures alone { BringsAlone shared.now.infos.now (first_account (setup shared.now)) (λ s. s) (solo (view cpu.old)) (solo (view cpu.new)) }
+    ensures alone { BringsStation shared.now (λ s. s) cpu.old cpu.new }
 {
     shared.enter(cpu);
     if is_due(shared, cpu) {
@@ -46,7 +47,7 @@ fn is_due<'a, D: TxDevice>(shared: &Shared<'a, D>, cpu: &mut Cpu<D>) -> bool
     requires at { position cpu.old ≡ Soft }
     ensures same { IsElseSame cpu.old cpu.new }
     ensures at { position cpu.new ≡ (if result then Try1 Interrupt else Leave) }
-    ensures still { IsStill (view cpu.old) (view cpu.new) × ((view cpu.new).locks ≡ (view cpu.old).locks) × ((view cpu.new).holder ≡ (view cpu.old).holder) }
+    ensures still { IsStillWithHolder (view cpu.old) (view cpu.new) }
     ensures due { IsDueBy result (known cpu.old) (known cpu.new) }
     ensures mark { (view cpu.new).place.raised ≡ (view cpu.old).place.raised }
 {

@@ -1,15 +1,12 @@
 //! A run of the queue discipline.
-ghost use Rattle.std.specs.Prelude.{◌≡◌, ◌+◌, ℕ, ◌<◌, ◌≢◌, ⊤, Some, None, MatchOption, length, is_none, if◌then◌else◌};
+ghost use Rattle.std.specs.Prelude.{◌≡◌, ◌+◌, ℕ, ◌<◌, ◌≢◌, ⊤, Some, None, MatchOption, is_none, if◌then◌else◌};
 ghost use Rattle.lq_model.specs.declared.machine.Position.TheVariants.{Unlock};
 ghost use Rattle.lq_run.specs.Runs.{begins};
-ghost use Rattle.lq_table.specs.Views.{first_account};
 ghost use Rattle.lq_table.specs.Sees.{view, known, setup, position, IsSeatOf};
-ghost use Rattle.lq_table.specs.Solo.{IsAccounts, solo};
-ghost use Rattle.lq_qdisc.specs.Steps.{EndsBy, HandsBy, RunsBy};
-ghost use Rattle.lq_qdisc.specs.Alone.{IsOneSender, RunsAlone, account_in};
+ghost use Rattle.lq_qdisc.specs.Steps.{RestartsBy, RunsBy};
 ghost use Rattle.lq_qdisc.specs.Calls.{IsSlotOf, IsServing, IsKeptInRun, KeepsFates};
-ghost use Rattle.lq_qdisc.specs.Runs.{position_in_run};
-ghost use Rattle.lq_qdisc.specs.declared.answers.Through.TheVariants.{Yes};
+ghost use Rattle.lq_qdisc.specs.Runs.{HasSentOneMore, accepted_count, position_in_run};
+ghost use Rattle.lq_qdisc.specs.Seats.{ServesStation};
 ghost use Rattle.lq_qdisc.specs.declared.answers.RunEnd.TheVariants.{Quota};
 
 use crate::answers::{Ran, RunEnd, Taken, Through, Why};
@@ -31,12 +28,12 @@ fn restart<'a, D: TxDevice>(shared: &Shared<'a, D>, cpu: &mut Cpu<D>) -> Option<
     ensures kept { IsKeptInRun cpu.old cpu.new }
     ensures serving { IsServing cpu.new }
     ensures trail { (view cpu.new).trail ≡ (view cpu.old).trail }
-    ensures sent { MatchOption result (HandsBy (setup shared.now) Yes (known cpu.old) (known cpu.new)) (λ end. EndsBy (setup shared.now) end (known cpu.old) (known cpu.new)) }
+    ensures sent { RestartsBy (setup shared.now) result (known cpu.old) (known cpu.new) }
     ensures at { MatchOption result (position cpu.new ≡ position_in_run (view cpu.new)) (λ end. position cpu.new ≡ Unlock) }
-    ensures run { result ≡ None → ((view cpu.new).place.run ≡ (view cpu.old).place.run + 1) × ((view cpu.new).holder.hand ≡ None) × ((view cpu.new).holder.slot ≡ None) }
+    ensures run { result ≡ None → HasSentOneMore (view cpu.old) (view cpu.new) }
     ensures quota { MatchOption result ⊤ (λ end. end ≢ Quota) }
     ensures fates { KeepsFates (view cpu.old) (view cpu.new) }
-    ensures accepted { length (view cpu.new).holder.station.device.accepted ≡ length (view cpu.old).holder.station.device.accepted + (if is_none result then 1 else 0) }
+    ensures accepted { accepted_count (view cpu.new) ≡ accepted_count (view cpu.old) + (if is_none result then 1 else 0) }
 {
     match dequeue(shared, cpu) {
         Taken::Empty => Some(RunEnd::Empty),
@@ -69,8 +66,8 @@ pub fn run<'a, D: TxDevice>(shared: &Shared<'a, D>, cpu: &mut Cpu<D>) -> Ran
     ensures trail { (view cpu.new).trail ≡ (view cpu.old).trail }
     ensures fates { KeepsFates (view cpu.old) (view cpu.new) }
     ensures ran { RunsBy (setup shared.now) result (known cpu.old) (known cpu.new) }
-    ensures accepted { length (view cpu.new).holder.station.device.accepted ≡ length (view cpu.old).holder.station.device.accepted + result.sent }
-    ensures alone { (shared.now.queues ≢ 1 → IsAccounts (view cpu.old)) → IsOneSender (first_account (setup shared.now)) (solo (view cpu.old)) → (account_in (first_account (setup shared.now)) (solo (view cpu.old))).down ≡ None → RunsAlone shared.now.infos.now (first_account (setup shared.now)) (solo (view cpu.old)) (solo (view cpu.new)) }
+    ensures accepted { accepted_count (view cpu.new) ≡ accepted_count (view cpu.old) + result.sent }
+    ensures alone { ServesStation shared.now cpu.old cpu.new }
 {
     for sent in 0..QUOTA {
         if let Some(end) = restart(shared, cpu) {

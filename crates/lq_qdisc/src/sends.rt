@@ -1,23 +1,18 @@
 //! Transmits, and attempts to run the queue discipline.
-ghost use Rattle.std.specs.Prelude.{◌≡◌, ◌≢◌, ◌⊎◌, ℕ, ◌+◌, ◌*◌, ◌<◌, Bool, true, false, not, ◌&&◌, length, slice_index, slice_set, Some, None};
-ghost use Rattle.lq_model.specs.Plan.{band_in, queue_in};
-ghost use Rattle.lq_model.specs.declared.fate.Fate.TheVariants.{Refused};
+ghost use Rattle.std.specs.Prelude.{◌≡◌, ◌≢◌, ◌⊎◌, ◌<◌, Bool, true, false, not, ◌&&◌, length, slice_index, slice_set, Some, None};
 ghost use Rattle.lq_model.specs.declared.machine.Attempt.{Attempt};
 ghost use Rattle.lq_model.specs.declared.machine.Attempt.TheVariants.{Direct as ToPass};
 ghost use Rattle.lq_model.specs.declared.machine.Position.TheVariants.{Check, Gate, Idle, Leave, Put, Recheck, Try1};
 ghost use Rattle.lq_run.specs.Runs.{begins};
-ghost use Rattle.lq_ring.specs.Put.{no_locks, put_leads_to};
-ghost use Rattle.lq_model.specs.Words.{word_of};
-ghost use Rattle.lq_table.specs.Made.{Known, ◌⊳◌, did_store_fate};
+ghost use Rattle.lq_ring.specs.Put.{no_locks};
+ghost use Rattle.lq_ring.specs.Seats.{GoesOnFromPut};
 ghost use Rattle.lq_table.specs.Sees.{view, known, steps, setup, position, slot, packet_at, IsSeatOf, IsSameSeat, IsElseSame};
 ghost use Rattle.lq_table.specs.Told.{IsPacketOf, is_set, some_bit, paying};
 ghost use Rattle.lq_table.specs.Solo.{solo};
-ghost use Rattle.lq_qdisc.specs.Steps.{AttemptsBy, DirectsBy, EnqueuesBy, FollowsBy, GoesBy, GoesLockedBy, GoesThroughBy, RunsToEndBy, TriesToPassBy};
+ghost use Rattle.lq_qdisc.specs.Steps.{AttemptsBy, EnqueuesAndRunsBy, EnqueuesBy, FollowsBy, GoesBy, GoesLockedBy, GoesThroughBy, PassesBandsBy, RunsToEndBy, StoresRefused, TriesToPassBy};
 ghost use Rattle.lq_qdisc.specs.Calls.{IsServing, IsSlotOf, KeepsFates};
-ghost use Rattle.lq_qdisc.specs.Sends.{IsFreeInside, IsInsideKept, HasCome, IsBringing, IsCallKept, serves_bands};
+ghost use Rattle.lq_qdisc.specs.Sends.{IsFreeInside, IsInsideKept, HasCome, IsBringing, IsCallKept, OwesRefused, serves_bands};
 ghost use Rattle.lq_qdisc.specs.Direct.{position_after};
-ghost use Rattle.lq_qdisc.specs.declared.answers.Sending.TheVariants as sending;
-ghost use Rattle.lq_qdisc.specs.declared.answers.Through.{Through as Handed};
 ghost use Rattle.lq_qdisc.specs.declared.answers.Through.TheVariants.{Yes};
 
 use crate::answers::{Sending, Through};
@@ -90,10 +85,10 @@ fn enqueue<'a, D: TxDevice, R: Wait>(
 ) -> Sending
     requires seat { IsSeatOf shared.now cpu.old }
     requires at { (holds : Bool) × (position cpu.old ≡ Put (packet_at shared.now n) holds) }
-    requires packet { (n < length shared.now.infos.now) × (band_in shared.now.infos.now n < 3) × ((view cpu.old).packets.fresh ≡ Some n) × ((view cpu.old).packets.owed ≡ None) }
+    requires packet { IsBringing shared.now n cpu.old }
     requires idle { ((view cpu.old).locks ≡ no_locks) × ((view cpu.old).holder.resizing ≡ None) }
     ensures same { IsSameSeat cpu.old cpu.new × (cpu.new.station ≡ cpu.old.station) × (slot cpu.new ≡ slot cpu.old) }
-    ensures at { (holds : Bool) → position cpu.old ≡ Put (packet_at shared.now n) holds → position cpu.new ≡ put_leads_to holds (packet_at shared.now n) (view cpu.old) }
+    ensures at { GoesOnFromPut shared.now n cpu.old cpu.new }
     ensures put { EnqueuesBy (setup shared.now) n result (known cpu.old) (known cpu.new) }
 {
     let band = shared.infos()[n as usize].band as u32;
@@ -147,7 +142,7 @@ fn send_held<'a, D: TxDevice, R: Wait>(
     ensures at { position cpu.new ≡ Leave }
     ensures free { IsFreeInside cpu.new }
     ensures came { HasCome shared.now.infos.now n result (view cpu.old) (view cpu.new) }
-    ensures goes { (put : Known) × EnqueuesBy (setup shared.now) n result (known cpu.old) put × RunsToEndBy (setup shared.now) put (known cpu.new) }
+    ensures goes { EnqueuesAndRunsBy (setup shared.now) n result (known cpu.old) (known cpu.new) }
 {
     let sending = enqueue(rt, shared, cpu, n);
     run_to_end(shared, cpu);
@@ -185,7 +180,7 @@ fn send_past<'a, D: TxDevice>(shared: &Shared<'a, D>, cpu: &mut Cpu<D>, n: u32)
     ensures fates { KeepsFates (view cpu.old) (view cpu.new) }
     ensures at { position cpu.new ≡ Leave }
     ensures free { IsFreeInside cpu.new }
-    ensures past { (handed : Handed) × (after : Known) × DirectsBy (setup shared.now) handed n (queue_in shared.now.infos.now n) (known cpu.old) after × FollowsBy (setup shared.now) handed after (known cpu.new) }
+    ensures past { PassesBandsBy (setup shared.now) n (known cpu.old) (known cpu.new) }
 {
     let through = direct_xmit(shared, cpu, n);
     follow(shared, cpu, through);
@@ -250,10 +245,10 @@ fn send_try<'a, D: TxDevice, R: Wait>(
 fn refuse<'a, D: TxDevice>(shared: &Shared<'a, D>, cpu: &mut Cpu<D>, n: u32, state: u64) -> Sending
     requires seat { IsSeatOf shared.now cpu.old }
     requires packet { n < length shared.now.infos.now }
-    requires state { (event : ℕ) × (bits : ℕ) × (bits < 16) × (event < 4294967296) × (state ≡ bits + 256 * (event + 1)) × ((view cpu.old).packets.owed ≡ Some (n, Refused event)) }
+    requires state { OwesRefused n state (view cpu.old) }
     ensures same { IsElseSame cpu.old cpu.new }
     ensures view { view cpu.new ≡ paying (view cpu.old) }
-    ensures event { (event : ℕ) × (bits : ℕ) × (bits < 16) × (state ≡ bits + 256 * (event + 1)) × (result ≡ sending.Refused event) × (steps cpu.new ≡ steps cpu.old ⊳ did_store_fate (setup shared.now) n (word_of (Refused event))) }
+    ensures event { StoresRefused (setup shared.now) n state result (steps cpu.old) (steps cpu.new) }
     ensures step { solo (view cpu.new) ≡ solo (view cpu.old) }
 {
     let event = (state / 256 - 1) as u32;

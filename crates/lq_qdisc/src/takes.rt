@@ -1,19 +1,19 @@
 //! Taking the packet that is served next.
-ghost use Rattle.std.specs.Prelude.{⊤, ◌≡◌, ◌≢◌, ℕ, ◌<◌, ◌≤◌, Bool, true, false, if◌then◌else◌, slice_index, length, Option, Some, None, MatchOption};
-ghost use Rattle.std.specs.Option.{option_map_or};
+ghost use Rattle.std.specs.Prelude.{⊤, ◌≡◌, ◌<◌, ◌≤◌, Bool, true, false, if◌then◌else◌, length, Option, Some, None, MatchOption};
 ghost use Rattle.lq_model.specs.Plan.{queue_in};
 ghost use Rattle.lq_model.specs.Steps.{queue_of_blocked};
 ghost use Rattle.lq_model.specs.declared.machine.Blocked.{Blocked};
-ghost use Rattle.lq_model.specs.declared.machine.Position.TheVariants.{BlockedClear, Scan, Gate, Test, ClearMissed, Unlock, Deq};
-ghost use Rattle.lq_table.specs.Sees.{view, known, steps, setup, position, slot, packet_at, IsSeatOf, IsSameSeat};
-ghost use Rattle.lq_table.specs.Told.{some_bit, IsPacketOf, setting, loading, looking, passing};
-ghost use Rattle.lq_table.specs.Solo.{IsSole, account_of, solo, laid, missed_to, draining_to};
+ghost use Rattle.lq_model.specs.declared.machine.Position.TheVariants.{BlockedClear, Scan, Test, ClearMissed, Unlock, Deq};
+ghost use Rattle.lq_table.specs.Sees.{view, known, steps, setup, position, slot, IsSeatOf};
+ghost use Rattle.lq_table.specs.Told.{IsPacketOf};
+ghost use Rattle.lq_table.specs.Solo.{IsSole, solo, laid};
 ghost use Rattle.lq_device.specs.Station.{StationState, with_slot};
 ghost use Rattle.lq_table.specs.Rule.{shown};
 ghost use Rattle.lq_run.specs.Runs.{begins};
-ghost use Rattle.lq_table.specs.Made.{◌⊳◌, did_clear_draining, did_clear_missed, did_load_state};
-ghost use Rattle.lq_qdisc.specs.Steps.{ClearsMaybe, DequeuesBy, DequeuesFrom, LooksThrough, Scans};
-ghost use Rattle.lq_qdisc.specs.Calls.{IsSlotOf, IsTakenOf, Dequeues, IsKeptInRun, IsServing, IsSettledSame, FindsNone, Finds, Looks, SeesOneQueue, cleared, after_dequeue, looking_at, laid_aside, with_back, after_blocked};
+ghost use Rattle.lq_ring.specs.Seats.{KeepsSeatAndView};
+ghost use Rattle.lq_qdisc.specs.Steps.{ClearsBothBy, ClearsMissedBy, DequeuesBy, DequeuesFrom, LoadsBitsBy, LooksThrough, Scans};
+ghost use Rattle.lq_qdisc.specs.Calls.{ClearsMissedAlone, IsSlotOf, IsTakenOf, Dequeues, IsKeptInRun, IsServing, IsSettledSame, FindsNone, Finds, KeepsHolder, Looks, SeesOneQueue, cleared, after_dequeue, laid_aside, with_back, after_blocked};
+ghost use Rattle.lq_qdisc.specs.Seats.{GoesOnFromBands};
 
 use crate::answers::Taken;
 use lq_device::TxDevice;
@@ -73,7 +73,7 @@ fn requeued<D: TxDevice>(cpu: &Cpu<D>) -> Option<u32>
 /// Takes the packet out of the requeue slot, where its step has told so.
 fn take_requeued<D: TxDevice>(cpu: &mut Cpu<D>)
     requires station { (st : StationState) × (cpu.old.station ≡ Some st) }
-    ensures same { IsSameSeat cpu.old cpu.new × (cpu.new.indices ≡ cpu.old.indices) × (slot cpu.new ≡ slot cpu.old) × (view cpu.new ≡ view cpu.old) }
+    ensures same { KeepsSeatAndView cpu.old cpu.new }
     ensures station { (st : StationState) → cpu.old.station ≡ Some st → cpu.new.station ≡ Some (with_slot st None) }
     ensures made { steps cpu.new ≡ steps cpu.old }
 {
@@ -141,7 +141,7 @@ fn scan<'a, D: TxDevice>(shared: &Shared<'a, D>, cpu: &mut Cpu<D>) -> Option<u32
     ensures kept { IsKeptInRun cpu.old cpu.new }
     ensures run { (view cpu.new).place.run ≡ (view cpu.old).place.run }
     ensures serving { IsServing cpu.new }
-    ensures at { (second : Bool) → position cpu.old ≡ Scan 0 second → position cpu.new ≡ option_map_or (λ n. Gate (packet_at shared.now n) false) result (looking_at 3 second) }
+    ensures at { GoesOnFromBands shared.now result cpu.old cpu.new }
     ensures fates { IsSettledSame cpu.old cpu.new }
     ensures taken { MatchOption result (FindsNone (view cpu.old) (view cpu.new)) (λ n. Finds n (view cpu.old) (view cpu.new)) }
     ensures packet { MatchOption result ⊤ (λ n. IsPacketOf (setup shared.now) n) }
@@ -164,9 +164,9 @@ fn is_non_empty<'a, D: TxDevice>(shared: &Shared<'a, D>, cpu: &mut Cpu<D>) -> bo
     ensures station { (cpu.new.station ≡ cpu.old.station) × (slot cpu.new ≡ slot cpu.old) }
     ensures at { position cpu.new ≡ (if result then ClearMissed else Unlock) }
     ensures fates { IsSettledSame cpu.old cpu.new }
-    ensures same { ((view cpu.new).holder ≡ (view cpu.old).holder) × ((view cpu.new).whole.state ≡ (view cpu.old).whole.state) × (solo (view cpu.new) ≡ solo (view cpu.old)) }
+    ensures same { KeepsHolder (solo (view cpu.old)) (view cpu.old) (view cpu.new) }
     ensures sole { IsSole (view cpu.old) → result ≡ false → solo (view cpu.new) ≡ cleared (solo (view cpu.old)) }
-    ensures made { (state : ℕ) × (result ≡ some_bit state) × (view cpu.new ≡ looking state (view cpu.old)) × (steps cpu.new ≡ steps cpu.old ⊳ did_load_state state) }
+    ensures made { LoadsBitsBy result (known cpu.old) (known cpu.new) }
 {
     let state = shared.load_state(cpu);
     state & MISSED != 0 || state & DRAINING != 0
@@ -181,8 +181,8 @@ fn clear_non_empty<'a, D: TxDevice>(shared: &Shared<'a, D>, cpu: &mut Cpu<D>)
     ensures station { (cpu.new.station ≡ cpu.old.station) × (slot cpu.new ≡ slot cpu.old) }
     ensures at { position cpu.new ≡ Scan 0 true }
     ensures fates { IsSettledSame cpu.old cpu.new }
-    ensures same { ((view cpu.new).holder ≡ (view cpu.old).holder) × ((view cpu.new).whole.state ≡ (view cpu.old).whole.state) × (solo (view cpu.new) ≡ cleared (solo (view cpu.old))) }
-    ensures made { (view cpu.new ≡ passing (passing (view cpu.old))) × (steps cpu.new ≡ steps cpu.old ⊳ did_clear_missed ⊳ did_clear_draining) }
+    ensures same { KeepsHolder (cleared (solo (view cpu.old))) (view cpu.old) (view cpu.new) }
+    ensures made { ClearsBothBy (known cpu.old) (known cpu.new) }
 {
     shared.clear_missed(cpu);
     shared.clear_draining(cpu);
@@ -235,8 +235,8 @@ pub(crate) fn maybe_clear_missed<'a, D: TxDevice>(
     ensures holder { (view cpu.new).holder ≡ laid_aside (position cpu.old) (view cpu.old).holder }
     ensures heard { (view cpu.new).whole.state ≡ with_back (position cpu.old) (view cpu.old).whole.state }
     ensures fates { IsSettledSame cpu.old cpu.new }
-    ensures stopped { (again : ℕ) × (view cpu.new ≡ setting (loading again (passing (view cpu.old)))) × ClearsMaybe (setup shared.now) queue again (steps cpu.old) (steps cpu.new) }
-    ensures sole { IsSole (view cpu.old) → slice_index (account_of (view cpu.old)).stops queue ≢ 0 → solo (view cpu.new) ≡ laid (view cpu.old) (draining_to true (missed_to false (solo (view cpu.old)))) }
+    ensures stopped { ClearsMissedBy (setup shared.now) queue (known cpu.old) (known cpu.new) }
+    ensures sole { ClearsMissedAlone queue (laid (view cpu.old)) (view cpu.old) (view cpu.new) }
 {
     shared.clear_missed(cpu);
     if shared.load_xoff(cpu, queue) == 0 {

@@ -1,20 +1,11 @@
 //! The transmit of a packet by its sender.
-ghost use Rattle.std.specs.Prelude.{◌≡◌, ◌≢◌, ℕ, ◌*◌, ◌<◌, ◌↔◌, true, false, Some, slice_index};
-ghost use Rattle.lq_model.specs.Plan.{band_in, owner_in, rank_in, station_in};
+ghost use Rattle.std.specs.Prelude.{◌≡◌, true, false};
 ghost use Rattle.lq_model.specs.declared.machine.Position.TheVariants.{Idle};
-ghost use Rattle.lq_account.specs.Trail.{down_of};
-ghost use Rattle.lq_model.specs.Alone.{brought_in};
-ghost use Rattle.lq_table.specs.Views.{first_account};
-ghost use Rattle.lq_table.specs.Solo.{solo};
 ghost use Rattle.lq_qdisc.specs.Steps.{TransmitsBy};
-ghost use Rattle.lq_qdisc.specs.Alone.{BringsAlone};
-ghost use Rattle.lq_table.specs.Rule.{times};
-ghost use Rattle.lq_table.specs.Sees.{view, known, steps, setup, position, IsSeatOf};
-ghost use Rattle.lq_table.specs.Made.{◌⊳◌, did_take_turn};
-ghost use Rattle.lq_table.specs.Told.{IsPacketOf};
+ghost use Rattle.lq_table.specs.Sees.{view, known, setup, position, IsSeatOf};
 ghost use Rattle.lq_qdisc.specs.Calls.{KeepsFates};
-ghost use Rattle.lq_qdisc.specs.Sends.{IsCallKept, IsReadyToSend};
-ghost use Rattle.lq_qdisc.specs.declared.answers.Sending.TheVariants.{OutOfTurn, Refused};
+ghost use Rattle.lq_qdisc.specs.Sends.{IsCallKept, IsReadyToSend, IsRefusedAsOnTrail};
+ghost use Rattle.lq_qdisc.specs.Seats.{BringsPacket, FindsOtherTurn, HasOwnerOf, IsNotTurnOf, IsPacketOfStation, IsTurnOf};
 
 use crate::answers::Sending;
 use crate::sends::send;
@@ -40,16 +31,16 @@ pub fn transmit<'a, D: TxDevice, R: Wait>(
     requires seat { IsSeatOf shared.now cpu.old }
     requires at { position cpu.old ≡ Idle }
     requires ready { IsReadyToSend cpu.old }
-    requires packet { IsPacketOf (setup shared.now) n × (station_in shared.now.infos.now n ≡ shared.now.station) × (band_in shared.now.infos.now n < 3) }
-    requires owner { (0 < times (owner_in shared.now.infos.now n) (view cpu.old).share.owners) × (owner_in shared.now.infos.now n < shared.now.senders) }
+    requires packet { IsPacketOfStation shared.now n }
+    requires owner { HasOwnerOf shared.now n cpu.old }
     ensures kept { IsCallKept cpu.old cpu.new }
     ensures fates { KeepsFates (view cpu.old) (view cpu.new) }
     ensures at { position cpu.new ≡ Idle }
     ensures ready { IsReadyToSend cpu.new }
-    ensures in_turn { slice_index (view cpu.old).turns (owner_in shared.now.infos.now n) ≡ 2 * rank_in shared.now.infos.now n → TransmitsBy (setup shared.now) n result (known cpu.old) (known cpu.new) }
-    ensures first { slice_index (view cpu.old).turns (owner_in shared.now.infos.now n) ≡ 2 * rank_in shared.now.infos.now n → (view cpu.old).control.first ≡ true → (event : ℕ) → (result ≡ Refused event) ↔ (down_of (view cpu.old).trail ≡ Some event) }
-    ensures alone { slice_index (view cpu.old).turns (owner_in shared.now.infos.now n) ≡ 2 * rank_in shared.now.infos.now n → (view cpu.old).place.raised ≡ false → BringsAlone shared.now.infos.now (first_account (setup shared.now)) (brought_in shared.now.infos.now shared.now.bypass n) (solo (view cpu.old)) (solo (view cpu.new)) }
-    ensures out_of_turn { slice_index (view cpu.old).turns (owner_in shared.now.infos.now n) ≢ 2 * rank_in shared.now.infos.now n → (result ≡ OutOfTurn (slice_index (view cpu.old).turns (owner_in shared.now.infos.now n))) × (view cpu.new ≡ view cpu.old) × (steps cpu.new ≡ steps cpu.old ⊳ did_take_turn (owner_in shared.now.infos.now n) (rank_in shared.now.infos.now n) false) }
+    ensures in_turn { IsTurnOf shared.now n cpu.old → TransmitsBy (setup shared.now) n result (known cpu.old) (known cpu.new) }
+    ensures first { IsTurnOf shared.now n cpu.old → (view cpu.old).control.first ≡ true → IsRefusedAsOnTrail result (view cpu.old) }
+    ensures alone { IsTurnOf shared.now n cpu.old → (view cpu.old).place.raised ≡ false → BringsPacket shared.now n cpu.old cpu.new }
+    ensures out_of_turn { IsNotTurnOf shared.now n cpu.old → FindsOtherTurn shared.now n result cpu.old cpu.new }
 {
     if let Err(found) = shared.take_turn(cpu, n) {
         return Sending::OutOfTurn { found };

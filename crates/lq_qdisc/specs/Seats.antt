@@ -1,0 +1,100 @@
+-- What the calls of a queue discipline ask of a seat, and what they leave of it.
+use Rattle.std.specs.Prelude.{◌≡◌, ◌≢◌, ℕ, ◌*◌, ◌<◌, Bool, false, length, slice_index, Option, Some, None}
+use Rattle.std.specs.Option.{option_map_or}
+use Rattle.lq_device.specs.Station.{StationState, HasAnswered}
+use Rattle.lq_model.specs.Alone.{RunningStation, brought_in}
+use Rattle.lq_model.specs.Device.{is_busy}
+use Rattle.lq_model.specs.Plan.{band_in, owner_in, queue_in, rank_in, station_in}
+use Rattle.lq_model.specs.declared.device.Tx.{Tx}
+use Rattle.lq_model.specs.declared.fate.Fate.{Fate}
+use Rattle.lq_model.specs.declared.machine.Position.{Position}
+use Rattle.lq_model.specs.declared.machine.Position.TheVariants.{Gate, Scan, Xmit}
+use Rattle.lq_table.specs.Views.{first_account}
+use Rattle.lq_table.specs.Rule.{shown, times}
+use Rattle.lq_table.specs.Sees.{view, steps, setup, position, packet_at, carried}
+use Rattle.lq_table.specs.Told.{IsPacketOf, fate_sent}
+use Rattle.lq_table.specs.Made.{◌⊳◌, did_take_turn}
+use Rattle.lq_table.specs.Solo.{IsAccounts, solo}
+use Rattle.lq_table.specs.declared.shared.Cpu.{Cpu}
+use Rattle.lq_table.specs.declared.shared.Shared.{Shared}
+use Rattle.lq_qdisc.specs.Alone.{BringsAlone, IsOneSender, RunsAlone, account_in}
+use Rattle.lq_qdisc.specs.Calls.{looking_at}
+use Rattle.lq_qdisc.specs.Direct.{IsSentAs, position_after}
+use Rattle.lq_qdisc.specs.declared.answers.Sending.{Sending}
+use Rattle.lq_qdisc.specs.declared.answers.Sending.TheVariants as sending
+use Rattle.lq_qdisc.specs.declared.answers.Through.{Through}
+
+-- TAKES
+
+module _ {D : Type 0} where
+  -- from a look through the bands it goes on with the packet that was found to the gate, or else behind the last band
+  abbrev pub GoesOnFromBands : Shared D → Option ℕ → Cpu D → Cpu D → Type 0
+  GoesOnFromBands t found b a = (second : Bool) → position b ≡ Scan 0 second → position a ≡ option_map_or (λ n. Gate (packet_at t n) false) found (looking_at 3 second)
+
+-- DIRECT TRANSMITS
+
+module _ {D : Type 0} where
+  -- from this place, of a packet that goes past the bands or doesn't, it goes on to where such a result leads
+  abbrev pub GoesOnFrom : (Bool → Position) → Through → Cpu D → Cpu D → Type 0
+  GoesOnFrom at through b a = (direct : Bool) → position b ≡ at direct → position a ≡ position_after through direct (view a)
+
+  -- the device of the station that it carries has room for a packet, and doesn't hang
+  abbrev pub CarriesDeviceWithRoom : Cpu D → Type 0
+  CarriesDeviceWithRoom c = (st : StationState) × (c.station ≡ Some st) × (0 < st.device.spare) × (st.device.hung ≡ false) × (length st.device.accepted < 1000000)
+
+  -- that device gave this answer to the packet n of this queue, whose fate is f where it was accepted
+  abbrev pub HandsOver : ℕ → ℕ → Tx → Fate → Cpu D → Cpu D → Type 0
+  HandsOver n queue answer f b a = (st : StationState) → b.station ≡ Some st → (f ≡ fate_sent st) × HasAnswered answer queue n st (carried a)
+
+  -- that device accepted the packet n since the last step
+  abbrev pub CarriesAccepted : Shared D → ℕ → Cpu D → Type 0
+  CarriesAccepted t n c = (answer : Tx) × (is_busy answer ≡ false) × HasAnswered answer (queue_in t.infos.now n) n (shown (view c).holder) (carried c)
+
+  -- whichever answer it accepted the packet n with, the packet's fate is stored as after this answer
+  abbrev pub StoresSent : Shared D → ℕ → Cpu D → Cpu D → Type 0
+  StoresSent t n b a = (answer : Tx) → (direct : Bool) → is_busy answer ≡ false → HasAnswered answer (queue_in t.infos.now n) n (shown (view b).holder) (carried b)
+      → position b ≡ Xmit (packet_at t n) direct → IsSentAs answer n (queue_in t.infos.now n) direct (carried b) (view b) (view a)
+
+-- TRANSMITS
+
+module _ {D : Type 0} where
+  -- the packet n is one of the table's station, and its band is there
+  abbrev pub IsPacketOfStation : Shared D → ℕ → Type 0
+  IsPacketOfStation t n = IsPacketOf (setup t) n × (station_in t.infos.now n ≡ t.station) × (band_in t.infos.now n < 3)
+
+  -- the seat has the owner of the packet n
+  abbrev pub HasOwnerOf : Shared D → ℕ → Cpu D → Type 0
+  HasOwnerOf t n c = (0 < times (owner_in t.infos.now n) (view c).share.owners) × (owner_in t.infos.now n < t.senders)
+
+  -- the turn word of that owner, as the seat knows it
+  abbrev pub turn_word : Shared D → ℕ → Cpu D → ℕ
+  turn_word t n c = slice_index (view c).turns (owner_in t.infos.now n)
+
+  -- it is the packet's turn
+  abbrev pub IsTurnOf : Shared D → ℕ → Cpu D → Type 0
+  IsTurnOf t n c = turn_word t n c ≡ 2 * rank_in t.infos.now n
+
+  -- it isn't
+  abbrev pub IsNotTurnOf : Shared D → ℕ → Cpu D → Type 0
+  IsNotTurnOf t n c = turn_word t n c ≢ 2 * rank_in t.infos.now n
+
+  -- the turn was tried and wasn't got: the answer is the turn word, and nothing else was done
+  abbrev pub FindsOtherTurn : Shared D → ℕ → Sending → Cpu D → Cpu D → Type 0
+  FindsOtherTurn t n answer b a = (answer ≡ sending.OutOfTurn (turn_word t n b)) × (view a ≡ view b) × (steps a ≡ steps b ⊳ did_take_turn (owner_in t.infos.now n) (rank_in t.infos.now n) false)
+
+-- A SEAT THAT HAS THE TABLE ALONE
+
+module _ {D : Type 0} where
+  -- it brings the station on by this step of the run of one sender
+  abbrev pub BringsStation : Shared D → (RunningStation → RunningStation) → Cpu D → Cpu D → Type 0
+  BringsStation t step b a = BringsAlone t.infos.now (first_account (setup t)) step (solo (view b)) (solo (view a))
+
+  -- by the packet n
+  abbrev pub BringsPacket : Shared D → ℕ → Cpu D → Cpu D → Type 0
+  BringsPacket t n b a = BringsStation t (brought_in t.infos.now t.bypass n) b a
+
+  -- where its station is active it serves that as the run of one sender does; with several queues, where what it has as holder is the
+  -- account's
+  abbrev pub ServesStation : Shared D → Cpu D → Cpu D → Type 0
+  ServesStation t b a = (t.queues ≢ 1 → IsAccounts (view b)) → IsOneSender (first_account (setup t)) (solo (view b))
+      → (account_in (first_account (setup t)) (solo (view b))).down ≡ None → RunsAlone t.infos.now (first_account (setup t)) (solo (view b)) (solo (view a))
