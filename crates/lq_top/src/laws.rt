@@ -44,9 +44,9 @@ pub fn stations_keep_their_order()
 
 /// Where there is a device, what the words of `gen` decide is its generated capture, which is one, under its own plan.
 pub fn generated_captures_are_run()
-    ensures { (words : List (List ℕ)) (gen : GenWords) (files : Files) (have : ℕ)
-        → command_of_words words ≡ Some (OfGen gen) → 0 < have → (capture : Capture) × (capture_of (generated_capture gen.number gen.count) ≡ Ok capture)
-        × (verdict_of words files have ≡ Generates (generated_capture gen.number gen.count) (run_of gen.out generated_plan (Classic capture))) }
+    ensures { (words : List (List ℕ)) (gen : GenWords) (files : Files) (have : ℕ) → command_of_words words ≡ Some (OfGen gen)
+        → 0 < have → (capture : Capture) × (capture_of (generated_capture gen.number gen.count) ≡ Ok capture) × (verdict_of words files have
+        ≡ Generates (generated_capture gen.number gen.count) (run_of gen.out generated_plan (Classic capture))) }
 {}
 
 /// A plan whose groups have one child each writes no file and no line of a multi-queue root: its files are those of its units and of the
