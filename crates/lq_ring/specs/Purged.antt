@@ -15,8 +15,8 @@ use Rattle.lq_ring.specs.Take.{having_ends, emptied_times, emptied_count}
 use Rattle.lq_ring.specs.Fates.{fates_onto}
 
 -- each of these numbers is that of a packet of the capture
-abbrev pub ArePackets : List Info → List ℕ → Type 0
-ArePackets infos ns = (n : ℕ) → Contains ns n → n < length infos
+abbrev pub AreOfCapture : List Info → List ℕ → Type 0
+AreOfCapture infos ns = (n : ℕ) → Contains ns n → n < length infos
 
 -- one packet was taken from the band and its fate was stored, and all slots were emptied that this asks
 abbrev pub purging_one : ℕ → ℕ → Left → View → View

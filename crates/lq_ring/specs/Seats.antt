@@ -19,7 +19,7 @@ use Rattle.lq_table.specs.Sees.{view, position, slot, packet_at, ends_at, IsSame
 use Rattle.lq_table.specs.Settled.{MayShrink}
 use Rattle.lq_table.specs.declared.shared.Cpu.{Cpu}
 use Rattle.lq_table.specs.declared.shared.Shared.{Shared}
-use Rattle.lq_ring.specs.Purged.{ArePackets}
+use Rattle.lq_ring.specs.Purged.{AreOfCapture}
 use Rattle.lq_ring.specs.Put.{just_locked, put_leads_to}
 use Rattle.lq_ring.specs.Resized.{IsReadyToResize, IsKnownHeld, HoldOwnPackets, all_lost, having_locks, having_resized, locked_three}
 use Rattle.lq_ring.specs.Work.{IsWorkDone, having_turned, work_at}
@@ -29,8 +29,8 @@ use Rattle.lq_ring.specs.declared.resize.AllTurned.{AllTurned}
 
 module _ {D : Type 0} where
   -- it has got the band's producer lock, with this index
-  abbrev pub GetsProducer : Shared D → ℕ → ℕ → Cpu D → Cpu D → Type 0
-  GetsProducer t band index b a = (view a ≡ with_lock_at band (locked_at index) (view b)) × (at band a.indices ≡ index) × (index < t.max_len)
+  abbrev pub GetsProducerLock : Shared D → ℕ → ℕ → Cpu D → Cpu D → Type 0
+  GetsProducerLock t band index b a = (view a ≡ with_lock_at band (locked_at index) (view b)) × (at band a.indices ≡ index) × (index < t.max_len)
 
   -- of the producer locks it has just got the band's, with this index, and no resize is half done
   abbrev pub HasJustLocked : Shared D → ℕ → ℕ → Cpu D → Type 0
@@ -81,14 +81,14 @@ module _ {D : Type 0} where
 
 module _ {D : Type 0} where
   -- a purge by this cause has come to this band, whose packets are of the capture
-  abbrev pub IsPurging : Shared D → ℕ → Cause → Cpu D → Type 0
-  IsPurging t band cause c = (u : Purge) × (l : Left) × (position c ≡ Control true) × ((view c).control.purge ≡ Some u) × (u.band ≡ band)
-      × ((view c).holder.left ≡ Some l) × (l.cause ≡ cause) × ArePackets t.infos.now (held_of (at band l.bands))
+  abbrev pub HasBandToPurge : Shared D → ℕ → Cause → Cpu D → Type 0
+  HasBandToPurge t band cause c = (u : Purge) × (l : Left) × (position c ≡ Control true) × ((view c).control.purge ≡ Some u) × (u.band ≡ band)
+      × ((view c).holder.left ≡ Some l) × (l.cause ≡ cause) × AreOfCapture t.infos.now (held_of (at band l.bands))
 
   -- so it has, and they are no more than the ring has slots
-  abbrev pub IsPurgingRing : Shared D → ℕ → Cause → Cpu D → Type 0
-  IsPurgingRing t band cause c = (u : Purge) × (l : Left) × (position c ≡ Control true) × ((view c).control.purge ≡ Some u) × (u.band ≡ band)
-      × ((view c).holder.left ≡ Some l) × (l.cause ≡ cause) × ArePackets t.infos.now (held_of (at band l.bands)) × (length (held_of (at band l.bands)) ≤ (view c).holder.size)
+  abbrev pub HasRingToPurge : Shared D → ℕ → Cause → Cpu D → Type 0
+  HasRingToPurge t band cause c = (u : Purge) × (l : Left) × (position c ≡ Control true) × ((view c).control.purge ≡ Some u) × (u.band ≡ band)
+      × ((view c).holder.left ≡ Some l) × (l.cause ≡ cause) × AreOfCapture t.infos.now (held_of (at band l.bands)) × (length (held_of (at band l.bands)) ≤ (view c).holder.size)
 
 -- RESIZES
 

@@ -9,7 +9,7 @@ ghost use Rattle.lq_ring.specs.Changes.{PurgesBand, PurgesOneOrNone};
 ghost use Rattle.lq_ring.specs.Put.{no_locks};
 ghost use Rattle.lq_ring.specs.Take.{CarriesStation};
 ghost use Rattle.lq_ring.specs.Purged.{PassesBand, PurgesFirst};
-ghost use Rattle.lq_ring.specs.Seats.{HasRingsAtRestOf, IsPurging, IsPurgingRing};
+ghost use Rattle.lq_ring.specs.Seats.{HasRingsAtRestOf, HasBandToPurge, HasRingToPurge};
 
 use crate::takes::discard_one;
 use lq_device::TxDevice;
@@ -27,7 +27,7 @@ fn purge_one<'a, D: TxDevice>(
 ) -> bool
     requires seat { IsSeatOf shared.now cpu.old }
     requires band { band < 3 }
-    requires at { IsPurging shared.now band cause cpu.old }
+    requires at { HasBandToPurge shared.now band cause cpu.old }
     requires word { HasWord (fate.Purged cause) }
     requires packets { ((view cpu.old).packets.owed ≡ None) × ((view cpu.old).packets.fresh ≡ None) }
     requires rests { HasRingsAtRestOf shared.now size cpu.old }
@@ -57,7 +57,7 @@ pub fn purge_band<'a, D: TxDevice>(
 ) -> u32
     requires seat { IsSeatOf shared.now cpu.old }
     requires band { band < 3 }
-    requires at { IsPurgingRing shared.now band cause cpu.old }
+    requires at { HasRingToPurge shared.now band cause cpu.old }
     requires word { HasWord (fate.Purged cause) }
     requires packets { ((view cpu.old).packets.owed ≡ None) × ((view cpu.old).packets.fresh ≡ None) }
     requires rests { IsResting (view cpu.old).holder.size (view cpu.old).holder.ends × ((view cpu.old).holder.resizing ≡ None) }

@@ -7,7 +7,7 @@ ghost use Rattle.lq_table.specs.Sees.{view, known, steps, setup, position, slot,
 ghost use Rattle.lq_table.specs.SolePut.{SeesEnd};
 ghost use Rattle.lq_ring.specs.Steps.{LocksProducer, PutsAtBy, PutsBy};
 ghost use Rattle.lq_ring.specs.Put.{no_locks, HearsPut, IsPutAs};
-ghost use Rattle.lq_ring.specs.Seats.{GetsProducer, GoesOnFromPut, HasJustLocked};
+ghost use Rattle.lq_ring.specs.Seats.{GetsProducerLock, GoesOnFromPut, HasJustLocked};
 
 use crossbeam_utils::Backoff;
 use lq_device::TxDevice;
@@ -26,7 +26,7 @@ pub(crate) fn lock_producer<'a, D: TxDevice, R: Wait>(
     requires band { band < 3 }
     requires idle { lock_at band cpu.old ≡ unlocked }
     ensures same { IsSameSeat cpu.old cpu.new × (cpu.new.station ≡ cpu.old.station) × (slot cpu.new ≡ slot cpu.old) }
-    ensures locked { GetsProducer shared.now band result cpu.old cpu.new }
+    ensures locked { GetsProducerLock shared.now band result cpu.old cpu.new }
     ensures made { LocksProducer band result (steps cpu.old) (steps cpu.new) }
 {
     let backoff = Backoff::new();

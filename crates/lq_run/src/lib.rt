@@ -5,9 +5,9 @@ ghost use Rattle.std.specs.Prelude.{◌≡◌, ℕ, true, false, []};
 ghost use Rattle.lq_model.specs.declared.machine.Position.TheVariants.{Try1, Unlock as AtUnlock, Leave as AtLeave, Idle as AtIdle};
 ghost use Rattle.lq_model.specs.declared.machine.Attempt.{Attempt};
 ghost use Rattle.lq_table.specs.Sees.{view, known, steps, position, slot, IsSeatOf, IsSameSeat, IsElseSame};
-ghost use Rattle.lq_table.specs.Seats.{GetsLock};
+ghost use Rattle.lq_table.specs.Seats.{GetsRunLock};
 ghost use Rattle.lq_table.specs.Told.{tries_lock, finding_locked, misses, missing, schedules, clears_sched, passing};
-ghost use Rattle.lq_table.specs.Solo.{IsSole, solo, missed_to, sched_cleared, TriesLock};
+ghost use Rattle.lq_table.specs.Solo.{IsSole, solo, missed_to, sched_cleared, SeesTry};
 ghost use Rattle.lq_table.specs.Made.{◌⊳◌, did_clear_sched};
 ghost use Rattle.lq_run.specs.Tries.{BeginsBy, EndsRun, SetsMissed, TriesOnce};
 ghost use Rattle.lq_run.specs.Runs.{after_missed, ended, HasStation, HasNone, Rests, IsElseKept, IsEventless, BeginsAlone, BeginsAsHolder, IsRaisedAsBefore, StandsWithoutStation, MayReleaseActive, SetsSched, StaysRaised};
@@ -22,9 +22,9 @@ pub fn try_run_lock<'a, D: TxDevice>(shared: &Shared<'a, D>, cpu: &mut Cpu<D>) -
     requires seat { IsSeatOf shared.now cpu.old }
     requires at { tries_lock (position cpu.old) ≡ true }
     ensures seat { IsSameSeat cpu.old cpu.new × (cpu.new.station ≡ cpu.old.station) × (cpu.new.indices ≡ cpu.old.indices) }
-    ensures got { result ≡ true → GetsLock cpu.old cpu.new }
+    ensures got { result ≡ true → GetsRunLock cpu.old cpu.new }
     ensures held { result ≡ false → (view cpu.new ≡ finding_locked (view cpu.old)) × (slot cpu.new ≡ slot cpu.old) }
-    ensures sole { IsSole (view cpu.old) → TriesLock result (view cpu.old) (view cpu.new) }
+    ensures sole { IsSole (view cpu.old) → SeesTry result (view cpu.old) (view cpu.new) }
     ensures tries { TriesOnce result (known cpu.old) (known cpu.new) }
 {
     if shared.look_lock(cpu) {

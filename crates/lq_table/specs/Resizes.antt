@@ -58,8 +58,8 @@ clearing b i t v = with_resizing (Some (with_work b (out_of i (at b t.works)) t)
 abbrev pub filling : ℕ → ℕ → ℕ → List ℕ → HalfResize → View → View
 filling b i n hand t v = with_resizing (Some (with_work b (into i n hand (at b t.works)) t)) v
 
-abbrev pub IsResizing : View → Type 0
-IsResizing v = (t : HalfResize) × (v.holder.resizing ≡ Some t)
+abbrev pub HasHalfResize : View → Type 0
+HasHalfResize v = (t : HalfResize) × (v.holder.resizing ≡ Some t)
 
 -- control has the packet n of a band in hand as the latest, and the slot i is empty
 abbrev pub MayFill : ℕ → ℕ → ℕ → View → Type 0

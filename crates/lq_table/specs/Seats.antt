@@ -20,7 +20,7 @@ use Rattle.lq_table.specs.Purges.{passing_band, taking_purged}
 use Rattle.lq_table.specs.Resizes.{clearing, filling, is_member}
 use Rattle.lq_table.specs.Rings.{with_lock_at}
 use Rattle.lq_table.specs.Rule.{account, shown, units_of, words_of, IsResting}
-use Rattle.lq_table.specs.Sees.{view, position, steps, slot, carried, setup, lock_at, ends_at, packet_at, owner_at, rank_at, IsSameSeat, HasProducer, Brings, closed_words, closed_stops, closed_fates, closed_home}
+use Rattle.lq_table.specs.Sees.{view, position, steps, slot, carried, setup, lock_at, ends_at, packet_at, packet_owner, packet_rank, IsSameSeat, HasProducer, Brings, closed_words, closed_stops, closed_fates, closed_home}
 use Rattle.lq_table.specs.Told.{at_rest, bringing, finding_locked, got, offspring, IsKnownSlot}
 use Rattle.lq_table.specs.Views.{View, HolderPart, HalfResize, Left, no_packets}
 use Rattle.lq_table.specs.declared.ended.Closed.{Closed}
@@ -54,15 +54,15 @@ module _ {D : Type 0} where
 module _ {D : Type 0} where
   -- a packet of the station, with its owner and rank
   abbrev pub IsRankedPacket : Shared D → ℕ → ℕ → ℕ → Type 0
-  IsRankedPacket t n owner rank = (n < length t.infos.now) × (station_in t.infos.now n ≡ t.station) × (owner ≡ owner_at t n) × (rank ≡ rank_at t n)
+  IsRankedPacket t n owner rank = (n < length t.infos.now) × (station_in t.infos.now n ≡ t.station) × (owner ≡ packet_owner t n) × (rank ≡ packet_rank t n)
 
   -- the turn word has twice the rank of the packet n, whose turn is taken: the seat brings it
   abbrev pub TakesTurn : Shared D → ℕ → Cpu D → Cpu D → Type 0
-  TakesTurn t n b a = (slice_index (view b).turns (owner_at t n) ≡ 2 * rank_at t n) × (view a ≡ bringing n (owner_at t n) (rank_at t n) (view b))
+  TakesTurn t n b a = (slice_index (view b).turns (packet_owner t n) ≡ 2 * packet_rank t n) × (view a ≡ bringing n (packet_owner t n) (packet_rank t n) (view b))
 
   -- the turn word has another value, which was found
   abbrev pub FindsTurn : Shared D → ℕ → Cpu D → Cpu D → ℕ → Type 0
-  FindsTurn t n b a found = (found ≡ slice_index (view b).turns (owner_at t n)) × (found ≢ 2 * rank_at t n) × (view a ≡ view b)
+  FindsTurn t n b a found = (found ≡ slice_index (view b).turns (packet_owner t n)) × (found ≢ 2 * packet_rank t n) × (view a ≡ view b)
 
 -- THE RUN LOCK
 
@@ -73,8 +73,8 @@ module _ {D : Type 0} where
 
   -- The run lock is got, and with it the slot, in which the station lies: the rings rest, nothing is in hand, no resize and no exchange is
   -- half done, a packet in the requeue slot is one of the capture, and the first seat knows the units.
-  abbrev pub GetsLock : Cpu D → Cpu D → Type 0
-  GetsLock b a = (d : HolderPart) × (view a ≡ got d (view b)) × (slot a ≡ (0, Some (shown d)) ∷ slot b) × IsResting d.size d.ends × (0 < d.size) × (d.hand ≡ None) × (d.resizing ≡ None)
+  abbrev pub GetsRunLock : Cpu D → Cpu D → Type 0
+  GetsRunLock b a = (d : HolderPart) × (view a ≡ got d (view b)) × (slot a ≡ (0, Some (shown d)) ∷ slot b) × IsResting d.size d.ends × (0 < d.size) × (d.hand ≡ None) × (d.resizing ≡ None)
       × (d.shut ≡ None) × IsKnownSlot (view b).share.about d.slot × ((view b).control.first ≡ true → d.units ≡ units_of (view b).trail)
 
   -- the seat is the same, with its station and indices, and has none of the slots
@@ -131,20 +131,20 @@ module _ {D : Type 0} where
   MayPurgeHung c = (position c ≡ Control true) × ((view c).share.shares ≡ 1024) × ((view c).holder.station.device.hung ≡ true)
 
   -- control that has come to this band in a purge, which leaves this
-  abbrev pub IsPurging : ℕ → Purge → Left → Cpu D → Type 0
-  IsPurging band u l c = (position c ≡ Control true) × ((view c).control.purge ≡ Some u) × (u.band ≡ band) × ((view c).holder.left ≡ Some l)
+  abbrev pub HasComeToBand : ℕ → Purge → Left → Cpu D → Type 0
+  HasComeToBand band u l c = (position c ≡ Control true) × ((view c).control.purge ≡ Some u) × (u.band ≡ band) × ((view c).holder.left ≡ Some l)
 
   -- in whichever purge
   abbrev pub IsPurgingBand : ℕ → Cpu D → Type 0
   IsPurgingBand band c = (u : Purge) × (l : Left) × (position c ≡ Control true) × ((view c).control.purge ≡ Some u) × (u.band ≡ band) × ((view c).holder.left ≡ Some l)
 
   -- the band has nothing left, and the purge goes on with the next
-  abbrev pub PassesBand : ℕ → Purge → Left → Cpu D → Cpu D → Type 0
-  PassesBand band u l b a = (held_of (at band l.bands) ≡ []) × (view a ≡ passing_band u (view b))
+  abbrev pub PassesEmptyBand : ℕ → Purge → Left → Cpu D → Cpu D → Type 0
+  PassesEmptyBand band u l b a = (held_of (at band l.bands) ≡ []) × (view a ≡ passing_band u (view b))
 
   -- the packet n is the first that the band has left, and it is taken
-  abbrev pub PurgesFirst : ℕ → ℕ → Left → Cpu D → Cpu D → Type 0
-  PurgesFirst band n l b a = (slice_get (held_of (at band l.bands)) 0 ≡ Some n) × (view a ≡ taking_purged band n l (view b))
+  abbrev pub TakesFirstLeft : ℕ → ℕ → Left → Cpu D → Cpu D → Type 0
+  TakesFirstLeft band n l b a = (slice_get (held_of (at band l.bands)) 0 ≡ Some n) × (view a ≡ taking_purged band n l (view b))
 
 -- RESIZES
 

@@ -156,8 +156,8 @@ abbrev pub SeesLock : Bool → View → View → Type 0
 SeesLock held v w = (held ≡ v.whole.qdisc.locked) × (held ≡ true → solo w ≡ locked_to true (solo v))
 
 -- a try of the run lock gets it just where it was free, and after it the lock is held; what the holder has is the account's
-abbrev pub TriesLock : Bool → View → View → Type 0
-TriesLock gets v w = (solo w ≡ locked_to true (solo v)) × (gets ≡ not v.whole.qdisc.locked) × (gets ≡ true → IsAccounts w)
+abbrev pub SeesTry : Bool → View → View → Type 0
+SeesTry gets v w = (solo w ≡ locked_to true (solo v)) × (gets ≡ not v.whole.qdisc.locked) × (gets ≡ true → IsAccounts w)
 
 abbrev pub looked_all : Step (Option StationState) → Sat → ℕ → Sat → Type 0
 looked_all s m found m' = looked s m found m' × (IsSole m.0 → SeesState m.0 found)

@@ -1,7 +1,7 @@
 //! The step on a fate word.
 ghost use Rattle.std.specs.Prelude.{◌≡◌, ◌<◌, length, ◌∷◌};
 ghost use Rattle.lq_model.specs.Words.{HasWord, word_of};
-ghost use Rattle.lq_table.specs.Sees.{view, carried, IsSeatOf, IsElseSame, steps, setup, band_at};
+ghost use Rattle.lq_table.specs.Sees.{view, carried, IsSeatOf, IsElseSame, steps, setup, packet_band};
 ghost use Rattle.lq_table.specs.Settled.{MaySettle, fated, fate_stored};
 ghost use Rattle.lq_table.specs.Solo.{solo, fated_as};
 ghost use Rattle.lq_table.specs.Made.{Noted, Stores, did_store_fate};
@@ -51,7 +51,7 @@ impl<D: TxDevice, K: Settling> Play<Option<Station<D>>, Knowledge> for Settle<K>
 
 impl<'a, D: TxDevice> Shared<'a, D> {
     fn settle_of<K: Settling>(&self, cpu: &mut Cpu<D>, n: u32, fate: Fate)
-        requires named { (band_at self.now n ≡ K.band) × (n ≡ K.packet) × (fate ≡ K.fate) × (carried cpu.old ≡ K.station) }
+        requires named { (packet_band self.now n ≡ K.band) × (n ≡ K.packet) × (fate ≡ K.fate) × (carried cpu.old ≡ K.station) }
         requires seat { IsSeatOf self.now cpu.old }
         requires packet { (n < length self.now.infos.now) × HasWord fate }
         requires may { MaySettle K.band n fate K.station (view cpu.old) }
@@ -73,9 +73,9 @@ impl<'a, D: TxDevice> Shared<'a, D> {
     pub fn settle(&self, cpu: &mut Cpu<D>, n: u32, fate: Fate)
         requires seat { IsSeatOf self.now cpu.old }
         requires packet { (n < length self.now.infos.now) × HasWord fate }
-        requires may { MaySettle (band_at self.now n) n fate (carried cpu.old) (view cpu.old) }
+        requires may { MaySettle (packet_band self.now n) n fate (carried cpu.old) (view cpu.old) }
         ensures same { IsElseSame cpu.old cpu.new }
-        ensures settled { view cpu.new ≡ fated (carried cpu.old) (band_at self.now n) n fate (view cpu.old) }
+        ensures settled { view cpu.new ≡ fated (carried cpu.old) (packet_band self.now n) n fate (view cpu.old) }
         ensures step { solo (view cpu.new) ≡ fated_as (carried cpu.old) fate (solo (view cpu.old)) }
         ensures made { steps cpu.new ≡ did_store_fate (setup self.now) n (word_of fate) ∷ steps cpu.old }
     {

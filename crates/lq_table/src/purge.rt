@@ -7,7 +7,7 @@ ghost use Rattle.lq_model.specs.declared.fate.Cause.TheVariants as cause;
 ghost use Rattle.lq_model.specs.declared.machine.Position.TheVariants.{Control};
 ghost use Rattle.lq_table.specs.Views.{Left};
 ghost use Rattle.lq_table.specs.Sees.{view, position, ends_at, IsSeatOf, IsElseSame, steps, setup};
-ghost use Rattle.lq_table.specs.Seats.{CarriesHead, IsBetweenTakes, IsPurging, IsPurgingBand, MayPurgeHung, PassesBand, PurgesFirst};
+ghost use Rattle.lq_table.specs.Seats.{CarriesHead, IsBetweenTakes, HasComeToBand, IsPurgingBand, MayPurgeHung, PassesEmptyBand, TakesFirstLeft};
 ghost use Rattle.lq_table.specs.Purges.{purge_begun, hung_purge_begun, purge_seen, BeginsPurge, OfPurge};
 ghost use Rattle.lq_table.specs.Made.{Noted, Loads, did_load_slot, did_load_state};
 
@@ -104,13 +104,13 @@ impl<'a, D: TxDevice> Shared<'a, D> {
         requires named { band ≡ K.band }
         requires seat { IsSeatOf self.now cpu.old }
         requires band { band < 3 }
-        requires at { IsPurging band K.purge K.left cpu.old }
+        requires at { HasComeToBand band K.purge K.left cpu.old }
         requires packets { ((view cpu.old).packets.owed ≡ None) × ((view cpu.old).packets.fresh ≡ None) }
         requires rests { IsBetweenTakes band cpu.old }
         requires head { (head ≡ (ends_at band cpu.old).head) × (head < self.now.max_len) }
         ensures same { IsElseSame cpu.old cpu.new × (result ≤ 1000000) }
-        ensures none { result ≡ 0 → PassesBand band K.purge K.left cpu.old cpu.new }
-        ensures taken { result ≢ 0 → PurgesFirst band (result - 1) K.left cpu.old cpu.new }
+        ensures none { result ≡ 0 → PassesEmptyBand band K.purge K.left cpu.old cpu.new }
+        ensures taken { result ≢ 0 → TakesFirstLeft band (result - 1) K.left cpu.old cpu.new }
         ensures made { steps cpu.new ≡ did_load_slot (setup self.now) band head result ∷ steps cpu.old }
     {
         let word = self.slot_word(band, head);
@@ -131,8 +131,9 @@ impl<'a, D: TxDevice> Shared<'a, D> {
         requires station { CarriesHead band cpu.old }
         requires head { (ends_at band cpu.old).head < self.now.max_len }
         ensures same { IsElseSame cpu.old cpu.new × (result ≤ 1000000) }
-        ensures none { OfPurge (view cpu.old) (λ u l. result ≡ 0 → PassesBand band u l cpu.old cpu.new) }
-        ensures taken { (l : Left) → (view cpu.old).holder.left ≡ Some l → result ≢ 0 → PurgesFirst band (result - 1) l cpu.old cpu.new }
+        ensures none { OfPurge (view cpu.old) (λ u l. result ≡ 0 → PassesEmptyBand band u l cpu.old cpu.new) }
+        ensures taken { (l : Left) → (view cpu.old).holder.left ≡ Some l → result ≢ 0
+            → TakesFirstLeft band (result - 1) l cpu.old cpu.new }
         ensures made { steps cpu.new ≡ did_load_slot (setup self.now) band (ends_at band cpu.old).head result ∷ steps cpu.old }
     {
         let Some(station) = &cpu.station else {

@@ -10,7 +10,7 @@ ghost use Rattle.lq_table.specs.Views.{HalfResize};
 ghost use Rattle.lq_table.specs.Sees.{view, position, lock_at, IsSeatOf, IsElseSame, steps, setup};
 ghost use Rattle.lq_table.specs.Seats.{AreRefilled, ClearsSlot, FillsSlot};
 ghost use Rattle.lq_table.specs.Rings.{with_lock_at};
-ghost use Rattle.lq_table.specs.Resizes.{may_resize, restarted, resize_begun, slot_cleared, slot_filled, producer_set, size_stored, BeginsResize, HasNothingHalfDone, IsResizing, MayFill, filling};
+ghost use Rattle.lq_table.specs.Resizes.{may_resize, restarted, resize_begun, slot_cleared, slot_filled, producer_set, size_stored, BeginsResize, HasNothingHalfDone, HasHalfResize, MayFill, filling};
 ghost use Rattle.lq_table.specs.Made.{Noted, did_load_size, Loads, Stores, Swaps, did_set_producer, did_store_size, did_store_slot, did_swap_slot};
 
 use crate::places::{SIZE, producer_word};
@@ -172,7 +172,7 @@ impl<'a, D: TxDevice> Shared<'a, D> {
     pub fn clear_slot(&self, cpu: &mut Cpu<D>, band: u32, i: u32) -> u64
         requires seat { IsSeatOf self.now cpu.old }
         requires place { (band < 3) × (i < self.now.max_len) }
-        requires holder { (holds_lock (position cpu.old) ≡ true) × IsResizing (view cpu.old) }
+        requires holder { (holds_lock (position cpu.old) ≡ true) × HasHalfResize (view cpu.old) }
         ensures same { IsElseSame cpu.old cpu.new }
         ensures cleared { (t : HalfResize) → (view cpu.old).holder.resizing ≡ Some t → ClearsSlot band i t result cpu.old cpu.new }
         ensures made { steps cpu.new ≡ did_swap_slot (setup self.now) band i result ∷ steps cpu.old }
@@ -214,7 +214,7 @@ impl<'a, D: TxDevice> Shared<'a, D> {
         requires named { (band ≡ K.band) × (index ≡ K.index) }
         requires seat { IsSeatOf self.now cpu.old }
         requires band { band < 3 }
-        requires holder { (holds_lock (position cpu.old) ≡ true) × IsResizing (view cpu.old) × ((lock_at band cpu.old).holds ≡ true) }
+        requires holder { (holds_lock (position cpu.old) ≡ true) × HasHalfResize (view cpu.old) × ((lock_at band cpu.old).holds ≡ true) }
         ensures same { IsElseSame cpu.old cpu.new }
         ensures set { view cpu.new ≡ with_lock_at band (locked_at index) (view cpu.old) }
         ensures made { steps cpu.new ≡ did_set_producer band index ∷ steps cpu.old }
@@ -230,7 +230,7 @@ impl<'a, D: TxDevice> Shared<'a, D> {
     pub fn set_producer(&self, cpu: &mut Cpu<D>, band: u32, index: u32)
         requires seat { IsSeatOf self.now cpu.old }
         requires band { band < 3 }
-        requires holder { (holds_lock (position cpu.old) ≡ true) × IsResizing (view cpu.old) × ((lock_at band cpu.old).holds ≡ true) }
+        requires holder { (holds_lock (position cpu.old) ≡ true) × HasHalfResize (view cpu.old) × ((lock_at band cpu.old).holds ≡ true) }
         ensures same { IsElseSame cpu.old cpu.new }
         ensures set { view cpu.new ≡ with_lock_at band (locked_at index) (view cpu.old) }
         ensures made { steps cpu.new ≡ did_set_producer band index ∷ steps cpu.old }

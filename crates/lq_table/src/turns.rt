@@ -5,7 +5,7 @@ ghost use Rattle.lq_band.specs.Ring.{unlocked};
 ghost use Rattle.lq_band.specs.Three.{all_three};
 ghost use Rattle.lq_table.specs.Rule.{times};
 ghost use Rattle.lq_table.specs.Marks.{marks_of};
-ghost use Rattle.lq_table.specs.Sees.{view, position, IsSeatOf, IsElseSame, steps, owner_at, rank_at};
+ghost use Rattle.lq_table.specs.Sees.{view, position, IsSeatOf, IsElseSame, steps, packet_owner, packet_rank};
 ghost use Rattle.lq_table.specs.Seats.{FindsTurn, IsRankedPacket, TakesTurn};
 ghost use Rattle.lq_table.specs.Told.{at_rest, bringing, giving_turn};
 ghost use Rattle.lq_table.specs.Made.{did_give_turn, did_load_turn, did_take_turn};
@@ -57,11 +57,11 @@ impl<'a, D: TxDevice> Shared<'a, D> {
     pub fn take_turn(&self, cpu: &mut Cpu<D>, n: u32) -> Result<(), u64>
         requires seat { IsSeatOf self.now cpu.old }
         requires packet { (n < length self.now.infos.now) × (station_in self.now.infos.now n ≡ self.now.station) }
-        requires owner { (0 < times (owner_at self.now n) (view cpu.old).share.owners) × (owner_at self.now n < self.now.senders) }
+        requires owner { (0 < times (packet_owner self.now n) (view cpu.old).share.owners) × (packet_owner self.now n < self.now.senders) }
         requires idle { (view cpu.old).packets.busy ≡ None }
         ensures same { IsElseSame cpu.old cpu.new }
         ensures turn { MatchResult result (λ _. TakesTurn self.now n cpu.old cpu.new) (FindsTurn self.now n cpu.old cpu.new) }
-        ensures made { steps cpu.new ≡ did_take_turn (owner_at self.now n) (rank_at self.now n) (is_ok result) ∷ steps cpu.old }
+        ensures made { steps cpu.new ≡ did_take_turn (packet_owner self.now n) (packet_rank self.now n) (is_ok result) ∷ steps cpu.old }
     {
         let owner = self.infos[n as usize].owner as u32;
         let rank = self.infos[n as usize].rank;
@@ -89,7 +89,7 @@ impl<'a, D: TxDevice> Shared<'a, D> {
     )
         requires named { (owner ≡ K.owner) × (rank ≡ K.rank) }
         requires seat { (seat.old.table_id ≡ self.now.table.shared.table_id) × (0 < seat.old.me.0.view.share.shares) }
-        requires packet { (owner ≡ owner_at self.now n) × (rank ≡ rank_at self.now n) × (owner < self.now.senders) }
+        requires packet { (owner ≡ packet_owner self.now n) × (rank ≡ packet_rank self.now n) × (owner < self.now.senders) }
         requires busy { (seat.old.me.0.view.packets.busy ≡ Some n) × (seat.old.me.0.view.packets.fresh ≡ None) }
         requires told { marks.old ≡ marks_of seat.old.me.0.view }
         ensures same { (seat.new.table_id ≡ seat.old.table_id) × (seat.new.id ≡ seat.old.id) × (seat.new.me.1 ≡ seat.old.me.1) }
@@ -107,12 +107,12 @@ impl<'a, D: TxDevice> Shared<'a, D> {
     /// neither the run lock nor a producer lock.
     pub fn give_turn(&self, cpu: &mut Cpu<D>, n: u32)
         requires seat { IsSeatOf self.now cpu.old }
-        requires packet { (n < length self.now.infos.now) × (owner_at self.now n < self.now.senders) }
+        requires packet { (n < length self.now.infos.now) × (packet_owner self.now n < self.now.senders) }
         requires busy { ((view cpu.old).packets.busy ≡ Some n) × ((view cpu.old).packets.fresh ≡ None) }
         requires left { (at_rest (position cpu.old) ≡ true) × ((view cpu.old).locks ≡ all_three unlocked) }
         ensures same { IsElseSame cpu.old cpu.new }
-        ensures given { view cpu.new ≡ giving_turn (owner_at self.now n) (rank_at self.now n) (view cpu.old) }
-        ensures made { steps cpu.new ≡ did_give_turn (owner_at self.now n) (rank_at self.now n) ∷ steps cpu.old }
+        ensures given { view cpu.new ≡ giving_turn (packet_owner self.now n) (packet_rank self.now n) (view cpu.old) }
+        ensures made { steps cpu.new ≡ did_give_turn (packet_owner self.now n) (packet_rank self.now n) ∷ steps cpu.old }
     {
         let owner = self.infos[n as usize].owner as u32;
         let rank = self.infos[n as usize].rank;
