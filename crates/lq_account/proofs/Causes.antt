@@ -17,7 +17,7 @@ pub record AreCaused (plan : Plan) (station : ℕ) (past : List Event) (a : Acco
   pub refused : (n event : ℕ) → a.fates n ≡ Some (fate.Refused event) → IsPlannedDown plan station event
   pub purged : (n event : ℕ) → a.fates n ≡ Some (fate.Purged (cause.Event event)) → IsPlannedDown plan station event
   pub hung : (n unit : ℕ) → a.fates n ≡ Some (fate.Purged (cause.Hung unit)) → Contains past (Purge (cause.Hung unit))
-  -- the unit stays where no device is exchanged after a purge of a hung one
+  -- the unit stays where no device is swapped after a purge of a hung one
   pub stays : (unit : ℕ) → NoSwapAfterHang past → Contains past (Purge (cause.Hung unit)) → a.unit ≡ unit
 
 pub caused-start : (plan : Plan) (station len unit queues : ℕ) → AreCaused plan station [] (new_account len unit queues)

@@ -14,7 +14,7 @@ use Rattle.lq_account.specs.Progress.{IsAt, start_of}
 use Rattle.lq_account.specs.Controls.{controls_in, with_controls}
 use Rattle.lq_account.proofs.NoEvents.{no_down, no_event}
 
--- no device is exchanged
+-- no device is swapped
 no-swap : (plan : Plan) (station : ℕ) (start : Account) (later before : List Event) (unit : ℕ)
     → plan.events ≡ [] → ArePlanned plan station start (later ++ Swap unit ∷ before) → ⊥
 no-swap plan station start [] before unit none (planned, next) = no_event plan station _ _ none next.2.1

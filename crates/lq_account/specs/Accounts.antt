@@ -15,7 +15,7 @@ use Rattle.lq_account.specs.Progress.{start_of}
 
 -- THE PLAN'S EVENTS
 
--- each event that the plan has for the station has come, one that resizes with its resize and an exchange with its swap; and what
+-- each event that the plan has for the station has come, one that resizes by its resize and a swap by its swap; and what
 -- control did is just what they ask, in the plan's order
 pub record HaveAllCome (plan : Plan) (station : ℕ) (past : List Event) : Type 0 where
   pub resizes : (event len : ℕ) → IsEventAt plan station event (kind.Resize len) → Contains (filter_map resize_event past) event
@@ -23,7 +23,7 @@ pub record HaveAllCome (plan : Plan) (station : ℕ) (past : List Event) : Type 
   pub swaps : (event : ℕ) (params : Params) → IsEventAt plan station event (kind.Swap params) → Contains past (Swap (unit_of_swap plan event))
   pub all : controls_in past ≡ planned_controls plan station (length plan.events)
 
--- no device is exchanged after a purge of a hung one
+-- no device is swapped after a purge of a hung one
 abbrev pub NoSwapAfterHang : List Event → Type 0
 NoSwapAfterHang past = (later : List Event) (before : List Event) (old new : ℕ) → past ≡ later ++ Swap new ∷ before → Contains before (Purge (Hung old)) → ⊥
 

@@ -77,7 +77,7 @@ MeetsDown plan station (Direct n) = down_at plan station n ≡ None
 MeetsDown plan station (Refuse n event) = down_at plan station n ≡ Some event
 MeetsDown plan station event = Unit {0}
 
--- no device is exchanged after a purge of a hung one
+-- no device is swapped after a purge of a hung one
 abbrev pub FindsNoHang : List Event → Event → Type 0
 FindsNoHang trail (Swap unit) = (old : ℕ) → Contains trail (Purge (cause.Hung old)) → ⊥
 FindsNoHang trail event = Unit {0}
@@ -97,7 +97,7 @@ IsTrail plan station (event ∷ trail) = IsTrail plan station trail × IsTrailNe
 abbrev pub AreTrails : Plan → List Info → (ℕ → List Event) → Type 0
 AreTrails plan infos pasts = (station : ℕ) → station < length plan.stations → IsTrail plan station (trail_of infos (pasts station))
 
--- each of the first so many events of the plan that resizes the station or exchanges its device has come, and what control did is
+-- each of the first so many events of the plan that resizes the station or swaps its device has come, and what control did is
 -- just what they all ask of the station, in order
 pub record HaveCome (plan : Plan) (station : ℕ) (count : ℕ) (trail : List Event) : Type 0 where
   pub resizes : (event len : ℕ) → event < count → IsEventAt plan station event (kind.Resize len) → Contains (filter_map resize_event trail) event

@@ -48,7 +48,7 @@ pub fn complete_fates()
         → IsSettled plan infos fates → IsComplete plan infos fates }
 {}
 
-/// In a legal list each event of the plan comes once: the one that resizes, the one that deactivates, and the exchange of
+/// In a legal list each event of the plan comes once: the one that resizes, the one that deactivates, and the swap of
 /// the device.
 pub fn planned_events_come_once()
     ensures resizes { (plan : Plan) (infos : List Info) (station : ℕ) (start : Account) (past : List Event) (len event : ℕ)

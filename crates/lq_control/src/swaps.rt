@@ -72,7 +72,7 @@ fn swap_device<'a, D: TxDevice, R: Wait>(
 {
     take_lock(rt, shared, cpu);
     let old = change_device(cpu, unit, device);
-    shared.exchange(cpu);
+    shared.swap(cpu);
     open_queues(shared, cpu);
     release(shared, cpu);
     old

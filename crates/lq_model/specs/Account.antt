@@ -85,7 +85,7 @@ with_fates (n ∷ ns) f fates = with_fates ns f (with_at n (Some f) fates)
 -- What happens to an account. The packet that a sender brings joins a band, is dropped as full or refused, or comes
 -- into the hand at once; the holder of the run lock finds a band empty, takes from a band or the requeue slot, hands
 -- the packet in hand to the device or lays it back, and stops queues; queues are woken; and control resizes the bands,
--- deactivates, purges, exchanges the device and activates.
+-- deactivates, purges, swaps the device and activates.
 pub data Event : Type 0 where
   Join : ℕ → ℕ → Event  -- a packet and its band
   Full : ℕ → ℕ → Event  -- a packet, and the one in its slot

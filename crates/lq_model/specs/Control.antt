@@ -1,4 +1,4 @@
--- The steps of control: deactivation with its purge, activation, resize and the exchange of the device.
+-- The steps of control: deactivation with its purge, activation, resize and the swap of the device.
 use Rattle.std.specs.Prelude.{◌≡◌, ℕ, ◌+◌, Bool, true, false, ◌||◌, ◌&&◌, not, nat_lt, ◌==◌, if◌then◌else◌, List, [], ◌∷◌, map, take, length, slice_index, slice_set, Option, Some, None, is_none}
 use Rattle.lq_model.specs.declared.machine.Packet.{Packet}
 use Rattle.lq_model.specs.declared.machine.Phase.{Phase}

@@ -164,13 +164,13 @@ abbrev pub IsPlannedResize : Plan → ℕ → List Event → Account → ℕ →
 IsPlannedResize plan station past a len event =
     (IsEventAt plan station event (kind.Resize len) × IsNext past event) ⊎ IsQueueLengthChange plan station past a len event
 
--- an event of the plan that deactivates: for good, to change the queue length, or to exchange the device
+-- an event of the plan that deactivates: for good, to change the queue length, or to swap the device
 abbrev pub IsPlannedDown : Plan → ℕ → ℕ → Type 0
 IsPlannedDown plan station event =
     IsEventAt plan station event kind.Down
     ⊎ (((len : ℕ) × IsEventAt plan station event (kind.TxQueueLen len)) ⊎ ((params : Params) × IsEventAt plan station event (kind.Swap params)))
 
--- the exchange that keeps the station deactivated brings its own unit, once
+-- the swap that keeps the station deactivated brings its own unit, once
 abbrev pub IsPlannedSwap : Plan → ℕ → List Event → Account → ℕ → Type 0
 IsPlannedSwap plan station past a unit =
     (event : ℕ) × (a.down ≡ Some event) × ((params : Params) × IsEventAt plan station event (kind.Swap params)) × (unit ≡ unit_of_swap plan event)

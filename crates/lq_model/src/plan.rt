@@ -36,7 +36,7 @@ pub enum EventKind {
     Resize { len: u32 },
     /// Changes it while the station is deactivated, as `dev_qdisc_change_tx_queue_len`.
     TxQueueLen { len: u32 },
-    /// Exchanges its device for another one, configured with these parameters, while it is deactivated.
+    /// Swaps its device for another one, configured with these parameters, while it is deactivated.
     Swap { params: Params },
 }
 

@@ -82,7 +82,7 @@ pub fn deactivated_station_refuses()
 
 /// The new device is the next unit. What was held for the old one is purged.
 #[tactic(auto, unfolding(crate::specs::Alone::run_fates))]
-pub fn exchanged_device_begins_anew()
+pub fn swapped_device_begins_anew()
     ensures { HaveFates (one_station 1000 1000 true (with_burst 1) (event_at 2 (kind.Swap no_rules) ∷ []))
         (packets_in_bands (1 ∷ 1 ∷ 1 ∷ 1 ∷ []))
         (Sent 0 0 ∷ Purged (Event 0) ∷ Sent 1 0 ∷ Sent 1 1 ∷ []) }

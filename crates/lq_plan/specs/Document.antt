@@ -55,10 +55,10 @@ is_swap_word (Some Resize) = false
 is_swap_word (Some TxQueueLen) = false
 is_swap_word (Some Swap) = true
 
--- the event exchanges the device of a group of several
+-- the event swaps the device of a group of several
 abbrev pub swaps_group : List ℕ → Members → Bool
 swaps_group groups event = is_swap_word (event_word_in event) && nat_lt 1 (mq_at groups (group_in event))
 
--- There are too many stations, or an event exchanges the device of a group of several.
+-- There are too many stations, or an event swaps the device of a group of several.
 abbrev pub has_group_fault : Document → Bool
 has_group_fault d = nat_lt max_stations (sum (groups_in d.stations)) || list_any (swaps_group (groups_in d.stations)) d.events

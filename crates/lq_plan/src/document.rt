@@ -70,7 +70,7 @@ impl<'a> Document<'a> {
         }
     }
 
-    /// Whether there are too many stations, or an event exchanges the device of a group of several.
+    /// Whether there are too many stations, or an event swaps the device of a group of several.
     fn has_group_fault(&self) -> bool
         ensures { result ≡ has_group_fault (document_view self.now) }
     {
@@ -99,7 +99,7 @@ fn swaps_a_group(stations: &[&Table], events: &[&Table]) -> bool
     events.iter().any(|event| swaps_group(stations, event))
 }
 
-// Whether an event exchanges the device of a group of several.
+// Whether an event swaps the device of a group of several.
 fn swaps_group(stations: &[&Table], event: &Table) -> bool
     ensures { result ≡ swaps_group (groups_in (tables_view stations.now)) (table_view event.now) }
 {

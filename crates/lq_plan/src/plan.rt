@@ -149,7 +149,7 @@ impl Plan {
     }
 }
 
-// Whether an event exchanges a device.
+// Whether an event swaps a device.
 fn is_swap(event: &EventPlan) -> bool
     ensures { result ≡ is_swap event.now }
 {

@@ -253,7 +253,7 @@ fn version_2(rt: HostRuntime) {
 }
 
 /// Groups: their children are the stations, in order, and an event is done to all children of its group; a station alone may
-/// have several queues, and its device may be exchanged.
+/// have several queues, and its device may be swapped.
 #[test]
 fn version_3(rt: HostRuntime) {
     let text =

@@ -64,7 +64,7 @@ seat_kept q b second v here =
     let k = seat_scan (band_at q b) b second q v.place in
     (ap (λ (y : Position). (step_at y Plain q v.place).seat.run) here ∙ k.0, ap (λ (y : Position). (step_at y Plain q v.place).seat.raised) here ∙ k.1)
 
--- a holder that has the table alone, with no exchange half done, finds the account's stop value
+-- a holder that has the table alone, with no swap half done, finds the account's stop value
 pub stop_is : (queue found : ℕ) (v : View) → SeesStop queue v found → IsSole v → holds_lock v.place.position ≡ true → v.holder.shut ≡ None → found ≡ slice_index (account_of v).stops queue
 stop_is queue found v s alone holds shut = s.0 alone (sym (ap (λ (h : HolderPart). h.shut) (s.1 alone holds)) ∙ shut)
 

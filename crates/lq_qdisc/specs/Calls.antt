@@ -24,7 +24,7 @@ module _ {D : Type 0} where
   abbrev pub IsSlotOf : Shared D → Cpu D → Type 0
   IsSlotOf t c = IsKnownSlot (setup t) (view c).holder.slot
 
-  -- it has the run lock and the station, no take, resize or exchange is half done, and it has no producer lock
+  -- it has the run lock and the station, no take, resize or swap is half done, and it has no producer lock
   abbrev pub IsServing : Cpu D → Type 0
   IsServing c = HasStation c × Rests c × ((view c).locks ≡ no_locks) × ((view c).holder.shut ≡ None)
 

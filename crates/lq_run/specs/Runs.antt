@@ -66,7 +66,7 @@ module _ {D : Type 0} where
   abbrev pub Rests : Cpu D → Type 0
   Rests c = IsResting (view c).holder.size (view c).holder.ends × ((view c).holder.resizing ≡ None)
 
-  -- the seat has the run lock and goes on from there: it carries the station, with nothing in hand, no take, resize or exchange is half
+  -- the seat has the run lock and goes on from there: it carries the station, with nothing in hand, no take, resize or swap is half
   -- done, and a packet in the requeue slot is one of the capture
   abbrev pub BeginsAsHolder : Cpu D → Cpu D → Type 0
   BeginsAsHolder b a = (position a ≡ after_got (view a) (position b)) × HasStation a × Rests a × (0 < (view a).holder.size) × ((view a).holder.hand ≡ None) × ((view a).holder.shut ≡ None)
@@ -76,7 +76,7 @@ module _ {D : Type 0} where
   abbrev pub StandsWithoutStation : Position → Cpu D → Cpu D → Type 0
   StandsWithoutStation at b a = (position a ≡ at) × HasNone a × ((view a).holder ≡ (view b).holder)
 
-  -- the run lock of an active station may be released by control: no purge and no exchange is half done
+  -- the run lock of an active station may be released by control: no purge and no swap is half done
   abbrev pub MayReleaseActive : Cpu D → Type 0
   MayReleaseActive c = (position c ≡ Control true) × ((view c).control.phase ≡ Active) × ((view c).control.purge ≡ None) × ((view c).holder.shut ≡ None)
 

@@ -71,7 +71,7 @@ module _ (k : Setup) (slots id : ℕ) (m : Sat) where
       (λ s r here. ((λ sole no_shut. sees_stop k s r id m.0 here some_share sole no_shut queue), λ sole. holds_accounts k s r id m.0 here some_share sole, λ sole. holds_sent k s r id m.0 here some_share sole))
       (loads_stop_word k slots id queue m at of_queue below few some_share)
 
-  -- no other seat holds the run lock, so no exchange of the device is half done
+  -- no other seat holds the run lock, so no swap of the device is half done
   none_shut : m.0.place.position ≡ Idle → 0 < m.0.share.shares → (s : table.State (Option StationState) View) → Rule k s → get_elem? s.views id ≡ some m.0 → IsSole m.0 → m.0.whole.state.shut ≡ None
   none_shut at some_share s r here sole = ap (λ (g : State). g.shut) (knows_state k s r id m.0 here some_share sole)
       ∙ free_none r.qdisc.phase r.qdisc.locked r.qdisc.xoff (account k r.state).stops r.state.shut (unlocked k s r (rests k s r id m.0 here sole.0 (ap at_rest at))) r.parts.station.stops

@@ -50,13 +50,13 @@ module _ (phase : Phase) (locked : Bool) (xoff stops : List ℕ) where
     all_open = h.all_open ∙ ap (map (λ _. 0)) (sym x);
   }
 
--- beside a seat that is in a call no exchange is half done
+-- beside a seat that is in a call no swap is half done
 pub call_none : (views : List View) (id : ℕ) (v : View) (at_id : get_elem? views id ≡ some v) (live : is_live v ≡ true) (q : Qdisc) → IsInductive (machine_of q views) → may_be_inside v.place.position ≡ false
     → (o : Option ℕ) (stops : List ℕ) → AreStops o q.phase q.locked q.xoff stops → o ≡ None
 call_none views id v at_id live q h busy o stops are = let m = middle views id v at_id live in let ok = opened views id v at_id live q h in
     other_none q.phase q.locked q.xoff stops o (λ purged. true≢false (sym (ok.kept.quiet_inside (ap is_quiet purged) (length m.before)) ∙ (ap (λ (s : Seat). may_be_inside s.position) (here m.before m.after v.place) ∙ busy))) are
 
--- THE STORES OF AN EXCHANGE
+-- THE STORES OF A SWAP
 
 pub map_set : (xs : List ℕ) (i : ℕ) → map {B = ℕ} (λ (_ : ℕ). 0) (set xs i 0) ≡ map {B = ℕ} (λ (_ : ℕ). 0) xs
 map_set [] i = refl

@@ -1,4 +1,4 @@
--- Control exchanges the device, after a purge: the stop word is 0 again, and the new unit has sent nothing.
+-- Control swaps the device, after a purge: the stop word is 0 again, and the new unit has sent nothing.
 use Rattle.std.proofs.Common.{◌≡◌, ℕ, zero, suc, ◌≤◌, Bool, ne_eqb, Contains, ◌-◌, ◌<◌, true, false, true≢false, List, [], ◌∷◌, ◌++◌, map, length, set, refl, sym, ap, ap₂, ◌∙◌, subst, arith, Option, Some, None}
 use Rattle.std.specs.Prelude.{All, ◌&&◌, ◌==◌, is_none, nat_lt, slice_set, slice_get, slice_index}
 use Rattle.std.proofs.lemmas.Bool.{lt-ltb}
@@ -23,7 +23,7 @@ use Rattle.lq_table.specs.Views.{View, Setup, State, HolderPart, machine_packet,
 use Rattle.lq_table.specs.Rule.{HasServed, IsCallOf, IsDevice, latest_unit, Opening, AreStops, xoff_word, station_count, words_of, account, holders, last_sent, units_of, Holder, Rule}
 use Rattle.lq_table.proofs.UnitsKept.{fewer, unit_is_latest, BringsNone, gone_swap}
 use Rattle.lq_table.specs.Told.{Sat}
-use Rattle.lq_table.specs.Controls.{IsExchange, shut_after, swapping, swapped, opening_next, next_opened, GoesAway}
+use Rattle.lq_table.specs.Controls.{IsSwap, shut_after, swapping, swapped, opening_next, next_opened, GoesAway}
 use Rattle.lq_table.proofs.StopsKept.{agree, after_open, no_two}
 use Rattle.lq_table.proofs.Frames.{is_locked, moves}
 use Rattle.lq_model.specs.declared.fate.Info.{Info}
@@ -36,7 +36,7 @@ use Rattle.lq_table.proofs.UpKept.{purged_idle}
 use Rattle.lq_table.proofs.SeatFrames.{seats_same, seats_ruled, packets_heard}
 use Rattle.lq_table.proofs.StationFrames.{station_kept, ties_same, account_after}
 
--- a unit that no exchange brought and that isn't the first has sent nothing
+-- a unit that no swap brought and that isn't the first has sent nothing
 module _ (u : ℕ) (past : List Event) (a : Account) (h : (a.unit ≡ u → ⊥) × (a.sent u ≡ [])) where
   after_send : (o : Option ℕ) → ((sent_from_hand o a).unit ≡ u → ⊥) × ((sent_from_hand o a).sent u ≡ [])
   after_send None = h
@@ -88,7 +88,7 @@ exchanged infos station xoff st room unasked none_ alive no_two = record {
 module _ (k : Setup) where
   -- it stores the stop word 0, with a device that has accepted nothing and whose unit is new
   pub swaps : (slots id : ℕ) (m : Sat) (st : StationState) → 0 < k.queues → m.0.holder.shut ≡ None → m.0.place.position ≡ Control true → m.0.control.phase ≡ Purged → m.0.control.purge ≡ None
-      → IsExchange m.0.share.about.infos m.0.share.about.station m.0.holder.units st → 0 < m.0.share.shares
+      → IsSwap m.0.share.about.infos m.0.share.about.station m.0.holder.units st → 0 < m.0.share.shares
       → Allows (Rule k) slots id m (line_of 3) (λ _. 0) (swapped st (step slots (line_of 3) 0 0 none) m)
   swaps slots id m st some_queue no_shut position purged no_purge is_new some_share s r deep here small =
       let v : View = m.0 in

@@ -1,4 +1,4 @@
--- The units that exchanges brought, and those that they took away.
+-- The units that swaps brought, and those that they took away.
 use Rattle.std.specs.Prelude.{if◌then◌else◌}
 use Rattle.std.proofs.Common.{◌≡◌, ℕ, suc, Bool, true, false, ◌⊎◌, inl, inr, List, [], ◌∷◌, ◌++◌, set, refl, sym, ap, ◌∙◌, subst, arith, ⊎_elim, Option, Some, None, Contains, cond}
 use mathlib.Core.Option.{some}
@@ -18,7 +18,7 @@ skip : (b : Bool) (e : Event) (trail : List Event) → units_of (e ∷ trail) �
 skip true e trail same = same
 skip false e trail same = refl
 
--- the trail has each exchange
+-- the trail has each swap
 pub units_trail : (infos : List Info) (past : List Event) → units_of (trail_of infos past) ≡ units_of past
 units_trail infos [] = refl
 units_trail infos (Swap x ∷ past) = ap (λ (us : List ℕ). x ∷ us) (units_trail infos past)
@@ -142,7 +142,7 @@ module _ (k : Setup) (views : List View) (id : ℕ) (v w : View) (here : get_ele
         (λ j u _ _ y unit sent has. gone_next k past e unit sent new (y unit sent has));
   }
 
-  -- an exchange takes the present unit away
+  -- a swap takes the present unit away
   pub gone_swap : {past : List Event} (x unit : ℕ) (sent : List ℕ) → BringsNone k past (Swap x) → Gone k past views → w.control.gone ≡ (unit, sent) ∷ v.control.gone → unit ≡ (after_all (first_account k) past).unit → (after_all (first_account k) past).sent unit ≡ sent
       → Gone k (Swap x ∷ past) (set views id w)
   gone_swap {past} x unit sent new g more is list = record {

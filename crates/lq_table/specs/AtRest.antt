@@ -26,7 +26,7 @@ IsFatedOrHeld a n = ((f : Fate) × (a.fates n ≡ Some f)) ⊎ Contains (held a)
 -- of the machine q, the state g and the account a
 pub record IsRest (k : Setup) (v : View) (q : Qdisc) (g : State) (a : Account) : Type 0 where
   pub hand_empty : a.hand ≡ None
-  -- no exchange of the device is half done
+  -- no swap of the device is half done
   pub shut : g.shut ≡ None
   -- each packet of the seat's owners whose turn was taken has a fate or is held
   pub kept : (n : ℕ) → n < length k.infos → station_in k.infos n ≡ k.station → 0 < times (owner_in k.infos n) v.share.owners → 2 * rank_in k.infos n + 1 ≤ slice_index v.turns (owner_in k.infos n) → IsFatedOrHeld a n

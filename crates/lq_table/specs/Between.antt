@@ -30,7 +30,7 @@ pub record StandsForMachine (k : Setup) (s : table.State (Option StationState) V
   pub invariant : IsInductive (machine_of qdisc s.views)
   pub words : Stands k (words_of k s.words) qdisc (account k state).down
   pub packets : Ties k.infos qdisc (account k state) (bands_now state.left (account k state).bands)
-  -- the stop values are the account's, unless an exchange of the device is half done
+  -- the stop values are the account's, unless a swap of the device is half done
   pub stops : AreStops state.shut qdisc.phase qdisc.locked qdisc.xoff (account k state).stops
   pub events : IsOrderly k.infos k.station (first_account k) state.past
   -- the slots hold the bands' packets, and the producer words are their indices

@@ -58,7 +58,7 @@ HasAccepted a home = (st : StationState) × (home ≡ Some st) × (st.unit ≡ a
 abbrev pub IsServedBy : List Info → ℕ → DeviceState → Option StationState → Type 0
 IsServedBy infos station origin home = (st : StationState) × (home ≡ Some st) × HasServed infos station origin st.device
 
--- each unit that an exchange took away has sent what it had sent then
+-- each unit that a swap took away has sent what it had sent then
 abbrev pub HaveSent : Account → List (ℕ × List ℕ) → Type 0
 HaveSent a gone = (unit : ℕ) (sent : List ℕ) → Contains gone (unit, sent) → a.sent unit ≡ sent
 

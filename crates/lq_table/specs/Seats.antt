@@ -71,7 +71,7 @@ module _ {D : Type 0} where
   abbrev pub FindsLocked : Cpu D → Cpu D → Type 0
   FindsLocked b a = (view a ≡ finding_locked (view b)) × ((found : ℕ) × (found ≢ 0) × (steps a ≡ did_load_lock found ∷ steps b))
 
-  -- The run lock is got, and with it the slot, in which the station lies: the rings rest, nothing is in hand, no resize and no exchange is
+  -- The run lock is got, and with it the slot, in which the station lies: the rings rest, nothing is in hand, no resize and no swap is
   -- half done, a packet in the requeue slot is one of the capture, and the first seat knows the units.
   abbrev pub GetsRunLock : Cpu D → Cpu D → Type 0
   GetsRunLock b a = (d : HolderPart) × (view a ≡ got d (view b)) × (slot a ≡ (0, Some (shown d)) ∷ slot b) × IsResting d.size d.ends × (0 < d.size) × (d.hand ≡ None) × (d.resizing ≡ None)

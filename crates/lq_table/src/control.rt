@@ -7,7 +7,7 @@ ghost use Rattle.lq_table.specs.Sees.{view, position, carried, IsSeatOf, IsElseS
 ghost use Rattle.lq_table.specs.Purges.{HasPassedBands};
 ghost use Rattle.lq_table.specs.AtRest.{IsSoleAtRest, KnowsRest};
 ghost use Rattle.lq_table.specs.Told.{at_rest};
-ghost use Rattle.lq_table.specs.Controls.{beginning_control, returning, closing, finding, opening, resetting_missed, resetting_draining, GoesAway, swapping, opening_next, IsExchangeFor, MayDeactivate};
+ghost use Rattle.lq_table.specs.Controls.{beginning_control, returning, closing, finding, opening, resetting_missed, resetting_draining, GoesAway, swapping, opening_next, IsSwapFor, MayDeactivate};
 ghost use Rattle.lq_table.specs.Made.{did_load_inside, did_load_lock, did_store_stop, did_clear_deactivated, did_clear_draining, did_clear_missed, did_load_base, did_set_deactivated};
 
 use crate::places::{BASE, INSIDE, LOCK, STATE, XOFF};
@@ -142,12 +142,12 @@ impl<'a, D: TxDevice> Shared<'a, D> {
             .fetch_and::<ResetDraining>(&mut cpu.known.seat, STATE, ALL_BUT_DRAINING);
     }
 
-    fn exchange_of<K: Standing>(&self, cpu: &mut Cpu<D>)
+    fn swap_of<K: Standing>(&self, cpu: &mut Cpu<D>)
         requires named { cpu.old.station ≡ Some K.station }
         requires seat { IsSeatOf self.now cpu.old }
         requires at { (position cpu.old ≡ AtControl true) × ((view cpu.old).holder.shut ≡ None) }
         requires purged { ((view cpu.old).control.phase ≡ Purged) × ((view cpu.old).control.purge ≡ None) }
-        requires station { IsExchangeFor (view cpu.old) K.station }
+        requires station { IsSwapFor (view cpu.old) K.station }
         ensures same { IsElseSame cpu.old cpu.new }
         ensures view { view cpu.new ≡ swapping K.station (view cpu.old) }
         ensures old { GoesAway (view cpu.old) }
@@ -158,22 +158,22 @@ impl<'a, D: TxDevice> Shared<'a, D> {
             .store::<Swap<K>>(&mut cpu.known.seat, XOFF, 0);
     }
 
-    /// Stores 0 in the first queue's stop word of a station whose device was exchanged, as a driver's open does with
+    /// Stores 0 in the first queue's stop word of a station whose device was swapped, as a driver's open does with
     /// `netif_tx_start_all_queues` of include/linux/netdevice.h. The station that the seat carries has the new device, whose
     /// unit is below 256 and none of those before, and which was asked nothing. The device before it is the one that came with the
     /// latest unit, and has served the station. With several queues `open_xoff` goes on with the second.
-    pub fn exchange(&self, cpu: &mut Cpu<D>)
+    pub fn swap(&self, cpu: &mut Cpu<D>)
         requires seat { IsSeatOf self.now cpu.old }
         requires at { (position cpu.old ≡ AtControl true) × ((view cpu.old).holder.shut ≡ None) }
         requires purged { ((view cpu.old).control.phase ≡ Purged) × ((view cpu.old).control.purge ≡ None) }
-        requires station { (is_some cpu.old.station ≡ true) × IsExchangeFor (view cpu.old) (carried cpu.old) }
+        requires station { (is_some cpu.old.station ≡ true) × IsSwapFor (view cpu.old) (carried cpu.old) }
         ensures same { IsElseSame cpu.old cpu.new }
         ensures view { view cpu.new ≡ swapping (carried cpu.old) (view cpu.old) }
         ensures served { HasServed self.now.infos.now self.now.station (view cpu.old).control.origin (view cpu.old).holder.station.device }
         ensures unit { (view cpu.old).holder.station.unit ≡ latest_unit self.now.station (view cpu.old).holder.units }
         ensures made { steps cpu.new ≡ did_store_stop (setup self.now) 0 0 ∷ steps cpu.old }
     {
-        self.exchange_of::<Brand>(cpu);
+        self.swap_of::<Brand>(cpu);
     }
 
     fn open_xoff_of<K: Named>(&self, cpu: &mut Cpu<D>, queue: u32)
@@ -192,7 +192,7 @@ impl<'a, D: TxDevice> Shared<'a, D> {
             .store::<OpenNext<K>>(&mut cpu.known.seat, word, 0);
     }
 
-    /// Stores 0 in the next queue's stop word after an exchange of the device, in ascending order. Until the last one a word
+    /// Stores 0 in the next queue's stop word after a swap of the device, in ascending order. Until the last one a word
     /// not yet stored may still be 1 or 2, though in the account each queue is open since the first store.
     pub fn open_xoff(&self, cpu: &mut Cpu<D>, queue: u32)
         requires queue { queue < self.now.queues }

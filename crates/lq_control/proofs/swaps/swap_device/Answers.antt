@@ -4,7 +4,7 @@ use Rattle.std.specs.Option.{unwrap_or}
 use Rattle.lq_device.specs.Station.{StationState}
 use Rattle.lq_table.specs.Views.{View, Setup, no_station}
 use Rattle.lq_table.specs.Rule.{HasServed, latest_unit, station_count, units_of}
-use Rattle.lq_table.specs.Controls.{IsExchange, swapping}
+use Rattle.lq_table.specs.Controls.{IsSwap, swapping}
 use Rattle.lq_table.specs.Sees.{view, known, setup}
 use Rattle.lq_table.specs.Made.{Known, ◌⊳◌, did_store_stop}
 use Rattle.lq_table.specs.Solo.{Solo, device_to, heard, locked_to, solo}
@@ -13,15 +13,15 @@ use Rattle.lq_control.specs.Steps.{with_device_swapped, with_queues_opened, with
 use Rattle.lq_control.proofs.StepLemmas.{both}
 use Rattle.lq_control.proofs.swaps.swap_device.Goals as goal
 
-pub exchange-requires-clause-station : goal.exchange-requires-clause-station
-exchange-requires-clause-station g c _ _ =
+pub swap-requires-clause-station : goal.swap-requires-clause-station
+swap-requires-clause-station g c _ _ =
     let h = (view c.take_lock.new.cpu).holder in let changed = (c.change_device-old.ensures.changed h c.take_lock.ensures.station.1).0 in let unit = c.args.unit in
     let now = ap (λ (x : Known). x.view) c.change_device-old.ensures.same.3 in
     let about : (view c.change_device-old.new.cpu).share.about ≡ Rattle.lq_table.specs.Sees.setup c.args.shared.now = ap (λ (x : View). x.share.about) now ∙ (ap (λ (x : View). x.share.about) c.take_lock.ensures.got.1 ∙ c.requires.seat.2) in
     let units : (view c.change_device-old.new.cpu).holder.units ≡ Rattle.lq_table.specs.Rule.units_of (view c.args.cpu.now).trail = ap (λ (x : View). x.holder.units) now ∙ c.take_lock.ensures.units c.requires.at.1 in
     let above = c.requires.unit.1 in let first = above.first in (
       ap (λ (o : Option StationState). is_some o) changed,
-      subst (λ (z : Option StationState). IsExchange (view c.change_device-old.new.cpu).share.about.infos (view c.change_device-old.new.cpu).share.about.station (view c.change_device-old.new.cpu).holder.units (unwrap_or z no_station)) (sym changed) record {
+      subst (λ (z : Option StationState). IsSwap (view c.change_device-old.new.cpu).share.about.infos (view c.change_device-old.new.cpu).share.about.station (view c.change_device-old.new.cpu).holder.units (unwrap_or z no_station)) (sym changed) record {
         asked = c.requires.device.3;
         accepted = c.requires.device.0;
         alive = c.requires.device.1;
@@ -36,15 +36,15 @@ pub returns-clause-sole : goal.returns-clause-sole
 returns-clause-sole g c = λ sole.
     let h = (view c.take_lock.new.cpu).holder in let changed = (c.change_device-old.ensures.changed h c.take_lock.ensures.station.1).0 in let before = view c.change_device-old.new.cpu in
     let device = (g.D.TxDevice.state c.args.device) in
-    let swapped = ap solo c.exchange.ensures.view ∙ ap (λ (o : Option StationState). device_to (unwrap_or o no_station).device (heard (Swap (unwrap_or o no_station).unit) (solo before))) changed in
+    let swapped = ap solo c.swap.ensures.view ∙ ap (λ (o : Option StationState). device_to (unwrap_or o no_station).device (heard (Swap (unwrap_or o no_station).unit) (solo before))) changed in
     ap solo c.release.ensures.released ∙ (ap (locked_to false) (c.open_queues.ensures.step ∙ swapped)
     ∙ ap (λ (s : Solo). locked_to false (device_to device (heard (Swap c.args.unit) s))) (ap (λ (x : Known). solo x.view) c.change_device-old.ensures.same.3 ∙ (c.take_lock.ensures.sole sole).0))
 
 pub returns-clause-swaps : goal.returns-clause-swaps
 returns-clause-swaps g c =
     let k = setup c.args.shared.now in let locked = known c.take_lock.new.cpu in let came = g.D.TxDevice.state c.args.device in
-    let changed = c.change_device-old.ensures.changed locked.view.holder c.take_lock.ensures.station.1 in let now = c.change_device-old.ensures.same.3 in let x = c.exchange.ensures in
-    let swapped = both (known c.exchange.new.cpu) (with_device_swapped k c.args.unit came locked)
+    let changed = c.change_device-old.ensures.changed locked.view.holder c.take_lock.ensures.station.1 in let now = c.change_device-old.ensures.same.3 in let x = c.swap.ensures in
+    let swapped = both (known c.swap.new.cpu) (with_device_swapped k c.args.unit came locked)
     (x.view ∙ (λ j. swapping (unwrap_or (changed.0 j) no_station) (now j).view)) (x.made ∙ ap (λ (y : Known). y.steps ⊳ did_store_stop k 0 0) now) in
     let about : locked.view.share.about ≡ k = ap (λ (v : View). v.share.about) c.take_lock.ensures.got.1 ∙ c.requires.seat.2 in record {
       locked = locked;

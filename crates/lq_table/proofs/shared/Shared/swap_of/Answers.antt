@@ -1,7 +1,7 @@
 use Rattle.std.proofs.Common.{arith}
 use Rattle.lq_table.proofs.SwapKept.{swaps}
 use Rattle.lq_table.proofs.Lifts.{lifts_store}
-use Rattle.lq_table.proofs.shared.Shared.exchange_of.Goals as goal
+use Rattle.lq_table.proofs.shared.Shared.swap_of.Goals as goal
 
 pub store-requires : goal.store-requires
 store-requires g c = let t = c.args.self.now in let p = c.requires.purged in let e = t.same.5 in let q = t.sized.3 in
