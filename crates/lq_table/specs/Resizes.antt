@@ -58,6 +58,7 @@ clearing b i t v = with_resizing (Some (with_work b (out_of i (at b t.works)) t)
 abbrev pub filling : ℕ → ℕ → ℕ → List ℕ → HalfResize → View → View
 filling b i n hand t v = with_resizing (Some (with_work b (into i n hand (at b t.works)) t)) v
 
+-- a resize is half done
 abbrev pub HasHalfResize : View → Type 0
 HasHalfResize v = (t : HalfResize) × (v.holder.resizing ≡ Some t)
 

@@ -45,7 +45,7 @@ module _ {D : Type 0} where
   IsIdleSeatOf t s = (s.table_id ≡ t.table.shared.table_id) × (0 < s.me.0.view.share.shares) × (at_rest s.me.0.view.place.position ≡ true) × (s.me.0.view.place.raised ≡ false)
       × (s.me.0.view.packets ≡ no_packets) × (s.me.0.view.locks ≡ all_three unlocked) × (s.me.1 ≡ [])
 
-  -- a new one with its station and indices, which carries no station
+  -- a new seat with its indices, of the same table, with one share and this owner, which carries no station
   abbrev pub IsSplitOff : ℕ → Cpu D → Cpu D → Type 0
   IsSplitOff owner from c = (c.known.seat.table_id ≡ from.known.seat.table_id) × (c.station ≡ None) × (slot c ≡ []) × (view c ≡ offspring owner (view from))
 
@@ -61,8 +61,8 @@ module _ {D : Type 0} where
   TakesTurn t n b a = (slice_index (view b).turns (packet_owner t n) ≡ 2 * packet_rank t n) × (view a ≡ bringing n (packet_owner t n) (packet_rank t n) (view b))
 
   -- the turn word has another value, which was found
-  abbrev pub FindsTurn : Shared D → ℕ → Cpu D → Cpu D → ℕ → Type 0
-  FindsTurn t n b a found = (found ≡ slice_index (view b).turns (packet_owner t n)) × (found ≢ 2 * packet_rank t n) × (view a ≡ view b)
+  abbrev pub FindsOtherTurn : Shared D → ℕ → Cpu D → Cpu D → ℕ → Type 0
+  FindsOtherTurn t n b a found = (found ≡ slice_index (view b).turns (packet_owner t n)) × (found ≢ 2 * packet_rank t n) × (view a ≡ view b)
 
 -- THE RUN LOCK
 
@@ -78,8 +78,8 @@ module _ {D : Type 0} where
       × (d.shut ≡ None) × IsKnownSlot (view b).share.about d.slot × ((view b).control.first ≡ true → d.units ≡ units_of (view b).trail)
 
   -- the seat is the same, with its station and indices, and has none of the slots
-  abbrev pub GivesSlot : Cpu D → Cpu D → Type 0
-  GivesSlot b a = IsSameSeat b a × (a.station ≡ b.station) × (a.indices ≡ b.indices) × (slot a ≡ [])
+  abbrev pub GivesSlotBack : Cpu D → Cpu D → Type 0
+  GivesSlotBack b a = IsSameSeat b a × (a.station ≡ b.station) × (a.indices ≡ b.indices) × (slot a ≡ [])
 
 -- PRODUCERS
 
@@ -88,7 +88,7 @@ module _ {D : Type 0} where
   abbrev pub GetsProducer : Shared D → ℕ → ℕ → Cpu D → Cpu D → Type 0
   GetsProducer t band i b a = (view a ≡ with_lock_at band (locked_at i) (view b)) × (a.indices ≡ put band i b.indices) × (i < t.max_len)
 
-  -- the seat has it, found room under it, and stored nothing
+  -- the seat has the band's producer lock, found the slot empty under it, and stored nothing
   abbrev pub HasProducerWithRoom : Shared D → ℕ → Cpu D → Type 0
   HasProducerWithRoom t band c = HasProducer t band c × ((lock_at band c).stored ≡ false) × ((lock_at band c).room ≡ true)
 
@@ -134,15 +134,15 @@ module _ {D : Type 0} where
   abbrev pub HasComeToBand : ℕ → Purge → Left → Cpu D → Type 0
   HasComeToBand band u l c = (position c ≡ Control true) × ((view c).control.purge ≡ Some u) × (u.band ≡ band) × ((view c).holder.left ≡ Some l)
 
-  -- in whichever purge
+  -- control that has come to this band in a purge
   abbrev pub IsPurgingBand : ℕ → Cpu D → Type 0
   IsPurgingBand band c = (u : Purge) × (l : Left) × (position c ≡ Control true) × ((view c).control.purge ≡ Some u) × (u.band ≡ band) × ((view c).holder.left ≡ Some l)
 
-  -- the band has nothing left, and the purge goes on with the next
+  -- the purge leaves nothing of the band, and goes on with the next
   abbrev pub PassesEmptyBand : ℕ → Purge → Left → Cpu D → Cpu D → Type 0
   PassesEmptyBand band u l b a = (held_of (at band l.bands) ≡ []) × (view a ≡ passing_band u (view b))
 
-  -- the packet n is the first that the band has left, and it is taken
+  -- the packet n is the first that the purge leaves of the band, and it is taken
   abbrev pub TakesFirstLeft : ℕ → ℕ → Left → Cpu D → Cpu D → Type 0
   TakesFirstLeft band n l b a = (slice_get (held_of (at band l.bands)) 0 ≡ Some n) × (view a ≡ taking_purged band n l (view b))
 
