@@ -61,8 +61,8 @@ module _ {D : Type 0} where
   TakesTurn t n b a = (slice_index (view b).turns (packet_owner t n) ≡ 2 * packet_rank t n) × (view a ≡ bringing n (packet_owner t n) (packet_rank t n) (view b))
 
   -- the turn word has another value, which was found
-  abbrev pub FindsOtherTurn : Shared D → ℕ → Cpu D → Cpu D → ℕ → Type 0
-  FindsOtherTurn t n b a found = (found ≡ slice_index (view b).turns (packet_owner t n)) × (found ≢ 2 * packet_rank t n) × (view a ≡ view b)
+  abbrev pub FindsTurnWord : Shared D → ℕ → Cpu D → Cpu D → ℕ → Type 0
+  FindsTurnWord t n b a found = (found ≡ slice_index (view b).turns (packet_owner t n)) × (found ≢ 2 * packet_rank t n) × (view a ≡ view b)
 
 -- THE RUN LOCK
 

@@ -6,7 +6,7 @@ ghost use Rattle.lq_band.specs.Three.{all_three};
 ghost use Rattle.lq_table.specs.Rule.{times};
 ghost use Rattle.lq_table.specs.Marks.{marks_of};
 ghost use Rattle.lq_table.specs.Sees.{view, position, IsSeatOf, IsElseSame, steps, packet_owner, packet_rank};
-ghost use Rattle.lq_table.specs.Seats.{FindsOtherTurn, IsRankedPacket, TakesTurn};
+ghost use Rattle.lq_table.specs.Seats.{FindsTurnWord, IsRankedPacket, TakesTurn};
 ghost use Rattle.lq_table.specs.Told.{at_rest, bringing, giving_turn};
 ghost use Rattle.lq_table.specs.Made.{did_give_turn, did_load_turn, did_take_turn};
 
@@ -60,7 +60,7 @@ impl<'a, D: TxDevice> Shared<'a, D> {
         requires owner { (0 < times (packet_owner self.now n) (view cpu.old).share.owners) × (packet_owner self.now n < self.now.senders) }
         requires idle { (view cpu.old).packets.busy ≡ None }
         ensures same { IsElseSame cpu.old cpu.new }
-        ensures turn { MatchResult result (λ _. TakesTurn self.now n cpu.old cpu.new) (FindsOtherTurn self.now n cpu.old cpu.new) }
+        ensures turn { MatchResult result (λ _. TakesTurn self.now n cpu.old cpu.new) (FindsTurnWord self.now n cpu.old cpu.new) }
         ensures made { steps cpu.new ≡ did_take_turn (packet_owner self.now n) (packet_rank self.now n) (is_ok result) ∷ steps cpu.old }
     {
         let owner = self.infos[n as usize].owner as u32;
