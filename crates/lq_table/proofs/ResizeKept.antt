@@ -58,7 +58,7 @@ use Rattle.lq_table.proofs.Ties.{nothing_in, holds_none}
 use Rattle.lq_table.proofs.ResizeSlotsKept.{resizing_rule, resizing_known}
 use Rattle.lq_table.proofs.SoleFacts.{knows_account}
 use Rattle.lq_table.proofs.Frames.{at_map, none_some, none_left, locks_here, locks_same, locks_after, firsts_same, rule_after, opened, closed, stays, lends_held, moves, holder_now}
-use Rattle.lq_table.proofs.SeatFrames.{seats_same, seats_ruled}
+use Rattle.lq_table.proofs.SeatFrames.{seats_same, seats_by_control}
 use Rattle.lq_table.proofs.StationFrames.{stands_same, account_heard}
 
 -- a line in each owner's order has no packet twice
@@ -132,7 +132,7 @@ module _ (k : Setup) where
         keeps,
         tt,
         rule_after k s r size_place W.size id s.homes r.home w W q' g' a' r.deep (set_back k s.words size_place) refl record {
-          seats = seats_ruled k s r id v w here live e g.origin q' g' a' refl refl (λ j. (v.packets.fresh, v.settled, p.seats.trails.came id v here first j, e ∷ v.trail, v.whole.told)) first refl refl
+          seats = seats_by_control k s r id v w here live e g.origin q' g' a' refl refl (λ j. (v.packets.fresh, v.settled, p.seats.trails.came id v here first j, e ∷ v.trail, v.whole.told)) first refl refl
               (each_step (λ u. KnowsPackets k g.past a u.share u.packets) (λ u. KnowsPackets k (e ∷ g.past) a' u.share u.packets) s.views id w p.seats.packets
               (let x = p.seats.packets id v here in let y = quiet_after k g.past a a e v.share v.packets refl (λ _. refl) x in record { own = y.own; fresh = y.fresh; owed = λ n z h. stays_decided n z (x.owed n z h) })
               (λ j u _ _ x. let y = quiet_after k g.past a a e u.share u.packets refl (λ _. refl) x in record { own = y.own; fresh = y.fresh; owed = λ n z h. stays_decided n z (x.owed n z h) }))

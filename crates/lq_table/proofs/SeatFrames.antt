@@ -31,8 +31,8 @@ abbrev pub known_by : View → PacketPart × List (ℕ × Fate) × List Event ×
 known_by u = (u.packets, u.settled, u.trail, u.control.origin, u.control.gone, u.whole.told)
 
 -- the events, and the device as it came
-abbrev came_of : State → List Event × DeviceState
-came_of g = (g.past, g.origin)
+abbrev events_and_origin_of : State → List Event × DeviceState
+events_and_origin_of g = (g.past, g.origin)
 
 module _ (k : Setup) (s : table.State (Option StationState) View) (r : Rule k s) (id : ℕ) (v w : View) (here : get_elem? s.views id ≡ some v) (live : is_live v ≡ true) where
   -- the seat that knew the whole state knows the next
@@ -43,7 +43,7 @@ module _ (k : Setup) (s : table.State (Option StationState) View) (r : Rule k s)
   sole_on q' g' share told next = sole_step k s.views id v w here r.qdisc q' r.state g' r.parts.seats.shares r.parts.seats.sole (ltb-true 0 v.share.shares live) share told next
 
   -- a step that takes and gives no turn and brings no packet; what else may change is given
-  pub seats_with : (fates' : List ℕ) (past' : List Event) (origin' : DeviceState) (q' : Qdisc) (g' : State) (a' : Account) → came_of g' ≡ (past', origin') → has_of w ≡ has_of v → w.packets.fresh ≡ v.packets.fresh → brought_by past' ≡ brought_by r.state.past
+  pub seats_with : (fates' : List ℕ) (past' : List Event) (origin' : DeviceState) (q' : Qdisc) (g' : State) (a' : Account) → events_and_origin_of g' ≡ (past', origin') → has_of w ≡ has_of v → w.packets.fresh ≡ v.packets.fresh → brought_by past' ≡ brought_by r.state.past
       → PacketsKnown k (set s.views id w) past' a' → Settled fates' (set s.views id w) → Trails k.infos past' origin' (set s.views id w) → Gone k past' (set s.views id w) → Sole (set s.views id w) q' g'
       → SeatParts k (words_of k s.words).turns fates' (set s.views id w) q' g' a'
   seats_with fates' past' origin' q' g' a' is has fresh same packets settled trails gone sole =
@@ -60,7 +60,7 @@ module _ (k : Setup) (s : table.State (Option StationState) View) (r : Rule k s)
       }
 
   -- a step without an event; what is known of packets and of stored fates is given
-  pub seats_settled : (fates' : List ℕ) (q' : Qdisc) (g' : State) → came_of g' ≡ came_of r.state → has_of w ≡ has_of v → ◌≡◌ {A = Option ℕ × List Event × DeviceState × List (ℕ × List ℕ)} (w.packets.fresh, w.trail, w.control.origin, w.control.gone) (v.packets.fresh, v.trail, v.control.origin, v.control.gone)
+  pub seats_settled : (fates' : List ℕ) (q' : Qdisc) (g' : State) → events_and_origin_of g' ≡ events_and_origin_of r.state → has_of w ≡ has_of v → ◌≡◌ {A = Option ℕ × List Event × DeviceState × List (ℕ × List ℕ)} (w.packets.fresh, w.trail, w.control.origin, w.control.gone) (v.packets.fresh, v.trail, v.control.origin, v.control.gone)
       → PacketsKnown k (set s.views id w) r.state.past (account k r.state) → Settled fates' (set s.views id w) → Sole (set s.views id w) q' g' → SeatParts k (words_of k s.words).turns fates' (set s.views id w) q' g' (account k r.state)
   seats_settled fates' q' g' is has known packets settled sole = let p = r.parts in let g = r.state in
       seats_with fates' g.past g.origin q' g' (account k g) is has (ap (λ x. x.0) known) refl packets settled
@@ -68,7 +68,7 @@ module _ (k : Setup) (s : table.State (Option StationState) View) (r : Rule k s)
       (gone_same k s.views id v w here p.seats.gone (ap (λ x. x.3) known)) sole
 
   -- a step without an event and without a fate
-  pub seats_same : (q' : Qdisc) (g' : State) → came_of g' ≡ came_of r.state → has_of w ≡ has_of v → known_by w ≡ known_by v → Knows q' g'
+  pub seats_same : (q' : Qdisc) (g' : State) → events_and_origin_of g' ≡ events_and_origin_of r.state → has_of w ≡ has_of v → known_by w ≡ known_by v → Knows q' g'
       → SeatParts k (words_of k s.words).turns (words_of k s.words).fates (set s.views id w) q' g' (account k r.state)
   seats_same q' g' is has known next = let p = r.parts in let W = words_of k s.words in let share = ap (λ x. x.0) has in
       seats_settled W.fates q' g' is has (λ j. ((known j).0.fresh, (known j).2, (known j).3, (known j).4))
@@ -84,7 +84,7 @@ module _ (k : Setup) (s : table.State (Option StationState) View) (r : Rule k s)
       (λ j u _ _ y. quiet_after k g.past a a' e u.share u.packets same keep y)
 
   -- a step with such an event, which isn't on the trail and brings no unit
-  pub seats_heard : (e : Event) (q' : Qdisc) (g' : State) (a' : Account) → came_of g' ≡ (e ∷ r.state.past, r.state.origin) → has_of w ≡ has_of v → known_by w ≡ known_by v → brought_by (e ∷ r.state.past) ≡ brought_by r.state.past → trail_of k.infos (e ∷ r.state.past) ≡ trail_of k.infos r.state.past
+  pub seats_heard : (e : Event) (q' : Qdisc) (g' : State) (a' : Account) → events_and_origin_of g' ≡ (e ∷ r.state.past, r.state.origin) → has_of w ≡ has_of v → known_by w ≡ known_by v → brought_by (e ∷ r.state.past) ≡ brought_by r.state.past → trail_of k.infos (e ∷ r.state.past) ≡ trail_of k.infos r.state.past
       → BringsNone k r.state.past e → ((n : ℕ) → a'.fates n ≡ (account k r.state).fates n) → Knows q' g' → SeatParts k (words_of k s.words).turns (words_of k s.words).fates (set s.views id w) q' g' a'
   seats_heard e q' g' a' is has known same unheard none keep next = let p = r.parts in let g = r.state in let W = words_of k s.words in let share = ap (λ x. x.0) has in
       seats_with W.fates (e ∷ g.past) g.origin q' g' a' is has (ap (λ x. x.0.fresh) known) same
@@ -95,17 +95,17 @@ module _ (k : Setup) (s : table.State (Option StationState) View) (r : Rule k s)
       (sole_on q' g' share (ap (λ x. x.5) known) next)
 
   -- a step of the first seat with an event of control, after which the device came as `origin'`
-  pub seats_ruled : (e : Event) (origin' : DeviceState) (q' : Qdisc) (g' : State) (a' : Account) → came_of g' ≡ (e ∷ r.state.past, origin') → has_of w ≡ has_of v → ◌≡◌ {A = Option ℕ × List (ℕ × Fate) × DeviceState × List Event × Bool} (w.packets.fresh, w.settled, w.control.origin, w.trail, w.whole.told) (v.packets.fresh, v.settled, origin', e ∷ v.trail, v.whole.told) → v.control.first ≡ true
+  pub seats_by_control : (e : Event) (origin' : DeviceState) (q' : Qdisc) (g' : State) (a' : Account) → events_and_origin_of g' ≡ (e ∷ r.state.past, origin') → has_of w ≡ has_of v → ◌≡◌ {A = Option ℕ × List (ℕ × Fate) × DeviceState × List Event × Bool} (w.packets.fresh, w.settled, w.control.origin, w.trail, w.whole.told) (v.packets.fresh, v.settled, origin', e ∷ v.trail, v.whole.told) → v.control.first ≡ true
       → brought_by (e ∷ r.state.past) ≡ brought_by r.state.past → is_own k.infos e ≡ true → PacketsKnown k (set s.views id w) (e ∷ r.state.past) a' → Gone k (e ∷ r.state.past) (set s.views id w) → Knows q' g'
       → SeatParts k (words_of k s.words).turns (words_of k s.words).fates (set s.views id w) q' g' a'
-  seats_ruled e origin' q' g' a' is has known first same own packets gone next = let p = r.parts in let W = words_of k s.words in
+  seats_by_control e origin' q' g' a' is has known first same own packets gone next = let p = r.parts in let W = words_of k s.words in
       seats_with W.fates (e ∷ r.state.past) origin' q' g' a' is has (ap (λ x. x.0) known) same packets
       (settled_same s.views id v w here W.fates p.seats.settled (ap (λ x. x.1) known))
       (trails_own k.infos s.views id v w here e own p.seats.trails p.machine.firsts.one first (ap (λ x. x.0) has) (ap (λ x. x.3) has) (ap (λ x. x.2) known) (ap (λ x. x.3) known))
       gone (sole_on q' g' (ap (λ x. x.0) has) (ap (λ x. x.4) known) next)
 
   -- a step with the event that brings the packet n of the seat
-  pub seats_brought : (e : Event) (n : ℕ) (q' : Qdisc) (g' : State) → came_of g' ≡ (e ∷ r.state.past, r.state.origin) → has_of w ≡ has_of v → ◌≡◌ {A = Option ℕ × List (ℕ × Fate) × DeviceState × List (ℕ × List ℕ) × Bool} (w.packets.fresh, w.settled, w.control.origin, w.control.gone, w.whole.told) (None, v.settled, v.control.origin, v.control.gone, v.whole.told) → v.packets.fresh ≡ Some n
+  pub seats_brought : (e : Event) (n : ℕ) (q' : Qdisc) (g' : State) → events_and_origin_of g' ≡ (e ∷ r.state.past, r.state.origin) → has_of w ≡ has_of v → ◌≡◌ {A = Option ℕ × List (ℕ × Fate) × DeviceState × List (ℕ × List ℕ) × Bool} (w.packets.fresh, w.settled, w.control.origin, w.control.gone, w.whole.told) (None, v.settled, v.control.origin, v.control.gone, v.whole.told) → v.packets.fresh ≡ Some n
       → brought e ≡ Some n → is_own k.infos e ≡ eqb (owner_in k.infos n) 0 → w.trail ≡ cond (is_own v.share.about.infos e) (e ∷ v.trail) v.trail → BringsNone k r.state.past e
       → ((m : ℕ) (f : Fate) → w.packets.owed ≡ Some (m, f) → (after e (account k r.state)).fates m ≡ Some f) → ((m : ℕ) → m ≢ n → (after e (account k r.state)).fates m ≡ (account k r.state).fates m) → Knows q' g'
       → SeatParts k (words_of k s.words).turns (words_of k s.words).fates (set s.views id w) q' g' (after e (account k r.state))

@@ -36,17 +36,17 @@ stands_state t state e = record {
 }
 
 -- what the words of the machine say
-abbrev standing : Words → Qdisc → Option ℕ → ℕ × ℕ × List ℕ × ℕ × ℕ × Bool × List ℕ × ℕ × Bool × Option ℕ
-standing w q down = (w.state, w.lock, w.xoff, w.inside, state_word q, q.locked, q.xoff, q.inside, q.bypass, down)
+abbrev words_and_machine_of : Words → Qdisc → Option ℕ → ℕ × ℕ × List ℕ × ℕ × ℕ × Bool × List ℕ × ℕ × Bool × Option ℕ
+words_and_machine_of w q down = (w.state, w.lock, w.xoff, w.inside, state_word q, q.locked, q.xoff, q.inside, q.bypass, down)
 
-pub stands_same : {k : Setup} {w w' : Words} {q q' : Qdisc} {down down' : Option ℕ} → Stands k w q down → standing w' q' down' ≡ standing w q down → Stands k w' q' down'
+pub stands_same : {k : Setup} {w w' : Words} {q q' : Qdisc} {down down' : Option ℕ} → Stands k w q down → words_and_machine_of w' q' down' ≡ words_and_machine_of w q down → Stands k w' q' down'
 stands_same t e = stands_state t (ap (λ x. x.0) e ∙ (t.state ∙ sym (ap (λ x. x.4 + 256 * event_word x.9) e))) (λ j. ((e j).1, (e j).2, (e j).3, (e j).5, (e j).6, (e j).7, (e j).8))
 
 -- what the machine has of the account
-abbrev tied : Qdisc → Account → List (List Packet) × Option Packet × ℕ × Bool × Option ℕ × ℕ × Option ℕ
-tied q a = (q.bands, q.slot, q.len, q.deactivated, a.slot, a.len, a.down)
+abbrev machine_and_account_of : Qdisc → Account → List (List Packet) × Option Packet × ℕ × Bool × Option ℕ × ℕ × Option ℕ
+machine_and_account_of q a = (q.bands, q.slot, q.len, q.deactivated, a.slot, a.len, a.down)
 
-pub ties_same : {infos : List Info} {q q' : Qdisc} {a a' : Account} {bands bands' : ℕ → Band} → Ties infos q a bands → tied q' a' ≡ tied q a → bands' ≡ bands → Ties infos q' a' bands'
+pub ties_same : {infos : List Info} {q q' : Qdisc} {a a' : Account} {bands bands' : ℕ → Band} → Ties infos q a bands → machine_and_account_of q' a' ≡ machine_and_account_of q a → bands' ≡ bands → Ties infos q' a' bands'
 ties_same {infos} t e same = record {
   bands_are = ap (λ x. x.0) e ∙ (t.bands_are ∙ sym (ap (bands_of infos) same));
   slot = ap (λ x. x.1) e ∙ (t.slot ∙ sym (ap (λ x. option_map (machine_packet infos) x.4) e));
@@ -57,12 +57,12 @@ ties_same {infos} t e same = record {
 -- THE RINGS AND THE FATE WORDS
 
 -- what the rings and the fate words are said of, but for the seats and the fates
-abbrev ringing : Words → State → Account → List ℕ × ℕ × Three ℕ × Three (List ℕ) × ℕ × (ℕ → Band) × Three Ends × Option HalfResize × Option Left
-ringing w g a = (w.fates, w.size, w.producers, w.slots, a.len, bands_now g.left a.bands, g.ends, g.resizing, g.left)
+abbrev rings_and_fates_of : Words → State → Account → List ℕ × ℕ × Three ℕ × Three (List ℕ) × ℕ × (ℕ → Band) × Three Ends × Option HalfResize × Option Left
+rings_and_fates_of w g a = (w.fates, w.size, w.producers, w.slots, a.len, bands_now g.left a.bands, g.ends, g.resizing, g.left)
 
 module _ (k : Setup) (s : table.State (Option StationState) View) (r : Rule k s) (id : ℕ) (v w : View) (here : get_elem? s.views id ≡ some v) where
   -- a step at no ring and no fate word
-  pub station_kept : (W' : Words) (home' : maybe.Option (Option StationState)) (q' : Qdisc) (g' : State) (a' : Account) → ringing W' g' a' ≡ ringing (words_of k s.words) r.state (account k r.state) → ((n : ℕ) → a'.fates n ≡ (account k r.state).fates n) → ◌≡◌ {A = Option (ℕ × Fate) × Three Lock} (w.packets.owed, w.locks) (v.packets.owed, v.locks)
+  pub station_kept : (W' : Words) (home' : maybe.Option (Option StationState)) (q' : Qdisc) (g' : State) (a' : Account) → rings_and_fates_of W' g' a' ≡ rings_and_fates_of (words_of k s.words) r.state (account k r.state) → ((n : ℕ) → a'.fates n ≡ (account k r.state).fates n) → ◌≡◌ {A = Option (ℕ × Fate) × Three Lock} (w.packets.owed, w.locks) (v.packets.owed, v.locks)
       → ((t : HalfResize) → r.state.resizing ≡ Some t → is_live v ≡ true → holds_lock v.place.position ≡ true → (is_live w ≡ true) × (holds_lock w.place.position ≡ true))
       → Stands k W' q' a'.down → Ties k.infos q' a' (bands_now g'.left a'.bands) → Lends k.infos q'.locked W'.xoff home' (set s.views id w) g'.past (holders g' a' W'.size) → AreStops g'.shut q'.phase q'.locked q'.xoff a'.stops
       → StationParts k W' home' (set s.views id w) q' g' a'

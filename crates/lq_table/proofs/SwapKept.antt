@@ -33,7 +33,7 @@ use Rattle.lq_table.proofs.Facts.{map_none}
 use Rattle.lq_table.proofs.Accounts.{with_at_other}
 use Rattle.lq_table.proofs.Frames.{leaves_same, firsts_same, firsts_as, rule_after, opened, closed, lends_held}
 use Rattle.lq_table.proofs.UpKept.{purged_idle}
-use Rattle.lq_table.proofs.SeatFrames.{seats_same, seats_ruled, packets_heard}
+use Rattle.lq_table.proofs.SeatFrames.{seats_same, seats_by_control, packets_heard}
 use Rattle.lq_table.proofs.StationFrames.{station_kept, ties_same, account_after}
 
 -- a unit that no swap brought and that isn't the first has sent nothing
@@ -119,7 +119,7 @@ module _ (k : Setup) where
         keeps,
         tt,
         rule_after k s r (line_of 3) 0 id s.homes r.home w (record W { xoff = xs }) q' g' a' r.deep (set_xoff k s.words 0 0 (xoff_within k s.words 0 r.wide (omega arith))) refl record {
-          seats = seats_ruled k s r id v w here live e st.device q' g' a' refl refl refl first refl refl
+          seats = seats_by_control k s r id v w here live e st.device q' g' a' refl refl refl first refl refl
               (packets_heard k s r id v w here live e a' refl (λ _. refl) refl refl)
               (gone_swap k s.views id v w here st.unit v.holder.station.unit v.holder.station.device.accepted new_unit p.seats.gone refl unit_is sent_is) (λ e1 e2. (ap (λ (z : Qdisc). record z { xoff = slice_set z.xoff 0 0 }) e1, ap (λ (z : State). record z { past = e ∷ z.past; station = st; origin = st.device; shut = shut }) e2));
           machine = moves k s r id v w here live q' refl (closed s.views id v here live w q' at_control live is stepped_) (λ y own. own)
