@@ -1,6 +1,6 @@
 /*
  * Preloaded into a program: at its end writes to the file that PHASES names how many seconds lay between the start of its
- * first thread and the end of its last one.
+ * first thread and the moment when no thread was left for the first time. Threads that it starts later, to make its texts, don't count.
  */
 #define _GNU_SOURCE
 #include <dlfcn.h>
@@ -11,6 +11,7 @@
 #include <unistd.h>
 
 static double first_start, last_end;
+static int running;
 
 static double seconds(void)
 {
@@ -26,6 +27,7 @@ int pthread_create(pthread_t *thread, const pthread_attr_t *attr, void *(*run)(v
 
 	if (!first_start)
 		first_start = seconds();
+	__atomic_add_fetch(&running, 1, __ATOMIC_SEQ_CST);
 	return real(thread, attr, run, arg);
 }
 
@@ -34,7 +36,8 @@ int pthread_join(pthread_t thread, void **result)
 	int (*real)(pthread_t, void **) = dlsym(RTLD_NEXT, "pthread_join");
 	int answer = real(thread, result);
 
-	last_end = seconds();
+	if (__atomic_sub_fetch(&running, 1, __ATOMIC_SEQ_CST) == 0 && !last_end)
+		last_end = seconds();
 	return answer;
 }
 
