@@ -15,28 +15,21 @@ use Rattle.lq_model.specs.Steps.{After, goes_to, with_seat}
 
 -- the calls inside were loaded as 0 since DEACTIVATED was set
 abbrev pub is_quiet : Phase → Bool
-is_quiet Active = false
-is_quiet Closing = false
 is_quiet Quiet = true
 is_quiet Purged = true
+is_quiet _ = false
 
 abbrev pub is_purged_phase : Phase → Bool
-is_purged_phase Active = false
-is_purged_phase Closing = false
-is_purged_phase Quiet = false
 is_purged_phase Purged = true
+is_purged_phase _ = false
 
 abbrev pub found_inside : ℕ → Phase → Phase
-found_inside inside Active = Active
-found_inside inside Closing = (if inside == 0 then Quiet else Closing)
-found_inside inside Quiet = Quiet
-found_inside inside Purged = Purged
+found_inside inside Closing = if inside == 0 then Quiet else Closing
+found_inside inside phase = phase
 
 abbrev pub after_purge : Phase → Phase
-after_purge Active = Active
-after_purge Closing = Closing
 after_purge Quiet = Purged
-after_purge Purged = Purged
+after_purge phase = phase
 
 -- PURGE
 
@@ -59,8 +52,7 @@ purge_band None q = q
 
 -- the purge ends where both bits were cleared
 abbrev pub purge_goes_on : Purge → Qdisc → Qdisc
-purge_goes_on u q =
-    if u.missed && u.draining then record q { purge = None; phase = after_purge q.phase } else record q { purge = Some u }
+purge_goes_on u q = if u.missed && u.draining then record q { purge = None; phase = after_purge q.phase } else record q { purge = Some u }
 
 abbrev pub purge_missed : Option Purge → Qdisc → Qdisc
 purge_missed (Some u) q = purge_goes_on (record u { missed = true }) (record q { missed = false })
@@ -73,10 +65,8 @@ purge_draining None q = q
 -- THE STEPS
 
 abbrev pub queue_opened : ℕ → Qdisc → Seat → After
-queue_opened queue q s = record {
-  qdisc = record q { xoff = slice_set q.xoff queue 0; sched = true };
-  seat = record s { position = Control true; raised = s.raised || not q.sched };
-}
+queue_opened queue q s =
+    record { qdisc = record q { xoff = slice_set q.xoff queue 0; sched = true }; seat = record s { position = Control true; raised = s.raised || not q.sched } }
 
 -- what a step of control leaves, where its seat holds the run lock or doesn't
 abbrev pub control_at : ControlStep → Bool → Qdisc → Seat → After

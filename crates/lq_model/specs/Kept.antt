@@ -15,8 +15,7 @@ use Rattle.lq_model.specs.Positions.{Holds, ClearBelow, IsClear, BitsClear, hold
 
 -- a free lock with MISSED set: SCHED or DEACTIVATED is set, or some seat will come
 abbrev pub LockFreeMissed : Machine → Type 0
-LockFreeMissed m =
-    m.qdisc.locked ≡ false → m.qdisc.missed ≡ true → (m.qdisc.sched || m.qdisc.deactivated || some_seat is_going m) ≡ true
+LockFreeMissed m = m.qdisc.locked ≡ false → m.qdisc.missed ≡ true → (m.qdisc.sched || m.qdisc.deactivated || some_seat is_going m) ≡ true
 
 -- a free lock with neither bit set: nothing is exposed
 abbrev pub LockFreeClear : Machine → Type 0
@@ -32,13 +31,11 @@ EndingDraining m = (i : ℕ) → is_ending m.qdisc.purge (seat_at m i).position 
 
 -- where a holder is about to set DRAINING, MISSED is set or there is a way on
 abbrev pub BlockedDraining : Machine → Type 0
-BlockedDraining m =
-    (i : ℕ) (b : Blocked) → (seat_at m i).position ≡ BlockedDrain b → (m.qdisc.missed || has_way_on m (blocking_at b m.qdisc)) ≡ true
+BlockedDraining m = (i : ℕ) (b : Blocked) → (seat_at m i).position ≡ BlockedDrain b → (m.qdisc.missed || has_way_on m (blocking_at b m.qdisc)) ≡ true
 
 -- what a holder has looked at, or goes past, is not exposed while neither bit is set
 abbrev pub LookedClear : Machine → Type 0
-LookedClear m =
-    (i band : ℕ) → looked_below m.qdisc.purge (seat_at m i).position ≡ Some band → BitsClear m.qdisc → ClearBelow m band
+LookedClear m = (i band : ℕ) → looked_below m.qdisc.purge (seat_at m i).position ≡ Some band → BitsClear m.qdisc → ClearBelow m band
 
 -- the bands are looked at once more with DRAINING clear
 abbrev pub SecondScan : Machine → Type 0

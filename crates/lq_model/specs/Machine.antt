@@ -2,7 +2,7 @@
 use Rattle.std.specs.Prelude.{ℕ, ◌+◌, ◌*◌, Bool, true, false, ◌||◌, nat_lt, ◌==◌, if◌then◌else◌, List, [], ◌∷◌, length, slice_index, slice_index_or, replicate, Option, None}
 use Rattle.lq_model.specs.declared.machine.Packet.{Packet}
 use Rattle.lq_model.specs.declared.machine.Phase.{Phase}
-use Rattle.lq_model.specs.declared.machine.Phase.TheVariants.{Active, Closing, Quiet, Purged}
+use Rattle.lq_model.specs.declared.machine.Phase.TheVariants.{Active}
 use Rattle.lq_model.specs.declared.machine.Position.TheVariants.{Idle}
 use Rattle.lq_model.specs.declared.machine.Seat.{Seat}
 
@@ -63,9 +63,7 @@ band_at q band = slice_index_or q.bands band []
 
 abbrev pub is_closed : Phase → Bool
 is_closed Active = false
-is_closed Closing = true
-is_closed Quiet = true
-is_closed Purged = true
+is_closed _ = true
 
 -- SEATS
 

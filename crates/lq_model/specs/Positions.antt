@@ -7,7 +7,7 @@ use Rattle.lq_model.specs.declared.machine.Attempt.TheVariants.{Queued, Direct}
 use Rattle.lq_model.specs.declared.machine.Blocked.{Blocked}
 use Rattle.lq_model.specs.declared.machine.Blocked.TheVariants.{InHand, NoneTaken}
 use Rattle.lq_model.specs.declared.machine.Position.{Position}
-use Rattle.lq_model.specs.declared.machine.Position.TheVariants.{Idle, Enter, Check, Put, Try1, Miss, Try2, Recheck, Gate, Xmit, StoreXoff, Post, Deq, Scan, Test, ClearMissed, ClearDraining, BlockedClear, BlockedLoad, BlockedMiss, BlockedDrain, Again, Quota, Unlock, Tail, Sched, Leave, Soft, SoftClear, Late, Wake, Control}
+use Rattle.lq_model.specs.declared.machine.Position.TheVariants.{Idle, Enter, Check, Put, Try1, Miss, Try2, Recheck, Gate, Xmit, StoreXoff, Post, Scan, Test, ClearMissed, ClearDraining, BlockedClear, BlockedLoad, BlockedMiss, BlockedDrain, Unlock, Tail, Sched, Leave, Soft, SoftClear, Late, Wake, Control}
 use Rattle.lq_model.specs.declared.machine.Seat.{Seat}
 use Rattle.lq_model.specs.Machine.{Qdisc, Machine, Purge, bit, is_open, is_shared, band_at, seat_at}
 use Rattle.lq_model.specs.Steps.{queue_of_slot}
@@ -47,27 +47,24 @@ pub record BitsClear (q : Qdisc) : Type 0 where
 
 -- WHERE SEATS STAND
 
+-- from the step that gets the run lock to the step that releases it
 abbrev pub holds_lock : Position → Bool
+holds_lock Idle = false
+holds_lock (Enter call) = false
+holds_lock (Check p) = false
 holds_lock (Put p holds) = holds
-holds_lock (Recheck p) = true
-holds_lock (Gate p direct) = true
-holds_lock (Xmit p direct) = true
-holds_lock (StoreXoff queue hung direct) = true
-holds_lock Post = true
-holds_lock Deq = true
-holds_lock (Scan band second) = true
-holds_lock Test = true
-holds_lock ClearMissed = true
-holds_lock ClearDraining = true
-holds_lock (BlockedClear b) = true
-holds_lock (BlockedLoad b) = true
-holds_lock (BlockedMiss b) = true
-holds_lock (BlockedDrain b) = true
-holds_lock Again = true
-holds_lock Quota = true
-holds_lock Unlock = true
+holds_lock (Try1 attempt) = false
+holds_lock (Miss attempt) = false
+holds_lock (Try2 attempt) = false
+holds_lock (Tail inside) = false
+holds_lock (Sched inside) = false
+holds_lock Leave = false
+holds_lock Soft = false
+holds_lock (SoftClear deactivated) = false
+holds_lock Late = false
+holds_lock (Wake queue) = false
 holds_lock (Control holds) = holds
-holds_lock _ = false
+holds_lock _ = true
 
 -- between its enter and its leave
 abbrev pub is_inside : Position → Bool
@@ -144,6 +141,16 @@ may_be_inside position = not (is_inside position)
 
 -- WHAT A SEAT HAS
 
+-- the packet that a holder takes past the bands
+abbrev pub direct_packet : Position → Option Packet
+direct_packet (Gate p direct) = if direct then Some p else None
+direct_packet (Xmit p direct) = if direct then Some p else None
+direct_packet (BlockedClear (InHand p direct)) = if direct then Some p else None
+direct_packet (BlockedLoad (InHand p direct)) = if direct then Some p else None
+direct_packet (BlockedMiss (InHand p direct)) = if direct then Some p else None
+direct_packet (BlockedDrain (InHand p direct)) = if direct then Some p else None
+direct_packet _ = None
+
 -- the packet of a transmit, as long as its seat remembers it
 abbrev pub own_packet : Position → Option Packet
 own_packet (Enter (Transmit p)) = Some p
@@ -156,23 +163,7 @@ own_packet (Miss (Direct p)) = Some p
 own_packet (Try2 (Queued p)) = Some p
 own_packet (Try2 (Direct p)) = Some p
 own_packet (Recheck p) = Some p
-own_packet (Gate p direct) = if direct then Some p else None
-own_packet (Xmit p direct) = if direct then Some p else None
-own_packet (BlockedClear (InHand p direct)) = if direct then Some p else None
-own_packet (BlockedLoad (InHand p direct)) = if direct then Some p else None
-own_packet (BlockedMiss (InHand p direct)) = if direct then Some p else None
-own_packet (BlockedDrain (InHand p direct)) = if direct then Some p else None
-own_packet _ = None
-
--- the packet that a holder takes past the bands
-abbrev pub direct_packet : Position → Option Packet
-direct_packet (Gate p direct) = if direct then Some p else None
-direct_packet (Xmit p direct) = if direct then Some p else None
-direct_packet (BlockedClear (InHand p direct)) = if direct then Some p else None
-direct_packet (BlockedLoad (InHand p direct)) = if direct then Some p else None
-direct_packet (BlockedMiss (InHand p direct)) = if direct then Some p else None
-direct_packet (BlockedDrain (InHand p direct)) = if direct then Some p else None
-direct_packet _ = None
+own_packet position = direct_packet position
 
 -- what a holder has found stopped
 abbrev pub blocked : Position → Option Blocked
@@ -182,9 +173,9 @@ blocked (BlockedMiss b) = Some b
 blocked (BlockedDrain b) = Some b
 blocked _ = None
 
-abbrev pub is_in_hand : Blocked → Bool
-is_in_hand (InHand p direct) = true
-is_in_hand (NoneTaken queue) = false
+abbrev pub is_in_hand : Option Blocked → Bool
+is_in_hand (Some (InHand p direct)) = true
+is_in_hand _ = false
 
 abbrev pub in_hand_of : Blocked → Option Packet
 in_hand_of (InHand p direct) = Some p
@@ -208,11 +199,7 @@ needs_slot (Scan band second) = true
 needs_slot Test = true
 needs_slot ClearMissed = true
 needs_slot ClearDraining = true
-needs_slot (BlockedClear b) = is_in_hand b
-needs_slot (BlockedLoad b) = is_in_hand b
-needs_slot (BlockedMiss b) = is_in_hand b
-needs_slot (BlockedDrain b) = is_in_hand b
-needs_slot _ = false
+needs_slot position = is_in_hand (blocked position)
 
 -- its device hung in this call, and the stop words aren't all stored yet
 abbrev pub is_hanging : Position → Bool

@@ -3,7 +3,7 @@ use Rattle.std.specs.Prelude.{◌≡◌, ◌≢◌, ℕ, true, false, Some}
 use Rattle.lq_model.specs.declared.machine.Packet.{Packet}
 use Rattle.lq_model.specs.declared.machine.Answer.{Answer}
 use Rattle.lq_model.specs.declared.machine.Beginning.{Beginning}
-use Rattle.lq_model.specs.declared.machine.Beginning.TheVariants.{Transmits, Interrupts, Wakes, Controls}
+use Rattle.lq_model.specs.declared.machine.Beginning.TheVariants.{Transmits}
 use Rattle.lq_model.specs.declared.machine.ControlStep.{ControlStep}
 use Rattle.lq_model.specs.Machine.{Machine, is_open, seat_at}
 use Rattle.lq_model.specs.Steps.{is_idle, Steps, Begins}
@@ -15,9 +15,7 @@ use Rattle.lq_model.specs.Positions.{own_packet}
 -- a call of a seat may begin beside the others: of an owner one packet at a time is in a transmit
 abbrev pub IsFree : Beginning → ℕ → Machine → Type 0
 IsFree (Transmits p) i m = (j : ℕ) (r : Packet) → i ≢ j → own_packet (seat_at m j).position ≡ Some r → p.owner ≢ r.owner
-IsFree Interrupts i m = Unit {0}
-IsFree (Wakes queue) i m = Unit {0}
-IsFree Controls i m = Unit {0}
+IsFree _ i m = Unit {0}
 
 -- what one step may leave: of a seat, of a start, or of control
 pub data Moves (m m' : Machine) : Type 0 where

@@ -42,14 +42,12 @@ run_begins q s = record { qdisc = q; seat = record s { position = dequeue_begins
 
 abbrev pub lock_got : Attempt → Qdisc → Seat → After
 lock_got (Direct p) q s = goes_to q s (Recheck p)
-lock_got (Queued p) q s = run_begins q s
-lock_got Interrupt q s = run_begins q s
+lock_got _ q s = run_begins q s
 
 -- the answer is no: a packet that would go past the bands is put into its band
 abbrev pub gives_up : Attempt → Position
 gives_up (Direct p) = Put p false
-gives_up (Queued p) = Leave
-gives_up Interrupt = Leave
+gives_up _ = Leave
 
 abbrev pub try_lock : Attempt → Position → Qdisc → Seat → After
 try_lock attempt otherwise q s = if q.locked then goes_to q s otherwise else lock_got attempt (record q { locked = true }) s
@@ -59,8 +57,7 @@ miss attempt q s = if q.missed then goes_to q s (gives_up attempt) else goes_to 
 
 -- DEQUEUE
 
--- the queue whose stop word a dequeue loads first: that of the packet in the requeue slot; where the slot is
--- empty there is one queue, since with several a dequeue then begins at the bands
+-- the queue whose stop word a dequeue loads first: that of the packet in the requeue slot, or the only one
 abbrev pub queue_of_slot : Option Packet → ℕ
 queue_of_slot (Some p) = p.queue
 queue_of_slot None = 0
@@ -70,9 +67,7 @@ slot_taken (Some p) q s = goes_to (record q { slot = None }) s (Gate p false)
 slot_taken None q s = goes_to q s (Scan 0 false)
 
 abbrev pub deq : Qdisc → Seat → After
-deq q s =
-    if is_open q (queue_of_slot q.slot) then slot_taken q.slot q s
-    else goes_to q s (BlockedClear (NoneTaken (queue_of_slot q.slot)))
+deq q s = if is_open q (queue_of_slot q.slot) then slot_taken q.slot q s else goes_to q s (BlockedClear (NoneTaken (queue_of_slot q.slot)))
 
 -- after the last band: the first time the state is looked at, the second time the run ends
 abbrev pub after_band : ℕ → Bool → Position
@@ -131,9 +126,7 @@ joined_band p q = record q { bands = slice_set q.bands p.band (band_at q p.band 
 abbrev pub put_answered : Answer → Packet → Qdisc → Qdisc
 put_answered Plain p q = joined_band p q
 put_answered FullSlot p q = record q { full = one_more q.full }
-put_answered Stop p q = q
-put_answered Hang p q = q
-put_answered Busy p q = q
+put_answered _ p q = q
 
 abbrev pub after_put : Bool → Packet → Qdisc → Seat → After
 after_put holds p q s = if holds then run_begins q s else goes_to q s (Try1 (Queued p))
@@ -155,9 +148,7 @@ enter SoftInterrupt = Soft
 -- STOP AND WAKE
 
 abbrev pub wake : ℕ → Qdisc → Seat → After
-wake queue q s =
-    if slice_index q.xoff queue == 1 then goes_to (record q { xoff = slice_set q.xoff queue 0 }) s (Sched false)
-    else goes_to q s Idle
+wake queue q s = if slice_index q.xoff queue == 1 then goes_to (record q { xoff = slice_set q.xoff queue 0 }) s (Sched false) else goes_to q s Idle
 
 -- THE STEP AT EACH POSITION
 
@@ -216,9 +207,7 @@ is_at_device _ = false
 abbrev pub may_answer : Position → Answer → Qdisc → Bool
 may_answer position Plain q = may_step position && has_room position q
 may_answer position FullSlot q = may_be_full position q
-may_answer position Stop q = is_at_device position
-may_answer position Hang q = is_at_device position
-may_answer position Busy q = is_at_device position
+may_answer position _ q = is_at_device position
 
 -- STEPS OF THE MACHINE
 
@@ -241,10 +230,8 @@ is_idle Idle = true
 is_idle _ = false
 
 abbrev pub may_begin : Beginning → Seat → Bool
-may_begin (Transmits p) s = is_idle s.position
 may_begin Interrupts s = is_idle s.position && s.raised
-may_begin (Wakes queue) s = is_idle s.position
-may_begin Controls s = is_idle s.position
+may_begin _ s = is_idle s.position
 
 -- the raised mark is taken down as the soft interrupt begins
 abbrev pub begun : Beginning → Seat → Seat
