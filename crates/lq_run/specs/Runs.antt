@@ -10,7 +10,7 @@ use Rattle.lq_table.specs.Rule.{shown, IsResting}
 use Rattle.lq_table.specs.Told.{seen_by, scheduling, IsKnownSlot}
 use Rattle.lq_table.specs.Solo.{Solo, IsSole, IsAccounts, solo, missed_to, sched_set, locked_to}
 use Rattle.lq_table.specs.Made.{◌⊳◌, did_set_sched}
-use Rattle.lq_table.specs.Sees.{view, position, steps, slot, IsSameSeat}
+use Rattle.lq_table.specs.Sees.{view, position, steps, slot, IsSameSeat, IsElseSame}
 use Rattle.lq_table.specs.declared.shared.Cpu.{Cpu}
 
 -- where a dequeue begins
@@ -97,6 +97,6 @@ module _ {D : Type 0} where
   abbrev pub StaysRaised : Cpu D → Cpu D → Type 0
   StaysRaised b a = (view b).place.raised ≡ true → (view a).place.raised ≡ true
 
-  -- SCHED is set, and the seat raised where it was clear
+  -- SCHED is set, the seat raised where it was clear, and nothing else changes
   abbrev pub SetsSched : Cpu D → Cpu D → Type 0
-  SetsSched b a = (was : Bool) × (view a ≡ scheduling was (view b)) × (solo (view a) ≡ sched_set was (solo (view b))) × (IsSole (view b) → was ≡ (view b).whole.qdisc.sched) × (steps a ≡ steps b ⊳ did_set_sched was)
+  SetsSched b a = IsElseSame b a × (was : Bool) × (view a ≡ scheduling was (view b)) × (solo (view a) ≡ sched_set was (solo (view b))) × (IsSole (view b) → was ≡ (view b).whole.qdisc.sched) × (steps a ≡ steps b ⊳ did_set_sched was)

@@ -101,9 +101,8 @@ pub fn end_resize<'a, D: TxDevice>(shared: &Shared<'a, D>, cpu: &mut Cpu<D>)
     requires at { MayReleaseActive cpu.old }
     requires rests { Rests cpu.old }
     requires back { HasStation cpu.old }
-    ensures kept { IsElseKept cpu.old cpu.new × IsEventless cpu.old cpu.new }
+    ensures kept { IsElseKept cpu.old cpu.new × IsEventless cpu.old cpu.new × StaysRaised cpu.old cpu.new }
     ensures at { StandsWithoutStation AtIdle cpu.old cpu.new }
-    ensures raised { StaysRaised cpu.old cpu.new }
     ensures sole { IsSole (view cpu.old) → solo (view cpu.new) ≡ ended (solo (view cpu.old)) }
     ensures ends { EndsRun (known cpu.old) (known cpu.new) }
 {
@@ -119,8 +118,7 @@ pub fn end_resize<'a, D: TxDevice>(shared: &Shared<'a, D>, cpu: &mut Cpu<D>)
 pub fn schedule<'a, D: TxDevice>(shared: &Shared<'a, D>, cpu: &mut Cpu<D>)
     requires seat { IsSeatOf shared.now cpu.old }
     requires at { schedules (position cpu.old) ≡ true }
-    ensures same { IsElseSame cpu.old cpu.new }
-    ensures view { SetsSched cpu.old cpu.new }
+    ensures sets { SetsSched cpu.old cpu.new }
 {
     shared.set_sched(cpu);
 }
@@ -129,8 +127,7 @@ pub fn schedule<'a, D: TxDevice>(shared: &Shared<'a, D>, cpu: &mut Cpu<D>)
 pub fn unschedule<'a, D: TxDevice>(shared: &Shared<'a, D>, cpu: &mut Cpu<D>)
     requires seat { IsSeatOf shared.now cpu.old }
     requires at { clears_sched (position cpu.old) ≡ true }
-    ensures same { IsElseSame cpu.old cpu.new }
-    ensures clears { (view cpu.new ≡ passing (view cpu.old)) × (steps cpu.new ≡ steps cpu.old ⊳ did_clear_sched) }
+    ensures clears { IsElseSame cpu.old cpu.new × (view cpu.new ≡ passing (view cpu.old)) × (steps cpu.new ≡ steps cpu.old ⊳ did_clear_sched) }
     ensures step { solo (view cpu.new) ≡ sched_cleared (solo (view cpu.old)) }
 {
     shared.clear_sched(cpu);

@@ -11,7 +11,7 @@ pub returns-then-is_deactivated-clause-due : goal.returns-then-is_deactivated-cl
 returns-then-is_deactivated-clause-due g c =
     let v = view c.args.cpu.now in let first = c.load_state-first.result in let second = c.load_state.result in let l = c.load_state-first.ensures in let u = c.unschedule.ensures in let m = c.load_state.ensures in
     let on : is_set 2 first ≡ true = sym c.is_deactivated.ensures ∙ c.if-is_deactivated.true in
-    let is : view c.unschedule.new.cpu ≡ passing (looking first v) = u.clears.0 ∙ ap (λ (x : View). passing x) l.view in
+    let is : view c.unschedule.new.cpu ≡ passing (looking first v) = u.clears.1 ∙ ap (λ (x : View). passing x) l.view in
     let step = u.step ∙ ap sched_cleared l.step in (
       record {
         first = first;
@@ -26,14 +26,14 @@ returns-then-is_deactivated-clause-due g c =
           λ sole. (m.sole (subst IsSole (sym is) sole)).down ∙ ap (λ (x : View). is_some (account_of x).down) is,
         );
       },
-      (λ off. absurd (true≢false (sym on ∙ off)), λ _. m.made ∙ ap (λ (xs : List Made). xs ⊳ did_load_state second) (u.clears.1 ∙ ap (λ (xs : List Made). xs ⊳ did_clear_sched) l.made)),
+      (λ off. absurd (true≢false (sym on ∙ off)), λ _. m.made ∙ ap (λ (xs : List Made). xs ⊳ did_load_state second) (u.clears.2 ∙ ap (λ (xs : List Made). xs ⊳ did_clear_sched) l.made)),
     )
 
 pub returns-clause-due : goal.returns-clause-due
 returns-clause-due g c =
     let v = view c.args.cpu.now in let first = c.load_state-first.result in let l = c.load_state-first.ensures in let u = c.unschedule.ensures in
     let off : is_set 2 first ≡ false = sym c.is_deactivated.ensures ∙ c.if-is_deactivated.false in
-    let is : view c.unschedule.new.cpu ≡ passing (looking first v) = u.clears.0 ∙ ap (λ (x : View). passing x) l.view in (
+    let is : view c.unschedule.new.cpu ≡ passing (looking first v) = u.clears.1 ∙ ap (λ (x : View). passing x) l.view in (
       record {
         first = first;
         sees = l.sole;
@@ -41,5 +41,5 @@ returns-clause-due g c =
         active = λ _. (refl, is);
         deactivated = λ on. absurd (true≢false (sym on ∙ off));
       },
-      (λ _. u.clears.1 ∙ ap (λ (xs : List Made). xs ⊳ did_clear_sched) l.made, λ on. absurd (true≢false (sym on ∙ off))),
+      (λ _. u.clears.2 ∙ ap (λ (xs : List Made). xs ⊳ did_clear_sched) l.made, λ on. absurd (true≢false (sym on ∙ off))),
     )
