@@ -1,5 +1,5 @@
 -- Counts of packets by owner and station, along a capture.
-use Rattle.std.proofs.Common.{◌≡◌, ◌≢◌, ℕ, suc, ◌+◌, ◌*◌, ◌<◌, ◌&&◌, Bool, true, false, cond, arith, List, [], ◌∷◌, length, set, slice_index, nat_eq, count_by, refl, sym, ap, ◌∙◌, add-one, add-zero, zero-add}
+use Rattle.std.proofs.Common.{◌≡◌, ◌≢◌, ℕ, zero, suc, ◌+◌, ◌*◌, ◌<◌, ◌≤◌, ◌&&◌, Bool, true, false, cond, arith, List, [], ◌∷◌, length, set, slice_index, nat_eq, count_by, refl, sym, ap, ◌∙◌, add-one, add-zero, zero-add}
 use Rattle.std.proofs.lemmas.List.{get_or-set_other}
 use Rattle.std.proofs.lemmas.Grind.{get_or-set_at}
 use Rattle.std.proofs.Math.ListN.{length-set}
@@ -22,6 +22,20 @@ counted_more owner station i j n =
     let split : counted owner station i j (suc n) ≡ counted owner station i j n + (0 + cond (p n) 1 0) = sum_by-append (λ (m : ℕ). cond (p m) 1 0) (first_numbers n) (n ∷ []) in
     let step : counted owner station i j (n + 1) ≡ counted owner station i j (suc n) = ap (counted owner station i j) (add-one n) in
     step ∙ (split ∙ ap (λ (k : ℕ). counted owner station i j n + k) (zero-add (cond (p n) 1 0)))
+
+-- a packet counts once at most
+counts-once : (b : Bool) → cond b 1 0 ≤ 1
+counts-once true = omega arith
+counts-once false = omega arith
+
+pub counted-few : (owner station : ℕ → ℕ) (i j n : ℕ) → counted owner station i j n ≤ n
+counted-few owner station i j zero = omega arith
+counted-few owner station i j (suc n) =
+    let before = counted-few owner station i j n in
+    let once = counts-once (nat_eq (owner n) i && nat_eq (station n) j) in
+    let more : counted owner station i j (suc n) ≡ counted owner station i j n + cond (nat_eq (owner n) i && nat_eq (station n) j) 1 0 =
+    ap (counted owner station i j) (sym (add-one n)) ∙ counted_more owner station i j n in
+    omega arith
 
 -- where the packet has this owner and station, and where it has another one
 count-more :

@@ -4,8 +4,8 @@ pub mod Elements
 pub mod Lists
 -- counts of packets by owner and station
 pub mod Counts
--- what is known of the first packets
-pub mod Known
+-- the ranks that one pass gives
+pub mod Ranks
 -- the tables among the elements of an array
 pub mod Tables
 -- the faults of a document

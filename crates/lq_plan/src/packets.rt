@@ -1,13 +1,32 @@
 //! What each packet of a capture is to the rules.
-ghost use Rattle.std.specs.Prelude.{◌≡◌, ◌+◌, ◌*◌, ◌%◌, ◌<◌, All, IfOk, length, replicate, slice_index, slice_set, vec_len};
+ghost use Rattle.std.specs.Prelude.{◌≡◌, ◌+◌, ◌*◌, ◌%◌, ◌<◌, ◌≤◌, All, IfOk, OnOk, length, replicate, slice_index, slice_set, vec_len};
 ghost use Rattle.lq_model.specs.Plan.{info_of, infos_of};
-ghost use Rattle.lq_plan.specs.Packets.{IsInfoWithin};
+ghost use Rattle.lq_plan.specs.Packets.{AreUnranked, IsInfoWithin, IsUnranked, ranked};
 
 use crate::plan::{MAX_STATIONS, Plan};
 use lq_class::{band, classify};
 use lq_model::{Info, NoMemory, Split};
 use lq_pcap::Frames;
 use std::alloc::{AllocError, Global};
+use std::marker::Sync;
+use std::thread;
+use std::thread::Threads;
+
+/// How many threads look at the packets of a capture. It is a constant, since a look at the processors that there are would open a
+/// file that no word names.
+const THREADS: usize = 4;
+
+/// Fewer packets are looked at by the calling thread alone: to start threads would take longer.
+const FEW: usize = 4_096;
+
+/// What stands at a packet's place until it is looked at.
+const NONE: Info = Info {
+    rank: 0,
+    owner: 0,
+    station: 0,
+    band: 0,
+    queue: 0,
+};
 
 /// Of each packet, in the capture's order, its owner, station, band, queue and rank.
 ///
@@ -17,27 +36,68 @@ use std::alloc::{AllocError, Global};
 /// of net/sched/sch_generic.c chooses it. Its queue is its source byte modulo the station's queues. Its rank is how many
 /// lower packets have the same owner and station.
 ///
+/// Threads find all but the ranks, side by side, and one pass behind them counts these.
+///
 /// # NoMemory
 ///
 /// There was no room for an `Info` of each packet, and a count of each sender and station.
-pub fn infos<F: Frames>(alloc: Global, plan: &Plan, frames: &F) -> Result<Vec<Info>, NoMemory>
+pub fn infos<R: Threads + Sync, F: Frames + Sync>(
+    rt: &R,
+    alloc: Global,
+    plan: &Plan,
+    frames: &F,
+) -> Result<Vec<Info>, NoMemory>
     ensures infos { IfOk result (λ infos. infos.items ≡ infos_of plan.now (F.packets frames.now)) }
     ensures count { IfOk result (λ infos. vec_len infos ≡ (F.packets frames.now).count) }
     ensures within { IfOk result (λ infos. All (IsInfoWithin plan.now) infos.items) }
 {
-    let Ok(mut infos) = Vec::with_capacity(alloc, frames.len()) else {
+    let Ok(mut infos) = vec![in alloc; NONE; frames.len()] else {
         return Err(NoMemory);
     };
-    let Ok(mut counts) = no_packets(alloc, plan.senders()) else {
+    let each = infos.as_mut_slice();
+    lay_unranked(rt, plan, frames, each);
+    let Ok(()) = rank_in_order(alloc, plan.senders(), each) else {
         return Err(NoMemory);
     };
-    let counts: &mut [u32] = &mut counts;
-    for n in 0..frames.len() as u32 {
-        let mut info = unranked(plan, frames, n);
-        info.rank = next_rank(counts, info.owner as u32, info.station as u32);
-        infos.push_reserved(info);
-    }
     Ok(infos)
+}
+
+// Lays at each place what that packet is to the rules, but for its rank.
+fn lay_unranked<R: Threads + Sync, F: Frames + Sync>(
+    rt: &R,
+    plan: &Plan,
+    frames: &F,
+    infos: &mut [Info],
+)
+    requires count { length infos.old ≡ (F.packets frames.now).count }
+    requires few { length infos.old ≤ 1000000 }
+    ensures { AreUnranked plan.now (F.packets frames.now) infos.new }
+{
+    let threads = if infos.len() < FEW { 1 } else { THREADS };
+    thread::for_each_mut(
+        rt,
+        infos,
+        threads,
+        &|n, info: &mut Info|
+            requires { (n < (F.packets frames.now).count) × (n < 1000000) }
+            ensures { IsUnranked plan.entry.now (F.packets frames.entry.now) n info.new }
+        { *info = unranked(plan, frames, n as u32) },
+    );
+}
+
+// Gives each its rank: how many before it have the same owner and station.
+fn rank_in_order(alloc: Global, senders: u32, infos: &mut [Info]) -> Result<(), AllocError>
+    requires within { All (λ info. (info.owner < senders) × (info.station < 8)) infos.old }
+    requires few { length infos.old ≤ 1000000 }
+    ensures { OnOk result (infos.new ≡ ranked infos.old) }
+{
+    let mut counts = no_packets(alloc, senders)?;
+    let counts: &mut [u32] = &mut counts;
+    for n in 0..infos.len() {
+        let info = &mut infos[n];
+        info.rank = next_rank(counts, info.owner as u32, info.station as u32);
+    }
+    Ok(())
 }
 
 // For each owner a row of counts, with one for each station.
@@ -199,7 +259,12 @@ mod tests {
     #[test]
     fn splits_by_number_and_by_source(rt: HostRuntime) -> Result<(), Fail> {
         let capture = five_packets(rt.alloc())?;
-        let by_number = infos(rt.alloc(), &two_by_two(rt.alloc(), Split::Round)?, &capture)?;
+        let by_number = infos(
+            &rt,
+            rt.alloc(),
+            &two_by_two(rt.alloc(), Split::Round)?,
+            &capture,
+        )?;
         let expected = [
             info(0, 0, 1, 1, 0),
             info(1, 1, 0, 1, 0),
@@ -210,6 +275,7 @@ mod tests {
         assert_eq!(rt; by_number.as_slice(), expected.as_slice());
 
         let by_source = infos(
+            &rt,
             rt.alloc(),
             &two_by_two(rt.alloc(), Split::Source)?,
             &capture,

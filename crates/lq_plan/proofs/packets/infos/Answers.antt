@@ -1,20 +1,21 @@
-use Rattle.std.proofs.Common.{◌+◌, ◌++◌, ◌∷◌, [], arith, sym, subst}
-use Rattle.lq_plan.proofs.Known.{AreKnown, AreKnown-more}
+use Rattle.std.proofs.Common.{◌∙◌, All, arith, drop, length, subst, sym}
+use Rattle.std.proofs.lemmas.List.{take_at}
+use Rattle.lq_plan.specs.Packets.{IsInfoWithin}
+use Rattle.lq_plan.proofs.Ranks.{has-count, ranked-are, ranked-within}
 use Rattle.lq_plan.proofs.packets.infos.Goals as goal
 
-pub loop-n-preserved : goal.loop-n-preserved
-loop-n-preserved g c =
-    let n = c.loop-n.n in
-    let plan = c.args.plan.now in
-    let packets = g.F.Frames.packets c.args.frames.now in
-    let info = c.unranked-info.result in
-    let rank = c.next_rank.result in
-    let more = AreKnown-more plan packets n rank c.loop-n.infos.items c.loop-n.counts info c.loop-n.invariant.known
-    c.unranked-info.ensures.info c.unranked-info.ensures.within c.unranked-info.ensures.few_stations c.next_rank.ensures.rank in
-    record {
-      known =
-          subst (λ infos. AreKnown plan packets (n + 1) infos c.next_rank.new.counts) (sym c.push_reserved.ensures.items)
-          (subst (λ counts. AreKnown plan packets (n + 1) (c.loop-n.infos.items ++ record info { rank = rank } ∷ []) counts) (sym c.next_rank.ensures.counted) more);
-      len = omega arith;
-      room = omega arith;
-    }
+pub rank_in_order-requires-clause-within : goal.rank_in_order-requires-clause-within
+rank_in_order-requires-clause-within g c =
+    let counts = has-count c.args.plan.now (g.F.Frames.packets c.args.frames.now) c.lay_unranked.new.infos c.lay_unranked.ensures in
+    λ k d lt. (omega (arith, (counts k d lt).0, c.senders.ensures.senders), (counts k d lt).1)
+
+pub returns-clause-infos : goal.returns-clause-infos
+returns-clause-infos g c =
+    take_at c.rank_in_order.new.infos (drop (length c.rank_in_order.new.infos) c.in-Ok.infos.items) c.in-Ok.infos.len
+    (omega (arith, c.rank_in_order.auto.infos, c.lay_unranked.auto.infos, c.as_mut_slice-each.ensures.len))
+    ∙ (c.in-Ok-rank_in_order.ensures ∙ ranked-are c.args.plan.now (g.F.Frames.packets c.args.frames.now) c.lay_unranked.new.infos c.lay_unranked.ensures)
+
+pub returns-clause-within : goal.returns-clause-within
+returns-clause-within g c =
+    subst (All (IsInfoWithin c.args.plan.now)) (sym (returns-clause-infos g c))
+    (ranked-within c.args.plan.now (g.F.Frames.packets c.args.frames.now) c.lay_unranked.new.infos c.lay_unranked.ensures)
