@@ -1,9 +1,10 @@
 -- The run of one sender over all stations of a plan without events: its fates are settled.
-use Rattle.std.proofs.Common.{◌≡◌, ◌≢◌, ℕ, zero, suc, ◌+◌, ◌%◌, ◌<◌, ◌≤◌, ◌==◌, List, [], ◌∷◌, ◌++◌, ◌⊎◌, inl, inr, length, map, filter, Option, Some, None, nat_le, slice_get, refl, sym, ap, ap₂, subst, ◌∙◌, arith, length-append}
+use Rattle.std.proofs.Common.{◌≡◌, ◌≢◌, ℕ, zero, suc, ◌+◌, ◌%◌, ◌<◌, ◌≤◌, ◌==◌, List, [], ◌∷◌, ◌++◌, ◌⊎◌, inl, inr, length, map, filter, Option, Some, None, nat_le, slice_get, refl, sym, ap, ap₂, subst, ◌∙◌, arith}
 use Rattle.std.specs.Option.{option_and_then, option_map, option_map_or, unwrap_or}
-use Rattle.std.proofs.lemmas.Bool.{cases_lt, cond_both}
+use Rattle.std.proofs.lemmas.Bool.{cond_both}
 use Rattle.std.proofs.lemmas.List.{length-map, map-append}
 use Rattle.std.proofs.lemmas.Option.{same_Some, slice_get_cases, slice_get-map}
+use Rattle.lq_model.proofs.FirstNumbers.{first-at, length-first_numbers}
 use Rattle.lq_model.specs.Account.{Account, held}
 use Rattle.lq_model.specs.Alone.{RunningStation, after_packets, after_run, alone, before_of, brought_in, bypass_of, changed_at, events_before, events_after, fate_in, run_fates, finished, new_station, new_stations, opened, served, with_events, with_packet, with_turn, with_wakes}
 use Rattle.lq_model.specs.Numbers.{first_numbers}
@@ -55,29 +56,6 @@ new-some k (s ∷ ss) (suc j) y e = let rest = new-some (k + 1) ss j y e in (res
 length-new : (k : ℕ) (ss : List StationPlan) → length (new_stations k ss) ≡ length ss
 length-new k [] = refl
 length-new k (s ∷ ss) = ap suc (length-new (k + 1) ss)
-
-get-left : (xs ys : List ℕ) (n x : ℕ) → slice_get xs n ≡ Some x → slice_get (xs ++ ys) n ≡ Some x
-get-left [] ys n x e = cc
-get-left (y ∷ xs) ys zero x e = e
-get-left (y ∷ xs) ys (suc n) x e = get-left xs ys n x e
-
-get-end : (xs : List ℕ) (x : ℕ) → slice_get (xs ++ x ∷ []) (length xs) ≡ Some x
-get-end [] x = refl
-get-end (y ∷ xs) x = get-end xs x
-
-length-first : (n : ℕ) → length (first_numbers n) ≡ n
-length-first zero = refl
-length-first (suc n) = (let before = length-first n in omega (arith, length-append (first_numbers n) (n ∷ [])))
-
-first-at : (count n : ℕ) → n < count → slice_get (first_numbers count) n ≡ Some n
-first-at zero n below = absurd (omega arith)
-first-at (suc count) n below = by_place (λ lower. first-at count n lower) (cases_lt n count)
-  where
-    by_place : (n < count → slice_get (first_numbers count) n ≡ Some n) → (n < count) ⊎ (count ≤ n) → slice_get (first_numbers count ++ count ∷ []) n ≡ Some n
-    by_place before (inl lower) = get-left (first_numbers count) (count ∷ []) n n (before lower)
-    by_place before (inr last) =
-        let same : count ≡ n = omega arith in
-        ap (slice_get (first_numbers count ++ count ∷ [])) (sym same ∙ sym (length-first count)) ∙ get-end (first_numbers count) count ∙ ap Some same
 
 -- each of the first numbers has a value
 all-some : (f : ℕ → Option Fate) (count : ℕ) → ((n : ℕ) → n < count → f n ≡ Some (unwrap_or (f n) (Full 0)))
@@ -184,7 +162,7 @@ module _ (plan : Plan) (infos : List Info) (plain : IsPlain plan infos) where
   fates-are n within = slice_get-map _ (first_numbers (length infos)) n ∙ ap (option_map (λ n. unwrap_or (fate_in ended infos n) (Full 0))) (first-at (length infos) n within)
 
   one-fate-each : length fates ≡ length infos
-  one-fate-each = length-map (first_numbers (length infos)) _ ∙ length-first (length infos)
+  one-fate-each = length-map (first_numbers (length infos)) _ ∙ length-first_numbers (length infos)
 
   settled-station : (j : ℕ) (s : RunningStation) → j < length plan.stations → slice_get ended j ≡ Some s → IsSettledStation plan infos fates j s.account
   settled-station j s below at =

@@ -1,10 +1,11 @@
 -- Counts of fates, with one packet more.
-use Rattle.std.proofs.Common.{◌≡◌, ◌≢◌, ◌<◌, ◌≤◌, ◌+◌, ◌^◌, ◌++◌, ◌∷◌, [], ℕ, zero, suc, Bool, true, false, cond, eqb, ◌&&◌, List, length, map, take, refl, sym, ap, ◌∙◌, subst, arith, inl, inr, eq-eqb, get_or, set, length-append, All, replicate}
+use Rattle.std.proofs.Common.{◌≡◌, ◌≢◌, ◌<◌, ◌≤◌, ◌+◌, ◌^◌, ◌++◌, ◌∷◌, [], ℕ, zero, suc, Bool, true, false, cond, eqb, ◌&&◌, List, length, map, take, refl, sym, ap, ◌∙◌, subst, arith, inl, inr, eq-eqb, get_or, set, All, replicate}
 use Rattle.std.specs.Prelude.{count_by}
 use Rattle.std.specs.List.{flat_map, zip}
-use Rattle.std.proofs.lemmas.List.{map-append, same_lists, get_or-set_same, get_or-set_other, length-set, get_or_append_left, get_or_push, take_more, length-take-le, length-replicate, get_or-replicate, flat_map_more}
+use Rattle.std.proofs.lemmas.List.{get_or-set_same, get_or-set_other, length-set, take_more, length-take-le, length-replicate, get_or-replicate, flat_map_more}
 use Rattle.std.proofs.lemmas.List.Sums.{sum_by_push, count_by-le-length}
-use Rattle.std.proofs.lemmas.Bool.{cases_lt, cases_eq, ne_eqb}
+use Rattle.std.proofs.lemmas.Bool.{cases_eq, ne_eqb}
+use Rattle.lq_model.proofs.FirstNumbers.{at_number, length_for_each, list_for_each, same_for_each}
 use Rattle.lq_model.specs.Numbers.{first_numbers}
 use Rattle.lq_model.specs.Texts.{count_at, counts_text, unit_line, station_line, is_full, is_purged, is_refused, is_sent, is_sent_by, is_shrunk}
 use Rattle.lq_model.specs.declared.fate.Fate.{Fate}
@@ -15,32 +16,6 @@ use Rattle.lq_fates.specs.declared.counts.Counts.{Counts}
 use Rattle.lq_fates.specs.Counts.{AreCounts, AreWithOne, CanCount, CanCountOneMore, counted_unsent, counted_by_station, counted_by_unit, none_unsent, station_lines, station_text, total_text, unit_lines, unit_text, unsent_of}
 
 -- WHAT A FUNCTION GIVES FOR EACH NUMBER BELOW ONE
-
-pub length_for_each : {A : Type 0} (f : ℕ → A) (n : ℕ) → length (map f (first_numbers n)) ≡ n
-length_for_each f zero = refl
-length_for_each f (suc n) = ap length (map-append f (first_numbers n) (n ∷ [])) ∙ omega (arith, length-append (map f (first_numbers n)) (f n ∷ []), length_for_each f n)
-
-pub at_number : {A : Type 0} (f : ℕ → A) (n i : ℕ) (d : A) → i < n → get_or (map f (first_numbers n)) i d ≡ f i
-at_number f zero i d lt = absurd (omega arith)
-at_number f (suc n) i d lt =
-    let len : length (map f (first_numbers n)) ≡ n = length_for_each f n in
-    ap (λ xs. get_or xs i d) (map-append f (first_numbers n) (n ∷ []))
-    ∙ elim (cases_lt i n) [
-      | inl before ↦ (get_or_append_left (map f (first_numbers n)) (f n ∷ []) d i (omega arith) ∙ at_number f n i d before)
-      | inr after ↦ (let same : n ≡ i = omega arith in get_or_push (map f (first_numbers n)) (f n) d i (len ∙ same) ∙ ap f same)
-    ]
-
-pub same_for_each : {A : Type 0} (f g : ℕ → A) (n : ℕ) → ((k : ℕ) → k < n → f k ≡ g k) → map f (first_numbers n) ≡ map g (first_numbers n)
-same_for_each f g zero same = refl
-same_for_each f g (suc n) same =
-    map-append f (first_numbers n) (n ∷ []) ∙ ap (λ xs. xs ++ f n ∷ []) (same_for_each f g n (λ k lt. same k (omega arith))) ∙ ap (λ x. map g (first_numbers n) ++ x ∷ []) (same n (omega arith))
-    ∙ sym (map-append g (first_numbers n) (n ∷ []))
-
--- a list that gives the same for each
-pub list_for_each : {A : Type 0} (f : ℕ → A) (xs : List A) (n : ℕ) → length xs ≡ n → ((k : ℕ) (d : A) → k < n → get_or xs k d ≡ f k) → xs ≡ map f (first_numbers n)
-list_for_each f xs n len gives =
-    let all : length (map f (first_numbers n)) ≡ n = length_for_each f n in
-    same_lists xs (map f (first_numbers n)) (len ∙ sym all) (λ k d lt. gives k d (omega arith) ∙ sym (at_number f n k d (omega arith)))
 
 -- another value at one number
 set_for_one : {A : Type 0} (f g : ℕ → A) (n i : ℕ) (y : A) → ((k : ℕ) → k ≢ i → f k ≡ g k) → (i < n → y ≡ g i) → set (map f (first_numbers n)) i y ≡ map g (first_numbers n)

@@ -1,16 +1,13 @@
 -- What is generated is a capture of just the records that are generated.
-use Rattle.std.proofs.Common.{◌≡◌, ◌≤◌, ◌∷◌, [], ℕ, zero, suc, List, length, map, Result, refl, sym, subst, arith, length-append, IsOkAnd, lit≤}
+use Rattle.std.proofs.Common.{◌≡◌, ◌≤◌, ◌∷◌, [], ℕ, List, length, map, Result, refl, sym, subst, arith, IsOkAnd, lit≤}
 use Rattle.std.specs.List.{AllByRecursion}
+use Rattle.lq_model.proofs.FirstNumbers.{length-first_numbers}
 use Rattle.lq_model.specs.Numbers.{first_numbers}
 use Rattle.lq_model.specs.Capture.{Capture, Refusal, capture_of, header_of, is_little_endian, records_of, short_number_at}
 use Rattle.lq_model.specs.Generated.{generated_capture, generated_header, generated_record}
 use Rattle.lq_pcap.specs.Laws.{HasFileHeader}
 use Rattle.lq_pcap.proofs.Acceptance.{is_accepted}
 use Rattle.lq_pcap.proofs.Written.{IsRecord, is_written, text_of}
-
-length-first_numbers : (n : ℕ) → length (first_numbers n) ≡ n
-length-first_numbers zero = refl
-length-first_numbers (suc n) = (let len = length-append (first_numbers n) (n ∷ []) in let before = length-first_numbers n in omega arith)
 
 every : (P : ℕ → Type 0) → ((x : ℕ) → P x) → (xs : List ℕ) → AllByRecursion P xs
 every P all [] = tt

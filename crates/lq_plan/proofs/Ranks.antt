@@ -1,38 +1,16 @@
 -- Ranks that are counted in the order of a list, and those of a capture's packets.
-use Rattle.std.proofs.Common.{◌≡◌, ℕ, zero, suc, ◌+◌, ◌*◌, ◌<◌, ◌≤◌, ◌&&◌, Bool, cond, arith, List, [], ◌∷◌, ◌++◌, Some, All, count_by, drop, get_or, length, map, nat_eq, set, slice_get, slice_index, take, refl, sym, ap, ap₂, ◌∙◌, add-one, subst, inl, inr, length-append, add-zero}
+use Rattle.std.proofs.Common.{◌≡◌, ℕ, zero, suc, ◌+◌, ◌*◌, ◌<◌, ◌≤◌, ◌&&◌, Bool, cond, arith, List, [], ◌∷◌, ◌++◌, Some, All, count_by, drop, get_or, length, map, nat_eq, set, slice_get, slice_index, take, refl, sym, ap, ap₂, ◌∙◌, add-one, subst, add-zero}
 use Rattle.std.specs.Option.{option_map_or}
-use Rattle.std.proofs.lemmas.Bool.{cases_lt}
-use Rattle.std.proofs.lemmas.List.{drop-drop, drop-set-lt, get_or-drop, get_or_append_left, get_or_push, map-append, take_more_set}
+use Rattle.std.proofs.lemmas.List.{drop-drop, drop-set-lt, get_or-drop, map-append, take_more_set}
 use Rattle.std.proofs.lemmas.List.Sums.{sum_by-append}
 use Rattle.std.proofs.lemmas.Option.{slice_get-get_or}
+use Rattle.lq_model.proofs.FirstNumbers.{at_number, length_for_each, same_for_each}
 use Rattle.lq_model.specs.Capture.{Packets}
 use Rattle.lq_model.specs.Numbers.{first_numbers}
 use Rattle.lq_model.specs.Plan.{Plan, owner_of, station_of, owner_in, station_in, rank_of, info_of, infos_of}
 use Rattle.lq_model.specs.declared.fate.Info.{Info}
 use Rattle.lq_plan.specs.Packets.{AreUnranked, IsInfoWithin, IsUnranked, ranked, ranked_at}
 use Rattle.lq_plan.proofs.Counts.{AreCounts, AreCounts-more, counted, counted-few}
-
--- WHAT A FUNCTION GIVES FOR EACH NUMBER BELOW ONE
-
-length-each : {A : Type 0} (f : ℕ → A) (n : ℕ) → length (map f (first_numbers n)) ≡ n
-length-each f zero = refl
-length-each f (suc n) = ap length (map-append f (first_numbers n) (n ∷ [])) ∙ omega (arith, length-append (map f (first_numbers n)) (f n ∷ []), length-each f n)
-
-each-at : {A : Type 0} (f : ℕ → A) (n i : ℕ) (d : A) → i < n → get_or (map f (first_numbers n)) i d ≡ f i
-each-at f zero i d lt = absurd (omega arith)
-each-at f (suc n) i d lt =
-    let len : length (map f (first_numbers n)) ≡ n = length-each f n in
-    ap (λ xs. get_or xs i d) (map-append f (first_numbers n) (n ∷ []))
-    ∙ elim (cases_lt i n) [
-      | inl before ↦ (get_or_append_left (map f (first_numbers n)) (f n ∷ []) d i (omega arith) ∙ each-at f n i d before)
-      | inr after ↦ (let same : n ≡ i = omega arith in get_or_push (map f (first_numbers n)) (f n) d i (len ∙ same) ∙ ap f same)
-    ]
-
-same-each : {A : Type 0} (f g : ℕ → A) (n : ℕ) → ((k : ℕ) → k < n → f k ≡ g k) → map f (first_numbers n) ≡ map g (first_numbers n)
-same-each f g zero same = refl
-same-each f g (suc n) same =
-    map-append f (first_numbers n) (n ∷ []) ∙ ap (λ xs. xs ++ f n ∷ []) (same-each f g n (λ k lt. same k (omega arith))) ∙ ap (λ x. map g (first_numbers n) ++ x ∷ []) (same n (omega arith))
-    ∙ sym (map-append g (first_numbers n) (n ∷ []))
 
 same-count : (p q : ℕ → Bool) (n : ℕ) → ((m : ℕ) → m < n → p m ≡ q m) → count_by p (first_numbers n) ≡ count_by q (first_numbers n)
 same-count p q zero same = refl
@@ -141,12 +119,12 @@ module _ (plan : Plan) (packets : Packets) (infos : List Info) (are : AreUnranke
 
   -- with their ranks they are what the packets are to the rules
   pub ranked-are : ranked infos ≡ infos_of plan packets
-  ranked-are = ap (λ k. map (ranked_at infos) (first_numbers k)) are.count ∙ same-each (ranked_at infos) (info_of plan packets) packets.count info-at
+  ranked-are = ap (λ k. map (ranked_at infos) (first_numbers k)) are.count ∙ same_for_each (ranked_at infos) (info_of plan packets) packets.count info-at
 
   pub ranked-within : All (IsInfoWithin plan) (infos_of plan packets)
   ranked-within k e lt =
-      let below : k < packets.count = omega (arith, length-each (info_of plan packets) packets.count) in
-      subst (IsInfoWithin plan) (sym (each-at (info_of plan packets) packets.count k e below)) (within-at k below)
+      let below : k < packets.count = omega (arith, length_for_each (info_of plan packets) packets.count) in
+      subst (IsInfoWithin plan) (sym (at_number (info_of plan packets) packets.count k e below)) (within-at k below)
 
   -- each has a count
   pub has-count : All (λ (info : Info). (info.owner < plan.senders) × (info.station < 8)) infos

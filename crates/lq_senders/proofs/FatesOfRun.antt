@@ -12,7 +12,7 @@ use Rattle.lq_account.proofs.Trails.{have-all-come, no-swap-after-hang}
 use Rattle.lq_account.specs.Accounts.{AreSettledStations, IsClosed}
 use Rattle.lq_account.specs.Progress.{start_of}
 use Rattle.lq_account.specs.Trail.{trail_of, IsTrail, HaveCome}
-use Rattle.lq_fates.proofs.CountLemmas.{list_for_each}
+use Rattle.lq_model.proofs.FirstNumbers.{list_for_each}
 use Rattle.lq_fates.proofs.SentLemmas.{count_is, sent_is}
 use Rattle.lq_model.specs.Account.{Account, Event, after_all, held}
 use Rattle.lq_model.specs.Alone.{alone, after_run, fate_in, new_stations, run_fates}

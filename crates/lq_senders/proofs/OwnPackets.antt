@@ -1,14 +1,14 @@
 -- The stations of the run of one sender don't meet.
-use Rattle.std.proofs.Common.{◌≡◌, ℕ, zero, suc, ◌+◌, ◌%◌, ◌==◌, inl, inr, Bool, true, false, cond, List, [], ◌∷◌, length, map, Option, Some, None, slice_get, refl, sym, ap, subst, ◌∙◌, arith, eqb-true, length-append}
+use Rattle.std.proofs.Common.{◌≡◌, ℕ, zero, suc, ◌+◌, ◌%◌, ◌==◌, Bool, true, false, cond, List, [], ◌∷◌, length, map, Option, Some, None, slice_get, refl, sym, ap, subst, ◌∙◌, eqb-true}
 use Rattle.std.specs.Option.{option_and_then, option_map, option_map_or}
 use Rattle.std.proofs.lemmas.Bool.{eqb-false}
 use Rattle.std.proofs.lemmas.Option.{slice_get-map}
+use Rattle.lq_model.proofs.FirstNumbers.{first-is}
 use Rattle.lq_model.specs.Alone.{RunningStation, after_packets, after_run, alone, bypass_of, brought_in, changed, changed_at, changed_where, events_after, events_before, fate_in, finished, new_stations, opened, run_fates, served, with_event, with_events, with_packet, with_wakes}
 use Rattle.lq_model.specs.Numbers.{first_numbers}
 use Rattle.lq_model.specs.Plan.{Plan, is_at, station_in}
 use Rattle.lq_model.specs.declared.fate.Info.{Info}
 use Rattle.lq_model.specs.declared.plan.EventPlan.{EventPlan}
-use Rattle.lq_account.proofs.Lists.{get-push-cases}
 use Rattle.lq_senders.specs.OwnPackets.{after_packets_at, after_run_at, alone_at, with_packet_at}
 use Rattle.lq_senders.proofs.Seats.{changed-apart}
 
@@ -90,24 +90,13 @@ fates-alike plan infos n = ap (option_and_then (λ (s : RunningStation). s.accou
 
 -- NUMBERS
 
-pub length-numbers : (n : ℕ) → length (first_numbers n) ≡ n
-length-numbers zero = refl
-length-numbers (suc n) = (let before = length-numbers n in omega (arith, length-append (first_numbers n) (n ∷ [])))
-
-pub number-at : (count n k : ℕ) → slice_get (first_numbers count) n ≡ Some k → n ≡ k
-number-at zero n k there = absurd cc
-number-at (suc count) n k there = elim (get-push-cases (first_numbers count) count k n there) [
-  | inl was ↦ number-at count n k was
-  | inr new ↦ new.0 ∙ (length-numbers count ∙ new.1)
-]
-
 -- two functions on the first numbers that agree at one
 agree-at : {X : Type 0} (f g : ℕ → X) (count n : ℕ) → f n ≡ g n → AgreeAt n (map f (first_numbers count)) (map g (first_numbers count))
 agree-at f g count n same = slice_get-map f (first_numbers count) n ∙ (go (slice_get (first_numbers count) n) refl ∙ sym (slice_get-map g (first_numbers count) n))
   where
     go : (o : Option ℕ) → slice_get (first_numbers count) n ≡ o → option_map f o ≡ option_map g o
     go None is = refl
-    go (Some k) is = ap Some (subst (λ i. f i ≡ g i) (number-at count n k is) same)
+    go (Some k) is = ap Some (subst (λ i. f i ≡ g i) (first-is count n k is) same)
 
 pub own_fates : (plan : Plan) (infos : List Info) (n : ℕ) → slice_get (alone_at plan infos (station_in infos n)) n ≡ slice_get (alone plan infos) n
 unfolding run_fates alone_at

@@ -1,11 +1,12 @@
 -- The packets of a capture under a plan are numbered by rank.
-use Rattle.std.proofs.Common.{◌≡◌, inl, inr, ℕ, zero, suc, ◌+◌, ◌<◌, ◌≤◌, ◌&&◌, ◌==◌, Bool, true, List, [], ◌∷◌, ◌++◌, length, map, take, Some, refl, sym, ap, ◌∙◌, subst, cond, arith, slice_get, count_by, length-append, eq-eqb}
+use Rattle.std.proofs.Common.{◌≡◌, inl, inr, ℕ, zero, suc, ◌+◌, ◌<◌, ◌≤◌, ◌&&◌, ◌==◌, Bool, true, List, [], ◌∷◌, length, map, take, Some, refl, sym, ap, ◌∙◌, subst, cond, arith, slice_get, count_by, eq-eqb}
 use Rattle.std.proofs.lemmas.Bool.{and_from, cases_order}
 use Rattle.std.proofs.lemmas.List.{length-map, take-append-le, take-map, take_all}
 use Rattle.std.proofs.lemmas.List.Sums.{sum_by-cons, count_by_more_yes}
 use Rattle.std.proofs.lemmas.Option.{get_or_from_slice_get, same_Some, slice_get_cases, slice_get_within}
 use Rattle.std.specs.Option.{option_map_or}
 use Rattle.lq_control.specs.Finish.{AreRanks, count_below, is_packet_of}
+use Rattle.lq_model.proofs.FirstNumbers.{first-at, length-first_numbers}
 use Rattle.lq_model.specs.Capture.{Packets}
 use Rattle.lq_model.specs.Numbers.{first_numbers}
 use Rattle.lq_model.specs.Plan.{Plan, AreRanked, info_of, infos_of, owner_in, owner_of, queues_at, rank_in, station_in, station_of}
@@ -17,37 +18,14 @@ use Rattle.lq_senders.proofs.Seats.{all-at, mapped-at}
 
 -- NUMBERS
 
-pub length-numbers : (n : ℕ) → length (first_numbers n) ≡ n
-length-numbers zero = refl
-length-numbers (suc n) = let more = length-numbers n in omega (arith, length-append (first_numbers n) (n ∷ []))
-
 take-numbers : (n k : ℕ) → k ≤ n → take k (first_numbers n) ≡ first_numbers k
 take-numbers zero zero le = refl
 take-numbers zero (suc k) le = absurd (omega arith)
 take-numbers (suc n) k le = elim (cases_order k (suc n)) [
-  | inl same ↦ subst (λ m. take m (first_numbers (suc n)) ≡ first_numbers m) (sym same) (take_all (suc n) (first_numbers (suc n)) (let long = length-numbers (suc n) in omega arith))
-  | inr (inl less) ↦ take-append-le k (first_numbers n) (n ∷ []) (let long = length-numbers n in omega arith) ∙ take-numbers n k (omega arith)
+  | inl same ↦ subst (λ m. take m (first_numbers (suc n)) ≡ first_numbers m) (sym same) (take_all (suc n) (first_numbers (suc n)) (let long = length-first_numbers (suc n) in omega arith))
+  | inr (inl less) ↦ take-append-le k (first_numbers n) (n ∷ []) (let long = length-first_numbers n in omega arith) ∙ take-numbers n k (omega arith)
   | inr (inr more) ↦ absurd (omega arith)
 ]
-
-number-at : (n k : ℕ) → k < n → slice_get (first_numbers n) k ≡ Some k
-number-at zero k below = absurd (omega arith)
-number-at (suc n) k below = elim (cases_order k n) [
-  | inl same ↦ subst (λ m. slice_get (first_numbers (suc n)) m ≡ Some m) (sym same) (last-at (first_numbers n) n (length-numbers n))
-  | inr (inl less) ↦ earlier (first_numbers n) n k (number-at n k less)
-  | inr (inr more) ↦ absurd (omega arith)
-]
-  where
-    last-at : {X : Type 0} (xs : List X) {x : X} (m : ℕ) → length xs ≡ m → slice_get (xs ++ x ∷ []) m ≡ Some x
-    last-at [] zero long = refl
-    last-at [] (suc m) long = absurd (omega arith)
-    last-at (y ∷ ys) zero long = absurd (omega arith)
-    last-at (y ∷ ys) (suc m) long = last-at ys m (omega arith)
-
-    earlier : {X : Type 0} (xs : List X) (x : X) (m : ℕ) {y : X} → slice_get xs m ≡ Some y → slice_get (xs ++ x ∷ []) m ≡ Some y
-    earlier [] x m there = cc
-    earlier (z ∷ zs) x zero there = there
-    earlier (z ∷ zs) x (suc m) there = earlier zs x m there
 
 -- COUNTS
 
@@ -71,8 +49,8 @@ pub infos-have-ranks : (plan : Plan) (packets : Packets) → AreRanks (infos_of 
 infos-have-ranks plan packets n info there =
     let f = info_of plan packets in
     let within : n < length (first_numbers packets.count) = subst (λ k. n < k) (length-map (first_numbers packets.count) f) (slice_get_within (infos_of plan packets) n info there) in
-    let below : n < packets.count = subst (λ k. n < k) (length-numbers packets.count) within in
-    let is : info ≡ f n = same_Some info (f n) (sym there ∙ mapped-at f (first_numbers packets.count) n n (number-at packets.count n below)) in
+    let below : n < packets.count = subst (λ k. n < k) (length-first_numbers packets.count) within in
+    let is : info ≡ f n = same_Some info (f n) (sym there ∙ mapped-at f (first_numbers packets.count) n n (first-at packets.count n below)) in
     let counted : (owner station : ℕ) → count_below (infos_of plan packets) owner station n ≡ count_by (λ m. (owner_of plan packets m == owner) && (station_of plan packets m == station)) (first_numbers n) =
     λ owner station. ap (count_by (is_packet_of owner station)) (take-map f n (first_numbers packets.count) ∙ ap (map f) (take-numbers packets.count n (omega arith)))
     ∙ count-map (is_packet_of owner station) f (first_numbers n) in

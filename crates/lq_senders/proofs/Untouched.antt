@@ -3,6 +3,7 @@ use Rattle.std.proofs.Common.{◌≡◌, ◌≢◌, ℕ, zero, suc, ◌+◌, ◌
 use Rattle.std.specs.Prelude.{is_some, nat_lt, option_to_list, slice_index}
 use Rattle.std.specs.Option.{option_and_then, option_map, option_map_or}
 use Rattle.std.proofs.lemmas.Option.{same_Some, slice_get-map}
+use Rattle.lq_model.proofs.FirstNumbers.{first-is, length-first_numbers}
 use Rattle.lq_model.specs.Account.{Account, Event, Pick, Take, Purge, Down, Resize, Wake, Fates, after, held, held_in, with_fates, is_hung}
 use Rattle.lq_model.specs.Alone.{RunningStation, changed, changed_where, cleaned, deactivated, events_after, events_before, fate_in, finished, finished_rounds, is_done, is_left, new_station, new_stations, next_taken, opened, opened_up_to, served, served_turns, taken_served, turns_of, with_event, with_events, with_packet, with_wakes}
 use Rattle.lq_model.specs.Plan.{Plan, is_at, station_in}
@@ -16,7 +17,7 @@ use Rattle.lq_model.specs.declared.plan.EventPlan.{EventPlan}
 use Rattle.lq_model.specs.declared.plan.StationPlan.{StationPlan}
 use Rattle.lq_senders.specs.OwnPackets.{after_packets_at, after_run_at, alone_at, with_packet_at}
 use Rattle.lq_model.specs.Numbers.{first_numbers}
-use Rattle.lq_senders.proofs.OwnPackets.{at-where, number-at, length-numbers}
+use Rattle.lq_senders.proofs.OwnPackets.{at-where}
 use Rattle.lq_senders.proofs.Seats.{changed-apart}
 use Rattle.lq_senders.proofs.Turns.{event-there}
 
@@ -224,6 +225,6 @@ pub other_fates : (plan : Plan) (infos : List Info) (station n : ℕ) → n < le
 unfolding alone_at
 other_fates plan infos station n within other =
     let run = after_run_at plan infos station (new_stations 0 plan.stations) in
-    let k = event-there (first_numbers (length infos)) n (let long = length-numbers (length infos) in omega arith) in
+    let k = event-there (first_numbers (length infos)) n (let long = length-first_numbers (length infos) in omega arith) in
     slice_get-map (fate_in run infos) (first_numbers (length infos)) n ∙ (ap (option_map (fate_in run infos)) k.1
-    ∙ ap Some (ap (fate_in run infos) (sym (number-at (length infos) n k.0 k.1)) ∙ fate-none plan infos station n other))
+    ∙ ap Some (ap (fate_in run infos) (sym (first-is (length infos) n k.0 k.1)) ∙ fate-none plan infos station n other))

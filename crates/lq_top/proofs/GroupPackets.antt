@@ -1,12 +1,12 @@
 -- What the children of a group sent, as one list.
-use Rattle.std.proofs.Common.{◌≡◌, ◌<◌, ◌≤◌, ◌+◌, ◌-◌, ◌++◌, ◌∷◌, ◌==◌, [], ℕ, zero, suc, Bool, cond, ◌&&◌, eqb, leb, ltb, List, length, map, Some, slice_get, slice_index_or, All, refl, sym, ap, ap₂, ◌∙◌, subst, inl, inr, arith, count_by}
+use Rattle.std.proofs.Common.{◌≡◌, ◌<◌, ◌≤◌, ◌+◌, ◌-◌, ◌∷◌, ◌==◌, [], ℕ, zero, suc, Bool, cond, ◌&&◌, eqb, leb, ltb, List, length, map, Some, slice_get, slice_index_or, All, refl, sym, ap, ap₂, ◌∙◌, subst, inl, inr, arith, count_by}
 use Rattle.std.specs.List.{sum_by}
 use Rattle.std.specs.Option.{option_map}
-use Rattle.std.proofs.lemmas.Bool.{cases_lt}
 use Rattle.std.proofs.lemmas.Bool.Decides.{nat_tests}
 use Rattle.std.proofs.lemmas.List.{length-map, map-append}
 use Rattle.std.proofs.lemmas.List.Sums.{sum_by-append, sum_by-cons}
 use Rattle.std.proofs.lemmas.Option.{same_Some, slice_get-map, slice_get_within}
+use Rattle.lq_model.proofs.FirstNumbers.{first-at, length-first_numbers}
 use Rattle.lq_model.specs.Numbers.{first_numbers}
 use Rattle.lq_model.specs.Plan.{Plan, first_at, mq_at}
 use Rattle.lq_model.specs.Sent.{first_passing, is_sent_as, sent_of}
@@ -19,30 +19,7 @@ use Rattle.lq_mq.specs.Joint.{joint}
 use Rattle.lq_mq.specs.Laws.{IsBefore, HasAtSerial}
 use Rattle.lq_mq.proofs.Order.{Pairs, each-all, each-is-sent, each-map, once, pairs-all, pairs-in-order, pairs-map, stands-in}
 use Rattle.lq_mq.proofs.Serials.{joint-length, subsequences}
-use Rattle.lq_top.proofs.TextLemmas.{length-first_numbers}
 use Rattle.lq_top.specs.Groups.{AreOfGroup, IsChildOf, IsSentBefore, IsSentByGroup, is_sent_between, sent_by_children, sent_by_group}
-
--- THE FIRST NUMBERS
-
-at-front : (xs ys : List ℕ) (i : ℕ) → i < length xs → slice_get (xs ++ ys) i ≡ slice_get xs i
-at-front [] ys i lt = absurd (omega arith)
-at-front (x ∷ xs) ys zero lt = refl
-at-front (x ∷ xs) ys (suc i) lt = at-front xs ys i (omega arith)
-
-at-end : (xs : List ℕ) (y : ℕ) → slice_get (xs ++ y ∷ []) (length xs) ≡ Some y
-at-end [] y = refl
-at-end (x ∷ xs) y = at-end xs y
-
-first-at : (count n : ℕ) → n < count → slice_get (first_numbers count) n ≡ Some n
-first-at zero n lt = absurd (omega arith)
-first-at (suc count) n lt = elim (cases_lt n count) [
-  | inl below ↦ at-front (first_numbers count) (count ∷ []) n (subst (λ k. n < k) (sym (length-first_numbers count)) below) ∙ first-at count n below
-  | inr above ↦ (
-      let same : n ≡ count = omega arith in
-      subst (λ k. slice_get (first_numbers count ++ count ∷ []) k ≡ Some k) (sym same)
-      (subst (λ k. slice_get (first_numbers count ++ count ∷ []) k ≡ Some count) (length-first_numbers count) (at-end (first_numbers count) count))
-      )
-]
 
 -- WHAT ITS CHILDREN SENT
 

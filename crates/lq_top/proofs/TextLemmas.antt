@@ -1,8 +1,9 @@
 -- How many packets a capture has, and the packets that a unit sent.
-use Rattle.std.proofs.Common.{◌≡◌, ◌<◌, ◌≤◌, ◌∷◌, [], ℕ, zero, suc, List, All, length, refl, sym, ◌∙◌, subst, length-append, arith, get_or, slice_get, Some}
+use Rattle.std.proofs.Common.{◌≡◌, ◌<◌, ◌≤◌, ℕ, List, All, length, sym, ◌∙◌, subst, arith, get_or, slice_get, Some}
 use Rattle.std.proofs.lemmas.List.{length-map}
 use Rattle.std.proofs.lemmas.List.Elements.{All-from_get_or}
 use Rattle.std.proofs.lemmas.Option.{slice_get-get_or, slice_get_within}
+use Rattle.lq_model.proofs.FirstNumbers.{length-first_numbers}
 use Rattle.lq_model.specs.Capture.{Packets}
 use Rattle.lq_model.specs.Numbers.{first_numbers}
 use Rattle.lq_model.specs.Plan.{Plan, infos_of, info_of}
@@ -11,10 +12,6 @@ use Rattle.lq_model.specs.Settled.{AreSerials, IsSentList}
 use Rattle.lq_model.specs.declared.fate.Fate.{Fate}
 use Rattle.lq_model.specs.declared.fate.Fate.TheVariants.{Sent}
 use Rattle.lq_fates.proofs.SentLemmas.{sent_is}
-
-pub length-first_numbers : (n : ℕ) → length (first_numbers n) ≡ n
-length-first_numbers zero = refl
-length-first_numbers (suc n) = omega (arith, length-append (first_numbers n) (n ∷ []), length-first_numbers n)
 
 -- there is an info of each packet
 pub length-infos_of : (plan : Plan) (packets : Packets) → length (infos_of plan packets) ≡ packets.count
