@@ -90,7 +90,7 @@ requeues (NoneTaken queue) q s = goes_to q s Unlock
 
 -- DIRECT TRANSMIT AND RUN
 
--- how many packets the run has sent with one more, of which its quota is 64
+-- how many packets the run has sent with one more, at most its quota
 abbrev pub run_counted : ℕ → ℕ
 run_counted n = if nat_lt n (QUOTA - 1) then n + 1 else QUOTA
 

@@ -5,6 +5,7 @@ use Rattle.lq_model.specs.Positions.{in_hand}
 use Rattle.lq_model.specs.declared.fate.Fate.{Fate}
 use Rattle.lq_model.specs.declared.machine.Position.{Position}
 use Rattle.lq_model.specs.declared.machine.Position.TheVariants.{Quota}
+use Rattle.lq_model.specs.declared.state.TheConstants.{QUOTA}
 use Rattle.lq_run.specs.Runs.{begins}
 use Rattle.lq_table.specs.Views.{View}
 use Rattle.lq_table.specs.Told.{backing, fate_sent, passing, setting}
@@ -34,9 +35,9 @@ directs_fates (through.Back why.Stopped) n queue old new d = fates_same old new 
 directs_fates (through.Back why.Busy) n queue old new d = fates_same old new d.settled
 
 -- where the quota is reached, MISSED is set
-pub set_at_quota : (v : View) → v.place.position ≡ position_in_run v → v.place.run ≡ 64 → setting v ≡ passing v
+pub set_at_quota : (v : View) → v.place.position ≡ position_in_run v → v.place.run ≡ QUOTA → setting v ≡ passing v
 set_at_quota v at run =
-    ap (λ (y : Position). if is_some (in_hand y) then backing v else passing v) (at ∙ ap (λ (k : ℕ). if k == 64 then Quota else begins v) run)
+    ap (λ (y : Position). if is_some (in_hand y) then backing v else passing v) (at ∙ ap (λ (k : ℕ). if k == QUOTA then Quota else begins v) run)
 
-pub laid_at_quota : (v : View) (w : Solo) → v.place.position ≡ position_in_run v → v.place.run ≡ 64 → laid v w ≡ w
-laid_at_quota v w at run = ap (λ (y : Position). if is_some (in_hand y) then heard Back w else w) (at ∙ ap (λ (k : ℕ). if k == 64 then Quota else begins v) run)
+pub laid_at_quota : (v : View) (w : Solo) → v.place.position ≡ position_in_run v → v.place.run ≡ QUOTA → laid v w ≡ w
+laid_at_quota v w at run = ap (λ (y : Position). if is_some (in_hand y) then heard Back w else w) (at ∙ ap (λ (k : ℕ). if k == QUOTA then Quota else begins v) run)

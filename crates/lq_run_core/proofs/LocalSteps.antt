@@ -16,6 +16,7 @@ use Rattle.lq_model.specs.declared.machine.Position.TheVariants.{Idle, Enter, Ch
 use Rattle.lq_model.specs.declared.machine.Seat.{Seat}
 use Rattle.lq_model.specs.declared.machine.ControlStep.{ControlStep}
 use Rattle.lq_model.specs.declared.machine.ControlStep.TheVariants.{Return, GetLock, RunEnd, Release, SetDeactivated, ClearDeactivated, LoadInside, PurgeSlot, PurgeBand, PurgeMissed, PurgeDraining, Resize, StoreOpen, OpenQueue}
+use Rattle.lq_model.specs.declared.state.TheConstants.{QUOTA}
 use Rattle.lq_model.specs.Control.{control_at, may_control, is_control, holds_as_control, is_sole, purge_band, purge_missed, purge_draining, looks_at_bands, is_after_bands, band_purged}
 use Rattle.lq_model.specs.Quiet.{IsFree, Moves}
 use Rattle.lq_model.specs.Quiet.Moves.{steps, begins, controls}
@@ -53,7 +54,7 @@ dequeues q =
 
 pub sends : (q : Qdisc) (s : Seat) (direct : Bool) → Sends q direct (after_sent direct q s)
 sends q s true = local.sent_directly
-sends q s false = if-cases (Sends q false) (s.run == 64) _ _ (λ _. local.sent_quota) (λ _. local.sent_on (dequeue_begins q) (dequeues q))
+sends q s false = if-cases (Sends q false) (s.run == QUOTA) _ _ (λ _. local.sent_quota) (λ _. local.sent_on (dequeue_begins q) (dequeues q))
 
 abbrev Leads : Bool → (Packet → Type 0) → Position → Qdisc → Seat → After → Type 0
 Leads sole free position q s after = Local sole free q s position after

@@ -1,5 +1,6 @@
 use Rattle.std.proofs.Common.{◌≡◌, ℕ, ◌+◌, ap, sym, ◌∙◌, subst, arith, add-zero, Option, refl}
 use Rattle.std.specs.Prelude.{is_none, if◌then◌else◌}
+use Rattle.lq_model.specs.declared.state.TheConstants.{QUOTA}
 use Rattle.lq_table.specs.Sees.{view, known, setup}
 use Rattle.lq_table.specs.Told.{IsKnownSlot}
 use Rattle.lq_qdisc.specs.Steps.{SendsBy}
@@ -35,7 +36,7 @@ loop-sent-preserved g c =
 pub returns-clause-ran : goal.returns-clause-ran
 returns-clause-ran g c =
     let old = c.loop-sent.invariant in let m = c.loop-sent.cpu in let set = c.set_missed.ensures in
-    let all : c.loop-sent.sent ≡ 64 = omega arith in record {
+    let all : c.loop-sent.sent ≡ QUOTA = omega arith in record {
       last = known m;
       sent = subst (λ (n : ℕ). SendsBy (setup c.args.shared.now) n (known c.args.cpu.now) (known m)) all old.sent;
       share = old.kept.share;
@@ -66,6 +67,6 @@ returns-in-Some-clause-alone g c = λ knows sender active.
 
 pub returns-clause-alone : goal.returns-clause-alone
 returns-clause-alone g c = λ knows sender active.
-    let k = setup c.args.shared.now in let ran : Ran = record { end = Quota; sent = 64 } in
+    let k = setup c.args.shared.now in let ran : Ran = record { end = Quota; sent = QUOTA } in
     runs_alone k c.args.shared.now.infos.now (view c.args.cpu.now) c.requires.seat.2 sender active (λ other. accounts_slot (view c.args.cpu.now) (knows other)) ran (view c.set_missed.new.cpu)
     (runs_view k ran (known c.args.cpu.now) (known c.set_missed.new.cpu) (returns-clause-ran g c))
