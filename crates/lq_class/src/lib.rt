@@ -107,6 +107,3 @@ fn tos_priority(tos: u8) -> u8
 {
     PRIORITIES[usize::from((tos & TOS_MASK) >> 1)]
 }
-
-#[cfg(test)]
-mod tests;

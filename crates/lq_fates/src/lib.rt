@@ -15,6 +15,3 @@ pub use laws::sent_is_that_list;
 pub use lq_model::{Cause, Fate, Info, NoMemory};
 pub use sent::sent_of;
 pub use text::{push_bytes, push_counted, push_number};
-
-#[cfg(test)]
-mod tests;

@@ -11,6 +11,3 @@ pub use laws::joint_has_each_list;
 pub use line::mq_text;
 pub use lq_model::NoMemory;
 pub use merge::joint;
-
-#[cfg(test)]
-mod tests;

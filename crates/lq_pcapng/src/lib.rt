@@ -32,6 +32,3 @@ pub use lq_model::{CaptureReason, NoMemory};
 pub use lq_pcap::CaptureRefusal;
 pub use reader::read_pcapng;
 pub use writer::{push_block, push_section};
-
-#[cfg(test)]
-mod tests;

@@ -30,6 +30,3 @@ pub use packets::infos;
 pub use plan::Plan;
 pub use reader::read_plan;
 pub use refusal::PlanRefusal;
-
-#[cfg(test)]
-mod tests;

@@ -5,8 +5,6 @@
 
 mod ring;
 mod slots;
-#[cfg(test)]
-mod tests;
 mod three;
 
 pub use ring::{Full, Ring, RingRefusal};

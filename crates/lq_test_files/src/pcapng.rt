@@ -1,8 +1,6 @@
 // Captures in the pcapng format by hand, and what reading them answers.
-use crate::{CaptureReason, CaptureRefusal, NgCapture, push_block, push_section, read_pcapng};
-use std::alloc::Global;
+use lq_pcapng::{CaptureReason, CaptureRefusal, NgCapture, push_block, push_section, read_pcapng};
 use std::process::Abort;
-use std::test::Fail;
 
 // Little-endian: a section header block, an interface of Ethernet with a snapshot length of 262,144, and an enhanced
 // packet block of a frame of 34 bytes.
@@ -26,8 +24,9 @@ const TWO_INTERFACES: [u8; 164] = [
     26, 0, 0, 0, 0, 0, 40, 0, 0, 0, 5, 0, 0, 0, 16, 1, 2, 3, 4, 0, 0, 0, 16,
 ];
 
-fn read(alloc: Global, bytes: &[u8]) -> Result<NgCapture, Fail> {
-    Ok(read_pcapng(alloc, Vec::from_slice(alloc, bytes)?)?)
+fn read(rt: &(impl Abort + AllocGlobal), bytes: &[u8]) -> NgCapture {
+    let bytes = Vec::from_slice(rt.alloc(), bytes).expect(rt, "memory");
+    read_pcapng(rt.alloc(), bytes).ok().expect(rt, "a capture")
 }
 
 // How many packets the bytes have, or why they are no capture.
@@ -84,40 +83,47 @@ fn each_byte_that_is_tested(rt: HostRuntime) {
     }
 }
 
-#[test]
-fn big_endian_with_two_interfaces(rt: HostRuntime) -> Result<(), Fail> {
-    let capture = read(rt.alloc(), &TWO_INTERFACES)?;
-    assert_eq!(rt; (capture.len(), capture.interface_count()), (2, 2));
-    assert_eq!(rt; capture.is_little_endian(), false);
-    if capture.len() == 2 {
-        assert_eq!(rt;
-            (capture.frame(0), capture.link_of(0)),
-            (&[11u8, 12, 13, 14, 15][..], 1)
-        );
-        assert_eq!(rt;
-            (capture.frame(1), capture.link_of(1)),
-            (&[21u8, 22, 23, 24, 25, 26][..], 101)
-        );
-    }
-    Ok(())
-}
+// The packets of the two interfaces, each with the link type of its own.
+const PACKETS: [(&[u8], u32); 2] = [(&[11, 12, 13, 14, 15], 1), (&[21, 22, 23, 24, 25, 26], 101)];
 
 #[test]
-fn written_behind_all_interfaces(rt: HostRuntime) -> Result<(), Fail> {
-    let capture = read(rt.alloc(), &TWO_INTERFACES)?;
+fn big_endian_with_two_interfaces(rt: HostRuntime) {
+    let capture = read(&rt, &TWO_INTERFACES);
+    assert_eq!(rt; (capture.len(), capture.interface_count()), (2, 2));
+    assert!(rt; !capture.is_little_endian());
+    for i in 0..capture.len() {
+        let packet = (capture.frame(i), capture.link_of(i));
+        assert_eq!(rt; Some(&packet), PACKETS.get(i), "packet {i}");
+    }
+}
+
+// The section of a capture, and these of its packets.
+fn written(rt: &(impl Abort + AllocGlobal), capture: &NgCapture, packets: &[usize]) -> Vec<u8> {
     let mut out = Vec::new(rt.alloc());
-    push_section(&mut out, &capture)?;
-    for i in [1usize, 0] {
-        if i < capture.len() {
-            push_block(&mut out, &capture, i)?;
+    push_section(&mut out, capture).expect(rt, "memory");
+    for i in packets {
+        if *i < capture.len() {
+            push_block(&mut out, capture, *i).expect(rt, "memory");
         }
     }
-    // The second interface and the packets as they were, the second packet first, and no block of another type.
-    let mut want = Vec::from_slice(rt.alloc(), &TWO_INTERFACES[..16])?;
-    want.extend_from_slice(&[0xff; 8])?;
-    want.extend_from_slice(&TWO_INTERFACES[24..52])?;
-    want.extend_from_slice(&TWO_INTERFACES[88..148])?;
-    want.extend_from_slice(&TWO_INTERFACES[52..76])?;
+    out
+}
+
+// These parts of the bytes of two interfaces, each from its first byte to before its last, but no length of the section.
+fn without_length(rt: &(impl Abort + AllocGlobal), parts: &[(usize, usize)]) -> Vec<u8> {
+    let mut bytes = Vec::from_slice(rt.alloc(), &TWO_INTERFACES[..16]).expect(rt, "memory");
+    bytes.extend_from_slice(&[0xff; 8]).expect(rt, "memory");
+    for (from, to) in parts {
+        let part = TWO_INTERFACES.get(*from..*to).unwrap_or(&[]);
+        bytes.extend_from_slice(part).expect(rt, "memory");
+    }
+    bytes
+}
+
+// The second interface and the packets as they were, the second packet first, and no block of another type.
+#[test]
+fn written_behind_all_interfaces(rt: HostRuntime) {
+    let out = written(&rt, &read(&rt, &TWO_INTERFACES), &[1, 0]);
+    let want = without_length(&rt, &[(24, 52), (88, 148), (52, 76)]);
     assert_eq!(rt; out.as_slice(), want.as_slice());
-    Ok(())
 }

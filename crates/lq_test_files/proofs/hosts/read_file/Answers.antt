@@ -1,5 +1,5 @@
 use Rattle.lq_host.proofs.HostLemmas.{opened-reader, advanced-reader, reader-is_some}
-use Rattle.lq_host.proofs.tests.read_file.Goals as goal
+use Rattle.lq_test_files.proofs.hosts.read_file.Goals as goal
 
 pub read-requires-clause-reader : goal.read-requires-clause-reader
 read-requires-clause-reader g c = opened-reader _ (g.H.Host.state c.open_read.new.self) c.in_ok-h.h c.args.name.now 0 c.in_ok-h.ensures.ok

@@ -1,7 +1,7 @@
 use Rattle.std.proofs.Common.{◌≡◌, [], ◌∷◌, ℕ, List, zero, suc, ap, sym, slice_get, Some}
 use Rattle.lq_model.specs.declared.fate.Fate.{Fate}
 use Rattle.lq_model.specs.declared.fate.Fate.TheVariants.{Sent, Full}
-use Rattle.lq_fates.proofs.tests.sent_packets_stand_in_order_of_serial.Goals as goal
+use Rattle.lq_test_files.proofs.fates.sent_packets_stand_in_order_of_serial.Goals as goal
 
 abbrev fates : List Fate
 fates = Sent 1 1 ∷ Full 0 ∷ Sent 0 0 ∷ Sent 1 0 ∷ []

@@ -1,8 +1,8 @@
 //! Batches of stale slots, unconsume and resize, slot by slot.
 ghost use Rattle.std.specs.Prelude.{◌≡◌, ◌+◌, ◌<◌, IfOk};
 
-use crate::{Dropped, Full, Ring, RingRefusal, resize_three};
 use lq_model::batch;
+use lq_ring_core::{Dropped, Full, Ring, RingRefusal, resize_three};
 use std::process::Abort;
 use std::test::Fail;
 

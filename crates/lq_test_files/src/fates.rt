@@ -1,5 +1,5 @@
 //! The lines of fates and counts, and the packets of a unit in order of serial.
-use crate::{Cause, Fate, Info, counts_text, fates_text, sent_of};
+use lq_fates::{Cause, Fate, Info, counts_text, fates_text, sent_of};
 
 // Each kind of fate; unit 1 sent packet 7 before packet 0.
 const FATES: [Fate; 9] = [

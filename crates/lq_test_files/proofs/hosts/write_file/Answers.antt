@@ -1,6 +1,6 @@
 use Rattle.lq_host.specs.Host.{Writes}
 use Rattle.lq_host.proofs.HostLemmas.{opened-writer, opened-is_some}
-use Rattle.lq_host.proofs.tests.write_file.Goals as goal
+use Rattle.lq_test_files.proofs.hosts.write_file.Goals as goal
 
 pub write-requires : goal.write-requires
 write-requires g c = opened-writer _ (g.H.Host.state c.create.new.self) c.in_ok-h.h c.args.name.now c.in_ok-h.ensures.ok

@@ -1,6 +1,7 @@
 //! Captures cut at each length, in both byte orders, and generated.
-use crate::{
-    CaptureReason, CaptureRefusal, Places, gen_capture, push_header, push_record, read_capture,
+use lq_pcap::{
+    Capture, CaptureReason, CaptureRefusal, Places, gen_capture, push_header, push_record,
+    read_capture,
 };
 use std::process::Abort;
 
@@ -77,40 +78,57 @@ fn three_packets_cut_to_each_length(rt: HostRuntime) {
     }
 }
 
+// A header of another version, and one that begins as a file of gzip does.
+const OTHER_VERSION: [u8; 24] = [
+    0xd4, 0xc3, 0xb2, 0xa1, 3, 0, 4, 0, 0, 0, 0, 0, 0, 0, 0, 0, 0, 0, 4, 0, 1, 0, 0, 0,
+];
+
+const GZIP: [u8; 24] = [
+    0x1f, 0x8b, 8, 0, 3, 0, 4, 0, 0, 0, 0, 0, 0, 0, 0, 0, 0, 0, 4, 0, 1, 0, 0, 0,
+];
+
+// A capture of one record of 262,144 bytes and so many more, as its header says.
+fn long_record(rt: &(impl Abort + AllocGlobal), more: u8) -> Vec<u8> {
+    let mut long = Vec::from_slice(rt.alloc(), &HEADER).expect(rt, "memory");
+    long.extend_from_slice(&[0, 0, 0, 0, 0, 0, 0, 0, more, 0, 4, 0, 0, 0, 4, 0])
+        .expect(rt, "memory");
+    long.resize(262_184, 7).expect(rt, "memory");
+    long
+}
+
 #[test]
 fn headers_and_lengths(rt: HostRuntime) {
-    let mut other_version = HEADER;
-    other_version[4] = 3;
     assert_eq!(rt;
-        answer(&rt, &other_version),
+        answer(&rt, &OTHER_VERSION),
         refused(CaptureReason::Version, 4)
     );
-    let mut gzip = other_version;
-    gzip[..4].copy_from_slice(&[0x1f, 0x8b, 8, 0]);
-    assert_eq!(rt; answer(&rt, &gzip), refused(CaptureReason::Magic, 0));
+    assert_eq!(rt; answer(&rt, &GZIP), refused(CaptureReason::Magic, 0));
+    assert_eq!(rt; answer(&rt, &long_record(&rt, 0)), Ok(1));
+    assert_eq!(rt;
+        answer(&rt, &long_record(&rt, 1)),
+        refused(CaptureReason::LongRecord, 24)
+    );
+}
 
-    let mut long = Vec::from_slice(rt.alloc(), &HEADER).expect(&rt, "memory");
-    long.extend_from_slice(&[0, 0, 0, 0, 0, 0, 0, 0, 0, 0, 4, 0, 0, 0, 4, 0])
-        .expect(&rt, "memory");
-    long.resize(262_184, 7).expect(&rt, "memory");
-    assert_eq!(rt; answer(&rt, &long), Ok(1));
-    if let Some(byte) = long.get_mut(32) {
-        *byte = 1;
+// The capture as it is written again.
+fn written_again(rt: &(impl Abort + AllocGlobal), capture: &Capture) -> Vec<u8> {
+    let mut out = Vec::new(rt.alloc());
+    push_header(&mut out, capture).expect(rt, "memory");
+    for i in 0..capture.len() {
+        push_record(&mut out, capture, i).expect(rt, "memory");
     }
-    assert_eq!(rt; answer(&rt, &long), refused(CaptureReason::LongRecord, 24));
+    out
 }
 
 #[test]
 fn big_endian_written_again(rt: HostRuntime) {
     let bytes = Vec::from_slice(rt.alloc(), &BIG_ENDIAN).expect(&rt, "memory");
-    let Ok(capture) = read_capture(rt.alloc(), bytes) else {
-        panic!(rt; "no capture");
-    };
+    let capture = read_capture(rt.alloc(), bytes)
+        .ok()
+        .expect(&rt, "a capture");
     assert_eq!(rt; (capture.len(), capture.link()), (1, 1));
     assert_eq!(rt; capture.frame(0), &BIG_ENDIAN[40..]);
-    let mut out = Vec::new(rt.alloc());
-    assert_eq!(rt; push_header(&mut out, &capture), Ok(()));
-    assert_eq!(rt; push_record(&mut out, &capture, 0), Ok(()));
+    let out = written_again(&rt, &capture);
     assert_eq!(rt; out.as_slice(), &BIG_ENDIAN[..]);
 }
 
@@ -124,16 +142,16 @@ fn two_generated_packets(rt: HostRuntime) {
     assert_eq!(rt; answer(&rt, &text), Ok(2));
 }
 
+const PLACES: [usize; 5] = [24, u32::MAX as usize, u32::MAX as usize + 1, 30, usize::MAX];
+
 #[test]
 fn places_on_both_sides_of_4_gib(rt: HostRuntime) {
-    let last_near = u32::MAX as usize;
-    let given = [24, last_near, last_near + 1, 30, usize::MAX];
     let mut places = Places::new(rt.alloc());
-    for place in given {
-        assert_eq!(rt; places.push(place), Ok(()));
+    for place in PLACES {
+        places.push(place).expect(&rt, "memory");
     }
-    assert_eq!(rt; places.len(), given.len());
-    for (i, place) in given.into_iter().enumerate() {
-        assert_eq!(rt; places.at(i), place);
+    assert_eq!(rt; places.len(), PLACES.len());
+    for i in 0..places.len() {
+        assert_eq!(rt; Some(&places.at(i)), PLACES.get(i), "place {i}");
     }
 }
