@@ -61,7 +61,7 @@ fn run_once<R: Runtime + AllocGlobal + Wait + Threads + Sync>(
     if status != Status::Done {
         return Err("a run that isn't done".into());
     }
-    Ok(check_run(alloc, &host, plan.as_bytes(), &capture)?)
+    Ok(check_run(rt, alloc, &host, plan.as_bytes(), &capture)?)
 }
 
 /// A round: a run of each plan. It answers how many packets were sent.

@@ -9,6 +9,8 @@ use lq_host::MemHost;
 use lq_pcap::{Capture, Frames as _, read_capture};
 use lq_plan::{Plan, infos, read_plan};
 use std::alloc::{AllocError, Global};
+use std::marker::Sync;
+use std::thread::Threads;
 
 /// How many packets came to each end.
 #[derive(Clone, Copy)]
@@ -214,7 +216,8 @@ fn check_files(
 }
 
 /// Checks all files of a run with the output name `o` of this plan and this capture, and its counts: how many packets were sent.
-pub fn check_run(
+pub fn check_run<R: Threads + Sync>(
+    rt: &R,
     alloc: Global,
     host: &MemHost,
     plan: &[u8],
@@ -226,7 +229,7 @@ pub fn check_run(
     let Ok(capture) = read_capture(alloc, capture.to_vec(alloc)?) else {
         return Err(Flaw::Input);
     };
-    let Ok(packets) = infos(alloc, &plan, &capture) else {
+    let Ok(packets) = infos(rt, alloc, &plan, &capture) else {
         return Err(Flaw::NoMemory);
     };
     let text = host.file("o.fates").ok_or(Flaw::Text)?;

@@ -6,7 +6,9 @@ use lq_test_fixture::{
     records_of,
 };
 use std::alloc::Global;
+use std::marker::Sync;
 use std::test::Fail;
+use std::thread::Threads;
 
 /// A station of its own, 0, and a root over stations 1 and 2. The rings of station 0 get two slots before packet 2 and one again
 /// before packet 4; it is deactivated by event 2 and activated before packet 8, and event 4 swaps its device, unit 0, for unit
@@ -98,7 +100,7 @@ fn text_with(alloc: Global, changes: Changes<'_>) -> Result<String, Fail> {
 }
 
 /// What the check says of a run with this text and no capture of a unit.
-fn flaw_in(alloc: Global, text: &str) -> Result<Option<Flaw>, Fail> {
+fn flaw_in<R: Threads + Sync>(rt: &R, alloc: Global, text: &str) -> Result<Option<Flaw>, Fail> {
     let frames = PACKETS
         .iter()
         .map(|(frame, _)| *frame)
@@ -106,12 +108,16 @@ fn flaw_in(alloc: Global, text: &str) -> Result<Option<Flaw>, Fail> {
     let capture = capture_of(alloc, &frames)?;
     let mut host = MemHost::new(alloc);
     host.put_file("o.fates", text.as_bytes())?;
-    Ok(check_run(alloc, &host, PLAN, &capture).err())
+    Ok(check_run(rt, alloc, &host, PLAN, &capture).err())
 }
 
-fn flaw_with(alloc: Global, changes: Changes<'_>) -> Result<Option<Flaw>, Fail> {
+fn flaw_with<R: Threads + Sync>(
+    rt: &R,
+    alloc: Global,
+    changes: Changes<'_>,
+) -> Result<Option<Flaw>, Fail> {
     let text = text_with(alloc, changes)?;
-    flaw_in(alloc, text.as_str())
+    flaw_in(rt, alloc, text.as_str())
 }
 
 /// A wrong line in the place of a packet's own, and what is wrong then.
@@ -185,12 +191,16 @@ const MISSED: Flaw = Flaw::Capture(0);
 #[test]
 fn refuses_each_wrong_line(rt: HostRuntime) -> Result<(), Fail> {
     let alloc = rt.alloc();
-    assert_eq!(rt; flaw_with(alloc, &[])?, Some(MISSED));
+    assert_eq!(rt; flaw_with(&rt, alloc, &[])?, Some(MISSED));
     for (n, line, flaw) in WRONG {
-        assert_eq!(rt; flaw_with(alloc, &[(n, line)])?, Some(flaw), "{line:?}");
+        assert_eq!(rt;
+            flaw_with(&rt, alloc, &[(n, line)])?,
+            Some(flaw),
+            "{line:?}"
+        );
     }
     // a sender's packets of one band in the other order
-    let turned = flaw_with(alloc, &[(0, "0 sent 0 2"), (8, "8 sent 0 0")])?;
+    let turned = flaw_with(&rt, alloc, &[(0, "0 sent 0 2"), (8, "8 sent 0 0")])?;
     assert_eq!(rt; turned, Some(Flaw::Order(0)));
     Ok(())
 }
@@ -200,9 +210,9 @@ fn refuses_another_number_of_lines(rt: HostRuntime) -> Result<(), Fail> {
     let alloc = rt.alloc();
     let text = text_with(alloc, &[])?;
     let (fewer, _) = text.as_str().split_once("17 ").ok_or("no last line")?;
-    assert_eq!(rt; flaw_in(alloc, fewer)?, Some(Flaw::Line(17)));
+    assert_eq!(rt; flaw_in(&rt, alloc, fewer)?, Some(Flaw::Line(17)));
     let more = format!(in alloc; "{text}18 sent 1 2\n")?;
-    assert_eq!(rt; flaw_in(alloc, more.as_str())?, Some(Flaw::MoreLines));
+    assert_eq!(rt; flaw_in(&rt, alloc, more.as_str())?, Some(Flaw::MoreLines));
     Ok(())
 }
 
@@ -247,7 +257,8 @@ const CHANGED: [(&str, &[usize], Flaw); 5] = [
 ];
 
 /// What the check says of a run over the root with these counts, where a file has other packets than its own.
-fn flaw_of(
+fn flaw_of<R: Threads + Sync>(
+    rt: &R,
     alloc: Global,
     counts: &str,
     changed: Option<(&str, &[usize])>,
@@ -257,21 +268,24 @@ fn flaw_of(
     if let Some((name, packets)) = changed {
         host.put_file(name, &records_of(alloc, &capture, packets)?)?;
     }
-    Ok(check_run(alloc, &host, ROOT, &capture).err())
+    Ok(check_run(rt, alloc, &host, ROOT, &capture).err())
 }
 
 #[test]
 fn refuses_each_wrong_file(rt: HostRuntime) -> Result<(), Fail> {
     let alloc = rt.alloc();
-    assert_eq!(rt; flaw_of(alloc, COUNTS, None)?, None);
+    assert_eq!(rt; flaw_of(&rt, alloc, COUNTS, None)?, None);
     for (name, packets, flaw) in CHANGED {
-        let found = flaw_of(alloc, COUNTS, Some((name, packets)))?;
+        let found = flaw_of(&rt, alloc, COUNTS, Some((name, packets)))?;
         assert_eq!(rt; found, Some(flaw), "{name}");
     }
     let (without, _) = COUNTS.split_once("mq ").ok_or("no line of the root")?;
-    assert_eq!(rt; flaw_of(alloc, without, None)?, Some(Flaw::Counts));
+    assert_eq!(rt; flaw_of(&rt, alloc, without, None)?, Some(Flaw::Counts));
     let none = MemHost::new(alloc);
-    assert_eq!(rt; check_run(alloc, &none, ROOT, &HEADER), Err(Flaw::Text));
+    assert_eq!(rt;
+        check_run(&rt, alloc, &none, ROOT, &HEADER),
+        Err(Flaw::Text)
+    );
     Ok(())
 }
 

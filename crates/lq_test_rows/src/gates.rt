@@ -99,7 +99,7 @@ fn senders_are_under_way_at_once_and_wake_the_queues(rt: HostRuntime) -> Result<
         let gate = Holds::new(alloc, row.orders)?;
         let done = run(&rt, alloc, row.plan, &capture, &gate)?;
         assert!(rt; !gate.gave_up(), "{}", row.plan);
-        let sent = check_run(alloc, &done.host, row.plan.as_bytes(), &capture)?;
+        let sent = check_run(&rt, alloc, &done.host, row.plan.as_bytes(), &capture)?;
         assert_eq!(rt; sent, row.count);
     }
     Ok(())

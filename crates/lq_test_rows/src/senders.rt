@@ -65,7 +65,7 @@ fn settles_each_packet(rt: HostRuntime) -> Result<(), Fail> {
     for row in &ROWS {
         let capture = gen_capture(alloc, row.number, row.count.min(1_000_000))?;
         let done = run(&rt, alloc, row.plan, &capture, &Free)?;
-        let sent = check_run(alloc, &done.host, row.plan.as_bytes(), &capture)?;
+        let sent = check_run(&rt, alloc, &done.host, row.plan.as_bytes(), &capture)?;
         assert!(rt; sent >= row.least, "{}", row.plan);
     }
     Ok(())

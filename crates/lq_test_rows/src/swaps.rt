@@ -68,6 +68,6 @@ fn swaps_devices_under_load(rt: HostRuntime) -> Result<(), Fail> {
     assert_eq!(rt; drops.load(Ordering::SeqCst), 0);
     drop(bench);
     assert_eq!(rt; drops.load(Ordering::SeqCst), 3);
-    check_run(alloc, &host, PLAN, &capture)?;
+    check_run(&rt, alloc, &host, PLAN, &capture)?;
     Ok(())
 }

@@ -76,7 +76,7 @@ fn run_and_count<R: Threads + Wait + Sync, H: Host, G: Gate, D: TxDevice>(
 {
     // The proof learns from it that there are at most 1,000,000 packets.
     let _count = capture.len();
-    let infos = infos(alloc, plan, capture)?;
+    let infos = infos(rt, alloc, plan, capture)?;
     let fates = send_all(rt, alloc, plan, &infos, bench, ended, gate)?;
     match write_counts(alloc, host, plan, &infos, &fates) {
         Ok(()) => Ok(Status::Done),

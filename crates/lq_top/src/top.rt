@@ -61,7 +61,7 @@ fn run_capture<R: Threads + Wait + Sync, H: Host, G: Gate, D: TxDevice>(
 {
     // The proof learns from it that there are at most 1,000,000 packets.
     let _count = capture.len();
-    let infos = infos(alloc, plan, capture)?;
+    let infos = infos(rt, alloc, plan, capture)?;
     let fates = send_all(rt, alloc, plan, &infos, bench, ended, gate)?;
     match write_run(rt, alloc, host, out, plan, capture, &infos, &fates) {
         Ok(()) => Ok(Status::Done),
