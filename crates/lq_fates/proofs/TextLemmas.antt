@@ -1,12 +1,10 @@
 -- The texts, a line at a time.
-use Rattle.std.proofs.Common.{◌≡◌, ◌<◌, ◌≤◌, ◌+◌, ◌^◌, ◌++◌, ℕ, arith, List, length, drop, sym, ap, ◌∙◌, append_assoc, append-nil, add-one, get_or}
+use Rattle.std.proofs.Common.{◌≡◌, ◌<◌, ◌≤◌, ◌+◌, ◌^◌, ◌++◌, ℕ, arith, List, length, sym, ap, ◌∙◌, add-one}
 use Rattle.std.specs.Fmt.{decimal}
 use Rattle.std.specs.List.{flat_map}
 use Rattle.std.proofs.lemmas.Fmt.{length-decimal-le}
-use Rattle.std.proofs.lemmas.List.{drop_more, drop_all, flat_map_more}
+use Rattle.std.proofs.lemmas.List.{flat_map_more}
 use Rattle.lq_model.specs.Numbers.{first_numbers}
-use Rattle.lq_model.specs.Texts.{fate_lines}
-use Rattle.lq_model.specs.declared.fate.Fate.{Fate}
 
 pub lines_more : (f : ℕ → List ℕ) (before : List ℕ) (n : ℕ) → (before ++ flat_map f (first_numbers n)) ++ f n ≡ before ++ flat_map f (first_numbers (n + 1))
 lines_more f before n = flat_map_more f before (first_numbers n) n ∙ ap (λ k. before ++ flat_map f (first_numbers k)) (sym (add-one n))

@@ -1,4 +1,4 @@
-use Rattle.std.proofs.Common.{ℕ, ◌≤◌, arith}
+use Rattle.std.proofs.Common.{arith}
 use Rattle.lq_fates.proofs.TextLemmas.{long_number}
 use Rattle.lq_fates.proofs.line.lay_line.Goals as goal
 
