@@ -17,12 +17,13 @@ const BIG_ENDIAN: [u8; 74] = [
     20, 0, 0, 0, 0, 64, 253, 0, 0, 10, 0, 0, 1, 10, 0, 1, 0,
 ];
 
-// The first two records that the number 1 generates.
-const GENERATED: [u8; 100] = [
-    0, 0, 0, 0, 0, 0, 0, 0, 0x22, 0, 0, 0, 0x22, 0, 0, 0, 2, 0, 0, 0, 0, 2, 2, 0, 0, 0, 0, 1, 8, 0,
-    0x45, 2, 0, 0x14, 0, 0, 0, 0, 0x40, 0xfd, 0, 0, 0x0a, 0, 0, 0, 0x0a, 0, 1, 0, 0, 0, 0, 0, 0xe8,
-    3, 0, 0, 0x22, 0, 0, 0, 0x22, 0, 0, 0, 2, 0, 0, 0, 0, 2, 2, 0, 0, 0, 0, 1, 8, 0, 0x45, 0x10, 0,
-    0x14, 0, 1, 0, 0, 0x40, 0xfd, 0, 0, 0x0a, 0, 0, 0xe3, 0x0a, 0, 1, 1,
+// The header and the first two records that the number 1 generates.
+const GENERATED: [u8; 124] = [
+    0xd4, 0xc3, 0xb2, 0xa1, 2, 0, 4, 0, 0, 0, 0, 0, 0, 0, 0, 0, 0, 0, 4, 0, 1, 0, 0, 0, 0, 0, 0, 0,
+    0, 0, 0, 0, 0x22, 0, 0, 0, 0x22, 0, 0, 0, 2, 0, 0, 0, 0, 2, 2, 0, 0, 0, 0, 1, 8, 0, 0x45, 2, 0,
+    0x14, 0, 0, 0, 0, 0x40, 0xfd, 0, 0, 0x0a, 0, 0, 0, 0x0a, 0, 1, 0, 0, 0, 0, 0, 0xe8, 3, 0, 0,
+    0x22, 0, 0, 0, 0x22, 0, 0, 0, 2, 0, 0, 0, 0, 2, 2, 0, 0, 0, 0, 1, 8, 0, 0x45, 0x10, 0, 0x14, 0,
+    1, 0, 0, 0x40, 0xfd, 0, 0, 0x0a, 0, 0, 0xe3, 0x0a, 0, 1, 1,
 ];
 
 // A record at time 0 of an IPv4 packet with this type of service and these last bytes of its addresses.
@@ -55,26 +56,30 @@ fn refused(reason: CaptureReason, place: u64) -> Result<usize, CaptureRefusal> {
     Err(CaptureRefusal::Refused { reason, place })
 }
 
+// What three packets, cut to this length, answer.
+fn cut_answer(len: usize) -> Result<usize, CaptureRefusal> {
+    match len {
+        0..=23 => refused(CaptureReason::ShortHeader, len as u64),
+        24 => Ok(0),
+        25..=39 => refused(CaptureReason::CutRecordHeader, 24),
+        40..=73 => refused(CaptureReason::CutData, 24),
+        74 => Ok(1),
+        75..=89 => refused(CaptureReason::CutRecordHeader, 74),
+        90..=123 => refused(CaptureReason::CutData, 74),
+        124 => Ok(2),
+        125..=139 => refused(CaptureReason::CutRecordHeader, 124),
+        140..=173 => refused(CaptureReason::CutData, 124),
+        _ => Ok(3),
+    }
+}
+
 #[test]
 fn three_packets_cut_to_each_length(rt: HostRuntime) {
     let bytes = three_packets(&rt);
     assert_eq!(rt; bytes.len(), 174);
     for len in 0..175usize {
-        let want = match len {
-            0..=23 => refused(CaptureReason::ShortHeader, len as u64),
-            24 => Ok(0),
-            25..=39 => refused(CaptureReason::CutRecordHeader, 24),
-            40..=73 => refused(CaptureReason::CutData, 24),
-            74 => Ok(1),
-            75..=89 => refused(CaptureReason::CutRecordHeader, 74),
-            90..=123 => refused(CaptureReason::CutData, 74),
-            124 => Ok(2),
-            125..=139 => refused(CaptureReason::CutRecordHeader, 124),
-            140..=173 => refused(CaptureReason::CutData, 124),
-            _ => Ok(3),
-        };
-        let front = bytes.get(..len).unwrap_or(&[]);
-        assert_eq!(rt; answer(&rt, front), want, "at {len}");
+        let found = answer(&rt, &bytes[..len]);
+        assert_eq!(rt; (len, found), (len, cut_answer(len)));
     }
 }
 
@@ -87,11 +92,17 @@ const GZIP: [u8; 24] = [
     0x1f, 0x8b, 8, 0, 3, 0, 4, 0, 0, 0, 0, 0, 0, 0, 0, 0, 0, 0, 4, 0, 1, 0, 0, 0,
 ];
 
+// The header, and that of a record of 262,144 bytes.
+const LONG: [u8; 40] = [
+    0xd4, 0xc3, 0xb2, 0xa1, 2, 0, 4, 0, 0, 0, 0, 0, 0, 0, 0, 0, 0, 0, 4, 0, 1, 0, 0, 0, 0, 0, 0, 0,
+    0, 0, 0, 0, 0, 0, 4, 0, 0, 0, 4, 0,
+];
+
 // A capture of one record of 262,144 bytes and so many more, as its header says.
 fn long_record(rt: &(impl Abort + AllocGlobal), more: u8) -> Vec<u8> {
-    let mut long = Vec::from_slice(rt.alloc(), &HEADER).expect(rt, "memory");
-    long.extend_from_slice(&[0, 0, 0, 0, 0, 0, 0, 0, more, 0, 4, 0, 0, 0, 4, 0])
-        .expect(rt, "memory");
+    let mut header = LONG;
+    header[32] = more;
+    let mut long = Vec::from_slice(rt.alloc(), &header).expect(rt, "memory");
     long.resize(262_184, 7).expect(rt, "memory");
     long
 }
@@ -134,24 +145,26 @@ fn big_endian_written_again(rt: HostRuntime) {
 
 #[test]
 fn two_generated_packets(rt: HostRuntime) {
-    let Ok(text) = gen_capture(rt.alloc(), 1, 2) else {
-        panic!(rt; "no memory");
-    };
-    assert_eq!(rt; text.get(..24).unwrap_or(&[]), &HEADER[..]);
-    assert_eq!(rt; text.get(24..).unwrap_or(&[]), &GENERATED[..]);
+    let text = gen_capture(rt.alloc(), 1, 2).ok().expect(&rt, "memory");
+    assert_eq!(rt; text.as_slice(), &GENERATED[..]);
     assert_eq!(rt; answer(&rt, &text), Ok(2));
 }
 
 const PLACES: [usize; 5] = [24, u32::MAX as usize, u32::MAX as usize + 1, 30, usize::MAX];
 
-#[test]
-fn places_on_both_sides_of_4_gib(rt: HostRuntime) {
+fn five_places(rt: &(impl Abort + AllocGlobal)) -> Places {
     let mut places = Places::new(rt.alloc());
     for place in PLACES {
-        places.push(place).expect(&rt, "memory");
+        places.push(place).expect(rt, "memory");
     }
-    assert_eq!(rt; places.len(), PLACES.len());
-    for i in 0..places.len() {
-        assert_eq!(rt; Some(&places.at(i)), PLACES.get(i), "place {i}");
+    places
+}
+
+#[test]
+fn places_on_both_sides_of_4_gib(rt: HostRuntime) {
+    let places = five_places(&rt);
+    assert_eq!(rt; places.len(), 5);
+    for i in 0..5usize {
+        assert_eq!(rt; (i, places.at(i)), (i, PLACES[i]));
     }
 }

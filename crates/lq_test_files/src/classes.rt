@@ -1,5 +1,6 @@
 //! Frames of each form, and their classes.
 use lq_class::{Class, band, classify, priority, route_byte, source_byte};
+use std::process::Abort;
 
 const ETHERNET: u32 = 1;
 
@@ -20,20 +21,21 @@ const TAGGED: &[u8] =
 const TWICE_TAGGED: &[u8] =
     b"\x02\0\0\0\0\x02\x02\0\0\0\0\x01\x81\0\0\x05\x81\0\0\x05\x08\0\x45\x10\0\x14\0\0\0\0\x40\xfd\0\0\x0a\0\0\x01\x0a\0\x01\0";
 
+/// A type of service, and its priority and band.
+const CLASSES_OF_SERVICE: [(u8, u8, u32); 6] = [
+    (0x10, 6, 0),
+    (0x08, 2, 2),
+    (0x18, 4, 1),
+    (0, 0, 1),
+    (0x03, 0, 1),
+    (0x1e, 4, 1),
+];
+
 #[test]
 fn type_of_service_gives_priority_and_band(rt: HostRuntime) {
-    let rows = [
-        (0x10, 6, 0),
-        (0x08, 2, 2),
-        (0x18, 4, 1),
-        (0, 0, 1),
-        (0x03, 0, 1),
-        (0x1e, 4, 1),
-    ];
-    for (tos, wanted, its_band) in rows {
+    for (tos, wanted, its_band) in CLASSES_OF_SERVICE {
         let found = priority(ETHERNET, &ethernet_frame(tos));
-        assert_eq!(rt; found, wanted, "the priority of type of service {tos}");
-        assert_eq!(rt; band(found), its_band, "the band of type of service {tos}");
+        assert_eq!(rt; (tos, found, band(found)), (tos, wanted, its_band));
     }
 }
 
@@ -51,35 +53,32 @@ fn address_bytes_of_a_frame(rt: HostRuntime) {
         source_byte: 7,
         route_byte: 9,
     };
-    assert_eq!(rt; source_byte(ETHERNET, &frame), 7);
-    assert_eq!(rt; route_byte(ETHERNET, &frame), 9);
-    for (link, start) in [(ETHERNET, 0), (RAW_IP, 14usize)] {
-        let bytes = frame.get(start..).unwrap_or(&[]);
-        assert_eq!(rt; classify(link, bytes), class, "of link type {link}");
-    }
+    let bytes = (source_byte(ETHERNET, &frame), route_byte(ETHERNET, &frame));
+    assert_eq!(rt; bytes, (7, 9));
+    let classes = (classify(ETHERNET, &frame), classify(RAW_IP, &frame[14..]));
+    assert_eq!(rt; classes, (class, class));
+}
+
+/// A frame of another EtherType.
+const ARP: &[u8] =
+    b"\0\0\0\0\0\0\0\0\0\0\0\0\x08\x06\0\0\0\0\0\0\0\0\0\0\0\0\0\0\0\0\0\0\0\0\0\0\0\0\0\0\0\0\0\0\0\0\0\0\0\0\0\0\0\0\0\0\0\0\0\0";
+
+fn expect_zero(rt: &impl Abort, link: u32, frame: &[u8]) {
+    assert_eq!(rt; (link, classify(link, frame)), (link, ZERO));
 }
 
 #[test]
 fn other_frames_have_class_zero(rt: HostRuntime) {
-    let mut arp = [0; 60];
-    arp[12] = 0x08;
-    arp[13] = 0x06;
-    assert_eq!(rt; classify(ETHERNET, &arp), ZERO, "another EtherType");
     let frame = ethernet_frame(0x10);
-    for (link, len) in [(ETHERNET, 13), (ETHERNET, 0usize), (113, 34)] {
-        let bytes = frame.get(..len).unwrap_or(&[]);
-        assert_eq!(rt;
-            classify(link, bytes),
-            ZERO,
-            "{len} bytes of link type {link}"
-        );
-    }
+    expect_zero(&rt, ETHERNET, ARP);
+    expect_zero(&rt, ETHERNET, &frame[..13]);
+    expect_zero(&rt, ETHERNET, &[]);
+    expect_zero(&rt, 113, &frame);
     assert_eq!(rt; band(0), 1);
 }
 
 #[test]
 fn one_tag_is_stepped_over(rt: HostRuntime) {
-    assert_eq!(rt; priority(ETHERNET, TAGGED), 6);
-    assert_eq!(rt; band(6), 0);
+    assert_eq!(rt; (priority(ETHERNET, TAGGED), band(6)), (6, 0));
     assert_eq!(rt; classify(ETHERNET, TWICE_TAGGED), ZERO);
 }

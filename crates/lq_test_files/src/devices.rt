@@ -1,7 +1,7 @@
 //! The device of the built-in bench, and a station with one, call by call.
-ghost use Rattle.std.specs.Prelude.{◌≡◌, ◌<◌, ◌≤◌, [], false, length};
+ghost use Rattle.std.specs.Prelude.{◌≡◌, ◌+◌, ◌<◌, ◌≤◌, [], false, length};
 ghost use Rattle.lq_device.specs.Bench.{bench_state};
-ghost use Rattle.lq_device.specs.Station.{HasAnswered, sent_list};
+ghost use Rattle.lq_device.specs.Station.{sent_list};
 
 use lq_device::{BenchDevice, Params, Station, Tx, TxDevice};
 use std::process::Abort;
@@ -11,8 +11,8 @@ fn check_answers(rt: &impl Abort, device: &mut BenchDevice, answers: &[Tx])
     requires { length answers.now ≤ (bench_state device.old).spare }
 {
     for n in 0..answers.len() {
-        assert!(rt; !device.hung(), "before call {n}");
-        assert_eq!(rt; device.xmit(0, 7), answers[n], "call {n}");
+        assert!(rt; !device.hung());
+        assert_eq!(rt; (n, device.xmit(0, 7)), (n, answers[n]));
     }
 }
 
@@ -64,46 +64,79 @@ fn configured(rt: &(impl Abort + AllocGlobal)) -> BenchDevice
 
 // Stops the test where the station's device doesn't answer a packet so.
 fn expect_answer(rt: &impl Abort, station: &mut Station<BenchDevice>, n: u32, answer: Tx)
-    requires room { 0 < station.old.device.spare }
-    requires alive { station.old.device.hung ≡ false }
-    requires countable { length (sent_list station.old) < 4294967295 }
-    ensures { HasAnswered answer 0 n station.old station.new }
+    requires { 8 ≤ station.old.device.spare + length (sent_list station.old) }
+    ensures { 8 ≤ station.new.device.spare + length (sent_list station.new) }
 {
-    assert_eq!(rt; station.xmit(0, n), answer);
+    assert!(rt; station.sent() < 8 && !station.hung());
+    assert_eq!(rt; (n, station.xmit(0, n)), (n, answer));
+}
+
+// Puts a packet into the slot, which must be empty.
+fn hold(rt: &impl Abort, station: &mut Station<BenchDevice>, n: u32)
+    ensures { station.new.device ≡ station.old.device }
+{
+    assert!(rt; station.slot().is_none());
+    station.set_slot(n);
+}
+
+// Stops the test where the station doesn't tell this of its unit, of how many packets it sent, of its slot, of the last answer, and of
+// whether its device hangs.
+fn expect_told(
+    rt: &impl Abort,
+    station: &Station<BenchDevice>,
+    wanted: (u32, u32, Option<u32>, Option<Tx>, bool),
+) {
+    let told = (
+        station.unit(),
+        station.sent(),
+        station.slot(),
+        station.last(),
+        station.hung(),
+    );
+    assert_eq!(rt; told, wanted);
+}
+
+// Stops the test where the head and the tail of a band are others.
+fn expect_ends(rt: &impl Abort, station: &Station<BenchDevice>, band: u32, ends: (u32, u32))
+    requires { band < 3 }
+{
+    let found = (station.head(band), station.tail(band));
+    assert_eq!(rt; (band, found), (band, ends));
+}
+
+// A station that sent two packets, and holds a third, for which its device was busy.
+fn busy_station(rt: &(impl Abort + AllocGlobal)) -> Station<BenchDevice>
+    ensures { 8 ≤ result.device.spare + length (sent_list result) }
+{
+    let mut station = Station::new(5, configured(rt));
+    expect_told(rt, &station, (5, 0, None, None, false));
+    expect_answer(rt, &mut station, 40, Tx::Sent);
+    expect_answer(rt, &mut station, 41, Tx::SentStop);
+    hold(rt, &mut station, 42);
+    expect_answer(rt, &mut station, 42, Tx::Busy);
+    expect_told(rt, &station, (5, 2, Some(42), Some(Tx::Busy), false));
+    station
 }
 
 // A station whose device hangs after three packets.
 fn hung_station(rt: &(impl Abort + AllocGlobal)) -> Station<BenchDevice> {
-    let mut station = Station::new(5, configured(rt));
-    assert_eq!(rt; station.last(), None);
-
-    expect_answer(rt, &mut station, 40, Tx::Sent);
-    expect_answer(rt, &mut station, 41, Tx::SentStop);
-    station.set_slot(42);
-    expect_answer(rt, &mut station, 42, Tx::Busy);
-    assert_eq!(rt; station.sent(), 2);
-    assert_eq!(rt; (station.take_slot(), station.slot()), (Some(42), None));
+    let mut station = busy_station(rt);
+    assert_eq!(rt; station.take_slot(), Some(42));
     station.set_ends(2, 7, 4);
     expect_answer(rt, &mut station, 42, Tx::SentHang);
+    expect_told(rt, &station, (5, 3, None, Some(Tx::SentHang), true));
     station
 }
 
 #[test]
 fn keeps_what_lies_beside_the_device(rt: HostRuntime) {
     let mut station = hung_station(&rt);
-    assert_eq!(rt; station.last(), Some(Tx::SentHang));
-    assert!(rt; station.hung());
-    assert_eq!(rt; (station.unit(), station.sent()), (5, 3));
-    assert_eq!(rt; (station.head(1), station.tail(1)), (0, 0));
-    assert_eq!(rt; (station.head(2), station.tail(2)), (7, 4));
-
-    assert_eq!(rt; station.slot(), None);
-    station.set_slot(43);
+    expect_ends(&rt, &station, 1, (0, 0));
+    expect_ends(&rt, &station, 2, (7, 4));
+    hold(&rt, &mut station, 43);
     assert!(rt; station.change(6, configured(&rt)).hung());
-    assert!(rt; !station.hung());
-    assert_eq!(rt; (station.unit(), station.sent()), (6, 0));
-    assert_eq!(rt; (station.last(), station.slot()), (None, Some(43)));
-    assert_eq!(rt; (station.head(2), station.tail(2)), (7, 4));
+    expect_told(&rt, &station, (6, 0, Some(43), None, false));
+    expect_ends(&rt, &station, 2, (7, 4));
     expect_answer(&rt, &mut station, 44, Tx::Sent);
     assert!(rt; !station.into_device().hung());
 }

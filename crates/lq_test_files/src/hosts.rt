@@ -1,8 +1,10 @@
 //! Hosts: what real files hold, faults that are told, and a host in memory that fails where it is told to.
 ghost use Rattle.std.specs.Prelude.{◌<◌, ◌≤◌, length, IfOk};
+ghost use Rattle.lq_host.specs.Host.{IsWriter};
+ghost use Rattle.lq_host.specs.MemHost.{mem_state};
 
 use lq_host::{FileHost, Host, HostCall, HostError, MemHost};
-use std::alloc::Allocator;
+use std::alloc::{Allocator, Global};
 use std::fmt::Display;
 use std::fs;
 use std::fs::{Metadata, OpenFile, OpenOptions};
@@ -42,6 +44,14 @@ const TEXTS: [&[u8]; 2] = [
     b"abc",
 ];
 
+fn make_folder(rt: &(impl Abort + Files), name: &str) {
+    assert!(rt; fs::create_dir_all(rt, name).is_ok());
+}
+
+fn remove_folder(rt: &(impl Abort + Files), name: &str) {
+    assert!(rt; fs::remove_dir(rt, name).is_ok());
+}
+
 /// A file has these bytes, and no others, once they were written to it.
 fn check_written<R: Files + Print + AllocGlobal + Drop>(
     rt: &impl Abort,
@@ -49,24 +59,34 @@ fn check_written<R: Files + Print + AllocGlobal + Drop>(
     bytes: &[u8],
 ) {
     let mut buf = [0u8; 100];
-    assert_eq!(rt; write_file(host, NAME, bytes), Ok(()));
-    assert_eq!(rt; read_file(host, NAME, &mut buf), Ok(bytes.len()));
-    assert_eq!(rt; buf.get(..bytes.len()), Some(bytes));
+    write_file(host, NAME, bytes).ok().expect(rt, "a file");
+    let count = read_file(host, NAME, &mut buf).ok().expect(rt, "a file");
+    assert_eq!(rt; &buf[..count], bytes);
 }
 
 /// A file that is created anew loses the bytes that it had.
+fn check_all_written<R: Files + Print + AllocGlobal + Drop>(
+    rt: &(impl Abort + Files),
+    host: &mut FileHost<R>,
+) {
+    for bytes in TEXTS {
+        check_written(rt, host, bytes);
+    }
+    assert!(rt; fs::remove_file(rt, NAME).is_ok());
+}
+
 #[test]
 fn real_files_keep_what_was_written(rt: HostRuntime) {
     let mut host = FileHost::new(rt.clone().expect(&rt, "memory"));
-    assert!(rt; fs::create_dir_all(&rt, FOLDER).is_ok());
-    for bytes in TEXTS {
-        check_written(&rt, &mut host, bytes);
-    }
-    assert!(rt; fs::remove_file(&rt, NAME).is_ok());
-    assert!(rt; fs::remove_dir(&rt, FOLDER).is_ok());
-    assert_eq!(rt; host.faults(), 0);
-    assert_eq!(rt; host.open_read(NAME), Err(HostError::Failed));
-    assert_eq!(rt; host.faults(), 1);
+    make_folder(&rt, FOLDER);
+    check_all_written(&rt, &mut host);
+    remove_folder(&rt, FOLDER);
+    let faults = host.faults();
+    let opened = host.open_read(NAME);
+    assert_eq!(rt;
+        (faults, opened, host.faults()),
+        (0, Err(HostError::Failed), 1)
+    );
 }
 
 /// A folder can be opened, and its bytes can't be read.
@@ -74,13 +94,15 @@ fn real_files_keep_what_was_written(rt: HostRuntime) {
 fn a_folder_is_a_fault(rt: HostRuntime) {
     let mut buf = [0u8; 10];
     let mut host = FileHost::new(rt.clone().expect(&rt, "memory"));
-    assert!(rt; fs::create_dir_all(&rt, "lq_host_folder").is_ok());
+    make_folder(&rt, "lq_host_folder");
     let read = read_file(&mut host, "lq_host_folder", &mut buf);
     let created = write_file(&mut host, "lq_host_folder", b"abc");
-    assert!(rt; fs::remove_dir(&rt, "lq_host_folder").is_ok());
-    assert_eq!(rt; read, Err(HostError::Failed));
-    assert_eq!(rt; created, Err(HostError::Failed));
-    assert_eq!(rt; host.faults(), 2);
+    remove_folder(&rt, "lq_host_folder");
+    let failed = HostError::Failed;
+    assert_eq!(rt;
+        (read, created, host.faults()),
+        (Err(failed), Err(failed), 2)
+    );
 }
 
 /// A device that takes no bytes.
@@ -88,8 +110,7 @@ fn a_folder_is_a_fault(rt: HostRuntime) {
 fn a_full_device_is_a_fault(rt: HostRuntime) {
     let mut host = FileHost::new(rt.clone().expect(&rt, "memory"));
     let written = write_file(&mut host, "/dev/full", b"abc");
-    assert_eq!(rt; written, Err(HostError::Failed));
-    assert_eq!(rt; host.faults(), 1);
+    assert_eq!(rt; (written, host.faults()), (Err(HostError::Failed), 1));
 }
 
 /// A file whose reading is interrupted so many times, and then gives one byte, or fails. All else that it is asked fails.
@@ -228,22 +249,27 @@ fn a_full_output_is_a_fault(rt: HostRuntime) {
         fails: false,
     };
     let mut host = FileHost::new((faulty, rt.alloc()));
-    assert_eq!(rt; host.write(0, b"abc"), Err(HostError::Failed));
-    assert_eq!(rt; host.faults(), 1);
+    let written = host.write(0, b"abc");
+    assert_eq!(rt; (written, host.faults()), (Err(HostError::Failed), 1));
+}
+
+/// What reading a file answers that is interrupted so many times and then fails or doesn't, whether a byte came, and whether there was
+/// a fault.
+fn reading_of(alloc: Global, times: u32, fails: bool) -> (Result<usize, HostError>, bool, bool) {
+    let mut buf = [0u8; 2];
+    let mut host = FileHost::new((Faulty { times, fails }, alloc));
+    let read = read_file(&mut host, "any", &mut buf);
+    (read, buf[0] == b'a', host.faults() > 0)
 }
 
 /// Both where the file then gives a byte, and where it then fails.
 #[test]
 fn an_interrupted_reading_goes_on(rt: HostRuntime) {
-    let mut buf = [0u8; 2];
-    for (fails, answer) in [(false, Ok(1)), (true, Err(HostError::Failed))] {
-        for times in 0..3 {
-            buf[0] = 0;
-            let mut host = FileHost::new((Faulty { times, fails }, rt.alloc()));
-            assert_eq!(rt; read_file(&mut host, "any", &mut buf), answer);
-            assert_eq!(rt; buf[0] == b'a', !fails);
-            assert_eq!(rt; host.faults() > 0, fails);
-        }
+    for times in 0..3 {
+        let given = reading_of(rt.alloc(), times, false);
+        assert_eq!(rt; given, (Ok(1), true, false));
+        let failed = reading_of(rt.alloc(), times, true);
+        assert_eq!(rt; failed, (Err(HostError::Failed), false, true));
     }
 }
 
@@ -258,18 +284,31 @@ fn a_finished_file_is_closed(rt: HostRuntime) {
     assert_eq!(rt; host.open_read("/proc/self/fd/90"), Err(HostError::Failed));
 }
 
+fn check_file(rt: &impl Abort, host: &MemHost, name: &str, bytes: Option<&[u8]>) {
+    assert_eq!(rt; host.file(name), bytes);
+}
+
 #[test]
 fn memory_keeps_what_was_written(rt: HostRuntime) {
     let mut buf = [0u8; 4];
     let mut host = MemHost::new(rt.alloc());
-    assert_eq!(rt; host.put_file("given", b"abcdef"), Ok(()));
+    let put = host.put_file("given", b"abcdef");
     let written = write_file(&mut host, "made", b"xyz");
     let given = read_file(&mut host, "given", &mut buf);
-    assert_eq!(rt; written, Ok(()));
-    assert_eq!(rt; given, Ok(4));
-    assert_eq!(rt; buf.as_slice(), b"abcd".as_slice());
-    assert_eq!(rt; host.file("made"), Some(b"xyz".as_slice()));
-    assert_eq!(rt; host.file("other"), None);
+    assert_eq!(rt;
+        (put, written, given, buf),
+        (Ok(()), Ok(()), Ok(4), *b"abcd")
+    );
+    check_file(&rt, &host, "made", Some(b"xyz"));
+    check_file(&rt, &host, "other", None);
+}
+
+// Writes to the standard output, which can be written to again.
+fn write_out(host: &mut MemHost, bytes: &[u8]) -> Result<(), HostError>
+    requires { IsWriter ((mem_state host.old).handles 0) }
+    ensures { IsWriter ((mem_state host.new).handles 0) }
+{
+    host.write(0, bytes)
 }
 
 #[test]
@@ -278,10 +317,14 @@ fn the_named_call_fails(rt: HostRuntime) {
     for k in [2, 4, 0] {
         assert_eq!(rt; host.fail_at(HostCall::Write, k), Ok(()));
     }
-    assert_eq!(rt; host.write(0, b"a"), Ok(()));
-    assert_eq!(rt; host.write(0, b"b"), Err(HostError::Failed));
-    assert_eq!(rt; host.write(0, b"c"), Ok(()));
-    assert_eq!(rt; host.write(0, b"d"), Err(HostError::Failed));
-    assert_eq!(rt; host.output(), b"ac".as_slice());
-    assert_eq!(rt; host.faults(), 2);
+    let first = write_out(&mut host, b"a");
+    let second = write_out(&mut host, b"b");
+    let third = write_out(&mut host, b"c");
+    let fourth = write_out(&mut host, b"d");
+    let failed = Err(HostError::Failed);
+    assert_eq!(rt;
+        (first, second, third, fourth),
+        (Ok(()), failed, Ok(()), failed)
+    );
+    assert_eq!(rt; (host.output(), host.faults()), (b"ac".as_slice(), 2));
 }

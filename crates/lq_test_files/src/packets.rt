@@ -49,22 +49,35 @@ fn five_packets(rt: &(impl Abort + AllocGlobal)) -> Capture {
     read_capture(rt.alloc(), bytes).ok().expect(rt, "a capture")
 }
 
-// The owner, station, band, queue and rank of each packet.
-const SPLIT_BY_NUMBER: [(u8, u8, u8, u8, u32); 5] = [
-    (0, 0, 1, 1, 0),
-    (1, 1, 0, 1, 0),
-    (0, 1, 2, 0, 0),
-    (1, 0, 1, 1, 0),
-    (0, 0, 1, 0, 1),
-];
+fn info(owner: u8, station: u8, band: u8, queue: u8, rank: u32) -> Info {
+    Info {
+        owner,
+        station,
+        band,
+        queue,
+        rank,
+    }
+}
 
-const SPLIT_BY_SOURCE: [(u8, u8, u8, u8, u32); 5] = [
-    (1, 0, 1, 1, 0),
-    (1, 1, 0, 1, 0),
-    (0, 1, 2, 0, 0),
-    (1, 0, 1, 1, 1),
-    (0, 0, 1, 0, 0),
-];
+fn split_by_number() -> [Info; 5] {
+    [
+        info(0, 0, 1, 1, 0),
+        info(1, 1, 0, 1, 0),
+        info(0, 1, 2, 0, 0),
+        info(1, 0, 1, 1, 0),
+        info(0, 0, 1, 0, 1),
+    ]
+}
+
+fn split_by_source() -> [Info; 5] {
+    [
+        info(1, 0, 1, 1, 0),
+        info(1, 1, 0, 1, 0),
+        info(0, 1, 2, 0, 0),
+        info(1, 0, 1, 1, 1),
+        info(0, 0, 1, 0, 0),
+    ]
+}
 
 fn infos_of(
     rt: &(impl Abort + AllocGlobal + Threads + Sync),
@@ -77,15 +90,18 @@ fn infos_of(
         .expect(rt, "memory")
 }
 
+fn check_split(
+    rt: &(impl Abort + AllocGlobal + Threads + Sync),
+    text: &[u8],
+    capture: &Capture,
+    wanted: &[Info],
+) {
+    assert_eq!(rt; infos_of(rt, text, capture).as_slice(), wanted);
+}
+
 #[test]
 fn splits_by_number_and_by_source(rt: HostRuntime) {
     let capture = five_packets(&rt);
-    for (text, wanted) in [(BY_NUMBER, SPLIT_BY_NUMBER), (BY_SOURCE, SPLIT_BY_SOURCE)] {
-        let found = infos_of(&rt, text, &capture);
-        assert_eq!(rt; found.len(), wanted.len());
-        for (n, it) in found.iter().enumerate() {
-            let packet = (it.owner, it.station, it.band, it.queue, it.rank);
-            assert_eq!(rt; Some(&packet), wanted.get(n), "packet {n}");
-        }
-    }
+    check_split(&rt, BY_NUMBER, &capture, &split_by_number());
+    check_split(&rt, BY_SOURCE, &capture, &split_by_source());
 }

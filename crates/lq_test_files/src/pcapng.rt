@@ -1,4 +1,6 @@
 // Captures in the pcapng format by hand, and what reading them answers.
+ghost use Rattle.std.specs.Prelude.{◌<◌, length};
+
 use lq_pcapng::{CaptureReason, CaptureRefusal, NgCapture, push_block, push_section, read_pcapng};
 use std::process::Abort;
 
@@ -42,88 +44,98 @@ fn refused(reason: CaptureReason, place: u64) -> Result<usize, CaptureRefusal> {
     Err(CaptureRefusal::Refused { reason, place })
 }
 
+// What one packet, cut to this length, answers.
+fn cut_answer(len: usize) -> Result<usize, CaptureRefusal> {
+    match len {
+        0..=27 => refused(CaptureReason::CutBlock, 0),
+        28 => Ok(0),
+        29..=47 => refused(CaptureReason::CutBlock, 28),
+        48 => Ok(0),
+        49..=115 => refused(CaptureReason::CutBlock, 48),
+        _ => Ok(1),
+    }
+}
+
 #[test]
 fn one_packet_cut_to_each_length(rt: HostRuntime) {
     for len in 0..117usize {
-        let want = match len {
-            0..=27 => refused(CaptureReason::CutBlock, 0),
-            28 => Ok(0),
-            29..=47 => refused(CaptureReason::CutBlock, 28),
-            48 => Ok(0),
-            49..=115 => refused(CaptureReason::CutBlock, 48),
-            _ => Ok(1),
-        };
-        let front = ONE_PACKET.get(..len).unwrap_or(&[]);
-        assert_eq!(rt; answer(&rt, front), want, "at {len}");
+        let found = answer(&rt, &ONE_PACKET[..len]);
+        assert_eq!(rt; (len, found), (len, cut_answer(len)));
     }
 }
 
-#[test]
-fn each_byte_that_is_tested(rt: HostRuntime) {
-    // Place, new value, answer.
-    let changes = [
-        (4usize, 8u8, CaptureReason::BlockLength, 0u64),
-        (4, 30, CaptureReason::BlockLength, 0),
-        (4, 24, CaptureReason::BlockLength, 20),
-        (9, 0x3d, CaptureReason::ByteOrder, 8),
-        (12, 2, CaptureReason::Version, 12),
-        (27, 1, CaptureReason::BlockLength, 24),
-        (32, 120, CaptureReason::CutBlock, 28),
-        (56, 1, CaptureReason::NoInterface, 48),
-        (68, 37, CaptureReason::BlockBody, 48),
-        (70, 4, CaptureReason::LongRecord, 48),
-        (112, 72, CaptureReason::BlockLength, 112),
-    ];
-    for (place, value, reason, at) in changes {
-        let mut bytes = ONE_PACKET;
-        if let Some(byte) = bytes.get_mut(place) {
-            *byte = value;
-        }
-        assert_eq!(rt; answer(&rt, &bytes), refused(reason, at), "at {place}");
-    }
-}
+// A byte's place, its new value, and the refusal.
+const CHANGES: [(usize, u8, CaptureReason, u64); 11] = [
+    (4, 8, CaptureReason::BlockLength, 0),
+    (4, 30, CaptureReason::BlockLength, 0),
+    (4, 24, CaptureReason::BlockLength, 20),
+    (9, 0x3d, CaptureReason::ByteOrder, 8),
+    (12, 2, CaptureReason::Version, 12),
+    (27, 1, CaptureReason::BlockLength, 24),
+    (32, 120, CaptureReason::CutBlock, 28),
+    (56, 1, CaptureReason::NoInterface, 48),
+    (68, 37, CaptureReason::BlockBody, 48),
+    (70, 4, CaptureReason::LongRecord, 48),
+    (112, 72, CaptureReason::BlockLength, 112),
+];
 
-// The packets of the two interfaces, each with the link type of its own.
-const PACKETS: [(&[u8], u32); 2] = [(&[11, 12, 13, 14, 15], 1), (&[21, 22, 23, 24, 25, 26], 101)];
-
-#[test]
-fn big_endian_with_two_interfaces(rt: HostRuntime) {
-    let capture = read(&rt, &TWO_INTERFACES);
-    assert_eq!(rt; (capture.len(), capture.interface_count()), (2, 2));
-    assert!(rt; !capture.is_little_endian());
-    for i in 0..capture.len() {
-        let packet = (capture.frame(i), capture.link_of(i));
-        assert_eq!(rt; Some(&packet), PACKETS.get(i), "packet {i}");
-    }
-}
-
-// The section of a capture, and these of its packets.
-fn written(rt: &(impl Abort + AllocGlobal), capture: &NgCapture, packets: &[usize]) -> Vec<u8> {
-    let mut out = Vec::new(rt.alloc());
-    push_section(&mut out, capture).expect(rt, "memory");
-    for i in packets {
-        if *i < capture.len() {
-            push_block(&mut out, capture, *i).expect(rt, "memory");
-        }
-    }
-    out
-}
-
-// These parts of the bytes of two interfaces, each from its first byte to before its last, but no length of the section.
-fn without_length(rt: &(impl Abort + AllocGlobal), parts: &[(usize, usize)]) -> Vec<u8> {
-    let mut bytes = Vec::from_slice(rt.alloc(), &TWO_INTERFACES[..16]).expect(rt, "memory");
-    bytes.extend_from_slice(&[0xff; 8]).expect(rt, "memory");
-    for (from, to) in parts {
-        let part = TWO_INTERFACES.get(*from..*to).unwrap_or(&[]);
-        bytes.extend_from_slice(part).expect(rt, "memory");
+// One packet, with another byte at this place.
+fn changed(place: usize, value: u8) -> [u8; 116] {
+    let mut bytes = ONE_PACKET;
+    if let Some(byte) = bytes.get_mut(place) {
+        *byte = value;
     }
     bytes
 }
 
-// The second interface and the packets as they were, the second packet first, and no block of another type.
+#[test]
+fn each_byte_that_is_tested(rt: HostRuntime) {
+    for (place, value, reason, at) in CHANGES {
+        let found = answer(&rt, &changed(place, value));
+        assert_eq!(rt; (place, found), (place, refused(reason, at)));
+    }
+}
+
+fn check_packet(rt: &impl Abort, capture: &NgCapture, i: usize, frame: &[u8], link: u32)
+    requires { i < length capture.now.packets }
+{
+    assert_eq!(rt; (i, capture.link_of(i)), (i, link));
+    assert_eq!(rt; capture.frame(i), frame);
+}
+
+// Each packet has the link type of its interface.
+#[test]
+fn big_endian_with_two_interfaces(rt: HostRuntime) {
+    let capture = read(&rt, &TWO_INTERFACES);
+    assert!(rt; !capture.is_little_endian());
+    assert_eq!(rt; (capture.len(), capture.interface_count()), (2, 2));
+    check_packet(&rt, &capture, 0, &[11, 12, 13, 14, 15], 1);
+    check_packet(&rt, &capture, 1, &[21, 22, 23, 24, 25, 26], 101);
+}
+
+// The section of a capture, and its packets, the last one first.
+fn written_backwards(rt: &(impl Abort + AllocGlobal), capture: &NgCapture) -> Vec<u8> {
+    let mut out = Vec::new(rt.alloc());
+    push_section(&mut out, capture).expect(rt, "memory");
+    for i in (0..capture.len()).rev() {
+        push_block(&mut out, capture, i).expect(rt, "memory");
+    }
+    out
+}
+
+// The two interfaces, and then their packets, the second one first: no length of the section, and no block of another type.
+const WRITTEN_BACKWARDS: [u8; 136] = [
+    0x0a, 0x0d, 0x0d, 0x0a, 0, 0, 0, 32, 0x1a, 0x2b, 0x3c, 0x4d, 0, 1, 0, 0, 0xff, 0xff, 0xff,
+    0xff, 0xff, 0xff, 0xff, 0xff, 0, 0, 0, 0, 0, 0, 0, 32, 0, 0, 0, 1, 0, 0, 0, 20, 0, 1, 0, 0, 0,
+    0, 0, 5, 0, 0, 0, 20, 0, 0, 0, 1, 0, 0, 0, 20, 0, 101, 0, 0, 0, 0, 0, 0, 0, 0, 0, 20, 0, 0, 0,
+    6, 0, 0, 0, 40, 0, 0, 0, 1, 0, 0, 0, 0, 0, 0, 0, 0, 0, 0, 0, 6, 0, 0, 0, 6, 21, 22, 23, 24, 25,
+    26, 0, 0, 0, 0, 0, 40, 0, 0, 0, 3, 0, 0, 0, 24, 0, 0, 0, 7, 11, 12, 13, 14, 15, 0, 0, 0, 0, 0,
+    0, 24,
+];
+
+// The second interface and the packets as they were.
 #[test]
 fn written_behind_all_interfaces(rt: HostRuntime) {
-    let out = written(&rt, &read(&rt, &TWO_INTERFACES), &[1, 0]);
-    let want = without_length(&rt, &[(24, 52), (88, 148), (52, 76)]);
-    assert_eq!(rt; out.as_slice(), want.as_slice());
+    let out = written_backwards(&rt, &read(&rt, &TWO_INTERFACES));
+    assert_eq!(rt; out.as_slice(), &WRITTEN_BACKWARDS[..]);
 }

@@ -1,4 +1,6 @@
 //! Texts of plans: the least reason of each, and what keys that are left out or written come to.
+ghost use Rattle.std.specs.Prelude.{◌<◌, length};
+
 use lq_plan::{
     EventKind, EventPlan, Params, Plan, PlanReason, PlanRefusal, Split, StationPlan,
     generated_plan, read_plan,
@@ -63,15 +65,15 @@ const REFUSED: [(&[u8], PlanReason); 25] = [
     ),
 ];
 
+fn expect_refused(rt: &(impl Abort + AllocGlobal), text: &[u8], reason: PlanReason) {
+    let refusal = read_plan(rt.alloc(), text).err();
+    assert_eq!(rt; refusal, Some(PlanRefusal::Refused { reason }));
+}
+
 #[test]
 fn least_reason_of_each_text(rt: HostRuntime) {
     for (text, reason) in REFUSED {
-        let refusal = read_plan(rt.alloc(), text).err();
-        assert_eq!(rt;
-            refusal,
-            Some(PlanRefusal::Refused { reason }),
-            "{reason:?}"
-        );
+        expect_refused(&rt, text, reason);
     }
 }
 
@@ -284,44 +286,48 @@ const VERSION_3: Said = Said {
     ..NO_KEYS
 };
 
-fn check_groups(rt: &impl Abort, plan: &Plan, said: &Said) {
-    assert_eq!(rt; plan.groups() as usize, said.groups.len());
+// The first child of a group, and how many it has.
+fn group_of(plan: &Plan, j: u32) -> (u32, u32)
+    requires { j < length plan.now.groups }
+{
+    (plan.first(j), plan.mq(j))
+}
+
+fn check_groups(rt: &impl Abort, plan: &Plan, groups: &[(u32, u32)]) {
+    assert_eq!(rt; plan.groups() as usize, groups.len());
     for j in 0..plan.groups() {
-        let group = (plan.first(j), plan.mq(j));
-        assert_eq!(rt; Some(&group), said.groups.get(j as usize), "group {j}");
+        assert_eq!(rt; (j, group_of(plan, j)), (j, groups[j as usize]));
     }
 }
 
-fn check_stations(rt: &impl Abort, plan: &Plan, said: &Said) {
-    assert_eq!(rt; plan.stations() as usize, said.stations.len());
-    assert_eq!(rt; plan.children(), plan.stations());
+fn check_stations(rt: &impl Abort, plan: &Plan, stations: &[StationPlan]) {
+    assert_eq!(rt; plan.stations() as usize, stations.len());
     for j in 0..plan.stations() {
-        let station = plan.station(j);
-        assert_eq!(rt;
-            Some(&station),
-            said.stations.get(j as usize),
-            "station {j}"
-        );
+        assert_eq!(rt; (j, plan.station(j)), (j, stations[j as usize]));
     }
 }
 
-fn check_events(rt: &impl Abort, plan: &Plan, said: &Said) {
-    assert_eq!(rt; plan.events() as usize, said.events.len());
+fn check_events(rt: &impl Abort, plan: &Plan, events: &[EventPlan]) {
+    assert_eq!(rt; plan.events() as usize, events.len());
     for e in 0..plan.events() {
-        let event = plan.event(e);
-        assert_eq!(rt; Some(&event), said.events.get(e as usize), "event {e}");
+        assert_eq!(rt; (e, plan.event(e)), (e, events[e as usize]));
     }
 }
 
 fn check_plan(rt: &impl Abort, plan: &Plan, said: &Said) {
     assert_eq!(rt; plan.split(), said.split);
     assert_eq!(rt;
-        (plan.senders(), plan.irq_every(), plan.units()),
-        (said.senders, said.irq_every, said.units)
+        (
+            plan.senders(),
+            plan.irq_every(),
+            plan.units(),
+            plan.children()
+        ),
+        (said.senders, said.irq_every, said.units, plan.stations())
     );
-    check_groups(rt, plan, said);
-    check_stations(rt, plan, said);
-    check_events(rt, plan, said);
+    check_groups(rt, plan, said.groups);
+    check_stations(rt, plan, said.stations);
+    check_events(rt, plan, said.events);
 }
 
 fn check_text(rt: &(impl Abort + AllocGlobal), text: &[u8], said: &Said) {

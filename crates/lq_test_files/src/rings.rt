@@ -1,100 +1,123 @@
 //! Batches of stale slots, unconsume and resize, slot by slot.
-ghost use Rattle.std.specs.Prelude.{◌≡◌, ◌+◌, ◌<◌, IfOk};
+ghost use Rattle.std.specs.Prelude.{◌≡◌, ◌+◌, ◌<◌, ◌≤◌};
 
 use lq_model::batch;
 use lq_ring_core::{Dropped, Full, Ring, RingRefusal, resize_three};
 use std::process::Abort;
-use std::test::Fail;
 
-// A ring of eight slots that holds so many numbers.
-fn filled(rt: &HostRuntime, first: u32, count: u32) -> Result<Ring, Fail>
-    requires { first + count < 100 }
-    ensures size { IfOk result (λ ring. ring.size ≡ 8) }
-    ensures max_size { IfOk result (λ ring. ring.max_size ≡ 8) }
+// A ring of so many slots that holds nothing.
+fn empty(rt: &(impl Abort + AllocGlobal), size: u32) -> Ring
+    requires { size < 100 }
+    ensures size { result.size ≡ size }
+    ensures max_size { result.max_size ≡ size }
 {
-    let mut ring = Ring::new(rt.alloc(), 8, 8)?;
-    for n in first..first + count {
-        ring.produce(n)?;
+    Ring::new(rt.alloc(), size, size).ok().expect(rt, "a ring")
+}
+
+// Puts a number in, where the ring must have room, or none as the answer says.
+fn put(rt: &impl Abort, ring: &mut Ring, n: u32, answer: Result<(), Full>)
+    requires { n < 100 }
+{
+    assert_eq!(rt; (n, ring.produce(n)), (n, answer));
+}
+
+// Puts the numbers from the first to before the end in.
+fn put_all(rt: &impl Abort, ring: &mut Ring, first: u32, end: u32)
+    requires { end < 100 }
+{
+    for n in first..end {
+        put(rt, ring, n, Ok(()));
     }
-    Ok(ring)
 }
 
 fn expect_next(rt: &impl Abort, ring: &mut Ring, n: u32) {
     assert_eq!(rt; ring.consume(), Some(n));
 }
 
+// Takes the numbers from the first to before the end out.
+fn expect_all(rt: &impl Abort, ring: &mut Ring, first: u32, end: u32) {
+    for n in first..end {
+        expect_next(rt, ring, n);
+    }
+}
+
 #[test]
-fn a_batch_of_stale_slots_refuses(rt: HostRuntime) -> Result<(), Fail> {
-    let mut ring = Ring::new(rt.alloc(), 32, 32)?;
-    for n in 0..32 {
-        ring.produce(n)?;
-    }
-    for n in 0..15 {
-        expect_next(&rt, &mut ring, n);
-    }
-    assert_eq!(rt; ring.produce(32), Err(Full { seen: 0 }));
+fn a_batch_of_stale_slots_refuses(rt: HostRuntime) {
+    let mut ring = empty(&rt, 32);
+    put_all(&rt, &mut ring, 0, 32);
+    expect_all(&rt, &mut ring, 0, 15);
+    put(&rt, &mut ring, 32, Err(Full { seen: 0 }));
     expect_next(&rt, &mut ring, 15);
-    assert_eq!(rt; ring.produce(32), Ok(()));
-    assert_eq!(rt; ring.peek(), Some(16));
-    assert_eq!(rt; ring.size(), 32);
-    Ok(())
+    put(&rt, &mut ring, 32, Ok(()));
+    assert_eq!(rt; (ring.peek(), ring.size()), (Some(16), 32));
 }
 
 #[test]
 fn batches(rt: HostRuntime) {
-    assert_eq!(rt; batch(1), 1);
-    assert_eq!(rt; batch(31), 1);
-    assert_eq!(rt; batch(32), 16);
-    assert_eq!(rt; batch(4096), 16);
+    let found = (batch(1), batch(31), batch(32), batch(4096));
+    assert_eq!(rt; found, (1, 1, 16, 16));
 }
 
 #[test]
 fn no_slots(rt: HostRuntime) {
-    let refusal = match Ring::new(rt.alloc(), 0, 8) {
-        Ok(_) => None,
-        Err(refusal) => Some(refusal),
-    };
+    let refusal = Ring::new(rt.alloc(), 0, 8).err();
     assert_eq!(rt; refusal, Some(RingRefusal::ZeroSize));
 }
 
-#[test]
-fn unconsume_destroys_what_finds_no_slot(rt: HostRuntime) -> Result<(), Fail> {
-    let mut ring = Ring::new(rt.alloc(), 6, 6)?;
-    for n in 1..7 {
-        ring.produce(n)?;
-    }
+// Takes four numbers in one batch.
+fn expect_four(rt: &impl Abort, ring: &mut Ring, numbers: [u32; 4]) {
     let mut taken = [0; 4];
-    assert_eq!(rt; ring.consume_batched(&mut taken), 4);
-    assert_eq!(rt; taken, [1, 2, 3, 4]);
-    ring.produce(7)?;
-    ring.produce(8)?;
-    assert_eq!(rt; ring.unconsume(&[1, 2, 3, 4]), 2);
-    for n in 3..9 {
-        expect_next(&rt, &mut ring, n);
-    }
-    assert_eq!(rt; ring.consume(), None);
-    Ok(())
+    let count = ring.consume_batched(&mut taken);
+    assert_eq!(rt; (count, taken), (4, numbers));
 }
 
 #[test]
-fn three_rings_shrink(rt: HostRuntime) -> Result<(), Fail> {
-    let mut a = filled(&rt, 10, 5)?;
-    let mut b = filled(&rt, 20, 0)?;
-    let mut c = filled(&rt, 30, 3)?;
+fn unconsume_destroys_what_finds_no_slot(rt: HostRuntime) {
+    let mut ring = empty(&rt, 6);
+    put_all(&rt, &mut ring, 1, 7);
+    expect_four(&rt, &mut ring, [1, 2, 3, 4]);
+    put_all(&rt, &mut ring, 7, 9);
+    assert_eq!(rt; ring.unconsume(&[1, 2, 3, 4]), 2);
+    expect_all(&rt, &mut ring, 3, 9);
+    assert_eq!(rt; ring.consume(), None);
+}
+
+// A ring of eight slots that holds so many numbers.
+fn filled(rt: &(impl Abort + AllocGlobal), first: u32, count: u32) -> Ring
+    requires { first + count < 100 }
+    ensures size { result.size ≡ 8 }
+    ensures max_size { result.max_size ≡ 8 }
+{
+    let mut ring = empty(rt, 8);
+    for n in first..first + count {
+        ring.produce(n).expect(rt, "room");
+    }
+    ring
+}
+
+// What three rings of eight slots drop when they shrink to two, with 99 where nothing was dropped.
+fn shrunk(a: &mut Ring, b: &mut Ring, c: &mut Ring) -> (Dropped, [u32; 24])
+    requires a { (a.old.size ≡ 8) × (a.old.max_size ≡ 8) }
+    requires b { (b.old.size ≡ 8) × (b.old.max_size ≡ 8) }
+    requires c { (c.old.size ≡ 8) × (c.old.max_size ≡ 8) }
+{
     let mut dropped = [99; 24];
-    let counts = resize_three(&mut a, &mut b, &mut c, 2, &mut dropped);
-    assert_eq!(rt; counts, Dropped { a: 3, b: 0, c: 1 });
-    assert_eq!(rt;
-        dropped,
-        [
-            12, 13, 14, 32, 99, 99, 99, 99, 99, 99, 99, 99, 99, 99, 99, 99, 99, 99, 99, 99, 99, 99,
-            99, 99,
-        ],
-    );
-    expect_next(&rt, &mut a, 10);
-    expect_next(&rt, &mut a, 11);
-    assert_eq!(rt; a.peek(), None);
-    assert_eq!(rt; b.peek(), None);
-    assert_eq!(rt; c.produce(33), Err(Full { seen: 30 }));
-    Ok(())
+    let counts = resize_three(a, b, c, 2, &mut dropped);
+    (counts, dropped)
+}
+
+const DROPPED: [u32; 24] = [
+    12, 13, 14, 32, 99, 99, 99, 99, 99, 99, 99, 99, 99, 99, 99, 99, 99, 99, 99, 99, 99, 99, 99, 99,
+];
+
+#[test]
+fn three_rings_shrink(rt: HostRuntime) {
+    let mut a = filled(&rt, 10, 5);
+    let mut b = filled(&rt, 20, 0);
+    let mut c = filled(&rt, 30, 3);
+    let found = shrunk(&mut a, &mut b, &mut c);
+    assert_eq!(rt; found, (Dropped { a: 3, b: 0, c: 1 }, DROPPED));
+    expect_all(&rt, &mut a, 10, 12);
+    assert_eq!(rt; (a.peek(), b.peek()), (None, None));
+    put(&rt, &mut c, 33, Err(Full { seen: 30 }));
 }

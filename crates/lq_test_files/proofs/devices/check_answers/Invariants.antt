@@ -3,4 +3,4 @@ use Rattle.lq_device.specs.Bench.{bench_state}
 use Rattle.lq_test_files.proofs.devices.check_answers.Given as goal
 
 abbrev pub invariant-loop-n : goal.invariant-loop-n
-invariant-loop-n g l = length l.answers ≤ (bench_state l.device).spare + l.n-counter
+invariant-loop-n g l = length l.answers ≤ (bench_state l.device).spare + l.n
