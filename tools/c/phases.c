@@ -1,6 +1,6 @@
 /*
- * Preloaded into a program: at its end writes to the file that PHASES names how many seconds lay between the start of its
- * first thread and the moment when no thread was left for the first time. Threads that it starts later, to make its texts, don't count.
+ * Preloaded into a program: at its end writes to the file that PHASES names a line for each time in which threads ran, in order: how many
+ * seconds lay between the start of a thread where there was none and the moment when none was left.
  */
 #define _GNU_SOURCE
 #include <dlfcn.h>
@@ -10,8 +10,10 @@
 #include <time.h>
 #include <unistd.h>
 
-static double first_start, last_end;
-static int running;
+#define MOST 64
+
+static double phase[MOST];
+static int count, running;
 
 static double seconds(void)
 {
@@ -25,9 +27,9 @@ int pthread_create(pthread_t *thread, const pthread_attr_t *attr, void *(*run)(v
 {
 	int (*real)(pthread_t *, const pthread_attr_t *, void *(*)(void *), void *) = dlsym(RTLD_NEXT, "pthread_create");
 
-	if (!first_start)
-		first_start = seconds();
-	__atomic_add_fetch(&running, 1, __ATOMIC_SEQ_CST);
+	/* a thread that starts the first one is alone */
+	if (__atomic_fetch_add(&running, 1, __ATOMIC_SEQ_CST) == 0 && count < MOST)
+		phase[count] = -seconds();
 	return real(thread, attr, run, arg);
 }
 
@@ -36,19 +38,20 @@ int pthread_join(pthread_t thread, void **result)
 	int (*real)(pthread_t, void **) = dlsym(RTLD_NEXT, "pthread_join");
 	int answer = real(thread, result);
 
-	if (__atomic_sub_fetch(&running, 1, __ATOMIC_SEQ_CST) == 0 && !last_end)
-		last_end = seconds();
+	if (__atomic_sub_fetch(&running, 1, __ATOMIC_SEQ_CST) == 0 && count < MOST)
+		phase[count++] += seconds();
 	return answer;
 }
 
 __attribute__((destructor)) static void tell(void)
 {
 	const char *name = getenv("PHASES");
-	FILE *file = name && last_end ? fopen(name, "w") : NULL;
+	FILE *file = name && count ? fopen(name, "w") : NULL;
 
 	if (!file)
 		return;
-	fprintf(file, "%.6f\n", last_end - first_start);
+	for (int i = 0; i < count; i++)
+		fprintf(file, "%.6f\n", phase[i]);
 	fclose(file);
 }
 
