@@ -19,6 +19,13 @@ const THREADS: usize = 4;
 /// Fewer packets are looked at by the calling thread alone: to start threads would take longer.
 const FEW: usize = 4_096;
 
+/// How many threads look at so many packets side by side.
+pub fn threads_for(packets: usize) -> usize
+    ensures { 0 < result }
+{
+    if packets < FEW { 1 } else { THREADS }
+}
+
 /// What stands at a packet's place until it is looked at.
 const NONE: Info = Info {
     rank: 0,
@@ -73,7 +80,7 @@ fn lay_unranked<R: Threads + Sync, F: Frames + Sync>(
     requires few { length infos.old ≤ 1000000 }
     ensures { AreUnranked plan.now (F.packets frames.now) infos.new }
 {
-    let threads = if infos.len() < FEW { 1 } else { THREADS };
+    let threads = threads_for(infos.len());
     thread::for_each_mut(
         rt,
         infos,

@@ -1,8 +1,7 @@
 -- After a run each packet's fate can be read, and is read.
-use Rattle.std.proofs.Common.{◌≡◌, ℕ, ◌+◌, ◌<◌, List, [], ◌∷◌, ◌++◌, inl, inr, length, map, Some, refl, sym, ap, ◌∙◌, subst, arith, length-append}
-use Rattle.std.specs.Prelude.{slice_get, slice_index, slice_index_or}
-use Rattle.std.proofs.lemmas.Option.{same_Some, slice_get-get_or}
-use Rattle.lq_account.proofs.Lists.{get-push-cases}
+use Rattle.std.proofs.Common.{◌≡◌, ℕ, ◌+◌, ◌<◌, List, inl, inr, length, Option, Some, refl, sym, ap, ◌∙◌, subst, arith}
+use Rattle.std.specs.Prelude.{slice_get, slice_index, slice_set}
+use Rattle.std.proofs.lemmas.Option.{same_Some, slice_get_within}
 use Rattle.lq_model.specs.Device.{DeviceState}
 use Rattle.lq_model.specs.Plan.{Plan, station_in}
 use Rattle.lq_model.specs.Words.{IsWordOf}
@@ -11,13 +10,13 @@ use Rattle.lq_model.specs.declared.fate.Fate.{Fate}
 use Rattle.lq_model.specs.declared.fate.Fate.TheVariants as fate
 use Rattle.lq_model.specs.declared.fate.Info.{Info}
 use Rattle.lq_seat.specs.State.{SeatState, Setup, seat_account}
-use Rattle.lq_senders.specs.Ends.{ClosedState, FatesRead, HasSentAll, IsClosedStation, IsReadable}
+use Rattle.lq_senders.specs.Ends.{AreLent, AreRead, CanRead, ClosedState, FatesRead, HasSentAll, IsClosedStation, IsLentBy, IsReadable}
 use Rattle.lq_senders.specs.Lanes.{IsSendable}
-use Rattle.lq_senders.proofs.Lists.{length-mapped}
-use Rattle.lq_senders.proofs.Seats.{mapped-at, read-at}
-use Rattle.lq_senders.proofs.Turns.{event-there}
-use Rattle.lq_senders.proofs.Sent.{station-is}
+use Rattle.lq_senders.proofs.Seats.{set-apart, set-here}
 use Rattle.lq_senders.proofs.Starts.{of-plan}
+use Rattle.lq_senders.proofs.Turns.{event-there}
+use Rattle.lq_senders.proofs.Ways.{below-or-at}
+use Rattle.lq_table.specs.declared.ended.FateWords.{FateWords}
 
 -- AFTER A RUN
 
@@ -51,23 +50,35 @@ no-fate (fate.Purged (cause.Event event)) is = let e = is.word_is in omega arith
 no-fate (fate.Purged (cause.Hung unit)) is = let e = is.word_is in omega arith
 no-fate (fate.Refused event) is = let e = is.word_is in omega arith
 
--- the closed table of a packet's station
-pub read-here : {X : Type 0} (state : X → ClosedState) (closed : List X) (infos : List Info) (n : ℕ) (d : Info) (x : X) → IsReadable infos (map state closed) → n < length infos
-    → x ≡ slice_index_or closed (slice_index_or infos n d).station x → slice_get (map state closed) (station_in infos n) ≡ Some (state x)
-read-here state closed infos n d x readable inside is =
-    let station : station_in infos n ≡ (slice_index_or infos n d).station = station-is infos n (slice_index_or infos n d) (slice_get-get_or infos n d inside) in
-    let below : station_in infos n < length closed = (let within = readable.stations n inside in let long = length-mapped state closed in omega arith) in
-    mapped-at state closed (station_in infos n) x (read-at closed (station_in infos n) x below (is ∙ ap (λ (k : ℕ). slice_index_or closed k x) (sym station)))
-
-pub one-more-read : (infos : List Info) (closed : List ClosedState) (n : ℕ) (fates : List Fate) (x : ClosedState) (fate : Fate) → slice_get closed (station_in infos n) ≡ Some x → IsWordOf fate (slice_index x.ended.words n)
-    → FatesRead infos closed n fates → FatesRead infos closed (n + 1) (fates ++ fate ∷ [])
-one-more-read infos closed n fates x fate at word read = record {
-  so_many = let so_many = read.so_many in omega (arith, length-append fates (fate ∷ []));
-  each = λ m y f at-y there. elim (get-push-cases fates fate f m there) [
-    | inl old ↦ read.each m y f at-y old
-    | inr (last, same) ↦
-        (let here : m ≡ n = last ∙ read.so_many in
-        let y-is : x ≡ y = same_Some x y (sym at ∙ (ap (λ k. slice_get closed (station_in infos k)) (sym here) ∙ at-y)) in
-        subst (λ (z : ℕ × ClosedState × Fate). IsWordOf z.2 (slice_index z.1.ended.words z.0)) (λ i. (sym here i, y-is i, same i)) word)
+-- the words of one more station
+pub one-more-lent : (closed : List ClosedState) (count : ℕ) (lent : List (Option FateWords)) (y : ClosedState) (w : FateWords) → count < length lent → slice_get closed count ≡ Some y → IsLentBy y w
+    → AreLent closed count lent → AreLent closed (count + 1) (slice_set lent count (Some w))
+one-more-lent closed count lent y w room here is all = record {
+  each = λ station x below at. elim (below-or-at station count (omega (arith, below))) [
+    | inl less ↦ (let old = all.each station x less at in (old.0, set-apart lent count station (Some w) (λ same. omega (arith, less, same)) ∙ old.1, old.2))
+    | inr same ↦ (w, ap (slice_get (slice_set lent count (Some w))) same ∙ set-here lent count (Some w) room, subst (λ z. IsLentBy z w) (same_Some y x (sym here ∙ (ap (slice_get closed) (sym same) ∙ at))) is)
   ];
 }
+
+module _ (infos : List Info) (closed : List ClosedState) (lent : List (Option FateWords)) (all : AreLent closed (length closed) lent) (readable : IsReadable infos closed) where
+  -- the closed table of the packet's station, and its words
+  lent-at : (n : ℕ) → n < length infos → (x : ClosedState) × (slice_get closed (station_in infos n) ≡ Some x) × ((w : FateWords) × (slice_get lent (station_in infos n) ≡ Some (Some w)) × IsLentBy x w)
+  lent-at n inside =
+      let x = event-there closed (station_in infos n) (readable.stations n inside) in
+      (x.0, x.1, all.each (station_in infos n) x.0 (readable.stations n inside) x.1)
+
+  pub can-read : (n : ℕ) → n < length infos → CanRead infos lent n
+  can-read n inside =
+      let at = lent-at n inside in
+      let w = at.2.0 in
+      let is = at.2.2 in
+      let fate = readable.each n at.0 inside at.1 in
+      (w, at.2.1, (let packets = readable.packets n at.0 inside at.1 in let same = is.packets in omega arith), (fate.0, subst (λ words. IsWordOf fate.0 (slice_index words n)) (sym is.fates) fate.1))
+
+  pub all-read : (fates : List Fate) → length fates ≡ length infos → AreRead infos lent fates → FatesRead infos closed (length infos) fates
+  all-read fates long read = record {
+    so_many = long;
+    each = λ n x fate at there.
+        let w = all.each (station_in infos n) x (slice_get_within closed (station_in infos n) x at) at in
+        subst (λ words. IsWordOf fate (slice_index words n)) (w.2.fates) (read n fate there w.0 w.1);
+  }

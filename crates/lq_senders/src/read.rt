@@ -1,24 +1,79 @@
-//! The fates are read off the closed tables.
-ghost use Rattle.std.specs.Prelude.{◌≡◌, ◌≤◌, [], length, map, vec_capacity};
-ghost use Rattle.lq_senders.specs.Ends.{FatesRead, IsReadable, closed_state};
+//! The fates are read off the closed tables, by threads side by side.
+ghost use Rattle.std.specs.Prelude.{◌≡◌, ◌<◌, ◌≤◌, ℕ, length, map};
+ghost use Rattle.lq_senders.specs.Ends.{AreLent, AreRead, CanRead, FatesRead, IsRead, IsReadable, closed_state};
 
 use lq_device::TxDevice;
 use lq_model::{Fate, Info};
-use lq_table::Closed;
+use lq_plan::{MAX_STATIONS, threads_for};
+use lq_table::{Closed, FateWords};
+use std::marker::Sync;
+use std::thread;
+use std::thread::Threads;
 
-/// Reads each packet's fate off the closed table of its station. Takes no memory.
-pub fn read_fates<D: TxDevice>(closed: &[Closed<D>], infos: &[Info], fates: &mut Vec<Fate>)
+/// The fate words of each station, at its number.
+type Lent<'a> = [Option<FateWords<'a>>; MAX_STATIONS as usize];
+
+/// Reads each packet's fate off the closed table of its station, and lays it at the packet's place. Takes no memory.
+///
+/// Threads read side by side. They share the words that the tables lend, and not the tables: these hold the devices.
+pub fn read_fates<R: Threads + Sync, D: TxDevice>(
+    rt: &R,
+    closed: &[Closed<D>],
+    infos: &[Info],
+    fates: &mut [Fate],
+)
     requires few { length infos.now ≤ 1000000 }
+    requires stations { length closed.now ≤ 8 }
     requires readable { IsReadable infos.now (map closed_state closed.now) }
-    requires none_yet { fates.old.items ≡ [] }
-    requires room { length infos.now ≤ vec_capacity fates.old }
-    ensures { FatesRead infos.now (map closed_state closed.now) (length infos.now) fates.new.items }
+    requires places { length fates.old ≡ length infos.now }
+    ensures { FatesRead infos.now (map closed_state closed.now) (length infos.now) fates.new }
 {
-    for n in 0..infos.len() as u32 {
-        let station = infos[n as usize].station;
-        match closed[station as usize].fate(n) {
-            Some(fate) => fates.push_reserved(fate),
-            None => unreachable!(),
-        }
+    let lent = lent_words(closed);
+    read_each(rt, &lent, infos, fates);
+}
+
+// The fate words of the closed tables.
+fn lent_words<D: TxDevice>(closed: &[Closed<D>]) -> Lent<'_>
+    requires stations { length closed.now ≤ 8 }
+    ensures { AreLent (map closed_state closed.now) (length closed.now) result }
+{
+    let mut lent = [None; MAX_STATIONS as usize];
+    for station in 0..closed.len() {
+        lent[station] = Some(closed[station].fate_words());
     }
+    lent
+}
+
+// Lays each packet's fate at its place.
+fn read_each<R: Threads + Sync>(rt: &R, lent: &Lent<'_>, infos: &[Info], fates: &mut [Fate])
+    requires few { length infos.now ≤ 1000000 }
+    requires readable { (n : ℕ) → n < length infos.now → CanRead infos.now lent.now n }
+    requires places { length fates.old ≡ length infos.now }
+    ensures { AreRead infos.now lent.now fates.new }
+{
+    thread::for_each_mut(
+        rt,
+        fates,
+        threads_for(infos.len()),
+        &|n, fate: &mut Fate|
+            requires { (n < length infos.now) × (length infos.now ≤ 1000000) × CanRead infos.now lent.now n }
+            ensures { IsRead infos.entry.now lent.entry.now n fate.new }
+        { *fate = read(lent, infos, n as u32) },
+    );
+}
+
+// The fate of packet `n`.
+fn read(lent: &Lent<'_>, infos: &[Info], n: u32) -> Fate
+    requires packet { n < length infos.now }
+    requires readable { CanRead infos.now lent.now n }
+    ensures { IsRead infos.now lent.now n result }
+{
+    let station = infos[n as usize].station;
+    let Some(words) = lent[station as usize] else {
+        unreachable!()
+    };
+    let Some(fate) = words.fate(n) else {
+        unreachable!()
+    };
+    fate
 }

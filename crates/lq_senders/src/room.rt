@@ -10,7 +10,10 @@ use lq_plan::Plan;
 use lq_table::{Closed, Ended};
 use std::alloc::Global;
 
-/// Empty lists, with room for what a run lays into them.
+/// What stands at a packet's place until its fate is read.
+const NOT_READ: Fate = Fate::Refused { event: 0 };
+
+/// Empty lists, with room for what a run lays into them, and a place for the fate of each packet.
 #[derive(Drop)]
 pub struct Room<D: TxDevice> {
     /// The senders but the first, each with room for its seats.
@@ -19,7 +22,7 @@ pub struct Room<D: TxDevice> {
     pub closed: Vec<Closed<D>>,
     /// The devices that come out of them.
     pub homes: Vec<D>,
-    /// The fate of each packet.
+    /// The places of the packets' fates.
     pub fates: Vec<Fate>,
     /// What stays of each station.
     pub ended: Vec<Ended<D>>,
@@ -34,7 +37,9 @@ pub fn take_room<D: TxDevice>(
     ensures { IfOk result (λ room. HasRoomForRun plan.now (length infos.now) room) }
 {
     let count = plan.stations() as usize;
-    let fates = room_for(alloc, infos.len())?;
+    let Ok(fates) = vec![in alloc; NOT_READ; infos.len()] else {
+        return Err(NoMemory);
+    };
     let others = lanes_for(alloc, plan)?;
     let closed = room_for(alloc, count)?;
     let ended = room_for(alloc, count)?;

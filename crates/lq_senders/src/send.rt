@@ -82,7 +82,12 @@ fn send_ready<'r, 'a, R: Threads + Wait + Sync, D: TxDevice, G: Gate>(
     runs_leave_stations();
     runs_leave_devices();
     runs_keep_boxes();
-    read_fates(room.closed.as_slice(), job.infos, &mut room.fates);
+    read_fates(
+        rt,
+        room.closed.as_slice(),
+        job.infos,
+        room.fates.as_mut_slice(),
+    );
     take_apart(room.closed, &mut room.homes, &mut room.ended);
     hand_back(job.plan, room.homes, spares, bench);
     Results {

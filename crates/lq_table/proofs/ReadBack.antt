@@ -1,7 +1,7 @@
 -- What is read of a closed table.
-use Rattle.std.proofs.Common.{◌≡◌, ℕ, zero, suc, ◌+◌, ◌<◌, List, [], ◌∷◌, length, take, drop, get_or, sym, ap, ◌∙◌, arith, Option, Some, None}
+use Rattle.std.proofs.Common.{◌≡◌, ℕ, zero, suc, ◌+◌, ◌<◌, ◌≤◌, List, [], ◌∷◌, length, take, drop, get_or, sym, ap, ◌∙◌, arith, Option, Some, None}
 use Rattle.std.specs.Prelude.{IfNone}
-use Rattle.std.proofs.lemmas.List.{get_or-take, get_or-drop}
+use Rattle.std.proofs.lemmas.List.{get_or-take, get_or-drop, get_or_default}
 use mathlib.Core.Option.{some, some-injective, some-ne-none}
 use lib.ListN.{get_elem?}
 
@@ -11,8 +11,8 @@ got (y ∷ ys) zero x d e = some-injective y x e
 got (y ∷ ys) (suc i) x d e = got ys i x d e
 
 -- the word of the n-th fate
-pub fate_read : (words : List ℕ) (from packets n word : ℕ) → n < packets → get_elem? words (from + n) ≡ some word → get_or (take packets (drop from words)) n 0 ≡ word
-fate_read words from packets n word below at = get_or-take packets (drop from words) n 0 below ∙ (get_or-drop from words n 0 ∙ got words (from + n) word 0 at)
+pub fate_read : (words : List ℕ) (from packets n word : ℕ) → n < packets → from + packets ≤ length words → word ≡ get_or words (from + n) word → get_or (take packets (drop from words)) n 0 ≡ word
+fate_read words from packets n word below long is = get_or-take packets (drop from words) n 0 below ∙ (get_or-drop from words n 0 ∙ (get_or_default words (from + n) 0 word (omega (arith, below, long)) ∙ sym is))
 
 pub if_none : {A P Q : Type 0} (o : Option A) → (P → Q) → IfNone o P → IfNone o Q
 if_none None f p = f p

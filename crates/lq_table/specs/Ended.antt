@@ -4,6 +4,7 @@ use Rattle.std.specs.Mem.Slots.{slots_items}
 use Rattle.lq_device.specs.declared.device.TxDevice.{Ghosts}
 use Rattle.lq_model.specs.declared.plan.StationPlan.{StationPlan}
 use Rattle.lq_table.specs.declared.ended.Ended.{Ended}
+use Rattle.lq_table.specs.declared.ended.FateWords.{FateWords}
 
 -- the number of a closed station, the plan that it was opened with, and the fate words of its packets
 pub record EndedState : Type 0 where
@@ -19,3 +20,7 @@ module _ {D : Type 0} {g : Ghosts D} where
 
   abbrev pub ended_state : Ended D g → EndedState
   ended_state e = record { number = e.number; plan = e.plan; packets = e.packets; words = ended_fates e }
+
+-- the same of words that were lent
+abbrev pub lent_fates : FateWords → List ℕ
+lent_fates w = take w.packets (drop w.from (slots_items w.words.now))

@@ -5,9 +5,9 @@ ghost use Rattle.lq_model.specs.Words.{IsWordOf};
 ghost use Rattle.lq_run_core.specs.Numbered.{greatest};
 ghost use Rattle.lq_table.specs.Places.{state_place, lock_place, inside_place, size_place};
 ghost use Rattle.lq_table.specs.Sees.{closed_words, closed_stops, closed_fates, closed_home};
-ghost use Rattle.lq_table.specs.Ended.{ended_fates};
+ghost use Rattle.lq_table.specs.Ended.{lent_fates};
 
-use crate::ended::{Closed, Ended};
+use crate::ended::{Closed, Ended, FateWords};
 use crate::places::{INSIDE, LOCK, SIZE, STATE, XOFF};
 use lq_device::{StationPlan, TxDevice};
 use lq_model::{Fate, word_fate};
@@ -41,25 +41,31 @@ impl<D: TxDevice> Ended<D> {
     {
         self.plan
     }
+}
 
+impl FateWords<'_> {
     /// The fate of packet `n`: None exactly where its fate word is 0.
     pub fn fate(&self, n: u32) -> Option<Fate>
         requires packet { n < self.now.packets }
-        ensures some { IfSome result (λ fate. IsWordOf fate (slice_index (ended_fates self.now) n)) }
-        ensures none { IfNone result (slice_index (ended_fates self.now) n ≡ 0) }
+        ensures some { IfSome result (λ fate. IsWordOf fate (slice_index (lent_fates self.now) n)) }
+        ensures none { IfNone result (slice_index (lent_fates self.now) n ≡ 0) }
     {
-        word_fate(self.table.word(self.fates_from + n as usize))
+        word_fate(*self.words.get(self.from + n as usize))
     }
 }
 
 impl<D: TxDevice> Closed<D> {
-    /// The fate of packet `n`: None exactly where its fate word is 0.
-    pub fn fate(&self, n: u32) -> Option<Fate>
-        requires packet { n < self.now.ended.packets }
-        ensures some { IfSome result (λ fate. IsWordOf fate (slice_index (closed_fates self.now) n)) }
-        ensures none { IfNone result (slice_index (closed_fates self.now) n ≡ 0) }
+    /// The words in which the fates of its packets stand.
+    pub fn fate_words(&self) -> FateWords<'_>
+        ensures fates { lent_fates result ≡ closed_fates self.now }
+        ensures packets { result.packets ≡ self.now.ended.packets }
     {
-        self.ended.fate(n)
+        let ended = &self.ended;
+        FateWords {
+            words: &ended.table.words,
+            from: ended.fates_from,
+            packets: ended.packets,
+        }
     }
 
     fn greatest_stop(&self) -> u64

@@ -5,8 +5,10 @@ ghost use Rattle.lq_table.specs.Places.{line_of};
 ghost use Rattle.lq_table.specs.Written.{AreWritten};
 
 use atomic_table::Closed as ClosedTable;
+use core::slots::Slots;
 use lq_device::{Station, StationPlan, TxDevice};
 use std::alloc::Global;
+use std::marker::Sync;
 
 /// What stays of a closed station when its device is handed out: its number, its plan and its packets' fates.
 pub struct Ended<D: TxDevice> {
@@ -37,6 +39,23 @@ pub struct Closed<D: TxDevice> {
     pub(crate) queues: usize,
     pub ghost stopped: { (0 < queues) × (ended.fates_from + ended.packets + queues ≡ slots_len ended.table.words + 1) },
 }
+
+/// The fate words of a closed table, lent. Threads may share them whatever the station's device is, since no device is among them;
+/// the table itself they may not share, for its device may be one that only one thread at a time may look at.
+#[derive(Clone, Copy)]
+pub struct FateWords<'a> {
+    /// All words of the table.
+    pub(crate) words: &'a Slots<u64>,
+    /// The place of the first packet's fate among them.
+    pub(crate) from: usize,
+    /// How many packets the capture has, each with a fate word.
+    pub(crate) packets: usize,
+    ghost long: { from + packets ≤ slots_len words.now },
+    ghost full: { IsFull words.now },
+    ghost written: { AreWritten from packets (slots_items words.now) },
+}
+
+unsafe impl Sync for FateWords<'_> {}
 
 impl<D: TxDevice> Drop for Ended<D> {
     fn drop(self) {

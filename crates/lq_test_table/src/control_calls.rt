@@ -120,7 +120,7 @@ fn close<'a, A: Abort, D: TxDevice>(
     assert_eq!(rt; fates.len(), packets);
     let closed = shared.close(cpu);
     for n in 0..packets {
-        assert_eq!(rt; closed.fate(n as u32), fates[n]);
+        assert_eq!(rt; closed.fate_words().fate(n as u32), fates[n]);
     }
 }
 

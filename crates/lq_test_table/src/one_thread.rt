@@ -109,7 +109,7 @@ fn check_fates<A: Abort, D: TxDevice>(rt: &A, closed: &Closed<D>, fates: &[Fate]
 {
     for n in 0..fates.len() {
         assert!(rt; n < 100);
-        assert_eq!(rt; closed.fate(n as u32), Some(fates[n]));
+        assert_eq!(rt; closed.fate_words().fate(n as u32), Some(fates[n]));
     }
 }
 

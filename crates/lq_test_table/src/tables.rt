@@ -136,7 +136,7 @@ pub fn fates<'a, A: Abort, D: TxDevice>(
     let closed = shared.close(cpu);
     let mut fates = Vec::new(alloc);
     for n in 0..packets {
-        let fate = closed.fate(n as u32).expect(rt, "a fate");
+        let fate = closed.fate_words().fate(n as u32).expect(rt, "a fate");
         fates.push(fate).expect(rt, "memory");
     }
     fates

@@ -1,8 +1,10 @@
-use Rattle.std.proofs.Common.{◌++◌, List, length, sym, ap, ◌∙◌, subst, arith, map}
-use Rattle.std.proofs.lemmas.List.{length-map}
+use Rattle.std.proofs.Common.{◌++◌, List, drop, length, sym, ap, ◌∙◌, subst, arith, map}
+use Rattle.std.proofs.lemmas.List.{length-map, take_at}
 use Rattle.lq_model.specs.Plan.{unit_count}
+use Rattle.lq_model.specs.declared.fate.Fate.{Fate}
 use Rattle.lq_seat.specs.State.{TableState}
 use Rattle.lq_senders.specs.Ends.{FatesRead, IsReadable, closed_state, home_device}
+use Rattle.lq_senders.specs.Fates.{AreEnded, AreFatesOf}
 use Rattle.lq_table.specs.Ended.{ended_state}
 use Rattle.lq_senders.specs.Lanes.{AreReadyLanes}
 use Rattle.lq_senders.specs.Setup.{AreSplitting}
@@ -89,11 +91,12 @@ returns-clause-fates g c before ready =
     let spares = states c.run-spares.result.items in
     let rest = states c.args.bench.now.items in
     let after = states c.hand_back.new.bench.items in
-    let fates = c.read_fates.new.fates.items in
-    c.runs_make_fates.ensures plan infos before after others start brought closed spares fates c.run-spares.ensures c.args.job.now.sendable
+    let fates = c.read_fates.new.fates in
+    subst (λ (laid : List Fate). AreFatesOf plan infos laid before after) (sym (take_at fates (drop (length fates) c.args.room.fates.items) c.args.room.fates.len (let same = c.read_fates.auto.fates in let long = c.as_mut_slice.ensures.len in omega arith)))
+    (c.runs_make_fates.ensures plan infos before after others start brought closed spares fates c.run-spares.ensures c.args.job.now.sendable
     (are-over plan infos before c.args.units.stations.tables.items c.args.units.stations.cpus.items brought ready start c.split_lanes.ensures.devices others c.split_lanes.ensures.one_each c.split_lanes.ensures.alone)
     (subst (λ (xs : List _). FatesRead infos (map h xs) (length infos) fates) c.as_slice-2.ensures.value c.read_fates.ensures)
-    (are-back plan closed spares after rest (c.hand_back.ensures.states ∙ ap (λ homes. by_unit plan homes spares ++ rest) c.take_apart.ensures.homes))
+    (are-back plan closed spares after rest (c.hand_back.ensures.states ∙ ap (λ homes. by_unit plan homes spares ++ rest) c.take_apart.ensures.homes)))
 
 pub returns-clause-ended : goal.returns-clause-ended
 returns-clause-ended g c =
@@ -105,10 +108,11 @@ returns-clause-ended g c =
     let brought = states c.args.units.spares.items in
     let closed = map h c.run-spares.new.closed.items in
     let spares = states c.run-spares.result.items in
-    let fates = c.read_fates.new.fates.items in
-    stays-are plan infos fates closed (map (ended_state {D = g.row.D.Denot} {g = g.D.TxDevice}) c.take_apart.new.ended.items) (closed-many plan infos others start brought closed spares c.run-spares.ensures) c.take_apart.ensures.ended
+    let fates = c.read_fates.new.fates in
+    subst (λ (laid : List Fate). AreEnded plan infos laid (map (ended_state {D = g.row.D.Denot} {g = g.D.TxDevice}) c.take_apart.new.ended.items)) (sym (take_at fates (drop (length fates) c.args.room.fates.items) c.args.room.fates.len (let same = c.read_fates.auto.fates in let long = c.as_mut_slice.ensures.len in omega arith)))
+    (stays-are plan infos fates closed (map (ended_state {D = g.row.D.Denot} {g = g.D.TxDevice}) c.take_apart.new.ended.items) (closed-many plan infos others start brought closed spares c.run-spares.ensures) c.take_apart.ensures.ended
     (c.runs_leave_stations.ensures plan infos others start brought closed spares fates c.run-spares.ensures
-    (subst (λ (xs : List _). FatesRead infos (map h xs) (length infos) fates) c.as_slice-2.ensures.value c.read_fates.ensures))
+    (subst (λ (xs : List _). FatesRead infos (map h xs) (length infos) fates) c.as_slice-2.ensures.value c.read_fates.ensures)))
 
 pub returns-clause-boxes : goal.returns-clause-boxes
 returns-clause-boxes g c before ready =
