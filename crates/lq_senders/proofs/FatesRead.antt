@@ -5,12 +5,10 @@ use Rattle.std.proofs.lemmas.Option.{same_Some, slice_get_within}
 use Rattle.lq_model.specs.Device.{DeviceState}
 use Rattle.lq_model.specs.Plan.{Plan, station_in}
 use Rattle.lq_model.specs.Words.{IsWordOf}
-use Rattle.lq_model.specs.declared.fate.Cause.TheVariants as cause
 use Rattle.lq_model.specs.declared.fate.Fate.{Fate}
-use Rattle.lq_model.specs.declared.fate.Fate.TheVariants as fate
 use Rattle.lq_model.specs.declared.fate.Info.{Info}
 use Rattle.lq_seat.specs.State.{SeatState, Setup, seat_account}
-use Rattle.lq_senders.specs.Ends.{AreLent, AreRead, CanRead, ClosedState, FatesRead, HasSentAll, IsClosedStation, IsLentBy, IsReadable}
+use Rattle.lq_senders.specs.Ends.{AreLent, AreFatesAmong, HasFateAmong, ClosedState, FatesRead, HasSentAll, IsClosedStation, IsLentBy, IsReadable}
 use Rattle.lq_senders.specs.Lanes.{IsSendable}
 use Rattle.lq_senders.proofs.Seats.{set-apart, set-here}
 use Rattle.lq_senders.proofs.Starts.{of-plan}
@@ -41,15 +39,6 @@ module _ (plan : Plan) (infos : List Info) (others : ℕ) (start : List SeatStat
 
 -- READING
 
--- no fate has the word 0
-pub no-fate : (fate : Fate) → IsWordOf fate 0 → ⊥
-no-fate (fate.Sent unit serial) is = let e = is.word_is in omega arith
-no-fate (fate.Full seen) is = let e = is.word_is in omega arith
-no-fate (fate.Shrunk event) is = let e = is.word_is in omega arith
-no-fate (fate.Purged (cause.Event event)) is = let e = is.word_is in omega arith
-no-fate (fate.Purged (cause.Hung unit)) is = let e = is.word_is in omega arith
-no-fate (fate.Refused event) is = let e = is.word_is in omega arith
-
 -- the words of one more station
 pub one-more-lent : (closed : List ClosedState) (count : ℕ) (lent : List (Option FateWords)) (y : ClosedState) (w : FateWords) → count < length lent → slice_get closed count ≡ Some y → IsLentBy y w
     → AreLent closed count lent → AreLent closed (count + 1) (slice_set lent count (Some w))
@@ -67,15 +56,15 @@ module _ (infos : List Info) (closed : List ClosedState) (lent : List (Option Fa
       let x = event-there closed (station_in infos n) (readable.stations n inside) in
       (x.0, x.1, all.each (station_in infos n) x.0 (readable.stations n inside) x.1)
 
-  pub can-read : (n : ℕ) → n < length infos → CanRead infos lent n
-  can-read n inside =
+  pub has-fate-among : (n : ℕ) → n < length infos → HasFateAmong infos lent n
+  has-fate-among n inside =
       let at = lent-at n inside in
       let w = at.2.0 in
       let is = at.2.2 in
       let fate = readable.each n at.0 inside at.1 in
       (w, at.2.1, (let packets = readable.packets n at.0 inside at.1 in let same = is.packets in omega arith), (fate.0, subst (λ words. IsWordOf fate.0 (slice_index words n)) (sym is.fates) fate.1))
 
-  pub all-read : (fates : List Fate) → length fates ≡ length infos → AreRead infos lent fates → FatesRead infos closed (length infos) fates
+  pub all-read : (fates : List Fate) → length fates ≡ length infos → AreFatesAmong infos lent fates → FatesRead infos closed (length infos) fates
   all-read fates long read = record {
     so_many = long;
     each = λ n x fate at there.

@@ -121,15 +121,15 @@ pub record AreLent (closed : List ClosedState) (count : ℕ) (lent : List (Optio
   pub each : (station : ℕ) (x : ClosedState) → station < count → slice_get closed station ≡ Some x → (w : FateWords) × (slice_get lent station ≡ Some (Some w)) × IsLentBy x w
 
 -- the packet has a fate among the words of its station
-abbrev pub CanRead : List Info → List (Option FateWords) → ℕ → Type 0
-CanRead infos lent n = (w : FateWords) × (slice_get lent (station_in infos n) ≡ Some (Some w)) × (n < w.packets) × ((fate : Fate) × IsWordOf fate (slice_index (lent_fates w) n))
+abbrev pub HasFateAmong : List Info → List (Option FateWords) → ℕ → Type 0
+HasFateAmong infos lent n = (w : FateWords) × (slice_get lent (station_in infos n) ≡ Some (Some w)) × (n < w.packets) × ((fate : Fate) × IsWordOf fate (slice_index (lent_fates w) n))
 
 -- it is this one
-abbrev pub IsRead : List Info → List (Option FateWords) → ℕ → Fate → Type 0
-IsRead infos lent n fate = (w : FateWords) → slice_get lent (station_in infos n) ≡ Some (Some w) → IsWordOf fate (slice_index (lent_fates w) n)
+abbrev pub IsFateAmong : List Info → List (Option FateWords) → ℕ → Fate → Type 0
+IsFateAmong infos lent n fate = (w : FateWords) → slice_get lent (station_in infos n) ≡ Some (Some w) → IsWordOf fate (slice_index (lent_fates w) n)
 
-abbrev pub AreRead : List Info → List (Option FateWords) → List Fate → Type 0
-AreRead infos lent fates = (n : ℕ) (fate : Fate) → slice_get fates n ≡ Some fate → IsRead infos lent n fate
+abbrev pub AreFatesAmong : List Info → List (Option FateWords) → List Fate → Type 0
+AreFatesAmong infos lent fates = (n : ℕ) (fate : Fate) → slice_get fates n ≡ Some fate → IsFateAmong infos lent n fate
 
 -- the fates of the first so many packets were read
 pub record FatesRead (infos : List Info) (closed : List ClosedState) (count : ℕ) (fates : List Fate) : Type 0 where

@@ -1,6 +1,6 @@
 //! The fates are read off the closed tables, by threads side by side.
 ghost use Rattle.std.specs.Prelude.{◌≡◌, ◌<◌, ◌≤◌, ℕ, length, map};
-ghost use Rattle.lq_senders.specs.Ends.{AreLent, AreRead, CanRead, FatesRead, IsRead, IsReadable, closed_state};
+ghost use Rattle.lq_senders.specs.Ends.{AreLent, AreFatesAmong, HasFateAmong, FatesRead, IsFateAmong, IsReadable, closed_state};
 
 use lq_device::TxDevice;
 use lq_model::{Fate, Info};
@@ -47,17 +47,17 @@ fn lent_words<D: TxDevice>(closed: &[Closed<D>]) -> Lent<'_>
 // Lays each packet's fate at its place.
 fn read_each<R: Threads + Sync>(rt: &R, lent: &Lent<'_>, infos: &[Info], fates: &mut [Fate])
     requires few { length infos.now ≤ 1000000 }
-    requires readable { (n : ℕ) → n < length infos.now → CanRead infos.now lent.now n }
+    requires readable { (n : ℕ) → n < length infos.now → HasFateAmong infos.now lent.now n }
     requires places { length fates.old ≡ length infos.now }
-    ensures { AreRead infos.now lent.now fates.new }
+    ensures { AreFatesAmong infos.now lent.now fates.new }
 {
     thread::for_each_mut(
         rt,
         fates,
         threads_for(infos.len()),
         &|n, fate: &mut Fate|
-            requires { (n < length infos.now) × (length infos.now ≤ 1000000) × CanRead infos.now lent.now n }
-            ensures { IsRead infos.entry.now lent.entry.now n fate.new }
+            requires { (n < length infos.now) × (length infos.now ≤ 1000000) × HasFateAmong infos.now lent.now n }
+            ensures { IsFateAmong infos.entry.now lent.entry.now n fate.new }
         { *fate = read(lent, infos, n as u32) },
     );
 }
@@ -65,8 +65,8 @@ fn read_each<R: Threads + Sync>(rt: &R, lent: &Lent<'_>, infos: &[Info], fates: 
 // The fate of packet `n`.
 fn read(lent: &Lent<'_>, infos: &[Info], n: u32) -> Fate
     requires packet { n < length infos.now }
-    requires readable { CanRead infos.now lent.now n }
-    ensures { IsRead infos.now lent.now n result }
+    requires readable { HasFateAmong infos.now lent.now n }
+    ensures { IsFateAmong infos.now lent.now n result }
 {
     let station = infos[n as usize].station;
     let Some(words) = lent[station as usize] else {
