@@ -36,11 +36,18 @@ const MAX_CAPTURE: usize = 67_108_864;
 /// Bytes of a schedule.
 const MAX_SCHEDULE: usize = 65_536;
 
+/// So many zeros.
+fn zeros(alloc: Global, count: usize) -> Result<Vec<u8>, AllocError>
+    ensures { IfOk result (λ bytes. vec_len bytes ≡ count) }
+{
+    vec![in alloc; 0u8; count]
+}
+
 /// A buffer to read into. Its length is left out of the contract, since a proof would count it out.
 fn make_buffer(alloc: Global) -> Result<Vec<u8>, AllocError>
     ensures { IfOk result (λ buffer. 0 < vec_len buffer) }
 {
-    vec![in alloc; 0u8; PIECE]
+    zeros(alloc, PIECE)
 }
 
 /// Reads what a handle has left, up to its end or past the limit.
