@@ -23,7 +23,6 @@ pub use laws::{
     runs_leave_stations, runs_make_fates, runs_may_be_sent, stations_run_apart,
 };
 pub use lq_gate::{Free, Gate};
-pub use read::read_fates;
 pub use send::send_all;
 pub use sender::{Job, Progress, Run, Sender, Senders};
 pub use undo::undo_swaps;

@@ -10,17 +10,19 @@ use Rattle.lq_host.specs.Host.{HostState, wrote}
 use Rattle.lq_pcapng.specs.File.{as_classic, packets_of_file}
 use Rattle.lq_pcapng.specs.declared.file.CaptureFile.TheVariants.{Classic}
 use Rattle.lq_plan.specs.Generated.{generated_plan}
-use Rattle.lq_top.specs.Command.{GenWords}
-use Rattle.lq_top.specs.Decision.{Generates, Verdict, by_generated, by_plan, placed_on, units_changed_by, verdict_of_gen, with_refusal}
+use Rattle.lq_files.specs.Command.{GenWords}
+use Rattle.lq_top.specs.Decision.{Generates, Verdict, by_generated, by_plan, units_changed_by, verdict_of_gen}
+use Rattle.lq_files.specs.Accepted.{placed_on, with_refusal}
 use Rattle.lq_senders.specs.Fates.{AreEnded, AreFatesOf}
 use Rattle.lq_table.specs.Ended.{EndedState}
-use Rattle.lq_top.specs.Headline.{AreCountsCut, AreFatesIn, HasCounted, Run, counts_output, counts_text_of, generated_file, run_of}
+use Rattle.lq_top.specs.Headline.{AreCountsCut, AreFatesIn, HasCounted, counts_text_of, generated_file}
+use Rattle.lq_files.specs.RunFiles.{Run, counts_output, run_of}
 use Rattle.lq_top.specs.Outcome.{CompletesOrStops, Stops}
-use Rattle.lq_top.specs.Written.{FileIsCut, OutputHasPrefix, file_written}
-use Rattle.lq_top.specs.declared.refusal.Refusal.{Refusal}
-use Rattle.lq_top.specs.declared.answer.Status.{Status}
-use Rattle.lq_top.specs.declared.answer.Status.TheVariants as status
-use Rattle.lq_top.specs.declared.answer.Stop.{Stop}
+use Rattle.lq_files.specs.Written.{FileIsCut, OutputHasPrefix, file_written}
+use Rattle.lq_files.specs.declared.refusal.Refusal.{Refusal}
+use Rattle.lq_files.specs.declared.answer.Status.{Status}
+use Rattle.lq_files.specs.declared.answer.Status.TheVariants as status
+use Rattle.lq_files.specs.declared.answer.Stop.{Stop}
 use Rattle.lq_top.proofs.GeneratedVerdict.{is_accepted}
 use Rattle.lq_top.proofs.RunLemmas.{known_fates}
 

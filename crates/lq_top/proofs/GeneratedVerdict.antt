@@ -9,10 +9,11 @@ use Rattle.lq_pcap.proofs.GeneratedCaptures.{generated_accepted}
 use Rattle.lq_pcapng.specs.File.{as_classic}
 use Rattle.lq_pcapng.specs.declared.file.CaptureFile.TheVariants.{Classic}
 use Rattle.lq_plan.specs.Generated.{generated_plan}
-use Rattle.lq_top.specs.Command.{GenWords, AreOperandsWithin, OfGen, command_of_words}
-use Rattle.lq_top.specs.Decision.{Generates, by_command, by_generated, verdict_of, verdict_of_gen, with_refusal}
-use Rattle.lq_top.specs.Headline.{run_of}
-use Rattle.lq_top.proofs.CommandLemmas.{within_limits}
+use Rattle.lq_files.specs.Command.{GenWords, AreOperandsWithin, OfGen, command_of_words}
+use Rattle.lq_top.specs.Decision.{Generates, by_command, by_generated, verdict_of, verdict_of_gen}
+use Rattle.lq_files.specs.Accepted.{with_refusal}
+use Rattle.lq_files.specs.RunFiles.{run_of}
+use Rattle.lq_files.proofs.CommandLemmas.{within_limits}
 
 accepted_at_all : (P : Capture → Type 0) (r : Result Capture CaptureRefusal) → IsOkAnd r P → IsOkAnd r (λ _. Unit {0})
 accepted_at_all P (Ok c) ok = _

@@ -1,7 +1,7 @@
 -- Hosts on which every name may be opened and created.
 use Rattle.std.proofs.Common.{Option, Some, None}
 use Rattle.lq_host.specs.Host.{any_name}
-use Rattle.lq_top.specs.Command.{CommandWords, OfGen, OfRun, OfTap, OfTrace}
+use Rattle.lq_files.specs.Command.{CommandWords, OfGen, OfRun, OfTap, OfTrace}
 use Rattle.lq_top.specs.Names.{MayDo}
 
 pub may_any : (command : Option CommandWords) → MayDo any_name any_name command

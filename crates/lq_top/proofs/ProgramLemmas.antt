@@ -6,12 +6,12 @@ use Rattle.lq_model.specs.Device.{DeviceState}
 use Rattle.lq_host.specs.Host.{HostState}
 use Rattle.lq_host.specs.FileHost.{untold}
 use Rattle.lq_table.specs.Ended.{EndedState}
-use Rattle.lq_top.specs.Command.{command_of_words}
+use Rattle.lq_files.specs.Command.{command_of_words}
 use Rattle.lq_top.specs.Decision.{verdict_of}
 use Rattle.lq_top.specs.Outcome.{IsAnswerOf, Outcome, OutcomeOfSome, TellsUsageFor}
 use Rattle.lq_top.specs.Program.{IsCodeOfCall, IsCodeOfFiles, IsCodeOfLine, Line, TellsTexts, new_bench}
-use Rattle.lq_top.specs.Status.{code_of}
-use Rattle.lq_top.specs.declared.answer.Status.{Status}
+use Rattle.lq_files.specs.Status.{code_of}
+use Rattle.lq_files.specs.declared.answer.Status.{Status}
 
 -- what is left once the first one was taken, if there was one
 pub left_behind : {X : Type 0} (first : Option X) (old new : List X) (len : ℕ) → len ≡ length old → (IsSome first ↔ (0 < len)) → old ≡ option_to_list first ++ new → new ≡ drop 1 old

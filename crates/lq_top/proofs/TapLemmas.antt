@@ -9,15 +9,17 @@ use Rattle.lq_pcapng.specs.declared.file.CaptureFile.{CaptureFile}
 use Rattle.lq_tap_fates.specs.Fates.{IsTapRun}
 use Rattle.lq_tap_fates.specs.declared.fate.TapFate.{TapFate}
 use Rattle.lq_tap_fates.specs.declared.fate.TapFate.TheVariants.{Read}
-use Rattle.lq_top.specs.Command.{OfTap, TapWords}
-use Rattle.lq_top.specs.Decision.{Verdict, Taps, by_bytes, by_tap, limited_capture_of, verdict_of_tap}
+use Rattle.lq_files.specs.Command.{OfTap, TapWords}
+use Rattle.lq_top.specs.Decision.{Verdict, Taps, by_bytes, by_tap, verdict_of_tap}
+use Rattle.lq_files.specs.Accepted.{limited_capture_of}
 use Rattle.lq_top.specs.Outcome.{CompletesOrStops}
-use Rattle.lq_top.specs.Tapped.{AreTapFatesIn, HasCutTap, HasTapped, tap_texts_of}
-use Rattle.lq_top.specs.Written.{IsCut}
-use Rattle.lq_top.specs.declared.refusal.Refusal.{Refusal}
-use Rattle.lq_top.specs.declared.answer.Status.{Status}
-use Rattle.lq_top.specs.declared.answer.Status.TheVariants as status
-use Rattle.lq_top.specs.declared.answer.Stop.{Stop}
+use Rattle.lq_top.specs.Tapped.{AreTapFatesIn, HasCutTap, HasTapped}
+use Rattle.lq_files.specs.TapFiles.{tap_texts_of}
+use Rattle.lq_files.specs.Written.{IsCut}
+use Rattle.lq_files.specs.declared.refusal.Refusal.{Refusal}
+use Rattle.lq_files.specs.declared.answer.Status.{Status}
+use Rattle.lq_files.specs.declared.answer.Status.TheVariants as status
+use Rattle.lq_files.specs.declared.answer.Stop.{Stop}
 
 -- the packets that were read are packets of the capture
 pub read_below : (count senders len : ℕ) (fates : List TapFate) (read : List ℕ) → IsTapRun count senders len fates read → All (λ n. n < count) read

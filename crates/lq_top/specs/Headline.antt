@@ -1,64 +1,15 @@
 -- The headline: what a run that is done leaves, told by one list of fates in which packet n has the n-th.
-use Rattle.std.specs.Prelude.{◌≡◌, ◌⊎◌, ℕ, List, [], ◌∷◌, ◌++◌, map, length, codes}
-use Rattle.std.specs.Fmt.{decimal}
+use Rattle.std.specs.Prelude.{◌≡◌, ◌⊎◌, ℕ, List, [], ◌∷◌}
 use Rattle.lq_model.specs.Device.{DeviceState}
-use Rattle.lq_model.specs.Numbers.{first_numbers}
-use Rattle.lq_model.specs.Plan.{Plan, infos_of, unit_count}
-use Rattle.lq_model.specs.Sent.{sent_of}
-use Rattle.lq_model.specs.Texts.{counts_text, fates_text}
+use Rattle.lq_model.specs.Plan.{infos_of}
 use Rattle.lq_model.specs.declared.fate.Fate.{Fate}
-use Rattle.lq_model.specs.declared.fate.Info.{Info}
 use Rattle.lq_host.specs.Host.{HostState}
-use Rattle.lq_pcapng.specs.File.{packets_of_file, text_of}
-use Rattle.lq_pcapng.specs.declared.file.CaptureFile.{CaptureFile}
+use Rattle.lq_pcapng.specs.File.{packets_of_file}
 use Rattle.lq_senders.specs.Fates.{AreEnded, AreFatesOf}
 use Rattle.lq_table.specs.Ended.{EndedState}
-use Rattle.lq_top.specs.Groups.{AreOfGroup, group_files, mq_lines, sent_by_group}
-use Rattle.lq_top.specs.Written.{FileText, OutputHasPrefix, Texts, output_only, written}
-
--- RUNS
-
--- a run: the name that its files begin with, its plan and its capture
-pub record Run : Type 0 where
-  pub out : List ℕ
-  pub plan : Plan
-  pub capture : CaptureFile
-
-abbrev pub run_of : List ℕ → Plan → CaptureFile → Run
-run_of out plan capture = record { out = out; plan = plan; capture = capture }
-
--- TEXTS
-
--- OUT.UNIT.pcap
-abbrev pub capture_name : List ℕ → ℕ → List ℕ
-capture_name out unit = out ++ (codes "." ++ (decimal unit ++ codes ".pcap"))
-
--- OUT.fates
-abbrev pub fates_name : List ℕ → List ℕ
-fates_name out = out ++ codes ".fates"
-
--- a unit's file: the capture of the packets that it sent, in order of serial, in the format of the capture that is run
-abbrev pub unit_file : List ℕ → CaptureFile → List Fate → ℕ → FileText
-unit_file out capture fates unit = record { name = capture_name out unit; text = text_of capture (sent_of fates unit) }
-
--- the file of each of the first so many units, in ascending order
-abbrev pub unit_files : List ℕ → CaptureFile → List Fate → ℕ → List FileText
-unit_files out capture fates units = map (unit_file out capture fates) (first_numbers units)
-
-abbrev pub fates_file : List ℕ → List Fate → FileText
-fates_file out fates = record { name = fates_name out; text = fates_text fates }
-
--- the counts of the fates, and a line for each multi-queue root
-abbrev pub counts_output : Plan → List Info → List Fate → List ℕ
-counts_output plan infos fates = counts_text fates infos (length plan.stations) (unit_count plan) ++ mq_lines plan fates
-
--- what is written: a file for each unit, one for each multi-queue root and one with each packet's fate, and then the counts to
--- standard output
-abbrev pub texts_of : Run → List Fate → Texts
-texts_of run fates = record {
-  files = unit_files run.out run.capture fates (unit_count run.plan) ++ (group_files run.out run.capture run.plan fates ++ fates_file run.out fates ∷ []);
-  output = counts_output run.plan (infos_of run.plan (packets_of_file run.capture)) fates;
-}
+use Rattle.lq_files.specs.Groups.{AreOfGroup, sent_by_group}
+use Rattle.lq_files.specs.Written.{FileText, OutputHasPrefix, Texts, output_only, written}
+use Rattle.lq_files.specs.RunFiles.{Run, texts_of}
 
 -- THE HEADLINE
 

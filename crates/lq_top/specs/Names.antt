@@ -1,16 +1,9 @@
 -- The names of the files that a command opens and creates.
-use Rattle.std.specs.Prelude.{ℕ, ◌<◌, List, Option, Some, None}
-use Rattle.lq_top.specs.Command.{CommandWords, OfGen, OfRun, OfTap, OfTrace, RunWords, TapWords}
-use Rattle.lq_top.specs.Decision.{max_groups, max_units}
-use Rattle.lq_top.specs.Groups.{group_capture_name}
-use Rattle.lq_top.specs.Headline.{capture_name, fates_name}
-use Rattle.lq_top.specs.Tapped.{read_name}
-
--- the files of so many units, those of the multi-queue roots that a plan may have, and the file of the fates may be created
-pub record MayWrite (may_create : List ℕ → Type 0) (out : List ℕ) (count : ℕ) : Type 0 where
-  pub units : (unit : ℕ) → unit < count → may_create (capture_name out unit)
-  pub groups : (j : ℕ) → j < max_groups → may_create (group_capture_name out j)
-  pub fates : may_create (fates_name out)
+use Rattle.std.specs.Prelude.{ℕ, List, Option, Some, None}
+use Rattle.lq_files.specs.Command.{CommandWords, OfGen, OfRun, OfTap, OfTrace, RunWords, TapWords}
+use Rattle.lq_files.specs.Accepted.{max_units}
+use Rattle.lq_files.specs.RunFiles.{fates_name, MayWrite}
+use Rattle.lq_files.specs.TapFiles.{read_name}
 
 -- the plan and the capture may be opened, and the outputs created
 pub record MayRun (may_open may_create : List ℕ → Type 0) (words : RunWords) : Type 0 where

@@ -4,15 +4,16 @@ use Rattle.lq_model.specs.Device.{DeviceState}
 use Rattle.lq_model.specs.declared.fate.Fate.{Fate}
 use Rattle.lq_host.specs.Host.{HostState}
 use Rattle.lq_table.specs.Ended.{EndedState}
-use Rattle.lq_top.specs.Command.{CommandWords}
+use Rattle.lq_files.specs.Command.{CommandWords}
 use Rattle.lq_top.specs.Decision.{Verdict, Generates, LacksFile, Refuses, Runs, Taps, Traces, by_bytes}
-use Rattle.lq_top.specs.Headline.{AreFatesIn, HasGenerated, HasRun, Run, counts_text_of, generated_file, texts_of}
-use Rattle.lq_top.specs.Refusal.{refusal_line, status_of}
+use Rattle.lq_top.specs.Headline.{AreFatesIn, HasGenerated, HasRun, counts_text_of, generated_file}
+use Rattle.lq_files.specs.RunFiles.{Run, texts_of}
+use Rattle.lq_files.specs.Refusal.{refusal_line, status_of}
 use Rattle.lq_top.specs.Tapped.{HasCutTap, HasTapped}
-use Rattle.lq_top.specs.Written.{files_written, output_only, written, FilesAreCut, IsCut, OutputHasPrefix}
-use Rattle.lq_top.specs.declared.answer.Status.{Status}
-use Rattle.lq_top.specs.declared.answer.Status.TheVariants as status
-use Rattle.lq_top.specs.declared.answer.Stop.{Stop}
+use Rattle.lq_files.specs.Written.{files_written, output_only, written, FilesAreCut, IsCut, OutputHasPrefix}
+use Rattle.lq_files.specs.declared.answer.Status.{Status}
+use Rattle.lq_files.specs.declared.answer.Status.TheVariants as status
+use Rattle.lq_files.specs.declared.answer.Stop.{Stop}
 
 -- THE ANSWER
 

@@ -11,11 +11,11 @@ use Rattle.lq_device.specs.Bench.{unconfigured}
 use Rattle.lq_host.specs.Host.{HostState}
 use Rattle.lq_host.specs.FileHost.{untold}
 use Rattle.lq_table.specs.Ended.{EndedState}
-use Rattle.lq_top.specs.Command.{command_of_words}
+use Rattle.lq_files.specs.Command.{command_of_words}
 use Rattle.lq_top.specs.Decision.{verdict_of}
 use Rattle.lq_top.specs.Outcome.{IsAnswerOf, Outcome, OutcomeOfSome, TellsUsageFor}
-use Rattle.lq_top.specs.Status.{code_of}
-use Rattle.lq_top.specs.declared.answer.Status.{Status}
+use Rattle.lq_files.specs.Status.{code_of}
+use Rattle.lq_files.specs.declared.answer.Status.{Status}
 
 -- THE CALL
 

@@ -1,30 +1,13 @@
 -- What a tap that is done leaves, told by one list of fates in which packet n has the n-th.
-use Rattle.std.specs.Prelude.{◌≡◌, ◌⊎◌, ℕ, List, [], ◌∷◌, ◌++◌, codes}
+use Rattle.std.specs.Prelude.{◌≡◌, ◌⊎◌, ℕ, List}
 use Rattle.lq_host.specs.Host.{HostState}
-use Rattle.lq_pcapng.specs.File.{packets_of_file, text_of}
+use Rattle.lq_pcapng.specs.File.{packets_of_file}
 use Rattle.lq_pcapng.specs.declared.file.CaptureFile.{CaptureFile}
 use Rattle.lq_tap_fates.specs.Fates.{IsTapRun}
-use Rattle.lq_tap_fates.specs.Texts.{tap_fates_text, tap_counts_line}
 use Rattle.lq_tap_fates.specs.declared.fate.TapFate.{TapFate}
-use Rattle.lq_top.specs.Command.{TapWords}
-use Rattle.lq_top.specs.Headline.{fates_name}
-use Rattle.lq_top.specs.Written.{FileText, IsCut, Texts, written}
-
--- OUT.pcap
-abbrev pub read_name : List ℕ → List ℕ
-read_name out = out ++ codes ".pcap"
-
--- the file of the packets that were read, in order, in the format of the capture
-abbrev pub read_file : List ℕ → CaptureFile → List ℕ → FileText
-read_file out capture read = record { name = read_name out; text = text_of capture read }
-
--- the file with each packet's fate
-abbrev pub tap_fates_file : List ℕ → List TapFate → FileText
-tap_fates_file out fates = record { name = fates_name out; text = tap_fates_text fates }
-
--- what is written: a file of the packets that were read, one with each packet's fate, and then their counts to standard output
-abbrev pub tap_texts_of : List ℕ → CaptureFile → List TapFate → List ℕ → Texts
-tap_texts_of out capture fates read = record { files = read_file out capture read ∷ tap_fates_file out fates ∷ []; output = tap_counts_line fates }
+use Rattle.lq_files.specs.Command.{TapWords}
+use Rattle.lq_files.specs.Written.{IsCut, written}
+use Rattle.lq_files.specs.TapFiles.{tap_texts_of}
 
 -- these are the fates of the capture's packets, and the packets that were read
 abbrev pub AreTapFatesIn : TapWords → CaptureFile → List TapFate → List ℕ → Type 0

@@ -13,10 +13,11 @@ ghost use Rattle.lq_pcapng.specs.File.{packets_of_file};
 ghost use Rattle.lq_pcapng.specs.declared.file.CaptureFile.{CaptureFile};
 ghost use Rattle.lq_pcapng.specs.declared.file.CaptureFile.TheVariants.{Classic};
 ghost use Rattle.lq_plan.specs.Generated.{generated_plan};
-ghost use Rattle.lq_top.specs.Command.{GenWords, OfGen, command_of_words};
+ghost use Rattle.lq_files.specs.Command.{GenWords, OfGen, command_of_words};
 ghost use Rattle.lq_top.specs.Decision.{Generates, verdict_of};
-ghost use Rattle.lq_top.specs.Groups.{group_files, mq_lines};
-ghost use Rattle.lq_top.specs.Headline.{AreFatesIn, Run, run_of};
+ghost use Rattle.lq_files.specs.Groups.{group_files, mq_lines};
+ghost use Rattle.lq_top.specs.Headline.{AreFatesIn};
+ghost use Rattle.lq_files.specs.RunFiles.{Run, run_of};
 ghost use Rattle.lq_top.specs.Laws.{SawItsSlot, account_after};
 
 /// The fates of a run: as many as the capture has packets, so that each packet has exactly one.

@@ -2,24 +2,26 @@
 ghost use Rattle.std.specs.Prelude.{◌≡◌, ◌≢◌, Some, IfOk, OnOk, OnErr, IfSome, [], map, drop, vec_len, true};
 ghost use Rattle.lq_host.specs.Host.{Rose};
 ghost use Rattle.lq_model.specs.Plan.{unit_count};
-ghost use Rattle.lq_top.specs.Command.{AreOperandsWithin, OfRun, command_of_words, command_words, run_words, bytes_of_words};
-ghost use Rattle.lq_top.specs.Decision.{IsRunnable, Refuses, Runs, max_units, most_units_changed_by, units_changed_by, verdict_of, verdict_of_command, verdict_of_run};
+ghost use Rattle.lq_files.specs.Command.{AreOperandsWithin, OfRun, command_of_words, command_words, run_words, bytes_of_words};
+ghost use Rattle.lq_files.specs.Accepted.{IsRunnable, max_units};
+ghost use Rattle.lq_top.specs.Decision.{Refuses, Runs, most_units_changed_by, units_changed_by, verdict_of, verdict_of_command, verdict_of_run};
 ghost use Rattle.lq_senders.specs.Fates.{identities_of};
 ghost use Rattle.lq_table.specs.Ended.{ended_state};
-ghost use Rattle.lq_top.specs.Headline.{HasRun, run_of};
-ghost use Rattle.lq_top.specs.Names.{MayDo, MayDoCommand, MayRun, MayWrite};
+ghost use Rattle.lq_top.specs.Headline.{HasRun};
+ghost use Rattle.lq_files.specs.RunFiles.{run_of};
+ghost use Rattle.lq_top.specs.Names.{MayDo, MayDoCommand, MayRun};
+ghost use Rattle.lq_files.specs.RunFiles.{MayWrite};
 ghost use Rattle.lq_top.specs.Outcome.{Completes, CompletesOrStops, CompletesOrStopsOfSome, OutcomeOfSome, IsAnswerOf, IsCommandStatus, LeavesNone, Outcome, Stops, TellsUsageFor, refuses};
-ghost use Rattle.lq_top.specs.Stop.{StopsFor};
+ghost use Rattle.lq_files.specs.Stop.{StopsFor};
 
-use crate::answer::{Status, Stop};
-use crate::command::{Command, RunOperands, read_words};
 use crate::generate::gen_command;
-use crate::outputs::write_run;
-use crate::read::{read_capture_file, read_plan_file};
-use crate::refusal::{Refusal, refuse};
 use crate::tap::tap_command;
 use crate::trace::trace_command;
 use lq_device::TxDevice;
+use lq_files::{
+    Command, Refusal, RunOperands, Status, Stop, read_capture_file, read_plan_file, read_words,
+    refuse, write_run,
+};
 use lq_host::Host;
 use lq_model::NoMemory;
 use lq_pcap::Frames as _;

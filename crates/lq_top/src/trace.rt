@@ -1,15 +1,12 @@
 //! The command `trace`: a schedule on the machine of the run lock.
 ghost use Rattle.std.specs.Prelude.{◌≡◌, [], ℕ, List, IfOk, IfSome, Some};
 ghost use Rattle.lq_model.specs.Device.{DeviceState};
-ghost use Rattle.lq_top.specs.Command.{OfTrace};
+ghost use Rattle.lq_files.specs.Command.{OfTrace};
 ghost use Rattle.lq_top.specs.Decision.{verdict_of_trace};
 ghost use Rattle.lq_top.specs.Outcome.{CompletesOrStops, CompletesOrStopsOfSome, IsCommandStatus};
-ghost use Rattle.lq_top.specs.Stop.{StopsFor};
+ghost use Rattle.lq_files.specs.Stop.{StopsFor};
 
-use crate::answer::{Status, Stop};
-use crate::read::read_schedule_file;
-use crate::refusal::refuse;
-use crate::write::write_output;
+use lq_files::{Status, Stop, read_schedule_file, refuse, write_output};
 use lq_host::Host;
 use std::alloc::Global;
 

@@ -1,4 +1,4 @@
-use Rattle.lq_top.specs.Command.{command_of_words, bytes_of_words}
+use Rattle.lq_files.specs.Command.{command_of_words, bytes_of_words}
 use Rattle.lq_top.proofs.NameLemmas.{may_any}
 use Rattle.lq_test_fixture.proofs.call_on.Goals as goal
 

@@ -1,9 +1,9 @@
 use Rattle.std.proofs.Common.{◌≡◌, Ok, Result, ap, sym, ◌∙◌, vec_len}
 use Rattle.lq_model.specs.Plan.{Plan}
 use Rattle.lq_plan.specs.Generated.{generated_plan}
-use Rattle.lq_top.specs.Command.{gen_words}
-use Rattle.lq_top.specs.Decision.{placed_on}
-use Rattle.lq_top.specs.declared.refusal.Refusal.{Refusal}
+use Rattle.lq_files.specs.Command.{gen_words}
+use Rattle.lq_files.specs.Accepted.{placed_on}
+use Rattle.lq_files.specs.declared.refusal.Refusal.{Refusal}
 use Rattle.lq_top.proofs.GenerateLemmas.{others_of_gen}
 use Rattle.lq_top.proofs.generate.gen_command.Goals as goal
 

@@ -5,9 +5,10 @@ use Rattle.lq_model.specs.Capture.{capture_of}
 use Rattle.lq_model.specs.Generated.{generated_capture}
 use Rattle.lq_pcapng.specs.File.{as_classic}
 use Rattle.lq_table.specs.Ended.{ended_state}
-use Rattle.lq_top.specs.Decision.{by_generated, with_refusal}
+use Rattle.lq_top.specs.Decision.{by_generated}
+use Rattle.lq_files.specs.Accepted.{with_refusal}
 use Rattle.lq_top.specs.Headline.{generated_file}
-use Rattle.lq_top.specs.Written.{FileIsCut}
+use Rattle.lq_files.specs.Written.{FileIsCut}
 use Rattle.lq_top.proofs.GenerateLemmas.{cut_after_file, cut_in_file, generated_does, stops_any}
 use Rattle.lq_top.proofs.GeneratedVerdict.{is_accepted}
 use Rattle.lq_top.proofs.generate.generate.Goals as goal

@@ -2,7 +2,7 @@ use Rattle.std.proofs.Common.{List, ◌∙◌, map, subst, sym}
 use Rattle.lq_senders.specs.Fates.{AreEnded, AreFatesOf}
 use Rattle.lq_table.specs.Ended.{ended_state}
 use Rattle.lq_model.specs.declared.fate.Info.{Info}
-use Rattle.lq_top.specs.Headline.{run_of}
+use Rattle.lq_files.specs.RunFiles.{run_of}
 use Rattle.lq_top.proofs.GenerateLemmas.{counts_cut, counts_done}
 use Rattle.lq_top.proofs.generate.run_and_count.Goals as goal
 

@@ -1,7 +1,7 @@
 use Rattle.std.proofs.Common.{◌<◌, ◌∙◌, length, subst, sym, inl, inr, arith}
 use Rattle.std.proofs.lemmas.Option.{slice_get_cases}
 use Rattle.lq_pcapng.specs.File.{packets_of_file}
-use Rattle.lq_top.proofs.TextLemmas.{length-infos_of}
+use Rattle.lq_files.proofs.TextLemmas.{length-infos_of}
 use Rattle.lq_top.proofs.laws.each_packet_has_one_fate.Goals as goal
 
 pub returns-clause-one_each : goal.returns-clause-one_each

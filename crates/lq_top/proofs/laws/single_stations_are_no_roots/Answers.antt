@@ -1,7 +1,7 @@
 use Rattle.std.proofs.Common.{length, map, ap}
 use Rattle.std.specs.List.{flat_map}
-use Rattle.lq_top.specs.Groups.{group_file, mq_line}
-use Rattle.lq_top.proofs.GroupLemmas.{no-roots}
+use Rattle.lq_files.specs.Groups.{group_file, mq_line}
+use Rattle.lq_files.proofs.GroupLemmas.{no-roots}
 use Rattle.lq_top.proofs.laws.single_stations_are_no_roots.Goals as goal
 
 pub returns-clause-files : goal.returns-clause-files

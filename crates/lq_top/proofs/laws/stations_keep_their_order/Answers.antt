@@ -7,7 +7,7 @@ use Rattle.lq_model.specs.Plan.{infos_of}
 use Rattle.lq_model.specs.declared.fate.Fate.TheVariants as fate
 use Rattle.lq_pcapng.specs.File.{packets_of_file}
 use Rattle.lq_top.proofs.AccountLemmas.{comes_there, saw_its_slot}
-use Rattle.lq_top.proofs.TextLemmas.{length-infos_of}
+use Rattle.lq_files.proofs.TextLemmas.{length-infos_of}
 use Rattle.lq_top.proofs.laws.stations_keep_their_order.Goals as goal
 
 pub returns-clause-full : goal.returns-clause-full

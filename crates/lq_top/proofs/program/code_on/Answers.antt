@@ -2,7 +2,7 @@ use Rattle.std.proofs.Common.{◌≡◌, ◌∙◌, ap, arith, length, map, sym,
 use Rattle.std.proofs.lemmas.List.{length-map, length-replicate}
 use Rattle.lq_device.specs.Bench.{unconfigured}
 use Rattle.lq_table.specs.Ended.{ended_state}
-use Rattle.lq_top.specs.Command.{bytes_of_words}
+use Rattle.lq_files.specs.Command.{bytes_of_words}
 use Rattle.lq_top.proofs.ProgramLemmas.{called_on}
 use Rattle.lq_top.proofs.program.code_on.Goals as goal
 

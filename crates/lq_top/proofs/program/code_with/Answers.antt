@@ -1,6 +1,6 @@
 use Rattle.std.proofs.Common.{[], inl, refl, subst}
 use Rattle.lq_host.specs.FileHost.{untold}
-use Rattle.lq_top.specs.Command.{bytes_of_words, command_of_words}
+use Rattle.lq_files.specs.Command.{bytes_of_words, command_of_words}
 use Rattle.lq_top.specs.Program.{IsCodeOfWords}
 use Rattle.lq_top.proofs.NameLemmas.{may_any}
 use Rattle.lq_top.proofs.program.code_with.Goals as goal

@@ -1,5 +1,5 @@
 use Rattle.std.proofs.Common.{◌≡◌, map, string_bytes, take}
-use Rattle.lq_top.specs.Command.{bytes_of_words}
+use Rattle.lq_files.specs.Command.{bytes_of_words}
 use Rattle.lq_top.proofs.program.words_of.Given as goal
 
 abbrev pub invariant-loop-text : goal.invariant-loop-text

@@ -2,10 +2,11 @@ use Rattle.std.proofs.Common.{[], Some, Result, subst, sym}
 use Rattle.std.proofs.lemmas.Result.{err_from_is_err_and}
 use Rattle.lq_host.specs.Host.{HostState}
 use Rattle.lq_pcapng.specs.declared.file.CaptureFile.{CaptureFile}
-use Rattle.lq_top.specs.Command.{tap_words}
-use Rattle.lq_top.specs.Decision.{Taps, by_tap, limited_capture_of}
+use Rattle.lq_files.specs.Command.{tap_words}
+use Rattle.lq_top.specs.Decision.{Taps, by_tap}
+use Rattle.lq_files.specs.Accepted.{limited_capture_of}
 use Rattle.lq_top.specs.Outcome.{CompletesOrStops}
-use Rattle.lq_top.specs.declared.refusal.Refusal.{Refusal}
+use Rattle.lq_files.specs.declared.refusal.Refusal.{Refusal}
 use Rattle.lq_top.proofs.GenerateLemmas.{stops_any}
 use Rattle.lq_top.proofs.RunLemmas.{stops_before}
 use Rattle.lq_top.proofs.TapLemmas.{does_tap, does_tap_on, tap_does}

@@ -1,9 +1,9 @@
 use Rattle.std.proofs.Common.{◌≡◌, [], List, ap, Some, IfSome, map, subst, sym, vec_len}
 use Rattle.lq_table.specs.Ended.{EndedState, ended_state}
-use Rattle.lq_top.specs.Command.{OfTap, OfTrace, command_words, tap_words}
+use Rattle.lq_files.specs.Command.{OfTap, OfTrace, command_words, tap_words}
 use Rattle.lq_top.specs.Decision.{verdict_of_command, verdict_of_tap, verdict_of_trace}
 use Rattle.lq_top.specs.Outcome.{CompletesOrStops, CompletesOrStopsOfSome}
-use Rattle.lq_top.specs.declared.command.Command.{Command}
+use Rattle.lq_files.specs.declared.command.Command.{Command}
 use Rattle.lq_top.proofs.top.do_command.Goals as goal
 
 pub returns-in-Run-clause-some : goal.returns-in-Run-clause-some

@@ -1,11 +1,11 @@
 use Rattle.std.proofs.Common.{◌∙◌, ap, sym, subst, IfSome, Option, Some, map, vec_len}
 use Rattle.std.specs.Option.{option_map}
 use Rattle.lq_table.specs.Ended.{ended_state}
-use Rattle.lq_top.specs.Command.{CommandWords, AreOperandsWithin, bytes_of_words, command_words}
+use Rattle.lq_files.specs.Command.{CommandWords, AreOperandsWithin, bytes_of_words, command_words}
 use Rattle.lq_top.specs.Decision.{by_bytes, by_command, verdict_of_command}
 use Rattle.lq_top.specs.Outcome.{IsAnswerOf, Outcome, OutcomeOfSome}
-use Rattle.lq_top.specs.declared.answer.Status.{Status}
-use Rattle.lq_top.proofs.CommandLemmas.{within_limits}
+use Rattle.lq_files.specs.declared.answer.Status.{Status}
+use Rattle.lq_files.proofs.CommandLemmas.{within_limits}
 use Rattle.lq_top.proofs.RunLemmas.{all_answered, ends_outcome, stops_outcome}
 use Rattle.lq_top.proofs.top.lqtx.Goals as goal
 

@@ -1,6 +1,6 @@
 use Rattle.std.proofs.Common.{◌∙◌, map}
 use Rattle.lq_table.specs.Ended.{ended_state}
-use Rattle.lq_top.specs.Headline.{run_of}
+use Rattle.lq_files.specs.RunFiles.{run_of}
 use Rattle.lq_top.proofs.RunLemmas.{run_done, run_stops}
 use Rattle.lq_top.proofs.top.run_capture.Goals as goal
 

@@ -2,9 +2,10 @@ use Rattle.std.proofs.Common.{◌≡◌, List, ℕ, ◌∙◌, IfSome, Some, map
 use Rattle.std.specs.Option.{option_map}
 use Rattle.lq_host.specs.Host.{HostState}
 use Rattle.lq_table.specs.Ended.{ended_state}
-use Rattle.lq_top.specs.Command.{run_words}
-use Rattle.lq_top.specs.Decision.{Refuses, Runs, limited_capture_of, plan_for}
-use Rattle.lq_top.specs.Headline.{run_of}
+use Rattle.lq_files.specs.Command.{run_words}
+use Rattle.lq_top.specs.Decision.{Refuses, Runs}
+use Rattle.lq_files.specs.Accepted.{limited_capture_of, plan_for}
+use Rattle.lq_files.specs.RunFiles.{run_of}
 use Rattle.lq_top.specs.Outcome.{CompletesOrStops}
 use Rattle.lq_top.proofs.RunLemmas.{beyond_units, does_run, does_run_on, refuse_does, refuses_capture_on, run_does}
 use Rattle.lq_top.proofs.top.run_command.Goals as goal

@@ -1,0 +1,71 @@
+-- What is written of a run, from what its parts are.
+use Rattle.std.proofs.Common.{◌≡◌, ◌⊎◌, ◌++◌, ◌∷◌, [], ℕ, List, sym, ap, ◌∙◌, subst, inl, inr}
+use Rattle.lq_model.specs.Plan.{infos_of, unit_count}
+use Rattle.lq_model.specs.declared.fate.Fate.{Fate}
+use Rattle.lq_model.specs.declared.fate.Info.{Info}
+use Rattle.lq_host.specs.Host.{HostState, wrote}
+use Rattle.lq_pcapng.specs.File.{packets_of_file}
+use Rattle.lq_files.specs.Groups.{group_files}
+use Rattle.lq_files.specs.RunFiles.{Run, counts_output, unit_files, fates_file, texts_of}
+use Rattle.lq_files.specs.Written.{FileText, FileIsCut, FilesAreCut, OutputHasPrefix, IsCut, file_written, files_written, written}
+use Rattle.lq_files.proofs.FileLemmas.{cut_after, cut_before, cut_next, cut_whole, files_written-append, whole_next}
+
+-- the files of the units, of as many as the plan needs, and of the multi-queue roots
+abbrev files_of_units : Run → List Fate → ℕ → List FileText
+files_of_units run fates units = unit_files run.out run.capture fates units
+
+abbrev files_of_groups : Run → List Fate → List FileText
+files_of_groups run fates = group_files run.out run.capture run.plan fates
+
+-- it was stopped in the units' files
+pub stopped_in_units :
+    (run : Run) (fates : List Fate) (units : ℕ) (old new : HostState) → units ≡ unit_count run.plan → FilesAreCut (files_of_units run fates units) old new
+    → IsCut (texts_of run fates) old new
+stopped_in_units run fates units old new counted cut =
+    inl (cut_before (files_of_units run fates (unit_count run.plan)) (files_of_groups run fates ++ fates_file run.out fates ∷ []) old new
+    (subst (λ n. FilesAreCut (files_of_units run fates n) old new) counted cut))
+
+-- those are whole
+module _ (run : Run) (fates : List Fate) (units : ℕ) (old mid : HostState) (counted : units ≡ unit_count run.plan) (whole : mid ≡ files_written old (files_of_units run fates units)) where
+  whole_units : mid ≡ files_written old (files_of_units run fates (unit_count run.plan))
+  whole_units = whole ∙ ap (λ n. files_written old (files_of_units run fates n)) counted
+
+  after_units : (files : List FileText) (new : HostState) → FilesAreCut files mid new → FilesAreCut (files_of_units run fates (unit_count run.plan) ++ files) old new
+  after_units files new cut = cut_after (files_of_units run fates (unit_count run.plan)) files old new (subst (λ (s : HostState). FilesAreCut files s new) whole_units cut)
+
+  -- it was stopped in the files of the multi-queue roots
+  pub stopped_in_groups : (new : HostState) → FilesAreCut (files_of_groups run fates) mid new → IsCut (texts_of run fates) old new
+  stopped_in_groups new cut =
+      inl (after_units (files_of_groups run fates ++ fates_file run.out fates ∷ []) new (cut_before (files_of_groups run fates) (fates_file run.out fates ∷ []) mid new cut))
+
+  -- these are whole, too
+  module _ (next : HostState) (joined : next ≡ files_written mid (files_of_groups run fates)) where
+    -- it was stopped in the file of the fates
+    pub stopped_in_fates : (new : HostState) → FileIsCut (fates_file run.out fates) next new → IsCut (texts_of run fates) old new
+    stopped_in_fates new cut =
+        inl (after_units (files_of_groups run fates ++ fates_file run.out fates ∷ []) new (cut_next (files_of_groups run fates) (fates_file run.out fates) mid next new joined cut))
+
+    -- all files are whole
+    module _ (all : HostState) (made : all ≡ file_written next (fates_file run.out fates)) (infos : List Info) (known : infos ≡ infos_of run.plan (packets_of_file run.capture)) where
+      whole_files : all ≡ files_written old (texts_of run fates).files
+      whole_files =
+          whole_next (files_of_groups run fates) (fates_file run.out fates) mid next all joined made
+          ∙ (ap (λ (s : HostState). files_written s (files_of_groups run fates ++ fates_file run.out fates ∷ [])) whole_units
+          ∙ sym (files_written-append old (files_of_units run fates (unit_count run.plan)) (files_of_groups run fates ++ fates_file run.out fates ∷ [])))
+
+      -- it was stopped in the counts, or before them
+      pub stopped_in_counts : (new : HostState) → (new ≡ all) ⊎ OutputHasPrefix (counts_output run.plan infos fates) all new → IsCut (texts_of run fates) old new
+      stopped_in_counts new cut =
+          let files = (texts_of run fates).files in
+          elim cut [
+            | inl same ↦ inl (cut_whole files old new (same ∙ whole_files))
+            | inr part ↦
+                inr (subst (λ (is : List Info). OutputHasPrefix (counts_output run.plan is fates) (files_written old files) new) known
+                (subst (λ (s : HostState). OutputHasPrefix (counts_output run.plan infos fates) s new) whole_files part))
+          ]
+
+      -- all is written
+      pub all_written : (new : HostState) → new ≡ wrote all 0 (counts_output run.plan infos fates) → new ≡ written (texts_of run fates) old
+      all_written new done =
+          done ∙ ap (λ (s : HostState). wrote s 0 (counts_output run.plan infos fates)) whole_files
+          ∙ ap (λ (is : List Info). wrote (files_written old (texts_of run fates).files) 0 (counts_output run.plan is fates)) known

@@ -1,0 +1,72 @@
+-- What the bytes of a file are accepted as: a plan on a bench, a capture, a schedule with what it leaves; or the refusal.
+use Rattle.std.specs.Prelude.{◌≤◌, ℕ, nat_lt, if◌then◌else◌, List, length, Result, Ok, Err}
+use Rattle.lq_model.specs.Capture.{Refusal as CaptureRefusal}
+use Rattle.lq_model.specs.Plan.{Plan, unit_count}
+use Rattle.lq_model.specs.declared.capture.CaptureReason.TheVariants as capture
+use Rattle.lq_model.specs.declared.plan.PlanReason.{PlanReason}
+use Rattle.lq_model.specs.declared.plan.PlanReason.TheVariants as plan
+use Rattle.lq_plan.specs.Reading.{plan_of}
+use Rattle.lq_run_core.specs.TraceText.{schedule_text}
+use Rattle.lq_run_core.specs.declared.trace_run.TraceReason.TheVariants as reason
+use Rattle.lq_run_core.specs.declared.trace_run.TraceRefusal.{TraceRefusal}
+use Rattle.lq_run_core.specs.declared.trace_run.TraceRefusal.TheVariants.{Refused, NoMemory}
+use Rattle.lq_pcapng.specs.File.{capture_file_of}
+use Rattle.lq_pcapng.specs.declared.file.CaptureFile.{CaptureFile}
+use Rattle.lq_files.specs.declared.refusal.Refusal.{Refusal}
+use Rattle.lq_files.specs.declared.refusal.Refusal.TheVariants as refusal
+
+-- PLANS
+
+-- the plan that bytes are; more than 65,536 bytes are none, whatever they are
+abbrev pub limited_plan_of : List ℕ → Result Plan PlanReason
+limited_plan_of bytes = if nat_lt 65536 (length bytes) then Err plan.TooLong else plan_of bytes
+
+-- an accepted plan on a bench of so many devices: it may need more of them
+abbrev pub placed_on : ℕ → Plan → Result Plan Refusal
+placed_on have p = if nat_lt have (unit_count p) then Err (refusal.Bench (unit_count p) have) else Ok p
+
+abbrev pub placed_if_read : ℕ → Result Plan PlanReason → Result Plan Refusal
+placed_if_read have (Err reason) = Err (refusal.Plan reason)
+placed_if_read have (Ok p) = placed_on have p
+
+-- the plan that is run on a bench of so many devices, or the refusal
+abbrev pub plan_for : ℕ → List ℕ → Result Plan Refusal
+plan_for have bytes = placed_if_read have (limited_plan_of bytes)
+
+-- no plan needs more devices: it has at most 8 stations and 64 swaps
+abbrev pub max_units : ℕ
+max_units = 72
+
+-- and no plan has more groups of stations
+abbrev pub max_groups : ℕ
+max_groups = 8
+
+-- what is known of a plan that is run
+pub record IsRunnable (have : ℕ) (p : Plan) : Type 0 where
+  pub units : unit_count p ≤ have
+  pub few : unit_count p ≤ max_units
+
+-- CAPTURES
+
+abbrev pub too_long_a_capture : Refusal
+too_long_a_capture = refusal.Capture capture.TooLong 67108864
+
+abbrev pub with_refusal : Result CaptureFile CaptureRefusal → Result CaptureFile Refusal
+with_refusal (Ok c) = Ok c
+with_refusal (Err r) = Err (refusal.Capture r.reason r.place)
+
+-- the capture that bytes are, in either format, or the refusal; more than 67,108,864 bytes are none, whatever they are
+abbrev pub limited_capture_of : List ℕ → Result CaptureFile Refusal
+limited_capture_of bytes = if nat_lt 67108864 (length bytes) then Err too_long_a_capture else with_refusal (capture_file_of bytes)
+
+-- SCHEDULES
+
+-- the text that a schedule's trace gives, or the refusal; want of memory is no answer of a definition
+abbrev pub traced : Result (List ℕ) TraceRefusal → Result (List ℕ) Refusal
+traced (Ok text) = Ok text
+traced (Err (Refused r line)) = Err (refusal.Trace r line)
+traced (Err NoMemory) = Err refusal.Usage
+
+-- the text for the schedule that bytes are, or the refusal; more than 65,536 bytes are none, whatever they are
+abbrev pub limited_trace_of : List ℕ → Result (List ℕ) Refusal
+limited_trace_of bytes = if nat_lt 65536 (length bytes) then Err (refusal.Trace reason.TooLong 0) else traced (schedule_text bytes)

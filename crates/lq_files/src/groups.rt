@@ -1,0 +1,178 @@
+//! What the children of a multi-queue root sent together: the file of each root, and the line that counts it.
+ghost use Rattle.std.specs.Prelude.{◌≡◌, ◌++◌, ◌∷◌, [], ◌+◌, ◌<◌, ◌≤◌, ◌^◌, ℕ, IfOk, OnErr, OnOk, count_by, length, map, string_bytes};
+ghost use Rattle.lq_model.specs.Settled.{AreSerials};
+ghost use Rattle.lq_pcapng.specs.File.{packets_of_file};
+ghost use Rattle.lq_files.specs.Accepted.{max_groups};
+ghost use Rattle.lq_files.specs.Groups.{group_capture_name, group_file, group_files, is_root, is_sent_between, mq_lines, sent_by_children, sent_by_group};
+ghost use Rattle.lq_files.specs.Stop.{StopsFor};
+ghost use Rattle.lq_files.specs.Written.{FileIsCut, FilesAreCut, file_written, files_written};
+
+use crate::answer::Stop;
+use crate::source::Packets;
+use crate::write::write_packets_file;
+use lq_fates::{push_bytes, sent_of};
+use lq_host::Host;
+use lq_model::{Fate, NoMemory};
+use lq_mq::{joint, mq_text};
+use lq_pcapng::CaptureFile;
+use lq_plan::Plan;
+use std::alloc::{AllocError, Global};
+use std::marker::Sync;
+use std::thread::Threads;
+
+/// The name of the capture that the packets of a group's children go to.
+fn name_of_group_capture(alloc: Global, out: &str, j: u32) -> Result<String, AllocError>
+    ensures { IfOk result (λ name. string_bytes name ≡ group_capture_name out.now j) }
+{
+    format!(in alloc; "{out}.mq{j}.pcap")
+}
+
+fn push_list(lists: &mut Vec<Vec<u32>>, list: Vec<u32>) -> Result<(), NoMemory>
+    ensures { OnOk result (lists.new.items ≡ lists.old.items ++ list ∷ []) }
+{
+    lists.push(list).map_err(|_| NoMemory)
+}
+
+/// The packets that each child of group `j` sent, in order of serial.
+fn sent_by_children(
+    alloc: Global,
+    plan: &Plan,
+    fates: &[Fate],
+    j: u32,
+) -> Result<Vec<Vec<u32>>, NoMemory>
+    requires group { j < length plan.now.groups }
+    requires serials { (unit : ℕ) → AreSerials fates.now unit }
+    ensures { IfOk result (λ lists. map (λ list. list.items) lists.items ≡ sent_by_children plan.now fates.now j) }
+{
+    let first = plan.first(j);
+    let mut lists = Vec::new(alloc);
+    for k in 0..plan.mq(j) {
+        let sent = sent_of(alloc, fates, first + k)?;
+        push_list(&mut lists, sent)?;
+    }
+    Ok(lists)
+}
+
+/// The packets that the children of group `j` sent, by serial, and at one serial by child. Beside the list that it makes it needs
+/// the children's own, of one number for each packet.
+fn sent_by_group(alloc: Global, plan: &Plan, fates: &[Fate], j: u32) -> Result<Vec<u32>, NoMemory>
+    requires group { j < length plan.now.groups }
+    requires serials { (unit : ℕ) → AreSerials fates.now unit }
+    ensures { IfOk result (λ all. all.items ≡ sent_by_group plan.now fates.now j) }
+{
+    let lists = sent_by_children(alloc, plan, fates, j)?;
+    joint(alloc, &lists)
+}
+
+/// Makes the file of group `j`: the capture of the packets that its children sent.
+fn write_group<R: Threads + Sync, H: Host>(
+    rt: &R,
+    alloc: Global,
+    host: &mut H,
+    out: &str,
+    plan: &Plan,
+    capture: &CaptureFile,
+    fates: &[Fate],
+    j: u32,
+) -> Result<(), Stop>
+    requires may { H.may_create (group_capture_name out.now j) }
+    requires group { j < length plan.now.groups }
+    requires serials { (unit : ℕ) → AreSerials fates.now unit }
+    requires known { length fates.now ≤ (packets_of_file capture.now).count }
+    ensures handles { (H.state host.new).handles ≡ (H.state host.old).handles }
+    ensures ok { OnOk result (H.state host.new
+        ≡ file_written (H.state host.old) (group_file out.now capture.now plan.now fates.now j)) }
+    ensures err { OnErr result (FileIsCut (group_file out.now capture.now plan.now fates.now j)
+        (H.state host.old) (H.state host.new)) }
+    ensures cause { StopsFor (H.fault_count host.old) (H.fault_count host.new) result }
+{
+    let sent = sent_by_group(alloc, plan, fates, j)?;
+    let name = name_of_group_capture(alloc, out, j)?;
+    let packets = Packets {
+        capture,
+        numbers: &sent,
+    };
+    write_packets_file(rt, alloc, host, name.as_str(), &packets)
+}
+
+/// Whether group `j` is a multi-queue root: it has more than one child.
+fn is_root(plan: &Plan, j: u32) -> bool
+    requires { j < length plan.now.groups }
+    ensures { result ≡ is_root plan.now j }
+{
+    plan.mq(j) > 1
+}
+
+/// Makes the files of the multi-queue roots, in ascending order.
+pub fn write_groups<R: Threads + Sync, H: Host>(
+    rt: &R,
+    alloc: Global,
+    host: &mut H,
+    out: &str,
+    plan: &Plan,
+    capture: &CaptureFile,
+    fates: &[Fate],
+) -> Result<(), Stop>
+    requires may { (j : ℕ) → j < max_groups → H.may_create (group_capture_name out.now j) }
+    requires serials { (unit : ℕ) → AreSerials fates.now unit }
+    requires known { length fates.now ≤ (packets_of_file capture.now).count }
+    ensures handles { (H.state host.new).handles ≡ (H.state host.old).handles }
+    ensures ok { OnOk result (H.state host.new
+        ≡ files_written (H.state host.old) (group_files out.now capture.now plan.now fates.now)) }
+    ensures err { OnErr result (FilesAreCut (group_files out.now capture.now plan.now fates.now)
+        (H.state host.old) (H.state host.new)) }
+    ensures cause { StopsFor (H.fault_count host.old) (H.fault_count host.new) result }
+{
+    for j in 0..plan.groups() {
+        if is_root(plan, j) {
+            write_group(rt, alloc, host, out, plan, capture, fates, j)?;
+        }
+    }
+    Ok(())
+}
+
+/// Whether a unit from `low` on and below `high` sent the packet.
+fn is_sent_between(fate: &Fate, low: u32, high: u32) -> bool
+    ensures { result ≡ is_sent_between low high fate.now }
+{
+    matches!(*fate, Fate::Sent { unit, .. } if low <= unit && unit < high)
+}
+
+/// How many packets such units sent.
+fn count_sent_between(fates: &[Fate], low: u32, high: u32) -> usize
+    ensures { result ≡ count_by (is_sent_between low high) fates.now }
+{
+    fates
+        .iter()
+        .filter(|fate| is_sent_between(fate, low, high))
+        .count()
+}
+
+/// How many packets the children of group `j` sent.
+fn count_sent(plan: &Plan, fates: &[Fate], j: u32) -> usize
+    requires { j < length plan.now.groups }
+    ensures sent { result ≡ length (sent_by_group plan.now fates.now j) }
+    ensures few { result ≤ length fates.now }
+{
+    let first = plan.first(j);
+    count_sent_between(fates, first, first + plan.mq(j))
+}
+
+/// Writes a line for each multi-queue root to the end of a text: how many children it has, and how many packets they sent.
+pub fn push_mq_lines(
+    alloc: Global,
+    text: &mut Vec<u8>,
+    plan: &Plan,
+    fates: &[Fate],
+) -> Result<(), NoMemory>
+    requires { length fates.now < 2 ^ 32 }
+    ensures { OnOk result (text.new.items ≡ text.old.items ++ mq_lines plan.now fates.now) }
+{
+    for j in 0..plan.groups() {
+        if is_root(plan, j) {
+            let line = mq_text(alloc, j, plan.mq(j), count_sent(plan, fates, j) as u32)?;
+            push_bytes(text, &line)?;
+        }
+    }
+    Ok(())
+}

@@ -1,0 +1,255 @@
+//! What a call writes: a text to a file or to standard output, and the files of units and fates.
+ghost use Rattle.std.specs.Prelude.{◌≡◌, [], ◌⊎◌, ◌≤◌, ℕ, length, take, OnOk, OnErr, ◌<◌, All, IfOk, string_bytes, vec_len};
+ghost use Rattle.lq_host.specs.Host.{IsWriter, wrote, filed};
+ghost use Rattle.lq_files.specs.Stop.{StopsFor};
+ghost use Rattle.lq_files.specs.Written.{FileHasPrefix, OutputHasPrefix, FileIsCut, FilesAreCut, file_written, files_written};
+ghost use Rattle.lq_pcapng.specs.File.{packets_of_file, text_of};
+ghost use Rattle.lq_files.specs.RunFiles.{capture_name, fates_name, unit_file, unit_files};
+ghost use Rattle.lq_model.specs.Settled.{AreSerials};
+ghost use Rattle.lq_files.specs.Lines.{lines_file, lines_of};
+
+use crate::answer::{Stop, and_finished};
+use crate::lines::Line;
+use crate::parts::{Buffers, make_buffers, write_source};
+use crate::pieces::{write_text, write_whole_pieces};
+use crate::source::{Lines, Packets};
+use lq_fates::sent_of;
+use lq_host::Host;
+use lq_model::Fate;
+use lq_pcapng::CaptureFile;
+use std::alloc::{AllocError, Global};
+use std::marker::Sync;
+use std::thread::Threads;
+
+/// Makes a file of a text. Where it stops, the file is as before, or has a prefix of the text.
+pub fn write_file<H: Host>(host: &mut H, name: &str, text: &[u8]) -> Result<(), Stop>
+    requires { H.may_create name.now }
+    ensures handles { (H.state host.new).handles ≡ (H.state host.old).handles }
+    ensures ok { OnOk result (H.state host.new ≡ filed (H.state host.old) name.now text.now) }
+    ensures err { OnErr result ((H.state host.new ≡ H.state host.old)
+        ⊎ FileHasPrefix name.now text.now (H.state host.old) (H.state host.new)) }
+    ensures cause { StopsFor (H.fault_count host.old) (H.fault_count host.new) result }
+{
+    let h = host.create(name)?;
+    let written = write_text(host, h, text);
+    let end = host.finish(h);
+    and_finished(written, end)?;
+    Ok(())
+}
+
+/// Writes a text to standard output.
+pub fn write_output<H: Host>(host: &mut H, text: &[u8]) -> Result<(), Stop>
+    ensures handles { (H.state host.new).handles ≡ (H.state host.old).handles }
+    ensures ok { OnOk result (H.state host.new ≡ wrote (H.state host.old) 0 text.now) }
+    ensures err { OnErr result (OutputHasPrefix text.now (H.state host.old) (H.state host.new)) }
+    ensures cause { StopsFor (H.fault_count host.old) (H.fault_count host.new) result }
+{
+    write_text(host, 0, text)
+}
+
+/// The name of the capture that a unit's packets go to.
+fn name_of_capture(alloc: Global, out: &str, unit: u32) -> Result<String, AllocError>
+    ensures { IfOk result (λ name. string_bytes name ≡ capture_name out.now unit) }
+{
+    format!(in alloc; "{out}.{unit}.pcap")
+}
+
+/// The name of the file that tells each packet's fate.
+fn name_of_fates(alloc: Global, out: &str) -> Result<String, AllocError>
+    ensures { IfOk result (λ name. string_bytes name ≡ fates_name out.now) }
+{
+    format!(in alloc; "{out}.fates")
+}
+
+/// Writes the capture in the format of another with these of its packets, in the order of the list, to a handle. Where it
+/// stops, a prefix was written.
+fn write_packets<R: Threads + Sync, H: Host>(
+    rt: &R,
+    host: &mut H,
+    h: u32,
+    packets: &Packets<'_>,
+    mut buffers: Buffers,
+) -> Result<(), Stop>
+    requires writer { IsWriter ((H.state host.old).handles h) }
+    requires known { All (λ n. n < (packets_of_file packets.now.capture.now).count) packets.now.numbers.now }
+    requires empty { buffers.rest.items ≡ [] }
+    requires parts { 0 < vec_len buffers.parts }
+    ensures handles { (H.state host.new).handles ≡ (H.state host.old).handles }
+    ensures ok { OnOk result (H.state host.new ≡ wrote (H.state host.old) h (text_of packets.now.capture.now packets.now.numbers.now)) }
+    ensures err { OnErr result ((n : ℕ) × (n ≤ length (text_of packets.now.capture.now packets.now.numbers.now))
+        × (H.state host.new ≡ wrote (H.state host.old) h (take n (text_of packets.now.capture.now packets.now.numbers.now)))) }
+    ensures cause { StopsFor (H.fault_count host.old) (H.fault_count host.new) result }
+{
+    packets.capture.push_start(&mut buffers.rest)?;
+    write_whole_pieces(host, h, &mut buffers.rest)?;
+    write_source(rt, host, h, packets, buffers)
+}
+
+/// Makes a file of the capture in the format of another with these of its packets. Where it stops, the file is as before, or
+/// has a prefix of the text.
+fn write_capture<R: Threads + Sync, H: Host>(
+    rt: &R,
+    host: &mut H,
+    name: &str,
+    packets: &Packets<'_>,
+    buffers: Buffers,
+) -> Result<(), Stop>
+    requires may { H.may_create name.now }
+    requires known { All (λ n. n < (packets_of_file packets.now.capture.now).count) packets.now.numbers.now }
+    requires empty { buffers.rest.items ≡ [] }
+    requires parts { 0 < vec_len buffers.parts }
+    ensures handles { (H.state host.new).handles ≡ (H.state host.old).handles }
+    ensures ok { OnOk result (H.state host.new
+        ≡ filed (H.state host.old) name.now (text_of packets.now.capture.now packets.now.numbers.now)) }
+    ensures err { OnErr result ((H.state host.new ≡ H.state host.old)
+        ⊎ FileHasPrefix name.now (text_of packets.now.capture.now packets.now.numbers.now) (H.state host.old) (H.state host.new)) }
+    ensures cause { StopsFor (H.fault_count host.old) (H.fault_count host.new) result }
+{
+    let h = host.create(name)?;
+    let records = write_packets(rt, host, h, packets, buffers);
+    let end = host.finish(h);
+    and_finished(records, end)?;
+    Ok(())
+}
+
+/// Makes a file of the capture in the format of another with these of its packets, through buffers of its own.
+pub fn write_packets_file<R: Threads + Sync, H: Host>(
+    rt: &R,
+    alloc: Global,
+    host: &mut H,
+    name: &str,
+    packets: &Packets<'_>,
+) -> Result<(), Stop>
+    requires may { H.may_create name.now }
+    requires known { All (λ n. n < (packets_of_file packets.now.capture.now).count) packets.now.numbers.now }
+    ensures handles { (H.state host.new).handles ≡ (H.state host.old).handles }
+    ensures ok { OnOk result (H.state host.new
+        ≡ filed (H.state host.old) name.now (text_of packets.now.capture.now packets.now.numbers.now)) }
+    ensures err { OnErr result ((H.state host.new ≡ H.state host.old)
+        ⊎ FileHasPrefix name.now (text_of packets.now.capture.now packets.now.numbers.now) (H.state host.old) (H.state host.new)) }
+    ensures cause { StopsFor (H.fault_count host.old) (H.fault_count host.new) result }
+{
+    let buffers = make_buffers(alloc, packets.numbers.len())?;
+    write_capture(rt, host, name, packets, buffers)
+}
+
+/// Makes the file of a unit: the capture of the packets that it sent.
+fn write_unit<R: Threads + Sync, H: Host>(
+    rt: &R,
+    alloc: Global,
+    host: &mut H,
+    out: &str,
+    capture: &CaptureFile,
+    fates: &[Fate],
+    unit: u32,
+) -> Result<(), Stop>
+    requires may { H.may_create (capture_name out.now unit) }
+    requires serials { AreSerials fates.now unit }
+    requires known { length fates.now ≤ (packets_of_file capture.now).count }
+    ensures handles { (H.state host.new).handles ≡ (H.state host.old).handles }
+    ensures ok { OnOk result (H.state host.new
+        ≡ file_written (H.state host.old) (unit_file out.now capture.now fates.now unit)) }
+    ensures err { OnErr result (FileIsCut (unit_file out.now capture.now fates.now unit)
+        (H.state host.old) (H.state host.new)) }
+    ensures cause { StopsFor (H.fault_count host.old) (H.fault_count host.new) result }
+{
+    let sent = sent_of(alloc, fates, unit)?;
+    let name = name_of_capture(alloc, out, unit)?;
+    let packets = Packets {
+        capture,
+        numbers: &sent,
+    };
+    write_packets_file(rt, alloc, host, name.as_str(), &packets)
+}
+
+/// Makes the files of the first so many units, in ascending order.
+pub fn write_units<R: Threads + Sync, H: Host>(
+    rt: &R,
+    alloc: Global,
+    host: &mut H,
+    out: &str,
+    capture: &CaptureFile,
+    fates: &[Fate],
+    units: u32,
+) -> Result<(), Stop>
+    requires may { (unit : ℕ) → unit < units → H.may_create (capture_name out.now unit) }
+    requires serials { (unit : ℕ) → AreSerials fates.now unit }
+    requires known { length fates.now ≤ (packets_of_file capture.now).count }
+    ensures handles { (H.state host.new).handles ≡ (H.state host.old).handles }
+    ensures ok { OnOk result (H.state host.new
+        ≡ files_written (H.state host.old) (unit_files out.now capture.now fates.now units)) }
+    ensures err { OnErr result (FilesAreCut (unit_files out.now capture.now fates.now units)
+        (H.state host.old) (H.state host.new)) }
+    ensures cause { StopsFor (H.fault_count host.old) (H.fault_count host.new) result }
+{
+    for unit in 0..units {
+        write_unit(rt, alloc, host, out, capture, fates, unit)?;
+    }
+    Ok(())
+}
+
+/// Writes the lines that tell each packet's fate to a handle. Where it stops, a prefix was written.
+fn write_lines<R: Threads + Sync, H: Host, F: Line>(
+    rt: &R,
+    host: &mut H,
+    h: u32,
+    fates: &[F],
+    buffers: Buffers,
+) -> Result<(), Stop>
+    requires writer { IsWriter ((H.state host.old).handles h) }
+    requires empty { buffers.rest.items ≡ [] }
+    requires parts { 0 < vec_len buffers.parts }
+    ensures handles { (H.state host.new).handles ≡ (H.state host.old).handles }
+    ensures ok { OnOk result (H.state host.new ≡ wrote (H.state host.old) h (lines_of F.words 0 fates.now)) }
+    ensures err { OnErr result ((n : ℕ) × (n ≤ length (lines_of F.words 0 fates.now))
+        × (H.state host.new ≡ wrote (H.state host.old) h (take n (lines_of F.words 0 fates.now)))) }
+    ensures cause { StopsFor (H.fault_count host.old) (H.fault_count host.new) result }
+{
+    write_source(rt, host, h, &Lines { fates }, buffers)
+}
+
+/// Makes a file of the lines that tell each packet's fate. Where it stops, the file is as before, or has a prefix of them.
+fn write_fates_file<R: Threads + Sync, H: Host, F: Line>(
+    rt: &R,
+    host: &mut H,
+    name: &str,
+    fates: &[F],
+    buffers: Buffers,
+) -> Result<(), Stop>
+    requires may { H.may_create name.now }
+    requires empty { buffers.rest.items ≡ [] }
+    requires parts { 0 < vec_len buffers.parts }
+    ensures handles { (H.state host.new).handles ≡ (H.state host.old).handles }
+    ensures ok { OnOk result (H.state host.new
+        ≡ filed (H.state host.old) name.now (lines_of F.words 0 fates.now)) }
+    ensures err { OnErr result ((H.state host.new ≡ H.state host.old)
+        ⊎ FileHasPrefix name.now (lines_of F.words 0 fates.now) (H.state host.old) (H.state host.new)) }
+    ensures cause { StopsFor (H.fault_count host.old) (H.fault_count host.new) result }
+{
+    let h = host.create(name)?;
+    let lines = write_lines(rt, host, h, fates, buffers);
+    let end = host.finish(h);
+    and_finished(lines, end)?;
+    Ok(())
+}
+
+/// Makes the file that tells each packet's fate.
+pub fn write_fates<R: Threads + Sync, H: Host, F: Line>(
+    rt: &R,
+    alloc: Global,
+    host: &mut H,
+    out: &str,
+    fates: &[F],
+) -> Result<(), Stop>
+    requires { H.may_create (fates_name out.now) }
+    ensures handles { (H.state host.new).handles ≡ (H.state host.old).handles }
+    ensures ok { OnOk result (H.state host.new
+        ≡ file_written (H.state host.old) (lines_file out.now F.words fates.now)) }
+    ensures err { OnErr result (FileIsCut (lines_file out.now F.words fates.now)
+        (H.state host.old) (H.state host.new)) }
+    ensures cause { StopsFor (H.fault_count host.old) (H.fault_count host.new) result }
+{
+    let buffers = make_buffers(alloc, fates.len())?;
+    let name = name_of_fates(alloc, out)?;
+    write_fates_file(rt, host, name.as_str(), fates, buffers)
+}

@@ -1,9 +1,0 @@
-use Rattle.std.proofs.lemmas.Result.{on_ok_weaker}
-use Rattle.lq_top.proofs.PieceLemmas.{packet_next}
-use Rattle.lq_top.proofs.source.PacketsSource.push_piece.Goals as goal
-
-pub returns : goal.returns
-returns c =
-    on_ok_weaker c.push_packet.result
-    (packet_next c.args.self.now.capture.now c.args.self.now.numbers.now c.args.n c.args.text.now.items c.push_packet.new.out.items c.requires.piece)
-    c.push_packet.ensures

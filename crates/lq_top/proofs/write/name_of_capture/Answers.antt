@@ -1,4 +1,0 @@
-use Rattle.lq_top.proofs.write.name_of_capture.Goals as goal
-
-pub returns : goal.returns
-returns c = c.format.ensures.ok
