@@ -1,0 +1,40 @@
+use Rattle.std.proofs.Common.{◌≡◌, ℕ, ◌+◌, ◌<◌, List, length, get_or, sym, ap, ◌∙◌, subst}
+use Rattle.std.specs.Option.{option_map_or}
+use Rattle.std.specs.Prelude.{Option}
+use Rattle.std.proofs.lemmas.Option.{slice_get-get_or}
+use Rattle.lq_model.specs.Plan.{band_in}
+use Rattle.lq_model.specs.declared.fate.Info.{Info}
+use Rattle.lq_table.specs.Sees.{view, known, setup}
+use Rattle.lq_table.specs.Solo.{solo}
+use Rattle.lq_table.specs.SolePut.{SeesEnd}
+use Rattle.lq_table.specs.Told.{paying}
+use Rattle.lq_table.specs.Views.{View}
+use Rattle.lq_qdisc.specs.Sends.{Enqueues}
+use Rattle.lq_qdisc.specs.declared.answers.Sending.TheVariants as sending
+use Rattle.lq_ring.specs.Steps.{FindsFull, Puts}
+use Rattle.lq_qdisc.proofs.sends.enqueue.Goals as goal
+
+-- what was read of a packet is its band
+band_read : (infos read : List Info) (n : ℕ) (d : Info) → read ≡ infos → n < length infos → (get_or read n d).band ≡ band_in infos n
+band_read infos read n d e within = ap (λ (xs : List Info). (get_or xs n d).band) e ∙ sym (ap (λ (o : Option Info). option_map_or (λ (info : Info). info.band) o 0) (slice_get-get_or infos n d within))
+
+pub settle-requires-clause-may : goal.settle-requires-clause-may
+settle-requires-clause-may g c _ _ = ap (λ (v : View). v.packets.owed) c.in-Err.ensures.puts.0
+
+pub returns-in-Ok-clause-put : goal.returns-in-Ok-clause-put
+returns-in-Ok-clause-put g c =
+    let e = c.in-Ok.ensures in let old = known c.args.cpu.now in let new = known c.produce.new.cpu in
+    subst (λ (b : ℕ). Enqueues c.args.n b sending.Queued old.view new.view × Puts (setup c.args.shared.now) b c.args.n old new)
+        (band_read c.args.shared.now.infos.now c.infos.result.now c.args.n _ c.infos.ensures c.requires.packet.0) ((e.puts.0, e.sole, e.step), e.puts)
+
+pub returns-in-Err-clause-put : goal.returns-in-Err-clause-put
+returns-in-Err-clause-put g c =
+    let e = c.in-Err.ensures in let s = c.settle.ensures in let old = known c.args.cpu.now in let full = known c.produce.new.cpu in let k = setup c.args.shared.now in let seen = c.in-Err.full.seen in
+    let settled : view c.settle.new.cpu ≡ paying full.view = s.settled in let step : solo (view c.settle.new.cpu) ≡ solo full.view = s.step in
+    let all = subst (λ (b : ℕ). FindsFull k b c.args.n seen old full × SeesEnd b old.view (seen + 1))
+        (band_read c.args.shared.now.infos.now c.infos.result.now c.args.n _ c.infos.ensures c.requires.packet.0) (e.puts, e.sole) in
+    ((settled ∙ ap paying e.puts.0, all.1, step ∙ e.step), full, all.0, s.made)
+
+pub produce-requires-clause-packet : goal.produce-requires-clause-packet
+produce-requires-clause-packet g c _ _ =
+    let p = c.requires.packet in ((p.2, sym (band_read c.args.shared.now.infos.now c.infos.result.now c.args.n _ c.infos.ensures p.0)), p.3)
