@@ -1,14 +1,16 @@
 -- What a run leaves.
-use Rattle.std.proofs.Common.{◌≡◌, ℕ, ◌==◌, if◌then◌else◌, sym, ap, ◌∙◌, List, [], ◌∷◌, ◌++◌, length, append_assoc}
+use Rattle.std.proofs.Common.{◌≡◌, ℕ, ◌==◌, if◌then◌else◌, true, sym, ap, ◌∙◌, List, [], ◌∷◌, ◌++◌, length, append_assoc}
 use Rattle.std.specs.Prelude.{is_some}
 use Rattle.lq_model.specs.Positions.{in_hand}
+use Rattle.lq_model.specs.Steps.{step_at}
+use Rattle.lq_model.specs.declared.machine.Answer.TheVariants.{Plain}
 use Rattle.lq_model.specs.declared.fate.Fate.{Fate}
 use Rattle.lq_model.specs.declared.machine.Position.{Position}
-use Rattle.lq_model.specs.declared.machine.Position.TheVariants.{Quota}
+use Rattle.lq_model.specs.declared.machine.Position.TheVariants.{Quota, Unlock}
 use Rattle.lq_model.specs.declared.state.TheConstants.{QUOTA}
 use Rattle.lq_run.specs.Runs.{begins}
 use Rattle.lq_table.specs.Views.{View}
-use Rattle.lq_table.specs.Told.{backing, fate_sent, passing, setting}
+use Rattle.lq_table.specs.Told.{backing, fate_sent, passing, seen_by, setting}
 use Rattle.lq_model.specs.Account.{Back}
 use Rattle.lq_table.specs.Solo.{Solo, heard, laid}
 use Rattle.lq_qdisc.proofs.ViewRelations.{Directs}
@@ -38,6 +40,15 @@ directs_fates (through.Back why.Busy) n queue old new d = fates_same old new d.s
 pub set_at_quota : (v : View) → v.place.position ≡ position_in_run v → v.place.run ≡ QUOTA → setting v ≡ passing v
 set_at_quota v at run =
     ap (λ (y : Position). if is_some (in_hand y) then backing v else passing v) (at ∙ ap (λ (k : ℕ). if k == QUOTA then Quota else begins v) run)
+
+-- then the run lock is released next, and nothing else changes
+abbrev pub over : View → View
+over v = record v { place = record v.place { position = Unlock }; whole = record v.whole { qdisc = record v.whole.qdisc { missed = true } } }
+
+pub over_at_quota : (v w : View) → w ≡ setting v → v.place.position ≡ position_in_run v → v.place.run ≡ QUOTA → w ≡ over v
+over_at_quota v w is at run =
+    is ∙ (set_at_quota v at run ∙ ap (λ (y : Position). record v { place = (step_at y Plain (seen_by v) v.place).seat; whole = record v.whole { qdisc = (step_at y Plain v.whole.qdisc v.place).qdisc } })
+        (at ∙ ap (λ (k : ℕ). if k == QUOTA then Quota else begins v) run))
 
 pub laid_at_quota : (v : View) (w : Solo) → v.place.position ≡ position_in_run v → v.place.run ≡ QUOTA → laid v w ≡ w
 laid_at_quota v w at run = ap (λ (y : Position). if is_some (in_hand y) then heard Back w else w) (at ∙ ap (λ (k : ℕ). if k == QUOTA then Quota else begins v) run)

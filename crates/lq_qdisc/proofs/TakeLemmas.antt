@@ -16,11 +16,12 @@ use Rattle.lq_ring.specs.Take.{consuming}
 use Rattle.lq_table.specs.Views.{View, HolderPart, SharePart, State, machine_packet, first_account}
 use Rattle.lq_table.specs.Told.{seen_band, seen_by, passing}
 use Rattle.lq_table.specs.Rings.{finding_none}
-use Rattle.lq_table.specs.Sees.{view, position, IsSeatOf, IsSameSeat}
+use Rattle.lq_table.specs.Rule.{shown, IsResting}
+use Rattle.lq_table.specs.Sees.{view, position, slot, IsSeatOf, IsSameSeat}
 use Rattle.lq_table.specs.Solo.{IsSole, SeesStop, account_of}
 use Rattle.lq_table.specs.declared.shared.Cpu.{Cpu}
 use Rattle.lq_table.specs.declared.shared.Shared.{Shared}
-use Rattle.lq_qdisc.specs.Calls.{IsKeptInRun, AreNone, Dequeues, Finds, FindsNone, FindsPacket, Looks, Picks, found_empty, looking_at}
+use Rattle.lq_qdisc.specs.Calls.{IsKeptInRun, IsServing, AreNone, Dequeues, Finds, FindsNone, FindsPacket, Looks, Picks, found_empty, looking_at}
 use Rattle.lq_model.specs.declared.fate.Info.{Info}
 use Rattle.lq_qdisc.specs.declared.answers.Taken.{Taken}
 use Rattle.lq_qdisc.specs.declared.answers.Taken.TheVariants as taken
@@ -121,6 +122,15 @@ module _ {D : Type 0} where
 
   pub seat_in : (t : Shared D) (b a : Cpu D) → IsKeptInRun b a → IsSeatOf t b → IsSeatOf t a
   seat_in t b a k s = (k.seat.0 ∙ s.0, subst (λ (n : ℕ). 0 < n) (sym (ap (λ x. x.shares) k.share)) s.1, ap (λ x. x.about) k.share ∙ s.2)
+
+  -- serving goes on where the station, its slot, the producer locks and what it has as holder are as they were
+  pub serving_same : (b a : Cpu D) → slot a ≡ slot b → a.station ≡ b.station → (view a).holder ≡ (view b).holder → (view a).locks ≡ (view b).locks → IsServing b → IsServing a
+  serving_same b a slot_is station_is holder locks s = (
+    (slot_is ∙ s.0.0, station_is ∙ (s.0.1 ∙ ap (λ (h : HolderPart). Some (shown h)) (sym holder))),
+    subst (λ (h : HolderPart). IsResting h.size h.ends × (h.resizing ≡ None)) (sym holder) s.1,
+    locks ∙ s.2,
+    ap (λ (h : HolderPart). h.shut) holder ∙ s.3,
+  )
 
   pub run_none : (b : ℕ) (second : Bool) (m a : Cpu D) → position m ≡ Scan b second → view a ≡ finding_none b (view m) → (view a).place.run ≡ (view m).place.run
   run_none b second m a here is = ap (λ (x : View). x.place.run) is ∙ (seat_kept (seen_band b []) b second (view m) here).0

@@ -3,11 +3,12 @@ use Rattle.std.specs.Prelude.{is_none, if◌then◌else◌}
 use Rattle.lq_model.specs.declared.state.TheConstants.{QUOTA}
 use Rattle.lq_table.specs.Sees.{view, known, setup}
 use Rattle.lq_table.specs.Told.{IsKnownSlot}
+use Rattle.lq_table.specs.Views.{View}
 use Rattle.lq_qdisc.specs.Steps.{SendsBy}
 use Rattle.lq_qdisc.proofs.StepLemmas.{sends_more_by}
 use Rattle.lq_qdisc.proofs.ViewLemmas.{runs_view}
-use Rattle.lq_qdisc.proofs.TakeLemmas.{kept_then, seat_in}
-use Rattle.lq_qdisc.proofs.RunLemmas.{count, fates_then, laid_at_quota, set_at_quota}
+use Rattle.lq_qdisc.proofs.TakeLemmas.{kept_then, seat_in, serving_same}
+use Rattle.lq_qdisc.proofs.RunLemmas.{count, fates_then, laid_at_quota, over, over_at_quota, set_at_quota}
 use Rattle.lq_qdisc.specs.declared.answers.Ran.{Ran}
 use Rattle.lq_qdisc.specs.declared.answers.RunEnd.TheVariants.{Quota}
 use Rattle.lq_qdisc.proofs.AloneSteps.{accounts_slot, runs_alone}
@@ -70,3 +71,30 @@ returns-clause-alone g c = λ knows sender active.
     let k = setup c.args.shared.now in let ran : Ran = record { end = Quota; sent = QUOTA } in
     runs_alone k c.args.shared.now.infos.now (view c.args.cpu.now) c.requires.seat.2 sender active (λ other. accounts_slot (view c.args.cpu.now) (knows other)) ran (view c.set_missed.new.cpu)
     (runs_view k ran (known c.args.cpu.now) (known c.set_missed.new.cpu) (returns-clause-ran g c))
+
+pub returns-clause-kept : goal.returns-clause-kept
+returns-clause-kept g c =
+    let old = c.loop-sent.invariant in let all : c.loop-sent.sent ≡ QUOTA = omega arith in let set = c.set_missed.ensures in
+    let e = over_at_quota (view c.loop-sent.cpu) (view c.set_missed.new.cpu) set.view old.at (old.run ∙ all) in
+    kept_then old.kept (record {
+      seat = set.same.0;
+      indices = set.same.2;
+      share = ap (λ (v : View). v.share) e;
+      packets = ap (λ (v : View). v.packets) e;
+      locks = ap (λ (v : View). v.locks) e;
+      control = ap (λ (v : View). v.control) e;
+      turns = ap (λ (v : View). v.turns) e;
+      told = ap (λ (v : View). v.whole.told) e;
+      raised = ap (λ (v : View). v.place.raised) e;
+    })
+
+pub returns-clause-serving : goal.returns-clause-serving
+returns-clause-serving g c =
+    let old = c.loop-sent.invariant in let all : c.loop-sent.sent ≡ QUOTA = omega arith in let set = c.set_missed.ensures in
+    let e = over_at_quota (view c.loop-sent.cpu) (view c.set_missed.new.cpu) set.view old.at (old.run ∙ all) in
+    serving_same c.loop-sent.cpu c.set_missed.new.cpu set.same.3 set.same.1 (ap (λ (v : View). v.holder) e) (ap (λ (v : View). v.locks) e) old.serving
+
+pub returns-clause-at : goal.returns-clause-at
+returns-clause-at g c =
+    let old = c.loop-sent.invariant in let all : c.loop-sent.sent ≡ QUOTA = omega arith in
+    ap (λ (v : View). v.place.position) (over_at_quota (view c.loop-sent.cpu) (view c.set_missed.new.cpu) c.set_missed.ensures.view old.at (old.run ∙ all))
