@@ -1,27 +1,29 @@
 -- What a look through the bands leaves.
-use Rattle.std.proofs.Common.{◌≡◌, ℕ, zero, suc, ◌+◌, ◌<◌, Bool, true, refl, sym, ap, ◌∙◌, subst, arith, List, [], ◌∷◌, Option, None, Some, inr, is_some}
-use Rattle.std.proofs.lemmas.Bool.{true≢false}
+use Rattle.std.proofs.Common.{◌≡◌, ◌≢◌, ℕ, zero, suc, ◌+◌, ◌<◌, Bool, true, refl, sym, ap, ◌∙◌, subst, arith, List, [], ◌∷◌, Option, None, Some, inr, is_some, if◌then◌else◌}
+use Rattle.std.proofs.lemmas.Bool.{ne_eqb, true≢false}
+use Rattle.std.specs.Option.{option_map}
 use Rattle.std.specs.Prelude.{slice_get, slice_index, MatchOption}
 use Rattle.lq_model.specs.Account.{Account, Event, Empty, Take, after_all, held_in}
 use Rattle.lq_model.specs.Machine.{Qdisc, band_at}
-use Rattle.lq_model.specs.Steps.{step_at, scan, after_band}
+use Rattle.lq_model.specs.Steps.{step_at, scan, after_band, queue_of_slot}
 use Rattle.lq_model.specs.declared.machine.Answer.TheVariants.{Plain}
 use Rattle.lq_model.specs.declared.machine.Packet.{Packet}
 use Rattle.lq_model.specs.declared.machine.Position.{Position}
-use Rattle.lq_model.specs.declared.machine.Position.TheVariants.{BlockedClear, Scan}
+use Rattle.lq_model.specs.declared.machine.Position.TheVariants.{BlockedClear, Deq, Scan}
+use Rattle.lq_model.specs.declared.machine.Blocked.TheVariants.{NoneTaken}
 use Rattle.lq_model.specs.declared.machine.Blocked.{Blocked}
 use Rattle.lq_model.specs.Positions.{holds_lock}
 use Rattle.lq_model.specs.declared.machine.Seat.{Seat}
 use Rattle.lq_ring.specs.Take.{consuming}
 use Rattle.lq_table.specs.Views.{View, HolderPart, SharePart, State, machine_packet, first_account}
-use Rattle.lq_table.specs.Told.{seen_band, seen_by, passing}
+use Rattle.lq_table.specs.Told.{loading, loading_from, passing, picking, seen_band, seen_by, slot_begins}
 use Rattle.lq_table.specs.Rings.{finding_none}
 use Rattle.lq_table.specs.Rule.{shown, IsResting}
 use Rattle.lq_table.specs.Sees.{view, position, slot, IsSeatOf, IsSameSeat}
 use Rattle.lq_table.specs.Solo.{IsSole, SeesStop, account_of}
 use Rattle.lq_table.specs.declared.shared.Cpu.{Cpu}
 use Rattle.lq_table.specs.declared.shared.Shared.{Shared}
-use Rattle.lq_qdisc.specs.Calls.{IsKeptInRun, IsServing, AreNone, Dequeues, Finds, FindsNone, FindsPacket, Looks, Picks, found_empty, looking_at}
+use Rattle.lq_qdisc.specs.Calls.{IsKeptInRun, IsServing, AreNone, Dequeues, Finds, FindsNone, FindsPacket, IsStopFor, Looks, Picks, found_empty, looking_at}
 use Rattle.lq_model.specs.declared.fate.Info.{Info}
 use Rattle.lq_qdisc.specs.declared.answers.Taken.{Taken}
 use Rattle.lq_qdisc.specs.declared.answers.Taken.TheVariants as taken
@@ -77,6 +79,20 @@ stop_loaded_again queue found b old m is here s alone shut =
     (ap (λ (v : View). v.holder.shut) is ∙ shut)
     ∙ ap (λ (v : View). slice_index (account_of v).stops queue) is
 
+-- the seat stands here, and all else is as it was
+abbrev pub standing : Position → View → View
+standing p v = record v { place = record v.place { position = p } }
+
+-- a load of the stop word where a dequeue begins, with this in the requeue slot: the queue is open, or stopped
+pub opened_at_dequeue : (x : ℕ) (o : Option ℕ) (v w : View) → w ≡ loading x v → v.place.position ≡ Deq → v.holder.slot ≡ o → x ≡ 0 → w ≡ picking o (standing (slot_begins (option_map (machine_packet v.share.about.infos) o)) v)
+opened_at_dequeue x o v w is at slot_is zero_ = is ∙ (λ j. loading_from (at j) (slot_is j) (zero_ j) v)
+
+pub stopped_at_dequeue : (x : ℕ) (o : Option ℕ) (v w : View) → w ≡ loading x v → v.place.position ≡ Deq → v.holder.slot ≡ o → x ≢ 0 → w ≡ standing (BlockedClear (NoneTaken (queue_of_slot (option_map (machine_packet v.share.about.infos) o)))) v
+stopped_at_dequeue x o v w is at slot_is some_ =
+    let p = option_map (machine_packet v.share.about.infos) o in
+    let led = λ (open_ : Bool). (let m : View = standing (if open_ then slot_begins p else BlockedClear (NoneTaken (queue_of_slot p))) v in if open_ then picking o m else m) in
+    is ∙ ((λ j. loading_from (at j) (slot_is j) x v) ∙ ap led (ne_eqb x 0 some_))
+
 module _ {D : Type 0} where
   pub kept_then : {b m a : Cpu D} → IsKeptInRun b m → IsKeptInRun m a → IsKeptInRun b a
   kept_then x y = record {
@@ -91,8 +107,10 @@ module _ {D : Type 0} where
     raised = y.raised ∙ x.raised;
   }
 
-  pub kept_none : (b : ℕ) (second : Bool) (m a : Cpu D) → position m ≡ Scan b second → IsSameSeat m a → a.indices ≡ m.indices → view a ≡ finding_none b (view m) → IsKeptInRun m a
-  kept_none b second m a here seat indices is = let k = seat_kept (seen_band b []) b second (view m) here in record {
+  -- a step that changes the place, without the raised mark, what it has as holder and the state beside the machine, keeps this
+  pub kept_moved : (b a : Cpu D) (place : Seat) (holder : HolderPart) (q : Qdisc) (g : State) → IsSameSeat b a → a.indices ≡ b.indices
+      → view a ≡ record (view b) { place = place; holder = holder; whole = record (view b).whole { qdisc = q; state = g } } → place.raised ≡ (view b).place.raised → IsKeptInRun b a
+  kept_moved b a place holder q g seat indices is raised = record {
     seat = seat;
     indices = indices;
     share = ap (λ (x : View). x.share) is;
@@ -101,21 +119,14 @@ module _ {D : Type 0} where
     control = ap (λ (x : View). x.control) is;
     turns = ap (λ (x : View). x.turns) is;
     told = ap (λ (x : View). x.whole.told) is;
-    raised = ap (λ (x : View). x.place.raised) is ∙ k.1;
+    raised = ap (λ (x : View). x.place.raised) is ∙ raised;
   }
 
+  pub kept_none : (b : ℕ) (second : Bool) (m a : Cpu D) → position m ≡ Scan b second → IsSameSeat m a → a.indices ≡ m.indices → view a ≡ finding_none b (view m) → IsKeptInRun m a
+  kept_none b second m a here seat indices is = kept_moved m a _ _ _ _ seat indices is (seat_kept (seen_band b []) b second (view m) here).1
+
   pub kept_take : (b n : ℕ) (second : Bool) (m a : Cpu D) → position m ≡ Scan b second → IsSameSeat m a → a.indices ≡ m.indices → view a ≡ consuming b n (view m) → IsKeptInRun m a
-  kept_take b n second m a here seat indices is = let k = seat_kept (seen_band b (machine_packet (view m).share.about.infos n ∷ [])) b second (view m) here in record {
-    seat = seat;
-    indices = indices;
-    share = ap (λ (x : View). x.share) is;
-    packets = ap (λ (x : View). x.packets) is;
-    locks = ap (λ (x : View). x.locks) is;
-    control = ap (λ (x : View). x.control) is;
-    turns = ap (λ (x : View). x.turns) is;
-    told = ap (λ (x : View). x.whole.told) is;
-    raised = ap (λ (x : View). x.place.raised) is ∙ k.1;
-  }
+  kept_take b n second m a here seat indices is = kept_moved m a _ _ _ _ seat indices is (seat_kept (seen_band b (machine_packet (view m).share.about.infos n ∷ [])) b second (view m) here).1
 
   pub sole_kept : (b a : Cpu D) → IsKeptInRun b a → IsSole (view b) → IsSole (view a)
   sole_kept b a k s = (ap (λ x. x.shares) k.share ∙ s.0, k.told ∙ s.1)
@@ -143,6 +154,20 @@ pub looks_dequeue : (infos : List Info) (t : Taken) (v w : View) → v.holder.sl
 looks_dequeue infos taken.Empty v w none l = (none, l)
 looks_dequeue infos taken.Stopped v w none l = absurd l
 looks_dequeue infos (taken.Packet n) v w none l = subst (λ (o : Option ℕ). MatchOption o (FindsPacket n v w) (λ m. (m ≡ n) × Picks n v w)) (sym none) l
+
+-- where the seat stands doesn't tell in a look through the bands
+pub looks_from : (t : Taken) (p : Position) (v m w : View) → m ≡ standing p v → Looks t m w → Looks t v w
+looks_from t p v m w is l = looks t (subst (λ (x : View). Looks t x w) is l) where
+  looks : (t : Taken) → Looks t (standing p v) w → Looks t v w
+  looks taken.Empty l = record { past = l.past; holder = l.holder; sole = l.sole }
+  looks taken.Stopped l = l
+  looks (taken.Packet n) l = record { band = l.band; below = l.below; past = l.past; holder = l.holder; sole = l.sole }
+
+-- one that comes to an answer was made with the queue open
+pub open_for : (t : Taken) (stop : ℕ) (v w : View) → Looks t v w → stop ≡ 0 → IsStopFor t stop
+open_for taken.Empty stop v w l is = is
+open_for taken.Stopped stop v w l is = absurd l
+open_for (taken.Packet n) stop v w l is = is
 
 -- nothing is held in a band below the third
 none_at : (a : Account) (b : ℕ) → AreNone a 3 → b < 3 → slice_get (held_in a b) 0 ≡ None

@@ -7,7 +7,7 @@ use Rattle.lq_table.specs.Views.{View}
 use Rattle.lq_qdisc.specs.Steps.{SendsBy}
 use Rattle.lq_qdisc.proofs.StepLemmas.{sends_more_by}
 use Rattle.lq_qdisc.proofs.ViewLemmas.{runs_view}
-use Rattle.lq_qdisc.proofs.TakeLemmas.{kept_then, seat_in, serving_same}
+use Rattle.lq_qdisc.proofs.TakeLemmas.{kept_moved, kept_then, seat_in, serving_same}
 use Rattle.lq_qdisc.proofs.RunLemmas.{count, fates_then, laid_at_quota, over, over_at_quota, set_at_quota}
 use Rattle.lq_qdisc.specs.declared.answers.Ran.{Ran}
 use Rattle.lq_qdisc.specs.declared.answers.RunEnd.TheVariants.{Quota}
@@ -76,17 +76,7 @@ pub returns-clause-kept : goal.returns-clause-kept
 returns-clause-kept g c =
     let old = c.loop-sent.invariant in let all : c.loop-sent.sent ≡ QUOTA = omega arith in let set = c.set_missed.ensures in
     let e = over_at_quota (view c.loop-sent.cpu) (view c.set_missed.new.cpu) set.view old.at (old.run ∙ all) in
-    kept_then old.kept (record {
-      seat = set.same.0;
-      indices = set.same.2;
-      share = ap (λ (v : View). v.share) e;
-      packets = ap (λ (v : View). v.packets) e;
-      locks = ap (λ (v : View). v.locks) e;
-      control = ap (λ (v : View). v.control) e;
-      turns = ap (λ (v : View). v.turns) e;
-      told = ap (λ (v : View). v.whole.told) e;
-      raised = ap (λ (v : View). v.place.raised) e;
-    })
+    kept_then old.kept (kept_moved c.loop-sent.cpu c.set_missed.new.cpu _ _ _ _ set.same.0 set.same.2 e refl)
 
 pub returns-clause-serving : goal.returns-clause-serving
 returns-clause-serving g c =

@@ -1,8 +1,11 @@
-use Rattle.std.proofs.Common.{◌≡◌, ℕ, List, refl, rules, ap, ◌∙◌, subst, inl, inr, arith}
+use Rattle.std.proofs.Common.{◌≡◌, ℕ, List, None, refl, sym, rules, ap, ◌∙◌, subst, inl, inr, arith}
+use Rattle.lq_model.specs.Positions.{holds_lock}
 use Rattle.lq_table.specs.Views.{View}
 use Rattle.lq_table.specs.Made.{Known, Made, ◌⊳◌, did_load_stop}
 use Rattle.lq_table.specs.Sees.{view, known, steps, setup}
 use Rattle.lq_table.specs.Told.{loading, passing, setting}
+use Rattle.lq_qdisc.specs.Calls.{laid_aside}
+use Rattle.lq_qdisc.proofs.TakeLemmas.{kept_moved, kept_then, looks_dequeue, looks_from, open_for, opened_at_dequeue, serving_same, stop_is, stopped_at_dequeue}
 use Rattle.lq_qdisc.specs.Steps.{ClearsMaybe, LooksThrough, found_open}
 use Rattle.lq_model.specs.declared.machine.Blocked.TheVariants.{NoneTaken}
 use Rattle.lq_qdisc.proofs.takes.dequeue_open.Goals as goal
@@ -23,3 +26,42 @@ returns-clause-by g c =
       view = (c.load_xoff.ensures.view ∙ ap (λ (x : ℕ). loading x (view c.args.cpu.now)) zero_) j;
       steps = (c.load_xoff.ensures.made ∙ ap (λ (x : ℕ). steps c.args.cpu.now ⊳ did_load_stop k 0 x) zero_) j;
     } in inr (one, inl (subst (λ (x : Known). LooksThrough k c.dequeue_bands.result x (known c.dequeue_bands.new.cpu)) e c.dequeue_bands.ensures.made))
+
+pub returns-then-load_xoff-ne0-clause-kept : goal.returns-then-load_xoff-ne0-clause-kept
+returns-then-load_xoff-ne0-clause-kept g c =
+    let l = c.load_xoff.ensures in
+    kept_then (kept_moved c.args.cpu.now c.load_xoff.new.cpu _ _ _ _ l.same.0 l.same.2 (stopped_at_dequeue c.load_xoff.result None (view c.args.cpu.now) (view c.load_xoff.new.cpu) l.view c.requires.at c.requires.slot c.if-load_xoff-ne0.true) refl) c.maybe_clear_missed.ensures.kept
+
+pub returns-then-load_xoff-ne0-clause-serving : goal.returns-then-load_xoff-ne0-clause-serving
+returns-then-load_xoff-ne0-clause-serving g c =
+    let l = c.load_xoff.ensures in let m = c.maybe_clear_missed.ensures in
+    let e = stopped_at_dequeue c.load_xoff.result None (view c.args.cpu.now) (view c.load_xoff.new.cpu) l.view c.requires.at c.requires.slot c.if-load_xoff-ne0.true in
+    serving_same c.args.cpu.now c.maybe_clear_missed.new.cpu (m.station.1 ∙ l.same.3) (m.station.0 ∙ l.same.1) (m.holder ∙ ap (λ (v : View). laid_aside v.place.position v.holder) e) (m.kept.locks ∙ ap (λ (v : View). v.locks) e) c.requires.serving
+
+pub returns-then-load_xoff-ne0-clause-one : goal.returns-then-load_xoff-ne0-clause-one
+returns-then-load_xoff-ne0-clause-one g c = λ one alone.
+    let s = c.load_xoff.ensures.sole in let holds = ap holds_lock c.requires.at in
+    (s.1 alone holds, s.2 alone holds, λ open_. c.if-load_xoff-ne0.true (stop_is 0 c.load_xoff.result (view c.args.cpu.now) s alone holds c.requires.serving.3 ∙ open_))
+
+pub dequeue_bands-requires-clause-serving : goal.dequeue_bands-requires-clause-serving
+dequeue_bands-requires-clause-serving g c _ _ =
+    let l = c.load_xoff.ensures in
+    let e = opened_at_dequeue c.load_xoff.result None (view c.args.cpu.now) (view c.load_xoff.new.cpu) l.view c.requires.at c.requires.slot c.if-load_xoff-ne0.false in
+    serving_same c.args.cpu.now c.load_xoff.new.cpu l.same.3 l.same.1 (ap (λ (v : View). v.holder) e) (ap (λ (v : View). v.locks) e) c.requires.serving
+
+pub returns-clause-kept : goal.returns-clause-kept
+returns-clause-kept g c =
+    let l = c.load_xoff.ensures in
+    kept_then (kept_moved c.args.cpu.now c.load_xoff.new.cpu _ _ _ _ l.same.0 l.same.2 (opened_at_dequeue c.load_xoff.result None (view c.args.cpu.now) (view c.load_xoff.new.cpu) l.view c.requires.at c.requires.slot c.if-load_xoff-ne0.false) refl) c.dequeue_bands.ensures.kept
+
+pub returns-clause-taken : goal.returns-clause-taken
+returns-clause-taken g c =
+    let v = view c.args.cpu.now in let m = view c.load_xoff.new.cpu in let w = view c.dequeue_bands.new.cpu in
+    let e = opened_at_dequeue c.load_xoff.result None v m c.load_xoff.ensures.view c.requires.at c.requires.slot c.if-load_xoff-ne0.false in
+    looks_dequeue c.args.shared.now.infos.now c.dequeue_bands.result v w c.requires.slot (looks_from c.dequeue_bands.result _ v m w e c.dequeue_bands.ensures.taken)
+
+pub returns-clause-one : goal.returns-clause-one
+returns-clause-one g c = λ one alone.
+    let s = c.load_xoff.ensures.sole in let holds = ap holds_lock c.requires.at in
+    let stop = sym (stop_is 0 c.load_xoff.result (view c.args.cpu.now) s alone holds c.requires.serving.3) ∙ c.if-load_xoff-ne0.false in
+    (s.1 alone holds, s.2 alone holds, open_for c.dequeue_bands.result _ (view c.load_xoff.new.cpu) (view c.dequeue_bands.new.cpu) c.dequeue_bands.ensures.taken stop)
