@@ -20,10 +20,10 @@ use Rattle.lq_table.specs.Told.{loading, loading_from, passing, picking, seen_ba
 use Rattle.lq_table.specs.Rings.{finding_none}
 use Rattle.lq_table.specs.Rule.{shown, IsResting}
 use Rattle.lq_table.specs.Sees.{view, position, slot, IsSeatOf, IsSameSeat}
-use Rattle.lq_table.specs.Solo.{IsSole, SeesStop, account_of}
+use Rattle.lq_table.specs.Solo.{IsSole, SeesStop, account_of, laid}
 use Rattle.lq_table.specs.declared.shared.Cpu.{Cpu}
 use Rattle.lq_table.specs.declared.shared.Shared.{Shared}
-use Rattle.lq_qdisc.specs.Calls.{IsKeptInRun, IsServing, AreNone, Dequeues, Finds, FindsNone, FindsPacket, IsStopFor, Looks, Picks, found_empty, looking_at}
+use Rattle.lq_qdisc.specs.Calls.{IsKeptInRun, IsServing, AreNone, Dequeues, Finds, ClearsMissedAlone, FindsNone, FindsPacket, FindsStopped, IsStopFor, Looks, Picks, finding_stopped, found_empty, laid_aside, looking_at, with_back}
 use Rattle.lq_model.specs.declared.fate.Info.{Info}
 use Rattle.lq_qdisc.specs.declared.answers.Taken.{Taken}
 use Rattle.lq_qdisc.specs.declared.answers.Taken.TheVariants as taken
@@ -134,14 +134,19 @@ module _ {D : Type 0} where
   pub seat_in : (t : Shared D) (b a : Cpu D) → IsKeptInRun b a → IsSeatOf t b → IsSeatOf t a
   seat_in t b a k s = (k.seat.0 ∙ s.0, subst (λ (n : ℕ). 0 < n) (sym (ap (λ x. x.shares) k.share)) s.1, ap (λ x. x.about) k.share ∙ s.2)
 
-  -- serving goes on where the station, its slot, the producer locks and what it has as holder are as they were
-  pub serving_same : (b a : Cpu D) → slot a ≡ slot b → a.station ≡ b.station → (view a).holder ≡ (view b).holder → (view a).locks ≡ (view b).locks → IsServing b → IsServing a
-  serving_same b a slot_is station_is holder locks s = (
-    (slot_is ∙ s.0.0, station_is ∙ (s.0.1 ∙ ap (λ (h : HolderPart). Some (shown h)) (sym holder))),
+  -- serving goes on where the slot of the table, the producer locks and what it has as holder are as they were, but for what is in hand
+  -- and in the requeue slot; and where the station is too
+  pub serving_with : (b a : Cpu D) (o hand : Option ℕ) → slot a ≡ slot b → a.station ≡ Some (shown (view a).holder) → (view a).holder ≡ record (view b).holder { slot = o; hand = hand } → (view a).locks ≡ (view b).locks → IsServing b → IsServing a
+  serving_with b a o hand slot_is station_is holder locks s = (
+    (slot_is ∙ s.0.0, station_is),
     subst (λ (h : HolderPart). IsResting h.size h.ends × (h.resizing ≡ None)) (sym holder) s.1,
     locks ∙ s.2,
     ap (λ (h : HolderPart). h.shut) holder ∙ s.3,
   )
+
+  pub serving_same : (b a : Cpu D) → slot a ≡ slot b → a.station ≡ b.station → (view a).holder ≡ (view b).holder → (view a).locks ≡ (view b).locks → IsServing b → IsServing a
+  serving_same b a slot_is station_is holder locks s =
+      serving_with b a (view b).holder.slot (view b).holder.hand slot_is (station_is ∙ (s.0.1 ∙ ap (λ (h : HolderPart). Some (shown h)) (sym holder))) holder locks s
 
   pub run_none : (b : ℕ) (second : Bool) (m a : Cpu D) → position m ≡ Scan b second → view a ≡ finding_none b (view m) → (view a).place.run ≡ (view m).place.run
   run_none b second m a here is = ap (λ (x : View). x.place.run) is ∙ (seat_kept (seen_band b []) b second (view m) here).0
@@ -168,6 +173,19 @@ pub open_for : (t : Taken) (stop : ℕ) (v w : View) → Looks t v w → stop �
 open_for taken.Empty stop v w l is = is
 open_for taken.Stopped stop v w l is = absurd l
 open_for (taken.Packet n) stop v w l is = is
+
+-- the queue was found stopped where a dequeue begins, MISSED was cleared, and what follows that was done
+pub finds_stopped : (q x again queue : ℕ) (v m w : View) → x ≢ 0 → m ≡ standing (BlockedClear (NoneTaken queue)) v → w ≡ finding_stopped x again v → w.whole.state ≡ with_back m.place.position m.whole.state
+    → w.holder ≡ laid_aside m.place.position m.holder → ClearsMissedAlone q (laid m) m w → (IsSole v → x ≡ slice_index (account_of v).stops q) → FindsStopped q v w
+finds_stopped q x again queue v m w some_ e is state holder alone stop = record {
+  first = x;
+  again = again;
+  stopped = some_;
+  is = is;
+  past = ap (λ (g : State). g.past) (state ∙ ap (λ (y : View). with_back y.place.position y.whole.state) e);
+  holder = holder ∙ ap (λ (y : View). laid_aside y.place.position y.holder) e;
+  sole = λ s. (λ z. some_ (stop s ∙ z), subst (λ (y : View). ClearsMissedAlone q (laid y) y w) e alone s (λ z. some_ (stop s ∙ z)));
+}
 
 -- nothing is held in a band below the third
 none_at : (a : Account) (b : ℕ) → AreNone a 3 → b < 3 → slice_get (held_in a b) 0 ≡ None

@@ -1,11 +1,13 @@
-use Rattle.std.proofs.Common.{◌≡◌, ℕ, List, None, refl, sym, rules, ap, ◌∙◌, subst, inl, inr, arith}
+use Rattle.std.proofs.Common.{◌≡◌, ℕ, List, Option, None, refl, sym, rules, ap, ◌∙◌, subst, inl, inr, arith}
+use Rattle.std.specs.Option.{option_map_or}
+use Rattle.lq_model.specs.Plan.{queue_in}
 use Rattle.lq_model.specs.Positions.{holds_lock}
-use Rattle.lq_table.specs.Views.{View}
+use Rattle.lq_table.specs.Views.{Setup, View}
 use Rattle.lq_table.specs.Made.{Known, Made, ◌⊳◌, did_load_stop}
 use Rattle.lq_table.specs.Sees.{view, known, steps, setup}
 use Rattle.lq_table.specs.Told.{loading, passing, setting}
-use Rattle.lq_qdisc.specs.Calls.{laid_aside}
-use Rattle.lq_qdisc.proofs.TakeLemmas.{kept_moved, kept_then, looks_dequeue, looks_from, open_for, opened_at_dequeue, serving_same, stop_is, stopped_at_dequeue}
+use Rattle.lq_qdisc.specs.Calls.{FindsStopped, laid_aside}
+use Rattle.lq_qdisc.proofs.TakeLemmas.{finds_stopped, kept_moved, kept_then, looks_dequeue, looks_from, open_for, opened_at_dequeue, serving_same, stop_is, stopped_at_dequeue}
 use Rattle.lq_qdisc.specs.Steps.{ClearsMaybe, LooksThrough, found_open}
 use Rattle.lq_model.specs.declared.machine.Blocked.TheVariants.{NoneTaken}
 use Rattle.lq_qdisc.proofs.takes.dequeue_open.Goals as goal
@@ -65,3 +67,11 @@ returns-clause-one g c = λ one alone.
     let s = c.load_xoff.ensures.sole in let holds = ap holds_lock c.requires.at in
     let stop = sym (stop_is 0 c.load_xoff.result (view c.args.cpu.now) s alone holds c.requires.serving.3) ∙ c.if-load_xoff-ne0.false in
     (s.1 alone holds, s.2 alone holds, open_for c.dequeue_bands.result _ (view c.load_xoff.new.cpu) (view c.dequeue_bands.new.cpu) c.dequeue_bands.ensures.taken stop)
+
+pub returns-then-load_xoff-ne0-clause-taken : goal.returns-then-load_xoff-ne0-clause-taken
+returns-then-load_xoff-ne0-clause-taken g c =
+    let v = view c.args.cpu.now in let m = view c.load_xoff.new.cpu in let w = view c.maybe_clear_missed.new.cpu in let x = c.load_xoff.result in let l = c.load_xoff.ensures in let n = c.maybe_clear_missed.ensures in
+    let e = stopped_at_dequeue x None v m l.view c.requires.at c.requires.slot c.if-load_xoff-ne0.true in let is = n.stopped.1 ∙ ap (λ (y : View). setting (loading n.stopped.0 (passing y))) l.view in
+    let most = c.requires.one in let queues = ap (λ (k : Setup). k.queues) c.requires.seat.2 in
+    (λ more. absurd (omega arith), subst (λ (o : Option ℕ). FindsStopped (option_map_or (queue_in c.args.shared.now.infos.now) o 0) v w) (sym c.requires.slot)
+        (finds_stopped 0 x n.stopped.0 _ v m w c.if-load_xoff-ne0.true e is n.heard n.holder n.sole (λ alone. stop_is 0 x v l.sole alone (ap holds_lock c.requires.at) c.requires.serving.3)))
