@@ -1,0 +1,2 @@
+-- what the steps of a try of the run lock leave as it was
+pub mod TryLemmas

@@ -1,0 +1,101 @@
+-- What the steps of a try of the run lock leave as it was.
+use Rattle.std.proofs.Common.{◌≡◌, Bool, true, false, if◌then◌else◌, refl, ap, ◌∙◌}
+use Rattle.lq_model.specs.Machine.{Qdisc}
+use Rattle.lq_model.specs.Steps.{lock_got, miss, step_at}
+use Rattle.lq_model.specs.Control.{is_control}
+use Rattle.lq_model.specs.declared.machine.Answer.TheVariants.{Plain}
+use Rattle.lq_model.specs.declared.machine.Attempt.{Attempt}
+use Rattle.lq_model.specs.declared.machine.Attempt.TheVariants.{Direct, Interrupt, Queued}
+use Rattle.lq_model.specs.declared.machine.Position.{Position}
+use Rattle.lq_model.specs.declared.machine.Position.TheVariants.{Miss, Try1, Try2}
+use Rattle.lq_model.specs.declared.machine.Seat.{Seat}
+use Rattle.lq_table.specs.Views.{HolderPart, View}
+use Rattle.lq_table.specs.Told.{finding_locked, got, got_in_control, missing, seen_by, seen_lock}
+use Rattle.lq_table.specs.Solo.{IsSole}
+use Rattle.lq_table.specs.Sees.{view, IsSameSeat}
+use Rattle.lq_table.specs.declared.shared.Cpu.{Cpu}
+use Rattle.lq_run.specs.Runs.{IsElseKept, IsEventless, IsRaisedAsBefore}
+
+-- only the place without its raised mark changes, what it has as holder, and the machine
+abbrev pub Touches : View → View → Type 0
+Touches v w = (place : Seat) × (holder : HolderPart) × (q : Qdisc) × (place.raised ≡ v.place.raised) × (w ≡ record v { place = place; holder = holder; whole = record v.whole { qdisc = q } })
+
+pub touches_then : (u v w : View) → Touches u v → Touches v w → Touches u w
+touches_then u v w x y = (
+  y.0,
+  y.1,
+  y.2,
+  y.3 ∙ (ap (λ (z : View). z.place.raised) x.4 ∙ x.3),
+  y.4 ∙ ap (λ (z : View). record z { place = y.0; holder = y.1; whole = record z.whole { qdisc = y.2 } }) x.4,
+)
+
+pub sole_touched : (v w : View) → Touches v w → IsSole v → IsSole w
+sole_touched v w x s = (ap (λ (z : View). z.share.shares) x.4 ∙ s.0, ap (λ (z : View). z.whole.told) x.4 ∙ s.1)
+
+raised_got : (a : Attempt) (q : Qdisc) (s : Seat) → (lock_got a q s).seat.raised ≡ s.raised
+raised_got (Direct p) q s = refl
+raised_got (Queued p) q s = refl
+raised_got Interrupt q s = refl
+
+raised_missed : (a : Attempt) (was : Bool) (q : Qdisc) (s : Seat) → (miss a (record q { missed = was }) s).seat.raised ≡ s.raised
+raised_missed a true q s = refl
+raised_missed a false q s = refl
+
+-- the seat after a step from this position that gets the lock, that finds it held, and that sets MISSED; and the view after that
+abbrev got_to : Position → HolderPart → View → Seat
+got_to p d v = (step_at p Plain (seen_lock (seen_by (record v { holder = d })) false) v.place).seat
+
+abbrev locked_to : Position → View → Seat
+locked_to p v = (step_at p Plain (seen_lock (seen_by v) true) v.place).seat
+
+abbrev missed_to : Position → Bool → View → Seat
+missed_to p was v = (step_at p Plain (record (seen_by v) { missed = was }) v.place).seat
+
+abbrev moved_to : Position → Seat → HolderPart → View → View
+moved_to p place d v = record v { place = place; holder = d; whole = record v.whole { qdisc = (step_at p Plain v.whole.qdisc v.place).qdisc } }
+
+abbrev got_at : HolderPart → View → Position → View
+got_at d v p = if is_control p then got_in_control d v else moved_to p (got_to p d v) d v
+
+pub first_got : (a : Attempt) (d : HolderPart) (v w : View) → v.place.position ≡ Try1 a → w ≡ got d v → Touches v w
+first_got a d v w at is = (got_to (Try1 a) d v, d, (step_at (Try1 a) Plain v.whole.qdisc v.place).qdisc, raised_got a _ v.place, is ∙ ap (got_at d v) at)
+
+pub second_got : (a : Attempt) (d : HolderPart) (v w : View) → v.place.position ≡ Try2 a → w ≡ got d v → Touches v w
+second_got a d v w at is = (got_to (Try2 a) d v, d, (step_at (Try2 a) Plain v.whole.qdisc v.place).qdisc, raised_got a _ v.place, is ∙ ap (got_at d v) at)
+
+-- the lock was found held: next MISSED is set, or the try is given up
+pub first_locked : (a : Attempt) (v w : View) → v.place.position ≡ Try1 a → w ≡ finding_locked v → Touches v w × (w.place.position ≡ Miss a)
+first_locked a v w at is =
+    let e = is ∙ ap (λ (p : Position). moved_to p (locked_to p v) v.holder v) at in
+    ((locked_to (Try1 a) v, v.holder, (step_at (Try1 a) Plain v.whole.qdisc v.place).qdisc, refl, e), ap (λ (z : View). z.place.position) e)
+
+pub second_locked : (a : Attempt) (v w : View) → v.place.position ≡ Try2 a → w ≡ finding_locked v → Touches v w
+second_locked a v w at is =
+    (locked_to (Try2 a) v, v.holder, (step_at (Try2 a) Plain v.whole.qdisc v.place).qdisc, refl, is ∙ ap (λ (p : Position). moved_to p (locked_to p v) v.holder v) at)
+
+pub missed_touches : (a : Attempt) (was : Bool) (v w : View) → v.place.position ≡ Miss a → w ≡ missing was v → Touches v w
+missed_touches a was v w at is =
+    (missed_to (Miss a) was v, v.holder, (step_at (Miss a) Plain v.whole.qdisc v.place).qdisc, raised_missed a was (seen_by v) v.place, is ∙ ap (λ (p : Position). moved_to p (missed_to p was v) v.holder v) at)
+
+-- where MISSED was clear the lock is tried once more
+pub missed_leads : (a : Attempt) (v w : View) → v.place.position ≡ Miss a → w ≡ missing false v → w.place.position ≡ Try2 a
+missed_leads a v w at is = ap (λ (z : View). z.place.position) is ∙ ap (λ (p : Position). (missed_to p false v).position) at
+
+module _ {D : Type 0} where
+  pub kept_touched : (b a : Cpu D) → IsSameSeat b a → a.indices ≡ b.indices → Touches (view b) (view a) → IsElseKept b a × IsEventless b a × IsRaisedAsBefore b a
+  kept_touched b a seat indices x = (
+    (
+      seat,
+      ap (λ (z : View). z.share) x.4,
+      ap (λ (z : View). z.packets) x.4,
+      ap (λ (z : View). z.locks) x.4,
+      ap (λ (z : View). z.control) x.4,
+      ap (λ (z : View). z.whole.told) x.4,
+      indices,
+      ap (λ (z : View). z.turns) x.4,
+      ap (λ (z : View). z.settled) x.4,
+      ap (λ (z : View). z.trail) x.4,
+    ),
+    ap (λ (z : View). z.whole.state) x.4,
+    ap (λ (z : View). z.place.raised) x.4 ∙ x.3,
+  )
