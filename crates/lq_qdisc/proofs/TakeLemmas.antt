@@ -1,5 +1,5 @@
 -- What a look through the bands leaves.
-use Rattle.std.proofs.Common.{◌≡◌, ◌≢◌, ℕ, zero, suc, ◌+◌, ◌<◌, Bool, true, refl, sym, ap, ◌∙◌, subst, arith, List, [], ◌∷◌, Option, None, Some, inr, is_some, if◌then◌else◌}
+use Rattle.std.proofs.Common.{◌≡◌, ◌≢◌, ℕ, zero, suc, ◌+◌, ◌<◌, ◌==◌, Bool, true, false, refl, sym, ap, ◌∙◌, subst, arith, List, [], ◌∷◌, Option, None, Some, inr, is_some, if◌then◌else◌}
 use Rattle.std.proofs.lemmas.Bool.{ne_eqb, true≢false}
 use Rattle.std.specs.Option.{option_map}
 use Rattle.std.specs.Prelude.{slice_get, slice_index, MatchOption}
@@ -9,21 +9,21 @@ use Rattle.lq_model.specs.Steps.{step_at, scan, after_band, queue_of_slot}
 use Rattle.lq_model.specs.declared.machine.Answer.TheVariants.{Plain}
 use Rattle.lq_model.specs.declared.machine.Packet.{Packet}
 use Rattle.lq_model.specs.declared.machine.Position.{Position}
-use Rattle.lq_model.specs.declared.machine.Position.TheVariants.{BlockedClear, Deq, Scan}
-use Rattle.lq_model.specs.declared.machine.Blocked.TheVariants.{NoneTaken}
+use Rattle.lq_model.specs.declared.machine.Position.TheVariants.{BlockedClear, BlockedDrain, BlockedMiss, Deq, Scan}
+use Rattle.lq_model.specs.declared.machine.Blocked.TheVariants.{InHand, NoneTaken}
 use Rattle.lq_model.specs.declared.machine.Blocked.{Blocked}
 use Rattle.lq_model.specs.Positions.{holds_lock}
 use Rattle.lq_model.specs.declared.machine.Seat.{Seat}
 use Rattle.lq_ring.specs.Take.{consuming}
 use Rattle.lq_table.specs.Views.{View, HolderPart, SharePart, State, machine_packet, first_account}
-use Rattle.lq_table.specs.Told.{loading, loading_from, passing, picking, seen_band, seen_by, slot_begins}
+use Rattle.lq_table.specs.Told.{loading, loading_from, passing, picking, seen_band, seen_by, setting, slot_begins}
 use Rattle.lq_table.specs.Rings.{finding_none}
 use Rattle.lq_table.specs.Rule.{shown, IsResting}
 use Rattle.lq_table.specs.Sees.{view, position, slot, IsSeatOf, IsSameSeat}
 use Rattle.lq_table.specs.Solo.{IsSole, SeesStop, account_of, laid}
 use Rattle.lq_table.specs.declared.shared.Cpu.{Cpu}
 use Rattle.lq_table.specs.declared.shared.Shared.{Shared}
-use Rattle.lq_qdisc.specs.Calls.{IsKeptInRun, IsServing, AreNone, Dequeues, Finds, ClearsMissedAlone, FindsNone, FindsPacket, FindsStopped, IsStopFor, Looks, Picks, finding_stopped, found_empty, laid_aside, looking_at, with_back}
+use Rattle.lq_qdisc.specs.Calls.{IsKeptInRun, IsServing, after_blocked, AreNone, Dequeues, Finds, ClearsMissedAlone, FindsNone, FindsPacket, FindsStopped, IsStopFor, Looks, Picks, finding_stopped, found_empty, laid_aside, looking_at, with_back}
 use Rattle.lq_model.specs.declared.fate.Info.{Info}
 use Rattle.lq_qdisc.specs.declared.answers.Taken.{Taken}
 use Rattle.lq_qdisc.specs.declared.answers.Taken.TheVariants as taken
@@ -82,6 +82,22 @@ stop_loaded_again queue found b old m is here s alone shut =
 -- the seat stands here, and all else is as it was
 abbrev pub standing : Position → View → View
 standing p v = record v { place = record v.place { position = p } }
+
+-- a stopped queue: MISSED was cleared, its stop word loaded again, and a bit set
+abbrev pub blocked_over : Blocked → Qdisc → View → View
+blocked_over b q v = record v {
+  place = record v.place { position = after_blocked (BlockedClear b) };
+  holder = laid_aside (BlockedClear b) v.holder;
+  whole = record v.whole { qdisc = q; state = with_back (BlockedClear b) v.whole.state };
+}
+
+pub maybe_cleared : (b : Blocked) (x : ℕ) (v w : View) → v.place.position ≡ BlockedClear b → w ≡ setting (loading x (passing v)) → (q : Qdisc) × (w ≡ blocked_over b q v)
+maybe_cleared b x v w at is = let r = over b (x == 0) in (r.0, is ∙ (ap (λ (p : Position). setting (loading x (passing (standing p v)))) at ∙ r.1)) where
+  over : (b : Blocked) (open_ : Bool) → (q : Qdisc) × (setting (standing (if open_ then BlockedMiss b else BlockedDrain b) (passing (standing (BlockedClear b) v))) ≡ blocked_over b q v)
+  over (InHand p direct) true = (_, refl)
+  over (InHand p direct) false = (_, refl)
+  over (NoneTaken queue) true = (_, refl)
+  over (NoneTaken queue) false = (_, refl)
 
 -- a load of the stop word where a dequeue begins, with this in the requeue slot: the queue is open, or stopped
 pub opened_at_dequeue : (x : ℕ) (o : Option ℕ) (v w : View) → w ≡ loading x v → v.place.position ≡ Deq → v.holder.slot ≡ o → x ≡ 0 → w ≡ picking o (standing (slot_begins (option_map (machine_packet v.share.about.infos) o)) v)
