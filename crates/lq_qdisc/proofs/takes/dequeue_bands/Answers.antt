@@ -1,8 +1,12 @@
-use Rattle.std.proofs.Common.{false, true, sym, ◌∙◌, refl, subst, inl, inr, Some, None}
+use Rattle.std.proofs.Common.{List, false, true, sym, ap, ◌∙◌, refl, subst, inl, inr, Some, None}
+use Rattle.lq_model.specs.Account.{Event}
+use Rattle.lq_table.specs.Solo.{Solo}
+use Rattle.lq_table.specs.Views.{State}
+use Rattle.lq_qdisc.specs.Calls.{cleared, found_empty}
 use Rattle.lq_table.specs.Sees.{view, known, setup}
 use Rattle.lq_table.specs.Made.{Known}
 use Rattle.lq_qdisc.proofs.StepLemmas.{cleared_from}
-use Rattle.lq_qdisc.proofs.TakeLemmas.{finds_again, kept_then}
+use Rattle.lq_qdisc.proofs.TakeLemmas.{finds_again, kept_then, serving_same, sole_kept}
 use Rattle.lq_qdisc.specs.Steps.{Scans}
 use Rattle.lq_qdisc.proofs.takes.dequeue_bands.Goals as goal
 
@@ -28,3 +32,35 @@ pub returns-in-Some-scan-clause-taken : goal.returns-in-Some-scan-clause-taken
 returns-in-Some-scan-clause-taken g c = let m = c.is_non_empty.ensures.same in let n = c.clear_non_empty.ensures.same in
     let kept = kept_then c.scan.ensures.kept (kept_then c.is_non_empty.ensures.kept c.clear_non_empty.ensures.kept) in
     finds_again c.in-Some-scan.n (view c.args.cpu.now) (view c.scan.new.cpu) (view c.clear_non_empty.new.cpu) (view c.scan-2.new.cpu) kept.share kept.told (n.0 ∙ m.0) (n.1 ∙ m.1) c.in_default.ensures.taken c.in-Some-scan.ensures.taken
+
+pub returns-then-not-is_non_empty-clause-kept : goal.returns-then-not-is_non_empty-clause-kept
+returns-then-not-is_non_empty-clause-kept g c = kept_then c.scan.ensures.kept c.is_non_empty.ensures.kept
+
+pub returns-then-not-is_non_empty-clause-serving : goal.returns-then-not-is_non_empty-clause-serving
+returns-then-not-is_non_empty-clause-serving g c = let m = c.is_non_empty.ensures in
+    serving_same c.scan.new.cpu c.is_non_empty.new.cpu m.station.1 m.station.0 m.same.0 m.kept.locks c.scan.ensures.serving
+
+pub returns-then-not-is_non_empty-clause-taken : goal.returns-then-not-is_non_empty-clause-taken
+returns-then-not-is_non_empty-clause-taken g c = let m = c.is_non_empty.ensures in let f = c.in_default.ensures.taken in record {
+  past = inl (ap (λ (x : State). x.past) m.same.1 ∙ f.past);
+  holder = m.same.0 ∙ f.holder;
+  sole = λ s. (f.sole s, m.sole (sole_kept c.args.cpu.now c.scan.new.cpu c.scan.ensures.kept s) c.if-not-is_non_empty.true ∙ ap (λ (x : Solo). cleared x) f.step);
+}
+
+pub scan-requires-2-clause-serving : goal.scan-requires-2-clause-serving
+scan-requires-2-clause-serving g c _ _ = let m = c.is_non_empty.ensures in let n = c.clear_non_empty.ensures in
+    serving_same c.scan.new.cpu c.clear_non_empty.new.cpu (n.station.1 ∙ m.station.1) (n.station.0 ∙ m.station.0) (n.same.0 ∙ m.same.0) (n.kept.locks ∙ m.kept.locks) c.scan.ensures.serving
+
+pub returns-in-Some-scan-clause-kept : goal.returns-in-Some-scan-clause-kept
+returns-in-Some-scan-clause-kept g c = kept_then c.scan.ensures.kept (kept_then c.is_non_empty.ensures.kept (kept_then c.clear_non_empty.ensures.kept c.scan-2.ensures.kept))
+
+pub returns-in-None-clause-kept : goal.returns-in-None-clause-kept
+returns-in-None-clause-kept g c = kept_then c.scan.ensures.kept (kept_then c.is_non_empty.ensures.kept (kept_then c.clear_non_empty.ensures.kept c.scan-2.ensures.kept))
+
+pub returns-in-None-clause-taken : goal.returns-in-None-clause-taken
+returns-in-None-clause-taken g c =
+    let m = c.is_non_empty.ensures.same in let n = c.clear_non_empty.ensures.same in let f = c.in_default.ensures.taken in let f' = c.in-None.ensures.taken in record {
+      past = inr (f'.past ∙ ap (λ (es : List Event). found_empty 3 es) (ap (λ (x : State). x.past) (n.1 ∙ m.1) ∙ f.past));
+      holder = f'.holder ∙ (n.0 ∙ (m.0 ∙ f.holder));
+      sole = λ s. (f.sole s, f'.step ∙ (n.2 ∙ ap (λ (x : Solo). cleared x) (m.2 ∙ f.step)));
+    }
