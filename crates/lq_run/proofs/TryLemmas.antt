@@ -1,5 +1,6 @@
 -- What the steps of a try of the run lock leave as it was.
-use Rattle.std.proofs.Common.{◌≡◌, Bool, true, false, if◌then◌else◌, refl, ap, ◌∙◌}
+use Rattle.std.proofs.Common.{◌≡◌, ℕ, ◌<◌, Bool, true, false, if◌then◌else◌, List, [], ◌∷◌, get_or, Option, None, Some, refl, sym, ap, ◌∙◌, subst}
+use Rattle.lq_device.specs.Station.{StationState}
 use Rattle.lq_model.specs.Machine.{Qdisc}
 use Rattle.lq_model.specs.Steps.{lock_got, miss, step_at}
 use Rattle.lq_model.specs.Control.{is_control}
@@ -9,12 +10,14 @@ use Rattle.lq_model.specs.declared.machine.Attempt.TheVariants.{Direct, Interrup
 use Rattle.lq_model.specs.declared.machine.Position.{Position}
 use Rattle.lq_model.specs.declared.machine.Position.TheVariants.{Miss, Try1, Try2}
 use Rattle.lq_model.specs.declared.machine.Seat.{Seat}
-use Rattle.lq_table.specs.Views.{HolderPart, View}
-use Rattle.lq_table.specs.Told.{finding_locked, got, got_in_control, missing, seen_by, seen_lock}
+use Rattle.lq_table.specs.Views.{HolderPart, Setup, SharePart, View}
+use Rattle.lq_table.specs.Rule.{shown, IsResting}
+use Rattle.lq_table.specs.Seats.{GetsRunLock}
+use Rattle.lq_table.specs.Told.{IsKnownSlot, finding_locked, got, got_in_control, missing, seen_by, seen_lock}
 use Rattle.lq_table.specs.Solo.{IsSole}
-use Rattle.lq_table.specs.Sees.{view, IsSameSeat}
+use Rattle.lq_table.specs.Sees.{view, position, slot, IsSameSeat}
 use Rattle.lq_table.specs.declared.shared.Cpu.{Cpu}
-use Rattle.lq_run.specs.Runs.{IsElseKept, IsEventless, IsRaisedAsBefore}
+use Rattle.lq_run.specs.Runs.{BeginsAsHolder, HasNone, IsElseKept, IsEventless, IsRaisedAsBefore, after_got, run_got}
 
 -- only the place without its raised mark changes, what it has as holder, and the machine
 abbrev pub Touches : View → View → Type 0
@@ -81,7 +84,46 @@ missed_touches a was v w at is =
 pub missed_leads : (a : Attempt) (v w : View) → v.place.position ≡ Miss a → w ≡ missing false v → w.place.position ≡ Try2 a
 missed_leads a v w at is = ap (λ (z : View). z.place.position) is ∙ ap (λ (p : Position). (missed_to p false v).position) at
 
+-- where a step that gets the lock leads
+leads : (a : Attempt) (d : HolderPart) (v : View) (q : Qdisc) → let w : View = record v { place = got_to (Try1 a) d v; holder = d; whole = record v.whole { qdisc = q } } in (w.place.position ≡ after_got w (Try1 a)) × (w.place.run ≡ run_got v.place.run (Try1 a))
+leads (Direct p) d v q = (refl, refl)
+leads (Queued p) d v q = (refl, refl)
+leads Interrupt d v q = (refl, refl)
+
+abbrev pub LeadsGot : Attempt → ℕ → HolderPart → View → Type 0
+LeadsGot a run d w = (w.place.position ≡ after_got w (Try1 a)) × (w.place.run ≡ run_got run (Try1 a)) × (w.holder ≡ d)
+
+leads_from : (a : Attempt) (d : HolderPart) (v w : View) (q : Qdisc) → w ≡ record v { place = got_to (Try1 a) d v; holder = d; whole = record v.whole { qdisc = q } } → LeadsGot a v.place.run d w
+leads_from a d v w q e = let l = leads a d v q in
+    (ap (λ (z : View). z.place.position) e ∙ (l.0 ∙ sym (ap (λ (z : View). after_got z (Try1 a)) e)), ap (λ (z : View). z.place.run) e ∙ l.1, ap (λ (z : View). z.holder) e)
+
+pub first_leads : (a : Attempt) (d : HolderPart) (v w : View) → v.place.position ≡ Try1 a → w ≡ got d v → LeadsGot a v.place.run d w
+first_leads a d v w at is = leads_from a d v w (step_at (Try1 a) Plain v.whole.qdisc v.place).qdisc (is ∙ ap (got_at d v) at)
+
+-- at the second try, after the first found the lock held and MISSED was set
+pub second_leads : (a : Attempt) (d : HolderPart) (u m v w : View) → u.place.position ≡ Try1 a → m ≡ finding_locked u → v ≡ missing false m → w ≡ got d v → LeadsGot a u.place.run d w
+second_leads a d u m v w at locked missed is =
+    let miss_ = first_locked a u m at locked in let l = leads_from a d v w (step_at (Try2 a) Plain v.whole.qdisc v.place).qdisc (is ∙ ap (got_at d v) (missed_leads a m v miss_.1 missed)) in
+    let run : v.place.run ≡ u.place.run = ap (λ (z : View). z.place.run) missed ∙ (ap (λ (p : Position). (missed_to p false m).run) miss_.1 ∙ (ap (λ (z : View). z.place.run) locked ∙ ap (λ (p : Position). (locked_to p u).run) at)) in
+    (l.0, l.1 ∙ ap (λ (n : ℕ). run_got n (Try1 a)) run, l.2)
+
 module _ {D : Type 0} where
+  -- b begins, w gets the lock, m has it, and a has the station in the place of what the slot had
+  pub begins_as_holder : (at : Attempt) (b w m a : Cpu D) → position b ≡ Try1 at → HasNone b → slot w ≡ slot b → m.station ≡ b.station → (g : GetsRunLock w m) → view a ≡ view m → (slot m ≡ (0, a.station) ∷ []) × (slot a ≡ (0, m.station) ∷ [])
+      → (view a).share ≡ (view w).share → LeadsGot at (view b).place.run g.0 (view a) → BeginsAsHolder b a
+  begins_as_holder at b w m a here none_ slots stations g same moved share l =
+      let d = g.0 in let holder = l.2 in
+      let lay : (0, a.station) ∷ [] ≡ (0, Some (shown d)) ∷ [] = sym moved.0 ∙ (g.2 ∙ ap (λ (xs : List (ℕ × Option StationState)). (0, Some (shown d)) ∷ xs) (slots ∙ none_.0)) in (
+        l.0 ∙ sym (ap (after_got (view a)) here),
+        (moved.1 ∙ ap (λ (s : Option StationState). (0, s) ∷ []) (stations ∙ none_.1), ap (λ (xs : List (ℕ × Option StationState)). (get_or xs 0 (0, None)).1) lay ∙ ap (λ (h : HolderPart). Some (shown h)) (sym holder)),
+        subst (λ (h : HolderPart). IsResting h.size h.ends × (h.resizing ≡ None)) (sym holder) (g.3, g.6),
+        subst (λ (h : HolderPart). 0 < h.size) (sym holder) g.4,
+        ap (λ (h : HolderPart). h.hand) holder ∙ g.5,
+        ap (λ (h : HolderPart). h.shut) holder ∙ g.7,
+        subst (λ (x : Setup × Option ℕ). IsKnownSlot x.0 x.1) (λ j. (sym (ap (λ (x : SharePart). x.about) share) j, sym (ap (λ (h : HolderPart). h.slot) holder) j)) g.8,
+        l.1 ∙ sym (ap (run_got (view b).place.run) here),
+      )
+
   pub kept_touched : (b a : Cpu D) → IsSameSeat b a → a.indices ≡ b.indices → Touches (view b) (view a) → IsElseKept b a × IsEventless b a × IsRaisedAsBefore b a
   kept_touched b a seat indices x = (
     (
