@@ -1,9 +1,15 @@
 -- What a transmit leaves.
-use Rattle.std.proofs.Common.{ℕ, ap, [], ◌∷◌}
+use Rattle.std.proofs.Common.{◌≡◌, ℕ, cond, ap, ◌∙◌, List, [], ◌∷◌, Option, None, Some}
 use Rattle.lq_model.specs.declared.fate.Fate.TheVariants.{Full}
-use Rattle.lq_table.specs.Views.{View}
+use Rattle.lq_model.specs.Account.{Event}
+use Rattle.lq_model.specs.declared.fate.Info.{Info}
+use Rattle.lq_account.specs.Trail.{is_own}
+use Rattle.lq_table.specs.Told.{looking}
+use Rattle.lq_table.specs.Sees.{view, IsSameSeat}
+use Rattle.lq_table.specs.declared.shared.Cpu.{Cpu}
+use Rattle.lq_table.specs.Views.{PacketPart, View}
 use Rattle.lq_qdisc.specs.Calls.{KeepsFates}
-use Rattle.lq_qdisc.specs.Sends.{Enqueues}
+use Rattle.lq_qdisc.specs.Sends.{Enqueues, HasCome, IsCallKept, came_as, trail_with}
 use Rattle.lq_qdisc.specs.declared.answers.Sending.{Sending}
 use Rattle.lq_qdisc.specs.declared.answers.Sending.TheVariants as sending
 use Rattle.lq_qdisc.proofs.RunLemmas.{fates_same}
@@ -15,3 +21,30 @@ put_fates n band sending.Queued old new h = fates_same old new (ap (λ (v : View
 put_fates n band (sending.FullSeen seen) old new h = ((n, Full seen) ∷ [], ap (λ (v : View). v.settled) h.0)
 put_fates n band (sending.Refused event) old new h = absurd h
 put_fates n band (sending.OutOfTurn found) old new h = absurd h
+
+trail_same : (o : Option Event) (u v : View) → v.share ≡ u.share → v.trail ≡ u.trail → trail_with o v ≡ trail_with o u
+trail_same None u v share trail = trail
+trail_same (Some e) u v share trail = λ j. cond (is_own (share j).about.infos e) (e ∷ trail j) (trail j)
+
+-- A packet has come where it has from a view with the same packets, turns and trail.
+pub come_from : (infos : List Info) (n : ℕ) (answer : Sending) (u v w : View) → v.share ≡ u.share → v.packets ≡ u.packets → v.turns ≡ u.turns → v.trail ≡ u.trail → HasCome infos n answer v w → HasCome infos n answer u w
+come_from infos n answer u v w share packets turns trail h = record {
+  came = h.came;
+  packets = h.packets ∙ ap (λ (p : PacketPart). record p { fresh = None; owed = None }) packets;
+  turns = h.turns ∙ turns;
+  trail = h.trail ∙ trail_same (came_as infos n answer) u v share trail;
+}
+
+pub come_looked : (infos : List Info) (n state : ℕ) (answer : Sending) (u v w : View) → v ≡ looking state u → HasCome infos n answer v w → HasCome infos n answer u w
+come_looked infos n state answer u v w e h =
+    come_from infos n answer u v w (ap (λ (x : View). x.share) e) (ap (λ (x : View). x.packets) e) (ap (λ (x : View). x.turns) e) (ap (λ (x : View). x.trail) e) h
+
+module _ {D : Type 0} where
+  -- what a call leaves as it was, from a step before it that left that too
+  pub called_from : (b m a : Cpu D) → IsSameSeat b m → (view m).share ≡ (view b).share → (view m).control ≡ (view b).control → (view m).whole.told ≡ (view b).whole.told → IsCallKept m a → IsCallKept b a
+  called_from b m a seat share control told k =
+      record { seat = (k.seat.0 ∙ seat.0, k.seat.1 ∙ seat.1); share = k.share ∙ share; control = k.control ∙ control; told = k.told ∙ told }
+
+  -- so does a load of the state
+  pub called_looked : (state : ℕ) (b m a : Cpu D) → IsSameSeat b m → view m ≡ looking state (view b) → IsCallKept m a → IsCallKept b a
+  called_looked state b m a seat e k = called_from b m a seat (ap (λ (v : View). v.share) e) (ap (λ (v : View). v.control) e) (ap (λ (v : View). v.whole.told) e) k

@@ -147,8 +147,11 @@ module _ {D : Type 0} where
   pub sole_kept : (b a : Cpu D) → IsKeptInRun b a → IsSole (view b) → IsSole (view a)
   sole_kept b a k s = (ap (λ x. x.shares) k.share ∙ s.0, k.told ∙ s.1)
 
+  pub seat_same : (t : Shared D) (b a : Cpu D) → IsSameSeat b a → (view a).share ≡ (view b).share → IsSeatOf t b → IsSeatOf t a
+  seat_same t b a same share s = (same.0 ∙ s.0, subst (λ (n : ℕ). 0 < n) (sym (ap (λ x. x.shares) share)) s.1, ap (λ x. x.about) share ∙ s.2)
+
   pub seat_in : (t : Shared D) (b a : Cpu D) → IsKeptInRun b a → IsSeatOf t b → IsSeatOf t a
-  seat_in t b a k s = (k.seat.0 ∙ s.0, subst (λ (n : ℕ). 0 < n) (sym (ap (λ x. x.shares) k.share)) s.1, ap (λ x. x.about) k.share ∙ s.2)
+  seat_in t b a k s = seat_same t b a k.seat k.share s
 
   -- serving goes on where the slot of the table, the producer locks and what it has as holder are as they were, but for what is in hand
   -- and in the requeue slot; and where the station is too

@@ -8,6 +8,9 @@ use Rattle.lq_model.specs.declared.fate.Fate.TheVariants.{Refused}
 use Rattle.lq_table.specs.Views.{View}
 use Rattle.lq_table.specs.Told.{is_set, paying, refusing}
 use Rattle.std.proofs.lemmas.Bool.{true≢false}
+use Rattle.lq_qdisc.proofs.RunLemmas.{fates_same, fates_then}
+use Rattle.lq_qdisc.proofs.SendLemmas.{called_looked, come_looked}
+use Rattle.lq_qdisc.proofs.TakeLemmas.{seat_same}
 use Rattle.lq_qdisc.proofs.sends.send.Goals as goal
 use Rattle.lq_qdisc.proofs.sends.send.Goals.{else-bypass-via-then-bypass+else-not-is_non_empty, else-bypass-via-else-bypass}
 
@@ -66,3 +69,43 @@ returns-clause-goes g c =
       past = λ _ may. absurd (true≢false (sym may ∙ may_not));
       through = λ _ _. subst (λ (x : Known). GoesThroughBy k c.args.n c.send_through.result x (known c.send_through.new.cpu)) e c.send_through.ensures.goes;
     }
+
+pub returns-then-not-is_non_empty-clause-kept : goal.returns-then-not-is_non_empty-clause-kept
+returns-then-not-is_non_empty-clause-kept g c =
+    let l = c.check-state.ensures in let e = l.active (sym c.is_deactivated.ensures ∙ c.if-is_deactivated.false) in
+    called_looked c.check-state.result c.args.cpu.now c.check-state.new.cpu c.send_try.new.cpu l.same.0 e c.send_try.ensures.kept
+
+pub returns-then-not-is_non_empty-clause-came : goal.returns-then-not-is_non_empty-clause-came
+returns-then-not-is_non_empty-clause-came g c =
+    let l = c.check-state.ensures in let e = l.active (sym c.is_deactivated.ensures ∙ c.if-is_deactivated.false) in
+    come_looked c.args.shared.now.infos.now c.args.n c.check-state.result c.send_try.result (view c.args.cpu.now) (view c.check-state.new.cpu) (view c.send_try.new.cpu) e c.send_try.ensures.came
+
+pub returns-then-not-is_non_empty-clause-fates : goal.returns-then-not-is_non_empty-clause-fates
+returns-then-not-is_non_empty-clause-fates g c =
+    let l = c.check-state.ensures in let e = l.active (sym c.is_deactivated.ensures ∙ c.if-is_deactivated.false) in
+    let v = view c.args.cpu.now in let m = view c.check-state.new.cpu in fates_then v m (view c.send_try.new.cpu) (fates_same v m (ap (λ (x : View). x.settled) e)) c.send_try.ensures.fates
+
+pub send_try-requires-clause-seat : goal.send_try-requires-clause-seat
+send_try-requires-clause-seat g c _ _ =
+    let l = c.check-state.ensures in let e = l.active (sym c.is_deactivated.ensures ∙ c.if-is_deactivated.false) in
+    seat_same c.args.shared.now c.args.cpu.now c.check-state.new.cpu l.same.0 (ap (λ (x : View). x.share) e) c.requires.seat
+
+pub returns-clause-kept : goal.returns-clause-kept
+returns-clause-kept g c =
+    let l = c.check-state.ensures in let e = l.active (sym c.is_deactivated.ensures ∙ c.if-is_deactivated.false) in
+    called_looked c.check-state.result c.args.cpu.now c.check-state.new.cpu c.send_through.new.cpu l.same.0 e c.send_through.ensures.kept
+
+pub returns-clause-came : goal.returns-clause-came
+returns-clause-came g c =
+    let l = c.check-state.ensures in let e = l.active (sym c.is_deactivated.ensures ∙ c.if-is_deactivated.false) in
+    come_looked c.args.shared.now.infos.now c.args.n c.check-state.result c.send_through.result (view c.args.cpu.now) (view c.check-state.new.cpu) (view c.send_through.new.cpu) e c.send_through.ensures.came
+
+pub returns-clause-fates : goal.returns-clause-fates
+returns-clause-fates g c =
+    let l = c.check-state.ensures in let e = l.active (sym c.is_deactivated.ensures ∙ c.if-is_deactivated.false) in
+    let v = view c.args.cpu.now in let m = view c.check-state.new.cpu in fates_then v m (view c.send_through.new.cpu) (fates_same v m (ap (λ (x : View). x.settled) e)) c.send_through.ensures.fates
+
+pub send_through-requires-clause-seat : goal.send_through-requires-clause-seat
+send_through-requires-clause-seat g c _ _ =
+    let l = c.check-state.ensures in let e = l.active (sym c.is_deactivated.ensures ∙ c.if-is_deactivated.false) in
+    seat_same c.args.shared.now c.args.cpu.now c.check-state.new.cpu l.same.0 (ap (λ (x : View). x.share) e) c.requires.seat

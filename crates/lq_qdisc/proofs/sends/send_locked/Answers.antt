@@ -6,6 +6,10 @@ use Rattle.lq_table.specs.Sees.{view, known, setup}
 use Rattle.lq_table.specs.Solo.{heard, solo}
 use Rattle.lq_table.specs.Told.{some_bit}
 use Rattle.lq_qdisc.specs.Steps.{DirectsBy, EnqueuesBy, gone, with_state_loaded}
+use Rattle.lq_table.specs.Views.{View}
+use Rattle.lq_qdisc.proofs.RunLemmas.{fates_same, fates_then}
+use Rattle.lq_qdisc.proofs.SendLemmas.{called_from, called_looked, come_looked}
+use Rattle.lq_qdisc.proofs.TakeLemmas.{seat_same, serving_same}
 use Rattle.lq_qdisc.proofs.sends.send_locked.Goals as goal
 
 pub returns-then-is_non_empty-clause-goes : goal.returns-then-is_non_empty-clause-goes
@@ -33,3 +37,44 @@ returns-clause-goes g c =
         follows = s.3;
       },
     )
+
+pub returns-then-is_non_empty-clause-kept : goal.returns-then-is_non_empty-clause-kept
+returns-then-is_non_empty-clause-kept g c =
+    let l = c.recheck-state.ensures in let e = l.waits (sym c.is_non_empty.ensures ∙ c.if-is_non_empty.true) in
+    called_looked c.recheck-state.result c.args.cpu.now c.recheck-state.new.cpu c.send_held.new.cpu l.same.0 e c.send_held.ensures.kept
+
+pub returns-then-is_non_empty-clause-came : goal.returns-then-is_non_empty-clause-came
+returns-then-is_non_empty-clause-came g c =
+    let l = c.recheck-state.ensures in let e = l.waits (sym c.is_non_empty.ensures ∙ c.if-is_non_empty.true) in
+    come_looked c.args.shared.now.infos.now c.args.n c.recheck-state.result c.send_held.result (view c.args.cpu.now) (view c.recheck-state.new.cpu) (view c.send_held.new.cpu) e c.send_held.ensures.came
+
+pub returns-then-is_non_empty-clause-fates : goal.returns-then-is_non_empty-clause-fates
+returns-then-is_non_empty-clause-fates g c =
+    let l = c.recheck-state.ensures in let e = l.waits (sym c.is_non_empty.ensures ∙ c.if-is_non_empty.true) in
+    let v = view c.args.cpu.now in let m = view c.recheck-state.new.cpu in fates_then v m (view c.send_held.new.cpu) (fates_same v m (ap (λ (x : View). x.settled) e)) c.send_held.ensures.fates
+
+pub send_held-requires-clause-seat : goal.send_held-requires-clause-seat
+send_held-requires-clause-seat g c _ _ =
+    let l = c.recheck-state.ensures in let e = l.waits (sym c.is_non_empty.ensures ∙ c.if-is_non_empty.true) in
+    seat_same c.args.shared.now c.args.cpu.now c.recheck-state.new.cpu l.same.0 (ap (λ (x : View). x.share) e) c.requires.seat
+
+pub send_held-requires-clause-serving : goal.send_held-requires-clause-serving
+send_held-requires-clause-serving g c _ _ =
+    let l = c.recheck-state.ensures in let e = l.waits (sym c.is_non_empty.ensures ∙ c.if-is_non_empty.true) in
+    serving_same c.args.cpu.now c.recheck-state.new.cpu l.same.3 l.same.1 (ap (λ (x : View). x.holder) e) (ap (λ (x : View). x.locks) e) c.requires.serving
+
+pub returns-clause-kept : goal.returns-clause-kept
+returns-clause-kept g c =
+    let l = c.recheck-state.ensures in let e = l.direct (sym c.is_non_empty.ensures ∙ c.if-is_non_empty.false) in
+    let k = c.send_past.ensures.kept in called_from c.args.cpu.now c.recheck-state.new.cpu c.send_past.new.cpu l.same.0 (ap (λ (x : View). x.share) e) (ap (λ (x : View). x.control) e) (ap (λ (x : View). x.whole.told) e)
+        (record { seat = k.seat; share = k.share; control = k.control; told = k.told })
+
+pub returns-clause-fates : goal.returns-clause-fates
+returns-clause-fates g c =
+    let l = c.recheck-state.ensures in let e = l.direct (sym c.is_non_empty.ensures ∙ c.if-is_non_empty.false) in
+    let v = view c.args.cpu.now in let m = view c.recheck-state.new.cpu in fates_then v m (view c.send_past.new.cpu) (fates_same v m (ap (λ (x : View). x.settled) e)) c.send_past.ensures.fates
+
+pub send_past-requires-clause-seat : goal.send_past-requires-clause-seat
+send_past-requires-clause-seat g c _ _ =
+    let l = c.recheck-state.ensures in let e = l.direct (sym c.is_non_empty.ensures ∙ c.if-is_non_empty.false) in
+    seat_same c.args.shared.now c.args.cpu.now c.recheck-state.new.cpu l.same.0 (ap (λ (x : View). x.share) e) c.requires.seat
