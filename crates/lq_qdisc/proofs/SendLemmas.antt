@@ -9,7 +9,7 @@ use Rattle.lq_table.specs.Sees.{view, IsSameSeat}
 use Rattle.lq_table.specs.declared.shared.Cpu.{Cpu}
 use Rattle.lq_table.specs.Views.{PacketPart, View}
 use Rattle.lq_qdisc.specs.Calls.{KeepsFates}
-use Rattle.lq_qdisc.specs.Sends.{Enqueues, HasCome, IsCallKept, came_as, trail_with}
+use Rattle.lq_qdisc.specs.Sends.{Enqueues, HasCome, IsCallKept, IsInsideKept, came_as, trail_with}
 use Rattle.lq_qdisc.specs.declared.answers.Sending.{Sending}
 use Rattle.lq_qdisc.specs.declared.answers.Sending.TheVariants as sending
 use Rattle.lq_qdisc.proofs.RunLemmas.{fates_same}
@@ -48,3 +48,17 @@ module _ {D : Type 0} where
   -- so does a load of the state
   pub called_looked : (state : ℕ) (b m a : Cpu D) → IsSameSeat b m → view m ≡ looking state (view b) → IsCallKept m a → IsCallKept b a
   called_looked state b m a seat e k = called_from b m a seat (ap (λ (v : View). v.share) e) (ap (λ (v : View). v.control) e) (ap (λ (v : View). v.whole.told) e) k
+
+  -- what serving the bands leaves as it was, likewise
+  pub inside_from : (b m a : Cpu D) → IsSameSeat b m → (view m).share ≡ (view b).share → (view m).packets ≡ (view b).packets → (view m).locks ≡ (view b).locks → (view m).control ≡ (view b).control → (view m).turns ≡ (view b).turns
+      → (view m).trail ≡ (view b).trail → (view m).whole.told ≡ (view b).whole.told → IsInsideKept m a → IsInsideKept b a
+  inside_from b m a seat share packets locks control turns trail told k = record {
+    seat = (k.seat.0 ∙ seat.0, k.seat.1 ∙ seat.1);
+    share = k.share ∙ share;
+    packets = k.packets ∙ packets;
+    locks = k.locks ∙ locks;
+    control = k.control ∙ control;
+    turns = k.turns ∙ turns;
+    trail = k.trail ∙ trail;
+    told = k.told ∙ told;
+  }
