@@ -1,7 +1,8 @@
 -- After a run each packet's fate can be read, and is read.
-use Rattle.std.proofs.Common.{◌≡◌, ℕ, ◌+◌, ◌<◌, List, inl, inr, length, Option, Some, refl, sym, ap, ◌∙◌, subst, arith}
+use Rattle.std.proofs.Common.{◌≡◌, ℕ, ◌+◌, ◌<◌, List, inl, inr, length, get_or, Option, Some, refl, sym, ap, ◌∙◌, subst, arith}
+use Rattle.std.specs.Option.{option_map_or}
 use Rattle.std.specs.Prelude.{slice_get, slice_index, slice_set}
-use Rattle.std.proofs.lemmas.Option.{same_Some, slice_get_within}
+use Rattle.std.proofs.lemmas.Option.{same_Some, slice_get_within, slice_get-get_or, get_or_from_slice_get}
 use Rattle.lq_model.specs.Device.{DeviceState}
 use Rattle.lq_model.specs.Plan.{Plan, station_in}
 use Rattle.lq_model.specs.Words.{IsWordOf}
@@ -71,3 +72,14 @@ module _ (infos : List Info) (closed : List ClosedState) (lent : List (Option Fa
         let w = all.each (station_in infos n) x (slice_get_within closed (station_in infos n) x at) at in
         subst (λ words. IsWordOf fate (slice_index words n)) (w.2.fates) (read n fate there w.0 w.1);
   }
+
+-- a packet's station, read off the list; and what lies at the station's place
+module _ (infos : List Info) (lent : List (Option FateWords)) (n : ℕ) (d : Info) (inside : n < length infos) (w : FateWords) (at : slice_get lent (station_in infos n) ≡ Some (Some w)) where
+  own-at : slice_get lent (get_or infos n d).station ≡ Some (Some w)
+  own-at = subst (λ (o : Option Info). slice_get lent (option_map_or (λ info. info.station) o 0) ≡ Some (Some w)) (slice_get-get_or infos n d inside) at
+
+  pub own-within : (get_or infos n d).station < length lent
+  own-within = slice_get_within lent _ (Some w) own-at
+
+  pub own-words : (o : Option FateWords) → get_or lent (get_or infos n d).station o ≡ Some w
+  own-words o = get_or_from_slice_get lent _ (Some w) o own-at

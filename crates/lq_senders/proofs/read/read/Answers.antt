@@ -1,0 +1,31 @@
+-- proofs/read/read/Answers.antt
+use Rattle.std.proofs.Common.{◌≡◌, ◌<◌, sym, ◌∙◌, subst}
+use Rattle.std.proofs.lemmas.Option.{none-some, same_Some}
+use Rattle.std.specs.Prelude.{slice_index}
+use Rattle.lq_model.specs.Words.{IsWordOf}
+use Rattle.lq_table.proofs.SettledKept.{word_positive}
+use Rattle.lq_table.specs.Ended.{lent_fates}
+use Rattle.lq_table.specs.declared.ended.FateWords.{FateWords}
+use Rattle.lq_senders.proofs.FatesRead.{own-within, own-words}
+use Rattle.lq_senders.proofs.read.read.Goals as goal
+
+pub bounds-lent-station : goal.bounds-lent-station
+bounds-lent-station c = let has = c.requires.readable in own-within _ _ _ _ c.requires.packet has.0 has.1
+
+pub unreachable-requires : goal.unreachable-requires
+unreachable-requires c = let has = c.requires.readable in none-some _ (sym c.in_default.is ∙ own-words _ _ _ _ c.requires.packet has.0 has.1 _)
+
+pub fate-requires : goal.fate-requires
+fate-requires c =
+    let has = c.requires.readable in
+    record { packet = subst (λ (w : FateWords). c.args.n < w.packets) (same_Some _ _ (sym (own-words _ _ _ _ c.requires.packet has.0 has.1 _) ∙ c.in-Some.is)) has.2 }
+
+pub unreachable-requires-in_default-fate : goal.unreachable-requires-in_default-fate
+unreachable-requires-in_default-fate c =
+    let has = c.requires.readable in
+    let same = same_Some _ _ (sym c.in-Some.is ∙ own-words _ _ _ _ c.requires.packet has.0 has.1 _) in
+    word_positive has.3.0 (sym has.3.1.word_is ∙ subst (λ (w : FateWords). slice_index (lent_fates w) c.args.n ≡ 0) same c.in_default-fate.ensures.none)
+
+pub returns : goal.returns
+returns c w at =
+    subst (λ (w : FateWords). IsWordOf c.in-Some-fate.fate (slice_index (lent_fates w) c.args.n)) (same_Some _ _ (sym c.in-Some.is ∙ own-words _ _ _ _ c.requires.packet w at _)) c.in-Some-fate.ensures.some
