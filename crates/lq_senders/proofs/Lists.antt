@@ -1,5 +1,7 @@
 -- Lists and their parts.
 use Rattle.std.proofs.Common.{◌≡◌, ℕ, zero, suc, ◌<◌, ◌+◌, List, [], ◌∷◌, ◌++◌, length, take, drop, Some, refl, sym, ap, ◌∙◌, slice_get, map, arith}
+use Rattle.std.proofs.lemmas.List.{take_more}
+use Rattle.std.proofs.lemmas.Option.{get_or_from_slice_get, slice_get_within}
 use Rattle.std.specs.Prelude.{slice_index_or}
 use Rattle.lq_senders.proofs.Seats.{read-at}
 
@@ -19,6 +21,12 @@ drop-first (suc k) (x ∷ xs) = drop-first k xs
 -- what was left begins with the next
 pub next-left : {X : Type 0} (k : ℕ) (xs ys : List X) (x : X) → ys ≡ drop k xs → 0 < length ys → x ≡ slice_index_or ys 0 x → slice_get xs k ≡ Some x
 next-left k xs ys x left some is = sym (ap (λ l. slice_get l 0) left ∙ drop-first k xs) ∙ read-at ys 0 x some is
+
+-- the first ones with the next
+pub first-with-next : {X : Type 0} (k : ℕ) (xs ys : List X) (x : X) → ys ≡ drop k xs → 0 < length ys → x ≡ slice_index_or ys 0 x → take k xs ++ x ∷ [] ≡ take (k + 1) xs
+first-with-next k xs ys x left some is =
+    let there = next-left k xs ys x left some is in
+    sym (take_more xs k x (slice_get_within xs k x there) ∙ ap (λ z. take k xs ++ z ∷ []) (get_or_from_slice_get xs k x x there))
 
 -- what stands after a first part
 pub get-past : {X : Type 0} (xs ys : List X) (k : ℕ) → slice_get (xs ++ ys) (length xs + k) ≡ slice_get ys k

@@ -1,4 +1,4 @@
-use Rattle.std.proofs.Common.{◌++◌, List, drop, length, sym, ap, ◌∙◌, subst, arith, map}
+use Rattle.std.proofs.Common.{◌++◌, List, drop, length, refl, sym, ap, ◌∙◌, subst, arith, map}
 use Rattle.std.proofs.lemmas.List.{length-map, take_at}
 use Rattle.lq_model.specs.Plan.{unit_count}
 use Rattle.lq_model.specs.declared.fate.Fate.{Fate}
@@ -133,3 +133,36 @@ returns-clause-boxes g c before ready =
     (c.runs_keep_boxes.ensures plan infos before after others start brought closed spares c.run-spares.ensures
     (are-over plan infos before c.args.units.stations.tables.items c.args.units.stations.cpus.items brought ready start c.split_lanes.ensures.devices others c.split_lanes.ensures.one_each c.split_lanes.ensures.alone)
     (are-back plan closed spares after rest laid))
+
+pub invariant_of-all : goal.invariant_of-all
+invariant_of-all g c = record { sendable = c.args.job.now.sendable }
+
+pub split_lanes-requires-clause-empty : goal.split_lanes-requires-clause-empty
+split_lanes-requires-clause-empty g c κs within = c.requires.room.others
+
+pub run-spares-requires-clause-owner : goal.run-spares-requires-clause-owner
+run-spares-requires-clause-owner g c κs within = refl
+
+pub run-spares-requires-clause-senders : goal.run-spares-requires-clause-senders
+run-spares-requires-clause-senders g c κs within = c.split_lanes.ensures.one_each
+
+pub run-spares-requires-clause-none_yet : goal.run-spares-requires-clause-none_yet
+run-spares-requires-clause-none_yet g c κs within = c.requires.room.none_closed
+
+pub run-spares-requires-clause-room : goal.run-spares-requires-clause-room
+run-spares-requires-clause-room g c κs within = c.requires.room.closed
+
+pub read_fates-requires-clause-few : goal.read_fates-requires-clause-few
+read_fates-requires-clause-few g c κs within = c.args.job.now.sendable.few
+
+pub take_apart-requires-clause-none_yet : goal.take_apart-requires-clause-none_yet
+take_apart-requires-clause-none_yet g c κs within = (c.requires.room.no_home, c.requires.room.none_ended)
+
+pub hand_back-requires-clause-room : goal.hand_back-requires-clause-room
+hand_back-requires-clause-room g c κs within = c.requires.bench_room
+
+pub returns-clause-rest : goal.returns-clause-rest
+returns-clause-rest g c = c.hand_back.ensures.rest
+
+pub returns-clause-len : goal.returns-clause-len
+returns-clause-len g c = c.hand_back.ensures.len

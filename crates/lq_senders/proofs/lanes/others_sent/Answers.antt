@@ -1,0 +1,20 @@
+use Rattle.std.proofs.Common.{◌≡◌, List, Some, ap, drop, length, sym, ◌∙◌, subst}
+use Rattle.std.proofs.lemmas.List.{take_at}
+use Rattle.std.specs.Prelude.{slice_get}
+use Rattle.lq_senders.proofs.lanes.others_sent.Goals as goal
+
+pub returns-clause-done : goal.returns-clause-done
+returns-clause-done g c i l there =
+    let new = c.others_send.new.senders in let items = c.args.senders.items in
+    c.others_send.ensures.done i l (subst (λ (laid : List _). slice_get laid i ≡ Some l) (take_at new (drop (length new) items) c.args.senders.len (c.others_send.auto.senders ∙ c.as_mut_slice.ensures.len)) there)
+
+pub returns-clause-woke : goal.returns-clause-woke
+returns-clause-woke g c i old l was there =
+    let new = c.others_send.new.senders in let items = c.args.senders.items in
+    c.others_send.ensures.woke i old l (subst (λ (from : List _). slice_get from i ≡ Some old) (sym c.as_mut_slice.ensures.value) was)
+    (subst (λ (laid : List _). slice_get laid i ≡ Some l) (take_at new (drop (length new) items) c.args.senders.len (c.others_send.auto.senders ∙ c.as_mut_slice.ensures.len)) there)
+
+pub returns-clause-long : goal.returns-clause-long
+returns-clause-long g c =
+    let new = c.others_send.new.senders in let items = c.args.senders.items in
+    ap length (take_at new (drop (length new) items) c.args.senders.len (c.others_send.auto.senders ∙ c.as_mut_slice.ensures.len)) ∙ (c.others_send.auto.senders ∙ ap length c.as_mut_slice.ensures.value)
