@@ -72,3 +72,21 @@ loop-table-preserved g c =
           so-where-ok c.insert-laid_back.result _ _ _ succeeds c.insert-laid_back.ensures.len in omega arith;
       capacity = (c.insert-laid_back.ensures.in_place room).1.0 ∙ own.capacity;
     }
+
+pub loop-table-smaller : goal.loop-table-smaller
+loop-table-smaller g c = let len = c.in-Some.ensures.len in omega arith
+
+pub unreachable-requires : goal.unreachable-requires
+unreachable-requires g c = let seats = c.loop-table.invariant.seats in let len = c.in-Some.ensures.len in let none = c.in-None.ensures.cases.0 in omega arith
+
+pub returns-clause-boxes : goal.returns-clause-boxes
+returns-clause-boxes g c =
+    c.loop-table.invariant.boxes ∙ ap (λ k. origins_of (drop k c.args.cpus.items) ++ identities_of (map g.D.TxDevice.state c.args.bench.now.items)) c.in_default.ensures.cases.0
+
+pub returns-clause-rest : goal.returns-clause-rest
+returns-clause-rest g c =
+    let all : c.args.tables.len - c.loop-table.tables.len ≡ c.args.tables.len = let none = c.in_default.ensures.cases.0 in omega arith in
+    sym (ap (λ k. drop k c.loop-table.bench.items) all) ∙ c.loop-table.invariant.rest
+
+pub returns-clause-len : goal.returns-clause-len
+returns-clause-len g c = let len = c.loop-table.invariant.len in let none = c.in_default.ensures.cases.0 in omega arith

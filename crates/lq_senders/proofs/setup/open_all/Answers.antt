@@ -6,6 +6,25 @@ pub give_all_back-requires-clause-whole : goal.give_all_back-requires-clause-who
 give_all_back-requires-clause-whole g c κs within =
     whole-opened c.args.plan.now c.args.infos.now (map g.D.TxDevice.state c.args.bench.now.items) c.open_stations.new.stations.tables.items c.open_stations.new.stations.cpus.items c.open_stations.ensures.opened
 
+pub give_all_back-requires-clause-room : goal.give_all_back-requires-clause-room
+give_all_back-requires-clause-room g c κs within =
+    let len = c.open_stations.ensures.len in let same = c.open_stations.ensures.capacity in let ok = c.args.bench.now.ok.1 in omega arith
+
+pub returns-in-Ok-clause-opened : goal.returns-in-Ok-clause-opened
+returns-in-Ok-clause-opened g c = c.open_stations.ensures.opened
+
+pub returns-in-Ok-clause-all : goal.returns-in-Ok-clause-all
+returns-in-Ok-clause-all g c = c.in-Ok.ensures.all
+
+pub returns-in-Ok-clause-less : goal.returns-in-Ok-clause-less
+returns-in-Ok-clause-less g c = let all = c.in-Ok.ensures.all in let len = c.open_stations.ensures.len in omega arith
+
+pub returns-in-Ok-clause-capacity : goal.returns-in-Ok-clause-capacity
+returns-in-Ok-clause-capacity g c = c.open_stations.ensures.capacity
+
+pub returns-in-Err-clause-len : goal.returns-in-Err-clause-len
+returns-in-Err-clause-len g c = let less = c.open_stations.ensures.len in let back = c.give_all_back.ensures.len in omega arith
+
 pub returns-in-Ok-clause-rest : goal.returns-in-Ok-clause-rest
 returns-in-Ok-clause-rest g c =
     let none : length c.args.plan.now.stations - c.open_stations.new.stations.tables.len ≡ 0 = let all = c.in-Ok.ensures.all in omega arith in

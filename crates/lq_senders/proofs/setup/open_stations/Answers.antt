@@ -1,4 +1,6 @@
-use Rattle.std.proofs.Common.{◌≡◌, ◌<◌, ◌≤◌, false, ◌-◌, ◌++◌, ◌∷◌, [], length, sym, ap, ◌∙◌, subst, arith, drop, drop-drop, map}
+use Rattle.std.proofs.Common.{◌≡◌, ◌<◌, ◌≤◌, false, ◌-◌, ◌++◌, ◌∷◌, [], length, refl, sym, ap, ◌∙◌, subst, arith, drop, drop-drop, map}
+use Rattle.std.proofs.lemmas.Option.{none-some}
+use Rattle.std.specs.Prelude.{slice_get}
 use Rattle.lq_seat.specs.State.{station_count}
 use Rattle.lq_senders.specs.Setup.{AreOpened, IsOpenedAt}
 use Rattle.lq_senders.proofs.Benches.{first-left, so-where-ok}
@@ -91,3 +93,28 @@ returns-clause-states g c =
     let own = c.loop-station.invariant in
     states-left g.D.TxDevice.state c.args.bench.now.items c.loop-station.bench.items c.loop-station.station own.rest
     ∙ ap (λ k. drop k (map g.D.TxDevice.state c.args.bench.now.items)) (sym own.so_many)
+
+pub loop-station-init : goal.loop-station-init
+loop-station-init g c =
+    let none = ap length c.requires.none_yet.0 in let no_seat = ap length c.requires.none_yet.1 in let tables = c.args.stations.now.tables.ok.0 in let cpus = c.args.stations.now.cpus.ok.0 in
+    record {
+      rest = refl;
+      len = omega arith;
+      capacity = refl;
+      so_many = omega arith;
+      seats = omega arith;
+      room = c.requires.room.0;
+      seats_room = c.requires.room.1;
+      opened = record {
+        long = no_seat ∙ sym none;
+        each = λ j t cpu at _. absurd (none-some t (sym (ap (λ ts. slice_get ts j) c.requires.none_yet.0) ∙ at));
+      };
+    }
+
+pub push_reserved-requires : goal.push_reserved-requires
+push_reserved-requires g c =
+    let stations = c.stations-station-end.ensures.stations in let own = c.loop-station.invariant.so_many in let room = c.loop-station.invariant.room in let test = c.loop-station-test.true in omega arith
+
+pub push_reserved-requires-in-Ok : goal.push_reserved-requires-in-Ok
+push_reserved-requires-in-Ok g c =
+    let stations = c.stations-station-end.ensures.stations in let own = c.loop-station.invariant.seats in let room = c.loop-station.invariant.seats_room in let test = c.loop-station-test.true in omega arith

@@ -1,8 +1,10 @@
 use Rattle.std.proofs.Common.{◌≡◌, ◌∷◌, ◌++◌, [], suc, ◌+◌, ◌<◌, length, sym, ap, ◌∙◌, subst, arith, drop, take, map}
+use Rattle.std.proofs.lemmas.List.{append-nil, drop_all}
 use Rattle.lq_senders.specs.Ends.{ClosedState, closed_state, home_device}
 use Rattle.lq_table.specs.Ended.{ended_state}
 use Rattle.lq_senders.proofs.Benches.{last-at, last-taken, so-where-ok}
 use Rattle.lq_senders.proofs.HandsBack.{home-is, laid-through}
+use Rattle.lq_senders.proofs.Lists.{take-all}
 use Rattle.lq_senders.proofs.Seats.{mapped-at}
 use Rattle.lq_senders.proofs.undo.take_apart.Goals as goal
 
@@ -55,3 +57,34 @@ loop-station-preserved g c =
           so-where-ok c.insert-laid_out.result _ _ _ lays_out c.insert-laid_out.ensures.len in omega arith;
       ended_room = let old = own.ended_room in let same = (c.insert-laid_out.ensures.in_place ended_room).1.0 in omega arith;
     }
+
+pub loop-station-smaller : goal.loop-station-smaller
+loop-station-smaller g c = let len = c.in-Some.ensures.len in omega arith
+
+pub loop-station-init : goal.loop-station-init
+loop-station-init g c =
+    let closed = c.args.closed.items in let long = c.args.closed.ok.0 in
+    let past = drop_all c.args.closed.len closed (omega arith) in
+    let no_home = ap length c.requires.none_yet.0 in let homes = c.args.homes.now.ok.0 in
+    let none_ended = ap length c.requires.none_yet.1 in let ended = c.args.ended.now.ok.0 in
+    let h = closed_state {D = g.row.D.Denot} {g = g.D.TxDevice} in
+    record {
+      fewer = omega arith;
+      left = sym (ap (λ k. take k closed) long ∙ take-all closed);
+      homes = ap (map g.D.TxDevice.state) c.requires.none_yet.0 ∙ sym (ap (λ xs. map home_device (map h xs) ++ []) past);
+      homes_len = omega arith;
+      homes_room = c.requires.room.0;
+      stays = ap (map (ended_state {D = g.row.D.Denot} {g = g.D.TxDevice})) c.requires.none_yet.1 ∙ sym (ap (λ xs. map (λ (x : ClosedState). x.ended) (map h xs) ++ []) past);
+      ended_len = omega arith;
+      ended_room = c.requires.room.1;
+    }
+
+pub returns-clause-homes : goal.returns-clause-homes
+returns-clause-homes g c =
+    let h = closed_state {D = g.row.D.Denot} {g = g.D.TxDevice} in
+    c.loop-station.invariant.homes ∙ (append-nil _ ∙ ap (λ k. map home_device (map h (drop k c.args.closed.items))) c.in_default.ensures.cases.0)
+
+pub returns-clause-ended : goal.returns-clause-ended
+returns-clause-ended g c =
+    let h = closed_state {D = g.row.D.Denot} {g = g.D.TxDevice} in
+    c.loop-station.invariant.stays ∙ (append-nil _ ∙ ap (λ k. map (λ (x : ClosedState). x.ended) (map h (drop k c.args.closed.items))) c.in_default.ensures.cases.0)

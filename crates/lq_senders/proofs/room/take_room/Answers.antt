@@ -1,0 +1,16 @@
+use Rattle.std.proofs.Common.{sym, ◌∙◌, arith}
+use Rattle.lq_senders.proofs.room.take_room.Goals as goal
+
+pub returns : goal.returns
+returns g c =
+    let count = c.stations-count.ensures.stations in
+    record {
+      others = c.in_ok-others.ensures;
+      none_closed = c.in_ok-closed.ensures.empty;
+      no_home = c.in_ok-homes.ensures.empty;
+      none_ended = c.in_ok-ended.ensures.empty;
+      closed = let room = c.in_ok-closed.ensures.room in omega arith;
+      homes = let room = c.in_ok-homes.ensures.room in omega arith;
+      fates = sym c.in-Ok.fates.ok.0 ∙ c.in-Ok.ensures.len;
+      ended = let room = c.in_ok-ended.ensures.room in omega arith;
+    }
