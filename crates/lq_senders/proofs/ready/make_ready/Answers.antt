@@ -60,3 +60,24 @@ returns-clause-rest g c =
     ∙ (drop-drop k n after
     ∙ (c.in_ok-configure_spares.ensures.others
     ∙ drop-later n (unit_count plan) mid before (omega arith) c.in_ok-configure_units.ensures.others))))
+
+pub open_all-requires-clause-sendable : goal.open_all-requires-clause-sendable
+open_all-requires-clause-sendable g c κs within = c.requires.sendable
+
+pub open_all-requires-clause-none_yet : goal.open_all-requires-clause-none_yet
+open_all-requires-clause-none_yet g c κs within = (c.requires.room.no_table, c.requires.room.no_seat)
+
+pub open_all-requires-clause-room : goal.open_all-requires-clause-room
+open_all-requires-clause-room g c κs within = (c.requires.room.tables, c.requires.room.seats)
+
+pub take_spares-requires-clause-many : goal.take_spares-requires-clause-many
+take_spares-requires-clause-many g c κs within =
+    let units = c.units.ensures.units in let stations = c.stations.ensures.stations in let less = c.in_ok-stations.ensures.less in
+    let devices = c.requires.devices in let len = c.configure_units.ensures.len in let len' = c.configure_spares.ensures.len in omega arith
+
+pub take_spares-requires-clause-none_yet : goal.take_spares-requires-clause-none_yet
+take_spares-requires-clause-none_yet g c κs within = c.requires.room.no_spare
+
+pub take_spares-requires-clause-room : goal.take_spares-requires-clause-room
+take_spares-requires-clause-room g c κs within =
+    let units = c.units.ensures.units in let stations = c.stations.ensures.stations in let room = c.requires.room.spares in omega arith
