@@ -1,8 +1,26 @@
-use Rattle.std.proofs.Common.{◌≡◌, ℕ, ◌+◌, inl, inr, Some, length, subst, arith, slice_get}
+use Rattle.std.proofs.Common.{◌≡◌, ℕ, ◌+◌, inl, inr, Some, length, sym, ap, ◌∙◌, subst, arith, slice_get}
+use Rattle.std.proofs.lemmas.Option.{none-some}
 use Rattle.lq_senders.specs.Setup.{IsEmptyLane}
 use Rattle.lq_senders.specs.declared.sender.Sender.{Sender}
 use Rattle.lq_senders.proofs.Splits.{snoc-cases}
 use Rattle.lq_senders.proofs.setup.lanes_for.Goals as goal
+
+pub loop-owner-init : goal.loop-owner-init
+loop-owner-init g c = record {
+  so_many = let none = ap length c.in_ok-lanes.ensures.empty in let ok = c.in_ok-lanes.lanes.ok.0 in omega arith;
+  room = let room = c.in_ok-lanes.ensures.room in let senders = c.senders-senders.ensures.senders in omega arith;
+  empty = λ i lane at. absurd (none-some lane (sym (ap (λ xs. slice_get xs i) c.in_ok-lanes.ensures.empty) ∙ at));
+}
+
+pub push_reserved-requires : goal.push_reserved-requires
+push_reserved-requires g c =
+    let so_many = c.loop-owner.invariant.so_many in let room = c.loop-owner.invariant.room in let test = c.loop-owner-test.true in let senders = c.senders-senders.ensures.senders in omega arith
+
+pub returns : goal.returns
+returns g c = record {
+  one_each = let so_many = c.loop-owner.invariant.so_many in let ok = c.loop-owner.lanes.ok.0 in let senders = c.senders-senders.ensures in let test = c.loop-owner-test.false in let stop = c.loop-owner.auto.owner-end in omega arith;
+  each = c.loop-owner.invariant.empty;
+}
 
 pub loop-owner-preserved : goal.loop-owner-preserved
 loop-owner-preserved g c =
