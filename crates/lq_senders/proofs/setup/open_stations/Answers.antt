@@ -1,4 +1,4 @@
-use Rattle.std.proofs.Common.{◌≡◌, ◌<◌, ◌≤◌, false, ◌-◌, ◌++◌, ◌∷◌, [], length, refl, sym, ap, ◌∙◌, subst, arith, drop, drop-drop, map}
+use Rattle.std.proofs.Common.{◌≡◌, ◌<◌, ◌≤◌, false, ◌+◌, ◌-◌, ◌++◌, ◌∷◌, [], length, refl, sym, ap, ◌∙◌, subst, arith, drop, drop-drop, map}
 use Rattle.std.proofs.lemmas.Option.{none-some}
 use Rattle.std.specs.Prelude.{slice_get}
 use Rattle.lq_seat.specs.State.{station_count}
@@ -118,3 +118,45 @@ push_reserved-requires g c =
 pub push_reserved-requires-in-Ok : goal.push_reserved-requires-in-Ok
 push_reserved-requires-in-Ok g c =
     let stations = c.stations-station-end.ensures.stations in let own = c.loop-station.invariant.seats in let room = c.loop-station.invariant.seats_room in let test = c.loop-station-test.true in omega arith
+
+pub returns-in-Err-clause-opened : goal.returns-in-Err-clause-opened
+returns-in-Err-clause-opened g c = c.loop-station.invariant.opened
+
+pub returns-in-Err-clause-few : goal.returns-in-Err-clause-few
+returns-in-Err-clause-few g c = let stations = c.stations-station-end.ensures.stations in let so_many = c.loop-station.invariant.so_many in let test = c.loop-station-test.true in omega arith
+
+pub returns-in-Err-clause-len : goal.returns-in-Err-clause-len
+returns-in-Err-clause-len g c =
+    let own = c.loop-station.invariant.len in let so_many = c.loop-station.invariant.so_many in
+    let less = c.remove-device.ensures.len in let ok = c.loop-station.bench.ok.1 in let cap = c.remove-device.ensures.capacity in
+    let room : c.remove-device.new.self.len < c.remove-device.new.self.cap = omega arith in
+    let back : c.insert-laid_back.new.self.len ≡ c.remove-device.new.self.len + 1 = so-where-ok c.insert-laid_back.result _ _ _ (c.insert-laid_back.ensures.succeeds room) c.insert-laid_back.ensures.len in omega arith
+
+pub returns-in-Err-clause-capacity : goal.returns-in-Err-clause-capacity
+returns-in-Err-clause-capacity g c =
+    let less = c.remove-device.ensures.len in let ok = c.loop-station.bench.ok.1 in let cap = c.remove-device.ensures.capacity in
+    (c.insert-laid_back.ensures.in_place (omega arith)).1.0 ∙ (cap ∙ c.loop-station.invariant.capacity)
+
+pub returns-clause-opened : goal.returns-clause-opened
+returns-clause-opened g c = c.loop-station.invariant.opened
+
+all : (g : _) (c : goal.After-loop-station g) → c.loop-station.stations.tables.len ≡ length c.args.plan.now.stations
+all g c = let so_many = c.loop-station.invariant.so_many in let test = c.loop-station-test.false in let stop = c.loop-station.auto.station-end in let stations = c.stations-station-end.ensures.stations in omega arith
+
+pub returns-clause-all : goal.returns-clause-all
+returns-clause-all g c = all g c
+
+pub returns-clause-few : goal.returns-clause-few
+returns-clause-few g c = let same = all g c in omega arith
+
+pub returns-clause-others : goal.returns-clause-others
+returns-clause-others g c =
+    let n = length c.args.plan.now.stations in
+    let none : n - c.loop-station.stations.tables.len ≡ 0 = let same = all g c in omega arith in
+    ap (λ k. drop k c.loop-station.bench.items) none ∙ (c.loop-station.invariant.rest ∙ ap (λ k. drop k c.args.bench.now.items) (sym c.loop-station.invariant.so_many ∙ all g c))
+
+pub returns-clause-len : goal.returns-clause-len
+returns-clause-len g c = let len = c.loop-station.invariant.len in let so_many = c.loop-station.invariant.so_many in omega arith
+
+pub returns-clause-capacity : goal.returns-clause-capacity
+returns-clause-capacity g c = c.loop-station.invariant.capacity
