@@ -1,5 +1,5 @@
 -- proofs/read/read/Answers.antt
-use Rattle.std.proofs.Common.{◌≡◌, ◌<◌, sym, ◌∙◌, subst}
+use Rattle.std.proofs.Common.{◌≡◌, ◌<◌, sym, ◌∙◌, subst, arith}
 use Rattle.std.proofs.lemmas.Option.{none-some, same_Some}
 use Rattle.std.specs.Prelude.{slice_index}
 use Rattle.lq_model.specs.Words.{IsWordOf}
@@ -12,8 +12,17 @@ use Rattle.lq_senders.proofs.read.read.Goals as goal
 pub bounds-lent-station : goal.bounds-lent-station
 bounds-lent-station c = let has = c.requires.readable in own-within _ _ _ _ c.requires.packet has.0 has.1
 
+pub bounds : goal.bounds
+bounds c =
+    let has = c.requires.readable in
+    let within = own-within c.args.infos.now c.args.lent.now c.args.n (record { rank = 0; owner = 0; station = 0; band = 0; queue = 0 }) c.requires.packet has.0 has.1 in
+    let eight = c.told-lent in omega arith
+
 pub unreachable-requires : goal.unreachable-requires
 unreachable-requires c = let has = c.requires.readable in none-some _ (sym c.in_default.is ∙ own-words _ _ _ _ c.requires.packet has.0 has.1 _)
+
+pub unreachable-unreachable : goal.unreachable-unreachable
+unreachable-unreachable c = let has = c.requires.readable in none-some _ (sym c.in_default.is ∙ own-words _ _ _ _ c.requires.packet has.0 has.1 _)
 
 pub fate-requires : goal.fate-requires
 fate-requires c =

@@ -2,6 +2,21 @@ use Rattle.std.proofs.Common.{◌≡◌, ◌-◌, length, sym, ap, ◌∙◌, ar
 use Rattle.lq_senders.proofs.Openings.{boxes-again, rest-again, whole-opened}
 use Rattle.lq_senders.proofs.setup.open_all.Goals as goal
 
+pub open_stations-requires-clause-sendable : goal.open_stations-requires-clause-sendable
+open_stations-requires-clause-sendable g c κs within = c.requires.sendable
+
+pub open_stations-requires-clause-units : goal.open_stations-requires-clause-units
+open_stations-requires-clause-units g c κs within = c.requires.units
+
+pub open_stations-requires-clause-configured : goal.open_stations-requires-clause-configured
+open_stations-requires-clause-configured g c κs within = c.requires.configured
+
+pub open_stations-requires-clause-none_yet : goal.open_stations-requires-clause-none_yet
+open_stations-requires-clause-none_yet g c κs within = c.requires.none_yet
+
+pub open_stations-requires-clause-room : goal.open_stations-requires-clause-room
+open_stations-requires-clause-room g c κs within = c.requires.room
+
 pub give_all_back-requires-clause-whole : goal.give_all_back-requires-clause-whole
 give_all_back-requires-clause-whole g c κs within =
     whole-opened c.args.plan.now c.args.infos.now (map g.D.TxDevice.state c.args.bench.now.items) c.open_stations.new.stations.tables.items c.open_stations.new.stations.cpus.items c.open_stations.ensures.opened
