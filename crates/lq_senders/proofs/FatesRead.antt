@@ -81,5 +81,8 @@ module _ (infos : List Info) (lent : List (Option FateWords)) (n : ℕ) (d : Inf
   pub own-within : (get_or infos n d).station < length lent
   own-within = slice_get_within lent _ (Some w) own-at
 
+  pub own-below : (count : ℕ) → length lent ≡ count → (get_or infos n d).station < count
+  own-below count long = let within = own-within in omega arith
+
   pub own-words : (o : Option FateWords) → get_or lent (get_or infos n d).station o ≡ Some w
   own-words o = get_or_from_slice_get lent _ (Some w) o own-at

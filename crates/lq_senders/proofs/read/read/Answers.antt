@@ -1,28 +1,25 @@
 -- proofs/read/read/Answers.antt
-use Rattle.std.proofs.Common.{◌≡◌, ◌<◌, sym, ◌∙◌, subst, arith}
+use Rattle.std.proofs.Common.{◌≡◌, ◌<◌, sym, ◌∙◌, subst}
 use Rattle.std.proofs.lemmas.Option.{none-some, same_Some}
 use Rattle.std.specs.Prelude.{slice_index}
 use Rattle.lq_model.specs.Words.{IsWordOf}
 use Rattle.lq_table.proofs.SettledKept.{word_positive}
 use Rattle.lq_table.specs.Ended.{lent_fates}
 use Rattle.lq_table.specs.declared.ended.FateWords.{FateWords}
-use Rattle.lq_senders.proofs.FatesRead.{own-within, own-words}
+use Rattle.lq_senders.proofs.FatesRead.{own-within, own-below, own-words}
 use Rattle.lq_senders.proofs.read.read.Goals as goal
 
 pub bounds-lent-station : goal.bounds-lent-station
 bounds-lent-station c = let has = c.requires.readable in own-within _ _ _ _ c.requires.packet has.0 has.1
 
 pub bounds : goal.bounds
-bounds c =
-    let has = c.requires.readable in
-    let within = own-within c.args.infos.now c.args.lent.now c.args.n (record { rank = 0; owner = 0; station = 0; band = 0; queue = 0 }) c.requires.packet has.0 has.1 in
-    let eight = c.told-lent in omega arith
+bounds c = let has = c.requires.readable in own-below _ _ _ _ c.requires.packet has.0 has.1 _ c.told-lent
+
+pub bounds-lent-station-in-Some-1 : goal.bounds-lent-station-in-Some-1
+bounds-lent-station-in-Some-1 c = let has = c.requires.readable in own-below _ _ _ _ c.requires.packet has.0 has.1 _ c.told-lent
 
 pub unreachable-requires : goal.unreachable-requires
 unreachable-requires c = let has = c.requires.readable in none-some _ (sym c.in_default.is ∙ own-words _ _ _ _ c.requires.packet has.0 has.1 _)
-
-pub unreachable-unreachable : goal.unreachable-unreachable
-unreachable-unreachable c = let has = c.requires.readable in none-some _ (sym c.in_default.is ∙ own-words _ _ _ _ c.requires.packet has.0 has.1 _)
 
 pub fate-requires : goal.fate-requires
 fate-requires c =

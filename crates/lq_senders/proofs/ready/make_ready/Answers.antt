@@ -81,3 +81,22 @@ take_spares-requires-clause-none_yet g c κs within = c.requires.room.no_spare
 pub take_spares-requires-clause-room : goal.take_spares-requires-clause-room
 take_spares-requires-clause-room g c κs within =
     let units = c.units.ensures.units in let stations = c.stations.ensures.stations in let room = c.requires.room.spares in omega arith
+
+pub configure_units-requires-clause-units : goal.configure_units-requires-clause-units
+configure_units-requires-clause-units g c κs within = let devices = c.requires.devices in omega arith
+
+pub configure_spares-requires-clause-units : goal.configure_spares-requires-clause-units
+configure_spares-requires-clause-units g c κs within = let devices = c.requires.devices in let len = c.configure_units.ensures.len in omega arith
+
+pub open_all-requires-clause-units : goal.open_all-requires-clause-units
+open_all-requires-clause-units g c κs within = let devices = c.requires.devices in let len = c.configure_units.ensures.len in let len' = c.configure_spares.ensures.len in omega arith
+
+pub returns-clause-less : goal.returns-clause-less
+returns-clause-less g c =
+    let units = c.units.ensures.units in let stations = c.stations.ensures.stations in let less = c.in_ok-stations.ensures.less in
+    let len = c.configure_units.ensures.len in let len' = c.configure_spares.ensures.len in let taken = c.take_spares.ensures.len in omega arith
+
+pub returns-clause-back_room : goal.returns-clause-back_room
+returns-clause-back_room g c =
+    let units = c.units.ensures.units in let stations = c.stations.ensures.stations in let less = c.in_ok-stations.ensures.less in let taken = c.take_spares.ensures.len in
+    let ok = c.configure_spares.new.bench.ok.1 in let same = c.in_ok-stations.ensures.capacity in let same' = c.take_spares.ensures.capacity in omega arith
