@@ -1,8 +1,12 @@
-use Rattle.std.proofs.Common.{◌≡◌, ◌<◌, ◌∙◌, length, subst}
-use Rattle.std.proofs.lemmas.Option.{get_or_from_slice_get, slice_get_within}
+use Rattle.std.proofs.Common.{◌≡◌, ◌<◌, ◌∙◌, Some, ap, length, rules, subst, sym}
+use Rattle.std.proofs.lemmas.Option.{get_or_from_slice_get, slice_get-get_or, slice_get_within}
 use Rattle.lq_senders.specs.Lanes.{IsDoneLane, IsWoken}
 use Rattle.lq_senders.specs.declared.sender.Sender.{Sender}
 use Rattle.lq_senders.proofs.lanes.others_send.Goals as goal
+
+pub for_each_mut-requires-clause-accepts : goal.for_each_mut-requires-clause-accepts
+for_each_mut-requires-clause-accepts g c κs within =
+    λ i p lt at. (c.requires.ready i p.now (slice_get-get_or c.args.senders.now i p.now lt ∙ ap Some (sym at)), search rules)
 
 pub returns-then-threads-gt0-clause-done : goal.returns-then-threads-gt0-clause-done
 returns-then-threads-gt0-clause-done g c i l there =

@@ -61,9 +61,6 @@ returns-clause-rest g c =
     ∙ (c.in_ok-configure_spares.ensures.others
     ∙ drop-later n (unit_count plan) mid before (omega arith) c.in_ok-configure_units.ensures.others))))
 
-pub open_all-requires-clause-sendable : goal.open_all-requires-clause-sendable
-open_all-requires-clause-sendable g c κs within = c.requires.sendable
-
 pub open_all-requires-clause-none_yet : goal.open_all-requires-clause-none_yet
 open_all-requires-clause-none_yet g c κs within = (c.requires.room.no_table, c.requires.room.no_seat)
 
@@ -81,22 +78,3 @@ take_spares-requires-clause-none_yet g c κs within = c.requires.room.no_spare
 pub take_spares-requires-clause-room : goal.take_spares-requires-clause-room
 take_spares-requires-clause-room g c κs within =
     let units = c.units.ensures.units in let stations = c.stations.ensures.stations in let room = c.requires.room.spares in omega arith
-
-pub configure_units-requires-clause-units : goal.configure_units-requires-clause-units
-configure_units-requires-clause-units g c κs within = let devices = c.requires.devices in omega arith
-
-pub configure_spares-requires-clause-units : goal.configure_spares-requires-clause-units
-configure_spares-requires-clause-units g c κs within = let devices = c.requires.devices in let len = c.configure_units.ensures.len in omega arith
-
-pub open_all-requires-clause-units : goal.open_all-requires-clause-units
-open_all-requires-clause-units g c κs within = let devices = c.requires.devices in let len = c.configure_units.ensures.len in let len' = c.configure_spares.ensures.len in omega arith
-
-pub returns-clause-less : goal.returns-clause-less
-returns-clause-less g c =
-    let units = c.units.ensures.units in let stations = c.stations.ensures.stations in let less = c.in_ok-stations.ensures.less in
-    let len = c.configure_units.ensures.len in let len' = c.configure_spares.ensures.len in let taken = c.take_spares.ensures.len in omega arith
-
-pub returns-clause-back_room : goal.returns-clause-back_room
-returns-clause-back_room g c =
-    let units = c.units.ensures.units in let stations = c.stations.ensures.stations in let less = c.in_ok-stations.ensures.less in let taken = c.take_spares.ensures.len in
-    let ok = c.configure_spares.new.bench.ok.1 in let same = c.in_ok-stations.ensures.capacity in let same' = c.take_spares.ensures.capacity in omega arith

@@ -1,4 +1,4 @@
-use Rattle.std.proofs.Common.{◌++◌, List, drop, length, refl, sym, ap, ◌∙◌, subst, arith, map}
+use Rattle.std.proofs.Common.{◌++◌, List, drop, length, sym, ap, ◌∙◌, subst, arith, map}
 use Rattle.std.proofs.lemmas.List.{length-map, take_at}
 use Rattle.lq_model.specs.Plan.{unit_count}
 use Rattle.lq_model.specs.declared.fate.Fate.{Fate}
@@ -134,27 +134,6 @@ returns-clause-boxes g c before ready =
     (are-over plan infos before c.args.units.stations.tables.items c.args.units.stations.cpus.items brought ready start c.split_lanes.ensures.devices others c.split_lanes.ensures.one_each c.split_lanes.ensures.alone)
     (are-back plan closed spares after rest laid))
 
-pub invariant_of-all : goal.invariant_of-all
-invariant_of-all g c = record { sendable = c.args.job.now.sendable }
-
-pub split_lanes-requires-clause-empty : goal.split_lanes-requires-clause-empty
-split_lanes-requires-clause-empty g c κs within = c.requires.room.others
-
-pub run-spares-requires-clause-owner : goal.run-spares-requires-clause-owner
-run-spares-requires-clause-owner g c κs within = refl
-
-pub run-spares-requires-clause-senders : goal.run-spares-requires-clause-senders
-run-spares-requires-clause-senders g c κs within = c.split_lanes.ensures.one_each
-
-pub run-spares-requires-clause-none_yet : goal.run-spares-requires-clause-none_yet
-run-spares-requires-clause-none_yet g c κs within = c.requires.room.none_closed
-
-pub run-spares-requires-clause-room : goal.run-spares-requires-clause-room
-run-spares-requires-clause-room g c κs within = c.requires.room.closed
-
-pub read_fates-requires-clause-few : goal.read_fates-requires-clause-few
-read_fates-requires-clause-few g c κs within = c.args.job.now.sendable.few
-
 pub read_fates-requires-clause-stations : goal.read_fates-requires-clause-stations
 read_fates-requires-clause-stations g c κs within =
     let h = closed_state {D = g.row.D.Denot} {g = g.D.TxDevice} in let states = map g.D.TxDevice.state in
@@ -163,15 +142,3 @@ read_fates-requires-clause-stations g c κs within =
 
 pub read_fates-requires-clause-places : goal.read_fates-requires-clause-places
 read_fates-requires-clause-places g c κs within = ap length c.as_mut_slice.ensures.value ∙ c.requires.room.fates
-
-pub take_apart-requires-clause-none_yet : goal.take_apart-requires-clause-none_yet
-take_apart-requires-clause-none_yet g c κs within = (c.requires.room.no_home, c.requires.room.none_ended)
-
-pub hand_back-requires-clause-room : goal.hand_back-requires-clause-room
-hand_back-requires-clause-room g c κs within = c.requires.bench_room
-
-pub returns-clause-rest : goal.returns-clause-rest
-returns-clause-rest g c = c.hand_back.ensures.rest
-
-pub returns-clause-len : goal.returns-clause-len
-returns-clause-len g c = c.hand_back.ensures.len

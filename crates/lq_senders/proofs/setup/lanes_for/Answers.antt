@@ -12,10 +12,6 @@ loop-owner-init g c = record {
   empty = λ i lane at. absurd (none-some lane (sym (ap (λ xs. slice_get xs i) c.in_ok-lanes.ensures.empty) ∙ at));
 }
 
-pub push_reserved-requires : goal.push_reserved-requires
-push_reserved-requires g c =
-    let so_many = c.loop-owner.invariant.so_many in let room = c.loop-owner.invariant.room in let test = c.loop-owner-test.true in let senders = c.senders-senders.ensures.senders in omega arith
-
 pub returns : goal.returns
 returns g c = record {
   one_each = let so_many = c.loop-owner.invariant.so_many in let ok = c.loop-owner.lanes.ok.0 in let senders = c.senders-senders.ensures in let test = c.loop-owner-test.false in let stop = c.loop-owner.auto.owner-end in omega arith;

@@ -25,17 +25,8 @@ pub give_all_back-requires-clause-room : goal.give_all_back-requires-clause-room
 give_all_back-requires-clause-room g c κs within =
     let len = c.open_stations.ensures.len in let same = c.open_stations.ensures.capacity in let ok = c.args.bench.now.ok.1 in omega arith
 
-pub returns-in-Ok-clause-opened : goal.returns-in-Ok-clause-opened
-returns-in-Ok-clause-opened g c = c.open_stations.ensures.opened
-
-pub returns-in-Ok-clause-all : goal.returns-in-Ok-clause-all
-returns-in-Ok-clause-all g c = c.in-Ok.ensures.all
-
 pub returns-in-Ok-clause-less : goal.returns-in-Ok-clause-less
 returns-in-Ok-clause-less g c = let all = c.in-Ok.ensures.all in let len = c.open_stations.ensures.len in omega arith
-
-pub returns-in-Ok-clause-capacity : goal.returns-in-Ok-clause-capacity
-returns-in-Ok-clause-capacity g c = c.open_stations.ensures.capacity
 
 pub returns-in-Err-clause-len : goal.returns-in-Err-clause-len
 returns-in-Err-clause-len g c = let less = c.open_stations.ensures.len in let back = c.give_all_back.ensures.len in omega arith

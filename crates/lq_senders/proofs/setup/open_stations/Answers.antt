@@ -119,12 +119,6 @@ pub push_reserved-requires-in-Ok : goal.push_reserved-requires-in-Ok
 push_reserved-requires-in-Ok g c =
     let stations = c.stations-station-end.ensures.stations in let own = c.loop-station.invariant.seats in let room = c.loop-station.invariant.seats_room in let test = c.loop-station-test.true in omega arith
 
-pub returns-in-Err-clause-opened : goal.returns-in-Err-clause-opened
-returns-in-Err-clause-opened g c = c.loop-station.invariant.opened
-
-pub returns-in-Err-clause-few : goal.returns-in-Err-clause-few
-returns-in-Err-clause-few g c = let stations = c.stations-station-end.ensures.stations in let so_many = c.loop-station.invariant.so_many in let test = c.loop-station-test.true in omega arith
-
 pub returns-in-Err-clause-len : goal.returns-in-Err-clause-len
 returns-in-Err-clause-len g c =
     let own = c.loop-station.invariant.len in let so_many = c.loop-station.invariant.so_many in
@@ -136,9 +130,6 @@ pub returns-in-Err-clause-capacity : goal.returns-in-Err-clause-capacity
 returns-in-Err-clause-capacity g c =
     let less = c.remove-device.ensures.len in let ok = c.loop-station.bench.ok.1 in let cap = c.remove-device.ensures.capacity in
     (c.insert-laid_back.ensures.in_place (omega arith)).1.0 ∙ (cap ∙ c.loop-station.invariant.capacity)
-
-pub returns-clause-opened : goal.returns-clause-opened
-returns-clause-opened g c = c.loop-station.invariant.opened
 
 all : (g : _) (c : goal.After-loop-station g) → c.loop-station.stations.tables.len ≡ length c.args.plan.now.stations
 all g c = let so_many = c.loop-station.invariant.so_many in let test = c.loop-station-test.false in let stop = c.loop-station.auto.station-end in let stations = c.stations-station-end.ensures.stations in omega arith
@@ -154,9 +145,3 @@ returns-clause-others g c =
     let n = length c.args.plan.now.stations in
     let none : n - c.loop-station.stations.tables.len ≡ 0 = let same = all g c in omega arith in
     ap (λ k. drop k c.loop-station.bench.items) none ∙ (c.loop-station.invariant.rest ∙ ap (λ k. drop k c.args.bench.now.items) (sym c.loop-station.invariant.so_many ∙ all g c))
-
-pub returns-clause-len : goal.returns-clause-len
-returns-clause-len g c = let len = c.loop-station.invariant.len in let so_many = c.loop-station.invariant.so_many in omega arith
-
-pub returns-clause-capacity : goal.returns-clause-capacity
-returns-clause-capacity g c = c.loop-station.invariant.capacity

@@ -27,12 +27,6 @@ loop-place-preserved g c =
       room = let room = own.room in let same = c.push_reserved.ensures.capacity in omega arith;
     }
 
-pub remove-requires : goal.remove-requires
-remove-requires g c = let test = c.loop-place-test.true in let len = c.loop-place.invariant.len in let many = c.requires.many in omega arith
-
-pub push_reserved-requires : goal.push_reserved-requires
-push_reserved-requires g c = let test = c.loop-place-test.true in let so_many = c.loop-place.invariant.so_many in let room = c.loop-place.invariant.room in omega arith
-
 -- all were taken
 all : (g : _) (c : goal.After-loop-place g) → c.loop-place._place ≡ c.args.count
 all g c = let test = c.loop-place-test.false in let stop = c.loop-place.auto._place-end in omega arith
@@ -42,6 +36,3 @@ returns-clause-spares g c = c.loop-place.invariant.taken ∙ ap (λ k. take k c.
 
 pub returns-clause-rest : goal.returns-clause-rest
 returns-clause-rest g c = c.loop-place.invariant.rest ∙ ap (λ k. drop k c.args.bench.now.items) (all g c)
-
-pub returns-clause-len : goal.returns-clause-len
-returns-clause-len g c = let len = c.loop-place.invariant.len in let same = all g c in omega arith

@@ -58,9 +58,6 @@ loop-station-preserved g c =
       ended_room = let old = own.ended_room in let same = (c.insert-laid_out.ensures.in_place ended_room).1.0 in omega arith;
     }
 
-pub loop-station-smaller : goal.loop-station-smaller
-loop-station-smaller g c = let len = c.in-Some.ensures.len in omega arith
-
 pub loop-station-init : goal.loop-station-init
 loop-station-init g c =
     let closed = c.args.closed.items in let long = c.args.closed.ok.0 in

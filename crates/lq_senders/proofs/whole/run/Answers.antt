@@ -7,31 +7,13 @@ use Rattle.lq_senders.proofs.Devices.{devices-same}
 use Rattle.lq_senders.proofs.Joins.{first-keep}
 use Rattle.lq_senders.proofs.whole.run.Goals as goal
 
-pub invariant_of-all : goal.invariant_of-all
-invariant_of-all g c = record { sendable = c.args.job.now.sendable }
-
-pub all_send-first-requires-clause-owner : goal.all_send-first-requires-clause-owner
-all_send-first-requires-clause-owner g c κs within = c.requires.owner
-
 pub all_send-first-requires-clause-first : goal.all_send-first-requires-clause-first
 all_send-first-requires-clause-first g c κs within =
     subst (λ (ts : List TableState). LaneStands c.args.job.now.plan.now c.args.job.now.infos.now 0 0 0 ts c.args.senders.first.seats.items) (sym c.as_slice.ensures.value) c.requires.first.0
 
-pub all_send-first-requires-clause-devices : goal.all_send-first-requires-clause-devices
-all_send-first-requires-clause-devices g c κs within = c.requires.devices
-
 pub all_send-first-requires-clause-others : goal.all_send-first-requires-clause-others
 all_send-first-requires-clause-others g c κs within =
     subst (λ (ts : List TableState). AreReadyLanes c.args.job.now.plan.now c.args.job.now.infos.now ts c.args.senders.others.items) (sym c.as_slice.ensures.value) c.requires.others
-
-pub end_run-requires-clause-others : goal.end_run-requires-clause-others
-end_run-requires-clause-others g c κs within = c.all_send-first.ensures.others
-
-pub close_all-requires-clause-none_yet : goal.close_all-requires-clause-none_yet
-close_all-requires-clause-none_yet g c κs within = c.requires.none_yet
-
-pub close_all-requires-clause-room : goal.close_all-requires-clause-room
-close_all-requires-clause-room g c κs within = c.requires.room
 
 pub end_run-requires-clause-first : goal.end_run-requires-clause-first
 end_run-requires-clause-first g c κs within = (
