@@ -10,6 +10,8 @@ pub mod Rounds
 pub mod EndingLemmas
 pub mod StepLemmas
 pub mod EndStepLemmas
+-- what a look at the words leaves and tells
+pub mod Looks
 -- what the calls' relations come to
 pub mod CallLaws
 pub mod EndLaws
