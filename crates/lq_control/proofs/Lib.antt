@@ -1,6 +1,8 @@
 -- The lemmas on purges.
 pub mod Purge
 pub mod Served
+-- what each call of control keeps
+pub mod Keeps
 pub mod Sole
 pub mod FinishLemmas
 pub mod FinishSteps

@@ -2,7 +2,7 @@ use Rattle.std.proofs.Common.{◌≡◌, true, sym, ap, ◌∙◌, subst}
 use Rattle.lq_model.specs.Account.{Resize}
 use Rattle.lq_model.specs.Alone.{changed}
 use Rattle.lq_model.specs.declared.plan.EventKind.TheVariants as kind
-use Rattle.lq_table.specs.Views.{first_account}
+use Rattle.lq_table.specs.Views.{View, FirstPart, HolderPart, first_account}
 use Rattle.lq_table.specs.Controls.{beginning_control}
 use Rattle.lq_table.specs.Sees.{view, setup, known}
 use Rattle.lq_table.specs.Solo.{IsSole, solo, heard, locked_to}
@@ -12,6 +12,7 @@ use Rattle.lq_ring.specs.Resized.{all_lost, having_resized}
 use Rattle.lq_control.proofs.Alone.{resize_alone, resized_same, stepped_at}
 use Rattle.lq_table.specs.Made.{Known}
 use Rattle.lq_control.specs.Steps.{TakesLock, with_control_begun}
+use Rattle.lq_control.proofs.Keeps.{keeps_begun, keeps_ended, keeps_resized, keeps_then, resized_from, seat_then}
 use Rattle.lq_control.proofs.StepLemmas.{both}
 use Rattle.lq_control.proofs.resizes.resize.Goals as goal
 
@@ -38,4 +39,32 @@ returns-clause-resizes g c =
       subst (λ (x : Known). TakesLock x (known c.take_lock.new.cpu)) (both (known c.begin_control.new.cpu) (with_control_begun first.made.0 (known c.args.cpu.now)) first.view first.made.1) c.take_lock.ensures.takes,
       c.resize_all-shrunk.ensures.resizes,
       (record { calm = record { share = e.kept.0.1; state = e.kept.1; settled = e.kept.0.8 }; sole = e.sole }, e.ends),
+    )
+
+pub returns-clause-same : goal.returns-clause-same
+returns-clause-same g c =
+    let v1 = view c.begin_control.new.cpu in let v2 = view c.take_lock.new.cpu in let v3 = view c.resize_all-shrunk.new.cpu in let got = c.take_lock.ensures.got in
+    let r = c.resize_all-shrunk.ensures.resizes in let len = c.args.len in let event = c.args.event in let lost = all_lost len r.held in
+    let b = c.begin_control.ensures in let t = c.take_lock.ensures.same.0 in let s = c.resize_all-shrunk.ensures.same.0 in let e = c.end_resize.ensures.kept.0 in
+    let v = view c.args.cpu.now in let last = view c.end_resize.new.cpu in
+    let k = keeps_then v v1 v3 (keeps_begun v v1 b.view) (keeps_resized len event lost got.0 v1 v2 v3 got.1 r.is) in
+    let all = keeps_then v v3 last k (keeps_ended c.resize_all-shrunk.new.cpu c.end_resize.new.cpu e) in
+    let c1 = c.begin_control.new.cpu in let c2 = c.take_lock.new.cpu in let c3 = c.resize_all-shrunk.new.cpu in
+    (seat_then c.args.cpu.now c1 c.end_resize.new.cpu b.same.0 (seat_then c1 c2 c.end_resize.new.cpu t (seat_then c2 c3 c.end_resize.new.cpu s e.0)), all.0, all.1)
+
+pub returns-clause-at : goal.returns-clause-at
+returns-clause-at g c =
+    let v1 = view c.begin_control.new.cpu in let v2 = view c.take_lock.new.cpu in let v3 = view c.resize_all-shrunk.new.cpu in let got = c.take_lock.ensures.got in
+    let r = c.resize_all-shrunk.ensures.resizes in let len = c.args.len in let event = c.args.event in let lost = all_lost len r.held in
+    let e = c.end_resize.ensures in let k = e.kept.0 in let at = e.at in
+    let ready = c.requires.at.2 in let first = c.begin_control.ensures.view in let turned = resized_from len event lost got.0 v1 v2 v3 got.1 r.is in
+    let control : (view c.end_resize.new.cpu).control ≡ (view c.args.cpu.now).control = k.4 ∙ (ap (λ (x : View). x.control) turned ∙ ap (λ (x : View). x.control) first) in (
+      at.0,
+      (
+        at.1,
+        k.2 ∙ (ap (λ (x : View). x.packets) turned ∙ (ap (λ (x : View). x.packets) first ∙ ready.1)),
+        k.3 ∙ (ap (λ (x : View). x.locks) turned ∙ (ap (λ (x : View). x.locks) first ∙ ready.2)),
+        ap (λ (x : HolderPart). x.resizing) at.2 ∙ ap (λ (x : View). x.holder.resizing) turned,
+      ),
+      (ap (λ (x : FirstPart). x.phase) control ∙ c.requires.active.0, ap (λ (x : FirstPart). x.purge) control ∙ c.requires.active.1),
     )

@@ -1,0 +1,54 @@
+-- What steps of control keep of what the first seat knows, one after another.
+use Rattle.std.proofs.Common.{◌≡◌, ℕ, List, ap, ◌∙◌}
+use Rattle.lq_table.specs.Controls.{beginning_control}
+use Rattle.lq_table.specs.Sees.{view, IsSameSeat}
+use Rattle.lq_table.specs.Told.{got_in_control}
+use Rattle.lq_table.specs.Views.{View, FirstPart, HolderPart}
+use Rattle.lq_table.specs.declared.shared.Cpu.{Cpu}
+use Rattle.lq_ring.specs.Resized.{having_resized}
+use Rattle.lq_run.specs.Runs.{IsElseKept}
+use Rattle.lq_control.specs.Control.{IsKeptByControl, KeepsDevice, with_lock_free}
+
+pub seat_then : {D : Type 0} (a b c : Cpu D) → IsSameSeat a b → IsSameSeat b c → IsSameSeat a c
+seat_then a b c x y = (y.0 ∙ x.0, y.1 ∙ x.1)
+
+abbrev pub Keeps : View → View → Type 0
+Keeps v w = IsKeptByControl v w × KeepsDevice v w
+
+pub keeps_then : (v w x : View) → Keeps v w → Keeps w x → Keeps v x
+keeps_then v w x a b = let k = a.0 in let l = b.0 in let d = a.1 in let e = b.1 in (
+  record { share = l.share ∙ k.share; turns = l.turns ∙ k.turns; first = l.first ∙ k.first; told = l.told ∙ k.told },
+  record { origin = e.origin ∙ d.origin; gone = e.gone ∙ d.gone },
+)
+
+-- a call of control begins
+pub keeps_begun : (v w : View) → w ≡ beginning_control v → Keeps v w
+keeps_begun v w e = (
+  record { share = ap (λ (y : View). y.share) e; turns = ap (λ (y : View). y.turns) e; first = ap (λ (y : View). y.control.first) e; told = ap (λ (y : View). y.whole.told) e },
+  record { origin = ap (λ (y : View). y.control.origin) e; gone = ap (λ (y : View). y.control.gone) e },
+)
+
+-- the run ends
+pub keeps_ended : {D : Type 0} (b a : Cpu D) → IsElseKept b a → Keeps (view b) (view a)
+keeps_ended b a e = (
+  record { share = e.1; turns = e.7; first = ap (λ (c : FirstPart). c.first) e.4; told = e.5 },
+  record { origin = ap (λ (c : FirstPart). c.origin) e.4; gone = ap (λ (c : FirstPart). c.gone) e.4 },
+)
+
+-- the run lock is got, and the rings are resized
+module _ (len event : ℕ) (lost : List ℕ) (d : HolderPart) (v w x : View) (got : w ≡ got_in_control d v) (turned : x ≡ having_resized len event lost w) where
+  pub resized_from : x ≡ having_resized len event lost (got_in_control d v)
+  resized_from = turned ∙ ap (having_resized len event lost) got
+
+  pub keeps_resized : Keeps v x
+  keeps_resized = let e = resized_from in (
+    record { share = ap (λ (y : View). y.share) e; turns = ap (λ (y : View). y.turns) e; first = ap (λ (y : View). y.control.first) e; told = ap (λ (y : View). y.whole.told) e },
+    record { origin = ap (λ (y : View). y.control.origin) e; gone = ap (λ (y : View). y.control.gone) e },
+  )
+
+-- the run lock of a deactivated station is released
+pub keeps_freed : (v w : View) → w ≡ with_lock_free v → Keeps v w
+keeps_freed v w e = (
+  record { share = ap (λ (y : View). y.share) e; turns = ap (λ (y : View). y.turns) e; first = ap (λ (y : View). y.control.first) e; told = ap (λ (y : View). y.whole.told) e },
+  record { origin = ap (λ (y : View). y.control.origin) e; gone = ap (λ (y : View). y.control.gone) e },
+)
