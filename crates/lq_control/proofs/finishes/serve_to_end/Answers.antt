@@ -1,11 +1,14 @@
-use Rattle.std.proofs.Common.{◌≡◌, rules, refl, None, [], sym, ap, ◌∙◌, subst}
+use Rattle.std.proofs.Common.{◌≡◌, rules, false, refl, None, [], sym, ap, ◌∙◌, subst}
 use Rattle.lq_model.specs.Account.{Account}
+use Rattle.lq_model.specs.declared.machine.Position.TheVariants.{Control}
 use Rattle.lq_table.specs.Controls.{beginning_control}
 use Rattle.lq_table.specs.Views.{View, FirstPart, SharePart, first_account}
-use Rattle.lq_table.specs.Sees.{view, known, setup}
+use Rattle.lq_table.specs.Sees.{view, known, setup, position, IsElseSame}
 use Rattle.lq_table.specs.Solo.{Solo, account_of, solo}
+use Rattle.lq_table.specs.declared.shared.Cpu.{Cpu}
 use Rattle.lq_ring.proofs.Seats.{seat_on}
 use Rattle.lq_qdisc.specs.Alone.{account_in}
+use Rattle.lq_qdisc.specs.Sends.{IsReadyToSend}
 use Rattle.lq_qdisc.proofs.AloneSteps.{account_at}
 use Rattle.lq_control.specs.Control.{IsServed}
 use Rattle.lq_control.specs.EndSteps.{LooksBy, none_yet}
@@ -15,6 +18,8 @@ use Rattle.lq_control.specs.declared.finishes.Seen.{Seen}
 use Rattle.lq_control.specs.declared.finishes.Seen.TheVariants as seen
 use Rattle.lq_control.proofs.EndStepLemmas.{serves_more, serves_to_end}
 use Rattle.lq_control.proofs.EndingLemmas.{alike_further, alike_same}
+use Rattle.lq_control.proofs.Keeps.{seat_then}
+use Rattle.lq_control.proofs.Looks.{IsLooked}
 use Rattle.lq_control.proofs.Served.{served_none, served_then}
 use Rattle.lq_control.proofs.FinishSteps.{ready_kept, served_begun, served_looked, served_returned, solo_looked}
 use Rattle.lq_control.proofs.finishes.serve_to_end.Goals as goal
@@ -22,6 +27,16 @@ use Rattle.lq_control.proofs.finishes.serve_to_end.Goals as goal
 -- what was served, up to this look
 served_to_look : (v0 v1 v2 v3 : View) → IsServed v0 v1 → v2 ≡ beginning_control v1 → IsLook v2 v3 → IsServed v0 v3
 served_to_look v0 v1 v2 v3 served begun look = served_then v0 v1 v3 served (served_then v1 v2 v3 (served_begun v1 v2 begun) (served_looked v2 v3 look))
+
+-- where it stands then
+looked_at : {D : Type 0} (a b c : Cpu D) → IsElseSame a b → view b ≡ beginning_control (view a) → IsLooked b c → IsReadyToSend a → (view a).place.raised ≡ false
+    → (position c ≡ Control false) × IsReadyToSend c × ((view c).place.raised ≡ false)
+looked_at a b c same e look ready low =
+    let ready2 = ready_kept a b same (ap (λ (x : View). x.packets) e) (ap (λ (x : View). x.locks) e) (ap (λ (x : View). x.holder.resizing) e) ready in let f = look.1.1 in (
+      ap (λ (x : View). x.place.position) f ∙ ap (λ (x : View). x.place.position) e,
+      ready_kept b c look.0 (ap (λ (x : View). x.packets) f) (ap (λ (x : View). x.locks) f) (ap (λ (x : View). x.holder.resizing) f) ready2,
+      ap (λ (x : View). x.place.raised) f ∙ (ap (λ (x : View). x.place.raised) e ∙ low),
+    )
 
 pub loop-init : goal.loop-init
 loop-init g c = let v = view c.args.cpu.now in record {
@@ -46,8 +61,7 @@ irq-requires-clause-seat g c _ _ =
 pub irq-requires-clause-ready : goal.irq-requires-clause-ready
 irq-requires-clause-ready g c _ _ =
     let i = c.loop.invariant in let b = c.begin_control.ensures in let p = c.look.ensures.same in let e = c.end_control.ensures in
-    let ready2 = ready_kept c.loop.cpu c.begin_control.new.cpu b.same (ap (λ (x : View). x.packets) b.view) (ap (λ (x : View). x.locks) b.view) (ap (λ (x : View). x.holder.resizing) b.view) i.ready in
-    let ready3 = ready_kept c.begin_control.new.cpu c.look.new.cpu p.0 (ap (λ (x : View). x.packets) p.1.1) (ap (λ (x : View). x.locks) p.1.1) (ap (λ (x : View). x.holder.resizing) p.1.1) ready2 in
+    let ready3 = (looked_at c.loop.cpu c.begin_control.new.cpu c.look.new.cpu b.same b.view p i.ready i.low).1 in
     ready_kept c.look.new.cpu c.end_control.new.cpu e.same (ap (λ (x : View). x.packets) e.view) (ap (λ (x : View). x.locks) e.view) (ap (λ (x : View). x.holder.resizing) e.view) ready3
 
 pub loop-preserved : goal.loop-preserved
@@ -82,22 +96,24 @@ loop-preserved g c =
           i.on b.view b.made (subst (λ (x : Seen). LooksBy k x (known c.begin_control.new.cpu) (known c.look.new.cpu)) c.in-Going.is l.looks) e.view e.made n.wakes d.drains;
     }
 
-pub returns-in-Ended-clause-alone : goal.returns-in-Ended-clause-alone
-returns-in-Ended-clause-alone g c = λ h.
-    let infos = c.args.shared.now.infos.now in let start : Account = first_account (setup c.args.shared.now) in let v0 = view c.args.cpu.now in
-    subst (λ (s : Solo). IsEndedAlike infos start (solo v0) s) (sym (solo_looked (view c.loop.cpu) (view c.begin_control.new.cpu) (view c.look.new.cpu) c.begin_control.ensures.view c.look.ensures.same.1)) (c.loop.invariant.alike h)
+pub returns-in-Ended : goal.returns-in-Ended
+returns-in-Ended g c =
+    let i = c.loop.invariant in let b = c.begin_control.ensures in let l = c.look.ensures in let c0 = c.args.cpu.now in let c1 = c.loop.cpu in let c2 = c.begin_control.new.cpu in let c3 = c.look.new.cpu in record {
+      same = seat_then c0 c1 c3 i.same (seat_then c1 c2 c3 b.same.0 l.same.0.0);
+      at = looked_at c1 c2 c3 b.same b.view l.same i.ready i.low;
+      kept = l.kept;
+      shows = subst (λ (x : Seen). Shows x (view c3)) c.in-Ended.is l.shows;
+      alone = λ h. subst (λ (s : Solo). IsEndedAlike c.args.shared.now.infos.now (first_account (setup c.args.shared.now)) (solo (view c0)) s) (sym (solo_looked (view c1) (view c2) (view c3) b.view l.same.1)) (i.alike h);
+      serves = serves_to_end (setup c.args.shared.now) c.look.result seen.Ended (known c0) (known c1) (known c2) (known c3) c.in-Ended.is i.on b.view b.made l.looks (served_to_look (view c0) (view c1) (view c2) (view c3) i.served b.view l.same.1);
+    }
 
-pub returns-in-Hung-clause-alone : goal.returns-in-Hung-clause-alone
-returns-in-Hung-clause-alone g c = λ h.
-    let infos = c.args.shared.now.infos.now in let start : Account = first_account (setup c.args.shared.now) in let v0 = view c.args.cpu.now in
-    subst (λ (s : Solo). IsEndedAlike infos start (solo v0) s) (sym (solo_looked (view c.loop.cpu) (view c.begin_control.new.cpu) (view c.look.new.cpu) c.begin_control.ensures.view c.look.ensures.same.1)) (c.loop.invariant.alike h)
-
-pub returns-in-Ended-clause-serves : goal.returns-in-Ended-clause-serves
-returns-in-Ended-clause-serves g c = let i = c.loop.invariant in let b = c.begin_control.ensures in let l = c.look.ensures in
-    serves_to_end (setup c.args.shared.now) c.look.result seen.Ended (known c.args.cpu.now) (known c.loop.cpu) (known c.begin_control.new.cpu) (known c.look.new.cpu) c.in-Ended.is i.on b.view b.made l.looks
-    (served_to_look (view c.args.cpu.now) (view c.loop.cpu) (view c.begin_control.new.cpu) (view c.look.new.cpu) i.served b.view l.same.1)
-
-pub returns-in-Hung-clause-serves : goal.returns-in-Hung-clause-serves
-returns-in-Hung-clause-serves g c = let i = c.loop.invariant in let b = c.begin_control.ensures in let l = c.look.ensures in
-    serves_to_end (setup c.args.shared.now) c.look.result seen.Hung (known c.args.cpu.now) (known c.loop.cpu) (known c.begin_control.new.cpu) (known c.look.new.cpu) c.in-Hung.is i.on b.view b.made l.looks
-    (served_to_look (view c.args.cpu.now) (view c.loop.cpu) (view c.begin_control.new.cpu) (view c.look.new.cpu) i.served b.view l.same.1)
+pub returns-in-Hung : goal.returns-in-Hung
+returns-in-Hung g c =
+    let i = c.loop.invariant in let b = c.begin_control.ensures in let l = c.look.ensures in let c0 = c.args.cpu.now in let c1 = c.loop.cpu in let c2 = c.begin_control.new.cpu in let c3 = c.look.new.cpu in record {
+      same = seat_then c0 c1 c3 i.same (seat_then c1 c2 c3 b.same.0 l.same.0.0);
+      at = looked_at c1 c2 c3 b.same b.view l.same i.ready i.low;
+      kept = l.kept;
+      shows = subst (λ (x : Seen). Shows x (view c3)) c.in-Hung.is l.shows;
+      alone = λ h. subst (λ (s : Solo). IsEndedAlike c.args.shared.now.infos.now (first_account (setup c.args.shared.now)) (solo (view c0)) s) (sym (solo_looked (view c1) (view c2) (view c3) b.view l.same.1)) (i.alike h);
+      serves = serves_to_end (setup c.args.shared.now) c.look.result seen.Hung (known c0) (known c1) (known c2) (known c3) c.in-Hung.is i.on b.view b.made l.looks (served_to_look (view c0) (view c1) (view c2) (view c3) i.served b.view l.same.1);
+    }
