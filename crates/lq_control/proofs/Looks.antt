@@ -6,7 +6,7 @@ use Rattle.lq_model.specs.Control.{found_inside}
 use Rattle.lq_table.specs.AtRest.{IsSoleAtRest, KnowsRest}
 use Rattle.lq_table.specs.Controls.{finding}
 use Rattle.lq_table.specs.Made.{◌⊳◌, did_load_lock, did_load_state}
-use Rattle.lq_table.specs.Sees.{view, known, IsElseSame}
+use Rattle.lq_table.specs.Sees.{view, known, position, IsElseSame}
 use Rattle.lq_table.specs.Solo.{IsSole, SeesState, account_of}
 use Rattle.lq_table.specs.Told.{at_rest, is_set, looking}
 use Rattle.lq_table.specs.Views.{View, Setup}
@@ -42,6 +42,9 @@ module _ {D : Type 0} where
 
   pub looked_still : (b a : Cpu D) → IsElseSame b a × (view a ≡ view b) → IsLooked b a
   looked_still b a s = (s.0, look_none (view b) (view a) s.1)
+
+  pub looked_state : (n : ℕ) (h : Bool) (b a : Cpu D) → position b ≡ Control h → IsElseSame b a → view a ≡ looking n (view b) → IsLooked b a
+  looked_state n h b a at same e = looked_still b a (same, e ∙ control_looked n h (view b) at)
 
   pub looked_inside : (n : ℕ) (b a : Cpu D) → IsActiveOrPurged (view b) → IsElseSame b a → view a ≡ finding n (view b) → IsLooked b a
   looked_inside n b a settled same e = (same, look_found n (view b) (view a) settled e)

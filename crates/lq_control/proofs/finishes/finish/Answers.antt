@@ -2,7 +2,7 @@ use Rattle.std.proofs.Common.{◌≡◌, ℕ, ◌<◌, Bool, List, ⊎_elim, inl
 use Rattle.std.specs.Prelude.{is_some, if◌then◌else◌}
 use Rattle.lq_model.specs.Account.{Account, held}
 use Rattle.lq_model.specs.declared.fate.Info.{Info}
-use Rattle.lq_table.specs.Views.{View, Setup, SharePart, first_account}
+use Rattle.lq_table.specs.Views.{View, Setup, FirstPart, SharePart, first_account}
 use Rattle.lq_table.specs.Sees.{view, known, setup}
 use Rattle.lq_table.specs.Solo.{Solo, account_of, solo}
 use Rattle.lq_qdisc.specs.Alone.{IsAlone, account_in}
@@ -12,9 +12,9 @@ use Rattle.lq_control.specs.Steps.{with_control_ended}
 use Rattle.lq_control.specs.EndSteps.{ServesToEnd}
 use Rattle.lq_control.proofs.StepLemmas.{both}
 use Rattle.lq_control.specs.Ending.{IsEndedAlike, IsFinishedAlone}
-use Rattle.lq_control.specs.Finish.{AreAllDone, AreAllStops, Hangs, IsOver, IsFinished, Shows, hung_cause}
+use Rattle.lq_control.specs.Finish.{AreAllDone, AreAllStops, Hangs, IsActiveOrPurged, IsOver, IsFinished, Shows, hung_cause}
 use Rattle.lq_control.proofs.EndingLemmas.{AreValues, over_finishes, purged_finishes}
-use Rattle.lq_control.proofs.FinishSteps.{finished, finished_purged, made_kept}
+use Rattle.lq_control.proofs.FinishSteps.{finished, finished_purged, made_kept, ready_kept, sole_kept}
 use Rattle.lq_control.proofs.finishes.finish.Given as given
 use Rattle.lq_control.proofs.finishes.finish.Goals as goal
 
@@ -124,3 +124,18 @@ returns-clause-finishes g c = let k = setup c.args.shared.now in let e = c.end_c
     both (known c.end_control.new.cpu) (with_control_ended e.made.0 over_) e.view e.made.1,
   ),
 )
+
+pub returns-then-serve_to_end-clause-at : goal.returns-then-serve_to_end-clause-at
+returns-then-serve_to_end-clause-at g c = let at = c.purge_hung.ensures.at in (at.0, c.purge_hung.ensures.raised ∙ c.serve_to_end.ensures.at.2, at.1)
+
+pub returns-clause-at : goal.returns-clause-at
+returns-clause-at g c = let at = c.serve_to_end.ensures.at in let e = c.end_control.ensures in (
+  ap (λ (x : View). x.place.position) e.view,
+  ap (λ (x : View). x.place.raised) e.view ∙ at.2,
+  ready_kept c.serve_to_end.new.cpu c.end_control.new.cpu e.same (ap (λ (x : View). x.packets) e.view) (ap (λ (x : View). x.locks) e.view) (ap (λ (x : View). x.holder.resizing) e.view) at.1,
+)
+
+pub serve_to_end-requires-clause-sole : goal.serve_to_end-requires-clause-sole
+serve_to_end-requires-clause-sole g c _ _ = let k = c.send_all_left.ensures.kept in let sole = c.requires.sole in
+    (sole_kept (view c.args.cpu.now) (view c.send_all_left.new.cpu) k.share k.told sole.0,
+     subst (λ (x : FirstPart). IsActiveOrPurged (record (view c.send_all_left.new.cpu) { control = x })) (sym k.control) sole.1)
