@@ -1,9 +1,12 @@
 use Rattle.std.proofs.Common.{ap, ◌∙◌, sym}
-use Rattle.lq_table.specs.Views.{FirstPart}
+use Rattle.lq_table.specs.Views.{View, FirstPart}
 use Rattle.lq_table.specs.Sees.{view, known, setup}
 use Rattle.lq_table.specs.Solo.{solo}
 use Rattle.lq_qdisc.proofs.ViewLemmas.{interrupts_view}
 use Rattle.lq_control.specs.Alone.{unmarked}
+use Rattle.lq_control.proofs.FinishSteps.{ready_kept, served_begun}
+use Rattle.lq_control.proofs.Keeps.{seat_then}
+use Rattle.lq_control.proofs.Served.{served_none, served_then}
 use Rattle.lq_control.proofs.StepLemmas.{round_served}
 use Rattle.lq_control.proofs.Alone.{off_served}
 use Rattle.lq_control.proofs.drains.serves_or_is_clear.Goals as goal
@@ -26,3 +29,30 @@ returns-then-raised-clause-again g c = λ _. let e = c.begin_control.ensures.mad
         fates = c.softirq.ensures.fates;
       };
     }) c.begin_control.ensures.view e.1
+
+pub returns-then-raised-clause-same : goal.returns-then-raised-clause-same
+returns-then-raised-clause-same g c = seat_then c.args.cpu.now c.softirq.new.cpu c.begin_control.new.cpu c.softirq.ensures.kept.seat c.begin_control.ensures.same.0
+
+pub returns-then-raised-clause-served : goal.returns-then-raised-clause-served
+returns-then-raised-clause-served g c = let v1 = view c.softirq.new.cpu in let v2 = view c.begin_control.new.cpu in let k = c.softirq.ensures.kept in let s = c.softirq.ensures.still in
+    served_then (view c.args.cpu.now) v1 v2 (record {
+      kept = record { share = k.share; turns = s.turns; first = ap (λ (x : FirstPart). x.first) k.control; told = k.told };
+      control = k.control;
+      trail = s.trail;
+      fates = c.softirq.ensures.fates;
+    }) (served_begun v1 v2 c.begin_control.ensures.view)
+
+pub returns-then-raised-clause-at : goal.returns-then-raised-clause-at
+returns-then-raised-clause-at g c = let b = c.begin_control.ensures in (
+  ap (λ (x : View). x.place.position) b.view,
+  ready_kept c.softirq.new.cpu c.begin_control.new.cpu b.same (ap (λ (x : View). x.packets) b.view) (ap (λ (x : View). x.locks) b.view) (ap (λ (x : View). x.holder.resizing) b.view) c.softirq.ensures.ready,
+)
+
+pub returns-clause-served : goal.returns-clause-served
+returns-clause-served g c = served_none (view c.args.cpu.now) (view c.is_clear.new.cpu) c.is_clear.ensures.same.1
+
+pub returns-clause-at : goal.returns-clause-at
+returns-clause-at g c = let s = c.is_clear.ensures.same in let e = s.1 in (
+  ap (λ (x : View). x.place.position) e ∙ c.requires.at.0,
+  ready_kept c.args.cpu.now c.is_clear.new.cpu s.0 (ap (λ (x : View). x.packets) e) (ap (λ (x : View). x.locks) e) (ap (λ (x : View). x.holder.resizing) e) c.requires.at.2,
+)
