@@ -1,13 +1,16 @@
 -- What steps of control keep of what the first seat knows, one after another.
 use Rattle.std.proofs.Common.{◌≡◌, ℕ, List, ap, ◌∙◌}
-use Rattle.lq_table.specs.Controls.{beginning_control}
+use Rattle.lq_model.specs.declared.fate.Cause.{Cause}
+use Rattle.lq_model.specs.declared.machine.Phase.{Phase}
+use Rattle.lq_model.specs.declared.machine.Phase.TheVariants.{Quiet}
+use Rattle.lq_table.specs.Controls.{beginning_control, closing}
 use Rattle.lq_table.specs.Sees.{view, IsSameSeat}
 use Rattle.lq_table.specs.Told.{got_in_control}
 use Rattle.lq_table.specs.Views.{View, FirstPart, HolderPart}
 use Rattle.lq_table.specs.declared.shared.Cpu.{Cpu}
 use Rattle.lq_ring.specs.Resized.{having_resized}
 use Rattle.lq_run.specs.Runs.{IsElseKept}
-use Rattle.lq_control.specs.Control.{IsKeptByControl, KeepsDevice, with_lock_free}
+use Rattle.lq_control.specs.Control.{IsKeptByControl, IsPurged, KeepsDevice, phased, with_lock_free}
 
 pub seat_then : {D : Type 0} (a b c : Cpu D) → IsSameSeat a b → IsSameSeat b c → IsSameSeat a c
 seat_then a b c x y = (y.0 ∙ x.0, y.1 ∙ x.1)
@@ -49,6 +52,20 @@ module _ (len event : ℕ) (lost : List ℕ) (d : HolderPart) (v w x : View) (go
 -- the run lock of a deactivated station is released
 pub keeps_freed : (v w : View) → w ≡ with_lock_free v → Keeps v w
 keeps_freed v w e = (
+  record { share = ap (λ (y : View). y.share) e; turns = ap (λ (y : View). y.turns) e; first = ap (λ (y : View). y.control.first) e; told = ap (λ (y : View). y.whole.told) e },
+  record { origin = ap (λ (y : View). y.control.origin) e; gone = ap (λ (y : View). y.control.gone) e },
+)
+
+-- a purge
+pub keeps_purged : (c : Cause) (purged : List ℕ) (v w : View) → IsPurged c purged v w → Keeps v w
+keeps_purged c purged v w p = let e = p.is in (
+  record { share = ap (λ (y : View). y.share) e; turns = ap (λ (y : View). y.turns) e; first = ap (λ (y : View). y.control.first) e; told = ap (λ (y : View). y.whole.told) e ∙ p.told },
+  record { origin = ap (λ (y : View). y.control.origin) e; gone = ap (λ (y : View). y.control.gone) e },
+)
+
+-- the station is deactivated, and the run lock got once no call is inside
+pub keeps_closed : (event : ℕ) (p : Phase) (d : HolderPart) (v w : View) → w ≡ got_in_control d (phased Quiet p (closing event v)) → Keeps v w
+keeps_closed event p d v w e = (
   record { share = ap (λ (y : View). y.share) e; turns = ap (λ (y : View). y.turns) e; first = ap (λ (y : View). y.control.first) e; told = ap (λ (y : View). y.whole.told) e },
   record { origin = ap (λ (y : View). y.control.origin) e; gone = ap (λ (y : View). y.control.gone) e },
 )
