@@ -176,7 +176,7 @@ station_known d v0 v1 v2 look got known = ap (λ (h : HolderPart). h.station) kn
 pub solo_looked : (v w x : View) → w ≡ beginning_control v → IsLook w x → solo x ≡ solo v
 solo_looked v w x e (p, f) = ap solo f ∙ ap solo e
 
-control_at : (h : Bool) (v : View) → v.place.position ≡ Control h → (f : View → View) → f (record v { place = record v.place { position = Control h } }) ≡ record v { place = record v.place { position = Control h } } → f v ≡ v
+pub control_at : (h : Bool) (v : View) → v.place.position ≡ Control h → (f : View → View) → f (record v { place = record v.place { position = Control h } }) ≡ record v { place = record v.place { position = Control h } } → f v ≡ v
 control_at h v e f same = (λ j. f (record v { place = record v.place { position = e j } })) ∙ (same ∙ (λ j. record v { place = record v.place { position = sym e j } }))
 
 pub control_looked : (n : ℕ) (h : Bool) (v : View) → v.place.position ≡ Control h → looking n v ≡ v

@@ -1,26 +1,64 @@
-use Rattle.std.proofs.Common.{rules, true, false, sym, subst}
+use Rattle.std.proofs.Common.{◌≡◌, rules, true, false, ℕ, List, [], ◌∷◌, Option, Some, None, refl, sym, ap, ◌∙◌, subst}
+use Rattle.lq_device.specs.Station.{StationState}
+use Rattle.lq_model.specs.declared.machine.Position.{Position}
+use Rattle.lq_model.specs.declared.machine.Position.TheVariants.{Control}
+use Rattle.lq_ring.proofs.Seats.{seat_on}
 use Rattle.lq_run.specs.Tries.{TriesOnce}
 use Rattle.lq_table.specs.Made.{Known}
-use Rattle.lq_table.specs.Sees.{known}
+use Rattle.lq_table.specs.Rule.{shown, units_of}
+use Rattle.lq_table.specs.Sees.{view, known}
+use Rattle.lq_table.specs.Solo.{IsAccounts, IsSole, locked_to, solo}
+use Rattle.lq_table.specs.Told.{IsKnownSlot, finding_locked, got, got_in_control}
+use Rattle.lq_table.specs.Views.{View, HolderPart}
 use Rattle.lq_control.specs.Steps.{TriesLock, not_tried, held}
+use Rattle.lq_control.proofs.FinishSteps.{control_at}
+use Rattle.lq_control.proofs.Keeps.{seat_then}
 use Rattle.lq_control.proofs.StepLemmas.{both}
 use Rattle.lq_control.proofs.waits.take_lock.Goals as goal
 
+-- what the slot holds
+abbrev station_in : List (ℕ × Option StationState) → Option StationState
+station_in [] = None
+station_in (s ∷ more) = s.1
+
+got_control : (d : HolderPart) (v w x : View) → w ≡ v → v.place.position ≡ Control false → x ≡ got d w → x ≡ got_in_control d v
+got_control d v w x same at e = e ∙ (ap (got d) same ∙ ap (λ (p : Position). got d (record v { place = record v.place { position = p } })) at)
+
 pub loop-init : goal.loop-init
-loop-init g c = let tried : TriesLock (known c.args.cpu.now) (known c.args.cpu.now) = not_tried in search rules
+loop-init g c = record { can = (search rules); ends = (search rules); seat = c.requires.seat; still = ((refl, refl), refl, refl, refl); same = refl; tries = not_tried }
 
 pub loop-preserved : goal.loop-preserved
 loop-preserved g c =
-    let once : TriesOnce false (known c.loop.cpu) (known c.try_run_lock.new.cpu) = subst (λ b. TriesOnce b (known c.loop.cpu) (known c.try_run_lock.new.cpu)) c.if-try_run_lock.false c.try_run_lock.ensures.tries in
-    let tried : TriesLock (known c.args.cpu.now) (known c.try_run_lock.new.cpu) = held (known c.loop.cpu) (known c.try_run_lock.new.cpu) c.loop.invariant.tries once in search rules
+    let i = c.loop.invariant in let t = c.try_run_lock.ensures in let a = c.args.cpu.now in let b = c.loop.cpu in let w = c.try_run_lock.new.cpu in let h = t.held c.if-try_run_lock.false in
+    let same : view w ≡ view a = h.0 ∙ (control_at false (view b) (ap (λ (x : View). x.place.position) i.same ∙ c.requires.at) finding_locked refl ∙ i.same) in record {
+      can = (search rules);
+      ends = (search rules);
+      seat = seat_on c.args.shared.now b w i.seat t.seat.0 (ap (λ (x : View). x.share) (same ∙ sym i.same));
+      still = (seat_then a b w i.still.0 t.seat.0, t.seat.1 ∙ i.still.1, t.seat.2 ∙ i.still.2, h.1 ∙ i.still.3);
+      same = same;
+      tries = held (known b) (known w) i.tries (subst (λ got. TriesOnce got (known b) (known w)) c.if-try_run_lock.false t.tries);
+    }
 
-pub returns-then-try_run_lock-clause-takes : goal.returns-then-try_run_lock-clause-takes
-returns-then-try_run_lock-clause-takes g c =
-    let once : TriesOnce true (known c.loop.cpu) (known c.try_run_lock.new.cpu) = subst (λ b. TriesOnce b (known c.loop.cpu) (known c.try_run_lock.new.cpu)) c.if-try_run_lock.true c.try_run_lock.ensures.tries in
-    let moved = both (known c.move_station.new.cpu) (known c.try_run_lock.new.cpu) c.move_station.ensures.seat.1 c.move_station.ensures.made in record {
-      last = known c.loop.cpu;
-      tries = c.loop.invariant.tries;
-      gets = subst (λ (x : Known). TriesOnce true (known c.loop.cpu) x) (sym moved) once;
-      units = (search rules);
-      accounts = (search rules);
+pub returns-then-try_run_lock : goal.returns-then-try_run_lock
+returns-then-try_run_lock g c =
+    let i = c.loop.invariant in let t = c.try_run_lock.ensures in let m = c.move_station.ensures in let yes_ = c.if-try_run_lock.true in let h = t.got yes_ in
+    let a = c.args.cpu.now in let b = c.loop.cpu in let w = c.try_run_lock.new.cpu in let x = c.move_station.new.cpu in
+    let e : view x ≡ got_in_control h.0 (view a) = m.seat.1 ∙ got_control h.0 (view a) (view b) (view w) i.same c.requires.at h.1 in
+    let units = λ (first : (view a).control.first ≡ true). ap (λ (y : View). y.holder.units) e ∙ (h.9 (ap (λ (y : View). y.control.first) i.same ∙ first) ∙ ap (λ (y : View). units_of y.trail) i.same) in
+    let accounts = λ (sole : IsSole (view a)). subst IsAccounts (sym m.seat.1) ((t.sole (subst IsSole (sym i.same) sole)).2 yes_) in record {
+      same = (seat_then a b x i.still.0 (seat_then b w x t.seat.0 m.seat.0), m.seat.2 ∙ (t.seat.2 ∙ i.still.2));
+      got = (h.0, e, h.3, h.4, h.5, h.6, h.7, subst (λ (y : View). IsKnownSlot y.share.about h.0.slot) i.same h.8);
+      units = units;
+      station = (
+        m.moved.1 ∙ ap (λ (s : Option StationState). (0, s) ∷ []) (t.seat.1 ∙ (i.still.1 ∙ c.requires.empty.1)),
+        sym (ap station_in m.moved.0) ∙ (ap station_in h.2 ∙ ap (λ (y : View). Some (shown y.holder)) (sym e)),
+      );
+      takes = record {
+        last = known b;
+        tries = i.tries;
+        gets = subst (λ (k : Known). TriesOnce true (known b) k) (sym (both (known x) (known w) m.seat.1 m.made)) (subst (λ got. TriesOnce got (known b) (known w)) yes_ t.tries);
+        units = units;
+        accounts = accounts;
+      };
+      sole = λ sole. (ap solo m.seat.1 ∙ ((t.sole (subst IsSole (sym i.same) sole)).0 ∙ ap (λ (y : View). locked_to true (solo y)) i.same), accounts sole);
     }
