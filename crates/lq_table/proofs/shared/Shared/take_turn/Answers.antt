@@ -1,0 +1,24 @@
+use Rattle.std.proofs.Common.{ℕ, ◌*◌, ◌∷◌, refl, sym, ap, ◌∙◌, slice_index, eq-eqb, ne_eqb}
+use Rattle.lq_table.specs.Made.{did_take_turn}
+use Rattle.lq_table.specs.Sees.{view, steps}
+use Rattle.lq_table.specs.Told.{bringing}
+use Rattle.lq_table.proofs.InfosRead.{no_info, owner_read, rank_read}
+use Rattle.lq_table.proofs.shared.Shared.take_turn.Goals as goal
+
+pub returns-then-found-rank : goal.returns-then-found-rank
+returns-then-found-rank g c =
+    let infos = c.args.self.now.infos.now in let n = c.args.n in let v = view c.args.cpu.now in let t = c.take_turn_of-found.ensures in let is = c.if-found-rank.true in
+    let owner = owner_read infos n no_info c.requires.packet.0 in let rank = rank_read infos n no_info c.requires.packet.0 in record {
+      same = ((t.same.0, t.same.1), refl, refl, t.same.2);
+      turn = (sym (t.found ∙ ap (slice_index v.turns) owner) ∙ (is ∙ ap (λ (r : ℕ). 2 * r) rank), t.taken is ∙ (λ j. bringing n (owner j) (rank j) v));
+      made = t.made ∙ (λ j. did_take_turn (owner j) (rank j) (eq-eqb _ _ is j) ∷ steps c.args.cpu.now);
+    }
+
+pub returns-else-found-rank : goal.returns-else-found-rank
+returns-else-found-rank g c =
+    let infos = c.args.self.now.infos.now in let n = c.args.n in let v = view c.args.cpu.now in let t = c.take_turn_of-found.ensures in let apart = c.if-found-rank.false in
+    let owner = owner_read infos n no_info c.requires.packet.0 in let rank = rank_read infos n no_info c.requires.packet.0 in record {
+      same = ((t.same.0, t.same.1), refl, refl, t.same.2);
+      turn = (t.found ∙ ap (slice_index v.turns) owner, λ is. apart (is ∙ ap (λ (r : ℕ). 2 * r) (sym rank)), t.other apart);
+      made = t.made ∙ (λ j. did_take_turn (owner j) (rank j) (ne_eqb _ _ apart j) ∷ steps c.args.cpu.now);
+    }
