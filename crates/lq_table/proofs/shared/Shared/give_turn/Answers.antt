@@ -2,7 +2,7 @@ use Rattle.std.proofs.Common.{◌∷◌, refl, ◌∙◌}
 use Rattle.lq_table.specs.Made.{did_give_turn}
 use Rattle.lq_table.specs.Sees.{view, steps}
 use Rattle.lq_table.specs.Told.{giving_turn}
-use Rattle.lq_table.proofs.InfosRead.{no_info, owner_read, rank_read}
+use Rattle.lq_table.proofs.CodeReads.{no_info, owner_read, rank_read}
 use Rattle.lq_table.proofs.shared.Shared.give_turn.Goals as goal
 
 pub returns : goal.returns

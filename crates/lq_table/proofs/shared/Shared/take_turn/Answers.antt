@@ -2,7 +2,7 @@ use Rattle.std.proofs.Common.{ℕ, ◌*◌, ◌∷◌, refl, sym, ap, ◌∙◌,
 use Rattle.lq_table.specs.Made.{did_take_turn}
 use Rattle.lq_table.specs.Sees.{view, steps}
 use Rattle.lq_table.specs.Told.{bringing}
-use Rattle.lq_table.proofs.InfosRead.{no_info, owner_read, rank_read}
+use Rattle.lq_table.proofs.CodeReads.{no_info, owner_read, rank_read}
 use Rattle.lq_table.proofs.shared.Shared.take_turn.Goals as goal
 
 pub returns-then-found-rank : goal.returns-then-found-rank
