@@ -1,12 +1,12 @@
 -- One more queue, and one more band.
-use Rattle.std.proofs.Common.{◌≡◌, ℕ, suc, ◌+◌, List, subst, arith, ap, ⊎_elim, Bool, ◌∙◌}
+use Rattle.std.proofs.Common.{◌≡◌, ℕ, suc, ◌+◌, List, subst, arith, ap, ⊎_elim, Bool, true, false, refl, ◌∙◌}
 use Rattle.lq_table.specs.Views.{View, Setup}
-use Rattle.lq_table.specs.Told.{looking, passing, scheduling, waking}
+use Rattle.lq_table.specs.Told.{is_set, looking, passing, scheduling, waking}
 use Rattle.lq_table.specs.Made.{Known, Made, ◌⊳◌, did_clear_draining, did_clear_missed, did_load_state, did_store_stop}
 use Rattle.lq_ring.specs.Steps.{FindsSlotEmpty}
 use Rattle.lq_qdisc.specs.Sends.{Wakes, WakesBelow}
 use Rattle.lq_qdisc.specs.declared.answers.Through.TheVariants.{Yes}
-use Rattle.lq_qdisc.specs.Steps.{EmptyBelow, HandsBy, SendsBy, both_cleared, hung_stored, with_state_loaded}
+use Rattle.lq_qdisc.specs.Steps.{EmptyBelow, HandsBy, IsDueBy, SendsBy, both_cleared, hung_stored, with_state_loaded}
 
 pub bands_more : (k : Setup) (band : ℕ) (old mid new : Known) → EmptyBelow k band old mid → FindsSlotEmpty k band mid new → EmptyBelow k (band + 1) old new
 bands_more k band old mid new h e = let one : suc band ≡ band + 1 = omega arith in subst (λ (n : ℕ). EmptyBelow k n old new) one (mid, h, e)
@@ -31,3 +31,11 @@ cleared_from state a b m seen loaded passed cleared = λ j. record {
   view = (passed ∙ ap (λ (v : View). passing (passing v)) seen) j;
   steps = (cleared ∙ ap (λ (xs : List Made). xs ⊳ did_clear_missed ⊳ did_clear_draining) loaded) j;
 }
+
+-- what no load of the state and no clearing of SCHED changes is as it was where a soft interrupt has looked whether it is due
+pub due_keeps : {X : Type 0} (part : View → X) (due : Bool) (old new : Known) → ((first : ℕ) (v : View) → part (passing (looking first v)) ≡ part v)
+    → ((first second : ℕ) (v : View) → part (looking second (passing (looking first v))) ≡ part v) → IsDueBy due old new → part new.view ≡ part old.view
+due_keeps part due old new once twice d = keeps (is_set 2 d.0.first) refl where
+  keeps : (on : Bool) → is_set 2 d.0.first ≡ on → part new.view ≡ part old.view
+  keeps false off = ap part (d.0.active off).1 ∙ once d.0.first old.view
+  keeps true on = let x = d.0.deactivated on in ap part x.2 ∙ twice d.0.first x.0 old.view

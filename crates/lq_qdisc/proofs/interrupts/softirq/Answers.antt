@@ -6,6 +6,10 @@ use Rattle.lq_table.specs.Told.{passing}
 use Rattle.lq_qdisc.specs.Steps.{IsDueBy, softirq_begun}
 use Rattle.lq_qdisc.proofs.AloneCalls.{softirq_alone}
 use Rattle.lq_qdisc.proofs.ViewLemmas.{interrupts_view}
+use Rattle.lq_table.specs.Views.{View}
+use Rattle.lq_qdisc.proofs.RunLemmas.{fates_same, fates_then}
+use Rattle.lq_qdisc.proofs.SendLemmas.{called_from}
+use Rattle.lq_qdisc.proofs.StepLemmas.{due_keeps}
 use Rattle.lq_qdisc.proofs.interrupts.softirq.Goals as goal
 use Rattle.lq_qdisc.proofs.interrupts.softirq.Goals.{then-is_due, else-is_due}
 
@@ -40,3 +44,33 @@ pub returns-clause-alone : goal.returns-clause-alone
 returns-clause-alone g c =
     let i = interrupts_view (setup c.args.shared.now) (known c.args.cpu.now) (known c.leave.new.cpu) (returns-clause-interrupts g c) in
     softirq_alone (setup c.args.shared.now) c.args.shared.now.infos.now (view c.args.cpu.now) i.0 (view c.leave.new.cpu) c.requires.seat.2 c.requires.ready.1 c.requires.raised i.1 i.3
+
+pub returns-clause-kept : goal.returns-clause-kept
+returns-clause-kept g c =
+    let l = c.leave.ensures in let e = c.enter.ensures in let d = c.is_due.ensures in let old = known c.enter.new.cpu in let new = known c.is_due.new.cpu in let due = c.is_due.result in
+    let share = d.still.0.share ∙ ap (λ (v : View). v.share) e.view in
+    let control = due_keeps (λ (v : View). v.control) due old new (λ _ _. refl) (λ _ _ _. refl) d.due ∙ ap (λ (v : View). v.control) e.view in
+    let told = due_keeps (λ (v : View). v.whole.told) due old new (λ _ _. refl) (λ _ _ _. refl) d.due ∙ ap (λ (v : View). v.whole.told) e.view in
+    elim c.if-is_due.branch [
+      | then-is_due w ↦ called_from c.args.cpu.now c.is_due.new.cpu c.leave.new.cpu (d.same.0.0 ∙ e.same.0.0, d.same.0.1 ∙ e.same.0.1) share control told (record {
+        seat = (l.same.0.0 ∙ (ap (λ x. x.known.seat.table_id) w.cpu-is ∙ w.attempt.ensures.kept.seat.0), l.same.0.1 ∙ (ap (λ x. x.known.seat.id) w.cpu-is ∙ w.attempt.ensures.kept.seat.1));
+        share = ap (λ (v : View). v.share) l.view ∙ (ap (λ x. (view x).share) w.cpu-is ∙ w.attempt.ensures.kept.share);
+        control = ap (λ (v : View). v.control) l.view ∙ (ap (λ x. (view x).control) w.cpu-is ∙ w.attempt.ensures.kept.control);
+        told = ap (λ (v : View). v.whole.told) l.view ∙ (ap (λ x. (view x).whole.told) w.cpu-is ∙ w.attempt.ensures.kept.told);
+      })
+      | else-is_due w ↦ called_from c.args.cpu.now c.is_due.new.cpu c.leave.new.cpu (d.same.0.0 ∙ e.same.0.0, d.same.0.1 ∙ e.same.0.1) share control told (record {
+        seat = (l.same.0.0 ∙ ap (λ x. x.known.seat.table_id) w.cpu-is, l.same.0.1 ∙ ap (λ x. x.known.seat.id) w.cpu-is);
+        share = ap (λ (v : View). v.share) l.view ∙ ap (λ x. (view x).share) w.cpu-is;
+        control = ap (λ (v : View). v.control) l.view ∙ ap (λ x. (view x).control) w.cpu-is;
+        told = ap (λ (v : View). v.whole.told) l.view ∙ ap (λ x. (view x).whole.told) w.cpu-is;
+      })
+    ]
+
+pub returns-clause-fates : goal.returns-clause-fates
+returns-clause-fates g c =
+    let l = c.leave.ensures in let v = view c.args.cpu.now in let m = view c.is_due.new.cpu in let w = view c.leave.new.cpu in
+    let before = fates_same v m (due_keeps (λ (x : View). x.settled) c.is_due.result (known c.enter.new.cpu) (known c.is_due.new.cpu) (λ _ _. refl) (λ _ _ _. refl) c.is_due.ensures.due ∙ ap (λ (x : View). x.settled) c.enter.ensures.view) in
+    elim c.if-is_due.branch [
+      | then-is_due x ↦ fates_then v m w before (x.attempt.ensures.fates.0, ap (λ (y : View). y.settled) l.view ∙ (ap (λ y. (view y).settled) x.cpu-is ∙ x.attempt.ensures.fates.1))
+      | else-is_due x ↦ fates_then v m w before (fates_same m w (ap (λ (y : View). y.settled) l.view ∙ ap (λ y. (view y).settled) x.cpu-is))
+    ]
