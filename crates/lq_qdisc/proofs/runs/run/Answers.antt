@@ -8,7 +8,7 @@ use Rattle.lq_qdisc.specs.Steps.{SendsBy}
 use Rattle.lq_qdisc.proofs.StepLemmas.{sends_more_by}
 use Rattle.lq_qdisc.proofs.ViewLemmas.{runs_view}
 use Rattle.lq_qdisc.proofs.TakeLemmas.{kept_moved, kept_then, seat_in, serving_same}
-use Rattle.lq_qdisc.proofs.RunLemmas.{count, fates_then, laid_at_quota, over, over_at_quota, set_at_quota}
+use Rattle.lq_qdisc.proofs.RunLemmas.{count, fates_then, laid_at_quota, over_at_quota, set_at_quota}
 use Rattle.lq_qdisc.specs.declared.answers.Ran.{Ran}
 use Rattle.lq_qdisc.specs.declared.answers.RunEnd.TheVariants.{Quota}
 use Rattle.lq_qdisc.proofs.AloneSteps.{accounts_slot, runs_alone}
