@@ -27,6 +27,15 @@ make_ready-requires-clause-devices g c κs within = c.requires.units
 pub make_ready-requires-clause-room : goal.make_ready-requires-clause-room
 make_ready-requires-clause-room g c κs within = c.in_ok-empty.ensures
 
+pub returns-in_err-units-clause-others : goal.returns-in_err-units-clause-others
+returns-in_err-units-clause-others g c = c.in_err-units.ensures.others
+
+pub returns-in_err-units-clause-len : goal.returns-in_err-units-clause-len
+returns-in_err-units-clause-len g c = c.in_err-units.ensures.len
+
+pub returns-in_err-units-clause-boxes : goal.returns-in_err-units-clause-boxes
+returns-in_err-units-clause-boxes g c = c.in_err-units.ensures.boxes
+
 pub send_ready-left-requires-clause-ready : goal.send_ready-left-requires-clause-ready
 send_ready-left-requires-clause-ready g c κs within = (map g.D.TxDevice.state c.args.bench.now.items, c.in_ok-units.ensures.ready)
 
@@ -35,3 +44,9 @@ send_ready-left-requires-clause-room g c κs within = c.in_ok-room.ensures
 
 pub send_ready-left-requires-clause-bench_room : goal.send_ready-left-requires-clause-bench_room
 send_ready-left-requires-clause-bench_room g c κs within = c.in_ok-units.ensures.back_room
+
+pub returns-clause-ended : goal.returns-clause-ended
+returns-clause-ended g c = c.send_ready-left.ensures.ended
+
+pub returns-clause-len : goal.returns-clause-len
+returns-clause-len g c = c.send_ready-left.ensures.len ∙ c.in_ok-units.ensures.less
