@@ -6,15 +6,18 @@ use Rattle.lq_senders.proofs.lanes.others_sent.Goals as goal
 pub returns-clause-done : goal.returns-clause-done
 returns-clause-done g c i l there =
     let new = c.others_send.new.senders in let items = c.args.senders.items in
-    c.others_send.ensures.done i l (subst (λ (laid : List _). slice_get laid i ≡ Some l) (take_at new (drop (length new) items) c.args.senders.len (c.others_send.auto.senders ∙ c.as_mut_slice.ensures.len)) there)
+    let same = take_at new (drop (length new) items) c.args.senders.len (c.others_send.auto.senders ∙ c.as_mut_slice.ensures.len) in
+    c.others_send.ensures.done i l (subst (λ (laid : List _). slice_get laid i ≡ Some l) same there)
 
 pub returns-clause-woke : goal.returns-clause-woke
 returns-clause-woke g c i old l was there =
     let new = c.others_send.new.senders in let items = c.args.senders.items in
+    let same = take_at new (drop (length new) items) c.args.senders.len (c.others_send.auto.senders ∙ c.as_mut_slice.ensures.len) in
     c.others_send.ensures.woke i old l (subst (λ (from : List _). slice_get from i ≡ Some old) (sym c.as_mut_slice.ensures.value) was)
-    (subst (λ (laid : List _). slice_get laid i ≡ Some l) (take_at new (drop (length new) items) c.args.senders.len (c.others_send.auto.senders ∙ c.as_mut_slice.ensures.len)) there)
+    (subst (λ (laid : List _). slice_get laid i ≡ Some l) same there)
 
 pub returns-clause-long : goal.returns-clause-long
 returns-clause-long g c =
     let new = c.others_send.new.senders in let items = c.args.senders.items in
-    ap length (take_at new (drop (length new) items) c.args.senders.len (c.others_send.auto.senders ∙ c.as_mut_slice.ensures.len)) ∙ (c.others_send.auto.senders ∙ ap length c.as_mut_slice.ensures.value)
+    let same = take_at new (drop (length new) items) c.args.senders.len (c.others_send.auto.senders ∙ c.as_mut_slice.ensures.len) in
+    ap length same ∙ (c.others_send.auto.senders ∙ ap length c.as_mut_slice.ensures.value)

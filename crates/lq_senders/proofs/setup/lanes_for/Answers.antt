@@ -14,7 +14,8 @@ loop-owner-init g c = record {
 
 pub returns : goal.returns
 returns g c = record {
-  one_each = let so_many = c.loop-owner.invariant.so_many in let ok = c.loop-owner.lanes.ok.0 in let senders = c.senders-senders.ensures in let test = c.loop-owner-test.false in let stop = c.loop-owner.auto.owner-end in omega arith;
+  one_each = let so_many = c.loop-owner.invariant.so_many in let ok = c.loop-owner.lanes.ok.0 in
+      let senders = c.senders-senders.ensures in let test = c.loop-owner-test.false in let stop = c.loop-owner.auto.owner-end in omega arith;
   each = c.loop-owner.invariant.empty;
 }
 

@@ -96,7 +96,8 @@ returns-clause-states g c =
 
 pub loop-station-init : goal.loop-station-init
 loop-station-init g c =
-    let none = ap length c.requires.none_yet.0 in let no_seat = ap length c.requires.none_yet.1 in let tables = c.args.stations.now.tables.ok.0 in let cpus = c.args.stations.now.cpus.ok.0 in
+    let none = ap length c.requires.none_yet.0 in let no_seat = ap length c.requires.none_yet.1 in
+    let tables = c.args.stations.now.tables.ok.0 in let cpus = c.args.stations.now.cpus.ok.0 in
     record {
       rest = refl;
       len = omega arith;
@@ -113,26 +114,32 @@ loop-station-init g c =
 
 pub push_reserved-requires : goal.push_reserved-requires
 push_reserved-requires g c =
-    let stations = c.stations-station-end.ensures.stations in let own = c.loop-station.invariant.so_many in let room = c.loop-station.invariant.room in let test = c.loop-station-test.true in omega arith
+    let stations = c.stations-station-end.ensures.stations in let own = c.loop-station.invariant.so_many in
+    let room = c.loop-station.invariant.room in let test = c.loop-station-test.true in omega arith
 
 pub push_reserved-requires-in-Ok : goal.push_reserved-requires-in-Ok
 push_reserved-requires-in-Ok g c =
-    let stations = c.stations-station-end.ensures.stations in let own = c.loop-station.invariant.seats in let room = c.loop-station.invariant.seats_room in let test = c.loop-station-test.true in omega arith
+    let stations = c.stations-station-end.ensures.stations in let own = c.loop-station.invariant.seats in
+    let room = c.loop-station.invariant.seats_room in let test = c.loop-station-test.true in omega arith
 
 pub returns-in-Err-clause-len : goal.returns-in-Err-clause-len
 returns-in-Err-clause-len g c =
     let own = c.loop-station.invariant.len in let so_many = c.loop-station.invariant.so_many in
     let less = c.remove-device.ensures.len in let ok = c.loop-station.bench.ok.1 in let cap = c.remove-device.ensures.capacity in
     let room : c.remove-device.new.self.len < c.remove-device.new.self.cap = omega arith in
-    let back : c.insert-laid_back.new.self.len ≡ c.remove-device.new.self.len + 1 = so-where-ok c.insert-laid_back.result _ _ _ (c.insert-laid_back.ensures.succeeds room) c.insert-laid_back.ensures.len in omega arith
+    let back : c.insert-laid_back.new.self.len ≡ c.remove-device.new.self.len + 1 =
+    so-where-ok c.insert-laid_back.result _ _ _ (c.insert-laid_back.ensures.succeeds room) c.insert-laid_back.ensures.len in omega arith
 
 pub returns-in-Err-clause-capacity : goal.returns-in-Err-clause-capacity
 returns-in-Err-clause-capacity g c =
     let less = c.remove-device.ensures.len in let ok = c.loop-station.bench.ok.1 in let cap = c.remove-device.ensures.capacity in
     (c.insert-laid_back.ensures.in_place (omega arith)).1.0 ∙ (cap ∙ c.loop-station.invariant.capacity)
 
+-- the loop ends with all stations
 all : (g : _) (c : goal.After-loop-station g) → c.loop-station.stations.tables.len ≡ length c.args.plan.now.stations
-all g c = let so_many = c.loop-station.invariant.so_many in let test = c.loop-station-test.false in let stop = c.loop-station.auto.station-end in let stations = c.stations-station-end.ensures.stations in omega arith
+all g c =
+    let so_many = c.loop-station.invariant.so_many in let test = c.loop-station-test.false in
+    let stop = c.loop-station.auto.station-end in let stations = c.stations-station-end.ensures.stations in omega arith
 
 pub returns-clause-all : goal.returns-clause-all
 returns-clause-all g c = all g c
