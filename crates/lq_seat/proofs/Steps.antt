@@ -5,7 +5,7 @@ use Rattle.lq_account.proofs.Lists.{cons-in}
 use Rattle.lq_account.specs.Controls.{with_control}
 use Rattle.lq_account.specs.Trail.{down_of, is_own}
 use Rattle.lq_control.specs.Comes.{ComesToEnd, SwapsFor}
-use Rattle.lq_control.specs.Control.{IsKeptByControl, KeepsDevice}
+use Rattle.lq_control.specs.Control.{IsKeptByControl, IsServed, KeepsDevice}
 use Rattle.lq_control.specs.Finish.{AreAllDone}
 use Rattle.lq_model.specs.Account.{Account, Event, Join, Full, Refuse, Direct, Purge}
 use Rattle.lq_model.specs.Alone.{RunningStation, brought_in, changed, new_device, served}
@@ -24,7 +24,7 @@ use Rattle.lq_qdisc.specs.declared.answers.Sending.TheVariants as sending
 use Rattle.lq_seat.specs.Calls.{Came, Changes, DoesEvent, DoesSwap, Drains, SendsPacket}
 use Rattle.lq_seat.specs.Ends.{EndsTrail}
 use Rattle.lq_seat.specs.Rests.{AreUnitsSmall}
-use Rattle.lq_seat.specs.Steps.{ControlsBy, Makes, SwapsBy, Transmits}
+use Rattle.lq_seat.specs.Steps.{ControlsBy, DoesInterrupts, Makes, SwapsBy, Transmits}
 use Rattle.lq_seat.specs.State.{IsHere, SeatState, TableState, seat_account, seat_state, seat_seen, table_seen, solo_of, units_of}
 use Rattle.lq_table.specs.Made.{Known}
 use Rattle.lq_table.specs.Sees.{IsSameSeat, known, setup, view}
@@ -157,6 +157,27 @@ module _ {D : Type 0} (sh : Shared D) (c c' : Cpu D) (made : (view c).share.abou
     where
       turns-are : (view c').turns ≡ slice_set (view c).turns (owner_in (view c).share.about.infos n) (2 * rank_in (view c).share.about.infos n + 2)
       turns-are = turns ∙ ap (λ (k : Setup). slice_set (view c).turns (owner_in k.infos n) (2 * rank_in k.infos n + 2)) (sym made)
+
+  -- the soft interrupts were done
+  pub drained-by : IsSameSeat c c' → IsServed (view c) (view c') → (view c').place.raised ≡ false → Does sh.infos.now (first_account (setup sh)) (served sh.infos.now) (solo (view c)) (solo (view c'))
+      → DoesInterrupts (setup sh) (known c) (known c') → Drains (seat_seen c) (seat_seen c')
+  drained-by same was low alone does = record {
+    is = λ i. record (seat_seen c') {
+      table = same.0 i;
+      made = (was.kept.share i).about;
+      shares = (was.kept.share i).shares;
+      owners = (was.kept.share i).owners;
+      first = was.kept.first i;
+      raised = low i;
+      turns = was.kept.turns i;
+      trail = was.trail i;
+      origin = (was.control i).origin;
+      gone = (was.control i).gone;
+      told = was.kept.told i;
+    };
+    by = call-made DoesInterrupts same.0 does;
+    alone = does-here (λ k. served k.infos) alone;
+  }
 
   pub changed-by : (plan : Plan) (event : ℕ) (kind : EventKind) → IsSameSeat c c' → IsKeptByControl (view c) (view c') → KeepsDevice (view c) (view c') → (view c').trail ≡ with_control plan event kind (view c).trail
       → Does sh.infos.now (first_account (setup sh)) (changed plan event kind) (solo (view c)) (solo (view c')) → ControlsBy event kind (setup sh) (known c) (known c')
