@@ -10,7 +10,7 @@ use Rattle.lq_table.specs.Sees.{view, known}
 use Rattle.lq_table.specs.Solo.{IsAccounts, IsSole, locked_to, solo}
 use Rattle.lq_table.specs.Told.{IsKnownSlot, finding_locked, got, got_in_control}
 use Rattle.lq_table.specs.Views.{View, HolderPart}
-use Rattle.lq_control.specs.Steps.{TriesLock, not_tried, held}
+use Rattle.lq_control.specs.Steps.{not_tried, held}
 use Rattle.lq_control.proofs.FinishSteps.{control_at}
 use Rattle.lq_control.proofs.Keeps.{seat_then}
 use Rattle.lq_control.proofs.StepLemmas.{both}
