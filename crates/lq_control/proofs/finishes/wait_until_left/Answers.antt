@@ -1,8 +1,11 @@
-use Rattle.std.proofs.Common.{rules, refl}
+use Rattle.std.proofs.Common.{rules, refl, ap}
 use Rattle.lq_table.specs.Sees.{view, known}
-use Rattle.lq_control.specs.EndSteps.{FindsBusy, not_looked}
+use Rattle.lq_table.specs.Views.{View}
+use Rattle.lq_ring.proofs.Seats.{seat_on}
+use Rattle.lq_control.specs.EndSteps.{not_looked}
 use Rattle.lq_control.proofs.EndStepLemmas.{busy_then, left_after}
 use Rattle.lq_control.proofs.FinishSteps.{look_none}
+use Rattle.lq_control.proofs.Looks.{looked_then}
 use Rattle.lq_control.proofs.finishes.wait_until_left.Goals as goal
 
 pub loop-init : goal.loop-init
@@ -18,6 +21,16 @@ loop-init g c = let v = view c.args.cpu.now in record {
 pub returns-then-is_left-clause-waits : goal.returns-then-is_left-clause-waits
 returns-then-is_left-clause-waits g c = left_after _ _ _ c.loop.invariant.busy (c.is_left.ensures.left c.if-is_left.true)
 
+pub returns-then-is_left-clause-same : goal.returns-then-is_left-clause-same
+returns-then-is_left-clause-same g c = let i = c.loop.invariant in looked_then c.args.cpu.now c.loop.cpu c.is_left.new.cpu (i.still, i.look) c.is_left.ensures.same
+
 pub loop-preserved : goal.loop-preserved
 loop-preserved g c =
-    let more : FindsBusy (known c.args.cpu.now) (known c.is_left.new.cpu) = busy_then (known c.args.cpu.now) (known c.loop.cpu) (known c.is_left.new.cpu) c.loop.invariant.busy (c.is_left.ensures.busy c.if-is_left.false) in search rules
+    let i = c.loop.invariant in let a = c.args.cpu.now in let b = c.loop.cpu in let w = c.is_left.new.cpu in let s = c.is_left.ensures.same in let looked = looked_then a b w (i.still, i.look) s in record {
+      can = (search rules);
+      ends = (search rules);
+      seat = seat_on c.args.shared.now b w i.seat s.0.0 (ap (λ (x : View). x.share) s.1.1);
+      still = looked.0;
+      look = looked.1;
+      busy = busy_then (known a) (known b) (known w) i.busy (c.is_left.ensures.busy c.if-is_left.false);
+    }
