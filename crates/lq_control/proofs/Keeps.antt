@@ -1,16 +1,20 @@
 -- What steps of control keep of what the first seat knows, one after another.
-use Rattle.std.proofs.Common.{◌≡◌, ℕ, List, ap, ◌∙◌}
+use Rattle.std.proofs.Common.{◌≡◌, ℕ, false, List, ◌∷◌, ap, ◌∙◌}
+use Rattle.lq_model.specs.Account.{Up}
 use Rattle.lq_model.specs.declared.fate.Cause.{Cause}
 use Rattle.lq_model.specs.declared.machine.Phase.{Phase}
-use Rattle.lq_model.specs.declared.machine.Phase.TheVariants.{Quiet}
-use Rattle.lq_table.specs.Controls.{beginning_control, closing}
-use Rattle.lq_table.specs.Sees.{view, IsSameSeat}
+use Rattle.lq_model.specs.declared.machine.Phase.TheVariants.{Active, Purged, Quiet}
+use Rattle.lq_model.specs.declared.machine.Position.TheVariants.{Control, Idle}
+use Rattle.lq_table.specs.Controls.{beginning_control, closing, opening, returning}
+use Rattle.lq_table.specs.Sees.{view, IsElseSame, IsSameSeat}
 use Rattle.lq_table.specs.Told.{got_in_control}
 use Rattle.lq_table.specs.Views.{View, FirstPart, HolderPart}
 use Rattle.lq_table.specs.declared.shared.Cpu.{Cpu}
 use Rattle.lq_ring.specs.Resized.{having_resized}
 use Rattle.lq_run.specs.Runs.{IsElseKept}
-use Rattle.lq_control.specs.Control.{IsKeptByControl, IsPurged, KeepsDevice, phased, with_lock_free}
+use Rattle.lq_control.specs.Control.{IsKeptByControl, IsPurged, IsServed, KeepsDevice, phased, with_lock_free}
+use Rattle.lq_control.specs.Seats.{IsReadyAt}
+use Rattle.lq_control.proofs.FinishSteps.{ready_kept}
 
 pub seat_then : {D : Type 0} (a b c : Cpu D) → IsSameSeat a b → IsSameSeat b c → IsSameSeat a c
 seat_then a b c x y = (y.0 ∙ x.0, y.1 ∙ x.1)
@@ -68,4 +72,30 @@ pub keeps_closed : (event : ℕ) (p : Phase) (d : HolderPart) (v w : View) → w
 keeps_closed event p d v w e = (
   record { share = ap (λ (y : View). y.share) e; turns = ap (λ (y : View). y.turns) e; first = ap (λ (y : View). y.control.first) e; told = ap (λ (y : View). y.whole.told) e },
   record { origin = ap (λ (y : View). y.control.origin) e; gone = ap (λ (y : View). y.control.gone) e },
+)
+
+-- soft interrupts were done
+pub keeps_served : (v w : View) → IsServed v w → Keeps v w
+keeps_served v w s = (s.kept, record { origin = ap (λ (c : FirstPart). c.origin) s.control; gone = ap (λ (c : FirstPart). c.gone) s.control })
+
+-- DEACTIVATED is cleared, and the call of control ends
+module _ (v w x : View) (opened : w ≡ opening v) (ends : x ≡ returning w) where
+  reopened_is : x ≡ returning (opening v)
+  reopened_is = ends ∙ ap returning opened
+
+  pub keeps_reopened : Keeps v x
+  keeps_reopened = let e = reopened_is in (
+    record { share = ap (λ (y : View). y.share) e; turns = ap (λ (y : View). y.turns) e; first = ap (λ (y : View). y.control.first) e; told = ap (λ (y : View). y.whole.told) e },
+    record { origin = ap (λ (y : View). y.control.origin) e; gone = ap (λ (y : View). y.control.gone) e },
+  )
+
+  pub reopened_trail : x.trail ≡ Up ∷ v.trail
+  reopened_trail = ap (λ (y : View). y.trail) reopened_is
+
+pub reopened_at : {D : Type 0} (b m a : Cpu D) → IsReadyAt (Control false) Purged b → IsElseSame b m → view m ≡ opening (view b) → IsElseSame m a → view a ≡ returning (view m) → IsReadyAt Idle Active a
+reopened_at b m a at same opened same2 ends = let e = ends ∙ ap returning opened in (
+  ap (λ (y : View). y.place.position) e,
+  ready_kept m a same2 (ap (λ (y : View). y.packets) ends) (ap (λ (y : View). y.locks) ends) (ap (λ (y : View). y.holder.resizing) ends)
+      (ready_kept b m same (ap (λ (y : View). y.packets) opened) (ap (λ (y : View). y.locks) opened) (ap (λ (y : View). y.holder.resizing) opened) at.1),
+  (ap (λ (y : View). y.control.phase) e, ap (λ (y : View). y.control.purge) e ∙ at.2.1),
 )

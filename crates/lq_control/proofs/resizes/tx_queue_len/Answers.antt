@@ -1,11 +1,12 @@
-use Rattle.std.proofs.Common.{false, true, sym, ap, ◌∙◌, subst}
+use Rattle.std.proofs.Common.{false, true, List, ◌∷◌, sym, ap, ◌∙◌, subst}
 use Rattle.lq_table.specs.Views.{first_account}
 use Rattle.lq_table.specs.Sees.{view, setup, known}
 use Rattle.lq_table.specs.Solo.{Solo, heard, locked_to, solo}
-use Rattle.lq_model.specs.Account.{Resize, Up}
+use Rattle.lq_model.specs.Account.{Event, Resize, Up}
 use Rattle.lq_model.specs.Alone.{changed}
 use Rattle.lq_model.specs.declared.plan.EventKind.TheVariants as kind
 use Rattle.lq_qdisc.specs.Alone.{HasAll}
+use Rattle.lq_control.proofs.Keeps.{keeps_reopened, keeps_served, keeps_then, reopened_at, reopened_trail, seat_then}
 use Rattle.lq_control.proofs.StepLemmas.{reopened}
 use Rattle.lq_control.proofs.Alone.{downed, downed_at, relength_alone, stepped_at}
 use Rattle.lq_control.proofs.resizes.tx_queue_len.Goals as goal
@@ -26,3 +27,20 @@ returns-clause-changes g c = (
   c.relength.ensures.relengths,
   reopened (known c.relength.new.cpu) (known c.clear_deactivated.new.cpu) (known c.end_control.new.cpu) c.clear_deactivated.ensures.view c.clear_deactivated.ensures.made c.end_control.ensures.view c.end_control.ensures.made,
 )
+
+pub returns-clause-same : goal.returns-clause-same
+returns-clause-same g c =
+    let c0 = c.args.cpu.now in let c1 = c.deactivate-purged.new.cpu in let c2 = c.wait_until_clear.new.cpu in let c3 = c.relength.new.cpu in let c4 = c.clear_deactivated.new.cpu in let c5 = c.end_control.new.cpu in
+    let d = c.deactivate-purged.ensures in let w = c.wait_until_clear.ensures in let r = c.relength.ensures in let o = c.clear_deactivated.ensures in let e = c.end_control.ensures in
+    let v0 = view c0 in let v1 = view c1 in let v2 = view c2 in let v3 = view c3 in let v5 = view c5 in
+    let on = keeps_then v2 v3 v5 (r.same.1, r.same.2) (keeps_reopened v3 (view c4) v5 o.view e.view) in
+    let all = keeps_then v0 v1 v5 (d.same.1, d.same.2) (keeps_then v1 v2 v5 (keeps_served v1 v2 w.served) on) in
+    (seat_then c0 c1 c5 d.same.0 (seat_then c1 c2 c5 w.same (seat_then c2 c3 c5 r.same.0 (seat_then c3 c4 c5 o.same.0 e.same.0))), all.0, all.1)
+
+pub returns-clause-at : goal.returns-clause-at
+returns-clause-at g c = let o = c.clear_deactivated.ensures in let e = c.end_control.ensures in reopened_at c.relength.new.cpu c.clear_deactivated.new.cpu c.end_control.new.cpu c.relength.ensures.at o.same o.view e.same e.view
+
+pub returns-clause-trail : goal.returns-clause-trail
+returns-clause-trail g c =
+    reopened_trail (view c.relength.new.cpu) (view c.clear_deactivated.new.cpu) (view c.end_control.new.cpu) c.clear_deactivated.ensures.view c.end_control.ensures.view
+    ∙ ap (λ (es : List Event). Up ∷ es) (c.relength.ensures.trail ∙ ap (λ (es : List Event). Resize c.args.len c.args.event ∷ es) (c.wait_until_clear.ensures.served.trail ∙ c.deactivate-purged.ensures.trail))

@@ -1,4 +1,4 @@
-use Rattle.std.proofs.Common.{false, true, List, sym, ap, ◌∙◌, subst, Contains}
+use Rattle.std.proofs.Common.{false, true, List, ◌∷◌, sym, ap, ◌∙◌, subst, Contains}
 use Rattle.lq_model.specs.Account.{Event, Swap, Up}
 use Rattle.lq_model.specs.Alone.{changed}
 use Rattle.lq_model.specs.declared.plan.EventKind.TheVariants as kind
@@ -7,6 +7,7 @@ use Rattle.lq_table.specs.Sees.{view, known, setup}
 use Rattle.lq_table.specs.Solo.{Solo, device_to, heard, locked_to, solo}
 use Rattle.lq_table.specs.Rule.{units_of}
 use Rattle.lq_qdisc.specs.Alone.{HasAll}
+use Rattle.lq_control.proofs.Keeps.{keeps_reopened, reopened_at, reopened_trail, seat_then}
 use Rattle.lq_control.proofs.StepLemmas.{reopened}
 use Rattle.lq_control.proofs.Alone.{downed, downed_at, stepped_at, swap_alone}
 use Rattle.lq_control.proofs.swaps.swap.Goals as goal
@@ -33,3 +34,26 @@ returns-clause-swaps g c = (
   c.swap_device-old.ensures.swaps,
   reopened (known c.swap_device-old.new.cpu) (known c.clear_deactivated.new.cpu) (known c.end_control.new.cpu) c.clear_deactivated.ensures.view c.clear_deactivated.ensures.made c.end_control.ensures.view c.end_control.ensures.made,
 )
+
+pub returns-clause-same : goal.returns-clause-same
+returns-clause-same g c =
+    let c0 = c.args.cpu.now in let c1 = c.deactivate.new.cpu in let c2 = c.wait_until_clear.new.cpu in let c3 = c.swap_device-old.new.cpu in let c4 = c.clear_deactivated.new.cpu in let c5 = c.end_control.new.cpu in
+    let d = c.deactivate.ensures in let w = c.wait_until_clear.ensures in let r = c.swap_device-old.ensures in let o = c.clear_deactivated.ensures in let e = c.end_control.ensures in
+    let k = (keeps_reopened (view c3) (view c4) (view c5) o.view e.view).0 in let a = d.same.1 in let b = w.served.kept in let s = r.same.1 in (
+      seat_then c0 c1 c5 d.same.0 (seat_then c1 c2 c5 w.same (seat_then c2 c3 c5 r.same.0 (seat_then c3 c4 c5 o.same.0 e.same.0))),
+      record {
+        share = k.share ∙ (s.share ∙ (b.share ∙ a.share));
+        turns = k.turns ∙ (s.turns ∙ (b.turns ∙ a.turns));
+        first = k.first ∙ (s.first ∙ (b.first ∙ a.first));
+        told = k.told ∙ (s.told ∙ (b.told ∙ a.told));
+      },
+    )
+
+pub returns-clause-at : goal.returns-clause-at
+returns-clause-at g c = let o = c.clear_deactivated.ensures in let e = c.end_control.ensures in
+    reopened_at c.swap_device-old.new.cpu c.clear_deactivated.new.cpu c.end_control.new.cpu c.swap_device-old.ensures.at o.same o.view e.same e.view
+
+pub returns-clause-trail : goal.returns-clause-trail
+returns-clause-trail g c =
+    reopened_trail (view c.swap_device-old.new.cpu) (view c.clear_deactivated.new.cpu) (view c.end_control.new.cpu) c.clear_deactivated.ensures.view c.end_control.ensures.view
+    ∙ ap (λ (es : List Event). Up ∷ es) (c.swap_device-old.ensures.trail ∙ ap (λ (es : List Event). Swap c.args.unit ∷ es) (c.wait_until_clear.ensures.served.trail ∙ c.deactivate.ensures.trail))
