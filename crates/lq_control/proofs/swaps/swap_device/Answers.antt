@@ -1,15 +1,18 @@
-use Rattle.std.proofs.Common.{◌≡◌, false, sym, ap, ◌∙◌, subst, arith, ◌-◌, Option, Contains}
+use Rattle.std.proofs.Common.{◌≡◌, false, sym, ap, ◌∙◌, subst, arith, ◌-◌, ◌∷◌, Option, None, Contains}
 use Rattle.std.specs.Prelude.{is_some}
 use Rattle.std.specs.Option.{unwrap_or}
 use Rattle.lq_device.specs.Station.{StationState}
-use Rattle.lq_table.specs.Views.{View, Setup, no_station}
+use Rattle.lq_table.specs.Views.{View, HolderPart, Setup, WholePart, no_station}
+use Rattle.lq_table.specs.Told.{got_in_control}
 use Rattle.lq_table.specs.Rule.{HasServed, latest_unit, station_count, units_of}
 use Rattle.lq_table.specs.Controls.{IsSwap, swapping}
 use Rattle.lq_table.specs.Sees.{view, known, setup}
 use Rattle.lq_table.specs.Made.{Known, ◌⊳◌, did_store_stop}
 use Rattle.lq_table.specs.Solo.{Solo, device_to, heard, locked_to, solo}
 use Rattle.lq_model.specs.Account.{Swap}
+use Rattle.lq_control.specs.Control.{all_opened, with_lock_free}
 use Rattle.lq_control.specs.Steps.{with_device_swapped, with_queues_opened, with_lock_released}
+use Rattle.lq_control.proofs.Keeps.{seat_then}
 use Rattle.lq_control.proofs.StepLemmas.{both}
 use Rattle.lq_control.proofs.swaps.swap_device.Goals as goal
 
@@ -54,3 +57,39 @@ returns-clause-swaps g c =
           (subst (λ (y : Known). HasServed k.infos k.station y.view.control.origin y.view.holder.station.device × (y.view.holder.station.unit ≡ latest_unit k.station y.view.holder.units)) now (x.served, x.unit));
       is = c.release.ensures.by ∙ ap with_lock_released (c.open_queues.ensures.opens ∙ ap (with_queues_opened k (k.queues - 1)) swapped);
     }
+
+-- the lock is got, the device swapped, the queues are opened, and the lock is released
+swapped_is : (d : HolderPart) (st : StationState) (whole : WholePart) (v v1 v2 v3 v4 v5 : View) → v1 ≡ got_in_control d v → v2 ≡ v1 → v3 ≡ swapping st v2 → v4 ≡ all_opened None whole v3 → v5 ≡ with_lock_free v4
+    → v5 ≡ with_lock_free (all_opened None whole (swapping st (got_in_control d v)))
+swapped_is d st whole v v1 v2 v3 v4 v5 got same swaps opens frees = frees ∙ ap with_lock_free (opens ∙ ap (all_opened None whole) (swaps ∙ ap (swapping st) (same ∙ got)))
+
+pub returns-clause-same : goal.returns-clause-same
+returns-clause-same g c =
+    let v = view c.args.cpu.now in let got = c.take_lock.ensures.got in let locked = c.change_device-old.new.cpu in let opened = c.open_queues.ensures.opened in let whole = opened.0 in
+    let e = swapped_is got.0 (unwrap_or locked.station no_station) whole v (view c.take_lock.new.cpu) (view locked) (view c.swap.new.cpu) (view c.open_queues.new.cpu) (view c.release.new.cpu)
+        got.1 (ap (λ (x : Known). x.view) c.change_device-old.ensures.same.3) c.swap.ensures.view opened.1 c.release.ensures.released in
+    let c1 = c.take_lock.new.cpu in let c3 = c.swap.new.cpu in let c4 = c.open_queues.new.cpu in let c5 = c.release.new.cpu in
+    let to_end = seat_then c3 c4 c5 c.open_queues.ensures.same.0 c.release.ensures.same.0 in let swaps = c.swap.ensures.view in
+    let told = opened.2 ∙ (ap (λ (x : View). x.whole.told) swaps ∙ (ap (λ (x : Known). x.view.whole.told) c.change_device-old.ensures.same.3 ∙ ap (λ (x : View). x.whole.told) got.1)) in (
+      seat_then c.args.cpu.now c1 c5 c.take_lock.ensures.same.0 (seat_then c1 locked c5 c.change_device-old.ensures.same.0 (seat_then locked c3 c5 c.swap.ensures.same.0 to_end)),
+      record { share = ap (λ (x : View). x.share) e; turns = ap (λ (x : View). x.turns) e; first = ap (λ (x : View). x.control.first) e; told = ap (λ (x : View). x.whole.told) e ∙ told },
+    )
+
+pub returns-clause-at : goal.returns-clause-at
+returns-clause-at g c =
+    let v = view c.args.cpu.now in let got = c.take_lock.ensures.got in let locked = c.change_device-old.new.cpu in let opened = c.open_queues.ensures.opened in let whole = opened.0 in
+    let e = swapped_is got.0 (unwrap_or locked.station no_station) whole v (view c.take_lock.new.cpu) (view locked) (view c.swap.new.cpu) (view c.open_queues.new.cpu) (view c.release.new.cpu)
+        got.1 (ap (λ (x : Known). x.view) c.change_device-old.ensures.same.3) c.swap.ensures.view opened.1 c.release.ensures.released in
+    let ready = c.requires.at.2 in (
+      ap (λ (x : View). x.place.position) e,
+      (c.release.ensures.empty, ap (λ (x : View). x.packets) e ∙ ready.1, ap (λ (x : View). x.locks) e ∙ ready.2, ap (λ (x : View). x.holder.resizing) e ∙ got.5),
+      (ap (λ (x : View). x.control.phase) e ∙ c.requires.purged.0, ap (λ (x : View). x.control.purge) e ∙ c.requires.purged.1),
+    )
+
+pub returns-clause-trail : goal.returns-clause-trail
+returns-clause-trail g c =
+    let v = view c.args.cpu.now in let got = c.take_lock.ensures.got in let locked = c.change_device-old.new.cpu in let opened = c.open_queues.ensures.opened in let whole = opened.0 in
+    let e = swapped_is got.0 (unwrap_or locked.station no_station) whole v (view c.take_lock.new.cpu) (view locked) (view c.swap.new.cpu) (view c.open_queues.new.cpu) (view c.release.new.cpu)
+        got.1 (ap (λ (x : Known). x.view) c.change_device-old.ensures.same.3) c.swap.ensures.view opened.1 c.release.ensures.released in
+    ap (λ (x : View). x.trail) e
+    ∙ ap (λ (o : Option StationState). Swap (unwrap_or o no_station).unit ∷ v.trail) (c.change_device-old.ensures.changed (view c.take_lock.new.cpu).holder c.take_lock.ensures.station.1).0
