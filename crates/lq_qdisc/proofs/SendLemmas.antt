@@ -1,15 +1,22 @@
 -- What a transmit leaves.
-use Rattle.std.proofs.Common.{◌≡◌, ℕ, cond, ap, ◌∙◌, List, [], ◌∷◌, Option, None, Some}
+use Rattle.std.proofs.Common.{◌≡◌, ℕ, Bool, false, not, ◌&&◌, if◌then◌else◌, cond, ap, ◌∙◌, List, [], ◌∷◌, Option, None, Some}
 use Rattle.lq_model.specs.declared.fate.Fate.TheVariants.{Full}
 use Rattle.lq_model.specs.Account.{Event}
+use Rattle.lq_model.specs.Steps.{step_at}
+use Rattle.lq_model.specs.declared.machine.Answer.TheVariants.{Plain}
+use Rattle.lq_model.specs.declared.machine.Attempt.TheVariants.{Direct as ToPass}
+use Rattle.lq_model.specs.declared.machine.Packet.{Packet}
+use Rattle.lq_model.specs.declared.machine.Position.{Position}
+use Rattle.lq_model.specs.declared.machine.Position.TheVariants.{Check, Leave, Put, Try1}
 use Rattle.lq_model.specs.declared.fate.Info.{Info}
 use Rattle.lq_account.specs.Trail.{is_own}
-use Rattle.lq_table.specs.Told.{looking}
-use Rattle.lq_table.specs.Sees.{view, IsSameSeat}
+use Rattle.lq_table.specs.Told.{is_set, looking, seen_by, seen_state, some_bit}
+use Rattle.lq_table.specs.Sees.{view, IsElseSame, IsSameSeat}
 use Rattle.lq_table.specs.declared.shared.Cpu.{Cpu}
+use Rattle.lq_table.specs.declared.shared.Shared.{Shared}
 use Rattle.lq_table.specs.Views.{PacketPart, View}
 use Rattle.lq_qdisc.specs.Calls.{KeepsFates}
-use Rattle.lq_qdisc.specs.Sends.{Enqueues, HasCome, IsCallKept, IsInsideKept, came_as, trail_with}
+use Rattle.lq_qdisc.specs.Sends.{Enqueues, HasCome, IsBringing, IsCallKept, IsFreeInside, IsInsideKept, came_as, trail_with}
 use Rattle.lq_qdisc.specs.declared.answers.Sending.{Sending}
 use Rattle.lq_qdisc.specs.declared.answers.Sending.TheVariants as sending
 use Rattle.lq_qdisc.proofs.RunLemmas.{fates_same}
@@ -39,7 +46,21 @@ pub come_looked : (infos : List Info) (n state : ℕ) (answer : Sending) (u v w 
 come_looked infos n state answer u v w e h =
     come_from infos n answer u v w (ap (λ (x : View). x.share) e) (ap (λ (x : View). x.packets) e) (ap (λ (x : View). x.turns) e) (ap (λ (x : View). x.trail) e) h
 
+-- where the first load of the state in a transmit leads, which isn't deactivated
+pub checked_leads : (p : Packet) (state : ℕ) (may : Bool) (u v : View) → u.place.position ≡ Check p → is_set 2 state ≡ false → u.share.about.bypass && not (some_bit state) ≡ may → v ≡ looking state u
+    → v.place.position ≡ (if may then Try1 (ToPass p) else Put p false)
+checked_leads p state may u v at off may_is is =
+    ap (λ (x : View). x.place.position) is ∙ (ap (λ (y : Position). (step_at y Plain (seen_state (seen_by u) u.share.about.bypass state) u.place).seat.position) at
+    ∙ (λ j. if off j then Leave else if may_is j then Try1 (ToPass p) else Put p false))
+
 module _ {D : Type 0} where
+  -- a seat that brings a packet and is free inside the call does so and is so still
+  pub brings_looked : (t : Shared D) (n state : ℕ) (b m : Cpu D) → view m ≡ looking state (view b) → IsBringing t n b → IsBringing t n m
+  brings_looked t n state b m e p = (p.0, p.1, ap (λ (v : View). v.packets.fresh) e ∙ p.2, ap (λ (v : View). v.packets.owed) e ∙ p.3)
+
+  pub free_looked : (state : ℕ) (b m : Cpu D) → IsElseSame b m → view m ≡ looking state (view b) → IsFreeInside b → IsFreeInside m
+  free_looked state b m same e f = ((same.3 ∙ f.0.0, same.1 ∙ f.0.1), ap (λ (v : View). v.locks) e ∙ f.1, ap (λ (v : View). v.holder.resizing) e ∙ f.2)
+
   -- what a call leaves as it was, from a step before it that left that too
   pub called_from : (b m a : Cpu D) → IsSameSeat b m → (view m).share ≡ (view b).share → (view m).control ≡ (view b).control → (view m).whole.told ≡ (view b).whole.told → IsCallKept m a → IsCallKept b a
   called_from b m a seat share control told k =

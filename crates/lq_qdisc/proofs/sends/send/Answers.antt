@@ -1,15 +1,15 @@
 use Rattle.std.proofs.Common.{◌≡◌, ℕ, arith, true, false, not, sym, ap, ◌∙◌, [], ◌∷◌, ◌&&◌, subst, List}
-use Rattle.lq_table.specs.Sees.{view, known, setup}
+use Rattle.lq_table.specs.Sees.{view, known, setup, packet_at}
 use Rattle.lq_table.specs.Told.{some_bit}
 use Rattle.lq_table.specs.Made.{Known, Made, ◌⊳◌, did_store_fate}
 use Rattle.lq_model.specs.Words.{word_of}
 use Rattle.lq_qdisc.specs.Steps.{GoesThroughBy, TriesToPassBy, with_state_loaded}
 use Rattle.lq_model.specs.declared.fate.Fate.TheVariants.{Refused}
-use Rattle.lq_table.specs.Views.{View}
+use Rattle.lq_table.specs.Views.{Setup, View}
 use Rattle.lq_table.specs.Told.{is_set, paying, refusing}
 use Rattle.std.proofs.lemmas.Bool.{true≢false}
 use Rattle.lq_qdisc.proofs.RunLemmas.{fates_same, fates_then}
-use Rattle.lq_qdisc.proofs.SendLemmas.{called_looked, come_looked}
+use Rattle.lq_qdisc.proofs.SendLemmas.{brings_looked, called_looked, checked_leads, come_looked, free_looked}
 use Rattle.lq_qdisc.proofs.TakeLemmas.{seat_same}
 use Rattle.lq_qdisc.proofs.sends.send.Goals as goal
 use Rattle.lq_qdisc.proofs.sends.send.Goals.{else-bypass-via-then-bypass+else-not-is_non_empty, else-bypass-via-else-bypass}
@@ -109,3 +109,40 @@ pub send_through-requires-clause-seat : goal.send_through-requires-clause-seat
 send_through-requires-clause-seat g c _ _ =
     let l = c.check-state.ensures in let e = l.active (sym c.is_deactivated.ensures ∙ c.if-is_deactivated.false) in
     seat_same c.args.shared.now c.args.cpu.now c.check-state.new.cpu l.same.0 (ap (λ (x : View). x.share) e) c.requires.seat
+
+pub send_try-requires-clause-packet : goal.send_try-requires-clause-packet
+send_try-requires-clause-packet g c _ _ =
+    let l = c.check-state.ensures in let off : is_set 2 c.check-state.result ≡ false = sym c.is_deactivated.ensures ∙ c.if-is_deactivated.false in let e = l.active off in let state = c.check-state.result in
+    (brings_looked c.args.shared.now c.args.n state c.args.cpu.now c.check-state.new.cpu e c.requires.packet.0, c.requires.packet.1)
+
+pub send_try-requires-clause-free : goal.send_try-requires-clause-free
+send_try-requires-clause-free g c _ _ =
+    let l = c.check-state.ensures in let off : is_set 2 c.check-state.result ≡ false = sym c.is_deactivated.ensures ∙ c.if-is_deactivated.false in let e = l.active off in let state = c.check-state.result in
+    free_looked state c.args.cpu.now c.check-state.new.cpu l.same e c.requires.free
+
+pub send_through-requires-clause-packet : goal.send_through-requires-clause-packet
+send_through-requires-clause-packet g c _ _ =
+    let l = c.check-state.ensures in let off : is_set 2 c.check-state.result ≡ false = sym c.is_deactivated.ensures ∙ c.if-is_deactivated.false in let e = l.active off in let state = c.check-state.result in
+    brings_looked c.args.shared.now c.args.n state c.args.cpu.now c.check-state.new.cpu e c.requires.packet.0
+
+pub send_through-requires-clause-free : goal.send_through-requires-clause-free
+send_through-requires-clause-free g c _ _ =
+    let l = c.check-state.ensures in let off : is_set 2 c.check-state.result ≡ false = sym c.is_deactivated.ensures ∙ c.if-is_deactivated.false in let e = l.active off in let state = c.check-state.result in
+    free_looked state c.args.cpu.now c.check-state.new.cpu l.same e c.requires.free
+
+pub send_try-requires-clause-at : goal.send_try-requires-clause-at
+send_try-requires-clause-at g c _ _ =
+    let l = c.check-state.ensures in let off : is_set 2 c.check-state.result ≡ false = sym c.is_deactivated.ensures ∙ c.if-is_deactivated.false in let e = l.active off in let state = c.check-state.result in
+    let clear : some_bit state ≡ false = sym c.is_non_empty.ensures ∙ c.if-not-is_non_empty.true in
+    let bypass : (view c.args.cpu.now).share.about.bypass ≡ true = ap (λ (k : Setup). k.bypass) c.requires.seat.2 ∙ (sym c.bypass.ensures ∙ c.if-bypass.true) in
+    checked_leads (packet_at c.args.shared.now c.args.n) state true (view c.args.cpu.now) (view c.check-state.new.cpu) c.requires.at off (λ j. bypass j && not (clear j)) e
+
+pub send_through-requires-clause-at : goal.send_through-requires-clause-at
+send_through-requires-clause-at g c _ _ =
+    let l = c.check-state.ensures in let off : is_set 2 c.check-state.result ≡ false = sym c.is_deactivated.ensures ∙ c.if-is_deactivated.false in let e = l.active off in let state = c.check-state.result in
+    let known_ = ap (λ (k : Setup). k.bypass && not (some_bit state)) c.requires.seat.2 in
+    let may_not : c.args.shared.now.bypass && not (some_bit state) ≡ false = elim c.else-bypass.branch [
+      | else-bypass-via-then-bypass+else-not-is_non_empty w ↦ (λ j. (sym c.bypass.ensures ∙ w.if-bypass.true) j && not ((sym w.is_non_empty.ensures ∙ w.if-not-is_non_empty.false) j))
+      | else-bypass-via-else-bypass w ↦ (λ j. (sym c.bypass.ensures ∙ w.if-bypass.false) j && not (some_bit state))
+    ] in
+    checked_leads (packet_at c.args.shared.now c.args.n) state false (view c.args.cpu.now) (view c.check-state.new.cpu) c.requires.at off (known_ ∙ may_not) e
