@@ -84,7 +84,7 @@ over v = record v { place = record v.place { position = Unlock }; whole = record
 pub over_at_quota : (v w : View) → w ≡ setting v → v.place.position ≡ position_in_run v → v.place.run ≡ QUOTA → w ≡ over v
 over_at_quota v w is at run =
     is ∙ (set_at_quota v at run ∙ ap (λ (y : Position). record v { place = (step_at y Plain (seen_by v) v.place).seat; whole = record v.whole { qdisc = (step_at y Plain v.whole.qdisc v.place).qdisc } })
-        (at ∙ ap (λ (k : ℕ). if k == QUOTA then Quota else begins v) run))
+    (at ∙ ap (λ (k : ℕ). if k == QUOTA then Quota else begins v) run))
 
 pub laid_at_quota : (v : View) (w : Solo) → v.place.position ≡ position_in_run v → v.place.run ≡ QUOTA → laid v w ≡ w
 laid_at_quota v w at run = ap (λ (y : Position). if is_some (in_hand y) then heard Back w else w) (at ∙ ap (λ (k : ℕ). if k == QUOTA then Quota else begins v) run)

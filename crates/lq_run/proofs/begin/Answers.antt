@@ -28,7 +28,7 @@ returns-then-try_run_lock-clause-got g c = λ _.
     let t = c.try_run_lock.ensures in let m = c.move_station.ensures in let got_ = t.got c.if-try_run_lock.true in let at_ = c.requires.at in
     let v = view c.args.cpu.now in let w = view c.move_station.new.cpu in
     begins_as_holder at_.0 c.args.cpu.now c.args.cpu.now c.try_run_lock.new.cpu c.move_station.new.cpu at_.1 c.requires.empty refl t.seat.1 got_ m.seat.1 m.moved
-        (ap (λ (x : View). x.share) (first_got at_.0 got_.0 v w at_.1 (m.seat.1 ∙ got_.1)).4) (first_leads at_.0 got_.0 v w at_.1 (m.seat.1 ∙ got_.1))
+    (ap (λ (x : View). x.share) (first_got at_.0 got_.0 v w at_.1 (m.seat.1 ∙ got_.1)).4) (first_leads at_.0 got_.0 v w at_.1 (m.seat.1 ∙ got_.1))
 
 pub returns-then-note_missed-clause-kept : goal.returns-then-note_missed-clause-kept
 returns-then-note_missed-clause-kept g c =
@@ -36,7 +36,7 @@ returns-then-note_missed-clause-kept g c =
     let v = view c.args.cpu.now in let m = view c.try_run_lock.new.cpu in let w = view c.note_missed.new.cpu in
     let one = first_locked at_.0 v m at_.1 (t.held c.if-try_run_lock.false).0 in
     kept_touched c.args.cpu.now c.note_missed.new.cpu (n.same.0.0 ∙ t.seat.0.0, n.same.0.1 ∙ t.seat.0.1) (n.same.2 ∙ t.seat.2)
-        (touches_then v m w one.0 (missed_touches at_.0 c.note_missed.result m w one.1 n.sets.0))
+    (touches_then v m w one.0 (missed_touches at_.0 c.note_missed.result m w one.1 n.sets.0))
 
 pub returns-then-note_missed-clause-sole : goal.returns-then-note_missed-clause-sole
 returns-then-note_missed-clause-sole g c = λ alone.
@@ -52,7 +52,7 @@ returns-then-try_run_lock-2-clause-kept g c =
     let v = view c.args.cpu.now in let m = view c.try_run_lock.new.cpu in let w = view c.note_missed.new.cpu in let x = view c.move_station-then-try_run_lock-2.new.cpu in
     let one = first_locked at_.0 v m at_.1 (t.held c.if-try_run_lock.false).0 in let d = u.got c.if-try_run_lock-2.true in
     kept_touched c.args.cpu.now c.move_station-then-try_run_lock-2.new.cpu (o.0.0 ∙ (u.seat.0.0 ∙ (n.same.0.0 ∙ t.seat.0.0)), o.0.1 ∙ (u.seat.0.1 ∙ (n.same.0.1 ∙ t.seat.0.1))) (o.2 ∙ (u.seat.2 ∙ (n.same.2 ∙ t.seat.2)))
-        (touches_then v m x one.0 (touches_then m w x (missed_touches at_.0 c.note_missed.result m w one.1 n.sets.0) (second_got at_.0 d.0 w x (missed_leads at_.0 m w one.1 c.if-note_missed.ensures.sets.0) (o.1 ∙ d.1))))
+    (touches_then v m x one.0 (touches_then m w x (missed_touches at_.0 c.note_missed.result m w one.1 n.sets.0) (second_got at_.0 d.0 w x (missed_leads at_.0 m w one.1 c.if-note_missed.ensures.sets.0) (o.1 ∙ d.1))))
 
 pub returns-then-try_run_lock-2-clause-got : goal.returns-then-try_run_lock-2-clause-got
 returns-then-try_run_lock-2-clause-got g c = λ _.
@@ -60,8 +60,8 @@ returns-then-try_run_lock-2-clause-got g c = λ _.
     let v = view c.args.cpu.now in let m = view c.try_run_lock.new.cpu in let w = view c.note_missed.new.cpu in let x = view c.move_station-then-try_run_lock-2.new.cpu in
     let held = t.held c.if-try_run_lock.false in let d = u.got c.if-try_run_lock-2.true in let missed = c.if-note_missed.ensures.sets.0 in
     begins_as_holder at_.0 c.args.cpu.now c.note_missed.new.cpu c.try_run_lock-2.new.cpu c.move_station-then-try_run_lock-2.new.cpu at_.1 c.requires.empty (n.same.3 ∙ held.1) (u.seat.1 ∙ (n.same.1 ∙ t.seat.1)) d o.seat.1 o.moved
-        (ap (λ (y : View). y.share) (second_got at_.0 d.0 w x (missed_leads at_.0 m w (first_locked at_.0 v m at_.1 held.0).1 missed) (o.seat.1 ∙ d.1)).4)
-        (second_leads at_.0 d.0 v m w x at_.1 held.0 missed (o.seat.1 ∙ d.1))
+    (ap (λ (y : View). y.share) (second_got at_.0 d.0 w x (missed_leads at_.0 m w (first_locked at_.0 v m at_.1 held.0).1 missed) (o.seat.1 ∙ d.1)).4)
+    (second_leads at_.0 d.0 v m w x at_.1 held.0 missed (o.seat.1 ∙ d.1))
 
 -- a seat that has the table alone and found the lock held finds it held once more
 pub returns-then-try_run_lock-2-clause-sole : goal.returns-then-try_run_lock-2-clause-sole
@@ -85,7 +85,7 @@ returns-clause-kept g c =
     let v = view c.args.cpu.now in let m = view c.try_run_lock.new.cpu in let w = view c.note_missed.new.cpu in let x = view c.try_run_lock-2.new.cpu in
     let one = first_locked at_.0 v m at_.1 (t.held c.if-try_run_lock.false).0 in
     kept_touched c.args.cpu.now c.try_run_lock-2.new.cpu (u.seat.0.0 ∙ (n.same.0.0 ∙ t.seat.0.0), u.seat.0.1 ∙ (n.same.0.1 ∙ t.seat.0.1)) (u.seat.2 ∙ (n.same.2 ∙ t.seat.2))
-        (touches_then v m x one.0 (touches_then m w x (missed_touches at_.0 c.note_missed.result m w one.1 n.sets.0) (second_locked at_.0 w x (missed_leads at_.0 m w one.1 c.if-note_missed.ensures.sets.0) (u.held c.if-try_run_lock-2.false).0)))
+    (touches_then v m x one.0 (touches_then m w x (missed_touches at_.0 c.note_missed.result m w one.1 n.sets.0) (second_locked at_.0 w x (missed_leads at_.0 m w one.1 c.if-note_missed.ensures.sets.0) (u.held c.if-try_run_lock-2.false).0)))
 
 pub returns-clause-sole : goal.returns-clause-sole
 returns-clause-sole g c = λ alone.

@@ -25,14 +25,14 @@ pub returns-in-Ok-clause-put : goal.returns-in-Ok-clause-put
 returns-in-Ok-clause-put g c =
     let e = c.in-Ok.ensures in let old = known c.args.cpu.now in let new = known c.produce.new.cpu in
     subst (λ (b : ℕ). Enqueues c.args.n b sending.Queued old.view new.view × Puts (setup c.args.shared.now) b c.args.n old new)
-        (band_read c.args.shared.now.infos.now c.infos.result.now c.args.n _ c.infos.ensures c.requires.packet.0) ((e.puts.0, e.sole, e.step), e.puts)
+    (band_read c.args.shared.now.infos.now c.infos.result.now c.args.n _ c.infos.ensures c.requires.packet.0) ((e.puts.0, e.sole, e.step), e.puts)
 
 pub returns-in-Err-clause-put : goal.returns-in-Err-clause-put
 returns-in-Err-clause-put g c =
     let e = c.in-Err.ensures in let s = c.settle.ensures in let old = known c.args.cpu.now in let full = known c.produce.new.cpu in let k = setup c.args.shared.now in let seen = c.in-Err.full.seen in
     let settled : view c.settle.new.cpu ≡ paying full.view = s.settled in let step : solo (view c.settle.new.cpu) ≡ solo full.view = s.step in
     let all = subst (λ (b : ℕ). FindsFull k b c.args.n seen old full × SeesEnd b old.view (seen + 1))
-        (band_read c.args.shared.now.infos.now c.infos.result.now c.args.n _ c.infos.ensures c.requires.packet.0) (e.puts, e.sole) in
+    (band_read c.args.shared.now.infos.now c.infos.result.now c.args.n _ c.infos.ensures c.requires.packet.0) (e.puts, e.sole) in
     ((settled ∙ ap paying e.puts.0, all.1, step ∙ e.step), full, all.0, s.made)
 
 pub produce-requires-clause-packet : goal.produce-requires-clause-packet

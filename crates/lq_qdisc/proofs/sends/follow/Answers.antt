@@ -25,7 +25,7 @@ pub returns-then-is_non_empty-clause-kept : goal.returns-then-is_non_empty-claus
 returns-then-is_non_empty-clause-kept g c =
     let l = c.load_state.ensures in let e = l.view in
     inside_from c.args.cpu.now c.load_state.new.cpu c.run_to_end.new.cpu l.same.0 (ap (λ (v : View). v.share) e) (ap (λ (v : View). v.packets) e) (ap (λ (v : View). v.locks) e) (ap (λ (v : View). v.control) e)
-        (ap (λ (v : View). v.turns) e) (ap (λ (v : View). v.trail) e) (ap (λ (v : View). v.whole.told) e) c.run_to_end.ensures.kept
+    (ap (λ (v : View). v.turns) e) (ap (λ (v : View). v.trail) e) (ap (λ (v : View). v.whole.told) e) c.run_to_end.ensures.kept
 
 pub returns-then-is_non_empty-clause-fates : goal.returns-then-is_non_empty-clause-fates
 returns-then-is_non_empty-clause-fates g c =

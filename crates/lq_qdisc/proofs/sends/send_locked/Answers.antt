@@ -67,7 +67,7 @@ pub returns-clause-kept : goal.returns-clause-kept
 returns-clause-kept g c =
     let l = c.recheck-state.ensures in let e = l.direct (sym c.is_non_empty.ensures ∙ c.if-is_non_empty.false) in
     let k = c.send_past.ensures.kept in called_from c.args.cpu.now c.recheck-state.new.cpu c.send_past.new.cpu l.same.0 (ap (λ (x : View). x.share) e) (ap (λ (x : View). x.control) e) (ap (λ (x : View). x.whole.told) e)
-        (record { seat = k.seat; share = k.share; control = k.control; told = k.told })
+    (record { seat = k.seat; share = k.share; control = k.control; told = k.told })
 
 pub returns-clause-fates : goal.returns-clause-fates
 returns-clause-fates g c =

@@ -72,6 +72,8 @@ pub returns-then-load_xoff-ne0-clause-taken : goal.returns-then-load_xoff-ne0-cl
 returns-then-load_xoff-ne0-clause-taken g c =
     let v = view c.args.cpu.now in let m = view c.load_xoff.new.cpu in let w = view c.maybe_clear_missed.new.cpu in let x = c.load_xoff.result in let l = c.load_xoff.ensures in let n = c.maybe_clear_missed.ensures in
     let e = stopped_at_dequeue x None v m l.view c.requires.at c.requires.slot c.if-load_xoff-ne0.true in let is = n.stopped.1 ∙ ap (λ (y : View). setting (loading n.stopped.0 (passing y))) l.view in
-    let most = c.requires.one in let queues = ap (λ (k : Setup). k.queues) c.requires.seat.2 in
-    (λ more. absurd (omega arith), subst (λ (o : Option ℕ). FindsStopped (option_map_or (queue_in c.args.shared.now.infos.now) o 0) v w) (sym c.requires.slot)
-        (finds_stopped 0 x n.stopped.0 _ v m w c.if-load_xoff-ne0.true e is n.heard n.holder n.sole (λ alone. stop_is 0 x v l.sole alone (ap holds_lock c.requires.at) c.requires.serving.3)))
+    let most = c.requires.one in let queues = ap (λ (k : Setup). k.queues) c.requires.seat.2 in (
+      λ more. absurd (omega arith),
+      subst (λ (o : Option ℕ). FindsStopped (option_map_or (queue_in c.args.shared.now.infos.now) o 0) v w) (sym c.requires.slot)
+          (finds_stopped 0 x n.stopped.0 _ v m w c.if-load_xoff-ne0.true e is n.heard n.holder n.sole (λ alone. stop_is 0 x v l.sole alone (ap holds_lock c.requires.at) c.requires.serving.3)),
+    )

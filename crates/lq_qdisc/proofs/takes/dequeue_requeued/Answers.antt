@@ -53,9 +53,11 @@ pub returns-then-load_xoff-ne0-clause-taken : goal.returns-then-load_xoff-ne0-cl
 returns-then-load_xoff-ne0-clause-taken g c =
     let v = view c.args.cpu.now in let m = view c.load_xoff.new.cpu in let w = view c.maybe_clear_missed.new.cpu in let x = c.load_xoff.result in let l = c.load_xoff.ensures in let a = c.maybe_clear_missed.ensures in
     let e = stopped_at_dequeue x (Some c.args.n) v m l.view c.requires.at c.requires.slot.0 c.if-load_xoff-ne0.true in let is = a.stopped.1 ∙ ap (λ (y : View). setting (loading a.stopped.0 (passing y))) l.view in
-    let queue = c.queue_of-queue.ensures ∙ ap (λ (o : Option ℕ). option_map_or (queue_in c.args.shared.now.infos.now) o 0) (sym c.requires.slot.0) in
-    (λ _. ap is_some c.requires.slot.0, subst (λ (q : ℕ). FindsStopped q v w) queue
-        (finds_stopped c.queue_of-queue.result x a.stopped.0 _ v m w c.if-load_xoff-ne0.true e is a.heard a.holder a.sole (λ alone. stop_is c.queue_of-queue.result x v l.sole alone (ap holds_lock c.requires.at) c.requires.serving.3)))
+    let queue = c.queue_of-queue.ensures ∙ ap (λ (o : Option ℕ). option_map_or (queue_in c.args.shared.now.infos.now) o 0) (sym c.requires.slot.0) in (
+      λ _. ap is_some c.requires.slot.0,
+      subst (λ (q : ℕ). FindsStopped q v w) queue
+          (finds_stopped c.queue_of-queue.result x a.stopped.0 _ v m w c.if-load_xoff-ne0.true e is a.heard a.holder a.sole (λ alone. stop_is c.queue_of-queue.result x v l.sole alone (ap holds_lock c.requires.at) c.requires.serving.3)),
+    )
 
 pub returns-then-load_xoff-ne0-clause-one : goal.returns-then-load_xoff-ne0-clause-one
 returns-then-load_xoff-ne0-clause-one g c = λ one alone.
@@ -75,14 +77,14 @@ returns-clause-serving g c =
     let e = t.same.3 ∙ opened_at_dequeue c.load_xoff.result (Some c.args.n) (view c.args.cpu.now) (view c.load_xoff.new.cpu) l.view c.requires.at c.requires.slot.0 c.if-load_xoff-ne0.false in
     let holder : (view c.take_requeued.new.cpu).holder ≡ record h { slot = None; hand = Some c.args.n } = ap (λ (v : View). v.holder) e in
     serving_with c.args.cpu.now c.take_requeued.new.cpu None (Some c.args.n) (t.same.2 ∙ l.same.3)
-        (t.station (shown h) (l.same.1 ∙ c.requires.serving.0.1) ∙ ap (λ (x : HolderPart). Some (shown x)) (sym holder)) holder (ap (λ (v : View). v.locks) e) c.requires.serving
+    (t.station (shown h) (l.same.1 ∙ c.requires.serving.0.1) ∙ ap (λ (x : HolderPart). Some (shown x)) (sym holder)) holder (ap (λ (v : View). v.locks) e) c.requires.serving
 
 pub returns-clause-taken : goal.returns-clause-taken
 returns-clause-taken g c =
     let v = view c.args.cpu.now in let w = view c.take_requeued.new.cpu in let n = c.args.n in
     let e = c.take_requeued.ensures.same.3 ∙ opened_at_dequeue c.load_xoff.result (Some n) v (view c.load_xoff.new.cpu) c.load_xoff.ensures.view c.requires.at c.requires.slot.0 c.if-load_xoff-ne0.false in
     subst (λ (o : Option ℕ). MatchOption o (FindsPacket n v w) (λ m. (m ≡ n) × Picks n v w)) (sym c.requires.slot.0)
-        (refl, record { is = e ∙ ap (λ (s : Seat). picking (Some n) (record v { place = s })) (sym (ap (λ (x : View). x.place) e)); step = ap solo e })
+    (refl, record { is = e ∙ ap (λ (s : Seat). picking (Some n) (record v { place = s })) (sym (ap (λ (x : View). x.place) e)); step = ap solo e })
 
 pub returns-clause-one : goal.returns-clause-one
 returns-clause-one g c = λ one alone.
