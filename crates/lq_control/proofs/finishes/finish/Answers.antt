@@ -136,6 +136,7 @@ returns-clause-at g c = let at = c.serve_to_end.ensures.at in let e = c.end_cont
 )
 
 pub serve_to_end-requires-clause-sole : goal.serve_to_end-requires-clause-sole
-serve_to_end-requires-clause-sole g c _ _ = let k = c.send_all_left.ensures.kept in let sole = c.requires.sole in
-    (sole_kept (view c.args.cpu.now) (view c.send_all_left.new.cpu) k.share k.told sole.0,
-     subst (λ (x : FirstPart). IsActiveOrPurged (record (view c.send_all_left.new.cpu) { control = x })) (sym k.control) sole.1)
+serve_to_end-requires-clause-sole g c _ _ = let k = c.send_all_left.ensures.kept in let sole = c.requires.sole in (
+  sole_kept (view c.args.cpu.now) (view c.send_all_left.new.cpu) k.share k.told sole.0,
+  subst (λ (x : FirstPart). IsActiveOrPurged (record (view c.send_all_left.new.cpu) { control = x })) (sym k.control) sole.1,
+)

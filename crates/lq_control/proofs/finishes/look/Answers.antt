@@ -38,8 +38,18 @@ returns-then-are_stops g c =
       same = looked_then c.args.cpu.now s w h.same moved;
       kept = kept_looked k (view s) (view w) moved.1 h.kept;
       shows = subst Hangs (sym e.same.1) (told_hangs k state (view s) h.told up c.args.shared.now.sized.4 (e.sole h.told.sole h.told.rest.shut c.if-are_stops.true));
-      looks = (lock, state, inr (up, inl (refl, subst (λ (x : Known). LoadsStops k 2 true x (known w)) h.from
-          (subst (λ (all : Bool). LoadsStops k 2 all (known s) (known w)) c.if-are_stops.true e.loads))));
+      looks = (
+        lock,
+        state,
+        inr (
+          up,
+          inl (
+            refl,
+            subst (λ (x : Known). LoadsStops k 2 true x (known w)) h.from
+                (subst (λ (all : Bool). LoadsStops k 2 all (known s) (known w)) c.if-are_stops.true e.loads),
+          ),
+        ),
+      );
     }
 
 pub returns-then-not-are_quiet : goal.returns-then-not-are_quiet
@@ -89,7 +99,7 @@ returns g c =
     let to_end = looked_then s two w to_two (looked_inside n two w settled i.same i.view) in
     let quiet = subst (λ (q : Bool). q ≡ true) c.are_quiet.ensures.quiet c.if-not-are_quiet.false in let made = both (known w) (with_inside_loaded n (known two)) i.view i.made in
     let stops = c.are_stops-open.ensures.sole (subst IsSole (sym first.1) h.told.sole) (ap (λ (x : View). x.whole.state.shut) first.1 ∙ h.told.rest.shut)
-        (c.are_quiet.ensures.opened c.if-not-are_quiet.false) in
+    (c.are_quiet.ensures.opened c.if-not-are_quiet.false) in
     let open_ = subst (AreStopsBelow k.queues 0) first.1 stops in record {
       same = looked_then c.args.cpu.now s w h.same to_end;
       kept = kept_looked k (view s) (view w) to_end.1 h.kept;

@@ -67,7 +67,7 @@ pub returns-clause-same : goal.returns-clause-same
 returns-clause-same g c =
     let v = view c.args.cpu.now in let got = c.take_lock.ensures.got in let locked = c.change_device-old.new.cpu in let opened = c.open_queues.ensures.opened in let whole = opened.0 in
     let e = swapped_is got.0 (unwrap_or locked.station no_station) whole v (view c.take_lock.new.cpu) (view locked) (view c.swap.new.cpu) (view c.open_queues.new.cpu) (view c.release.new.cpu)
-        got.1 (ap (λ (x : Known). x.view) c.change_device-old.ensures.same.3) c.swap.ensures.view opened.1 c.release.ensures.released in
+    got.1 (ap (λ (x : Known). x.view) c.change_device-old.ensures.same.3) c.swap.ensures.view opened.1 c.release.ensures.released in
     let c1 = c.take_lock.new.cpu in let c3 = c.swap.new.cpu in let c4 = c.open_queues.new.cpu in let c5 = c.release.new.cpu in
     let to_end = seat_then c3 c4 c5 c.open_queues.ensures.same.0 c.release.ensures.same.0 in let swaps = c.swap.ensures.view in
     let told = opened.2 ∙ (ap (λ (x : View). x.whole.told) swaps ∙ (ap (λ (x : Known). x.view.whole.told) c.change_device-old.ensures.same.3 ∙ ap (λ (x : View). x.whole.told) got.1)) in (
@@ -79,7 +79,7 @@ pub returns-clause-at : goal.returns-clause-at
 returns-clause-at g c =
     let v = view c.args.cpu.now in let got = c.take_lock.ensures.got in let locked = c.change_device-old.new.cpu in let opened = c.open_queues.ensures.opened in let whole = opened.0 in
     let e = swapped_is got.0 (unwrap_or locked.station no_station) whole v (view c.take_lock.new.cpu) (view locked) (view c.swap.new.cpu) (view c.open_queues.new.cpu) (view c.release.new.cpu)
-        got.1 (ap (λ (x : Known). x.view) c.change_device-old.ensures.same.3) c.swap.ensures.view opened.1 c.release.ensures.released in
+    got.1 (ap (λ (x : Known). x.view) c.change_device-old.ensures.same.3) c.swap.ensures.view opened.1 c.release.ensures.released in
     let ready = c.requires.at.2 in (
       ap (λ (x : View). x.place.position) e,
       (c.release.ensures.empty, ap (λ (x : View). x.packets) e ∙ ready.1, ap (λ (x : View). x.locks) e ∙ ready.2, ap (λ (x : View). x.holder.resizing) e ∙ got.5),
@@ -90,6 +90,6 @@ pub returns-clause-trail : goal.returns-clause-trail
 returns-clause-trail g c =
     let v = view c.args.cpu.now in let got = c.take_lock.ensures.got in let locked = c.change_device-old.new.cpu in let opened = c.open_queues.ensures.opened in let whole = opened.0 in
     let e = swapped_is got.0 (unwrap_or locked.station no_station) whole v (view c.take_lock.new.cpu) (view locked) (view c.swap.new.cpu) (view c.open_queues.new.cpu) (view c.release.new.cpu)
-        got.1 (ap (λ (x : Known). x.view) c.change_device-old.ensures.same.3) c.swap.ensures.view opened.1 c.release.ensures.released in
+    got.1 (ap (λ (x : Known). x.view) c.change_device-old.ensures.same.3) c.swap.ensures.view opened.1 c.release.ensures.released in
     ap (λ (x : View). x.trail) e
     ∙ ap (λ (o : Option StationState). Swap (unwrap_or o no_station).unit ∷ v.trail) (c.change_device-old.ensures.changed (view c.take_lock.new.cpu).holder c.take_lock.ensures.station.1).0

@@ -139,7 +139,7 @@ read_fates-requires-clause-stations g c κs within =
     let h = closed_state {D = g.row.D.Denot} {g = g.D.TxDevice} in let states = map g.D.TxDevice.state in
     let closed = map h c.run-spares.new.closed.items in
     let many = closed-many c.args.job.now.plan.now c.args.job.now.infos.now (length c.split_lanes.new.lanes.items) c.split_lanes.new.cpus.items (states c.args.units.spares.items)
-        closed (states c.run-spares.result.items) c.run-spares.ensures in
+    closed (states c.run-spares.result.items) c.run-spares.ensures in
     let long = length-map c.run-spares.new.closed.items h in let same = ap length c.as_slice-2.ensures.value in let few = c.stays_within_limits.ensures.stations in omega arith
 
 pub read_fates-requires-clause-places : goal.read_fates-requires-clause-places
