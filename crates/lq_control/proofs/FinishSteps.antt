@@ -121,6 +121,15 @@ module _ (k : Setup) (v : View) (made : AreFor k v) (done : AreAllDone k v.turns
 calm_raised : (s : Solo) → s.whole.missed ≡ false → (ended s).raised ≡ s.raised
 calm_raised s calm = ap (λ (b : Bool). (if b then sched_set s.whole.scheduled (locked_to false s) else locked_to false s).raised) calm
 
+-- What the purge of a hung station comes to, from the last look before the lock was taken to the end of the run: its event was
+-- heard, and what was taken is what the account held.
+pub record IsRunPurged (c : Cause) (v0 v2 v5 : View) : Type 0 where
+  pub step : solo v5 ≡ locked_to false (missed_to false (draining_to false (heard (Purge c) (solo v0))))
+  pub account : account_of v5 ≡ after (Purge c) (account_of v0)
+  pub lost : (bands : Three Band) → AreKnown v2 bands → all_purged v2.holder.slot bands ≡ held (account_of v0)
+  pub device : v5.whole.state.station.device ≡ v0.whole.state.station.device
+  pub raised : v5.place.raised ≡ v0.place.raised
+
 -- from the last look before the lock was taken to the end of the run
 module _ (c : Cause) (lost : List ℕ) (d : HolderPart) (v0 v1 v2 v4 v5 : View) (look : IsLook v0 v1) (got : v2 ≡ got_in_control d v1) (locks : solo v2 ≡ locked_to true (solo v1)) (known : IsAccounts v2) (purged : IsPurged c lost v2 v4)
     (state : v5.whole.state ≡ v4.whole.state) (share : v5.share ≡ v4.share) (ends : IsSole v4 → solo v5 ≡ ended (solo v4)) (sole : IsSole v0) where
@@ -161,6 +170,9 @@ module _ (c : Cause) (lost : List ℕ) (d : HolderPart) (v0 v1 v2 v4 v5 : View) 
 
   pub raised_five : v5.place.raised ≡ v0.place.raised
   raised_five = ap (λ (s : Solo). s.raised) (ends sole_four) ∙ (calm_raised (solo v4) (ap (λ (s : Solo). s.whole.missed) solo_four) ∙ (ap (λ (x : View). x.place.raised) purged.is ∙ (ap (λ (x : View). x.place.raised) got ∙ ap (λ (x : View). x.place.raised) look.1)))
+
+  pub run_purged : IsRunPurged c v0 v2 v5
+  run_purged = record { step = solo_five; account = account_five; lost = lost_is; device = device_five; raised = raised_five }
 
 -- control is as before the purge of an active station
 pub control_kept : (b c : FirstPart) → b.phase ≡ Active → b.purge ≡ None → c ≡ record b { phase = after_purge b.phase; purge = None } → c ≡ b
