@@ -11,6 +11,8 @@ use Rattle.lq_model.specs.declared.fate.Fate.TheVariants as fate
 use Rattle.lq_band.specs.Three.{Three, at}
 use Rattle.lq_band.specs.Ring.{IsAtRest}
 use Rattle.lq_table.specs.Views.{View, Setup, Left}
+use Rattle.lq_table.specs.Sees.{view, IsSameSeat}
+use Rattle.lq_table.specs.declared.shared.Cpu.{Cpu}
 use Rattle.lq_table.specs.Rule.{IsResting}
 use Rattle.lq_table.specs.Told.{IsKnownSlot}
 use Rattle.std.specs.Prelude.{IfSome}
@@ -31,6 +33,16 @@ pub record IsStill (v w : View) : Type 0 where
   pub locks : w.locks ≡ v.locks
   pub size : w.holder.size ≡ v.holder.size
   pub resizing : w.holder.resizing ≡ v.holder.resizing
+
+pub still_same : (v w : View) → w ≡ v → IsStill v w
+still_same v w e = record {
+  place = ap (λ (x : View). x.place) e;
+  share = ap (λ (x : View). x.share) e;
+  packets = ap (λ (x : View). x.packets) e;
+  locks = ap (λ (x : View). x.locks) e;
+  size = ap (λ (x : View). x.holder.size) e;
+  resizing = ap (λ (x : View). x.holder.resizing) e;
+}
 
 pub still_then : (v w x : View) → IsStill v w → IsStill w x → IsStill v x
 still_then v w x a b = record {
@@ -54,6 +66,28 @@ still_purged b u l v w p = record {
 
 pub rests_purged : (b : ℕ) (u : Purge) (l : Left) (v w : View) → IsBandPurged b u l v w → IsResting v.holder.size v.holder.ends → IsResting w.holder.size w.holder.ends
 rests_purged b u l v w p rests = subst (λ (x : View). IsResting x.holder.size x.holder.ends) (sym p.is) (rest_put v.holder.size b p.ends v.holder.ends rests p.rests)
+
+-- How far a purge has come: this band is next, with what is left; the seat is the one that it began with, the rings are at rest,
+-- and the rest is as the requeue slot's purge left it.
+module _ {D : Type 0} where
+  pub record IsComeTo (u : Purge) (l : Left) (paid : View) (begun now : Cpu D) : Type 0 where
+    pub seat : IsSameSeat begun now
+    pub still : IsStill paid (view now)
+    pub purge : (view now).control.purge ≡ Some u
+    pub left : (view now).holder.left ≡ Some l
+    pub rests : IsResting (view now).holder.size (view now).holder.ends
+
+  -- from one band to the next
+  pub comes_on : (b : ℕ) (u : Purge) (l : Left) (paid : View) (begun now next : Cpu D)
+      → IsComeTo u l paid begun now → IsSameSeat now next → IsBandPurged b u l (view now) (view next)
+      → IsComeTo (next_band u) (purged_by b (length (held_of (at b l.bands))) l) paid begun next
+  comes_on b u l paid begun now next h same p = record {
+    seat = (same.0 ∙ h.seat.0, same.1 ∙ h.seat.1);
+    still = still_then paid (view now) (view next) h.still (still_purged b u l (view now) (view next) p);
+    purge = ap (λ (x : View). x.control.purge) p.is;
+    left = ap (λ (x : View). x.holder.left) p.is;
+    rests = rests_purged b u l (view now) (view next) p h.rests;
+  }
 
 take_all : (ns : List ℕ) → take (length ns) ns ≡ ns
 take_all [] = refl
