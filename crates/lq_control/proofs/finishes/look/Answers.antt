@@ -1,109 +1,155 @@
-use Rattle.std.proofs.Common.{◌≡◌, Bool, true, false, inl, inr, refl, sym, ap, ◌∙◌, subst}
+use Rattle.std.proofs.Common.{◌≡◌, ℕ, Bool, true, false, None, inl, inr, refl, sym, ap, ◌∙◌, subst}
 use Rattle.std.specs.Prelude.{not, bit_and}
 use Rattle.std.proofs.lemmas.Bool.{eq-eqb}
 use Rattle.lq_table.specs.Sees.{view, known, setup}
-use Rattle.lq_table.specs.Solo.{IsSole}
+use Rattle.lq_table.specs.Solo.{IsSole, account_of}
 use Rattle.lq_table.specs.Told.{is_set}
-use Rattle.lq_table.specs.Views.{View}
+use Rattle.lq_table.specs.Views.{View, Setup}
 use Rattle.lq_table.specs.Made.{Known}
+use Rattle.lq_control.specs.declared.finishes.Seen.{Seen}
 use Rattle.lq_control.specs.declared.finishes.Seen.TheVariants as seen
-use Rattle.lq_control.specs.EndSteps.{LoadsStops}
-use Rattle.lq_control.specs.Finish.{AreStopsBelow, Hangs, IsActiveOrPurged}
+use Rattle.lq_control.specs.EndSteps.{LoadsStops, LooksBy, LooksInside, are_quiet}
+use Rattle.lq_control.specs.Finish.{AreKept, AreStopsBelow, Hangs, IsActiveOrPurged, IsLook}
 use Rattle.lq_control.specs.Steps.{with_inside_loaded}
 use Rattle.lq_control.proofs.StepLemmas.{both}
 use Rattle.lq_control.proofs.EndStepLemmas.{looks_on}
 use Rattle.lq_control.proofs.FinishLemmas.{not_eqb}
-use Rattle.lq_control.proofs.Looks.{looks_at, looked_then, looked_still, looked_inside, kept_looked, over_looked, up_looked, told_over, told_hangs, told_up, told_quiet}
+use Rattle.lq_control.proofs.Looks.{IsLooked, LooksAt, kept_looked, looked_inside, looked_still, looked_then, looks_at}
+use Rattle.lq_control.proofs.Looks.{over_looked, told_hangs, told_over, told_quiet, told_up, up_looked}
+use Rattle.lq_control.proofs.finishes.look.Given as given
 use Rattle.lq_control.proofs.finishes.look.Goals as goal
+use Rattle.lq_control.proofs.finishes.look.Goals.{After-are_stops-open, After-load_inside, After-load_state-state, Else-state-ne0}
+
+-- What the run lock and the state tell.
+module _ (g : given.Over) (c : After-load_state-state g) where
+  abbrev k : Setup
+  k = setup c.args.shared.now
+
+  abbrev state : ℕ
+  state = c.load_state-state.result
+
+  abbrev loaded : View
+  loaded = view c.load_state-state.new.cpu
+
+  words : LooksAt k c.load_lock-lock.result state c.args.cpu.now c.load_state-state.new.cpu
+  words =
+      let a = c.load_lock-lock.ensures in let b = c.load_state-state.ensures in let r = c.requires in
+      looks_at k c.load_lock-lock.result state c.args.cpu.now c.load_lock-lock.new.cpu c.load_state-state.new.cpu r.seat.2 r.at r.sole
+      a.same a.view a.alone a.made b.same b.view b.sole b.made
 
 pub returns-then-state-ne0 : goal.returns-then-state-ne0
 returns-then-state-ne0 g c =
-    let k = setup c.args.shared.now in let lock = c.load_lock-lock.result in let state = c.load_state-state.result in let s = c.load_state-state.new.cpu in
-    let a = c.load_lock-lock.ensures in let b = c.load_state-state.ensures in
-    let h = looks_at k lock state c.args.cpu.now c.load_lock-lock.new.cpu s c.requires.seat.2 c.requires.at c.requires.sole a.same a.view a.alone a.made b.same b.view b.sole b.made in
-    let down = ap not (not_eqb (bit_and state 2) 0 c.if-state-ne0.true) in record {
+    let h = words g c.before in let down = ap not (not_eqb (bit_and c.load_state-state.result 2) 0 c.if-state-ne0.true) in record {
       same = h.same;
       kept = h.kept;
-      shows = told_over k state (view s) h.told down;
-      looks = (lock, state, inl (down, refl, h.from));
+      shows = told_over (k g c.before) (state g c.before) (loaded g c.before) h.told down;
+      looks = (c.load_lock-lock.result, c.load_state-state.result, inl (down, refl, h.from));
     }
+
+-- It isn't deactivated, and this stays so by further looks.
+module _ (g : given.Over) (c : Else-state-ne0 g) where
+  up : is_set 2 c.load_state-state.result ≡ false
+  up = ap not (eq-eqb (bit_and c.load_state-state.result 2) 0 c.if-state-ne0.false)
+
+  kept : (w : View) → IsLook (loaded g c.before) w → AreKept (k g c.before) w
+  kept w look = kept_looked (k g c.before) (loaded g c.before) w look (words g c.before).kept
+
+  still_up : (w : View) → IsLook (loaded g c.before) w → (account_of w).down ≡ None
+  still_up w look =
+      let b = c.before in up_looked (loaded g b) w look (told_up (k g b) (state g b) (loaded g b) (words g b).told up)
 
 pub returns-then-are_stops : goal.returns-then-are_stops
 returns-then-are_stops g c =
-    let k = setup c.args.shared.now in let lock = c.load_lock-lock.result in let state = c.load_state-state.result in let s = c.load_state-state.new.cpu in
-    let a = c.load_lock-lock.ensures in let b = c.load_state-state.ensures in
-    let h = looks_at k lock state c.args.cpu.now c.load_lock-lock.new.cpu s c.requires.seat.2 c.requires.at c.requires.sole a.same a.view a.alone a.made b.same b.view b.sole b.made in
-    let up : is_set 2 state ≡ false = ap not (eq-eqb (bit_and state 2) 0 c.if-state-ne0.false) in
-    let w = c.are_stops.new.cpu in let e = c.are_stops.ensures in let moved = looked_still s w e.same in record {
-      same = looked_then c.args.cpu.now s w h.same moved;
-      kept = kept_looked k (view s) (view w) moved.1 h.kept;
-      shows = subst Hangs (sym e.same.1) (told_hangs k state (view s) h.told up c.args.shared.now.sized.4 (e.sole h.told.sole h.told.rest.shut c.if-are_stops.true));
-      looks = (
-        lock,
-        state,
-        inr (
-          up,
-          inl (
-            refl,
-            subst (λ (x : Known). LoadsStops k 2 true x (known w)) h.from
-                (subst (λ (all : Bool). LoadsStops k 2 all (known s) (known w)) c.if-are_stops.true e.loads),
-          ),
-        ),
-      );
+    let a = c.before.before.before in let b = a.before in let h = words g b in let e = c.are_stops.ensures in
+    let old = c.load_state-state.new.cpu in let new = c.are_stops.new.cpu in let moved = looked_still old new e.same in
+    let stops = e.sole h.told.sole h.told.rest.shut c.if-are_stops.true in
+    let loads = subst (λ (all : Bool). LoadsStops (k g b) 2 all (known old) (known new)) c.if-are_stops.true e.loads in
+    let hung = inl (refl, subst (λ (x : Known). LoadsStops (k g b) 2 true x (known new)) h.from loads) in record {
+      same = looked_then c.args.cpu.now old new h.same moved;
+      kept = kept g a (view new) moved.1;
+      shows = subst Hangs (sym e.same.1) (told_hangs (k g b) (state g b) (loaded g b) h.told (up g a) c.args.shared.now.sized.4 stops);
+      looks = (c.load_lock-lock.result, c.load_state-state.result, inr (up g a, hung));
     }
+
+-- What is known after both looks at the stop words, of which the first found that not all are hung.
+module _ (g : given.Over) (c : After-are_stops-open g) where
+  abbrev at_up : Else-state-ne0 g
+  at_up = c.before.before.before.before.before
+
+  abbrev at_words : After-load_state-state g
+  at_words = at_up.before
+
+  moved : IsLooked c.load_state-state.new.cpu c.are_stops-open.new.cpu
+  moved =
+      let old = c.load_state-state.new.cpu in let one = c.are_stops.new.cpu in let two = c.are_stops-open.new.cpu in
+      looked_then old one two (looked_still old one c.are_stops.ensures.same) (looked_still one two c.are_stops-open.ensures.same)
+
+  abbrev is_quiet : Bool
+  is_quiet = are_quiet c.are_stops-open.result c.load_lock-lock.result c.load_state-state.result
+
+  looks : (answer : Seen) (new : Known) → LooksInside is_quiet answer (known c.are_stops-open.new.cpu) new
+      → LooksBy (k g at_words) answer (known c.args.cpu.now) new
+  looks answer new rest =
+      let one = c.are_stops in let two = c.are_stops-open in
+      looks_on (k g at_words) c.load_lock-lock.result (state g at_words) answer (known c.args.cpu.now) (known c.load_state-state.new.cpu)
+      (known one.new.cpu) (known two.new.cpu) new one.result two.result (up g at_up) (words g at_words).from c.if-are_stops.false
+      one.ensures.loads two.ensures.loads rest
 
 pub returns-then-not-are_quiet : goal.returns-then-not-are_quiet
 returns-then-not-are_quiet g c =
-    let k = setup c.args.shared.now in let lock = c.load_lock-lock.result in let state = c.load_state-state.result in let s = c.load_state-state.new.cpu in
-    let a = c.load_lock-lock.ensures in let b = c.load_state-state.ensures in
-    let h = looks_at k lock state c.args.cpu.now c.load_lock-lock.new.cpu s c.requires.seat.2 c.requires.at c.requires.sole a.same a.view a.alone a.made b.same b.view b.sole b.made in
-    let up : is_set 2 state ≡ false = ap not (eq-eqb (bit_and state 2) 0 c.if-state-ne0.false) in
-    let one = c.are_stops.new.cpu in let two = c.are_stops-open.new.cpu in let first = c.are_stops.ensures.same in let second = c.are_stops-open.ensures.same in
-    let to_two = looked_then s one two (looked_still s one first) (looked_still one two second) in
+    let a = c.before.before in let two = c.are_stops-open.new.cpu in let to_two = moved g a in
     let busy = subst (λ (q : Bool). q ≡ false) c.are_quiet.ensures.quiet c.if-not-are_quiet.true in record {
-      same = looked_then c.args.cpu.now s two h.same to_two;
-      kept = kept_looked k (view s) (view two) to_two.1 h.kept;
-      shows = up_looked (view s) (view two) to_two.1 (told_up k state (view s) h.told up);
-      looks = looks_on k lock state seen.Going (known c.args.cpu.now) (known s) (known one) (known two) (known two) c.are_stops.result c.are_stops-open.result up h.from c.if-are_stops.false
-          c.are_stops.ensures.loads c.are_stops-open.ensures.loads (inl (busy, refl, refl));
+      same = looked_then c.args.cpu.now c.load_state-state.new.cpu two (words g (at_words g a)).same to_two;
+      kept = kept g (at_up g a) (view two) to_two.1;
+      shows = still_up g (at_up g a) (view two) to_two.1;
+      looks = looks g a seen.Going (known two) (inl (busy, refl, refl));
     }
+
+-- What is known once the calls inside are loaded.
+module _ (g : given.Over) (c : After-load_inside g) where
+  abbrev at_stops : After-are_stops-open g
+  at_stops = c.before.before.before.before
+
+  to_end : IsLooked c.load_state-state.new.cpu c.load_inside.new.cpu
+  to_end =
+      let i = c.load_inside.ensures in let two = c.are_stops-open.new.cpu in let b = words g (at_words g at_stops) in
+      let settled = subst IsActiveOrPurged (sym (c.are_stops-open.ensures.same.1 ∙ c.are_stops.ensures.same.1)) b.told.settled in
+      looked_then c.load_state-state.new.cpu two c.load_inside.new.cpu (moved g at_stops)
+      (looked_inside c.load_inside.result two c.load_inside.new.cpu settled i.same i.view)
+
+  quiet : is_quiet g at_stops ≡ true
+  quiet = subst (λ (q : Bool). q ≡ true) c.are_quiet.ensures.quiet c.if-not-are_quiet.false
+
+  made : known c.load_inside.new.cpu ≡ with_inside_loaded c.load_inside.result (known c.are_stops-open.new.cpu)
+  made =
+      let i = c.load_inside.ensures in
+      both (known c.load_inside.new.cpu) (with_inside_loaded c.load_inside.result (known c.are_stops-open.new.cpu)) i.view i.made
+
+  same : IsLooked c.args.cpu.now c.load_inside.new.cpu
+  same = looked_then c.args.cpu.now c.load_state-state.new.cpu c.load_inside.new.cpu (words g (at_words g at_stops)).same to_end
+
+  kept_to_end : AreKept (setup c.args.shared.now) (view c.load_inside.new.cpu)
+  kept_to_end = kept g (at_up g at_stops) (view c.load_inside.new.cpu) to_end.1
 
 pub returns-then-load_inside-ne0 : goal.returns-then-load_inside-ne0
 returns-then-load_inside-ne0 g c =
-    let k = setup c.args.shared.now in let lock = c.load_lock-lock.result in let state = c.load_state-state.result in let s = c.load_state-state.new.cpu in
-    let a = c.load_lock-lock.ensures in let b = c.load_state-state.ensures in
-    let h = looks_at k lock state c.args.cpu.now c.load_lock-lock.new.cpu s c.requires.seat.2 c.requires.at c.requires.sole a.same a.view a.alone a.made b.same b.view b.sole b.made in
-    let up : is_set 2 state ≡ false = ap not (eq-eqb (bit_and state 2) 0 c.if-state-ne0.false) in
-    let one = c.are_stops.new.cpu in let two = c.are_stops-open.new.cpu in let first = c.are_stops.ensures.same in let second = c.are_stops-open.ensures.same in
-    let to_two = looked_then s one two (looked_still s one first) (looked_still one two second) in
-    let w = c.load_inside.new.cpu in let i = c.load_inside.ensures in let n = c.load_inside.result in let settled = subst IsActiveOrPurged (sym (second.1 ∙ first.1)) h.told.settled in
-    let to_end = looked_then s two w to_two (looked_inside n two w settled i.same i.view) in
-    let quiet = subst (λ (q : Bool). q ≡ true) c.are_quiet.ensures.quiet c.if-not-are_quiet.false in let made = both (known w) (with_inside_loaded n (known two)) i.view i.made in
-    record {
-      same = looked_then c.args.cpu.now s w h.same to_end;
-      kept = kept_looked k (view s) (view w) to_end.1 h.kept;
-      shows = up_looked (view s) (view w) to_end.1 (told_up k state (view s) h.told up);
-      looks = looks_on k lock state seen.Going (known c.args.cpu.now) (known s) (known one) (known two) (known w) c.are_stops.result c.are_stops-open.result up h.from c.if-are_stops.false
-          c.are_stops.ensures.loads c.are_stops-open.ensures.loads (inr (quiet, n, inr (c.if-load_inside-ne0.true, refl), made));
+    let b = c.before in let a = at_stops g b in let w = c.load_inside.new.cpu in record {
+      same = same g b;
+      kept = kept_to_end g b;
+      shows = still_up g (at_up g a) (view w) (to_end g b).1;
+      looks = looks g a seen.Going (known w) (inr (quiet g b, c.load_inside.result, inr (c.if-load_inside-ne0.true, refl), made g b));
     }
 
 pub returns : goal.returns
 returns g c =
-    let k = setup c.args.shared.now in let lock = c.load_lock-lock.result in let state = c.load_state-state.result in let s = c.load_state-state.new.cpu in
-    let a = c.load_lock-lock.ensures in let b = c.load_state-state.ensures in
-    let h = looks_at k lock state c.args.cpu.now c.load_lock-lock.new.cpu s c.requires.seat.2 c.requires.at c.requires.sole a.same a.view a.alone a.made b.same b.view b.sole b.made in
-    let up : is_set 2 state ≡ false = ap not (eq-eqb (bit_and state 2) 0 c.if-state-ne0.false) in
-    let one = c.are_stops.new.cpu in let two = c.are_stops-open.new.cpu in let first = c.are_stops.ensures.same in let second = c.are_stops-open.ensures.same in
-    let to_two = looked_then s one two (looked_still s one first) (looked_still one two second) in
-    let w = c.load_inside.new.cpu in let i = c.load_inside.ensures in let n = c.load_inside.result in let settled = subst IsActiveOrPurged (sym (second.1 ∙ first.1)) h.told.settled in
-    let to_end = looked_then s two w to_two (looked_inside n two w settled i.same i.view) in
-    let quiet = subst (λ (q : Bool). q ≡ true) c.are_quiet.ensures.quiet c.if-not-are_quiet.false in let made = both (known w) (with_inside_loaded n (known two)) i.view i.made in
-    let stops = c.are_stops-open.ensures.sole (subst IsSole (sym first.1) h.told.sole) (ap (λ (x : View). x.whole.state.shut) first.1 ∙ h.told.rest.shut)
-    (c.are_quiet.ensures.opened c.if-not-are_quiet.false) in
-    let open_ = subst (AreStopsBelow k.queues 0) first.1 stops in record {
-      same = looked_then c.args.cpu.now s w h.same to_end;
-      kept = kept_looked k (view s) (view w) to_end.1 h.kept;
-      shows = over_looked (view s) (view w) to_end.1 (told_quiet k state (view s) h.told c.are_stops-open.result lock up quiet open_);
-      looks = looks_on k lock state seen.Ended (known c.args.cpu.now) (known s) (known one) (known two) (known w) c.are_stops.result c.are_stops-open.result up h.from c.if-are_stops.false
-          c.are_stops.ensures.loads c.are_stops-open.ensures.loads (inr (quiet, n, inl (c.if-load_inside-ne0.false, refl), made));
+    let b = c.before in let a = at_stops g b in let d = at_words g a in let t = (words g d).told in let w = c.load_inside.new.cpu in
+    let first = c.are_stops.ensures.same.1 in let opened = c.are_quiet.ensures.opened c.if-not-are_quiet.false in
+    let shut = ap (λ (x : View). x.whole.state.shut) first ∙ t.rest.shut in
+    let stops = c.are_stops-open.ensures.sole (subst IsSole (sym first) t.sole) shut opened in
+    let all_open = subst (AreStopsBelow (k g d).queues 0) first stops in
+    let over = told_quiet (k g d) (state g d) (loaded g d) t c.are_stops-open.result _ (up g (at_up g a)) (quiet g b) all_open in record {
+      same = same g b;
+      kept = kept_to_end g b;
+      shows = over_looked (loaded g d) (view w) (to_end g b).1 over;
+      looks = looks g a seen.Ended (known w) (inr (quiet g b, c.load_inside.result, inl (c.if-load_inside-ne0.false, refl), made g b));
     }
