@@ -9,7 +9,8 @@ use Rattle.lq_model.specs.declared.fate.Info.{Info}
 use Rattle.lq_account.specs.OneQueue.{AreOfOneQueue, IsFinishedByRounds, IsOfOneQueue, IsServedByTurns, offered_next, stop_of}
 use Rattle.lq_account.proofs.OneQueue.{one_clean, one_done, one_opened, one_purged}
 use Rattle.lq_account.proofs.Purges.{purge_empties}
-use Rattle.lq_account.proofs.Rounds.{IsEnded, IsServed, finished_done, finished_next, is_served, rounds_end}
+use Rattle.lq_account.proofs.EndRounds.{finished_done}
+use Rattle.lq_account.proofs.Rounds.{IsEnded, IsServed, finished_next, is_served, rounds_end}
 use Rattle.lq_account.proofs.Taken.{held_none, next_none}
 use Rattle.lq_account.proofs.Turns.{HasOneQueue, is_turned, left_open, left_stopped, served_left, served_open, turn_served, turns_left, turns_none}
 
@@ -164,8 +165,8 @@ finished_by_rounds infos s queues of_one = record {
   done = (done-to infos queues s one, done-from infos queues s one);
   wakes = wakes infos queues s one;
   goes_on = finished_next infos queues s one;
-  hung = λ done hung. finished_done infos queues s done ∙ ap (λ account. record s { account = account }) (purges infos queues s one hung);
-  ends = λ done other. finished_done infos queues s done ∙ ap (λ account. record s { account = account }) (keeps infos queues s one other);
+  hung = λ done hung. finished_done infos s done ∙ ap (λ account. record s { account = account }) (purges infos queues s one hung);
+  ends = λ done other. finished_done infos s done ∙ ap (λ account. record s { account = account }) (keeps infos queues s one other);
   nothing_held = λ active. purged-holds-nothing infos queues (finished_rounds infos (length (held s.account) + 1) s)
       (rounds_end infos queues (length (held s.account) + 1) s one active (omega arith));
 }

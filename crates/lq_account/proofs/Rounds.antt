@@ -1,11 +1,12 @@
 -- The end of a station with one queue: it is woken and served until it is done.
-use Rattle.std.proofs.Common.{◌≡◌, ◌≢◌, ℕ, zero, suc, ◌+◌, ◌-◌, ◌<◌, ◌≤◌, Bool, true, false, ◌||◌, List, [], ◌∷◌, ◌⊎◌, inl, inr, length, Option, Some, None, is_some, is_none, refl, sym, ap, subst, ◌∙◌, add-one, suc-add, zero-add, arith}
+use Rattle.std.proofs.Common.{◌≡◌, ◌≢◌, ℕ, zero, suc, ◌+◌, ◌<◌, ◌≤◌, Bool, true, false, ◌||◌, List, [], ◌∷◌, ◌⊎◌, inl, inr, length, Option, Some, None, is_some, is_none, refl, sym, ap, subst, ◌∙◌, arith}
 use Rattle.std.specs.Prelude.{slice_set}
-use Rattle.std.proofs.lemmas.Bool.{cond-true, cond-false, cases_eq, cases_lt, cases_Bool, or_parts, true≢false}
+use Rattle.std.proofs.lemmas.Bool.{cases_eq, cases_lt, cases_Bool, or_parts, true≢false}
 use Rattle.lq_model.specs.Account.{Account, Event, Wake, held, after}
-use Rattle.lq_model.specs.Alone.{RunningStation, cleaned, finished, finished_rounds, is_done, is_left, next_taken, opened, purged_if_hung, served, served_turns, turns_of}
+use Rattle.lq_model.specs.Alone.{RunningStation, cleaned, finished, finished_rounds, is_done, is_left, next_taken, opened, served, served_turns, turns_of}
 use Rattle.lq_model.specs.Plan.{queue_in}
 use Rattle.lq_model.specs.declared.fate.Info.{Info}
+use Rattle.lq_account.proofs.EndRounds.{finished_round, rounds_done, rounds_next}
 use Rattle.lq_account.proofs.OneQueue.{one_done, one_opened}
 use Rattle.lq_account.proofs.Taken.{held_none, next_none}
 use Rattle.lq_account.proofs.Turns.{HasOneQueue, IsTurned, after_turn, is_turned, left_open, left_stopped, served_open, turn_served, turns_left, turns_none}
@@ -186,37 +187,6 @@ module _ (infos : List Info) (queues : (m : ℕ) → queue_in infos m ≡ 0) whe
       fewer (inl some) = inl (let below : length (held (served infos (opened s)).account) < length (held (opened s).account) = after_it.fewer woken.stops some in omega (arith, same_length))
       fewer (inr none) = let nothing = no-element _ none in inr (ap (λ (t : RunningStation). is_done t.account) (stays nothing) ∙ done-open (opened s).account woken.stops nothing)
 
-  rounds-done : (rounds : ℕ) (s : RunningStation) → is_done s.account ≡ true → finished_rounds infos rounds s ≡ s
-  rounds-done zero s is_done_now = refl
-  rounds-done (suc rounds) s is_done_now = cond-true _ _ _ is_done_now
-
-  rounds-next : (rounds : ℕ) (s : RunningStation) → is_done s.account ≡ false → finished_rounds infos (suc rounds) s ≡ finished_rounds infos rounds (served infos (opened s))
-  rounds-next rounds s not_done = cond-false _ _ _ not_done
-
-  -- as many rounds as packets are held, and one more, are enough
-  rounds-enough : (rounds : ℕ) (s : RunningStation) → HasOneQueue s → length (held s.account) < rounds → finished_rounds infos (suc rounds) s ≡ finished_rounds infos rounds s
-  rounds-enough zero s one more = absurd (omega arith)
-  rounds-enough (suc rounds) s one more =
-      by_done (λ fewer next. rounds-enough rounds (served infos (opened s)) next (omega arith)) (cases_Bool (is_done s.account))
-    where
-      by_fewer : (length (held (served infos (opened s)).account) < length (held s.account)
-          → HasOneQueue (served infos (opened s)) → finished_rounds infos (suc rounds) (served infos (opened s)) ≡ finished_rounds infos rounds (served infos (opened s)))
-          → (length (held (served infos (opened s)).account) < length (held s.account)) ⊎ (is_done (served infos (opened s)).account ≡ true)
-          → HasOneQueue (served infos (opened s)) → finished_rounds infos (suc rounds) (served infos (opened s)) ≡ finished_rounds infos rounds (served infos (opened s))
-      by_fewer again (inl fewer) next = again fewer next
-      by_fewer again (inr done) next = rounds-done (suc rounds) _ done ∙ sym (rounds-done rounds _ done)
-
-      by_done : (length (held (served infos (opened s)).account) < length (held s.account)
-          → HasOneQueue (served infos (opened s)) → finished_rounds infos (suc rounds) (served infos (opened s)) ≡ finished_rounds infos rounds (served infos (opened s)))
-          → (is_done s.account ≡ true) ⊎ (is_done s.account ≡ false) → finished_rounds infos (suc (suc rounds)) s ≡ finished_rounds infos (suc rounds) s
-      by_done again (inl done) = rounds-done (suc (suc rounds)) s done ∙ sym (rounds-done (suc rounds) s done)
-      by_done again (inr not_done) = let round = is_round s one not_done in
-          rounds-next (suc rounds) s not_done ∙ by_fewer again round.fewer round.one ∙ sym (rounds-next rounds s not_done)
-
-  rounds-more : (more rounds : ℕ) (s : RunningStation) → HasOneQueue s → length (held s.account) < rounds → finished_rounds infos (more + rounds) s ≡ finished_rounds infos rounds s
-  rounds-more zero rounds s one enough = ap (λ n. finished_rounds infos n s) (zero-add rounds)
-  rounds-more (suc more) rounds s one enough = ap (λ n. finished_rounds infos n s) (suc-add more rounds) ∙ rounds-enough (more + rounds) s one (omega arith) ∙ rounds-more more rounds s one enough
-
   -- they leave the station done, and an active one active
   pub rounds_end : (rounds : ℕ) (s : RunningStation) → HasOneQueue s → s.account.down ≡ None → length (held s.account) < rounds → IsEnded (finished_rounds infos rounds s)
   rounds_end zero s one active enough = absurd (omega arith)
@@ -226,32 +196,15 @@ module _ (infos : List Info) (queues : (m : ℕ) → queue_in infos m ≡ 0) whe
           → IsRound s (served infos (opened s)) → (length (held (served infos (opened s)).account) < length (held s.account)) ⊎ (is_done (served infos (opened s)).account ≡ true)
           → IsEnded (finished_rounds infos rounds (served infos (opened s)))
       goes-on again round (inl fewer) = again fewer
-      goes-on again round (inr done) = subst IsEnded (sym (rounds-done rounds (served infos (opened s)) done)) (record { one = round.one; active = round.active; done = done })
+      goes-on again round (inr done) = subst IsEnded (sym (rounds_done infos rounds (served infos (opened s)) done)) (record { one = round.one; active = round.active; done = done })
 
       by_done : (length (held (served infos (opened s)).account) < length (held s.account) → HasOneQueue (served infos (opened s)) → (served infos (opened s)).account.down ≡ None
           → IsEnded (finished_rounds infos rounds (served infos (opened s))))
           → (is_done s.account ≡ true) ⊎ (is_done s.account ≡ false) → IsEnded (finished_rounds infos (suc rounds) s)
-      by_done again (inl done) = subst IsEnded (sym (rounds-done (suc rounds) s done)) (record { one = one; active = active; done = done })
+      by_done again (inl done) = subst IsEnded (sym (rounds_done infos (suc rounds) s done)) (record { one = one; active = active; done = done })
       by_done again (inr not_done) = let round = is_round s one not_done in
-          subst IsEnded (sym (rounds-next rounds s not_done)) (goes-on (λ fewer. again fewer round.one round.active) round round.fewer)
+          subst IsEnded (sym (rounds_next infos rounds s not_done)) (goes-on (λ fewer. again fewer round.one round.active) round round.fewer)
 
-  -- a station that is done is finished but for its purge
-  pub finished_done : (s : RunningStation) → is_done s.account ≡ true → finished infos s ≡ record s { account = purged_if_hung s.account }
-  finished_done s done = ap {A = RunningStation} {B = RunningStation} (λ t. record t { account = purged_if_hung t.account }) (rounds-done (length (held s.account) + 1) s done)
-
-  -- and another is as it is after a round
+  -- and one that isn't done is finished as it is after a round
   pub finished_next : (s : RunningStation) → HasOneQueue s → is_done s.account ≡ false → finished infos s ≡ finished infos (served infos (opened s))
-  finished_next s one not_done = ap {A = RunningStation} {B = RunningStation} (λ t. record t { account = purged_if_hung t.account })
-      (ap (λ rounds. finished_rounds infos rounds s) (add-one (length (held s.account))) ∙ rounds-next (length (held s.account)) s not_done ∙ same round.fewer)
-    where
-      round : IsRound s (served infos (opened s))
-      round = is_round s one not_done
-
-      same : (length (held (served infos (opened s)).account) < length (held s.account)) ⊎ (is_done (served infos (opened s)).account ≡ true)
-          → finished_rounds infos (length (held s.account)) (served infos (opened s)) ≡ finished_rounds infos (length (held (served infos (opened s)).account) + 1) (served infos (opened s))
-      same (inl fewer) =
-          ap (λ rounds. finished_rounds infos rounds (served infos (opened s))) (omega arith)
-          ∙ rounds-more (length (held s.account) - (length (held (served infos (opened s)).account) + 1)) (length (held (served infos (opened s)).account) + 1) (served infos (opened s)) round.one (omega arith)
-      same (inr done) =
-          rounds-done (length (held s.account)) (served infos (opened s)) done
-          ∙ sym (rounds-done (length (held (served infos (opened s)).account) + 1) (served infos (opened s)) done)
+  finished_next = finished_round infos HasOneQueue (λ s one not_done. let round = is_round s one not_done in (round.one, round.fewer))

@@ -3,6 +3,7 @@ use Rattle.std.proofs.Common.{◌≡◌, ◌≢◌, ◌⊎◌, inl, inr, ℕ, �
 use Rattle.std.specs.Prelude.{is_some, is_none, slice_index, ◌||◌, ◌&&◌, if◌then◌else◌}
 use Rattle.std.proofs.lemmas.Bool.{and_from, and_parts, cases_Bool, cases_lt, or_cases, or_left, or_right, true≢false}
 use Rattle.std.proofs.lemmas.List.{get_or_past}
+use Rattle.lq_account.proofs.EndRounds.{finished_done}
 use Rattle.lq_account.proofs.Purges.{purge_empties}
 use Rattle.lq_model.specs.Account.{Account, Purge, after, held, is_all_open, is_hung, with_fates}
 use Rattle.lq_account.proofs.Taken.{next_none}
@@ -13,7 +14,7 @@ use Rattle.lq_model.specs.declared.fate.Info.{Info}
 use Rattle.lq_table.specs.Solo.{Solo}
 use Rattle.lq_qdisc.specs.Alone.{IsAlone, Does, account_in, running}
 use Rattle.lq_qdisc.proofs.AloneRests.{rests_served}
-use Rattle.lq_control.proofs.Rounds.{all_of, each_of, finished_done, finished_next, is_round, opened_none}
+use Rattle.lq_control.proofs.Rounds.{all_of, each_of, finished_next, is_round, opened_none}
 use Rattle.lq_control.specs.Ending.{IsEndedAlike, IsFinishedAlone, cleared_if_hung, purged_as_hung}
 
 none-some : {X : Type 0} (o : Option X) → o ≡ None → IsSome o → ⊥

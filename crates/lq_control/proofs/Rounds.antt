@@ -1,13 +1,14 @@
 -- The end of a station of the run of one sender: it is woken and served until it is done.
-use Rattle.std.proofs.Common.{◌≡◌, ◌≢◌, ◌⊎◌, inl, inr, ℕ, zero, suc, ◌+◌, ◌-◌, ◌<◌, ◌≤◌, ◌==◌, Bool, true, false, ◌&&◌, ◌||◌, List, [], ◌∷◌, length, Option, Some, None, is_some, is_none, option_to_list, if◌then◌else◌, refl, sym, ap, subst, ◌∙◌, add-one, suc-add, zero-add, arith, length-set, get_or-set_same, get_or-set_other}
+use Rattle.std.proofs.Common.{◌≡◌, ◌≢◌, ◌⊎◌, inl, inr, ℕ, zero, suc, ◌+◌, ◌-◌, ◌<◌, ◌≤◌, ◌==◌, Bool, true, false, ◌&&◌, ◌||◌, List, [], ◌∷◌, length, Option, Some, None, is_some, is_none, option_to_list, if◌then◌else◌, refl, sym, ap, subst, ◌∙◌, arith, length-set, get_or-set_same, get_or-set_other}
 use Rattle.std.specs.Prelude.{slice_index, slice_set}
 use Rattle.std.specs.List.{list_all}
-use Rattle.std.proofs.lemmas.Bool.{and_from, and_parts, cases_Bool, cases_eq, cases_lt, cond-true, cond-false, eq-eqb, eqb-true, ne_eqb, or_right, or_parts, true≢false}
+use Rattle.std.proofs.lemmas.Bool.{and_from, and_parts, cases_eq, cases_lt, cond-true, cond-false, eq-eqb, eqb-true, ne_eqb, or_right, or_parts, true≢false}
 use Rattle.std.proofs.lemmas.List.{get_or_past}
+use Rattle.lq_account.proofs.EndRounds.{finished_round}
 use Rattle.lq_account.proofs.Taken.{IsInHand, held_none, in_hand, length_held, next_none, turn_of}
 use Rattle.lq_account.proofs.Turns.{served_left, served_open, turns_left, turns_none}
 use Rattle.lq_model.specs.Account.{Account, Event, Wake, after, held, is_all_open, is_hung, is_open}
-use Rattle.lq_model.specs.Alone.{RunningStation, cleaned, finished, finished_rounds, is_done, next_taken, opened, opened_queue, opened_up_to, purged_if_hung, queue_in_hand, served, served_turns, turns_of}
+use Rattle.lq_model.specs.Alone.{RunningStation, cleaned, finished, is_done, next_taken, opened, opened_queue, opened_up_to, queue_in_hand, served, served_turns, turns_of}
 use Rattle.lq_model.specs.declared.fate.Info.{Info}
 use Rattle.lq_qdisc.specs.Stations.{AreStopValues, IsBetweenOffers, may_take}
 use Rattle.lq_qdisc.proofs.AloneOffers.{HoldsSame}
@@ -246,54 +247,6 @@ module _ (infos : List Info) where
       fewer (inl some) = inl (let below : length (held (served infos (opened s)).account) < length (held (opened s).account) = after_it.fewer woken.opens some in omega (arith, same_length))
       fewer (inr none) = let nothing = no-element _ none in inr (ap (λ (t : RunningStation). is_done t.account) (stays nothing) ∙ done-open (opened s).account woken.opens nothing)
 
-  rounds-done : (rounds : ℕ) (s : RunningStation) → is_done s.account ≡ true → finished_rounds infos rounds s ≡ s
-  rounds-done zero s is_done_now = refl
-  rounds-done (suc rounds) s is_done_now = cond-true _ _ _ is_done_now
-
-  rounds-next : (rounds : ℕ) (s : RunningStation) → is_done s.account ≡ false → finished_rounds infos (suc rounds) s ≡ finished_rounds infos rounds (served infos (opened s))
-  rounds-next rounds s not_done = cond-false _ _ _ not_done
-
-  -- as many rounds as packets are held, and one more, are enough
-  rounds-enough : (rounds : ℕ) (s : RunningStation) → IsBetweenOffers s → length (held s.account) < rounds → finished_rounds infos (suc rounds) s ≡ finished_rounds infos rounds s
-  rounds-enough zero s one more = absurd (omega arith)
-  rounds-enough (suc rounds) s one more =
-      by_done (λ fewer next. rounds-enough rounds (served infos (opened s)) next (omega arith)) (cases_Bool (is_done s.account))
-    where
-      by_fewer : (length (held (served infos (opened s)).account) < length (held s.account)
-          → IsBetweenOffers (served infos (opened s)) → finished_rounds infos (suc rounds) (served infos (opened s)) ≡ finished_rounds infos rounds (served infos (opened s)))
-          → (length (held (served infos (opened s)).account) < length (held s.account)) ⊎ (is_done (served infos (opened s)).account ≡ true)
-          → IsBetweenOffers (served infos (opened s)) → finished_rounds infos (suc rounds) (served infos (opened s)) ≡ finished_rounds infos rounds (served infos (opened s))
-      by_fewer again (inl fewer) next = again fewer next
-      by_fewer again (inr done) next = rounds-done (suc rounds) _ done ∙ sym (rounds-done rounds _ done)
-
-      by_done : (length (held (served infos (opened s)).account) < length (held s.account)
-          → IsBetweenOffers (served infos (opened s)) → finished_rounds infos (suc rounds) (served infos (opened s)) ≡ finished_rounds infos rounds (served infos (opened s)))
-          → (is_done s.account ≡ true) ⊎ (is_done s.account ≡ false) → finished_rounds infos (suc (suc rounds)) s ≡ finished_rounds infos (suc rounds) s
-      by_done again (inl done) = rounds-done (suc (suc rounds)) s done ∙ sym (rounds-done (suc rounds) s done)
-      by_done again (inr not_done) = let round = is_round s one not_done in
-          rounds-next (suc rounds) s not_done ∙ by_fewer again round.fewer round.between ∙ sym (rounds-next rounds s not_done)
-
-  rounds-more : (more rounds : ℕ) (s : RunningStation) → IsBetweenOffers s → length (held s.account) < rounds → finished_rounds infos (more + rounds) s ≡ finished_rounds infos rounds s
-  rounds-more zero rounds s one enough = ap (λ n. finished_rounds infos n s) (zero-add rounds)
-  rounds-more (suc more) rounds s one enough = ap (λ n. finished_rounds infos n s) (suc-add more rounds) ∙ rounds-enough (more + rounds) s one (omega arith) ∙ rounds-more more rounds s one enough
-
-  -- a station that is done is finished but for its purge
-  pub finished_done : (s : RunningStation) → is_done s.account ≡ true → finished infos s ≡ record s { account = purged_if_hung s.account }
-  finished_done s done = ap {A = RunningStation} {B = RunningStation} (λ t. record t { account = purged_if_hung t.account }) (rounds-done (length (held s.account) + 1) s done)
-
-  -- and another is as it is after a round
+  -- a station that isn't done is finished as it is after a round
   pub finished_next : (s : RunningStation) → IsBetweenOffers s → is_done s.account ≡ false → finished infos s ≡ finished infos (served infos (opened s))
-  finished_next s one not_done = ap {A = RunningStation} {B = RunningStation} (λ t. record t { account = purged_if_hung t.account })
-      (ap (λ rounds. finished_rounds infos rounds s) (add-one (length (held s.account))) ∙ rounds-next (length (held s.account)) s not_done ∙ same round.fewer)
-    where
-      round : IsRound s (served infos (opened s))
-      round = is_round s one not_done
-
-      same : (length (held (served infos (opened s)).account) < length (held s.account)) ⊎ (is_done (served infos (opened s)).account ≡ true)
-          → finished_rounds infos (length (held s.account)) (served infos (opened s)) ≡ finished_rounds infos (length (held (served infos (opened s)).account) + 1) (served infos (opened s))
-      same (inl fewer) =
-          ap (λ rounds. finished_rounds infos rounds (served infos (opened s))) (omega arith)
-          ∙ rounds-more (length (held s.account) - (length (held (served infos (opened s)).account) + 1)) (length (held (served infos (opened s)).account) + 1) (served infos (opened s)) round.between (omega arith)
-      same (inr done) =
-          rounds-done (length (held s.account)) (served infos (opened s)) done
-          ∙ sym (rounds-done (length (held (served infos (opened s)).account) + 1) (served infos (opened s)) done)
+  finished_next = finished_round infos IsBetweenOffers (λ s one not_done. let round = is_round s one not_done in (round.between, round.fewer))
