@@ -1,11 +1,11 @@
 -- The devices that swaps bring are configured.
-use Rattle.std.proofs.Common.{◌≡◌, inl, inr, ℕ, ◌+◌, ◌≤◌, true, List, ap, arith, Some, sym, ◌∙◌, subst, slice_get, map}
+use Rattle.std.proofs.Common.{◌≡◌, inl, inr, ℕ, ◌+◌, ◌<◌, ◌≤◌, true, List, ap, arith, Some, sym, ◌∙◌, subst, slice_get, map}
 use Rattle.std.specs.Prelude.{slice_set, option_map}
 use Rattle.std.proofs.lemmas.Bool.{cases_eq}
 use Rattle.std.proofs.lemmas.List.{length-map, length-set}
 use Rattle.std.proofs.lemmas.Option.{same_Some, slice_get_within, slice_get-map}
 use Rattle.lq_model.specs.Device.{DeviceState, IsConfigured}
-use Rattle.lq_model.specs.Plan.{Plan, is_swap, is_swap_kind, unit_of_swap}
+use Rattle.lq_model.specs.Plan.{Plan, is_swap, is_swap_kind, unit_count, unit_of_swap}
 use Rattle.lq_model.specs.declared.device.Params.{Params}
 use Rattle.lq_model.specs.declared.fate.Info.{Info}
 use Rattle.lq_model.specs.declared.plan.EventKind.TheVariants as kind
@@ -14,13 +14,18 @@ use Rattle.lq_seat.specs.State.{station_count}
 use Rattle.lq_senders.specs.Setup.{AreSparesConfigured, ConfiguresSpare}
 use Rattle.lq_senders.proofs.Seats.{set-here, set-apart, mapped-at}
 use Rattle.lq_senders.proofs.Sendable.{count-later}
-use Rattle.lq_senders.proofs.Units.{unit-after}
+use Rattle.lq_senders.proofs.Units.{unit-after, unit-within}
 
 units-rise : (plan : Plan) (i j : ℕ) → i ≤ j → unit_of_swap plan i ≤ unit_of_swap plan j
 units-rise plan i j le = let more = count-later is_swap plan.events i j le in omega arith
 
 swap-of : (event : EventPlan) (params : Params) → event.kind ≡ kind.Swap params → is_swap event ≡ true
 swap-of event params is = ap is_swap_kind is
+
+-- the unit that a swap brings is one of the plan's
+pub brought-within : (plan : Plan) (e : ℕ) (event : EventPlan) (params : Params) → slice_get plan.events e ≡ Some event
+    → event.kind ≡ kind.Swap params → unit_of_swap plan e < unit_count plan
+brought-within plan e event params planned swaps = unit-within plan e event planned (swap-of event params swaps)
 
 pub spares-more : (plan : Plan) (infos : List Info) (e : ℕ) (first mid new : List DeviceState) → AreSparesConfigured plan infos e first mid → ConfiguresSpare plan infos e mid new
     → AreSparesConfigured plan infos (e + 1) first new
