@@ -1,5 +1,5 @@
 -- Closed stations are taken apart, and the devices go back to the bench.
-use Rattle.std.proofs.Common.{◌≡◌, inl, inr, ℕ, suc, ◌+◌, ◌<◌, ◌≤◌, List, [], ◌∷◌, ◌++◌, length, refl, ap, arith, Option, Some, sym, ◌∙◌, subst, map, take, drop, slice_get, length-append}
+use Rattle.std.proofs.Common.{◌≡◌, inl, inr, ℕ, suc, ◌+◌, ◌<◌, ◌≤◌, List, [], ◌∷◌, ◌++◌, length, refl, ap, arith, Option, Some, sym, ◌∙◌, subst, map, take, drop, slice_get, length-append, count_by}
 use Rattle.std.specs.Option.{option_map_or}
 use Rattle.std.proofs.Math.Seq.{drop-append_seam}
 use Rattle.std.proofs.lemmas.List.{append_assoc, length-map, map-append}
@@ -7,12 +7,12 @@ use Rattle.std.proofs.lemmas.Option.{same_Some, slice_get_within, slice_get_case
 use Rattle.lq_account.proofs.Lists.{get-push-old}
 use Rattle.lq_device.specs.Station.{StationState}
 use Rattle.lq_model.specs.Device.{DeviceState}
-use Rattle.lq_model.specs.Plan.{Plan}
+use Rattle.lq_model.specs.Plan.{Plan, is_swap, unit_count}
 use Rattle.lq_model.specs.declared.fate.Fate.{Fate}
 use Rattle.lq_model.specs.declared.fate.Info.{Info}
 use Rattle.lq_seat.specs.State.{SeatState, no_station}
-use Rattle.lq_senders.specs.Ends.{AreBack, ClosedState, HasSentAll, home_device}
-use Rattle.lq_senders.specs.Fates.{AreEnded, IsEndedAs, identities_of}
+use Rattle.lq_senders.specs.Ends.{AreBack, ClosedState, FatesRead, HasSentAll, IsReadable, SameBoxes, home_device}
+use Rattle.lq_senders.specs.Fates.{AreEnded, AreFatesOf, IsEndedAs, identities_of}
 use Rattle.lq_table.specs.Ended.{EndedState}
 use Rattle.lq_senders.specs.Setup.{AreAtHome}
 use Rattle.lq_senders.specs.Units.{by_unit, undone}
@@ -95,3 +95,44 @@ module _ (plan : Plan) (infos : List Info) (others : ℕ) (start : List SeatStat
     | inl (c, inside, there, same) ↦ (let home = (run.closed_are.each j c x there at).at_home in (home.0, home.1))
     | inr (past, nothing) ↦ absurd (let inside = slice_get_within closed j x at in let many = run.closed_are.so_many in let one_each = run.one_each in omega arith)
   ]
+
+-- THE WHOLE RUN
+
+-- What is known of a run by its closed tables and spare devices. `IsBench` holds of the benches that its devices were in before.
+pub record HasRun (plan : Plan) (infos : List Info) (IsBench : List DeviceState → Type 0)
+    (closed : List ClosedState) (spares : List DeviceState) : Type 0 where
+  pub one_a_station : length closed ≡ length plan.stations
+  pub one_a_swap : length spares ≡ count_by is_swap plan.events
+  pub home : AreAtHome closed
+  pub readable : IsReadable infos closed
+  pub fates : (before after : List DeviceState) (fates : List Fate) → IsBench before → FatesRead infos closed (length infos) fates
+      → AreBack plan closed spares after → AreFatesOf plan infos fates before after
+  pub ended : (fates : List Fate) → FatesRead infos closed (length infos) fates
+      → (j : ℕ) (x : ClosedState) → slice_get closed j ≡ Some x → IsEndedAs plan infos fates j x.ended
+  pub boxes : (before after : List DeviceState) → IsBench before → AreBack plan closed spares after → SameBoxes plan before after
+
+-- What is given back of a run, before the devices that are left in the bench: the fates that were read, as they are laid out, and
+-- the devices in the order of units.
+pub record IsGivenBack (plan : Plan) (infos : List Info) (closed : List ClosedState)
+    (spares rest after : List DeviceState) (fates laid : List Fate) : Type 0 where
+  pub read : FatesRead infos closed (length infos) fates
+  pub all : laid ≡ fates
+  pub bench : after ≡ by_unit plan (map home_device closed) spares ++ rest
+  pub many : length after ≡ unit_count plan + length rest
+
+module _ {plan : Plan} {infos : List Info} {IsBench : List DeviceState → Type 0} {closed : List ClosedState}
+    {spares rest after : List DeviceState} {fates laid : List Fate}
+    (run : HasRun plan infos IsBench closed spares) (back : IsGivenBack plan infos closed spares rest after fates laid) where
+  pub fates-given : (before : List DeviceState) → IsBench before → AreFatesOf plan infos laid before after
+  fates-given before bench = subst (λ (given : List Fate). AreFatesOf plan infos given before after) (sym back.all)
+      (run.fates before after fates bench back.read (are-back plan closed spares after rest back.bench))
+
+  pub stays-given : (ended : List EndedState) → ended ≡ map (λ (x : ClosedState). x.ended) closed → AreEnded plan infos laid ended
+  stays-given ended is = subst (λ (given : List Fate). AreEnded plan infos given ended) (sym back.all)
+      (stays-are plan infos fates closed ended run.one_a_station is (run.ended fates back.read))
+
+  pub boxes-given : (before : List DeviceState) → IsBench before → unit_count plan ≤ length before
+      → identities_of after ≡ take (unit_count plan) (identities_of before) ++ identities_of rest
+  boxes-given before bench within =
+      boxes-kept (unit_count plan) (by_unit plan (map home_device closed) spares) before rest after back.many within back.bench
+      (run.boxes before after bench (are-back plan closed spares after rest back.bench))
