@@ -1,12 +1,12 @@
 -- All seats did something in turn.
-use Rattle.std.proofs.Common.{◌≡◌, ℕ, ◌+◌, ◌≤◌, List, length, Some, refl, sym, ap, ◌∙◌, subst, slice_get, arith, length-set}
-use Rattle.std.specs.Prelude.{slice_set}
+use Rattle.std.proofs.Common.{◌≡◌, ℕ, ◌+◌, ◌<◌, ◌≤◌, List, length, Some, refl, sym, ap, ◌∙◌, subst, slice_get, arith, length-set}
+use Rattle.std.specs.Prelude.{slice_index_or, slice_set}
 use Rattle.std.proofs.lemmas.Option.{same_Some, slice_get_within}
 use mathlib.Core.Logic.{dite}
 use native.Mathlib.Decide.{ℕ_discrete}
 use Rattle.lq_seat.specs.State.{SeatState, TableState, IsHere}
 use Rattle.lq_senders.specs.Lanes.{FirstDid, AllDid, AreSeats}
-use Rattle.lq_senders.proofs.Seats.{set-here, set-apart}
+use Rattle.lq_senders.proofs.Seats.{read-at, set-here, set-apart}
 
 module _ (R : SeatState → SeatState → Type 0) where
   pub none-did : (cpus : List SeatState) → FirstDid R 0 cpus cpus
@@ -34,3 +34,19 @@ module _ (R : SeatState → SeatState → Type 0) where
   pub next-seat : (count : ℕ) (tables : List TableState) (old new : List SeatState) (t : TableState) (c : SeatState) → AreSeats tables old → FirstDid R count old new
       → slice_get tables count ≡ Some t → slice_get new count ≡ Some c → IsHere t c
   next-seat count tables old new t c seats first at-t at-c = seats.each count t c at-t (sym (first.rest count (omega arith)) ∙ at-c)
+
+  -- The seat that is next is one of its table, and one more seat did something once it has.
+  pub record IsNext (count : ℕ) (old new : List SeatState) (t : TableState) (c : SeatState) : Type 0 where
+    pub here : IsHere t c
+    pub once_done : (c' : SeatState) → R c c' → FirstDid R (count + 1) old (slice_set new count c')
+
+  -- the seat that is next, as it is read beside its table
+  pub next-read : (count : ℕ) (tables : List TableState) (old new : List SeatState) (t : TableState) (c : SeatState) → AreSeats tables old
+      → FirstDid R count old new → count < length tables → t ≡ slice_index_or tables count t → c ≡ slice_index_or new count c
+      → IsNext count old new t c
+  next-read count tables old new t c seats first below at-t at-c =
+      let same = seats.long in let long = first.long in let there = read-at new count c (omega arith) at-c in
+      record {
+        here = next-seat count tables old new t c seats first (read-at tables count t below at-t) there;
+        once_done = λ c' did. one-more-did count old new c c' there did first;
+      }
