@@ -11,7 +11,7 @@ use Rattle.lq_pcapng.specs.declared.file.CaptureFile.TheVariants.{Classic, Pcapn
 use Rattle.lq_files.specs.Lines.{lines_of}
 use Rattle.lq_files.specs.Parts.{IsFront, IsStreamed, lines_from, packets_from}
 use Rattle.lq_files.specs.Written.{FileHasPrefix}
-use Rattle.lq_files.proofs.MoveLemmas.{some_front}
+use Rattle.lq_files.proofs.MoveLemmas.{made_handles, some_front}
 
 -- nothing was written yet
 pub streamed_none : (old : HostState) (h : ℕ) (buffer rest text : List ℕ) → buffer ++ rest ≡ text → IsStreamed old h old buffer rest text
@@ -116,3 +116,20 @@ pub made_front :
 made_front r s name h text mid written new was made whole part closed_is =
     let front : IsFront mid h written text = some_front r mid written h text whole part in
     (front.0, front.1, file_made s name h (take front.0 text) mid written new was made front.2 closed_is)
+
+-- What is known of a file once it was finished, after work on it with this answer: the handles are as they were, the file holds a
+-- front of the text, and all of it where the work was done.
+pub record IsFinished {T E : Type 0} (r : Result T E) (s : HostState) (name text : List ℕ) (new : HostState) : Type 0 where
+  pub handles : new.handles ≡ s.handles
+  pub front : FileHasPrefix name text s new
+  pub whole : (value : T) → r ≡ Ok value → new ≡ filed s name text
+
+pub finished :
+    {T E : Type 0} (r : Result T E) (s : HostState) (name : List ℕ) (h : ℕ) (text : List ℕ) (mid written new : HostState)
+    → s.handles h ≡ None → mid ≡ opened_handle (filed s name []) h (Writes name) → written.handles ≡ mid.handles
+    → OnOk r (written ≡ wrote mid h text) → OnErr r (IsFront mid h written text) → new ≡ closed written h → IsFinished r s name text new
+finished r s name h text mid written new was made same whole part closed_is = record {
+  handles = made_handles s name h mid written new was made same closed_is;
+  front = made_front r s name h text mid written new was made whole part closed_is;
+  whole = λ value done. made_whole r value s name h text mid written new was made done whole closed_is;
+}

@@ -1,9 +1,11 @@
 use Rattle.std.proofs.Common.{inr}
 use Rattle.lq_host.specs.Host.{Writes}
 use Rattle.lq_host.proofs.HostLemmas.{opened-writer, opened-is_some}
-use Rattle.lq_files.proofs.MoveLemmas.{on_err_any, made_handles}
-use Rattle.lq_files.proofs.PieceLemmas.{made_front, made_whole}
+use Rattle.lq_files.proofs.MoveLemmas.{on_err_any}
+use Rattle.lq_files.proofs.PieceLemmas.{IsFinished, finished}
+use Rattle.lq_files.proofs.write.write_file.Given as given
 use Rattle.lq_files.proofs.write.write_file.Goals as goal
+use Rattle.lq_files.proofs.write.write_file.Goals.{After-finish-end}
 
 pub write_text-written-requires : goal.write_text-written-requires
 write_text-written-requires g c =
@@ -14,25 +16,27 @@ finish-end-requires-clause-open g c =
     rw c.write_text-written.ensures.handles
     (opened-is_some _ (g.H.Host.state c.create.new.self) c.in_ok-h.h (Writes c.args.name.now) c.in_ok-h.ensures.ok)
 
+-- what is known of the file once it was finished
+file : (g : given.Over) (c : After-finish-end g)
+    → IsFinished c.write_text-written.result (g.H.Host.state c.args.host.now) c.args.name.now c.args.text.now
+    (g.H.Host.state c.finish-end.new.self)
+file g c =
+    let state = g.H.Host.state in let opened = c.in_ok-h.ensures in let done = c.write_text-written.ensures in
+    finished c.write_text-written.result (state c.args.host.now) c.args.name.now c.in_ok-h.h c.args.text.now
+    (state c.create.new.self) (state c.write_text-written.new.host) (state c.finish-end.new.self)
+    opened.fresh opened.ok done.handles done.ok done.err c.finish-end.ensures.closed
+
 pub returns-in_err-and_finished-clause-err : goal.returns-in_err-and_finished-clause-err
 returns-in_err-and_finished-clause-err g c =
     on_err_any c.from_residual-in_err-and_finished.result
-    (inr (made_front c.write_text-written.result (g.H.Host.state c.args.host.now) c.args.name.now c.in_ok-h.h c.args.text.now (g.H.Host.state c.create.new.self)
-    (g.H.Host.state c.write_text-written.new.host) (g.H.Host.state c.finish-end.new.self) c.in_ok-h.ensures.fresh c.in_ok-h.ensures.ok c.write_text-written.ensures.ok c.write_text-written.ensures.err
-    c.finish-end.ensures.closed))
+    (inr (file g (goal.at.returns-in_err-and_finished-clause-err g c).After-finish-end).front)
 
 pub returns-in_err-and_finished-clause-handles : goal.returns-in_err-and_finished-clause-handles
 returns-in_err-and_finished-clause-handles g c =
-    made_handles (g.H.Host.state c.args.host.now) c.args.name.now c.in_ok-h.h (g.H.Host.state c.create.new.self) (g.H.Host.state c.write_text-written.new.host)
-    (g.H.Host.state c.finish-end.new.self) c.in_ok-h.ensures.fresh c.in_ok-h.ensures.ok c.write_text-written.ensures.handles c.finish-end.ensures.closed
+    (file g (goal.at.returns-in_err-and_finished-clause-handles g c).After-finish-end).handles
 
 pub returns-clause-ok : goal.returns-clause-ok
-returns-clause-ok g c =
-    made_whole c.write_text-written.result _ (g.H.Host.state c.args.host.now) c.args.name.now c.in_ok-h.h c.args.text.now (g.H.Host.state c.create.new.self)
-    (g.H.Host.state c.write_text-written.new.host) (g.H.Host.state c.finish-end.new.self) c.in_ok-h.ensures.fresh c.in_ok-h.ensures.ok c.in_ok-and_finished.ensures.value
-    c.write_text-written.ensures.ok c.finish-end.ensures.closed
+returns-clause-ok g c = (file g (goal.at.returns-clause-ok g c).After-finish-end).whole _ c.in_ok-and_finished.ensures.value
 
 pub returns-clause-handles : goal.returns-clause-handles
-returns-clause-handles g c =
-    made_handles (g.H.Host.state c.args.host.now) c.args.name.now c.in_ok-h.h (g.H.Host.state c.create.new.self) (g.H.Host.state c.write_text-written.new.host)
-    (g.H.Host.state c.finish-end.new.self) c.in_ok-h.ensures.fresh c.in_ok-h.ensures.ok c.write_text-written.ensures.handles c.finish-end.ensures.closed
+returns-clause-handles g c = (file g (goal.at.returns-clause-handles g c).After-finish-end).handles
