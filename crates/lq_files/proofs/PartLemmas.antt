@@ -82,6 +82,19 @@ pub streamed_all :
     (old : HostState) (h : ℕ) (mid new : HostState) (rest todo text : List ℕ) → IsStreamed old h mid rest todo text → new ≡ wrote mid h (rest ++ todo) → new ≡ wrote old h text
 streamed_all old h mid new rest todo text s wrote_is = wrote_more old h s.0 (rest ++ todo) mid new s.1 wrote_is ∙ ap (wrote old h) s.2
 
+-- What is left of a text whose beginning was written: with it all of the text is written, and with a front of it a front.
+pub record IsLeft (old : HostState) (h : ℕ) (mid : HostState) (left text : List ℕ) : Type 0 where
+  pub whole : (new : HostState) → new ≡ wrote mid h left → new ≡ wrote old h text
+  pub front : (new : HostState) → IsFront mid h new left → IsFront old h new text
+
+pub streamed_left :
+    (old : HostState) (h : ℕ) (mid : HostState) (rest todo text : List ℕ) → IsStreamed old h mid rest todo text
+    → IsLeft old h mid (rest ++ todo) text
+streamed_left old h mid rest todo text s = record {
+  whole = λ new. streamed_all old h mid new rest todo text s;
+  front = λ new. streamed_stop old h mid new rest todo text s;
+}
+
 -- once one part more is written, or left out
 pub further_on :
     (from : ℕ → List ℕ) (count at i next after : ℕ) (part : Part) → IsPartAt from count at i part → at < count → (i ≡ 0 → next ≡ at) → (0 < i → (at < next) × (next ≤ count))
