@@ -19,11 +19,11 @@ use Rattle.lq_table.specs.Views.{View, HolderPart, SharePart, State, machine_pac
 use Rattle.lq_table.specs.Told.{loading, loading_from, passing, picking, seen_band, seen_by, setting, slot_begins}
 use Rattle.lq_table.specs.Rings.{finding_none}
 use Rattle.lq_table.specs.Rule.{shown, IsResting}
-use Rattle.lq_table.specs.Sees.{view, position, slot, IsSeatOf, IsSameSeat}
+use Rattle.lq_table.specs.Sees.{view, position, slot, IsElseSame, IsSeatOf, IsSameSeat}
 use Rattle.lq_table.specs.Solo.{IsSole, SeesStop, account_of, laid}
 use Rattle.lq_table.specs.declared.shared.Cpu.{Cpu}
 use Rattle.lq_table.specs.declared.shared.Shared.{Shared}
-use Rattle.lq_qdisc.specs.Calls.{IsKeptInRun, IsServing, after_blocked, AreNone, Dequeues, Finds, ClearsMissedAlone, FindsNone, FindsPacket, FindsStopped, IsStopFor, Looks, Picks, finding_stopped, found_empty, laid_aside, looking_at, with_back}
+use Rattle.lq_qdisc.specs.Calls.{IsKeptInRun, IsServing, IsSettledSame, after_blocked, AreNone, Dequeues, Finds, ClearsMissedAlone, FindsNone, FindsPacket, FindsStopped, IsStopFor, Looks, Picks, finding_stopped, found_empty, laid_aside, looking_at, with_back}
 use Rattle.lq_model.specs.declared.fate.Info.{Info}
 use Rattle.lq_qdisc.specs.declared.answers.Taken.{Taken}
 use Rattle.lq_qdisc.specs.declared.answers.Taken.TheVariants as taken
@@ -137,6 +137,30 @@ module _ {D : Type 0} where
     told = ap (λ (x : View). x.whole.told) is;
     raised = ap (λ (x : View). x.place.raised) is ∙ raised;
   }
+
+  -- what is known once MISSED was cleared, the stop word loaded again as this, and a bit set
+  pub record LeavesBlocked (found : ℕ) (b a : Cpu D) : Type 0 where
+    pub is : view a ≡ setting (loading found (passing (view b)))
+    pub kept : IsKeptInRun b a
+    pub at : position a ≡ after_blocked (position b)
+    pub holder : (view a).holder ≡ laid_aside (position b) (view b).holder
+    pub heard : (view a).whole.state ≡ with_back (position b) (view b).whole.state
+    pub fates : IsSettledSame b a
+
+  pub leaves_blocked : (blocked : Blocked) (found : ℕ) (b m l a : Cpu D) → position b ≡ BlockedClear blocked
+      → IsElseSame b m → IsElseSame m l → IsElseSame l a
+      → view m ≡ passing (view b) → view l ≡ loading found (view m) → view a ≡ setting (view l) → LeavesBlocked found b a
+  leaves_blocked blocked found b m l a here first second third passed loaded set =
+      let is = set ∙ ap setting (loaded ∙ ap (loading found) passed) in
+      let seat : IsSameSeat b a = (third.0.0 ∙ (second.0.0 ∙ first.0.0), third.0.1 ∙ (second.0.1 ∙ first.0.1)) in
+      let e = maybe_cleared blocked found (view b) (view a) here is in record {
+        is = is;
+        kept = kept_moved b a _ _ _ _ seat (third.2 ∙ (second.2 ∙ first.2)) e.1 refl;
+        at = ap (λ (x : View). x.place.position) e.1 ∙ ap after_blocked (sym here);
+        holder = ap (λ (x : View). x.holder) e.1 ∙ ap (λ (y : Position). laid_aside y (view b).holder) (sym here);
+        heard = ap (λ (x : View). x.whole.state) e.1 ∙ ap (λ (y : Position). with_back y (view b).whole.state) (sym here);
+        fates = (ap (λ (x : View). x.settled) e.1, ap (λ (x : View). x.trail) e.1);
+      }
 
   pub kept_none : (b : ℕ) (second : Bool) (m a : Cpu D) → position m ≡ Scan b second → IsSameSeat m a → a.indices ≡ m.indices → view a ≡ finding_none b (view m) → IsKeptInRun m a
   kept_none b second m a here seat indices is = kept_moved m a _ _ _ _ seat indices is (seat_kept (seen_band b []) b second (view m) here).1
