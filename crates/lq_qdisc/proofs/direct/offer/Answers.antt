@@ -1,139 +1,131 @@
-use Rattle.std.proofs.Common.{◌≡◌, ℕ, ◌<◌, true, List, ap, sym, ◌∙◌, subst, is_some, Option}
-use Rattle.lq_device.specs.Station.{StationState}
-use Rattle.lq_model.specs.declared.device.Tx.{Tx}
-use Rattle.lq_model.specs.declared.device.Tx.TheVariants.{Busy}
-use Rattle.lq_device.specs.Station.{HasAnswered}
-use Rattle.lq_table.specs.Views.{View, HolderPart, Setup}
-use Rattle.lq_table.specs.Rule.{shown}
-use Rattle.lq_table.specs.Sees.{view, setup, carried}
-use Rattle.lq_table.specs.Told.{fate_sent, requeuing}
-use Rattle.lq_table.specs.Solo.{solo, heard, missed_to, device_to}
+use Rattle.std.proofs.Common.{◌≡◌, Bool, true, List, ap, sym, ◌∙◌, subst, is_some, Option}
+use Rattle.lq_device.specs.Station.{HasAnswered, StationState}
 use Rattle.lq_model.specs.Account.{Back}
 use Rattle.lq_model.specs.Words.{word_of}
+use Rattle.lq_model.specs.declared.device.Tx.{Tx}
+use Rattle.lq_model.specs.declared.device.Tx.TheVariants.{Busy}
+use Rattle.lq_model.specs.declared.machine.Position.TheVariants.{Xmit}
 use Rattle.lq_table.specs.Made.{Made, ◌⊳◌, did_set_missed, did_store_fate}
+use Rattle.lq_table.specs.Rule.{shown}
+use Rattle.lq_table.specs.Sees.{view, setup, carried, packet_at, position}
+use Rattle.lq_table.specs.Solo.{solo, heard, missed_to, device_to}
+use Rattle.lq_table.specs.Told.{fate_sent, requeuing}
+use Rattle.lq_table.specs.Views.{View, HolderPart, Setup}
+use Rattle.lq_qdisc.specs.Direct.{IsSentAs}
 use Rattle.lq_qdisc.specs.Steps.{stops_stored}
 use Rattle.lq_qdisc.proofs.DirectLemmas.{accepts, busy_at, busy_is, called_at, kept_sent, sent_from, serves_sent}
+use Rattle.lq_qdisc.proofs.TakeLemmas.{seat_same}
 use Rattle.lq_qdisc.proofs.direct.offer.Goals as goal
+use Rattle.lq_qdisc.proofs.direct.offer.Goals.{After-settle_sent, Then-is_refusal}
+
+-- the device was called with the packet, and is busy
+refused : (g : _) (c : Then-is_refusal g)
+    → HasAnswered Busy c.args.queue c.args.n (shown (view c.args.cpu.now).holder) (carried c.hand_over-answer.new.cpu)
+refused g c =
+    let h = c.hand_over-answer in let busy = busy_is h.result.0 (sym c.is_refusal.ensures ∙ c.if-is_refusal.true) in
+    subst (λ (a : Tx). HasAnswered a c.args.queue c.args.n (shown (view c.args.cpu.now).holder) (carried h.new.cpu)) busy
+    (h.ensures.handed _ c.requires.serving.0.1).1
+
+-- it accepted the packet, and the packet's fate was stored
+abbrev IsSent : (g : _) → After-settle_sent g → Bool → Type 0
+IsSent g c direct =
+    let h = c.hand_over-answer in
+    IsSentAs h.result.0 c.args.n c.args.queue direct (carried h.new.cpu) (view c.args.cpu.now) (view c.settle_sent.new.cpu)
+
+sent_at : (g : _) (c : After-settle_sent g) (direct : Bool)
+    → position c.args.cpu.now ≡ Xmit (packet_at c.args.shared.now c.args.n) direct → IsSent g c direct
+sent_at g c direct here =
+    let h = c.hand_over-answer in let m = h.new.cpu in let called = (h.ensures.handed _ c.requires.serving.0.1).1 in
+    sent_from c.args.shared.now c.args.cpu.now m c.settle_sent.new.cpu c.args.n c.args.queue h.result.0 c.requires.packet.1 h.ensures.same.3
+    (sym c.is_refusal.ensures ∙ c.if-is_refusal.false) called c.settle_sent.ensures.sent direct here
+
+sent : (g : _) (c : After-settle_sent g) → IsSent g c c.requires.at.0
+sent g c = sent_at g c c.requires.at.0 c.requires.at.1
 
 pub requeue-requires-clause-station : goal.requeue-requires-clause-station
-requeue-requires-clause-station g c κs within = (c.hand_over-answer.ensures.same.2 ∙ c.requires.serving.0.0, ap (λ (s : Option StationState). is_some s) c.hand_over-answer.ensures.station)
+requeue-requires-clause-station g c κs within =
+    let h = c.hand_over-answer.ensures in
+    (h.same.2 ∙ c.requires.serving.0.0, ap (λ (s : Option StationState). is_some s) h.station)
 
 pub requeue-requires-clause-called : goal.requeue-requires-clause-called
 requeue-requires-clause-called g c κs within =
-    let h = c.hand_over-answer.ensures.handed (shown (view c.args.cpu.now).holder) c.requires.serving.0.1 in
-    let busy = busy_is c.hand_over-answer.result.0 (sym c.is_refusal.ensures ∙ c.if-is_refusal.true) in
-    called_at c.args.shared.now c.args.cpu.now c.hand_over-answer.new.cpu c.args.n c.args.queue Busy c.requires.packet.1 c.hand_over-answer.ensures.same.3
-    (subst (λ (a : Tx). HasAnswered a c.args.queue c.args.n (shown (view c.args.cpu.now).holder) (carried c.hand_over-answer.new.cpu)) busy h.1)
+    let called = refused g (goal.at.requeue-requires-clause-called g c).Then-is_refusal in let h = c.hand_over-answer in
+    called_at c.args.shared.now c.args.cpu.now h.new.cpu c.args.n c.args.queue Busy c.requires.packet.1 h.ensures.same.3 called
 
 pub returns-then-is_refusal-clause-offered : goal.returns-then-is_refusal-clause-offered
 returns-then-is_refusal-clause-offered g c =
-    let h = c.hand_over-answer.ensures.handed (shown (view c.args.cpu.now).holder) c.requires.serving.0.1 in
-    let busy = busy_is c.hand_over-answer.result.0 (sym c.is_refusal.ensures ∙ c.if-is_refusal.true) in
-    let st = carried c.hand_over-answer.new.cpu in
-    let m = c.requeue.ensures.made in (
-      busy_at c.args.n c.args.queue st (view c.args.cpu.now) (view c.requeue.new.cpu) c.requires.hand
-          (subst (λ (a : Tx). HasAnswered a c.args.queue c.args.n (shown (view c.args.cpu.now).holder) st) busy h.1)
-          (c.requeue.ensures.view ∙ ap (λ (v : View). requeuing st v) c.hand_over-answer.ensures.same.3)
-          (c.requeue.ensures.step ∙ ap (λ (v : View). device_to st.device (heard Back (missed_to true (solo v)))) c.hand_over-answer.ensures.same.3)
+    let called = refused g (goal.at.returns-then-is_refusal-clause-offered g c).Then-is_refusal in
+    let same = c.hand_over-answer.ensures.same.3 in let st = carried c.hand_over-answer.new.cpu in let r = c.requeue.ensures in (
+      busy_at c.args.n c.args.queue st (view c.args.cpu.now) (view c.requeue.new.cpu) c.requires.hand called
+          (r.view ∙ ap (λ (v : View). requeuing st v) same)
+          (r.step ∙ ap (λ (v : View). device_to st.device (heard Back (missed_to true (solo v)))) same)
           c.requires.open,
-      m.0,
-      m.1 ∙ ap (λ (xs : List Made). xs ⊳ did_set_missed m.0) c.hand_over-answer.ensures.made,
+      r.made.0,
+      r.made.1 ∙ ap (λ (xs : List Made). xs ⊳ did_set_missed r.made.0) c.hand_over-answer.ensures.made,
     )
 
 pub settle_sent-requires-clause-accepted : goal.settle_sent-requires-clause-accepted
 settle_sent-requires-clause-accepted g c κs within =
-    let h = c.hand_over-answer.ensures.handed (shown (view c.args.cpu.now).holder) c.requires.serving.0.1 in (
-      c.hand_over-answer.result.0,
+    let h = c.hand_over-answer in let called = (h.ensures.handed _ c.requires.serving.0.1).1 in (
+      h.result.0,
       sym c.is_refusal.ensures ∙ c.if-is_refusal.false,
-      called_at c.args.shared.now c.args.cpu.now c.hand_over-answer.new.cpu c.args.n c.args.queue c.hand_over-answer.result.0 c.requires.packet.1 c.hand_over-answer.ensures.same.3 h.1,
+      called_at c.args.shared.now c.args.cpu.now h.new.cpu c.args.n c.args.queue h.result.0 c.requires.packet.1 h.ensures.same.3 called,
     )
 
 pub settle_sent-requires-clause-fate : goal.settle_sent-requires-clause-fate
 settle_sent-requires-clause-fate g c κs within =
-    let h = c.hand_over-answer.ensures.handed (shown (view c.args.cpu.now).holder) c.requires.serving.0.1 in
-    h.0 ∙ ap (λ (v : View). fate_sent v.holder.station) (sym c.hand_over-answer.ensures.same.3)
+    let h = c.hand_over-answer.ensures in
+    (h.handed _ c.requires.serving.0.1).0 ∙ ap (λ (v : View). fate_sent v.holder.station) (sym h.same.3)
 
 pub stop-requires-clause-seat : goal.stop-requires-clause-seat
 stop-requires-clause-seat g c κs within =
-    let ans = c.hand_over-answer.result.0 in
-    let h = c.hand_over-answer.ensures.handed (shown (view c.args.cpu.now).holder) c.requires.serving.0.1 in
-    let accepted = sym c.is_refusal.ensures ∙ c.if-is_refusal.false in
-    let sent = sent_from c.args.shared.now c.args.cpu.now c.hand_over-answer.new.cpu c.settle_sent.new.cpu c.args.n c.args.queue ans c.requires.packet.1 c.hand_over-answer.ensures.same.3 accepted h.1 c.settle_sent.ensures.sent c.requires.at.0 c.requires.at.1 in
-    (c.settle_sent.ensures.same.0.0 ∙ (c.hand_over-answer.ensures.same.0.0 ∙ c.requires.seat.0), subst (λ (k : ℕ). 0 < k) (sym (ap (λ s. s.shares) sent.share)) c.requires.seat.1, ap (λ s. s.about) sent.share ∙ c.requires.seat.2)
+    let share = (sent g (goal.at.stop-requires-clause-seat g c).After-settle_sent).share in
+    let h = c.hand_over-answer.ensures.same.0 in let s = c.settle_sent.ensures.same.0 in
+    seat_same c.args.shared.now c.args.cpu.now c.settle_sent.new.cpu (s.0 ∙ h.0, s.1 ∙ h.1) share c.requires.seat
 
 pub stop-requires-clause-at : goal.stop-requires-clause-at
-stop-requires-clause-at g c κs within =
-    let ans = c.hand_over-answer.result.0 in
-    let h = c.hand_over-answer.ensures.handed (shown (view c.args.cpu.now).holder) c.requires.serving.0.1 in
-    let accepted = sym c.is_refusal.ensures ∙ c.if-is_refusal.false in
-    let sent = sent_from c.args.shared.now c.args.cpu.now c.hand_over-answer.new.cpu c.settle_sent.new.cpu c.args.n c.args.queue ans c.requires.packet.1 c.hand_over-answer.ensures.same.3 accepted h.1 c.settle_sent.ensures.sent c.requires.at.0 c.requires.at.1 in
-    (c.requires.at.0, sent.at)
+stop-requires-clause-at g c κs within = (c.requires.at.0, (sent g (goal.at.stop-requires-clause-at g c).After-settle_sent).at)
 
 pub stop-requires-clause-hung : goal.stop-requires-clause-hung
 stop-requires-clause-hung g c κs within =
-    let ans = c.hand_over-answer.result.0 in
-    let h = c.hand_over-answer.ensures.handed (shown (view c.args.cpu.now).holder) c.requires.serving.0.1 in
-    let accepted = sym c.is_refusal.ensures ∙ c.if-is_refusal.false in
-    let sent = sent_from c.args.shared.now c.args.cpu.now c.hand_over-answer.new.cpu c.settle_sent.new.cpu c.args.n c.args.queue ans c.requires.packet.1 c.hand_over-answer.ensures.same.3 accepted h.1 c.settle_sent.ensures.sent c.requires.at.0 c.requires.at.1 in
-    ap (λ (x : HolderPart). x.station.device.hung) sent.holder ∙ h.1.answers.hung
+    ap (λ (x : HolderPart). x.station.device.hung) (sent g (goal.at.stop-requires-clause-hung g c).After-settle_sent).holder
+    ∙ (c.hand_over-answer.ensures.handed _ c.requires.serving.0.1).1.answers.hung
 
 pub returns-clause-kept : goal.returns-clause-kept
 returns-clause-kept g c =
-    let ans = c.hand_over-answer.result.0 in
-    let h = c.hand_over-answer.ensures.handed (shown (view c.args.cpu.now).holder) c.requires.serving.0.1 in
-    let accepted = sym c.is_refusal.ensures ∙ c.if-is_refusal.false in
-    let sent = sent_from c.args.shared.now c.args.cpu.now c.hand_over-answer.new.cpu c.settle_sent.new.cpu c.args.n c.args.queue ans c.requires.packet.1 c.hand_over-answer.ensures.same.3 accepted h.1 c.settle_sent.ensures.sent c.requires.at.0 c.requires.at.1 in
-    kept_sent ans c.args.n c.args.queue c.requires.at.0 _ c.args.cpu.now c.hand_over-answer.new.cpu c.settle_sent.new.cpu c.stop.new.cpu c.hand_over-answer.ensures.same.0 c.hand_over-answer.ensures.same.1 c.settle_sent.ensures.same c.stop.ensures.same sent c.stop.ensures.stays
+    let s = sent g (goal.at.returns-clause-kept g c).After-settle_sent in let h = c.hand_over-answer in let stop = c.stop.ensures in
+    kept_sent _ _ _ c.requires.at.0 _ c.args.cpu.now h.new.cpu c.settle_sent.new.cpu c.stop.new.cpu h.ensures.same.0 h.ensures.same.1
+    c.settle_sent.ensures.same stop.same s stop.stays
 
 pub returns-clause-serving : goal.returns-clause-serving
 returns-clause-serving g c =
-    let ans = c.hand_over-answer.result.0 in
-    let h = c.hand_over-answer.ensures.handed (shown (view c.args.cpu.now).holder) c.requires.serving.0.1 in
-    let accepted = sym c.is_refusal.ensures ∙ c.if-is_refusal.false in
-    let sent = sent_from c.args.shared.now c.args.cpu.now c.hand_over-answer.new.cpu c.settle_sent.new.cpu c.args.n c.args.queue ans c.requires.packet.1 c.hand_over-answer.ensures.same.3 accepted h.1 c.settle_sent.ensures.sent c.requires.at.0 c.requires.at.1 in
-    serves_sent ans c.args.n c.args.queue c.requires.at.0 c.args.cpu.now c.hand_over-answer.new.cpu c.settle_sent.new.cpu c.stop.new.cpu c.requires.serving c.hand_over-answer.ensures.same.2 c.hand_over-answer.ensures.station h.1 c.settle_sent.ensures.same c.stop.ensures.same sent c.stop.ensures.stays
+    let s = sent g (goal.at.returns-clause-serving g c).After-settle_sent in let h = c.hand_over-answer in let stop = c.stop.ensures in
+    serves_sent _ _ _ c.requires.at.0 c.args.cpu.now h.new.cpu c.settle_sent.new.cpu c.stop.new.cpu c.requires.serving h.ensures.same.2
+    h.ensures.station (h.ensures.handed _ c.requires.serving.0.1).1 c.settle_sent.ensures.same stop.same s stop.stays
 
 pub returns-clause-at : goal.returns-clause-at
-returns-clause-at g c = λ direct here.
-    let ans = c.hand_over-answer.result.0 in
-    let h = c.hand_over-answer.ensures.handed (shown (view c.args.cpu.now).holder) c.requires.serving.0.1 in
-    let accepted = sym c.is_refusal.ensures ∙ c.if-is_refusal.false in
-    let sent = sent_from c.args.shared.now c.args.cpu.now c.hand_over-answer.new.cpu c.settle_sent.new.cpu c.args.n c.args.queue ans c.requires.packet.1 c.hand_over-answer.ensures.same.3 accepted h.1 c.settle_sent.ensures.sent direct here in
-    c.stop.ensures.at direct sent.at
+returns-clause-at g c = λ direct here. c.stop.ensures.at direct (sent_at g (goal.at.returns-clause-at g c).After-settle_sent direct here).at
 
 pub returns-clause-run : goal.returns-clause-run
-returns-clause-run g c =
-    let ans = c.hand_over-answer.result.0 in
-    let h = c.hand_over-answer.ensures.handed (shown (view c.args.cpu.now).holder) c.requires.serving.0.1 in
-    let accepted = sym c.is_refusal.ensures ∙ c.if-is_refusal.false in
-    let sent = sent_from c.args.shared.now c.args.cpu.now c.hand_over-answer.new.cpu c.settle_sent.new.cpu c.args.n c.args.queue ans c.requires.packet.1 c.hand_over-answer.ensures.same.3 accepted h.1 c.settle_sent.ensures.sent c.requires.at.0 c.requires.at.1 in
-    c.stop.ensures.stays.run ∙ sent.run
+returns-clause-run g c = c.stop.ensures.stays.run ∙ (sent g (goal.at.returns-clause-run g c).After-settle_sent).run
 
 pub returns-clause-trail : goal.returns-clause-trail
-returns-clause-trail g c =
-    let ans = c.hand_over-answer.result.0 in
-    let h = c.hand_over-answer.ensures.handed (shown (view c.args.cpu.now).holder) c.requires.serving.0.1 in
-    let accepted = sym c.is_refusal.ensures ∙ c.if-is_refusal.false in
-    let sent = sent_from c.args.shared.now c.args.cpu.now c.hand_over-answer.new.cpu c.settle_sent.new.cpu c.args.n c.args.queue ans c.requires.packet.1 c.hand_over-answer.ensures.same.3 accepted h.1 c.settle_sent.ensures.sent c.requires.at.0 c.requires.at.1 in
-    c.stop.ensures.stays.trail ∙ sent.trail
+returns-clause-trail g c = c.stop.ensures.stays.trail ∙ (sent g (goal.at.returns-clause-trail g c).After-settle_sent).trail
 
 pub returns-clause-offered : goal.returns-clause-offered
 returns-clause-offered g c =
-    let ans = c.hand_over-answer.result.0 in
-    let h = c.hand_over-answer.ensures.handed (shown (view c.args.cpu.now).holder) c.requires.serving.0.1 in
-    let accepted = sym c.is_refusal.ensures ∙ c.if-is_refusal.false in
-    let sent = sent_from c.args.shared.now c.args.cpu.now c.hand_over-answer.new.cpu c.settle_sent.new.cpu c.args.n c.args.queue ans c.requires.packet.1 c.hand_over-answer.ensures.same.3 accepted h.1 c.settle_sent.ensures.sent c.requires.at.0 c.requires.at.1 in
-    let k = setup c.args.shared.now in
-    let fate_is : c.hand_over-answer.result.1 ≡ fate_sent (view c.args.cpu.now).holder.station = h.0 in (
-      accepts ans c.args.n c.args.queue c.args.shared.now.queues c.requires.at.0 _ (view c.args.cpu.now) (view c.settle_sent.new.cpu) (view c.stop.new.cpu) accepted h.1
-          (ap (λ (k : Setup). k.queues) c.requires.seat.2) sent c.stop.ensures.stays c.stop.ensures.heard c.stop.ensures.step c.requires.open,
-      c.stop.ensures.made ∙ ((λ j. stops_stored k ans c.args.queue (c.settle_sent.ensures.made j)) ∙ (λ j. stops_stored k ans c.args.queue (c.hand_over-answer.ensures.made j ⊳ did_store_fate k c.args.n (word_of (fate_is j))))),
+    let s = sent g (goal.at.returns-clause-offered g c).After-settle_sent in let stop = c.stop.ensures in
+    let h = c.hand_over-answer in let handed = h.ensures.handed _ c.requires.serving.0.1 in let k = setup c.args.shared.now in
+    let fate_is : h.result.1 ≡ fate_sent (view c.args.cpu.now).holder.station = handed.0 in (
+      accepts h.result.0 c.args.n c.args.queue c.args.shared.now.queues c.requires.at.0 _ (view c.args.cpu.now)
+          (view c.settle_sent.new.cpu) (view c.stop.new.cpu) (sym c.is_refusal.ensures ∙ c.if-is_refusal.false) handed.1
+          (ap (λ (x : Setup). x.queues) c.requires.seat.2) s stop.stays stop.heard stop.step c.requires.open,
+      stop.made
+          ∙ ((λ j. stops_stored k h.result.0 c.args.queue (c.settle_sent.ensures.made j))
+          ∙ (λ j. stops_stored k h.result.0 c.args.queue (h.ensures.made j ⊳ did_store_fate k c.args.n (word_of (fate_is j))))),
     )
 
 pub returns-clause-empty : goal.returns-clause-empty
 returns-clause-empty g c = λ _.
-    let ans = c.hand_over-answer.result.0 in
-    let h = c.hand_over-answer.ensures.handed (shown (view c.args.cpu.now).holder) c.requires.serving.0.1 in
-    let accepted = sym c.is_refusal.ensures ∙ c.if-is_refusal.false in
-    let sent = sent_from c.args.shared.now c.args.cpu.now c.hand_over-answer.new.cpu c.settle_sent.new.cpu c.args.n c.args.queue ans c.requires.packet.1 c.hand_over-answer.ensures.same.3 accepted h.1 c.settle_sent.ensures.sent c.requires.at.0 c.requires.at.1 in
-    (ap (λ (x : HolderPart). x.hand) (c.stop.ensures.stays.holder ∙ sent.holder), ap (λ (x : HolderPart). x.slot) (c.stop.ensures.stays.holder ∙ sent.holder) ∙ c.requires.room.0.2)
+    let holder = c.stop.ensures.stays.holder ∙ (sent g (goal.at.returns-clause-empty g c).After-settle_sent).holder in
+    (ap (λ (x : HolderPart). x.hand) holder, ap (λ (x : HolderPart). x.slot) holder ∙ c.requires.room.0.2)
