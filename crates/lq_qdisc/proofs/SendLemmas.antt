@@ -11,15 +11,18 @@ use Rattle.lq_model.specs.declared.machine.Position.TheVariants.{Check, Leave, P
 use Rattle.lq_model.specs.declared.fate.Info.{Info}
 use Rattle.lq_account.specs.Trail.{is_own}
 use Rattle.lq_table.specs.Told.{is_set, looking, seen_by, seen_state, some_bit}
-use Rattle.lq_table.specs.Sees.{view, IsElseSame, IsSameSeat}
+use Rattle.lq_table.specs.Made.{◌⊳◌, did_load_state}
+use Rattle.lq_table.specs.Sees.{view, known, steps, IsElseSame, IsSameSeat, IsSeatOf}
 use Rattle.lq_table.specs.declared.shared.Cpu.{Cpu}
 use Rattle.lq_table.specs.declared.shared.Shared.{Shared}
 use Rattle.lq_table.specs.Views.{PacketPart, View}
 use Rattle.lq_qdisc.specs.Calls.{KeepsFates}
+use Rattle.lq_qdisc.specs.Steps.{with_state_loaded}
 use Rattle.lq_qdisc.specs.Sends.{Enqueues, HasCome, IsBringing, IsCallKept, IsFreeInside, IsInsideKept, came_as, trail_with}
 use Rattle.lq_qdisc.specs.declared.answers.Sending.{Sending}
 use Rattle.lq_qdisc.specs.declared.answers.Sending.TheVariants as sending
-use Rattle.lq_qdisc.proofs.RunLemmas.{fates_same}
+use Rattle.lq_qdisc.proofs.RunLemmas.{fates_same, fates_then}
+use Rattle.lq_qdisc.proofs.TakeLemmas.{seat_same}
 
 -- the fate of a packet that was dropped as full comes to those that stay
 pub put_fates : (n band : ℕ) (answer : Sending) (old new : View) → Enqueues n band answer old new → KeepsFates old new
@@ -66,10 +69,6 @@ module _ {D : Type 0} where
   called_from b m a seat share control told k =
       record { seat = (k.seat.0 ∙ seat.0, k.seat.1 ∙ seat.1); share = k.share ∙ share; control = k.control ∙ control; told = k.told ∙ told }
 
-  -- so does a load of the state
-  pub called_looked : (state : ℕ) (b m a : Cpu D) → IsSameSeat b m → view m ≡ looking state (view b) → IsCallKept m a → IsCallKept b a
-  called_looked state b m a seat e k = called_from b m a seat (ap (λ (v : View). v.share) e) (ap (λ (v : View). v.control) e) (ap (λ (v : View). v.whole.told) e) k
-
   -- what serving the bands leaves as it was, likewise
   pub inside_from : (b m a : Cpu D) → IsSameSeat b m → (view m).share ≡ (view b).share → (view m).packets ≡ (view b).packets → (view m).locks ≡ (view b).locks → (view m).control ≡ (view b).control → (view m).turns ≡ (view b).turns
       → (view m).trail ≡ (view b).trail → (view m).whole.told ≡ (view b).whole.told → IsInsideKept m a → IsInsideKept b a
@@ -82,4 +81,40 @@ module _ {D : Type 0} where
     turns = k.turns ∙ turns;
     trail = k.trail ∙ trail;
     told = k.told ∙ told;
+  }
+
+  -- What is known of a step of a call that leaves what a call does: the seat is still one of the table, and what the rest of the call
+  -- leaves as it was, the whole does.
+  pub record KeepsCall (t : Shared D) (b m : Cpu D) : Type 0 where
+    pub seat : IsSeatOf t m
+    pub kept : (a : Cpu D) → IsCallKept m a → IsCallKept b a
+    pub fates : (w : View) → KeepsFates (view m) w → KeepsFates (view b) w
+
+  pub keeps_call : (t : Shared D) (b m : Cpu D) → IsSameSeat b m → (view m).share ≡ (view b).share → (view m).control ≡ (view b).control
+      → (view m).whole.told ≡ (view b).whole.told → (view m).settled ≡ (view b).settled → IsSeatOf t b → KeepsCall t b m
+  keeps_call t b m seat share control told settled s = record {
+    seat = seat_same t b m seat share s;
+    kept = λ a k. called_from b m a seat share control told k;
+    fates = λ w f. fates_then (view b) (view m) w (fates_same (view b) (view m) settled) f;
+  }
+
+  -- What is known where a seat that brings a packet loaded the state, and goes on with the packet.
+  pub record IsLooked (t : Shared D) (n state : ℕ) (b m : Cpu D) : Type 0 where
+    pub is : view m ≡ looking state (view b)
+    pub all : known m ≡ with_state_loaded state (known b)
+    pub call : KeepsCall t b m
+    pub packet : IsBringing t n m
+    pub free : IsFreeInside b → IsFreeInside m
+    pub came : (answer : Sending) (w : View) → HasCome t.infos.now n answer (view m) w → HasCome t.infos.now n answer (view b) w
+
+  pub looked_from : (t : Shared D) (n state : ℕ) (b m : Cpu D) → IsElseSame b m → view m ≡ looking state (view b)
+      → steps m ≡ steps b ⊳ did_load_state state → IsSeatOf t b → IsBringing t n b → IsLooked t n state b m
+  looked_from t n state b m same e made s packet = record {
+    is = e;
+    all = λ j. record { view = e j; steps = made j };
+    call = keeps_call t b m same.0 (ap (λ (v : View). v.share) e) (ap (λ (v : View). v.control) e) (ap (λ (v : View). v.whole.told) e)
+        (ap (λ (v : View). v.settled) e) s;
+    packet = brings_looked t n state b m e packet;
+    free = free_looked state b m same e;
+    came = λ answer w h. come_looked t.infos.now n state answer (view b) (view m) w e h;
   }
