@@ -1,8 +1,8 @@
 -- What the steps of the machine make of what a seat knows that has the table alone.
-use Rattle.std.proofs.Common.{◌≡◌, ℕ, ◌-◌, ◌⊎◌, inl, inr, ⊎_elim, Bool, true, false, true≢false, refl, sym, ap, ◌∙◌, subst, Option, Some, None}
-use Rattle.std.specs.Prelude.{if◌then◌else◌, not, ◌||◌, ◌&&◌, ◌==◌, is_some}
+use Rattle.std.proofs.Common.{◌≡◌, ℕ, ◌-◌, ◌⊎◌, Bool, true, false, refl, sym, ap, ◌∙◌, subst, Option, Some, None}
+use Rattle.std.specs.Prelude.{if◌then◌else◌, ◌||◌, ◌&&◌, ◌==◌, is_some}
 use Rattle.std.specs.Option.{option_map}
-use Rattle.lq_model.specs.Account.{Back, Send, Refuse, Direct as DirectEvent, Pick, Stop}
+use Rattle.lq_model.specs.Account.{Back, Send, Pick, Stop}
 use Rattle.lq_model.specs.declared.machine.Answer.{Answer}
 use Rattle.lq_model.specs.declared.machine.Answer.TheVariants.{Plain}
 use Rattle.lq_model.specs.declared.machine.Answer.TheVariants as answer
@@ -10,8 +10,6 @@ use Rattle.lq_device.specs.Station.{StationState}
 use Rattle.lq_model.specs.declared.fate.Fate.{Fate}
 use Rattle.lq_model.specs.declared.fate.Fate.TheVariants as fate
 use Rattle.lq_table.specs.Settled.{MaySettle, fated}
-use Rattle.lq_model.specs.declared.machine.Attempt.{Attempt}
-use Rattle.lq_model.specs.declared.machine.Attempt.TheVariants.{Queued, Direct, Interrupt}
 use Rattle.lq_model.specs.declared.machine.Blocked.TheVariants.{InHand, NoneTaken}
 use Rattle.lq_model.specs.declared.machine.Position.{Position}
 use Rattle.lq_model.specs.declared.machine.Position.TheVariants as at
@@ -20,10 +18,10 @@ use Rattle.lq_model.specs.declared.machine.Packet.{Packet}
 use Rattle.lq_model.specs.Machine.{Qdisc, Purge, is_non_empty}
 use Rattle.lq_model.specs.Control.{is_control}
 use Rattle.lq_model.specs.Positions.{in_hand}
-use Rattle.lq_model.specs.Steps.{After, step_at, begun, run_begins, goes_to, gives_up, lock_got, try_lock, call_ends}
-use Rattle.lq_table.specs.Views.{View, HolderPart, machine_packet}
-use Rattle.lq_table.specs.Told.{seen_by, seen_state, loads_state, misses, schedules, clears_missed, clears_draining, clears_sched, sets_missed, sets_draining, looking, missing, scheduling, backing, passing, setting, stepped, refusing, going, entering, bringing_packet, call_of, unlocks_at, unlocking, unlocking_control, unlocking_call, seen_lock, loading, picking, after_stop, is_dequeue, storing, storing_from, stop_value, settling, machine_answer, tries_lock, got, got_in_control, got_in_call, finding_locked}
-use Rattle.lq_table.specs.Solo.{Solo, solo, missed_to, draining_to, sched_set, sched_cleared, laid, heard, entered_as, locked_to, picks, stop_found, device_to, fated_as}
+use Rattle.lq_model.specs.Steps.{After, step_at, begun, run_begins, goes_to, gives_up}
+use Rattle.lq_table.specs.Views.{View, machine_packet}
+use Rattle.lq_table.specs.Told.{seen_by, seen_state, loads_state, misses, clears_missed, clears_draining, clears_sched, sets_missed, sets_draining, looking, missing, backing, passing, setting, stepped, entering, bringing_packet, call_of, unlocks_at, unlocking, unlocking_control, unlocking_call, seen_lock, loading, picking, after_stop, is_dequeue, storing, storing_from, stop_value, settling, machine_answer}
+use Rattle.lq_table.specs.Solo.{Solo, solo, missed_to, draining_to, sched_cleared, laid, heard, entered_as, locked_to, picks, stop_found, device_to, fated_as}
 
 either_raised : (b : Bool) (x y : After) (c : Bool) → x.seat.raised ≡ c → y.seat.raised ≡ c → (if b then x else y).seat.raised ≡ c
 either_raised true x y c e e' = e

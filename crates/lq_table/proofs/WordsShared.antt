@@ -1,7 +1,6 @@
 -- Threads may share the fate words that a closed table lends: what a `&` to a row of slots holds is the same to each thread where that of a value is.
 use mathlib.Core.Bool.{Bool, true, false}
 use mathlib.Core.List.{List, [], ◌∷◌}
-use Prim.Native.Nat.{ℕ}
 use denote.Builtin.{u64}
 use denote.Param.Send.{Common, IsSync, sendable}
 use denote.RattleType.{RattleType}
@@ -9,7 +8,7 @@ use denote.RawPtr.{Ptr, block_of, block_ptr, count_of, null_ptr, ◌+ₚ◌}
 use denote.Ref.{NamedLft}
 use denote.Struct.Owning.{shape}
 use denote.Struct.Struct.{Struct}
-use Rattle.core.specs.Mem.Slots.Ownership.{bytes_of, lent, slot_lent, slots_lent}
+use Rattle.core.specs.Mem.Slots.Ownership.{bytes_of, slot_lent, slots_lent}
 use Rattle.core.specs.contracts.slots.Slots as Slots
 use Rattle.lq_table.specs.contracts.ended.FateWords.{the_row}
 
