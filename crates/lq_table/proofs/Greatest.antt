@@ -1,5 +1,5 @@
 -- The greatest of the stop words.
-use Rattle.std.proofs.Common.{◌≡◌, ℕ, zero, suc, ◌+◌, ◌-◌, ◌<◌, ◌≤◌, List, [], ◌∷◌, length, length-drop, take, drop, get_or, refl, sym, ap, ◌∙◌, arith}
+use Rattle.std.proofs.Common.{◌≡◌, ℕ, zero, suc, ◌+◌, ◌<◌, ◌≤◌, List, [], ◌∷◌, length, length-drop, take, drop, get_or, refl, sym, ap, ◌∙◌, arith}
 use Rattle.std.specs.Prelude.{fold, max, slice_index}
 use Rattle.std.proofs.Math.Nat.{le-max_left, le-max_right, zero-max}
 use Rattle.std.proofs.lemmas.List.{take_more, get_or-drop}

@@ -1,6 +1,6 @@
 -- What the steps of the machine make of what a seat knows that has the table alone.
-use Rattle.std.proofs.Common.{◌≡◌, ℕ, ◌-◌, ◌⊎◌, Bool, true, false, refl, sym, ap, ◌∙◌, subst, Option, Some, None}
-use Rattle.std.specs.Prelude.{if◌then◌else◌, ◌||◌, ◌&&◌, ◌==◌, is_some}
+use Rattle.std.proofs.Common.{◌≡◌, ℕ, ◌-◌, Bool, true, false, refl, sym, ap, ◌∙◌, subst, Option, Some, None}
+use Rattle.std.specs.Prelude.{if◌then◌else◌, ◌&&◌, ◌==◌, is_some}
 use Rattle.std.specs.Option.{option_map}
 use Rattle.lq_model.specs.Account.{Back, Send, Pick, Stop}
 use Rattle.lq_model.specs.declared.machine.Answer.{Answer}
