@@ -5,7 +5,7 @@ use Rattle.std.specs.Option.{option_map}
 use Rattle.std.proofs.lemmas.Bool.{and_from, and_parts, cond-true, cond-false, eq-eqb, lt-ltb, ne_eqb, or_left, true≢false}
 use Rattle.lq_account.proofs.Offers.{brought_direct, brought_through, queued_join}
 use Rattle.lq_model.specs.Account.{Account, Event, Refuse, Join, Full, Direct, Wake, after}
-use Rattle.lq_model.specs.Alone.{RunningStation, brought_in, taken_in, gone_direct, is_occupied, joined_or_full, opened, opened_queue, opened_up_to, seen_in, served}
+use Rattle.lq_model.specs.Alone.{RunningStation, brought_in, taken_in, gone_direct, joined_or_full, opened, opened_queue, opened_up_to, seen_in, served}
 use Rattle.lq_model.specs.Band.{IsOccupied}
 use Rattle.lq_model.specs.Positions.{holds_lock}
 use Rattle.lq_model.specs.declared.machine.Position.TheVariants.{Leave, Put, Try1}
@@ -19,9 +19,9 @@ use Rattle.lq_table.specs.Views.{View, Setup, machine_packet, SharePart, first_a
 use Rattle.lq_table.specs.Solo.{Solo, IsSole, SeesState, account_of, solo, heard, locked_to, lowered, sched_cleared, sched_set}
 use Rattle.lq_table.specs.Told.{call_of, entering, going, is_set, looking, seen_by, some_bit, stepped}
 use Rattle.lq_model.specs.declared.machine.Answer.TheVariants.{Plain}
-use Rattle.lq_qdisc.proofs.ViewRelations.{Attempts, FollowsDirect, Goes, GoesPast, GoesThrough, Interrupts, RunsToEnd, Transmits, TriesToPass}
+use Rattle.lq_qdisc.proofs.ViewRelations.{Attempts, FollowsDirect, Goes, GoesPast, GoesThrough, Interrupts, RunsToEnd, TriesToPass}
 use Rattle.lq_qdisc.specs.Alone.{BringsAlone, Does, HasAll, IsAlone, IsOneSender, RunsAlone, account_in, bits_are_clear, running}
-use Rattle.lq_qdisc.specs.Sends.{GetsLock, Enqueues, IsRefused, IsDue, Wakes, WakesBelow, transmitting}
+use Rattle.lq_qdisc.specs.Sends.{Enqueues, IsRefused, Wakes, WakesBelow, transmitting}
 use Rattle.lq_qdisc.specs.declared.answers.Sending.{Sending}
 use Rattle.lq_qdisc.specs.declared.answers.Sending.TheVariants as sending
 use Rattle.lq_qdisc.specs.declared.answers.Through.{Through}
