@@ -11,7 +11,7 @@ use native.Mathlib.Decide.{ℕ_discrete}
 use lib.ListN.{get_elem?}
 use prog.Atomic.{either}
 use Rattle.atomic_table.specs.Table as table
-use Rattle.atomic_table.specs.Table.{Step, step, Allows, keeps, takes, gives, stepped, homes_after, Valid}
+use Rattle.atomic_table.specs.Table.{Step, step, Allows, keeps, takes, gives, stepped}
 use Rattle.lq_model.specs.Band.{batch}
 use Rattle.lq_band.specs.Seats.{total, Each}
 use Rattle.lq_band.specs.Times.{times}
