@@ -1,8 +1,7 @@
-use Rattle.std.proofs.Common.{ℕ, ◌*◌, List, length, slice_index_or, ap, ◌∙◌}
+use Rattle.std.proofs.Common.{ℕ, ◌*◌, List, length, ap, ◌∙◌}
 use Rattle.std.proofs.lemmas.Bool.{cases_eq}
-use Rattle.lq_model.specs.Plan.{owner_in, rank_in}
 use Rattle.lq_table.specs.Rule.{units_of}
-use Rattle.lq_table.specs.Sees.{known, setup, view}
+use Rattle.lq_table.specs.Sees.{known, setup}
 use Rattle.lq_test_table.proofs.Sends.{turns_sent, units_sent}
 use Rattle.lq_test_table.proofs.tables.send.Goals as goal
 
