@@ -160,28 +160,48 @@ def item_with_comment(text, start):
     return first, "\n".join([*before[first:], text[start : end.end() if end else len(text)]])
 
 
-def types_of_code():
+def as_contracts_see(item, models):
+    """What the contracts of other crates see of a type: with a model its values, else its fields; nothing that is proved of every value."""
+    lines = item.splitlines()
+    if models:
+        head = next(at for at, line in enumerate(lines) if re.match(r"(pub(\(crate\))? )?(struct|enum) ", line))
+        values = [line for model in models for line in model.splitlines() if re.match(r"impl|\}| +ghost Value\b", line)]
+        uses = [line for model in models for line in model.splitlines() if re.match(r" +ghost use ", line)]
+        named = " ".join(values)
+        uses = [line for line in uses if any(re.search(rf"\b{it}\b", named) for it in re.findall(r"\w+(?=[,}])", line))]
+        return [*lines[: head + 1], *(["    .."] if lines[head].endswith("{") else []), "}", "", values[0], *uses, *values[1:]]
+    return [line for line in lines if not re.match(r" +(pub )?ghost \w+: \{.*\},$", line)]
+
+
+def types_of_code(for_reading):
     """The types and traits of the code, by crate, file and name."""
     found = {}
     for path in code_files():
         text = path.read_text(encoding="utf-8")
         for it in TYPE.finditer(text):
             first, item = item_with_comment(text, it.start())
-            lines = item.splitlines()
             # what contracts see of a type stands in its model
-            for model in re.finditer(rf"^impl(?:<[^{{]*>)? Model for {it[2]}\b", text, re.M):
-                lines += ["", *item_with_comment(text, model.start())[1].splitlines()]
+            models = [
+                item_with_comment(text, model.start())[1]
+                for model in re.finditer(rf"^impl(?:<[^{{]*>)? Model for {it[2]}\b", text, re.M)
+            ]
+            if for_reading:
+                lines = as_contracts_see(item, models)
+            else:
+                lines = item.splitlines()
+                for model in models:
+                    lines += ["", *model.splitlines()]
             module = ".".join(path.relative_to(CRATES).with_suffix("").parts)
             found[module, it[2]] = Definition(module, it[2], it[1], path, first + 1, True, [], [], lines)
     return found
 
 
 class Repository:
-    """All definitions and all types of the code, and what the code mentions of them."""
+    """All definitions and all types of the code, and what the code mentions of them; of types `for_reading` what contracts see."""
 
-    def __init__(self):
+    def __init__(self, for_reading=False):
         self.definitions, self.files, self.reexports, names = {}, {}, {}, {}
-        self.types = types_of_code()
+        self.types = types_of_code(for_reading)
         for path in sorted(CRATES.glob("*/specs/**/*.antt")) + sorted(CRATES.glob("*/proofs/**/*.antt")):
             if path.name != "Lib.antt":
                 self.files[module_of(path)] = read_definitions(path)

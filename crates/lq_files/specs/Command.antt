@@ -77,11 +77,7 @@ command_of_words (verb ∷ first ∷ second ∷ third ∷ []) =
     if is_operand first && (is_operand second && is_operand third) then command_of_three verb first second third else None
 command_of_words (verb ∷ first ∷ second ∷ third ∷ fourth ∷ fifth ∷ []) =
     if is_operand first && (is_operand second && (is_operand third && (is_operand fourth && is_operand fifth))) then command_of_five verb first second third fourth fifth else None
-command_of_words (verb ∷ first ∷ second ∷ third ∷ fourth ∷ fifth ∷ more ∷ rest) = None
-command_of_words (verb ∷ first ∷ second ∷ third ∷ fourth ∷ []) = None
-command_of_words (verb ∷ first ∷ second ∷ []) = None
-command_of_words (verb ∷ []) = None
-command_of_words [] = None
+command_of_words _ = None
 
 -- WHAT IS READ
 

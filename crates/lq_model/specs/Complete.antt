@@ -14,11 +14,9 @@ use Rattle.lq_model.specs.declared.plan.EventPlan.{EventPlan}
 -- WHAT A PLAN LEAVES OUT
 
 abbrev pub deactivates : EventKind → Bool
-deactivates kind.Down = true
 deactivates kind.Up = false
 deactivates (kind.Resize len) = false
-deactivates (kind.TxQueueLen len) = true
-deactivates (kind.Swap params) = true
+deactivates _ = true
 
 abbrev pub NeverDeactivates : Plan → Type 0
 NeverDeactivates plan = (event : ℕ) (e : EventPlan) → slice_get plan.events event ≡ Some e → deactivates e.kind ≡ false

@@ -49,22 +49,16 @@ answer_of t n =
 
 -- the packets that an answer accepts: this one, or none
 abbrev pub taken : Tx → ℕ → List ℕ
-taken Sent packet = packet ∷ []
-taken SentStop packet = packet ∷ []
-taken SentHang packet = packet ∷ []
 taken Busy packet = []
+taken _ packet = packet ∷ []
 
 abbrev pub is_hang : Tx → Bool
 is_hang SentHang = true
-is_hang Sent = false
-is_hang SentStop = false
-is_hang Busy = false
+is_hang _ = false
 
 abbrev pub is_busy : Tx → Bool
 is_busy Busy = true
-is_busy Sent = false
-is_busy SentStop = false
-is_busy SentHang = false
+is_busy _ = false
 
 -- an answer Busy lowers how many more there may be, and no answer raises it
 abbrev pub LowersBusy : Tx → ℕ → ℕ → Type 0

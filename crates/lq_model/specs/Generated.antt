@@ -25,33 +25,21 @@ generated_source number i = (spread number i / 16) % 256
 abbrev pub generated_destination : ℕ → ℕ
 generated_destination i = i % 256
 
---   place  bytes  field of the frame
---       0      6  destination: 02:00:00:00:00:02
---       6      6  source: 02:00:00:00:00:01
---      12      2  EtherType: IPv4
---      14      1  version 4, a header of five words
---      15      1  type of service
---      16      2  total length: 20
---      18      2  identification: i
---      20      2  flags and fragment offset: 0
---      22      2  time to live 64, protocol 253 (experiments)
---      24      2  checksum: none is made
---      26      4  source: 10.0.0.s
---      30      4  destination: 10.0.1.d
+-- an Ethernet header of 14 bytes, and an IPv4 header of 20 (RFC 791)
 abbrev pub generated_frame : ℕ → ℕ → List ℕ
 generated_frame number i =
-    (2 ∷ 0 ∷ 0 ∷ 0 ∷ 0 ∷ 2 ∷ [])
-    ++ (2 ∷ 0 ∷ 0 ∷ 0 ∷ 0 ∷ 1 ∷ [])
-    ++ (8 ∷ 0 ∷ [])
-    ++ (0x45 ∷ [])
+    (2 ∷ 0 ∷ 0 ∷ 0 ∷ 0 ∷ 2 ∷ [])  -- destination: 02:00:00:00:00:02
+    ++ (2 ∷ 0 ∷ 0 ∷ 0 ∷ 0 ∷ 1 ∷ [])  -- source: 02:00:00:00:00:01
+    ++ (8 ∷ 0 ∷ [])  -- EtherType: IPv4
+    ++ (0x45 ∷ [])  -- version 4, a header of five words
     ++ (generated_type_of_service number i ∷ [])
-    ++ (0 ∷ 20 ∷ [])
-    ++ to_be_bytes w16 (i % 65536)
-    ++ (0 ∷ 0 ∷ [])
-    ++ (64 ∷ 253 ∷ [])
-    ++ (0 ∷ 0 ∷ [])
-    ++ (10 ∷ 0 ∷ 0 ∷ generated_source number i ∷ [])
-    ++ (10 ∷ 0 ∷ 1 ∷ generated_destination i ∷ [])
+    ++ (0 ∷ 20 ∷ [])  -- total length
+    ++ to_be_bytes w16 (i % 65536)  -- identification
+    ++ (0 ∷ 0 ∷ [])  -- flags and fragment offset
+    ++ (64 ∷ 253 ∷ [])  -- time to live, and protocol 253 (experiments)
+    ++ (0 ∷ 0 ∷ [])  -- checksum: none is made
+    ++ (10 ∷ 0 ∷ 0 ∷ generated_source number i ∷ [])  -- source: 10.0.0.s
+    ++ (10 ∷ 0 ∷ 1 ∷ generated_destination i ∷ [])  -- destination: 10.0.1.d
 
 -- a packet each millisecond; the captured length and the length on the wire are those of the frame
 abbrev pub generated_record : ℕ → ℕ → List ℕ

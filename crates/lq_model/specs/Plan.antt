@@ -6,7 +6,7 @@ use Rattle.lq_model.specs.Capture.{Packets}
 use Rattle.lq_model.specs.Class.{priority_of, band_of, source_byte_of, route_byte_of}
 use Rattle.lq_model.specs.declared.fate.Info.{Info}
 use Rattle.lq_model.specs.declared.plan.EventKind.{EventKind}
-use Rattle.lq_model.specs.declared.plan.EventKind.TheVariants.{Down, Up, Resize, TxQueueLen, Swap}
+use Rattle.lq_model.specs.declared.plan.EventKind.TheVariants.{Swap}
 use Rattle.lq_model.specs.declared.plan.EventPlan.{EventPlan}
 use Rattle.lq_model.specs.declared.plan.Split.{Split}
 use Rattle.lq_model.specs.declared.plan.Split.TheVariants.{Round, Source}
@@ -31,11 +31,8 @@ pub record Plan : Type 0 where
 -- A unit is a device of the bench. Station j begins with unit j, and each swap brings the next unit.
 
 abbrev pub is_swap_kind : EventKind → Bool
-is_swap_kind Down = false
-is_swap_kind Up = false
-is_swap_kind (Resize len) = false
-is_swap_kind (TxQueueLen len) = false
 is_swap_kind (Swap params) = true
+is_swap_kind _ = false
 
 abbrev pub is_swap : EventPlan → Bool
 is_swap event = is_swap_kind event.kind

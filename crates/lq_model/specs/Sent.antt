@@ -3,15 +3,12 @@ use Rattle.std.specs.Prelude.{ℕ, ◌+◌, Bool, false, ◌&&◌, ◌==◌, if�
 use Rattle.lq_model.specs.Numbers.{first_numbers}
 use Rattle.lq_model.specs.Texts.{is_sent_by}
 use Rattle.lq_model.specs.declared.fate.Fate.{Fate}
-use Rattle.lq_model.specs.declared.fate.Fate.TheVariants.{Sent, Full, Shrunk, Purged, Refused}
+use Rattle.lq_model.specs.declared.fate.Fate.TheVariants.{Sent}
 
 -- sent by unit u with serial s
 abbrev pub is_sent_as : ℕ → ℕ → Fate → Bool
 is_sent_as u s (Sent unit serial) = (unit == u) && (serial == s)
-is_sent_as u s (Full seen) = false
-is_sent_as u s (Shrunk event) = false
-is_sent_as u s (Purged cause) = false
-is_sent_as u s (Refused event) = false
+is_sent_as u s _ = false
 
 -- the number of the first packet whose fate passes the test; that of no packet where there is none
 abbrev pub first_passing : (Fate → Bool) → List Fate → ℕ

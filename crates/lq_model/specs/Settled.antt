@@ -35,11 +35,9 @@ GivesLength plan station len =
 
 -- the length after an event of the station, where there is one before it
 abbrev pub length_after_event : EventKind → ℕ → ℕ
-length_after_event kind.Down len = len
-length_after_event kind.Up len = len
 length_after_event (kind.Resize new) len = new
 length_after_event (kind.TxQueueLen new) len = new
-length_after_event (kind.Swap params) len = len
+length_after_event _ len = len
 
 abbrev pub length_after : List EventPlan → ℕ → ℕ
 length_after [] len = len
@@ -125,9 +123,7 @@ pub record HangsAsTold (plan : Plan) (fates : List Fate) : Type 0 where
 abbrev pub down_after : EventKind → ℕ → Option ℕ → Option ℕ
 down_after kind.Down event down = Some event
 down_after kind.Up event down = None
-down_after (kind.Resize len) event down = down
-down_after (kind.TxQueueLen len) event down = down
-down_after (kind.Swap params) event down = down
+down_after _ event down = down
 
 -- the same after the events from number e on that stand before packet n
 abbrev pub down_before : ℕ → ℕ → List EventPlan → ℕ → Option ℕ → Option ℕ

@@ -30,10 +30,7 @@ fates_text fates = fate_lines 0 fates
 
 abbrev pub is_sent : Fate → Bool
 is_sent (Sent unit serial) = true
-is_sent (Full seen) = false
-is_sent (Shrunk event) = false
-is_sent (Purged cause) = false
-is_sent (Refused event) = false
+is_sent _ = false
 
 abbrev pub is_sent_by : ℕ → Fate → Bool
 is_sent_by u (Sent unit serial) = unit == u
@@ -44,31 +41,19 @@ is_sent_by u (Refused event) = false
 
 abbrev pub is_full : Fate → Bool
 is_full (Full seen) = true
-is_full (Sent unit serial) = false
-is_full (Shrunk event) = false
-is_full (Purged cause) = false
-is_full (Refused event) = false
+is_full _ = false
 
 abbrev pub is_shrunk : Fate → Bool
 is_shrunk (Shrunk event) = true
-is_shrunk (Sent unit serial) = false
-is_shrunk (Full seen) = false
-is_shrunk (Purged cause) = false
-is_shrunk (Refused event) = false
+is_shrunk _ = false
 
 abbrev pub is_purged : Fate → Bool
 is_purged (Purged cause) = true
-is_purged (Sent unit serial) = false
-is_purged (Full seen) = false
-is_purged (Shrunk event) = false
-is_purged (Refused event) = false
+is_purged _ = false
 
 abbrev pub is_refused : Fate → Bool
 is_refused (Refused event) = true
-is_refused (Sent unit serial) = false
-is_refused (Full seen) = false
-is_refused (Shrunk event) = false
-is_refused (Purged cause) = false
+is_refused _ = false
 
 -- the four counts of packets that were not sent, at the end of a line
 abbrev pub unsent_words : ((Fate → Bool) → ℕ) → List ℕ

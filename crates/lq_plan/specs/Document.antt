@@ -1,5 +1,5 @@
 -- A document that was read: its root, and the tables of its two arrays.
-use Rattle.std.specs.Prelude.{ℕ, Bool, true, false, ◌||◌, ◌&&◌, nat_lt, List, map, sum, codes, Option, Some, None}
+use Rattle.std.specs.Prelude.{ℕ, Bool, true, false, ◌||◌, ◌&&◌, nat_lt, List, map, sum, codes, Option, Some}
 use Rattle.std.specs.List.{list_any}
 use Rattle.toml.specs.Data.{Members}
 use Rattle.toml.specs.View.{table_view}
@@ -13,7 +13,7 @@ use Rattle.lq_plan.specs.declared.document.Document.{Document as CodeDocument}
 use Rattle.lq_plan.specs.declared.faults.Fault.{Fault}
 use Rattle.lq_plan.specs.declared.keys.Version.{Version}
 use Rattle.lq_plan.specs.declared.values.EventWord.{EventWord}
-use Rattle.lq_plan.specs.declared.values.EventWord.TheVariants.{Down, Up, Resize, TxQueueLen, Swap}
+use Rattle.lq_plan.specs.declared.values.EventWord.TheVariants.{Swap}
 
 pub record Document : Type 0 where
   pub root : Members
@@ -48,12 +48,8 @@ abbrev pub groups_in : List Members → List ℕ
 groups_in stations = map mq_in stations
 
 abbrev pub is_swap_word : Option EventWord → Bool
-is_swap_word None = false
-is_swap_word (Some Down) = false
-is_swap_word (Some Up) = false
-is_swap_word (Some Resize) = false
-is_swap_word (Some TxQueueLen) = false
 is_swap_word (Some Swap) = true
+is_swap_word _ = false
 
 -- the event swaps the device of a group of several
 abbrev pub swaps_group : List ℕ → Members → Bool

@@ -9,16 +9,15 @@ use Rattle.lq_plan.specs.Values.{elements_in, event_word_of, split_of}
 use Rattle.lq_plan.specs.declared.faults.Fault.{Fault}
 use Rattle.lq_plan.specs.declared.faults.Fault.TheVariants.{UnknownKey, MissingKey, WrongKind, OutOfRange}
 use Rattle.lq_plan.specs.declared.keys.Presence.{Presence}
-use Rattle.lq_plan.specs.declared.keys.Presence.TheVariants.{Required, Optional, Unknown}
+use Rattle.lq_plan.specs.declared.keys.Presence.TheVariants.{Required, Unknown}
 use Rattle.lq_plan.specs.declared.keys.Rule.{Rule}
 use Rattle.lq_plan.specs.declared.keys.Rule.TheVariants.{Number, Flag, SplitText, EventText, Tables}
 
 -- UNKNOWN KEYS
 
 abbrev pub is_allowed : Presence → Bool
-is_allowed Required = true
-is_allowed Optional = true
 is_allowed Unknown = false
+is_allowed _ = true
 
 -- the table may have a key of this name
 abbrev pub allows : List ℕ → Key → Bool
@@ -35,8 +34,7 @@ has_unknown_key keys (member name value rest) = not (is_known keys name) || has_
 
 abbrev pub is_required : Presence → Bool
 is_required Required = true
-is_required Optional = false
-is_required Unknown = false
+is_required _ = false
 
 abbrev pub is_missing : Members → Key → Bool
 is_missing table key = is_required key.presence && is_none (get_member key.name table)

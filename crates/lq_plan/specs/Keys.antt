@@ -11,7 +11,7 @@ use Rattle.lq_plan.specs.declared.keys.Rule.{Rule}
 use Rattle.lq_plan.specs.declared.keys.Rule.TheVariants.{Number, Flag, SplitText, EventText, Tables}
 use Rattle.lq_plan.specs.declared.keys.Version.{Version}
 use Rattle.lq_plan.specs.declared.values.EventWord.{EventWord}
-use Rattle.lq_plan.specs.declared.values.EventWord.TheVariants.{Down, Up, Resize, TxQueueLen, Swap}
+use Rattle.lq_plan.specs.declared.values.EventWord.TheVariants.{Resize, TxQueueLen, Swap}
 
 pub record Key : Type 0 where
   pub name : List ℕ
@@ -95,19 +95,14 @@ event_word_in event = option_and_then event_word_of (text_at (codes "kind") even
 
 abbrev pub len_presence : Option EventWord → Presence
 len_presence None = Optional
-len_presence (Some Down) = Unknown
-len_presence (Some Up) = Unknown
 len_presence (Some Resize) = Required
 len_presence (Some TxQueueLen) = Required
-len_presence (Some Swap) = Unknown
+len_presence _ = Unknown
 
 abbrev pub params_presence : Option EventWord → Presence
 params_presence None = Optional
-params_presence (Some Down) = Unknown
-params_presence (Some Up) = Unknown
-params_presence (Some Resize) = Unknown
-params_presence (Some TxQueueLen) = Unknown
 params_presence (Some Swap) = Optional
+params_presence _ = Unknown
 
 -- the station of the text to which an event is done
 abbrev pub group_in : Members → ℕ

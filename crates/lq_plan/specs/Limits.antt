@@ -35,19 +35,13 @@ falls_below last (event ∷ events) = nat_lt event.before last || falls_below ev
 abbrev pub active_after : Bool → EventKind → Option Bool
 active_after true Down = Some false
 active_after true Up = None
-active_after true (Resize len) = Some true
-active_after true (TxQueueLen len) = Some true
-active_after true (Swap params) = Some true
-active_after false Down = None
+active_after true _ = Some true
 active_after false Up = Some true
-active_after false (Resize len) = None
-active_after false (TxQueueLen len) = None
-active_after false (Swap params) = None
+active_after false _ = None
 
 -- the same of several that are done to it in turn
 abbrev pub is_misplaced : Option Bool → List EventKind → Bool
-is_misplaced None [] = true
-is_misplaced None (kind ∷ kinds) = true
+is_misplaced None kinds = true
 is_misplaced (Some active) [] = false
 is_misplaced (Some active) (kind ∷ kinds) = is_misplaced (active_after active kind) kinds
 

@@ -47,12 +47,11 @@ station_plan_in station = record {
 
 -- of an event that has these keys; a required key has no default, so those that stand here for one are never read
 abbrev pub kind_as : Option EventWord → Members → EventKind
-kind_as None event = Down
-kind_as (Some word.Down) event = Down
 kind_as (Some word.Up) event = Up
 kind_as (Some word.Resize) event = Resize (number_at (codes "len") 1 event)
 kind_as (Some word.TxQueueLen) event = TxQueueLen (number_at (codes "len") 1 event)
 kind_as (Some word.Swap) event = Swap (params_in event)
+kind_as _ event = Down
 
 -- the stations of the group that it is, which are all alike
 abbrev pub children_in : Members → List StationPlan

@@ -1,8 +1,8 @@
 -- What a table of a document has at a key, or else the key's default.
-use Rattle.std.specs.Prelude.{ℕ, pos, negsuc, Bool, if◌then◌else◌, codes, List, [], ◌∷◌, Option, Some, None, option_map, option_and_then, unwrap_or}
+use Rattle.std.specs.Prelude.{ℕ, pos, Bool, if◌then◌else◌, codes, List, [], ◌∷◌, Option, Some, None, option_map, option_and_then, unwrap_or}
 use Rattle.std.specs.List.{filter_map}
 use Rattle.std.specs.Str.{bytes_eq}
-use Rattle.toml.specs.Data.{Data, string, integer, float, boolean, datetime, array, table, Items, no_items, item, Members, get_member, as_array, as_str, as_table}
+use Rattle.toml.specs.Data.{Data, integer, boolean, array, table, Items, no_items, item, Members, get_member, as_array, as_str, as_table}
 use Rattle.lq_model.specs.declared.plan.Split.{Split}
 use Rattle.lq_model.specs.declared.plan.Split.TheVariants.{Round, Source}
 use Rattle.lq_plan.specs.declared.values.EventWord.{EventWord}
@@ -11,29 +11,16 @@ use Rattle.lq_plan.specs.declared.values.EventWord.TheVariants.{Down, Up, Resize
 -- NUMBERS AND TRUTH VALUES
 
 abbrev pub number_or : ℕ → Option Data → ℕ
-number_or default None = default
 number_or default (Some (integer (pos n))) = n
-number_or default (Some (integer (negsuc n))) = default
-number_or default (Some (string text)) = default
-number_or default (Some (float x)) = default
-number_or default (Some (boolean b)) = default
-number_or default (Some (datetime time)) = default
-number_or default (Some (array items)) = default
-number_or default (Some (table inside)) = default
+number_or default _ = default
 
 -- the number at a key that isn't negative
 abbrev pub number_at : List ℕ → ℕ → Members → ℕ
 number_at name default members = number_or default (get_member name members)
 
 abbrev pub flag_or : Bool → Option Data → Bool
-flag_or default None = default
 flag_or default (Some (boolean b)) = b
-flag_or default (Some (integer z)) = default
-flag_or default (Some (string text)) = default
-flag_or default (Some (float x)) = default
-flag_or default (Some (datetime time)) = default
-flag_or default (Some (array items)) = default
-flag_or default (Some (table inside)) = default
+flag_or default _ = default
 
 abbrev pub flag_at : List ℕ → Bool → Members → Bool
 flag_at name default members = flag_or default (get_member name members)

@@ -37,10 +37,8 @@ IsInRange (WakeOn queue) m = queue < length m.qdisc.xoff
 
 abbrev pub is_send : Start → Bool
 is_send (Send band) = true
-is_send SoftIrq = false
-is_send Wake = false
 is_send (SendOn band queue) = true
-is_send (WakeOn queue) = false
+is_send _ = false
 
 -- after a start, where the seat can do it
 abbrev pub begun_by : Start → ℕ → NumberedMachine → Option Machine

@@ -109,15 +109,13 @@ numbered_action word number =
     else None
 
 abbrev pub action_of : List (List ℕ) → Option Action
-action_of [] = None
 action_of (word ∷ []) = bare_action word
 action_of (word ∷ number ∷ []) = numbered_action word number
-action_of (word ∷ number ∷ more ∷ words) = None
+action_of _ = None
 
 abbrev pub command_by : Option ℕ → Option Action → Option Command
-command_by None action = None
-command_by (Some seat) None = None
 command_by (Some seat) (Some action) = Some (record { seat = seat; action = action })
+command_by _ _ = None
 
 -- a seat's number of any size, and an action
 abbrev pub command_of : List (List ℕ) → Option Command

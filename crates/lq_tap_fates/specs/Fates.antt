@@ -8,18 +8,15 @@ use Rattle.lq_tap_fates.specs.declared.fate.TapFate.TheVariants.{Read, Full, Los
 
 abbrev pub is_read : TapFate → Bool
 is_read (Read place) = true
-is_read (Full seen) = false
-is_read Lost = false
+is_read _ = false
 
 abbrev pub is_full_tap : TapFate → Bool
-is_full_tap (Read place) = false
 is_full_tap (Full seen) = true
-is_full_tap Lost = false
+is_full_tap _ = false
 
 abbrev pub is_lost : TapFate → Bool
-is_lost (Read place) = false
-is_lost (Full seen) = false
 is_lost Lost = true
+is_lost _ = false
 
 -- how many packets were put into the ring: all that didn't find it full
 abbrev pub put_count : List TapFate → ℕ

@@ -98,17 +98,12 @@ by_bytes (Some command) have first second = by_bytes_of command have first secon
 
 -- how many devices it may change, the first ones of the bench
 abbrev pub units_changed_by : Verdict → ℕ
-units_changed_by LacksFile = 0
-units_changed_by (Refuses r) = 0
 units_changed_by (Runs run) = unit_count run.plan
 units_changed_by (Generates text run) = unit_count run.plan
-units_changed_by (Traces text) = 0
-units_changed_by (Taps words capture) = 0
+units_changed_by _ = 0
 
 -- and how many at most, whatever its files hold
 abbrev pub most_units_changed_by : Option CommandWords → ℕ
-most_units_changed_by None = 0
 most_units_changed_by (Some (OfRun words)) = max_units
 most_units_changed_by (Some (OfGen words)) = 1
-most_units_changed_by (Some (OfTrace file)) = 0
-most_units_changed_by (Some (OfTap words)) = 0
+most_units_changed_by _ = 0

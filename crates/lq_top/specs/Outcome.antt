@@ -48,12 +48,7 @@ Stops (Taps words capture) old new before after = HasCutTap words capture old ne
 abbrev pub Outcome : Verdict → HostState → HostState → List DeviceState → List DeviceState → List EndedState → Status → Type 0
 Outcome verdict old new before after ended status.Fault = Stops verdict old new before after
 Outcome verdict old new before after ended status.NoMemory = Stops verdict old new before after
-Outcome verdict old new before after ended status.Done = Completes verdict old new before after ended status.Done
-Outcome verdict old new before after ended status.Usage = Completes verdict old new before after ended status.Usage
-Outcome verdict old new before after ended (status.Plan reason) = Completes verdict old new before after ended (status.Plan reason)
-Outcome verdict old new before after ended (status.Bench need have) = Completes verdict old new before after ended (status.Bench need have)
-Outcome verdict old new before after ended (status.Capture reason place) = Completes verdict old new before after ended (status.Capture reason place)
-Outcome verdict old new before after ended (status.Trace reason line) = Completes verdict old new before after ended (status.Trace reason line)
+Outcome verdict old new before after ended answer = Completes verdict old new before after ended answer
 
 -- The outcome for every host, also one that doesn't tell what its files hold: that of some bytes of the files that it reads.
 abbrev pub OutcomeOfSome : Option CommandWords → ℕ → HostState → HostState → List DeviceState → List DeviceState → List EndedState → Status → Type 0
@@ -82,21 +77,14 @@ pub record TellsUsageFor (command : Option CommandWords) (answer : Status) : Typ
 abbrev pub IsAnswerOf : Verdict → Status → Type 0
 IsAnswerOf LacksFile answer = ComesUnlessStopped status.Fault answer
 IsAnswerOf (Refuses refusal) answer = ComesUnlessStopped (status_of refusal) answer
-IsAnswerOf (Runs run) answer = ComesUnlessStopped status.Done answer
-IsAnswerOf (Generates text run) answer = ComesUnlessStopped status.Done answer
-IsAnswerOf (Traces text) answer = ComesUnlessStopped status.Done answer
-IsAnswerOf (Taps words capture) answer = ComesUnlessStopped status.Done answer
+IsAnswerOf _ answer = ComesUnlessStopped status.Done answer
 
 -- a refusal
 abbrev pub refuses : Status → Bool
 refuses status.Done = false
-refuses status.Usage = true
-refuses (status.Plan reason) = true
-refuses (status.Bench need have) = true
-refuses (status.Capture reason place) = true
 refuses status.Fault = false
 refuses status.NoMemory = false
-refuses (status.Trace reason line) = true
+refuses _ = true
 
 -- no station's end is told but by a run that is done
 abbrev pub LeavesNone : {X : Type 0} → Result Status Stop → List X → Type 0
@@ -105,11 +93,7 @@ LeavesNone (Err stop) ended = ended ≡ []
 
 -- what a command answers that isn't stopped
 abbrev pub IsCommandStatus : Status → Type 0
-IsCommandStatus status.Done = Unit {0}
-IsCommandStatus (status.Plan reason) = Unit {0}
-IsCommandStatus (status.Bench need have) = Unit {0}
-IsCommandStatus (status.Capture reason place) = Unit {0}
-IsCommandStatus (status.Trace reason line) = Unit {0}
 IsCommandStatus status.Usage = ⊥
 IsCommandStatus status.Fault = ⊥
 IsCommandStatus status.NoMemory = ⊥
+IsCommandStatus _ = Unit {0}
