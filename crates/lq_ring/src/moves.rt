@@ -7,6 +7,7 @@ ghost use Rattle.lq_table.specs.Resizes.{out_of};
 ghost use Rattle.lq_ring.specs.Seats.{IsDroppedWord};
 ghost use Rattle.lq_ring.specs.Work.{work_at, working, AreFilledUpTo, ArePacketsOf, AreStale, HasDroppedFrom, HasSlots, IsSlotWord, IsTurner, MayPutBack, back_in, changing_slots, exchanged, reversed_to, rotated, settling_dropped, settling_word, zeroed_to, event_of_work};
 
+use crate::turns::Resize;
 use lq_device::TxDevice;
 use lq_model::Fate;
 use lq_table::{Cpu, Shared};
@@ -160,30 +161,29 @@ pub(crate) fn count_filled<'a, D: TxDevice>(
     limit
 }
 
-/// Empties the slots that have the dropped packets in order, and stores their fates. It answers their number.
+/// Empties the slots from `from` on, which have the dropped packets in order, and stores their fates. It answers their number.
 pub(crate) fn drop_rest<'a, D: TxDevice>(
     shared: &Shared<'a, D>,
     cpu: &mut Cpu<D>,
     band: u32,
     from: u32,
-    to: u32,
-    event: u32,
+    resize: Resize,
 ) -> u32
     requires seat { IsSeatOf shared.now cpu.old }
-    requires place { (band < 3) × (from ≤ to) × (to ≤ shared.now.max_len) }
-    requires turner { IsTurner (view cpu.old) × (event_of_work (view cpu.old) ≡ event) }
-    requires rest { HasDroppedFrom from (to - from) (work_at band (view cpu.old)) }
+    requires place { (band < 3) × (from ≤ resize.size) × (resize.size ≤ shared.now.max_len) }
+    requires turner { IsTurner (view cpu.old) × (event_of_work (view cpu.old) ≡ resize.event) }
+    requires rest { HasDroppedFrom from (resize.size - from) (work_at band (view cpu.old)) }
     requires packets { ArePacketsOf shared.now.infos.now band (work_at band (view cpu.old)).waiting }
     ensures same { IsElseSame cpu.old cpu.new }
     ensures made { TurnsRing (setup shared.now) band (steps cpu.old) (steps cpu.new) }
-    ensures dropped { view cpu.new ≡ settling_dropped band event from (to - from) (view cpu.old) }
-    ensures few { result ≤ to - from }
-    ensures count { let waiting = (work_at band (view cpu.old)).waiting in result + length (drop (to - from) waiting) ≡ length waiting }
+    ensures dropped { view cpu.new ≡ settling_dropped band resize.event from (resize.size - from) (view cpu.old) }
+    ensures few { result ≤ resize.size - from }
+    ensures count { let waiting = (work_at band (view cpu.old)).waiting in result + length (drop (resize.size - from) waiting) ≡ length waiting }
 {
     let mut count = 0;
-    for n in 0..to - from {
+    for n in 0..resize.size - from {
         let x = take_out(shared, cpu, band, from + n);
-        count += settle_word(shared, cpu, band, x, event);
+        count += settle_word(shared, cpu, band, x, resize.event);
     }
     count
 }

@@ -13,7 +13,7 @@ ghost use Rattle.lq_ring.specs.Seats.{HasLocksOfTurned, HasRestingRings, IsReady
 
 use crate::puts::lock_producer;
 use crate::takes::{head_of, set_ends, tail_of};
-use crate::turns::turn_band;
+use crate::turns::{Ends, Resize, turn_band};
 use lq_device::TxDevice;
 use lq_table::{Cpu, Shared};
 use std::sync::Wait;
@@ -45,22 +45,20 @@ fn turn_at<'a, D: TxDevice>(
     shared: &Shared<'a, D>,
     cpu: &mut Cpu<D>,
     band: u32,
-    size: u32,
-    len: u32,
-    event: u32,
+    resize: Resize,
 ) -> Turned
     requires seat { IsSeatOf shared.now cpu.old }
-    requires place { (band < 3) × (len ≤ shared.now.max_len) }
-    requires ready { IsReadyToTurn shared.now band size len event cpu.old }
+    requires place { (band < 3) × (resize.len ≤ shared.now.max_len) }
+    requires ready { IsReadyToTurn shared.now band resize.size resize.len resize.event cpu.old }
     ensures same { IsElseSame cpu.old cpu.new }
-    ensures turned { TurnsAndSets shared.now band len event result.index cpu.old cpu.new }
-    ensures count { (result.dropped ≡ length (work_at band (view cpu.old)).waiting) × (result.dropped ≤ size) }
+    ensures turned { TurnsAndSets shared.now band resize.len resize.event result.index cpu.old cpu.new }
+    ensures count { (result.dropped ≡ length (work_at band (view cpu.old)).waiting) × (result.dropped ≤ resize.size) }
     ensures made { TurnsBand (setup shared.now) band result.index (steps cpu.old) (steps cpu.new) }
 {
     let tail = tail_of(cpu, band);
     let head = head_of(cpu, band);
-    let done = turn_band(shared, cpu, band, tail, head, size, len, event);
-    let index = index_after(done.kept, len);
+    let done = turn_band(shared, cpu, band, Ends { tail, head }, resize);
+    let index = index_after(done.kept, resize.len);
     shared.set_producer(cpu, band, index);
     Turned {
         index,
@@ -69,29 +67,23 @@ fn turn_at<'a, D: TxDevice>(
 }
 
 /// Turns the three bands of a station whose run lock and producer locks the seat has.
-fn turn_all<'a, D: TxDevice>(
-    shared: &Shared<'a, D>,
-    cpu: &mut Cpu<D>,
-    size: u32,
-    len: u32,
-    event: u32,
-) -> AllTurned
+fn turn_all<'a, D: TxDevice>(shared: &Shared<'a, D>, cpu: &mut Cpu<D>, resize: Resize) -> AllTurned
     requires seat { IsSeatOf shared.now cpu.old }
-    requires len { (0 < len) × (len ≤ shared.now.max_len) }
+    requires len { (0 < resize.len) × (resize.len ≤ shared.now.max_len) }
     requires at { MayResize cpu.old }
-    requires rests { HasRestingRings size cpu.old }
+    requires rests { HasRestingRings resize.size cpu.old }
     requires station { CarriesStation cpu.old }
     requires locks { (b : ℕ) → b < 3 → ((lock_at b cpu.old).holds ≡ true) × ((lock_at b cpu.old).stored ≡ false) }
     ensures same { IsElseSame cpu.old cpu.new }
-    ensures resized { TurnsAllBands shared.now len event result cpu.old cpu.new }
-    ensures few { (result.low.dropped ≤ size) × (result.mid.dropped ≤ size) × (result.high.dropped ≤ size) }
-    ensures made { TurnsAll (setup shared.now) len result.low.index result.mid.index result.high.index (steps cpu.old) (steps cpu.new) }
+    ensures resized { TurnsAllBands shared.now resize.len resize.event result cpu.old cpu.new }
+    ensures few { (result.low.dropped ≤ resize.size) × (result.mid.dropped ≤ resize.size) × (result.high.dropped ≤ resize.size) }
+    ensures made { TurnsAll (setup shared.now) resize.len result.low.index result.mid.index result.high.index (steps cpu.old) (steps cpu.new) }
 {
-    shared.begin_resize(cpu, len, event);
-    let low = turn_at(shared, cpu, 0, size, len, event);
-    let mid = turn_at(shared, cpu, 1, size, len, event);
-    let high = turn_at(shared, cpu, 2, size, len, event);
-    shared.store_size(cpu, len);
+    shared.begin_resize(cpu, resize.len, resize.event);
+    let low = turn_at(shared, cpu, 0, resize);
+    let mid = turn_at(shared, cpu, 1, resize);
+    let high = turn_at(shared, cpu, 2, resize);
+    shared.store_size(cpu, resize.len);
     AllTurned { low, mid, high }
 }
 
@@ -160,7 +152,7 @@ pub fn resize_all<'a, D: TxDevice, R: Wait>(
 {
     lock_all(rt, shared, cpu);
     let size = shared.load_size(cpu) as u32;
-    let turned = turn_all(shared, cpu, size, len, event);
+    let turned = turn_all(shared, cpu, Resize { size, len, event });
     unlock_all(shared, cpu, turned);
     restart_ends(cpu);
     turned.low.dropped + turned.mid.dropped + turned.high.dropped

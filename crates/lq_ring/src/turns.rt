@@ -9,6 +9,23 @@ use crate::moves::{clear_stale, count_filled, drop_rest, rotate};
 use lq_device::TxDevice;
 use lq_table::{Cpu, Shared};
 
+/// A resize of the rings by an event of the plan: from so many slots to so many.
+#[derive(Clone, Copy, Drop)]
+pub(crate) struct Resize {
+    pub size: u32,
+    pub len: u32,
+    pub event: u32,
+}
+
+/// The consumer's ends of a band's ring.
+#[derive(Clone, Copy, Drop)]
+pub(crate) struct Ends {
+    /// The first slot that isn't emptied yet.
+    pub tail: u32,
+    /// The slot that is consumed next.
+    pub head: u32,
+}
+
 /// How many packets a band keeps, and how many it drops.
 #[derive(Clone, Copy, Drop)]
 pub(crate) struct Kept {
@@ -27,27 +44,24 @@ pub(crate) fn turn_band<'a, D: TxDevice>(
     shared: &Shared<'a, D>,
     cpu: &mut Cpu<D>,
     band: u32,
-    tail: u32,
-    head: u32,
-    size: u32,
-    len: u32,
-    event: u32,
+    ends: Ends,
+    resize: Resize,
 ) -> Kept
     requires seat { IsSeatOf shared.now cpu.old }
-    requires place { (band < 3) × (len ≤ shared.now.max_len) }
-    requires turner { IsTurner (view cpu.old) × (event_of_work (view cpu.old) ≡ event) }
-    requires whole { (held : List ℕ) × IsWorkBegun shared.now.max_len size tail head len held (work_at band (view cpu.old)) }
+    requires place { (band < 3) × (resize.len ≤ shared.now.max_len) }
+    requires turner { IsTurner (view cpu.old) × (event_of_work (view cpu.old) ≡ resize.event) }
+    requires whole { (held : List ℕ) × IsWorkBegun shared.now.max_len resize.size ends.tail ends.head resize.len held (work_at band (view cpu.old)) }
     requires packets { ArePacketsOf shared.now.infos.now band (work_at band (view cpu.old)).waiting }
     ensures same { IsElseSame cpu.old cpu.new }
-    ensures turned { TurnsBandTo shared.now band len event cpu.old cpu.new }
-    ensures few { result.dropped ≤ size }
+    ensures turned { TurnsBandTo shared.now band resize.len resize.event cpu.old cpu.new }
+    ensures few { result.dropped ≤ resize.size }
     ensures made { TurnsRing (setup shared.now) band (steps cpu.old) (steps cpu.new) }
     ensures kept { KeepsAndDrops result.kept result.dropped (work_at band (view cpu.old)) }
 {
-    clear_stale(shared, cpu, band, tail, head);
-    rotate(shared, cpu, band, head, size);
-    let limit = lesser(len, size);
+    clear_stale(shared, cpu, band, ends.tail, ends.head);
+    rotate(shared, cpu, band, ends.head, resize.size);
+    let limit = lesser(resize.len, resize.size);
     let kept = count_filled(shared, cpu, band, limit);
-    let dropped = drop_rest(shared, cpu, band, limit, size, event);
+    let dropped = drop_rest(shared, cpu, band, limit, resize);
     Kept { kept, dropped }
 }

@@ -16,17 +16,17 @@ loop-n-init g c = let t = c.requires.turner.0 in record { seat = c.requires.seat
 
 pub take_out-x-requires-clause-turner : goal.take_out-x-requires-clause-turner
 take_out-x-requires-clause-turner g c _ _ =
-    let b = c.args.band in let v = view c.args.cpu.now in let w : Work = work_at b v in let u : View = having_settled (shrunk_to c.args.event c.loop-n.n w.waiting v.settled) v in
+    let b = c.args.band in let v = view c.args.cpu.now in let w : Work = work_at b v in let u : View = having_settled (shrunk_to c.args.resize.event c.loop-n.n w.waiting v.settled) v in
     turner_chain b (dropped_to c.args.from c.loop-n.n w) u _ c.requires.turner.0 c.loop-n.invariant.view_is
 
 pub settle_word-count-requires-clause-turner : goal.settle_word-count-requires-clause-turner
 settle_word-count-requires-clause-turner g c _ _ =
-    let b = c.args.band in let v = view c.args.cpu.now in let w : Work = work_at b v in let from = c.args.from in let n = c.loop-n.n in let u : View = having_settled (shrunk_to c.args.event n w.waiting v.settled) v in
+    let b = c.args.band in let v = view c.args.cpu.now in let w : Work = work_at b v in let from = c.args.from in let n = c.loop-n.n in let u : View = having_settled (shrunk_to c.args.resize.event n w.waiting v.settled) v in
     turner_chain b (out_of (from + n) (dropped_to from n w)) u _ c.requires.turner.0 (chain b (out_of (from + n)) (dropped_to from n w) u _ _ c.requires.turner.0 c.loop-n.invariant.view_is c.take_out-x.ensures.taken)
 
 pub settle_word-count-requires-clause-word : goal.settle_word-count-requires-clause-word
 settle_word-count-requires-clause-word g c _ _ = λ some_.
-    let b = c.args.band in let v = view c.args.cpu.now in let w : Work = work_at b v in let from = c.args.from in let n = c.loop-n.n in let t = c.requires.turner.0 in let x = c.take_out-x.result in let wn : Work = dropped_to from n w in let u : View = having_settled (shrunk_to c.args.event n w.waiting v.settled) v in
+    let b = c.args.band in let v = view c.args.cpu.now in let w : Work = work_at b v in let from = c.args.from in let n = c.loop-n.n in let t = c.requires.turner.0 in let x = c.take_out-x.result in let wn : Work = dropped_to from n w in let u : View = having_settled (shrunk_to c.args.resize.event n w.waiting v.settled) v in
     let e0 = c.loop-n.invariant.view_is in let e1 = chain b (out_of (from + n)) wn u _ _ t e0 c.take_out-x.ensures.taken in let v1 = view c.take_out-x.new.cpu in
     let at0 : work_at b (view c.loop-n.cpu) ≡ wn = at_chain b wn u _ t e0 in let at1 : work_at b v1 ≡ out_of (from + n) wn = at_chain b (out_of (from + n) wn) u _ t e1 in
     let found : x ≡ get_or wn.slots (from + n) 0 = c.take_out-x.ensures.found.0 ∙ ap (λ (z : Work). get_or z.slots (from + n) 0) at0 in
@@ -35,7 +35,7 @@ settle_word-count-requires-clause-word g c _ _ = λ some_.
     let in_it : Contains wn.waiting (x - 1) = subst (λ (z : List ℕ). Contains z (x - 1)) (sym f.1) (here-in (x - 1) f.0) in
     let packet = c.requires.packets (x - 1) (drop-in n w.waiting (x - 1) in_it) in
     let at_t = work_of b v1 t1.1.0 t1.1.1 in
-    let event : (t1.1.0).event ≡ c.args.event = sym (event_of v1 t1.1.0 t1.1.1) ∙ (ap event_of_work e1 ∙ (event_after b (out_of (from + n) wn) u t ∙ c.requires.turner.1)) in
+    let event : (t1.1.0).event ≡ c.args.resize.event = sym (event_of v1 t1.1.0 t1.1.1) ∙ (ap event_of_work e1 ∙ (event_after b (out_of (from + n) wn) u t ∙ c.requires.turner.1)) in
     let small = c.take_out-x.ensures.found.1 (ap (λ (z : Work). is_member x z) at0 ∙ member_of_first (from + n) x wn found first some_) in (
       record {
         holds = t1.0;
@@ -56,7 +56,7 @@ settle_word-count-requires-clause-word g c _ _ = λ some_.
 pub loop-n-preserved : goal.loop-n-preserved
 loop-n-preserved g c =
     let b = c.args.band in let v = view c.args.cpu.now in let w : Work = work_at b v in let from = c.args.from in let n = c.loop-n.n in let t = c.requires.turner.0 in let x = c.take_out-x.result in let wn : Work = dropped_to from n w in
-    let event = c.args.event in let fates : List (ℕ × Fate) = shrunk_to event n w.waiting v.settled in let u : View = having_settled fates v in
+    let event = c.args.resize.event in let fates : List (ℕ × Fate) = shrunk_to event n w.waiting v.settled in let u : View = having_settled fates v in
     let e0 = c.loop-n.invariant.view_is in let e1 = chain b (out_of (from + n)) wn u _ _ t e0 c.take_out-x.ensures.taken in let v1 = view c.take_out-x.new.cpu in
     let e2 = chain b (settled_if x) (out_of (from + n) wn) u v1 (working b (settled_if x (work_at b v1)) v1) t e1 refl in
     let at0 : work_at b (view c.loop-n.cpu) ≡ wn = at_chain b wn u _ t e0 in

@@ -8,7 +8,7 @@ abbrev pub invariant-loop-n : goal.invariant-loop-n
 invariant-loop-n g l = record {
   seat : IsSeatOf l.shared l.cpu;
   same : IsElseSame l.fn.cpu l.cpu;
-  view_is : view l.cpu ≡ having_settled (shrunk_to l.event l.n (work_at l.band (view l.fn.cpu)).waiting (view l.fn.cpu).settled) (working l.band (dropped_to l.from l.n (work_at l.band (view l.fn.cpu))) (view l.fn.cpu));
+  view_is : view l.cpu ≡ having_settled (shrunk_to l.resize.event l.n (work_at l.band (view l.fn.cpu)).waiting (view l.fn.cpu).settled) (working l.band (dropped_to l.from l.n (work_at l.band (view l.fn.cpu))) (view l.fn.cpu));
   count_is : l.count + length (drop l.n (work_at l.band (view l.fn.cpu)).waiting) ≡ length (work_at l.band (view l.fn.cpu)).waiting;
   few : l.count ≤ l.n;
   made : TurnsRing (setup l.shared) l.band (steps l.fn.cpu) (steps l.cpu);

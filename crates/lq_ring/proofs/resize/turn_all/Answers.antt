@@ -19,31 +19,31 @@ use Rattle.lq_ring.proofs.resize.turn_all.Goals as goal
 pub turn_at-low-requires-clause-ready : goal.turn_at-low-requires-clause-ready
 turn_at-low-requires-clause-ready g c _ _ =
     let v = view c.args.cpu.now in let b = c.begin_resize.ensures.begun in
-    let all = all_ready _ c.args.size c.args.len c.args.event _ b.0 b.1 v (view c.begin_resize.new.cpu) b.2 (ap holds_lock c.requires.at.0) (λ b h. (c.requires.locks b h).0) c.requires.rests.2 b.3 b.4 in
+    let all = all_ready _ c.args.resize.size c.args.resize.len c.args.resize.event _ b.0 b.1 v (view c.begin_resize.new.cpu) b.2 (ap holds_lock c.requires.at.0) (λ b h. (c.requires.locks b h).0) c.requires.rests.2 b.3 b.4 in
     (shown v.holder, c.begin_resize.ensures.same.1 ∙ c.requires.station, all 0 (omega arith))
 
 pub turn_at-mid-requires-clause-ready : goal.turn_at-mid-requires-clause-ready
 turn_at-mid-requires-clause-ready g c _ _ =
     let v = view c.args.cpu.now in let b = c.begin_resize.ensures.begun in let v1 = view c.begin_resize.new.cpu in let st = shown v.holder in
-    let all = all_ready _ c.args.size c.args.len c.args.event _ b.0 b.1 v v1 b.2 (ap holds_lock c.requires.at.0) (λ b h. (c.requires.locks b h).0) c.requires.rests.2 b.3 b.4 in
+    let all = all_ready _ c.args.resize.size c.args.resize.len c.args.resize.event _ b.0 b.1 v v1 b.2 (ap holds_lock c.requires.at.0) (λ b h. (c.requires.locks b h).0) c.requires.rests.2 b.3 b.4 in
     let low = c.turn_at-low.ensures.turned in
     (st, c.turn_at-low.ensures.same.1 ∙ (c.begin_resize.ensures.same.1 ∙ c.requires.station), ready_step _ _ _ _ _ st 0 1 low.0 _ _ v1 _ (omega arith) (omega arith) (λ e. absurd (omega arith)) low.1 (all 1 (omega arith)))
 
 pub turn_at-high-requires-clause-ready : goal.turn_at-high-requires-clause-ready
 turn_at-high-requires-clause-ready g c _ _ =
     let v = view c.args.cpu.now in let b = c.begin_resize.ensures.begun in let v1 = view c.begin_resize.new.cpu in let st = shown v.holder in
-    let all = all_ready _ c.args.size c.args.len c.args.event _ b.0 b.1 v v1 b.2 (ap holds_lock c.requires.at.0) (λ b h. (c.requires.locks b h).0) c.requires.rests.2 b.3 b.4 in
+    let all = all_ready _ c.args.resize.size c.args.resize.len c.args.resize.event _ b.0 b.1 v v1 b.2 (ap holds_lock c.requires.at.0) (λ b h. (c.requires.locks b h).0) c.requires.rests.2 b.3 b.4 in
     let low = c.turn_at-low.ensures.turned in let mid = c.turn_at-mid.ensures.turned in let v2 = view c.turn_at-low.new.cpu in
     let next = ready_step _ _ _ _ _ st 0 2 low.0 _ _ v1 v2 (omega arith) (omega arith) (λ e. absurd (omega arith)) low.1 (all 2 (omega arith)) in
     (st, c.turn_at-mid.ensures.same.1 ∙ (c.turn_at-low.ensures.same.1 ∙ (c.begin_resize.ensures.same.1 ∙ c.requires.station)), ready_step _ _ _ _ _ st 1 2 mid.0 _ _ v2 _ (omega arith) (omega arith) (λ e. absurd (omega arith)) mid.1 next)
 
 pub store_size-requires-clause-ready : goal.store_size-requires-clause-ready
 store_size-requires-clause-ready g c _ _ =
-    let len = c.args.len in let b = c.begin_resize.ensures.begun in let low = c.turn_at-low.ensures.turned in let mid = c.turn_at-mid.ensures.turned in let high = c.turn_at-high.ensures.turned in
+    let len = c.args.resize.len in let b = c.begin_resize.ensures.begun in let low = c.turn_at-low.ensures.turned in let mid = c.turn_at-mid.ensures.turned in let high = c.turn_at-high.ensures.turned in
     let v4 = view c.turn_at-high.new.cpu in
-    let t : HalfResize = with_work 2 high.0 (with_work 1 mid.0 (with_work 0 low.0 (resizing_of len c.args.event b.0 b.1))) in (
+    let t : HalfResize = with_work 2 high.0 (with_work 1 mid.0 (with_work 0 low.0 (resizing_of len c.args.resize.event b.0 b.1))) in (
       t,
-      turns4 len c.args.event b.0 b.1 (view c.args.cpu.now) _ _ _ v4 low.0 mid.0 high.0 _ _ _ b.2 low.1 mid.1 high.1,
+      turns4 len c.args.resize.event b.0 b.1 (view c.args.cpu.now) _ _ _ v4 low.0 mid.0 high.0 _ _ _ b.2 low.1 mid.1 high.1,
       refl,
       three_cases (λ b. IsRefilled (at b t.works).slots (at b t.works).kept t.len × (at b v4.locks ≡ locked_at (round t.len (length (at b t.works).kept))) × ((at b t.works).waiting ≡ []))
           (refilled_of _ len _ low.0 low.2, ap (λ (x : View). at 0 x.locks) high.1 ∙ (ap (λ (x : View). at 0 x.locks) mid.1 ∙ (ap (λ (x : View). at 0 x.locks) low.1 ∙ ap locked_at low.3)), low.2.waiting_is)
@@ -53,7 +53,7 @@ store_size-requires-clause-ready g c _ _ =
 
 pub returns-clause-resized : goal.returns-clause-resized
 returns-clause-resized g c =
-    let len = c.args.len in let event = c.args.event in let v = view c.args.cpu.now in let b = c.begin_resize.ensures.begun in let low = c.turn_at-low.ensures.turned in let mid = c.turn_at-mid.ensures.turned in let high = c.turn_at-high.ensures.turned in
+    let len = c.args.resize.len in let event = c.args.resize.event in let v = view c.args.cpu.now in let b = c.begin_resize.ensures.begun in let low = c.turn_at-low.ensures.turned in let mid = c.turn_at-mid.ensures.turned in let high = c.turn_at-high.ensures.turned in
     let held = b.0 in let v1 = view c.begin_resize.new.cpu in let v2 = view c.turn_at-low.new.cpu in let v3 = view c.turn_at-mid.new.cpu in let v4 = view c.turn_at-high.new.cpu in
     let t : HalfResize = with_work 2 high.0 (with_work 1 mid.0 (with_work 0 low.0 (resizing_of len event held b.1))) in
     let under_way = turns4 len event held b.1 v v1 v2 v3 v4 low.0 mid.0 high.0 _ _ _ b.2 low.1 mid.1 high.1 in

@@ -14,14 +14,14 @@ use Rattle.lq_ring.proofs.resize.turn_at.Goals as goal
 pub turn_band-done-requires-clause-whole : goal.turn_band-done-requires-clause-whole
 turn_band-done-requires-clause-whole g c _ _ =
     let r = c.requires.ready in let tail = c.tail_of-tail.ensures r.0 r.1 in let head = c.head_of-head.ensures r.0 r.1 in
-    (r.2.held, subst (λ (z : ℕ × ℕ). IsWorkBegun c.args.shared.now.max_len c.args.size z.0 z.1 c.args.len r.2.held (work_at c.args.band (view c.args.cpu.now))) (λ j. (sym tail j, sym head j)) r.2.whole)
+    (r.2.held, subst (λ (z : ℕ × ℕ). IsWorkBegun c.args.shared.now.max_len c.args.resize.size z.0 z.1 c.args.resize.len r.2.held (work_at c.args.band (view c.args.cpu.now))) (λ j. (sym tail j, sym head j)) r.2.whole)
 
 pub turn_band-done-requires-clause-packets : goal.turn_band-done-requires-clause-packets
-turn_band-done-requires-clause-packets g c _ _ = λ n l. let r = c.requires.ready.2 in r.packets n (drop-in c.args.len r.held n (subst (λ (ls : List ℕ). Contains ls n) r.whole.waiting_is l))
+turn_band-done-requires-clause-packets g c _ _ = λ n l. let r = c.requires.ready.2 in r.packets n (drop-in c.args.resize.len r.held n (subst (λ (ls : List ℕ). Contains ls n) r.whole.waiting_is l))
 
 pub index_after-index-requires : goal.index_after-index-requires
 index_after-index-requires g c =
-    let r = c.requires.ready.2 in let k = c.turn_band-done.ensures.kept.0 ∙ ap length r.whole.kept_is in let l = length-take c.args.len r.held in omega arith
+    let r = c.requires.ready.2 in let k = c.turn_band-done.ensures.kept.0 ∙ ap length r.whole.kept_is in let l = length-take c.args.resize.len r.held in omega arith
 
 pub set_producer-requires-clause-holder : goal.set_producer-requires-clause-holder
 set_producer-requires-clause-holder g c _ _ =
@@ -35,5 +35,5 @@ returns-clause-turned g c =
       done.0,
       c.set_producer.ensures.set ∙ ap (with_lock_at b (locked_at i)) done.1,
       done.2,
-      c.index_after-index.ensures ∙ ap (round c.args.len) (c.turn_band-done.ensures.kept.0 ∙ ap length (sym done.2.kept_is)),
+      c.index_after-index.ensures ∙ ap (round c.args.resize.len) (c.turn_band-done.ensures.kept.0 ∙ ap length (sym done.2.kept_is)),
     )
