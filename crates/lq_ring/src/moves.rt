@@ -178,7 +178,8 @@ pub(crate) fn drop_rest<'a, D: TxDevice>(
     ensures made { TurnsRing (setup shared.now) band (steps cpu.old) (steps cpu.new) }
     ensures dropped { view cpu.new ≡ settling_dropped band resize.event from (resize.size - from) (view cpu.old) }
     ensures few { result ≤ resize.size - from }
-    ensures count { let waiting = (work_at band (view cpu.old)).waiting in result + length (drop (resize.size - from) waiting) ≡ length waiting }
+    ensures count { let waiting = (work_at band (view cpu.old)).waiting in
+        result + length (drop (resize.size - from) waiting) ≡ length waiting }
 {
     let mut count = 0;
     for n in 0..resize.size - from {

@@ -77,7 +77,8 @@ fn turn_all<'a, D: TxDevice>(shared: &Shared<'a, D>, cpu: &mut Cpu<D>, resize: R
     ensures same { IsElseSame cpu.old cpu.new }
     ensures resized { TurnsAllBands shared.now resize.len resize.event result cpu.old cpu.new }
     ensures few { (result.low.dropped ≤ resize.size) × (result.mid.dropped ≤ resize.size) × (result.high.dropped ≤ resize.size) }
-    ensures made { TurnsAll (setup shared.now) resize.len result.low.index result.mid.index result.high.index (steps cpu.old) (steps cpu.new) }
+    ensures made { TurnsAll (setup shared.now) resize.len
+        result.low.index result.mid.index result.high.index (steps cpu.old) (steps cpu.new) }
 {
     shared.begin_resize(cpu, resize.len, resize.event);
     let low = turn_at(shared, cpu, 0, resize);

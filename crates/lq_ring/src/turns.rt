@@ -50,7 +50,8 @@ pub(crate) fn turn_band<'a, D: TxDevice>(
     requires seat { IsSeatOf shared.now cpu.old }
     requires place { (band < 3) × (resize.len ≤ shared.now.max_len) }
     requires turner { IsTurner (view cpu.old) × (event_of_work (view cpu.old) ≡ resize.event) }
-    requires whole { (held : List ℕ) × IsWorkBegun shared.now.max_len resize.size ends.tail ends.head resize.len held (work_at band (view cpu.old)) }
+    requires whole { (held : List ℕ)
+        × IsWorkBegun shared.now.max_len resize.size ends.tail ends.head resize.len held (work_at band (view cpu.old)) }
     requires packets { ArePacketsOf shared.now.infos.now band (work_at band (view cpu.old)).waiting }
     ensures same { IsElseSame cpu.old cpu.new }
     ensures turned { TurnsBandTo shared.now band resize.len resize.event cpu.old cpu.new }
