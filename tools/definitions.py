@@ -170,7 +170,7 @@ def as_contracts_see(item, models):
         named = " ".join(values)
         uses = [line for line in uses if any(re.search(rf"\b{it}\b", named) for it in re.findall(r"\w+(?=[,}])", line))]
         return [*lines[: head + 1], *(["    .."] if lines[head].endswith("{") else []), "}", "", values[0], *uses, *values[1:]]
-    return [line for line in lines if not re.match(r" +(pub )?ghost \w+: \{.*\},$", line)]
+    return re.sub(r"^ +(pub )?ghost \w+: \{[^;]*?\},\n", "", item, flags=re.M).splitlines()
 
 
 def types_of_code(for_reading):

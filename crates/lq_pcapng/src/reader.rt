@@ -36,7 +36,8 @@ struct BlockPlaces {
 ///
 /// # NoMemory
 ///
-/// There was no room for the places of the interfaces, 8 bytes each, and of the packets, 4 bytes each, and 8 behind 4 GiB. The bytes are dropped.
+/// There was no room for the places of the interfaces, 8 bytes each, and of the packets, 4 bytes each, and 8 behind 4 GiB. The
+/// bytes are dropped.
 pub fn read_pcapng(alloc: Global, bytes: Vec<u8>) -> Result<NgCapture, CaptureRefusal>
     ensures { Gives (λ capture. capture) result (pcapng_of bytes.items) }
 {

@@ -18,10 +18,11 @@ use std::sync::Wait;
 ///
 /// OutOfTurn comes exactly where the turn word of the packet's owner isn't twice the packet's rank, and then nothing was
 /// done. After every other answer the turn of `n` is given back. Refused comes only where the state was loaded with
-/// DEACTIVATED and that event, and for the first seat's packets just where its trail has the station deactivated by it; FullSeen only where the slot that the packet needed had that other one. Direct comes only
-/// where packets may go past the bands and the state was loaded under the run lock in this call with MISSED and DRAINING
-/// clear; where they may, Queued and FullSeen come only where this call loaded the state with one of them set, or didn't get
-/// the run lock. A seat that has the table alone and isn't raised brings the packet to its station as the run of one sender does.
+/// DEACTIVATED and that event, and for the first seat's packets just where its trail has the station deactivated by it;
+/// FullSeen only where the slot that the packet needed had that other one. Direct comes only where packets may go past the
+/// bands and the state was loaded under the run lock in this call with MISSED and DRAINING clear; where they may, Queued
+/// and FullSeen come only where this call loaded the state with one of them set, or didn't get the run lock. A seat that
+/// has the table alone and isn't raised brings the packet to its station as the run of one sender does.
 pub fn transmit<'a, D: TxDevice, R: Wait>(
     rt: &R,
     shared: &Shared<'a, D>,

@@ -127,7 +127,8 @@ pub fn schedule<'a, D: TxDevice>(shared: &Shared<'a, D>, cpu: &mut Cpu<D>)
 pub fn unschedule<'a, D: TxDevice>(shared: &Shared<'a, D>, cpu: &mut Cpu<D>)
     requires seat { IsSeatOf shared.now cpu.old }
     requires at { clears_sched (position cpu.old) ≡ true }
-    ensures clears { IsElseSame cpu.old cpu.new × (view cpu.new ≡ passing (view cpu.old)) × (steps cpu.new ≡ steps cpu.old ⊳ did_clear_sched) }
+    ensures clears { IsElseSame cpu.old cpu.new × (view cpu.new ≡ passing (view cpu.old))
+        × (steps cpu.new ≡ steps cpu.old ⊳ did_clear_sched) }
     ensures step { solo (view cpu.new) ≡ sched_cleared (solo (view cpu.old)) }
 {
     shared.clear_sched(cpu);

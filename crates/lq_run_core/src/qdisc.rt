@@ -55,7 +55,8 @@ impl Model for Qdisc {
       purge = None;
     } };
 
-    ghost invariant = { λ s. (vec_len s.xoff ≤ 8) × (s.len ≤ 4096) × IsBandList s.len s.first × IsBandList s.len s.second × IsBandList s.len s.third };
+    ghost invariant = { λ s. (vec_len s.xoff ≤ 8) × (s.len ≤ 4096)
+        × IsBandList s.len s.first × IsBandList s.len s.second × IsBandList s.len s.third };
 }
 
 /// The seat at another position.

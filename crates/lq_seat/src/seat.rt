@@ -51,7 +51,8 @@ impl<D: TxDevice> Seat<D> {
         self.drain(rt, table);
     }
 
-    /// Wakes the station's queues, as a driver's interrupt does: the stop word of each is looked at in this call, and exchanged where it is 1.
+    /// Wakes the station's queues, as a driver's interrupt does: the stop word of each is looked at in this call, and exchanged
+    /// where it is 1.
     pub fn wake<'a>(&mut self, table: &Table<'a, D>)
         requires here { IsHere table.now self.old }
         ensures { WakesQueues self.old self.new }

@@ -31,8 +31,8 @@ impl<'a, D: TxDevice> Shared<'a, D> {
     }
 
     /// A call begins: a transmit of the packet that the seat brings, or else, where it has no packet's turn, a soft
-    /// interrupt, which takes the raised mark down. The count of calls inside rises by one, as on entry to the read side of RCU in `__dev_queue_xmit`
-    /// and in `net_tx_action` (net/core/dev.c).
+    /// interrupt, which takes the raised mark down. The count of calls inside rises by one, as on entry to the read side of
+    /// RCU in `__dev_queue_xmit` and in `net_tx_action` (net/core/dev.c).
     pub fn enter(&self, cpu: &mut Cpu<D>)
         requires seat { IsSeatOf self.now cpu.old }
         requires at { at_rest (position cpu.old) ≡ true }

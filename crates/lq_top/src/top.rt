@@ -217,8 +217,9 @@ pub fn lqtx<R: Threads + Wait + Sync, H: Host, G: Gate, D: TxDevice>(
     // No handle is left open, and none is closed.
     ensures handles { (H.state host.new).handles ≡ (H.state host.old).handles }
 
-    // The boxes of the bench: none gets lost, each is in its place, and those that aren't units of a plan that is run are as before, as are all
-    // of them at each refusal; also where the host tells nothing, those beyond the units that the command may have.
+    // The boxes of the bench: none gets lost, each is in its place, and those that aren't units of a plan that is run are as
+    // before, as are all of them at each refusal; also where the host tells nothing, those beyond the units that the command
+    // may have.
     ensures len { vec_len bench.new ≡ vec_len bench.old }
     ensures boxes { identities_of (map D.state bench.new.items) ≡ identities_of (map D.state bench.old.items) }
     ensures others { IfSome (H.state host.old).told (λ c.
