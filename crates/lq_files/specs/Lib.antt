@@ -24,3 +24,5 @@ pub mod Groups
 pub mod RunFiles
 -- what is written of a tap
 pub mod TapFiles
+-- what the code hands on of a run and of a tap
+pub mod Reports

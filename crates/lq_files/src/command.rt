@@ -10,7 +10,7 @@ ghost use Rattle.std.specs.List.{list_all};
 ghost use Rattle.clap.specs.Words.{app_of, found_of, with_subcommand, rows_of, rule_of, subcommand_rows_of};
 ghost use Rattle.clap.specs.declared.builder.command.Command.TheViews.{out-Command as fields_of};
 ghost use Rattle.lq_run_core.specs.Schedule.{number_in};
-ghost use Rattle.lq_files.specs.Command.{command_of_five, command_of_words, command_of_one, command_of_three, command_words, gen_of, bytes_of_words, is_operand, tap_of};
+ghost use Rattle.lq_files.specs.Command.{command_of_words, command_of_one, command_of_three, command_words, gen_of, bytes_of_words, is_operand, tap_of};
 ghost use Rattle.lq_files.specs.Forms.{bare_app, command_in, five_in, form_of_five, form_of_one, form_of_three, one_in, operand_rule, table_app, three_in};
 
 use clap::error::ErrorKind;
@@ -239,24 +239,6 @@ fn command_of_three<'a>(
     }
 }
 
-/// The command of a verb with five operands.
-fn command_of_five<'a>(
-    verb: &str,
-    first: &'a str,
-    second: &'a str,
-    third: &'a str,
-    fourth: &'a str,
-    fifth: &'a str,
-) -> Option<Command<'a>>
-    ensures { option_map command_words result ≡ command_of_five verb.now first.now second.now third.now fourth.now fifth.now }
-{
-    if verb == "tap" {
-        read_tap(first, second, third, fourth, fifth)
-    } else {
-        None
-    }
-}
-
 /// The command of a verb and the operand that its form was matched with.
 fn one_in<'a>(verb: &str, form: &ArgMatches<'a>) -> Option<Command<'a>>
     ensures { option_map command_words result ≡ one_in verb.now (rows_of (found_of form.now)) }
@@ -289,7 +271,11 @@ fn five_in<'a>(verb: &str, form: &ArgMatches<'a>) -> Option<Command<'a>>
     let third = form.get_str("THIRD")?;
     let fourth = form.get_str("FOURTH")?;
     let fifth = form.get_str("FIFTH")?;
-    command_of_five(verb, first, second, third, fourth, fifth)
+    if verb == "tap" {
+        read_tap(first, second, third, fourth, fifth)
+    } else {
+        None
+    }
 }
 
 /// The command in what was matched, by the name of its form.

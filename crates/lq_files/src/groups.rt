@@ -3,18 +3,19 @@ ghost use Rattle.std.specs.Prelude.{◌≡◌, ◌++◌, ◌∷◌, [], ◌+◌,
 ghost use Rattle.lq_model.specs.Settled.{AreSerials};
 ghost use Rattle.lq_pcapng.specs.File.{packets_of_file};
 ghost use Rattle.lq_files.specs.Accepted.{max_groups};
-ghost use Rattle.lq_files.specs.Groups.{group_capture_name, group_file, group_files, is_root, is_sent_between, mq_lines, sent_by_children, sent_by_group};
+ghost use Rattle.lq_files.specs.Reports.{group_file_of, group_files_of};
+ghost use Rattle.lq_files.specs.Groups.{group_capture_name, is_root, is_sent_between, mq_lines, sent_by_children, sent_by_group};
 ghost use Rattle.lq_files.specs.Stop.{StopsFor};
 ghost use Rattle.lq_files.specs.Written.{FileIsCut, FilesAreCut, file_written, files_written};
 
 use crate::answer::Stop;
+use crate::report::RunReport;
 use crate::source::Packets;
 use crate::write::write_packets_file;
 use lq_fates::{push_bytes, sent_of};
 use lq_host::Host;
 use lq_model::{Fate, NoMemory};
 use lq_mq::{joint, mq_text};
-use lq_pcapng::CaptureFile;
 use lq_plan::Plan;
 use std::alloc::{AllocError, Global};
 use std::marker::Sync;
@@ -69,27 +70,24 @@ fn write_group<R: Threads + Sync, H: Host>(
     rt: &R,
     alloc: Global,
     host: &mut H,
-    out: &str,
-    plan: &Plan,
-    capture: &CaptureFile,
-    fates: &[Fate],
+    report: &RunReport<'_>,
     j: u32,
 ) -> Result<(), Stop>
-    requires may { H.may_create (group_capture_name out.now j) }
-    requires group { j < length plan.now.groups }
-    requires serials { (unit : ℕ) → AreSerials fates.now unit }
-    requires known { length fates.now ≤ (packets_of_file capture.now).count }
+    requires may { H.may_create (group_capture_name report.now.run.out.now j) }
+    requires group { j < length report.now.run.plan.now.groups }
+    requires serials { (unit : ℕ) → AreSerials report.now.fates.now unit }
+    requires known { length report.now.fates.now ≤ (packets_of_file report.now.run.capture.now).count }
     ensures handles { (H.state host.new).handles ≡ (H.state host.old).handles }
     ensures ok { OnOk result (H.state host.new
-        ≡ file_written (H.state host.old) (group_file out.now capture.now plan.now fates.now j)) }
-    ensures err { OnErr result (FileIsCut (group_file out.now capture.now plan.now fates.now j)
+        ≡ file_written (H.state host.old) (group_file_of report.now j)) }
+    ensures err { OnErr result (FileIsCut (group_file_of report.now j)
         (H.state host.old) (H.state host.new)) }
     ensures cause { StopsFor (H.fault_count host.old) (H.fault_count host.new) result }
 {
-    let sent = sent_by_group(alloc, plan, fates, j)?;
-    let name = name_of_group_capture(alloc, out, j)?;
+    let sent = sent_by_group(alloc, report.run.plan, report.fates, j)?;
+    let name = name_of_group_capture(alloc, report.run.out, j)?;
     let packets = Packets {
-        capture,
+        capture: report.run.capture,
         numbers: &sent,
     };
     write_packets_file(rt, alloc, host, name.as_str(), &packets)
@@ -108,24 +106,21 @@ pub fn write_groups<R: Threads + Sync, H: Host>(
     rt: &R,
     alloc: Global,
     host: &mut H,
-    out: &str,
-    plan: &Plan,
-    capture: &CaptureFile,
-    fates: &[Fate],
+    report: &RunReport<'_>,
 ) -> Result<(), Stop>
-    requires may { (j : ℕ) → j < max_groups → H.may_create (group_capture_name out.now j) }
-    requires serials { (unit : ℕ) → AreSerials fates.now unit }
-    requires known { length fates.now ≤ (packets_of_file capture.now).count }
+    requires may { (j : ℕ) → j < max_groups → H.may_create (group_capture_name report.now.run.out.now j) }
+    requires serials { (unit : ℕ) → AreSerials report.now.fates.now unit }
+    requires known { length report.now.fates.now ≤ (packets_of_file report.now.run.capture.now).count }
     ensures handles { (H.state host.new).handles ≡ (H.state host.old).handles }
     ensures ok { OnOk result (H.state host.new
-        ≡ files_written (H.state host.old) (group_files out.now capture.now plan.now fates.now)) }
-    ensures err { OnErr result (FilesAreCut (group_files out.now capture.now plan.now fates.now)
+        ≡ files_written (H.state host.old) (group_files_of report.now)) }
+    ensures err { OnErr result (FilesAreCut (group_files_of report.now)
         (H.state host.old) (H.state host.new)) }
     ensures cause { StopsFor (H.fault_count host.old) (H.fault_count host.new) result }
 {
-    for j in 0..plan.groups() {
-        if is_root(plan, j) {
-            write_group(rt, alloc, host, out, plan, capture, fates, j)?;
+    for j in 0..report.run.plan.groups() {
+        if is_root(report.run.plan, j) {
+            write_group(rt, alloc, host, report, j)?;
         }
     }
     Ok(())

@@ -4,18 +4,19 @@ ghost use Rattle.lq_host.specs.Host.{wrote};
 ghost use Rattle.lq_model.specs.Plan.{infos_of, unit_count};
 ghost use Rattle.lq_model.specs.Settled.{IsSettled};
 ghost use Rattle.lq_pcapng.specs.File.{packets_of_file};
-ghost use Rattle.lq_files.specs.RunFiles.{counts_output, run_of, texts_of};
+ghost use Rattle.lq_files.specs.Reports.{run_texts};
+ghost use Rattle.lq_files.specs.RunFiles.{counts_output};
 ghost use Rattle.lq_files.specs.RunFiles.{MayWrite};
 ghost use Rattle.lq_files.specs.Stop.{StopsFor};
 ghost use Rattle.lq_files.specs.Written.{OutputHasPrefix, IsCut, written};
 
 use crate::answer::Stop;
 use crate::groups::{push_mq_lines, write_groups};
+use crate::report::RunReport;
 use crate::write::{write_fates, write_output, write_units};
 use lq_fates::counts_text;
 use lq_host::Host;
 use lq_model::{Fate, Info};
-use lq_pcapng::CaptureFile;
 use lq_plan::Plan;
 use std::alloc::Global;
 use std::marker::Sync;
@@ -48,26 +49,22 @@ pub fn write_run<R: Threads + Sync, H: Host>(
     rt: &R,
     alloc: Global,
     host: &mut H,
-    out: &str,
-    plan: &Plan,
-    capture: &CaptureFile,
-    infos: &[Info],
-    fates: &[Fate],
+    report: &RunReport<'_>,
 ) -> Result<(), Stop>
-    requires may { MayWrite H.may_create out.now (unit_count plan.now) }
-    requires infos { infos.now ≡ infos_of plan.now (packets_of_file capture.now) }
-    requires count { length infos.now ≡ (packets_of_file capture.now).count }
-    requires few { length infos.now < 2 ^ 32 }
-    requires settled { IsSettled plan.now infos.now fates.now }
+    requires may { MayWrite H.may_create report.now.run.out.now (unit_count report.now.run.plan.now) }
+    requires infos { report.now.infos.now ≡ infos_of report.now.run.plan.now (packets_of_file report.now.run.capture.now) }
+    requires count { length report.now.infos.now ≡ (packets_of_file report.now.run.capture.now).count }
+    requires few { length report.now.infos.now < 2 ^ 32 }
+    requires settled { IsSettled report.now.run.plan.now report.now.infos.now report.now.fates.now }
     ensures handles { (H.state host.new).handles ≡ (H.state host.old).handles }
     ensures ok { OnOk result (H.state host.new
-        ≡ written (texts_of (run_of out.now plan.now capture.now) fates.now) (H.state host.old)) }
-    ensures err { OnErr result (IsCut (texts_of (run_of out.now plan.now capture.now) fates.now)
+        ≡ written (run_texts report.now) (H.state host.old)) }
+    ensures err { OnErr result (IsCut (run_texts report.now)
         (H.state host.old) (H.state host.new)) }
     ensures cause { StopsFor (H.fault_count host.old) (H.fault_count host.new) result }
 {
-    write_units(rt, alloc, host, out, capture, fates, plan.units())?;
-    write_groups(rt, alloc, host, out, plan, capture, fates)?;
-    write_fates(rt, alloc, host, out, fates)?;
-    write_counts(alloc, host, plan, infos, fates)
+    write_units(rt, alloc, host, report, report.run.plan.units())?;
+    write_groups(rt, alloc, host, report)?;
+    write_fates(rt, alloc, host, report.run.out, report.fates)?;
+    write_counts(alloc, host, report.run.plan, report.infos, report.fates)
 }

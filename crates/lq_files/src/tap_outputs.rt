@@ -5,14 +5,15 @@ ghost use Rattle.lq_pcapng.specs.File.{packets_of_file};
 ghost use Rattle.lq_tap_fates.specs.Texts.{tap_counts_line};
 ghost use Rattle.lq_files.specs.RunFiles.{fates_name};
 ghost use Rattle.lq_files.specs.Stop.{StopsFor};
-ghost use Rattle.lq_files.specs.TapFiles.{read_file, read_name, tap_texts_of};
+ghost use Rattle.lq_files.specs.Reports.{read_file_of, tap_texts};
+ghost use Rattle.lq_files.specs.TapFiles.{read_name};
 ghost use Rattle.lq_files.specs.Written.{FileIsCut, IsCut, OutputHasPrefix, file_written, written};
 
 use crate::answer::Stop;
+use crate::report::TapReport;
 use crate::source::Packets;
 use crate::write::{write_fates, write_output, write_packets_file};
 use lq_host::Host;
-use lq_pcapng::CaptureFile;
 use lq_tap_fates::{TapFate, tap_total_line};
 use std::alloc::{AllocError, Global};
 use std::marker::Sync;
@@ -30,23 +31,21 @@ fn write_read<R: Threads + Sync, H: Host>(
     rt: &R,
     alloc: Global,
     host: &mut H,
-    out: &str,
-    capture: &CaptureFile,
-    read: &[u32],
+    report: &TapReport<'_>,
 ) -> Result<(), Stop>
-    requires may { H.may_create (read_name out.now) }
-    requires known { All (λ n. n < (packets_of_file capture.now).count) read.now }
+    requires may { H.may_create (read_name report.now.out.now) }
+    requires known { All (λ n. n < (packets_of_file report.now.capture.now).count) report.now.read.now }
     ensures handles { (H.state host.new).handles ≡ (H.state host.old).handles }
     ensures ok { OnOk result (H.state host.new
-        ≡ file_written (H.state host.old) (read_file out.now capture.now read.now)) }
-    ensures err { OnErr result (FileIsCut (read_file out.now capture.now read.now)
+        ≡ file_written (H.state host.old) (read_file_of report.now)) }
+    ensures err { OnErr result (FileIsCut (read_file_of report.now)
         (H.state host.old) (H.state host.new)) }
     ensures cause { StopsFor (H.fault_count host.old) (H.fault_count host.new) result }
 {
-    let name = name_of_read(alloc, out)?;
+    let name = name_of_read(alloc, report.out)?;
     let packets = Packets {
-        capture,
-        numbers: read,
+        capture: report.capture,
+        numbers: report.read,
     };
     write_packets_file(rt, alloc, host, name.as_str(), &packets)
 }
@@ -68,22 +67,19 @@ pub fn write_tap<R: Threads + Sync, H: Host>(
     rt: &R,
     alloc: Global,
     host: &mut H,
-    out: &str,
-    capture: &CaptureFile,
-    fates: &[TapFate],
-    read: &[u32],
+    report: &TapReport<'_>,
 ) -> Result<(), Stop>
-    requires read { H.may_create (read_name out.now) }
-    requires fates { H.may_create (fates_name out.now) }
-    requires known { All (λ n. n < (packets_of_file capture.now).count) read.now }
+    requires read { H.may_create (read_name report.now.out.now) }
+    requires fates { H.may_create (fates_name report.now.out.now) }
+    requires known { All (λ n. n < (packets_of_file report.now.capture.now).count) report.now.read.now }
     ensures handles { (H.state host.new).handles ≡ (H.state host.old).handles }
     ensures ok { OnOk result (H.state host.new
-        ≡ written (tap_texts_of out.now capture.now fates.now read.now) (H.state host.old)) }
-    ensures err { OnErr result (IsCut (tap_texts_of out.now capture.now fates.now read.now)
+        ≡ written (tap_texts report.now) (H.state host.old)) }
+    ensures err { OnErr result (IsCut (tap_texts report.now)
         (H.state host.old) (H.state host.new)) }
     ensures cause { StopsFor (H.fault_count host.old) (H.fault_count host.new) result }
 {
-    write_read(rt, alloc, host, out, capture, read)?;
-    write_fates(rt, alloc, host, out, fates)?;
-    write_total(alloc, host, fates)
+    write_read(rt, alloc, host, report)?;
+    write_fates(rt, alloc, host, report.out, report.fates)?;
+    write_total(alloc, host, report.fates)
 }

@@ -4,7 +4,8 @@ ghost use Rattle.lq_host.specs.Host.{IsWriter, wrote, filed};
 ghost use Rattle.lq_files.specs.Stop.{StopsFor};
 ghost use Rattle.lq_files.specs.Written.{FileHasPrefix, OutputHasPrefix, FileIsCut, FilesAreCut, file_written, files_written};
 ghost use Rattle.lq_pcapng.specs.File.{packets_of_file, text_of};
-ghost use Rattle.lq_files.specs.RunFiles.{capture_name, fates_name, unit_file, unit_files};
+ghost use Rattle.lq_files.specs.Reports.{unit_file_of, unit_files_of};
+ghost use Rattle.lq_files.specs.RunFiles.{capture_name, fates_name};
 ghost use Rattle.lq_model.specs.Settled.{AreSerials};
 ghost use Rattle.lq_files.specs.Lines.{lines_file, lines_of};
 
@@ -12,11 +13,10 @@ use crate::answer::{Stop, and_finished};
 use crate::lines::Line;
 use crate::parts::{Buffers, make_buffers, write_source};
 use crate::pieces::{write_text, write_whole_pieces};
+use crate::report::RunReport;
 use crate::source::{Lines, Packets};
 use lq_fates::sent_of;
 use lq_host::Host;
-use lq_model::Fate;
-use lq_pcapng::CaptureFile;
 use std::alloc::{AllocError, Global};
 use std::marker::Sync;
 use std::thread::Threads;
@@ -138,25 +138,23 @@ fn write_unit<R: Threads + Sync, H: Host>(
     rt: &R,
     alloc: Global,
     host: &mut H,
-    out: &str,
-    capture: &CaptureFile,
-    fates: &[Fate],
+    report: &RunReport<'_>,
     unit: u32,
 ) -> Result<(), Stop>
-    requires may { H.may_create (capture_name out.now unit) }
-    requires serials { AreSerials fates.now unit }
-    requires known { length fates.now ≤ (packets_of_file capture.now).count }
+    requires may { H.may_create (capture_name report.now.run.out.now unit) }
+    requires serials { AreSerials report.now.fates.now unit }
+    requires known { length report.now.fates.now ≤ (packets_of_file report.now.run.capture.now).count }
     ensures handles { (H.state host.new).handles ≡ (H.state host.old).handles }
     ensures ok { OnOk result (H.state host.new
-        ≡ file_written (H.state host.old) (unit_file out.now capture.now fates.now unit)) }
-    ensures err { OnErr result (FileIsCut (unit_file out.now capture.now fates.now unit)
+        ≡ file_written (H.state host.old) (unit_file_of report.now unit)) }
+    ensures err { OnErr result (FileIsCut (unit_file_of report.now unit)
         (H.state host.old) (H.state host.new)) }
     ensures cause { StopsFor (H.fault_count host.old) (H.fault_count host.new) result }
 {
-    let sent = sent_of(alloc, fates, unit)?;
-    let name = name_of_capture(alloc, out, unit)?;
+    let sent = sent_of(alloc, report.fates, unit)?;
+    let name = name_of_capture(alloc, report.run.out, unit)?;
     let packets = Packets {
-        capture,
+        capture: report.run.capture,
         numbers: &sent,
     };
     write_packets_file(rt, alloc, host, name.as_str(), &packets)
@@ -167,23 +165,21 @@ pub fn write_units<R: Threads + Sync, H: Host>(
     rt: &R,
     alloc: Global,
     host: &mut H,
-    out: &str,
-    capture: &CaptureFile,
-    fates: &[Fate],
+    report: &RunReport<'_>,
     units: u32,
 ) -> Result<(), Stop>
-    requires may { (unit : ℕ) → unit < units → H.may_create (capture_name out.now unit) }
-    requires serials { (unit : ℕ) → AreSerials fates.now unit }
-    requires known { length fates.now ≤ (packets_of_file capture.now).count }
+    requires may { (unit : ℕ) → unit < units → H.may_create (capture_name report.now.run.out.now unit) }
+    requires serials { (unit : ℕ) → AreSerials report.now.fates.now unit }
+    requires known { length report.now.fates.now ≤ (packets_of_file report.now.run.capture.now).count }
     ensures handles { (H.state host.new).handles ≡ (H.state host.old).handles }
     ensures ok { OnOk result (H.state host.new
-        ≡ files_written (H.state host.old) (unit_files out.now capture.now fates.now units)) }
-    ensures err { OnErr result (FilesAreCut (unit_files out.now capture.now fates.now units)
+        ≡ files_written (H.state host.old) (unit_files_of report.now units)) }
+    ensures err { OnErr result (FilesAreCut (unit_files_of report.now units)
         (H.state host.old) (H.state host.new)) }
     ensures cause { StopsFor (H.fault_count host.old) (H.fault_count host.new) result }
 {
     for unit in 0..units {
-        write_unit(rt, alloc, host, out, capture, fates, unit)?;
+        write_unit(rt, alloc, host, report, unit)?;
     }
     Ok(())
 }

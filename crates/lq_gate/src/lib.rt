@@ -1,6 +1,7 @@
-//! A place where a test can hold a thread of a run.
+//! A place where a test can hold a thread of a run, and what a run has for all that it does.
 #![tactic(auto)]
 
+use std::alloc::Global;
 use std::marker::Sync;
 
 /// Called by a sender before each of its packets, and in a run over stations once after its last; in the run of a tap, by the
@@ -17,4 +18,12 @@ pub struct Free;
 
 impl Gate for Free {
     fn pass(&self, _sender: u32, _k: u32) {}
+}
+
+/// What a run has for all that it does: threads, memory, and the gate that they pass.
+#[derive(Drop)]
+pub struct Resources<'r, R, G: Gate> {
+    pub rt: &'r R,
+    pub alloc: Global,
+    pub gate: &'r G,
 }

@@ -22,7 +22,7 @@ pub use laws::{
     ends_make_fates, one_child_is_offered, runs_are_readable, runs_keep_boxes, runs_leave_devices,
     runs_leave_stations, runs_make_fates, runs_may_be_sent, stations_run_apart,
 };
-pub use lq_gate::{Free, Gate};
+pub use lq_gate::{Free, Gate, Resources};
 pub use send::send_all;
 pub use sender::{Job, Progress, Run, Sender, Senders};
 pub use undo::undo_swaps;

@@ -18,11 +18,10 @@ use crate::setup::{Stations, split_lanes};
 use crate::undo::{hand_back, take_apart};
 use crate::whole::run;
 use lq_device::TxDevice;
-use lq_gate::Gate;
+use lq_gate::{Gate, Resources};
 use lq_model::{Fate, Info, NoMemory};
 use lq_plan::Plan;
 use lq_table::Ended;
-use std::alloc::Global;
 use std::marker::Sync;
 use std::sync::Wait;
 use std::thread::Threads;
@@ -105,13 +104,11 @@ fn send_ready<'r, 'a, R: Threads + Wait + Sync, D: TxDevice, G: Gate>(
 /// There was no room for the fates, a station's table, a sender's seats, the devices or a device's packets. All devices
 /// are in the bench again.
 pub fn send_all<R: Threads + Wait + Sync, D: TxDevice, G: Gate>(
-    rt: &R,
-    alloc: Global,
+    on: &Resources<'_, R, G>,
     plan: &Plan,
     infos: &[Info],
     bench: &mut Vec<D>,
     ended: &mut Vec<Ended<D>>,
-    gate: &G,
 ) -> Result<Vec<Fate>, NoMemory>
     requires run { IsRunBy plan.now infos.now }
     requires units { unit_count plan.now ≤ vec_len bench.old }
@@ -125,11 +122,15 @@ pub fn send_all<R: Threads + Wait + Sync, D: TxDevice, G: Gate>(
     ensures boxes { identities_of (map D.state bench.new.items) ≡ identities_of (map D.state bench.old.items) }
 {
     runs_may_be_sent();
-    let room = take_room(alloc, plan, infos)?;
-    let empty = room_for_units(alloc, plan)?;
-    let units = make_ready(alloc, plan, infos, bench, empty)?;
-    let job = Job { plan, infos, gate };
-    let left = send_ready(rt, &job, units, room, bench);
+    let room = take_room(on.alloc, plan, infos)?;
+    let empty = room_for_units(on.alloc, plan)?;
+    let units = make_ready(on.alloc, plan, infos, bench, empty)?;
+    let job = Job {
+        plan,
+        infos,
+        gate: on.gate,
+    };
+    let left = send_ready(on.rt, &job, units, room, bench);
     *ended = left.ended;
     Ok(left.fates)
 }

@@ -13,7 +13,7 @@ use crate::fates::{mark_full, mark_read, unknown};
 use crate::lanes::{Lane, all_put};
 use crate::reader::{Reader, all_read};
 use crate::shared::Run;
-use lq_gate::Gate;
+use lq_gate::{Gate, Resources};
 use lq_model::NoMemory;
 use lq_tap::{Tap, TapSeat, senders_in_order};
 use lq_tap_fates::TapFate;
@@ -187,29 +187,27 @@ fn decide<'r, G: Gate>(
 ///
 /// There was no room for the ring, for the seats or for the fates. Nothing was put then.
 pub fn tap_all<R: Threads + Wait + Sync, G: Gate>(
-    rt: &R,
-    alloc: Global,
+    on: &Resources<'_, R, G>,
     packets: u32,
     senders: u32,
     len: u32,
     batch: u32,
-    gate: &G,
 ) -> Result<Tapped, NoMemory>
     requires packets { packets ≤ 1000000 }
     requires within { IsTapWithin senders len batch }
     ensures { IfOk result (λ tapped. IsTapRun packets senders len tapped.fates.items tapped.read.items) }
 {
-    let fates = unknown(alloc, packets)?;
-    let (tap, mut seat) = Tap::make(alloc, packets, len, senders)?;
-    let lanes = make_lanes(alloc, &tap, packets, senders, &mut seat)?;
-    let reader = make_reader(alloc, packets, batch, seat)?;
+    let fates = unknown(on.alloc, packets)?;
+    let (tap, mut seat) = Tap::make(on.alloc, packets, len, senders)?;
+    let lanes = make_lanes(on.alloc, &tap, packets, senders, &mut seat)?;
+    let reader = make_reader(on.alloc, packets, batch, seat)?;
     let run = Run {
         tap: &tap,
         packets,
         senders,
-        gate,
+        gate: on.gate,
     };
-    let (lanes, reader) = put_and_read(rt, &run, lanes, reader);
+    let (lanes, reader) = put_and_read(on.rt, &run, lanes, reader);
     let tapped = decide(&run, reader, lanes, fates);
     Ok(tapped)
 }

@@ -46,10 +46,12 @@ abbrev pub by_generated : List ℕ → List ℕ → Plan → Result CaptureFile 
 by_generated out text p (Err r) = Refuses r
 by_generated out text p (Ok c) = Generates text (run_of out p c)
 
+abbrev pub verdict_of_generated : GenWords → Plan → Verdict
+verdict_of_generated words p =
+    let text = generated_capture words.number words.count in by_generated words.out text p (with_refusal (as_classic (capture_of text)))
+
 abbrev pub verdict_of_gen : GenWords → ℕ → Verdict
-verdict_of_gen words have =
-    let text = generated_capture words.number words.count in
-    by_plan (Some (placed_on have generated_plan)) (λ p. by_generated words.out text p (with_refusal (as_classic (capture_of text))))
+verdict_of_gen words have = by_plan (Some (placed_on have generated_plan)) (verdict_of_generated words)
 
 -- `trace`: first the words are judged, then the schedule
 abbrev pub by_trace : Option (Result (List ℕ) Refusal) → Verdict

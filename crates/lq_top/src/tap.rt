@@ -9,23 +9,20 @@ ghost use Rattle.lq_top.specs.Outcome.{CompletesOrStops, CompletesOrStopsOfSome,
 ghost use Rattle.lq_files.specs.Stop.{StopsFor};
 ghost use Rattle.lq_top.specs.Tapped.{HasCutTap, HasTapped};
 
-use lq_files::{Status, Stop, TapOperands, read_capture_file, refuse, write_tap};
+use lq_files::{Status, Stop, TapOperands, TapReport, read_capture_file, refuse, write_tap};
 use lq_host::Host;
 use lq_pcap::Frames as _;
 use lq_pcapng::CaptureFile;
-use lq_senders::Gate;
+use lq_senders::{Gate, Resources};
 use lq_tap_run::tap_all;
-use std::alloc::Global;
 use std::marker::Sync;
 use std::sync::Wait;
 use std::thread::Threads;
 
 /// Runs a capture through a tap, and writes what became of its packets.
 fn tap_capture<R: Threads + Wait + Sync, H: Host, G: Gate>(
-    rt: &R,
-    alloc: Global,
+    on: &Resources<'_, R, G>,
     host: &mut H,
-    gate: &G,
     words: &TapOperands<'_>,
     capture: &CaptureFile,
 ) -> Result<Status, Stop>
@@ -38,33 +35,21 @@ fn tap_capture<R: Threads + Wait + Sync, H: Host, G: Gate>(
     ensures cause { StopsFor (H.fault_count host.old) (H.fault_count host.new) result }
 {
     let packets = capture.len() as u32;
-    let tapped = tap_all(
-        rt,
-        alloc,
-        packets,
-        words.senders,
-        words.len,
-        words.batch,
-        gate,
-    )?;
-    write_tap(
-        rt,
-        alloc,
-        host,
-        words.out,
+    let tapped = tap_all(on, packets, words.senders, words.len, words.batch)?;
+    let report = TapReport {
+        out: words.out,
         capture,
-        &tapped.fates,
-        &tapped.read,
-    )?;
+        fates: &tapped.fates,
+        read: &tapped.read,
+    };
+    write_tap(on.rt, on.alloc, host, &report)?;
     Ok(Status::Done)
 }
 
 /// Does the command `tap`.
 pub fn tap_command<R: Threads + Wait + Sync, H: Host, G: Gate>(
-    rt: &R,
-    alloc: Global,
+    on: &Resources<'_, R, G>,
     host: &mut H,
-    gate: &G,
     words: &TapOperands<'_>,
 ) -> Result<Status, Stop>
     requires may { MayTap H.may_open H.may_create (tap_words words.now) }
@@ -77,8 +62,8 @@ pub fn tap_command<R: Threads + Wait + Sync, H: Host, G: Gate>(
     ensures handles { (H.state host.new).handles ≡ (H.state host.old).handles }
     ensures cause { StopsFor (H.fault_count host.old) (H.fault_count host.new) result }
 {
-    match read_capture_file(alloc, host, words.capture)? {
-        Ok(capture) => tap_capture(rt, alloc, host, gate, words, &capture),
-        Err(refusal) => refuse(alloc, host, refusal),
+    match read_capture_file(on.alloc, host, words.capture)? {
+        Ok(capture) => tap_capture(on, host, words, &capture),
+        Err(refusal) => refuse(on.alloc, host, refusal),
     }
 }

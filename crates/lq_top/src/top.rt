@@ -8,7 +8,7 @@ ghost use Rattle.lq_top.specs.Decision.{Refuses, Runs, most_units_changed_by, un
 ghost use Rattle.lq_senders.specs.Fates.{identities_of};
 ghost use Rattle.lq_table.specs.Ended.{ended_state};
 ghost use Rattle.lq_top.specs.Headline.{HasRun};
-ghost use Rattle.lq_files.specs.RunFiles.{run_of};
+ghost use Rattle.lq_files.specs.Reports.{run_of_inputs};
 ghost use Rattle.lq_top.specs.Names.{MayDo, MayDoCommand, MayRun};
 ghost use Rattle.lq_files.specs.RunFiles.{MayWrite};
 ghost use Rattle.lq_top.specs.Outcome.{Completes, CompletesOrStops, CompletesOrStopsOfSome, OutcomeOfSome, IsAnswerOf, IsCommandStatus, LeavesNone, Outcome, Stops, TellsUsageFor, refuses};
@@ -19,15 +19,14 @@ use crate::tap::tap_command;
 use crate::trace::trace_command;
 use lq_device::TxDevice;
 use lq_files::{
-    Command, Refusal, RunOperands, Status, Stop, read_capture_file, read_plan_file, read_words,
-    refuse, write_run,
+    Command, Refusal, RunInputs, RunOperands, RunReport, Status, Stop, read_capture_file,
+    read_plan_file, read_words, refuse, write_run,
 };
 use lq_host::Host;
 use lq_model::NoMemory;
 use lq_pcap::Frames as _;
-use lq_pcapng::CaptureFile;
-use lq_plan::{Plan, infos};
-use lq_senders::{Gate, send_all};
+use lq_plan::infos;
+use lq_senders::{Gate, Resources, send_all};
 use lq_table::Ended;
 use std::alloc::Global;
 use std::marker::Sync;
@@ -36,25 +35,21 @@ use std::thread::Threads;
 
 /// Sends the packets of a capture under a plan, and writes what became of them.
 fn run_capture<R: Threads + Wait + Sync, H: Host, G: Gate, D: TxDevice>(
-    rt: &R,
-    alloc: Global,
+    on: &Resources<'_, R, G>,
     host: &mut H,
     bench: &mut Vec<D>,
     ended: &mut Vec<Ended<D>>,
-    gate: &G,
-    out: &str,
-    plan: &Plan,
-    capture: &CaptureFile,
+    run: &RunInputs<'_>,
 ) -> Result<Status, Stop>
-    requires may { MayWrite H.may_create out.now max_units }
-    requires runnable { IsRunnable (vec_len bench.old) plan.now }
+    requires may { MayWrite H.may_create run.now.out.now max_units }
+    requires runnable { IsRunnable (vec_len bench.old) run.now.plan.now }
     requires none_yet { ended.old.items ≡ [] }
     ensures answer { IfOk result (λ answer. answer ≡ Status.Done) }
-    ensures ok { OnOk result (HasRun (run_of out.now plan.now capture.now) (H.state host.old) (H.state host.new)
+    ensures ok { OnOk result (HasRun (run_of_inputs run.now) (H.state host.old) (H.state host.new)
         (map D.state bench.old.items) (map D.state bench.new.items) (map ended_state ended.new.items)) }
-    ensures err { OnErr result (Stops (Runs (run_of out.now plan.now capture.now))
+    ensures err { OnErr result (Stops (Runs (run_of_inputs run.now))
         (H.state host.old) (H.state host.new) (map D.state bench.old.items) (map D.state bench.new.items)) }
-    ensures others { drop (unit_count plan.now) bench.new.items ≡ drop (unit_count plan.now) bench.old.items }
+    ensures others { drop (unit_count run.now.plan.now) bench.new.items ≡ drop (unit_count run.now.plan.now) bench.old.items }
     ensures len { vec_len bench.new ≡ vec_len bench.old }
     ensures boxes { identities_of (map D.state bench.new.items) ≡ identities_of (map D.state bench.old.items) }
     ensures none_ended { LeavesNone result ended.new.items }
@@ -62,10 +57,15 @@ fn run_capture<R: Threads + Wait + Sync, H: Host, G: Gate, D: TxDevice>(
     ensures cause { StopsFor (H.fault_count host.old) (H.fault_count host.new) result }
 {
     // The proof learns from it that there are at most 1,000,000 packets.
-    let _count = capture.len();
-    let infos = infos(rt, alloc, plan, capture)?;
-    let fates = send_all(rt, alloc, plan, &infos, bench, ended, gate)?;
-    match write_run(rt, alloc, host, out, plan, capture, &infos, &fates) {
+    let _count = run.capture.len();
+    let infos = infos(on.rt, on.alloc, run.plan, run.capture)?;
+    let fates = send_all(on, run.plan, &infos, bench, ended)?;
+    let report = RunReport {
+        run: *run,
+        infos: &infos,
+        fates: &fates,
+    };
+    match write_run(on.rt, on.alloc, host, &report) {
         Ok(()) => Ok(Status::Done),
         Err(stop) => {
             ended.clear();
@@ -76,12 +76,10 @@ fn run_capture<R: Threads + Wait + Sync, H: Host, G: Gate, D: TxDevice>(
 
 /// Does the command `run`.
 fn run_command<R: Threads + Wait + Sync, H: Host, G: Gate, D: TxDevice>(
-    rt: &R,
-    alloc: Global,
+    on: &Resources<'_, R, G>,
     host: &mut H,
     bench: &mut Vec<D>,
     ended: &mut Vec<Ended<D>>,
-    gate: &G,
     words: &RunOperands<'_>,
 ) -> Result<Status, Stop>
     requires may { MayRun H.may_open H.may_create (run_words words.now) }
@@ -104,26 +102,29 @@ fn run_command<R: Threads + Wait + Sync, H: Host, G: Gate, D: TxDevice>(
     ensures handles { (H.state host.new).handles ≡ (H.state host.old).handles }
     ensures cause { StopsFor (H.fault_count host.old) (H.fault_count host.new) result }
 {
-    let plan = match read_plan_file(alloc, host, words.plan, bench.len())? {
+    let plan = match read_plan_file(on.alloc, host, words.plan, bench.len())? {
         Ok(plan) => plan,
-        Err(refusal) => return refuse(alloc, host, refusal),
+        Err(refusal) => return refuse(on.alloc, host, refusal),
     };
-    match read_capture_file(alloc, host, words.capture)? {
-        Ok(capture) => run_capture(
-            rt, alloc, host, bench, ended, gate, words.out, &plan, &capture,
-        ),
-        Err(refusal) => refuse(alloc, host, refusal),
+    match read_capture_file(on.alloc, host, words.capture)? {
+        Ok(capture) => {
+            let run = RunInputs {
+                out: words.out,
+                plan: &plan,
+                capture: &capture,
+            };
+            run_capture(on, host, bench, ended, &run)
+        }
+        Err(refusal) => refuse(on.alloc, host, refusal),
     }
 }
 
 /// Does a command.
 fn do_command<R: Threads + Wait + Sync, H: Host, G: Gate, D: TxDevice>(
-    rt: &R,
-    alloc: Global,
+    on: &Resources<'_, R, G>,
     host: &mut H,
     bench: &mut Vec<D>,
     ended: &mut Vec<Ended<D>>,
-    gate: &G,
     command: &Command<'_>,
 ) -> Result<Status, Stop>
     requires may { MayDoCommand H.may_open H.may_create (command_words command.now) }
@@ -149,10 +150,10 @@ fn do_command<R: Threads + Wait + Sync, H: Host, G: Gate, D: TxDevice>(
     ensures cause { StopsFor (H.fault_count host.old) (H.fault_count host.new) result }
 {
     match command {
-        Command::Run(words) => run_command(rt, alloc, host, bench, ended, gate, words),
-        Command::Gen(words) => gen_command(rt, alloc, host, bench, ended, gate, words),
-        Command::Trace(file) => trace_command(alloc, host, file),
-        Command::Tap(words) => tap_command(rt, alloc, host, gate, words),
+        Command::Run(words) => run_command(on, host, bench, ended, words),
+        Command::Gen(words) => gen_command(on, host, bench, ended, words),
+        Command::Trace(file) => trace_command(on.alloc, host, file),
+        Command::Tap(words) => tap_command(on, host, words),
     }
 }
 
@@ -232,8 +233,9 @@ pub fn lqtx<R: Threads + Wait + Sync, H: Host, G: Gate, D: TxDevice>(
     // What stays of the stations is laid out where a run is done.
     ensures none_ended { result ≢ Status.Done → ended.new.items ≡ [] }
 {
+    let on = Resources { rt, alloc, gate };
     match read_words(alloc, words) {
-        Ok(Some(command)) => match do_command(rt, alloc, host, bench, ended, gate, &command) {
+        Ok(Some(command)) => match do_command(&on, host, bench, ended, &command) {
             Ok(status) => status,
             Err(stop) => stop.status(),
         },

@@ -15,10 +15,10 @@ use Rattle.lq_top.proofs.generate.generate.Goals as goal
 
 pub returns-in_err-write_file-clause-does : goal.returns-in_err-write_file-clause-does
 returns-in_err-write_file-clause-does g c =
-    let words = c.args.words.now in
+    let words = c.args.job.now.words in
     let out = words.out.now in
     let text = generated_capture words.number words.count in
-    let plan = c.args.plan.now in
+    let plan = c.args.job.now.plan.now in
     let old : HostState = g.H.Host.state c.args.host.now in
     let new : HostState = g.H.Host.state c.write_file.new.host in
     let devices = map g.D.TxDevice.state c.args.bench.now.items in
@@ -29,15 +29,15 @@ returns-in_err-write_file-clause-does g c =
 
 pub generated_in-requires : goal.generated_in-requires
 generated_in-requires g c =
-    let words = c.args.words.now in
+    let words = c.args.job.now.words in
     record { accepted = subst (λ (t : List ℕ). IsOkAnd (capture_of t) (λ _. Unit {0})) (sym c.in_ok-text.ensures) (is_accepted words.number words.count c.requires.few) }
 
 pub returns-in_err-generated_in-clause-does : goal.returns-in_err-generated_in-clause-does
 returns-in_err-generated_in-clause-does g c =
-    let words = c.args.words.now in
+    let words = c.args.job.now.words in
     let out = words.out.now in
     let text = generated_capture words.number words.count in
-    let plan = c.args.plan.now in
+    let plan = c.args.job.now.plan.now in
     let old : HostState = g.H.Host.state c.args.host.now in
     let new : HostState = g.H.Host.state c.write_file.new.host in
     let devices = map g.D.TxDevice.state c.args.bench.now.items in
@@ -48,14 +48,14 @@ returns-in_err-generated_in-clause-does g c =
 
 pub returns-clause-does : goal.returns-clause-does
 returns-clause-does g c =
-    let words = c.args.words.now in
+    let words = c.args.job.now.words in
     let out = words.out.now in
     let text = generated_capture words.number words.count in
     let old : HostState = g.H.Host.state c.args.host.now in
     let mid : HostState = g.H.Host.state c.write_file.new.host in
     let before = map g.D.TxDevice.state c.args.bench.now.items in
     let after = map g.D.TxDevice.state c.run_and_count.new.bench.items in
-    generated_does out text c.args.plan.now c.in_ok-generated_in.field-0 (capture_of text) old mid (g.H.Host.state c.run_and_count.new.host) before after (map ended_state c.run_and_count.new.ended.items) c.run_and_count.result
+    generated_does out text c.args.job.now.plan.now c.in_ok-generated_in.field-0 (capture_of text) old mid (g.H.Host.state c.run_and_count.new.host) before after (map ended_state c.run_and_count.new.ended.items) c.run_and_count.result
     (ap capture_of (sym c.in_ok-text.ensures) ∙ c.in_ok-generated_in.ensures)
     (c.in_ok-write_file.ensures.ok ∙ ap (λ (t : List ℕ). filed old out t) (c.deref.ensures.value ∙ c.in_ok-text.ensures))
     c.run_and_count.ensures.answer c.run_and_count.ensures.ok c.run_and_count.ensures.err

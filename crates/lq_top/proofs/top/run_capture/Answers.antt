@@ -6,13 +6,13 @@ use Rattle.lq_top.proofs.top.run_capture.Goals as goal
 
 pub returns-clause-err : goal.returns-clause-err
 returns-clause-err g c =
-    run_stops (run_of c.args.out.now c.args.plan.now c.args.capture.now) c.deref.result.now c.in_ok-fates.fates.items c.deref-3.result.now (g.H.Host.state c.args.host.now)
+    run_stops (run_of c.args.run.now.out.now c.args.run.now.plan.now c.args.run.now.capture.now) c.deref.result.now c.in_ok-fates.fates.items c.deref-3.result.now (g.H.Host.state c.args.host.now)
     (g.H.Host.state c.write_run.new.host) (map g.D.TxDevice.state c.args.bench.now.items) (map g.D.TxDevice.state c.send_all.new.bench.items)
     (c.deref.ensures.value ∙ c.in_ok-infos.ensures.infos) c.deref-3.ensures.value c.in_ok-fates.ensures.fates c.in-Err.ensures.err
 
 pub returns-in-Ok-clause-ok : goal.returns-in-Ok-clause-ok
 returns-in-Ok-clause-ok g c =
-    run_done (run_of c.args.out.now c.args.plan.now c.args.capture.now) c.deref.result.now c.in_ok-fates.fates.items c.deref-3.result.now (g.H.Host.state c.args.host.now)
+    run_done (run_of c.args.run.now.out.now c.args.run.now.plan.now c.args.run.now.capture.now) c.deref.result.now c.in_ok-fates.fates.items c.deref-3.result.now (g.H.Host.state c.args.host.now)
     (g.H.Host.state c.write_run.new.host) (map g.D.TxDevice.state c.args.bench.now.items) (map g.D.TxDevice.state c.send_all.new.bench.items)
     (c.deref.ensures.value ∙ c.in_ok-infos.ensures.infos) c.deref-3.ensures.value c.in_ok-fates.ensures.fates (map ended_state c.send_all.new.ended.items) c.in_ok-fates.ensures.ended
     c.in-Ok.ensures.ok
