@@ -7,7 +7,7 @@ use Rattle.lq_model.specs.declared.machine.Beginning.{Beginning}
 use Rattle.lq_model.specs.declared.machine.Beginning.TheVariants.{Transmits, Interrupts, Wakes, Controls}
 use Rattle.lq_model.specs.declared.machine.Packet.{Packet}
 use Rattle.lq_model.specs.declared.machine.Seat.{Seat}
-use Rattle.lq_model.specs.Machine.{Machine, seat_at}
+use Rattle.lq_model.specs.Machine.{Machine, seat_at, first_machine}
 use Rattle.lq_model.specs.Steps.{After, with_seat, step_of, call_begun, step_at, begun}
 use Rattle.lq_model.specs.Positions.{own_packet}
 use Rattle.lq_model.specs.Kept.{IsInductive}
@@ -16,11 +16,12 @@ use Rattle.lq_model.specs.Quiet.Moves.{steps, begins}
 use Rattle.lq_run_core.specs.declared.start.Start.{Start}
 use Rattle.lq_run_core.specs.declared.start.Start.TheVariants.{Send, SoftIrq, Wake, SendOn, WakeOn}
 use Rattle.lq_run_core.specs.Numbered.{NumberedMachine, KeepsInvariant, OwnersAreSeats, beginning_of, begun_by}
-use Rattle.lq_run_core.proofs.Local.{Local}
-use Rattle.lq_run_core.proofs.LocalSteps.{and-true, if-some, step-leads, start-leads}
-use Rattle.lq_run_core.proofs.Frames.{seat-moved, seat-other}
-use Rattle.lq_run_core.proofs.OwnersDiffer.{had}
-use Rattle.lq_run_core.proofs.Inductive.{inductive}
+use Rattle.lq_machine.proofs.First.{first-inductive, first-owners}
+use Rattle.lq_machine.proofs.Local.{Local}
+use Rattle.lq_machine.proofs.LocalSteps.{and-true, if-some, step-leads, start-leads}
+use Rattle.lq_machine.proofs.Frames.{seat-moved, seat-other}
+use Rattle.lq_machine.proofs.OwnersDiffer.{had}
+use Rattle.lq_machine.proofs.Inductive.{inductive}
 use borrow.Author.Tests.{ltb-true}
 
 -- a step of seat i that begins a transmit of its own packet alone
@@ -83,3 +84,9 @@ begin-sound r n i start sound e = record {
   owners = subst OwnersAreSeats (sym e)
       (kept-after OwnersAreSeats (begun_by start i r) r.machine sound.owners (λ m h. owners-start r.machine m i (beginning_of start i r) (own-packet start i r) h sound.owners));
 }
+
+-- what is made to run is sound
+pub first-sound : (r : NumberedMachine) (seats len : ℕ) (bypass : Bool) (queues : ℕ)
+    → r ≡ record { machine = first_machine seats len bypass queues; next = 0 } → KeepsInvariant r
+first-sound r seats len bypass queues is =
+    subst KeepsInvariant (sym is) (record { inductive = first-inductive seats len bypass queues; owners = first-owners seats len bypass queues })

@@ -1,5 +1,3 @@
--- one seat among the others
-pub mod Among
 -- a machine that runs, with the packets that it numbers
 pub mod Numbered
 -- the room that the list of a band has

@@ -1,5 +1,5 @@
 -- A machine that is run by numbers: its sends take the packet numbers in order, each seat is an owner.
-use Rattle.std.specs.Prelude.{◌≡◌, ℕ, ◌+◌, ◌<◌, Bool, true, false, List, Option, Some, is_some, max, fold, sum_by, length}
+use Rattle.std.specs.Prelude.{◌≡◌, ℕ, ◌+◌, ◌<◌, Bool, true, false, List, Option, Some, is_some, sum_by, length}
 use Rattle.lq_model.specs.declared.machine.Packet.{Packet}
 use Rattle.lq_model.specs.declared.machine.Beginning.{Beginning}
 use Rattle.lq_model.specs.declared.machine.Beginning.TheVariants.{Transmits, Interrupts, Wakes}
@@ -44,10 +44,7 @@ is_send _ = false
 abbrev pub begun_by : Start → ℕ → NumberedMachine → Option Machine
 begun_by start seat r = call_begun r.machine seat (beginning_of start seat r)
 
--- the greatest stop word; how many packets the bands and the requeue slot hold
-abbrev pub greatest : List ℕ → ℕ
-greatest words = fold (λ most word. max most word) 0 words
-
+-- how many packets the bands and the requeue slot hold
 abbrev pub packets_held : Qdisc → ℕ
 packets_held q = sum_by (λ band. length band) q.bands + bit (is_some q.slot)
 

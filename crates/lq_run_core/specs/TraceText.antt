@@ -9,7 +9,8 @@ use Rattle.lq_model.specs.Machine.{Machine, Qdisc, seat_at, state_word, bit}
 use Rattle.lq_model.specs.Numbers.{first_numbers}
 use Rattle.lq_run_core.specs.declared.trace_run.Progress.{Progress}
 use Rattle.lq_run_core.specs.declared.trace_run.TraceRefusal.{TraceRefusal}
-use Rattle.lq_run_core.specs.Numbered.{greatest, packets_held}
+use Rattle.lq_model.specs.Numbers.{greatest}
+use Rattle.lq_run_core.specs.Numbered.{packets_held}
 use Rattle.lq_run_core.specs.Trace.{schedule_done, ◌>>=◌}
 
 -- WHERE A SEAT STANDS

@@ -10,14 +10,12 @@ ghost use Rattle.lq_model.specs.Positions.{Holds, blocking};
 ghost use Rattle.lq_model.specs.Kept.{IsInductive, IsKept};
 ghost use Rattle.lq_model.specs.Quiet.{IsQuiet, Moves};
 
-pub mod among;
 pub mod deactivation;
 pub mod draining;
 pub mod exposed;
 pub mod lock;
 pub mod mistakes;
 pub mod reached;
-pub mod seats;
 
 /// The invariant holds of the machine that begins, and every step of a seat, every start and every step of
 /// control keeps it; so its sentences hold at every moment.

@@ -36,7 +36,8 @@ impl Machine {
     ghost use Rattle.std.specs.Prelude.{◌≡◌, ◌≤◌, ◌<◌, ◌+◌, ◌&&◌, true, IfOk, is_some, unwrap_or, length, if◌then◌else◌, slice_index};
     ghost use Rattle.lq_model.specs.Machine.{first_machine, seat_at, state_word, bit};
     ghost use Rattle.lq_model.specs.Steps.{step_of};
-    ghost use Rattle.lq_run_core.specs.Numbered.{IsInRange, KeepsInvariant, begun_by, is_send, greatest, packets_held};
+    ghost use Rattle.lq_run_core.specs.Numbered.{IsInRange, KeepsInvariant, begun_by, is_send, packets_held};
+    ghost use Rattle.lq_model.specs.Numbers.{greatest};
 
     /// A machine with one queue; all words are 0, all lists are empty, all seats are idle. The invariant holds of
     /// it, and `begin` and `step` keep it.

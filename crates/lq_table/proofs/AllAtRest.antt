@@ -25,8 +25,8 @@ use Rattle.lq_model.specs.Plan.{owner_in, band_in}
 use Rattle.lq_model.specs.Positions.{Holds, holds_lock, is_inside}
 use Rattle.lq_model.specs.Steps.{is_idle}
 use Rattle.lq_model.specs.Words.{word_of, IsWordOf}
-use Rattle.lq_run_core.proofs.Among.{among-at as here, among-within as inside}
-use Rattle.lq_run_core.proofs.Quiet.{quiet-holds-nothing}
+use Rattle.lq_machine.proofs.Among.{among-at as here, among-within as inside}
+use Rattle.lq_machine.proofs.Quiet.{quiet-holds-nothing}
 use Rattle.lq_ring_core.specs.Slots.{round}
 use Rattle.lq_account.proofs.Changes.{band-held, slot-held}
 use Rattle.lq_account.proofs.Lists.{none-in}

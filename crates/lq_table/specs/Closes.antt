@@ -9,7 +9,7 @@ use Rattle.lq_model.specs.Plan.{owner_in, station_in, rank_in}
 use Rattle.lq_model.specs.Words.{IsWordOf, word_of}
 use Rattle.lq_model.specs.declared.fate.Fate.{Fate}
 use Rattle.lq_ring_core.specs.Slots.{round, slot_at}
-use Rattle.lq_run_core.specs.Numbered.{greatest}
+use Rattle.lq_model.specs.Numbers.{greatest}
 use Rattle.lq_band.specs.Seats.{Each}
 use Rattle.lq_band.specs.Stored.{FateWords}
 use Rattle.lq_band.specs.Three.{at, all_three}

@@ -2,7 +2,7 @@
 ghost use Rattle.std.specs.Prelude.{◌≡◌, ◌<◌, Some, IfSome, IfNone, slice_index};
 ghost use Rattle.lq_device.specs.Station.{StationState};
 ghost use Rattle.lq_model.specs.Words.{IsWordOf};
-ghost use Rattle.lq_run_core.specs.Numbered.{greatest};
+ghost use Rattle.lq_model.specs.Numbers.{greatest};
 ghost use Rattle.lq_table.specs.Places.{state_place, lock_place, inside_place, size_place};
 ghost use Rattle.lq_table.specs.Sees.{closed_words, closed_stops, closed_fates, closed_home};
 ghost use Rattle.lq_table.specs.Ended.{lent_fates};

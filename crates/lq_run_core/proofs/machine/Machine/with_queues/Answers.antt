@@ -1,5 +1,5 @@
 use Rattle.std.proofs.Common.{Result, Ok, Err, IfOk}
-use Rattle.lq_run_core.proofs.First.{first-sound}
+use Rattle.lq_run_core.proofs.Sound.{first-sound}
 use Rattle.lq_run_core.proofs.machine.Machine.with_queues.Goals as goal
 
 on-ok : {A E : Type 0} (r : Result A E) (P Q : A → Type 0) → ((x : A) → P x → Q x) → IfOk r P → IfOk r Q

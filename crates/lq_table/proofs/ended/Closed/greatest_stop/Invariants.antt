@@ -1,5 +1,5 @@
 use Rattle.std.proofs.Common.{◌≡◌, ◌+◌, take}
-use Rattle.lq_run_core.specs.Numbered.{greatest}
+use Rattle.lq_model.specs.Numbers.{greatest}
 use Rattle.lq_table.specs.Sees.{closed_stops}
 use Rattle.lq_table.proofs.ended.Closed.greatest_stop.Given as goal
 

@@ -1,0 +1,2 @@
+-- one seat among the others
+pub mod Among
