@@ -1,5 +1,6 @@
 -- What the steps of the machine make of what a seat knows that has the table alone.
 use Rattle.std.proofs.Common.{◌≡◌, ℕ, ◌-◌, Bool, true, false, refl, sym, ap, ◌∙◌, subst, Option, Some, None}
+use Rattle.std.proofs.lemmas.Bool.{false≢true}
 use Rattle.std.specs.Prelude.{if◌then◌else◌, ◌&&◌, ◌==◌, is_some}
 use Rattle.std.specs.Option.{option_map}
 use Rattle.lq_model.specs.Account.{Back, Send, Pick, Stop}
@@ -52,7 +53,7 @@ load_leaves (at.Tail inside) h = record { raised = λ seen s. refl; words = λ q
 load_leaves at.Soft h = record { raised = λ seen s. refl; words = λ q s. refl }
 load_leaves at.Late h = record { raised = λ seen s. refl; words = λ q s. refl }
 load_leaves (at.Control holds) h = record { raised = λ seen s. refl; words = λ q s. refl }
-load_leaves _ h = absurd cc
+load_leaves _ h = absurd (false≢true h)
 
 pub looks_solo : (n : ℕ) (v : View) → loads_state v.place.position ≡ true → solo (looking n v) ≡ solo v
 looks_solo n v h = solo_step v (seen_state (seen_by v) v.share.about.bypass n) (λ q. q) (load_leaves v.place.position h)
@@ -62,7 +63,7 @@ miss_leaves (at.Miss attempt) h = record {
   raised = λ seen s. either_raised seen.missed (goes_to seen s (gives_up attempt)) (goes_to (record seen { missed = true }) s (at.Try2 attempt)) s.raised refl refl;
   words = λ q s. either_words q.missed (goes_to q s (gives_up attempt)) (goes_to (record q { missed = true }) s (at.Try2 attempt)) (record q { missed = true }) (λ e j. record q { missed = e j }) (λ _. refl);
 }
-miss_leaves _ h = absurd cc
+miss_leaves _ h = absurd (false≢true h)
 
 pub misses_solo : (was : Bool) (v : View) → misses v.place.position ≡ true → solo (missing was v) ≡ missed_to true (solo v)
 misses_solo was v h = solo_step v (record (seen_by v) { missed = was }) (λ q. record q { missed = true }) (miss_leaves v.place.position h)
@@ -70,21 +71,21 @@ misses_solo was v h = solo_step v (record (seen_by v) { missed = was }) (λ q. r
 clear_missed_leaves : (y : Position) → clears_missed y ≡ true → Leaves y (λ q. record q { missed = false })
 clear_missed_leaves at.ClearMissed h = record { raised = λ seen s. refl; words = λ q s. refl }
 clear_missed_leaves (at.BlockedClear b) h = record { raised = λ seen s. refl; words = λ q s. refl }
-clear_missed_leaves _ h = absurd cc
+clear_missed_leaves _ h = absurd (false≢true h)
 
 pub clears_missed_solo : (v : View) → clears_missed v.place.position ≡ true → solo (passing v) ≡ missed_to false (solo v)
 clears_missed_solo v h = solo_step v (seen_by v) (λ q. record q { missed = false }) (clear_missed_leaves v.place.position h)
 
 clear_draining_leaves : (y : Position) → clears_draining y ≡ true → Leaves y (λ q. record q { draining = false })
 clear_draining_leaves at.ClearDraining h = record { raised = λ seen s. refl; words = λ q s. refl }
-clear_draining_leaves _ h = absurd cc
+clear_draining_leaves _ h = absurd (false≢true h)
 
 pub clears_draining_solo : (v : View) → clears_draining v.place.position ≡ true → solo (passing v) ≡ draining_to false (solo v)
 clears_draining_solo v h = solo_step v (seen_by v) (λ q. record q { draining = false }) (clear_draining_leaves v.place.position h)
 
 clear_sched_leaves : (y : Position) → clears_sched y ≡ true → Leaves y (λ q. record q { sched = false })
 clear_sched_leaves (at.SoftClear deactivated) h = record { raised = λ seen s. refl; words = λ q s. refl }
-clear_sched_leaves _ h = absurd cc
+clear_sched_leaves _ h = absurd (false≢true h)
 
 pub clears_sched_solo : (v : View) → clears_sched v.place.position ≡ true → solo (passing v) ≡ sched_cleared (solo v)
 clears_sched_solo v h = solo_step v (seen_by v) (λ q. record q { sched = false }) (clear_sched_leaves v.place.position h)
@@ -102,12 +103,12 @@ set_leaves at.Again h = record { raised = λ seen s. refl; missed = λ q s. refl
 set_leaves at.Quota h = record { raised = λ seen s. refl; missed = λ q s. refl; draining = λ q s. refl; scheduled = λ q s. refl; locked = λ q s. refl }
 set_leaves (at.BlockedMiss (InHand p direct)) h = record { raised = λ seen s. refl; missed = λ q s. refl; draining = λ q s. refl; scheduled = λ q s. refl; locked = λ q s. refl }
 set_leaves (at.BlockedMiss (NoneTaken queue)) h = record { raised = λ seen s. refl; missed = λ q s. refl; draining = λ q s. refl; scheduled = λ q s. refl; locked = λ q s. refl }
-set_leaves _ h = absurd cc
+set_leaves _ h = absurd (false≢true h)
 
 drain_leaves : (y : Position) → sets_draining y ≡ true → Sets y (λ q. record q { draining = true })
 drain_leaves (at.BlockedDrain (InHand p direct)) h = record { raised = λ seen s. refl; missed = λ q s. refl; draining = λ q s. refl; scheduled = λ q s. refl; locked = λ q s. refl }
 drain_leaves (at.BlockedDrain (NoneTaken queue)) h = record { raised = λ seen s. refl; missed = λ q s. refl; draining = λ q s. refl; scheduled = λ q s. refl; locked = λ q s. refl }
-drain_leaves _ h = absurd cc
+drain_leaves _ h = absurd (false≢true h)
 
 set_step : (v : View) (to : Qdisc → Qdisc) → Sets v.place.position to
     → solo (setting v) ≡ laid v (record (solo v) { whole = record (solo v).whole { missed = (to v.whole.qdisc).missed; draining = (to v.whole.qdisc).draining; scheduled = (to v.whole.qdisc).sched; locked = (to v.whole.qdisc).locked } })
@@ -151,7 +152,7 @@ module _ (v : View) where
       by at.Unlock is h' = ap (λ (b : Bool). solo (if b then unlocking_control v else unlocking_call v)) (ap is_control is)
           ∙ solo_step v (seen_lock (seen_by v) false) (λ q. record q { locked = false }) (subst (λ (y : Position). Leaves y (λ q. record q { locked = false })) (sym is) record { raised = λ seen s. refl; words = λ q s. refl })
       by (at.Control holds) is h' = ap (λ (b : Bool). solo (if b then unlocking_control v else unlocking_call v)) (ap is_control is)
-      by _ is h' = absurd cc
+      by _ is h' = absurd (false≢true h')
 
   pub loads_stop_solo : (x : ℕ) → solo (loading x v) ≡ stop_found x v (solo v)
   loads_stop_solo x = by (is_dequeue v.place.position && (x == 0)) v.holder.slot (record v { place = record v.place { position = after_stop (option_map (machine_packet v.share.about.infos) v.holder.slot) x v.place.position } }) refl
