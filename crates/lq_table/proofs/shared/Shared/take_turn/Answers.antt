@@ -1,5 +1,6 @@
-use Rattle.std.proofs.Common.{ℕ, ◌*◌, ◌∷◌, refl, sym, ap, ◌∙◌, slice_index, eq-eqb, ne_eqb}
+use Rattle.std.proofs.Common.{ℕ, ◌*◌, ◌<◌, subst, ◌∷◌, refl, sym, ap, ◌∙◌, slice_index, eq-eqb, ne_eqb}
 use Rattle.lq_table.specs.Made.{did_take_turn}
+use Rattle.lq_table.specs.Rule.{times}
 use Rattle.lq_table.specs.Sees.{view, steps}
 use Rattle.lq_table.specs.Told.{bringing}
 use Rattle.lq_table.proofs.CodeReads.{no_info, owner_read, rank_read}
@@ -22,3 +23,14 @@ returns-else-found-rank g c =
       turn = (t.found ∙ ap (slice_index v.turns) owner, λ is. apart (is ∙ ap (λ (r : ℕ). 2 * r) (sym rank)), t.other apart);
       made = t.made ∙ (λ j. did_take_turn (owner j) (rank j) (ne_eqb _ _ apart j) ∷ steps c.args.cpu.now);
     }
+
+pub take_turn_of-found-requires-clause-packet : goal.take_turn_of-found-requires-clause-packet
+take_turn_of-found-requires-clause-packet g c κs within =
+    let infos = c.args.self.now.infos.now in let p = c.requires.packet in
+    (p.0, p.1, owner_read infos c.args.n no_info p.0, rank_read infos c.args.n no_info p.0)
+
+pub take_turn_of-found-requires-clause-owner : goal.take_turn_of-found-requires-clause-owner
+take_turn_of-found-requires-clause-owner g c κs within =
+    let t = c.args.self.now in let owners = c.args.cpu.now.known.seat.me.0.view.share.owners in
+    let owner = sym (owner_read t.infos.now c.args.n no_info c.requires.packet.0) in
+    subst (λ (o : ℕ). (0 < times o owners) × (o < t.senders)) owner c.requires.owner
