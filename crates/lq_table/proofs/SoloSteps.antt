@@ -1,7 +1,7 @@
 -- What the steps of the machine make of what a seat knows that has the table alone.
 use Rattle.std.proofs.Common.{◌≡◌, ℕ, ◌-◌, Bool, true, false, refl, sym, ap, ◌∙◌, subst, Option, Some, None}
 use Rattle.std.proofs.lemmas.Bool.{false≢true}
-use Rattle.std.specs.Prelude.{if◌then◌else◌, ◌&&◌, ◌==◌, is_some}
+use Rattle.std.specs.Prelude.{if◌then◌else◌, not, ◌||◌, ◌&&◌, ◌==◌, is_some}
 use Rattle.std.specs.Option.{option_map}
 use Rattle.lq_model.specs.Account.{Back, Send, Pick, Stop}
 use Rattle.lq_model.specs.declared.machine.Answer.{Answer}
@@ -19,10 +19,10 @@ use Rattle.lq_model.specs.declared.machine.Packet.{Packet}
 use Rattle.lq_model.specs.Machine.{Qdisc, Purge, is_non_empty}
 use Rattle.lq_model.specs.Control.{is_control}
 use Rattle.lq_model.specs.Positions.{in_hand}
-use Rattle.lq_model.specs.Steps.{After, step_at, begun, run_begins, goes_to, gives_up}
+use Rattle.lq_model.specs.Steps.{After, step_at, begun, run_begins, goes_to, gives_up, call_ends}
 use Rattle.lq_table.specs.Views.{View, machine_packet}
-use Rattle.lq_table.specs.Told.{seen_by, seen_state, loads_state, misses, clears_missed, clears_draining, clears_sched, sets_missed, sets_draining, looking, missing, backing, passing, setting, stepped, entering, bringing_packet, call_of, unlocks_at, unlocking, unlocking_control, unlocking_call, seen_lock, loading, picking, after_stop, is_dequeue, storing, storing_from, stop_value, settling, machine_answer}
-use Rattle.lq_table.specs.Solo.{Solo, solo, missed_to, draining_to, sched_cleared, laid, heard, entered_as, locked_to, picks, stop_found, device_to, fated_as}
+use Rattle.lq_table.specs.Told.{seen_by, seen_state, loads_state, misses, clears_missed, clears_draining, clears_sched, schedules, scheduling, sets_missed, sets_draining, looking, missing, backing, passing, setting, stepped, entering, bringing_packet, call_of, unlocks_at, unlocking, unlocking_control, unlocking_call, seen_lock, loading, picking, after_stop, is_dequeue, storing, storing_from, stop_value, settling, machine_answer}
+use Rattle.lq_table.specs.Solo.{Solo, solo, missed_to, draining_to, sched_set, sched_cleared, laid, heard, entered_as, locked_to, picks, stop_found, device_to, fated_as}
 
 either_raised : (b : Bool) (x y : After) (c : Bool) → x.seat.raised ≡ c → y.seat.raised ≡ c → (if b then x else y).seat.raised ≡ c
 either_raised true x y c e e' = e
@@ -89,6 +89,39 @@ clear_sched_leaves _ h = absurd (false≢true h)
 
 pub clears_sched_solo : (v : View) → clears_sched v.place.position ≡ true → solo (passing v) ≡ sched_cleared (solo v)
 clears_sched_solo v h = solo_step v (seen_by v) (λ q. record q { sched = false }) (clear_sched_leaves v.place.position h)
+
+-- SCHED is set
+raises : (was : Bool) (q : Qdisc) (s : Seat) (y : Position) (r : Bool) → s.raised ≡ r
+    → (if was then goes_to q s y else record { qdisc = record q { sched = true }; seat = record s { position = y; raised = true } }).seat.raised
+    ≡ (r || not was)
+raises true q s y true e = e
+raises true q s y false e = e
+raises false q s y true e = refl
+raises false q s y false e = refl
+
+sets_sched : (b : Bool) (q : Qdisc) (s : Seat) (y : Position) → q.sched ≡ b
+    → (if b then goes_to q s y else record { qdisc = record q { sched = true }; seat = record s { position = y; raised = true } }).qdisc
+    ≡ record q { sched = true }
+sets_sched true q s y e = λ j. record q { sched = e j }
+sets_sched false q s y e = refl
+
+abbrev sched_at : Bool → View → Position → View
+sched_at was v y = record v {
+  place = (step_at y Plain (record (seen_by v) { sched = was }) v.place).seat;
+  whole = record v.whole { qdisc = (step_at y Plain v.whole.qdisc v.place).qdisc };
+}
+
+pub schedules_solo : (was : Bool) (v : View) → schedules v.place.position ≡ true → solo (scheduling was v) ≡ sched_set was (solo v)
+schedules_solo was v h = by v.place.position h
+  where
+    by : (y : Position) → schedules y ≡ true → solo (sched_at was v y) ≡ sched_set was (solo v)
+    by (at.Sched inside) h =
+        let a = raises was (record (seen_by v) { sched = was }) v.place (call_ends inside) v.place.raised refl in
+        let b = sets_sched v.whole.qdisc.sched v.whole.qdisc v.place (call_ends inside) refl in λ j. record (solo v) {
+          raised = a j;
+          whole = record (solo v).whole { missed = (b j).missed; draining = (b j).draining; scheduled = (b j).sched; locked = (b j).locked };
+        }
+    by _ h = absurd (false≢true h)
 
 -- MISSED or DRAINING is set by the holder
 record Sets (y : Position) (to : Qdisc → Qdisc) : Type 0 where
