@@ -1,5 +1,7 @@
 -- What a try of the run lock, and a look at it, leave of what a seat tells at run time, and of what a seat knows that has the table alone.
-use Rattle.std.proofs.Common.{◌≡◌, ℕ, zero, suc, Bool, true, false, not, eqb, refl, ap, ◌∙◌, arith, Option}
+use mathlib.Core.Logic.{dite}
+use native.Mathlib.Decide.{ℕ_discrete}
+use Rattle.std.proofs.Common.{◌≢◌, true≢false, eq-eqb, ne_eqb, sym, sym, ◌≡◌, ℕ, zero, suc, Bool, true, false, not, eqb, refl, ap, ◌∙◌, arith, Option}
 use Rattle.std.proofs.lemmas.Bool.{false≢true}
 use Rattle.std.specs.Prelude.{if◌then◌else◌}
 use Rattle.lq_device.specs.Station.{StationState}
@@ -16,7 +18,7 @@ use Rattle.lq_table.specs.Marks.{marks_of}
 use Rattle.lq_table.specs.Views.{View, HolderPart}
 use Rattle.lq_table.specs.Rule.{holders}
 use Rattle.lq_table.specs.Told.{Sat, seen_by, seen_lock, tries_lock, got, got_in_call, got_in_control, finding_locked, tried, lock_looked}
-use Rattle.lq_table.specs.Solo.{IsAccounts, account_of, solo, locked_to}
+use Rattle.lq_table.specs.Solo.{IsAccounts, SeesLock, account_of, solo, locked_to}
 use Rattle.atomic_table.specs.Table.{Step}
 
 -- A STEP OF THE MACHINE THAT TRIES THE LOCK
@@ -105,14 +107,14 @@ gets_accounts d v e = by (is_control v.place.position)
 
 -- THE STEPS
 
+is_locked : (b : Bool) (n : ℕ) → suc n ≡ bit b → b ≡ true
+is_locked true n e = refl
+is_locked false n e = absurd (omega arith)
+
 pub try_solo : (s : Step (Option StationState)) (found : ℕ) (m m' : Sat) → tries_lock m.0.place.position ≡ true
     → tried s m found m' → found ≡ bit m.0.whole.qdisc.locked → solo m'.0 ≡ locked_to true (solo m.0)
 try_solo s zero m m' h t e = let d = t.0 refl in ap (λ (z : Sat). solo z.0) d.1 ∙ gets_solo m.0.place.position h d.0 m.0
 try_solo s (suc n) m m' h t e = ap (λ (z : Sat). solo z.0) (t.1 (omega arith)) ∙ finds_solo m.0 h (is_locked m.0.whole.qdisc.locked n e)
-  where
-    is_locked : (b : Bool) (n : ℕ) → suc n ≡ bit b → b ≡ true
-    is_locked true n e = refl
-    is_locked false n e = absurd (omega arith)
 
 pub try_marks : (s : Step (Option StationState)) (found : ℕ) (m m' : Sat) → tries_lock m.0.place.position ≡ true
     → tried s m found m' → marks_of m'.0 ≡ marks_of m.0
@@ -128,3 +130,25 @@ look_marks s (suc n) m m' h t = ap (λ (z : Sat). marks_of z.0) (t.1 (omega arit
 pub free_bit : (found : ℕ) (b : Bool) → found ≡ bit b → eqb found 0 ≡ not b
 free_bit found true e = ap (λ (n : ℕ). eqb n 0) e
 free_bit found false e = ap (λ (n : ℕ). eqb n 0) e
+
+held_bit : (found : ℕ) (b : Bool) → found ≡ bit b → not (eqb found 0) ≡ b
+held_bit found true e = ap (λ (n : ℕ). not (eqb n 0)) e
+held_bit found false e = ap (λ (n : ℕ). not (eqb n 0)) e
+
+pub look_solo : (s : Step (Option StationState)) (found : ℕ) (m m' : Sat) → tries_lock m.0.place.position ≡ true
+    → lock_looked s m found m' → found ≡ bit m.0.whole.qdisc.locked → SeesLock (not (eqb found 0)) m.0 m'.0
+look_solo s zero m m' h t e = (held_bit 0 m.0.whole.qdisc.locked e, λ held. absurd (false≢true held))
+look_solo s (suc n) m m' h t e = (
+  held_bit (suc n) m.0.whole.qdisc.locked e,
+  λ _. ap (λ (z : Sat). solo z.0) (t.1 (omega arith)) ∙ finds_solo m.0 h (is_locked m.0.whole.qdisc.locked n e),
+)
+
+pub look_slots : (s : Step (Option StationState)) (found : ℕ) (m m' : Sat) → lock_looked s m found m' → m'.1 ≡ m.1
+look_slots s zero m m' t = ap (λ (z : Sat). z.1) (t.0 refl)
+look_slots s (suc n) m m' t = ap (λ (z : Sat). z.1) (t.1 (omega arith))
+
+pub is_free : (found : ℕ) → not (eqb found 0) ≡ false → found ≡ 0
+is_free found no_ = dite (ℕ_discrete found 0) (λ e. e) (λ apart. absurd (true≢false (ap not (sym (ne_eqb found 0 apart)) ∙ no_)))
+
+pub is_held : (found : ℕ) → not (eqb found 0) ≡ true → found ≢ 0
+is_held found held e = false≢true (ap not (sym (eq-eqb found 0 e)) ∙ held)
