@@ -1,4 +1,4 @@
-use Rattle.std.proofs.Common.{◌∷◌, refl, ◌∙◌}
+use Rattle.std.proofs.Common.{ℕ, ◌<◌, ◌∷◌, refl, sym, ◌∙◌, subst}
 use Rattle.lq_table.specs.Made.{did_give_turn}
 use Rattle.lq_table.specs.Sees.{view, steps}
 use Rattle.lq_table.specs.Told.{giving_turn}
@@ -13,3 +13,9 @@ returns g c =
       given = t.given ∙ (λ j. giving_turn (owner j) (rank j) (view c.args.cpu.now));
       made = t.made ∙ (λ j. did_give_turn (owner j) (rank j) ∷ steps c.args.cpu.now);
     }
+
+pub give_turn_of-requires-clause-packet : goal.give_turn_of-requires-clause-packet
+give_turn_of-requires-clause-packet g c κs within =
+    let t = c.args.self.now in let infos = t.infos.now in let p = c.requires.packet in
+    let owner = owner_read infos c.args.n no_info p.0 in
+    (owner, rank_read infos c.args.n no_info p.0, subst (λ (o : ℕ). o < t.senders) (sym owner) p.1)
