@@ -1,14 +1,24 @@
-use Rattle.std.proofs.Common.{◌≡◌, ℕ, ◌+◌, ◌<◌, arith, sym, ◌∙◌, subst}
+use Rattle.std.proofs.Common.{◌≡◌, ℕ, ◌+◌, ◌*◌, ◌/◌, ◌<◌, ◌∷◌, false, true≢false, arith, eq-eqb, ne_eqb, refl, sym, ap, ◌∙◌, subst}
 use mathlib.Core.Option.{none}
 use Rattle.atomic_table.specs.Table.{step, Allows}
 use Rattle.lq_table.specs.Places.{producer_place}
 use Rattle.lq_table.specs.Rule.{Rule}
 use Rattle.lq_table.specs.Keyed.{keyed_setup}
-use Rattle.lq_table.specs.SolePut.{got_producer_all}
+use Rattle.lq_band.specs.Three.{at}
+use Rattle.lq_table.specs.Rings.{with_lock_at}
+use Rattle.lq_band.specs.Ring.{locked_at}
+use mathlib.Core.Logic.{dite}
+use native.Mathlib.Decide.{ℕ_discrete}
+use Rattle.lq_table.specs.Marks.{marks_of}
+use Rattle.lq_table.specs.Told.{Sat}
+use Rattle.lq_table.specs.SolePut.{got_producer_all, producer_index}
 use Rattle.lq_table.proofs.ProducerSole.{gets_producer_sole}
 use prog.Atomic.{either}
 use Rattle.std.proofs.Common.{eqb}
-use Rattle.lq_table.specs.Made.{seen}
+use Rattle.lq_table.specs.Made.{seen, exchange}
+use Rattle.lq_table.specs.Sees.{view, steps}
+use Rattle.lq_table.specs.Solo.{IsSole}
+use Rattle.std.proofs.lemmas.Bool.{false≢true}
 use Rattle.lq_table.proofs.Lifts.{lifts_exchange}
 use Rattle.lq_table.proofs.shared.Shared.take_producer_of.Goals as goal
 
@@ -22,3 +32,43 @@ compare_exchange-found-requires g c =
       lifts_exchange _ _ _ _ _ _ _ _ _ _ (subst (λ (z : ℕ × ℕ × ℕ × ℕ). Allows (Rule k) slots seat.id (seen seat.me) z.0 (λ x. either (eqb x z.1) (z.1 + 1) x) (got_producer_all z.2 g.K.Producing.index z.3 (step slots z.0 z.1 (z.1 + 1) none) (seen seat.me)))
           (λ j. (place j, sym n.1 j, n.0 j, (t.same.2 ∙ n.2) j)) (gets_producer_sole k slots seat.id (seen seat.me) b c.requires.band c.requires.seat.1 g.K.Producing.index c.requires.idle)),
     )
+
+half : (n i : ℕ) → n ≡ 2 * i → n / 2 ≡ i
+half n i e = omega arith
+
+pub invariant_of-cpu : goal.invariant_of-cpu
+invariant_of-cpu g c =
+    let x = c.compare_exchange-found in let t = x.ensures.2.told.0 in let marks = λ (m : Sat). marks_of m.0 in
+    let to = dite (ℕ_discrete x.result (2 * g.K.Producing.index)) (λ is. ap marks (t.0 is).0) (λ other. ap marks (t.1 other)) in
+    record { told = c.args.cpu.now.known.told ∙ sym to }
+
+pub returns-then-found-seen : goal.returns-then-found-seen
+returns-then-found-seen g c =
+    let old = c.args.cpu.now in let v = view old in let n = c.requires.named in let seen_ = c.args.seen in
+    let x = c.compare_exchange-found in let e = x.ensures in let is = c.if-found-seen.true in
+    let got = e.2.told.0.0 (is ∙ n.1) in let i = half seen_ g.K.Producing.index n.1 in
+    let free = subst (λ (b : ℕ). (at b v.locks).holds ≡ false) n.0 c.requires.idle in record {
+      seat = ((e.0, e.1), refl, ap (λ (m : Sat). m.1) got.0);
+      got = λ _. (
+        ap (λ (m : Sat). m.0) got.0 ∙ (λ j. with_lock_at (sym n.0 j) (locked_at (sym i j)) v),
+        c.put.ensures,
+        subst (λ (z : ℕ × ℕ). z.0 < z.1) (λ j. (sym i j, sym n.2 j)) got.1,
+      );
+      missed = λ no_. absurd (true≢false no_);
+      sole = λ sole. sym (eq-eqb seen_ _ (sym is ∙ (e.2.told.1 sole free ∙ ap (λ (b : ℕ). 2 * producer_index b v) (sym n.0))));
+      made = e.2.noted ∙ (λ j. exchange (c.producer_word-word.ensures j) seen_ (seen_ + 1) (eq-eqb x.result seen_ is j) ∷ steps old);
+    }
+
+pub returns-else-found-seen : goal.returns-else-found-seen
+returns-else-found-seen g c =
+    let old = c.args.cpu.now in let v = view old in let n = c.requires.named in let seen_ = c.args.seen in
+    let x = c.compare_exchange-found in let e = x.ensures in let apart = c.if-found-seen.false in
+    let same = e.2.told.0.1 (λ is. apart (is ∙ sym n.1)) in
+    let free = subst (λ (b : ℕ). (at b v.locks).holds ≡ false) n.0 c.requires.idle in
+    let is = λ (sole : IsSole v). e.2.told.1 sole free ∙ ap (λ (b : ℕ). 2 * producer_index b v) (sym n.0) in record {
+      seat = ((e.0, e.1), refl, ap (λ (m : Sat). m.1) same);
+      got = λ is. absurd (false≢true is);
+      missed = λ _. (ap (λ (m : Sat). m.0) same, refl);
+      sole = λ sole. sym (ne_eqb seen_ _ (λ y. apart (is sole ∙ sym y)));
+      made = e.2.noted ∙ (λ j. exchange (c.producer_word-word.ensures j) seen_ (seen_ + 1) (ne_eqb x.result seen_ apart j) ∷ steps old);
+    }
