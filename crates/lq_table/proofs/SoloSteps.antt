@@ -91,17 +91,18 @@ pub clears_sched_solo : (v : View) → clears_sched v.place.position ≡ true �
 clears_sched_solo v h = solo_step v (seen_by v) (λ q. record q { sched = false }) (clear_sched_leaves v.place.position h)
 
 -- SCHED is set
+abbrev raising : Qdisc → Seat → Position → After
+raising q s y = record { qdisc = record q { sched = true }; seat = record s { position = y; raised = true } }
+
 raises : (was : Bool) (q : Qdisc) (s : Seat) (y : Position) (r : Bool) → s.raised ≡ r
-    → (if was then goes_to q s y else record { qdisc = record q { sched = true }; seat = record s { position = y; raised = true } }).seat.raised
-    ≡ (r || not was)
+    → (if was then goes_to q s y else raising q s y).seat.raised ≡ (r || not was)
 raises true q s y true e = e
 raises true q s y false e = e
 raises false q s y true e = refl
 raises false q s y false e = refl
 
 sets_sched : (b : Bool) (q : Qdisc) (s : Seat) (y : Position) → q.sched ≡ b
-    → (if b then goes_to q s y else record { qdisc = record q { sched = true }; seat = record s { position = y; raised = true } }).qdisc
-    ≡ record q { sched = true }
+    → (if b then goes_to q s y else raising q s y).qdisc ≡ record q { sched = true }
 sets_sched true q s y e = λ j. record q { sched = e j }
 sets_sched false q s y e = refl
 
@@ -117,9 +118,10 @@ schedules_solo was v h = by v.place.position h
     by : (y : Position) → schedules y ≡ true → solo (sched_at was v y) ≡ sched_set was (solo v)
     by (at.Sched inside) h =
         let a = raises was (record (seen_by v) { sched = was }) v.place (call_ends inside) v.place.raised refl in
-        let b = sets_sched v.whole.qdisc.sched v.whole.qdisc v.place (call_ends inside) refl in λ j. record (solo v) {
+        let b = sets_sched v.whole.qdisc.sched v.whole.qdisc v.place (call_ends inside) refl in
+        let whole = (solo v).whole in λ j. record (solo v) {
           raised = a j;
-          whole = record (solo v).whole { missed = (b j).missed; draining = (b j).draining; scheduled = (b j).sched; locked = (b j).locked };
+          whole = record whole { missed = (b j).missed; draining = (b j).draining; scheduled = (b j).sched; locked = (b j).locked };
         }
     by _ h = absurd (false≢true h)
 

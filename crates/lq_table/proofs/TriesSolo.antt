@@ -1,7 +1,7 @@
 -- What a try of the run lock, and a look at it, leave of what a seat tells at run time, and of what a seat knows that has the table alone.
 use mathlib.Core.Logic.{dite}
 use native.Mathlib.Decide.{ℕ_discrete}
-use Rattle.std.proofs.Common.{◌≢◌, true≢false, eq-eqb, ne_eqb, sym, sym, ◌≡◌, ℕ, zero, suc, Bool, true, false, not, eqb, refl, ap, ◌∙◌, arith, Option}
+use Rattle.std.proofs.Common.{◌≢◌, true≢false, eq-eqb, ne_eqb, sym, ◌≡◌, ℕ, zero, suc, Bool, true, false, not, eqb, refl, ap, ◌∙◌, arith, Option}
 use Rattle.std.proofs.lemmas.Bool.{false≢true}
 use Rattle.std.specs.Prelude.{if◌then◌else◌}
 use Rattle.lq_device.specs.Station.{StationState}
