@@ -1,62 +1,73 @@
-use Rattle.std.proofs.Common.{ℕ, ◌+◌, ◌/◌, inl, inr, map, sym, ap, subst, ◌∙◌, arith}
+use Rattle.std.proofs.Common.{◌≡◌, ℕ, ◌+◌, ◌/◌, ◌<◌, ◌≤◌, Some, inl, inr, map, sym, ap, slice_get, subst, ◌∙◌, arith}
 use Rattle.std.proofs.lemmas.Bool.{cases_order}
-use Rattle.lq_model.specs.Plan.{owner_in}
+use Rattle.lq_model.specs.Plan.{Plan, owner_in}
+use Rattle.lq_model.specs.declared.plan.EventPlan.{EventPlan}
 use Rattle.lq_senders.specs.Lanes.{LaneStands}
+use Rattle.lq_senders.specs.Way.{StandBefore, StandEarlier}
 use Rattle.lq_senders.specs.Woken.{count_sent}
 use Rattle.lq_senders.proofs.Calls.{called-keep}
 use Rattle.lq_senders.proofs.Devices.{devices-kept}
 use Rattle.lq_senders.proofs.Seats.{seats-kept}
 use Rattle.lq_senders.proofs.Turns.{keep-on, seats-on}
 use Rattle.lq_senders.proofs.Woken.{woke-called}
+use Rattle.lq_senders.proofs.lane.bring.Given as given
 use Rattle.lq_senders.proofs.lane.bring.Goals as goal
+use Rattle.lq_senders.proofs.lane.bring.Goals.{After-events_of-next, After-send_packet}
+
+-- AFTER THE EVENTS BEFORE THE PACKET
+
+-- events that stood before a lower packet, and those done now
+all-before : (plan : Plan) (n next now : ℕ) → StandEarlier plan next n
+    → ((k : ℕ) (event : EventPlan) → next ≤ k → k < now → slice_get plan.events k ≡ Some event → event.before ≤ n) → StandBefore plan now n
+all-before plan n next now earlier done j event below there = elim (cases_order j next) [
+  | inl same ↦ done j event (omega arith) below there
+  | inr (inl less) ↦ (let lt = earlier j event less there in omega arith)
+  | inr (inr more) ↦ done j event (omega arith) below there
+]
+
+done : (g : given.Over) (c : After-events_of-next g) → StandBefore c.args.run.now.plan.now c.events_of-next.result c.args.n
+done g c = all-before c.args.run.now.plan.now c.args.n c.args.at.next c.events_of-next.result c.requires.earlier c.events_of-next.ensures.done
+
+stands : (g : given.Over) (c : After-events_of-next g) (s : ℕ) → c.args.sender.now.owner ≡ s → LaneStands c.args.run.now.plan.now
+    c.args.run.now.infos.now s c.events_of-next.result c.args.n c.args.run.now.tables.now c.events_of-next.new.sender.seats.items
+stands g c s own =
+    let run = c.args.run.now in let seats = c.events_of-next.new.sender.seats.items in
+    subst (λ (s : ℕ). LaneStands run.plan.now run.infos.now s c.events_of-next.result c.args.n run.tables.now seats) own
+    (c.events_of-next.ensures.stands c.args.n c.requires.stands)
+
+sent : (g : given.Over) (c : After-send_packet g) → LaneStands c.args.run.now.plan.now c.args.run.now.infos.now
+    (owner_in c.args.run.now.infos.now c.args.n) c.events_of-next.result (c.args.n + 1) c.args.run.now.tables.now c.send_packet.new.seats.items
+sent g c =
+    let at : After-events_of-next g = c.before.before.before in
+    c.send_packet.ensures.stands c.events_of-next.result (stands g at _ (sym c.requires.own))
+    (λ z. (done g at, c.events_of-next.ensures.left (sym c.requires.own ∙ z)))
+
+pub pass_before-requires-clause-stands : goal.pass_before-requires-clause-stands
+pass_before-requires-clause-stands g c κs within =
+    stands g (goal.at.pass_before-requires-clause-stands g c).After-events_of-next _ (sym c.events_of-next.ensures.owner)
+
+pub pass_before-requires-clause-events : goal.pass_before-requires-clause-events
+pass_before-requires-clause-events g c κs within zero_th =
+    (done g (goal.at.pass_before-requires-clause-events g c).After-events_of-next,
+    c.events_of-next.ensures.left (sym c.events_of-next.ensures.owner ∙ zero_th))
 
 pub send_packet-requires-clause-stands : goal.send_packet-requires-clause-stands
-send_packet-requires-clause-stands g c κs within = (
-  c.events_of-next.result,
-  subst (λ (s : ℕ). LaneStands c.args.run.now.plan.now c.args.run.now.infos.now s c.events_of-next.result c.args.n c.args.run.now.tables.now c.events_of-next.new.sender.seats.items) (sym c.requires.own)
-      (c.events_of-next.ensures.stands c.args.n c.requires.stands),
-)
+send_packet-requires-clause-stands g c κs within = (c.events_of-next.result,
+    stands g (goal.at.send_packet-requires-clause-stands g c).After-events_of-next _ (sym c.requires.own))
 
 pub turn-requires-clause-stands : goal.turn-requires-clause-stands
-turn-requires-clause-stands g c κs within = (
-  owner_in c.args.run.now.infos.now c.args.n,
-  c.events_of-next.result,
-  c.args.n + 1,
-  c.send_packet.ensures.stands c.events_of-next.result
-      (subst (λ (s : ℕ). LaneStands c.args.run.now.plan.now c.args.run.now.infos.now s c.events_of-next.result c.args.n c.args.run.now.tables.now c.events_of-next.new.sender.seats.items) (sym c.requires.own)
-      (c.events_of-next.ensures.stands c.args.n c.requires.stands))
-      (λ z. (
-        (λ j event below there. elim (cases_order j c.args.at.next) [
-          | inl same ↦ c.events_of-next.ensures.done j event (omega arith) below there
-          | inr (inl less) ↦ (let lt = c.requires.earlier j event less there in omega arith)
-          | inr (inr more) ↦ c.events_of-next.ensures.done j event (omega arith) below there
-        ]),
-        (λ j event above there. c.events_of-next.ensures.left (sym c.requires.own ∙ z) j event above there),
-      )),
-)
+turn-requires-clause-stands g c κs within = (owner_in c.args.run.now.infos.now c.args.n, c.events_of-next.result, c.args.n + 1,
+    sent g (goal.at.turn-requires-clause-stands g c).After-send_packet)
 
 pub returns-clause-done : goal.returns-clause-done
-returns-clause-done g c j event below there = elim (cases_order j c.args.at.next) [
-  | inl same ↦ c.events_of-next.ensures.done j event (omega arith) below there
-  | inr (inl less) ↦ (let lt = c.requires.earlier j event less there in omega arith)
-  | inr (inr more) ↦ c.events_of-next.ensures.done j event (omega arith) below there
-]
+returns-clause-done g c = done g (goal.at.returns-clause-done g c).After-events_of-next
 
 pub returns-clause-stands : goal.returns-clause-stands
 returns-clause-stands g c =
-    c.turn.ensures.stands c.args.sender.now.owner c.events_of-next.result (c.args.n + 1)
-    (subst (λ (s : ℕ). LaneStands c.args.run.now.plan.now c.args.run.now.infos.now s c.events_of-next.result (c.args.n + 1) c.args.run.now.tables.now c.send_packet.new.seats.items) c.requires.own
-    (c.send_packet.ensures.stands c.events_of-next.result
-    (subst (λ (s : ℕ). LaneStands c.args.run.now.plan.now c.args.run.now.infos.now s c.events_of-next.result c.args.n c.args.run.now.tables.now c.events_of-next.new.sender.seats.items) (sym c.requires.own)
-    (c.events_of-next.ensures.stands c.args.n c.requires.stands))
-    (λ z. (
-      (λ j event below there. elim (cases_order j c.args.at.next) [
-        | inl same ↦ c.events_of-next.ensures.done j event (omega arith) below there
-        | inr (inl less) ↦ (let lt = c.requires.earlier j event less there in omega arith)
-        | inr (inr more) ↦ c.events_of-next.ensures.done j event (omega arith) below there
-      ]),
-      (λ j event above there. c.events_of-next.ensures.left (sym c.requires.own ∙ z) j event above there),
-    ))))
+    let run = c.args.run.now in let next = c.events_of-next.result in let seats = c.send_packet.new.seats.items in
+    c.turn.ensures.stands c.args.sender.now.owner next (c.args.n + 1)
+    (subst (λ (s : ℕ). LaneStands run.plan.now run.infos.now s next (c.args.n + 1) run.tables.now seats) c.requires.own
+    (sent g (goal.at.returns-clause-stands g c).After-send_packet))
 
 pub returns-clause-keeps : goal.returns-clause-keeps
 returns-clause-keeps g c =
@@ -79,21 +90,6 @@ pass_before-requires-clause-own g c κs within = c.requires.own ∙ sym c.events
 
 pub pass_before-requires-clause-number : goal.pass_before-requires-clause-number
 pass_before-requires-clause-number g c κs within = c.requires.sent ∙ ap (λ (s : ℕ). count_sent c.args.run.now.infos.now s c.args.n) (sym c.events_of-next.ensures.owner)
-
-pub pass_before-requires-clause-stands : goal.pass_before-requires-clause-stands
-pass_before-requires-clause-stands g c κs within =
-    subst (λ (s : ℕ). LaneStands c.args.run.now.plan.now c.args.run.now.infos.now s c.events_of-next.result c.args.n c.args.run.now.tables.now c.events_of-next.new.sender.seats.items) (sym c.events_of-next.ensures.owner)
-    (c.events_of-next.ensures.stands c.args.n c.requires.stands)
-
-pub pass_before-requires-clause-events : goal.pass_before-requires-clause-events
-pass_before-requires-clause-events g c κs within zero_th = (
-  (λ j event below there. elim (cases_order j c.args.at.next) [
-    | inl same ↦ c.events_of-next.ensures.done j event (omega arith) below there
-    | inr (inl less) ↦ (let lt = c.requires.earlier j event less there in omega arith)
-    | inr (inr more) ↦ c.events_of-next.ensures.done j event (omega arith) below there
-  ]),
-  (λ j event above there. c.events_of-next.ensures.left (sym c.events_of-next.ensures.owner ∙ zero_th) j event above there),
-)
 
 pub returns-clause-woke : goal.returns-clause-woke
 returns-clause-woke g c start woke =
