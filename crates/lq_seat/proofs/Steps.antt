@@ -8,7 +8,7 @@ use Rattle.lq_control.specs.Comes.{ComesToEnd, SwapsFor}
 use Rattle.lq_control.specs.Control.{IsKeptByControl, IsServed, KeepsDevice}
 use Rattle.lq_control.specs.Finish.{AreAllDone}
 use Rattle.lq_model.specs.Account.{Account, Event, Join, Full, Refuse, Direct, Purge}
-use Rattle.lq_model.specs.Alone.{RunningStation, brought_in, changed, new_device, served}
+use Rattle.lq_model.specs.Alone.{RunningStation, brought_in, changed, new_device, opened, served}
 use Rattle.lq_model.specs.Device.{DeviceState}
 use Rattle.lq_model.specs.Plan.{Plan, owner_in, band_in, rank_in}
 use Rattle.lq_model.specs.declared.device.Params.{Params}
@@ -17,19 +17,20 @@ use Rattle.lq_model.specs.declared.fate.Info.{Info}
 use Rattle.lq_model.specs.declared.plan.EventKind.{EventKind}
 use Rattle.lq_model.specs.declared.plan.EventKind.TheVariants as kind
 use Rattle.lq_qdisc.specs.Alone.{BringsAlone, Does}
-use Rattle.lq_qdisc.specs.Sends.{IsCallKept, came_as, trail_with}
+use Rattle.lq_model.specs.declared.machine.Position.TheVariants.{Idle}
+use Rattle.lq_qdisc.specs.Sends.{IsCallKept, IsReadyToSend, IsStill, came_as, trail_with}
 use Rattle.lq_qdisc.specs.Steps.{TransmitsBy}
 use Rattle.lq_qdisc.specs.declared.answers.Sending.{Sending}
 use Rattle.lq_qdisc.specs.declared.answers.Sending.TheVariants as sending
-use Rattle.lq_seat.specs.Calls.{Came, Changes, DoesEvent, DoesSwap, Drains, SendsPacket}
+use Rattle.lq_seat.specs.Calls.{Came, Changes, DoesEvent, DoesSwap, Drains, SendsPacket, WakesQueues}
 use Rattle.lq_seat.specs.Ends.{EndsTrail}
-use Rattle.lq_seat.specs.Rests.{AreUnitsSmall}
-use Rattle.lq_seat.specs.Steps.{ControlsBy, DoesInterrupts, Makes, SwapsBy, Transmits}
-use Rattle.lq_seat.specs.State.{IsHere, SeatState, TableState, seat_account, seat_state, seat_seen, table_seen, solo_of, units_of}
+use Rattle.lq_seat.specs.Rests.{AreUnitsSmall, IsSeatBetween, phase_of}
+use Rattle.lq_seat.specs.Steps.{ControlsBy, DoesInterrupts, LooksAtStops, Makes, SwapsBy, Transmits}
+use Rattle.lq_seat.specs.State.{IsHere, IsWellMade, SeatState, TableState, seat_account, seat_state, seat_seen, table_seen, solo_of, units_of}
 use Rattle.lq_table.specs.Made.{Known}
-use Rattle.lq_table.specs.Sees.{IsSameSeat, known, setup, view}
+use Rattle.lq_table.specs.Sees.{IsSameSeat, known, position, setup, view}
 use Rattle.lq_table.specs.Solo.{Solo, solo}
-use Rattle.lq_table.specs.Views.{Setup, View, first_account}
+use Rattle.lq_table.specs.Views.{Setup, SharePart, View, first_account}
 use Rattle.lq_table.specs.declared.shared.Cpu.{Cpu}
 use Rattle.lq_table.specs.declared.shared.Shared.{Shared}
 
@@ -179,6 +180,26 @@ module _ {D : Type 0} (sh : Shared D) (c c' : Cpu D) (made : (view c).share.abou
     alone = does-here (λ k. served k.infos) alone;
   }
 
+  -- the queues were woken
+  pub woken-by : IsCallKept c c' → IsStill (view c) (view c') → LooksAtStops (setup sh) (known c) (known c')
+      → Does sh.infos.now (first_account (setup sh)) opened (solo (view c)) (solo (view c')) → WakesQueues (seat_seen c) (seat_seen c')
+  woken-by kept still looks alone = record {
+    is = λ i. record (seat_seen c') {
+      table = kept.seat.0 i;
+      made = (kept.share i).about;
+      shares = (kept.share i).shares;
+      owners = (kept.share i).owners;
+      first = (kept.control i).first;
+      turns = still.turns i;
+      trail = still.trail i;
+      origin = (kept.control i).origin;
+      gone = (kept.control i).gone;
+      told = kept.told i;
+    };
+    by = call-made LooksAtStops kept.seat.0 looks;
+    alone = does-here (λ k. opened) alone;
+  }
+
   pub changed-by : (plan : Plan) (event : ℕ) (kind : EventKind) → IsSameSeat c c' → IsKeptByControl (view c) (view c') → KeepsDevice (view c) (view c') → (view c').trail ≡ with_control plan event kind (view c).trail
       → Does sh.infos.now (first_account (setup sh)) (changed plan event kind) (solo (view c)) (solo (view c')) → ControlsBy event kind (setup sh) (known c) (known c')
       → Changes plan event kind (seat_seen c) (seat_seen c')
@@ -223,6 +244,23 @@ module _ {D : Type 0} (sh : Shared D) (c c' : Cpu D) (made : (view c).share.abou
     has_served = devices.has_served;
     alone = λ tells. drained-on (λ k. changed plan event (kind.Swap params)) (seat_seen c) (seat_seen c') s (ap (λ x. x.about) kept.share) (does-here (λ k. changed plan event (kind.Swap params)) (alone tells)) drains;
   }
+
+-- BETWEEN TWO CALLS
+
+-- a call that kept what the invariant speaks of left the seat between two calls
+pub between-kept : {D : Type 0} (c c' : Cpu D) → position c' ≡ Idle → IsReadyToSend c' → (view c').share ≡ (view c).share
+    → (view c').control ≡ (view c).control → (view c').trail ≡ (view c).trail → IsSeatBetween c → IsSeatBetween c'
+between-kept c c' at ready share control trail was = record {
+  live = subst (λ (s : SharePart). 0 < s.shares) (sym share) was.live;
+  at = at;
+  ready = ready;
+  phase = λ first. let before = was.phase (sym (ap (λ x. x.first) control) ∙ first) in
+      (ap (λ x. x.phase) control ∙ (before.0 ∙ ap phase_of (sym trail)), ap (λ x. x.purge) control ∙ before.1);
+  units = λ first. let before = was.units (sym (ap (λ x. x.first) control) ∙ first) in
+      subst (λ (s : SharePart). AreUnitsSmall s.about.station (units_of (view c').trail)) (sym share)
+      (subst (λ us. AreUnitsSmall (view c).share.about.station us) (ap units_of (sym trail)) before);
+  made = subst (λ (s : SharePart). IsWellMade s.about) (sym share) was.made;
+}
 
 -- EVENTS
 

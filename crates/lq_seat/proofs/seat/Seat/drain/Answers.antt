@@ -1,5 +1,5 @@
 use Rattle.std.proofs.Common.{subst}
-use Rattle.lq_seat.proofs.Steps.{drained-by, made-is}
+use Rattle.lq_seat.proofs.Steps.{between-kept, drained-by, made-is}
 use Rattle.lq_seat.proofs.seat.Seat.drain.Goals as goal
 use Rattle.lq_seat.specs.Calls.{Drains}
 use Rattle.lq_seat.specs.State.{SeatState, seat_seen}
@@ -9,3 +9,8 @@ returns g c =
     let sh = c.table.inside.shared in let cpu = c.self.inside.cpu in let now = c.drain.new.cpu in let d = c.drain.ensures in
     let made = made-is sh cpu c.args.table.now c.args.self.now c.table.view_is c.self.view_is c.requires.here in
     subst (λ (s : SeatState). Drains s (seat_seen now)) c.self.view_is (drained-by sh cpu now made d.same d.served d.drains.1 d.alone d.drains)
+
+pub invariant_of-self : goal.invariant_of-self
+invariant_of-self g c =
+    let e = c.drain.ensures in let s = e.served in
+    between-kept c.self.inside.cpu c.drain.new.cpu e.at.0 e.at.1 s.kept.share s.control s.trail c.self.invariant
