@@ -1,9 +1,12 @@
-use Rattle.std.proofs.Common.{◌≡◌, true, sym, ap, ◌∙◌, subst}
+use Rattle.std.proofs.Common.{◌≡◌, ℕ, ◌<◌, true, None, refl, sym, ap, ◌∙◌, subst, arith}
 use Rattle.lq_model.specs.Account.{Resize}
 use Rattle.lq_model.specs.Alone.{changed}
 use Rattle.lq_model.specs.declared.plan.EventKind.TheVariants as kind
 use Rattle.lq_table.specs.Views.{View, FirstPart, HolderPart, first_account}
+use Rattle.std.proofs.lemmas.Bool.Decides.{nat_tests}
+use Rattle.lq_band.specs.Ring.{IsAtRest, at_start}
 use Rattle.lq_table.specs.Controls.{beginning_control}
+use Rattle.lq_table.specs.Rule.{IsResting}
 use Rattle.lq_table.specs.Sees.{view, setup, known}
 use Rattle.lq_table.specs.Solo.{IsSole, solo, heard, locked_to}
 use Rattle.lq_table.specs.Told.{got_in_control}
@@ -68,3 +71,13 @@ returns-clause-at g c =
       ),
       (ap (λ (x : FirstPart). x.phase) control ∙ c.requires.active.0, ap (λ (x : FirstPart). x.purge) control ∙ c.requires.active.1),
     )
+
+-- the consumer of an empty ring at its start rests
+empty-rests : (len : ℕ) → 0 < len → IsAtRest len at_start
+empty-rests len positive = (omega arith, positive, refl, grind (arith, nat_tests))
+
+pub end_resize-requires-clause-rests : goal.end_resize-requires-clause-rests
+end_resize-requires-clause-rests g c _ _ =
+    let empty = empty-rests c.args.len c.requires.len.0 in
+    subst (λ (h : HolderPart). IsResting h.size h.ends × (h.resizing ≡ None))
+    (sym (ap (λ (x : View). x.holder) c.resize_all-shrunk.ensures.resizes.is)) ((empty, empty, empty), refl)
