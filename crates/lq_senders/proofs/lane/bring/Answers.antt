@@ -47,17 +47,24 @@ pass_before-requires-clause-stands g c κs within =
     stands g (goal.at.pass_before-requires-clause-stands g c).After-events_of-next _ (sym c.events_of-next.ensures.owner)
 
 pub pass_before-requires-clause-events : goal.pass_before-requires-clause-events
-pass_before-requires-clause-events g c κs within zero_th =
-    (done g (goal.at.pass_before-requires-clause-events g c).After-events_of-next,
-    c.events_of-next.ensures.left (sym c.events_of-next.ensures.owner ∙ zero_th))
+pass_before-requires-clause-events g c κs within zero_th = (
+  done g (goal.at.pass_before-requires-clause-events g c).After-events_of-next,
+  c.events_of-next.ensures.left (sym c.events_of-next.ensures.owner ∙ zero_th),
+)
 
 pub send_packet-requires-clause-stands : goal.send_packet-requires-clause-stands
-send_packet-requires-clause-stands g c κs within = (c.events_of-next.result,
-    stands g (goal.at.send_packet-requires-clause-stands g c).After-events_of-next _ (sym c.requires.own))
+send_packet-requires-clause-stands g c κs within = (
+  c.events_of-next.result,
+  stands g (goal.at.send_packet-requires-clause-stands g c).After-events_of-next _ (sym c.requires.own),
+)
 
 pub turn-requires-clause-stands : goal.turn-requires-clause-stands
-turn-requires-clause-stands g c κs within = (owner_in c.args.run.now.infos.now c.args.n, c.events_of-next.result, c.args.n + 1,
-    sent g (goal.at.turn-requires-clause-stands g c).After-send_packet)
+turn-requires-clause-stands g c κs within = (
+  owner_in c.args.run.now.infos.now c.args.n,
+  c.events_of-next.result,
+  c.args.n + 1,
+  sent g (goal.at.turn-requires-clause-stands g c).After-send_packet,
+)
 
 pub returns-clause-done : goal.returns-clause-done
 returns-clause-done g c = done g (goal.at.returns-clause-done g c).After-events_of-next
