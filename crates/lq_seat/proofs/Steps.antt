@@ -26,7 +26,8 @@ use Rattle.lq_seat.specs.Calls.{Came, Changes, DoesEvent, DoesSwap, Drains, Send
 use Rattle.lq_seat.specs.Ends.{EndsTrail}
 use Rattle.lq_seat.specs.Rests.{AreUnitsSmall, IsSeatBetween, phase_of}
 use Rattle.lq_seat.specs.Steps.{ControlsBy, DoesInterrupts, LooksAtStops, Makes, SwapsBy, Transmits}
-use Rattle.lq_seat.specs.State.{IsHere, IsWellMade, SeatState, TableState, seat_account, seat_state, seat_seen, table_seen, solo_of, units_of}
+use Rattle.lq_seat.specs.State.{IsHere, IsWellMade, SeatState, TableState}
+use Rattle.lq_seat.specs.State.{seat_account, seat_state, seat_seen, table_seen, solo_of, units_of}
 use Rattle.lq_table.specs.Made.{Known}
 use Rattle.lq_table.specs.Sees.{IsSameSeat, known, position, setup, view}
 use Rattle.lq_table.specs.Solo.{Solo, solo}

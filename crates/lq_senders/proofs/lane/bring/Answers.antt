@@ -26,7 +26,8 @@ all-before plan n next now earlier done j event below there = elim (cases_order 
 ]
 
 done : (g : given.Over) (c : After-events_of-next g) → StandBefore c.args.run.now.plan.now c.events_of-next.result c.args.n
-done g c = all-before c.args.run.now.plan.now c.args.n c.args.at.next c.events_of-next.result c.requires.earlier c.events_of-next.ensures.done
+done g c =
+    all-before c.args.run.now.plan.now c.args.n c.args.at.next c.events_of-next.result c.requires.earlier c.events_of-next.ensures.done
 
 stands : (g : given.Over) (c : After-events_of-next g) (s : ℕ) → c.args.sender.now.owner ≡ s → LaneStands c.args.run.now.plan.now
     c.args.run.now.infos.now s c.events_of-next.result c.args.n c.args.run.now.tables.now c.events_of-next.new.sender.seats.items
@@ -35,8 +36,9 @@ stands g c s own =
     subst (λ (s : ℕ). LaneStands run.plan.now run.infos.now s c.events_of-next.result c.args.n run.tables.now seats) own
     (c.events_of-next.ensures.stands c.args.n c.requires.stands)
 
-sent : (g : given.Over) (c : After-send_packet g) → LaneStands c.args.run.now.plan.now c.args.run.now.infos.now
-    (owner_in c.args.run.now.infos.now c.args.n) c.events_of-next.result (c.args.n + 1) c.args.run.now.tables.now c.send_packet.new.seats.items
+sent : (g : given.Over) (c : After-send_packet g)
+    → LaneStands c.args.run.now.plan.now c.args.run.now.infos.now (owner_in c.args.run.now.infos.now c.args.n)
+    c.events_of-next.result (c.args.n + 1) c.args.run.now.tables.now c.send_packet.new.seats.items
 sent g c =
     let at : After-events_of-next g = c.before.before.before in
     c.send_packet.ensures.stands c.events_of-next.result (stands g at _ (sym c.requires.own))
