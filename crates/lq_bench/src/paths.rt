@@ -5,7 +5,7 @@ use crate::four::timed_four;
 use crate::packets::{packets, table};
 use crate::path::Path;
 use crate::senders::{Losses, OWNERS, Work, at_most, send_own};
-use crate::table::show;
+use crate::table::{Measured, show};
 use lq_device::TxDevice;
 use lq_model::Info;
 use lq_table::{Cpu, Shared};
@@ -46,16 +46,14 @@ fn timed<'a, R: Wait + Clock, D: TxDevice>(
 fn show_sent<R: Runtime>(
     rt: &R,
     path: Path,
-    threads: u32,
-    time: Duration,
+    measured: Measured,
     losses: Losses,
-    count: u32,
     shows: bool,
 ) -> io::Result<()> {
     if losses.unsent != 0 {
         return Err(io::ErrorKind::Other.into());
     }
-    show(rt, path.name(), threads, time, count, shows)?;
+    show(rt, path.name(), measured, shows)?;
     if shows {
         println!(rt; "    dropped: {}", losses.dropped)?;
     }
@@ -75,7 +73,12 @@ fn measure_alone<R: Runtime + AllocGlobal + Wait>(
     };
     prepare(path, &shared, &mut cpu);
     let (time, losses) = timed(rt, &shared, &mut cpu, path.work(count))?;
-    show_sent(rt, path, 1, time, losses, count, shows)
+    let measured = Measured {
+        threads: 1,
+        count,
+        time,
+    };
+    show_sent(rt, path, measured, losses, shows)
 }
 
 /// So many packets of each owner, on a table of their own, by four senders at once.
@@ -91,7 +94,12 @@ fn measure_four<R: Runtime + AllocGlobal + Wait + Threads + Sync>(
     };
     prepare(path, &shared, &mut first);
     let (time, losses) = timed_four(rt, &shared, first, path.work(count))?;
-    show_sent(rt, path, OWNERS, time, losses, count, shows)
+    let measured = Measured {
+        threads: OWNERS as usize,
+        count,
+        time,
+    };
+    show_sent(rt, path, measured, losses, shows)
 }
 
 /// The cost of each path, with so many packets of an owner but 250,000 at most: by one seat alone, and by four at once.

@@ -30,26 +30,32 @@ const PLAN: StationPlan = StationPlan {
     queues: 1,
 };
 
-/// Tenths of a nanosecond that a round took.
-fn tenths_a_round(time: Duration, count: u32) -> u128 {
-    if count == 0 {
-        0
-    } else {
-        time.as_nanos() * 10 / count as u128
+/// What was measured: rounds, by so many threads at once.
+#[derive(Clone, Copy, Drop)]
+pub struct Measured {
+    pub threads: usize,
+    /// How many rounds each thread made.
+    pub count: u32,
+    /// How long they took.
+    pub time: Duration,
+}
+
+impl Measured {
+    /// Tenths of a nanosecond that a round took.
+    fn tenths_a_round(self) -> u128 {
+        if self.count == 0 {
+            0
+        } else {
+            self.time.as_nanos() * 10 / self.count as u128
+        }
     }
 }
 
 /// A line on what was measured: its name, and the time where it is asked for.
-pub fn show<R: Runtime>(
-    rt: &R,
-    name: &str,
-    threads: u32,
-    time: Duration,
-    count: u32,
-    shows: bool,
-) -> io::Result<()> {
+pub fn show<R: Runtime>(rt: &R, name: &str, measured: Measured, shows: bool) -> io::Result<()> {
+    let threads = measured.threads;
     if shows {
-        let tenths = tenths_a_round(time, count);
+        let tenths = measured.tenths_a_round();
         println!(rt;
             "{name}, {threads} at once: {}.{} ns",
             tenths / 10,
@@ -121,7 +127,12 @@ fn measure_control<'a, R: Runtime, D: TxDevice>(
 {
     for kind in [Holding::Lock, Holding::Station] {
         let time = timed_control(rt, kind, shared, cpu, count)?;
-        show(rt, kind.name(), 1, time, count, shows)?;
+        let measured = Measured {
+            threads: 1,
+            count,
+            time,
+        };
+        show(rt, kind.name(), measured, shows)?;
     }
     Ok(())
 }
@@ -138,7 +149,12 @@ fn measure_alone<'a, R: Runtime, D: TxDevice>(
 {
     for kind in [Kind::Load, Kind::Wake, Kind::Produce] {
         let time = timed_alone(rt, kind, shared, cpu, count)?;
-        show(rt, kind.name(), 1, time, count, shows)?;
+        let measured = Measured {
+            threads: 1,
+            count,
+            time,
+        };
+        show(rt, kind.name(), measured, shows)?;
     }
     Ok(())
 }
@@ -155,7 +171,12 @@ fn measure_four<'a, R: Runtime + Threads + Sync, D: TxDevice>(
 {
     for kind in [Kind::Load, Kind::Wake, Kind::Produce] {
         let time = timed(rt, kind, shared, cpus, count)?;
-        show(rt, kind.name(), SEATS, time, count, shows)?;
+        let measured = Measured {
+            threads: cpus.len(),
+            count,
+            time,
+        };
+        show(rt, kind.name(), measured, shows)?;
     }
     Ok(())
 }

@@ -2,7 +2,7 @@
 ghost use Rattle.std.specs.Prelude.{◌≡◌, ◌<◌, All, IfOk, OnOk};
 ghost use Rattle.lq_bench.specs.Words.{IsStepperAt};
 
-use crate::table::show;
+use crate::table::{Measured, show};
 use atomic_table::{Play, Seat, Shared, Split, Table, TableRule};
 use std::alloc::{AllocError, Global};
 use std::marker::Sync;
@@ -160,7 +160,6 @@ fn measure_each<R: Runtime + Threads + Sync>(
     rt: &R,
     table: &Word,
     steppers: &mut [Stepper],
-    threads: u32,
     count: u32,
     shows: bool,
 ) -> io::Result<()>
@@ -178,7 +177,12 @@ fn measure_each<R: Runtime + Threads + Sync>(
         Operation::Or,
     ] {
         let time = timed(rt, operation, table, steppers, count)?;
-        show(rt, operation.name(), threads, time, count, shows)?;
+        let measured = Measured {
+            threads: steppers.len(),
+            count,
+            time,
+        };
+        show(rt, operation.name(), measured, shows)?;
     }
     Ok(())
 }
@@ -226,14 +230,7 @@ fn measure_by<R: Runtime + AllocGlobal + Threads + Sync>(
     let Ok(mut seats) = seats_of(rt.alloc(), &table.shared, first, others) else {
         return Err(io::ErrorKind::OutOfMemory.into());
     };
-    measure_each(
-        rt,
-        &table.shared,
-        seats.as_mut_slice(),
-        others + 1,
-        count,
-        shows,
-    )
+    measure_each(rt, &table.shared, seats.as_mut_slice(), count, shows)
 }
 
 /// Each kind of step, alone and by four threads on the same word.
