@@ -27,7 +27,6 @@ fn table<'a, A: Abort>(
     alloc: Global,
     infos: &'a [Info],
     plan: StationPlan,
-    queues: u32,
 ) -> (Shared<'a, BenchDevice>, Cpu<BenchDevice>)
     ensures { IsFirstOwnerAtRest result.0 result.1 }
 {
@@ -35,16 +34,15 @@ fn table<'a, A: Abort>(
     assert!(rt; 0 < plan.len);
     assert!(rt; plan.len <= plan.max_len);
     assert!(rt; plan.max_len <= 100);
-    assert!(rt; 0 < queues);
-    assert!(rt; queues <= 8);
-    check_packets(rt, infos, queues);
+    assert!(rt; 0 < plan.queues);
+    assert!(rt; plan.queues <= 8);
+    check_packets(rt, infos, plan.queues);
     let mut device = BenchDevice::new(alloc);
     device
         .configure(&plan.params, infos.len())
         .expect(rt, "memory");
     let station = Station::new(0, device);
-    let plan = StationPlan { queues, ..plan };
-    Shared::make(alloc, infos, 0, plan, queues, 2, station)
+    Shared::make(alloc, infos, 0, plan, plan.queues, 2, station)
         .ok()
         .expect(rt, "memory")
 }
@@ -135,23 +133,34 @@ fn close<'a, A: Abort, D: TxDevice>(
     closed
 }
 
-/// Sends packets of these bands and queues, wakes as often as `wakes` says, and compares what became of each.
+/// What is played: a station, the packets that are sent to it, and how often it is woken after them.
+#[derive(Drop)]
+struct Scene<'a> {
+    plan: StationPlan,
+    infos: &'a [Info],
+    wakes: u32,
+}
+
+/// What each packet is answered, and what becomes of it.
+#[derive(Drop)]
+struct Outcome<'a> {
+    answers: &'a [Sending],
+    fates: &'a [Option<Fate>],
+}
+
+/// Plays a scene, and compares what came of it.
 fn play<A: Abort + Wait>(
     rt: &A,
     alloc: Global,
-    infos: &[Info],
-    plan: StationPlan,
-    queues: u32,
-    answers: &[Sending],
-    wakes: u32,
-    fates: &[Option<Fate>],
+    scene: &Scene<'_>,
+    expected: &Outcome<'_>,
 ) -> Closed<BenchDevice>
-    requires few { length answers.now ≤ 100 }
+    requires few { length expected.now.answers.now ≤ 100 }
 {
-    let (shared, mut cpu) = table(rt, alloc, infos, plan, queues);
-    send_all(rt, &shared, &mut cpu, answers);
-    wake(&shared, &mut cpu, wakes);
-    close(rt, shared, cpu, fates)
+    let (shared, mut cpu) = table(rt, alloc, scene.infos, scene.plan);
+    send_all(rt, &shared, &mut cpu, expected.answers);
+    wake(&shared, &mut cpu, scene.wakes);
+    close(rt, shared, cpu, expected.fates)
 }
 
 // Packet 0 stops the queue, and packet 1 is requeued. It is served first, and then the bands from the lowest on.
@@ -163,7 +172,7 @@ fn stopped_queue_requeues(rt: HostRuntime) {
         info_at(2, 1, 0),
         info_at(3, 0, 0),
     ];
-    let (shared, mut cpu) = table(&rt, rt.alloc(), &infos, plan(8, true, STOPPING), 1);
+    let (shared, mut cpu) = table(&rt, rt.alloc(), &infos, plan(8, true, STOPPING));
     assert_eq!(rt;
         send(&rt, &shared, &mut cpu, 1),
         Sending::OutOfTurn { found: 0 }
@@ -192,12 +201,15 @@ fn stopped_queue_without_bypass(rt: HostRuntime) {
     play(
         &rt,
         rt.alloc(),
-        &infos,
-        plan(8, false, STOPPING),
-        1,
-        &answers,
-        3,
-        &fates,
+        &Scene {
+            plan: plan(8, false, STOPPING),
+            infos: &infos,
+            wakes: 3,
+        },
+        &Outcome {
+            answers: &answers,
+            fates: &fates,
+        },
     );
 }
 
@@ -220,12 +232,15 @@ fn busy_device_requeues(rt: HostRuntime) {
     play(
         &rt,
         rt.alloc(),
-        &infos,
-        plan(8, true, busy),
-        1,
-        &[Sending::Direct; 5],
-        0,
-        &fates,
+        &Scene {
+            plan: plan(8, true, busy),
+            infos: &infos,
+            wakes: 0,
+        },
+        &Outcome {
+            answers: &[Sending::Direct; 5],
+            fates: &fates,
+        },
     );
 }
 
@@ -252,12 +267,15 @@ fn hung_device_keeps_its_packets(rt: HostRuntime) {
     let closed = play(
         &rt,
         rt.alloc(),
-        &infos,
-        plan(8, true, hanging),
-        1,
-        &answers,
-        2,
-        &fates,
+        &Scene {
+            plan: plan(8, true, hanging),
+            infos: &infos,
+            wakes: 2,
+        },
+        &Outcome {
+            answers: &answers,
+            fates: &fates,
+        },
     );
     let words = closed.words();
     assert_eq!(rt; (words.xoff, words.lock, words.inside), (2, 0, 0));
@@ -281,12 +299,15 @@ fn full_band_drops(rt: HostRuntime) {
     play(
         &rt,
         rt.alloc(),
-        &infos,
-        plan(1, true, STOPPING),
-        1,
-        &answers,
-        2,
-        &fates,
+        &Scene {
+            plan: plan(1, true, STOPPING),
+            infos: &infos,
+            wakes: 2,
+        },
+        &Outcome {
+            answers: &answers,
+            fates: &fates,
+        },
     );
 }
 
@@ -323,11 +344,17 @@ fn two_queues_stop_apart(rt: HostRuntime) {
     play(
         &rt,
         rt.alloc(),
-        &infos,
-        plan(8, true, stopping),
-        2,
-        &answers,
-        3,
-        &fates,
+        &Scene {
+            plan: StationPlan {
+                queues: 2,
+                ..plan(8, true, stopping)
+            },
+            infos: &infos,
+            wakes: 3,
+        },
+        &Outcome {
+            answers: &answers,
+            fates: &fates,
+        },
     );
 }

@@ -59,24 +59,33 @@ fn begun<A: Abort, D: TxDevice>(rt: &A, device: D, infos: &[Info]) -> D
     device
 }
 
+/// Control: the first seat, and the devices that it swaps.
+#[derive(Drop)]
+struct Control<D: TxDevice> {
+    cpu: Cpu<D>,
+    /// The devices that came back, by unit.
+    back: Vec<D>,
+    /// The devices that are left.
+    fresh: Vec<D>,
+}
+
 /// The device of the station is swapped, for one of the next unit.
 fn swap_device<'a, A: Abort + Wait, D: TxDevice>(
     rt: &A,
     shared: &Shared<'a, D>,
-    cpu: &mut Cpu<D>,
-    old: &mut Vec<D>,
-    fresh: D,
+    control: &mut Control<D>,
     event: u32,
 )
-    requires first { IsFirstAfterSwaps (length old.old.items) shared.now cpu.old }
-    ensures first { IsFirstAfterSwaps (length old.new.items) shared.now cpu.new }
+    requires first { IsFirstAfterSwaps (length control.old.back.items) shared.now control.old.cpu }
+    ensures first { IsFirstAfterSwaps (length control.new.back.items) shared.now control.new.cpu }
 {
     assert!(rt; shared.number() == 0);
-    assert!(rt; old.len() < 255);
-    let unit = old.len() as u32 + 1;
-    let new = begun(rt, fresh, shared.infos());
-    let back = swap(rt, shared, cpu, unit, new, event);
-    old.push(back).expect(rt, "memory");
+    assert!(rt; control.back.len() < 255);
+    let unit = control.back.len() as u32 + 1;
+    let next = control.fresh.pop().expect(rt, "a device");
+    let new = begun(rt, next, shared.infos());
+    let back = swap(rt, shared, &mut control.cpu, unit, new, event);
+    control.back.push(back).expect(rt, "memory");
 }
 
 /// One call of control: a resize, a deactivation and an activation, a change of the queue length, and a swap in turn. It
@@ -84,66 +93,53 @@ fn swap_device<'a, A: Abort + Wait, D: TxDevice>(
 fn control_once<'a, A: Abort + Wait, D: TxDevice>(
     rt: &A,
     shared: &Shared<'a, D>,
-    cpu: &mut Cpu<D>,
-    old: &mut Vec<D>,
-    fresh: &mut Vec<D>,
+    control: &mut Control<D>,
     event: u32,
 ) -> Option<u32>
-    requires first { IsFirstAfterSwaps (length old.old.items) shared.now cpu.old }
-    ensures first { IsFirstAfterSwaps (length old.new.items) shared.now cpu.new }
+    requires first { IsFirstAfterSwaps (length control.old.back.items) shared.now control.old.cpu }
+    ensures first { IsFirstAfterSwaps (length control.new.back.items) shared.now control.new.cpu }
 {
     let len = 1 + event / 4 % LEN;
     assert!(rt; len <= shared.max_len());
     match event % 4 {
-        0 => Some(resize(rt, shared, cpu, len, event)),
+        0 => Some(resize(rt, shared, &mut control.cpu, len, event)),
         1 => {
-            let purged = down(rt, shared, cpu, event);
-            up(shared, cpu);
+            let purged = down(rt, shared, &mut control.cpu, event);
+            up(shared, &mut control.cpu);
             Some(purged)
         }
-        2 => Some(tx_queue_len(rt, shared, cpu, len, event)),
+        2 => Some(tx_queue_len(rt, shared, &mut control.cpu, len, event)),
         _ => {
-            let next = fresh.pop().expect(rt, "a device");
-            swap_device(rt, shared, cpu, old, next, event);
+            swap_device(rt, shared, control, event);
             None
         }
     }
 }
 
-/// What control did: the devices that came back, by unit, and what each round answered.
+/// What control did: where it ended, and what each round answered.
 #[derive(Drop)]
 struct Done<D: TxDevice> {
-    cpu: Cpu<D>,
-    old: Vec<D>,
-    /// The devices that are left.
-    fresh: Vec<D>,
+    control: Control<D>,
     lost: Vec<Option<u32>>,
 }
 
 /// All rounds of control, with an interrupt of the driver after each.
-fn control<'a, A: Abort + Wait, D: TxDevice>(
+fn all_rounds<'a, A: Abort + Wait, D: TxDevice>(
     rt: &A,
     alloc: Global,
     shared: &Shared<'a, D>,
-    mut cpu: Cpu<D>,
-    mut fresh: Vec<D>,
+    mut control: Control<D>,
 ) -> Done<D>
-    requires first { IsFirst Active [] shared.now cpu }
-    ensures first { IsFirstAfterSwaps (length result.old.items) shared.now result.cpu }
+    requires first { IsFirstAfterSwaps (length control.back.items) shared.now control.cpu }
+    ensures first { IsFirstAfterSwaps (length result.control.back.items) shared.now result.control.cpu }
 {
-    let mut old = Vec::new(alloc);
     let mut lost = Vec::new(alloc);
     for event in 0..ROUNDS {
-        let count = control_once(rt, shared, &mut cpu, &mut old, &mut fresh, event);
+        let count = control_once(rt, shared, &mut control, event);
         lost.push(count).expect(rt, "memory");
-        wake(rt, shared, &mut cpu);
+        wake(rt, shared, &mut control.cpu);
     }
-    Done {
-        cpu,
-        old,
-        fresh,
-        lost,
-    }
+    Done { control, lost }
 }
 
 /// A sender sends its packets, and wakes the queue from time to time.
@@ -211,21 +207,20 @@ fn control_and_send<'a, R: Abort + Threads + Wait + Sync, D: TxDevice>(
     rt: &R,
     alloc: Global,
     shared: &Shared<'a, D>,
-    first: Cpu<D>,
-    fresh: Vec<D>,
+    control: Control<D>,
     sender: Sender<D>,
 ) -> (Done<D>, Sender<D>)
-    requires first { IsFirst Active [] shared.now first }
+    requires first { IsFirstAfterSwaps (length control.back.items) shared.now control.cpu }
     requires sender { IsSender shared.now sender.owner sender.cpu }
-    ensures first { IsFirstAfterSwaps (length result.0.old.items) shared.now result.0.cpu }
+    ensures first { IsFirstAfterSwaps (length result.0.control.back.items) shared.now result.0.control.cpu }
     ensures done { IsDone shared.now result.1.cpu }
 {
     thread::join(
         rt,
         move || -> Done<D>
-            requires { IsFirst Active [] shared.now first }
-            ensures { IsFirstAfterSwaps (length result.old.items) shared.entry.now result.cpu }
-        { control(rt, alloc, shared, first, fresh) },
+            requires { IsFirstAfterSwaps (length control.back.items) shared.now control.cpu }
+            ensures { IsFirstAfterSwaps (length result.control.back.items) shared.entry.now result.control.cpu }
+        { all_rounds(rt, alloc, shared, control) },
         move || -> Sender<D>
             requires { IsSender shared.now sender.owner sender.cpu }
             ensures { IsDone shared.entry.now result.cpu }
@@ -233,36 +228,43 @@ fn control_and_send<'a, R: Abort + Threads + Wait + Sync, D: TxDevice>(
     )
 }
 
+/// The seats of the three senders.
+#[derive(Drop)]
+struct Senders<D: TxDevice> {
+    low: Sender<D>,
+    mid: Sender<D>,
+    high: Sender<D>,
+}
+
 /// All four side by side.
 fn run<'a, R: Abort + Threads + Wait + Sync, D: TxDevice>(
     rt: &R,
     alloc: Global,
     shared: &Shared<'a, D>,
-    first: Cpu<D>,
-    fresh: Vec<D>,
-    low: Sender<D>,
-    mid: Sender<D>,
-    high: Sender<D>,
-) -> ((Done<D>, Sender<D>), (Sender<D>, Sender<D>))
-    requires first { IsFirst Active [] shared.now first }
-    requires low { IsSender shared.now low.owner low.cpu }
-    requires mid { IsSender shared.now mid.owner mid.cpu }
-    requires high { IsSender shared.now high.owner high.cpu }
-    ensures first { IsFirstAfterSwaps (length result.0.0.old.items) shared.now result.0.0.cpu }
-    ensures low { IsDone shared.now result.0.1.cpu }
-    ensures others { IsDone shared.now result.1.0.cpu × IsDone shared.now result.1.1.cpu }
+    control: Control<D>,
+    senders: Senders<D>,
+) -> (Done<D>, Senders<D>)
+    requires first { IsFirstAfterSwaps (length control.back.items) shared.now control.cpu }
+    requires low { IsSender shared.now senders.low.owner senders.low.cpu }
+    requires mid { IsSender shared.now senders.mid.owner senders.mid.cpu }
+    requires high { IsSender shared.now senders.high.owner senders.high.cpu }
+    ensures first { IsFirstAfterSwaps (length result.0.control.back.items) shared.now result.0.control.cpu }
+    ensures low { IsDone shared.now result.1.low.cpu }
+    ensures others { IsDone shared.now result.1.mid.cpu × IsDone shared.now result.1.high.cpu }
 {
-    thread::join(
+    let Senders { low, mid, high } = senders;
+    let ((done, low), (mid, high)) = thread::join(
         rt,
         move || -> (Done<D>, Sender<D>)
-            requires { IsFirst Active [] shared.now first × IsSender shared.now low.owner low.cpu }
-            ensures { IsFirstAfterSwaps (length result.0.old.items) shared.entry.now result.0.cpu × IsDone shared.entry.now result.1.cpu }
-        { control_and_send(rt, alloc, shared, first, fresh, low) },
+            requires { IsFirstAfterSwaps (length control.back.items) shared.now control.cpu × IsSender shared.now low.owner low.cpu }
+            ensures { IsFirstAfterSwaps (length result.0.control.back.items) shared.entry.now result.0.control.cpu × IsDone shared.entry.now result.1.cpu }
+        { control_and_send(rt, alloc, shared, control, low) },
         move || -> (Sender<D>, Sender<D>)
             requires { IsSender shared.now mid.owner mid.cpu × IsSender shared.now high.owner high.cpu }
             ensures { IsDone shared.entry.now result.0.cpu × IsDone shared.entry.now result.1.cpu }
         { two_send(rt, shared, mid, high) },
-    )
+    );
+    (done, Senders { low, mid, high })
 }
 
 /// A seat is split off for a sender.
@@ -368,25 +370,31 @@ fn check_lost<A: Abort>(rt: &A, fates: &[Fate], lost: &[Option<u32>]) {
 fn control_beside_three_senders(rt: HostRuntime) {
     let infos = packets(&rt, rt.alloc(), PACKETS, true);
     let (shared, mut first) = table(&rt, rt.alloc(), &infos, LEN, BURST);
-    let low = split_sender(&shared, &mut first, 1);
-    let mid = split_sender(&shared, &mut first, 2);
-    let high = split_sender(&shared, &mut first, 3);
-    let fresh = devices(&rt, rt.alloc(), ROUNDS / 4 + 1);
-    let ((done, low), (mid, high)) = run(&rt, rt.alloc(), &shared, first, fresh, low, mid, high);
-    let Done {
-        mut cpu,
-        mut old,
-        mut fresh,
-        lost,
-    } = done;
-    join_sender(&shared, &mut cpu, low);
-    join_sender(&shared, &mut cpu, mid);
-    join_sender(&shared, &mut cpu, high);
-    let last = fresh.pop().expect(&rt, "a device");
-    swap_device(&rt, &shared, &mut cpu, &mut old, last, ROUNDS);
-    wake(&rt, &shared, &mut cpu);
+    let senders = Senders {
+        low: split_sender(&shared, &mut first, 1),
+        mid: split_sender(&shared, &mut first, 2),
+        high: split_sender(&shared, &mut first, 3),
+    };
+    let control = Control {
+        cpu: first,
+        back: Vec::new(rt.alloc()),
+        fresh: devices(&rt, rt.alloc(), ROUNDS / 4 + 1),
+    };
+    let (done, senders) = run(&rt, rt.alloc(), &shared, control, senders);
+    let Done { mut control, lost } = done;
+    let Senders { low, mid, high } = senders;
+    join_sender(&shared, &mut control.cpu, low);
+    join_sender(&shared, &mut control.cpu, mid);
+    join_sender(&shared, &mut control.cpu, high);
+    swap_device(&rt, &shared, &mut control, ROUNDS);
+    wake(&rt, &shared, &mut control.cpu);
+    let Control {
+        cpu,
+        back,
+        fresh: _,
+    } = control;
     let fates = fates(&rt, rt.alloc(), shared, cpu);
-    let sent = check_fates(&rt, &fates, &old);
-    assert_eq!(rt; check_order(&rt, &infos, &old), sent);
+    let sent = check_fates(&rt, &fates, &back);
+    assert_eq!(rt; check_order(&rt, &infos, &back), sent);
     check_lost(&rt, &fates, &lost);
 }

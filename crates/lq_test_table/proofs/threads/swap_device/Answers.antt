@@ -8,9 +8,9 @@ use Rattle.lq_test_table.proofs.threads.swap_device.Goals as goal
 
 pub swap-back-requires-clause-unit : goal.swap-back-requires-clause-unit
 swap-back-requires-clause-unit g c _ _ =
-    let many : length c.args.old.now.items ≡ c.len-2.result = omega (arith, c.args.old.now.ok.0) in
-    let trail = (view c.args.cpu.now).trail in
-    let after = counted_after c.args.shared.now.station (length c.args.old.now.items) trail (search rules) c.requires.first.brought in
+    let many : length c.args.control.now.back.items ≡ c.len-2.result = omega (arith, c.args.control.now.back.ok.0) in
+    let trail = (view c.args.control.now.cpu).trail in
+    let after = counted_after c.args.shared.now.station (length c.args.control.now.back.items) trail (search rules) c.requires.first.brought in
     ((omega arith), subst (λ (n : ℕ). IsAfterUnits c.args.shared.now.station trail (n + 1)) many after)
 
 pub swap-back-requires-clause-device : goal.swap-back-requires-clause-device
@@ -21,7 +21,7 @@ swap-back-requires-clause-device g c _ _ =
 
 pub returns : goal.returns
 returns g c =
-    let many : length c.args.old.now.items ≡ c.len-2.result = omega (arith, c.args.old.now.ok.0) in let s = c.swap-back.ensures in
-    let grown : length c.push.new.self.items ≡ length c.args.old.now.items + 1 = grind (arith, common_steps, c.push.ensures.items, c.expect.ensures) in record {
-      first = first_swapped c.args.shared.now c.args.cpu.now c.swap-back.new.cpu (length c.args.old.now.items) (c.len-2.result + 1) _ _ _ c.requires.first s.same.0 s.same.1 s.at.0 s.at.1 s.at.2 s.trail (omega arith) grown;
+    let many : length c.args.control.now.back.items ≡ c.len-2.result = omega (arith, c.args.control.now.back.ok.0) in let s = c.swap-back.ensures in
+    let grown : length c.push.new.self.items ≡ length c.args.control.now.back.items + 1 = grind (arith, common_steps, c.push.ensures.items, c.expect.ensures) in record {
+      first = first_swapped c.args.shared.now c.args.control.now.cpu c.swap-back.new.cpu (length c.args.control.now.back.items) (c.len-2.result + 1) _ _ _ c.requires.first s.same.0 s.same.1 s.at.0 s.at.1 s.at.2 s.trail (omega arith) grown;
     }
