@@ -11,6 +11,6 @@ mod top;
 mod trace;
 
 pub use lq_files::Status;
-pub use lq_senders::{Free, Gate};
+pub use lq_senders::{Free, Gate, Resources};
 pub use program::{run_program, run_words};
 pub use top::lqtx;
