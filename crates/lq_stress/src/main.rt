@@ -9,8 +9,8 @@ mod taps;
 use crate::plans::PLANS;
 use crate::taps::{TapSum, tap_round};
 use lq_pcap::gen_capture;
-use lq_test_fixture::{RUN, call, check_run, host_of};
-use lq_top::{Free, Status};
+use lq_test_fixture::{RUN, call, check_run, host_of, unheld};
+use lq_top::Status;
 use std::io::Write;
 use std::marker::Sync;
 use std::rt::Runtime;
@@ -57,7 +57,7 @@ fn run_once<R: Runtime + AllocGlobal + Wait + Threads + Sync>(
     let alloc = rt.alloc();
     let capture = gen_capture(alloc, number, packets.min(1_000_000))?;
     let mut host = host_of(alloc, plan.as_bytes(), &capture)?;
-    let status = call(rt, alloc, &RUN, &mut host, &Free)?;
+    let status = call(&unheld(rt, alloc), &RUN, &mut host)?;
     if status != Status::Done {
         return Err("a run that isn't done".into());
     }

@@ -1,7 +1,7 @@
 //! The taps of the runs.
 use lq_pcap::gen_capture;
-use lq_test_fixture::{TapCounts, TapShape, call, check_tap, host_with};
-use lq_top::{Free, Status};
+use lq_test_fixture::{TapCounts, TapShape, call, check_tap, host_with, unheld};
+use lq_top::Status;
 use std::marker::Sync;
 use std::rt::Runtime;
 use std::sync::Wait;
@@ -80,7 +80,7 @@ fn tap_once<R: Runtime + AllocGlobal + Wait + Threads + Sync>(
     let capture = gen_capture(alloc, number, packets.min(1_000_000))?;
     let mut host = host_with(alloc, &capture)?;
     let words = ["tap", "8", tap.slots, tap.batch, "c", "t"];
-    let status = call(rt, alloc, &words, &mut host, &Free)?;
+    let status = call(&unheld(rt, alloc), &words, &mut host)?;
     if status != Status::Done {
         return Err("a tap that isn't done".into());
     }

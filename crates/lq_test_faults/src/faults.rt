@@ -1,8 +1,8 @@
 //! Calls of the host that fail: the status, and what the outputs hold after it.
 use lq_host::{Host, HostCall, MemHost};
 use lq_pcap::gen_capture;
-use lq_test_fixture::{RUN, call, host_with, three_frames};
-use lq_top::{Free, Status};
+use lq_test_fixture::{RUN, call, host_with, three_frames, unheld};
+use lq_top::{Free, Resources, Status};
 use std::alloc::Global;
 use std::marker::Sync;
 use std::sync::Wait;
@@ -54,12 +54,11 @@ fn bytes_of(held: Held, text: &[u8]) -> Option<&[u8]> {
 
 /// The run stops at a fault, and writes nothing to standard output.
 fn run_stops<R: Threads + Wait + Sync>(
-    rt: &R,
-    alloc: Global,
+    on: &Resources<'_, R, Free>,
     words: &[&str],
     host: &mut MemHost,
 ) -> Result<(), Fail> {
-    let status = call(rt, alloc, words, host, &Free)?;
+    let status = call(on, words, host)?;
     if status == Status::Fault && status.code() == 5 && host.output().is_empty() {
         return Ok(());
     }
@@ -78,11 +77,12 @@ fn holds(host: &MemHost, name: &str, bytes: Option<&[u8]>) -> Result<(), Fail> {
 #[test]
 fn each_call_fails_in_turn(rt: HostRuntime) -> Result<(), Fail> {
     let alloc = rt.alloc();
+    let on = unheld(&rt, alloc);
     let capture = three_frames(alloc)?;
     for (kind, k, captured, fates) in FAILED_CALLS {
         let mut host = host_with(alloc, &capture)?;
         host.fail_at(kind, k)?;
-        run_stops(&rt, alloc, &RUN, &mut host)?;
+        run_stops(&on, &RUN, &mut host)?;
         holds(&host, "o.0.pcap", bytes_of(captured, &capture))?;
         holds(&host, "o.fates", bytes_of(fates, FATES))?;
         assert_eq!(rt; host.faults(), 1, "call {k} of {kind:?}");
@@ -102,12 +102,13 @@ const AFTER_LAST: [(HostCall, u64); 5] = [
 #[test]
 fn no_call_after_the_last_fails(rt: HostRuntime) -> Result<(), Fail> {
     let alloc = rt.alloc();
+    let on = unheld(&rt, alloc);
     let capture = three_frames(alloc)?;
     let mut host = host_with(alloc, &capture)?;
     for (kind, k) in AFTER_LAST {
         host.fail_at(kind, k)?;
     }
-    let status = call(&rt, alloc, &RUN, &mut host, &Free)?;
+    let status = call(&on, &RUN, &mut host)?;
     assert_eq!(rt; status, Status::Done);
     holds(&host, "o.0.pcap", Some(&capture))?;
     holds(&host, "o.fates", Some(FATES))?;
@@ -139,12 +140,13 @@ const FAILED_WRITES: [(u64, usize, Option<usize>); 7] = [
 #[test]
 fn a_write_fails_between_pieces(rt: HostRuntime) -> Result<(), Fail> {
     let alloc = rt.alloc();
+    let on = unheld(&rt, alloc);
     let capture = gen_capture(alloc, 1, 10_000)?;
     let fates = fates_in_order(alloc, 10_000)?;
     for (k, captured, told) in FAILED_WRITES {
         let mut host = host_with(alloc, &capture)?;
         host.fail_at(HostCall::Write, k)?;
-        run_stops(&rt, alloc, &RUN, &mut host)?;
+        run_stops(&on, &RUN, &mut host)?;
         holds(&host, "o.0.pcap", capture.get(..captured))?;
         let prefix = match told {
             Some(len) => fates.get(..len),
@@ -167,11 +169,12 @@ const FAULTS: [([&str; 4], u64); 5] = [
 #[test]
 fn a_fault_leaves_no_file(rt: HostRuntime) -> Result<(), Fail> {
     let alloc = rt.alloc();
+    let on = unheld(&rt, alloc);
     let capture = three_frames(alloc)?;
     for (words, k) in FAULTS {
         let mut host = host_with(alloc, &capture)?;
         host.fail_at(HostCall::Write, k)?;
-        run_stops(&rt, alloc, &words, &mut host)?;
+        run_stops(&on, &words, &mut host)?;
         holds(&host, "o.0.pcap", None)?;
         holds(&host, "o.fates", None)?;
     }

@@ -1,10 +1,9 @@
 //! Words, plans and captures that are refused: the status, the line, and no file made.
 use lq_host::MemHost;
 use lq_test_fixture::{
-    EIGHT_STATIONS, HEADER, PLAN, RUN, call, call_on, host_of, host_with, three_frames,
+    EIGHT_STATIONS, HEADER, PLAN, RUN, call, call_on, host_of, host_with, three_frames, unheld,
 };
-use lq_top::{Free, Status};
-use std::alloc::Global;
+use lq_top::{Free, Resources, Status};
 use std::marker::Sync;
 use std::sync::Wait;
 use std::test::Fail;
@@ -90,22 +89,22 @@ const COMMANDS: [&str; 59] = [
 ];
 
 fn refused_words<R: Threads + Wait + Sync>(
-    rt: &R,
-    alloc: Global,
+    on: &Resources<'_, R, Free>,
     words: &[&str],
 ) -> Result<(), Fail> {
-    let mut host = host_with(alloc, &three_frames(alloc)?)?;
-    let status = call(rt, alloc, words, &mut host, &Free)?;
+    let mut host = host_with(on.alloc, &three_frames(on.alloc)?)?;
+    let status = call(on, words, &mut host)?;
     check_refused(&host, status, 2, USAGE)
 }
 
 #[test]
 fn tells_how_it_is_called(rt: HostRuntime) -> Result<(), Fail> {
     let alloc = rt.alloc();
-    refused_words(&rt, alloc, &[])?;
+    let on = unheld(&rt, alloc);
+    refused_words(&on, &[])?;
     for command in COMMANDS {
         let words = command.split('|').collect::<Vec<&str>>(alloc)?;
-        refused_words(&rt, alloc, &words)?;
+        refused_words(&on, &words)?;
     }
     Ok(())
 }
@@ -114,11 +113,12 @@ fn tells_how_it_is_called(rt: HostRuntime) -> Result<(), Fail> {
 #[test]
 fn takes_help_and_version_as_names(rt: HostRuntime) -> Result<(), Fail> {
     let alloc = rt.alloc();
+    let on = unheld(&rt, alloc);
     let capture = three_frames(alloc)?;
     for name in ["help", "version"] {
         let mut host = host_with(alloc, &capture)?;
         host.put_file(name, PLAN)?;
-        let status = call(&rt, alloc, &["run", name, "c", "o"], &mut host, &Free)?;
+        let status = call(&on, &["run", name, "c", "o"], &mut host)?;
         assert_eq!(rt; status, Status::Done, "{name}");
         assert_eq!(rt; host.file("o.0.pcap"), Some(capture.as_slice()));
     }
@@ -173,9 +173,10 @@ const PLANS: [(&[u8], &str); 16] = [
 #[test]
 fn refuses_plans_with_the_least_reason(rt: HostRuntime) -> Result<(), Fail> {
     let alloc = rt.alloc();
+    let on = unheld(&rt, alloc);
     for (plan, line) in PLANS {
         let mut host = host_of(alloc, plan, b"no capture")?;
-        let status = call(&rt, alloc, &RUN, &mut host, &Free)?;
+        let status = call(&on, &RUN, &mut host)?;
         check_refused(&host, status, 3, line)?;
     }
     Ok(())
@@ -200,10 +201,11 @@ const SHORT: [(&[u8], usize, &str); 4] = [
 #[test]
 fn refuses_plans_that_need_more_units(rt: HostRuntime) -> Result<(), Fail> {
     let alloc = rt.alloc();
+    let on = unheld(&rt, alloc);
     for (plan, devices, line) in SHORT {
         let mut host = MemHost::new(alloc);
         host.put_file("p", plan)?;
-        let status = call_on(&rt, alloc, &RUN, &mut host, devices, &Free)?;
+        let status = call_on(&on, &RUN, &mut host, devices)?;
         check_refused(&host, status, 3, line)?;
     }
     Ok(())
@@ -211,13 +213,13 @@ fn refuses_plans_that_need_more_units(rt: HostRuntime) -> Result<(), Fail> {
 
 /// The capture is refused for this reason.
 fn refused_capture<R: Threads + Wait + Sync>(
-    rt: &R,
-    alloc: Global,
+    on: &Resources<'_, R, Free>,
     capture: &[u8],
     why: &str,
 ) -> Result<(), Fail> {
+    let alloc = on.alloc;
     let mut host = host_with(alloc, capture)?;
-    let status = call(rt, alloc, &RUN, &mut host, &Free)?;
+    let status = call(on, &RUN, &mut host)?;
     let line = format!(in alloc; "capture refused: {why}\n")?;
     check_refused(&host, status, 4, line.as_str())
 }
@@ -244,12 +246,13 @@ fn header_with(changes: &[(usize, u8)]) -> [u8; 24] {
 #[test]
 fn refuses_captures_with_their_place(rt: HostRuntime) -> Result<(), Fail> {
     let alloc = rt.alloc();
+    let on = unheld(&rt, alloc);
     for (changes, why) in HEADERS {
-        refused_capture(&rt, alloc, &header_with(changes), why)?;
+        refused_capture(&on, &header_with(changes), why)?;
     }
     let mut long = HEADER.to_vec(alloc)?;
     long.extend_from_slice(&[0, 0, 0, 0, 0, 0, 0, 0, 1, 0, 4, 0, 1, 0, 4, 0])?;
-    refused_capture(&rt, alloc, &long, "5 LongRecord at 24")
+    refused_capture(&on, &long, "5 LongRecord at 24")
 }
 
 /// What a capture of three frames gives that is cut to lengths from the first to the second: how many packets, or
@@ -270,13 +273,13 @@ const CUTS: [(usize, usize, Result<u32, &str>); 11] = [
 
 /// So many packets are sent, and the capture is written again.
 fn sent_again<R: Threads + Wait + Sync>(
-    rt: &R,
-    alloc: Global,
+    on: &Resources<'_, R, Free>,
     capture: &[u8],
     count: u32,
 ) -> Result<(), Fail> {
+    let alloc = on.alloc;
     let mut host = host_with(alloc, capture)?;
-    let status = call(rt, alloc, &RUN, &mut host, &Free)?;
+    let status = call(on, &RUN, &mut host)?;
     let output = format!(in alloc;
         "unit 0 sent {count}\nstation 0 full 0 shrunk 0 purged 0 refused 0\ntotal {count} sent {count} full 0 shrunk 0 purged 0 refused 0\n"
     )?;
@@ -288,30 +291,30 @@ fn sent_again<R: Threads + Wait + Sync>(
 }
 
 fn check_cut<R: Threads + Wait + Sync>(
-    rt: &R,
-    alloc: Global,
+    on: &Resources<'_, R, Free>,
     capture: &[u8],
     given: Result<u32, &str>,
 ) -> Result<(), Fail> {
     let len = capture.len();
     match given {
-        Ok(count) => sent_again(rt, alloc, capture, count),
+        Ok(count) => sent_again(on, capture, count),
         Err(why) if len < HEADER.len() => {
-            let why = format!(in alloc; "{why} at {len}")?;
-            refused_capture(rt, alloc, capture, why.as_str())
+            let why = format!(in on.alloc; "{why} at {len}")?;
+            refused_capture(on, capture, why.as_str())
         }
-        Err(why) => refused_capture(rt, alloc, capture, why),
+        Err(why) => refused_capture(on, capture, why),
     }
 }
 
 #[test]
 fn answers_each_cut_of_a_capture(rt: HostRuntime) -> Result<(), Fail> {
     let alloc = rt.alloc();
+    let on = unheld(&rt, alloc);
     let three = three_frames(alloc)?;
     let mut lengths = 0u32;
     for (first, last, given) in CUTS {
         for len in first..last + 1 {
-            check_cut(&rt, alloc, three.get(..len).ok_or("short")?, given)?;
+            check_cut(&on, three.get(..len).ok_or("short")?, given)?;
             lengths = lengths.wrapping_add(1);
         }
     }

@@ -12,7 +12,7 @@ pub use checks::check_run;
 pub use flaw::Flaw;
 use lq_device::BenchDevice;
 use lq_host::MemHost;
-use lq_top::{Gate, Status, lqtx};
+use lq_top::{Free, Gate, Resources, Status, lqtx};
 use std::alloc::{AllocError, Global};
 use std::marker::Sync;
 use std::sync::Wait;
@@ -87,16 +87,24 @@ pub fn host_with(alloc: Global, capture: &[u8]) -> Result<MemHost, Fail> {
     host_of(alloc, PLAN, capture)
 }
 
+/// What a run has whose threads nothing holds.
+pub fn unheld<R>(rt: &R, alloc: Global) -> Resources<'_, R, Free> {
+    Resources {
+        rt,
+        alloc,
+        gate: &Free,
+    }
+}
+
 /// The top call with these words, on a bench of so many devices.
 #[tactic(auto, using(lq_top::proofs::NameLemmas::may_any))]
 pub fn call_on<R: Threads + Wait + Sync, G: Gate>(
-    rt: &R,
-    alloc: Global,
+    on: &Resources<'_, R, G>,
     words: &[&str],
     host: &mut MemHost,
     devices: usize,
-    gate: &G,
 ) -> Result<Status, AllocError> {
+    let Resources { rt, alloc, gate } = *on;
     let mut bench = Vec::new(alloc);
     for _ in 0..devices {
         bench.push(BenchDevice::new(alloc))?;
@@ -110,11 +118,9 @@ const DEVICES: usize = 16;
 
 /// The same on a bench of as many devices as the program has.
 pub fn call<R: Threads + Wait + Sync, G: Gate>(
-    rt: &R,
-    alloc: Global,
+    on: &Resources<'_, R, G>,
     words: &[&str],
     host: &mut MemHost,
-    gate: &G,
 ) -> Result<Status, AllocError> {
-    call_on(rt, alloc, words, host, DEVICES, gate)
+    call_on(on, words, host, DEVICES)
 }

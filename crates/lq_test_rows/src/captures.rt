@@ -3,8 +3,8 @@ use crate::done::{call_done, run};
 use crate::pcapng::{ETHERNET, FRAME, SECTION, joined};
 use lq_host::MemHost;
 use lq_pcap::gen_capture;
-use lq_test_fixture::{HEADER, PLAN, three_frames};
-use lq_top::Free;
+use lq_test_fixture::{HEADER, PLAN, three_frames, unheld};
+use lq_top::{Free, Resources};
 use std::alloc::Global;
 use std::marker::Sync;
 use std::sync::Wait;
@@ -30,12 +30,12 @@ fn longest_record(alloc: Global) -> Result<Vec<u8>, Fail> {
 
 /// A capture of so many packets, all of which one device sends.
 fn check_again<R: Threads + Wait + Sync>(
-    rt: &R,
-    alloc: Global,
+    on: &Resources<'_, R, Free>,
     capture: &[u8],
     count: u32,
 ) -> Result<(), Fail> {
-    let done = run(rt, alloc, "[[station]]\n", capture, &Free)?;
+    let alloc = on.alloc;
+    let done = run(on, "[[station]]\n", capture)?;
     done.has_file("o.0.pcap", capture)?;
     let output = format!(in alloc;
         "unit 0 sent {count}\nstation 0 full 0 shrunk 0 purged 0 refused 0\ntotal {count} sent {count} full 0 shrunk 0 purged 0 refused 0\n"
@@ -46,16 +46,12 @@ fn check_again<R: Threads + Wait + Sync>(
 #[test]
 fn writes_each_capture_as_it_was_read(rt: HostRuntime) -> Result<(), Fail> {
     let alloc = rt.alloc();
-    check_again(&rt, alloc, &NANOSECONDS, 1)?;
-    check_again(&rt, alloc, &longest_record(alloc)?, 1)?;
-    check_again(&rt, alloc, &gen_capture(alloc, 1, 10_000)?, 10_000)?;
-    check_again(&rt, alloc, &SECTION, 0)?;
-    check_again(
-        &rt,
-        alloc,
-        &joined(alloc, &[&SECTION, &ETHERNET, &FRAME])?,
-        1,
-    )
+    let on = unheld(&rt, alloc);
+    check_again(&on, &NANOSECONDS, 1)?;
+    check_again(&on, &longest_record(alloc)?, 1)?;
+    check_again(&on, &gen_capture(alloc, 1, 10_000)?, 10_000)?;
+    check_again(&on, &SECTION, 0)?;
+    check_again(&on, &joined(alloc, &[&SECTION, &ETHERNET, &FRAME])?, 1)
 }
 
 /// An output may have the name of an input: both are read before it is written.
@@ -67,6 +63,7 @@ fn writes_over_its_own_capture(rt: HostRuntime) -> Result<(), Fail> {
     host.put_file("p", PLAN)?;
     host.put_file("o.0.pcap", &capture)?;
     let words = ["run", "p", "o.0.pcap", "o"];
-    let done = call_done(&rt, alloc, "its own capture", &words, host, &Free)?;
+    let on = unheld(&rt, alloc);
+    let done = call_done(&on, "its own capture", &words, host)?;
     done.has_file("o.0.pcap", &capture)
 }

@@ -1,8 +1,7 @@
 //! A call that is done, and what it must have left.
 use lq_host::MemHost;
 use lq_test_fixture::{RUN, call, host_of};
-use lq_top::{Gate, Status};
-use std::alloc::Global;
+use lq_top::{Gate, Resources, Status};
 use std::marker::Sync;
 use std::sync::Wait;
 use std::test::Fail;
@@ -46,14 +45,12 @@ impl<'a> Done<'a> {
 
 /// Calls the program with these words, for a row, on a bench of as many devices as the program has.
 pub fn call_done<'a, R: Threads + Wait + Sync, G: Gate>(
-    rt: &R,
-    alloc: Global,
+    on: &Resources<'_, R, G>,
     row: &'a str,
     words: &[&str],
     mut host: MemHost,
-    gate: &G,
 ) -> Result<Done<'a>, Fail> {
-    let status = call(rt, alloc, words, &mut host, gate)?;
+    let status = call(on, words, &mut host)?;
     if status == Status::Done {
         return Ok(Done { row, host });
     }
@@ -62,12 +59,10 @@ pub fn call_done<'a, R: Threads + Wait + Sync, G: Gate>(
 
 /// Runs a capture under a plan.
 pub fn run<'a, R: Threads + Wait + Sync, G: Gate>(
-    rt: &R,
-    alloc: Global,
+    on: &Resources<'_, R, G>,
     plan: &'a str,
     capture: &[u8],
-    gate: &G,
 ) -> Result<Done<'a>, Fail> {
-    let host = host_of(alloc, plan.as_bytes(), capture)?;
-    call_done(rt, alloc, plan, &RUN, host, gate)
+    let host = host_of(on.alloc, plan.as_bytes(), capture)?;
+    call_done(on, plan, &RUN, host)
 }

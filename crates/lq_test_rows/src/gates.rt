@@ -3,7 +3,7 @@
 use crate::done::run;
 use crate::holds::{Holds, Order};
 use lq_test_fixture::{capture_of, check_run};
-use lq_top::Gate;
+use lq_top::{Gate, Resources};
 use std::sync::atomic::{AtomicBool, AtomicU32, Ordering};
 use std::test::Fail;
 
@@ -59,7 +59,12 @@ fn gate_is_told_each_sender_and_its_packets(rt: HostRuntime) -> Result<(), Fail>
     let capture = capture_of(alloc, &[(0, 1, 0); 7])?;
     for (plan, passes) in &PASSES {
         let gate = Recording::new();
-        run(&rt, alloc, plan, &capture, &gate)?;
+        let on = Resources {
+            rt: &rt,
+            alloc,
+            gate: &gate,
+        };
+        run(&on, plan, &capture)?;
         assert!(rt; !gate.is_wrong.load(Ordering::SeqCst));
         assert_eq!(rt; gate.passes(), *passes);
     }
@@ -97,7 +102,12 @@ fn senders_are_under_way_at_once_and_wake_the_queues(rt: HostRuntime) -> Result<
         let frames = vec![in alloc; (0, 1, 0); row.count]?;
         let capture = capture_of(alloc, &frames)?;
         let gate = Holds::new(alloc, row.orders)?;
-        let done = run(&rt, alloc, row.plan, &capture, &gate)?;
+        let on = Resources {
+            rt: &rt,
+            alloc,
+            gate: &gate,
+        };
+        let done = run(&on, row.plan, &capture)?;
         assert!(rt; !gate.gave_up(), "{}", row.plan);
         let sent = check_run(&rt, alloc, &done.host, row.plan.as_bytes(), &capture)?;
         assert_eq!(rt; sent, row.count);

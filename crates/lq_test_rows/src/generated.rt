@@ -2,8 +2,8 @@
 use crate::done::call_done;
 use lq_host::{HostCall, MemHost};
 use lq_pcap::gen_capture;
-use lq_test_fixture::{HEADER, call, call_on};
-use lq_top::{Free, Status};
+use lq_test_fixture::{HEADER, call, call_on, unheld};
+use lq_top::{Free, Resources, Status};
 use std::alloc::Global;
 use std::marker::Sync;
 use std::sync::Wait;
@@ -41,13 +41,13 @@ fn output_of(alloc: Global, count: u32, sent: u32) -> Result<String, Fail> {
 
 /// So many packets that a number generates, and how many of them are sent.
 fn check_counts<R: Threads + Wait + Sync>(
-    rt: &R,
-    alloc: Global,
+    on: &Resources<'_, R, Free>,
     (number, count, sent): (&str, u32, u32),
 ) -> Result<(), Fail> {
+    let alloc = on.alloc;
     let text = format!(in alloc; "{count}")?;
     let words = ["gen", number, text.as_str(), "g"];
-    let done = call_done(rt, alloc, "gen", &words, MemHost::new(alloc), &Free)?;
+    let done = call_done(on, "gen", &words, MemHost::new(alloc))?;
     let output = output_of(alloc, count, sent)?;
     done.told(output.as_bytes())?;
     done.has_no_file("g.0.pcap")?;
@@ -56,20 +56,20 @@ fn check_counts<R: Threads + Wait + Sync>(
 
 #[test]
 fn counts_the_fates_of_a_generated_capture(rt: HostRuntime) -> Result<(), Fail> {
+    let on = unheld(&rt, rt.alloc());
     for row in COUNTS {
-        check_counts(&rt, rt.alloc(), row)?;
+        check_counts(&on, row)?;
     }
     Ok(())
 }
 
 fn check_generated<R: Threads + Wait + Sync>(
-    rt: &R,
-    alloc: Global,
+    on: &Resources<'_, R, Free>,
     count: &str,
     bytes: &[u8],
 ) -> Result<(), Fail> {
     let words = ["gen", "1", count, "g"];
-    let done = call_done(rt, alloc, count, &words, MemHost::new(alloc), &Free)?;
+    let done = call_done(on, count, &words, MemHost::new(on.alloc))?;
     done.has_file("g", bytes)
 }
 
@@ -78,16 +78,18 @@ fn writes_the_generated_capture(rt: HostRuntime) -> Result<(), Fail> {
     let alloc = rt.alloc();
     let mut two = HEADER.to_vec(alloc)?;
     two.extend_from_slice(&TWO_RECORDS)?;
-    check_generated(&rt, alloc, "0", &HEADER)?;
-    check_generated(&rt, alloc, "2", &two)
+    let on = unheld(&rt, alloc);
+    check_generated(&on, "0", &HEADER)?;
+    check_generated(&on, "2", &two)
 }
 
 #[test]
 fn gives_the_same_each_time(rt: HostRuntime) -> Result<(), Fail> {
     let alloc = rt.alloc();
+    let on = unheld(&rt, alloc);
     let words = ["gen", "5", "200000", "g"];
-    let first = call_done(&rt, alloc, "first", &words, MemHost::new(alloc), &Free)?;
-    let second = call_done(&rt, alloc, "second", &words, MemHost::new(alloc), &Free)?;
+    let first = call_done(&on, "first", &words, MemHost::new(alloc))?;
+    let second = call_done(&on, "second", &words, MemHost::new(alloc))?;
     second.told(first.host.output())?;
     second.has_file("g", first.host.file("g").ok_or("no capture")?)
 }
@@ -96,7 +98,8 @@ fn gives_the_same_each_time(rt: HostRuntime) -> Result<(), Fail> {
 fn needs_a_device(rt: HostRuntime) -> Result<(), Fail> {
     let alloc = rt.alloc();
     let mut host = MemHost::new(alloc);
-    let status = call_on(&rt, alloc, &["gen", "1", "2", "g"], &mut host, 0, &Free)?;
+    let on = unheld(&rt, alloc);
+    let status = call_on(&on, &["gen", "1", "2", "g"], &mut host, 0)?;
     assert_eq!(rt; status, Status::Bench { need: 1, have: 0 });
     assert_eq!(rt;
         host.output(),
@@ -110,11 +113,12 @@ fn needs_a_device(rt: HostRuntime) -> Result<(), Fail> {
 #[test]
 fn a_write_fails_between_its_pieces(rt: HostRuntime) -> Result<(), Fail> {
     let alloc = rt.alloc();
+    let on = unheld(&rt, alloc);
     let capture = gen_capture(alloc, 1, 2000)?;
     for (k, written) in [(1, 0), (2, 65_536), (3, 100_024)] {
         let mut host = MemHost::new(alloc);
         host.fail_at(HostCall::Write, k)?;
-        let status = call(&rt, alloc, &["gen", "1", "2000", "g"], &mut host, &Free)?;
+        let status = call(&on, &["gen", "1", "2000", "g"], &mut host)?;
         assert_eq!(rt; status, Status::Fault, "write {k}");
         assert_eq!(rt; host.file("g"), capture.get(..written), "write {k}");
         assert_eq!(rt; host.output(), b"".as_slice());

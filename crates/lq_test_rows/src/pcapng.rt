@@ -1,7 +1,7 @@
 //! Captures in the pcapng format: their blocks, and the lines that refuse others.
 use crate::done::run;
-use lq_test_fixture::{RUN, call, host_with};
-use lq_top::Free;
+use lq_test_fixture::{RUN, call, host_with, unheld};
+use lq_top::{Free, Resources};
 use std::alloc::{AllocError, Global};
 use std::marker::Sync;
 use std::sync::Wait;
@@ -72,7 +72,8 @@ fn reads_two_interfaces(rt: HostRuntime) -> Result<(), Fail> {
         alloc,
         &[&SECTION, &ETHERNET, &FRAME, &NAMES, &RAW_IP, &PACKET],
     )?;
-    let done = run(&rt, alloc, "[[station]]\n[[station]]\n", &capture, &Free)?;
+    let on = unheld(&rt, alloc);
+    let done = run(&on, "[[station]]\n[[station]]\n", &capture)?;
     let first = joined(alloc, &[&SECTION, &ETHERNET, &RAW_IP, &FRAME])?;
     done.has_file("o.0.pcap", &first)?;
     let second = joined(alloc, &[&SECTION, &ETHERNET, &RAW_IP, &PACKET])?;
@@ -82,13 +83,13 @@ fn reads_two_interfaces(rt: HostRuntime) -> Result<(), Fail> {
 
 /// The capture of these blocks is refused, with this reason and place.
 fn check_refused<R: Threads + Wait + Sync>(
-    rt: &R,
-    alloc: Global,
+    on: &Resources<'_, R, Free>,
     blocks: &[&[u8]],
     reason: &str,
 ) -> Result<(), Fail> {
+    let alloc = on.alloc;
     let mut host = host_with(alloc, &joined(alloc, blocks)?)?;
-    let status = call(rt, alloc, &RUN, &mut host, &Free)?;
+    let status = call(on, &RUN, &mut host)?;
     let line = format!(in alloc; "capture refused: {reason}\n")?;
     let told = status.code() == 4 && host.output() == line.as_bytes();
     if told && host.file("o.0.pcap").is_none() {
@@ -101,38 +102,21 @@ fn check_refused<R: Threads + Wait + Sync>(
 fn refuses_what_is_no_section(rt: HostRuntime) -> Result<(), Fail> {
     let mut other = FRAME;
     other[8] = 1;
-    let alloc = rt.alloc();
+    let on = unheld(&rt, rt.alloc());
     check_refused(
-        &rt,
-        alloc,
+        &on,
         &[&SECTION, &ETHERNET, &FRAME[..67]],
         "10 CutBlock at 48",
     )?;
-    check_refused(&rt, alloc, &[&SECTION, &FRAME], "13 NoInterface at 28")?;
+    check_refused(&on, &[&SECTION, &FRAME], "13 NoInterface at 28")?;
+    check_refused(&on, &[&SECTION, &ETHERNET, &other], "13 NoInterface at 48")?;
+    check_refused(&on, &[&SECTION, &SECTION], "15 SecondSection at 28")?;
     check_refused(
-        &rt,
-        alloc,
-        &[&SECTION, &ETHERNET, &other],
-        "13 NoInterface at 48",
-    )?;
-    check_refused(&rt, alloc, &[&SECTION, &SECTION], "15 SecondSection at 28")?;
-    check_refused(
-        &rt,
-        alloc,
+        &on,
         &[&SECTION, &ETHERNET[..16], &SECTION[4..8]],
         "11 BlockLength at 44",
     )?;
-    check_refused(
-        &rt,
-        alloc,
-        &[&SECTION[..8], &SECTION[12..]],
-        "12 ByteOrder at 8",
-    )?;
-    check_refused(
-        &rt,
-        alloc,
-        &[&SECTION, &NAMES, &NAMES[..8]],
-        "10 CutBlock at 44",
-    )?;
-    check_refused(&rt, alloc, &[&SECTION[..4]], "10 CutBlock at 0")
+    check_refused(&on, &[&SECTION[..8], &SECTION[12..]], "12 ByteOrder at 8")?;
+    check_refused(&on, &[&SECTION, &NAMES, &NAMES[..8]], "10 CutBlock at 44")?;
+    check_refused(&on, &[&SECTION[..4]], "10 CutBlock at 0")
 }

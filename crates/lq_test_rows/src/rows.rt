@@ -1,8 +1,8 @@
 //! Runs of one sender: the files and the output of each, over captures of both formats.
 use crate::done::{Done, run};
 use crate::pcapng::section_of;
-use lq_test_fixture::{capture_of, records_of};
-use lq_top::Free;
+use lq_test_fixture::{capture_of, records_of, unheld};
+use lq_top::{Free, Resources};
 use std::alloc::Global;
 use std::marker::Sync;
 use std::sync::Wait;
@@ -273,13 +273,13 @@ fn check_captures(alloc: Global, done: &Done<'_>, row: &Row, format: Format) -> 
 }
 
 fn check_row<R: Threads + Wait + Sync>(
-    rt: &R,
-    alloc: Global,
+    on: &Resources<'_, R, Free>,
     row: &Row,
     format: Format,
 ) -> Result<(), Fail> {
+    let alloc = on.alloc;
     let capture = whole_capture(alloc, format, row.frames)?;
-    let done = run(rt, alloc, row.plan, &capture, &Free)?;
+    let done = run(on, row.plan, &capture)?;
     done.has_file("o.fates", row.fates.as_bytes())?;
     done.told(row.output.as_bytes())?;
     check_captures(alloc, &done, row, format)
@@ -287,10 +287,10 @@ fn check_row<R: Threads + Wait + Sync>(
 
 #[test]
 fn leaves_what_each_row_says(rt: HostRuntime) -> Result<(), Fail> {
-    let alloc = rt.alloc();
+    let on = unheld(&rt, rt.alloc());
     for row in &ROWS {
-        check_row(&rt, alloc, row, Format::Classic)?;
-        check_row(&rt, alloc, row, Format::Pcapng)?;
+        check_row(&on, row, Format::Classic)?;
+        check_row(&on, row, Format::Pcapng)?;
     }
     Ok(())
 }

@@ -3,8 +3,8 @@
 use crate::done::call_done;
 use lq_host::{HostCall, MemHost};
 use lq_run_core::TraceReason;
-use lq_test_fixture::call;
-use lq_top::{Free, Status};
+use lq_test_fixture::{call, unheld};
+use lq_top::{Free, Resources, Status};
 use std::alloc::Global;
 use std::marker::Sync;
 use std::sync::Wait;
@@ -196,9 +196,10 @@ fn host_of(alloc: Global, schedule: &[u8]) -> Result<MemHost, Fail> {
 #[test]
 fn nothing_is_left_behind(rt: HostRuntime) -> Result<(), Fail> {
     let alloc = rt.alloc();
+    let on = unheld(&rt, alloc);
     for (schedule, output) in &DONE {
         let host = host_of(alloc, schedule.as_bytes())?;
-        let done = call_done(&rt, alloc, schedule, &["trace", "t"], host, &Free)?;
+        let done = call_done(&on, schedule, &["trace", "t"], host)?;
         done.told(output.as_bytes())?;
         done.has_file("t", schedule.as_bytes())?;
     }
@@ -235,14 +236,13 @@ const REFUSED: [(&str, TraceReason, u32, &str); 4] = [
 
 /// The schedule of these bytes is refused so.
 fn check_refused<R: Threads + Wait + Sync>(
-    rt: &R,
-    alloc: Global,
+    on: &Resources<'_, R, Free>,
     schedule: &[u8],
     (reason, line): (TraceReason, u32),
     output: &str,
 ) -> Result<(), Fail> {
-    let mut host = host_of(alloc, schedule)?;
-    let status = call(rt, alloc, &["trace", "t"], &mut host, &Free)?;
+    let mut host = host_of(on.alloc, schedule)?;
+    let status = call(on, &["trace", "t"], &mut host)?;
     let is_so = status == Status::Trace { reason, line } && status.code() == 7;
     if is_so && host.output() == output.as_bytes() {
         return Ok(());
@@ -252,9 +252,9 @@ fn check_refused<R: Threads + Wait + Sync>(
 
 #[test]
 fn tells_the_first_line_that_fails(rt: HostRuntime) -> Result<(), Fail> {
-    let alloc = rt.alloc();
+    let on = unheld(&rt, rt.alloc());
     for (schedule, reason, line, output) in REFUSED {
-        check_refused(&rt, alloc, schedule.as_bytes(), (reason, line), output)?;
+        check_refused(&on, schedule.as_bytes(), (reason, line), output)?;
     }
     Ok(())
 }
@@ -263,30 +263,20 @@ fn tells_the_first_line_that_fails(rt: HostRuntime) -> Result<(), Fail> {
 #[test]
 fn longest_schedule(rt: HostRuntime) -> Result<(), Fail> {
     let alloc = rt.alloc();
+    let on = unheld(&rt, alloc);
     let mut bytes = vec![in alloc; b'\n'; 65_536]?;
     let cut = (TraceReason::Syntax, 65_537);
-    check_refused(
-        &rt,
-        alloc,
-        &bytes,
-        cut,
-        "trace refused: 1 Syntax at line 65537\n",
-    )?;
+    check_refused(&on, &bytes, cut, "trace refused: 1 Syntax at line 65537\n")?;
     bytes.push(b'\n')?;
     let long = (TraceReason::TooLong, 0);
-    check_refused(
-        &rt,
-        alloc,
-        &bytes,
-        long,
-        "trace refused: 5 TooLong at line 0\n",
-    )
+    check_refused(&on, &bytes, long, "trace refused: 5 TooLong at line 0\n")
 }
 
 /// Each kind of call that it makes fails once: it writes nothing.
 #[test]
 fn writes_nothing_at_a_fault(rt: HostRuntime) -> Result<(), Fail> {
     let alloc = rt.alloc();
+    let on = unheld(&rt, alloc);
     for (kind, k) in [
         (HostCall::OpenRead, 1),
         (HostCall::Read, 2),
@@ -295,7 +285,7 @@ fn writes_nothing_at_a_fault(rt: HostRuntime) -> Result<(), Fail> {
     ] {
         let mut host = host_of(alloc, SECOND_TRY.as_bytes())?;
         host.fail_at(kind, k)?;
-        let status = call(&rt, alloc, &["trace", "t"], &mut host, &Free)?;
+        let status = call(&on, &["trace", "t"], &mut host)?;
         assert_eq!(rt; status, Status::Fault, "call {k} of {kind:?}");
         assert_eq!(rt; host.output(), b"".as_slice());
     }

@@ -2,8 +2,7 @@
 //! the files.
 use crate::done::run;
 use lq_pcap::gen_capture;
-use lq_test_fixture::check_run;
-use lq_top::Free;
+use lq_test_fixture::{check_run, unheld};
 use std::test::Fail;
 
 /// A run over so many generated packets, of which at least so many are sent.
@@ -62,9 +61,10 @@ const ROWS: [Row; 6] = [
 #[test]
 fn settles_each_packet(rt: HostRuntime) -> Result<(), Fail> {
     let alloc = rt.alloc();
+    let on = unheld(&rt, alloc);
     for row in &ROWS {
         let capture = gen_capture(alloc, row.number, row.count.min(1_000_000))?;
-        let done = run(&rt, alloc, row.plan, &capture, &Free)?;
+        let done = run(&on, row.plan, &capture)?;
         let sent = check_run(&rt, alloc, &done.host, row.plan.as_bytes(), &capture)?;
         assert!(rt; sent >= row.least, "{}", row.plan);
     }

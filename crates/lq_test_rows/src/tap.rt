@@ -4,6 +4,7 @@ use crate::holds::{Holds, Order};
 use crate::pcapng::section_of;
 use lq_pcap::gen_capture;
 use lq_test_fixture::{TapShape, capture_of, check_tap, host_with, records_of, three_frames};
+use lq_top::Resources;
 use std::alloc::Global;
 use std::marker::Sync;
 use std::sync::Wait;
@@ -20,7 +21,12 @@ fn tap<'a, R: Threads + Wait + Sync>(
 ) -> Result<Done<'a>, Fail> {
     let gate = Holds::new(alloc, orders)?;
     let words = ["tap", senders, len, batch, "c", "t"];
-    let done = call_done(rt, alloc, batch, &words, host_with(alloc, capture)?, &gate)?;
+    let on = Resources {
+        rt,
+        alloc,
+        gate: &gate,
+    };
+    let done = call_done(&on, batch, &words, host_with(alloc, capture)?)?;
     if gate.gave_up() {
         return Err(Fail::new("a pass that was held too long"));
     }
