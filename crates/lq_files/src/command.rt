@@ -5,9 +5,9 @@
 //! decides all else: which form the words are of, whether they have its operands, and which word is which operand. Its
 //! own help and version are switched off, so that `help` and `version` are names like any other. The numbers of `gen` and
 //! of `tap` are read here from their texts.
-ghost use Rattle.std.specs.Prelude.{◌≡◌, ◌≤◌, true, false, IfOk, IfSome, Some, None, codes, option_map, option_and_then};
+ghost use Rattle.std.specs.Prelude.{◌≡◌, ◌≤◌, true, false, IfOk, IfSome, IsOkAnd, Some, None, codes, option_map, option_and_then};
 ghost use Rattle.std.specs.List.{list_all};
-ghost use Rattle.clap.specs.Words.{app_of, found_of, with_subcommand, rows_of, rule_of, subcommand_rows_of};
+ghost use Rattle.clap.specs.Words.{app_of, found_of, with_rule, with_subcommand, rows_of, rule_of, subcommand_rows_of};
 ghost use Rattle.clap.specs.declared.builder.command.Command.TheViews.{out-Command as fields_of};
 ghost use Rattle.lq_run_core.specs.Schedule.{number_in};
 ghost use Rattle.lq_files.specs.Command.{command_of_words, command_of_one, command_of_three, command_words, gen_of, bytes_of_words, is_operand, tap_of};
@@ -92,12 +92,25 @@ fn operand<'a>(alloc: Global, name: &'a str) -> Arg<'a>
     Arg::new(alloc, name).required(true)
 }
 
+/// A form with one more operand that it can't do without.
+fn with_operand<'a>(
+    alloc: Global,
+    form: clap::Command<'a>,
+    name: &'a str,
+) -> Result<clap::Command<'a>, AllocError>
+    requires local { (fields_of form).has_globals ≡ false }
+    ensures app { IfOk result (λ whole. app_of whole ≡ with_rule (app_of form.entry) (operand_rule name.entry.now)) }
+    ensures local { IfOk result (λ whole. (fields_of whole).has_globals ≡ false) }
+{
+    form.arg(operand(alloc, name))
+}
+
 /// The form of a verb with one operand.
 fn form_of_one<'a>(alloc: Global, verb: &'a str) -> Result<clap::Command<'a>, AllocError>
     ensures app { IfOk result (λ form. app_of form ≡ form_of_one verb.entry.now) }
     ensures local { IfOk result (λ form. (fields_of form).has_globals ≡ false) }
 {
-    clap::Command::new(alloc, verb).arg(operand(alloc, "FIRST"))
+    with_operand(alloc, clap::Command::new(alloc, verb), "FIRST")
 }
 
 /// The form of a verb with three operands.
@@ -105,10 +118,8 @@ fn form_of_three<'a>(alloc: Global, verb: &'a str) -> Result<clap::Command<'a>, 
     ensures app { IfOk result (λ form. app_of form ≡ form_of_three verb.entry.now) }
     ensures local { IfOk result (λ form. (fields_of form).has_globals ≡ false) }
 {
-    clap::Command::new(alloc, verb)
-        .arg(operand(alloc, "FIRST"))?
-        .arg(operand(alloc, "SECOND"))?
-        .arg(operand(alloc, "THIRD"))
+    let form = with_operand(alloc, form_of_one(alloc, verb)?, "SECOND")?;
+    with_operand(alloc, form, "THIRD")
 }
 
 /// The form of a verb with five operands.
@@ -116,20 +127,19 @@ fn form_of_five<'a>(alloc: Global, verb: &'a str) -> Result<clap::Command<'a>, A
     ensures app { IfOk result (λ form. app_of form ≡ form_of_five verb.entry.now) }
     ensures local { IfOk result (λ form. (fields_of form).has_globals ≡ false) }
 {
-    form_of_three(alloc, verb)?
-        .arg(operand(alloc, "FOURTH"))?
-        .arg(operand(alloc, "FIFTH"))
+    let form = with_operand(alloc, form_of_three(alloc, verb)?, "FOURTH")?;
+    with_operand(alloc, form, "FIFTH")
 }
 
-/// A table with one more form.
+/// A table with one more form, if there was memory for the form.
 fn with_form<'a>(
     table: clap::Command<'a>,
-    form: clap::Command<'a>,
+    form: Result<clap::Command<'a>, AllocError>,
 ) -> Result<clap::Command<'a>, AllocError>
-    requires local { (fields_of form).has_globals ≡ false }
-    ensures { IfOk result (λ whole. app_of whole ≡ with_subcommand (app_of table.entry) (app_of form.entry).top) }
+    requires local { IfOk form (λ form. (fields_of form).has_globals ≡ false) }
+    ensures { IfOk result (λ whole. IsOkAnd form.entry (λ form. app_of whole ≡ with_subcommand (app_of table.entry) (app_of form).top)) }
 {
-    table.subcommand(form)
+    table.subcommand(form?)
 }
 
 /// A table without forms, and without help or version of clap's own.
@@ -148,11 +158,10 @@ fn bare_table<'a>(alloc: Global) -> clap::Command<'a>
 fn table<'a>(alloc: Global) -> Result<clap::Command<'a>, AllocError>
     ensures app { IfOk result (λ table. app_of table ≡ table_app) }
 {
-    let table = with_form(bare_table(alloc), form_of_three(alloc, "run")?)?;
-    let table = with_form(table, form_of_three(alloc, "gen")?)?;
-    let table = with_form(table, form_of_one(alloc, "trace")?)?;
-    let table = with_form(table, form_of_five(alloc, "tap")?)?;
-    Ok(table)
+    let table = with_form(bare_table(alloc), form_of_three(alloc, "run"))?;
+    let table = with_form(table, form_of_three(alloc, "gen"))?;
+    let table = with_form(table, form_of_one(alloc, "trace"))?;
+    with_form(table, form_of_five(alloc, "tap"))
 }
 
 /// The number that a word writes in decimal digits, with no leading zero unless it is 0, between two limits.
