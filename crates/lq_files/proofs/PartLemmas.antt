@@ -59,6 +59,24 @@ pieces_written old h mid new whole last more kept text s split wrote_is kept_is 
   append_assoc s.0 whole (kept ++ []) ∙ ap (λ b. s.0 ++ b) (ap (λ b. whole ++ b) (append-nil kept ∙ kept_is) ∙ split ∙ sym (append-nil more)) ∙ s.2,
 )
 
+-- A TEXT BEFORE THE REST
+
+module _ (old : HostState) (h : ℕ) (new : HostState) (rest text more all : List ℕ) (same : text ++ more ≡ all) where
+  -- it is written, and the rest is still to come
+  pub streamed_before : (kept : List ℕ) → IsStreamed old h new kept [] (rest ++ text) → IsStreamed old h new kept more (rest ++ all)
+  streamed_before kept s = (
+    s.0,
+    s.1,
+    sym (append_assoc s.0 kept more) ∙ ap (λ b. (s.0 ++ b) ++ more) (sym (append-nil kept)) ∙ ap (λ b. b ++ more) s.2 ∙ append_assoc rest text more
+        ∙ ap (λ b. rest ++ b) same,
+  )
+
+  -- it was stopped in the write
+  pub front_before : IsFront old h new (rest ++ text) → IsFront old h new (rest ++ all)
+  front_before part =
+      let whole = streamed_none old h (rest ++ text) more (rest ++ all) (append_assoc rest text more ∙ ap (λ b. rest ++ b) same) in
+      written_cut old h old new (rest ++ text) (rest ++ text) more (rest ++ all) refl whole part
+
 -- SEVERAL PARTS
 
 -- a text to come was streamed, behind what is kept
