@@ -4,6 +4,7 @@ use Rattle.std.specs.Option.{option_map}
 use Rattle.lq_host.specs.Host.{Contents, bytes_of, HostState, Handles, Writes, with_handle, opened_handle, filed, wrote, closed}
 use Rattle.lq_host.proofs.HostLemmas.{with_handle-back}
 use Rattle.lq_files.specs.Input.{IsInput, IsInputOf}
+use Rattle.lq_files.specs.Parts.{IsFront}
 use Rattle.lq_files.specs.declared.read.Input.{Input}
 use Rattle.lq_files.specs.declared.read.Input.TheVariants.{Whole, TooLong}
 use Rattle.std.proofs.lemmas.List.{drop-take, take-take, take-append-drop, length-take}
@@ -26,6 +27,14 @@ take_join at k xs =
 -- one piece more
 pub front_grows : (text : List ℕ) (at k : ℕ) → take at text ++ take (at + k - at) (drop at text) ≡ take (at + k) text
 front_grows text at k = let same : at + k - at ≡ k = omega arith in rw same (take_join at k text)
+
+-- a front of a front that was written
+pub front_front : (old : HostState) (h : ℕ) (new : HostState) (k : ℕ) (text : List ℕ) → IsFront old h new (take k text) → IsFront old h new text
+front_front old h new k text part =
+    let n = part.0 in
+    let le : n ≤ length (take k text) = part.1 in
+    let le_k : n ≤ k = omega (arith, length-take {A = ℕ}) in
+    (n, omega (arith, length-take {A = ℕ}), part.2 ∙ ap (wrote old h) (take-take n k text le_k))
 
 -- a front of a piece
 pub part_fits : (text : List ℕ) (at k n : ℕ) → at ≤ length text → n ≤ length (take (at + k - at) (drop at text)) → at + n ≤ length text
