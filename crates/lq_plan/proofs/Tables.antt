@@ -1,6 +1,6 @@
 -- The tables among the elements of an array.
-use Rattle.std.proofs.Common.{◌≡◌, ℕ, ◌+◌, ◌<◌, List, [], ◌∷◌, ◌++◌, length, map, take, get_or, Some, None, String, BTreeMap, Global, Bor, ap, ◌∙◌, sym, option_map, slice_get}
-use Rattle.std.proofs.lemmas.List.{take_more, flat_map_more, map-append, append-nil}
+use Rattle.std.proofs.Common.{◌≡◌, ℕ, ◌+◌, ◌<◌, ◌≤◌, arith, List, [], ◌∷◌, ◌++◌, length, map, take, get_or, Some, None, String, BTreeMap, Global, Bor, ap, ◌∙◌, sym, option_map, slice_get}
+use Rattle.std.proofs.lemmas.List.{length-map, take_all, take_more, flat_map_more, map-append, append-nil}
 use Rattle.std.proofs.lemmas.List.Elements.{filter_map-append}
 use Rattle.std.proofs.lemmas.Option.{get_or_from_slice_get, slice_get-map, slice_get-get_or, slice_get_within}
 use Rattle.std.specs.List.{filter_map, flat_map, cons_option}
@@ -44,6 +44,10 @@ pub table_at : (tables : List Table) (i : ℕ) (t : Table) → i < length tables
 table_at tables i t within is =
     slice_get-map (λ (x : Table). table_view x.now) tables i
     ∙ ap (option_map (λ (x : Table). table_view x.now)) (slice_get-get_or tables i t within ∙ ap Some (sym is))
+
+-- at the end of a loop over the tables
+pub tables_end : (tables : List Table) (i : ℕ) → length tables ≤ i → take i (tables_view tables) ≡ tables_view tables
+tables_end tables i over = take_all i (tables_view tables) (omega (arith, over, length-map tables (λ (t : Table). table_view t.now)))
 
 -- what is read of the tables, of one more
 pub read_more : {Y : Type 0} (read : Members → Y) (tables : List Table) (i : ℕ) (t : Table) (ys : List Y) → i < length tables → t ≡ get_or tables i t
