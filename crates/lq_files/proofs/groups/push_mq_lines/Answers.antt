@@ -1,4 +1,4 @@
-use Rattle.std.proofs.Common.{◌++◌, ◌∙◌, ap, ap₂, sym, add-one}
+use Rattle.std.proofs.Common.{◌≡◌, ◌++◌, ◌∙◌, ap, ap₂, sym, add-one, length, arith}
 use Rattle.lq_mq.specs.Line.{mq_text}
 use Rattle.lq_files.proofs.GroupLemmas.{lines_below, no_root_line, root_line}
 use Rattle.lq_files.proofs.groups.push_mq_lines.Goals as goal
@@ -17,3 +17,9 @@ loop-j-preserved c =
       | else-is_root w ↦
           ap (λ t. t.items) w.text-is ∙ (no_root_line plan fates j old text (sym c.is_root.ensures ∙ w.if-is_root.false) c.loop-j.invariant ∙ next)
     ]
+
+pub returns : goal.returns
+returns c =
+    let plan = c.args.plan.now in
+    let end : c.loop-j.j ≡ length plan.groups = omega arith in
+    c.loop-j.invariant ∙ ap (λ n. c.args.text.now.items ++ lines_below plan c.args.fates.now n) end

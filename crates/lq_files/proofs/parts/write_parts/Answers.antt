@@ -44,3 +44,10 @@ returns-in_err-next-clause-err g c = λ from count are. (
     (streamed_stop (g.H.Host.state c.args.host.now) c.args.h (g.H.Host.state c.loop-part.host) (g.H.Host.state c.write_part.new.host) c.loop-part.rest.items (from c.loop-part.next)
     (c.args.rest.now.items ++ from c.args.at) (c.loop-part.invariant.streamed from count are) (c.in_err-next.ensures.err from count (are i part item).is))
     )
+
+pub returns-clause-ok : goal.returns-clause-ok
+returns-clause-ok g c = c.loop-part.invariant.streamed
+
+pub returns-clause-further : goal.returns-clause-further
+returns-clause-further g c = λ from count are some below.
+    c.loop-part.invariant.further from count are below (let over = c.loop-part-test.false in omega arith)
