@@ -29,7 +29,8 @@ pub front_grows : (text : List ℕ) (at k : ℕ) → take at text ++ take (at + 
 front_grows text at k = let same : at + k - at ≡ k = omega arith in rw same (take_join at k text)
 
 -- a front of a front that was written
-pub front_front : (old : HostState) (h : ℕ) (new : HostState) (k : ℕ) (text : List ℕ) → IsFront old h new (take k text) → IsFront old h new text
+pub front_front : (old : HostState) (h : ℕ) (new : HostState) (k : ℕ) (text : List ℕ) → IsFront old h new (take k text)
+    → IsFront old h new text
 front_front old h new k text part =
     let n = part.0 in
     let le : n ≤ length (take k text) = part.1 in

@@ -67,7 +67,8 @@ module _ (old : HostState) (h : ℕ) (new : HostState) (rest text more all : Lis
   streamed_before kept s = (
     s.0,
     s.1,
-    sym (append_assoc s.0 kept more) ∙ ap (λ b. (s.0 ++ b) ++ more) (sym (append-nil kept)) ∙ ap (λ b. b ++ more) s.2 ∙ append_assoc rest text more
+    sym (append_assoc s.0 kept more) ∙ ap (λ b. (s.0 ++ b) ++ more) (sym (append-nil kept)) ∙ ap (λ b. b ++ more) s.2
+        ∙ append_assoc rest text more
         ∙ ap (λ b. rest ++ b) same,
   )
 

@@ -17,8 +17,10 @@ returns-in_default-clause-err g c = λ from count is. (
 
 pub returns-clause-ok : goal.returns-clause-ok
 returns-clause-ok g c = λ from count is.
-    streamed_before (g.H.Host.state c.args.host.now) c.args.h (g.H.Host.state c.write_more.new.host) c.args.rest.now.items c.deref.result.now (from c.in-Some.end) (from c.args.next)
-    (ap (λ b. b ++ from c.in-Some.end) c.deref.ensures.value ∙ rw c.in-Some.is at is.text ∙ ap from c.if-part-next.false) c.write_more.new.rest.items c.in_ok-write_more.ensures.ok
+    streamed_before (g.H.Host.state c.args.host.now) c.args.h (g.H.Host.state c.write_more.new.host) c.args.rest.now.items
+    c.deref.result.now (from c.in-Some.end) (from c.args.next)
+    (ap (λ b. b ++ from c.in-Some.end) c.deref.ensures.value ∙ rw c.in-Some.is at is.text ∙ ap from c.if-part-next.false)
+    c.write_more.new.rest.items c.in_ok-write_more.ensures.ok
 
 pub returns-clause-order : goal.returns-clause-order
 returns-clause-order g c = λ from count is below. (
@@ -33,6 +35,7 @@ pub returns-in_err-write_more-clause-err : goal.returns-in_err-write_more-clause
 returns-in_err-write_more-clause-err g c = λ from count is. (
     let rest_is = ap (λ b. b ++ from c.in-Some.end) c.deref.ensures.value ∙ rw c.in-Some.is at is.text ∙ ap from c.if-part-next.false in
     on_err_any c.from_residual.result
-    (front_before (g.H.Host.state c.args.host.now) c.args.h (g.H.Host.state c.write_more.new.host) c.args.rest.now.items c.deref.result.now (from c.in-Some.end) (from c.args.next) rest_is
+    (front_before (g.H.Host.state c.args.host.now) c.args.h (g.H.Host.state c.write_more.new.host) c.args.rest.now.items
+    c.deref.result.now (from c.in-Some.end) (from c.args.next) rest_is
     c.in_err-write_more.ensures.err)
     )

@@ -13,4 +13,6 @@ loop-event-preserved c =
     (read_more (event_in c.args.groups.now) c.args.events.now c.loop-event.event-index c.event-item.result c.loop-event.plans.items c.loop-event-test.true c.event-item.is c.loop-event.invariant)
 
 pub returns : goal.returns
-returns c = c.loop-event.invariant ∙ ap (map (event_in c.args.groups.now)) (tables_end c.args.events.now c.loop-event.event-index c.loop-event-test.false)
+returns c =
+    c.loop-event.invariant ∙ ap (map (event_in c.args.groups.now))
+    (tables_end c.args.events.now c.loop-event.event-index c.loop-event-test.false)

@@ -16,4 +16,5 @@ loop-station-preserved c =
     ∙ read_more mq_in c.args.stations.now c.loop-station.station-index c.station-item.result c.loop-station.groups.items c.loop-station-test.true c.station-item.is c.loop-station.invariant)
 
 pub returns : goal.returns
-returns c = c.loop-station.invariant ∙ ap (map mq_in) (tables_end c.args.stations.now c.loop-station.station-index c.loop-station-test.false)
+returns c =
+    c.loop-station.invariant ∙ ap (map mq_in) (tables_end c.args.stations.now c.loop-station.station-index c.loop-station-test.false)

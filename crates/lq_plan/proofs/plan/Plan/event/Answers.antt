@@ -5,7 +5,8 @@ use Rattle.lq_model.specs.declared.plan.EventPlan.{EventPlan}
 use Rattle.lq_plan.specs.Limits.{IsEventWithin}
 use Rattle.lq_plan.proofs.plan.Plan.event.Goals as goal
 
-stands : (events : List EventPlan) (e : ℕ) (event : EventPlan) → event ≡ get_or events e event → e < length events → slice_get events e ≡ Some event
+stands : (events : List EventPlan) (e : ℕ) (event : EventPlan) → event ≡ get_or events e event → e < length events
+    → slice_get events e ≡ Some event
 stands events e event is within = slice_get-get_or events e event within ∙ ap Some (sym is)
 
 pub returns-clause-event : goal.returns-clause-event
