@@ -56,6 +56,7 @@ pub fn infos<R: Threads + Sync, F: Frames + Sync>(
 ) -> Result<Vec<Info>, NoMemory>
     ensures infos { IfOk result (λ infos. infos.items ≡ infos_of plan.now (F.packets frames.now)) }
     ensures count { IfOk result (λ infos. vec_len infos ≡ (F.packets frames.now).count) }
+    ensures few { IfOk result (λ infos. vec_len infos ≤ 1000000) }
     ensures within { IfOk result (λ infos. All (IsInfoWithin plan.now) infos.items) }
 {
     let Ok(mut infos) = vec![in alloc; NONE; frames.len()] else {

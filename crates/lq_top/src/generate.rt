@@ -16,7 +16,7 @@ use lq_device::TxDevice;
 use lq_files::{GenOperands, RunInputs, Status, Stop, place_on, refuse, write_counts, write_file};
 use lq_host::Host;
 use lq_model::NoMemory;
-use lq_pcap::{Capture, CaptureRefusal, Frames as _, gen_capture, read_capture};
+use lq_pcap::{Capture, CaptureRefusal, gen_capture, read_capture};
 use lq_pcapng::CaptureFile;
 use lq_plan::{Plan, generated_plan, infos};
 use lq_senders::{Gate, Resources, send_all};
@@ -72,8 +72,6 @@ fn run_and_count<R: Threads + Wait + Sync, H: Host, G: Gate, D: TxDevice>(
     ensures handles { (H.state host.new).handles ≡ (H.state host.old).handles }
     ensures cause { StopsFor (H.fault_count host.old) (H.fault_count host.new) result }
 {
-    // The proof learns from it that there are at most 1,000,000 packets.
-    let _count = run.capture.len();
     let infos = infos(on.rt, on.alloc, run.plan, run.capture)?;
     let fates = send_all(on, run.plan, &infos, bench, ended)?;
     match write_counts(on.alloc, host, run.plan, &infos, &fates) {

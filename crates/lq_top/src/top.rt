@@ -24,7 +24,6 @@ use lq_files::{
 };
 use lq_host::Host;
 use lq_model::NoMemory;
-use lq_pcap::Frames as _;
 use lq_plan::infos;
 use lq_senders::{Gate, Resources, send_all};
 use lq_table::Ended;
@@ -56,8 +55,6 @@ fn run_capture<R: Threads + Wait + Sync, H: Host, G: Gate, D: TxDevice>(
     ensures handles { (H.state host.new).handles ≡ (H.state host.old).handles }
     ensures cause { StopsFor (H.fault_count host.old) (H.fault_count host.new) result }
 {
-    // The proof learns from it that there are at most 1,000,000 packets.
-    let _count = run.capture.len();
     let infos = infos(on.rt, on.alloc, run.plan, run.capture)?;
     let fates = send_all(on, run.plan, &infos, bench, ended)?;
     let report = RunReport {
