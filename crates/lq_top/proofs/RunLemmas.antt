@@ -1,5 +1,5 @@
 -- What a run leaves, from what its calls leave.
-use Rattle.std.proofs.Common.{◌≡◌, ℕ, List, Option, Some, None, Result, Ok, Err, IfOk, OnOk, OnErr, IfSome, sym, ap, ◌∙◌, subst, inl, inr, ◌≤◌, ◌+◌, ◌-◌, drop, arith}
+use Rattle.std.proofs.Common.{◌≡◌, ℕ, List, [], Option, Some, None, Result, Ok, Err, IfOk, IsErrAnd, OnOk, OnErr, IfSome, sym, ap, ◌∙◌, subst, inl, inr, ◌≤◌, ◌+◌, ◌-◌, drop, arith}
 use Rattle.std.specs.Option.{option_map}
 use Rattle.std.proofs.lemmas.List.{drop-drop}
 use Rattle.lq_model.specs.Device.{DeviceState}
@@ -16,7 +16,7 @@ use Rattle.lq_senders.specs.Fates.{AreEnded, AreFatesOf}
 use Rattle.lq_table.specs.Ended.{EndedState}
 use Rattle.lq_top.specs.Headline.{AreFatesIn, HasRun}
 use Rattle.lq_files.specs.RunFiles.{Run, run_of, texts_of}
-use Rattle.lq_top.specs.Outcome.{Completes, CompletesOrStops, IsAnswerOf, IsCommandStatus, Outcome, Stops}
+use Rattle.lq_top.specs.Outcome.{Completes, CompletesOrStops, IsAnswerOf, IsCommandStatus, LeavesNone, Outcome, Stops}
 use Rattle.lq_files.specs.Refusal.{refusal_line, status_of}
 use Rattle.lq_files.specs.Stop.{status_of_stop}
 use Rattle.lq_files.specs.Written.{IsCut, output_only, written}
@@ -73,6 +73,26 @@ does_run (Some c) words have plan capture read seen P is_read is_seen first seco
     let next : Plan → Verdict = λ p. by_capture words.out p (option_map limited_capture_of (c.files words.capture)) in
     let decided : verdict_of_run words c.files have ≡ Runs (run_of words.out plan capture) =
     ap (λ (r : Option (Result Plan Refusal)). by_plan r next) (first ∙ ap Some is_read) ∙ ap (by_capture words.out plan) (second ∙ ap Some is_seen) in
+    subst P (sym decided) does
+
+-- and what was done as the refusal of a plan, or of a capture, was decided so
+pub refuses_plan :
+    (told : Option Contents) (words : RunWords) (have : ℕ) (r : Refusal) (read : Result Plan Refusal) (P : Verdict → Type 0) → read ≡ Err r
+    → IfSome told (λ c. option_map (plan_for have) (c.files words.plan) ≡ Some read) → P (Refuses r) → IfSome told (λ c. P (verdict_of_run words c.files have))
+refuses_plan None words have r read P is_read first does = _
+refuses_plan (Some c) words have r read P is_read first does =
+    let next : Plan → Verdict = λ p. by_capture words.out p (option_map limited_capture_of (c.files words.capture)) in
+    subst P (sym (ap (λ (q : Option (Result Plan Refusal)). by_plan q next) (first ∙ ap Some is_read))) does
+
+pub refuses_capture :
+    (told : Option Contents) (words : RunWords) (have : ℕ) (plan : Plan) (r : Refusal) (read : Result Plan Refusal) (seen : Result CaptureFile Refusal) (P : Verdict → Type 0)
+    → read ≡ Ok plan → seen ≡ Err r → IfSome told (λ c. option_map (plan_for have) (c.files words.plan) ≡ Some read)
+    → IfSome told (λ c. option_map limited_capture_of (c.files words.capture) ≡ Some seen) → P (Refuses r) → IfSome told (λ c. P (verdict_of_run words c.files have))
+refuses_capture None words have plan r read seen P is_read is_seen first second does = _
+refuses_capture (Some c) words have plan r read seen P is_read is_seen first second does =
+    let next : Plan → Verdict = λ p. by_capture words.out p (option_map limited_capture_of (c.files words.capture)) in
+    let decided : verdict_of_run words c.files have ≡ Refuses r =
+    ap (λ (q : Option (Result Plan Refusal)). by_plan q next) (first ∙ ap Some is_read) ∙ ap (by_capture words.out plan) (second ∙ ap Some is_seen) in
     subst P (sym decided) does
 
 -- ANY HOST
@@ -133,6 +153,18 @@ pub stops_outcome :
 stops_outcome v old new before after ended stops.Fault left = left
 stops_outcome v old new before after ended stops.NoMemory left = left
 
+pub all_ends :
+    (told : Option Contents) (v : Contents → Verdict) (old new : HostState) (before after : List DeviceState) (ended : List EndedState) (answer : Status) → IsCommandStatus answer
+    → IfSome told (λ c. Completes (v c) old new before after ended answer) → IfSome told (λ c. Outcome (v c) old new before after ended answer)
+all_ends None v old new before after ended answer is ends = _
+all_ends (Some c) v old new before after ended answer is ends = ends_outcome (v c) old new before after ended answer is ends
+
+pub all_stopped :
+    (told : Option Contents) (v : Contents → Verdict) (old new : HostState) (before after : List DeviceState) (ended : List EndedState) (stop : Stop)
+    → IfSome told (λ c. Stops (v c) old new before after) → IfSome told (λ c. Outcome (v c) old new before after ended (status_of_stop stop))
+all_stopped None v old new before after ended stop left = _
+all_stopped (Some c) v old new before after ended stop left = stops_outcome (v c) old new before after ended stop left
+
 -- what is as it was from place m on is so from any later place on
 drop_later : {X : Type 0} (m n : ℕ) (old new : List X) → m ≤ n → drop m new ≡ drop m old → drop n new ≡ drop n old
 drop_later m n old new le same =
@@ -161,3 +193,39 @@ pub all_answered :
     → IfSome told (λ c. Completes (v c) old new before after ended answer) → IfSome told (λ c. IsAnswerOf (v c) answer)
 all_answered None v old new before after ended answer ends = _
 all_answered (Some c) v old new before after ended answer ends = answered (v c) old new before after ended answer ends
+
+-- WAYS OUT
+
+-- what holds of every answer, and of every content
+pub any_answer : {P : Status → Type 0} (r : Result Status Stop) → ((answer : Status) → P answer) → IfOk r P
+any_answer (Ok answer) all = all answer
+any_answer (Err stop) all = _
+
+pub any_told : {P : Contents → Type 0} (told : Option Contents) → ((c : Contents) → P c) → IfSome told P
+any_told None all = _
+any_told (Some c) all = all c
+
+-- the exit of a `?` answers nothing, and leaves the host as it was where nothing was written
+pub no_answer : (P : Status → Type 0) (Q : Stop → Type 0) (r : Result Status Stop) → IsErrAnd r Q → IfOk r P
+no_answer P Q (Ok answer) exit = absurd exit
+no_answer P Q (Err stop) exit = _
+
+pub stopped_before :
+    (Q : Stop → Type 0) (v : Verdict) (old new : HostState) (before after : List DeviceState) (ended : List EndedState) (r : Result Status Stop) → IsErrAnd r Q → new ≡ old
+    → CompletesOrStops v old new before after ended r
+stopped_before Q v old new before after ended (Ok answer) exit same = absurd exit
+stopped_before Q v old new before after ended (Err stop) exit same = stops_before v old new before after same
+
+-- no station's end was told
+pub leaves_none : {X : Type 0} (r : Result Status Stop) (ended : List X) → ended ≡ [] → LeavesNone r ended
+leaves_none (Ok answer) ended none = λ _. none
+leaves_none (Err stop) ended none = none
+
+-- a run that is done is what a command answers
+pub done_answers : (r : Result Status Stop) → IfOk r (λ answer. answer ≡ status.Done) → IfOk r IsCommandStatus
+done_answers (Ok answer) is = subst IsCommandStatus (sym is) _
+done_answers (Err stop) is = _
+
+pub on_err_any : {P : Type 0} (r : Result Status Stop) → P → OnErr r P
+on_err_any (Ok answer) holds = _
+on_err_any (Err stop) holds = holds

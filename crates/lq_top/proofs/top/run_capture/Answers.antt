@@ -1,7 +1,7 @@
-use Rattle.std.proofs.Common.{◌∙◌, map}
+use Rattle.std.proofs.Common.{◌∙◌, inl, map, refl}
 use Rattle.lq_table.specs.Ended.{ended_state}
 use Rattle.lq_files.specs.RunFiles.{run_of}
-use Rattle.lq_top.proofs.RunLemmas.{run_done, run_stops}
+use Rattle.lq_top.proofs.RunLemmas.{on_err_any, run_done, run_stops}
 use Rattle.lq_top.proofs.top.run_capture.Goals as goal
 
 pub returns-clause-err : goal.returns-clause-err
@@ -16,3 +16,15 @@ returns-in-Ok-clause-ok g c =
     (g.H.Host.state c.write_run.new.host) (map g.D.TxDevice.state c.args.bench.now.items) (map g.D.TxDevice.state c.send_all.new.bench.items)
     (c.deref.ensures.value ∙ c.in_ok-infos.ensures.infos) c.deref-3.ensures.value c.in_ok-fates.ensures.fates (map ended_state c.send_all.new.ended.items) c.in_ok-fates.ensures.ended
     c.in-Ok.ensures.ok
+
+pub returns-in_err-infos-clause-err : goal.returns-in_err-infos-clause-err
+returns-in_err-infos-clause-err g c = on_err_any c.from_residual.result (inl refl)
+
+pub returns-in_err-fates-clause-err : goal.returns-in_err-fates-clause-err
+returns-in_err-fates-clause-err g c = on_err_any c.from_residual-in_err-fates.result (inl refl)
+
+pub returns-in-Ok-clause-err : goal.returns-in-Ok-clause-err
+returns-in-Ok-clause-err g c = _
+
+pub returns-clause-ok : goal.returns-clause-ok
+returns-clause-ok g c = _
