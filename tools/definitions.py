@@ -66,7 +66,8 @@ def read_definitions(path):
         if not line or edge and re.match(r"(pub )?(use|mod) ", line):
             # a comment that stands alone is of a whole part
             comment = []
-        elif edge and line.startswith("--"):
+        elif edge and line.startswith(("--", "infix")):
+            # how an operator binds is of the definition below, as a comment is
             comment.append(line)
         elif edge and line.startswith("module "):
             sections.append(line)
@@ -103,10 +104,11 @@ class Names:
                 self.modules[alias or path.rpartition(".")[2]] = path
 
     def mentioned_in(self, text):
-        """What a text mentions, as modules and names; of a qualified name, both its parts."""
+        """What a text mentions, as modules and names; of a qualified name, both its parts; of `do`, the operator that joins its lines."""
         tokens = TOKEN.findall(text)
+        words = set(tokens) | ({">>="} if "do" in tokens else set())
         for name, key in self.items.items():
-            if "◌" in name and set(tokens).issuperset(filter(None, name.split("◌"))):
+            if "◌" in name and words.issuperset(filter(None, name.split("◌"))):
                 yield key
         for at, token in enumerate(tokens):
             if token in self.modules and tokens[at + 1 : at + 2] == ["."]:
@@ -260,9 +262,9 @@ class Repository:
         keys = {self.meant(*key) for key in names.mentioned_in(bare)}
         return keys - {None}
 
-    def reached_from(self, keys):
-        """These definitions and all that they rest on, each after those that it rests on."""
-        found, seen = [], set()
+    def reached_from(self, keys, without=()):
+        """These definitions and all that they rest on, each after those that it rests on; some and what only they rest on are left out."""
+        found, seen = [], set(without)
         for start in keys:
             waiting = [(start, None)]
             while waiting:

@@ -1,5 +1,5 @@
 -- What clap makes of the command table and words that aren't empty and have no dash in front.
-use Rattle.std.proofs.Common.{◌≡◌, ◌≤◌, ◌∙◌, ◌&&◌, ℕ, Bool, true, false, refl, sym, ap, true≢false, inl, inr, List, [], ◌∷◌, ◌++◌, Option, Some, None, Bor, subst, codes, if◌then◌else◌}
+use Rattle.std.proofs.Common.{◌≡◌, ◌≤◌, ◌∙◌, ◌&&◌, ℕ, Bool, true, false, refl, sym, ap, true≢false, inl, inr, List, [], ◌∷◌, ◌++◌, Option, Some, None, Bor, subst, codes, if◌then◌else◌, nat_le}
 use Rattle.std.specs.Prelude.{is_some, option_and_then, option_map, unwrap_or, slice_get}
 use Rattle.std.specs.List.{fold, list_all}
 use Rattle.std.specs.Str.{bytes_eq}
@@ -14,8 +14,8 @@ use Rattle.clap.specs.Walk.{Held, Names, Row, Text, Walk, finished, idle, nothin
 use Rattle.clap.specs.declared.builder.value_parser.Reading.TheVariants.{AsWritten}
 use Rattle.clap.specs.declared.parser.matches.ValueSource.TheVariants.{CommandLine}
 use Rattle.clap.proofs.WalkLemmas.{both, walk_stopped}
-use Rattle.lq_run_core.specs.Schedule.{number_in, number_of, within}
-use Rattle.lq_files.specs.Command.{CommandWords, AreOperandsWithin, OfGen, OfTap, OfTrace, command_of_words, command_of_five, command_of_one, command_of_three, gen_of, is_operand, bytes_of_words, tap_of}
+use Rattle.lq_run_core.specs.Schedule.{number_in, number_of}
+use Rattle.lq_files.specs.Command.{CommandWords, AreOperandsWithin, OfGen, OfTap, OfTrace, command_of_words, command_with, gen_of, is_operand, bytes_of_words, tap_of}
 use Rattle.lq_files.specs.Forms.{command_in, five_in, one_in, table_app, three_in}
 use Rattle.lq_files.proofs.ParseLemmas.{Fails, IsPlain, built_taken, fails_here, fails_later, level_fails_after, level_fails_below, level_fails_in_walk, level_taken, passes_more, passes_none, plain, some_kind, standing, step, step_fails_as, step_is_taken}
 
@@ -200,7 +200,7 @@ module _ (verb p c o : Text) (first : IsPlain p) (second : IsPlain c) (third : I
   three_taken = level_taken (three verb) [] nothing_held (p ∷ c ∷ o ∷ []) false (standing (held_three p c o) 4) (walk_three verb p c o first second third) three_passes refl refl refl
 
   -- and they are the operands
-  three_matched : three_in verb (rows_at (three verb) (p ∷ c ∷ o ∷ [])).1 ≡ command_of_three verb p c o
+  three_matched : three_in verb (rows_at (three verb) (p ∷ c ∷ o ∷ [])).1 ≡ command_with verb (p ∷ c ∷ o ∷ [])
   three_matched = ap (λ (w : Walk). three_in verb (finished (three verb).rules w.held)) (walk_three verb p c o first second third)
 
 module _ (f : Text) (first : IsPlain f) where
@@ -210,7 +210,7 @@ module _ (f : Text) (first : IsPlain f) where
       (passes_more one [] _ _ f [] (step_is_taken [] nothing_held 1 f refl first one) (walked_only f first) (passes_none one [] (standing (held_one f) 2))) refl refl refl
 
   -- and it is the operand
-  one_matched : one_in trace (rows_at one (f ∷ [])).1 ≡ command_of_one trace f
+  one_matched : one_in trace (rows_at one (f ∷ [])).1 ≡ command_with trace (f ∷ [])
   one_matched = ap (λ (w : Walk). one_in trace (finished one.rules w.held)) (walked_only f first)
 
 module _ (p c o f i : Text) (a : IsPlain p) (b : IsPlain c) (d : IsPlain o) (e : IsPlain f) (g : IsPlain i) where
@@ -229,7 +229,7 @@ module _ (p c o f i : Text) (a : IsPlain p) (b : IsPlain c) (d : IsPlain o) (e :
       level_taken five [] nothing_held (p ∷ c ∷ o ∷ f ∷ i ∷ []) false (standing (held_five p c o f i) 6) (walk_five p c o f i a b d e g) five_passes refl refl refl
 
   -- and they are the operands
-  five_matched : five_in tap (rows_at five (p ∷ c ∷ o ∷ f ∷ i ∷ [])).1 ≡ command_of_five tap p c o f i
+  five_matched : five_in tap (rows_at five (p ∷ c ∷ o ∷ f ∷ i ∷ [])).1 ≡ command_with tap (p ∷ c ∷ o ∷ f ∷ i ∷ [])
   five_matched = ap (λ (w : Walk). five_in tap (finished five.rules w.held)) (walk_five p c o f i a b d e g)
 
 -- WHAT IS REFUSED
@@ -317,6 +317,14 @@ if_none : (b : Bool) → ◌≡◌ {A = Option CommandWords} None (if b then Non
 if_none true = refl
 if_none false = refl
 
+-- operands that aren't empty and have no dash in front are judged by the table alone
+taken : (verb : Text) (rest : List Text) → list_all is_operand rest ≡ true → command_with verb rest ≡ command_of_words (verb ∷ rest)
+taken verb rest all = sym (ap (λ b. if b then command_with verb rest else None) all)
+
+-- what is no command by the table is none
+refused : (verb : Text) (rest : List Text) → None ≡ command_with verb rest → None ≡ command_of_words (verb ∷ rest)
+refused verb rest none = if_none (list_all is_operand rest) ∙ ap (λ (c : Option CommandWords). if list_all is_operand rest then c else None) none
+
 -- other texts differ, whichever stands first
 turned : (a b : Text) → bytes_eq a b ≡ false → bytes_eq b a ≡ false
 turned a b differ = elim (cases_Bool (bytes_eq b a)) [
@@ -325,9 +333,9 @@ turned a b differ = elim (cases_Bool (bytes_eq b a)) [
 ]
 
 -- no verb but `tap` has more than three operands
-no_more : (verb p c o n : Text) (rest : List Text) → bytes_eq verb tap ≡ false → None ≡ command_of_words (verb ∷ p ∷ c ∷ o ∷ n ∷ rest)
+no_more : (verb p c o n : Text) (rest : List Text) → bytes_eq verb tap ≡ false → None ≡ command_with verb (p ∷ c ∷ o ∷ n ∷ rest)
 no_more verb p c o n [] other = refl
-no_more verb p c o n (m ∷ []) other = rw other (if_none (is_operand p && (is_operand c && (is_operand o && (is_operand n && is_operand m)))))
+no_more verb p c o n (m ∷ []) other = rw other refl
 no_more verb p c o n (m ∷ l ∷ ls) other = refl
 
 -- plain words are matched as the table says; or they are refused, and are no command
@@ -341,11 +349,11 @@ judged_three :
 judged_three verb is other no_tap [] all = Refused (form_fails verb (three verb) is [] (none_of_three verb)) refl
 judged_three verb is other no_tap (p ∷ []) all =
     let a = (both (is_operand p) _ all).0 in
-    Refused (form_fails verb (three verb) is (p ∷ []) (one_of_three verb p (plain p a))) (rw (a, other) refl)
+    Refused (form_fails verb (three verb) is (p ∷ []) (one_of_three verb p (plain p a))) (refused verb (p ∷ []) (rw other refl))
 judged_three verb is other no_tap (p ∷ c ∷ []) all =
     let first = both (is_operand p) _ all in
     let second = both (is_operand c) _ first.1 in
-    Refused (form_fails verb (three verb) is (p ∷ c ∷ []) (two_of_three verb p c (plain p first.0) (plain c second.0))) refl
+    Refused (form_fails verb (three verb) is (p ∷ c ∷ []) (two_of_three verb p c (plain p first.0) (plain c second.0))) (refused verb (p ∷ c ∷ []) refl)
 judged_three verb is other no_tap (p ∷ c ∷ o ∷ []) all =
     let first = both (is_operand p) _ all in
     let second = both (is_operand c) _ first.1 in
@@ -353,16 +361,16 @@ judged_three verb is other no_tap (p ∷ c ∷ o ∷ []) all =
     let a = plain p first.0 in
     let b = plain c second.0 in
     let d = plain o third.0 in
-    let matched : command_in (rows_at (three verb) (p ∷ c ∷ o ∷ [])) ≡ command_of_three verb p c o = rw (other, no_tap) (three_matched verb p c o a b d) in
+    let matched : command_in (rows_at (three verb) (p ∷ c ∷ o ∷ [])) ≡ command_with verb (p ∷ c ∷ o ∷ []) = rw (other, no_tap) (three_matched verb p c o a b d) in
     Taken (table_takes verb (three verb) is (p ∷ c ∷ o ∷ []) (three_taken verb p c o a b d))
-    (table_matches verb (three verb) is (p ∷ c ∷ o ∷ []) ∙ matched ∙ rw (first.0, second.0, third.0) refl)
+    (table_matches verb (three verb) is (p ∷ c ∷ o ∷ []) ∙ matched ∙ taken verb (p ∷ c ∷ o ∷ []) all)
 judged_three verb is other no_tap (p ∷ c ∷ o ∷ more ∷ rest) all =
     let first = both (is_operand p) _ all in
     let second = both (is_operand c) _ first.1 in
     let third = both (is_operand o) _ second.1 in
     let fourth = both (is_operand more) _ third.1 in
     Refused (form_fails verb (three verb) is (p ∷ c ∷ o ∷ more ∷ rest)
-    (more_than_three verb p c o more rest (plain p first.0) (plain c second.0) (plain o third.0) (plain more fourth.0))) (no_more verb p c o more rest no_tap)
+    (more_than_three verb p c o more rest (plain p first.0) (plain c second.0) (plain o third.0) (plain more fourth.0))) (refused verb (p ∷ c ∷ o ∷ more ∷ rest) (no_more verb p c o more rest no_tap))
 
 -- the words after `trace`
 judged_trace : (rest : List Text) → list_all is_operand rest ≡ true → IsJudged (trace ∷ rest)
@@ -370,16 +378,16 @@ judged_trace [] all = Refused (form_fails trace one is_trace [] none_of_one) ref
 judged_trace (f ∷ []) all =
     let a = (both (is_operand f) _ all).0 in
     Taken (table_takes trace one is_trace (f ∷ []) (one_taken f (plain f a)))
-    (table_matches trace one is_trace (f ∷ []) ∙ one_matched f (plain f a) ∙ rw a refl)
+    (table_matches trace one is_trace (f ∷ []) ∙ one_matched f (plain f a) ∙ taken trace (f ∷ []) all)
 judged_trace (f ∷ more ∷ rest) all =
     let first = both (is_operand f) _ all in
     let second = both (is_operand more) _ first.1 in
     let fails = form_fails trace one is_trace (f ∷ more ∷ rest) (more_than_one f more rest (plain f first.0) (plain more second.0)) in
-    Refused fails (no_trace more rest)
+    Refused fails (refused trace (f ∷ more ∷ rest) (no_trace more rest))
   where
-    no_trace : (next : Text) (after : List Text) → None ≡ command_of_words (trace ∷ f ∷ next ∷ after)
+    no_trace : (next : Text) (after : List Text) → None ≡ command_with trace (f ∷ next ∷ after)
     no_trace next [] = refl
-    no_trace next (o ∷ []) = if_none (is_operand f && (is_operand next && is_operand o))
+    no_trace next (o ∷ []) = refl
     no_trace next (o ∷ n ∷ ns) = no_more trace f next o n ns refl
 
 -- the words after `tap`
@@ -387,23 +395,23 @@ judged_tap : (rest : List Text) → list_all is_operand rest ≡ true → IsJudg
 judged_tap [] all = Refused (form_fails tap five is_tap [] none_of_five) refl
 judged_tap (p ∷ []) all =
     let a = (both (is_operand p) _ all).0 in
-    Refused (form_fails tap five is_tap (p ∷ []) (one_of_five p (plain p a))) (if_none (is_operand p))
+    Refused (form_fails tap five is_tap (p ∷ []) (one_of_five p (plain p a))) (refused tap (p ∷ []) refl)
 judged_tap (p ∷ c ∷ []) all =
     let first = both (is_operand p) _ all in
     let second = both (is_operand c) _ first.1 in
-    Refused (form_fails tap five is_tap (p ∷ c ∷ []) (two_of_five p c (plain p first.0) (plain c second.0))) refl
+    Refused (form_fails tap five is_tap (p ∷ c ∷ []) (two_of_five p c (plain p first.0) (plain c second.0))) (refused tap (p ∷ c ∷ []) refl)
 judged_tap (p ∷ c ∷ o ∷ []) all =
     let first = both (is_operand p) _ all in
     let second = both (is_operand c) _ first.1 in
     let third = both (is_operand o) _ second.1 in
     Refused (form_fails tap five is_tap (p ∷ c ∷ o ∷ []) (three_of_five p c o (plain p first.0) (plain c second.0) (plain o third.0)))
-    (if_none (is_operand p && (is_operand c && is_operand o)))
+    (refused tap (p ∷ c ∷ o ∷ []) refl)
 judged_tap (p ∷ c ∷ o ∷ f ∷ []) all =
     let first = both (is_operand p) _ all in
     let second = both (is_operand c) _ first.1 in
     let third = both (is_operand o) _ second.1 in
     let fourth = both (is_operand f) _ third.1 in
-    Refused (form_fails tap five is_tap (p ∷ c ∷ o ∷ f ∷ []) (four_of_five p c o f (plain p first.0) (plain c second.0) (plain o third.0) (plain f fourth.0))) refl
+    Refused (form_fails tap five is_tap (p ∷ c ∷ o ∷ f ∷ []) (four_of_five p c o f (plain p first.0) (plain c second.0) (plain o third.0) (plain f fourth.0))) (refused tap (p ∷ c ∷ o ∷ f ∷ []) refl)
 judged_tap (p ∷ c ∷ o ∷ f ∷ i ∷ []) all =
     let first = both (is_operand p) _ all in
     let second = both (is_operand c) _ first.1 in
@@ -416,7 +424,7 @@ judged_tap (p ∷ c ∷ o ∷ f ∷ i ∷ []) all =
     let e = plain f fourth.0 in
     let g = plain i fifth.0 in
     Taken (table_takes tap five is_tap (p ∷ c ∷ o ∷ f ∷ i ∷ []) (five_taken p c o f i a b d e g))
-    (table_matches tap five is_tap (p ∷ c ∷ o ∷ f ∷ i ∷ []) ∙ five_matched p c o f i a b d e g ∙ rw (first.0, second.0, third.0, fourth.0, fifth.0) refl)
+    (table_matches tap five is_tap (p ∷ c ∷ o ∷ f ∷ i ∷ []) ∙ five_matched p c o f i a b d e g ∙ taken tap (p ∷ c ∷ o ∷ f ∷ i ∷ []) all)
 judged_tap (p ∷ c ∷ o ∷ f ∷ i ∷ more ∷ rest) all =
     let first = both (is_operand p) _ all in
     let second = both (is_operand c) _ first.1 in
@@ -425,16 +433,16 @@ judged_tap (p ∷ c ∷ o ∷ f ∷ i ∷ more ∷ rest) all =
     let fifth = both (is_operand i) _ fourth.1 in
     let sixth = both (is_operand more) _ fifth.1 in
     Refused (form_fails tap five is_tap (p ∷ c ∷ o ∷ f ∷ i ∷ more ∷ rest)
-    (more_than_five p c o f i more rest (plain p first.0) (plain c second.0) (plain o third.0) (plain f fourth.0) (plain i fifth.0) (plain more sixth.0))) refl
+    (more_than_five p c o f i more rest (plain p first.0) (plain c second.0) (plain o third.0) (plain f fourth.0) (plain i fifth.0) (plain more sixth.0))) (refused tap (p ∷ c ∷ o ∷ f ∷ i ∷ more ∷ rest) refl)
 
 -- with another verb there is no command
 no_command :
     (verb : Text) (rest : List Text) → bytes_eq verb run ≡ false → bytes_eq verb gen ≡ false → bytes_eq verb trace ≡ false → bytes_eq verb tap ≡ false
-    → None ≡ command_of_words (verb ∷ rest)
+    → None ≡ command_with verb rest
 no_command verb [] no_run no_gen no_trace no_tap = refl
-no_command verb (p ∷ []) no_run no_gen no_trace no_tap = rw no_trace (if_none (is_operand p))
+no_command verb (p ∷ []) no_run no_gen no_trace no_tap = rw no_trace refl
 no_command verb (p ∷ c ∷ []) no_run no_gen no_trace no_tap = refl
-no_command verb (p ∷ c ∷ o ∷ []) no_run no_gen no_trace no_tap = rw (no_run, no_gen) (if_none (is_operand p && (is_operand c && is_operand o)))
+no_command verb (p ∷ c ∷ o ∷ []) no_run no_gen no_trace no_tap = rw (no_run, no_gen) refl
 no_command verb (p ∷ c ∷ o ∷ n ∷ ns) no_run no_gen no_trace no_tap = no_more verb p c o n ns no_tap
 
 judged : (words : List Text) → list_all is_operand words ≡ true → IsJudged words
@@ -451,7 +459,7 @@ judged (verb ∷ rest) all =
             | inl named ↦ subst (λ v. IsJudged (v ∷ rest)) ((bytes_eq-Decides tap verb).0 named) (judged_tap rest words.1)
             | inr no_tap ↦
                 Refused (unknown_verb verb rest no_run no_gen no_trace no_tap (plain verb words.0))
-                (no_command verb rest (turned run verb no_run) (turned gen verb no_gen) (turned trace verb no_trace) (turned tap verb no_tap))
+                (refused verb rest (no_command verb rest (turned run verb no_run) (turned gen verb no_gen) (turned trace verb no_trace) (turned tap verb no_tap)))
           ]
         ]
       ]
@@ -484,32 +492,12 @@ verb_is_plain verb other rest is all some = elim (cases_Bool (bytes_eq other ver
 -- nor are those with a word that is empty or has a dash in front
 pub not_plain : (words : List Text) → list_all is_operand words ≡ false → None ≡ command_of_words words
 not_plain [] some = absurd (true≢false some)
-not_plain (verb ∷ []) some = refl
-not_plain (verb ∷ p ∷ []) some = elim (cases_Bool (is_operand p)) [
-  | inl is ↦ rw (is, verb_is_plain trace verb (p ∷ []) refl (rw is refl) some) refl
-  | inr no_operand ↦ rw no_operand refl
+not_plain (verb ∷ rest) some = elim (cases_Bool (list_all is_operand rest)) [
+  | inl all ↦
+      let differs : (known : Text) → is_operand known ≡ true → bytes_eq verb known ≡ false = λ known is. verb_is_plain known verb rest is all some in
+      refused verb rest (no_command verb rest (differs run refl) (differs gen refl) (differs trace refl) (differs tap refl))
+  | inr no_operands ↦ sym (ap (λ b. if b then command_with verb rest else None) no_operands)
 ]
-not_plain (verb ∷ p ∷ c ∷ []) some = refl
-not_plain (verb ∷ p ∷ c ∷ o ∷ []) some = elim (cases_Bool (is_operand p && (is_operand c && is_operand o))) [
-  | inl are ↦
-      let first = both (is_operand p) _ are in
-      let second = both (is_operand c) _ first.1 in
-      let all : list_all is_operand (p ∷ c ∷ o ∷ []) ≡ true = rw (first.0, second.0, second.1) refl in
-      rw (are, verb_is_plain run verb (p ∷ c ∷ o ∷ []) refl all some, verb_is_plain gen verb (p ∷ c ∷ o ∷ []) refl all some) refl
-  | inr no_operands ↦ rw no_operands refl
-]
-not_plain (verb ∷ p ∷ c ∷ o ∷ f ∷ []) some = refl
-not_plain (verb ∷ p ∷ c ∷ o ∷ f ∷ i ∷ []) some = elim (cases_Bool (is_operand p && (is_operand c && (is_operand o && (is_operand f && is_operand i))))) [
-  | inl are ↦
-      let first = both (is_operand p) _ are in
-      let second = both (is_operand c) _ first.1 in
-      let third = both (is_operand o) _ second.1 in
-      let fourth = both (is_operand f) _ third.1 in
-      let all : list_all is_operand (p ∷ c ∷ o ∷ f ∷ i ∷ []) ≡ true = rw (first.0, second.0, third.0, fourth.0, fourth.1) refl in
-      rw (are, verb_is_plain tap verb (p ∷ c ∷ o ∷ f ∷ i ∷ []) refl all some) refl
-  | inr no_operands ↦ rw no_operands refl
-]
-not_plain (verb ∷ p ∷ c ∷ o ∷ f ∷ i ∷ n ∷ ns) some = refl
 
 -- the words and their texts
 pub words_all : (words : List (Bor Text)) → list_all (λ word. is_operand word.now) words ≡ list_all is_operand (bytes_of_words words)
@@ -528,13 +516,16 @@ few_if : (b : Bool) (x y : Option CommandWords) → AreOperandsWithin x → AreO
 few_if true x y first second = first
 few_if false x y first second = second
 
-few_within : (n : ℕ) (number : ℕ) (out : List ℕ) → AreOperandsWithin (option_map (λ k. OfGen (record { number = number; count = k; out = out })) (within 0 1000000 (Some n)))
+few_within : (n : ℕ) (number : ℕ) (out : List ℕ)
+    → AreOperandsWithin (option_map (λ k. OfGen (record { number = number; count = k; out = out })) (if nat_le 0 n && nat_le n 1000000 then Some n else None))
 few_within n number out = elim (leb_tells n 1000000) [
   | inl fits ↦ rw (leb-zero n, fits.0) fits.1
   | inr above ↦ rw (leb-zero n, above.0) _
 ]
 
-few_in : (number : ℕ) (count : Option ℕ) (out : List ℕ) → AreOperandsWithin (option_map (λ k. OfGen (record { number = number; count = k; out = out })) (within 0 1000000 count))
+few_in : (number : ℕ) (count : Option ℕ) (out : List ℕ)
+    → AreOperandsWithin (option_map (λ k. OfGen (record { number = number; count = k; out = out }))
+    (option_and_then (λ n. if nat_le 0 n && nat_le n 1000000 then Some n else None) count))
 few_in number None out = _
 few_in number (Some n) out = few_within n number out
 
@@ -543,7 +534,8 @@ few_gen : (number : Option ℕ) (count : List ℕ) (out : List ℕ)
 few_gen None count out = _
 few_gen (Some n) count out = few_in n (number_of count) out
 
-within_is : (low high : ℕ) (r : Option ℕ) (n : ℕ) → within low high r ≡ Some n → (low ≤ n) × (n ≤ high)
+within_is : (low high : ℕ) (r : Option ℕ) (n : ℕ)
+    → option_and_then (λ k. if nat_le low k && nat_le k high then Some k else None) r ≡ Some n → (low ≤ n) × (n ≤ high)
 within_is low high None n e = cc
 within_is low high (Some m) n e = elim (leb_tells low m) [
   | inl above ↦ elim (leb_tells m high) [
@@ -570,14 +562,16 @@ few_tap senders len batch capture out =
     (within_is 1 64 (number_of batch))
 
 -- a command generates at most 1,000,000 records, and a tap is within its limits
+limits_with : (verb : Text) (rest : List Text) → AreOperandsWithin (command_with verb rest)
+limits_with verb [] = _
+limits_with verb (p ∷ []) = few_if (bytes_eq verb trace) (Some (OfTrace p)) None _ _
+limits_with verb (p ∷ c ∷ []) = _
+limits_with verb (p ∷ c ∷ o ∷ []) =
+    few_if (bytes_eq verb run) _ _ _ (few_if (bytes_eq verb gen) (gen_of p c o) None (few_gen (number_in 0 4294967295 p) c o) _)
+limits_with verb (p ∷ c ∷ o ∷ f ∷ []) = _
+limits_with verb (p ∷ c ∷ o ∷ f ∷ i ∷ []) = few_if (bytes_eq verb tap) (tap_of p c o f i) None (few_tap p c o f i) _
+limits_with verb (p ∷ c ∷ o ∷ f ∷ i ∷ n ∷ ns) = _
+
 pub within_limits : (words : List Text) → AreOperandsWithin (command_of_words words)
 within_limits [] = _
-within_limits (verb ∷ []) = _
-within_limits (verb ∷ p ∷ []) = few_if (is_operand p) _ None (few_if (bytes_eq verb trace) (Some (OfTrace p)) None _ _) _
-within_limits (verb ∷ p ∷ c ∷ []) = _
-within_limits (verb ∷ p ∷ c ∷ o ∷ []) = few_if (is_operand p && (is_operand c && is_operand o)) _ None
-    (few_if (bytes_eq verb run) _ _ _ (few_if (bytes_eq verb gen) (gen_of p c o) None (few_gen (number_in 0 4294967295 p) c o) _)) _
-within_limits (verb ∷ p ∷ c ∷ o ∷ f ∷ []) = _
-within_limits (verb ∷ p ∷ c ∷ o ∷ f ∷ i ∷ []) = few_if (is_operand p && (is_operand c && (is_operand o && (is_operand f && is_operand i)))) _ None
-    (few_if (bytes_eq verb tap) (tap_of p c o f i) None (few_tap p c o f i) _) _
-within_limits (verb ∷ p ∷ c ∷ o ∷ f ∷ i ∷ n ∷ ns) = _
+within_limits (verb ∷ rest) = few_if (list_all is_operand rest) _ None (limits_with verb rest) _

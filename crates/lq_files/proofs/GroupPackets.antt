@@ -19,7 +19,7 @@ use Rattle.lq_mq.specs.Joint.{joint}
 use Rattle.lq_mq.specs.Laws.{IsBefore, HasAtSerial}
 use Rattle.lq_mq.proofs.Order.{Pairs, each-all, each-is-sent, each-map, once, pairs-all, pairs-in-order, pairs-map, stands-in}
 use Rattle.lq_mq.proofs.Serials.{joint-length, subsequences}
-use Rattle.lq_files.specs.Groups.{AreOfGroup, IsChildOf, IsSentBefore, IsSentByGroup, is_sent_between, sent_by_children, sent_by_group}
+use Rattle.lq_files.specs.Groups.{AreOfGroup, IsChildOf, IsSentBefore, IsSentByGroup, is_sent_between, sent_by_group}
 
 -- WHAT ITS CHILDREN SENT
 
@@ -28,7 +28,7 @@ module _ (plan : Plan) (fates : List Fate) (j : ℕ) where
   first = first_at plan.groups j
 
   abbrev lists : List (List ℕ)
-  lists = sent_by_children plan fates j
+  lists = map (λ k. sent_of fates (first + k)) (first_numbers (mq_at plan.groups j))
 
   -- list i is that of child i
   list-at : (i : ℕ) → i < mq_at plan.groups j → slice_get lists i ≡ Some (sent_of fates (first + i))
@@ -158,4 +158,4 @@ lengths fates low (suc k) =
 -- the capture of a group has as many packets as its units sent
 pub group_length : (plan : Plan) (fates : List Fate) (j : ℕ) → length (sent_by_group plan fates j)
     ≡ count_by (is_sent_between (first_at plan.groups j) (first_at plan.groups j + mq_at plan.groups j)) fates
-group_length plan fates j = joint-length (sent_by_children plan fates j) ∙ lengths fates (first_at plan.groups j) (mq_at plan.groups j)
+group_length plan fates j = joint-length (lists plan fates j) ∙ lengths fates (first_at plan.groups j) (mq_at plan.groups j)

@@ -1,5 +1,5 @@
 -- The numbers of `gen` and `tap`, as std parses them.
-use Rattle.std.proofs.Common.{◌≡◌, ◌≤◌, ◌<◌, ◌^◌, ◌&&◌, ℕ, List, length, Option, Some, None, Result, Err, true, false, nat_le, nat_lt, refl, inl, inr, subst, arith, rules}
+use Rattle.std.proofs.Common.{◌≡◌, ◌≤◌, ◌<◌, ◌^◌, ◌&&◌, ℕ, List, length, Option, Some, None, Result, Err, true, false, if◌then◌else◌, nat_le, nat_lt, refl, inl, inr, subst, arith, rules}
 use Rattle.std.specs.Char.{is_ascii_digit}
 use Rattle.std.specs.List.{list_all}
 use Rattle.std.specs.Result.{OkIff}
@@ -8,7 +8,7 @@ use Rattle.std.proofs.lemmas.Bool.{ltb-true}
 use Rattle.std.proofs.lemmas.Bool.Decides.{leb_tells}
 use Rattle.std.proofs.lemmas.Str.Parse.{IsNumeralModel, numerals_by_value, parse_digits}
 use Rattle.clap.proofs.WalkLemmas.{both}
-use Rattle.lq_run_core.specs.Schedule.{is_number, number_in, within}
+use Rattle.lq_run_core.specs.Schedule.{is_number, number_in}
 
 own : IsNumeralModel (λ ds. list_all is_ascii_digit ds ≡ true) (digits_value 10)
 own = numerals_by_value (λ ds. list_all is_ascii_digit ds ≡ true) (search rules)
@@ -17,7 +17,7 @@ own = numerals_by_value (λ ds. list_all is_ascii_digit ds ≡ true) (search rul
 are_digits : (word : List ℕ) → is_number word ≡ true → (nat_lt 0 (length word) ≡ true) × (list_all is_ascii_digit word ≡ true)
 are_digits word is = both (nat_lt 0 (length word)) (list_all is_ascii_digit word) (both (nat_lt 0 (length word) && list_all is_ascii_digit word) _ is).0
 
-is_above : (least most n : ℕ) → nat_le n most ≡ false → ◌≡◌ {A = Option ℕ} None (within least most (Some n))
+is_above : (least most n : ℕ) → nat_le n most ≡ false → ◌≡◌ {A = Option ℕ} None (if nat_le least n && nat_le n most then Some n else None)
 is_above least most n above = elim (leb_tells least n) [ inl at ↦ rw (at.0, above) refl | inr under ↦ rw under.0 refl ]
 
 -- a number that isn't read is above them

@@ -1,7 +1,7 @@
 -- Texts that are written through a buffer: what was written, what stands in the buffer, and what is still to come.
-use Rattle.std.proofs.Common.{◌≡◌, ◌<◌, ◌+◌, get_or, ◌++◌, [], ℕ, List, length, take, drop, refl, sym, ap, ◌∙◌, append_assoc, append-nil, length-append, arith, None, Result, Ok, OnOk, OnErr, subst}
+use Rattle.std.proofs.Common.{◌≡◌, ◌<◌, ◌+◌, get_or, ◌++◌, [], ◌∷◌, ℕ, List, length, take, drop, refl, sym, ap, ◌∙◌, append_assoc, append-nil, length-append, arith, None, Result, Ok, OnOk, OnErr, inr, subst}
 use Rattle.std.specs.Fmt.{decimal}
-use Rattle.std.specs.List.{flat_map}
+use Rattle.std.specs.List.{enumerate_from, flat_map}
 use Rattle.std.proofs.lemmas.List.{at_drop_all, at_drop_more, take-append-drop, take_at}
 use Rattle.lq_host.specs.Host.{HostState, Writes, closed, filed, opened_handle, wrote}
 use Rattle.lq_host.proofs.HostLemmas.{file_made, wrote-nil, wrote_more}
@@ -10,7 +10,7 @@ use Rattle.lq_pcapng.specs.declared.file.CaptureFile.{CaptureFile}
 use Rattle.lq_pcapng.specs.declared.file.CaptureFile.TheVariants.{Classic, Pcapng}
 use Rattle.lq_files.specs.Lines.{lines_of}
 use Rattle.lq_files.specs.Parts.{IsFront, IsStreamed, lines_from, packets_from}
-use Rattle.lq_files.specs.Written.{FileHasPrefix}
+use Rattle.lq_files.specs.Written.{FileIsCut}
 use Rattle.lq_files.proofs.MoveLemmas.{made_handles, some_front}
 
 -- nothing was written yet
@@ -100,6 +100,11 @@ line_next words fates n d buffer pushed within pushed_is =
 pub lines_end : {F : Type 0} (words : F → List ℕ) (fates : List F) → lines_from words fates (length fates) ≡ []
 lines_end words fates = at_drop_all (lines_of words (length fates)) fates (length fates) (omega arith)
 
+-- a text of fates, as the lines of its numbered fates
+pub numbered_lines : {F : Type 0} (words : F → List ℕ) (n : ℕ) (fates : List F) → lines_of words n fates ≡ flat_map (λ fate. decimal fate.0 ++ words fate.1) (enumerate_from n fates)
+numbered_lines words n [] = refl
+numbered_lines words n (fate ∷ fates) = ap (λ rest. (decimal n ++ words fate) ++ rest) (numbered_lines words (n + 1) fates)
+
 -- FILES
 
 -- a file that was created, written to and finished, where the work on it was done
@@ -112,16 +117,16 @@ made_whole r value s name h text mid written new was made done whole closed_is =
 -- and where it was done or stopped on the way
 pub made_front :
     {T E : Type 0} (r : Result T E) (s : HostState) (name : List ℕ) (h : ℕ) (text : List ℕ) (mid written new : HostState) → s.handles h ≡ None → mid ≡ opened_handle (filed s name []) h (Writes name)
-    → OnOk r (written ≡ wrote mid h text) → OnErr r (IsFront mid h written text) → new ≡ closed written h → FileHasPrefix name text s new
+    → OnOk r (written ≡ wrote mid h text) → OnErr r (IsFront mid h written text) → new ≡ closed written h → FileIsCut name text s new
 made_front r s name h text mid written new was made whole part closed_is =
     let front : IsFront mid h written text = some_front r mid written h text whole part in
-    (front.0, front.1, file_made s name h (take front.0 text) mid written new was made front.2 closed_is)
+    inr (front.0, front.1, file_made s name h (take front.0 text) mid written new was made front.2 closed_is)
 
 -- What is known of a file once it was finished, after work on it with this answer: the handles are as they were, the file holds a
 -- front of the text, and all of it where the work was done.
 pub record IsFinished {T E : Type 0} (r : Result T E) (s : HostState) (name text : List ℕ) (new : HostState) : Type 0 where
   pub handles : new.handles ≡ s.handles
-  pub front : FileHasPrefix name text s new
+  pub front : FileIsCut name text s new
   pub whole : (value : T) → r ≡ Ok value → new ≡ filed s name text
 
 pub finished :

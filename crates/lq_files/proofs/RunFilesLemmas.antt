@@ -1,14 +1,21 @@
--- What is written of a run, from what its parts are.
-use Rattle.std.proofs.Common.{◌≡◌, ◌⊎◌, ◌++◌, ◌∷◌, [], ℕ, List, sym, ap, ◌∙◌, subst, inl, inr}
+-- What is written of a run and of a tap, from what its parts are.
+use Rattle.std.proofs.Common.{◌≡◌, ◌⊎◌, ◌++◌, ◌∷◌, [], ℕ, List, sym, ap, ap₂, ◌∙◌, subst, inl, inr}
 use Rattle.lq_model.specs.Plan.{infos_of, unit_count}
+use Rattle.lq_model.specs.Texts.{fates_text}
 use Rattle.lq_model.specs.declared.fate.Fate.{Fate}
 use Rattle.lq_model.specs.declared.fate.Info.{Info}
-use Rattle.lq_host.specs.Host.{HostState, wrote}
-use Rattle.lq_pcapng.specs.File.{packets_of_file}
+use Rattle.lq_host.specs.Host.{HostState, filed, wrote}
+use Rattle.lq_pcapng.specs.File.{packets_of_file, text_of}
+use Rattle.lq_pcapng.specs.declared.file.CaptureFile.{CaptureFile}
+use Rattle.lq_tap_fates.specs.Texts.{tap_counts_line, tap_fate_words, tap_fates_text}
+use Rattle.lq_tap_fates.specs.declared.fate.TapFate.{TapFate}
 use Rattle.lq_files.specs.Groups.{group_files}
-use Rattle.lq_files.specs.RunFiles.{Run, counts_output, unit_files, fates_file, texts_of}
-use Rattle.lq_files.specs.Written.{FileText, FileIsCut, FilesAreCut, OutputHasPrefix, IsCut, file_written, files_written, written}
+use Rattle.lq_files.specs.RunFiles.{Run, counts_output, fates_name, unit_files, texts_of}
+use Rattle.lq_files.specs.Lines.{lines_of}
+use Rattle.lq_files.specs.TapFiles.{read_name, tap_texts_of}
+use Rattle.lq_files.specs.Written.{FileText, FileIsCut, FilesAreCut, OutputHasPrefix, IsCut, files_written, written}
 use Rattle.lq_files.proofs.FileLemmas.{cut_after, cut_before, cut_next, cut_whole, files_written-append, whole_next}
+use Rattle.lq_files.proofs.PieceLemmas.{numbered_lines}
 
 -- the files of the units, of as many as the plan needs, and of the multi-queue roots
 abbrev files_of_units : Run → List Fate → ℕ → List FileText
@@ -17,12 +24,15 @@ files_of_units run fates units = unit_files run.out run.capture fates units
 abbrev files_of_groups : Run → List Fate → List FileText
 files_of_groups run fates = group_files run.out run.capture run.plan fates
 
+abbrev file_of_fates : Run → List Fate → FileText
+file_of_fates run fates = record { name = fates_name run.out; text = fates_text fates }
+
 -- it was stopped in the units' files
 pub stopped_in_units :
     (run : Run) (fates : List Fate) (units : ℕ) (old new : HostState) → units ≡ unit_count run.plan → FilesAreCut (files_of_units run fates units) old new
     → IsCut (texts_of run fates) old new
 stopped_in_units run fates units old new counted cut =
-    inl (cut_before (files_of_units run fates (unit_count run.plan)) (files_of_groups run fates ++ fates_file run.out fates ∷ []) old new
+    inl (cut_before (files_of_units run fates (unit_count run.plan)) (files_of_groups run fates ++ file_of_fates run fates ∷ []) old new
     (subst (λ n. FilesAreCut (files_of_units run fates n) old new) counted cut))
 
 -- those are whole
@@ -36,22 +46,22 @@ module _ (run : Run) (fates : List Fate) (units : ℕ) (old mid : HostState) (co
   -- it was stopped in the files of the multi-queue roots
   pub stopped_in_groups : (new : HostState) → FilesAreCut (files_of_groups run fates) mid new → IsCut (texts_of run fates) old new
   stopped_in_groups new cut =
-      inl (after_units (files_of_groups run fates ++ fates_file run.out fates ∷ []) new (cut_before (files_of_groups run fates) (fates_file run.out fates ∷ []) mid new cut))
+      inl (after_units (files_of_groups run fates ++ file_of_fates run fates ∷ []) new (cut_before (files_of_groups run fates) (file_of_fates run fates ∷ []) mid new cut))
 
   -- these are whole, too
   module _ (next : HostState) (joined : next ≡ files_written mid (files_of_groups run fates)) where
     -- it was stopped in the file of the fates
-    pub stopped_in_fates : (new : HostState) → FileIsCut (fates_file run.out fates) next new → IsCut (texts_of run fates) old new
+    pub stopped_in_fates : (new : HostState) → FileIsCut (fates_name run.out) (fates_text fates) next new → IsCut (texts_of run fates) old new
     stopped_in_fates new cut =
-        inl (after_units (files_of_groups run fates ++ fates_file run.out fates ∷ []) new (cut_next (files_of_groups run fates) (fates_file run.out fates) mid next new joined cut))
+        inl (after_units (files_of_groups run fates ++ file_of_fates run fates ∷ []) new (cut_next (files_of_groups run fates) (file_of_fates run fates) mid next new joined cut))
 
     -- all files are whole
-    module _ (all : HostState) (made : all ≡ file_written next (fates_file run.out fates)) (infos : List Info) (known : infos ≡ infos_of run.plan (packets_of_file run.capture)) where
+    module _ (all : HostState) (made : all ≡ filed next (fates_name run.out) (fates_text fates)) (infos : List Info) (known : infos ≡ infos_of run.plan (packets_of_file run.capture)) where
       whole_files : all ≡ files_written old (texts_of run fates).files
       whole_files =
-          whole_next (files_of_groups run fates) (fates_file run.out fates) mid next all joined made
-          ∙ (ap (λ (s : HostState). files_written s (files_of_groups run fates ++ fates_file run.out fates ∷ [])) whole_units
-          ∙ sym (files_written-append old (files_of_units run fates (unit_count run.plan)) (files_of_groups run fates ++ fates_file run.out fates ∷ [])))
+          whole_next (files_of_groups run fates) (file_of_fates run fates) mid next all joined made
+          ∙ (ap (λ (s : HostState). files_written s (files_of_groups run fates ++ file_of_fates run fates ∷ [])) whole_units
+          ∙ sym (files_written-append old (files_of_units run fates (unit_count run.plan)) (files_of_groups run fates ++ file_of_fates run fates ∷ [])))
 
       -- it was stopped in the counts, or before them
       pub stopped_in_counts : (new : HostState) → (new ≡ all) ⊎ OutputHasPrefix (counts_output run.plan infos fates) all new → IsCut (texts_of run fates) old new
@@ -69,3 +79,32 @@ module _ (run : Run) (fates : List Fate) (units : ℕ) (old mid : HostState) (co
       all_written new done =
           done ∙ ap (λ (s : HostState). wrote s 0 (counts_output run.plan infos fates)) whole_files
           ∙ ap (λ (is : List Info). wrote (files_written old (texts_of run fates).files) 0 (counts_output run.plan is fates)) known
+
+-- THE FILES OF A TAP
+
+-- the file of the packets that were read is whole
+module _ (out : List ℕ) (capture : CaptureFile) (fates : List TapFate) (read : List ℕ) (old mid : HostState) (made : mid ≡ filed old (read_name out) (text_of capture read)) where
+  same_lines : lines_of tap_fate_words 0 fates ≡ tap_fates_text fates
+  same_lines = numbered_lines tap_fate_words 0 fates
+
+  -- it was stopped in the file of the fates
+  pub tap_stopped_in_fates : (new : HostState) → FileIsCut (fates_name out) (lines_of tap_fate_words 0 fates) mid new → IsCut (tap_texts_of out capture fates read) old new
+  tap_stopped_in_fates new cut =
+      inl (inr (inl (subst (λ (s : HostState). FileIsCut (fates_name out) (tap_fates_text fates) s new) made
+      (subst (λ (t : List ℕ). FileIsCut (fates_name out) t mid new) same_lines cut))))
+
+  -- this is whole, too
+  module _ (all : HostState) (told : all ≡ filed mid (fates_name out) (lines_of tap_fate_words 0 fates)) where
+    both_files : all ≡ files_written old (tap_texts_of out capture fates read).files
+    both_files = told ∙ ap₂ (λ (s : HostState) (t : List ℕ). filed s (fates_name out) t) made same_lines
+
+    -- it was stopped in the counts, or before them
+    pub tap_stopped_in_counts : (new : HostState) → (new ≡ all) ⊎ OutputHasPrefix (tap_counts_line fates) all new → IsCut (tap_texts_of out capture fates read) old new
+    tap_stopped_in_counts new cut = elim cut [
+      | inl same ↦ inl (inr (inr (same ∙ both_files)))
+      | inr part ↦ inr (subst (λ (s : HostState). OutputHasPrefix (tap_counts_line fates) s new) both_files part)
+    ]
+
+    -- all is written
+    pub tap_all_written : (new : HostState) → new ≡ wrote all 0 (tap_counts_line fates) → new ≡ written (tap_texts_of out capture fates read) old
+    tap_all_written new done = done ∙ ap (λ (s : HostState). wrote s 0 (tap_counts_line fates)) both_files

@@ -1,5 +1,6 @@
 -- What the bytes of a file are accepted as: a plan on a bench, a capture, a schedule with what it leaves; or the refusal.
 use Rattle.std.specs.Prelude.{◌≤◌, ℕ, nat_lt, if◌then◌else◌, List, length, Result, Ok, Err}
+use Rattle.std.specs.Result.{result_flatten, result_map_both}
 use Rattle.lq_model.specs.Capture.{Refusal as CaptureRefusal}
 use Rattle.lq_model.specs.Plan.{Plan, unit_count}
 use Rattle.lq_model.specs.declared.capture.CaptureReason.TheVariants as capture
@@ -25,21 +26,13 @@ limited_plan_of bytes = if nat_lt 65536 (length bytes) then Err plan.TooLong els
 abbrev pub placed_on : ℕ → Plan → Result Plan Refusal
 placed_on have p = if nat_lt have (unit_count p) then Err (refusal.Bench (unit_count p) have) else Ok p
 
-abbrev pub placed_if_read : ℕ → Result Plan PlanReason → Result Plan Refusal
-placed_if_read have (Err reason) = Err (refusal.Plan reason)
-placed_if_read have (Ok p) = placed_on have p
-
 -- the plan that is run on a bench of so many devices, or the refusal
 abbrev pub plan_for : ℕ → List ℕ → Result Plan Refusal
-plan_for have bytes = placed_if_read have (limited_plan_of bytes)
+plan_for have bytes = result_flatten (result_map_both (placed_on have) refusal.Plan (limited_plan_of bytes))
 
 -- no plan needs more devices: it has at most 8 stations and 64 swaps
 abbrev pub max_units : ℕ
 max_units = 72
-
--- and no plan has more groups of stations
-abbrev pub max_groups : ℕ
-max_groups = 8
 
 -- what is known of a plan that is run
 pub record IsRunnable (have : ℕ) (p : Plan) : Type 0 where
@@ -48,16 +41,13 @@ pub record IsRunnable (have : ℕ) (p : Plan) : Type 0 where
 
 -- CAPTURES
 
-abbrev pub too_long_a_capture : Refusal
-too_long_a_capture = refusal.Capture capture.TooLong 67108864
-
 abbrev pub with_refusal : Result CaptureFile CaptureRefusal → Result CaptureFile Refusal
-with_refusal (Ok c) = Ok c
-with_refusal (Err r) = Err (refusal.Capture r.reason r.place)
+with_refusal read = result_map_both (λ c. c) (λ r. refusal.Capture r.reason r.place) read
 
 -- the capture that bytes are, in either format, or the refusal; more than 67,108,864 bytes are none, whatever they are
 abbrev pub limited_capture_of : List ℕ → Result CaptureFile Refusal
-limited_capture_of bytes = if nat_lt 67108864 (length bytes) then Err too_long_a_capture else with_refusal (capture_file_of bytes)
+limited_capture_of bytes =
+    if nat_lt 67108864 (length bytes) then Err (refusal.Capture capture.TooLong 67108864) else with_refusal (capture_file_of bytes)
 
 -- SCHEDULES
 

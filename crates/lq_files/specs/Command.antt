@@ -1,6 +1,7 @@
 -- The command line.
-use Rattle.std.specs.Prelude.{ℕ, ◌≤◌, Bool, false, not, ◌&&◌, ◌==◌, if◌then◌else◌, List, [], ◌∷◌, map, Option, Some, None, option_map, option_and_then, codes}
+use Rattle.std.specs.Prelude.{ℕ, ◌≤◌, Bool, false, not, ◌==◌, if◌then◌else◌, List, [], ◌∷◌, map, Option, Some, None, option_map, option_and_then, codes}
 use Rattle.std.specs.Borrow.{Bor}
+use Rattle.std.specs.List.{list_all}
 use Rattle.std.specs.Str.{bytes_eq}
 use Rattle.lq_run_core.specs.Schedule.{number_in}
 use Rattle.lq_tap_fates.specs.Fates.{IsTapWithin}
@@ -46,42 +47,33 @@ abbrev pub is_operand : List ℕ → Bool
 is_operand [] = false
 is_operand (c ∷ cs) = not (c == 45)
 
--- both numbers are decimal digits, with no leading zero unless the number is 0, and within their limits
 abbrev pub gen_of : List ℕ → List ℕ → List ℕ → Option CommandWords
 gen_of number count out =
     option_and_then (λ n. option_map (λ k. OfGen (record { number = n; count = k; out = out })) (number_in 0 1000000 count)) (number_in 0 4294967295 number)
 
--- the three numbers are written as those of `gen`, and within their limits
 abbrev pub tap_of : List ℕ → List ℕ → List ℕ → List ℕ → List ℕ → Option CommandWords
 tap_of senders len batch capture out =
     option_and_then (λ s. option_and_then (λ l. option_map (λ b. OfTap (record { senders = s; len = l; batch = b; capture = capture; out = out }))
     (number_in 1 64 batch)) (number_in 1 4096 len)) (number_in 1 8 senders)
 
--- the command of a verb and one operand, of a verb and three, of a verb and five
-abbrev pub command_of_one : List ℕ → List ℕ → Option CommandWords
-command_of_one verb file = if bytes_eq verb (codes "trace") then Some (OfTrace file) else None
-
-abbrev pub command_of_three : List ℕ → List ℕ → List ℕ → List ℕ → Option CommandWords
-command_of_three verb first second third =
+-- the command of a verb and its operands, if they are one
+abbrev pub command_with : List ℕ → List (List ℕ) → Option CommandWords
+command_with verb (file ∷ []) = if bytes_eq verb (codes "trace") then Some (OfTrace file) else None
+command_with verb (first ∷ second ∷ third ∷ []) =
     if bytes_eq verb (codes "run") then Some (OfRun (record { plan = first; capture = second; out = third }))
     else if bytes_eq verb (codes "gen") then gen_of first second third
     else None
-
-abbrev pub command_of_five : List ℕ → List ℕ → List ℕ → List ℕ → List ℕ → List ℕ → Option CommandWords
-command_of_five verb first second third fourth fifth = if bytes_eq verb (codes "tap") then tap_of first second third fourth fifth else None
+command_with verb (senders ∷ len ∷ batch ∷ capture ∷ out ∷ []) =
+    if bytes_eq verb (codes "tap") then tap_of senders len batch capture out else None
+command_with verb _ = None
 
 -- the command that the words are, if they are one
 abbrev pub command_of_words : List (List ℕ) → Option CommandWords
-command_of_words (verb ∷ file ∷ []) = if is_operand file then command_of_one verb file else None
-command_of_words (verb ∷ first ∷ second ∷ third ∷ []) =
-    if is_operand first && (is_operand second && is_operand third) then command_of_three verb first second third else None
-command_of_words (verb ∷ first ∷ second ∷ third ∷ fourth ∷ fifth ∷ []) =
-    if is_operand first && (is_operand second && (is_operand third && (is_operand fourth && is_operand fifth))) then command_of_five verb first second third fourth fifth else None
-command_of_words _ = None
+command_of_words [] = None
+command_of_words (verb ∷ operands) = if list_all is_operand operands then command_with verb operands else None
 
 -- WHAT IS READ
 
--- the words as lists of bytes
 abbrev pub bytes_of_words : List (Bor (List ℕ)) → List (List ℕ)
 bytes_of_words words = map (λ word. word.now) words
 

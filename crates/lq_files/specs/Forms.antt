@@ -1,9 +1,9 @@
 -- The command table as clap reads it.
-use Rattle.std.specs.Prelude.{true, if◌then◌else◌, List, Option, option_and_then, codes}
+use Rattle.std.specs.Prelude.{true, if◌then◌else◌, List, [], ◌∷◌, Option, option_and_then, codes}
 use Rattle.std.specs.Str.{bytes_eq}
 use Rattle.clap.specs.Words.{App, Row, Rule, first_of, new_app, new_rule, with_rule, with_subcommand}
 use Rattle.clap.specs.Walk.{Text}
-use Rattle.lq_files.specs.Command.{CommandWords, command_of_five, command_of_one, command_of_three}
+use Rattle.lq_files.specs.Command.{CommandWords, command_with}
 
 -- an operand that a form can't do without
 abbrev pub operand_rule : Text → Rule
@@ -39,16 +39,16 @@ table_app =
 
 -- the command of a verb and the operands in what its form was matched with
 abbrev pub one_in : Text → List Row → Option CommandWords
-one_in verb rows = option_and_then (command_of_one verb) (first_of (codes "FIRST") rows)
+one_in verb rows = option_and_then (λ file. command_with verb (file ∷ [])) (first_of (codes "FIRST") rows)
 
 abbrev pub three_in : Text → List Row → Option CommandWords
 three_in verb rows =
-    option_and_then (λ first. option_and_then (λ second. option_and_then (command_of_three verb first second)
+    option_and_then (λ first. option_and_then (λ second. option_and_then (λ third. command_with verb (first ∷ second ∷ third ∷ []))
     (first_of (codes "THIRD") rows)) (first_of (codes "SECOND") rows)) (first_of (codes "FIRST") rows)
 
 abbrev pub five_in : Text → List Row → Option CommandWords
 five_in verb rows =
-    option_and_then (λ first. option_and_then (λ second. option_and_then (λ third. option_and_then (λ fourth. option_and_then (command_of_five verb first second third fourth)
+    option_and_then (λ first. option_and_then (λ second. option_and_then (λ third. option_and_then (λ fourth. option_and_then (λ fifth. command_with verb (first ∷ second ∷ third ∷ fourth ∷ fifth ∷ []))
     (first_of (codes "FIFTH") rows)) (first_of (codes "FOURTH") rows)) (first_of (codes "THIRD") rows)) (first_of (codes "SECOND") rows)) (first_of (codes "FIRST") rows)
 
 -- the command in what was matched, by the name of its form

@@ -16,45 +16,29 @@ use Rattle.lq_files.specs.Written.{FileText}
 
 -- WHAT THEY SENT
 
--- the packets that each child of group j sent, in order of serial. A child is a station, whose unit has its number: no device of a
--- multi-queue root is swapped.
-abbrev pub sent_by_children : Plan → List Fate → ℕ → List (List ℕ)
-sent_by_children plan fates j = map (λ k. sent_of fates (first_at plan.groups j + k)) (first_numbers (mq_at plan.groups j))
-
--- all of them: by serial, and at one serial by child
+-- the packets that the children of group j sent: by serial, and at one serial by child. A child is a station, whose unit has its
+-- number: no device of a multi-queue root is swapped.
 abbrev pub sent_by_group : Plan → List Fate → ℕ → List ℕ
-sent_by_group plan fates j = joint (sent_by_children plan fates j)
+sent_by_group plan fates j = joint (map (λ k. sent_of fates (first_at plan.groups j + k)) (first_numbers (mq_at plan.groups j)))
 
 -- TEXTS
 
--- a group with more than one child is a multi-queue root
-abbrev pub is_root : Plan → ℕ → Bool
-is_root plan j = nat_lt 1 (mq_at plan.groups j)
-
--- those among the first so many groups, in ascending order
-abbrev pub roots_below : Plan → ℕ → List ℕ
-roots_below plan count = filter (is_root plan) (first_numbers count)
-
+-- the multi-queue roots, in ascending order: the groups with more than one child
 abbrev pub roots : Plan → List ℕ
-roots plan = roots_below plan (length plan.groups)
+roots plan = filter (λ j. nat_lt 1 (mq_at plan.groups j)) (first_numbers (length plan.groups))
 
 -- OUT.mqJ.pcap
 abbrev pub group_capture_name : List ℕ → ℕ → List ℕ
 group_capture_name out j = out ++ (codes ".mq" ++ (decimal j ++ codes ".pcap"))
 
--- the file of a root: the capture of the packets that its children sent, in the format of the capture that is run
-abbrev pub group_file : List ℕ → CaptureFile → Plan → List Fate → ℕ → FileText
-group_file out capture plan fates j = record { name = group_capture_name out j; text = text_of capture (sent_by_group plan fates j) }
-
+-- a file for each root: the capture of the packets that its children sent, in the format of the capture that is run
 abbrev pub group_files : List ℕ → CaptureFile → Plan → List Fate → List FileText
-group_files out capture plan fates = map (group_file out capture plan fates) (roots plan)
+group_files out capture plan fates =
+    map (λ j. record { name = group_capture_name out j; text = text_of capture (sent_by_group plan fates j) }) (roots plan)
 
--- mq J queues Q sent A: how many children the root has, and how many packets its capture
-abbrev pub mq_line : Plan → List Fate → ℕ → List ℕ
-mq_line plan fates j = mq_text j (mq_at plan.groups j) (length (sent_by_group plan fates j))
-
+-- mq J queues Q sent A, for each root: how many children it has, and how many packets its capture
 abbrev pub mq_lines : Plan → List Fate → List ℕ
-mq_lines plan fates = flat_map (mq_line plan fates) (roots plan)
+mq_lines plan fates = flat_map (λ j. mq_text j (mq_at plan.groups j) (length (sent_by_group plan fates j))) (roots plan)
 
 -- whether a unit from number low on and below high sent the packet
 abbrev pub is_sent_between : ℕ → ℕ → Fate → Bool

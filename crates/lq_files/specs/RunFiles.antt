@@ -9,7 +9,7 @@ use Rattle.lq_model.specs.declared.fate.Fate.{Fate}
 use Rattle.lq_model.specs.declared.fate.Info.{Info}
 use Rattle.lq_pcapng.specs.File.{packets_of_file, text_of}
 use Rattle.lq_pcapng.specs.declared.file.CaptureFile.{CaptureFile}
-use Rattle.lq_files.specs.Accepted.{max_groups}
+use Rattle.lq_plan.specs.Limits.{max_stations}
 use Rattle.lq_files.specs.Groups.{group_capture_name, group_files, mq_lines}
 use Rattle.lq_files.specs.Written.{FileText, Texts}
 
@@ -30,20 +30,14 @@ run_of out plan capture = record { out = out; plan = plan; capture = capture }
 abbrev pub capture_name : List ℕ → ℕ → List ℕ
 capture_name out unit = out ++ (codes "." ++ (decimal unit ++ codes ".pcap"))
 
--- OUT.fates
 abbrev pub fates_name : List ℕ → List ℕ
 fates_name out = out ++ codes ".fates"
 
--- a unit's file: the capture of the packets that it sent, in order of serial, in the format of the capture that is run
-abbrev pub unit_file : List ℕ → CaptureFile → List Fate → ℕ → FileText
-unit_file out capture fates unit = record { name = capture_name out unit; text = text_of capture (sent_of fates unit) }
-
--- the file of each of the first so many units, in ascending order
+-- a file for each of the first so many units: the capture of the packets that it sent, in order of serial, in the format of the
+-- capture that is run
 abbrev pub unit_files : List ℕ → CaptureFile → List Fate → ℕ → List FileText
-unit_files out capture fates units = map (unit_file out capture fates) (first_numbers units)
-
-abbrev pub fates_file : List ℕ → List Fate → FileText
-fates_file out fates = record { name = fates_name out; text = fates_text fates }
+unit_files out capture fates units =
+    map (λ unit. record { name = capture_name out unit; text = text_of capture (sent_of fates unit) }) (first_numbers units)
 
 -- the counts of the fates, and a line for each multi-queue root
 abbrev pub counts_output : Plan → List Info → List Fate → List ℕ
@@ -53,7 +47,8 @@ counts_output plan infos fates = counts_text fates infos (length plan.stations) 
 -- standard output
 abbrev pub texts_of : Run → List Fate → Texts
 texts_of run fates = record {
-  files = unit_files run.out run.capture fates (unit_count run.plan) ++ (group_files run.out run.capture run.plan fates ++ fates_file run.out fates ∷ []);
+  files = unit_files run.out run.capture fates (unit_count run.plan)
+      ++ (group_files run.out run.capture run.plan fates ++ record { name = fates_name run.out; text = fates_text fates } ∷ []);
   output = counts_output run.plan (infos_of run.plan (packets_of_file run.capture)) fates;
 }
 
@@ -62,5 +57,5 @@ texts_of run fates = record {
 -- the files of so many units, those of the multi-queue roots that a plan may have, and the file of the fates may be created
 pub record MayWrite (may_create : List ℕ → Type 0) (out : List ℕ) (count : ℕ) : Type 0 where
   pub units : (unit : ℕ) → unit < count → may_create (capture_name out unit)
-  pub groups : (j : ℕ) → j < max_groups → may_create (group_capture_name out j)
+  pub groups : (j : ℕ) → j < max_stations → may_create (group_capture_name out j)
   pub fates : may_create (fates_name out)

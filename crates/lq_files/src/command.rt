@@ -5,12 +5,12 @@
 //! decides all else: which form the words are of, whether they have its operands, and which word is which operand. Its
 //! own help and version are switched off, so that `help` and `version` are names like any other. The numbers of `gen` and
 //! of `tap` are read here from their texts.
-ghost use Rattle.std.specs.Prelude.{◌≡◌, ◌≤◌, true, false, IfOk, IfSome, IsOkAnd, Some, None, codes, option_map, option_and_then};
+ghost use Rattle.std.specs.Prelude.{◌≡◌, ◌≤◌, [], ◌∷◌, true, false, IfOk, IfSome, IsOkAnd, Some, None, codes, option_map, option_and_then};
 ghost use Rattle.std.specs.List.{list_all};
 ghost use Rattle.clap.specs.Words.{app_of, found_of, with_rule, with_subcommand, rows_of, rule_of, subcommand_rows_of};
 ghost use Rattle.clap.specs.declared.builder.command.Command.TheViews.{out-Command as fields_of};
 ghost use Rattle.lq_run_core.specs.Schedule.{number_in};
-ghost use Rattle.lq_files.specs.Command.{command_of_words, command_of_one, command_of_three, command_words, gen_of, bytes_of_words, is_operand, tap_of};
+ghost use Rattle.lq_files.specs.Command.{command_of_words, command_with, command_words, gen_of, bytes_of_words, is_operand, tap_of};
 ghost use Rattle.lq_files.specs.Forms.{bare_app, command_in, five_in, form_of_five, form_of_one, form_of_three, one_in, operand_rule, table_app, three_in};
 
 use clap::error::ErrorKind;
@@ -217,7 +217,7 @@ fn read_tap<'a>(
 
 /// The command of a verb with one operand.
 fn command_of_one<'a>(verb: &str, file: &'a str) -> Option<Command<'a>>
-    ensures { option_map command_words result ≡ command_of_one verb.now file.now }
+    ensures { option_map command_words result ≡ command_with verb.now (file.now ∷ []) }
 {
     if verb == "trace" {
         Some(Command::Trace(file))
@@ -233,7 +233,7 @@ fn command_of_three<'a>(
     second: &'a str,
     third: &'a str,
 ) -> Option<Command<'a>>
-    ensures { option_map command_words result ≡ command_of_three verb.now first.now second.now third.now }
+    ensures { option_map command_words result ≡ command_with verb.now (first.now ∷ second.now ∷ third.now ∷ []) }
 {
     if verb == "run" {
         Some(Command::Run(RunOperands {

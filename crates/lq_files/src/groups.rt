@@ -1,12 +1,16 @@
 //! What the children of a multi-queue root sent together: the file of each root, and the line that counts it.
-ghost use Rattle.std.specs.Prelude.{◌≡◌, ◌++◌, ◌∷◌, [], ◌+◌, ◌<◌, ◌≤◌, ◌^◌, ℕ, IfOk, OnErr, OnOk, count_by, length, map, string_bytes};
+ghost use Rattle.std.specs.Prelude.{◌≡◌, ◌++◌, ◌∷◌, [], ◌+◌, ◌<◌, ◌≤◌, ◌^◌, ℕ, IfOk, OnErr, OnOk, count_by, length, map, nat_lt, string_bytes};
+ghost use Rattle.lq_host.specs.Host.{filed};
+ghost use Rattle.lq_model.specs.Numbers.{first_numbers};
+ghost use Rattle.lq_model.specs.Plan.{first_at, mq_at};
+ghost use Rattle.lq_model.specs.Sent.{sent_of};
 ghost use Rattle.lq_model.specs.Settled.{AreSerials};
-ghost use Rattle.lq_pcapng.specs.File.{packets_of_file};
-ghost use Rattle.lq_files.specs.Accepted.{max_groups};
-ghost use Rattle.lq_files.specs.Reports.{group_file_of, group_files_of};
-ghost use Rattle.lq_files.specs.Groups.{group_capture_name, is_root, is_sent_between, mq_lines, sent_by_children, sent_by_group};
+ghost use Rattle.lq_pcapng.specs.File.{packets_of_file, text_of};
+ghost use Rattle.lq_plan.specs.Limits.{max_stations};
+ghost use Rattle.lq_files.specs.Reports.{group_files_of};
+ghost use Rattle.lq_files.specs.Groups.{group_capture_name, is_sent_between, mq_lines, sent_by_group};
 ghost use Rattle.lq_files.specs.Stop.{StopsFor};
-ghost use Rattle.lq_files.specs.Written.{FileIsCut, FilesAreCut, file_written, files_written};
+ghost use Rattle.lq_files.specs.Written.{FileIsCut, FilesAreCut, files_written};
 
 use crate::answer::Stop;
 use crate::report::RunReport;
@@ -43,7 +47,8 @@ fn sent_by_children(
 ) -> Result<Vec<Vec<u32>>, NoMemory>
     requires group { j < length plan.now.groups }
     requires serials { (unit : ℕ) → AreSerials fates.now unit }
-    ensures { IfOk result (λ lists. map (λ list. list.items) lists.items ≡ sent_by_children plan.now fates.now j) }
+    ensures { IfOk result (λ lists. map (λ list. list.items) lists.items
+        ≡ map (λ k. sent_of fates.now (first_at plan.now.groups j + k)) (first_numbers (mq_at plan.now.groups j))) }
 {
     let first = plan.first(j);
     let mut lists = Vec::new(alloc);
@@ -78,10 +83,10 @@ fn write_group<R: Threads + Sync, H: Host>(
     requires serials { (unit : ℕ) → AreSerials report.now.fates.now unit }
     requires known { length report.now.fates.now ≤ (packets_of_file report.now.run.capture.now).count }
     ensures handles { (H.state host.new).handles ≡ (H.state host.old).handles }
-    ensures ok { OnOk result (H.state host.new
-        ≡ file_written (H.state host.old) (group_file_of report.now j)) }
-    ensures err { OnErr result (FileIsCut (group_file_of report.now j)
-        (H.state host.old) (H.state host.new)) }
+    ensures ok { OnOk result (H.state host.new ≡ filed (H.state host.old) (group_capture_name report.now.run.out.now j)
+        (text_of report.now.run.capture.now (sent_by_group report.now.run.plan.now report.now.fates.now j))) }
+    ensures err { OnErr result (FileIsCut (group_capture_name report.now.run.out.now j)
+        (text_of report.now.run.capture.now (sent_by_group report.now.run.plan.now report.now.fates.now j)) (H.state host.old) (H.state host.new)) }
     ensures cause { StopsFor (H.fault_count host.old) (H.fault_count host.new) result }
 {
     let sent = sent_by_group(alloc, report.run.plan, report.fates, j)?;
@@ -96,7 +101,7 @@ fn write_group<R: Threads + Sync, H: Host>(
 /// Whether group `j` is a multi-queue root: it has more than one child.
 fn is_root(plan: &Plan, j: u32) -> bool
     requires { j < length plan.now.groups }
-    ensures { result ≡ is_root plan.now j }
+    ensures { result ≡ nat_lt 1 (mq_at plan.now.groups j) }
 {
     plan.mq(j) > 1
 }
@@ -108,7 +113,7 @@ pub fn write_groups<R: Threads + Sync, H: Host>(
     host: &mut H,
     report: &RunReport<'_>,
 ) -> Result<(), Stop>
-    requires may { (j : ℕ) → j < max_groups → H.may_create (group_capture_name report.now.run.out.now j) }
+    requires may { (j : ℕ) → j < max_stations → H.may_create (group_capture_name report.now.run.out.now j) }
     requires serials { (unit : ℕ) → AreSerials report.now.fates.now unit }
     requires known { length report.now.fates.now ≤ (packets_of_file report.now.run.capture.now).count }
     ensures handles { (H.state host.new).handles ≡ (H.state host.old).handles }

@@ -1,6 +1,6 @@
 //! Why a call is refused before anything is sent, and the line that tells it.
 ghost use Rattle.std.specs.Prelude.{◌≡◌, IfOk, OnOk, OnErr, string_bytes};
-ghost use Rattle.lq_files.specs.Refusal.{bench_line, capture_line, capture_reason_name, capture_reason_number, refusal_line, plan_line, plan_reason_name, plan_reason_number, status_of, trace_line, trace_reason_name, trace_reason_number, usage_line};
+ghost use Rattle.lq_files.specs.Refusal.{capture_reason_text, plan_reason_text, refusal_line, status_of, trace_reason_text};
 ghost use Rattle.lq_files.specs.Stop.{StopsFor};
 ghost use Rattle.lq_files.specs.Written.{IsCut, output_only, written};
 
@@ -69,7 +69,7 @@ pub fn refuse<H: Host>(alloc: Global, host: &mut H, refusal: Refusal) -> Result<
 }
 
 fn line_of_usage(alloc: Global) -> Result<String, AllocError>
-    ensures { IfOk result (λ line. string_bytes line ≡ usage_line) }
+    ensures { IfOk result (λ line. string_bytes line ≡ refusal_line Refusal.Usage) }
 {
     format!(in alloc;
         "usage: lqtx run PLAN CAPTURE OUT | lqtx gen NUMBER COUNT OUT | lqtx trace FILE | lqtx tap SENDERS LEN BATCH CAPTURE OUT\n"
@@ -77,95 +77,74 @@ fn line_of_usage(alloc: Global) -> Result<String, AllocError>
 }
 
 fn line_of_plan(alloc: Global, reason: PlanReason) -> Result<String, AllocError>
-    ensures { IfOk result (λ line. string_bytes line ≡ plan_line reason) }
+    ensures { IfOk result (λ line. string_bytes line ≡ refusal_line (Refusal.Plan reason)) }
 {
-    let number = number_of_plan_reason(reason);
-    let name = name_of_plan_reason(reason);
-    format!(in alloc; "plan refused: {number} {name}\n")
+    let text = text_of_plan_reason(reason);
+    format!(in alloc; "plan refused: {text}\n")
 }
 
 fn line_of_bench(alloc: Global, need: u32, have: u32) -> Result<String, AllocError>
-    ensures { IfOk result (λ line. string_bytes line ≡ bench_line need have) }
+    ensures { IfOk result (λ line. string_bytes line ≡ refusal_line (Refusal.Bench need have)) }
 {
     format!(in alloc; "bench refused: needs {need} units, has {have}\n")
 }
 
 fn line_of_capture(alloc: Global, reason: CaptureReason, place: u64) -> Result<String, AllocError>
-    ensures { IfOk result (λ line. string_bytes line ≡ capture_line reason place) }
+    ensures { IfOk result (λ line. string_bytes line ≡ refusal_line (Refusal.Capture reason place)) }
 {
-    let number = number_of_capture_reason(reason);
-    let name = name_of_capture_reason(reason);
-    format!(in alloc; "capture refused: {number} {name} at {place}\n")
+    let text = text_of_capture_reason(reason);
+    format!(in alloc; "capture refused: {text} at {place}\n")
 }
 
 fn line_of_trace(alloc: Global, reason: TraceReason, line: u32) -> Result<String, AllocError>
-    ensures { IfOk result (λ text. string_bytes text ≡ trace_line reason line) }
+    ensures { IfOk result (λ text. string_bytes text ≡ refusal_line (Refusal.Trace reason line)) }
 {
-    let number = number_of_trace_reason(reason);
-    let name = name_of_trace_reason(reason);
-    format!(in alloc; "trace refused: {number} {name} at line {line}\n")
+    let text = text_of_trace_reason(reason);
+    format!(in alloc; "trace refused: {text} at line {line}\n")
 }
 
-fn name_of_plan_reason(reason: PlanReason) -> &'static str
-    ensures { result.now ≡ plan_reason_name reason }
+fn text_of_plan_reason(reason: PlanReason) -> &'static str
+    ensures { result.now ≡ plan_reason_text reason }
 {
     match reason {
-        PlanReason::NotToml => "NotToml",
-        PlanReason::UnknownKey => "UnknownKey",
-        PlanReason::Missing => "Missing",
-        PlanReason::Kind => "Kind",
-        PlanReason::Range => "Range",
-        PlanReason::EventOrder => "EventOrder",
-        PlanReason::TooLong => "TooLong",
+        PlanReason::NotToml => "1 NotToml",
+        PlanReason::UnknownKey => "2 UnknownKey",
+        PlanReason::Missing => "3 Missing",
+        PlanReason::Kind => "4 Kind",
+        PlanReason::Range => "5 Range",
+        PlanReason::EventOrder => "6 EventOrder",
+        PlanReason::TooLong => "8 TooLong",
     }
 }
 
-fn number_of_plan_reason(reason: PlanReason) -> u8
-    ensures { result ≡ plan_reason_number reason }
-{
-    reason as u8
-}
-
-fn name_of_capture_reason(reason: CaptureReason) -> &'static str
-    ensures { result.now ≡ capture_reason_name reason }
+fn text_of_capture_reason(reason: CaptureReason) -> &'static str
+    ensures { result.now ≡ capture_reason_text reason }
 {
     match reason {
-        CaptureReason::ShortHeader => "ShortHeader",
-        CaptureReason::Magic => "Magic",
-        CaptureReason::Version => "Version",
-        CaptureReason::CutRecordHeader => "CutRecordHeader",
-        CaptureReason::LongRecord => "LongRecord",
-        CaptureReason::CutData => "CutData",
-        CaptureReason::TooMany => "TooMany",
-        CaptureReason::TooLong => "TooLong",
-        CaptureReason::CutBlock => "CutBlock",
-        CaptureReason::BlockLength => "BlockLength",
-        CaptureReason::ByteOrder => "ByteOrder",
-        CaptureReason::NoInterface => "NoInterface",
-        CaptureReason::BlockBody => "BlockBody",
-        CaptureReason::SecondSection => "SecondSection",
+        CaptureReason::ShortHeader => "1 ShortHeader",
+        CaptureReason::Magic => "2 Magic",
+        CaptureReason::Version => "3 Version",
+        CaptureReason::CutRecordHeader => "4 CutRecordHeader",
+        CaptureReason::LongRecord => "5 LongRecord",
+        CaptureReason::CutData => "6 CutData",
+        CaptureReason::TooMany => "7 TooMany",
+        CaptureReason::TooLong => "9 TooLong",
+        CaptureReason::CutBlock => "10 CutBlock",
+        CaptureReason::BlockLength => "11 BlockLength",
+        CaptureReason::ByteOrder => "12 ByteOrder",
+        CaptureReason::NoInterface => "13 NoInterface",
+        CaptureReason::BlockBody => "14 BlockBody",
+        CaptureReason::SecondSection => "15 SecondSection",
     }
 }
 
-fn number_of_capture_reason(reason: CaptureReason) -> u8
-    ensures { result ≡ capture_reason_number reason }
-{
-    reason as u8
-}
-
-fn name_of_trace_reason(reason: TraceReason) -> &'static str
-    ensures { result.now ≡ trace_reason_name reason }
+fn text_of_trace_reason(reason: TraceReason) -> &'static str
+    ensures { result.now ≡ trace_reason_text reason }
 {
     match reason {
-        TraceReason::Syntax => "Syntax",
-        TraceReason::NoSeat => "NoSeat",
-        TraceReason::SeatWaits => "SeatWaits",
-        TraceReason::TooLong => "TooLong",
+        TraceReason::Syntax => "1 Syntax",
+        TraceReason::NoSeat => "2 NoSeat",
+        TraceReason::SeatWaits => "3 SeatWaits",
+        TraceReason::TooLong => "5 TooLong",
     }
-}
-
-fn number_of_trace_reason(reason: TraceReason) -> u8
-    ensures { result ≡ trace_reason_number reason }
-{
-    reason as u8
 }

@@ -1,13 +1,13 @@
 //! All that a tap writes: its files, and its line to standard output.
 ghost use Rattle.std.specs.Prelude.{◌≡◌, ◌<◌, ◌⊎◌, All, IfOk, OnErr, OnOk, string_bytes};
-ghost use Rattle.lq_host.specs.Host.{wrote};
-ghost use Rattle.lq_pcapng.specs.File.{packets_of_file};
+ghost use Rattle.lq_host.specs.Host.{filed, wrote};
+ghost use Rattle.lq_pcapng.specs.File.{packets_of_file, text_of};
 ghost use Rattle.lq_tap_fates.specs.Texts.{tap_counts_line};
 ghost use Rattle.lq_files.specs.RunFiles.{fates_name};
 ghost use Rattle.lq_files.specs.Stop.{StopsFor};
-ghost use Rattle.lq_files.specs.Reports.{read_file_of, tap_texts};
+ghost use Rattle.lq_files.specs.Reports.{tap_texts};
 ghost use Rattle.lq_files.specs.TapFiles.{read_name};
-ghost use Rattle.lq_files.specs.Written.{FileIsCut, IsCut, OutputHasPrefix, file_written, written};
+ghost use Rattle.lq_files.specs.Written.{FileIsCut, IsCut, OutputHasPrefix, written};
 
 use crate::answer::Stop;
 use crate::report::TapReport;
@@ -37,8 +37,8 @@ fn write_read<R: Threads + Sync, H: Host>(
     requires known { All (λ n. n < (packets_of_file report.now.capture.now).count) report.now.read.now }
     ensures handles { (H.state host.new).handles ≡ (H.state host.old).handles }
     ensures ok { OnOk result (H.state host.new
-        ≡ file_written (H.state host.old) (read_file_of report.now)) }
-    ensures err { OnErr result (FileIsCut (read_file_of report.now)
+        ≡ filed (H.state host.old) (read_name report.now.out.now) (text_of report.now.capture.now report.now.read.now)) }
+    ensures err { OnErr result (FileIsCut (read_name report.now.out.now) (text_of report.now.capture.now report.now.read.now)
         (H.state host.old) (H.state host.new)) }
     ensures cause { StopsFor (H.fault_count host.old) (H.fault_count host.new) result }
 {

@@ -1,13 +1,14 @@
 //! What a call writes: a text to a file or to standard output, and the files of units and fates.
-ghost use Rattle.std.specs.Prelude.{◌≡◌, [], ◌⊎◌, ◌≤◌, ℕ, length, take, OnOk, OnErr, ◌<◌, All, IfOk, string_bytes, vec_len};
+ghost use Rattle.std.specs.Prelude.{◌≡◌, [], ◌≤◌, ℕ, length, take, OnOk, OnErr, ◌<◌, All, IfOk, string_bytes, vec_len};
 ghost use Rattle.lq_host.specs.Host.{IsWriter, wrote, filed};
 ghost use Rattle.lq_files.specs.Stop.{StopsFor};
-ghost use Rattle.lq_files.specs.Written.{FileHasPrefix, OutputHasPrefix, FileIsCut, FilesAreCut, file_written, files_written};
+ghost use Rattle.lq_files.specs.Written.{OutputHasPrefix, FileIsCut, FilesAreCut, files_written};
 ghost use Rattle.lq_pcapng.specs.File.{packets_of_file, text_of};
-ghost use Rattle.lq_files.specs.Reports.{unit_file_of, unit_files_of};
+ghost use Rattle.lq_files.specs.Reports.{unit_files_of};
 ghost use Rattle.lq_files.specs.RunFiles.{capture_name, fates_name};
+ghost use Rattle.lq_model.specs.Sent.{sent_of};
 ghost use Rattle.lq_model.specs.Settled.{AreSerials};
-ghost use Rattle.lq_files.specs.Lines.{lines_file, lines_of};
+ghost use Rattle.lq_files.specs.Lines.{lines_of};
 
 use crate::answer::{Stop, and_finished};
 use crate::lines::Line;
@@ -26,8 +27,7 @@ pub fn write_file<H: Host>(host: &mut H, name: &str, text: &[u8]) -> Result<(), 
     requires { H.may_create name.now }
     ensures handles { (H.state host.new).handles ≡ (H.state host.old).handles }
     ensures ok { OnOk result (H.state host.new ≡ filed (H.state host.old) name.now text.now) }
-    ensures err { OnErr result ((H.state host.new ≡ H.state host.old)
-        ⊎ FileHasPrefix name.now text.now (H.state host.old) (H.state host.new)) }
+    ensures err { OnErr result (FileIsCut name.now text.now (H.state host.old) (H.state host.new)) }
     ensures cause { StopsFor (H.fault_count host.old) (H.fault_count host.new) result }
 {
     let h = host.create(name)?;
@@ -101,8 +101,8 @@ fn write_capture<R: Threads + Sync, H: Host>(
     ensures handles { (H.state host.new).handles ≡ (H.state host.old).handles }
     ensures ok { OnOk result (H.state host.new
         ≡ filed (H.state host.old) name.now (text_of packets.now.capture.now packets.now.numbers.now)) }
-    ensures err { OnErr result ((H.state host.new ≡ H.state host.old)
-        ⊎ FileHasPrefix name.now (text_of packets.now.capture.now packets.now.numbers.now) (H.state host.old) (H.state host.new)) }
+    ensures err { OnErr result (FileIsCut name.now (text_of packets.now.capture.now packets.now.numbers.now)
+        (H.state host.old) (H.state host.new)) }
     ensures cause { StopsFor (H.fault_count host.old) (H.fault_count host.new) result }
 {
     let h = host.create(name)?;
@@ -125,8 +125,8 @@ pub fn write_packets_file<R: Threads + Sync, H: Host>(
     ensures handles { (H.state host.new).handles ≡ (H.state host.old).handles }
     ensures ok { OnOk result (H.state host.new
         ≡ filed (H.state host.old) name.now (text_of packets.now.capture.now packets.now.numbers.now)) }
-    ensures err { OnErr result ((H.state host.new ≡ H.state host.old)
-        ⊎ FileHasPrefix name.now (text_of packets.now.capture.now packets.now.numbers.now) (H.state host.old) (H.state host.new)) }
+    ensures err { OnErr result (FileIsCut name.now (text_of packets.now.capture.now packets.now.numbers.now)
+        (H.state host.old) (H.state host.new)) }
     ensures cause { StopsFor (H.fault_count host.old) (H.fault_count host.new) result }
 {
     let buffers = make_buffers(alloc, packets.numbers.len())?;
@@ -145,10 +145,10 @@ fn write_unit<R: Threads + Sync, H: Host>(
     requires serials { AreSerials report.now.fates.now unit }
     requires known { length report.now.fates.now ≤ (packets_of_file report.now.run.capture.now).count }
     ensures handles { (H.state host.new).handles ≡ (H.state host.old).handles }
-    ensures ok { OnOk result (H.state host.new
-        ≡ file_written (H.state host.old) (unit_file_of report.now unit)) }
-    ensures err { OnErr result (FileIsCut (unit_file_of report.now unit)
-        (H.state host.old) (H.state host.new)) }
+    ensures ok { OnOk result (H.state host.new ≡ filed (H.state host.old) (capture_name report.now.run.out.now unit)
+        (text_of report.now.run.capture.now (sent_of report.now.fates.now unit))) }
+    ensures err { OnErr result (FileIsCut (capture_name report.now.run.out.now unit)
+        (text_of report.now.run.capture.now (sent_of report.now.fates.now unit)) (H.state host.old) (H.state host.new)) }
     ensures cause { StopsFor (H.fault_count host.old) (H.fault_count host.new) result }
 {
     let sent = sent_of(alloc, report.fates, unit)?;
@@ -218,8 +218,7 @@ fn write_fates_file<R: Threads + Sync, H: Host, F: Line>(
     ensures handles { (H.state host.new).handles ≡ (H.state host.old).handles }
     ensures ok { OnOk result (H.state host.new
         ≡ filed (H.state host.old) name.now (lines_of F.words 0 fates.now)) }
-    ensures err { OnErr result ((H.state host.new ≡ H.state host.old)
-        ⊎ FileHasPrefix name.now (lines_of F.words 0 fates.now) (H.state host.old) (H.state host.new)) }
+    ensures err { OnErr result (FileIsCut name.now (lines_of F.words 0 fates.now) (H.state host.old) (H.state host.new)) }
     ensures cause { StopsFor (H.fault_count host.old) (H.fault_count host.new) result }
 {
     let h = host.create(name)?;
@@ -240,8 +239,8 @@ pub fn write_fates<R: Threads + Sync, H: Host, F: Line>(
     requires { H.may_create (fates_name out.now) }
     ensures handles { (H.state host.new).handles ≡ (H.state host.old).handles }
     ensures ok { OnOk result (H.state host.new
-        ≡ file_written (H.state host.old) (lines_file out.now F.words fates.now)) }
-    ensures err { OnErr result (FileIsCut (lines_file out.now F.words fates.now)
+        ≡ filed (H.state host.old) (fates_name out.now) (lines_of F.words 0 fates.now)) }
+    ensures err { OnErr result (FileIsCut (fates_name out.now) (lines_of F.words 0 fates.now)
         (H.state host.old) (H.state host.new)) }
     ensures cause { StopsFor (H.fault_count host.old) (H.fault_count host.new) result }
 {

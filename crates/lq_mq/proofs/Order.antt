@@ -7,9 +7,9 @@ use Rattle.std.proofs.lemmas.List.Elements.{All-nil, All-cons}
 use Rattle.std.proofs.lemmas.List.Kept.{AllPairs-cons}
 use Rattle.std.proofs.lemmas.List.Sums.{sum_by-cons}
 use Rattle.std.proofs.lemmas.Option.{same_Some}
-use Rattle.lq_mq.specs.Joint.{at_serial, joint, longest}
+use Rattle.lq_mq.specs.Joint.{joint}
 use Rattle.lq_mq.specs.Laws.{IsBefore, HasAtSerial, IsSubsequence}
-use Rattle.lq_mq.proofs.Serials.{first-more, of-first}
+use Rattle.lq_mq.proofs.Serials.{at_serial, first-more, longest, of-first}
 
 -- LISTS
 

@@ -6,9 +6,10 @@ use Rattle.std.proofs.lemmas.Grind.{flat_map-append}
 use Rattle.std.proofs.lemmas.List.{append-nil, append_assoc, take_all, take_more}
 use Rattle.std.proofs.lemmas.List.Elements.{filter_map-append}
 use Rattle.std.proofs.lemmas.List.Sums.{sum_by-append, sum_by-cons}
+use Rattle.std.specs.Prelude.{fold, max}
 use Rattle.std.proofs.lemmas.Option.{same_Some}
-use Rattle.lq_model.specs.Numbers.{first_numbers}
-use Rattle.lq_mq.specs.Joint.{at_serial, joint, longest}
+use Rattle.lq_model.specs.Numbers.{first_numbers, greatest}
+use Rattle.lq_mq.specs.Joint.{joint}
 use Rattle.lq_mq.specs.Laws.{IsSubsequence}
 
 -- the element at a place, if there is one
@@ -22,6 +23,10 @@ take-one [] (suc k) = refl
 take-one (x ∷ xs) zero = refl
 take-one (x ∷ xs) (suc k) = ap (λ ys. x ∷ ys) (take-one xs k)
 
+-- what has this serial in each of the lists that is long enough
+abbrev pub at_serial : List (List ℕ) → ℕ → List ℕ
+at_serial lists serial = filter_map (λ list. slice_get list serial) lists
+
 -- the joint list of the first serials
 abbrev pub of-first : List (List ℕ) → ℕ → List ℕ
 of-first lists k = flat_map (at_serial lists) (first_numbers k)
@@ -29,10 +34,27 @@ of-first lists k = flat_map (at_serial lists) (first_numbers k)
 pub first-more : (lists : List (List ℕ)) (k : ℕ) → of-first lists (suc k) ≡ of-first lists k ++ at_serial lists k
 first-more lists k = flat_map-append (at_serial lists) (first_numbers k) (k ∷ []) ∙ ap (λ ys. of-first lists k ++ ys) (append-nil (at_serial lists k))
 
+-- how long the longest list is
+abbrev pub longest : List (List ℕ) → ℕ
+longest lists = greatest (map length lists)
+
+-- the greatest of some numbers, all of them at least as great as one
+abbrev most-of : ℕ → List ℕ → ℕ
+most-of start numbers = fold (λ most number. max most number) start numbers
+
+not-less : (start : ℕ) (numbers : List ℕ) → start ≤ most-of start numbers
+not-less start [] = omega arith
+not-less start (n ∷ numbers) = let rest = not-less (max start n) numbers in let most = le-max_left start n in omega arith
+
+within-most : (start : ℕ) (lists : List (List ℕ)) (i : ℕ) (list : List ℕ) → slice_get lists i ≡ Some list → length list ≤ most-of start (map length lists)
+within-most start [] i list at = cc
+within-most start (l ∷ lists) zero list at =
+    let same : l ≡ list = same_Some l list at in let long = ap length same in
+    let rest = not-less (max start (length l)) (map length lists) in let most = le-max_right start (length l) in omega arith
+within-most start (l ∷ lists) (suc i) list at = within-most (max start (length l)) lists i list at
+
 within-longest : (lists : List (List ℕ)) (i : ℕ) (list : List ℕ) → slice_get lists i ≡ Some list → length list ≤ longest lists
-within-longest [] i list at = cc
-within-longest (l ∷ lists) zero list at = let same : l ≡ list = same_Some l list at in let long = ap length same in let most = le-max_left (length l) (longest lists) in omega arith
-within-longest (l ∷ lists) (suc i) list at = let rest = within-longest lists i list at in let most = le-max_right (length l) (longest lists) in omega arith
+within-longest lists i list at = within-most 0 lists i list at
 
 -- SUBSEQUENCES
 

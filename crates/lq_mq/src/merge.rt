@@ -1,20 +1,19 @@
 //! The packets of several senders of one root, merged.
-ghost use Rattle.std.specs.Prelude.{◌≡◌, ◌++◌, ◌∷◌, [], IfOk, OnOk, map, slice_get};
+ghost use Rattle.std.specs.Prelude.{◌≡◌, ◌++◌, ◌∷◌, [], IfOk, OnOk, length, map, slice_get};
 ghost use Rattle.std.specs.List.{filter_map};
-ghost use Rattle.lq_mq.specs.Joint.{joint, longest};
+ghost use Rattle.lq_model.specs.Numbers.{greatest};
+ghost use Rattle.lq_mq.specs.Joint.{joint};
 
 use lq_model::NoMemory;
 use std::alloc::Global;
 
 /// How long the longest list is.
 fn longest(lists: &[Vec<u32>]) -> usize
-    ensures { result ≡ longest (map (λ list. list.items) lists.now) }
+    ensures { result ≡ greatest (map length (map (λ list. list.items) lists.now)) }
 {
     let mut longest = 0;
-    let mut i = lists.len();
-    while i > 0 {
-        i -= 1;
-        longest = lists[i].len().max(longest);
+    for list in lists {
+        longest = list.len().max(longest);
     }
     longest
 }

@@ -1,12 +1,14 @@
 -- Bytes are a capture exactly where they are a section header block and blocks that fit.
 use Rattle.std.proofs.Common.{◌≡◌, ◌<◌, ◌≤◌, ◌+◌, ◌-◌, ◌%◌, ◌++◌, ◌∷◌, [], ℕ, zero, suc, List, length, take, drop, Option, Some, None, Result, Ok, Err, refl, sym, ap, ◌∙◌, subst, arith, Bool, true, false, cond, ltb, eqb, not, ◌||◌, inl, inr, ◌⊎◌, append_assoc, length-drop}
+use Rattle.std.specs.Option.{option_map_or, option_or}
+use Rattle.std.specs.Result.{result_map_both}
 use Rattle.std.specs.Int.{w32, from_le_bytes, from_be_bytes}
 use Rattle.std.specs.List.{concat}
 use Rattle.std.proofs.lemmas.Bool.{cases_eq, ltb-false, le-ltb, eqb-true, eq-eqb, not-false}
 use Rattle.std.proofs.lemmas.List.{append-nil, length-append, length-take-le, take-append-drop}
 use Rattle.std.proofs.Math.Seq.{take-append_seam, drop-append_seam}
 use Rattle.lq_model.specs.Capture.{Refusal}
-use Rattle.lq_pcapng.specs.Pcapng.{NgCapture, block_fault, block_in, blocks_behind, blocks_from, capture_of_blocks, header_fault, interfaces_in, is_big_endian, is_little_endian, length_fault, major_version, number_in, or_else, order_of, packets_in, pcapng_of, section_fault, short_number_in, total_length, unless, with_section}
+use Rattle.lq_pcapng.specs.Pcapng.{NgCapture, block_fault, block_in, blocks_behind, blocks_from, capture_of_blocks, header_fault, interfaces_in, is_big_endian, is_little_endian, length_fault, major_version, number_in, order_of, packets_in, pcapng_of, section_fault, short_number_in, total_length}
 use Rattle.lq_model.specs.declared.capture.CaptureReason.TheVariants.{Version, CutBlock, BlockLength, ByteOrder, BlockBody}
 use Rattle.lq_pcapng.specs.Laws.{AllFit, HasLengths, IsBlock, IsPcapng, IsSection}
 use Rattle.lq_pcapng.specs.Reading.{Fits}
@@ -169,7 +171,7 @@ finds o (suc more) place before (block ∷ blocks) room fit =
 -- THE SECTION HEADER BLOCK
 
 none_of_section :
-    (a b c d : Bool) (first : Option Refusal) (x y z w : Refusal) → cond a (Some x) (cond b (Some y) (or_else first (cond c (Some z) (cond d (Some w) None)))) ≡ None
+    (a b c d : Bool) (first : Option Refusal) (x y z w : Refusal) → cond a (Some x) (cond b (Some y) (option_or first (cond c (Some z) (cond d (Some w) None)))) ≡ None
     → (a ≡ false) × (b ≡ false) × (first ≡ None) × (c ≡ false) × (d ≡ false)
 none_of_section true b c d first x y z w e = cc
 none_of_section false true c d first x y z w e = cc
@@ -257,7 +259,7 @@ section_begins o section rest s =
 -- WHICH BYTES ARE A CAPTURE
 
 split_accepted :
-    (fault : Option Refusal) (o : Bool) (section : List ℕ) (walk : Result (List (List ℕ)) Refusal) (c : NgCapture) → unless fault (with_section o section walk) ≡ Ok c
+    (fault : Option Refusal) (o : Bool) (section : List ℕ) (walk : Result (List (List ℕ)) Refusal) (c : NgCapture) → option_map_or Err fault (result_map_both (capture_of_blocks o section) (λ r. r) walk) ≡ Ok c
     → (blocks : List (List ℕ)) × (fault ≡ None) × (walk ≡ Ok blocks) × (capture_of_blocks o section blocks ≡ c)
 split_accepted (Some r) o section walk c e = cc
 split_accepted None o section (Err r) c e = cc
@@ -300,8 +302,8 @@ is_accepted bytes c k =
     let answer : NgCapture → Result NgCapture Refusal = λ d. Ok d in
     let walk : blocks_behind o text ≡ Ok k.blocks =
     ap (λ (r : List ℕ). blocks_from o (length text) (total_length o text) [] r) b.rest_is ∙ finds o (length text) (total_length o text) [] k.blocks (omega arith) k.fit in
-    let whole : unless (section_fault text) (with_section o (block_in o text) (blocks_behind o text)) ≡ Ok c =
+    let whole : option_map_or Err (section_fault text) (result_map_both (capture_of_blocks o (block_in o text)) (λ r. r) (blocks_behind o text)) ≡ Ok c =
     rw (no_fault, walk, b.block_is)
     (ap (λ (is : List (List ℕ)). answer (record { section = c.section; interfaces = is; packets = packets_in o k.blocks })) (sym k.interfaces)
     ∙ ap (λ (ps : List (List ℕ)). answer (record { section = c.section; interfaces = c.interfaces; packets = ps })) (sym k.packets)) in
-    subst (λ (bs : List ℕ). pcapng_of bs ≡ Ok c) (sym k.whole) (subst (λ d. unless (section_fault text) (with_section d (block_in d text) (blocks_behind d text)) ≡ Ok c) (sym s.0) whole)
+    subst (λ (bs : List ℕ). pcapng_of bs ≡ Ok c) (sym k.whole) (subst (λ d. option_map_or Err (section_fault text) (result_map_both (capture_of_blocks d (block_in d text)) (λ r. r) (blocks_behind d text)) ≡ Ok c) (sym s.0) whole)

@@ -11,7 +11,7 @@ use Rattle.std.proofs.lemmas.Map.Steps.{length-le_from_distinct_below}
 use Rattle.std.proofs.lemmas.Map.Views.{Contains-from_any}
 use Rattle.std.proofs.lemmas.Simd.{map-map}
 use Rattle.std.proofs.Math.Seq.{take-append_seam, drop-append_seam}
-use Rattle.lq_pcapng.specs.Pcapng.{NgCapture, frame_in, frame_of, interfaces_in, is_interface, is_little_endian, is_packet, link_in, link_of, major_version, number_in, order_of, packet_block, packets_in, pcapng_of, pcapng_text, short_number_in, without_length}
+use Rattle.lq_pcapng.specs.Pcapng.{NgCapture, captured_length, data_place, frame_in, interface_at, interface_number, interfaces_in, is_interface, is_little_endian, is_packet, link_in, link_type, major_version, number_in, order_of, packet_block, packets_in, pcapng_of, pcapng_text, short_number_in, without_length}
 use Rattle.lq_pcapng.specs.Laws.{AllFit, IsBlock, IsPcapng, IsSection, frames_in, links_in, with_packets}
 use Rattle.lq_pcapng.specs.Reading.{IsInterface, IsPacket}
 use Rattle.lq_pcapng.proofs.Acceptance.{accepted_is, is_accepted}
@@ -255,11 +255,15 @@ written_is bytes c packets k below distinct =
 
 pub accepted_again :
     (bytes : List ℕ) (c : NgCapture) (packets : List ℕ) → pcapng_of bytes ≡ Ok c → All (λ i. i < length c.packets) packets → IsDistinct eqb packets
-    → (pcapng_of (pcapng_text c packets) ≡ Ok (with_packets c packets)) × (frames_in (with_packets c packets) ≡ map (frame_of c) packets) × (links_in (with_packets c packets) ≡ map (link_of c) packets)
+    → (pcapng_of (pcapng_text c packets) ≡ Ok (with_packets c packets))
+    × (frames_in (with_packets c packets) ≡ map (λ i. frame_in c (packet_block c i)) packets)
+    × (links_in (with_packets c packets) ≡ map (λ i. link_in c (packet_block c i)) packets)
 accepted_again bytes c packets accepted below distinct =
     let k = accepted_is bytes c accepted in
     let order : order_of (with_packets c packets) ≡ order_of c = same_order c.section k.section.long in (
       is_accepted (pcapng_text c packets) (with_packets c packets) (written_is bytes c packets k below distinct),
-      ap (λ o. map (frame_in o c.interfaces) (map (packet_block c) packets)) order ∙ map-map (frame_in (order_of c) c.interfaces) (packet_block c) packets,
-      ap (λ o. map (link_in o c.interfaces) (map (packet_block c) packets)) order ∙ map-map (link_in (order_of c) c.interfaces) (packet_block c) packets,
+      ap (λ o. map (λ (b : List ℕ). slice_range b (data_place o b) (data_place o b + captured_length o c.interfaces b)) (map (packet_block c) packets)) order
+          ∙ map-map (frame_in c) (packet_block c) packets,
+      ap (λ o. map (λ b. link_type o (interface_at c.interfaces (interface_number o b))) (map (packet_block c) packets)) order
+          ∙ map-map (link_in c) (packet_block c) packets,
     )

@@ -1,13 +1,15 @@
 -- The bytes are refused exactly for the first fault that they have.
 use Rattle.std.proofs.Common.{◌≡◌, ◌<◌, ◌≤◌, ◌+◌, ◌-◌, ◌%◌, ◌++◌, ◌∷◌, [], ℕ, zero, suc, List, length, drop, Option, Some, None, Result, Ok, Err, refl, sym, ap, ◌∙◌, subst, arith, Bool, true, false, cond, ltb, leb, eqb, not, ◌||◌, inl, inr, ◌⊎◌, append_assoc, length-drop}
+use Rattle.std.specs.Option.{option_map, option_map_or, option_or}
+use Rattle.std.specs.Result.{result_map_both}
 use Rattle.std.specs.List.{concat}
 use Rattle.std.proofs.lemmas.Bool.{cases_eq, ltb-true, ltb-false, lt-ltb, le-ltb, leb-true, leb-false, le-leb, lt-leb, eqb-true, eqb-false, eq-eqb, ne_eqb, not-true, not-false}
 use Rattle.std.proofs.lemmas.List.{append-nil, length-append, length-take-le, take-append-drop}
 use Rattle.lq_model.specs.Capture.{Refusal}
-use Rattle.lq_pcapng.specs.Pcapng.{at_place, block_fault, block_in, blocks_behind, blocks_from, body_fault, captured_length, data_place, header_fault, interface_number, interfaces_in, is_big_endian, is_interface, is_little_endian, is_packet, is_section, length_fault, major_version, number_in, or_else, packet_fault, packets_in, padded, pcapng_of, section_fault, total_length, unless, with_section}
+use Rattle.lq_pcapng.specs.Pcapng.{block_fault, block_in, blocks_behind, blocks_from, body_fault, capture_of_blocks, captured_length, data_place, header_fault, interface_number, interfaces_in, is_big_endian, is_interface, is_little_endian, is_packet, is_section, length_fault, major_version, number_in, packet_fault, packets_in, padded, pcapng_of, section_fault, refuses_at, total_length}
 use Rattle.lq_model.specs.declared.capture.CaptureReason.{CaptureReason}
 use Rattle.lq_model.specs.declared.capture.CaptureReason.TheVariants.{Version, LongRecord, TooMany, CutBlock, BlockLength, ByteOrder, NoInterface, BlockBody, SecondSection}
-use Rattle.lq_pcapng.specs.Laws.{AllFit, HasBlockFault, HasBodyFault, HasPcapngFault, HasLengthFault, HasPacketFault, HasSectionFault, IsSection, refuses_at, no_length, cut_block, other_length, cut_section, no_order, section_lengths, short_section, other_version, short_packet, no_interface, long_record, short_data, second_section, short_interface, too_many, of_packet, cut_rest, block_lengths, of_body, of_section, of_block}
+use Rattle.lq_pcapng.specs.Laws.{AllFit, HasBlockFault, HasBodyFault, HasPcapngFault, HasLengthFault, HasPacketFault, HasSectionFault, IsSection, no_length, cut_block, other_length, cut_section, no_order, section_lengths, short_section, other_version, short_packet, no_interface, long_record, short_data, second_section, short_interface, too_many, of_packet, cut_rest, block_lengths, of_body, of_section, of_block}
 use Rattle.lq_pcapng.specs.Reading.{Fits}
 use Rattle.lq_pcapng.proofs.Acceptance.{begins, begins_with_section, block_from_lengths, is_section_block, lengths_from_none, none_from_lengths, none_from_section, option_cases, section_begins}
 use Rattle.lq_pcapng.proofs.Fits.{no_section_of_interface, no_section_of_packet, none_from_whole, not_interface, whole_from_none}
@@ -84,7 +86,7 @@ is_length_fault o place rest f (other_length long aligned within other is) =
 -- THE SECTION HEADER BLOCK
 
 pick_of_section :
-    {P : Type 0} (a b c d : Bool) (lengths : Option Refusal) (x y z w f : Refusal) → cond a (Some x) (cond b (Some y) (or_else lengths (cond c (Some z) (cond d (Some w) None)))) ≡ Some f
+    {P : Type 0} (a b c d : Bool) (lengths : Option Refusal) (x y z w f : Refusal) → cond a (Some x) (cond b (Some y) (option_or lengths (cond c (Some z) (cond d (Some w) None)))) ≡ Some f
     → (a ≡ true → f ≡ x → P) → (a ≡ false → b ≡ true → f ≡ y → P) → (a ≡ false → b ≡ false → lengths ≡ Some f → P) → (a ≡ false → b ≡ false → lengths ≡ None → c ≡ true → f ≡ z → P)
     → (a ≡ false → b ≡ false → lengths ≡ None → c ≡ false → d ≡ true → f ≡ w → P) → P
 pick_of_section true b c d lengths x y z w f e p q r s t = p refl cc
@@ -179,7 +181,7 @@ is_body_fault o interfaces packets block reason (of_packet kind few fault) =
     rw (no_section_of_packet o block kind, not_interface o block kind, kind, lt-leb 1000000 packets few) (is_packet_fault o interfaces block reason fault)
 
 pick_of_block :
-    {P : Type 0} (a : Bool) (place : ℕ) (lengths : Option Refusal) (body : Option CaptureReason) (x f : Refusal) → cond a (Some x) (or_else lengths (at_place place body)) ≡ Some f
+    {P : Type 0} (a : Bool) (place : ℕ) (lengths : Option Refusal) (body : Option CaptureReason) (x f : Refusal) → cond a (Some x) (option_or lengths (option_map (refuses_at place) body)) ≡ Some f
     → (a ≡ true → f ≡ x → P) → (a ≡ false → lengths ≡ Some f → P) → ((reason : CaptureReason) → a ≡ false → lengths ≡ None → body ≡ Some reason → f ≡ refuses_at place reason → P) → P
 pick_of_block true place lengths body x f e p q r = p refl cc
 pick_of_block false place (Some g) body x f e p q r = q refl e
@@ -296,7 +298,7 @@ stops o (suc more) place before (block ∷ blocks) left f room fit some fault =
 -- WHEN BYTES ARE REFUSED
 
 pick_of_file :
-    {P : Type 0} (fault : Option Refusal) (o : Bool) (section : List ℕ) (walk : Result (List (List ℕ)) Refusal) (f : Refusal) → unless fault (with_section o section walk) ≡ Err f
+    {P : Type 0} (fault : Option Refusal) (o : Bool) (section : List ℕ) (walk : Result (List (List ℕ)) Refusal) (f : Refusal) → option_map_or Err fault (result_map_both (capture_of_blocks o section) (λ r. r) walk) ≡ Err f
     → (fault ≡ Some f → P) → (fault ≡ None → walk ≡ Err f → P) → P
 pick_of_file (Some g) o section walk f e p q = p cc
 pick_of_file None o section (Ok blocks) f e p q = cc
@@ -346,8 +348,8 @@ block_refused section before rest f is fit some fault =
     ap (λ (r : List ℕ). blocks_from o (length text) (total_length o text) [] r) b.rest_is
     ∙ stops o (length text) (total_length o text) [] before rest f (omega arith) fit some
     (subst (λ n. HasBlockFault o (n + length (concat before)) before rest f) (sym b.total) fault) in
-    let whole : unless (section_fault text) (with_section o (block_in o text) (blocks_behind o text)) ≡ Err f = rw (no_fault, walk) refl in
-    subst (λ d. unless (section_fault text) (with_section d (block_in d text) (blocks_behind d text)) ≡ Err f) (sym s.0) whole
+    let whole : option_map_or Err (section_fault text) (result_map_both (capture_of_blocks o (block_in o text)) (λ r. r) (blocks_behind o text)) ≡ Err f = rw (no_fault, walk) refl in
+    subst (λ d. option_map_or Err (section_fault text) (result_map_both (capture_of_blocks d (block_in d text)) (λ r. r) (blocks_behind d text)) ≡ Err f) (sym s.0) whole
 
 pub fault_refused : (bytes : List ℕ) (f : Refusal) → HasPcapngFault bytes f → pcapng_of bytes ≡ Err f
 fault_refused bytes f (of_section fault) = section_refused bytes f (is_section_fault bytes f fault)

@@ -1,9 +1,10 @@
 -- What a block is that has no fault.
 use Rattle.std.proofs.Common.{◌≡◌, ◌<◌, ◌≤◌, ◌+◌, ◌++◌, ℕ, List, length, Option, Some, None, refl, sym, ap, subst, arith, Bool, true, false, cond, ltb, leb, eqb, ◌||◌, [], take}
+use Rattle.std.specs.Option.{option_map, option_or}
 use Rattle.std.proofs.lemmas.Bool.{ltb-false, le-ltb, leb-false, lt-leb, eqb-true}
 use Rattle.std.proofs.lemmas.List.{get_or_append_left, length-append}
 use Rattle.lq_model.specs.Capture.{Refusal}
-use Rattle.lq_pcapng.specs.Pcapng.{at_place, block_fault, block_in, block_type, body_fault, captured_length, data_place, interface_at, interface_number, is_interface, is_packet, is_section, length_fault, number_in, or_else, packet_fault, padded}
+use Rattle.lq_pcapng.specs.Pcapng.{block_fault, block_in, block_type, body_fault, captured_length, data_place, interface_at, interface_number, is_interface, is_packet, is_section, length_fault, number_in, packet_fault, padded, refuses_at}
 use Rattle.lq_model.specs.declared.capture.CaptureReason.{CaptureReason}
 use Rattle.lq_model.specs.declared.capture.CaptureReason.TheVariants.{LongRecord, TooMany, CutBlock, NoInterface, BlockBody, SecondSection}
 use Rattle.lq_pcapng.specs.Reading.{Fits, IsPacket}
@@ -143,7 +144,7 @@ pub record IsWhole (little_endian : Bool) (place : ℕ) (interfaces : List (List
   pub fits : Fits little_endian interfaces packets (block_in little_endian rest)
 
 split_none :
-    (a : Bool) (x : Refusal) (first : Option Refusal) (place : ℕ) (second : Option CaptureReason) → cond a (Some x) (or_else first (at_place place second)) ≡ None
+    (a : Bool) (x : Refusal) (first : Option Refusal) (place : ℕ) (second : Option CaptureReason) → cond a (Some x) (option_or first (option_map (refuses_at place) second)) ≡ None
     → (a ≡ false) × (first ≡ None) × (second ≡ None)
 split_none true x first place second e = cc
 split_none false x (Some r) place second e = cc

@@ -4,7 +4,7 @@ use Rattle.std.specs.Int.{w32, from_le_bytes}
 use Rattle.std.specs.Prelude.{◌==◌}
 use Rattle.std.specs.List.{slice_range}
 use Rattle.std.proofs.lemmas.List.{drop-take, take-take, get_or-map, length-map, length-take-le}
-use Rattle.lq_pcapng.specs.Pcapng.{NgCapture, captured_length, data_place, frame_in, frame_of, is_little_endian, order_of, packet_block, padded, total_length}
+use Rattle.lq_pcapng.specs.Pcapng.{NgCapture, captured_length, data_place, frame_in, is_little_endian, order_of, packet_block, padded, total_length}
 use Rattle.lq_pcapng.specs.Reading.{AreInterfaces, IsPacket, IsWholeAt, block_at, blocks_at}
 use Rattle.lq_pcapng.specs.View.{IsRead, capture_at}
 
@@ -83,7 +83,7 @@ pub frame_seen :
     (bytes interfaces packets : List ℕ) (c : NgCapture) (little_endian : Bool) (i place len : ℕ) (block : List ℕ) → IsSeen bytes interfaces packets c little_endian
     → block ≡ packet_block c i → IsPacket (order_of c) c.interfaces block → place ≡ data_place little_endian block
     → len ≡ captured_length little_endian (blocks_at little_endian bytes interfaces) block
-    → (place + len ≤ length block) × (slice_range block place (place + len) ≡ frame_of c i)
+    → (place + len ≤ length block) × (slice_range block place (place + len) ≡ frame_in c (packet_block c i))
 frame_seen bytes interfaces packets c little_endian i place len block s block_is p place_is len_is =
     let same_place : place ≡ data_place (order_of c) block = place_is ∙ ap (λ o. data_place o block) s.order in
     let same_len : len ≡ captured_length (order_of c) c.interfaces block =
@@ -92,5 +92,5 @@ frame_seen bytes interfaces packets c little_endian i place len block s block_is
     let filled = le-padded len in (
       omega arith,
       ap (λ m. slice_range block m (m + len)) same_place ∙ ap (λ m. slice_range block (data_place (order_of c) block) (data_place (order_of c) block + m)) same_len
-          ∙ ap (λ (b : List ℕ). frame_in (order_of c) c.interfaces b) block_is,
+          ∙ ap (λ (b : List ℕ). frame_in c b) block_is,
     )

@@ -1,8 +1,9 @@
 -- A capture in either format.
-use Rattle.std.specs.Prelude.{ℕ, nat_eq, if◌then◌else◌, Bool, List, [], ◌∷◌, Result, Ok, Err}
+use Rattle.std.specs.Prelude.{ℕ, nat_eq, if◌then◌else◌, Bool, List, [], ◌∷◌, Result}
+use Rattle.std.specs.Result.{result_map_both}
 use Rattle.std.specs.List.{starts_with}
 use Rattle.lq_model.specs.Capture.{Capture, Packets, Refusal, capture_of, capture_text, packets_of as packets_of_capture, record_of}
-use Rattle.lq_pcapng.specs.Pcapng.{NgCapture, packet_block, packets_of as packets_of_pcapng, pcapng_of, pcapng_text}
+use Rattle.lq_pcapng.specs.Pcapng.{packet_block, packets_of as packets_of_pcapng, pcapng_of, pcapng_text}
 use Rattle.lq_pcapng.specs.declared.file.CaptureFile.{CaptureFile}
 use Rattle.lq_pcapng.specs.declared.file.CaptureFile.TheVariants.{Classic, Pcapng}
 
@@ -12,16 +13,11 @@ abbrev pub is_pcapng : List ℕ → Bool
 is_pcapng bytes = starts_with nat_eq bytes (0x0a ∷ 0x0d ∷ 0x0d ∷ 0x0a ∷ [])
 
 abbrev pub as_classic : Result Capture Refusal → Result CaptureFile Refusal
-as_classic (Ok c) = Ok (Classic c)
-as_classic (Err refusal) = Err refusal
-
-abbrev pub as_pcapng : Result NgCapture Refusal → Result CaptureFile Refusal
-as_pcapng (Ok c) = Ok (Pcapng c)
-as_pcapng (Err refusal) = Err refusal
+as_classic read = result_map_both Classic (λ r. r) read
 
 -- the capture that the bytes are, in either format, or the first test that they fail
 abbrev pub capture_file_of : List ℕ → Result CaptureFile Refusal
-capture_file_of bytes = if is_pcapng bytes then as_pcapng (pcapng_of bytes) else as_classic (capture_of bytes)
+capture_file_of bytes = if is_pcapng bytes then result_map_both Pcapng (λ r. r) (pcapng_of bytes) else as_classic (capture_of bytes)
 
 abbrev pub packets_of_file : CaptureFile → Packets
 packets_of_file (Classic c) = packets_of_capture c

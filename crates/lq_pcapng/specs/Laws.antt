@@ -2,7 +2,7 @@
 use Rattle.std.specs.Prelude.{◌≡◌, ◌≢◌, ◌↔◌, ℕ, ◌+◌, ◌-◌, ◌%◌, ◌<◌, ◌≤◌, ◌⊎◌, Bool, true, false, ◌||◌, nat_eq, List, [], ◌∷◌, ◌++◌, length, map, All, Ok, Err}
 use Rattle.std.specs.List.{IsDistinct, concat}
 use Rattle.lq_model.specs.Capture.{Refusal}
-use Rattle.lq_pcapng.specs.Pcapng.{NgCapture, block_in, captured_length, data_place, frame_in, frame_of, interface_number, interfaces_in, is_big_endian, is_interface, is_little_endian, is_packet, is_section, link_in, link_of, major_version, number_in, order_of, packet_block, packets_in, padded, pcapng_of, pcapng_text, total_length, without_length}
+use Rattle.lq_pcapng.specs.Pcapng.{NgCapture, block_in, captured_length, data_place, frame_in, interface_number, interfaces_in, is_big_endian, is_interface, is_little_endian, is_packet, is_section, link_in, major_version, number_in, order_of, packet_block, packets_in, padded, pcapng_of, pcapng_text, refuses_at, total_length, without_length}
 use Rattle.lq_model.specs.declared.capture.CaptureReason.{CaptureReason}
 use Rattle.lq_model.specs.declared.capture.CaptureReason.TheVariants.{Version, LongRecord, TooMany, CutBlock, BlockLength, ByteOrder, NoInterface, BlockBody, SecondSection}
 use Rattle.lq_pcapng.specs.Reading.{Fits}
@@ -44,9 +44,6 @@ abbrev pub AcceptsPcapngExactly : Type 0
 AcceptsPcapngExactly = (bytes : List ℕ) (c : NgCapture) → (pcapng_of bytes ≡ Ok c) ↔ IsPcapng bytes c
 
 -- WHEN BYTES ARE REFUSED
-
-abbrev pub refuses_at : ℕ → CaptureReason → Refusal
-refuses_at place reason = record { reason = reason; place = place }
 
 -- both lengths of the block that the rest of a file begins with are right
 pub record HasLengths (little_endian : Bool) (rest : List ℕ) : Type 0 where
@@ -128,10 +125,10 @@ RefusesPcapngExactly = (bytes : List ℕ) (f : Refusal) → (pcapng_of bytes ≡
 
 -- the captured bytes of a capture's packets, and the link types of their interfaces
 abbrev pub frames_in : NgCapture → List (List ℕ)
-frames_in c = map (frame_in (order_of c) c.interfaces) c.packets
+frames_in c = map (frame_in c) c.packets
 
 abbrev pub links_in : NgCapture → List ℕ
-links_in c = map (link_in (order_of c) c.interfaces) c.packets
+links_in c = map (link_in c) c.packets
 
 -- the capture with the same interfaces and these packets
 abbrev pub with_packets : NgCapture → List ℕ → NgCapture
@@ -142,4 +139,6 @@ with_packets c packets = record { section = without_length c.section; interfaces
 abbrev pub AcceptsPcapngAgain : Type 0
 AcceptsPcapngAgain =
     (bytes : List ℕ) (c : NgCapture) (packets : List ℕ) → pcapng_of bytes ≡ Ok c → All (λ i. i < length c.packets) packets → IsDistinct nat_eq packets
-    → (pcapng_of (pcapng_text c packets) ≡ Ok (with_packets c packets)) × (frames_in (with_packets c packets) ≡ map (frame_of c) packets) × (links_in (with_packets c packets) ≡ map (link_of c) packets)
+    → (pcapng_of (pcapng_text c packets) ≡ Ok (with_packets c packets))
+    × (frames_in (with_packets c packets) ≡ map (λ i. frame_in c (packet_block c i)) packets)
+    × (links_in (with_packets c packets) ≡ map (λ i. link_in c (packet_block c i)) packets)

@@ -1,7 +1,9 @@
 -- Captures in the pcapng format (draft-ietf-opsawg-pcapng), of one section. A capture is blocks to the end of the file:
 -- a section header block, and then interface description blocks, packet blocks and blocks of other types, which are
 -- passed over. All numbers of a section have one byte order, which its header shows. Options are never read.
-use Rattle.std.specs.Prelude.{ℕ, zero, suc, ◌+◌, ◌-◌, ◌*◌, ◌/◌, ◌%◌, Bool, ◌||◌, not, nat_lt, nat_le, ◌==◌, if◌then◌else◌, List, [], ◌∷◌, ◌++◌, length, take, drop, filter, replicate, slice_range, slice_index_or, Option, Some, None, Result, Ok, Err}
+use Rattle.std.specs.Prelude.{ℕ, zero, suc, ◌+◌, ◌-◌, ◌*◌, ◌/◌, ◌%◌, Bool, ◌||◌, min, not, nat_lt, nat_le, ◌==◌, if◌then◌else◌, List, [], ◌∷◌, ◌++◌, length, take, drop, filter, replicate, slice_range, slice_index_or, Option, Some, None, Result, Ok, Err}
+use Rattle.std.specs.Option.{option_map, option_map_or, option_or}
+use Rattle.std.specs.Result.{result_map_both}
 use Rattle.std.specs.Int.{w16, w32, from_le_bytes, from_be_bytes}
 use Rattle.std.specs.List.{concat, flat_map}
 use Rattle.lq_model.specs.Capture.{Packets, Refusal}
@@ -20,12 +22,11 @@ is_big_endian section = from_be_bytes w32 (slice_range section 8 12) == 0x1a2b_3
 
 -- the number of four bytes at a place of a block, and of two
 unfoldable pub number_in : Bool → List ℕ → ℕ → ℕ
-number_in little_endian block place =
-    if little_endian then from_le_bytes w32 (slice_range block place (place + 4)) else from_be_bytes w32 (slice_range block place (place + 4))
+number_in little_endian block place = (if little_endian then from_le_bytes w32 else from_be_bytes w32) (slice_range block place (place + 4))
 
 unfoldable pub short_number_in : Bool → List ℕ → ℕ → ℕ
 short_number_in little_endian block place =
-    if little_endian then from_le_bytes w16 (slice_range block place (place + 2)) else from_be_bytes w16 (slice_range block place (place + 2))
+    (if little_endian then from_le_bytes w16 else from_be_bytes w16) (slice_range block place (place + 2))
 
 -- A BLOCK
 --
@@ -54,13 +55,9 @@ is_interface little_endian block = block_type little_endian block == 1
 abbrev pub is_enhanced : Bool → List ℕ → Bool
 is_enhanced little_endian block = block_type little_endian block == 6
 
-abbrev pub is_simple : Bool → List ℕ → Bool
-is_simple little_endian block = block_type little_endian block == 3
-
 abbrev pub is_packet : Bool → List ℕ → Bool
-is_packet little_endian block = is_enhanced little_endian block || is_simple little_endian block
+is_packet little_endian block = is_enhanced little_endian block || (block_type little_endian block == 3)
 
--- the interface description blocks among blocks, and the packet blocks
 abbrev pub interfaces_in : Bool → List (List ℕ) → List (List ℕ)
 interfaces_in little_endian blocks = filter (is_interface little_endian) blocks
 
@@ -110,9 +107,9 @@ interface_number little_endian block = if is_enhanced little_endian block then n
 abbrev pub interface_at : List (List ℕ) → ℕ → List ℕ
 interface_at interfaces i = slice_index_or interfaces i []
 
--- as many of n bytes as a snapshot length lets through
+-- as many of n bytes as a snapshot length lets through, where it is any
 abbrev pub cut_to : ℕ → ℕ → ℕ
-cut_to limit n = if not (limit == 0) then (if nat_lt limit n then limit else n) else n
+cut_to limit n = if limit == 0 then n else min limit n
 
 abbrev pub captured_length : Bool → List (List ℕ) → List ℕ → ℕ
 captured_length little_endian interfaces block =
@@ -127,33 +124,29 @@ padded n = ((n + 3) / 4) * 4
 --
 -- Each by the first test that fails.
 
-abbrev pub fault_at : ℕ → CaptureReason → Option Refusal
-fault_at place reason = Some (record { reason = reason; place = place })
-
--- the first fault, or else the second
-abbrev pub or_else : Option Refusal → Option Refusal → Option Refusal
-or_else None second = second
-or_else (Some first) second = Some first
+abbrev pub refuses_at : ℕ → CaptureReason → Refusal
+refuses_at place reason = record { reason = reason; place = place }
 
 -- of the two lengths of the block that the rest of the file begins with, at a place of the file
 unfoldable pub length_fault : Bool → ℕ → List ℕ → Option Refusal
 length_fault little_endian place rest =
-    if nat_lt (total_length little_endian rest) 12 || not (total_length little_endian rest % 4 == 0) then fault_at place BlockLength
-    else if nat_lt (length rest) (total_length little_endian rest) then fault_at place CutBlock
-    else if not (number_in little_endian rest (total_length little_endian rest - 4) == total_length little_endian rest) then fault_at (place + (total_length little_endian rest - 4)) BlockLength
+    let total = total_length little_endian rest in
+    if nat_lt total 12 || not (total % 4 == 0) then Some (refuses_at place BlockLength)
+    else if nat_lt (length rest) total then Some (refuses_at place CutBlock)
+    else if not (number_in little_endian rest (total - 4) == total) then Some (refuses_at (place + (total - 4)) BlockLength)
     else None
 
 -- of the section header block, with which the file begins
 unfoldable pub header_fault : Bool → List ℕ → Option Refusal
 header_fault little_endian bytes =
-    if nat_lt (total_length little_endian bytes) 28 then fault_at 0 BlockBody
-    else if not (major_version little_endian bytes == 1) then fault_at 12 Version else None
+    if nat_lt (total_length little_endian bytes) 28 then Some (refuses_at 0 BlockBody)
+    else if not (major_version little_endian bytes == 1) then Some (refuses_at 12 Version) else None
 
 unfoldable pub section_fault : List ℕ → Option Refusal
 section_fault bytes =
-    if nat_lt (length bytes) 12 then fault_at 0 CutBlock
-    else if not (is_little_endian bytes || is_big_endian bytes) then fault_at 8 ByteOrder
-    else or_else (length_fault (is_little_endian bytes) 0 bytes) (header_fault (is_little_endian bytes) bytes)
+    if nat_lt (length bytes) 12 then Some (refuses_at 0 CutBlock)
+    else if not (is_little_endian bytes || is_big_endian bytes) then Some (refuses_at 8 ByteOrder)
+    else option_or (length_fault (is_little_endian bytes) 0 bytes) (header_fault (is_little_endian bytes) bytes)
 
 -- of a packet block behind these interface description blocks
 unfoldable pub packet_fault : Bool → List (List ℕ) → List ℕ → Option CaptureReason
@@ -172,22 +165,14 @@ body_fault little_endian interfaces packets block =
     else if is_packet little_endian block then (if nat_le 1000000 packets then Some TooMany else packet_fault little_endian interfaces block)
     else None
 
-abbrev pub at_place : ℕ → Option CaptureReason → Option Refusal
-at_place place None = None
-at_place place (Some reason) = fault_at place reason
-
 -- of the block that the rest of the file begins with
 unfoldable pub block_fault : Bool → ℕ → List (List ℕ) → ℕ → List ℕ → Option Refusal
 block_fault little_endian place interfaces packets rest =
-    if nat_lt (length rest) 12 then fault_at place CutBlock
-    else or_else (length_fault little_endian place rest) (at_place place (body_fault little_endian interfaces packets (block_in little_endian rest)))
+    if nat_lt (length rest) 12 then Some (refuses_at place CutBlock)
+    else option_or (length_fault little_endian place rest)
+    (option_map (refuses_at place) (body_fault little_endian interfaces packets (block_in little_endian rest)))
 
 -- WHICH BYTES ARE A CAPTURE
-
--- the refusal, or else this answer
-abbrev pub unless : {T : Type 0} → Option Refusal → Result T Refusal → Result T Refusal
-unless None answer = answer
-unless (Some refusal) answer = Err refusal
 
 -- The blocks of the rest of the file behind these blocks, or what keeps one of them from being whole. `more` is at least
 -- the number of bytes left, so it is never used up: a block has 12 bytes or more.
@@ -195,8 +180,10 @@ unfoldable pub blocks_from : Bool → ℕ → ℕ → List (List ℕ) → List �
 blocks_from little_endian zero place before rest = Ok before
 blocks_from little_endian (suc more) place before rest =
     if length rest == 0 then Ok before
-    else unless (block_fault little_endian place (interfaces_in little_endian before) (length (packets_in little_endian before)) rest)
-    (blocks_from little_endian more (place + total_length little_endian rest) (before ++ block_in little_endian rest ∷ []) (drop (total_length little_endian rest) rest))
+    else
+    let total = total_length little_endian rest in
+    option_map_or Err (block_fault little_endian place (interfaces_in little_endian before) (length (packets_in little_endian before)) rest)
+    (blocks_from little_endian more (place + total) (before ++ block_in little_endian rest ∷ []) (drop total rest))
 
 -- a capture: its section header block, and its interface description blocks and its packet blocks in the order of the file
 pub record NgCapture : Type 0 where
@@ -204,24 +191,21 @@ pub record NgCapture : Type 0 where
   pub interfaces : List (List ℕ)
   pub packets : List (List ℕ)
 
--- the capture of a section header block and the blocks behind it
 abbrev pub capture_of_blocks : Bool → List ℕ → List (List ℕ) → NgCapture
-capture_of_blocks little_endian section blocks = record { section = section; interfaces = interfaces_in little_endian blocks; packets = packets_in little_endian blocks }
+capture_of_blocks little_endian section blocks =
+    record { section = section; interfaces = interfaces_in little_endian blocks; packets = packets_in little_endian blocks }
 
-abbrev pub with_section : Bool → List ℕ → Result (List (List ℕ)) Refusal → Result NgCapture Refusal
-with_section little_endian section (Ok blocks) = Ok (capture_of_blocks little_endian section blocks)
-with_section little_endian section (Err refusal) = Err refusal
-
--- the blocks behind the section header block
 abbrev pub blocks_behind : Bool → List ℕ → Result (List (List ℕ)) Refusal
-blocks_behind little_endian bytes = blocks_from little_endian (length bytes) (total_length little_endian bytes) [] (drop (total_length little_endian bytes) bytes)
+blocks_behind little_endian bytes =
+    let total = total_length little_endian bytes in blocks_from little_endian (length bytes) total [] (drop total bytes)
 
 -- The capture that the bytes are, or the first test that they fail. Whether their first four bytes are the type of a
 -- section header block is not asked here: by these bytes the format was chosen.
 unfoldable pub pcapng_of : List ℕ → Result NgCapture Refusal
 pcapng_of bytes =
-    unless (section_fault bytes)
-    (with_section (is_little_endian bytes) (block_in (is_little_endian bytes) bytes) (blocks_behind (is_little_endian bytes) bytes))
+    let little_endian = is_little_endian bytes in
+    option_map_or Err (section_fault bytes)
+    (result_map_both (capture_of_blocks little_endian (block_in little_endian bytes)) (λ r. r) (blocks_behind little_endian bytes))
 
 -- WHAT A CAPTURE HAS
 
@@ -232,22 +216,16 @@ abbrev pub packet_block : NgCapture → ℕ → List ℕ
 packet_block c i = slice_index_or c.packets i []
 
 -- the captured bytes of a packet block, and the link type of its interface
-abbrev pub frame_in : Bool → List (List ℕ) → List ℕ → List ℕ
-frame_in little_endian interfaces block =
-    slice_range block (data_place little_endian block) (data_place little_endian block + captured_length little_endian interfaces block)
+abbrev pub frame_in : NgCapture → List ℕ → List ℕ
+frame_in c block =
+    let place = data_place (order_of c) block in slice_range block place (place + captured_length (order_of c) c.interfaces block)
 
-abbrev pub link_in : Bool → List (List ℕ) → List ℕ → ℕ
-link_in little_endian interfaces block = link_type little_endian (interface_at interfaces (interface_number little_endian block))
-
--- the packet that packet block i holds, and its link type
-abbrev pub frame_of : NgCapture → ℕ → List ℕ
-frame_of c i = frame_in (order_of c) c.interfaces (packet_block c i)
-
-abbrev pub link_of : NgCapture → ℕ → ℕ
-link_of c i = link_in (order_of c) c.interfaces (packet_block c i)
+abbrev pub link_in : NgCapture → List ℕ → ℕ
+link_in c block = link_type (order_of c) (interface_at c.interfaces (interface_number (order_of c) block))
 
 abbrev pub packets_of : NgCapture → Packets
-packets_of c = record { count = length c.packets; link = link_of c; frame = frame_of c }
+packets_of c =
+    record { count = length c.packets; link = λ i. link_in c (packet_block c i); frame = λ i. frame_in c (packet_block c i) }
 
 -- the section header block that says nothing of its section's length
 abbrev pub without_length : List ℕ → List ℕ

@@ -1,6 +1,6 @@
 // A capture in the pcapng format: its blocks, as places in the bytes that were read.
 ghost use Rattle.std.specs.Prelude.{◌≡◌, ◌<◌, ◌≤◌, length};
-ghost use Rattle.lq_pcapng.specs.Pcapng.{frame_of, interface_at, link_of as link_type_of, order_of, packet_block};
+ghost use Rattle.lq_pcapng.specs.Pcapng.{frame_in, interface_at, link_in, order_of, packet_block};
 ghost use Rattle.lq_pcapng.specs.Reading.{IsPacket};
 
 use crate::blocks::{block, interface};
@@ -45,7 +45,7 @@ impl NgCapture {
     /// The captured bytes of packet `i`.
     pub fn frame(&self, i: usize) -> &[u8]
         requires { i < length self.now.packets }
-        ensures { result.now ≡ frame_of self.now i }
+        ensures { result.now ≡ frame_in self.now (packet_block self.now i) }
     {
         let little_endian = self.is_little_endian();
         let block = self.block(i);
@@ -57,7 +57,7 @@ impl NgCapture {
     /// The link type of the interface of packet `i`: 1 is Ethernet, 101 is raw IP.
     pub fn link_of(&self, i: usize) -> u32
         requires { i < length self.now.packets }
-        ensures { result ≡ link_type_of self.now i }
+        ensures { result ≡ link_in self.now (packet_block self.now i) }
     {
         let little_endian = self.is_little_endian();
         let number = interface_number(self.block(i), little_endian);

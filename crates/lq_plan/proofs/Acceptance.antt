@@ -13,11 +13,11 @@ use Rattle.lq_model.specs.Class.{route_byte_of, source_byte_of}
 use Rattle.lq_model.specs.Plan.{Plan, first_at, mq_at, station_of}
 use Rattle.lq_model.specs.declared.plan.PlanReason.{PlanReason}
 use Rattle.lq_model.specs.declared.plan.PlanReason.TheVariants.{NotToml, EventOrder}
-use Rattle.lq_plan.specs.Document.{document_of, groups_in}
-use Rattle.lq_plan.specs.Keys.{version_numbered, version_of}
+use Rattle.lq_plan.specs.Document.{document_of}
+use Rattle.lq_plan.specs.Keys.{version_of, mq_in}
 use Rattle.lq_plan.specs.Laws.{HasNoVersion, IsUngrouped}
 use Rattle.lq_plan.specs.Limits.{IsPlanOf, IsWithinLimits, is_out_of_order, version_1, version_2, version_3}
-use Rattle.lq_plan.specs.Reading.{event_in, first_fault, plan_by, plan_from, plan_in, plan_of, plan_unless, root_of}
+use Rattle.lq_plan.specs.Reading.{event_in, first_fault, plan_by, plan_in, plan_of, root_of}
 use Rattle.lq_plan.specs.Values.{number_at, number_or}
 use Rattle.lq_plan.specs.declared.keys.Version.{Version}
 use Rattle.lq_plan.proofs.Groups.{mq-read}
@@ -26,7 +26,7 @@ use Rattle.lq_plan.proofs.Within.{IsVersion, is-version, is-version_1, is-versio
 -- ACCEPTED TEXTS
 
 ordered_within : (version : Version) → IsVersion version → (root : Members) (plan : Plan) (out_of_order : Bool) → None ≡ first_fault version (document_of root)
-    → out_of_order ≡ is_out_of_order (map (event_in (groups_in (document_of root).stations)) (document_of root).events)
+    → out_of_order ≡ is_out_of_order (map (event_in (map mq_in (document_of root).stations)) (document_of root).events)
     → (if out_of_order then Err EventOrder else Ok (plan_in (document_of root))) ≡ Ok plan → IsPlanOf version plan
 ordered_within version is root plan true none order answer = cc
 ordered_within version is root plan false none order answer =
@@ -34,14 +34,14 @@ ordered_within version is root plan false none order answer =
     rw same (of_version version root (document_of root) (plan_in (document_of root)) (root_facts version is root none) (sym order) refl refl refl refl refl)
 
 faultless_within : (version : Version) → IsVersion version → (root : Members) (plan : Plan) (fault : Option PlanReason) → fault ≡ first_fault version (document_of root)
-    → plan_unless fault (document_of root) ≡ Ok plan → IsPlanOf version plan
+    → option_map_or Err fault (if is_out_of_order (plan_in (document_of root)).events then Err EventOrder else Ok (plan_in (document_of root))) ≡ Ok plan → IsPlanOf version plan
 faultless_within version is root plan (Some reason) same answer = cc
-faultless_within version is root plan None same answer = ordered_within version is root plan (is_out_of_order (map (event_in (groups_in (document_of root).stations)) (document_of root).events)) same refl answer
+faultless_within version is root plan None same answer = ordered_within version is root plan (is_out_of_order (map (event_in (map mq_in (document_of root).stations)) (document_of root).events)) same refl answer
 
 accepted_by : (version : Version) → IsVersion version → (root : Members) (plan : Plan) → plan_by version root ≡ Ok plan → IsPlanOf version plan
 accepted_by version is root plan answer = faultless_within version is root plan (first_fault version (document_of root)) refl answer
 
-root_within : (plan : Plan) (root : Option Members) → option_map_or plan_from root (Err NotToml) ≡ Ok plan → IsWithinLimits plan
+root_within : (plan : Plan) (root : Option Members) → option_map_or (λ root. plan_by (version_of root) root) root (Err NotToml) ≡ Ok plan → IsWithinLimits plan
 root_within plan None answer = cc
 root_within plan (Some root) answer = widened (version_of root) (is-version root) plan (accepted_by (version_of root) (is-version root) root plan answer)
 
@@ -63,7 +63,7 @@ other_number default n (Some (datetime time)) other is = absurd (other is)
 other_number default n (Some (array items)) other is = absurd (other is)
 other_number default n (Some (table inside)) other is = absurd (other is)
 
-numbered-1 : (number : ℕ) → number ≢ 2 → number ≢ 3 → version_numbered number ≡ version_1
+numbered-1 : (number : ℕ) → number ≢ 2 → number ≢ 3 → (if number == 3 then version_3 else if number == 2 then version_2 else version_1) ≡ version_1
 numbered-1 number not_2 not_3 = ap (λ is_3. if is_3 then version_3 else if number == 2 then version_2 else version_1) (ne_eqb number 3 not_3)
     ∙ ap (λ is_2. if is_2 then version_2 else version_1) (ne_eqb number 2 not_2)
 
@@ -72,7 +72,7 @@ no-number root number other absent is = absent (other_number 1 number (get_membe
 
 reads_root : (o : Option Members) → ((root : Members) → o ≡ Some root → get_member (codes "version") root ≢ Some (integer (pos 2)))
     → ((root : Members) → o ≡ Some root → get_member (codes "version") root ≢ Some (integer (pos 3)))
-    → option_map_or plan_from o (Err NotToml) ≡ option_map_or (plan_by version_1) o (Err NotToml)
+    → option_map_or (λ root. plan_by (version_of root) root) o (Err NotToml) ≡ option_map_or (plan_by version_1) o (Err NotToml)
 reads_root None not_2 not_3 = refl
 reads_root (Some root) not_2 not_3 =
     ap (λ version. plan_by version root) (numbered-1 (number_at (codes "version") 1 root) (no-number root 2 (omega arith) (not_2 root refl)) (no-number root 3 (omega arith) (not_3 root refl)))
@@ -90,11 +90,11 @@ keeps_version_1 text plan not_2 not_3 answer = root_keeps plan (root_of text) (s
 
 -- TEXTS OF VERSION 2 OR 1
 
-numbered-2 : (number : ℕ) → number ≢ 3 → version_numbered number ≡ (if number == 2 then version_2 else version_1)
+numbered-2 : (number : ℕ) → number ≢ 3 → (if number == 3 then version_3 else if number == 2 then version_2 else version_1) ≡ (if number == 2 then version_2 else version_1)
 numbered-2 number not_3 = ap (λ is_3. if is_3 then version_3 else if number == 2 then version_2 else version_1) (ne_eqb number 3 not_3)
 
 reads_root_2 : (o : Option Members) → ((root : Members) → o ≡ Some root → get_member (codes "version") root ≢ Some (integer (pos 3)))
-    → option_map_or plan_from o (Err NotToml) ≡ option_map_or (λ root. plan_by (if number_at (codes "version") 1 root == 2 then version_2 else version_1) root) o (Err NotToml)
+    → option_map_or (λ root. plan_by (version_of root) root) o (Err NotToml) ≡ option_map_or (λ root. plan_by (if number_at (codes "version") 1 root == 2 then version_2 else version_1) root) o (Err NotToml)
 reads_root_2 None not_3 = refl
 reads_root_2 (Some root) not_3 = ap (λ version. plan_by version root) (numbered-2 (number_at (codes "version") 1 root) (no-number root 3 (omega arith) (not_3 root refl)))
 

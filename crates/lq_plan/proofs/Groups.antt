@@ -1,5 +1,5 @@
 -- The stations of a plan, group by group.
-use Rattle.std.proofs.Common.{◌≡◌, ℕ, zero, suc, ◌+◌, ◌<◌, ◌≤◌, ◌⊎◌, inl, inr, List, [], ◌∷◌, ◌++◌, length, take, replicate, get_or, Some, option_map, slice_get, refl, sym, ap, ap₂, ◌∙◌, Bool, true, false, ◌||◌, arith}
+use Rattle.std.proofs.Common.{◌≡◌, ℕ, zero, suc, ◌+◌, ◌<◌, ◌≤◌, ◌⊎◌, inl, inr, List, [], ◌∷◌, ◌++◌, length, take, replicate, get_or, Some, option_map, slice_get, refl, sym, ap, ap₂, ◌∙◌, Bool, true, false, ◌||◌, ◌&&◌, nat_lt, arith, map}
 use Rattle.std.specs.Prelude.{sum}
 use Rattle.std.specs.List.{flat_map, list_any}
 use Rattle.std.proofs.lemmas.Bool.{cases_lt, false≢true}
@@ -10,12 +10,14 @@ use Rattle.std.proofs.lemmas.List.Sums.{sum_by-cons, sum_by-take-le, sum_by_more
 use Rattle.std.proofs.lemmas.Option.{get_or_from_slice_get, same_Some, slice_get-get_or, slice_get-map, slice_get_within}
 use Rattle.toml.specs.Data.{Members}
 use Rattle.lq_model.specs.Numbers.{first_numbers}
-use Rattle.lq_model.specs.Plan.{Plan, first_at, mq_at}
+use Rattle.lq_model.specs.Plan.{Plan, first_at, is_swap, is_swap_kind, mq_at}
+use Rattle.lq_model.specs.declared.plan.EventPlan.{EventPlan}
 use Rattle.lq_model.specs.declared.plan.StationPlan.{StationPlan}
-use Rattle.lq_plan.specs.Document.{groups_in}
-use Rattle.lq_plan.specs.Keys.{mq_in}
+use Rattle.lq_plan.specs.Document.{Document}
+use Rattle.lq_plan.specs.Keys.{event_word_in, group_in, mq_in}
 use Rattle.lq_plan.specs.Limits.{IsWithinLimits}
-use Rattle.lq_plan.specs.Reading.{children_in, station_plan_in}
+use Rattle.lq_plan.specs.Reading.{children_in, event_in, has_group_fault, kind_as, plan_in, station_plan_in}
+use Rattle.lq_plan.proofs.Lists.{list_any-map}
 
 -- GROUPS
 
@@ -40,11 +42,18 @@ few-groups plan within = let few = few-sum plan.groups (λ j mq at. (within.each
 
 -- CHILDREN
 
-pub length-children : (ts : List Members) → length (flat_map children_in ts) ≡ sum (groups_in ts)
+pub length-children : (ts : List Members) → length (flat_map children_in ts) ≡ sum (map mq_in ts)
 length-children [] = refl
 length-children (t ∷ ts) =
     let rest = length-children ts in let whole = length-append (children_in t) (flat_map children_in ts) in let own = length-replicate (mq_in t) (station_plan_in t) in
-    let more = sum_by-cons (λ (x : ℕ). x) (mq_in t) (groups_in ts) in omega arith
+    let more = sum_by-cons (λ (x : ℕ). x) (mq_in t) (map mq_in ts) in omega arith
+
+-- too many children of all groups are too many stations, and an event of one of several is one of so many
+pub group-fault : (d : Document) → has_group_fault (plan_in d) ≡ (nat_lt 8 (sum (map mq_in d.stations))
+    || list_any (λ event. is_swap_kind (kind_as (event_word_in event) event) && nat_lt 1 (mq_at (map mq_in d.stations) (group_in event))) d.events)
+group-fault d =
+    ap₂ (λ many swaps. many || swaps) (ap (nat_lt 8) (length-children d.stations))
+    (sym (list_any-map (λ (event : EventPlan). is_swap event && nat_lt 1 event.mq) (event_in (map mq_in d.stations)) d.events))
 
 left-get : {X : Type 0} (xs ys : List X) (i : ℕ) (x : X) → slice_get xs i ≡ Some x → slice_get (xs ++ ys) i ≡ Some x
 left-get [] ys i x at = cc
@@ -71,18 +80,18 @@ copy-is n i a x at =
     sym (get_or_from_slice_get (replicate n a) i x a at) ∙ get_or-replicate n i a a (omega arith)
 
 -- a child is as its group
-pub child-at : (ts : List Members) (j i : ℕ) (t : Members) → slice_get ts j ≡ Some t → i < mq_in t → slice_get (flat_map children_in ts) (first_at (groups_in ts) j + i) ≡ Some (station_plan_in t)
+pub child-at : (ts : List Members) (j i : ℕ) (t : Members) → slice_get ts j ≡ Some t → i < mq_in t → slice_get (flat_map children_in ts) (first_at (map mq_in ts) j + i) ≡ Some (station_plan_in t)
 child-at [] j i t at below = cc
 child-at (s ∷ ts) zero i t at below =
-    let is : s ≡ t = same_Some s t at in let place : first_at (groups_in (s ∷ ts)) 0 + i ≡ i = omega arith in
+    let is : s ≡ t = same_Some s t at in let place : first_at (map mq_in (s ∷ ts)) 0 + i ≡ i = omega arith in
     ap (slice_get (flat_map children_in (s ∷ ts))) place
     ∙ left-get (children_in s) (flat_map children_in ts) i (station_plan_in t)
     (ap (λ (x : Members). slice_get (children_in x) i) is ∙ copy-at (mq_in t) i (station_plan_in t) below)
 child-at (s ∷ ts) (suc j) i t at below =
-    let own = length-replicate (mq_in s) (station_plan_in s) in let more = sum_by-cons (λ (x : ℕ). x) (mq_in s) (take j (groups_in ts)) in
-    let place : first_at (groups_in (s ∷ ts)) (suc j) + i ≡ length (children_in s) + (first_at (groups_in ts) j + i) = omega arith in
+    let own = length-replicate (mq_in s) (station_plan_in s) in let more = sum_by-cons (λ (x : ℕ). x) (mq_in s) (take j (map mq_in ts)) in
+    let place : first_at (map mq_in (s ∷ ts)) (suc j) + i ≡ length (children_in s) + (first_at (map mq_in ts) j + i) = omega arith in
     ap (slice_get (flat_map children_in (s ∷ ts))) place
-    ∙ right-get (children_in s) (flat_map children_in ts) (first_at (groups_in ts) j + i) ∙ child-at ts j i t at below
+    ∙ right-get (children_in s) (flat_map children_in ts) (first_at (map mq_in ts) j + i) ∙ child-at ts j i t at below
 
 -- each station is a child
 pub each-child : (ts : List Members) (c : ℕ) (s : StationPlan) → slice_get (flat_map children_in ts) c ≡ Some s → (t : Members) × ((j : ℕ) × (slice_get ts j ≡ Some t)) × (s ≡ station_plan_in t)
@@ -93,20 +102,20 @@ each-child (t ∷ ts) c s at = elim (either-get (children_in t) (flat_map childr
 ]
 
 -- one group more
-pub group-read : (ts : List Members) (i : ℕ) (t : Members) → slice_get ts i ≡ Some t → (i < length (groups_in ts)) × (get_or (groups_in ts) i 0 ≡ mq_in t)
+pub group-read : (ts : List Members) (i : ℕ) (t : Members) → slice_get ts i ≡ Some t → (i < length (map mq_in ts)) × (get_or (map mq_in ts) i 0 ≡ mq_in t)
 group-read ts i t at =
     let long = length-map ts mq_in in let below = slice_get_within ts i t at in
-    let there : slice_get (groups_in ts) i ≡ Some (mq_in t) = slice_get-map mq_in ts i ∙ ap (option_map mq_in) at in
-    (omega arith, get_or_from_slice_get (groups_in ts) i (mq_in t) 0 there)
+    let there : slice_get (map mq_in ts) i ≡ Some (mq_in t) = slice_get-map mq_in ts i ∙ ap (option_map mq_in) at in
+    (omega arith, get_or_from_slice_get (map mq_in ts) i (mq_in t) 0 there)
 
-pub sum-more : (ts : List Members) (i : ℕ) (t : Members) → slice_get ts i ≡ Some t → sum (take (i + 1) (groups_in ts)) ≡ sum (take i (groups_in ts)) + mq_in t
-sum-more ts i t at = let read = group-read ts i t at in sum_by_more (λ (x : ℕ). x) (groups_in ts) i 0 read.0 ∙ ap (λ m. sum (take i (groups_in ts)) + m) read.1
+pub sum-more : (ts : List Members) (i : ℕ) (t : Members) → slice_get ts i ≡ Some t → sum (take (i + 1) (map mq_in ts)) ≡ sum (take i (map mq_in ts)) + mq_in t
+sum-more ts i t at = let read = group-read ts i t at in sum_by_more (λ (x : ℕ). x) (map mq_in ts) i 0 read.0 ∙ ap (λ m. sum (take i (map mq_in ts)) + m) read.1
 
-pub sum-within : (ts : List Members) (i : ℕ) (t : Members) → slice_get ts i ≡ Some t → sum (take i (groups_in ts)) + mq_in t ≤ sum (groups_in ts)
-sum-within ts i t at = let more = sum-more ts i t at in let few = first-few (groups_in ts) (i + 1) in omega arith
+pub sum-within : (ts : List Members) (i : ℕ) (t : Members) → slice_get ts i ≡ Some t → sum (take i (map mq_in ts)) + mq_in t ≤ sum (map mq_in ts)
+sum-within ts i t at = let more = sum-more ts i t at in let few = first-few (map mq_in ts) (i + 1) in omega arith
 
-pub sum-whole : (ts : List Members) (i : ℕ) → length ts ≤ i → sum (take i (groups_in ts)) ≡ sum (groups_in ts)
-sum-whole ts i end = let long = length-map ts mq_in in ap sum (take_all i (groups_in ts) (omega arith))
+pub sum-whole : (ts : List Members) (i : ℕ) → length ts ≤ i → sum (take i (map mq_in ts)) ≡ sum (map mq_in ts)
+sum-whole ts i end = let long = length-map ts mq_in in ap sum (take_all i (map mq_in ts) (omega arith))
 
 pub one-copy-more : {X : Type 0} (xs : List X) (n : ℕ) (x : X) → (xs ++ replicate n x) ++ x ∷ [] ≡ xs ++ replicate (n + 1) x
 one-copy-more xs n x = append_assoc xs (replicate n x) (x ∷ []) ∙ ap (λ ys. xs ++ ys) (replicate-append-replicate n 1 x)

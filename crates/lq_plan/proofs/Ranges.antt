@@ -1,14 +1,15 @@
 -- What follows for a value that a table has, or for its default, where its key finds it within its range.
-use Rattle.std.proofs.Common.{◌≡◌, ℕ, suc, pos, negsuc, ◌≤◌, Bool, true, false, not, ◌&&◌, nat_le, List, [], ◌∷◌, length, Option, Some, None, is_none, is_some, option_and_then, unwrap_or, slice_get, refl, ap, ◌∙◌, sym, arith, inl, inr}
+use Rattle.std.proofs.Common.{◌≡◌, ℕ, suc, pos, negsuc, ◌≤◌, Bool, true, false, not, ◌&&◌, nat_le, List, [], ◌∷◌, length, Option, Some, None, is_none, is_some, option_and_then, slice_get, refl, ap, ◌∙◌, sym, arith, inl, inr}
 use Rattle.std.proofs.lemmas.Bool.{and_parts, cases_Bool, false≢true, leb-true}
 use Rattle.std.proofs.lemmas.List.Folds.{list_any_at}
 use Rattle.std.proofs.lemmas.Option.{get_or_from_slice_get, slice_get_within}
 use Rattle.std.specs.List.{filter_map, cons_option, list_all, list_any}
 use Rattle.std.specs.Option.{option_map_or}
-use Rattle.toml.specs.Data.{Data, string, integer, float, boolean, datetime, array, table, Members, get_member, as_table}
-use Rattle.lq_plan.specs.Faults.{has_kind, has_value_out_of_range, is_out_of_range, is_within}
+use Rattle.toml.specs.Data.{Data, string, integer, float, boolean, datetime, array, table, Members, get_member, as_array, as_table}
+use Rattle.lq_plan.specs.Faults.{has_fault, has_kind, is_within, value_fails}
 use Rattle.lq_plan.specs.Keys.{Key, key}
-use Rattle.lq_plan.specs.Values.{elements_in, elements_of, number_at, number_or}
+use Rattle.lq_plan.specs.Values.{elements_of, number_at, number_or}
+use Rattle.lq_plan.specs.declared.faults.Fault.TheVariants.{OutOfRange}
 use Rattle.lq_plan.specs.declared.keys.Presence.{Presence}
 use Rattle.lq_plan.specs.declared.keys.Rule.TheVariants.{Number, Tables}
 
@@ -44,11 +45,11 @@ number_within low high default (Some (array items)) h p q = (p, q)
 number_within low high default (Some (table inside)) h p q = (p, q)
 
 -- the i-th of the keys
-pub in_range : (t : Members) (keys : List Key) (i : ℕ) (name : List ℕ) (presence : Presence) (low high default : ℕ) → has_value_out_of_range keys t ≡ false
+pub in_range : (t : Members) (keys : List Key) (i : ℕ) (name : List ℕ) (presence : Presence) (low high default : ℕ) → has_fault OutOfRange keys t ≡ false
     → slice_get keys i ≡ Some (key name presence (Number low high)) → low ≤ default → default ≤ high
     → (low ≤ number_at name default t) × (number_at name default t ≤ high)
 in_range t keys i name presence low high default none at p q =
-    number_within low high default (get_member name t) (at_false (is_out_of_range t) keys i (key name presence (Number low high)) none at) p q
+    number_within low high default (get_member name t) (at_false (value_fails is_within t) keys i (key name presence (Number low high)) none at) p q
 
 -- TABLES
 
@@ -71,7 +72,7 @@ all_tables (x ∷ xs) h =
     cons_some (as_table x) (filter_map as_table xs) both.0 ∙ ap suc (all_tables xs both.1)
 
 pub tables_few : (low high : ℕ) (o : Option Data) → option_map_or (λ value. not (is_within (Tables low high) value)) o false ≡ false
-    → length (filter_map as_table (unwrap_or (option_and_then elements_in o) [])) ≤ high
+    → length (filter_map as_table (option_map_or elements_of (option_and_then as_array o) [])) ≤ high
 tables_few low high None h = omega arith
 tables_few low high (Some (array items)) h = omega (arith, filtered_few (elements_of items), (between low high (length (elements_of items)) h).1)
 tables_few low high (Some (integer z)) h = omega arith
@@ -83,7 +84,7 @@ tables_few low high (Some (table inside)) h = omega arith
 
 pub tables_some : (low high : ℕ) (o : Option Data) → is_none o ≡ false → option_map_or (λ value. not (has_kind (Tables low high) value)) o false ≡ false
     → option_map_or (λ value. not (is_within (Tables low high) value)) o false ≡ false
-    → low ≤ length (filter_map as_table (unwrap_or (option_and_then elements_in o) []))
+    → low ≤ length (filter_map as_table (option_map_or elements_of (option_and_then as_array o) []))
 tables_some low high None there kind h = absurd (false≢true (sym there))
 tables_some low high (Some (array items)) there kind h =
     omega (arith, all_tables (elements_of items) (true_from_not _ kind), (between low high (length (elements_of items)) h).0)

@@ -6,9 +6,10 @@ use Rattle.std.specs.Str.{IsUtf8, is_utf8}
 use Rattle.toml.specs.Data.{Members}
 use Rattle.toml.specs.Parse.{parse_document}
 use Rattle.lq_model.specs.declared.plan.PlanReason.TheVariants.{NotToml}
-use Rattle.lq_plan.specs.Reading.{plan_from, plan_of, root_of}
+use Rattle.lq_plan.specs.Keys.{version_of}
+use Rattle.lq_plan.specs.Reading.{plan_by, plan_of, root_of}
 
-pub document_text : (text : List ℕ) (root : Members) → IsUtf8 text → parse_document text ≡ Some root → plan_of text ≡ plan_from root
+pub document_text : (text : List ℕ) (root : Members) → IsUtf8 text → parse_document text ≡ Some root → plan_of text ≡ plan_by (version_of root) root
 unfolding plan_of
 document_text text root utf8 parsed = rw (is_utf8-from_IsUtf8 text utf8, parsed) refl
 

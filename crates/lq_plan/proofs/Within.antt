@@ -1,5 +1,5 @@
 -- A plan that is read from a document without faults is within its limits.
-use Rattle.std.proofs.Common.{◌≡◌, ℕ, ◌+◌, ◌-◌, ◌<◌, ◌≤◌, Bool, true, false, ◌||◌, ◌==◌, if◌then◌else◌, codes, List, length, map, get_or, Option, Some, None, option_map, slice_get, refl, ap, ◌∙◌, sym, subst, arith}
+use Rattle.std.proofs.Common.{◌≡◌, ℕ, ◌+◌, ◌-◌, ◌<◌, ◌≤◌, Bool, true, false, ◌||◌, ◌&&◌, ◌==◌, if◌then◌else◌, codes, List, length, map, get_or, Option, Some, None, is_none, option_map, slice_get, refl, ap, ◌∙◌, sym, subst, arith}
 use Rattle.std.specs.Prelude.{nat_lt, sum}
 use Rattle.std.proofs.lemmas.Bool.{ltb-false, or_parts}
 use Rattle.std.proofs.lemmas.List.{length-map}
@@ -11,11 +11,11 @@ use Rattle.lq_model.proofs.Reach.{at-within, reach-few}
 use Rattle.lq_model.specs.Plan.{Plan, first_at, is_at, mq_at}
 use Rattle.lq_model.specs.declared.plan.EventPlan.{EventPlan}
 use Rattle.lq_model.specs.declared.plan.StationPlan.{StationPlan}
-use Rattle.lq_plan.specs.Document.{Document, document_of, groups_in, has_fault_in, has_group_fault}
-use Rattle.lq_plan.specs.Faults.{has_fault, has_value_out_of_range, is_missing, is_of_wrong_kind, is_out_of_range}
-use Rattle.lq_plan.specs.Keys.{key, event_keys, event_word_in, group_in, len_in, len_presence, max_len_for, max_len_in, max_queues_in, mq_in, params_presence, root_keys, station_keys, version_of}
+use Rattle.lq_plan.specs.Document.{Document, document_of, has_fault_in}
+use Rattle.lq_plan.specs.Faults.{has_fault, has_kind, is_required, is_within, value_fails}
+use Rattle.lq_plan.specs.Keys.{Key, key, event_keys, event_word_in, group_in, len_in, len_presence, max_len_for, max_len_in, mq_in, params_presence, root_keys, station_keys, version_of}
 use Rattle.lq_plan.specs.Limits.{AreParamsWithin, IsEventOfGroup, IsEventWithin, IsKindWithin, IsPlanOf, IsStationOf, IsStationWithin, IsWithinLimits, is_out_of_order, max_len_at, version_1, version_2, version_3}
-use Rattle.lq_plan.specs.Reading.{IsEventSmall, children_in, event_in, first_fault, kind_as, params_in, station_plan_in}
+use Rattle.lq_plan.specs.Reading.{IsEventSmall, children_in, event_in, first_fault, has_group_fault, kind_as, params_in, plan_in, station_plan_in}
 use Rattle.lq_plan.specs.Values.{number_at}
 use Rattle.lq_plan.specs.declared.faults.Fault.{Fault}
 use Rattle.lq_plan.specs.declared.faults.Fault.TheVariants.{UnknownKey, MissingKey, WrongKind, OutOfRange}
@@ -91,18 +91,18 @@ some-queues : (version : Version) → IsVersion version → (several : Bool) →
 some-queues version is true = (omega arith, is.some_queues)
 some-queues version is false = (is.some_queues, omega arith)
 
-pub mq_within : (version : Version) → IsVersion version → (t : Members) → has_value_out_of_range (station_keys version t) t ≡ false → (1 ≤ mq_in t) × (mq_in t ≤ version.max_mq)
+pub mq_within : (version : Version) → IsVersion version → (t : Members) → has_fault OutOfRange (station_keys version t) t ≡ false → (1 ≤ mq_in t) × (mq_in t ≤ version.max_mq)
 unfolding station_keys
 mq_within version is t h = in_range t (station_keys version t) 4 (codes "mq") version.mq 1 version.max_mq 1 h refl (omega arith) is.some_mq
 
-pub station_within : (version : Version) → IsVersion version → (t : Members) → has_value_out_of_range (station_keys version t) t ≡ false → IsStationOf version (station_plan_in t)
+pub station_within : (version : Version) → IsVersion version → (t : Members) → has_fault OutOfRange (station_keys version t) t ≡ false → IsStationOf version (station_plan_in t)
 unfolding station_keys
 station_within version is t h =
     let keys = station_keys version t in
     let len = in_range t keys 0 (codes "len") Optional 1 version.max_len 1000 h refl (omega arith) is.some_len in
     let max_len = in_range t keys 1 (codes "max_len") Optional (len_in t) version.max_len (len_in t) h refl (omega arith) len.1 in
     let most = some-queues version is (nat_lt 1 (mq_in t)) in
-    let queues = in_range t keys 3 (codes "queues") version.queues 1 (max_queues_in version t) 1 h refl (omega arith) most.0 in
+    let queues = in_range t keys 3 (codes "queues") version.queues 1 (if nat_lt 1 (mq_in t) then 1 else version.max_queues) 1 h refl (omega arith) most.0 in
     let burst = in_range t keys 5 (codes "burst") Optional 0 1000000 0 h refl (omega arith) (omega arith) in
     let busy_every = in_range t keys 6 (codes "busy_every") Optional 0 1000000 0 h refl (omega arith) (omega arith) in
     let busy_limit = in_range t keys 7 (codes "busy_limit") Optional 0 1000000 0 h refl (omega arith) (omega arith) in
@@ -162,7 +162,7 @@ record EventFacts (stations : List Members) (t : Members) : Type 0 where
   len : (1 ≤ max_len_for stations t) → (1 ≤ number_at (codes "len") 1 t) × (number_at (codes "len") 1 t ≤ max_len_for stations t)
   params : AreParamsWithin (params_in t)
 
-event_facts : (stations : List Members) (t : Members) → has_value_out_of_range (event_keys stations t) t ≡ false → EventFacts stations t
+event_facts : (stations : List Members) (t : Members) → has_fault OutOfRange (event_keys stations t) t ≡ false → EventFacts stations t
 unfolding event_keys
 event_facts stations t h =
     let keys = event_keys stations t in
@@ -203,12 +203,12 @@ child-of : (mq first c : ℕ) (event : EventPlan) → event.station ≡ first �
 child-of mq first c event is_first is_mq some at =
     let within = at-within c event at in let few = reach-few event (omega arith) in (c - first, omega arith, omega arith)
 
-pub event_within : (stations : List Members) (t : Members) → AreStationsWithin stations → AreGroupsWithin stations → 0 < length stations → has_value_out_of_range (event_keys stations t) t ≡ false
-    → IsEventWithin (flat_map children_in stations) (event_in (groups_in stations) t)
+pub event_within : (stations : List Members) (t : Members) → AreStationsWithin stations → AreGroupsWithin stations → 0 < length stations → has_fault OutOfRange (event_keys stations t) t ≡ false
+    → IsEventWithin (flat_map children_in stations) (event_in (map mq_in stations) t)
 event_within stations t within some_mq some h =
     let facts = event_facts stations t h in
     let j = group_in t in
-    let groups = groups_in stations in
+    let groups = map mq_in stations in
     let there : j < length stations = omega (arith, facts.station) in
     let long = length-map stations mq_in in
     let below : j < length groups = omega arith in
@@ -231,13 +231,13 @@ event_within stations t within some_mq some h =
           subst (λ most. IsKindWithin most (kind_as (event_word_in t) t)) (sym is) (kind_within (event_word_in t) t (max_len_for stations t) (facts.len bounds.0) facts.params);
     }
 
-pub event_group : (stations : List Members) (t : Members) → 0 < length stations → has_value_out_of_range (event_keys stations t) t ≡ false → IsEventOfGroup (groups_in stations) (event_in (groups_in stations) t)
+pub event_group : (stations : List Members) (t : Members) → 0 < length stations → has_fault OutOfRange (event_keys stations t) t ≡ false → IsEventOfGroup (map mq_in stations) (event_in (map mq_in stations) t)
 event_group stations t some h =
     let facts = event_facts stations t h in let long = length-map stations mq_in in
     record { group = group_in t; there = omega (arith, facts.station); first = refl; children = refl }
 
 pub event_small : (stations : List Members) (t : Members) → AreStationsWithin stations → 0 < length stations
-    → has_value_out_of_range (event_keys stations t) t ≡ false → IsEventSmall (length (groups_in stations)) t
+    → has_fault OutOfRange (event_keys stations t) t ≡ false → IsEventSmall (length (map mq_in stations)) t
 event_small stations t within some h =
     let facts = event_facts stations t h in
     let there : group_in t < length stations = omega (arith, facts.station) in
@@ -252,14 +252,13 @@ event_small stations t within some h =
 
 -- A DOCUMENT WITHOUT FAULTS
 
-first_of_five : {X : Type 0} (a b c d e : Bool) (v w x y z : X) → None ≡ (if a then Some v else if b then Some w else if c then Some x else if d then Some y else if e then Some z else None)
-    → (a ≡ false) × (b ≡ false) × (c ≡ false) × (d ≡ false) × (e ≡ false)
-first_of_five true b c d e v w x y z h = cc
-first_of_five false true c d e v w x y z h = cc
-first_of_five false false true d e v w x y z h = cc
-first_of_five false false false true e v w x y z h = cc
-first_of_five false false false false true v w x y z h = cc
-first_of_five false false false false false v w x y z h = (refl, refl, refl, refl, refl)
+first_of_four : {X : Type 0} (a b c d : Bool) (w x y z : X) → None ≡ (if a then Some w else if b then Some x else if c then Some y else if d then Some z else None)
+    → (a ≡ false) × (b ≡ false) × (c ≡ false) × (d ≡ false)
+first_of_four true b c d w x y z h = cc
+first_of_four false true c d w x y z h = cc
+first_of_four false false true d w x y z h = cc
+first_of_four false false false true w x y z h = cc
+first_of_four false false false false w x y z h = (refl, refl, refl, refl)
 
 record NoFault (version : Version) (fault : Fault) (d : Document) : Type 0 where
   root : has_fault fault (root_keys version) d.root ≡ false
@@ -282,31 +281,32 @@ pub record Facts (version : Version) (root : Members) (d : Document) : Type 0 wh
   pub few_events : length d.events ≤ 64
   pub stations : AreStationsOf version d.stations
   pub mq : (j : ℕ) (t : Members) → slice_get d.stations j ≡ Some t → (1 ≤ mq_in t) × (mq_in t ≤ version.max_mq)
-  pub few_children : sum (groups_in d.stations) ≤ 8
-  pub events : (e : ℕ) (t : Members) → slice_get d.events e ≡ Some t → has_value_out_of_range (event_keys d.stations t) t ≡ false
+  pub few_children : sum (map mq_in d.stations) ≤ 8
+  pub events : (e : ℕ) (t : Members) → slice_get d.events e ≡ Some t → has_fault OutOfRange (event_keys d.stations t) t ≡ false
   pub is : IsVersion version
 
 pub root_facts : (version : Version) → IsVersion version → (root : Members) → None ≡ first_fault version (document_of root) → Facts version root (document_of root)
 unfolding root_keys
 root_facts version is root h =
     let d = document_of root in
-    let none = first_of_five (has_fault_in version UnknownKey d) (has_fault_in version MissingKey d) (has_fault_in version WrongKind d) (has_fault_in version OutOfRange d) (has_group_fault d) _ _ _ _ _ h in
+    let none = first_of_four (has_fault_in version UnknownKey d) (has_fault_in version MissingKey d) (has_fault_in version WrongKind d) (has_fault_in version OutOfRange d || has_group_fault (plan_in d)) _ _ _ _ h in
+    let limits = or_parts (has_fault_in version OutOfRange d) (has_group_fault (plan_in d)) none.3 in
     let missing = no_fault version MissingKey d none.1 in
     let kinds = no_fault version WrongKind d none.2 in
-    let ranges = no_fault version OutOfRange d none.3 in
-    let groups = or_parts (nat_lt 8 (sum (groups_in d.stations))) _ none.4 in
+    let ranges = no_fault version OutOfRange d limits.0 in
+    let groups = or_parts (nat_lt 8 (length (flat_map children_in d.stations))) _ limits.1 in
     let keys = root_keys version in
     let station = key (codes "station") Required (Tables 1 8) in
     let event = key (codes "event") Optional (Tables 0 64) in
     record {
       senders = in_range root keys 1 (codes "senders") Optional 1 version.max_senders 1 ranges.root refl (omega arith) is.some_senders;
       irq_every = in_range root keys 3 (codes "irq_every") Optional 1 1000 1 ranges.root refl (omega arith) (omega arith);
-      has_station = tables_some 1 8 (get_member (codes "station") root) (at_false (is_missing root) keys 4 station missing.root refl) (at_false (is_of_wrong_kind root) keys 4 station kinds.root refl) (at_false (is_out_of_range root) keys 4 station ranges.root refl);
-      few_stations = tables_few 1 8 (get_member (codes "station") root) (at_false (is_out_of_range root) keys 4 station ranges.root refl);
-      few_events = tables_few 0 64 (get_member (codes "event") root) (at_false (is_out_of_range root) keys 5 event ranges.root refl);
+      has_station = tables_some 1 8 (get_member (codes "station") root) (at_false (λ (key : Key). is_required key.presence && is_none (get_member key.name root)) keys 4 station missing.root refl) (at_false (value_fails has_kind root) keys 4 station kinds.root refl) (at_false (value_fails is_within root) keys 4 station ranges.root refl);
+      few_stations = tables_few 1 8 (get_member (codes "station") root) (at_false (value_fails is_within root) keys 4 station ranges.root refl);
+      few_events = tables_few 0 64 (get_member (codes "event") root) (at_false (value_fails is_within root) keys 5 event ranges.root refl);
       stations = λ j t at. station_within version is t (at_false (λ s. has_fault OutOfRange (station_keys version s) s) d.stations j t ranges.stations at);
       mq = λ j t at. mq_within version is t (at_false (λ s. has_fault OutOfRange (station_keys version s) s) d.stations j t ranges.stations at);
-      few_children = ltb-false 8 (sum (groups_in d.stations)) groups.0;
+      few_children = omega (arith, ltb-false 8 (length (flat_map children_in d.stations)) groups.0, length-children d.stations);
       events = λ e t at. at_false (λ x. has_fault OutOfRange (event_keys d.stations x) x) d.events e t ranges.events at;
       is = is;
     }
@@ -334,15 +334,15 @@ pub groups-within : (version : Version) (root : Members) (d : Document) → Fact
 groups-within version root d all = λ j t at. let mq = all.mq j t at in omega (arith, mq.0)
 
 -- some stations are some children
-some-children : (version : Version) (root : Members) (d : Document) → Facts version root d → 0 < sum (groups_in d.stations)
+some-children : (version : Version) (root : Members) (d : Document) → Facts version root d → 0 < sum (map mq_in d.stations)
 some-children version root d all =
-    let long = length-map d.stations mq_in in let has = all.has_station in let first : 0 < length (groups_in d.stations) = omega arith in
+    let long = length-map d.stations mq_in in let has = all.has_station in let first : 0 < length (map mq_in d.stations) = omega arith in
     let at = slice_get-get_or d.stations 0 no_members has in
-    let mq : mq_at (groups_in d.stations) 0 ≡ mq_in (get_or d.stations 0 no_members) = ap (λ o. option_map_or (λ mq. mq) o 0) (slice_get-map mq_in d.stations 0 ∙ ap (option_map mq_in) at) in
-    let some = groups-within version root d all 0 (get_or d.stations 0 no_members) at in let inside = group-within (groups_in d.stations) 0 first in omega arith
+    let mq : mq_at (map mq_in d.stations) 0 ≡ mq_in (get_or d.stations 0 no_members) = ap (λ o. option_map_or (λ mq. mq) o 0) (slice_get-map mq_in d.stations 0 ∙ ap (option_map mq_in) at) in
+    let some = groups-within version root d all 0 (get_or d.stations 0 no_members) at in let inside = group-within (map mq_in d.stations) 0 first in omega arith
 
-pub of_version : (version : Version) (root : Members) (d : Document) (p : Plan) → Facts version root d → is_out_of_order (map (event_in (groups_in d.stations)) d.events) ≡ false → p.senders ≡ number_at (codes "senders") 1 root
-    → p.irq_every ≡ number_at (codes "irq_every") 1 root → p.stations ≡ flat_map children_in d.stations → p.groups ≡ groups_in d.stations → p.events ≡ map (event_in (groups_in d.stations)) d.events → IsPlanOf version p
+pub of_version : (version : Version) (root : Members) (d : Document) (p : Plan) → Facts version root d → is_out_of_order (map (event_in (map mq_in d.stations)) d.events) ≡ false → p.senders ≡ number_at (codes "senders") 1 root
+    → p.irq_every ≡ number_at (codes "irq_every") 1 root → p.stations ≡ flat_map children_in d.stations → p.groups ≡ map mq_in d.stations → p.events ≡ map (event_in (map mq_in d.stations)) d.events → IsPlanOf version p
 of_version version root d p all in_order senders irq_every stations groups events =
     let count = length-children d.stations in record {
       has_sender = omega (arith, all.senders.0);
@@ -356,15 +356,15 @@ of_version version root d p all in_order senders irq_every stations groups event
       each_group = λ j mq at.
           let found = mapped mq_in d.stations j mq (ap (λ gs. slice_get gs j) (sym groups) ∙ at) in
           let known = all.mq j found.0 found.1 in (omega (arith, found.2, known.0), omega (arith, found.2, known.1));
-      events = rw events (omega (arith, length-map d.events (event_in (groups_in d.stations)), all.few_events));
+      events = rw events (omega (arith, length-map d.events (event_in (map mq_in d.stations)), all.few_events));
       each_station = λ j station at.
           let found = each-child d.stations j station (ap (λ ss. slice_get ss j) (sym stations) ∙ at) in
           rw found.2 (all.stations found.1.0 found.0 found.1.1);
       each_event = λ e event at.
-          let found = mapped (event_in (groups_in d.stations)) d.events e event (ap (λ es. slice_get es e) (sym events) ∙ at) in
+          let found = mapped (event_in (map mq_in d.stations)) d.events e event (ap (λ es. slice_get es e) (sym events) ∙ at) in
           rw (stations, found.2) (event_within d.stations found.0 (stations-within version root d all) (groups-within version root d all) all.has_station (all.events e found.0 found.1));
       each_reach = λ e event at.
-          let found = mapped (event_in (groups_in d.stations)) d.events e event (ap (λ es. slice_get es e) (sym events) ∙ at) in
+          let found = mapped (event_in (map mq_in d.stations)) d.events e event (ap (λ es. slice_get es e) (sym events) ∙ at) in
           rw (groups, found.2) (event_group d.stations found.0 all.has_station (all.events e found.0 found.1));
       order = rw events in_order;
     }

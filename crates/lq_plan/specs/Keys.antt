@@ -30,13 +30,10 @@ keys_view = map key_view
 
 -- VERSIONS
 
--- the version of this number: 1 of any other number
-abbrev pub version_numbered : ℕ → Version
-version_numbered number = if number == 3 then version_3 else if number == 2 then version_2 else version_1
-
 -- the version of the document at this root: 3 or 2 where it says so, else 1
 abbrev pub version_of : Members → Version
-version_of root = version_numbered (number_at (codes "version") 1 root)
+version_of root =
+    let number = number_at (codes "version") 1 root in if number == 3 then version_3 else if number == 2 then version_2 else version_1
 
 -- THE ROOT
 
@@ -55,11 +52,7 @@ root_keys version =
 -- how a device answers
 abbrev pub params_keys : Presence → List Key
 params_keys presence =
-    key (codes "burst") presence (Number 0 1000000)
-    ∷ key (codes "busy_every") presence (Number 0 1000000)
-    ∷ key (codes "busy_limit") presence (Number 0 1000000)
-    ∷ key (codes "hang_after") presence (Number 0 1000000)
-    ∷ []
+    map (λ name. key name presence (Number 0 1000000)) (codes "burst" ∷ codes "busy_every" ∷ codes "busy_limit" ∷ codes "hang_after" ∷ [])
 
 abbrev pub len_in : Members → ℕ
 len_in station = number_at (codes "len") 1000 station
@@ -67,23 +60,17 @@ len_in station = number_at (codes "len") 1000 station
 abbrev pub max_len_in : Members → ℕ
 max_len_in station = number_at (codes "max_len") (len_in station) station
 
-abbrev pub queues_in : Members → ℕ
-queues_in station = number_at (codes "queues") 1 station
-
 -- of how many stations it is the group
 abbrev pub mq_in : Members → ℕ
 mq_in station = number_at (codes "mq") 1 station
 
--- each of several has one queue
-abbrev pub max_queues_in : Version → Members → ℕ
-max_queues_in version station = if nat_lt 1 (mq_in station) then 1 else version.max_queues
-
+-- each station of a group of several has one queue
 unfoldable pub station_keys : Version → Members → List Key
 station_keys version station =
     key (codes "len") Optional (Number 1 version.max_len)
     ∷ key (codes "max_len") Optional (Number (len_in station) version.max_len)
     ∷ key (codes "bypass") Optional Flag
-    ∷ key (codes "queues") version.queues (Number 1 (max_queues_in version station))
+    ∷ key (codes "queues") version.queues (Number 1 (if nat_lt 1 (mq_in station) then 1 else version.max_queues))
     ∷ key (codes "mq") version.mq (Number 1 version.max_mq)
     ∷ params_keys Optional
 

@@ -45,11 +45,9 @@ is_misplaced None kinds = true
 is_misplaced (Some active) [] = false
 is_misplaced (Some active) (kind ∷ kinds) = is_misplaced (active_after active kind) kinds
 
--- what is done to a station
 abbrev pub kinds_at : ℕ → List EventPlan → List EventKind
 kinds_at station events = map (λ event. event.kind) (filter (is_at station) events)
 
--- no plan has more stations than this
 abbrev pub max_stations : ℕ
 max_stations = 8
 

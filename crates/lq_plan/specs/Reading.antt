@@ -1,23 +1,22 @@
 -- The plan that a text is, or why it is none.
-use Rattle.std.specs.Prelude.{◌≡◌, ℕ, ◌<◌, ◌≤◌, true, if◌then◌else◌, codes, List, map, replicate, Option, Some, None, Result, Ok, Err, option_and_then, unwrap_or}
-use Rattle.std.specs.List.{flat_map}
+use Rattle.std.specs.Prelude.{◌≡◌, ℕ, ◌<◌, ◌≤◌, Bool, true, ◌&&◌, ◌||◌, nat_lt, if◌then◌else◌, codes, List, length, map, replicate, Option, Some, None, Result, Ok, Err, option_and_then, unwrap_or}
+use Rattle.std.specs.List.{flat_map, list_any}
 use Rattle.std.specs.Option.{option_map_or}
 use Rattle.std.specs.Str.{is_utf8}
 use Rattle.toml.specs.Data.{Members}
 use Rattle.toml.specs.Parse.{parse_document}
-use Rattle.lq_model.specs.Plan.{Plan, first_at, mq_at}
+use Rattle.lq_model.specs.Plan.{Plan, first_at, is_swap, mq_at}
 use Rattle.lq_model.specs.declared.device.Params.{Params}
 use Rattle.lq_model.specs.declared.plan.EventKind.{EventKind}
 use Rattle.lq_model.specs.declared.plan.EventKind.TheVariants.{Down, Up, Resize, TxQueueLen, Swap}
 use Rattle.lq_model.specs.declared.plan.EventPlan.{EventPlan}
 use Rattle.lq_model.specs.declared.plan.PlanReason.{PlanReason}
 use Rattle.lq_model.specs.declared.plan.PlanReason.TheVariants as reason
-use Rattle.lq_model.specs.declared.plan.Split.{Split}
 use Rattle.lq_model.specs.declared.plan.Split.TheVariants.{Round}
 use Rattle.lq_model.specs.declared.plan.StationPlan.{StationPlan}
-use Rattle.lq_plan.specs.Document.{Document, document_of, groups_in, has_fault_in, has_group_fault}
-use Rattle.lq_plan.specs.Keys.{event_word_in, group_in, len_in, max_len_in, mq_in, queues_in, version_of}
-use Rattle.lq_plan.specs.Limits.{IsKindWithin, is_out_of_order}
+use Rattle.lq_plan.specs.Document.{Document, document_of, has_fault_in}
+use Rattle.lq_plan.specs.Keys.{event_word_in, group_in, len_in, max_len_in, mq_in, version_of}
+use Rattle.lq_plan.specs.Limits.{IsKindWithin, is_out_of_order, max_stations}
 use Rattle.lq_plan.specs.Values.{flag_at, number_at, split_of, text_at}
 use Rattle.lq_plan.specs.declared.faults.Fault.TheVariants.{UnknownKey, MissingKey, WrongKind, OutOfRange}
 use Rattle.lq_plan.specs.declared.keys.Version.{Version}
@@ -42,7 +41,7 @@ station_plan_in station = record {
   max_len = max_len_in station;
   bypass = flag_at (codes "bypass") true station;
   params = params_in station;
-  queues = queues_in station;
+  queues = number_at (codes "queues") 1 station;
 }
 
 -- of an event that has these keys; a required key has no default, so those that stand here for one are never read
@@ -66,22 +65,23 @@ event_in groups event = record {
   kind = kind_as (event_word_in event) event;
 }
 
-abbrev pub split_in : Members → Split
-split_in root = unwrap_or (option_and_then split_of (text_at (codes "split") root)) Round
-
 abbrev pub plan_in : Document → Plan
 plan_in d = record {
   senders = number_at (codes "senders") 1 d.root;
-  split = split_in d.root;
+  split = unwrap_or (option_and_then split_of (text_at (codes "split") d.root)) Round;
   irq_every = number_at (codes "irq_every") 1 d.root;
   stations = flat_map children_in d.stations;
-  groups = groups_in d.stations;
-  events = map (event_in (groups_in d.stations)) d.events;
+  groups = map mq_in d.stations;
+  events = map (event_in (map mq_in d.stations)) d.events;
 }
 
 -- WHY IT IS NO PLAN
 --
 -- The reason with the least number of those that apply.
+
+-- it has too many stations, or an event swaps the device of a group of several
+abbrev pub has_group_fault : Plan → Bool
+has_group_fault plan = nat_lt max_stations (length plan.stations) || list_any (λ event. is_swap event && nat_lt 1 event.mq) plan.events
 
 -- of the reasons 2 to 5, by the keys of a version
 abbrev pub first_fault : Version → Document → Option PlanReason
@@ -89,27 +89,21 @@ first_fault version d =
     if has_fault_in version UnknownKey d then Some reason.UnknownKey
     else if has_fault_in version MissingKey d then Some reason.Missing
     else if has_fault_in version WrongKind d then Some reason.Kind
-    else if has_fault_in version OutOfRange d then Some reason.Range
-    else if has_group_fault d then Some reason.Range else None
+    else if has_fault_in version OutOfRange d || has_group_fault (plan_in d) then Some reason.Range else None
 
--- the plan that a document is, if it has none of these faults
-abbrev pub plan_unless : Option PlanReason → Document → Result Plan PlanReason
-plan_unless (Some cause) d = Err cause
-plan_unless None d = if is_out_of_order (plan_in d).events then Err reason.EventOrder else Ok (plan_in d)
-
+-- the plan that the document at a root is, if it has none of these faults
 abbrev pub plan_by : Version → Members → Result Plan PlanReason
-plan_by version root = plan_unless (first_fault version (document_of root)) (document_of root)
-
--- by the keys of the version that the document says
-abbrev pub plan_from : Members → Result Plan PlanReason
-plan_from root = plan_by (version_of root) root
+plan_by version root =
+    let plan = plan_in (document_of root) in
+    option_map_or Err (first_fault version (document_of root)) (if is_out_of_order plan.events then Err reason.EventOrder else Ok plan)
 
 -- the root of the document that a text is
 abbrev pub root_of : List ℕ → Option Members
 root_of bytes = if is_utf8 bytes then parse_document bytes else None
 
+-- by the keys of the version that it says
 unfoldable pub plan_of : List ℕ → Result Plan PlanReason
-plan_of bytes = option_map_or plan_from (root_of bytes) (Err reason.NotToml)
+plan_of bytes = option_map_or (λ root. plan_by (version_of root) root) (root_of bytes) (Err reason.NotToml)
 
 -- WHAT READING ANSWERS
 

@@ -1,8 +1,9 @@
 -- What a table of a document has at a key, or else the key's default.
-use Rattle.std.specs.Prelude.{ℕ, pos, Bool, if◌then◌else◌, codes, List, [], ◌∷◌, Option, Some, None, option_map, option_and_then, unwrap_or}
+use Rattle.std.specs.Prelude.{ℕ, pos, Bool, if◌then◌else◌, codes, List, [], ◌∷◌, Option, Some, None, option_and_then, unwrap_or}
 use Rattle.std.specs.List.{filter_map}
+use Rattle.std.specs.Option.{option_map_or}
 use Rattle.std.specs.Str.{bytes_eq}
-use Rattle.toml.specs.Data.{Data, integer, boolean, array, table, Items, no_items, item, Members, get_member, as_array, as_str, as_table}
+use Rattle.toml.specs.Data.{Data, integer, Items, no_items, item, Members, get_member, as_array, as_bool, as_str, as_table}
 use Rattle.lq_model.specs.declared.plan.Split.{Split}
 use Rattle.lq_model.specs.declared.plan.Split.TheVariants.{Round, Source}
 use Rattle.lq_plan.specs.declared.values.EventWord.{EventWord}
@@ -14,24 +15,17 @@ abbrev pub number_or : ℕ → Option Data → ℕ
 number_or default (Some (integer (pos n))) = n
 number_or default _ = default
 
--- the number at a key that isn't negative
 abbrev pub number_at : List ℕ → ℕ → Members → ℕ
 number_at name default members = number_or default (get_member name members)
 
-abbrev pub flag_or : Bool → Option Data → Bool
-flag_or default (Some (boolean b)) = b
-flag_or default _ = default
-
 abbrev pub flag_at : List ℕ → Bool → Members → Bool
-flag_at name default members = flag_or default (get_member name members)
+flag_at name default members = unwrap_or (option_and_then as_bool (get_member name members)) default
 
 -- TEXTS
 
--- how the packets are split
 abbrev pub split_of : List ℕ → Option Split
 split_of text = if bytes_eq text (codes "round") then Some Round else if bytes_eq text (codes "source") then Some Source else None
 
--- what is done to a station
 abbrev pub event_word_of : List ℕ → Option EventWord
 event_word_of text =
     if bytes_eq text (codes "down") then Some Down
@@ -49,10 +43,6 @@ abbrev pub elements_of : Items → List Data
 elements_of no_items = []
 elements_of (item value items) = value ∷ elements_of items
 
--- the elements of an array
-abbrev pub elements_in : Data → Option (List Data)
-elements_in value = option_map elements_of (as_array value)
-
 -- the tables that are elements of the array at a key; none where there is no array
 abbrev pub tables_at : List ℕ → Members → List Members
-tables_at name members = filter_map as_table (unwrap_or (option_and_then elements_in (get_member name members)) [])
+tables_at name members = filter_map as_table (option_map_or elements_of (option_and_then as_array (get_member name members)) [])

@@ -1,11 +1,12 @@
 // A document and its faults.
-ghost use Rattle.std.specs.Prelude.{◌≡◌, nat_lt, sum, IfOk};
+ghost use Rattle.std.specs.Prelude.{◌≡◌, ◌&&◌, nat_lt, map, sum, IfOk};
 ghost use Rattle.std.specs.List.{list_any};
 ghost use Rattle.toml.specs.View.{table_view};
-ghost use Rattle.lq_model.specs.Plan.{mq_at};
-ghost use Rattle.lq_plan.specs.Document.{document_of, document_view, groups_in, has_event_fault, has_fault_in, has_group_fault, has_station_fault, swaps_group};
-ghost use Rattle.lq_plan.specs.Keys.{group_in, version_of};
-ghost use Rattle.lq_plan.specs.Reading.{first_fault};
+ghost use Rattle.lq_model.specs.Plan.{is_swap_kind, mq_at};
+ghost use Rattle.lq_plan.specs.Document.{document_of, document_view, has_fault_in};
+ghost use Rattle.lq_plan.specs.Faults.{has_fault};
+ghost use Rattle.lq_plan.specs.Keys.{event_keys, event_word_in, group_in, mq_in, station_keys, version_of};
+ghost use Rattle.lq_plan.specs.Reading.{first_fault, has_group_fault, kind_as, plan_in};
 ghost use Rattle.lq_plan.specs.Tables.{tables_view};
 ghost use Rattle.lq_plan.specs.Values.{tables_at};
 
@@ -61,9 +62,7 @@ impl<'a> Document<'a> {
             Some(PlanReason::Missing)
         } else if self.has_fault(version, Fault::WrongKind) {
             Some(PlanReason::Kind)
-        } else if self.has_fault(version, Fault::OutOfRange) {
-            Some(PlanReason::Range)
-        } else if self.has_group_fault() {
+        } else if self.has_fault(version, Fault::OutOfRange) || self.has_group_fault() {
             Some(PlanReason::Range)
         } else {
             None
@@ -72,7 +71,7 @@ impl<'a> Document<'a> {
 
     /// Whether there are too many stations, or an event swaps the device of a group of several.
     fn has_group_fault(&self) -> bool
-        ensures { result ≡ has_group_fault (document_view self.now) }
+        ensures { result ≡ has_group_fault (plan_in (document_view self.now)) }
     {
         are_too_many(&self.stations) || swaps_a_group(&self.stations, &self.events)
     }
@@ -80,7 +79,7 @@ impl<'a> Document<'a> {
 
 // Whether the groups are more stations than a plan may have.
 fn are_too_many(stations: &[&Table]) -> bool
-    ensures { result ≡ nat_lt 8 (sum (groups_in (tables_view stations.now))) }
+    ensures { result ≡ nat_lt 8 (sum (map mq_in (tables_view stations.now))) }
 {
     let mut room = u64::from(MAX_STATIONS);
     for station in stations {
@@ -94,21 +93,24 @@ fn are_too_many(stations: &[&Table]) -> bool
 }
 
 fn swaps_a_group(stations: &[&Table], events: &[&Table]) -> bool
-    ensures { result ≡ list_any (λ event. swaps_group (groups_in (tables_view stations.now)) (table_view event.now)) events.now }
+    ensures { result ≡ list_any (λ event.
+        is_swap_kind (kind_as (event_word_in (table_view event.now)) (table_view event.now))
+        && nat_lt 1 (mq_at (map mq_in (tables_view stations.now)) (group_in (table_view event.now)))) events.now }
 {
     events.iter().any(|event| swaps_group(stations, event))
 }
 
 // Whether an event swaps the device of a group of several.
 fn swaps_group(stations: &[&Table], event: &Table) -> bool
-    ensures { result ≡ swaps_group (groups_in (tables_view stations.now)) (table_view event.now) }
+    ensures { result ≡ (is_swap_kind (kind_as (event_word_in (table_view event.now)) (table_view event.now))
+        && nat_lt 1 (mq_at (map mq_in (tables_view stations.now)) (group_in (table_view event.now)))) }
 {
     event_word(event) == Some(EventWord::Swap) && mq_for(stations, event) > 1
 }
 
 // Of how many stations the group of an event is; 0 of no group.
 fn mq_for(stations: &[&Table], event: &Table) -> u64
-    ensures { result ≡ mq_at (groups_in (tables_view stations.now)) (group_in (table_view event.now)) }
+    ensures { result ≡ mq_at (map mq_in (tables_view stations.now)) (group_in (table_view event.now)) }
 {
     match stations.get(group_of(event) as usize) {
         Some(station) => mq_of(station),
@@ -131,13 +133,14 @@ fn tables_at<'a>(alloc: Global, table: &'a Table, name: &str) -> Result<Vec<&'a 
 }
 
 fn a_station_has_fault(fault: Fault, version: Version, stations: &[&Table]) -> bool
-    ensures { result ≡ list_any (λ station. has_station_fault version fault (table_view station.now)) stations.now }
+    ensures { result ≡ list_any (λ station. has_fault fault (station_keys version (table_view station.now)) (table_view station.now)) stations.now }
 {
     stations.iter().any(|station| has_fault(fault, &station_keys(version, station), station))
 }
 
 fn an_event_has_fault(fault: Fault, stations: &[&Table], events: &[&Table]) -> bool
-    ensures { result ≡ list_any (λ event. has_event_fault fault (tables_view stations.now) (table_view event.now)) events.now }
+    ensures { result ≡ list_any (λ event. has_fault fault (event_keys (tables_view stations.now) (table_view event.now)) (table_view event.now))
+        events.now }
 {
     events.iter().any(|event| has_fault(fault, &event_keys(stations, event), event))
 }

@@ -1,10 +1,11 @@
 // What may be wrong with the keys of a table and their values.
-ghost use Rattle.std.specs.Prelude.{◌≡◌, not, is_some, map, string_bytes};
+ghost use Rattle.std.specs.Prelude.{◌≡◌, ◌&&◌, not, is_none, is_some, map, string_bytes};
 ghost use Rattle.std.specs.BTreeMap.{keys};
 ghost use Rattle.std.specs.List.{list_all, list_any};
-ghost use Rattle.toml.specs.Data.{as_table};
+ghost use Rattle.std.specs.Str.{bytes_eq};
+ghost use Rattle.toml.specs.Data.{as_table, get_member, integer};
 ghost use Rattle.toml.specs.View.{table_view, view};
-ghost use Rattle.lq_plan.specs.Faults.{allows, has_fault, has_kind, is_between, is_missing, is_of_wrong_kind, is_out_of_range, is_within};
+ghost use Rattle.lq_plan.specs.Faults.{has_fault, has_kind, is_allowed, is_required, is_within, value_fails};
 ghost use Rattle.lq_plan.specs.Keys.{keys_view, key_view};
 
 use crate::keys::{Key, Presence, Rule};
@@ -33,37 +34,38 @@ pub fn has_fault(fault: Fault, keys: &[Key], table: &Table) -> bool
 }
 
 fn has_unknown_key(known: &[Key], table: &Table) -> bool
-    ensures { result ≡ list_any (λ name. not (list_any (λ key. allows (string_bytes name) (key_view key)) known.now)) (keys table.now) }
+    ensures { result ≡ list_any (λ name. not (list_any (λ key. is_allowed key.presence && bytes_eq key.name.now (string_bytes name)) known.now))
+        (keys table.now) }
 {
     table.keys().any(|name| !is_known(known, name.as_str()))
 }
 
 fn is_known(keys: &[Key], name: &str) -> bool
-    ensures { result ≡ list_any (λ key. allows name.now (key_view key)) keys.now }
+    ensures { result ≡ list_any (λ key. is_allowed key.presence && bytes_eq key.name.now name.now) keys.now }
 {
     keys.iter().any(|key| key.presence != Presence::Unknown && key.name == name)
 }
 
 fn misses_key(keys: &[Key], table: &Table) -> bool
-    ensures { result ≡ list_any (λ key. is_missing (table_view table.now) (key_view key)) keys.now }
+    ensures { result ≡ list_any (λ key. is_required key.presence && is_none (get_member key.name.now (table_view table.now))) keys.now }
 {
     keys.iter().any(|key| is_missing(key, table))
 }
 
 fn is_missing(key: &Key, table: &Table) -> bool
-    ensures { result ≡ is_missing (table_view table.now) (key_view key.now) }
+    ensures { result ≡ (is_required key.now.presence && is_none (get_member key.now.name.now (table_view table.now))) }
 {
     key.presence == Presence::Required && value_at(table, key.name).is_none()
 }
 
 fn has_wrong_kind(keys: &[Key], table: &Table) -> bool
-    ensures { result ≡ list_any (λ key. is_of_wrong_kind (table_view table.now) (key_view key)) keys.now }
+    ensures { result ≡ list_any (λ key. value_fails has_kind (table_view table.now) (key_view key)) keys.now }
 {
     keys.iter().any(|key| is_of_wrong_kind(key, table))
 }
 
 fn is_of_wrong_kind(key: &Key, table: &Table) -> bool
-    ensures { result ≡ is_of_wrong_kind (table_view table.now) (key_view key.now) }
+    ensures { result ≡ value_fails has_kind (table_view table.now) (key_view key.now) }
 {
     match value_at(table, key.name) {
         Some(value) => !has_kind(key.rule, value),
@@ -92,13 +94,13 @@ fn are_tables(elements: &[Value]) -> bool
 }
 
 fn has_value_out_of_range(keys: &[Key], table: &Table) -> bool
-    ensures { result ≡ list_any (λ key. is_out_of_range (table_view table.now) (key_view key)) keys.now }
+    ensures { result ≡ list_any (λ key. value_fails is_within (table_view table.now) (key_view key)) keys.now }
 {
     keys.iter().any(|key| is_out_of_range(key, table))
 }
 
 fn is_out_of_range(key: &Key, table: &Table) -> bool
-    ensures { result ≡ is_out_of_range (table_view table.now) (key_view key.now) }
+    ensures { result ≡ value_fails is_within (table_view table.now) (key_view key.now) }
 {
     match value_at(table, key.name) {
         Some(value) => !is_within(key.rule, value),
@@ -132,7 +134,7 @@ fn is_within(rule: Rule, value: &Value) -> bool
 }
 
 fn is_between(low: u64, high: u64, number: i64) -> bool
-    ensures { result ≡ is_between low high number }
+    ensures { result ≡ is_within (Rule.Number low high) (integer number) }
 {
     number >= 0 && low <= number as u64 && number as u64 <= high
 }

@@ -1,9 +1,10 @@
 // The keys of a plan, as docs/FORMATS.md has them in a table.
-ghost use Rattle.std.specs.Prelude.{◌≡◌, map, ◌^◌, ◌<◌, length};
+ghost use Rattle.std.specs.Prelude.{◌≡◌, codes, if◌then◌else◌, map, nat_lt, ◌^◌, ◌<◌, length};
 ghost use Rattle.std.specs.Option.{option_and_then};
 ghost use Rattle.toml.specs.View.{table_view};
 ghost use Rattle.lq_plan.specs.Tables.{tables_view};
-ghost use Rattle.lq_plan.specs.Keys.{event_keys, key, key_view, event_word_in, keys_view, len_in, len_presence, max_len_in, max_len_for, max_queues_in, mq_in, group_in, params_keys, params_presence, queues_in, root_keys, station_keys, version_of};
+ghost use Rattle.lq_plan.specs.Keys.{event_keys, key, key_view, event_word_in, keys_view, len_in, len_presence, max_len_in, max_len_for, mq_in, group_in, params_keys, params_presence, root_keys, station_keys, version_of};
+ghost use Rattle.lq_plan.specs.Values.{number_at};
 
 use crate::values::{EventWord, event_word_of, number_at, text_at};
 use toml::Table;
@@ -122,7 +123,7 @@ pub fn max_len_of(station: &Table) -> u64
 
 /// How many queues share a station's rings.
 pub fn queues_of(station: &Table) -> u64
-    ensures { result ≡ queues_in (table_view station.now) }
+    ensures { result ≡ number_at (codes "queues") 1 (table_view station.now) }
 {
     number_at(station, "queues", 1)
 }
@@ -136,7 +137,7 @@ pub fn mq_of(station: &Table) -> u64
 
 // Each station of a group of several has one queue.
 fn max_queues_of(version: Version, station: &Table) -> u64
-    ensures { result ≡ max_queues_in version (table_view station.now) }
+    ensures { result ≡ (if nat_lt 1 (mq_in (table_view station.now)) then 1 else version.max_queues) }
 {
     if mq_of(station) > 1 {
         1

@@ -1,12 +1,12 @@
 // Reading a text as a plan.
-ghost use Rattle.std.specs.Prelude.{◌≡◌, ◌≤◌, ◌++◌, map, length, replicate, sum, IfOk, IfErr, OnOk, Ok};
+ghost use Rattle.std.specs.Prelude.{◌≡◌, ◌≤◌, ◌++◌, codes, map, length, option_and_then, replicate, sum, unwrap_or, IfOk, IfErr, OnOk, Ok};
 ghost use Rattle.std.specs.List.{flat_map};
 ghost use Rattle.toml.specs.View.{table_view};
 ghost use Rattle.lq_plan.specs.Limits.{AreParamsWithin, IsKindWithin, IsStationWithin};
-ghost use Rattle.lq_plan.specs.Document.{groups_in};
-ghost use Rattle.lq_plan.specs.Keys.{event_word_in, mq_in};
-ghost use Rattle.lq_plan.specs.Reading.{IsEventSmall, IsPlanRefusal, children_in, event_in, kind_as, params_in, plan_from, plan_of, split_in, station_plan_in};
+ghost use Rattle.lq_plan.specs.Keys.{event_word_in, mq_in, version_of};
+ghost use Rattle.lq_plan.specs.Reading.{IsEventSmall, IsPlanRefusal, children_in, event_in, kind_as, params_in, plan_by, plan_of, station_plan_in};
 ghost use Rattle.lq_plan.specs.Tables.{EachTable, tables_view};
+ghost use Rattle.lq_plan.specs.Values.{split_of, text_at};
 
 use crate::document::Document;
 use crate::keys::{event_word, group_of, len_of, max_len_of, mq_of, queues_of};
@@ -50,8 +50,8 @@ fn refused(reason: PlanReason) -> PlanRefusal
 }
 
 fn read_root(alloc: Global, root: &Table) -> Result<Plan, PlanRefusal>
-    ensures plan { IfOk result (λ plan. plan_from (table_view root.now) ≡ Ok plan) }
-    ensures refusal { IfErr result (IsPlanRefusal (plan_from (table_view root.now))) }
+    ensures plan { IfOk result (λ plan. plan_by (version_of (table_view root.now)) (table_view root.now) ≡ Ok plan) }
+    ensures refusal { IfErr result (IsPlanRefusal (plan_by (version_of (table_view root.now)) (table_view root.now))) }
 {
     let document = Document::new(alloc, root)?;
     if let Some(reason) = document.first_fault() {
@@ -74,7 +74,7 @@ fn read_root(alloc: Global, root: &Table) -> Result<Plan, PlanRefusal>
 }
 
 fn read_split(root: &Table) -> Split
-    ensures { result ≡ split_in (table_view root.now) }
+    ensures { result ≡ unwrap_or (option_and_then split_of (text_at (codes "split") (table_view root.now))) Split.Round }
 {
     match text_at(root, "split") {
         Some(text) => split_of(text).unwrap_or(Split::Round),
@@ -112,7 +112,7 @@ fn push_children(
 // Of how many stations each is the group.
 fn read_groups(alloc: Global, stations: &[&Table]) -> Result<Vec<u32>, AllocError>
     requires { EachTable (λ station. mq_in station ≤ 8) stations.now }
-    ensures { IfOk result (λ groups. groups.items ≡ groups_in (tables_view stations.now)) }
+    ensures { IfOk result (λ groups. groups.items ≡ map mq_in (tables_view stations.now)) }
 {
     let mut groups = Vec::with_capacity(alloc, stations.len())?;
     for station in stations {

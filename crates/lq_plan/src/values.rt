@@ -1,8 +1,9 @@
 // The values of a table.
-ghost use Rattle.std.specs.Prelude.{◌≡◌, map, option_map, option_and_then, unwrap_or, [], string_bytes};
-ghost use Rattle.toml.specs.Data.{get_member, string};
+ghost use Rattle.std.specs.Prelude.{◌≡◌, map, option_map, option_and_then, [], string_bytes};
+ghost use Rattle.std.specs.Option.{option_map_or};
+ghost use Rattle.toml.specs.Data.{as_array, get_member, string};
 ghost use Rattle.toml.specs.View.{table_view, view};
-ghost use Rattle.lq_plan.specs.Values.{elements_in, event_word_of, flag_at, number_at, split_of, tables_at, text_at};
+ghost use Rattle.lq_plan.specs.Values.{elements_of, event_word_of, flag_at, number_at, split_of, tables_at, text_at};
 
 use lq_model::Split;
 use toml::{Table, Value};
@@ -56,7 +57,7 @@ pub fn text_at<'a>(table: &'a Table, name: &str) -> Option<&'a str>
 
 /// The elements of an array.
 pub fn elements_in(value: &Value) -> Option<&[Value]>
-    ensures { option_map (λ elements. map view elements.now) result ≡ elements_in (view value.now) }
+    ensures { option_map (λ elements. map view elements.now) result ≡ option_map elements_of (as_array (view value.now)) }
 {
     match value {
         Value::Array(elements) => Some(elements),
@@ -66,7 +67,7 @@ pub fn elements_in(value: &Value) -> Option<&[Value]>
 
 /// The elements of the array at a key, or none.
 pub fn elements_at<'a>(table: &'a Table, name: &str) -> &'a [Value]
-    ensures { map view result.now ≡ unwrap_or (option_and_then elements_in (get_member name.now (table_view table.now))) [] }
+    ensures { map view result.now ≡ option_map_or elements_of (option_and_then as_array (get_member name.now (table_view table.now))) [] }
 {
     match value_at(table, name) {
         Some(value) => elements_in(value).unwrap_or(&[]),

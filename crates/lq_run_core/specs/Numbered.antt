@@ -1,5 +1,5 @@
 -- A machine that is run by numbers: its sends take the packet numbers in order, each seat is an owner.
-use Rattle.std.specs.Prelude.{◌≡◌, ℕ, ◌+◌, ◌<◌, Bool, true, false, List, Option, Some, is_some, sum_by, length}
+use Rattle.std.specs.Prelude.{◌≡◌, ℕ, ◌+◌, ◌<◌, Bool, true, false, Option, Some, is_some, sum_by, length}
 use Rattle.lq_model.specs.declared.machine.Packet.{Packet}
 use Rattle.lq_model.specs.declared.machine.Beginning.{Beginning}
 use Rattle.lq_model.specs.declared.machine.Beginning.TheVariants.{Transmits, Interrupts, Wakes}
@@ -12,19 +12,14 @@ use Rattle.lq_run_core.specs.declared.start.Start.TheVariants.{Send, SoftIrq, Wa
 
 pub record NumberedMachine : Type 0 where
   pub machine : Machine
-  -- the number of the next packet
-  pub next : ℕ
+  pub next : ℕ  -- the number of the next packet
 
--- a seat's next packet, whose owner is the seat
-abbrev pub packet_begun : NumberedMachine → ℕ → ℕ → ℕ → Packet
-packet_begun r seat band queue = record { number = r.next; owner = seat; band = band; queue = queue }
-
--- the start that a seat is told; where none is named the queue is 0
+-- the start that a seat is told, which owns the packet that it sends; where none is named the queue is 0
 abbrev pub beginning_of : Start → ℕ → NumberedMachine → Beginning
-beginning_of (Send band) seat r = Transmits (packet_begun r seat band 0)
+beginning_of (Send band) seat r = Transmits (record { number = r.next; owner = seat; band = band; queue = 0 })
 beginning_of SoftIrq seat r = Interrupts
 beginning_of Wake seat r = Wakes 0
-beginning_of (SendOn band queue) seat r = Transmits (packet_begun r seat band queue)
+beginning_of (SendOn band queue) seat r = Transmits (record { number = r.next; owner = seat; band = band; queue = queue })
 beginning_of (WakeOn queue) seat r = Wakes queue
 
 -- its band and its queue are the machine's
@@ -44,7 +39,6 @@ is_send _ = false
 abbrev pub begun_by : Start → ℕ → NumberedMachine → Option Machine
 begun_by start seat r = call_begun r.machine seat (beginning_of start seat r)
 
--- how many packets the bands and the requeue slot hold
 abbrev pub packets_held : Qdisc → ℕ
 packets_held q = sum_by (λ band. length band) q.bands + bit (is_some q.slot)
 

@@ -1,5 +1,6 @@
 -- The text of a schedule: its lines, its words, and what a line of words says.
 use Rattle.std.specs.Prelude.{ℕ, Bool, ◌&&◌, ◌||◌, min, not, nat_lt, nat_le, ◌==◌, if◌then◌else◌, List, [], ◌∷◌, length, slice_index, codes, Option, Some, None, option_map}
+use Rattle.std.specs.Option.{option_and_then, option_zip}
 use Rattle.std.specs.List.{slice_split, list_all}
 use Rattle.std.specs.Str.{bytes_eq}
 use denote.Ref.{Bor}
@@ -7,8 +8,8 @@ use Rattle.std.specs.Char.{is_ascii_digit}
 use Rattle.std.specs.Str.Parse.{digits_value}
 use Rattle.lq_model.specs.declared.machine.Answer.{Answer}
 use Rattle.lq_model.specs.declared.machine.Answer.TheVariants.{Plain, FullSlot, Stop, Hang, Busy}
-use Rattle.lq_run_core.specs.declared.schedule.Setup.{Setup}
-use Rattle.lq_model.specs.Machine.{Machine}
+use Rattle.lq_run_core.specs.declared.trace_run.Progress.{Progress}
+use Rattle.lq_model.specs.Machine.{Machine, first_machine}
 use Rattle.lq_run_core.specs.Numbered.{IsInRange}
 use Rattle.lq_run_core.specs.declared.schedule.Action.{Action}
 use Rattle.lq_run_core.specs.declared.schedule.Action.TheVariants.{Begins, Steps}
@@ -17,7 +18,6 @@ use Rattle.lq_run_core.specs.declared.schedule.Command.{Command}
 
 -- LINES
 
--- the last piece is a line only where it isn't empty
 abbrev pub lines_of_pieces : List (List ℕ) → List (List ℕ)
 lines_of_pieces [] = []
 lines_of_pieces (piece ∷ []) = if length piece == 0 then [] else piece ∷ []
@@ -39,49 +39,38 @@ words line = slice_split (λ b. b == 32) line
 
 -- NUMBERS
 
-abbrev pub has_leading_zero : List ℕ → Bool
-has_leading_zero word = nat_lt 1 (length word) && (slice_index word 0 == 48)
-
 -- decimal digits, with no leading zero unless the number is 0
 abbrev pub is_number : List ℕ → Bool
-is_number word = nat_lt 0 (length word) && list_all is_ascii_digit word && not (has_leading_zero word)
+is_number word = nat_lt 0 (length word) && list_all is_ascii_digit word && not (nat_lt 1 (length word) && (slice_index word 0 == 48))
 
 abbrev pub number_of : List ℕ → Option ℕ
 number_of word = if is_number word then Some (digits_value 10 word) else None
 
-abbrev pub within : ℕ → ℕ → Option ℕ → Option ℕ
-within low high None = None
-within low high (Some n) = if nat_le low n && nat_le n high then Some n else None
-
--- a number from low to high
 abbrev pub number_in : ℕ → ℕ → List ℕ → Option ℕ
-number_in low high word = within low high (number_of word)
+number_in low high word = option_and_then (λ n. if nat_le low n && nat_le n high then Some n else None) (number_of word)
 
 -- THE FIRST LINE
 
 infixl 10 ◌>>=◌
 abbrev pub ◌>>=◌ : {A B : Type 0} → Option A → (A → Option B) → Option B
-None >>= f = None
-(Some x) >>= f = f x
+o >>= f = option_and_then f o
 
 -- a label and a number behind it, from low to high, and the words behind them
 abbrev pub labelled : List ℕ → ℕ → ℕ → List (List ℕ) → Option (ℕ × List (List ℕ))
-labelled label low high [] = None
-labelled label low high (first ∷ []) = None
 labelled label low high (first ∷ second ∷ more) =
     if bytes_eq first label then option_map (λ n. (n, more)) (number_in low high second) else None
+labelled label low high _ = None
 
-abbrev pub setup_by : ℕ → ℕ → ℕ → List (List ℕ) → Option Setup
-setup_by seats len bypass [] = Some (record { seats = seats; len = len; bypass = bypass == 1 })
-setup_by seats len bypass (word ∷ more) = None
+abbrev pub set_up : ℕ → ℕ → Bool → Progress
+set_up seats len bypass = record { running = record { machine = first_machine seats len bypass 1; next = 0 }; steps = 0 }
 
 -- `seats N len L bypass B`
-abbrev pub setup_line_of : List (List ℕ) → Option Setup
+abbrev pub setup_line_of : List (List ℕ) → Option Progress
 setup_line_of line = do
-  seats ← labelled (codes "seats") 1 8 line
-  len ← labelled (codes "len") 1 4096 seats.1
-  bypass ← labelled (codes "bypass") 0 1 len.1
-  setup_by seats.0 len.0 bypass.0 bypass.1
+  (seats, behind_seats) ← labelled (codes "seats") 1 8 line
+  (len, behind_len) ← labelled (codes "len") 1 4096 behind_seats
+  (bypass, behind_bypass) ← labelled (codes "bypass") 0 1 behind_len
+  if length behind_bypass == 0 then Some (set_up seats len (bypass == 1)) else None
 
 -- THE OTHER LINES
 
@@ -94,14 +83,12 @@ answer_named word =
     else if bytes_eq word (codes "busy") then Some Busy
     else None
 
--- `softirq`, `wake`, `full`, `stop`, `hang` or `busy`
 abbrev pub bare_action : List ℕ → Option Action
 bare_action word =
     if bytes_eq word (codes "softirq") then Some (Begins SoftIrq)
     else if bytes_eq word (codes "wake") then Some (Begins Wake)
     else option_map (λ answer. Steps answer 1) (answer_named word)
 
--- `send B` or `step K`
 abbrev pub numbered_action : List ℕ → List ℕ → Option Action
 numbered_action word number =
     if bytes_eq word (codes "send") then option_map (λ band. Begins (Send band)) (number_in 0 2 number)
@@ -113,14 +100,10 @@ action_of (word ∷ []) = bare_action word
 action_of (word ∷ number ∷ []) = numbered_action word number
 action_of _ = None
 
-abbrev pub command_by : Option ℕ → Option Action → Option Command
-command_by (Some seat) (Some action) = Some (record { seat = seat; action = action })
-command_by _ _ = None
-
 -- a seat's number of any size, and an action
 abbrev pub command_of : List (List ℕ) → Option Command
 command_of [] = None
-command_of (seat ∷ action) = command_by (number_of seat) (action_of action)
+command_of (seat ∷ action) = option_map (λ (n, does). record { seat = n; action = does }) (option_zip (number_of seat) (action_of action))
 
 -- WHAT THE CODE CUTS AND COUNTS
 

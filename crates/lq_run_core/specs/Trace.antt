@@ -2,11 +2,9 @@
 use Rattle.std.specs.Prelude.{ℕ, zero, suc, ◌+◌, nat_lt, Bool, if◌then◌else◌, MatchBool, List, [], ◌∷◌, length, Option, Some, None, option_map, option_and_then, Result, Ok, Err, ◌≡◌, ⊤}
 use Rattle.std.specs.Option.{ok_or}
 use Rattle.lq_model.specs.declared.machine.Answer.{Answer}
-use Rattle.lq_model.specs.Machine.{Machine, first_machine}
+use Rattle.lq_model.specs.Machine.{Machine}
 use Rattle.lq_model.specs.Steps.{step_of}
-use Rattle.lq_run_core.specs.declared.start.Start.{Start}
-use Rattle.lq_run_core.specs.Numbered.{NumberedMachine, begun_by, is_send}
-use Rattle.lq_run_core.specs.declared.schedule.Setup.{Setup}
+use Rattle.lq_run_core.specs.Numbered.{begun_by, is_send}
 use Rattle.lq_run_core.specs.declared.schedule.Action.{Action}
 use Rattle.lq_run_core.specs.declared.schedule.Action.TheVariants.{Begins, Steps}
 use Rattle.lq_run_core.specs.declared.schedule.Command.{Command}
@@ -18,21 +16,16 @@ use Rattle.lq_run_core.specs.Schedule.{lines, is_passed_over, words, setup_line_
 
 -- WORKING A SCHEDULE
 
-abbrev pub set_up : Setup → Progress
-set_up s = record { running = record { machine = first_machine s.seats s.len s.bypass 1; next = 0 }; steps = 0 }
-
--- a call begins, which is no step
-abbrev pub started : Start → ℕ → NumberedMachine → Option NumberedMachine
-started start seat r =
-    option_map (λ m. record { machine = m; next = if is_send start then r.next + 1 else r.next }) (begun_by start seat r)
-
 -- so many steps of a seat, each with this answer; None where one of them can't be done
 abbrev pub steps_of : ℕ → ℕ → Answer → Machine → Option Machine
 steps_of zero seat answer m = Some m
 steps_of (suc count) seat answer m = option_and_then (steps_of count seat answer) (step_of m seat answer)
 
+-- a call begins, which is no step, or steps are done
 abbrev pub action_done : Progress → ℕ → Action → Option Progress
-action_done p seat (Begins start) = option_map (λ r. record p { running = r }) (started start seat p.running)
+action_done p seat (Begins start) =
+    option_map (λ m. record p { running = record { machine = m; next = if is_send start then p.running.next + 1 else p.running.next } })
+    (begun_by start seat p.running)
 action_done p seat (Steps answer count) =
     option_map (λ m. record { running = record p.running { machine = m }; steps = p.steps + count })
     (steps_of count seat answer p.running.machine)
@@ -42,7 +35,6 @@ abbrev pub ◌>>=◌ : {A B E : Type 0} → Result A E → (A → Result B E) �
 (Err e) >>= f = Err e
 (Ok x) >>= f = f x
 
--- the command of line n
 abbrev pub command_done : Progress → ℕ → Command → Result Progress TraceRefusal
 command_done p n c =
     if nat_lt c.seat (length p.running.machine.seats) then ok_or (action_done p c.seat c.action) (Refused SeatWaits n)
@@ -50,10 +42,9 @@ command_done p n c =
 
 -- line n: the first sets the machine up, each other tells a seat to do something
 abbrev pub told_line_done : Option Progress → ℕ → List (List ℕ) → Result Progress TraceRefusal
-told_line_done None n line = ok_or (option_map set_up (setup_line_of line)) (Refused Syntax n)
+told_line_done None n line = ok_or (setup_line_of line) (Refused Syntax n)
 told_line_done (Some p) n line = ok_or (command_of line) (Refused Syntax n) >>= command_done p n
 
--- a line that is passed over changes nothing
 abbrev pub line_done : Option Progress → ℕ → List ℕ → Result (Option Progress) TraceRefusal
 line_done p n line = if is_passed_over line then Ok p else told_line_done p n (words line) >>= λ next. Ok (Some next)
 

@@ -1,11 +1,11 @@
 -- The text that tells what a schedule leaves of the machine.
-use Rattle.std.specs.Prelude.{ℕ, Bool, if◌then◌else◌, List, [], ◌∷◌, ◌++◌, length, codes, Result, Ok}
+use Rattle.std.specs.Prelude.{ℕ, if◌then◌else◌, List, [], ◌∷◌, ◌++◌, length, codes, Result, Ok}
 use Rattle.std.specs.Fmt.{decimal}
 use Rattle.std.specs.List.{flat_map}
 use Rattle.lq_model.specs.declared.machine.Position.{Position}
 use Rattle.lq_model.specs.declared.machine.Position.TheVariants.{Idle, Enter, Check, Put, Try1, Miss, Try2, Recheck, Gate, Xmit, StoreXoff, Post, Deq, Scan, Test, ClearMissed, ClearDraining, BlockedClear, BlockedLoad, BlockedMiss, BlockedDrain, Again, Quota, Unlock, Tail, Sched, Leave, Soft, SoftClear, Late, Wake, Control}
 use Rattle.lq_model.specs.declared.machine.Seat.{Seat}
-use Rattle.lq_model.specs.Machine.{Machine, Qdisc, seat_at, state_word, bit}
+use Rattle.lq_model.specs.Machine.{Qdisc, seat_at, state_word, bit}
 use Rattle.lq_model.specs.Numbers.{first_numbers}
 use Rattle.lq_run_core.specs.declared.trace_run.Progress.{Progress}
 use Rattle.lq_run_core.specs.declared.trace_run.TraceRefusal.{TraceRefusal}
@@ -49,20 +49,15 @@ step_name Late = codes "late"
 step_name (Wake queue) = codes "wake"
 step_name (Control holds) = codes "control"
 
-abbrev pub pass_name : Bool → List ℕ
-pass_name second = if second then codes "second" else codes "first"
-
 -- which band a scan looks at, and for which time
 abbrev pub scan_name : Position → List ℕ
-scan_name (Scan band second) = codes " " ++ (decimal band ++ (codes " " ++ pass_name second))
+scan_name (Scan band second) = codes " " ++ (decimal band ++ (codes " " ++ (if second then codes "second" else codes "first")))
 scan_name _ = []
-
-abbrev pub raised_mark : Bool → List ℕ
-raised_mark raised = if raised then codes " raised" else []
 
 abbrev pub seat_line : ℕ → Seat → List ℕ
 seat_line i s =
-    codes "seat " ++ (decimal i ++ (codes " " ++ (step_name s.position ++ (scan_name s.position ++ (raised_mark s.raised ++ 10 ∷ [])))))
+    codes "seat " ++ (decimal i ++ (codes " " ++ (step_name s.position ++ (scan_name s.position
+    ++ ((if s.raised then codes " raised" else []) ++ 10 ∷ [])))))
 
 -- WHAT THE SEATS SHARE
 
@@ -75,19 +70,13 @@ abbrev pub held_line : Qdisc → List ℕ
 held_line q =
     codes "held " ++ (decimal (packets_held q) ++ (codes " sent " ++ (decimal q.sent ++ (codes " full " ++ (decimal q.full ++ 10 ∷ [])))))
 
-abbrev pub steps_line : ℕ → List ℕ
-steps_line steps = codes "steps " ++ (decimal steps ++ 10 ∷ [])
-
 -- THE WHOLE TEXT
-
-abbrev pub seat_lines : Machine → ℕ → List ℕ
-seat_lines m count = flat_map (λ i. seat_line i (seat_at m i)) (first_numbers count)
 
 unfoldable pub progress_text : Progress → List ℕ
 progress_text p =
-    steps_line p.steps ++ state_line p.running.machine.qdisc ++ held_line p.running.machine.qdisc
-    ++ seat_lines p.running.machine (length p.running.machine.seats)
+    let m = p.running.machine in
+    (codes "steps " ++ (decimal p.steps ++ 10 ∷ [])) ++ state_line m.qdisc ++ held_line m.qdisc
+    ++ flat_map (λ i. seat_line i (seat_at m i)) (first_numbers (length m.seats))
 
--- the text of what a schedule leaves, or its refusal
 unfoldable pub schedule_text : List ℕ → Result (List ℕ) TraceRefusal
 schedule_text text = schedule_done text >>= λ p. Ok (progress_text p)

@@ -4,7 +4,7 @@ ghost use Rattle.std.specs.List.{slice_split, list_all};
 ghost use Rattle.std.specs.Char.{is_ascii_digit};
 ghost use Rattle.std.specs.Str.Parse.{digits_value};
 ghost use Rattle.lq_model.specs.Machine.{Machine as State};
-ghost use Rattle.lq_run_core.specs.Schedule.{IsActionInRange, pieces_left, is_number, number_of, number_in, bare_action, answer_named, numbered_action, action_of, labelled, setup_line_of, words, command_of, capped, capped_seat};
+ghost use Rattle.lq_run_core.specs.Schedule.{IsActionInRange, pieces_left, is_number, number_of, number_in, bare_action, answer_named, numbered_action, action_of, labelled, set_up, setup_line_of, words, command_of, capped, capped_seat};
 
 use crate::start::Start;
 use lq_model::Answer;
@@ -208,7 +208,7 @@ fn labelled<'a>(rest: Rest<'a>, label: &[u8], low: u32, high: u32) -> Option<(u3
 
 /// What the first line of a schedule says; `None` where it isn't of that form.
 pub(crate) fn read_setup(line: &[u8]) -> Option<Setup>
-    ensures setup { result ≡ setup_line_of (words line.now) }
+    ensures setup { option_map (λ s. set_up s.seats s.len s.bypass) result ≡ setup_line_of (words line.now) }
     ensures seats { IfSome result (λ s. (1 ≤ s.seats) × (s.seats ≤ 8)) }
     ensures len { IfSome result (λ s. (1 ≤ s.len) × (s.len ≤ 4096)) }
 {

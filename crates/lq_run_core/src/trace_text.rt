@@ -1,7 +1,11 @@
 //! The text that tells what a schedule leaves of the machine.
-ghost use Rattle.std.specs.Prelude.{◌≡◌, length, IfOk};
+ghost use Rattle.std.specs.Prelude.{◌≡◌, ◌++◌, [], ◌∷◌, length, codes, if◌then◌else◌, IfOk};
+ghost use Rattle.std.specs.Fmt.{decimal};
+ghost use Rattle.std.specs.List.{flat_map};
+ghost use Rattle.lq_model.specs.Machine.{seat_at};
+ghost use Rattle.lq_model.specs.Numbers.{first_numbers};
 ghost use Rattle.std.specs.String.{string_bytes};
-ghost use Rattle.lq_run_core.specs.TraceText.{step_name, pass_name, scan_name, raised_mark, seat_line, steps_line, state_line, held_line, seat_lines, progress_text};
+ghost use Rattle.lq_run_core.specs.TraceText.{step_name, scan_name, seat_line, state_line, held_line, progress_text};
 
 use crate::machine::Machine;
 use crate::trace_run::Progress;
@@ -49,7 +53,7 @@ fn step_name(position: Position) -> &'static str
 }
 
 fn pass_name(second: bool) -> &'static str
-    ensures { result.now ≡ pass_name second }
+    ensures { result.now ≡ (if second then codes "second" else codes "first") }
 {
     if second { "second" } else { "first" }
 }
@@ -65,7 +69,7 @@ fn scan_name(alloc: Global, position: Position) -> Result<String, AllocError>
 }
 
 fn raised_mark(raised: bool) -> &'static str
-    ensures { result.now ≡ raised_mark raised }
+    ensures { result.now ≡ (if raised then codes " raised" else []) }
 {
     if raised { " raised" } else { "" }
 }
@@ -83,7 +87,7 @@ fn seat_line(alloc: Global, index: u32, seat: Seat) -> Result<String, AllocError
 }
 
 fn steps_line(alloc: Global, steps: u64) -> Result<String, AllocError>
-    ensures { IfOk result (λ s. string_bytes s ≡ steps_line steps) }
+    ensures { IfOk result (λ s. string_bytes s ≡ codes "steps " ++ (decimal steps ++ 10 ∷ [])) }
 {
     format!(in alloc; "steps {steps}\n")
 }
@@ -112,7 +116,8 @@ fn held_line(alloc: Global, machine: &Machine) -> Result<String, AllocError>
 }
 
 fn seat_lines(alloc: Global, machine: &Machine) -> Result<String, AllocError>
-    ensures { IfOk result (λ s. string_bytes s ≡ seat_lines machine.now.machine (length machine.now.machine.seats)) }
+    ensures { IfOk result (λ s. string_bytes s
+        ≡ flat_map (λ i. seat_line i (seat_at machine.now.machine i)) (first_numbers (length machine.now.machine.seats))) }
 {
     let mut out = String::new(alloc);
     for index in 0..machine.seats() {

@@ -32,7 +32,7 @@ use Rattle.lq_senders.proofs.AtEnd.{account-at, as-planned, configured-below, le
 use Rattle.lq_senders.proofs.Lists.{length-mapped}
 use Rattle.lq_senders.proofs.Turns.{event-there}
 use Rattle.lq_senders.specs.Ends.{RunEnds, UnitEnds}
-use Rattle.lq_senders.specs.Fates.{AllTell, AreFatesOf, HangsAfter, IsCallOfUnit, accepted_of}
+use Rattle.lq_senders.specs.Fates.{AllTell, AreFatesOf, HangsAfter, IsCallOfUnit}
 
 -- DEVICES
 
@@ -95,7 +95,7 @@ module _ (plan : Plan) (infos : List Info) (before after : List DeviceState) (vi
       subst (IsSentList fates unit) (ap (λ (a : Account). a.sent unit) (sym (account-is u.station u.within)) ∙ u.sent)
       (sent_list_of plan infos fates accounts settled-stations u.station unit u.within u.of_station)
 
-  devices-are : (unit : ℕ) → unit < unit_count plan → slice_get (accepted_of after) unit ≡ Some (sent_of fates unit)
+  devices-are : (unit : ℕ) → unit < unit_count plan → slice_get (map (λ device. device.accepted) after) unit ≡ Some (sent_of fates unit)
   devices-are unit below =
       let u = ends.units unit below in
       slice_get-map (λ device. device.accepted) after unit

@@ -14,12 +14,17 @@ use Rattle.lq_plan.specs.Limits.{falls_below, active_after, is_misplaced, kinds_
 use Rattle.lq_account.specs.Controls.{planned_controls, with_control, with_controls}
 use Rattle.lq_account.specs.Trail.{down_at, down_of}
 use Rattle.lq_seat.specs.Calls.{MayDoEvent}
-use Rattle.lq_senders.specs.Way.{down_among, down_after_events, IsSplitAt}
+use Rattle.lq_senders.specs.Units.{after_events}
+use Rattle.lq_senders.specs.Way.{down_after_events, IsSplitAt}
+use Rattle.lq_senders.proofs.Units.{event-more}
 
 not-le : (m n : ℕ) → n < m → nat_le m n ≡ false
 not-le m n h = elim (leb_tells m n) [ inl t ↦ absurd (let le = t.1 in omega arith) | inr t ↦ t.0 ]
 
 -- WHAT IS DEACTIVATED BEFORE A PACKET
+
+abbrev down_among : ℕ → List EventPlan → ℕ → Option ℕ → Option ℕ
+down_among station events e down = after_events (λ e event down. down_after event.kind e down) station events e down
 
 abbrev down_with : ℕ → ℕ → EventPlan → Option ℕ → Option ℕ
 down_with station e event down = cond (is_at station event) (down_after event.kind e down) down
@@ -47,23 +52,12 @@ split-before station n (x ∷ xs) (suc count) e down first rest =
 pub down-split : (plan : Plan) (station count n : ℕ) → IsSplitAt plan count n → down_at plan station n ≡ down_after_events plan station count
 down-split plan station count n split = split-before station n plan.events count 0 None (λ k event below there. split.0 k event below there) (λ k event above there. split.1 k event above there)
 
--- one event more
-one-more : (station : ℕ) (events : List EventPlan) (count e : ℕ) (down : Option ℕ) (event : EventPlan) → slice_get events count ≡ Some event
-    → down_among station (take (suc count) events) e down ≡ down_with station (e + count) event (down_among station (take count events) e down)
-one-more station [] count e down event there = absurd cc
-one-more station (x ∷ xs) zero e down event there =
-    let same : x ≡ event = same_Some x event there in let zero_more : e + 0 ≡ e = omega arith in
-    ap (λ (z : EventPlan). down_with station e z down) same ∙ ap (λ i. down_with station i event down) (sym zero_more)
-one-more station (x ∷ xs) (suc count) e down event there =
-    let more : (e + 1) + count ≡ e + suc count = omega arith in
-    one-more station xs count (e + 1) (down_with station e x down) event there
-    ∙ ap (λ i. down_with station i event (down_among station (take count xs) (e + 1) (down_with station e x down))) more
-
 pub down-next : (plan : Plan) (station count : ℕ) (event : EventPlan) → slice_get plan.events count ≡ Some event
     → down_after_events plan station (suc count) ≡ down_with station count event (down_after_events plan station count)
 down-next plan station count event there =
     let same : 0 + count ≡ count = omega arith in
-    one-more station plan.events count 0 None event there ∙ ap (λ i. down_with station i event (down_after_events plan station count)) same
+    event-more (λ e event down. down_after event.kind e down) station plan.events count 0 None event there
+    ∙ ap (λ i. down_with station i event (down_after_events plan station count)) same
 
 pub down-here : (plan : Plan) (station count : ℕ) (event : EventPlan) → slice_get plan.events count ≡ Some event → is_at station event ≡ true
     → down_after_events plan station (suc count) ≡ down_after event.kind count (down_after_events plan station count)

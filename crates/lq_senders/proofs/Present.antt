@@ -1,16 +1,16 @@
 -- Which units a station has in turn: each is one of its own, and a later one has a higher number.
-use Rattle.std.proofs.Common.{◌≡◌, ℕ, zero, suc, ◌+◌, ◌<◌, ◌≤◌, Bool, true, false, cond, inl, inr, length, slice_get, Some, refl, sym, ap, ◌∙◌, subst, arith}
+use Rattle.std.proofs.Common.{◌≡◌, ℕ, zero, suc, ◌+◌, ◌<◌, ◌≤◌, ◌&&◌, Bool, true, false, cond, inl, inr, length, slice_get, Some, refl, sym, ap, ◌∙◌, subst, arith}
 use Rattle.std.proofs.lemmas.Bool.{and_parts}
 use Rattle.lq_model.specs.Plan.{Plan, is_at, is_swap, unit_of_swap}
 use Rattle.lq_model.specs.Settled.{IsUnitOf}
 use Rattle.lq_model.specs.declared.plan.EventPlan.{EventPlan}
-use Rattle.lq_senders.specs.Units.{is_swap_at, unit_at}
+use Rattle.lq_senders.specs.Units.{unit_at}
 use Rattle.lq_senders.proofs.Turns.{event-there}
 use Rattle.lq_senders.proofs.Units.{swap-params, unit-here, unit-more, unit-next, unit-rises}
 use Rattle.lq_senders.proofs.Ways.{below-or-at}
 
 module _ (plan : Plan) (station : ℕ) where
-  one-of-its : (count : ℕ) (event : EventPlan) → slice_get plan.events count ≡ Some event → (b : Bool) → is_swap_at station event ≡ b
+  one-of-its : (count : ℕ) (event : EventPlan) → slice_get plan.events count ≡ Some event → (b : Bool) → (is_swap event && is_at station event) ≡ b
       → IsUnitOf plan station (unit_at plan station count) → IsUnitOf plan station (cond b (unit_of_swap plan count) (unit_at plan station count))
   one-of-its count event there false is was = was
   one-of-its count event there true is was =
@@ -22,9 +22,9 @@ module _ (plan : Plan) (station : ℕ) where
   unit-of-station zero within = inl refl
   unit-of-station (suc count) within =
       let next = event-there plan.events count (omega arith) in
-      subst (IsUnitOf plan station) (sym (unit-next plan station count next.0 next.1)) (one-of-its count next.0 next.1 (is_swap_at station next.0) refl (unit-of-station count (omega arith)))
+      subst (IsUnitOf plan station) (sym (unit-next plan station count next.0 next.1)) (one-of-its count next.0 next.1 (is_swap next.0 && is_at station next.0) refl (unit-of-station count (omega arith)))
 
-  next-under : (count : ℕ) (event : EventPlan) → slice_get plan.events count ≡ Some event → (b : Bool) → is_swap_at station event ≡ b
+  next-under : (count : ℕ) (event : EventPlan) → slice_get plan.events count ≡ Some event → (b : Bool) → (is_swap event && is_at station event) ≡ b
       → unit_at plan station count < unit_of_swap plan count
       → (unit_at plan station count ≤ cond b (unit_of_swap plan count) (unit_at plan station count)) × (cond b (unit_of_swap plan count) (unit_at plan station count) < unit_of_swap plan (suc count))
   next-under count event there false is under = (omega arith, unit-rises plan count (unit_at plan station count) event there under)
@@ -38,12 +38,12 @@ module _ (plan : Plan) (station : ℕ) where
     unit-under zero within = omega arith
     unit-under (suc count) within =
         let next = event-there plan.events count (omega arith) in
-        subst (λ (u : ℕ). u < unit_of_swap plan (suc count)) (sym (unit-next plan station count next.0 next.1)) (next-under count next.0 next.1 (is_swap_at station next.0) refl (unit-under count (omega arith))).1
+        subst (λ (u : ℕ). u < unit_of_swap plan (suc count)) (sym (unit-next plan station count next.0 next.1)) (next-under count next.0 next.1 (is_swap next.0 && is_at station next.0) refl (unit-under count (omega arith))).1
 
     unit-grows : (count : ℕ) → suc count ≤ length plan.events → unit_at plan station count ≤ unit_at plan station (suc count)
     unit-grows count within =
         let next = event-there plan.events count (omega arith) in
-        subst (λ (u : ℕ). unit_at plan station count ≤ u) (sym (unit-next plan station count next.0 next.1)) (next-under count next.0 next.1 (is_swap_at station next.0) refl (unit-under count (omega arith))).0
+        subst (λ (u : ℕ). unit_at plan station count ≤ u) (sym (unit-next plan station count next.0 next.1)) (next-under count next.0 next.1 (is_swap next.0 && is_at station next.0) refl (unit-under count (omega arith))).0
 
     -- one that a swap took away never comes back
     pub unit-left : (count e : ℕ) (event : EventPlan) → count ≤ length plan.events → e < count → slice_get plan.events e ≡ Some event → is_swap event ≡ true → is_at station event ≡ true

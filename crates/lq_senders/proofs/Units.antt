@@ -10,7 +10,7 @@ use Rattle.lq_model.specs.declared.plan.EventKind.{EventKind}
 use Rattle.lq_model.specs.declared.plan.EventKind.TheVariants as kind
 use Rattle.lq_model.specs.declared.plan.EventPlan.{EventPlan}
 use Rattle.lq_seat.specs.State.{units_of}
-use Rattle.lq_senders.specs.Units.{is_swap_at, unit_among, unit_at}
+use Rattle.lq_senders.specs.Units.{after_events, unit_at}
 
 -- HOW MANY
 
@@ -53,22 +53,31 @@ swap-params (kind.TxQueueLen len) is = absurd cc
 
 -- THE UNIT OF A STATION
 
-one-more : (plan : Plan) (station : ℕ) (events : List EventPlan) (count e unit : ℕ) (event : EventPlan) → slice_get events count ≡ Some event
-    → unit_among plan station (take (suc count) events) e unit ≡ cond (is_swap_at station event) (unit_of_swap plan (e + count)) (unit_among plan station (take count events) e unit)
-one-more plan station [] count e unit event there = absurd cc
-one-more plan station (x ∷ xs) zero e unit event there =
-    let same : x ≡ event = same_Some x event there in let more : e + 0 ≡ e = omega arith in
-    ap (λ (z : EventPlan). cond (is_swap_at station z) (unit_of_swap plan e) unit) same ∙ ap (λ i. cond (is_swap_at station event) (unit_of_swap plan i) unit) (sym more)
-one-more plan station (x ∷ xs) (suc count) e unit event there =
-    let more : (e + 1) + count ≡ e + suc count = omega arith in let now = cond (is_swap_at station x) (unit_of_swap plan e) unit in
-    one-more plan station xs count (e + 1) now event there
-    ∙ ap (λ i. cond (is_swap_at station event) (unit_of_swap plan i) (unit_among plan station (take count xs) (e + 1) now)) more
+-- one event more
+pub event-more : {X : Type 0} (change : ℕ → EventPlan → X → X) (station : ℕ) (events : List EventPlan) (count e : ℕ) (x : X) (event : EventPlan) → slice_get events count ≡ Some event
+    → after_events change station (take (suc count) events) e x
+    ≡ cond (is_at station event) (change (e + count) event (after_events change station (take count events) e x)) (after_events change station (take count events) e x)
+event-more change station [] count e x event there = absurd cc
+event-more change station (y ∷ ys) zero e x event there =
+    let same : y ≡ event = same_Some y event there in let more : e + 0 ≡ e = omega arith in
+    ap (λ (z : EventPlan). cond (is_at station z) (change e z x) x) same ∙ ap (λ i. cond (is_at station event) (change i event x) x) (sym more)
+event-more change station (y ∷ ys) (suc count) e x event there =
+    let more : (e + 1) + count ≡ e + suc count = omega arith in let now = cond (is_at station y) (change e y x) x in
+    let before = after_events change station (take count ys) (e + 1) now in
+    event-more change station ys count (e + 1) now event there ∙ ap (λ i. cond (is_at station event) (change i event before) before) more
 
 pub unit-next : (plan : Plan) (station count : ℕ) (event : EventPlan) → slice_get plan.events count ≡ Some event
-    → unit_at plan station (suc count) ≡ cond (is_swap_at station event) (unit_of_swap plan count) (unit_at plan station count)
+    → unit_at plan station (suc count) ≡ cond (is_swap event && is_at station event) (unit_of_swap plan count) (unit_at plan station count)
 unit-next plan station count event there =
-    let same : 0 + count ≡ count = omega arith in
-    one-more plan station plan.events count 0 station event there ∙ ap (λ i. cond (is_swap_at station event) (unit_of_swap plan i) (unit_at plan station count)) same
+    let same : 0 + count ≡ count = omega arith in let before = unit_at plan station count in
+    event-more (λ e event unit. cond (is_swap event) (unit_of_swap plan e) unit) station plan.events count 0 station event there
+    ∙ (ap (λ i. cond (is_at station event) (cond (is_swap event) (unit_of_swap plan i) before) before) same ∙ both (is_swap event) (is_at station event))
+  where
+    both : (a b : Bool) → cond b (cond a (unit_of_swap plan count) (unit_at plan station count)) (unit_at plan station count) ≡ cond (a && b) (unit_of_swap plan count) (unit_at plan station count)
+    both true true = refl
+    both true false = refl
+    both false true = refl
+    both false false = refl
 
 pub unit-here : (plan : Plan) (station count : ℕ) (event : EventPlan) → slice_get plan.events count ≡ Some event → is_at station event ≡ true
     → unit_at plan station (suc count) ≡ cond (is_swap event) (unit_of_swap plan count) (unit_at plan station count)

@@ -24,9 +24,6 @@ use Rattle.lq_table.specs.Ended.{EndedState}
 abbrev pub AllTell : ℕ → List DeviceState → Type 0
 AllTell units devices = (unit : ℕ) (device : DeviceState) → unit < units → slice_get devices unit ≡ Some device → IsSome device.told
 
-abbrev pub accepted_of : List DeviceState → List (List ℕ)
-accepted_of devices = map (λ device. device.accepted) devices
-
 -- which devices stand on a bench, in their order
 abbrev pub identities_of : List DeviceState → List ℕ
 identities_of devices = map (λ device. device.identity) devices
@@ -43,11 +40,6 @@ pub record IsCallOfUnit (plan : Plan) (infos : List Info) (unit : ℕ) (call : D
   pub own_queue : call.queue ≡ queue_in infos call.packet
   pub one_of_its : call.queue < queues_at plan.stations (station_in infos call.packet)
 
--- the station's fates are those of a closed account, which the plan's events leave as they leave the station
-abbrev pub HasAccount : Plan → List Info → List Fate → ℕ → Type 0
-HasAccount plan infos fates station =
-    (past : List Event) × (a : Account) × IsClosed plan infos fates station past a × EndsAsPlanned plan station a
-
 -- The fates of a run over the devices of a bench, as they were before it and are after it; unit u is the device at place u.
 pub record AreFatesOf (plan : Plan) (infos : List Info) (fates : List Fate) (before after : List DeviceState) : Type 0 where
   -- each packet has exactly one fate, and it is one that the plan allows
@@ -58,11 +50,12 @@ pub record AreFatesOf (plan : Plan) (infos : List Info) (fates : List Fate) (bef
   pub in_order : IsInSenderOrder infos fates
   -- each station's fates can be told by a legal list of events, which leaves nothing held: it has the plan's events for the station,
   -- in their order and no other, and leaves the station as they do
-  pub accounts : (station : ℕ) → station < length plan.stations → HasAccount plan infos fates station
+  pub accounts : (station : ℕ) → station < length plan.stations
+      → (past : List Event) × (a : Account) × IsClosed plan infos fates station past a × EndsAsPlanned plan station a
   -- the packets of the first sender meet the plan's events where they stand
   pub events : MeetsEvents plan infos fates
   -- each unit's device accepted just the packets that it sent, in order of serial
-  pub devices : (unit : ℕ) → unit < unit_count plan → slice_get (accepted_of after) unit ≡ Some (sent_of fates unit)
+  pub devices : (unit : ℕ) → unit < unit_count plan → slice_get (map (λ device. device.accepted) after) unit ≡ Some (sent_of fates unit)
   -- and was asked for nothing but packets of its station, each on the packet's own queue
   pub asked : (unit : ℕ) (device : DeviceState) → unit < unit_count plan → slice_get after unit ≡ Some device → All (IsCallOfUnit plan infos unit) device.asked
   -- packets are purged as hung only where the unit's device hangs

@@ -12,13 +12,11 @@ abbrev pub with_packet_at : Plan → List Info → ℕ → ℕ → List RunningS
 with_packet_at plan infos station n stations = if station_in infos n == station then with_packet plan infos n stations else stations
 
 -- the rest of its turn is that of `with_turn`
-abbrev pub with_turn_at : Plan → List Info → ℕ → ℕ → List RunningStation → List RunningStation
-with_turn_at plan infos station n stations =
-    map (served infos) (with_wakes plan n (with_packet_at plan infos station n (with_events plan infos (events_before plan n) stations)))
-
 abbrev pub after_packets_at : Plan → List Info → ℕ → List RunningStation → ℕ → List RunningStation
 after_packets_at plan infos station start zero = start
-after_packets_at plan infos station start (suc n) = with_turn_at plan infos station n (after_packets_at plan infos station start n)
+after_packets_at plan infos station start (suc n) =
+    let ready = with_events plan infos (events_before plan n) (after_packets_at plan infos station start n) in
+    map (served infos) (with_wakes plan n (with_packet_at plan infos station n ready))
 
 abbrev pub after_run_at : Plan → List Info → ℕ → List RunningStation → List RunningStation
 after_run_at plan infos station start =

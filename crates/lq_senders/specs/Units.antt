@@ -1,5 +1,5 @@
 -- Which unit a station has, where its device is swapped, and where the devices of the other units are.
-use Rattle.std.specs.Prelude.{◌≡◌, ◌<◌, ◌≤◌, ℕ, zero, suc, ◌+◌, Bool, true, false, ◌&&◌, if◌then◌else◌, List, [], ◌∷◌, ◌++◌, take, drop, length, count_by, slice_get, slice_set, Option, Some, None, Contains}
+use Rattle.std.specs.Prelude.{◌≡◌, ◌<◌, ◌≤◌, ℕ, zero, suc, ◌+◌, true, false, if◌then◌else◌, List, [], ◌∷◌, ◌++◌, take, drop, length, count_by, slice_get, slice_set, Option, Some, None, Contains}
 use Rattle.lq_model.specs.Alone.{new_device}
 use Rattle.lq_model.specs.Device.{DeviceState}
 use Rattle.lq_model.specs.Plan.{Plan, is_at, is_swap, unit_count, unit_of_swap}
@@ -11,18 +11,14 @@ use Rattle.lq_seat.specs.State.{SeatState, HasServed, station_count}
 
 -- UNITS
 
--- whether the event swaps the station's device
-abbrev pub is_swap_at : ℕ → EventPlan → Bool
-is_swap_at station event = is_swap event && is_at station event
+-- a value after these events, numbered from e on, where each of the station's changes it
+abbrev pub after_events : {X : Type 0} → (ℕ → EventPlan → X → X) → ℕ → List EventPlan → ℕ → X → X
+after_events change station [] e x = x
+after_events change station (event ∷ events) e x = after_events change station events (e + 1) (if is_at station event then change e event x else x)
 
--- the station's unit after these events, numbered from e on
-abbrev pub unit_among : Plan → ℕ → List EventPlan → ℕ → ℕ → ℕ
-unit_among plan station [] e unit = unit
-unit_among plan station (event ∷ events) e unit = unit_among plan station events (e + 1) (if is_swap_at station event then unit_of_swap plan e else unit)
-
--- after the first so many events of the plan
+-- the station's unit after the first so many events of the plan
 abbrev pub unit_at : Plan → ℕ → ℕ → ℕ
-unit_at plan station count = unit_among plan station (take count plan.events) 0 station
+unit_at plan station count = after_events (λ e event unit. if is_swap event then unit_of_swap plan e else unit) station (take count plan.events) 0 station
 
 -- how many of the first so many events swap a device
 abbrev pub swaps_before : Plan → ℕ → ℕ

@@ -1,5 +1,5 @@
 -- How far the first sender is with the plan's events at a station.
-use Rattle.std.specs.Prelude.{◌≡◌, ◌<◌, ◌≤◌, ℕ, zero, suc, ◌+◌, if◌then◌else◌, List, [], ◌∷◌, take, length, filter, slice_get, Option, Some, None, Contains, filter_map}
+use Rattle.std.specs.Prelude.{◌≡◌, ◌<◌, ◌≤◌, ℕ, zero, suc, ◌+◌, List, [], ◌∷◌, take, length, filter, slice_get, Option, Some, None, Contains, filter_map}
 use Rattle.lq_account.specs.Progress.{len_of}
 use Rattle.lq_account.specs.Trail.{down_of, IsTrail, HaveCome}
 use Rattle.lq_model.specs.Account.{Account, Event, Purge, Swap}
@@ -9,16 +9,11 @@ use Rattle.lq_model.specs.Settled.{down_after, length_after}
 use Rattle.lq_model.specs.declared.fate.Cause.TheVariants as cause
 use Rattle.lq_model.specs.declared.plan.EventPlan.{EventPlan}
 use Rattle.lq_seat.specs.State.{latest_unit, units_of}
-use Rattle.lq_senders.specs.Units.{unit_at}
+use Rattle.lq_senders.specs.Units.{after_events, unit_at}
 
--- the event that leaves the station deactivated after these events, numbered from e on
-abbrev pub down_among : ℕ → List EventPlan → ℕ → Option ℕ → Option ℕ
-down_among station [] e down = down
-down_among station (event ∷ events) e down = down_among station events (e + 1) (if is_at station event then down_after event.kind e down else down)
-
--- after the first so many events of the plan
+-- the event that leaves the station deactivated after the first so many events of the plan
 abbrev pub down_after_events : Plan → ℕ → ℕ → Option ℕ
-down_after_events plan station count = down_among station (take count plan.events) 0 None
+down_after_events plan station count = after_events (λ e event down. down_after event.kind e down) station (take count plan.events) 0 None
 
 -- the account is as the plan's events leave the station: deactivated by the one that they leave, with its unit and the length of its
 -- rings

@@ -1,5 +1,5 @@
 -- What becomes of a tap's packets, read off a list that has the fate of packet n at place n.
-use Rattle.std.specs.Prelude.{◌≡◌, ◌≢◌, ◌↔◌, ◌<◌, ◌≤◌, ℕ, ◌-◌, ◌%◌, Bool, true, false, not, List, length, count_by, slice_get, Some}
+use Rattle.std.specs.Prelude.{◌≡◌, ◌≢◌, ◌↔◌, ◌<◌, ◌≤◌, ℕ, ◌-◌, ◌%◌, Bool, true, false, not, List, length, count_by, slice_get, Some, AllPairs}
 use Rattle.lq_model.specs.Band.{batch}
 use Rattle.lq_tap_fates.specs.declared.fate.TapFate.{TapFate}
 use Rattle.lq_tap_fates.specs.declared.fate.TapFate.TheVariants.{Read, Full, Lost}
@@ -22,22 +22,7 @@ is_lost _ = false
 abbrev pub put_count : List TapFate → ℕ
 put_count fates = count_by (λ fate. not (is_full_tap fate)) fates
 
--- the sender of a packet
-abbrev pub sender_of : ℕ → ℕ → ℕ
-sender_of senders n = n % senders
-
--- WHAT IS READ
-
--- the list of packets is what was read, in order of place
-abbrev pub IsReadList : List TapFate → List ℕ → Type 0
-IsReadList fates read = (n place : ℕ) → (slice_get fates n ≡ Some (Read place)) ↔ (slice_get read place ≡ Some n)
-
--- of two packets of one sender, the lower number stands before the higher
-abbrev pub AreReadInOrder : ℕ → List ℕ → Type 0
-AreReadInOrder senders read =
-    (s t m n : ℕ) → s < t → slice_get read s ≡ Some m → slice_get read t ≡ Some n → sender_of senders m ≡ sender_of senders n → m < n
-
--- WHAT ISN'T
+-- WHAT ISN'T READ
 
 -- a packet n may be dropped as full where it saw that one: another packet, which was put into the ring, as were enough of
 -- them to fill it but for a batch
@@ -60,14 +45,14 @@ pub record IsTapWithin (senders len batch : ℕ) : Type 0 where
   pub some_slots : (1 ≤ len) × (len ≤ 4096)
   pub some_at_once : (1 ≤ batch) × (batch ≤ 64)
 
--- The fates of a run, and the packets that were read: so many packets, senders and slots.
+-- The fates of a run of so many packets, senders and slots, and the packets that were read, in order of place.
 pub record IsTapRun (count senders len : ℕ) (fates : List TapFate) (read : List ℕ) : Type 0 where
   -- each packet has one fate
   pub one_each : length fates ≡ count
   -- the places are 0 up to the number that was read, each once
-  pub places : IsReadList fates read
+  pub places : (n place : ℕ) → (slice_get fates n ≡ Some (Read place)) ↔ (slice_get read place ≡ Some n)
   -- and each sender's packets stand in its order
-  pub order : AreReadInOrder senders read
+  pub order : AllPairs (λ m n. m % senders ≡ n % senders → m < n) read
   -- where the ring has room for all packets, all are read
   pub room : count ≤ len → count_by is_read fates ≡ count
   -- each fate is one that the ring may give

@@ -1,9 +1,9 @@
 -- The fates of a run, from what its seats know once they are joined.
 use Rattle.std.proofs.Common.{◌≡◌, ◌<◌, ◌≤◌, ◌+◌, ◌%◌, ℕ, zero, suc, false, not, ltb, List, All, length, get_or, slice_get, Some, Contains, refl, sym, ap, ◌∙◌, subst, arith, inl, inr}
-use Rattle.std.specs.Prelude.{count_by}
+use Rattle.std.specs.Prelude.{AllPairs, count_by}
 use Rattle.std.proofs.lemmas.Bool.{cases_lt, lt-ltb, le-ltb}
 use Rattle.std.proofs.lemmas.List.Elements.{All-from_get_or, Contains-get_or}
-use Rattle.std.proofs.lemmas.Option.{get_or_from_slice_get, slice_get_cases, slice_get_within}
+use Rattle.std.proofs.lemmas.Option.{slice_get_cases, slice_get_within}
 use Rattle.lq_band.specs.Times.{times}
 use Rattle.lq_band.proofs.Times.{in_times, times_in}
 use Rattle.lq_tap.specs.Sees.{IsMadeFor, setup, view}
@@ -182,15 +182,10 @@ module _ (count senders len : ℕ) (v : View) (read : List ℕ) (ends : Ends cou
         let long = ends.len_is in
         omega (arith, put_are)
 
-    in_order : (s t m n : ℕ) → s < t → slice_get read s ≡ Some m → slice_get read t ≡ Some n → m % senders ≡ n % senders → m < n
-    in_order s t m n lt first second same =
-        let ms : get_or read s 0 ≡ m = get_or_from_slice_get read s m 0 first in
-        let ns : get_or read t 0 ≡ n = get_or_from_slice_get read t n 0 second in
-        let within : t < length read = slice_get_within read t n second in
-        let pairs : (get_or read s 0 % v.about.senders ≡ get_or read t 0 % v.about.senders → get_or read s 0 < get_or read t 0) =
-        subst (λ (xs : List ℕ). t < length xs → get_or xs s 0 % v.about.senders ≡ get_or xs t 0 % v.about.senders → get_or xs s 0 < get_or xs t 0) ends.taken (λ w. ends.settled.in_order s t 0 lt w) within in
-        let there : m % v.about.senders ≡ n % v.about.senders → m < n = subst (λ a. a % v.about.senders ≡ n % v.about.senders → a < n) ms (subst (λ b. get_or read s 0 % v.about.senders ≡ b % v.about.senders → get_or read s 0 < b) ns pairs) in
-        there (ap (λ k. m % k) ends.senders_are ∙ same ∙ sym (ap (λ k. n % k) ends.senders_are))
+    in_order : AllPairs (λ m n. m % senders ≡ n % senders → m < n) read
+    in_order =
+        subst (λ (k : ℕ). AllPairs (λ m n. m % k ≡ n % k → m < n) read) ends.senders_are
+        (subst (λ (xs : List ℕ). AllPairs (λ m n. m % v.about.senders ≡ n % v.about.senders → m < n) xs) ends.taken ends.settled.in_order)
 
     pub is_run : IsTapRun count senders len fates read
     is_run = record {

@@ -10,7 +10,7 @@ use Rattle.lq_pcapng.specs.File.{as_classic}
 use Rattle.lq_pcapng.specs.declared.file.CaptureFile.TheVariants.{Classic}
 use Rattle.lq_plan.specs.Generated.{generated_plan}
 use Rattle.lq_files.specs.Command.{GenWords, AreOperandsWithin, OfGen, command_of_words}
-use Rattle.lq_top.specs.Decision.{Generates, by_command, by_generated, verdict_of, verdict_of_gen}
+use Rattle.lq_top.specs.Decision.{Generates, if_accepted, verdict_of, verdict_of_command}
 use Rattle.lq_files.specs.Accepted.{with_refusal}
 use Rattle.lq_files.specs.RunFiles.{run_of}
 use Rattle.lq_files.proofs.CommandLemmas.{within_limits}
@@ -24,10 +24,11 @@ is_accepted number count few =
     accepted_at_all (λ c. (c.count ≡ count) × (header_of c ≡ generated_header) × (records_of c ≡ map (generated_record number) (first_numbers count)))
     (capture_of (generated_capture number count)) (generated_accepted number count few)
 
-placed : (gen : GenWords) (have : ℕ) → 0 < have
-    → verdict_of_gen gen have
-    ≡ by_generated gen.out (generated_capture gen.number gen.count) generated_plan (with_refusal (as_classic (capture_of (generated_capture gen.number gen.count))))
-placed gen have some = elim (cases_Bool (nat_lt have 1)) [
+placed : (gen : GenWords) (files : Files) (have : ℕ) → 0 < have
+    → verdict_of_command (Some (OfGen gen)) have files files
+    ≡ if_accepted (Some (with_refusal (as_classic (capture_of (generated_capture gen.number gen.count)))))
+    (λ c. Generates (generated_capture gen.number gen.count) (run_of gen.out generated_plan c))
+placed gen files have some = elim (cases_Bool (nat_lt have 1)) [
   | inl none ↦ absurd (omega (ltb-true have 1 none, some, arith))
   | inr there ↦ rw there refl
 ]
@@ -49,7 +50,7 @@ generated_verdict words gen files have command some = go (capture_of text) refl 
     go (Ok c) is ok = (
       c,
       is,
-      ap (λ k. by_command k files have) command ∙ placed gen have some
-          ∙ ap (λ (r : Result Capture CaptureRefusal). by_generated gen.out text generated_plan (with_refusal (as_classic r))) is,
+      ap (λ k. verdict_of_command k have files files) command ∙ placed gen files have some
+          ∙ ap (λ (r : Result Capture CaptureRefusal). if_accepted (Some (with_refusal (as_classic r))) (λ c. Generates text (run_of gen.out generated_plan c))) is,
     )
     go (Err e) is ok = absurd ok

@@ -6,7 +6,7 @@ use Rattle.lq_top.specs.Names.{MayDo}
 
 pub may_any : (command : Option CommandWords) → MayDo any_name any_name command
 may_any None = _
-may_any (Some (OfRun words)) = record { plan = _; capture = _; outputs = record { units = λ unit below. _; groups = λ j below. _; fates = _ } }
+may_any (Some (OfRun words)) = (_, _, record { units = λ unit below. _; groups = λ j below. _; fates = _ })
 may_any (Some (OfGen words)) = _
 may_any (Some (OfTrace file)) = _
-may_any (Some (OfTap words)) = record { capture = _; read = _; fates = _ }
+may_any (Some (OfTap words)) = (_, _, _)

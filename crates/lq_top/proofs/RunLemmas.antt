@@ -10,7 +10,7 @@ use Rattle.lq_host.specs.Host.{HostState, Contents}
 use Rattle.lq_pcapng.specs.File.{packets_of_file}
 use Rattle.lq_pcapng.specs.declared.file.CaptureFile.{CaptureFile}
 use Rattle.lq_files.specs.Command.{OfRun, RunWords}
-use Rattle.lq_top.specs.Decision.{Verdict, Generates, LacksFile, Refuses, Runs, Taps, Traces, by_bytes, by_capture, by_plan, verdict_of_run}
+use Rattle.lq_top.specs.Decision.{Verdict, Generates, LacksFile, Refuses, Runs, Taps, Traces, if_accepted, verdict_of_command}
 use Rattle.lq_files.specs.Accepted.{IsRunnable, max_units, limited_capture_of, plan_for}
 use Rattle.lq_senders.specs.Fates.{AreEnded, AreFatesOf}
 use Rattle.lq_table.specs.Ended.{EndedState}
@@ -67,32 +67,35 @@ pub does_run :
     (told : Option Contents) (words : RunWords) (have : ℕ) (plan : Plan) (capture : CaptureFile) (read : Result Plan Refusal) (seen : Result CaptureFile Refusal) (P : Verdict → Type 0)
     → read ≡ Ok plan → seen ≡ Ok capture → IfSome told (λ c. option_map (plan_for have) (c.files words.plan) ≡ Some read)
     → IfSome told (λ c. option_map limited_capture_of (c.files words.capture) ≡ Some seen) → P (Runs (run_of words.out plan capture))
-    → IfSome told (λ c. P (verdict_of_run words c.files have))
+    → IfSome told (λ c. P (verdict_of_command (Some (OfRun words)) have c.files c.files))
 does_run None words have plan capture read seen P is_read is_seen first second does = _
 does_run (Some c) words have plan capture read seen P is_read is_seen first second does =
-    let next : Plan → Verdict = λ p. by_capture words.out p (option_map limited_capture_of (c.files words.capture)) in
-    let decided : verdict_of_run words c.files have ≡ Runs (run_of words.out plan capture) =
-    ap (λ (r : Option (Result Plan Refusal)). by_plan r next) (first ∙ ap Some is_read) ∙ ap (by_capture words.out plan) (second ∙ ap Some is_seen) in
+    let runs : Plan → Option (Result CaptureFile Refusal) → Verdict = λ p seen. if_accepted seen (λ c. Runs (run_of words.out p c)) in
+    let next : Plan → Verdict = λ p. runs p (option_map limited_capture_of (c.files words.capture)) in
+    let decided : verdict_of_command (Some (OfRun words)) have c.files c.files ≡ Runs (run_of words.out plan capture) =
+    ap (λ (r : Option (Result Plan Refusal)). if_accepted r next) (first ∙ ap Some is_read) ∙ ap (runs plan) (second ∙ ap Some is_seen) in
     subst P (sym decided) does
 
 -- and what was done as the refusal of a plan, or of a capture, was decided so
 pub refuses_plan :
     (told : Option Contents) (words : RunWords) (have : ℕ) (r : Refusal) (read : Result Plan Refusal) (P : Verdict → Type 0) → read ≡ Err r
-    → IfSome told (λ c. option_map (plan_for have) (c.files words.plan) ≡ Some read) → P (Refuses r) → IfSome told (λ c. P (verdict_of_run words c.files have))
+    → IfSome told (λ c. option_map (plan_for have) (c.files words.plan) ≡ Some read) → P (Refuses r) → IfSome told (λ c. P (verdict_of_command (Some (OfRun words)) have c.files c.files))
 refuses_plan None words have r read P is_read first does = _
 refuses_plan (Some c) words have r read P is_read first does =
-    let next : Plan → Verdict = λ p. by_capture words.out p (option_map limited_capture_of (c.files words.capture)) in
-    subst P (sym (ap (λ (q : Option (Result Plan Refusal)). by_plan q next) (first ∙ ap Some is_read))) does
+    let runs : Plan → Option (Result CaptureFile Refusal) → Verdict = λ p seen. if_accepted seen (λ c. Runs (run_of words.out p c)) in
+    let next : Plan → Verdict = λ p. runs p (option_map limited_capture_of (c.files words.capture)) in
+    subst P (sym (ap (λ (q : Option (Result Plan Refusal)). if_accepted q next) (first ∙ ap Some is_read))) does
 
 pub refuses_capture :
     (told : Option Contents) (words : RunWords) (have : ℕ) (plan : Plan) (r : Refusal) (read : Result Plan Refusal) (seen : Result CaptureFile Refusal) (P : Verdict → Type 0)
     → read ≡ Ok plan → seen ≡ Err r → IfSome told (λ c. option_map (plan_for have) (c.files words.plan) ≡ Some read)
-    → IfSome told (λ c. option_map limited_capture_of (c.files words.capture) ≡ Some seen) → P (Refuses r) → IfSome told (λ c. P (verdict_of_run words c.files have))
+    → IfSome told (λ c. option_map limited_capture_of (c.files words.capture) ≡ Some seen) → P (Refuses r) → IfSome told (λ c. P (verdict_of_command (Some (OfRun words)) have c.files c.files))
 refuses_capture None words have plan r read seen P is_read is_seen first second does = _
 refuses_capture (Some c) words have plan r read seen P is_read is_seen first second does =
-    let next : Plan → Verdict = λ p. by_capture words.out p (option_map limited_capture_of (c.files words.capture)) in
-    let decided : verdict_of_run words c.files have ≡ Refuses r =
-    ap (λ (q : Option (Result Plan Refusal)). by_plan q next) (first ∙ ap Some is_read) ∙ ap (by_capture words.out plan) (second ∙ ap Some is_seen) in
+    let runs : Plan → Option (Result CaptureFile Refusal) → Verdict = λ p seen. if_accepted seen (λ c. Runs (run_of words.out p c)) in
+    let next : Plan → Verdict = λ p. runs p (option_map limited_capture_of (c.files words.capture)) in
+    let decided : verdict_of_command (Some (OfRun words)) have c.files c.files ≡ Refuses r =
+    ap (λ (q : Option (Result Plan Refusal)). if_accepted q next) (first ∙ ap Some is_read) ∙ ap (runs plan) (second ∙ ap Some is_seen) in
     subst P (sym decided) does
 
 -- ANY HOST
@@ -100,21 +103,23 @@ refuses_capture (Some c) words have plan r read seen P is_read is_seen first sec
 -- what was done as the run of some capture was decided so by its bytes and the plan's
 pub does_run_on :
     (words : RunWords) (have : ℕ) (plan : Plan) (capture : CaptureFile) (plan_bytes capture_bytes : List ℕ) (P : Verdict → Type 0) → plan_for have plan_bytes ≡ Ok plan
-    → limited_capture_of capture_bytes ≡ Ok capture → P (Runs (run_of words.out plan capture)) → P (by_bytes (Some (OfRun words)) have plan_bytes capture_bytes)
+    → limited_capture_of capture_bytes ≡ Ok capture → P (Runs (run_of words.out plan capture)) → P (verdict_of_command (Some (OfRun words)) have (λ _. Some plan_bytes) (λ _. Some capture_bytes))
 does_run_on words have plan capture plan_bytes capture_bytes P is_read is_seen does =
-    let next : Plan → Verdict = λ p. by_capture words.out p (Some (limited_capture_of capture_bytes)) in
-    let decided : by_bytes (Some (OfRun words)) have plan_bytes capture_bytes ≡ Runs (run_of words.out plan capture) =
-    ap (λ (r : Result Plan Refusal). by_plan (Some r) next) is_read ∙ ap (λ (r : Result CaptureFile Refusal). by_capture words.out plan (Some r)) is_seen in
+    let runs : Plan → Option (Result CaptureFile Refusal) → Verdict = λ p seen. if_accepted seen (λ c. Runs (run_of words.out p c)) in
+    let next : Plan → Verdict = λ p. runs p (Some (limited_capture_of capture_bytes)) in
+    let decided : verdict_of_command (Some (OfRun words)) have (λ _. Some plan_bytes) (λ _. Some capture_bytes) ≡ Runs (run_of words.out plan capture) =
+    ap (λ (r : Result Plan Refusal). if_accepted (Some r) next) is_read ∙ ap (λ (r : Result CaptureFile Refusal). runs plan (Some r)) is_seen in
     subst P (sym decided) does
 
 -- and a refusal of a capture by its bytes and the plan's
 pub refuses_capture_on :
     (words : RunWords) (have : ℕ) (plan : Plan) (r : Refusal) (plan_bytes capture_bytes : List ℕ) (P : Verdict → Type 0) → plan_for have plan_bytes ≡ Ok plan
-    → limited_capture_of capture_bytes ≡ Err r → P (Refuses r) → P (by_bytes (Some (OfRun words)) have plan_bytes capture_bytes)
+    → limited_capture_of capture_bytes ≡ Err r → P (Refuses r) → P (verdict_of_command (Some (OfRun words)) have (λ _. Some plan_bytes) (λ _. Some capture_bytes))
 refuses_capture_on words have plan r plan_bytes capture_bytes P is_read is_seen does =
-    let next : Plan → Verdict = λ p. by_capture words.out p (Some (limited_capture_of capture_bytes)) in
-    let decided : by_bytes (Some (OfRun words)) have plan_bytes capture_bytes ≡ Refuses r =
-    ap (λ (read : Result Plan Refusal). by_plan (Some read) next) is_read ∙ ap (λ (seen : Result CaptureFile Refusal). by_capture words.out plan (Some seen)) is_seen in
+    let runs : Plan → Option (Result CaptureFile Refusal) → Verdict = λ p seen. if_accepted seen (λ c. Runs (run_of words.out p c)) in
+    let next : Plan → Verdict = λ p. runs p (Some (limited_capture_of capture_bytes)) in
+    let decided : verdict_of_command (Some (OfRun words)) have (λ _. Some plan_bytes) (λ _. Some capture_bytes) ≡ Refuses r =
+    ap (λ (read : Result Plan Refusal). if_accepted (Some read) next) is_read ∙ ap (λ (seen : Result CaptureFile Refusal). runs plan (Some seen)) is_seen in
     subst P (sym decided) does
 
 -- a host that is as before was stopped before anything was written

@@ -10,7 +10,7 @@ use Rattle.lq_tap_fates.specs.Fates.{IsTapRun}
 use Rattle.lq_tap_fates.specs.declared.fate.TapFate.{TapFate}
 use Rattle.lq_tap_fates.specs.declared.fate.TapFate.TheVariants.{Read}
 use Rattle.lq_files.specs.Command.{OfTap, TapWords}
-use Rattle.lq_top.specs.Decision.{Verdict, Taps, by_bytes, by_tap, verdict_of_tap}
+use Rattle.lq_top.specs.Decision.{Verdict, Taps, if_accepted, verdict_of_command}
 use Rattle.lq_files.specs.Accepted.{limited_capture_of}
 use Rattle.lq_top.specs.Outcome.{CompletesOrStops}
 use Rattle.lq_top.specs.Tapped.{AreTapFatesIn, HasCutTap, HasTapped}
@@ -56,13 +56,13 @@ tap_does words capture old new before after (Err stop) is done stopped = stopped
 
 -- what was done as the capture was read was decided so
 pub does_tap :
-    (told : Option Contents) (words : TapWords) (seen : Result CaptureFile Refusal) (P : Verdict → Type 0) → IfSome told (λ c. option_map limited_capture_of (c.files words.capture) ≡ Some seen)
-    → P (by_tap words (Some seen)) → IfSome told (λ c. P (verdict_of_tap words c.files))
-does_tap None words seen P is does = _
-does_tap (Some c) words seen P is does = subst (λ (r : Option (Result CaptureFile Refusal)). P (by_tap words r)) (sym is) does
+    (told : Option Contents) (words : TapWords) (have : ℕ) (seen : Result CaptureFile Refusal) (P : Verdict → Type 0) → IfSome told (λ c. option_map limited_capture_of (c.files words.capture) ≡ Some seen)
+    → P (if_accepted (Some seen) (Taps words)) → IfSome told (λ c. P (verdict_of_command (Some (OfTap words)) have c.files c.files))
+does_tap None words have seen P is does = _
+does_tap (Some c) words have seen P is does = subst (λ (r : Option (Result CaptureFile Refusal)). P (if_accepted r (Taps words))) (sym is) does
 
 -- and by some bytes
 pub does_tap_on :
-    (words : TapWords) (have : ℕ) (seen : Result CaptureFile Refusal) (bytes : List ℕ) (P : Verdict → Type 0) → limited_capture_of bytes ≡ seen → P (by_tap words (Some seen))
-    → P (by_bytes (Some (OfTap words)) have bytes [])
-does_tap_on words have seen bytes P is does = subst (λ (r : Result CaptureFile Refusal). P (by_tap words (Some r))) (sym is) does
+    (words : TapWords) (have : ℕ) (seen : Result CaptureFile Refusal) (bytes : List ℕ) (P : Verdict → Type 0) → limited_capture_of bytes ≡ seen → P (if_accepted (Some seen) (Taps words))
+    → P (verdict_of_command (Some (OfTap words)) have (λ _. Some bytes) (λ _. Some []))
+does_tap_on words have seen bytes P is does = subst (λ (r : Result CaptureFile Refusal). P (if_accepted (Some r) (Taps words))) (sym is) does

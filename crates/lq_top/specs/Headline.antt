@@ -8,7 +8,7 @@ use Rattle.lq_pcapng.specs.File.{packets_of_file}
 use Rattle.lq_senders.specs.Fates.{AreEnded, AreFatesOf}
 use Rattle.lq_table.specs.Ended.{EndedState}
 use Rattle.lq_files.specs.Groups.{AreOfGroup, sent_by_group}
-use Rattle.lq_files.specs.Written.{FileText, OutputHasPrefix, Texts, output_only, written}
+use Rattle.lq_files.specs.Written.{OutputHasPrefix, output_only, written}
 use Rattle.lq_files.specs.RunFiles.{Run, texts_of}
 
 -- THE HEADLINE
@@ -31,29 +31,18 @@ HasRun run old new before after ended = (fates : List Fate) × AreFatesIn run fa
 
 -- GENERATED RUNS
 
--- the file of a generated capture
-abbrev pub generated_file : List ℕ → List ℕ → FileText
-generated_file out text = record { name = out; text = text }
-
--- the counts of a run's fates
-abbrev pub counts_text_of : Run → List Fate → List ℕ
-counts_text_of run fates = (texts_of run fates).output
-
--- what is written: the generated capture to OUT, and then the counts of the fates of its run to standard output
-abbrev pub generated_texts_of : List ℕ → Run → List Fate → Texts
-generated_texts_of text run fates = record { files = generated_file run.out text ∷ []; output = counts_text_of run fates }
-
 -- A generated run that is done: as a run, but that its one file is the generated capture, which has this text.
 abbrev pub HasGenerated : List ℕ → Run → HostState → HostState → List DeviceState → List DeviceState → List EndedState → Type 0
 HasGenerated text run old new before after ended =
-    (fates : List Fate) × AreFatesIn run fates before after × AreEndedIn run fates ended × (new ≡ written (generated_texts_of text run fates) old)
+    (fates : List Fate) × AreFatesIn run fates before after × AreEndedIn run fates ended
+    × (new ≡ written (record (texts_of run fates) { files = record { name = run.out; text = text } ∷ [] }) old)
 
 -- the part of it after the file: what is written is the counts of the fates alone
 abbrev pub HasCounted : Run → HostState → HostState → List DeviceState → List DeviceState → List EndedState → Type 0
 HasCounted run old new before after ended =
-    (fates : List Fate) × AreFatesIn run fates before after × AreEndedIn run fates ended × (new ≡ written (output_only (counts_text_of run fates)) old)
+    (fates : List Fate) × AreFatesIn run fates before after × AreEndedIn run fates ended × (new ≡ written (output_only (texts_of run fates).output) old)
 
 -- where it is stopped, nothing was written, or a prefix of the counts of one list of fates
 abbrev pub AreCountsCut : Run → HostState → HostState → List DeviceState → List DeviceState → Type 0
 AreCountsCut run old new before after =
-    (new ≡ old) ⊎ ((fates : List Fate) × AreFatesIn run fates before after × OutputHasPrefix (counts_text_of run fates) old new)
+    (new ≡ old) ⊎ ((fates : List Fate) × AreFatesIn run fates before after × OutputHasPrefix (texts_of run fates).output old new)

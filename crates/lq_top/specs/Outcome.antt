@@ -1,16 +1,16 @@
 -- What a call answers and leaves, once it has decided.
-use Rattle.std.specs.Prelude.{◌≡◌, ◌≢◌, ◌⊎◌, ℕ, Bool, true, false, List, [], ◌∷◌, Option, None, Result, Ok, Err}
+use Rattle.std.specs.Prelude.{◌≡◌, ◌≢◌, ◌⊎◌, ℕ, Bool, true, false, List, [], Option, Some, None, Result, Ok, Err}
 use Rattle.lq_model.specs.Device.{DeviceState}
 use Rattle.lq_model.specs.declared.fate.Fate.{Fate}
-use Rattle.lq_host.specs.Host.{HostState}
+use Rattle.lq_host.specs.Host.{HostState, filed}
 use Rattle.lq_table.specs.Ended.{EndedState}
 use Rattle.lq_files.specs.Command.{CommandWords}
-use Rattle.lq_top.specs.Decision.{Verdict, Generates, LacksFile, Refuses, Runs, Taps, Traces, by_bytes}
-use Rattle.lq_top.specs.Headline.{AreFatesIn, HasGenerated, HasRun, counts_text_of, generated_file}
-use Rattle.lq_files.specs.RunFiles.{Run, texts_of}
+use Rattle.lq_top.specs.Decision.{Verdict, Generates, LacksFile, Refuses, Runs, Taps, Traces, verdict_of_command}
+use Rattle.lq_top.specs.Headline.{AreFatesIn, HasGenerated, HasRun}
+use Rattle.lq_files.specs.RunFiles.{texts_of}
 use Rattle.lq_files.specs.Refusal.{refusal_line, status_of}
 use Rattle.lq_top.specs.Tapped.{HasCutTap, HasTapped}
-use Rattle.lq_files.specs.Written.{files_written, output_only, written, FilesAreCut, IsCut, OutputHasPrefix}
+use Rattle.lq_files.specs.Written.{output_only, written, FileIsCut, IsCut, OutputHasPrefix}
 use Rattle.lq_files.specs.declared.answer.Status.{Status}
 use Rattle.lq_files.specs.declared.answer.Status.TheVariants as status
 use Rattle.lq_files.specs.declared.answer.Stop.{Stop}
@@ -27,20 +27,15 @@ Completes (Generates text run) old new before after ended answer = (answer ≡ s
 Completes (Traces text) old new before after ended answer = (answer ≡ status.Done) × (ended ≡ []) × (new ≡ written (output_only text) old)
 Completes (Taps words capture) old new before after ended answer = (answer ≡ status.Done) × (ended ≡ []) × HasTapped words capture old new
 
--- a generated run that was stopped: on its way through its file, or before it; or the file is whole, and standard output
--- got a prefix of the counts of one list of fates
-abbrev pub HasCutGenerated : List ℕ → Run → HostState → HostState → List DeviceState → List DeviceState → Type 0
-HasCutGenerated text run old new before after =
-    let files = generated_file run.out text ∷ [] in
-    FilesAreCut files old new ⊎ ((fates : List Fate) × AreFatesIn run fates before after × OutputHasPrefix (counts_text_of run fates) (files_written old files) new)
-
 -- what a call leaves that was stopped by a fault or want of memory: nothing, or a part of what it was to write, of a run
--- by one list of fates
+-- by one list of fates; of a generated run a part of its file, or the whole file and a prefix of the counts
 abbrev pub Stops : Verdict → HostState → HostState → List DeviceState → List DeviceState → Type 0
 Stops LacksFile old new before after = new ≡ old
 Stops (Refuses refusal) old new before after = IsCut (output_only (refusal_line refusal)) old new
 Stops (Runs run) old new before after = (new ≡ old) ⊎ ((fates : List Fate) × AreFatesIn run fates before after × IsCut (texts_of run fates) old new)
-Stops (Generates text run) old new before after = HasCutGenerated text run old new before after
+Stops (Generates text run) old new before after =
+    (FileIsCut run.out text old new ⊎ (new ≡ filed old run.out text))
+    ⊎ ((fates : List Fate) × AreFatesIn run fates before after × OutputHasPrefix (texts_of run fates).output (filed old run.out text) new)
 Stops (Traces text) old new before after = IsCut (output_only text) old new
 Stops (Taps words capture) old new before after = HasCutTap words capture old new
 
@@ -52,7 +47,8 @@ Outcome verdict old new before after ended answer = Completes verdict old new be
 
 -- The outcome for every host, also one that doesn't tell what its files hold: that of some bytes of the files that it reads.
 abbrev pub OutcomeOfSome : Option CommandWords → ℕ → HostState → HostState → List DeviceState → List DeviceState → List EndedState → Status → Type 0
-OutcomeOfSome command have old new before after ended answer = (first second : List ℕ) × Outcome (by_bytes command have first second) old new before after ended answer
+OutcomeOfSome command have old new before after ended answer =
+    (first second : List ℕ) × Outcome (verdict_of_command command have (λ _. Some first) (λ _. Some second)) old new before after ended answer
 
 -- the same of a command inside
 abbrev pub CompletesOrStops : Verdict → HostState → HostState → List DeviceState → List DeviceState → List EndedState → Result Status Stop → Type 0
@@ -60,7 +56,8 @@ CompletesOrStops verdict old new before after ended (Ok answer) = Completes verd
 CompletesOrStops verdict old new before after ended (Err stop) = Stops verdict old new before after
 
 abbrev pub CompletesOrStopsOfSome : Option CommandWords → ℕ → HostState → HostState → List DeviceState → List DeviceState → List EndedState → Result Status Stop → Type 0
-CompletesOrStopsOfSome command have old new before after ended result = (first second : List ℕ) × CompletesOrStops (by_bytes command have first second) old new before after ended result
+CompletesOrStopsOfSome command have old new before after ended result =
+    (first second : List ℕ) × CompletesOrStops (verdict_of_command command have (λ _. Some first) (λ _. Some second)) old new before after ended result
 
 -- THE CAUSES
 
@@ -79,7 +76,6 @@ IsAnswerOf LacksFile answer = ComesUnlessStopped status.Fault answer
 IsAnswerOf (Refuses refusal) answer = ComesUnlessStopped (status_of refusal) answer
 IsAnswerOf _ answer = ComesUnlessStopped status.Done answer
 
--- a refusal
 abbrev pub refuses : Status → Bool
 refuses status.Done = false
 refuses status.Fault = false

@@ -1,14 +1,17 @@
 //! The command `gen`: a generated capture, and its run.
-ghost use Rattle.std.specs.Prelude.{◌≡◌, [], ◌≤◌, IfOk, IsOkAnd, Ok, OnOk, OnErr, drop, map, true, vec_len};
+ghost use Rattle.std.specs.Prelude.{◌≡◌, [], ◌≤◌, IfOk, IsOkAnd, None, Ok, Some, OnOk, OnErr, drop, map, true, vec_len};
 ghost use Rattle.lq_model.specs.Capture.{capture_of};
+ghost use Rattle.lq_model.specs.Generated.{generated_capture};
 ghost use Rattle.lq_model.specs.Plan.{unit_count};
-ghost use Rattle.lq_files.specs.Command.{gen_words};
-ghost use Rattle.lq_files.specs.Accepted.{IsRunnable};
-ghost use Rattle.lq_top.specs.Decision.{units_changed_by, verdict_of_gen, verdict_of_generated};
+ghost use Rattle.lq_pcapng.specs.File.{as_classic};
+ghost use Rattle.lq_files.specs.Command.{OfGen, gen_words};
+ghost use Rattle.lq_files.specs.Accepted.{IsRunnable, with_refusal};
+ghost use Rattle.lq_top.specs.Decision.{Generates, if_accepted, units_changed_by, verdict_of_command};
 ghost use Rattle.lq_senders.specs.Fates.{identities_of};
 ghost use Rattle.lq_table.specs.Ended.{ended_state};
 ghost use Rattle.lq_top.specs.Headline.{AreCountsCut, HasCounted};
 ghost use Rattle.lq_files.specs.Reports.{run_of_inputs};
+ghost use Rattle.lq_files.specs.RunFiles.{run_of};
 ghost use Rattle.lq_top.specs.Outcome.{CompletesOrStops, IsCommandStatus, LeavesNone, refuses};
 ghost use Rattle.lq_files.specs.Stop.{StopsFor};
 
@@ -95,7 +98,9 @@ fn generate<R: Threads + Wait + Sync, H: Host, G: Gate, D: TxDevice>(
     requires few { job.now.words.count ≤ 1000000 }
     requires runnable { IsRunnable (vec_len bench.old) job.now.plan.now }
     requires none_yet { ended.old.items ≡ [] }
-    ensures does { CompletesOrStops (verdict_of_generated (gen_words job.now.words) job.now.plan.now) (H.state host.old) (H.state host.new)
+    ensures does { let text = generated_capture job.now.words.number job.now.words.count in
+        CompletesOrStops (if_accepted (Some (with_refusal (as_classic (capture_of text))))
+        (λ capture. Generates text (run_of job.now.words.out.now job.now.plan.now capture))) (H.state host.old) (H.state host.new)
         (map D.state bench.old.items) (map D.state bench.new.items) (map ended_state ended.new.items) result }
     ensures answer { IfOk result (λ answer. answer ≡ Status.Done) }
     ensures others { drop (unit_count job.now.plan.now) bench.new.items ≡ drop (unit_count job.now.plan.now) bench.old.items }
@@ -128,10 +133,10 @@ pub fn gen_command<R: Threads + Wait + Sync, H: Host, G: Gate, D: TxDevice>(
     requires may { H.may_create words.now.out.now }
     requires few { words.now.count ≤ 1000000 }
     requires none_yet { ended.old.items ≡ [] }
-    ensures does { CompletesOrStops (verdict_of_gen (gen_words words.now) (vec_len bench.old)) (H.state host.old) (H.state host.new)
+    ensures does { CompletesOrStops (verdict_of_command (Some (OfGen (gen_words words.now))) (vec_len bench.old) (λ _. None) (λ _. None)) (H.state host.old) (H.state host.new)
         (map D.state bench.old.items) (map D.state bench.new.items) (map ended_state ended.new.items) result }
     ensures answer { IfOk result IsCommandStatus }
-    ensures others { let units = units_changed_by (verdict_of_gen (gen_words words.now) (vec_len bench.old)) in
+    ensures others { let units = units_changed_by (verdict_of_command (Some (OfGen (gen_words words.now))) (vec_len bench.old) (λ _. None) (λ _. None)) in
         drop units bench.new.items ≡ drop units bench.old.items }
     ensures beyond { drop 1 bench.new.items ≡ drop 1 bench.old.items }
     ensures refused { IfOk result (λ answer.

@@ -3,8 +3,8 @@ ghost use Rattle.std.specs.Prelude.{◌≡◌, [], ℕ, List, IfOk, IfSome, OnEr
 ghost use Rattle.lq_model.specs.Device.{DeviceState};
 ghost use Rattle.lq_tap_fates.specs.Fates.{IsTapWithin};
 ghost use Rattle.lq_files.specs.Command.{OfTap, tap_words};
-ghost use Rattle.lq_top.specs.Decision.{verdict_of_tap};
-ghost use Rattle.lq_top.specs.Names.{MayTap};
+ghost use Rattle.lq_top.specs.Decision.{verdict_of_command};
+ghost use Rattle.lq_top.specs.Names.{MayDo};
 ghost use Rattle.lq_top.specs.Outcome.{CompletesOrStops, CompletesOrStopsOfSome, IsCommandStatus};
 ghost use Rattle.lq_files.specs.Stop.{StopsFor};
 ghost use Rattle.lq_top.specs.Tapped.{HasCutTap, HasTapped};
@@ -26,7 +26,7 @@ fn tap_capture<R: Threads + Wait + Sync, H: Host, G: Gate>(
     words: &TapOperands<'_>,
     capture: &CaptureFile,
 ) -> Result<Status, Stop>
-    requires may { MayTap H.may_open H.may_create (tap_words words.now) }
+    requires may { MayDo H.may_open H.may_create (Some (OfTap (tap_words words.now))) }
     requires within { IsTapWithin words.now.senders words.now.len words.now.batch }
     ensures answer { IfOk result (λ answer. answer ≡ Status.Done) }
     ensures ok { OnOk result (HasTapped (tap_words words.now) capture.now (H.state host.old) (H.state host.new)) }
@@ -52,10 +52,10 @@ pub fn tap_command<R: Threads + Wait + Sync, H: Host, G: Gate>(
     host: &mut H,
     words: &TapOperands<'_>,
 ) -> Result<Status, Stop>
-    requires may { MayTap H.may_open H.may_create (tap_words words.now) }
+    requires may { MayDo H.may_open H.may_create (Some (OfTap (tap_words words.now))) }
     requires within { IsTapWithin words.now.senders words.now.len words.now.batch }
-    ensures does { (before after : List DeviceState) → IfSome (H.state host.old).told (λ c.
-        CompletesOrStops (verdict_of_tap (tap_words words.now) c.files) (H.state host.old) (H.state host.new) before after [] result) }
+    ensures does { (have : ℕ) (before after : List DeviceState) → IfSome (H.state host.old).told (λ c.
+        CompletesOrStops (verdict_of_command (Some (OfTap (tap_words words.now))) have c.files c.files) (H.state host.old) (H.state host.new) before after [] result) }
     ensures some { (have : ℕ) (before after : List DeviceState)
         → CompletesOrStopsOfSome (Some (OfTap (tap_words words.now))) have (H.state host.old) (H.state host.new) before after [] result }
     ensures answer { IfOk result IsCommandStatus }

@@ -4,12 +4,12 @@ ghost use Rattle.lq_host.specs.Host.{Rose};
 ghost use Rattle.lq_model.specs.Plan.{unit_count};
 ghost use Rattle.lq_files.specs.Command.{AreOperandsWithin, OfRun, command_of_words, command_words, run_words, bytes_of_words};
 ghost use Rattle.lq_files.specs.Accepted.{IsRunnable, max_units};
-ghost use Rattle.lq_top.specs.Decision.{Refuses, Runs, most_units_changed_by, units_changed_by, verdict_of, verdict_of_command, verdict_of_run};
+ghost use Rattle.lq_top.specs.Decision.{Refuses, Runs, most_units_changed_by, units_changed_by, verdict_of, verdict_of_command};
 ghost use Rattle.lq_senders.specs.Fates.{identities_of};
 ghost use Rattle.lq_table.specs.Ended.{ended_state};
 ghost use Rattle.lq_top.specs.Headline.{HasRun};
 ghost use Rattle.lq_files.specs.Reports.{run_of_inputs};
-ghost use Rattle.lq_top.specs.Names.{MayDo, MayDoCommand, MayRun};
+ghost use Rattle.lq_top.specs.Names.{MayDo};
 ghost use Rattle.lq_files.specs.RunFiles.{MayWrite};
 ghost use Rattle.lq_top.specs.Outcome.{Completes, CompletesOrStops, CompletesOrStopsOfSome, OutcomeOfSome, IsAnswerOf, IsCommandStatus, LeavesNone, Outcome, Stops, TellsUsageFor, refuses};
 ghost use Rattle.lq_files.specs.Stop.{StopsFor};
@@ -79,16 +79,16 @@ fn run_command<R: Threads + Wait + Sync, H: Host, G: Gate, D: TxDevice>(
     ended: &mut Vec<Ended<D>>,
     words: &RunOperands<'_>,
 ) -> Result<Status, Stop>
-    requires may { MayRun H.may_open H.may_create (run_words words.now) }
+    requires may { MayDo H.may_open H.may_create (Some (OfRun (run_words words.now))) }
     requires none_yet { ended.old.items ≡ [] }
     ensures does { IfSome (H.state host.old).told (λ c.
-        CompletesOrStops (verdict_of_run (run_words words.now) c.files (vec_len bench.old)) (H.state host.old) (H.state host.new)
+        CompletesOrStops (verdict_of_command (Some (OfRun (run_words words.now))) (vec_len bench.old) c.files c.files) (H.state host.old) (H.state host.new)
         (map D.state bench.old.items) (map D.state bench.new.items) (map ended_state ended.new.items) result) }
     ensures some { CompletesOrStopsOfSome (Some (OfRun (run_words words.now))) (vec_len bench.old) (H.state host.old) (H.state host.new)
         (map D.state bench.old.items) (map D.state bench.new.items) (map ended_state ended.new.items) result }
     ensures answer { IfOk result IsCommandStatus }
     ensures others { IfSome (H.state host.old).told (λ c.
-        let units = units_changed_by (verdict_of_run (run_words words.now) c.files (vec_len bench.old)) in
+        let units = units_changed_by (verdict_of_command (Some (OfRun (run_words words.now))) (vec_len bench.old) c.files c.files) in
         drop units bench.new.items ≡ drop units bench.old.items) }
     ensures beyond { drop max_units bench.new.items ≡ drop max_units bench.old.items }
     ensures refused { IfOk result (λ answer.
@@ -124,17 +124,17 @@ fn do_command<R: Threads + Wait + Sync, H: Host, G: Gate, D: TxDevice>(
     ended: &mut Vec<Ended<D>>,
     command: &Command<'_>,
 ) -> Result<Status, Stop>
-    requires may { MayDoCommand H.may_open H.may_create (command_words command.now) }
+    requires may { MayDo H.may_open H.may_create (Some (command_words command.now)) }
     requires within { AreOperandsWithin (Some (command_words command.now)) }
     requires none_yet { ended.old.items ≡ [] }
     ensures does { IfSome (H.state host.old).told (λ c.
-        CompletesOrStops (verdict_of_command (command_words command.now) c.files (vec_len bench.old)) (H.state host.old) (H.state host.new)
+        CompletesOrStops (verdict_of_command (Some (command_words command.now)) (vec_len bench.old) c.files c.files) (H.state host.old) (H.state host.new)
         (map D.state bench.old.items) (map D.state bench.new.items) (map ended_state ended.new.items) result) }
     ensures some { CompletesOrStopsOfSome (Some (command_words command.now)) (vec_len bench.old) (H.state host.old) (H.state host.new)
         (map D.state bench.old.items) (map D.state bench.new.items) (map ended_state ended.new.items) result }
     ensures answer { IfOk result IsCommandStatus }
     ensures others { IfSome (H.state host.old).told (λ c.
-        let units = units_changed_by (verdict_of_command (command_words command.now) c.files (vec_len bench.old)) in
+        let units = units_changed_by (verdict_of_command (Some (command_words command.now)) (vec_len bench.old) c.files c.files) in
         drop units bench.new.items ≡ drop units bench.old.items) }
     ensures beyond { let units = most_units_changed_by (Some (command_words command.now)) in
         drop units bench.new.items ≡ drop units bench.old.items }

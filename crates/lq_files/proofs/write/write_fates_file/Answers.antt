@@ -1,4 +1,3 @@
-use Rattle.std.proofs.Common.{inr}
 use Rattle.lq_host.specs.Host.{Writes}
 use Rattle.lq_host.proofs.HostLemmas.{opened-writer, opened-is_some}
 use Rattle.lq_files.specs.Lines.{lines_of}
@@ -30,7 +29,7 @@ file g c =
 pub returns-in_err-and_finished-clause-err : goal.returns-in_err-and_finished-clause-err
 returns-in_err-and_finished-clause-err g c =
     on_err_any c.from_residual-in_err-and_finished.result
-    (inr (file g (goal.at.returns-in_err-and_finished-clause-err g c).After-finish-end).front)
+    (file g (goal.at.returns-in_err-and_finished-clause-err g c).After-finish-end).front
 
 pub returns-in_err-and_finished-clause-handles : goal.returns-in_err-and_finished-clause-handles
 returns-in_err-and_finished-clause-handles g c =

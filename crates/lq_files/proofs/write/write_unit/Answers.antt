@@ -1,7 +1,6 @@
 use Rattle.std.proofs.Common.{◌<◌, ◌∙◌, ℕ, List, All, ap, subst, sym}
 use Rattle.std.proofs.lemmas.Result.{on_err_weaker}
 use Rattle.lq_pcapng.specs.File.{packets_of_file, text_of}
-use Rattle.lq_files.specs.RunFiles.{unit_file}
 use Rattle.lq_files.proofs.FileLemmas.{is_cut}
 use Rattle.lq_files.proofs.TextLemmas.{sent_below}
 use Rattle.lq_files.proofs.write.write_unit.Goals as goal
@@ -14,6 +13,6 @@ write_packets_file-requires-clause-known g c κs within =
 pub returns-clause-err : goal.returns-clause-err
 returns-clause-err g c =
     on_err_weaker c.write_packets_file.result
-    (is_cut c.as_str.result.now (text_of c.args.report.now.run.capture.now c.deref.result.now) (unit_file c.args.report.now.run.out.now c.args.report.now.run.capture.now c.args.report.now.fates.now c.args.unit) (g.H.Host.state c.args.host.now) (g.H.Host.state c.write_packets_file.new.host)
+    (is_cut c.as_str.result.now (text_of c.args.report.now.run.capture.now c.deref.result.now) _ _ (g.H.Host.state c.args.host.now) (g.H.Host.state c.write_packets_file.new.host)
     (c.as_str.ensures.value ∙ c.in_ok-name.ensures) (ap (text_of c.args.report.now.run.capture.now) (c.deref.ensures.value ∙ c.in_ok-sent.ensures)))
     c.write_packets_file.ensures.err

@@ -1,8 +1,7 @@
 use Rattle.std.proofs.Common.{◌≡◌, ◌++◌, List, Vec, Global, ℕ, map, slice_get, suc, ◌+◌, sym, ap, ◌∙◌, arith}
 use Rattle.std.specs.List.{filter_map, flat_map}
 use Rattle.lq_model.specs.Numbers.{first_numbers}
-use Rattle.lq_mq.specs.Joint.{at_serial}
-use Rattle.lq_mq.proofs.Serials.{filter-mapped, first-more}
+use Rattle.lq_mq.proofs.Serials.{at_serial, filter-mapped, first-more}
 use Rattle.lq_mq.proofs.merge.joint.Goals as goal
 
 pub loop-serial-preserved : goal.loop-serial-preserved

@@ -1,7 +1,7 @@
 use Rattle.std.proofs.Common.{◌≡◌, map}
 use Rattle.std.specs.List.{flat_map}
 use Rattle.lq_model.specs.Numbers.{first_numbers}
-use Rattle.lq_mq.specs.Joint.{at_serial}
+use Rattle.lq_mq.proofs.Serials.{at_serial}
 use Rattle.lq_mq.proofs.merge.joint.Given as goal
 
 abbrev pub invariant-loop-serial : goal.invariant-loop-serial

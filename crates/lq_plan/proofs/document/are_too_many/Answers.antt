@@ -1,9 +1,9 @@
-use Rattle.std.proofs.Common.{sym, arith}
+use Rattle.std.proofs.Common.{sym, arith, map}
 use Rattle.std.specs.Prelude.{sum}
 use Rattle.std.proofs.lemmas.Bool.{le-ltb, lt-ltb}
 use Rattle.std.proofs.lemmas.List.{length-map}
 use Rattle.toml.specs.View.{table_view}
-use Rattle.lq_plan.specs.Document.{groups_in}
+use Rattle.lq_plan.specs.Keys.{mq_in}
 use Rattle.lq_plan.specs.Tables.{tables_view}
 use Rattle.lq_plan.proofs.Groups.{sum-more, sum-whole, sum-within}
 use Rattle.lq_plan.proofs.Tables.{Table, table_at}
@@ -17,7 +17,7 @@ returns-then-mq-room c =
     let ms = tables_view c.args.stations.now in
     let within = sum-within ms c.loop-station.station-index (table_view c.station-item.result.now)
     (table_at c.args.stations.now c.loop-station.station-index c.station-item.result c.loop-station-test.true c.station-item.is) in
-    sym (lt-ltb 8 (sum (groups_in ms)) (omega (arith, within, c.loop-station.invariant, c.if-mq-room.true, c.mq_of-mq.ensures)))
+    sym (lt-ltb 8 (sum (map mq_in ms)) (omega (arith, within, c.loop-station.invariant, c.if-mq-room.true, c.mq_of-mq.ensures)))
 
 pub loop-station-preserved : goal.loop-station-preserved
 loop-station-preserved c =
@@ -30,4 +30,4 @@ pub returns : goal.returns
 returns c =
     let ms = tables_view c.args.stations.now in let long = length-map c.args.stations.now (λ (t : Table). table_view t.now) in
     let whole = sum-whole ms c.loop-station.station-index (omega (arith, long, c.loop-station-test.false)) in
-    sym (le-ltb 8 (sum (groups_in ms)) (omega (arith, whole, c.loop-station.invariant)))
+    sym (le-ltb 8 (sum (map mq_in ms)) (omega (arith, whole, c.loop-station.invariant)))

@@ -3,7 +3,7 @@ use Rattle.std.specs.Prelude.{sum}
 use Rattle.std.specs.List.{flat_map}
 use Rattle.std.proofs.lemmas.List.{length-map}
 use Rattle.toml.specs.View.{table_view}
-use Rattle.lq_plan.specs.Document.{document_view, groups_in}
+use Rattle.lq_plan.specs.Document.{document_view}
 use Rattle.lq_plan.specs.Keys.{mq_in, version_of}
 use Rattle.lq_plan.specs.Limits.{is_out_of_order}
 use Rattle.lq_plan.specs.Reading.{IsEventSmall, children_in, event_in}
@@ -28,7 +28,7 @@ pub read_events-requires-clause-few : goal.read_events-requires-clause-few
 read_events-requires-clause-few c =
     let d = document_view c.in_ok-document.document in
     let all = facts (table_view c.args.root.now) d c.in_ok-document.ensures c.in_default.ensures in
-    let same : c.deref-3.result.now ≡ groups_in d.stations = c.deref-3.ensures.value ∙ (c.in_ok-groups.ensures ∙ ap (λ tables. groups_in (tables_view tables)) c.deref-2.ensures.value) in
+    let same : c.deref-3.result.now ≡ map mq_in d.stations = c.deref-3.ensures.value ∙ (c.in_ok-groups.ensures ∙ ap (λ tables. map mq_in (tables_view tables)) c.deref-2.ensures.value) in
     let long = length-map d.stations mq_in in
     subst (λ gs. (length gs ≤ 8) × (sum gs ≤ 8)) (sym same) (omega (arith, long, all.few_stations), all.few_children)
 
@@ -37,7 +37,7 @@ read_events-requires-clause-each c = λ e t at.
     let d = document_view c.in_ok-document.document in
     let all = facts (table_view c.args.root.now) d c.in_ok-document.ensures c.in_default.ensures in
     let there = ap (λ tables. slice_get (tables_view tables) e) (sym c.deref-4.ensures.value) ∙ at in
-    let same : c.deref-3.result.now ≡ groups_in d.stations = c.deref-3.ensures.value ∙ (c.in_ok-groups.ensures ∙ ap (λ tables. groups_in (tables_view tables)) c.deref-2.ensures.value) in
+    let same : c.deref-3.result.now ≡ map mq_in d.stations = c.deref-3.ensures.value ∙ (c.in_ok-groups.ensures ∙ ap (λ tables. map mq_in (tables_view tables)) c.deref-2.ensures.value) in
     subst (λ gs. IsEventSmall (length gs) t) (sym same)
     (event_small d.stations t (stations-within (version_of (table_view c.args.root.now)) (table_view c.args.root.now) d all) all.has_station (all.events e t there))
 
@@ -58,8 +58,8 @@ invariant_of-result c =
     let stations : c.in_ok-stations.stations.items ≡ flat_map children_in d.stations =
     c.in_ok-stations.ensures ∙ ap (λ tables. flat_map children_in (tables_view tables)) c.deref.ensures.value
     in
-    let groups : c.in_ok-groups.groups.items ≡ groups_in d.stations = c.in_ok-groups.ensures ∙ ap (λ tables. groups_in (tables_view tables)) c.deref-2.ensures.value in
-    let events : c.in_ok-events.events.items ≡ map (event_in (groups_in d.stations)) d.events =
+    let groups : c.in_ok-groups.groups.items ≡ map mq_in d.stations = c.in_ok-groups.ensures ∙ ap (λ tables. map mq_in (tables_view tables)) c.deref-2.ensures.value in
+    let events : c.in_ok-events.events.items ≡ map (event_in (map mq_in d.stations)) d.events =
     c.in_ok-events.ensures ∙ (ap (λ tables. map (event_in c.deref-3.result.now) (tables_view tables)) c.deref-4.ensures.value
     ∙ ap (λ gs. map (event_in gs) d.events) (c.deref-3.ensures.value ∙ groups))
     in

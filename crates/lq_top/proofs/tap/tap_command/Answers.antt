@@ -2,9 +2,8 @@ use Rattle.std.proofs.Common.{[], Some, Result, subst, sym}
 use Rattle.std.proofs.lemmas.Result.{err_from_is_err_and}
 use Rattle.lq_host.specs.Host.{HostState}
 use Rattle.lq_pcapng.specs.declared.file.CaptureFile.{CaptureFile}
-use Rattle.lq_files.specs.Command.{tap_words}
-use Rattle.lq_top.specs.Decision.{Taps, by_tap}
-use Rattle.lq_files.specs.Accepted.{limited_capture_of}
+use Rattle.lq_files.specs.Command.{OfTap, tap_words}
+use Rattle.lq_top.specs.Decision.{Taps, if_accepted, verdict_of_command}
 use Rattle.lq_top.specs.Outcome.{CompletesOrStops}
 use Rattle.lq_files.specs.declared.refusal.Refusal.{Refusal}
 use Rattle.lq_top.proofs.GenerateLemmas.{stops_any}
@@ -16,13 +15,13 @@ pub returns-in_err-capture-clause-some : goal.returns-in_err-capture-clause-some
 returns-in_err-capture-clause-some g c = λ have before after. (
     let old : HostState = g.H.Host.state c.args.host.now in
     let new : HostState = g.H.Host.state c.read_capture_file.new.host in
-    let verdict = by_tap (tap_words c.args.words.now) (Some (limited_capture_of [])) in
+    let verdict = verdict_of_command (Some (OfTap (tap_words c.args.words.now))) have (λ _. Some []) (λ _. Some []) in
     let exit = err_from_is_err_and c.from_residual.result c.from_residual.ensures.1 in
     ([], [], stops_any verdict old new before after [] c.from_residual.result exit.0 exit.1 (stops_before verdict old new before after c.read_capture_file.ensures.same))
     )
 
 pub returns-in-Ok-clause-does : goal.returns-in-Ok-clause-does
-returns-in-Ok-clause-does g c = λ before after. (
+returns-in-Ok-clause-does g c = λ have before after. (
     let old : HostState = g.H.Host.state c.args.host.now in
     let new : HostState = g.H.Host.state c.tap_capture.new.host in
     let words = tap_words c.args.words.now in
@@ -30,8 +29,8 @@ returns-in-Ok-clause-does g c = λ before after. (
     let r = c.tap_capture.result in
     let done : CompletesOrStops (Taps words capture) old new before after [] r = subst (λ (s : HostState). CompletesOrStops (Taps words capture) s new before after [] r) c.read_capture_file.ensures.same
     (tap_does words capture (g.H.Host.state c.read_capture_file.new.host) new before after r c.tap_capture.ensures.answer c.tap_capture.ensures.ok c.tap_capture.ensures.err) in
-    does_tap old.told words c.in_ok-capture.field-0 (λ v. CompletesOrStops v old new before after [] r) c.in_ok-capture.ensures.capture
-    (subst (λ (q : Result CaptureFile Refusal). CompletesOrStops (by_tap words (Some q)) old new before after [] r) (sym c.in-Ok.is) done)
+    does_tap old.told words have c.in_ok-capture.field-0 (λ v. CompletesOrStops v old new before after [] r) c.in_ok-capture.ensures.capture
+    (subst (λ (q : Result CaptureFile Refusal). CompletesOrStops (if_accepted (Some q) (Taps words)) old new before after [] r) (sym c.in-Ok.is) done)
     )
 
 pub returns-in-Ok-clause-some : goal.returns-in-Ok-clause-some
@@ -47,6 +46,6 @@ returns-in-Ok-clause-some g c = λ have before after. (
       seen.0,
       [],
       does_tap_on words have c.in_ok-capture.field-0 seen.0 (λ v. CompletesOrStops v old new before after [] r) seen.1
-          (subst (λ (q : Result CaptureFile Refusal). CompletesOrStops (by_tap words (Some q)) old new before after [] r) (sym c.in-Ok.is) done),
+          (subst (λ (q : Result CaptureFile Refusal). CompletesOrStops (if_accepted (Some q) (Taps words)) old new before after [] r) (sym c.in-Ok.is) done),
     )
     )

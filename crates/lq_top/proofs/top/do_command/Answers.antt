@@ -1,7 +1,7 @@
 use Rattle.std.proofs.Common.{◌≡◌, [], List, ap, Some, IfSome, map, subst, sym, vec_len}
 use Rattle.lq_table.specs.Ended.{EndedState, ended_state}
 use Rattle.lq_files.specs.Command.{OfTap, OfTrace, command_words, tap_words}
-use Rattle.lq_top.specs.Decision.{verdict_of_command, verdict_of_tap, verdict_of_trace}
+use Rattle.lq_top.specs.Decision.{verdict_of_command}
 use Rattle.lq_top.specs.Outcome.{CompletesOrStops, CompletesOrStopsOfSome}
 use Rattle.lq_files.specs.declared.command.Command.{Command}
 use Rattle.lq_top.proofs.top.do_command.Goals as goal
@@ -22,9 +22,9 @@ returns-in-Trace-clause-does g c =
     let new = g.H.Host.state c.trace_command.new.host in
     let devices = map g.D.TxDevice.state c.args.bench.now.items in
     let none : [] ≡ map ended_state c.args.ended.now.items = ap (map ended_state) (sym c.requires.none_yet) in
-    subst (λ (command : Command). IfSome old.told (λ k. CompletesOrStops (verdict_of_command (command_words command) k.files (vec_len c.args.bench.now)) old new devices devices (map ended_state c.args.ended.now.items) c.trace_command.result))
+    subst (λ (command : Command). IfSome old.told (λ k. CompletesOrStops (verdict_of_command (Some (command_words command)) (vec_len c.args.bench.now) k.files k.files) old new devices devices (map ended_state c.args.ended.now.items) c.trace_command.result))
     (sym c.in-Trace.is)
-    (subst (λ (ended : List EndedState). IfSome old.told (λ k. CompletesOrStops (verdict_of_trace c.in-Trace.file.now k.files) old new devices devices ended c.trace_command.result)) none (c.trace_command.ensures.does devices devices))
+    (subst (λ (ended : List EndedState). IfSome old.told (λ k. CompletesOrStops (verdict_of_command (Some (OfTrace c.in-Trace.file.now)) (vec_len c.args.bench.now) k.files k.files) old new devices devices ended c.trace_command.result)) none (c.trace_command.ensures.does (vec_len c.args.bench.now) devices devices))
 
 pub returns-in-Trace-clause-some : goal.returns-in-Trace-clause-some
 returns-in-Trace-clause-some g c =
@@ -41,9 +41,9 @@ returns-in-Tap-clause-does g c =
     let new = g.H.Host.state c.tap_command.new.host in
     let devices = map g.D.TxDevice.state c.args.bench.now.items in
     let none : [] ≡ map ended_state c.args.ended.now.items = ap (map ended_state) (sym c.requires.none_yet) in
-    subst (λ (command : Command). IfSome old.told (λ k. CompletesOrStops (verdict_of_command (command_words command) k.files (vec_len c.args.bench.now)) old new devices devices (map ended_state c.args.ended.now.items) c.tap_command.result))
+    subst (λ (command : Command). IfSome old.told (λ k. CompletesOrStops (verdict_of_command (Some (command_words command)) (vec_len c.args.bench.now) k.files k.files) old new devices devices (map ended_state c.args.ended.now.items) c.tap_command.result))
     (sym c.in-Tap.is)
-    (subst (λ (ended : List EndedState). IfSome old.told (λ k. CompletesOrStops (verdict_of_tap (tap_words c.in-Tap.words) k.files) old new devices devices ended c.tap_command.result)) none (c.tap_command.ensures.does devices devices))
+    (subst (λ (ended : List EndedState). IfSome old.told (λ k. CompletesOrStops (verdict_of_command (Some (OfTap (tap_words c.in-Tap.words))) (vec_len c.args.bench.now) k.files k.files) old new devices devices ended c.tap_command.result)) none (c.tap_command.ensures.does (vec_len c.args.bench.now) devices devices))
 
 pub returns-in-Tap-clause-some : goal.returns-in-Tap-clause-some
 returns-in-Tap-clause-some g c =

@@ -3,7 +3,7 @@ use Rattle.std.specs.Option.{option_map}
 use Rattle.lq_host.specs.Host.{HostState}
 use Rattle.lq_table.specs.Ended.{ended_state}
 use Rattle.lq_files.specs.Command.{OfRun, run_words}
-use Rattle.lq_top.specs.Decision.{Refuses, Runs, by_bytes, units_changed_by, verdict_of_run}
+use Rattle.lq_top.specs.Decision.{Refuses, Runs, units_changed_by, verdict_of_command}
 use Rattle.lq_files.specs.Accepted.{limited_capture_of, plan_for}
 use Rattle.lq_files.specs.RunFiles.{run_of}
 use Rattle.lq_top.specs.Outcome.{CompletesOrStops}
@@ -98,7 +98,7 @@ returns-in_err-plan-clause-does g c =
     let devices = map g.D.TxDevice.state c.args.bench.now.items in
     let ended = map ended_state c.args.ended.now.items in
     any_told old.told (λ k.
-    stopped_before _ (verdict_of_run (run_words c.args.words.now) k.files (vec_len c.args.bench.now)) old new devices devices ended c.from_residual.result c.from_residual.ensures.1
+    stopped_before _ (verdict_of_command (Some (OfRun (run_words c.args.words.now))) (vec_len c.args.bench.now) k.files k.files) old new devices devices ended c.from_residual.result c.from_residual.ensures.1
     c.read_plan_file.ensures.same)
 
 pub returns-in_err-plan-clause-some : goal.returns-in_err-plan-clause-some
@@ -109,7 +109,7 @@ returns-in_err-plan-clause-some g c =
     let ended = map ended_state c.args.ended.now.items in (
       [],
       [],
-      stopped_before _ (by_bytes (Some (OfRun (run_words c.args.words.now))) (vec_len c.args.bench.now) [] []) old new devices devices ended c.from_residual.result c.from_residual.ensures.1
+      stopped_before _ (verdict_of_command (Some (OfRun (run_words c.args.words.now))) (vec_len c.args.bench.now) (λ _. Some []) (λ _. Some [])) old new devices devices ended c.from_residual.result c.from_residual.ensures.1
           c.read_plan_file.ensures.same,
     )
 
@@ -168,7 +168,7 @@ returns-in_err-capture-clause-does g c =
     let devices = map g.D.TxDevice.state c.args.bench.now.items in
     let ended = map ended_state c.args.ended.now.items in
     any_told old.told (λ k.
-    stopped_before _ (verdict_of_run (run_words c.args.words.now) k.files (vec_len c.args.bench.now)) old new devices devices ended c.from_residual-in_err-capture.result c.from_residual-in_err-capture.ensures.1
+    stopped_before _ (verdict_of_command (Some (OfRun (run_words c.args.words.now))) (vec_len c.args.bench.now) k.files k.files) old new devices devices ended c.from_residual-in_err-capture.result c.from_residual-in_err-capture.ensures.1
     (c.read_capture_file.ensures.same ∙ c.in_ok-plan.ensures.same))
 
 pub returns-in_err-capture-clause-some : goal.returns-in_err-capture-clause-some
@@ -179,7 +179,7 @@ returns-in_err-capture-clause-some g c =
     let ended = map ended_state c.args.ended.now.items in (
       [],
       [],
-      stopped_before _ (by_bytes (Some (OfRun (run_words c.args.words.now))) (vec_len c.args.bench.now) [] []) old new devices devices ended c.from_residual-in_err-capture.result c.from_residual-in_err-capture.ensures.1
+      stopped_before _ (verdict_of_command (Some (OfRun (run_words c.args.words.now))) (vec_len c.args.bench.now) (λ _. Some []) (λ _. Some [])) old new devices devices ended c.from_residual-in_err-capture.result c.from_residual-in_err-capture.ensures.1
           (c.read_capture_file.ensures.same ∙ c.in_ok-plan.ensures.same),
     )
 
@@ -226,10 +226,10 @@ pub returns-in-Ok-2-clause-answer : goal.returns-in-Ok-2-clause-answer
 returns-in-Ok-2-clause-answer g c = done_answers c.run_capture.result c.run_capture.ensures.answer
 
 pub read_plan_file-requires : goal.read_plan_file-requires
-read_plan_file-requires g c = c.requires.may.plan
+read_plan_file-requires g c = c.requires.may.0
 
 pub read_capture_file-requires : goal.read_capture_file-requires
-read_capture_file-requires g c = c.requires.may.capture
+read_capture_file-requires g c = c.requires.may.1
 
 pub returns-in-Err-clause-does : goal.returns-in-Err-clause-does
 returns-in-Err-clause-does g c =
