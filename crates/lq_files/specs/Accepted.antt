@@ -9,8 +9,6 @@ use Rattle.lq_model.specs.declared.plan.PlanReason.TheVariants as plan
 use Rattle.lq_plan.specs.Reading.{plan_of}
 use Rattle.lq_run_core.specs.TraceText.{schedule_text}
 use Rattle.lq_run_core.specs.declared.trace_run.TraceReason.TheVariants as reason
-use Rattle.lq_run_core.specs.declared.trace_run.TraceRefusal.{TraceRefusal}
-use Rattle.lq_run_core.specs.declared.trace_run.TraceRefusal.TheVariants.{Refused, NoMemory}
 use Rattle.lq_pcapng.specs.File.{capture_file_of}
 use Rattle.lq_pcapng.specs.declared.file.CaptureFile.{CaptureFile}
 use Rattle.lq_files.specs.declared.refusal.Refusal.{Refusal}
@@ -51,12 +49,7 @@ limited_capture_of bytes =
 
 -- SCHEDULES
 
--- the text that a schedule's trace gives, or the refusal; want of memory is no answer of a definition
-abbrev pub traced : Result (List ℕ) TraceRefusal → Result (List ℕ) Refusal
-traced (Ok text) = Ok text
-traced (Err (Refused r line)) = Err (refusal.Trace r line)
-traced (Err NoMemory) = Err refusal.Usage
-
 -- the text for the schedule that bytes are, or the refusal; more than 65,536 bytes are none, whatever they are
 abbrev pub limited_trace_of : List ℕ → Result (List ℕ) Refusal
-limited_trace_of bytes = if nat_lt 65536 (length bytes) then Err (refusal.Trace reason.TooLong 0) else traced (schedule_text bytes)
+limited_trace_of bytes =
+    if nat_lt 65536 (length bytes) then Err (refusal.Trace reason.TooLong 0) else result_map_both (λ text. text) (λ r. refusal.Trace r.reason r.line) (schedule_text bytes)

@@ -14,7 +14,7 @@ use Rattle.lq_run_core.specs.declared.trace_run.Progress.{Progress}
 use Rattle.lq_run_core.specs.declared.trace_run.TraceReason.TheVariants.{Syntax}
 use Rattle.lq_run_core.specs.declared.trace_run.TraceRefusal.{TraceRefusal}
 use Rattle.lq_run_core.specs.declared.trace_run.TraceRefusal.TheVariants.{Refused, NoMemory}
-use Rattle.lq_run_core.specs.Trace.{steps_of, command_done, told_line_done, line_done, lines_done, schedule_done, Tells, ◌>>=◌}
+use Rattle.lq_run_core.specs.Trace.{FailedLine, steps_of, command_done, told_line_done, line_done, lines_done, schedule_done, Tells, ◌>>=◌}
 use Rattle.lq_run_core.proofs.Pieces.{split_cons}
 
 -- LINES
@@ -49,7 +49,7 @@ steps_more k count seat a m h e =
 -- LINES IN ORDER
 
 -- one line more
-pub lines_more : (p q : Option Progress) (n : ℕ) (text line behind : List ℕ) (whole : Result (Option Progress) TraceRefusal) → lines text ≡ line ∷ lines behind → line_done p n line ≡ Ok q → lines_done p n (lines text) ≡ whole → lines_done q (n + 1) (lines behind) ≡ whole
+pub lines_more : (p q : Option Progress) (n : ℕ) (text line behind : List ℕ) (whole : Result (Option Progress) FailedLine) → lines text ≡ line ∷ lines behind → line_done p n line ≡ Ok q → lines_done p n (lines text) ≡ whole → lines_done q (n + 1) (lines behind) ≡ whole
 lines_more p q n text line behind whole cut done same =
     let after : lines_done p n (lines text) ≡ lines_done q (n + 1) (lines behind) = rw (cut, done) refl in
     sym after ∙ same
@@ -61,7 +61,7 @@ lines_failed p n (Refused reason number) text line behind whole cut same failed 
 lines_failed p n NoMemory text line behind whole cut same failed = tt
 
 -- behind the last line
-pub lines_end : (p : Option Progress) (n : ℕ) (rest whole : List ℕ) → length rest ≡ 0 → lines_done p (n + 1) (lines rest) ≡ lines_done None 1 (lines whole) → n + length (lines rest) ≡ length (lines whole) → schedule_done whole ≡ ok_or p (Refused Syntax (n + 1))
+pub lines_end : (p : Option Progress) (n : ℕ) (rest whole : List ℕ) → length rest ≡ 0 → lines_done p (n + 1) (lines rest) ≡ lines_done None 1 (lines whole) → n + length (lines rest) ≡ length (lines whole) → schedule_done whole ≡ ok_or p (record { reason = Syntax; line = n + 1 })
 unfolding schedule_done
 lines_end p n [] whole e same count = rw (sym same, sym count, add-zero n) refl
 lines_end p n (b ∷ rest) whole e same count = absurd (omega arith)
@@ -79,7 +79,7 @@ capped_command p n c few = pick (cases_lt c.seat (length p.running.machine.seats
         let seat_outside : ltb c.seat (length p.running.machine.seats) ≡ false = le-ltb _ _ outside in
         rw (capped_outside, seat_outside) refl
 
-commanded : (p : Progress) (n : ℕ) (read : Option Command) (c : Command) → length p.running.machine.seats < 2 ^ 32 → option_map capped_seat read ≡ Some c → (ok_or read (Refused Syntax n) >>= command_done p n) ≡ command_done p n c
+commanded : (p : Progress) (n : ℕ) (read : Option Command) (c : Command) → length p.running.machine.seats < 2 ^ 32 → option_map capped_seat read ≡ Some c → (ok_or read (record { reason = Syntax; line = n }) >>= command_done p n) ≡ command_done p n c
 commanded p n None c few e = cc
 commanded p n (Some read) c few e = let same : capped_seat read ≡ c = cc in rw (sym same) (sym (capped_command p n read few))
 

@@ -8,10 +8,9 @@ use Rattle.lq_model.specs.declared.machine.Seat.{Seat}
 use Rattle.lq_model.specs.Machine.{Qdisc, seat_at, state_word, bit}
 use Rattle.lq_model.specs.Numbers.{first_numbers}
 use Rattle.lq_run_core.specs.declared.trace_run.Progress.{Progress}
-use Rattle.lq_run_core.specs.declared.trace_run.TraceRefusal.{TraceRefusal}
 use Rattle.lq_model.specs.Numbers.{greatest}
 use Rattle.lq_run_core.specs.Numbered.{packets_held}
-use Rattle.lq_run_core.specs.Trace.{schedule_done, ◌>>=◌}
+use Rattle.lq_run_core.specs.Trace.{FailedLine, schedule_done, ◌>>=◌}
 
 -- WHERE A SEAT STANDS
 
@@ -78,5 +77,5 @@ progress_text p =
     (codes "steps " ++ (decimal p.steps ++ 10 ∷ [])) ++ state_line m.qdisc ++ held_line m.qdisc
     ++ flat_map (λ i. seat_line i (seat_at m i)) (first_numbers (length m.seats))
 
-unfoldable pub schedule_text : List ℕ → Result (List ℕ) TraceRefusal
+unfoldable pub schedule_text : List ℕ → Result (List ℕ) FailedLine
 schedule_text text = schedule_done text >>= λ p. Ok (progress_text p)
