@@ -1,12 +1,12 @@
 -- The run of one sender over all stations of a plan without events: its fates are settled.
-use Rattle.std.proofs.Common.{◌≡◌, ◌≢◌, ℕ, zero, suc, ◌+◌, ◌%◌, ◌<◌, ◌≤◌, ◌==◌, List, [], ◌∷◌, ◌++◌, ◌⊎◌, inl, inr, length, map, filter, Option, Some, None, nat_le, slice_get, refl, sym, ap, ap₂, subst, ◌∙◌, arith}
+use Rattle.std.proofs.Common.{◌≡◌, ℕ, zero, suc, ◌+◌, ◌%◌, ◌<◌, ◌≤◌, ◌==◌, Bool, true, false, cond, List, [], ◌∷◌, ◌++◌, ◌⊎◌, inl, inr, length, map, filter, Option, Some, None, nat_le, slice_get, refl, sym, ap, ap₂, subst, ◌∙◌, eqb-true, arith}
 use Rattle.std.specs.Option.{option_and_then, option_map, option_map_or, unwrap_or}
-use Rattle.std.proofs.lemmas.Bool.{cond_both}
+use Rattle.std.proofs.lemmas.Bool.{cond_both, eqb-false}
 use Rattle.std.proofs.lemmas.List.{length-map, map-append}
 use Rattle.std.proofs.lemmas.Option.{same_Some, slice_get_cases, slice_get-map}
 use Rattle.lq_model.proofs.FirstNumbers.{first-at, length-first_numbers}
 use Rattle.lq_model.specs.Account.{Account, held}
-use Rattle.lq_model.specs.Alone.{RunningStation, after_packets, after_run, alone, before_of, brought_in, bypass_of, changed_at, events_before, events_after, fate_in, run_fates, finished, new_station, new_stations, opened, served, with_events, with_packet, with_turn, with_wakes}
+use Rattle.lq_model.specs.Alone.{RunningStation, after_packets, after_run, alone, before_of, brought_in, bypass_of, changed_where, events_before, events_after, fate_in, run_fates, finished, new_station, new_stations, opened, served, with_events, with_packet, with_turn, with_wakes}
 use Rattle.lq_model.specs.Numbers.{first_numbers}
 use Rattle.lq_model.specs.Plan.{Plan, station_in}
 use Rattle.lq_model.specs.declared.fate.Fate.{Fate}
@@ -30,23 +30,20 @@ map-some f [] j y e = cc
 map-some f (x ∷ xs) zero y e = (x, refl, same_Some (f x) y e)
 map-some f (x ∷ xs) (suc j) y e = map-some f xs j y e
 
-changed-some : {X : Type 0} (i : ℕ) (f : X → X) (xs : List X) (j : ℕ) (y : X) → slice_get (changed_at i f xs) j ≡ Some y
-    → ((j ≡ i) × ((x : X) × (slice_get xs j ≡ Some x) × (f x ≡ y))) ⊎ ((j ≢ i) × (slice_get xs j ≡ Some y))
-changed-some zero f [] j y e = cc
-changed-some (suc i) f [] j y e = cc
-changed-some zero f (x ∷ xs) zero y e = inl (refl, (x, refl, same_Some (f x) y e))
-changed-some zero f (x ∷ xs) (suc j) y e = inr ((λ same. omega arith), e)
-changed-some (suc i) f (x ∷ xs) zero y e = inr ((λ same. omega arith), e)
-changed-some (suc i) f (x ∷ xs) (suc j) y e = elim (changed-some i f xs j y e) [
-  | inl at ↦ inl (ap suc at.0, at.1)
-  | inr other ↦ inr ((λ same. other.0 (omega arith)), other.1)
-]
+-- an element of a list in which those whose place passes the test were changed
+where-some : {X : Type 0} (test : ℕ → Bool) (f : X → X) (xs : List X) (j : ℕ) (y : X) → slice_get (changed_where test f xs) j ≡ Some y
+    → ((test j ≡ true) × ((x : X) × (slice_get xs j ≡ Some x) × (f x ≡ y))) ⊎ ((test j ≡ false) × (slice_get xs j ≡ Some y))
+where-some test f [] j y e = cc
+where-some {X} test f (x ∷ xs) zero y e = go (test 0) refl e
+  where
+    go : (b : Bool) → test 0 ≡ b → Some (cond b (f x) x) ≡ Some y → ((test 0 ≡ true) × ((z : X) × (Some x ≡ Some z) × (f z ≡ y))) ⊎ ((test 0 ≡ false) × (Some x ≡ Some y))
+    go true is e = inl (is, (x, refl, same_Some (f x) y e))
+    go false is e = inr (is, e)
+where-some test f (x ∷ xs) (suc j) y e = where-some (λ k. test (suc k)) f xs j y e
 
-length-changed : {X : Type 0} (i : ℕ) (f : X → X) (xs : List X) → length (changed_at i f xs) ≡ length xs
-length-changed zero f [] = refl
-length-changed (suc i) f [] = refl
-length-changed zero f (x ∷ xs) = refl
-length-changed (suc i) f (x ∷ xs) = ap suc (length-changed i f xs)
+length-where : {X : Type 0} (test : ℕ → Bool) (f : X → X) (xs : List X) → length (changed_where test f xs) ≡ length xs
+length-where test f [] = refl
+length-where test f (x ∷ xs) = ap suc (length-where (λ k. test (suc k)) f xs)
 
 new-some : (k : ℕ) (ss : List StationPlan) (j : ℕ) (y : RunningStation) → slice_get (new_stations k ss) j ≡ Some y → (s : StationPlan) × (slice_get ss j ≡ Some s) × (new_station (k + j) s ≡ y)
 new-some k [] j y e = cc
@@ -89,11 +86,11 @@ module _ (plan : Plan) (infos : List Info) (plain : IsPlain plan infos) where
 
   all-brought : (n : ℕ) (stations : List RunningStation) → n < length infos → AreInRun plan infos n stations → AreInRun plan infos (n + 1) (with_packet plan infos n stations)
   all-brought n stations within all = record {
-    one_each = length-changed (station_in infos n) _ stations ∙ all.one_each;
-    each = λ j s at. elim (changed-some (station_in infos n) (λ s. served infos (brought_in infos (bypass_of plan (station_in infos n)) n s)) stations j s at) [
+    one_each = length-where (λ k. k == station_in infos n) _ stations ∙ all.one_each;
+    each = λ j s at. elim (where-some (λ k. k == station_in infos n) (λ s. served infos (brought_in infos (bypass_of plan (station_in infos n)) n s)) stations j s at) [
       | inl own ↦ subst (IsInRun plan infos j (n + 1)) own.1.2 (served_in_run plan infos j plain.queues (n + 1) _
-          (brought_in_run plan infos j plain.queues (bypass_of plan (station_in infos n)) n own.1.0 within (sym own.0) (all.each j own.1.0 own.1.1)))
-      | inr other ↦ passes_in_run (λ same. other.0 (sym same)) (all.each j s other.1)
+          (brought_in_run plan infos j plain.queues (bypass_of plan (station_in infos n)) n own.1.0 within (sym (eqb-true j (station_in infos n) own.0)) (all.each j own.1.0 own.1.1)))
+      | inr other ↦ passes_in_run (λ same. eqb-false j (station_in infos n) other.0 (sym same)) (all.each j s other.1)
     ];
   }
 
@@ -107,23 +104,23 @@ module _ (plan : Plan) (infos : List Info) (plain : IsPlain plan infos) where
   none-after : (n : ℕ) → events_after plan n ≡ []
   none-after n = ap (λ count. filter (λ event. nat_le n (before_of plan event)) (first_numbers count)) (ap length plain.no_events)
 
-  all-turn : (n : ℕ) (stations : List RunningStation) → n < length infos → AreInRun plan infos n stations → AreInRun plan infos (n + 1) (with_turn plan infos n stations)
+  all-turn : (n : ℕ) (stations : List RunningStation) → n < length infos → AreInRun plan infos n stations → AreInRun plan infos (n + 1) (with_turn plan infos (λ n. true) n stations)
   all-turn n stations within all =
       all-mapped (served infos) (n + 1) _ (λ j s h. served_in_run plan infos j plain.queues (n + 1) s h)
       (all-woken n (n + 1) _ (all-brought n _ within
       (subst (λ events. AreInRun plan infos n (with_events plan infos events stations)) (sym (none-before n)) all)))
 
-  all-packets : (n : ℕ) → n ≤ length infos → AreInRun plan infos n (after_packets plan infos (new_stations 0 plan.stations) n)
+  all-packets : (n : ℕ) → n ≤ length infos → AreInRun plan infos n (after_packets plan infos (λ n. true) (new_stations 0 plan.stations) n)
   all-packets zero within = all-begin
-  all-packets (suc n) within = subst (λ k. AreInRun plan infos k (with_turn plan infos n (after_packets plan infos (new_stations 0 plan.stations) n))) (omega arith)
+  all-packets (suc n) within = subst (λ k. AreInRun plan infos k (with_turn plan infos (λ n. true) n (after_packets plan infos (λ n. true) (new_stations 0 plan.stations) n))) (omega arith)
       (all-turn n _ (omega arith) (all-packets n (omega arith)))
 
   -- the stations after the run
   abbrev ended : List RunningStation
-  ended = after_run plan infos (new_stations 0 plan.stations)
+  ended = after_run plan infos (λ n. true) (new_stations 0 plan.stations)
 
-  all-after : AreInRun plan infos (length infos) (with_events plan infos (events_after plan (length infos)) (after_packets plan infos (new_stations 0 plan.stations) (length infos)))
-  all-after = subst (λ events. AreInRun plan infos (length infos) (with_events plan infos events (after_packets plan infos (new_stations 0 plan.stations) (length infos))))
+  all-after : AreInRun plan infos (length infos) (with_events plan infos (events_after plan (length infos)) (after_packets plan infos (λ n. true) (new_stations 0 plan.stations) (length infos)))
+  all-after = subst (λ events. AreInRun plan infos (length infos) (with_events plan infos events (after_packets plan infos (λ n. true) (new_stations 0 plan.stations) (length infos))))
       (sym (none-after (length infos))) (all-packets (length infos) (omega arith))
 
   all-ended : AreInRun plan infos (length infos) ended
@@ -131,7 +128,7 @@ module _ (plan : Plan) (infos : List Info) (plain : IsPlain plan infos) where
 
   none-held : (j : ℕ) (s : RunningStation) → slice_get ended j ≡ Some s → held s.account ≡ []
   none-held j s at =
-      let old = map-some (finished infos) (with_events plan infos (events_after plan (length infos)) (after_packets plan infos (new_stations 0 plan.stations) (length infos))) j s at in
+      let old = map-some (finished infos) (with_events plan infos (events_after plan (length infos)) (after_packets plan infos (λ n. true) (new_stations 0 plan.stations) (length infos))) j s at in
       let h = all-after.each j old.0 old.1 in
       subst (λ (t : RunningStation). held t.account ≡ []) old.2 ((finished_by_rounds infos old.0 plain.queues h.one_queue).nothing_held h.active)
 

@@ -1,5 +1,5 @@
 -- What packets were refused and purged for.
-use Rattle.std.proofs.Common.{◌≡◌, ℕ, ◌≤◌, List, [], ◌∷◌, inl, inr, Contains, Some, refl, sym, ap, ◌∙◌, subst, arith}
+use Rattle.std.proofs.Common.{◌≡◌, ℕ, ◌≤◌, List, [], ◌∷◌, inl, inr, length, Contains, Some, refl, sym, ap, ◌∙◌, subst, arith}
 use Rattle.lq_model.specs.Account.{Account, Event, Purge, Swap, new_account, after}
 use Rattle.lq_model.specs.Legal.{MayCome, IsPlannedDown}
 use Rattle.lq_model.specs.Plan.{Plan, unit_of_swap}
@@ -7,7 +7,9 @@ use Rattle.lq_model.specs.Settled.{IsUnitOf, IsLastUnit}
 use Rattle.lq_model.specs.declared.fate.Cause.TheVariants as cause
 use Rattle.lq_model.specs.declared.fate.Fate.TheVariants as fate
 use Rattle.lq_model.specs.declared.fate.Info.{Info}
-use Rattle.lq_account.specs.Accounts.{HaveAllCome, NoSwapAfterHang}
+use Rattle.lq_account.specs.Accounts.{NoSwapAfterHang}
+use Rattle.lq_account.specs.Controls.{controls_in, planned_controls}
+use Rattle.lq_account.proofs.Controlled.{swap-came}
 use Rattle.lq_account.proofs.Lists.{none-in, here-in, there-in, cons-in}
 use Rattle.lq_account.proofs.Changes.{Gives, fate-cases, unit-cases}
 use Rattle.lq_account.proofs.Changes.Gives.{gives_refused, gives_purged}
@@ -65,7 +67,7 @@ module _ (plan : Plan) (infos : List Info) (station : ℕ) (past : List Event) (
   }
 
 -- where all swaps have come, the unit of such a purge is the last one
-pub last-unit : (plan : Plan) (station : ℕ) (past : List Event) (a : Account) → AreUsed plan station past a → AreCaused plan station past a → HaveAllCome plan station past → NoSwapAfterHang past
+pub last-unit : (plan : Plan) (station : ℕ) (past : List Event) (a : Account) → AreUsed plan station past a → AreCaused plan station past a → controls_in past ≡ planned_controls plan station (length plan.events) → NoSwapAfterHang past
     → (n unit : ℕ) → a.fates n ≡ Some (fate.Purged (cause.Hung unit)) → IsLastUnit plan station unit
 last-unit plan station past a used caused events none n unit fate = record {
   used = subst (IsUnitOf plan station) is used.unit;
@@ -77,4 +79,4 @@ last-unit plan station past a used caused events none n unit fate = record {
 
     below : (u : ℕ) → IsUnitOf plan station u → u ≤ a.unit
     below u (inl first) = let least = used.least in omega arith
-    below u (inr (event, params, at, swap)) = let latest = used.swaps (unit_of_swap plan event) (events.swaps event params at) in omega arith
+    below u (inr (event, params, at, swap)) = let latest = used.swaps (unit_of_swap plan event) (swap-came plan station past events event params at) in omega arith

@@ -9,9 +9,11 @@ use Rattle.lq_model.specs.declared.fate.Fate.{Fate}
 use Rattle.lq_model.specs.declared.fate.Fate.TheVariants.{Full}
 use Rattle.lq_model.specs.declared.fate.Info.{Info}
 use Rattle.lq_model.specs.declared.plan.EventPlan.{EventPlan}
-use Rattle.lq_account.specs.Accounts.{HaveAllCome, IsClosed}
+use Rattle.lq_account.specs.Accounts.{IsClosed}
 use Rattle.lq_account.specs.Progress.{IsAt, start_of}
-use Rattle.lq_account.specs.Controls.{controls_in, with_controls}
+use Rattle.lq_account.specs.Controls.{controls_in, planned_controls}
+use Rattle.lq_account.specs.Trail.{FindNothing, FindsNothing}
+use Rattle.lq_account.proofs.Controlled.{after_controls}
 use Rattle.lq_account.proofs.NoEvents.{no_down, no_event}
 
 -- no device is swapped
@@ -59,14 +61,22 @@ left-alone plan infos station start active none [] comes planned = record { cont
 left-alone plan infos station start active none (e ∷ past) comes planned =
     left-alone-step plan infos station past (after_all start past) none (left-alone plan infos station start active none past comes.0 planned.0) e comes.1.0 planned.1
 
-have-all-come : (plan : Plan) (infos : List Info) (station : ℕ) (past : List Event) → plan.events ≡ [] → IsLegal plan infos station (start_of plan station) past → HaveAllCome plan station past
-have-all-come plan infos station past none legal = record {
-  resizes = λ event len at. absurd (no_event plan station event _ none at);
-  queue_lengths = λ event len at. absurd (no_event plan station event _ none at);
-  swaps = λ event params at. absurd (no_event plan station event _ none at);
-  all = (left-alone plan infos station (start_of plan station) refl none past legal.comes legal.planned).controls
-      ∙ ap (λ (events : List EventPlan). with_controls plan station (take (length events) events) 0 []) (sym none);
-}
+have-all-come : (plan : Plan) (infos : List Info) (station : ℕ) (past : List Event) → plan.events ≡ [] → IsLegal plan infos station (start_of plan station) past
+    → controls_in past ≡ planned_controls plan station (length plan.events)
+have-all-come plan infos station past none legal =
+    (left-alone plan infos station (start_of plan station) refl none past legal.comes legal.planned).controls
+    ∙ ap (λ (events : List EventPlan). after_controls plan station (take (length events) events) 0 []) (sym none)
+
+-- nothing resizes
+finds-nothing : (plan : Plan) (station : ℕ) → plan.events ≡ [] → (past : List Event) (a : Account) (e : Event) → IsPlanned plan station past a e → FindsNothing a e
+finds-nothing plan station none past a (Resize len event) (inl at) = absurd (no_event plan station event _ none at.0)
+finds-nothing plan station none past a (Resize len event) (inr change) = absurd (no_event plan station event _ none change.planned)
+finds-nothing plan station none past a e planned = _
+
+find-nothing : (plan : Plan) (station : ℕ) → plan.events ≡ [] → (start : Account) (past : List Event) → ArePlanned plan station start past → FindNothing start past
+find-nothing plan station none start [] planned = _
+find-nothing plan station none start (e ∷ past) planned =
+    (find-nothing plan station none start past planned.0, finds-nothing plan station none past (after_all start past) e planned.1)
 
 -- A list has just the account's fates of this station.
 pub is_closed : {plan : Plan} {infos : List Info} {station : ℕ} {a : Account} (fates : List Fate)
@@ -74,7 +84,7 @@ pub is_closed : {plan : Plan} {infos : List Info} {station : ℕ} {a : Account} 
     → length fates ≡ length infos → ((n : ℕ) → n < length infos → station_in infos n ≡ station → slice_get fates n ≡ a.fates n)
     → IsClosed plan infos fates station h.past a
 is_closed {plan = plan} {infos = infos} {station = station} {a = a} fates none h nothing hand len agree = record {
-  legal = h.legal;
+  orderly = record { comes = h.legal.comes; find_nothing = find-nothing plan station none (start_of plan station) h.past h.legal.planned };
   account = h.account;
   nothing_held = nothing;
   hand_empty = hand;

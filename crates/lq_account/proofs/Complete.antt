@@ -59,7 +59,7 @@ module _ (plan : Plan) (infos : List Info) (fates : List Fate) (of_plan : (n : �
   none-purged n (Purged (cause.Event event)) never alive told there at = absurd (none-down plan (station_in infos n) event never at)
   none-purged n (Purged (cause.Hung unit)) never alive told there at =
       let conf = configured plan (station_in infos n) unit (of_plan n (within n (Purged (cause.Hung unit)) there)) at.used in
-      let hangs = told.purged n unit conf.0 there conf.1 in let none = alive unit conf.0 conf.1 in absurd (let some = hangs.0 in omega arith)
+      let hangs = (told unit conf.0 conf.1).purged n there in let none = alive unit conf.0 conf.1 in absurd (let some = hangs.0 in omega arith)
   none-purged n f never alive told there at = refl
 
   none-shrunk : (n : ℕ) (f : Fate) → NeverShrinks plan → IsFateAt plan infos fates (station_in infos n) n f → is_shrunk f ≡ false

@@ -19,6 +19,7 @@ use Rattle.lq_account.proofs.Waiting.{undecided-start, undecided-step}
 use Rattle.lq_account.proofs.Used.{AreUsed, used-start, used-step}
 use Rattle.lq_account.proofs.SentBy.{AreSent, IsEarlier, sent-start, sent-step}
 use Rattle.lq_account.proofs.Saw.{AreSeen, seen-start, seen-step, full-fate}
+use Rattle.lq_account.proofs.AsPlanned.{legal-of}
 use Rattle.lq_account.proofs.Shrank.{AreShrunk, shrunk-start, shrunk-step, shrinking}
 use Rattle.lq_account.proofs.Causes.{AreCaused, caused-start, caused-step, last-unit}
 use Rattle.lq_account.proofs.Legal.{IsLegalNext, legal-before, legal-next}
@@ -71,7 +72,7 @@ sent_of_station plan infos station past a h n unit serial there =
 
 module _ (plan : Plan) (infos : List Info) (fates : List Fate) (station : ℕ) (past : List Event) (a : Account) (inside : station < length plan.stations) (closed : IsClosed plan infos fates station past a) where
   whole : IsSound plan infos station past a
-  whole = subst (IsSound plan infos station past) (sym closed.account) (sound plan infos station past inside closed.legal)
+  whole = subst (IsSound plan infos station past) (sym closed.account) (sound plan infos station past inside (legal-of plan infos fates station past a closed))
 
   -- the account has the fate that the list has
   same-fate : (n : ℕ) (f : Fate) → n < length infos → station_in infos n ≡ station → slice_get fates n ≡ Some f → a.fates n ≡ Some f

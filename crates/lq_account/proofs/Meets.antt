@@ -4,20 +4,21 @@ use Rattle.std.proofs.lemmas.Option.{same_Some, slice_get_within}
 use Rattle.lq_model.specs.Account.{Account, Event, Join, Full, Refuse, Direct, Resize, Purge, after, after_all}
 use Rattle.lq_model.specs.Legal.{IsLegal, brought, brought_by}
 use Rattle.lq_model.specs.Plan.{Plan, owner_in, station_in}
-use Rattle.lq_model.specs.Settled.{IsBehind, MeetsEvents}
+use Rattle.lq_model.specs.Settled.{IsBehind, MeetsEvents, down_at}
 use Rattle.lq_model.specs.declared.fate.Cause.TheVariants as cause
 use Rattle.lq_model.specs.declared.fate.Fate.{Fate}
 use Rattle.lq_model.specs.declared.fate.Fate.TheVariants as fate
 use Rattle.lq_model.specs.declared.fate.Info.{Info}
 use Rattle.lq_account.specs.Accounts.{IsClosed}
 use Rattle.lq_account.specs.Progress.{start_of}
+use Rattle.lq_account.proofs.AsPlanned.{legal-of}
 use Rattle.lq_account.proofs.Brought.{brought-cases, held-brought}
 use Rattle.lq_account.proofs.Changes.{Gives, fate-cases}
 use Rattle.lq_account.proofs.Changes.Gives.{gives_refused, gives_shrunk, gives_purged}
 use Rattle.lq_account.proofs.Law.{IsSound, sound}
 use Rattle.lq_account.proofs.Lists.{drop-in, none-in, at-cases}
 use Rattle.lq_account.proofs.Waiting.{fate-stays, waits-held, waits-brought}
-use Rattle.lq_account.specs.Trail.{trail_of, down_at, IsTrail, MeetsDown}
+use Rattle.lq_account.specs.Trail.{trail_of, IsTrail, MeetsDown}
 use Rattle.lq_account.proofs.Trails.{trail-tail, trail-head, brings-own, brought-in-trail}
 use Rattle.lq_account.proofs.Legal.{legal-before}
 
@@ -107,17 +108,20 @@ module _ (plan : Plan) (infos : List Info) (station : ℕ) (inside : station < l
     refused = λ n event within at owner. (
       λ there. refused-down past trail n event owner (has n (fate.Refused event) within at there),
       λ down. let d = closed.decided n within at in d.1 ∙ (sym d.2 ∙ (ap (λ x. x.fates n) closed.account
-          ∙ down-refused past closed.legal trail n event owner (came n d.0 (ap (λ x. x.fates n) (sym closed.account) ∙ d.2)) down)),
+          ∙ down-refused past legal trail n event owner (came n d.0 (ap (λ x. x.fates n) (sym closed.account) ∙ d.2)) down)),
     );
-    shrunk = λ n event within at owner there. shrunk-behind past closed.legal trail n event owner (has n (fate.Shrunk event) within at there);
-    purged = λ n event within at owner there. purged-behind past closed.legal trail n event owner (has n (fate.Purged (cause.Event event)) within at there);
+    shrunk = λ n event within at owner there. shrunk-behind past legal trail n event owner (has n (fate.Shrunk event) within at there);
+    purged = λ n event within at owner there. purged-behind past legal trail n event owner (has n (fate.Purged (cause.Event event)) within at there);
   }
     where
+      legal : IsLegal plan infos station (start_of plan station) past
+      legal = legal-of plan infos fates station past a closed
+
       has : (n : ℕ) (f : Fate) → n < length infos → station_in infos n ≡ station → slice_get fates n ≡ Some f → (account past).fates n ≡ Some f
       has n f within at there = let d = closed.decided n within at in ap (λ x. x.fates n) (sym closed.account) ∙ (d.2 ∙ (sym d.1 ∙ there))
 
       came : (n : ℕ) (f : Fate) → (account past).fates n ≡ Some f → Contains (brought_by past) n
-      came n f is = (sound plan infos station past inside closed.legal).known.fates n f is
+      came n f is = (sound plan infos station past inside legal).known.fates n f is
 
 -- where each station's packets meet the events, all do
 pub all-meet : (plan : Plan) (infos : List Info) (fates : List Fate) → length fates ≡ length infos → ((n : ℕ) → n < length infos → station_in infos n < length plan.stations)

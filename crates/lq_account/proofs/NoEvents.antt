@@ -1,9 +1,9 @@
 -- A plan without events.
-use Rattle.std.proofs.Common.{◌≡◌, ℕ, inl, inr, List, [], ap, None}
+use Rattle.std.proofs.Common.{◌≡◌, ℕ, cond, inl, inr, List, [], ap, nat_le, None}
 use Rattle.std.specs.Prelude.{slice_get}
 use Rattle.lq_model.specs.Legal.{IsEventAt, IsPlannedDown}
-use Rattle.lq_model.specs.Plan.{Plan, station_in}
-use Rattle.lq_model.specs.Settled.{IsSettled, MeetsEvents, IsShrinking, down_before}
+use Rattle.lq_model.specs.Plan.{Plan, after_events, station_in}
+use Rattle.lq_model.specs.Settled.{IsSettled, MeetsEvents, IsShrinking, down_after}
 use Rattle.lq_model.specs.declared.fate.Cause.TheVariants.{Event}
 use Rattle.lq_model.specs.declared.fate.Fate.{Fate}
 use Rattle.lq_model.specs.declared.fate.Fate.TheVariants.{Shrunk, Purged, Refused}
@@ -25,7 +25,7 @@ pub meets_no_events : (plan : Plan) (infos : List Info) (fates : List Fate) → 
 meets_no_events plan infos fates none settled = record {
   refused = λ n event below owner. (
     λ fate. absurd (no_down plan (station_in infos n) event none (settled.each n (Refused event) fate)),
-    λ down. absurd (let nothing = ap (λ list. down_before (station_in infos n) n list 0 None) none in cc),
+    λ down. absurd (let nothing = ap (λ list. after_events (λ e x down. cond (nat_le x.before n) (down_after x.kind e down) down) (station_in infos n) list 0 None) none in cc),
   );
   shrunk = λ n event owner fate. absurd (no_shrink plan (station_in infos n) event none (settled.each n (Shrunk event) fate));
   purged = λ n event owner fate. absurd (no_down plan (station_in infos n) event none (settled.each n (Purged (Event event)) fate));

@@ -12,7 +12,8 @@ use Rattle.lq_model.specs.declared.fate.Info.{Info}
 use Rattle.lq_model.specs.declared.plan.EventKind.{EventKind}
 use Rattle.lq_model.specs.declared.plan.EventKind.TheVariants as kind
 use Rattle.lq_model.specs.declared.plan.EventPlan.{EventPlan}
-use Rattle.lq_account.specs.Accounts.{HaveAllCome}
+use Rattle.lq_account.specs.Controls.{controls_in, planned_controls}
+use Rattle.lq_account.proofs.Controlled.{length-came, resize-came}
 use Rattle.lq_account.specs.Progress.{len_of}
 use Rattle.lq_account.proofs.Lists.{none-in, here-in, cons-in, drop-in, drop-short, at-cases, mapped-before, mapped-cases}
 use Rattle.lq_account.proofs.Changes.{Gives, band-held, fate-cases}
@@ -211,9 +212,9 @@ module _ (plan : Plan) (infos : List Info) (station : ℕ) (past : List Event) (
   }
 
 -- where all of the plan's events have come
-pub shrinking : (plan : Plan) (station : ℕ) (past : List Event) (event : ℕ) → HaveAllCome plan station past → Shrank plan station past event → IsShrinking plan station event
+pub shrinking : (plan : Plan) (station : ℕ) (past : List Event) (event : ℕ) → controls_in past ≡ planned_controls plan station (length plan.events) → Shrank plan station past event → IsShrinking plan station event
 shrinking plan station past event events shrank = (shrank.len, shrank.before, shrank.planned, shrank.before_is come, shrank.shorter)
   where
     come : HaveComeBelow plan station past event
-    come e len below (inl resize) = events.resizes e len resize
-    come e len below (inr change) = events.queue_lengths e len change
+    come e len below (inl resize) = resize-came plan station past events e len resize
+    come e len below (inr change) = length-came plan station past events e len change

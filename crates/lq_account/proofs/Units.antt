@@ -1,13 +1,35 @@
 -- A unit is of one station alone.
-use Rattle.std.proofs.Common.{◌≡◌, ◌≢◌, ℕ, zero, suc, ◌<◌, Bool, true, ◌⊎◌, inl, inr, List, [], ◌∷◌, length, refl, ap, arith, Some, sym, ◌∙◌}
+use Rattle.std.proofs.Common.{◌≡◌, ◌≢◌, ℕ, zero, suc, ◌+◌, ◌<◌, Bool, true, false, ◌⊎◌, inl, inr, List, [], ◌∷◌, length, refl, ap, arith, Some, sym, ◌∙◌}
 use Rattle.std.specs.Prelude.{cond, slice_get, count_by, take}
-use Rattle.std.proofs.lemmas.List.Sums.{sum_by-cons}
+use Rattle.std.proofs.lemmas.List.Sums.{count_by_more_no, count_by_more_yes, sum_by-cons}
+use Rattle.std.proofs.lemmas.Option.{get_or_from_slice_get, slice_get_within}
 use Rattle.lq_model.proofs.Reach.{at-swap}
 use Rattle.lq_model.specs.Legal.{IsEventAt}
 use Rattle.lq_model.specs.Plan.{Plan, is_swap, is_swap_kind, unit_of_swap}
 use Rattle.lq_model.specs.Settled.{IsUnitOf}
 use Rattle.lq_model.specs.declared.device.Params.{Params}
 use Rattle.lq_model.specs.declared.plan.EventKind.TheVariants as kind
+use Rattle.lq_model.specs.declared.plan.EventPlan.{EventPlan}
+
+-- the units that the first so many events bring
+abbrev pub one_where : Bool → ℕ
+one_where true = 1
+one_where false = 0
+
+pub unit-more : (plan : Plan) (count : ℕ) (event : EventPlan) → slice_get plan.events count ≡ Some event → (b : Bool) → is_swap event ≡ b
+    → unit_of_swap plan (suc count) ≡ unit_of_swap plan count + one_where b
+unit-more plan count event there true is =
+    let test = count_by_more_yes is_swap plan.events count event (slice_get_within plan.events count event there) (ap is_swap (get_or_from_slice_get plan.events count event event there) ∙ is) in
+    let same : suc count ≡ count + 1 = omega arith in ap (unit_of_swap plan) same ∙ omega (arith, test)
+unit-more plan count event there false is =
+    let test = count_by_more_no is_swap plan.events count event (slice_get_within plan.events count event there) (ap is_swap (get_or_from_slice_get plan.events count event event there) ∙ is) in
+    let same : suc count ≡ count + 1 = omega arith in ap (unit_of_swap plan) same ∙ omega (arith, test)
+
+pub unit-after : (plan : Plan) (count : ℕ) (event : EventPlan) → slice_get plan.events count ≡ Some event → (b : Bool) → is_swap event ≡ b → unit_of_swap plan (count + 1) ≡ unit_of_swap plan count + one_where b
+unit-after plan count event there b is = let same : suc count ≡ count + 1 = omega arith in ap (unit_of_swap plan) (sym same) ∙ unit-more plan count event there b is
+
+pub unit-rises : (plan : Plan) (count unit : ℕ) (event : EventPlan) → slice_get plan.events count ≡ Some event → unit < unit_of_swap plan count → unit < unit_of_swap plan (suc count)
+unit-rises plan count unit event there below = let more = unit-more plan count event there (is_swap event) refl in omega arith
 
 some-injective : {X : Type 0} (a b : X) → Some a ≡ Some b → a ≡ b
 some-injective a b e = cc

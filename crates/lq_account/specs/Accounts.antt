@@ -1,27 +1,17 @@
 -- What the laws of accounts ask, and what they give.
-use Rattle.std.specs.Prelude.{◌≡◌, ◌⊎◌, ◌↔◌, ◌<◌, ℕ, List, [], ◌∷◌, ◌++◌, length, Some, None, slice_get, Contains, filter_map}
+use Rattle.std.specs.Prelude.{◌≡◌, ◌⊎◌, ◌↔◌, ◌<◌, ℕ, List, [], ◌∷◌, ◌++◌, length, Some, None, slice_get, Contains}
 use Rattle.lq_model.specs.Account.{Account, Event, Purge, Swap, held, after_all}
-use Rattle.lq_model.specs.Legal.{IsLegal, IsEventAt, resize_event}
-use Rattle.lq_model.specs.Plan.{Plan, unit_of_swap, owner_in, station_in, band_in}
+use Rattle.lq_model.specs.Plan.{Plan, owner_in, station_in, band_in}
 use Rattle.lq_model.specs.Settled.{IsFateAt, IsUnitOf}
-use Rattle.lq_model.specs.declared.device.Params.{Params}
 use Rattle.lq_model.specs.declared.fate.Cause.TheVariants.{Hung}
 use Rattle.lq_model.specs.declared.fate.Fate.{Fate}
 use Rattle.lq_model.specs.declared.fate.Fate.TheVariants.{Sent}
 use Rattle.lq_model.specs.declared.fate.Info.{Info}
-use Rattle.lq_model.specs.declared.plan.EventKind.TheVariants as kind
 use Rattle.lq_account.specs.Controls.{planned_controls, controls_in}
 use Rattle.lq_account.specs.Progress.{start_of}
+use Rattle.lq_account.specs.Trail.{IsOrderly}
 
 -- THE PLAN'S EVENTS
-
--- each event that the plan has for the station has come, one that resizes by its resize and a swap by its swap; and what
--- control did is just what they ask, in the plan's order
-pub record HaveAllCome (plan : Plan) (station : ℕ) (past : List Event) : Type 0 where
-  pub resizes : (event len : ℕ) → IsEventAt plan station event (kind.Resize len) → Contains (filter_map resize_event past) event
-  pub queue_lengths : (event len : ℕ) → IsEventAt plan station event (kind.TxQueueLen len) → Contains (filter_map resize_event past) event
-  pub swaps : (event : ℕ) (params : Params) → IsEventAt plan station event (kind.Swap params) → Contains past (Swap (unit_of_swap plan event))
-  pub all : controls_in past ≡ planned_controls plan station (length plan.events)
 
 -- no device is swapped after a purge of a hung one
 abbrev pub NoSwapAfterHang : List Event → Type 0
@@ -39,14 +29,15 @@ AreDecided infos fates station a = (n : ℕ) → n < length infos → station_in
 
 -- CLOSED ACCOUNTS
 
--- A station's account is closed: a legal list of events leaves nothing held and nothing in hand, all events of the plan have
--- come, and each packet of the station has just the fate that the list of fates has for it.
+-- A station's account is closed: events that may come where they stand leave nothing held and nothing in hand; what control did
+-- is just what all the plan's events ask of the station, in their order; and each packet of the station has just the fate that
+-- the list of fates has for it.
 pub record IsClosed (plan : Plan) (infos : List Info) (fates : List Fate) (station : ℕ) (past : List Event) (a : Account) : Type 0 where
-  pub legal : IsLegal plan infos station (start_of plan station) past
+  pub orderly : IsOrderly infos station (start_of plan station) past
   pub account : a ≡ after_all (start_of plan station) past
   pub nothing_held : held a ≡ []
   pub hand_empty : a.hand ≡ None
-  pub events : HaveAllCome plan station past
+  pub events : controls_in past ≡ planned_controls plan station (length plan.events)
   pub no_swap_after_hang : NoSwapAfterHang past
   pub decided : AreDecided infos fates station a
 

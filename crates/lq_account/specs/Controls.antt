@@ -1,11 +1,10 @@
 -- What control does at a station by the plan.
-use Rattle.std.specs.Prelude.{ℕ, ◌+◌, Bool, true, false, if◌then◌else◌, List, [], ◌∷◌, take, filter}
+use Rattle.std.specs.Prelude.{ℕ, Bool, true, false, List, [], ◌∷◌, take, filter}
 use Rattle.lq_model.specs.Account.{Event, Resize, Down, Purge, Swap, Up}
-use Rattle.lq_model.specs.Plan.{Plan, is_at, unit_of_swap}
+use Rattle.lq_model.specs.Plan.{Plan, after_events, unit_of_swap}
 use Rattle.lq_model.specs.declared.fate.Cause.TheVariants as cause
 use Rattle.lq_model.specs.declared.plan.EventKind.{EventKind}
 use Rattle.lq_model.specs.declared.plan.EventKind.TheVariants as kind
-use Rattle.lq_model.specs.declared.plan.EventPlan.{EventPlan}
 
 -- what control does by the plan: all of its events but the purge of what a hung device left
 abbrev pub is_by_plan : Event → Bool
@@ -36,12 +35,6 @@ with_control plan event (kind.Swap params) past = Up ∷ Swap (unit_of_swap plan
 
 -- ALL OF THEM
 
--- the same for each of these events that is the station's; they are numbered from e on
-abbrev pub with_controls : Plan → ℕ → List EventPlan → ℕ → List Event → List Event
-with_controls plan station [] e past = past
-with_controls plan station (event ∷ events) e past =
-    with_controls plan station events (e + 1) (if is_at station event then with_control plan e event.kind past else past)
-
 -- what the first so many events of the plan ask at the station, the latest first
 abbrev pub planned_controls : Plan → ℕ → ℕ → List Event
-planned_controls plan station count = with_controls plan station (take count plan.events) 0 []
+planned_controls plan station count = after_events (λ e event past. with_control plan e event.kind past) station (take count plan.events) 0 []

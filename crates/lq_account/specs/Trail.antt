@@ -1,13 +1,11 @@
 -- Lists of events that many senders make, and what of them the first sender's seat knows while others send.
-use Rattle.std.specs.Prelude.{◌≡◌, ◌<◌, ℕ, Bool, true, false, ◌==◌, List, [], ◌∷◌, Option, Some, None, Contains, filter, filter_map, length}
-use Rattle.lq_model.specs.Account.{Account, Event, Join, Full, Refuse, Direct, Resize, Down, Purge, Swap, Up, new_account, held, after_all}
-use Rattle.lq_model.specs.Legal.{IsPlanned, IsEventAt, brought_by, resize_event, Comes}
-use Rattle.lq_model.specs.Plan.{Plan, owner_in, unit_of_swap}
-use Rattle.lq_model.specs.Settled.{IsBehind, down_before}
-use Rattle.lq_model.specs.declared.device.Params.{Params}
+use Rattle.std.specs.Prelude.{◌≡◌, ◌<◌, ℕ, Bool, true, false, ◌==◌, List, [], ◌∷◌, Option, Some, None, Contains, filter, length}
+use Rattle.lq_model.specs.Account.{Account, Event, Join, Full, Refuse, Direct, Resize, Down, Purge, Swap, Up, held, after_all}
+use Rattle.lq_model.specs.Legal.{brought_by, Comes}
+use Rattle.lq_model.specs.Plan.{Plan, owner_in}
+use Rattle.lq_model.specs.Settled.{IsBehind, down_at}
 use Rattle.lq_model.specs.declared.fate.Cause.TheVariants as cause
 use Rattle.lq_model.specs.declared.fate.Info.{Info}
-use Rattle.lq_model.specs.declared.plan.EventKind.TheVariants as kind
 use Rattle.lq_account.specs.Controls.{planned_controls, controls_in}
 
 -- EVENTS THAT COME IN ORDER
@@ -55,19 +53,11 @@ down_of (event ∷ trail) = down_of trail
 
 -- WHAT THE PLAN ASKS OF A TRAIL
 
--- an account that holds nothing, deactivated by this
-abbrev pub bare : Option ℕ → Account
-bare down = record (new_account 0 0 0) { down = down }
-
 -- what drops packets stands behind those of the first sender that came before it
 abbrev pub IsAhead : Plan → List Event → Event → Type 0
 IsAhead plan trail (Resize len event) = (m : ℕ) → Contains (brought_by trail) m → IsBehind plan m event
 IsAhead plan trail (Purge (cause.Event event)) = (m : ℕ) → Contains (brought_by trail) m → IsBehind plan m event
 IsAhead plan trail event = Unit {0}
-
--- the event of the plan that leaves the station deactivated for packet n
-abbrev pub down_at : Plan → ℕ → ℕ → Option ℕ
-down_at plan station n = down_before station n plan.events 0 None
 
 -- a packet is refused exactly where the plan has its station deactivated, and by that event
 abbrev pub MeetsDown : Plan → ℕ → Event → Type 0
@@ -83,7 +73,6 @@ FindsNoHang trail (Swap unit) = (old : ℕ) → Contains trail (Purge (cause.Hun
 FindsNoHang trail event = Unit {0}
 
 pub record IsTrailNext (plan : Plan) (station : ℕ) (trail : List Event) (event : Event) : Type 0 where
-  pub planned : IsPlanned plan station trail (bare (down_of trail)) event
   pub ahead : IsAhead plan trail event
   pub meets_down : MeetsDown plan station event
   pub no_hang : FindsNoHang trail event
@@ -97,10 +86,6 @@ IsTrail plan station (event ∷ trail) = IsTrail plan station trail × IsTrailNe
 abbrev pub AreTrails : Plan → List Info → (ℕ → List Event) → Type 0
 AreTrails plan infos pasts = (station : ℕ) → station < length plan.stations → IsTrail plan station (trail_of infos (pasts station))
 
--- each of the first so many events of the plan that resizes the station or swaps its device has come, and what control did is
--- just what they all ask of the station, in order
-pub record HaveCome (plan : Plan) (station : ℕ) (count : ℕ) (trail : List Event) : Type 0 where
-  pub resizes : (event len : ℕ) → event < count → IsEventAt plan station event (kind.Resize len) → Contains (filter_map resize_event trail) event
-  pub queue_lengths : (event len : ℕ) → event < count → IsEventAt plan station event (kind.TxQueueLen len) → Contains (filter_map resize_event trail) event
-  pub swaps : (event : ℕ) (params : Params) → event < count → IsEventAt plan station event (kind.Swap params) → Contains trail (Swap (unit_of_swap plan event))
-  pub all : controls_in trail ≡ planned_controls plan station count
+-- what control did is just what the first so many events of the plan ask of the station, in their order
+abbrev pub HaveCome : Plan → ℕ → ℕ → List Event → Type 0
+HaveCome plan station count trail = controls_in trail ≡ planned_controls plan station count

@@ -1,13 +1,16 @@
 //! The laws of accounts, each the contract of a function that does nothing.
 ghost use Rattle.std.specs.Prelude.{◌≡◌, ℕ, List, [], ◌∷◌, ◌<◌, Contains, filter_map, length};
 ghost use Rattle.lq_model.specs.Account.{Account, Down, Event, Resize, Swap};
-ghost use Rattle.lq_model.specs.Legal.{IsLegal, down_event, resize_event};
+ghost use Rattle.lq_model.specs.Legal.{IsEventAt, IsLegal, down_event, resize_event};
 ghost use Rattle.lq_model.specs.Complete.{IsComplete};
-ghost use Rattle.lq_model.specs.Plan.{Plan};
+ghost use Rattle.lq_model.specs.Plan.{Plan, unit_of_swap};
 ghost use Rattle.lq_model.specs.Settled.{IsInSenderOrder, IsSentList, IsSettled, IsUnitOf, MeetsEvents};
+ghost use Rattle.lq_model.specs.declared.device.Params.{Params};
 ghost use Rattle.lq_model.specs.declared.fate.Fate.{Fate};
 ghost use Rattle.lq_model.specs.declared.fate.Info.{Info};
+ghost use Rattle.lq_model.specs.declared.plan.EventKind.TheVariants as kind;
 ghost use Rattle.lq_account.specs.Accounts.{AreOfStations, AreSettledStations, IsClosed, IsSettledStation};
+ghost use Rattle.lq_account.specs.Progress.{start_of};
 
 pub mod one_queue;
 pub mod one_sender;
@@ -38,6 +41,20 @@ pub fn fates_meet_no_events()
 pub fn law_of_accounts()
     ensures { (plan : Plan) (infos : List Info) (fates : List Fate) (station : ℕ) (past : List Event) (a : Account)
         → station < length plan.stations → IsClosed plan infos fates station past a → IsSettledStation plan infos fates station a }
+{}
+
+/// The events of a closed account are legal: what control did, each of the plan's events asks where it stands. And each event that the
+/// plan has for the station has come: one that resizes by its resize, and a swap by its swap.
+pub fn closed_accounts_are_legal()
+    ensures legal { (plan : Plan) (infos : List Info) (fates : List Fate) (station : ℕ) (past : List Event) (a : Account)
+        → IsClosed plan infos fates station past a → IsLegal plan infos station (start_of plan station) past }
+    ensures resizes { (plan : Plan) (infos : List Info) (fates : List Fate) (station : ℕ) (past : List Event) (a : Account)
+        → IsClosed plan infos fates station past a → (event len : ℕ) → IsEventAt plan station event (kind.Resize len) → Contains (filter_map resize_event past) event }
+    ensures lengths { (plan : Plan) (infos : List Info) (fates : List Fate) (station : ℕ) (past : List Event) (a : Account)
+        → IsClosed plan infos fates station past a → (event len : ℕ) → IsEventAt plan station event (kind.TxQueueLen len) → Contains (filter_map resize_event past) event }
+    ensures swaps { (plan : Plan) (infos : List Info) (fates : List Fate) (station : ℕ) (past : List Event) (a : Account)
+        → IsClosed plan infos fates station past a → (event : ℕ) (params : Params) → IsEventAt plan station event (kind.Swap params)
+        → Contains past (Swap (unit_of_swap plan event)) }
 {}
 
 /// Settled fates of packets of the plan's stations are complete: without a deactivation none is refused; where no unit

@@ -1,9 +1,10 @@
 -- The start of an IPv4 header, as the definition finds it and as the law says it: case by case of the tests.
-use Rattle.std.proofs.Common.{◌≡◌, ◌+◌, ◌/◌, ◌&&◌, ℕ, List, length, Option, Some, None, true, nat_eq, nat_le, subst, ap, ◌∙◌, arith}
+use Rattle.std.proofs.Common.{◌≡◌, ◌+◌, ◌/◌, ◌&&◌, ℕ, cond, List, length, Option, Some, None, true, nat_eq, nat_le, subst, ap, ◌∙◌, arith}
 use Rattle.std.specs.Prelude.{slice_index, slice_range}
+use Rattle.std.specs.Option.{option_and_then}
 use Rattle.std.proofs.lemmas.Bool.{cond_both, cond-true, cond-false, eqb-true, eq-eqb, ne_eqb, leb-true, le-leb, and_parts, and_from, false_from_ne_true}
 use Rattle.std.specs.Int.{w16, from_be_bytes}
-use Rattle.lq_model.specs.Class.{has_type, ethernet_start, network_start, has_ipv4, if_ipv4}
+use Rattle.lq_model.specs.Class.{has_type, ethernet_start, network_start, has_ipv4}
 use Rattle.lq_class.specs.Laws.{HasType, IsHeaderPlace, raw, untagged, tagged, IsIpv4At}
 
 -- the definition's test of a type, and the law's fact
@@ -54,7 +55,7 @@ start-from_Precedes link frame _ (tagged e h k) =
     (and_from (has_type frame 12 0x8100) (has_type frame 16 0x0800) (test-from_HasType frame 12 0x8100 h) (test-from_HasType frame 16 0x0800 k)))
 
 -- both ways for the whole header
-pub IsIpv4At-from_start : (link : ℕ) (frame : List ℕ) (start : ℕ) (o : Option ℕ) → network_start link frame ≡ o → if_ipv4 frame o ≡ Some start → IsIpv4At link frame start
+pub IsIpv4At-from_start : (link : ℕ) (frame : List ℕ) (start : ℕ) (o : Option ℕ) → network_start link frame ≡ o → option_and_then (λ n. cond (has_ipv4 frame n) (Some n) None) o ≡ Some start → IsIpv4At link frame start
 IsIpv4At-from_start link frame start None e = λ f. absurd (cc)
 IsIpv4At-from_start link frame start (Some n) e =
     let Follows : Option ℕ → Type 0 = λ o. o ≡ Some start → IsIpv4At link frame start in
@@ -66,9 +67,9 @@ IsIpv4At-from_start link frame start (Some n) e =
     (record { place = Precedes-from_start link frame n e; whole = leb-true (n + 20) (length frame) both.0; version = eqb-true (slice_index frame n / 16) 4 both.1 }))
     (λ _ f. absurd (cc))
 
-pub start-from_IsIpv4At : (link : ℕ) (frame : List ℕ) (start : ℕ) → IsIpv4At link frame start → if_ipv4 frame (network_start link frame) ≡ Some start
+pub start-from_IsIpv4At : (link : ℕ) (frame : List ℕ) (start : ℕ) → IsIpv4At link frame start → option_and_then (λ n. cond (has_ipv4 frame n) (Some n) None) (network_start link frame) ≡ Some start
 start-from_IsIpv4At link frame start h =
-    ap (if_ipv4 frame) (start-from_Precedes link frame start h.place)
+    ap (option_and_then (λ n. cond (has_ipv4 frame n) (Some n) None)) (start-from_Precedes link frame start h.place)
     ∙ cond-true (has_ipv4 frame start) _ _
     (and_from (nat_le (start + 20) (length frame)) (nat_eq (slice_index frame start / 16) 4)
     (le-leb (start + 20) (length frame) h.whole) (eq-eqb (slice_index frame start / 16) 4 h.version))

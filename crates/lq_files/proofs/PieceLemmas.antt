@@ -1,7 +1,7 @@
 -- Texts that are written through a buffer: what was written, what stands in the buffer, and what is still to come.
-use Rattle.std.proofs.Common.{◌≡◌, ◌<◌, ◌+◌, get_or, ◌++◌, [], ◌∷◌, ℕ, List, length, take, drop, refl, sym, ap, ◌∙◌, append_assoc, append-nil, length-append, arith, None, Result, Ok, OnOk, OnErr, inr, subst}
+use Rattle.std.proofs.Common.{◌≡◌, ◌<◌, ◌+◌, get_or, ◌++◌, [], ℕ, List, length, take, drop, refl, sym, ap, ◌∙◌, append_assoc, append-nil, length-append, arith, None, Result, Ok, OnOk, OnErr, inr, subst}
 use Rattle.std.specs.Fmt.{decimal}
-use Rattle.std.specs.List.{enumerate_from, flat_map}
+use Rattle.std.specs.List.{flat_map}
 use Rattle.std.proofs.lemmas.List.{at_drop_all, at_drop_more, take-append-drop, take_at}
 use Rattle.lq_host.specs.Host.{HostState, Writes, closed, filed, opened_handle, wrote}
 use Rattle.lq_host.proofs.HostLemmas.{file_made, wrote-nil, wrote_more}
@@ -99,11 +99,6 @@ line_next words fates n d buffer pushed within pushed_is =
 -- no line is left
 pub lines_end : {F : Type 0} (words : F → List ℕ) (fates : List F) → lines_from words fates (length fates) ≡ []
 lines_end words fates = at_drop_all (lines_of words (length fates)) fates (length fates) (omega arith)
-
--- a text of fates, as the lines of its numbered fates
-pub numbered_lines : {F : Type 0} (words : F → List ℕ) (n : ℕ) (fates : List F) → lines_of words n fates ≡ flat_map (λ fate. decimal fate.0 ++ words fate.1) (enumerate_from n fates)
-numbered_lines words n [] = refl
-numbered_lines words n (fate ∷ fates) = ap (λ rest. (decimal n ++ words fate) ++ rest) (numbered_lines words (n + 1) fates)
 
 -- FILES
 

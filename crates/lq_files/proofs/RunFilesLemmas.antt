@@ -1,5 +1,5 @@
 -- What is written of a run and of a tap, from what its parts are.
-use Rattle.std.proofs.Common.{◌≡◌, ◌⊎◌, ◌++◌, ◌∷◌, [], ℕ, List, sym, ap, ap₂, ◌∙◌, subst, inl, inr}
+use Rattle.std.proofs.Common.{◌≡◌, ◌⊎◌, ◌++◌, ◌∷◌, [], ℕ, List, sym, ap, ◌∙◌, subst, inl, inr}
 use Rattle.lq_model.specs.Plan.{infos_of, unit_count}
 use Rattle.lq_model.specs.Texts.{fates_text}
 use Rattle.lq_model.specs.declared.fate.Fate.{Fate}
@@ -7,15 +7,13 @@ use Rattle.lq_model.specs.declared.fate.Info.{Info}
 use Rattle.lq_host.specs.Host.{HostState, filed, wrote}
 use Rattle.lq_pcapng.specs.File.{packets_of_file, text_of}
 use Rattle.lq_pcapng.specs.declared.file.CaptureFile.{CaptureFile}
-use Rattle.lq_tap_fates.specs.Texts.{tap_counts_line, tap_fate_words, tap_fates_text}
+use Rattle.lq_tap_fates.specs.Texts.{tap_counts_line, tap_fates_text}
 use Rattle.lq_tap_fates.specs.declared.fate.TapFate.{TapFate}
 use Rattle.lq_files.specs.Groups.{group_files}
 use Rattle.lq_files.specs.RunFiles.{Run, counts_output, fates_name, unit_files, texts_of}
-use Rattle.lq_files.specs.Lines.{lines_of}
 use Rattle.lq_files.specs.TapFiles.{read_name, tap_texts_of}
 use Rattle.lq_files.specs.Written.{FileText, FileIsCut, FilesAreCut, OutputHasPrefix, IsCut, files_written, written}
 use Rattle.lq_files.proofs.FileLemmas.{cut_after, cut_before, cut_next, cut_whole, files_written-append, whole_next}
-use Rattle.lq_files.proofs.PieceLemmas.{numbered_lines}
 
 -- the files of the units, of as many as the plan needs, and of the multi-queue roots
 abbrev files_of_units : Run → List Fate → ℕ → List FileText
@@ -84,19 +82,15 @@ module _ (run : Run) (fates : List Fate) (units : ℕ) (old mid : HostState) (co
 
 -- the file of the packets that were read is whole
 module _ (out : List ℕ) (capture : CaptureFile) (fates : List TapFate) (read : List ℕ) (old mid : HostState) (made : mid ≡ filed old (read_name out) (text_of capture read)) where
-  same_lines : lines_of tap_fate_words 0 fates ≡ tap_fates_text fates
-  same_lines = numbered_lines tap_fate_words 0 fates
-
   -- it was stopped in the file of the fates
-  pub tap_stopped_in_fates : (new : HostState) → FileIsCut (fates_name out) (lines_of tap_fate_words 0 fates) mid new → IsCut (tap_texts_of out capture fates read) old new
+  pub tap_stopped_in_fates : (new : HostState) → FileIsCut (fates_name out) (tap_fates_text fates) mid new → IsCut (tap_texts_of out capture fates read) old new
   tap_stopped_in_fates new cut =
-      inl (inr (inl (subst (λ (s : HostState). FileIsCut (fates_name out) (tap_fates_text fates) s new) made
-      (subst (λ (t : List ℕ). FileIsCut (fates_name out) t mid new) same_lines cut))))
+      inl (inr (inl (subst (λ (s : HostState). FileIsCut (fates_name out) (tap_fates_text fates) s new) made cut)))
 
   -- this is whole, too
-  module _ (all : HostState) (told : all ≡ filed mid (fates_name out) (lines_of tap_fate_words 0 fates)) where
+  module _ (all : HostState) (told : all ≡ filed mid (fates_name out) (tap_fates_text fates)) where
     both_files : all ≡ files_written old (tap_texts_of out capture fates read).files
-    both_files = told ∙ ap₂ (λ (s : HostState) (t : List ℕ). filed s (fates_name out) t) made same_lines
+    both_files = told ∙ ap (λ (s : HostState). filed s (fates_name out) (tap_fates_text fates)) made
 
     -- it was stopped in the counts, or before them
     pub tap_stopped_in_counts : (new : HostState) → (new ≡ all) ⊎ OutputHasPrefix (tap_counts_line fates) all new → IsCut (tap_texts_of out capture fates read) old new

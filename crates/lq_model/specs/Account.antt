@@ -8,10 +8,7 @@ use Rattle.lq_model.specs.declared.fate.Fate.TheVariants as fate
 
 -- ACCOUNTS
 
--- the packets that each unit sent, in order of serial; and the fate of each packet that has one
-abbrev pub SentLists : Type 0
-SentLists = ℕ → List ℕ
-
+-- the fate of each packet that has one
 abbrev pub Fates : Type 0
 Fates = ℕ → Option Fate
 
@@ -23,9 +20,9 @@ pub record Account : Type 0 where
   -- the requeue slot, and the packet that whoever holds the run lock has in hand
   pub slot : Option ℕ
   pub hand : Option ℕ
-  -- the present unit, and what each unit sent
+  -- the present unit, and the packets that each unit sent, in order of serial
   pub unit : ℕ
-  pub sent : SentLists
+  pub sent : ℕ → List ℕ
   pub fates : Fates
   -- the stop value of each queue: 0 open, 1 stopped, 2 hung; there is at least one queue
   pub stops : List ℕ

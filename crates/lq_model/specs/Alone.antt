@@ -176,12 +176,6 @@ changed plan event (kind.Swap params) s = record {
 
 -- THE RUN
 
--- the list where the element at this place was changed
-abbrev pub changed_at : {X : Type 0} → ℕ → (X → X) → List X → List X
-changed_at i f [] = []
-changed_at zero f (x ∷ xs) = f x ∷ xs
-changed_at (suc i) f (x ∷ xs) = x ∷ changed_at i f xs
-
 -- the list where each element whose place passes the test was changed
 abbrev pub changed_where : {X : Type 0} → (ℕ → Bool) → (X → X) → List X → List X
 changed_where test f [] = []
@@ -212,16 +206,17 @@ bypass_of plan station = option_map_or (λ s. s.bypass) (slice_get plan.stations
 -- packet n is brought to its station, and then the station is served
 abbrev pub with_packet : Plan → List Info → ℕ → List RunningStation → List RunningStation
 with_packet plan infos n stations =
-    changed_at (station_in infos n) (λ s. served infos (brought_in infos (bypass_of plan (station_in infos n)) n s)) stations
+    changed_where (λ station. station == station_in infos n) (λ s. served infos (brought_in infos (bypass_of plan (station_in infos n)) n s)) stations
 
 -- after a multiple of the plan's number of packets, stopped queues are woken
 abbrev pub with_wakes : Plan → ℕ → List RunningStation → List RunningStation
 with_wakes plan n stations = if (n + 1) % plan.irq_every == 0 then map opened stations else stations
 
--- the plan's events before packet n, the packet, the wakes after it, and then all stations are served
-abbrev pub with_turn : Plan → List Info → ℕ → List RunningStation → List RunningStation
-with_turn plan infos n stations =
-    map (served infos) (with_wakes plan n (with_packet plan infos n (with_events plan infos (events_before plan n) stations)))
+-- the plan's events before packet n, the packet if it is one that is offered, the wakes after it, and then all stations are served
+abbrev pub with_turn : Plan → List Info → (ℕ → Bool) → ℕ → List RunningStation → List RunningStation
+with_turn plan infos offers n stations =
+    let ready = with_events plan infos (events_before plan n) stations in
+    map (served infos) (with_wakes plan n (if offers n then with_packet plan infos n ready else ready))
 
 abbrev pub new_station : ℕ → StationPlan → RunningStation
 new_station number s = record { account = new_account s.len number s.queues; clean = true; device = new_device s.params }
@@ -231,9 +226,9 @@ new_stations number [] = []
 new_stations number (s ∷ ss) = new_station number s ∷ new_stations (number + 1) ss
 
 -- the stations after the first so many packets, from these on
-abbrev pub after_packets : Plan → List Info → List RunningStation → ℕ → List RunningStation
-after_packets plan infos start zero = start
-after_packets plan infos start (suc n) = with_turn plan infos n (after_packets plan infos start n)
+abbrev pub after_packets : Plan → List Info → (ℕ → Bool) → List RunningStation → ℕ → List RunningStation
+after_packets plan infos offers start zero = start
+after_packets plan infos offers start (suc n) = with_turn plan infos offers n (after_packets plan infos offers start n)
 
 -- THE END
 
@@ -255,18 +250,22 @@ abbrev pub finished : List Info → RunningStation → RunningStation
 finished infos s = let t = finished_rounds infos (length (held s.account) + 1) s in record t { account = purged_if_hung t.account }
 
 -- after all packets come the events that are left, and then each station is finished
-abbrev pub after_run : Plan → List Info → List RunningStation → List RunningStation
-after_run plan infos start =
-    map (finished infos) (with_events plan infos (events_after plan (length infos)) (after_packets plan infos start (length infos)))
+abbrev pub after_run : Plan → List Info → (ℕ → Bool) → List RunningStation → List RunningStation
+after_run plan infos offers start =
+    map (finished infos) (with_events plan infos (events_after plan (length infos)) (after_packets plan infos offers start (length infos)))
 
 -- THE FATES
 
 abbrev pub fate_in : List RunningStation → List Info → ℕ → Option Fate
 fate_in stations infos n = option_and_then (λ s. s.account.fates n) (slice_get stations (station_in infos n))
 
--- the fate of each packet, in ascending number, where the run begins with these stations
-unfoldable pub run_fates : Plan → List Info → List RunningStation → List (Option Fate)
-run_fates plan infos start = map (fate_in (after_run plan infos start) infos) (first_numbers (length infos))
+-- the fate of each packet, in ascending number, where these packets are offered; every other has none
+unfoldable pub run_fates : Plan → List Info → (ℕ → Bool) → List (Option Fate)
+run_fates plan infos offers = map (fate_in (after_run plan infos offers (new_stations 0 plan.stations)) infos) (first_numbers (length infos))
 
 abbrev pub alone : Plan → List Info → List (Option Fate)
-alone plan infos = run_fates plan infos (new_stations 0 plan.stations)
+alone plan infos = run_fates plan infos (λ n. true)
+
+-- where only the packets of one station are offered: each keeps its number, so that events and wakes come where they come in the whole run
+abbrev pub alone_at : Plan → List Info → ℕ → List (Option Fate)
+alone_at plan infos station = run_fates plan infos (λ n. station_in infos n == station)

@@ -3,6 +3,8 @@
 use Rattle.std.specs.Prelude.{ℕ, zero, suc, ◌+◌, Bool, ◌||◌, not, nat_lt, nat_le, ◌==◌, if◌then◌else◌, List, ◌++◌, length, take, drop, map, slice_range, Option, Some, None, Result, Ok, Err}
 use Rattle.std.specs.Int.{w16, w32, from_le_bytes, from_be_bytes}
 use Rattle.std.specs.List.{flat_map}
+use Rattle.std.specs.Option.{option_map_or}
+use Rattle.std.specs.Result.{result_map_both}
 use Rattle.lq_model.specs.Numbers.{first_numbers}
 use Rattle.lq_model.specs.declared.capture.CaptureReason.{CaptureReason}
 use Rattle.lq_model.specs.declared.capture.CaptureReason.TheVariants.{ShortHeader, Magic, Version, CutRecordHeader, LongRecord, CutData, TooMany}
@@ -79,27 +81,18 @@ pub record Refusal : Type 0 where
 abbrev pub refused : {T : Type 0} → CaptureReason → ℕ → Result T Refusal
 refused reason place = Err (record { reason = reason; place = place })
 
--- the answer where the record at this place has this fault, or else goes on
-abbrev pub refused_if : Option CaptureReason → ℕ → Result ℕ Refusal → Result ℕ Refusal
-refused_if None place rest = rest
-refused_if (Some reason) place rest = refused reason place
-
 -- How many whole records there are up to the end of the file, if the first i are whole and at most `more` may follow
 -- them; or else the first record that is not whole, or is one too many.
 unfoldable pub count_from : List ℕ → ℕ → ℕ → Result ℕ Refusal
 count_from bytes zero i = if nat_le (length bytes) (place_of bytes i) then Ok i else refused TooMany (place_of bytes i)
 count_from bytes (suc more) i =
     if nat_le (length bytes) (place_of bytes i) then Ok i
-    else refused_if (record_fault bytes (place_of bytes i)) (place_of bytes i) (count_from bytes more (suc i))
+    else option_map_or (λ reason. refused reason (place_of bytes i)) (record_fault bytes (place_of bytes i)) (count_from bytes more (suc i))
 
 -- a capture: the bytes of its file, and how many records they have
 pub record Capture : Type 0 where
   pub bytes : List ℕ
   pub count : ℕ
-
-abbrev pub with_count : List ℕ → Result ℕ Refusal → Result Capture Refusal
-with_count bytes (Ok count) = Ok (record { bytes = bytes; count = count })
-with_count bytes (Err refusal) = Err refusal
 
 -- the capture that the bytes are, or the first test that they fail; a capture has at most 1,000,000 records
 abbrev pub capture_of : List ℕ → Result Capture Refusal
@@ -107,7 +100,7 @@ capture_of bytes =
     if nat_lt (length bytes) 24 then refused ShortHeader (length bytes)
     else if not (is_little_endian bytes || is_big_endian bytes) then refused Magic 0
     else if not (major_version bytes == 2) then refused Version 4
-    else with_count bytes (count_from bytes 1000000 0)
+    else result_map_both (λ count. record { bytes = bytes; count = count }) (λ r. r) (count_from bytes 1000000 0)
 
 -- WHAT A CAPTURE HAS
 

@@ -1,6 +1,6 @@
 -- The class of a frame: its priority and band, its source byte and its route byte.
 use Rattle.std.specs.Prelude.{ℕ, ◌+◌, ◌/◌, Bool, ◌&&◌, nat_le, ◌==◌, if◌then◌else◌, bit_and, List, [], ◌∷◌, length, slice_index, slice_range, Option, Some, None}
-use Rattle.std.specs.Option.{option_map_or}
+use Rattle.std.specs.Option.{option_and_then, option_map_or}
 use Rattle.std.specs.Int.{w16, from_be_bytes}
 
 -- TABLES
@@ -40,13 +40,9 @@ network_start link frame = if link == 1 then ethernet_start frame else if link =
 abbrev pub has_ipv4 : List ℕ → ℕ → Bool
 has_ipv4 frame start = nat_le (start + 20) (length frame) && (slice_index frame start / 16 == 4)
 
-abbrev pub if_ipv4 : List ℕ → Option ℕ → Option ℕ
-if_ipv4 frame None = None
-if_ipv4 frame (Some start) = if has_ipv4 frame start then Some start else None
-
 -- where the frame's IPv4 header begins; None of a frame that isn't IPv4
 unfoldable pub ipv4_start : ℕ → List ℕ → Option ℕ
-ipv4_start link frame = if_ipv4 frame (network_start link frame)
+ipv4_start link frame = option_and_then (λ start. if has_ipv4 frame start then Some start else None) (network_start link frame)
 
 -- CLASSES
 

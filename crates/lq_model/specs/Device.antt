@@ -60,10 +60,6 @@ abbrev pub is_busy : Tx → Bool
 is_busy Busy = true
 is_busy _ = false
 
--- an answer Busy lowers how many more there may be, and no answer raises it
-abbrev pub LowersBusy : Tx → ℕ → ℕ → Type 0
-LowersBusy answer old new = (new ≤ old) × (is_busy answer ≡ true → new < old)
-
 abbrev pub told_after : Tx → Telling → Telling
 told_after answer t = record { params = t.params; busies = t.busies + (if is_busy answer then 1 else 0) }
 
@@ -71,14 +67,14 @@ abbrev pub device_call : ℕ → ℕ → DeviceCall
 device_call queue packet = record { queue = queue; packet = packet }
 
 -- an answer to a packet that was offered on a queue: it is the same device, asked just this call more; just what it accepts is
--- behind what was accepted, and takes room
+-- behind what was accepted, and takes room; and an answer Busy lowers how many more there may be, which no answer raises
 pub record Answers (answer : Tx) (queue packet : ℕ) (old new : DeviceState) : Type 0 where
   pub identity : new.identity ≡ old.identity
   pub asked : new.asked ≡ old.asked ++ device_call queue packet ∷ []
   pub accepted : new.accepted ≡ old.accepted ++ taken answer packet
   pub spare : new.spare + length (taken answer packet) ≡ old.spare
   pub hung : new.hung ≡ is_hang answer
-  pub busy : LowersBusy answer old.busy_left new.busy_left
+  pub busy : (new.busy_left ≤ old.busy_left) × (is_busy answer ≡ true → new.busy_left < old.busy_left)
   pub told : new.told ≡ option_map (told_after answer) old.told
   pub rule : IfSome old.told (λ t. answer ≡ answer_of t (length old.accepted))
 

@@ -15,16 +15,6 @@ generated_header =
 abbrev pub spread : ℕ → ℕ → ℕ
 spread number i = (number + 40503 * i) % 65536
 
-abbrev pub generated_type_of_service : ℕ → ℕ → ℕ
-generated_type_of_service number i = 2 * (spread number i % 16)
-
--- the last bytes of the addresses
-abbrev pub generated_source : ℕ → ℕ → ℕ
-generated_source number i = (spread number i / 16) % 256
-
-abbrev pub generated_destination : ℕ → ℕ
-generated_destination i = i % 256
-
 -- an Ethernet header of 14 bytes, and an IPv4 header of 20 (RFC 791)
 abbrev pub generated_frame : ℕ → ℕ → List ℕ
 generated_frame number i =
@@ -32,14 +22,14 @@ generated_frame number i =
     ++ (2 ∷ 0 ∷ 0 ∷ 0 ∷ 0 ∷ 1 ∷ [])  -- source: 02:00:00:00:00:01
     ++ (8 ∷ 0 ∷ [])  -- EtherType: IPv4
     ++ (0x45 ∷ [])  -- version 4, a header of five words
-    ++ (generated_type_of_service number i ∷ [])
+    ++ (2 * (spread number i % 16) ∷ [])  -- type of service
     ++ (0 ∷ 20 ∷ [])  -- total length
     ++ to_be_bytes w16 (i % 65536)  -- identification
     ++ (0 ∷ 0 ∷ [])  -- flags and fragment offset
     ++ (64 ∷ 253 ∷ [])  -- time to live, and protocol 253 (experiments)
     ++ (0 ∷ 0 ∷ [])  -- checksum: none is made
-    ++ (10 ∷ 0 ∷ 0 ∷ generated_source number i ∷ [])  -- source: 10.0.0.s
-    ++ (10 ∷ 0 ∷ 1 ∷ generated_destination i ∷ [])  -- destination: 10.0.1.d
+    ++ (10 ∷ 0 ∷ 0 ∷ (spread number i / 16) % 256 ∷ [])  -- source: 10.0.0.s
+    ++ (10 ∷ 0 ∷ 1 ∷ i % 256 ∷ [])  -- destination: 10.0.1.d
 
 -- a packet each millisecond; the captured length and the length on the wire are those of the frame
 abbrev pub generated_record : ℕ → ℕ → List ℕ

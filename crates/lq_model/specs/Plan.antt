@@ -1,5 +1,5 @@
 -- Plans, and what each packet of a capture is to the rules.
-use Rattle.std.specs.Prelude.{◌≡◌, ◌<◌, ℕ, ◌+◌, ◌%◌, Bool, true, false, ◌&&◌, ◌==◌, nat_le, nat_lt, if◌then◌else◌, List, length, take, map, sum, count_by, slice_get}
+use Rattle.std.specs.Prelude.{◌≡◌, ◌<◌, ℕ, ◌+◌, ◌%◌, Bool, true, false, ◌&&◌, ◌==◌, nat_le, nat_lt, if◌then◌else◌, List, [], ◌∷◌, length, take, map, sum, count_by, slice_get}
 use Rattle.std.specs.Option.{option_map_or}
 use Rattle.lq_model.specs.Numbers.{first_numbers}
 use Rattle.lq_model.specs.Capture.{Packets}
@@ -65,6 +65,11 @@ reach event = if is_swap event then 1 else event.mq
 abbrev pub is_at : ℕ → EventPlan → Bool
 is_at station event = nat_le event.station station && nat_lt station (event.station + reach event)
 
+-- a value after these events, numbered from e on, where each of the station's changes it
+abbrev pub after_events : {X : Type 0} → (ℕ → EventPlan → X → X) → ℕ → List EventPlan → ℕ → X → X
+after_events change station [] e x = x
+after_events change station (event ∷ events) e x = after_events change station events (e + 1) (if is_at station event then change e event x else x)
+
 -- WHAT A PACKET IS TO THE RULES
 
 -- by what packet n is split: its number, or its source byte
@@ -91,9 +96,6 @@ queues_at stations station = option_map_or (λ s. s.queues) (slice_get stations 
 abbrev pub queue_of : Plan → Packets → ℕ → ℕ
 queue_of plan packets n = source_byte_of (packets.link n) (packets.frame n) % queues_at plan.stations (station_of plan packets n)
 
-abbrev pub packet_band_of : Packets → ℕ → ℕ
-packet_band_of packets n = band_of (priority_of (packets.link n) (packets.frame n))
-
 -- how many lower packets have the same owner and station
 abbrev pub rank_of : Plan → Packets → ℕ → ℕ
 rank_of plan packets n =
@@ -103,7 +105,7 @@ abbrev pub info_of : Plan → Packets → ℕ → Info
 info_of plan packets n = record {
   owner = owner_of plan packets n;
   station = station_of plan packets n;
-  band = packet_band_of packets n;
+  band = band_of (priority_of (packets.link n) (packets.frame n));
   queue = queue_of plan packets n;
   rank = rank_of plan packets n;
 }

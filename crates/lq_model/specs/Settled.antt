@@ -1,9 +1,9 @@
 -- What the fates of a run are, read off a list that has the fate of packet n at place n.
-use Rattle.std.specs.Prelude.{◌≡◌, ◌≢◌, ◌⊎◌, ◌↔◌, ◌<◌, ◌≤◌, ℕ, ◌+◌, ◌-◌, Bool, true, not, ◌&&◌, ◌||◌, nat_le, ◌==◌, if◌then◌else◌, List, [], ◌∷◌, length, take, count_by, filter, slice_get, Option, Some, None}
+use Rattle.std.specs.Prelude.{◌≡◌, ◌≢◌, ◌⊎◌, ◌↔◌, ◌<◌, ◌≤◌, ℕ, ◌-◌, Bool, true, not, ◌&&◌, ◌||◌, nat_le, ◌==◌, if◌then◌else◌, List, [], ◌∷◌, length, take, count_by, filter, slice_get, Option, Some, None}
 use Rattle.std.specs.List.{zip}
 use Rattle.lq_model.specs.Band.{batch}
 use Rattle.lq_model.specs.Legal.{IsEventAt, IsPlannedDown}
-use Rattle.lq_model.specs.Plan.{Plan, is_at, unit_of_swap, owner_in, station_in, band_in}
+use Rattle.lq_model.specs.Plan.{Plan, after_events, is_at, unit_of_swap, owner_in, station_in, band_in}
 use Rattle.lq_model.specs.Texts.{is_full, is_refused, is_sent_by}
 use Rattle.lq_model.specs.declared.device.Params.{Params}
 use Rattle.lq_model.specs.declared.fate.Cause.TheVariants.{Event, Hung}
@@ -109,11 +109,14 @@ IsConfiguredWith plan unit params =
     ((s : StationPlan) × (slice_get plan.stations unit ≡ Some s) × (s.params ≡ params))
     ⊎ ((station : ℕ) × (event : ℕ) × IsEventAt plan station event (kind.Swap params) × (unit ≡ unit_of_swap plan event))
 
--- A unit that hangs after so many packets has sent no more, and packets are purged as hung only where it sent so many.
-pub record HangsAsTold (plan : Plan) (fates : List Fate) : Type 0 where
-  pub at_most : (unit : ℕ) (params : Params) → IsConfiguredWith plan unit params → 0 < params.hang_after → count_by (is_sent_by unit) fates ≤ params.hang_after
-  pub purged : (n unit : ℕ) (params : Params) → slice_get fates n ≡ Some (Purged (Hung unit)) → IsConfiguredWith plan unit params
-      → (0 < params.hang_after) × (count_by (is_sent_by unit) fates ≡ params.hang_after)
+-- a unit that hangs after so many packets sent no more, and packets are purged because it hangs only where it sent so many
+pub record HangsAfter (fates : List Fate) (unit : ℕ) (params : Params) : Type 0 where
+  pub at_most : 0 < params.hang_after → count_by (is_sent_by unit) fates ≤ params.hang_after
+  pub purged : (n : ℕ) → slice_get fates n ≡ Some (Purged (Hung unit)) → (0 < params.hang_after) × (count_by (is_sent_by unit) fates ≡ params.hang_after)
+
+-- every unit does as it is configured
+abbrev pub HangsAsTold : Plan → List Fate → Type 0
+HangsAsTold plan fates = (unit : ℕ) (params : Params) → IsConfiguredWith plan unit params → HangsAfter fates unit params
 
 -- THE FIRST SENDER AND THE EVENTS
 --
@@ -125,11 +128,9 @@ down_after kind.Down event down = Some event
 down_after kind.Up event down = None
 down_after _ event down = down
 
--- the same after the events from number e on that stand before packet n
-abbrev pub down_before : ℕ → ℕ → List EventPlan → ℕ → Option ℕ → Option ℕ
-down_before station n [] e down = down
-down_before station n (event ∷ events) e down =
-    down_before station n events (e + 1) (if nat_le event.before n && is_at station event then down_after event.kind e down else down)
+-- the event that keeps a station deactivated for packet n, after those that stand before it
+abbrev pub down_at : Plan → ℕ → ℕ → Option ℕ
+down_at plan station n = after_events (λ e event down. if nat_le event.before n then down_after event.kind e down else down) station plan.events 0 None
 
 -- the event stands behind the packet
 abbrev pub IsBehind : Plan → ℕ → ℕ → Type 0
@@ -138,7 +139,7 @@ IsBehind plan n event = (e : EventPlan) × (slice_get plan.events event ≡ Some
 pub record MeetsEvents (plan : Plan) (infos : List Info) (fates : List Fate) : Type 0 where
   -- a packet of the first sender is refused exactly where an event before it leaves its station deactivated, and then by that one
   pub refused : (n event : ℕ) → n < length infos → owner_in infos n ≡ 0
-      → (slice_get fates n ≡ Some (Refused event)) ↔ (down_before (station_in infos n) n plan.events 0 None ≡ Some event)
+      → (slice_get fates n ≡ Some (Refused event)) ↔ (down_at plan (station_in infos n) n ≡ Some event)
   -- what drops it from its band stands behind it
   pub shrunk : (n event : ℕ) → owner_in infos n ≡ 0 → slice_get fates n ≡ Some (Shrunk event) → IsBehind plan n event
   pub purged : (n event : ℕ) → owner_in infos n ≡ 0 → slice_get fates n ≡ Some (Purged (Event event)) → IsBehind plan n event

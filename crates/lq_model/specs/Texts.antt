@@ -1,6 +1,6 @@
 -- The lines that tell what became of the packets.
 use Rattle.std.specs.Prelude.{ℕ, ◌+◌, Bool, true, false, ◌&&◌, ◌==◌, List, [], ◌∷◌, ◌++◌, length, count_by, codes}
-use Rattle.std.specs.List.{flat_map, zip}
+use Rattle.std.specs.List.{enumerate_from, flat_map, zip}
 use Rattle.std.specs.Fmt.{decimal}
 pub use Rattle.lq_model.specs.Numbers.{first_numbers}
 use Rattle.lq_model.specs.declared.fate.Info.{Info}
@@ -18,13 +18,9 @@ fate_words (Purged (Event event)) = codes " purged " ++ (decimal event ++ 10 ∷
 fate_words (Purged (Hung unit)) = codes " purged hung" ++ 10 ∷ []
 fate_words (Refused event) = codes " refused " ++ (decimal event ++ 10 ∷ [])
 
--- a line for each fate, from number n on
-abbrev pub fate_lines : ℕ → List Fate → List ℕ
-fate_lines n [] = []
-fate_lines n (fate ∷ fates) = (decimal n ++ fate_words fate) ++ fate_lines (n + 1) fates
-
+-- a line for each packet: its number and its fate
 abbrev pub fates_text : List Fate → List ℕ
-fates_text fates = fate_lines 0 fates
+fates_text fates = flat_map (λ packet. decimal packet.0 ++ fate_words packet.1) (enumerate_from 0 fates)
 
 -- COUNTS
 
@@ -34,10 +30,7 @@ is_sent _ = false
 
 abbrev pub is_sent_by : ℕ → Fate → Bool
 is_sent_by u (Sent unit serial) = unit == u
-is_sent_by u (Full seen) = false
-is_sent_by u (Shrunk event) = false
-is_sent_by u (Purged cause) = false
-is_sent_by u (Refused event) = false
+is_sent_by u _ = false
 
 abbrev pub is_full : Fate → Bool
 is_full (Full seen) = true

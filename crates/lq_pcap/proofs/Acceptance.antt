@@ -1,15 +1,20 @@
 -- Bytes are a capture exactly where they are a file header and whole records; a refusal names the first fault.
 use Rattle.std.proofs.Common.{◌≡◌, ◌<◌, ◌≤◌, ◌+◌, ℕ, zero, suc, List, length, Result, Ok, Err, refl, sym, ap, ◌∙◌, subst, arith, Bool, true, false, cond, ltb, eqb, not, ◌||◌}
+use Rattle.std.specs.Result.{result_map_both}
 use Rattle.std.proofs.lemmas.Bool.{ltb-false, le-ltb, eqb-true, eq-eqb, not-false}
-use Rattle.lq_model.specs.Capture.{Capture, Refusal, capture_of, with_count, place_of, count_from, is_little_endian, is_big_endian, major_version}
+use Rattle.lq_model.specs.Capture.{Capture, Refusal, capture_of, place_of, count_from, is_little_endian, is_big_endian, major_version}
 use Rattle.lq_model.specs.declared.capture.CaptureReason.TheVariants.{ShortHeader, Magic, Version}
 use Rattle.lq_pcap.specs.Laws.{IsWholeRecord, IsCapture}
 use Rattle.lq_pcap.proofs.Walk.{counted, counts}
 
+-- the capture of so many records
+abbrev pub counted_in : List ℕ → Result ℕ Refusal → Result Capture Refusal
+counted_in bytes count = result_map_both (λ count. record { bytes = bytes; count = count }) (λ r. r) count
+
 -- three tests of which none refuses
 passes_all :
     (a b c : Bool) (x y z : Refusal) (bytes : List ℕ) (r : Result ℕ Refusal) (capture : Capture)
-    → cond a (Err x) (cond b (Err y) (cond c (Err z) (with_count bytes r))) ≡ Ok capture
+    → cond a (Err x) (cond b (Err y) (cond c (Err z) (counted_in bytes r))) ≡ Ok capture
     → (a ≡ false) × (b ≡ false) × (c ≡ false) × (r ≡ Ok capture.count) × (capture.bytes ≡ bytes)
 passes_all true b c x y z bytes r capture e = cc
 passes_all false true c x y z bytes r capture e = cc

@@ -1,10 +1,11 @@
 -- The bytes are refused exactly for the first fault that they have.
 use Rattle.std.proofs.Common.{◌≤◌, ap, ◌≡◌, ◌<◌, ◌+◌, ◌-◌, ℕ, zero, suc, List, length, Some, None, Result, Ok, Err, refl, sym, ◌∙◌, subst, arith, inl, inr, Bool, true, false, cond, ltb, eqb, not, ◌||◌}
 use Rattle.std.proofs.lemmas.Bool.{cases_lt, ltb-true, ltb-false, lt-ltb, le-ltb, eqb-true, eqb-false, eq-eqb, ne_eqb, not-true, not-false}
-use Rattle.lq_model.specs.Capture.{Refusal, capture_of, with_count, refused, place_of, end_of, captured_length, record_fault, count_from, is_little_endian, is_big_endian, major_version}
+use Rattle.lq_model.specs.Capture.{Refusal, capture_of, refused, place_of, end_of, captured_length, record_fault, count_from, is_little_endian, is_big_endian, major_version}
 use Rattle.lq_model.specs.declared.capture.CaptureReason.{CaptureReason}
 use Rattle.lq_model.specs.declared.capture.CaptureReason.TheVariants.{ShortHeader, Magic, Version, CutRecordHeader, LongRecord, CutData, TooMany}
 use Rattle.lq_pcap.specs.Laws.{IsWholeRecord, HasFileHeader, GoesOnAt, HasFault}
+use Rattle.lq_pcap.proofs.Acceptance.{counted_in}
 use Rattle.lq_pcap.proofs.Chain.{count_ends, count_goes_on, count_faults, count_full}
 use Rattle.lq_pcap.proofs.Walk.{begins_before, none_from_whole, option_cases, whole_from_none}
 
@@ -16,7 +17,7 @@ data First (A : Type 0) (a b c : Bool) (x y z f : A) (last : Type 0) : Type 0 wh
   no_test : a ≡ false → b ≡ false → c ≡ false → last → First A a b c x y z f last
 
 first_of_header :
-    (a b c : Bool) (x y z f : Refusal) (bytes : List ℕ) (r : Result ℕ Refusal) → cond a (Err x) (cond b (Err y) (cond c (Err z) (with_count bytes r))) ≡ Err f
+    (a b c : Bool) (x y z f : Refusal) (bytes : List ℕ) (r : Result ℕ Refusal) → cond a (Err x) (cond b (Err y) (cond c (Err z) (counted_in bytes r))) ≡ Err f
     → First Refusal a b c x y z f (r ≡ Err f)
 first_of_header true b c x y z f bytes r e = first_test refl cc
 first_of_header false true c x y z f bytes r e = second_test refl refl cc

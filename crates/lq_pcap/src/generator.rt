@@ -1,6 +1,6 @@
 //! Captures generated of a number and a count.
-ghost use Rattle.std.specs.Prelude.{◌≡◌, ◌%◌, ◌≤◌, ◌<◌, ◌++◌, IfOk, OnOk};
-ghost use Rattle.lq_model.specs.Generated.{generated_capture, generated_destination, generated_frame, generated_header, generated_record, generated_source, generated_type_of_service, spread};
+ghost use Rattle.std.specs.Prelude.{◌≡◌, ◌*◌, ◌/◌, ◌%◌, ◌≤◌, ◌<◌, ◌++◌, IfOk, OnOk};
+ghost use Rattle.lq_model.specs.Generated.{generated_capture, generated_frame, generated_header, generated_record, spread};
 
 use crate::layout::HEADER;
 use crate::writer::push_bytes;
@@ -77,19 +77,19 @@ fn spread_of(number: u32, i: u32) -> u16
 }
 
 fn type_of_service(number: u32, i: u32) -> u8
-    ensures { result ≡ generated_type_of_service number i }
+    ensures { result ≡ 2 * (spread number i % 16) }
 {
     (2 * (spread_of(number, i) % 16)) as u8
 }
 
 fn source(number: u32, i: u32) -> u8
-    ensures { result ≡ generated_source number i }
+    ensures { result ≡ (spread number i / 16) % 256 }
 {
     (spread_of(number, i) / 16 % 0x100) as u8
 }
 
 fn destination(i: u32) -> u8
-    ensures { result ≡ generated_destination i }
+    ensures { result ≡ i % 256 }
 {
     (i % 0x100) as u8
 }

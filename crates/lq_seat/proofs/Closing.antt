@@ -3,8 +3,8 @@ use Rattle.std.proofs.Common.{◌≡◌, ℕ, ◌+◌, ◌*◌, ◌<◌, ◌⊎�
 use Rattle.lq_account.proofs.Changes.{Gives, fate-cases}
 use Rattle.lq_account.proofs.Changes.Gives.{gives_purged, gives_sent}
 use Rattle.lq_account.proofs.Lists.{here-in, there-in}
-use Rattle.lq_account.proofs.Trails.{own-in}
-use Rattle.lq_account.specs.Trail.{trail_of}
+use Rattle.lq_account.proofs.Chosen.{own-in}
+use Rattle.lq_account.specs.Trail.{is_own, trail_of}
 use Rattle.lq_band.specs.Stored.{FateWords, word_or}
 use Rattle.lq_model.specs.Account.{Account, Event, Purge, after, after_all}
 use Rattle.lq_model.specs.Words.{HasWord, IsWordOf, word_of}
@@ -85,7 +85,7 @@ module _ (k : Setup) where
 
   -- what was purged as hung was so by an event of the trail
   pub hung-on-trail : (past trail : List Event) → trail ≡ trail_of k.infos past → (n unit : ℕ) → (after_all (first_account k) past).fates n ≡ Some (fate.Purged (cause.Hung unit)) → Contains trail (Purge (cause.Hung unit))
-  hung-on-trail past trail is n unit fate = subst (λ es. Contains es (Purge (cause.Hung unit))) (sym is) (own-in k.infos (Purge (cause.Hung unit)) refl past ((caused past).hung n unit fate))
+  hung-on-trail past trail is n unit fate = subst (λ es. Contains es (Purge (cause.Hung unit))) (sym is) (own-in (is_own k.infos) (Purge (cause.Hung unit)) refl past ((caused past).hung n unit fate))
 
   unit-small : (past : List Event) → AreUnitsSmall k.station (units_of past) → (n : ℕ) (f : Fate) → (after_all (first_account k) past).fates n ≡ Some f → IsUnitSmall f
   unit-small past small n (fate.Sent unit serial) is = ⊎_elim (λ first. subst (λ u. u < 256) (sym first) small.first) (small.later unit) ((caused past).sent n unit serial is)

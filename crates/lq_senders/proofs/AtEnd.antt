@@ -4,12 +4,11 @@ use Rattle.std.specs.Prelude.{slice_get, count_by}
 use Rattle.std.proofs.lemmas.List.Sums.{sum_by-cons}
 use Rattle.std.proofs.lemmas.Option.{same_Some, slice_get_within}
 use Rattle.lq_account.proofs.Controlled.{len-after-controls, len-by-controls}
-use Rattle.lq_account.proofs.Trails.{are-planned, down-is}
+use Rattle.lq_account.proofs.Trails.{down-is}
 use Rattle.lq_account.specs.Controls.{controls_in, planned_controls}
 use Rattle.lq_account.specs.Progress.{len_of, start_of}
 use Rattle.lq_account.specs.Trail.{trail_of, down_of, IsTrail}
 use Rattle.lq_model.specs.Account.{Account, Event, after_all}
-use Rattle.lq_model.specs.Legal.{IsLegal}
 use Rattle.lq_model.specs.Plan.{Plan, is_at, is_swap, is_swap_kind, unit_count}
 use Rattle.lq_model.specs.Settled.{IsConfiguredWith, IsUnitOf, length_after}
 use Rattle.lq_model.specs.declared.device.Params.{Params}
@@ -31,9 +30,6 @@ module _ (plan : Plan) (infos : List Info) (station : ℕ) (v : SeatState) (ends
 
   pub trail-at : IsTrail plan station (trail_of infos v.whole.past)
   trail-at = subst (IsTrail plan station) (sym ends.sound.trail) ends.trail
-
-  pub legal-at : IsLegal plan infos station (start_of plan station) v.whole.past
-  legal-at = record { comes = ends.sound.orderly.comes; planned = are-planned plan infos station (start_of plan station) refl v.whole.past ends.sound.orderly.find_nothing trail-at }
 
   -- the station has its latest unit
   pub unit-at-end : (seat_account v).unit ≡ unit_at plan station (length plan.events)

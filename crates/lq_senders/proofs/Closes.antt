@@ -2,7 +2,7 @@
 use Rattle.std.proofs.Common.{◌≡◌, ℕ, zero, suc, ◌+◌, ◌<◌, List, [], ◌∷◌, ◌++◌, inl, inr, length, Some, refl, sym, ap, ◌∙◌, subst, slice_get, map, filter, arith, length-append}
 use Rattle.std.specs.Prelude.{slice_index}
 use Rattle.std.proofs.lemmas.Option.{same_Some}
-use Rattle.lq_account.proofs.Lists.{get-push-cases, there-in}
+use Rattle.lq_account.proofs.Lists.{get-push-cases}
 use Rattle.lq_account.specs.Progress.{start_of}
 use Rattle.lq_account.specs.Trail.{IsTrail, HaveCome, down_of}
 use Rattle.lq_control.specs.Finish.{AreAllDone}
@@ -54,14 +54,9 @@ ends-trail plan station old new way (inl same) = (
   (subst (HaveCome plan station (length plan.events)) (sym same) way.come, ap (λ past. latest_unit station (units_of past)) same ∙ way.unit),
 )
 ends-trail plan station old new way (inr is) = (
-  subst (IsTrail plan station) (sym is) (way.planned, record { planned = _; ahead = _; meets_down = _; no_hang = _ }),
+  subst (IsTrail plan station) (sym is) (way.planned, record { ahead = _; meets_down = _; no_hang = _ }),
   (
-    subst (HaveCome plan station (length plan.events)) (sym is) (record {
-      resizes = way.come.resizes;
-      queue_lengths = way.come.queue_lengths;
-      swaps = λ e params below at. there-in (Purge (cause.Hung (seat_account new).unit)) old.trail _ (way.come.swaps e params below at);
-      all = way.come.all;
-    }),
+    subst (HaveCome plan station (length plan.events)) (sym is) way.come,
     ap (λ past. latest_unit station (units_of past)) is ∙ way.unit,
   ),
 )

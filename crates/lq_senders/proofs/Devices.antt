@@ -16,7 +16,8 @@ use Rattle.lq_senders.specs.Lanes.{KeepAll}
 use Rattle.lq_senders.specs.Units.{DevicesStand, IsTaken, SameDevices, swaps_before, unit_at}
 use Rattle.lq_senders.proofs.Seats.{each-set, set-here, set-apart}
 use Rattle.lq_senders.proofs.Turns.{event-there, some-there}
-use Rattle.lq_senders.proofs.Units.{one_where, unit-elsewhere, unit-here, unit-more, unit-stays, unit-within}
+use Rattle.lq_account.proofs.Units.{one_where, unit-more}
+use Rattle.lq_senders.proofs.Units.{unit-elsewhere, unit-here, unit-stays, unit-within}
 use Rattle.lq_senders.proofs.Ways.{below-or-at}
 
 -- so many swaps more

@@ -15,24 +15,23 @@ use Rattle.lq_account.specs.Trail.{trail_of, IsTrail, HaveCome}
 use Rattle.lq_model.proofs.FirstNumbers.{list_for_each}
 use Rattle.lq_fates.proofs.SentLemmas.{count_is, sent_is}
 use Rattle.lq_model.specs.Account.{Account, Event, after_all, held}
-use Rattle.lq_model.specs.Alone.{alone, after_run, fate_in, new_stations, run_fates}
+use Rattle.lq_model.specs.Alone.{alone, alone_at, after_run, fate_in, new_stations, run_fates}
 use Rattle.lq_model.specs.Device.{DeviceState, Telling, told_params}
 use Rattle.lq_model.specs.Plan.{Plan, queues_at, station_in, unit_count}
 use Rattle.lq_model.specs.Sent.{sent_of}
-use Rattle.lq_model.specs.Settled.{IsSettled, IsSentList, IsUnitOf, HangsAsTold, IsConfiguredWith}
+use Rattle.lq_model.specs.Settled.{IsSettled, IsSentList, IsUnitOf, HangsAfter, HangsAsTold, IsConfiguredWith}
 use Rattle.lq_model.specs.declared.device.Params.{Params}
 use Rattle.lq_model.specs.declared.fate.Cause.TheVariants.{Hung}
 use Rattle.lq_model.specs.declared.fate.Fate.{Fate}
 use Rattle.lq_model.specs.declared.fate.Fate.TheVariants.{Purged}
 use Rattle.lq_model.specs.declared.fate.Info.{Info}
 use Rattle.lq_seat.specs.State.{SeatState, seat_account, HangsWhere, IsCallOf}
-use Rattle.lq_senders.specs.OwnPackets.{alone_at}
 use Rattle.lq_senders.proofs.OwnPackets.{own_fates}
-use Rattle.lq_senders.proofs.AtEnd.{account-at, as-planned, configured-below, legal-at, trail-at}
+use Rattle.lq_senders.proofs.AtEnd.{account-at, as-planned, configured-below, trail-at}
 use Rattle.lq_senders.proofs.Lists.{length-mapped}
 use Rattle.lq_senders.proofs.Turns.{event-there}
 use Rattle.lq_senders.specs.Ends.{RunEnds, UnitEnds}
-use Rattle.lq_senders.specs.Fates.{AllTell, AreFatesOf, HangsAfter, IsCallOfUnit}
+use Rattle.lq_senders.specs.Fates.{AllTell, AreFatesOf, IsCallOfUnit}
 
 -- DEVICES
 
@@ -70,7 +69,7 @@ module _ (plan : Plan) (infos : List Info) (before after : List DeviceState) (vi
 
   closed : (station : ℕ) → station < length plan.stations → IsClosed plan infos fates station (pasts station) (accounts station)
   closed station below = let own = ends.each station below in let is = account-is station below in record {
-    legal = legal-at plan infos station (views station) own;
+    orderly = own.sound.orderly;
     account = refl;
     nothing_held = ap held (sym is) ∙ own.finished.nothing_held;
     hand_empty = ap (λ (a : Account). a.hand) (sym is) ∙ own.finished.hand_empty;
@@ -137,23 +136,17 @@ module _ (plan : Plan) (infos : List Info) (before after : List DeviceState) (vi
       }
 
   -- a unit of the plan stood in the bench
-  stood : AllTell (unit_count plan) before → (unit : ℕ) (params : Params) → IsConfiguredWith plan unit params → HangsAfter fates unit params
-  stood tell unit params configured =
+  as-told : AllTell (unit_count plan) before → HangsAsTold plan fates
+  as-told tell unit params configured =
       let below = configured-below plan unit params configured in let old = event-there before unit (let bench = ends.bench in omega arith) in
       hangs-after unit params old.0 configured old.1 (tell unit old.0 below old.1)
-
-  as-told : AllTell (unit_count plan) before → HangsAsTold plan fates
-  as-told tell = record {
-    at_most = λ unit params configured some. (stood tell unit params configured).at_most some;
-    purged = λ n unit params there configured. (stood tell unit params configured).purged n there;
-  }
 
   options-length : length (map (λ (fate : Fate). Some fate) fates) ≡ length infos
   options-length = length-mapped (λ (fate : Fate). Some fate) fates ∙ ends.one_each
 
   is-alone : AllTell (unit_count plan) before → plan.senders ≡ 1 → map (λ fate. Some fate) fates ≡ alone plan infos
   unfolding run_fates
-  is-alone tell one = list_for_each (fate_in (after_run plan infos (new_stations 0 plan.stations)) infos) (map (λ (fate : Fate). Some fate) fates) (length infos) options-length
+  is-alone tell one = list_for_each (fate_in (after_run plan infos (λ n. true) (new_stations 0 plan.stations)) infos) (map (λ (fate : Fate). Some fate) fates) (length infos) options-length
       (λ n d inside.
       let there = event-there fates n (let e = ends.one_each in omega arith) in
       get_or_from_slice_get (map (λ (fate : Fate). Some fate) fates) n (Some there.0) d (slice_get-map (λ (fate : Fate). Some fate) fates n ∙ ap (option_map (λ (fate : Fate). Some fate)) there.1)
@@ -168,7 +161,7 @@ module _ (plan : Plan) (infos : List Info) (before after : List DeviceState) (vi
     settled = is-settled;
     complete = complete plan infos fates ends.of_plan is-settled;
     in_order = accounts_are_in_order plan infos fates accounts settled-stations;
-    accounts = λ station below. (pasts station, accounts station, closed station below, as-planned plan infos station (views station) (ends.each station below) (closed station below).events.all);
+    accounts = λ station below. (pasts station, accounts station, closed station below, as-planned plan infos station (views station) (ends.each station below) (closed station below).events);
     events = all-meet plan infos fates ends.one_each ends.of_plan (λ station below. meets-at plan infos station below fates (pasts station) (accounts station) (closed station below) (trails station below));
     devices = devices-are;
     asked = asked-are;

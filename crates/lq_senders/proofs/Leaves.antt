@@ -238,7 +238,7 @@ module _ (plan : Plan) (infos : List Info) (before after : List DeviceState) (ot
   all-own one n inside = let owner = (sendable.made (station_in infos n) (of-plan plan infos sendable n inside)).owners n inside in omega arith
 
   fate-alone : AllTell (unit_count plan) before → plan.senders ≡ 1 → (n : ℕ) → n < length infos
-      → fate_in (after_run plan infos (new_stations 0 plan.stations)) infos n ≡ (seat_account (own-views (station_in infos n))).fates n
+      → fate_in (after_run plan infos (λ n. true) (new_stations 0 plan.stations)) infos n ≡ (seat_account (own-views (station_in infos n))).fates n
   fate-alone tell one n inside =
       let below = of-plan plan infos sendable n inside in let c = seat-there plan infos others start brought closed spares ran (station_in infos n) below in
       let stand = ran.devices over.units over.stand in

@@ -1,20 +1,19 @@
 -- The plan's events in order.
-use Rattle.std.proofs.Common.{◌≡◌, ℕ, zero, suc, ◌+◌, ◌<◌, ◌≤◌, ◌&&◌, ◌||◌, Bool, true, false, List, [], ◌∷◌, inl, inr, map, take, filter, Option, Some, None, is_none, refl, sym, ap, ◌∙◌, subst, cond, slice_get, nat_le, nat_lt, arith}
+use Rattle.std.proofs.Common.{◌≡◌, ℕ, zero, suc, ◌+◌, ◌<◌, ◌≤◌, ◌||◌, Bool, true, false, List, [], ◌∷◌, inl, inr, map, take, filter, Option, Some, None, is_none, refl, sym, ap, ◌∙◌, subst, cond, slice_get, nat_le, nat_lt, arith}
 use Rattle.std.proofs.lemmas.Option.{same_Some}
 use Rattle.std.proofs.lemmas.Bool.{le-leb}
 use Rattle.std.proofs.lemmas.Bool.Decides.{leb_tells}
 use Rattle.lq_model.specs.Account.{Event}
-use Rattle.lq_model.specs.Plan.{Plan, is_at}
-use Rattle.lq_model.specs.Settled.{down_after, down_before}
+use Rattle.lq_model.specs.Plan.{Plan, after_events, is_at}
+use Rattle.lq_model.specs.Settled.{down_after, down_at}
 use Rattle.lq_plan.proofs.Groups.{none-first}
 use Rattle.lq_model.specs.declared.plan.EventKind.{EventKind}
 use Rattle.lq_model.specs.declared.plan.EventKind.TheVariants.{Down, Up, Resize, TxQueueLen, Swap}
 use Rattle.lq_model.specs.declared.plan.EventPlan.{EventPlan}
 use Rattle.lq_plan.specs.Limits.{falls_below, active_after, is_misplaced, kinds_at, is_out_of_order}
-use Rattle.lq_account.specs.Controls.{planned_controls, with_control, with_controls}
-use Rattle.lq_account.specs.Trail.{down_at, down_of}
+use Rattle.lq_account.specs.Controls.{planned_controls, with_control}
+use Rattle.lq_account.specs.Trail.{down_of}
 use Rattle.lq_seat.specs.Calls.{MayDoEvent}
-use Rattle.lq_senders.specs.Units.{after_events}
 use Rattle.lq_senders.specs.Way.{down_after_events, IsSplitAt}
 use Rattle.lq_senders.proofs.Units.{event-more}
 
@@ -29,13 +28,27 @@ down_among station events e down = after_events (λ e event down. down_after eve
 abbrev down_with : ℕ → ℕ → EventPlan → Option ℕ → Option ℕ
 down_with station e event down = cond (is_at station event) (down_after event.kind e down) down
 
+-- the same after the events that stand before packet n
+abbrev down_before : ℕ → ℕ → List EventPlan → ℕ → Option ℕ → Option ℕ
+down_before station n events e down = after_events (λ e event down. cond (nat_le event.before n) (down_after event.kind e down) down) station events e down
+
+abbrev down_if : ℕ → ℕ → EventPlan → Option ℕ → Bool → Option ℕ
+down_if station e event down before = cond (is_at station event) (cond before (down_after event.kind e down) down) down
+
+unmoved : (station e : ℕ) (event : EventPlan) (down : Option ℕ) → down_if station e event down false ≡ down
+unmoved station e event down = go (is_at station event)
+  where
+    go : (b : Bool) → cond b down down ≡ down
+    go true = refl
+    go false = refl
+
 -- events behind the packet change nothing
 none-before : (station n : ℕ) (events : List EventPlan) (e : ℕ) (down : Option ℕ)
     → ((k : ℕ) (event : EventPlan) → slice_get events k ≡ Some event → n < event.before) → down_before station n events e down ≡ down
 none-before station n [] e down behind = refl
 none-before station n (x ∷ xs) e down behind =
-    ap (λ b. down_before station n xs (e + 1) (cond (b && is_at station x) (down_after x.kind e down) down)) (not-le x.before n (behind 0 x refl))
-    ∙ none-before station n xs (e + 1) down (λ k event there. behind (suc k) event there)
+    ap (λ b. down_before station n xs (e + 1) (down_if station e x down b)) (not-le x.before n (behind 0 x refl))
+    ∙ (ap (down_before station n xs (e + 1)) (unmoved station e x down) ∙ none-before station n xs (e + 1) down (λ k event there. behind (suc k) event there))
 
 split-before : (station n : ℕ) (events : List EventPlan) (count e : ℕ) (down : Option ℕ)
     → ((k : ℕ) (event : EventPlan) → k < count → slice_get events k ≡ Some event → event.before ≤ n)
@@ -45,7 +58,7 @@ split-before station n [] zero e down first rest = refl
 split-before station n [] (suc count) e down first rest = refl
 split-before station n (x ∷ xs) zero e down first rest = none-before station n (x ∷ xs) e down (λ k event there. rest k event (omega arith) there)
 split-before station n (x ∷ xs) (suc count) e down first rest =
-    ap (λ b. down_before station n xs (e + 1) (cond (b && is_at station x) (down_after x.kind e down) down)) (le-leb x.before n (first 0 x (omega arith) refl))
+    ap (λ b. down_before station n xs (e + 1) (down_if station e x down b)) (le-leb x.before n (first 0 x (omega arith) refl))
     ∙ split-before station n xs count (e + 1) (down_with station e x down)
     (λ k event below there. first (suc k) event (omega arith) there) (λ k event above there. rest (suc k) event (omega arith) there)
 
@@ -74,22 +87,11 @@ down-elsewhere plan station count event there other = down-next plan station cou
 abbrev controls_with : Plan → ℕ → ℕ → EventPlan → List Event → List Event
 controls_with plan station e event past = cond (is_at station event) (with_control plan e event.kind past) past
 
-one-more-control : (plan : Plan) (station : ℕ) (events : List EventPlan) (count e : ℕ) (past : List Event) (event : EventPlan) → slice_get events count ≡ Some event
-    → with_controls plan station (take (suc count) events) e past ≡ controls_with plan station (e + count) event (with_controls plan station (take count events) e past)
-one-more-control plan station [] count e past event there = absurd cc
-one-more-control plan station (x ∷ xs) zero e past event there =
-    let same : x ≡ event = same_Some x event there in let zero_more : e + 0 ≡ e = omega arith in
-    ap (λ (z : EventPlan). controls_with plan station e z past) same ∙ ap (λ i. controls_with plan station i event past) (sym zero_more)
-one-more-control plan station (x ∷ xs) (suc count) e past event there =
-    let more : (e + 1) + count ≡ e + suc count = omega arith in
-    one-more-control plan station xs count (e + 1) (controls_with plan station e x past) event there
-    ∙ ap (λ i. controls_with plan station i event (with_controls plan station (take count xs) (e + 1) (controls_with plan station e x past))) more
-
 controls-next : (plan : Plan) (station count : ℕ) (event : EventPlan) → slice_get plan.events count ≡ Some event
     → planned_controls plan station (suc count) ≡ controls_with plan station count event (planned_controls plan station count)
 controls-next plan station count event there =
     let same : 0 + count ≡ count = omega arith in
-    one-more-control plan station plan.events count 0 [] event there ∙ ap (λ i. controls_with plan station i event (planned_controls plan station count)) same
+    event-more (λ e x past. with_control plan e x.kind past) station plan.events count 0 [] event there ∙ ap (λ i. controls_with plan station i event (planned_controls plan station count)) same
 
 pub controls-here : (plan : Plan) (station count : ℕ) (event : EventPlan) → slice_get plan.events count ≡ Some event → is_at station event ≡ true
     → planned_controls plan station (suc count) ≡ with_control plan count event.kind (planned_controls plan station count)

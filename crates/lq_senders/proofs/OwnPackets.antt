@@ -1,16 +1,15 @@
 -- The stations of the run of one sender don't meet.
-use Rattle.std.proofs.Common.{◌≡◌, ℕ, zero, suc, ◌+◌, ◌%◌, ◌==◌, Bool, true, false, cond, List, [], ◌∷◌, length, map, Option, Some, None, slice_get, refl, sym, ap, subst, ◌∙◌, eqb-true}
+use Rattle.std.proofs.Common.{◌≡◌, ℕ, zero, suc, ◌+◌, ◌%◌, ◌==◌, Bool, true, false, cond, List, [], ◌∷◌, length, map, Option, Some, None, slice_get, refl, sym, ap, subst, ◌∙◌}
 use Rattle.std.specs.Option.{option_and_then, option_map, option_map_or}
-use Rattle.std.proofs.lemmas.Bool.{eqb-false}
+use Rattle.std.proofs.lemmas.Bool.{eqb-false, ne_eqb}
 use Rattle.std.proofs.lemmas.Option.{slice_get-map}
 use Rattle.lq_model.proofs.FirstNumbers.{first-is}
-use Rattle.lq_model.specs.Alone.{RunningStation, after_packets, after_run, alone, bypass_of, brought_in, changed, changed_at, changed_where, events_after, events_before, fate_in, finished, new_stations, opened, run_fates, served, with_event, with_events, with_packet, with_wakes}
+use Rattle.lq_model.specs.Alone.{RunningStation, after_packets, after_run, alone, alone_at, bypass_of, brought_in, changed, changed_where, events_after, events_before, fate_in, finished, new_stations, opened, run_fates, served, with_event, with_events, with_packet, with_wakes}
 use Rattle.lq_model.specs.Numbers.{first_numbers}
 use Rattle.lq_model.specs.Plan.{Plan, is_at, station_in}
 use Rattle.lq_model.specs.declared.fate.Info.{Info}
 use Rattle.lq_model.specs.declared.plan.EventPlan.{EventPlan}
-use Rattle.lq_senders.specs.OwnPackets.{after_packets_at, after_run_at, alone_at, with_packet_at}
-use Rattle.lq_senders.proofs.Seats.{changed-apart}
+use Rattle.lq_senders.proofs.Seats.{where-apart}
 
 -- both lists have the same at this place
 abbrev AgreeAt : {X : Type 0} → ℕ → List X → List X → Type 0
@@ -19,16 +18,18 @@ AgreeAt j xs ys = slice_get xs j ≡ slice_get ys j
 mapped : {X Y : Type 0} (f : X → Y) (j : ℕ) (xs ys : List X) → AgreeAt j xs ys → AgreeAt j (map f xs) (map f ys)
 mapped f j xs ys same = slice_get-map f xs j ∙ (ap (option_map f) same ∙ sym (slice_get-map f ys j))
 
--- the element at this place, where it was changed
-at-changed : {X : Type 0} (i : ℕ) (f : X → X) (xs : List X) → slice_get (changed_at i f xs) i ≡ option_map f (slice_get xs i)
-at-changed i f [] = refl
-at-changed zero f (x ∷ xs) = refl
-at-changed (suc i) f (x ∷ xs) = at-changed i f xs
-
+-- the element at a place, where those whose place passes the test were changed
 pub at-where : {X : Type 0} (test : ℕ → Bool) (f : X → X) (xs : List X) (j : ℕ) → slice_get (changed_where test f xs) j ≡ option_map (λ x. cond (test j) (f x) x) (slice_get xs j)
 at-where test f [] j = refl
 at-where test f (x ∷ xs) zero = refl
 at-where test f (x ∷ xs) (suc j) = at-where (λ i. test (suc i)) f xs j
+
+where-alike : {X : Type 0} (test : ℕ → Bool) (f : X → X) (j : ℕ) (xs ys : List X) → AgreeAt j xs ys → AgreeAt j (changed_where test f xs) (changed_where test f ys)
+where-alike test f j xs ys same = at-where test f xs j ∙ (ap (option_map (λ x. cond (test j) (f x) x)) same ∙ sym (at-where test f ys j))
+
+-- packet n is one of station j
+abbrev pub own : List Info → ℕ → ℕ → Bool
+own infos j n = station_in infos n == j
 
 module _ (plan : Plan) (infos : List Info) (j : ℕ) where
   event-alike : (e : ℕ) (xs ys : List RunningStation) → AgreeAt j xs ys → AgreeAt j (with_event plan infos e xs) (with_event plan infos e ys)
@@ -39,9 +40,7 @@ module _ (plan : Plan) (infos : List Info) (j : ℕ) where
 
       go : (o : Option EventPlan) → AgreeAt j (after o xs) (after o ys)
       go None = same
-      go (Some x) =
-          let step : RunningStation → RunningStation = λ s. served infos (changed plan e x.kind s) in
-          at-where (λ k. is_at k x) step xs j ∙ (ap (option_map (λ s. cond (is_at j x) (step s) s)) same ∙ sym (at-where (λ k. is_at k x) step ys j))
+      go (Some x) = where-alike (λ k. is_at k x) (λ s. served infos (changed plan e x.kind s)) j xs ys same
 
   events-alike : (events : List ℕ) (xs ys : List RunningStation) → AgreeAt j xs ys → AgreeAt j (with_events plan infos events xs) (with_events plan infos events ys)
   events-alike [] xs ys same = same
@@ -55,37 +54,33 @@ module _ (plan : Plan) (infos : List Info) (j : ℕ) where
       go false = same
 
   -- a packet of another station leaves this one as it is
-  packet-alike : (n : ℕ) (xs ys : List RunningStation) → AgreeAt j xs ys → AgreeAt j (with_packet_at plan infos j n xs) (with_packet plan infos n ys)
-  packet-alike n xs ys same = go (station_in infos n == j) refl
+  packet-alike : (n : ℕ) (xs ys : List RunningStation) → AgreeAt j xs ys → AgreeAt j (cond (own infos j n) (with_packet plan infos n xs) xs) (with_packet plan infos n ys)
+  packet-alike n xs ys same = go (own infos j n) refl
     where
       step : RunningStation → RunningStation
       step s = served infos (brought_in infos (bypass_of plan (station_in infos n)) n s)
 
-      here : (i : ℕ) → i ≡ j → AgreeAt j (changed_at i step xs) (changed_at i step ys)
-      here i is = subst (λ k. slice_get (changed_at i step xs) k ≡ slice_get (changed_at i step ys) k) is
-          (at-changed i step xs ∙ (ap (option_map step) (subst (λ k. slice_get xs k ≡ slice_get ys k) (sym is) same) ∙ sym (at-changed i step ys)))
-
       go : (b : Bool) → (station_in infos n == j) ≡ b → AgreeAt j (cond b (with_packet plan infos n xs) xs) (with_packet plan infos n ys)
-      go true is = here (station_in infos n) (eqb-true (station_in infos n) j is)
-      go false other = same ∙ sym (changed-apart (station_in infos n) j step ys (λ same. eqb-false (station_in infos n) j other (sym same)))
+      go true is = where-alike (λ k. k == station_in infos n) step j xs ys same
+      go false other = same ∙ sym (where-apart (λ k. k == station_in infos n) j step ys (ne_eqb j (station_in infos n) (λ same. eqb-false (station_in infos n) j other (sym same))))
 
-  packets-alike : (start : List RunningStation) (n : ℕ) → AgreeAt j (after_packets_at plan infos j start n) (after_packets plan infos start n)
+  packets-alike : (start : List RunningStation) (n : ℕ) → AgreeAt j (after_packets plan infos (own infos j) start n) (after_packets plan infos (λ n. true) start n)
   packets-alike start zero = refl
   packets-alike start (suc n) =
-      let old = after_packets_at plan infos j start n in let whole = after_packets plan infos start n in
+      let old = after_packets plan infos (own infos j) start n in let whole = after_packets plan infos (λ n. true) start n in
       let events = events-alike (events_before plan n) old whole (packets-alike start n) in
       let xs = with_events plan infos (events_before plan n) old in let ys = with_events plan infos (events_before plan n) whole in
-      mapped (served infos) j (with_wakes plan n (with_packet_at plan infos j n xs)) (with_wakes plan n (with_packet plan infos n ys))
-      (wakes-alike n (with_packet_at plan infos j n xs) (with_packet plan infos n ys) (packet-alike n xs ys events))
+      mapped (served infos) j (with_wakes plan n (cond (own infos j n) (with_packet plan infos n xs) xs)) (with_wakes plan n (with_packet plan infos n ys))
+      (wakes-alike n (cond (own infos j n) (with_packet plan infos n xs) xs) (with_packet plan infos n ys) (packet-alike n xs ys events))
 
-  run-alike : (start : List RunningStation) → AgreeAt j (after_run_at plan infos j start) (after_run plan infos start)
+  run-alike : (start : List RunningStation) → AgreeAt j (after_run plan infos (own infos j) start) (after_run plan infos (λ n. true) start)
   run-alike start =
-      let old = after_packets_at plan infos j start (length infos) in let whole = after_packets plan infos start (length infos) in
+      let old = after_packets plan infos (own infos j) start (length infos) in let whole = after_packets plan infos (λ n. true) start (length infos) in
       mapped (finished infos) j (with_events plan infos (events_after plan (length infos)) old) (with_events plan infos (events_after plan (length infos)) whole)
       (events-alike (events_after plan (length infos)) old whole (packets-alike start (length infos)))
 
 -- a packet of the station has the same fate
-fates-alike : (plan : Plan) (infos : List Info) (n : ℕ) → fate_in (after_run_at plan infos (station_in infos n) (new_stations 0 plan.stations)) infos n ≡ fate_in (after_run plan infos (new_stations 0 plan.stations)) infos n
+fates-alike : (plan : Plan) (infos : List Info) (n : ℕ) → fate_in (after_run plan infos (own infos (station_in infos n)) (new_stations 0 plan.stations)) infos n ≡ fate_in (after_run plan infos (λ n. true) (new_stations 0 plan.stations)) infos n
 fates-alike plan infos n = ap (option_and_then (λ (s : RunningStation). s.account.fates n)) (run-alike plan infos (station_in infos n) (new_stations 0 plan.stations))
 
 -- NUMBERS
@@ -99,7 +94,7 @@ agree-at f g count n same = slice_get-map f (first_numbers count) n ∙ (go (sli
     go (Some k) is = ap Some (subst (λ i. f i ≡ g i) (first-is count n k is) same)
 
 pub own_fates : (plan : Plan) (infos : List Info) (n : ℕ) → slice_get (alone_at plan infos (station_in infos n)) n ≡ slice_get (alone plan infos) n
-unfolding run_fates alone_at
+unfolding run_fates
 own_fates plan infos n =
     let start = new_stations 0 plan.stations in
-    agree-at (fate_in (after_run_at plan infos (station_in infos n) start) infos) (fate_in (after_run plan infos start) infos) (length infos) n (fates-alike plan infos n)
+    agree-at (fate_in (after_run plan infos (own infos (station_in infos n)) start) infos) (fate_in (after_run plan infos (λ n. true) start) infos) (length infos) n (fates-alike plan infos n)

@@ -1,13 +1,14 @@
 -- A sender's seats, where one or all of them did something.
-use Rattle.std.proofs.Common.{◌≡◌, ◌≢◌, ℕ, zero, suc, ◌+◌, ◌<◌, Bool, true, false, cond, List, [], ◌∷◌, length, Some, refl, sym, ap, ◌∙◌, subst, slice_get, map, arith}
+use Rattle.std.proofs.Common.{◌≡◌, ◌≢◌, ℕ, zero, suc, ◌+◌, ◌<◌, ◌==◌, Bool, true, false, cond, List, [], ◌∷◌, length, Some, refl, sym, ap, ◌∙◌, subst, slice_get, map, arith, eq-eqb}
 use Rattle.std.specs.Prelude.{slice_set, slice_index, slice_index_or, All}
 use Rattle.std.specs.Option.{option_map, option_map_or}
+use Rattle.std.proofs.lemmas.Bool.{ne_eqb}
 use Rattle.std.proofs.lemmas.List.{length-set}
 use Rattle.std.proofs.lemmas.Option.{same_Some, slice_get_read, slice_get_within, slice_get-map, get_or_from_slice_get}
 use mathlib.Core.Logic.{dite}
 use native.Mathlib.Decide.{ℕ_discrete}
 use Rattle.lq_account.specs.Progress.{start_of}
-use Rattle.lq_model.specs.Alone.{RunningStation, changed, changed_at, changed_where, served, with_event}
+use Rattle.lq_model.specs.Alone.{RunningStation, changed, changed_where, served, with_event}
 use Rattle.lq_model.specs.Device.{DeviceState}
 use Rattle.lq_model.proofs.Reach.{at-own-swap, swap-apart}
 use Rattle.lq_model.specs.Plan.{Plan, is_at, is_swap}
@@ -48,18 +49,6 @@ each-set P xs i new within here others j x there = dite (ℕ_discrete j i)
     (λ same. let is : new ≡ x = same_Some new x (sym (set-here xs i new within) ∙ (ap (slice_get (slice_set xs i new)) (sym same) ∙ there)) in
     subst (λ k. P k x) (sym same) (subst (P i) is here))
     (λ other. others j x other (sym (set-apart xs i j new other) ∙ there))
-
-pub changed-here : {X : Type 0} (i : ℕ) (f : X → X) (xs : List X) (x : X) → slice_get xs i ≡ Some x → slice_get (changed_at i f xs) i ≡ Some (f x)
-changed-here i f [] x there = absurd cc
-changed-here zero f (y ∷ ys) x there = ap (λ z. Some (f z)) (same_Some y x there)
-changed-here (suc i) f (y ∷ ys) x there = changed-here i f ys x there
-
-pub changed-apart : {X : Type 0} (i k : ℕ) (f : X → X) (xs : List X) → k ≢ i → slice_get (changed_at i f xs) k ≡ slice_get xs k
-changed-apart i k f [] other = refl
-changed-apart zero zero f (y ∷ ys) other = absurd (other refl)
-changed-apart zero (suc k) f (y ∷ ys) other = refl
-changed-apart (suc i) zero f (y ∷ ys) other = refl
-changed-apart (suc i) (suc k) f (y ∷ ys) other = changed-apart i k f ys (λ e. other (ap suc e))
 
 pub where-here : {X : Type 0} (test : ℕ → Bool) (i : ℕ) (f : X → X) (xs : List X) (x : X) → test i ≡ true → slice_get xs i ≡ Some x → slice_get (changed_where test f xs) i ≡ Some (f x)
 where-here test i f [] x passes there = absurd cc
@@ -194,11 +183,11 @@ pub seats-kept : (old new : List SeatState) → KeepAll old new → KeepSeats ol
 seats-kept old new keeps = record { long = keeps.long; each = λ j c c' at at'. seat-kept c c' (keeps.each j c c' at at') }
 
 pub runs-set : (plan : Plan) (infos : List Info) (cpus : List SeatState) (stations : List RunningStation) (i : ℕ) (c c' : SeatState) (step : RunningStation → RunningStation) → slice_get cpus i ≡ Some c
-    → Does infos (start_of plan i) step (solo_of c) (solo_of c') → AreRunAlone plan infos cpus stations → AreRunAlone plan infos (slice_set cpus i c') (changed_at i step stations)
+    → Does infos (start_of plan i) step (solo_of c) (solo_of c') → AreRunAlone plan infos cpus stations → AreRunAlone plan infos (slice_set cpus i c') (changed_where (λ k. k == i) step stations)
 runs-set plan infos cpus stations i c c' step there does runs =
-    each-set (λ (j : ℕ) (x : SeatState). IsAlone infos (start_of plan j) (solo_of x) × (slice_get (changed_at i step stations) j ≡ Some (running (start_of plan j) (solo_of x)))) cpus i c' (slice_get_within cpus i c there)
-    (let was = runs i c there in let now = does was.0 in (now.0, changed-here i step stations _ was.1 ∙ ap Some (sym now.1)))
-    (λ j x other at. let was = runs j x at in (was.0, changed-apart i j step stations other ∙ was.1))
+    each-set (λ (j : ℕ) (x : SeatState). IsAlone infos (start_of plan j) (solo_of x) × (slice_get (changed_where (λ k. k == i) step stations) j ≡ Some (running (start_of plan j) (solo_of x)))) cpus i c' (slice_get_within cpus i c there)
+    (let was = runs i c there in let now = does was.0 in (now.0, where-here (λ k. k == i) i step stations _ (eq-eqb i i refl) was.1 ∙ ap Some (sym now.1)))
+    (λ j x other at. let was = runs j x at in (was.0, where-apart (λ k. k == i) j step stations (ne_eqb j i other) ∙ was.1))
 
 pub table-at : (plan : Plan) (infos : List Info) (sender count n : ℕ) (tables : List TableState) (cpus : List SeatState) → LaneStands plan infos sender count n tables cpus
     → (station : ℕ) (t : TableState) → station < length plan.stations → t ≡ slice_index_or tables station t → slice_get tables station ≡ Some t

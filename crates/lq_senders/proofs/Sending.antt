@@ -116,11 +116,11 @@ sending-own plan infos tables sender n k next last start brought now spares new 
   alone = λ units stand tell z own from begins. let alone = was.alone units stand tell z own from begins in let all = alone.0 in (
     (omega arith),
     (λ j event above there. let gt = left z j event above there in omega arith),
-    subst (λ i. AreRunAlone plan infos new (after_packets plan infos from i)) (let more : suc n ≡ n + 1 = omega arith in more)
-        (subst (λ l. AreRunAlone plan infos new (map (served infos) (with_wakes plan n (with_packet plan infos n (with_events plan infos l (after_packets plan infos from n))))))
+    subst (λ i. AreRunAlone plan infos new (after_packets plan infos (λ n. true) from i)) (let more : suc n ≡ n + 1 = omega arith in more)
+        (subst (λ l. AreRunAlone plan infos new (map (served infos) (with_wakes plan n (with_packet plan infos n (with_events plan infos l (after_packets plan infos (λ n. true) from n))))))
         (sym (events-before-are plan n next last order within was.earlier alone.1 done (left z)))
-        (subst (λ i. AreRunAlone plan infos new (map (served infos) (with_wakes plan i (with_packet plan infos n (with_events plan infos (numbers_from next (last - next)) (after_packets plan infos from n)))))) all
-        (runs units (was.devices units stand) tell (after_packets plan infos from n) alone.2))),
+        (subst (λ i. AreRunAlone plan infos new (map (served infos) (with_wakes plan i (with_packet plan infos n (with_events plan infos (numbers_from next (last - next)) (after_packets plan infos (λ n. true) from n)))))) all
+        (runs units (was.devices units stand) tell (after_packets plan infos (λ n. true) from n) alone.2))),
   );
 }
 

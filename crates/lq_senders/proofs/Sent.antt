@@ -7,7 +7,7 @@ use Rattle.std.proofs.lemmas.List.Sums.{count_by_more_yes, count_by_more_no}
 use Rattle.std.proofs.lemmas.Option.{get_or_from_slice_get, same_Some, slice_get_within}
 use Rattle.lq_account.specs.Progress.{start_of}
 use Rattle.lq_control.specs.Finish.{AreRanks, count_below, is_packet_of}
-use Rattle.lq_model.specs.Alone.{RunningStation, bypass_of, brought_in, changed_at, served, with_packet}
+use Rattle.lq_model.specs.Alone.{RunningStation, bypass_of, brought_in, changed_where, served, with_packet}
 use Rattle.lq_model.specs.Plan.{Plan, owner_in, rank_in, station_in}
 use Rattle.lq_model.specs.declared.fate.Info.{Info}
 use Rattle.lq_qdisc.specs.Alone.{Does}
@@ -132,5 +132,5 @@ runs-sent plan infos sender count n tables cpus stations info t c c' there at-t 
     let own : Does infos (start_of plan info.station) (λ s. served infos (brought_in infos (bypass_of plan info.station) n s)) (solo_of c) (solo_of c') =
     let was = lane.each info.station t c at-t at-c in
     own-step plan infos info.station (λ k s. served k.infos (brought_in k.infos k.bypass n s)) c c' (made-of plan infos info.station t was.table c was.seat) sends.alone in
-    subst (λ (k : ℕ). AreRunAlone plan infos (slice_set cpus info.station c') (changed_at k (λ s. served infos (brought_in infos (bypass_of plan k) n s)) stations)) (sym (station-is infos n info there))
+    subst (λ (k : ℕ). AreRunAlone plan infos (slice_set cpus info.station c') (changed_where (λ i. i == k) (λ s. served infos (brought_in infos (bypass_of plan k) n s)) stations)) (sym (station-is infos n info there))
     (runs-set plan infos cpus stations info.station c c' (λ s. served infos (brought_in infos (bypass_of plan info.station) n s)) at-c own runs)

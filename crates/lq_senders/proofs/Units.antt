@@ -1,38 +1,19 @@
 -- The plan's events and the units that they bring.
 use Rattle.std.proofs.Common.{◌≡◌, ℕ, zero, suc, ◌+◌, ◌<◌, ◌≤◌, ◌&&◌, Bool, true, false, cond, List, [], ◌∷◌, inl, inr, length, take, slice_get, Some, refl, sym, ap, ◌∙◌, subst, arith, Contains}
-use Rattle.std.proofs.lemmas.List.Sums.{count_by-le-length, count_by_more_yes, count_by_more_no, sum_by-take-le}
-use Rattle.std.proofs.lemmas.Option.{get_or_from_slice_get, same_Some, slice_get_within}
+use Rattle.std.proofs.lemmas.List.Sums.{count_by-le-length, sum_by-take-le}
+use Rattle.std.proofs.lemmas.Option.{same_Some}
+use Rattle.lq_account.proofs.Units.{unit-after}
 use Rattle.lq_account.proofs.Lists.{cons-in, here-in, there-in, none-in}
 use Rattle.lq_model.specs.Account.{Event, Swap}
-use Rattle.lq_model.specs.Plan.{Plan, is_at, is_swap, is_swap_kind, unit_count, unit_of_swap}
+use Rattle.lq_model.specs.Plan.{Plan, after_events, is_at, is_swap, is_swap_kind, unit_count, unit_of_swap}
 use Rattle.lq_model.specs.declared.device.Params.{Params}
 use Rattle.lq_model.specs.declared.plan.EventKind.{EventKind}
 use Rattle.lq_model.specs.declared.plan.EventKind.TheVariants as kind
 use Rattle.lq_model.specs.declared.plan.EventPlan.{EventPlan}
 use Rattle.lq_seat.specs.State.{units_of}
-use Rattle.lq_senders.specs.Units.{after_events, unit_at}
+use Rattle.lq_senders.specs.Units.{unit_at}
 
 -- HOW MANY
-
--- the units that the first so many events bring
-abbrev pub one_where : Bool → ℕ
-one_where true = 1
-one_where false = 0
-
-pub unit-more : (plan : Plan) (count : ℕ) (event : EventPlan) → slice_get plan.events count ≡ Some event → (b : Bool) → is_swap event ≡ b
-    → unit_of_swap plan (suc count) ≡ unit_of_swap plan count + one_where b
-unit-more plan count event there true is =
-    let test = count_by_more_yes is_swap plan.events count event (slice_get_within plan.events count event there) (ap is_swap (get_or_from_slice_get plan.events count event event there) ∙ is) in
-    let same : suc count ≡ count + 1 = omega arith in ap (unit_of_swap plan) same ∙ omega (arith, test)
-unit-more plan count event there false is =
-    let test = count_by_more_no is_swap plan.events count event (slice_get_within plan.events count event there) (ap is_swap (get_or_from_slice_get plan.events count event event there) ∙ is) in
-    let same : suc count ≡ count + 1 = omega arith in ap (unit_of_swap plan) same ∙ omega (arith, test)
-
-pub unit-after : (plan : Plan) (count : ℕ) (event : EventPlan) → slice_get plan.events count ≡ Some event → (b : Bool) → is_swap event ≡ b → unit_of_swap plan (count + 1) ≡ unit_of_swap plan count + one_where b
-unit-after plan count event there b is = let same : suc count ≡ count + 1 = omega arith in ap (unit_of_swap plan) (sym same) ∙ unit-more plan count event there b is
-
-pub unit-rises : (plan : Plan) (count unit : ℕ) (event : EventPlan) → slice_get plan.events count ≡ Some event → unit < unit_of_swap plan count → unit < unit_of_swap plan (suc count)
-unit-rises plan count unit event there below = let more = unit-more plan count event there (is_swap event) refl in omega arith
 
 -- there are as many units, the one that a swap brings among them
 pub unit-within : (plan : Plan) (count : ℕ) (event : EventPlan) → slice_get plan.events count ≡ Some event → is_swap event ≡ true → unit_of_swap plan count < unit_count plan

@@ -185,4 +185,4 @@ pub record RunEnds (plan : Plan) (infos : List Info) (before after : List Device
       → told_params device ≡ option_map (λ _. params) old.told
   -- where the devices tell and there is one sender, each packet's fate is that of the run of one sender
   pub alone : AllTell (unit_count plan) before → plan.senders ≡ 1 → (n : ℕ) → n < length infos
-      → fate_in (after_run plan infos (new_stations 0 plan.stations)) infos n ≡ (seat_account (views (station_in infos n))).fates n
+      → fate_in (after_run plan infos (λ n. true) (new_stations 0 plan.stations)) infos n ≡ (seat_account (views (station_in infos n))).fates n

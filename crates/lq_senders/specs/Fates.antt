@@ -1,22 +1,20 @@
 -- What the fates of a run are, what its devices did, and what stays of its stations.
-use Rattle.std.specs.Prelude.{◌≡◌, ◌<◌, ◌≤◌, ℕ, true, List, All, length, map, count_by, Some, slice_get, slice_index, IsSome}
+use Rattle.std.specs.Prelude.{◌≡◌, ◌<◌, ℕ, true, List, All, length, map, Some, slice_get, slice_index, IsSome}
 use Rattle.std.specs.Option.{option_map}
 use Rattle.lq_account.specs.Accounts.{IsClosed}
 use Rattle.lq_model.specs.Account.{Account, Event}
-use Rattle.lq_model.specs.Alone.{alone}
+use Rattle.lq_model.specs.Alone.{alone, alone_at}
 use Rattle.lq_model.specs.Complete.{IsComplete}
 use Rattle.lq_model.specs.Device.{DeviceCall, DeviceState, told_params}
 use Rattle.lq_model.specs.Plan.{Plan, queue_in, queues_at, station_in, unit_count}
 use Rattle.lq_model.specs.Sent.{sent_of}
-use Rattle.lq_model.specs.Settled.{IsConfiguredWith, IsSettled, IsInSenderOrder, IsUnitOf, HangsAsTold, MeetsEvents}
-use Rattle.lq_model.specs.Texts.{is_sent_by}
+use Rattle.lq_model.specs.Settled.{IsConfiguredWith, IsSettled, IsInSenderOrder, IsUnitOf, HangsAfter, HangsAsTold, MeetsEvents}
 use Rattle.lq_model.specs.declared.device.Params.{Params}
 use Rattle.lq_model.specs.declared.fate.Cause.TheVariants.{Hung}
 use Rattle.lq_model.specs.declared.fate.Fate.{Fate}
 use Rattle.lq_model.specs.declared.fate.Fate.TheVariants.{Purged}
 use Rattle.lq_model.specs.Words.{IsWordOf}
 use Rattle.lq_model.specs.declared.fate.Info.{Info}
-use Rattle.lq_senders.specs.OwnPackets.{alone_at}
 use Rattle.lq_senders.specs.Way.{EndsAsPlanned}
 use Rattle.lq_table.specs.Ended.{EndedState}
 
@@ -27,11 +25,6 @@ AllTell units devices = (unit : ℕ) (device : DeviceState) → unit < units →
 -- which devices stand on a bench, in their order
 abbrev pub identities_of : List DeviceState → List ℕ
 identities_of devices = map (λ device. device.identity) devices
-
--- a unit that hangs after so many packets sent no more, and packets are purged because it hangs only where it sent so many
-pub record HangsAfter (fates : List Fate) (unit : ℕ) (params : Params) : Type 0 where
-  pub at_most : 0 < params.hang_after → count_by (is_sent_by unit) fates ≤ params.hang_after
-  pub purged : (n : ℕ) → slice_get fates n ≡ Some (Purged (Hung unit)) → (0 < params.hang_after) × (count_by (is_sent_by unit) fates ≡ params.hang_after)
 
 -- A unit's device was asked to send a packet of the unit's station, on that packet's own queue, which is one of the station's.
 pub record IsCallOfUnit (plan : Plan) (infos : List Info) (unit : ℕ) (call : DeviceCall) : Type 0 where

@@ -100,7 +100,7 @@ pub record IsSending (plan : Plan) (infos : List Info) (tables : List TableState
   -- where all packets are the first sender's, and the devices that swaps bring tell, its seats are the stations of the run of
   -- one sender
   pub alone : (units : List DeviceState) → DevicesStand plan infos units 0 start brought → DoTell plan units → sender ≡ 0 → AllOwn infos → (from : List RunningStation) → AreRunAlone plan infos start from
-      → (k ≡ n) × ((j : ℕ) (event : EventPlan) → next ≤ j → slice_get plan.events j ≡ Some event → n ≤ event.before) × AreRunAlone plan infos now (after_packets plan infos from n)
+      → (k ≡ n) × ((j : ℕ) (event : EventPlan) → next ≤ j → slice_get plan.events j ≡ Some event → n ≤ event.before) × AreRunAlone plan infos now (after_packets plan infos (λ n. true) from n)
 
 -- LANES
 
@@ -146,4 +146,4 @@ pub record IsSendable (plan : Plan) (infos : List Info) : Type 0 where
 
 -- the stations of the run of one sender after all packets and events
 abbrev pub after_sending : Plan → List Info → List RunningStation → List RunningStation
-after_sending plan infos from = with_events plan infos (events_after plan (length infos)) (after_packets plan infos from (length infos))
+after_sending plan infos from = with_events plan infos (events_after plan (length infos)) (after_packets plan infos (λ n. true) from (length infos))

@@ -10,8 +10,6 @@ pub mod Woken
 pub mod Lanes
 -- the other senders' seats are joined into the first sender's
 pub mod Joins
--- the run of one sender where only the packets of one station are offered
-pub mod OwnPackets
 -- what the fates of a run are, what its devices did, and what stays of its stations
 pub mod Fates
 -- what a run leaves at its end

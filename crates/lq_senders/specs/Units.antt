@@ -1,8 +1,8 @@
 -- Which unit a station has, where its device is swapped, and where the devices of the other units are.
-use Rattle.std.specs.Prelude.{◌≡◌, ◌<◌, ◌≤◌, ℕ, zero, suc, ◌+◌, true, false, if◌then◌else◌, List, [], ◌∷◌, ◌++◌, take, drop, length, count_by, slice_get, slice_set, Option, Some, None, Contains}
+use Rattle.std.specs.Prelude.{◌≡◌, ◌<◌, ◌≤◌, ℕ, zero, suc, true, false, if◌then◌else◌, List, [], ◌++◌, take, drop, length, count_by, slice_get, slice_set, Option, Some, None, Contains}
 use Rattle.lq_model.specs.Alone.{new_device}
 use Rattle.lq_model.specs.Device.{DeviceState}
-use Rattle.lq_model.specs.Plan.{Plan, is_at, is_swap, unit_count, unit_of_swap}
+use Rattle.lq_model.specs.Plan.{Plan, after_events, is_swap, unit_count, unit_of_swap}
 use Rattle.lq_model.specs.declared.device.Params.{Params}
 use Rattle.lq_model.specs.declared.fate.Info.{Info}
 use Rattle.lq_model.specs.declared.plan.EventKind.TheVariants as kind
@@ -10,11 +10,6 @@ use Rattle.lq_model.specs.declared.plan.EventPlan.{EventPlan}
 use Rattle.lq_seat.specs.State.{SeatState, HasServed, station_count}
 
 -- UNITS
-
--- a value after these events, numbered from e on, where each of the station's changes it
-abbrev pub after_events : {X : Type 0} → (ℕ → EventPlan → X → X) → ℕ → List EventPlan → ℕ → X → X
-after_events change station [] e x = x
-after_events change station (event ∷ events) e x = after_events change station events (e + 1) (if is_at station event then change e event x else x)
 
 -- the station's unit after the first so many events of the plan
 abbrev pub unit_at : Plan → ℕ → ℕ → ℕ

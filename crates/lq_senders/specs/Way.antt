@@ -1,15 +1,15 @@
 -- How far the first sender is with the plan's events at a station.
-use Rattle.std.specs.Prelude.{◌≡◌, ◌<◌, ◌≤◌, ℕ, zero, suc, ◌+◌, List, [], ◌∷◌, take, length, filter, slice_get, Option, Some, None, Contains, filter_map}
+use Rattle.std.specs.Prelude.{◌≡◌, ◌<◌, ◌≤◌, ℕ, zero, suc, ◌+◌, List, [], ◌∷◌, take, length, filter, slice_get, Option, Some, None, Contains}
 use Rattle.lq_account.specs.Progress.{len_of}
 use Rattle.lq_account.specs.Trail.{down_of, IsTrail, HaveCome}
 use Rattle.lq_model.specs.Account.{Account, Event, Purge, Swap}
-use Rattle.lq_model.specs.Legal.{brought_by, resize_event, down_event}
-use Rattle.lq_model.specs.Plan.{Plan, is_at, unit_of_swap}
+use Rattle.lq_model.specs.Legal.{brought_by}
+use Rattle.lq_model.specs.Plan.{Plan, after_events, is_at, unit_of_swap}
 use Rattle.lq_model.specs.Settled.{down_after, length_after}
 use Rattle.lq_model.specs.declared.fate.Cause.TheVariants as cause
 use Rattle.lq_model.specs.declared.plan.EventPlan.{EventPlan}
 use Rattle.lq_seat.specs.State.{latest_unit, units_of}
-use Rattle.lq_senders.specs.Units.{after_events, unit_at}
+use Rattle.lq_senders.specs.Units.{unit_at}
 
 -- the event that leaves the station deactivated after the first so many events of the plan
 abbrev pub down_after_events : Plan → ℕ → ℕ → Option ℕ
@@ -42,8 +42,6 @@ IsSplitAt plan count n = StandBefore plan count n × StandAfter plan count n
 pub record IsOnWay (plan : Plan) (station count : ℕ) (trail : List Event) : Type 0 where
   pub planned : IsTrail plan station trail
   pub come : HaveCome plan station count trail
-  pub resizes_below : (e : ℕ) → Contains (filter_map resize_event trail) e → e < count
-  pub downs_below : (e : ℕ) → Contains (filter_map down_event trail) e → e < count
   pub down : down_of trail ≡ down_after_events plan station count
   pub ahead : (m : ℕ) → Contains (brought_by trail) m → (k : ℕ) (event : EventPlan) → count ≤ k → slice_get plan.events k ≡ Some event → m < event.before
   pub unit : latest_unit station (units_of trail) ≡ unit_at plan station count

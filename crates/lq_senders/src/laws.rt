@@ -4,9 +4,8 @@ ghost use Rattle.lq_seat.specs.State.{SeatState};
 ghost use Rattle.lq_senders.specs.Ends.{AreBack, AreOver, ClosedState, FatesRead, HasSentAll, IsReadable, RunEnds, SameBoxes};
 ghost use Rattle.lq_senders.specs.Fates.{AreFatesOf, IsEndedAs};
 ghost use Rattle.lq_senders.specs.Lanes.{IsSendable};
-ghost use Rattle.lq_senders.specs.OwnPackets.{alone_at};
 ghost use Rattle.lq_senders.specs.Setup.{IsRunBy};
-ghost use Rattle.lq_model.specs.Alone.{alone};
+ghost use Rattle.lq_model.specs.Alone.{alone, alone_at};
 ghost use Rattle.lq_model.specs.Device.{DeviceState};
 ghost use Rattle.lq_model.specs.Plan.{Plan, is_swap, station_in};
 ghost use Rattle.lq_model.specs.Runs.{group_event_at, group_of_two, no_rules, packets_to, station};
@@ -82,7 +81,7 @@ pub fn stations_run_apart()
 
 /// Two stations are the children of one multi-queue root, and the packets of only one are offered. The event before packet 2 stays
 /// there, whichever they are.
-#[tactic(auto, unfolding(crate::specs::OwnPackets::alone_at))]
+#[tactic(auto, unfolding(lq_model::specs::Alone::run_fates))]
 pub fn one_child_is_offered()
     ensures first { alone_at (group_of_two (station 1000 true no_rules) (group_event_at 2 kind.Down ∷ []))
         (packets_to (1 ∷ 0 ∷ 1 ∷ 0 ∷ [])) 0 ≡ None ∷ Some (Sent 0 0) ∷ None ∷ Some (Refused 0) ∷ [] }

@@ -1,4 +1,4 @@
-use Rattle.std.proofs.Common.{◌≡◌, ℕ, ◌+◌, ◌/◌, ap, length, map, refl, sym, ◌∙◌, subst, arith}
+use Rattle.std.proofs.Common.{◌≡◌, ℕ, ◌+◌, ◌/◌, true, ap, length, map, refl, sym, ◌∙◌, subst, arith}
 use Rattle.lq_model.specs.Alone.{with_events, after_packets}
 use Rattle.lq_senders.specs.Lanes.{IsSending, LaneDone, LaneStands, AreRunAlone}
 use Rattle.lq_senders.proofs.Calls.{called-keep}
@@ -59,7 +59,7 @@ returns-clause-runs g c zero_th units stand tell own from begins =
     let sending = subst (λ (n : ℕ). IsSending c.args.run.now.plan.now c.args.run.now.infos.now c.args.run.now.tables.now c.loop-n.sender.owner n c.loop-n.at.sent c.loop-n.at.next c.args.sender.now.seats.items (states c.args.sender.now.spares.items)
     c.loop-n.sender.seats.items (states c.loop-n.sender.spares.items)) same inv.sending in
     let alone = sending.alone units stand tell (inv.owner ∙ zero_th) own from begins in
-    subst (λ l. AreRunAlone c.args.run.now.plan.now c.args.run.now.infos.now c.events_left.new.sender.seats.items (with_events c.args.run.now.plan.now c.args.run.now.infos.now l (after_packets c.args.run.now.plan.now c.args.run.now.infos.now from (length c.args.run.now.infos.now))))
+    subst (λ l. AreRunAlone c.args.run.now.plan.now c.args.run.now.infos.now c.events_left.new.sender.seats.items (with_events c.args.run.now.plan.now c.args.run.now.infos.now l (after_packets c.args.run.now.plan.now c.args.run.now.infos.now (λ n. true) from (length c.args.run.now.infos.now))))
     (sym (events-after-are c.args.run.now.plan.now (length c.args.run.now.infos.now) c.loop-n.at.next sending.within sending.earlier alone.1))
     (c.events_left.ensures.runs (inv.owner ∙ zero_th) units (sending.devices units stand) tell _ alone.2)
 

@@ -1,6 +1,7 @@
 use Rattle.std.proofs.Common.{◌≡◌, ◌<◌, Some, length, subst, sym, ap, ◌∙◌}
 use Rattle.std.proofs.lemmas.Option.{same_Some}
 use Rattle.lq_account.specs.Progress.{start_of}
+use Rattle.lq_account.proofs.AsPlanned.{legal-of}
 use Rattle.lq_model.specs.Account.{Account, Take}
 use Rattle.lq_model.specs.Legal.{Comes}
 use Rattle.lq_model.specs.Plan.{infos_of}
@@ -17,11 +18,12 @@ returns-clause-full c = λ run fates before after station n seen are below insid
     let within : n < length (infos_of run.plan (packets_of_file run.capture)) = subst (λ count. n < count) (sym (length-infos_of run.plan (packets_of_file run.capture))) inside in
     let given = closed.decided n within of in
     let same : given.0 ≡ fate.Full seen = same_Some _ _ (sym given.1 ∙ there) in
-    saw_its_slot run.plan (infos_of run.plan (packets_of_file run.capture)) station n seen has.0 closed.legal.comes closed.legal.planned
+    saw_its_slot run.plan (infos_of run.plan (packets_of_file run.capture)) station n seen has.0 closed.orderly.comes
+    (legal-of run.plan (infos_of run.plan (packets_of_file run.capture)) fates station has.0 has.1 closed).planned
     (ap (λ (a : Account). a.fates n) (sym closed.account) ∙ (given.2 ∙ ap Some same))
 
 pub returns-clause-order : goal.returns-clause-order
 returns-clause-order c = λ run fates before after are station below later earlier band is.
     let has = are.of_run.accounts station below in
     comes_there (infos_of run.plan (packets_of_file run.capture)) station (start_of run.plan station) later earlier (Take band)
-    (subst (Comes (infos_of run.plan (packets_of_file run.capture)) station (start_of run.plan station)) is has.2.legal.comes)
+    (subst (Comes (infos_of run.plan (packets_of_file run.capture)) station (start_of run.plan station)) is has.2.orderly.comes)

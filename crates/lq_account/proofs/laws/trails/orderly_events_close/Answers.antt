@@ -1,11 +1,9 @@
-use Rattle.std.proofs.Common.{refl}
-use Rattle.lq_account.specs.Progress.{start_of}
-use Rattle.lq_account.proofs.Trails.{are-planned, have-all-come, no-swap-after-hang}
+use Rattle.lq_account.proofs.Trails.{have-all-come, no-swap-after-hang}
 use Rattle.lq_account.proofs.laws.trails.orderly_events_close.Goals as goal
 
 pub returns : goal.returns
 returns c plan infos fates station past a orderly is trail come nothing hand decided = record {
-  legal = record { comes = orderly.comes; planned = are-planned plan infos station (start_of plan station) refl past orderly.find_nothing trail };
+  orderly = orderly;
   account = is;
   nothing_held = nothing;
   hand_empty = hand;
