@@ -14,7 +14,7 @@ POWERS = [1]
 while len(POWERS) < 65536:
     POWERS.append(POWERS[-1] * 31 % 2**64)
 
-# Known ways in which a kernel does otherwise; see `causes.py`.
+# Known ways in which a kernel does otherwise; see `compare.py`.
 Linux = namedtuple("Linux", "same_length too_long bulk put_ahead", defaults=(False, False, False, False))
 
 Params = namedtuple("Params", "burst busy_every busy_limit hang_after", defaults=(0, 0, 0, 0))
