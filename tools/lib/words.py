@@ -1,0 +1,122 @@
+"""How a tool begins and ends: its words, its help, its exit code, and one line for whatever may go wrong outside of it.
+
+    if __name__ == "__main__":
+        words.run("check-plan", __doc__, main)
+
+`main` gets the words of the command line and returns the exit code, or nothing for 0. `--help` prints the tool's own text to standard output
+and ends with 0; `Wrong` ends with 2, `Failed` with 1 or its own code. No traceback reaches a user: a fault of a file, of memory or of
+standard output is one line, and an interrupt ends the tool by its signal, so that a loop in a shell ends with it. A tool imports this module
+before what takes longer to import: from then on an interrupt leaves no traceback.
+"""
+import os
+import signal
+import sys
+
+# a shell ignores interrupts for what it runs in the background
+INTERRUPTS = signal.getsignal(signal.SIGINT) is signal.default_int_handler
+if INTERRUPTS:
+    signal.signal(signal.SIGINT, signal.SIG_DFL)
+# a reader that has had enough ends the tool, as it ends others
+signal.signal(signal.SIGPIPE, signal.SIG_DFL)
+
+
+class Wrong(Exception):
+    """Words that a tool doesn't take: a line, and exit code 2. Without a line the usage is said."""
+
+
+class Failed(Exception):
+    """Why a tool can't do what it is to do: a line, and its exit code."""
+
+    def __init__(self, line, code=1):
+        super().__init__(line)
+        self.code = code
+
+
+def say(tool, line):
+    """A line on standard error, which may be closed or full."""
+    try:
+        print(f"{tool}: {line}", file=sys.stderr, flush=True)
+    except (OSError, ValueError):
+        pass
+
+
+def usage_of(about):
+    """The lines of a tool's text that show how it is called, or else its first."""
+    shown = [it for it in about.splitlines() if it.startswith("    tools/")]
+    return "\n".join(shown) if shown else about.partition("\n")[0]
+
+
+def line_of(fault):
+    """A fault of a file, as a line: its name, where it is known, and what the system says."""
+    said = fault.strerror or str(fault)
+    names = [str(it) for it in (fault.filename, fault.filename2) if it is not None]
+    return ": ".join([*names, said])
+
+
+def leave_output():
+    """What couldn't be written isn't tried again when the interpreter ends."""
+    with open(os.devnull, "wb") as nothing:
+        for number in (1, 2):
+            try:
+                os.dup2(nothing.fileno(), number)
+            except OSError:
+                pass
+
+
+def end_by(number):
+    """Ends by a signal itself: a shell's loop goes on behind a mere exit code."""
+    sys.stdout = sys.stderr = None
+    signal.signal(number, signal.SIG_DFL)
+    os.kill(os.getpid(), number)
+
+
+def asks_for_help(given):
+    """Whether a word asks for help, before any that ends the options."""
+    options = given[: given.index("--")] if "--" in given else given
+    return "--help" in options or "-h" in options
+
+
+def code_of(tool, about, main, given):
+    """The exit code of a tool, once what it printed is written."""
+    try:
+        if asks_for_help(given):
+            print(about.strip())
+            code = 0
+        else:
+            code = main(given)
+        sys.stdout.flush()
+        return code or 0
+    except Wrong as it:
+        if str(it):
+            say(tool, it)
+        else:
+            print(usage_of(about), file=sys.stderr)
+        return 2
+    except Failed as it:
+        say(tool, it)
+        return it.code
+    except BrokenPipeError:
+        leave_output()
+        return 128 + signal.SIGPIPE
+    except OSError as it:
+        say(tool, line_of(it))
+        leave_output()
+        return 1
+    except UnicodeError as it:
+        say(tool, f"a text isn't UTF-8: {it}")
+        return 1
+    except MemoryError:
+        say(tool, "not enough memory")
+        return 6
+
+
+def run(tool, about, main):
+    """Runs a tool on the words of the command line, and ends with its exit code."""
+    try:
+        if INTERRUPTS:
+            # what is open is closed, and what is of use only to this run is removed
+            signal.signal(signal.SIGINT, signal.default_int_handler)
+        code = code_of(tool, about, main, sys.argv[1:])
+    except KeyboardInterrupt:
+        end_by(signal.SIGINT)
+    sys.exit(code)
