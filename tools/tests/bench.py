@@ -1,0 +1,92 @@
+"""What the cases of tools/test-tools share: how a tool is run, what is expected of it, and the files that it is given."""
+import pathlib
+import shutil
+import subprocess
+import tempfile
+import xml.etree.ElementTree
+
+import captures
+import one_sender
+import plans
+
+HERE = pathlib.Path(__file__).resolve().parent.parent
+TOP = HERE.parent
+ROOM = pathlib.Path(tempfile.mkdtemp())
+CASES, FAULTS = [], []
+
+
+def case(function):
+    """A case of this test: a function that says what it tries, and looks at what came of it."""
+    CASES.append(function)
+    return function
+
+
+def fault(text):
+    FAULTS.append(text)
+    print(f"tools: {text}")
+
+
+def run(*words, cwd=None, env=None):
+    """A tool's exit code, and what it wrote to standard output and to standard error."""
+    said = subprocess.run([str(it) for it in words], cwd=cwd, env=env, capture_output=True, text=True, timeout=60)
+    return said.returncode, said.stdout, said.stderr
+
+
+def expect(name, said, code, *parts):
+    """Faults where a tool ended otherwise, or what it said lacks one of these parts."""
+    if said[0] != code:
+        fault(f"{name}: ends with {said[0]}, not {code}: {said[1][-300:]}{said[2][-300:]}")
+    for part in parts:
+        if part not in said[1] + said[2]:
+            fault(f"{name}: says nothing of {part!r}: {(said[1] + said[2])[-600:]!r}")
+
+
+def expect_none(name, said, *parts):
+    for part in parts:
+        if part in said[1] + said[2]:
+            fault(f"{name}: says {part!r}")
+
+
+def repository(name, files):
+    """A repository with these files and the tools."""
+    top = ROOM / name
+    (top / "tools").mkdir(parents=True)
+    for tool in HERE.iterdir():
+        if tool.is_file():
+            shutil.copy(tool, top / "tools" / tool.name)
+    shutil.copytree(HERE / "lib", top / "tools/lib")
+    for path, text in files.items():
+        (top / path).parent.mkdir(parents=True, exist_ok=True)
+        (top / path).write_text(text, encoding="utf-8")
+    return top
+
+
+def fates_of(plan, capture):
+    """The fates that the run of one sender gives, as the program would write them."""
+    of = captures.read(capture)
+    stations, queues = plans.places_of(plan, of)
+    fates, _ = one_sender.run(plan, stations, of.bands, queues)
+    return "".join(one_sender.line_of(n, it) + "\n" for n, it in enumerate(fates))
+
+
+def frame(tos, source, route, head=b"\x08\x00\x45"):
+    """A frame of 34 bytes, or of 38 where it has a tag."""
+    return b"\2" * 12 + head + bytes([tos]) + bytes(13) + bytes([source]) + bytes(3) + bytes([route])
+
+
+def capture_of(*frames):
+    """A classic capture of Ethernet frames, a second apart."""
+    records = (n.to_bytes(4, "little") + bytes(4) + 2 * len(it).to_bytes(4, "little") + it for n, it in enumerate(frames))
+    return bytes.fromhex("d4c3b2a1020004000000000000000000ffff000001000000") + b"".join(records)
+
+
+def expect_picture(name, file, *parts):
+    """Faults where a picture isn't well formed, or lacks one of these texts."""
+    text = file.read_text(encoding="utf-8")
+    try:
+        xml.etree.ElementTree.fromstring(text)
+    except xml.etree.ElementTree.ParseError as it:
+        fault(f"{name}: the picture is no XML: {it}")
+    for part in parts:
+        if part not in text:
+            fault(f"{name}: the picture lacks {part!r}")

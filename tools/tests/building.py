@@ -1,0 +1,70 @@
+"""Tools that build and measure: beside C, the first build, and what the gate costs."""
+import os
+import re
+import shutil
+import subprocess
+import sys
+
+from tests.bench import HERE, ROOM, case, expect, fault, repository, run
+
+
+@case
+def compare_with_c():
+    tool = HERE / "compare-with-c"
+    expect("compare-with-c, no program", run(tool), 2, "usage:", "PROGRAM")
+    expect("compare-with-c, none there", run(tool, ROOM / "nothing"), 1, "nothing can't be run")
+    if shutil.which("cc"):
+        for words in ([], ["--tap"]):
+            expect("compare-with-c, no header", run(tool, *words, "--header", ROOM / "ptr_ring.h", sys.executable), 1, "no such file")
+
+
+@case
+def first_build():
+    """A clone, proved and built by a stand-in, and nothing left behind."""
+    room = ROOM / "first"
+    room.mkdir()
+    top = repository("cloned", {"crates/low/src/lib.rt": ""})
+    (top / "tools/build").write_text('#!/bin/sh\n[ "$1" != --chain ] || exec echo chain\nmkdir build\necho built >"$1"\npwd\n', encoding="utf-8")
+    (top / "tools/build").chmod(0o755)
+    for words in (["init", "-q"], ["add", "-A"], ["-c", "user.name=a", "-c", "user.email=a", "commit", "-q", "-m", "all"]):
+        subprocess.run(["git", *words], cwd=top, check=True)
+    (room / "rt").symlink_to("/bin/true")
+    said = run(top / "tools/first-build", "--chain", room, env=os.environ | {"PATH": f"{room}:{os.environ['PATH']}"})
+    expect("first-build", said, 0, " processors, ", f"{room}/first-build.", "build/: ", "the program: 6 bytes", "chain")
+    if sorted(it.name for it in room.iterdir()) != ["rt"]:
+        fault("first-build leaves files behind")
+    if not shutil.which("rt", path="/usr/bin:/bin"):
+        expect("first-build, no rt", run(top / "tools/first-build", room, env=os.environ | {"PATH": "/usr/bin:/bin"}), 1, "there is no 'rt' on the PATH")
+
+
+# a stand-in for the gate: provers of two crates, with tests and edits, that take some processor time
+GATE = """#!/usr/bin/env python3
+import os, pathlib, subprocess, sys, tempfile
+busy = "import time\\nuntil = time.process_time() + {}\\nwhile time.process_time() < until: pass"
+def prove(seconds, *words, cwd=None):
+    subprocess.run([sys.executable, "-c", busy.format(seconds), *words], cwd=cwd)
+print("== low", flush=True)
+prove(0.9, "build", "--crate-name", "low", "src/lib.rt", "--statements")
+print("rt: low proved", flush=True)
+prove(0.6, "check", "--crate-name", "high", "src/lib.rt")
+prove(0.6, "build", "--crate-name", "high", "src/lib.rt", "--test")
+room = tempfile.mkdtemp(prefix="rt-edits-1-")
+for number in ("seed", "0", "1"):
+    prove(0.5, "check", "--crate-name", "low", "src/lib.rt", "--incremental", f"{room}/{number}")
+print("5 passed, 0 failed", flush=True)
+sys.exit(3)
+"""
+
+
+@case
+def gate_cost():
+    files = {"crates.txt": "low:\nhigh: low\n", "crates/low/must-fail/a_first.edit": "", "crates/low/must-fail/b_second.edit": "", "gate": GATE}
+    top = repository("gate", files)
+    (top / "gate").chmod(0o755)
+    said = run(top / "tools/gate-cost", "./gate", cwd=top)
+    expect("gate-cost", said, 3, "   0.0 == low\n", "rt: low proved\n", "5 passed, 0 failed\n", "processor minutes: proofs ", "low/b_second", "the longest chain of proofs: ", ": low ")
+    low = re.search(r"^low +(\d+) +(\d+) +(\d+) ", said[1], re.M)
+    if not low or (low[1], low[2]) != ("1", "0") or low[3] not in ("1", "2"):
+        fault(f"gate-cost: the line of low is {low and low[0]!r}")
+    expect("gate-cost --read", run(top / "tools/gate-cost", "--read", top / "build/gate-cost.json"), 0, "./gate: 0 min; processor seconds")
+    expect("gate-cost, no file", run(top / "tools/gate-cost", "--read", top / "none"), 1, "gate-cost: ")

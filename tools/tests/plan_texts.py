@@ -1,0 +1,69 @@
+"""Plans, and what is wrong with them."""
+import re
+
+import plans
+from tests.bench import HERE, ROOM, TOP, case, expect, fault, run
+
+# what is written most often by mistake, as docs/FORMATS.md has it: the least reason, and a part of what is said
+PLANS = {
+    "": ("3 Missing", "the top, `station`: it is missing"),
+    "[[station]]\nlen =\n": ("1 NotToml", ":2: the text:"),
+    "[[station]]\nirq_every = 4\n": ("2 UnknownKey", ":2: station 0, `irq_every`: no such key; it is a key of the top"),
+    "[[stations]]\n": ("2 UnknownKey", ":1: the top, `stations`: no such key; did you mean `station`?"),
+    "[[station]]\n[[station]]\nbusy-every = 3\n": ("2 UnknownKey", ":3: station 1, `busy-every`: no such key; did you mean `busy_every`?"),
+    "[[station]]\nqueues = 2\n": ("2 UnknownKey", "it needs `version = 2` at the top"),
+    "[[station]]\n[[event]]\nbefore = 1\nkind = \"down\"\nstation = 0\nlen = 2\n": ("2 UnknownKey", ":6: event 0, `len`: no such key; an event of kind \"down\" doesn't have it"),
+    "[[station]]\n[[event]]\nbefore = 1\nkind = \"resize\"\nstation = 0\nburst = 2\n": ("2 UnknownKey", "event 0, `len`: it is missing"),
+    "[[station]]\n[[event]]\nkind = \"up\"\n": ("3 Missing", ":2: event 0, `before`: it is missing: a whole number from 0 to 1000000"),
+    "[station]\n": ("4 Kind", "a second pair of brackets is missing"),
+    "[[station]]\nburst = \"8\"\n": ("4 Kind", ":2: station 0, `burst`: \"8\" isn't a whole number from 0 to 1000000"),
+    "[[station]]\nbypass = 1\n": ("4 Kind", "1 isn't true or false"),
+    "[[station]]\nlen = 0\n": ("5 Range", "0 isn't a whole number from 1 to 4096"),
+    "version = 4\n[[station]]\n": ("5 Range", "there are the versions 1, 2, 3"),
+    "[[station]]\nmq = 2\n": ("2 UnknownKey", ":2: station 0, `mq`: no such key; it needs `version = 3` at the top"),
+    "version = 2\n[[station]]\nmq = 1\n": ("2 UnknownKey", ":3: station 0, `mq`: no such key; it needs `version = 3` at the top"),
+    "version = 3\n[[station]]\nmq = 9\n": ("5 Range", ":3: station 0, `mq`: 9 isn't a whole number from 1 to 8"),
+    "version = 3\n[[station]]\nmq = true\n": ("4 Kind", "true isn't a whole number from 1 to 8"),
+    "version = 3\n[[station]]\nmq = 6\n[[station]]\nmq = 3\n": ("5 Range", "the top, `station`: 9 children in all are more than 8"),
+    "version = 3\n[[station]]\nmq = 2\nqueues = 2\n": ("5 Range", ":4: station 0, `queues`: it is 1 beside an `mq` above 1"),
+    "version = 3\n[[station]]\n[[station]]\nmq = 2\n[[event]]\nbefore = 1\nkind = \"swap\"\nstation = 1\n": ("5 Range", ":7: event 0, `kind`: no \"swap\" at station 1, which has 2 children on one device"),
+    "split = \"owner\"\n[[station]]\n": ("5 Range", "\"owner\" isn't one of \"round\", \"source\""),
+    "station = []\n": ("5 Range", "an array of 0 isn't 1 to 8 tables"),
+    "senders = 16\n[[station]]\n": ("5 Range", "with `version = 2` at the top it may be"),
+    "[[station]]\nlen = 20\nmax_len = 10\n": ("5 Range", ":3: station 0, `max_len`: 10 isn't a whole number from 20 to 4096; `max_len` is at least `len`"),
+    "[[station]]\n[[event]]\nbefore = 1\nkind = \"resize\"\nstation = 0\nlen = 2000\n": ("5 Range", "its station needs a `max_len` of at least so much"),
+    "[[station]]\n[[event]]\nbefore = 1\nkind = \"up\"\nstation = 0\n": ("6 EventOrder", ":2: event 0: station 0 is active"),
+    "[[station]]\n[[event]]\nbefore = 9\nkind = \"down\"\nstation = 0\n[[event]]\nbefore = 8\nkind = \"up\"\nstation = 0\n": ("6 EventOrder", "8 comes after 9"),
+    "[[station]]\nlen = 0\nlne = 8\n": ("2 UnknownKey", "did you mean `len`?"),
+}
+
+
+@case
+def check_plan():
+    for text, (reason, part) in PLANS.items():
+        file = ROOM / "plan.toml"
+        file.write_text(text, encoding="utf-8")
+        said = run(HERE / "check-plan", file)
+        expect(f"check-plan {text!r}", said, 3, part)
+        if not said[1].splitlines()[0].endswith(f"({reason})"):
+            fault(f"check-plan {text!r}: the first line isn't of {reason}: {said[1]!r}")
+    for file in sorted((TOP / "examples").glob("*.toml")):
+        expect(f"check-plan {file.name}", run(HERE / "check-plan", file), 0, "accepted: ")
+    (ROOM / "plan.toml").write_text("[[station]]\n" * 8 + "[[event]]\nbefore = 1\nkind = \"swap\"\nstation = 0\n" * 9, encoding="utf-8")
+    expect("check-plan, many devices", run(HERE / "check-plan", ROOM / "plan.toml"), 3, "it needs 17 devices, and there are 16")
+    (ROOM / "plan.toml").write_text("version = 3\nsenders = 64\n[[station]]\nmq = 5\nqueues = 1\n[[station]]\nmq = 1\nqueues = 8\n[[event]]\nbefore = 1\nkind = \"swap\"\nstation = 1\n", encoding="utf-8")
+    expect("check-plan, a group", run(HERE / "check-plan", ROOM / "plan.toml"), 0, "accepted: 2 stations with 6 children, 7 devices, 1 events, 64 senders")
+    (ROOM / "plan.toml").write_bytes(b"# \xff\n")
+    expect("check-plan, other bytes", run(HERE / "check-plan", ROOM / "plan.toml"), 3, ":1: the text: it isn't UTF-8 (1 NotToml)")
+    expect("check-plan, no file", run(HERE / "check-plan", ROOM / "none"), 1, "No such file")
+
+
+@case
+def keys_of_a_plan():
+    """Each key of the tables of docs/FORMATS.md is a row of tools/plans.py, and the other way round."""
+    page = (TOP / "docs/FORMATS.md").read_text(encoding="utf-8")
+    rows = re.findall(r"^\| ((?:station |event )?)((?:`\w+`(?:, )?)+) \|", page[page.index("## Plans") : page.index("Where reasons apply")], re.M)
+    told = {(section.strip(), name) for section, names in rows for name in re.findall(r"`(\w+)`", names)}
+    known = {(section, key.name) for section, keys in plans.TABLES.items() for key in keys}
+    for section, name in told ^ known:
+        fault(f"the key {name} of {section or 'the top'} isn't both in docs/FORMATS.md and in tools/plans.py")

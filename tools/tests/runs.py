@@ -1,0 +1,184 @@
+"""What is said of a run and of a tap, and drawn."""
+import shutil
+import tomllib
+
+import captures
+from tests.bench import HERE, ROOM, TOP, capture_of, case, expect, expect_none, expect_picture, fates_of, fault, frame, run
+
+# of each example plan a part of what is told, with the counts of the pages, and the fates that docs/FORMATS.md tells of
+RUNS = {
+    "drops": ("sent 20639 bytes 153 pkt, dropped 117 (full 117)\n band 0: sent 2918 bytes 40 pkt, dropped 0\n", ["49 full 23", "50 full 23", "51 full 23"]),
+    "short-rings": ("dropped 140 (full 140)", ["53 full 11"]),
+    "queues": (" queue 1: sent 26656 bytes 170 pkt, dropped 0\n", ["10 sent 0 10", "16 sent 0 16"]),
+    "swap": ("units that sent: 0 1\n", ["149 purged 0", "150 sent 1 0"]),
+    "events": ("(full 38, shrunk 18, purged 44, refused 40)", ["100 refused 0", "139 refused 0"]),
+    "hang": ("(full 26, purged 144)", []),
+    "busy": ("dropped 0\n", ["269 sent 0 269"]),
+    "several-stations": ("requeues 5\n", []),
+    "stop-and-busy": ("station 1: pfifo_fast, 3 bands of 32 slots", []),
+    "multi-queue": (" queue 1: sent 16731 bytes 115 pkt, dropped 55 (full 55)\n queue 2: sent 3700 bytes 50 pkt, dropped 0\n", ["14 sent 1 10", "15 sent 1 16", "54 sent 2 2", "55 full 23"]),
+}
+
+
+@case
+def show_run():
+    room, capture = ROOM / "runs", TOP / "examples/loopback.pcap"
+    room.mkdir()
+    for name, (told, fates) in RUNS.items():
+        plan = TOP / f"examples/{name}.toml"
+        text = fates_of(tomllib.loads(plan.read_text(encoding="utf-8")), capture)
+        (room / f"{name}.fates").write_text(text, encoding="utf-8")
+        for line in fates:
+            if line + "\n" not in text:
+                fault(f"the run of {name} lacks {line!r}")
+        said = run(HERE / "show-run", plan, capture, room / name, room / f"{name}.svg", room / f"{name}.backlog.svg")
+        expect(f"show-run {name}", said, 0, told)
+        expect_picture(f"show-run {name}", room / f"{name}.svg", f"{name}.toml over loopback.pcap: 270 packets, sent ", "serial", ">250</text>")
+        expect_picture(f"show-run {name}", room / f"{name}.backlog.svg", "packets that wait in each band")
+    expect_picture("show-run, a unit that comes later", room / "swap.svg", "station 0, unit 1: sent 120, from packet 150 on")
+    drops = TOP / "examples/drops.toml"
+    said = run(HERE / "show-run", drops, capture, room / "drops", "--dropped", room / "lost.pcap", "--numbers-from", "1")
+    expect("show-run --dropped", said, 0, "the 117 packets that weren't sent, the first is number 50\n")
+    if len(captures.read(room / "lost.pcap")) != 117:
+        fault("show-run --dropped: not the 117 packets")
+    # pcapng, with interfaces of two link types
+    (room / "ng.fates").write_text("".join(f"{n} sent 0 {n}\n" for n in range(3)) + "3 full 1\n", encoding="utf-8")
+    several = TOP / "examples/senders.toml"
+    said = run(HERE / "show-run", several, TOP / "examples/two-interfaces.pcapng", room / "ng")
+    of = captures.read(TOP / "examples/two-interfaces.pcapng")
+    expect("show-run, pcapng", said, 0 if of.bands[3] == of.bands[1] else 1, "station 0: pfifo_fast" if of.bands[3] == of.bands[1] else "met packet 1 of another station or band")
+    # what can't be
+    for plan, name, why in [
+        ("short-rings", "drops", "the fates are of another plan or capture: they have "),
+        ("drops", "events", "isn't one of this plan: "),
+        ("drops", "several-stations", "is of station 0 and was sent by unit 1"),
+        ("several-stations", "drops", "was sent by unit 0"),
+    ]:
+        expect(f"show-run, {plan} over {name}", run(HERE / "show-run", TOP / f"examples/{plan}.toml", capture, room / name), 1, why)
+    (room / "cut.fates").write_text((room / "drops.fates").read_text(encoding="utf-8")[:-20], encoding="utf-8")
+    expect("show-run, cut fates", run(HERE / "show-run", drops, capture, room / "cut"), 1, "270 packets and 269 fates")
+    twice = (room / "drops.fates").read_text(encoding="utf-8").replace("1 sent 0 1\n", "1 sent 0 0\n", 1)
+    (room / "twice.fates").write_text(twice, encoding="utf-8")
+    expect("show-run, a serial twice", run(HERE / "show-run", several, capture, room / "twice"), 1, "unit 0 sent 153 packets, and their serials aren't 0 to 152")
+    for words, why in [
+        ([drops, capture, room / "none"], "none.fates: No such file"),
+        ([room / "none.toml", capture, room / "drops"], "none.toml: No such file"),
+        ([drops, drops, room / "drops"], "drops.toml: it is neither a pcap nor a pcapng file"),
+        ([drops, capture, room / "drops", room / "none/a.svg"], "a.svg: No such file"),
+        ([drops, capture, room / "drops", room / "a.png"], "a picture is written as SVG"),
+        ([several, capture, room / "busy", room / "a.svg", room / "b.svg"], "the backlog is told of one sender alone"),
+        ([drops, capture], "tools/show-run PLAN CAPTURE OUT"),
+    ]:
+        said = run(HERE / "show-run", *words)
+        expect(f"show-run {words}", said, 1, why)
+        expect_none(f"show-run {words}", said, "Traceback")
+
+
+# the fates of a tap of one sender, a ring of 4 slots and batches of 4, of ten packets
+TAP_FATES = ["0 read 0", "1 read 1", "2 lost", "3 read 2", "4 read 3", "5 read 4", "6 read 5", "7 full 3", "8 full 3", "9 read 6"]
+# how fates that none gives are made of them, and what is said
+NO_TAP_FATES = {
+    "itself": ("7 full 3", "7 full 7", "packet 7 met packet 7, which wasn't in the ring"),
+    "other_full": ("7 full 3", "7 full 8", "packet 7 met packet 8, which wasn't in the ring"),
+    "twice": ("9 read 6", "9 read 5", "7 packets were read, and their places aren't 0 to 6"),
+    "order": ("3 read 2\n4 read 3", "3 read 3\n4 read 2", "packet 3 was read behind packet 4 of the same sender"),
+    "sent": ("9 read 6", "9 sent 0 6", "line 10 of the fates isn't one of a tap: '9 sent 0 6'"),
+    "short": ("9 read 6\n", "", "10 packets and 9 fates"),
+    "high": ("8 full 3", "8 full 10", "names a number that is too high"),
+    "number": ("8 full 3", "7 full 3", "line 9 of the fates is of packet 7"),
+    "other_read": ("2 lost\n3 read 2", "2 read 2\n3 lost", "the capture that was written isn't that of the packets read"),
+}
+
+
+@case
+def show_run_of_a_tap():
+    room, capture = ROOM / "taps", ROOM / "taps/ten.pcap"
+    room.mkdir()
+    loopback = captures.read(TOP / "examples/loopback.pcap")
+    capture.write_bytes(loopback.written(range(10)))
+    text = "".join(it + "\n" for it in TAP_FATES)
+    (room / "t.fates").write_text(text, encoding="utf-8")
+    (room / "t.pcap").write_bytes(loopback.written([0, 1, 3, 4, 5, 6, 9]))
+    show = lambda out, *words, tap=("1", "4", "4"): run(HERE / "show-run", "tap", *tap, capture, room / out, *words)  # noqa: E731
+    said = show("t", room / "t.svg", "--dropped", room / "lost.pcap")
+    octets = sum(loopback.lengths[n] for n in (0, 1, 3, 4, 5, 6, 9))
+    expect("show-run of a tap", said, 0, "tap: a ring of 4 slots, 1 senders, batches of 4\n", f" read {octets} bytes 7 pkt, dropped 3 (full 2, lost 1)\n sender 0: read ")
+    expect("show-run of a tap, --dropped", said, 0, "the 3 packets that weren't read, the first is number 2\n")
+    if captures.read(room / "lost.pcap").lengths != captures.read(TOP / "examples/loopback.pcap").lengths[2:3] + loopback.lengths[7:9]:
+        fault("show-run of a tap: --dropped wrote other packets")
+    expect_picture("show-run of a tap", room / "t.svg", "ten.pcap through a ring of 4 slots: 10 packets, read 7, full 2, lost 1", "place", ">sender 0</text>")
+    for name, (old, new, why) in NO_TAP_FATES.items():
+        (room / f"{name}.fates").write_text(text.replace(old, new), encoding="utf-8")
+        shutil.copy(room / "t.pcap", room / f"{name}.pcap")
+        expect(f"show-run of a tap, {name}", show(name), 1, why)
+    expect("show-run of a tap, a ring with room", show("t", tap=("1", "10", "4")), 1, "by a ring of 10 slots that 8 came into")
+    expect("show-run of a tap, a longer ring", show("t", tap=("1", "9", "4")), 1, "dropped by a ring of 9 slots that 8 came into")
+    expect("show-run of a tap, two senders", show("t", tap=("2", "4", "4")), 0, " sender 1: read ")
+    expect("show-run of a tap, no senders", show("t", tap=("0", "4", "4")), 1, "SENDERS is 0, and not 1 to 8")
+    expect("show-run of a tap, no capture", show("none"), 1, "none.fates: No such file")
+
+
+# plans with groups, worked by hand: packets as type of service, source byte and route byte; the fates; and the packets of the joint file
+GROUPS = {
+    "version = 3\n[[station]]\nmq = 2\n": ([(0, 1, 0), (0, 0, 0), (0, 3, 0)], ["sent 1 0", "sent 0 0", "sent 1 1"], [1, 0, 2]),
+    "version = 3\n[[station]]\nmq = 2\n[[event]]\nbefore = 2\nkind = \"down\"\nstation = 0\n": (
+        [(0, 1, 0), (0, 0, 0), (0, 3, 0)], ["sent 1 0", "sent 0 0", "refused 0"], [1, 0]),
+    # three children of two stations; both of the first stop after each packet
+    "version = 3\nirq_every = 4\n[[station]]\nmq = 2\nburst = 1\n[[station]]\n": (
+        [(0, 0, 0), (0, 1, 0), (0, 5, 1), (0, 0, 0), (0, 1, 0), (0, 1, 0)],
+        ["sent 0 0", "sent 1 0", "sent 2 0", "sent 0 1", "sent 1 1", "sent 1 2"], [0, 1, 3, 4, 5]),
+    # an event of the plan's station is one of each child
+    "version = 3\nirq_every = 1000\n[[station]]\n[[station]]\nmq = 2\nburst = 1\n[[event]]\nbefore = 4\nkind = \"tx_queue_len\"\nstation = 1\nlen = 1\n": (
+        [(0, 0, 1), (0, 1, 1), (0, 0, 1), (0, 1, 1), (0, 0, 1), (0, 1, 1), (0, 0, 1)],
+        ["sent 1 0", "sent 2 0", "purged 0", "purged 0", "sent 1 1", "sent 2 1", "sent 1 2"], [0, 1, 4, 5, 6]),
+}  # fmt: skip
+
+
+@case
+def groups():
+    room = ROOM / "groups"
+    room.mkdir()
+    for number, (plan, (packets, fates, joint)) in enumerate(GROUPS.items()):
+        capture, out = room / f"{number}.pcap", room / f"o{number}"
+        capture.write_bytes(capture_of(*(frame(*it) for it in packets)))
+        (room / f"{number}.toml").write_text(plan, encoding="utf-8")
+        found = fates_of(tomllib.loads(plan), capture)
+        if found != "".join(f"{n} {it}\n" for n, it in enumerate(fates)):
+            fault(f"the fates of {plan!r} are {found!r}")
+        (room / f"o{number}.fates").write_text(found, encoding="utf-8")
+        of, at = captures.read(capture), 1 if "[[station]]\n[[station]]\nmq" in plan else 0
+        file = room / f"o{number}.mq{at}.pcap"
+        file.write_bytes(of.written(joint))
+        said = run(HERE / "show-run", room / f"{number}.toml", capture, out, room / "a.svg", room / "b.svg")
+        expect(f"show-run of a group, {plan!r}", said, 0, f"mq {at}: 2 queues, each with a pfifo_fast of its own: ", f"{file}: the packets that they sent, by serial\n", f"station {at + 1}, queue 1 of mq {at}: ")
+        expect_picture("show-run of a group", room / "a.svg", f"mq {at}: sent {len(joint)} by 2 queues", "place in its file", f"station {at}, queue 0 of mq {at}, unit {at}: sent ", "queue 1</text>")
+        expect_picture("show-run of a group", room / "b.svg", f"mq {at}: packets that wait in each queue")
+        # in the order of numbers, with a packet left out, and with a tie broken the other way
+        for wrong in (joint[:-1], joint[::-1], [joint[1], joint[0], *joint[2:]]):
+            file.write_bytes(of.written(wrong))
+            expect(f"show-run, a joint file of {wrong}", run(HERE / "show-run", room / f"{number}.toml", capture, out), 1, "by serial: it is of another run")
+
+
+@case
+def many_packets():
+    """A picture of many packets is thinned, and stays small."""
+    room = ROOM / "many"
+    room.mkdir()
+    (room / "c.pcap").write_bytes(capture_of(*(frame([0, 8, 16][n % 3], n % 7, 0) for n in range(30000))))
+    (room / "p.toml").write_text("version = 3\n[[station]]\nmq = 2\nlen = 4096\nburst = 1\n", encoding="utf-8")
+    # each dot has a place of its own, and there are more than the group's panel has room for
+    sent = sorted(range(30000), key=lambda n: n * 7919 % 30000)
+    serials, many = {}, [0, 0]
+    for n in sent:
+        serials[n] = many[n % 7 % 2]
+        many[n % 7 % 2] += 1
+    (room / "o.fates").write_text("".join(f"{n} sent {n % 7 % 2} {serials[n]}\n" for n in range(30000)), encoding="utf-8")
+    expect("show-run, many packets", run(HERE / "show-run", room / "p.toml", room / "c.pcap", room / "o", room / "o.svg"), 0, "30000 pkt")
+    expect_picture("show-run, many packets", room / "o.svg", ">30000</text>")
+    picture = (room / "o.svg").read_text(encoding="utf-8")
+    # of the group's panel, whose dots are thinned twice
+    for colour in ("#59a14f", "#b07aa1"):
+        if f'h0" stroke="{colour}"' not in picture:
+            fault(f"the picture has no dots of {colour}")
+    if len(picture) > 1_000_000 or not 5000 < picture.count("h0") <= 60000:
+        fault(f"the picture has {len(picture)} bytes and {picture.count('h0')} dots")

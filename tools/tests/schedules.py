@@ -1,0 +1,76 @@
+"""Orders of steps: shown, refused, and found."""
+from tests.bench import HERE, ROOM, TOP, case, expect, expect_none, fault, run
+
+SCHEDULES = {"second-try": 41, "second-try-finds-nothing": 58, "release-then-look": 47, "clear-then-look": 53, "look-at-the-stop-word-again": 55,
+             "wake-after-the-second-look": 48, "soft-interrupt-clears-first": 53, "bypass-looks-under-the-lock": 49}  # fmt: skip
+# each mistake, a schedule in which it shows, and what it leaves there (crates/lq_run_core/specs/Mistakes.antt)
+LEFT = {
+    "begin_gives_up_after_one_try": ("second-try", "packet 1 in band 1, state MISSED"),
+    "end_looks_before_it_releases": ("release-then-look", "packet 1 in band 1, state MISSED"),
+    "missed_cleared_after_the_second_look": ("clear-then-look", "packet 0 in band 1, state clear"),
+    "draining_set_without_looking_again": ("look-at-the-stop-word-again", "packet 1 in band 1, state DRAINING"),
+    "soft_interrupt_gives_up_when_deactivated": ("soft-interrupt-clears-first", "packet 1 in the requeue slot, state MISSED"),
+}
+
+
+def schedule(name):
+    return TOP / "examples/schedules" / f"{name}.schedule"
+
+
+@case
+def show_schedule():
+    for name, steps in SCHEDULES.items():
+        said = run(HERE / "show-schedule", schedule(name))
+        expect(f"show-schedule {name}", said, 0, f"\n{steps:5}  ", "held 0: nothing is left")
+        expect_none(f"show-schedule {name}", said, f"\n{steps + 1:5}  ")
+    said = run(HERE / "show-schedule", schedule("second-try"))
+    expect("show-schedule, a line", said, 0, "   22    16     1  miss              try2                 1  MISSED set\n", "          9     1  begins send 1")
+    picture = ROOM / "picture.svg"
+    for mistake, (name, left) in LEFT.items():
+        said = run(HERE / "show-schedule", "--mistake", mistake, schedule(name), picture)
+        expect(f"show-schedule --mistake {mistake}", said, 0, f"held 1, nobody comes: {left}, lock free", "the right machine is elsewhere")
+        if "nobody comes" not in picture.read_text(encoding="utf-8"):
+            fault(f"the picture of {mistake} doesn't tell the end")
+    said = run(HERE / "show-schedule", "--mistake", "begin_gives_up_after_one_try", schedule("release-then-look"))
+    expect("a mistake that doesn't show", said, 0, "held 0: nothing is left", "the mistake doesn't show in this order")
+    expect("show-schedule --mistakes", run(HERE / "show-schedule", "--mistakes"), 0, *LEFT)
+    expect("show-schedule, a wrong mistake", run(HERE / "show-schedule", "--mistake", "none", schedule("second-try")), 1, "no mistake is called none")
+    expect("show-schedule, no file", run(HERE / "show-schedule", ROOM / "none"), 1, "No such file")
+    expect("show-schedule, no folder", run(HERE / "show-schedule", schedule("second-try"), ROOM / "none/a.svg"), 1, "No such file")
+
+
+@case
+def why_a_schedule_is_refused():
+    rows = {
+        "seats 3 len 1 bypass 0\n0 send 1\n0 step 4\n1 send 1\n1 step 3\n": "line 5: seat 1 can't do step 3 of 3: it stands at put, and band 1 has 1 of 1 packets: write `1 full`",
+        "seats 2 len 4 bypass 0\n0 step 1\n": "line 2: seat 0 can't do step 1 of 1: it is idle: it can begin `0 send B`, `0 wake`",
+        "seats 2 len 4 bypass 0\n0 softirq\n": "line 2: seat 0 can't begin `softirq`: no soft interrupt is scheduled on it",
+        "seats 2 len 4 bypass 0\n0 send 1\n0 busy\n": "line 3: seat 0 can't do `busy`: it stands at enter, and only at xmit",
+        "seats 2 len 4 bypass 0\n0 send 1\n0 wake\n": "line 3: seat 0 can't begin `wake`: it is in a call, at enter",
+        "seats 2 len 4 bypass 0\n0 send 1 # one\n": "line 2: a comment has a line of its own",
+        "seats 2 len 4 bypass 0\n0  send 1\n": "line 2: one space stands between two words",
+        "seats 2 len 4 bypass 0\n0 down\n": "line 2: a schedule begins no deactivation",
+        "seats 2 len 4 bypass 0\n2 wake\n": "line 2: there are the seats 0 to 1",
+        "seats 2 len 4\n": "line 1: the first line is `seats N len L bypass B`",
+        "# nothing\n": "line 2: there is no first line",
+    }
+    for text, why in rows.items():
+        file = ROOM / "refused.schedule"
+        file.write_text(text, encoding="utf-8")
+        said = run(HERE / "show-schedule", "--why", file)
+        expect(f"why {text!r}", said, 7, why)
+        if said[1]:
+            fault("show-schedule --why writes to standard output")
+
+
+@case
+def find_schedule():
+    for mistake in ("begin_gives_up_after_one_try", "end_looks_before_it_releases"):
+        said = run(HERE / "find-schedule", "--mistake", mistake)
+        expect(f"find-schedule {mistake}", said, 0, "It takes 23 steps there.", "seats 2 len 2 bypass 0\n0 send 0\n")
+        found = ROOM / "found.schedule"
+        found.write_text(said[1], encoding="utf-8")
+        expect("the order that was found, on the right machine", run(HERE / "show-schedule", found), 0, "held 0: nothing is left")
+        expect("the order that was found, with the mistake", run(HERE / "show-schedule", "--mistake", mistake, found), 0, "held 1, nobody comes: packet 1 in band 0")
+    said = run(HERE / "find-schedule", "--mistake", "begin_gives_up_after_one_try", "--packets", "1")
+    expect("find-schedule, one packet", said, 1, "no order of 2 seats and 1 packets leaves one")

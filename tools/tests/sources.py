@@ -1,0 +1,137 @@
+"""Tools that read the sources: what nobody needs, names with several meanings, and what is to be read."""
+from tests.bench import case, expect, expect_none, fault, repository, run
+
+SMALL = {
+    "README.md": "A law stands: `kept_law`.\n",
+    "crates/low/specs/Words.antt": """-- Words.
+use Rattle.std.specs.Prelude.{ℕ}
+
+-- a word
+abbrev pub word : ℕ
+word = 1
+
+-- in a section
+module _ {A : Type 0} where
+  abbrev pub pair_of : A → ℕ
+  pair_of a = word
+
+abbrev pub unused : ℕ
+unused = word
+
+pub record Whole : Type 0 where
+  pub part : ℕ
+""",
+    "crates/low/proofs/Lemmas.antt": """-- Lemmas.
+use Rattle.low.specs.Words.{word as one}
+
+pub used_lemma : ℕ
+used_lemma = helper one
+
+helper : ℕ → ℕ
+helper n = n
+
+pub dead_lemma : ℕ
+dead_lemma = only_of_dead
+
+only_of_dead : ℕ
+only_of_dead = 2
+""",
+    "crates/low/proofs/called/Answers.antt": """use Rattle.low.proofs.Lemmas as lemmas
+
+pub called-ensures : ℕ
+called-ensures = lemmas.used_lemma
+""",
+    "crates/low/src/lib.rt": """//! Low.
+ghost use Rattle.low.specs.Words.{pair_of, Whole};
+
+/// A type.
+pub struct Kept {
+    /// Its part.
+    pub part: u32,
+}
+
+/// Called.
+pub fn called(kept: &Kept) -> u32
+    ensures { result ≡ pair_of dead_fn }
+{
+    kept.part
+}
+
+/// Says `called` here, and `dead_fn` in a comment: dead_fn.
+fn caller(kept: &Kept) -> u32 {
+    let text = "dead_fn";
+    called(kept)
+}
+
+fn main() {
+    caller()
+}
+
+/// Nobody calls it.
+fn dead_fn() -> u32 {
+    dead_fn()
+}
+
+/// A law.
+pub fn law()
+    ensures { (w : Whole) → w ≡ w }
+{}
+
+/// Named on a page.
+pub fn kept_law(w: u32) -> u32 {
+    w
+}
+""",
+}
+
+
+@case
+def dead():
+    top = repository("dead", SMALL)
+    said = run(top / "tools/dead")
+    expect("dead", said, 1, "Words.antt:13: unused", "Lemmas.antt:10: dead_lemma", "only_of_dead", "lib.rt:28: fn dead_fn", "nobody needs 4")
+    expect_none("dead", said, "used_lemma (", "helper", "pair_of", "kept_law", "fn law", "fn main", "caller (", "fn called")
+    clean = SMALL | {"crates/low/proofs/Lemmas.antt": SMALL["crates/low/proofs/Lemmas.antt"].split("pub dead_lemma")[0]}
+    clean["crates/low/specs/Words.antt"] = clean["crates/low/specs/Words.antt"].replace("abbrev pub unused : ℕ\nunused = word\n\n", "")
+    clean["crates/low/src/lib.rt"] = clean["crates/low/src/lib.rt"].replace("fn dead_fn() -> u32 {\n    dead_fn()\n}\n", "")
+    expect("dead, without them", run(repository("alive", clean) / "tools/dead"), 0, "all definitions, lemmas and functions are needed")
+
+
+@case
+def names():
+    other = {"crates/high/specs/Words.antt": "abbrev pub word : ℕ\nword = 2\n", "crates/high/specs/More.antt": "abbrev pub word : ℕ\nword = 3\n"}
+    top = repository("names", SMALL | other)
+    (top / "tools/names-left").write_text("", encoding="utf-8")
+    said = run(top / "tools/names")
+    expect("names", said, 1, "word has 3 meanings, and may have 1: crates/high/specs/More.antt:1,", "1 names have several meanings, 1 of them")
+    (top / "tools/names-left").write_text("word 3\n", encoding="utf-8")
+    expect("names, as left", run(top / "tools/names"), 0, "word has 3 meanings: ")
+    (top / "crates/high/specs/More.antt").unlink()
+    expect("names, with fewer", run(top / "tools/names"), 1, "word no longer has 3 meanings")
+    expect("names, shrunk", run(top / "tools/names", "--shrink"), 0, "word has 2 meanings: ")
+    if (top / "tools/names-left").read_text(encoding="utf-8") != "word 2\n":
+        fault("names, shrunk: the list isn't 'word 2'")
+    (top / "crates/high/specs/Words.antt").unlink()
+    expect("names, all gone", run(top / "tools/names", "--shrink"), 0, "each name of a definition has one meaning")
+
+
+@case
+def reading_list():
+    code = SMALL["crates/low/src/lib.rt"]
+    laws = "ghost use Rattle.low.specs.Words.{Whole};\n\n/// First.\npub fn invariant_is_kept()\n    ensures { Whole }\n{}\n\npub fn quiet_holds_nothing()\n    ensures { Whole }\n{}\n"
+    parts = ["HasRun", "plan_for", "limited_capture_of", "limited_trace_of", "HasTapped", "HasCutTap"]
+    defined = "-- Parts.\n" + "".join(f"\nabbrev pub {it} : Type 0\n{it} = Unit {{0}}\n" for it in parts)
+    files = {"crates/lq_top/src/top.rt": code.replace("called", "lqtx"), "crates/lq_run_core/src/laws.rt": laws, "crates/parts/specs/Parts.antt": defined}
+    top = repository("list", SMALL | files)
+    said = run(top / "tools/reading-list", "--names")
+    expect("reading-list, by parts", said, 0, "tell it: 1 definitions, 2 lines", "headline: 1 definitions, 2 lines", "tap: 2 definitions, 4 lines", "HasTapped, HasCutTap")
+    expect("reading-list", said, 0, "contract of lqtx: 2 definitions, 5 lines; and 5 lines of types and traits; in 2 modules", "word, pair_of")
+    expect("reading-list, in all", said, 0, "in all the contract of lqtx: 2 definitions, 5 lines", "of these 0 lines are the machine's, and 5 are read besides it")
+    expect_none("reading-list", said, "unused")
+    said = run(top / "tools/reading-list", "--text")
+    expect("reading-list, whole", said, 0, "       -- a word\n", "       module _ {A : Type 0} where\n         abbrev pub pair_of", "       pub fn lqtx(kept: &Kept) -> u32\n", "/// Its part.")
+    said = run(top / "tools/reading-list", "--names", "word")
+    expect("reading-list, of a definition", said, 0, "word: 1 definitions, ")
+    expect_none("reading-list, of a definition", said, "the contract of lqtx", "pair_of")
+    expect("reading-list, no definition", run(top / "tools/reading-list", "used_lemma"), 1, "no crate has a definition used_lemma in its specs/")
+    expect("reading-list, wrong words", run(top / "tools/reading-list", "--all"), 1, "tools/reading-list [--names | --text]")
