@@ -25,6 +25,8 @@ class Capture:
         self.bands, self.routes, self.sources = bytearray(), bytearray(), bytearray()
         self.without_header = 0  # packets with no IPv4 header, whatever they carry
         self.head = []  # the pieces of the file that stand before the packets in what is written
+        self.order = ""  # of the numbers of the file, as struct has it
+        self.links = []  # the link type of each interface; a classic capture has one
         if data[:4] == BLOCK:
             self.read_blocks()
         elif data[:4] in CLASSIC:
@@ -35,11 +37,15 @@ class Capture:
     def __len__(self):
         return len(self.lengths)
 
+    def is_pcapng(self):
+        return self.data[:4] == BLOCK
+
     def read_records(self, order):
         data, size = self.data, len(self.data)
         if size < 24:
             raise Broken("its header is cut off")
         link, two = struct.unpack_from(order + "I", data, 20)[0], struct.Struct(order + "II").unpack_from
+        self.order, self.links = order, [link]
         self.head.append(bytes(data[:24]))
         # an untagged frame with an IPv4 header is read by one call: a capture may have a million records
         whole = struct.Struct(order + "8xII12x2sBB13xB3xB")
@@ -74,7 +80,8 @@ class Capture:
         if order is None:
             raise Broken("its byte order isn't told")
         two, three = struct.Struct(order + "II").unpack_from, struct.Struct(order + "III").unpack_from
-        links, cuts, add, at = [], [], self.adder(), 0
+        self.order = order
+        links, cuts, add, at = self.links, [], self.adder(), 0
         # as of records
         whole = struct.Struct(order + "III8xII12x2sBB13xB3xB")
         last, unpack, ethernet = size - whole.size, whole.unpack_from, set()

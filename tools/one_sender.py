@@ -1,14 +1,43 @@
-"""The run of one sender over the built-in devices, as docs/RULES.md has it: each packet's fate, and what waits after each packet.
+"""The run of one sender over the built-in devices, as docs/RULES.md has it: the fate of each packet, and when it left.
 
 It is not proved; the fates that the program writes are. `tools/show-run` compares the two, and takes from here what fates don't tell: when.
 """
 from array import array
 from collections import deque
-from itertools import chain, zip_longest
+from itertools import accumulate, chain, count, zip_longest
 
 import plans
 
-FULL, SHRUNK, PURGED, REFUSED = "full", "shrunk", "purged", "refused"
+KINDS = ["sent", "full", "shrunk", "purged", "refused"]
+SENT, FULL, SHRUNK, PURGED, REFUSED = range(5)
+# in place of an event: held at the end by a station whose device hangs
+HUNG = 0xFFFFFFFF
+
+
+class Trail:
+    """What became of each packet: the kind of its fate, what that names (a unit, a packet or an event), of a sent packet its serial, and when it left.
+
+    Moments are numbers: 2 n + 1 is when packet n came, with the opening of stopped queues behind it; 2 n is what the plan does before packet n.
+    So what is done after the last packet has the moment `end`.
+    """
+
+    def __init__(self, count):
+        self.kinds = bytearray(count)
+        self.names, self.serials = array("I", bytes(4 * count)), array("I", bytes(4 * count))
+        self.left = array("I", range(1, 2 * count, 2))
+        self.now, self.end = 0, 2 * count
+
+    def put(self, n, kind, name, serial=0):
+        """The fate of a packet, which leaves now."""
+        self.kinds[n], self.names[n], self.serials[n], self.left[n] = kind, name, serial, self.now
+
+    def lines(self):
+        """The fates as lines of OUT.fates."""
+        for n, (kind, name, serial) in enumerate(zip(self.kinds, self.names, self.serials)):
+            yield f"{n} sent {name} {serial}\n" if kind == SENT else f"{n} {KINDS[kind]} {'hung' if name == HUNG else name}\n"
+
+    def text(self):
+        return "".join(self.lines())
 
 
 def batch(length):
@@ -18,15 +47,18 @@ def batch(length):
 class Station:
     """A station with its device; packets are numbers."""
 
-    def __init__(self, unit, of, fates, queues):
-        self.len = of.get("len", 1000)
+    def __init__(self, unit, of, trail, queues):
+        self.set_len(of.get("len", 1000))
         self.bypass = of.get("bypass", True)
-        self.unit, self.fates, self.queues = unit, fates, queues
+        self.unit, self.trail, self.queues = unit, trail, queues
         self.lines = [[], [], []]  # the packets that joined each band since the last resize
         self.held = [deque(), deque(), deque()]
         self.slot, self.down, self.clean = None, None, True
         self.stops = [0] * of.get("queues", 1)
         self.configure(of)
+
+    def set_len(self, length):
+        self.len, self.batch = length, batch(length)
 
     def configure(self, params):
         self.burst, self.busy_every = params.get("burst", 0), params.get("busy_every", 0)
@@ -45,7 +77,7 @@ class Station:
             self.busies += 1
             self.slot = n
             return False
-        self.fates[n] = ("sent", self.unit, self.sent)
+        self.trail.put(n, SENT, self.unit, self.sent)
         self.sent += 1
         if self.hang_after and self.sent == self.hang_after:
             self.stops = [2] * len(self.stops)
@@ -73,32 +105,33 @@ class Station:
     def join(self, n, band):
         """Into its band, or dropped as full: a slot that was taken isn't empty before its batch is."""
         held, line = self.held[band], self.lines[band]
-        taken = len(line) - len(held)
-        if len(held) + taken % self.len % batch(self.len) == self.len:
-            self.fates[n] = (FULL, line[len(line) - self.len])
+        waits = len(held)
+        if waits + (len(line) - waits) % self.len % self.batch == self.len:
+            self.trail.put(n, FULL, line[len(line) - self.len])
         else:
             line.append(n)
             held.append(n)
 
     def bring(self, n, band):
+        """A packet comes: past the bands where it may, else into its band; and what may go then goes."""
         if self.down is not None:
-            self.fates[n] = (REFUSED, self.down)
-        elif self.bypass and self.clean:
-            if self.stops[self.queues[n]] != 0:
-                self.slot, self.clean = n, False
-            else:
-                self.clean = self.offer(n)
-        else:
+            self.trail.put(n, REFUSED, self.down)
+        elif not self.bypass or not self.clean:
             self.join(n, band)
             self.serve()
             self.clean = self.clean and (len(self.stops) > 1 or self.stops[0] == 0)
+        elif self.stops[self.queues[n]] != 0:
+            self.slot, self.clean = n, False
+        elif not self.offer(n):
+            self.clean = False
+            self.serve()
 
     def wake(self):
         self.stops = [0 if it == 1 else it for it in self.stops]
 
     def purge(self, cause):
         for n in [self.slot] * (self.slot is not None) + [n for band in self.held for n in band]:
-            self.fates[n] = (PURGED, cause)
+            self.trail.put(n, PURGED, cause)
         self.slot = None
         for band in self.held:
             band.clear()
@@ -107,10 +140,10 @@ class Station:
         for band in range(3):
             kept = list(self.held[band])
             for n in kept[length:]:
-                self.fates[n] = (SHRUNK, event)
+                self.trail.put(n, SHRUNK, event)
             self.lines[band] = kept[:length]
             self.held[band] = deque(kept[:length])
-        self.len = length
+        self.set_len(length)
 
     def change(self, number, event, unit):
         kind = event["kind"]
@@ -136,52 +169,57 @@ class Station:
             self.wake()
             self.serve()
         if self.is_hung():
-            self.purge("hung")
+            self.purge(HUNG)
 
 
 def run(plan, stations, bands, queues):
-    """The fate of each packet, and for each station and band how many packets wait after each packet; the slot's counts with its band."""
-    count, events = len(stations), plan.get("event", [])
-    fates = [None] * count
-    all_of = [Station(unit, it, fates, queues) for unit, it in enumerate(plans.stations_of(plan))]
-    children = plans.children_of(plan)
-    waiting = [[array("I", bytes(4 * count)) for _ in range(3)] for _ in all_of]
-    every, next_event, unit = plan.get("irq_every", 1), 0, len(all_of)
-    units = []
-    for event in events:
-        units.append(unit)
+    """The trail of a plan's run."""
+    events, trail = plan.get("event", []), Trail(len(stations))
+    all_of = [Station(unit, it, trail, queues) for unit, it in enumerate(plans.stations_of(plan))]
+    children, every, unit = plans.children_of(plan), plan.get("irq_every", 1), len(all_of)
+    changes = []  # the event before which packet, and the unit that it brings
+    for number, event in enumerate(events):
+        changes.append((event["before"], number, event, unit))
         unit += event["kind"] == "swap"
-    for n in range(count):
-        while next_event < len(events) and events[next_event]["before"] <= n:
-            event = events[next_event]
+    changes.reverse()
+
+    def change(before):
+        while changes and changes[-1][0] <= before:
+            _, number, event, unit = changes.pop()
             for at in children[event["station"]]:
-                all_of[at].change(next_event, event, units[next_event])
+                all_of[at].change(number, event, unit)
                 all_of[at].serve()
-            next_event += 1
-        here = all_of[stations[n]]
-        here.bring(n, bands[n])
-        here.serve()
+
+    for n, (at, band) in enumerate(zip(stations, bands)):
+        if changes and changes[-1][0] <= n:
+            trail.now = 2 * n
+            change(n)
+        trail.now = 2 * n + 1
+        all_of[at].bring(n, band)
         if (n + 1) % every == 0:
             for it in all_of:
-                it.wake()
-        for at, it in enumerate(all_of):
-            # also where nothing is held: then the next packet may go past the bands again
-            it.serve()
-            for band in range(3):
-                waiting[at][band][n] = len(it.held[band]) + (it.slot is not None and bands[it.slot] == band)
-    for number in range(next_event, len(events)):
-        event = events[number]
-        for at in children[event["station"]]:
-            all_of[at].change(number, event, units[number])
-            all_of[at].serve()
+                if not it.clean or any(it.stops):
+                    it.wake()
+                    it.serve()
+    trail.now = trail.end
+    change(1000000)
     for it in all_of:
         it.finish()
-    return fates, waiting
+    return trail
 
 
-def line_of(n, fate):
-    """A fate as a line of OUT.fates."""
-    return " ".join(map(str, (n, *fate)))
+def waiting(trail, wanted):
+    """How many of the wanted packets wait after each packet. The slot's packet counts with its band."""
+    changes = array("i", bytes(4 * (len(trail.kinds) + 1)))
+    for n in wanted:
+        changes[n] += 1
+        changes[trail.left[n] // 2] -= 1
+    return array("I", accumulate(changes[:-1]))
+
+
+def has_waited(trail):
+    """The packets that didn't leave when they came."""
+    return [n for n, (left, came) in enumerate(zip(trail.left, count(1, 2))) if left != came]
 
 
 def by_serial(numbers, serials):
@@ -197,11 +235,10 @@ def joint(lists):
     return array("I", (n for n in chain.from_iterable(zip_longest(*lists)) if n is not None))
 
 
-def joint_lists(plan, fates):
+def joint_lists(plan, trail):
     """Of each group of the plan, by its number, the packets of its joint file. A child has one unit, of its own number."""
     sent = {}
-    for n, fate in enumerate(fates):
-        if fate[0] == "sent":
-            sent.setdefault(fate[1], []).append((fate[2], n))
+    for n, (kind, unit, serial) in enumerate(zip(trail.kinds, trail.names, trail.serials)):
+        if kind == SENT:
+            sent.setdefault(unit, []).append((serial, n))
     return {at: list(joint([[n for _, n in sorted(sent.get(child, []))] for child in children])) for at, children in plans.groups_of(plan)}
-

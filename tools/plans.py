@@ -293,6 +293,14 @@ def places_of(root, capture):
     return stations, bytearray(source % many[station] for source, station in zip(capture.sources, stations))
 
 
+def senders_of(root, capture):
+    """The sender of each packet of a capture."""
+    many = number_at(root, "senders", 1)
+    if root.get("split", "round") == "source":
+        return capture.sources.translate(bytes(it % many for it in range(256)))
+    return bytes(range(many)) * (len(capture) // many) + bytes(range(len(capture) % many))
+
+
 def units_of(root):
     """How many units a plan needs: one for each child, and one for each swap."""
     return len(stations_of(root)) + sum(it.get("kind") == "swap" for it in tables_at(root, "event"))

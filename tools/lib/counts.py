@@ -2,6 +2,7 @@
 import pathlib
 
 from lib.fates import joint_file
+from lib.packets import seconds
 
 
 def busy_answers(params, sent):
@@ -18,23 +19,36 @@ def words_of(run, packets):
     return ", ".join(f"{kind} {packets[kind]}" for kind in run.KINDS[1:] if packets[kind])
 
 
+def line_of(run, packets, octets):
+    """How much was sent or read, and how much dropped of each kind."""
+    done, lost = run.KINDS[0], words_of(run, packets)
+    return f"{done} {octets[done]} bytes {packets[done]} pkt, dropped {sum(packets.values()) - packets[done]}" + (f" ({lost})" if lost else "")
+
+
 def tell_counts(run, head, wanted):
     """A line of the packets whose columns are wanted: of a plan's run the station, band and queue, of a tap's the sender."""
-    packets, octets = run.of_kinds(wanted)
-    done, lost = run.KINDS[0], words_of(run, packets)
-    print(f" {head}{done} {octets[done]} bytes {packets[done]} pkt, dropped {sum(packets.values()) - packets[done]}" + (f" ({lost})" if lost else ""))
+    print(f" {head}{line_of(run, *run.of_kinds(wanted))}")
+
+
+def tell_late(run, waits, wanted):
+    """How many of these were sent only because the capture had ended."""
+    late = waits.late_of(wanted) if waits else 0
+    if late:
+        packets, _ = run.of_kinds(wanted)
+        print(f" {packets['sent'] - late} sent while packets came, and {late} after the last packet")
 
 
 def requeues(run, station):
     """How many packets its busy devices gave back."""
     params = run.tables + [it for it in run.plan.get("event", []) if it["kind"] == "swap"]
-    return sum(busy_answers(params[unit], len(run.serials[unit])) for unit, _ in run.units[station])
+    return sum(busy_answers(params[unit], len(run.numbers[unit])) for unit, _ in run.units[station])
 
 
-def tell_group(run, at, children, out):
+def tell_group(run, waits, at, children, out):
     """The root of a group as a whole, with a line a queue."""
     print(f"mq {at}: {len(children)} queues, each with a pfifo_fast of its own: stations {children[0]} to {children[-1]}")
     tell_counts(run, "", lambda station, band, queue: station in children)
+    tell_late(run, waits, lambda station, band, queue: station in children)
     for number, child in enumerate(children):
         tell_counts(run, f"queue {number}: ", lambda station, band, queue: station == child)
     print(f" requeues {sum(requeues(run, it) for it in children)}")
@@ -47,27 +61,72 @@ def name_of(run, station):
     return f"station {station}" + "".join(f", queue {station - children[0]} of mq {at}" for at, children in run.groups if station in children)
 
 
-def tell(run, out):
-    """The counts of each group and each station, with a line a band, and a line a queue where there are several."""
-    for station, of in enumerate(run.tables):
+def wait_words(packets, time, digits):
+    return f"{packets} pkt" + (f" ({seconds(time, digits)} s)" if time is not None else "")
+
+
+def tell_waits(waits, station, band):
+    """The greatest backlog of a band, and how long the packets waited that were sent."""
+    greatest, of = max(waits.waiting(station, [band]), default=0), waits.of_sent(station, band)
+    middle, most = ((wait_words(*it, waits.digits) for it in ((of.middle, of.middle_time), (of.greatest, of.greatest_time)))) if of else ("", "")
+    waited = f"; wait {middle} in the middle, {most} at most" if of else ""
+    late = waits.late_of(lambda at, its, queue: (at, its) == (station, band))
+    print(f"  backlog at most {greatest} pkt{waited}" + (f"; {late} sent after the last packet" if late else ""))
+
+
+def tell_station(run, waits, station):
+    """The counts of a station, with a line a band, and a line a queue where there are several."""
+    of = run.tables[station]
+    units, many = " ".join(str(unit) for unit, _ in run.units[station] if run.numbers[unit]) or "none", of.get("queues", 1)
+    print(f"{name_of(run, station)}: pfifo_fast, 3 bands of {of.get('len', 1000)} slots{f', {many} queues' if many > 1 else ''}; units that sent: {units}")
+    tell_counts(run, "", lambda at, band, queue: at == station)
+    tell_late(run, waits, lambda at, band, queue: at == station)
+    for wanted in range(3):
+        tell_counts(run, f"band {wanted}: ", lambda at, band, queue: (at, band) == (station, wanted))
+        if waits:
+            tell_waits(waits, station, wanted)
+    for wanted in range(many) if many > 1 else []:
+        tell_counts(run, f"queue {wanted}: ", lambda at, band, queue: (at, queue) == (station, wanted))
+    print(f" requeues {requeues(run, station)}")
+
+
+def tell(run, waits, out):
+    """The counts of each group and each station."""
+    for station in range(len(run.tables)):
         for at, children in run.groups:
             if station == children[0]:
-                tell_group(run, at, children, out)
-        units = " ".join(str(unit) for unit, _ in run.units[station] if run.serials[unit]) or "none"
-        many = of.get("queues", 1)
-        print(f"{name_of(run, station)}: pfifo_fast, 3 bands of {of.get('len', 1000)} slots{f', {many} queues' if many > 1 else ''}; units that sent: {units}")
-        tell_counts(run, "", lambda at, band, queue: at == station)
-        for wanted in range(3):
-            tell_counts(run, f"band {wanted}: ", lambda at, band, queue: (at, band) == (station, wanted))
-        for wanted in range(many) if many > 1 else []:
-            tell_counts(run, f"queue {wanted}: ", lambda at, band, queue: (at, queue) == (station, wanted))
-        print(f" requeues {requeues(run, station)}")
+                tell_group(run, waits, at, children, out)
+        tell_station(run, waits, station)
     if run.capture.without_header:
         print(f"{run.capture.without_header} of {len(run.capture)} packets have no IPv4 header that is looked at: band 1 of station 0")
+    if not waits:
+        print("backlog, waits, and what was sent after the last packet aren't known: of several senders, fates don't say when a packet left")
 
 
 def tell_tap(run, batch):
-    print(f"tap: a ring of {run.len} slots, {run.senders} senders, batches of {batch}")
+    print(f"tap: a ring of {run.len} slots, {run.many} senders, batches of {batch}")
     tell_counts(run, "", lambda sender: True)
-    for wanted in range(run.senders):
+    for wanted in range(run.many):
         tell_counts(run, f"sender {wanted}: ", lambda sender: sender == wanted)
+
+
+def words_of_flow(flow):
+    """A flow in words: the protocol, and from where to where."""
+    if flow.protocol is None:
+        return "no IP header"
+    with_port = lambda address, port: address if port is None else f"[{address}]:{port}" if ":" in address else f"{address}:{port}"  # noqa: E731
+    return f"{flow.protocol} {with_port(flow.source, flow.source_port)} > {with_port(flow.destination, flow.destination_port)}"
+
+
+def tell_flows(run, flows):
+    """A line for each flow, those first that have the most packets dropped, and then those with the most packets."""
+    counts = [[0] * (2 * len(run.KINDS)) for _ in flows.flows]
+    for flow, kind, length in zip(flows.of, run.kinds, run.capture.lengths):
+        of = counts[flow]
+        of[2 * kind] += 1
+        of[2 * kind + 1] += length
+    print(f"{len(counts)} flows:")
+    dropped = [sum(of[2::2]) for of in counts]
+    for at in sorted(range(len(counts)), key=lambda it: (-dropped[it], -counts[it][0], it)):
+        packets, octets = ({kind: counts[at][2 * code + part] for code, kind in enumerate(run.KINDS)} for part in (0, 1))
+        print(f" {words_of_flow(flows.flows[at])}: {line_of(run, packets, octets)}")

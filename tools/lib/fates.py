@@ -1,37 +1,48 @@
 """What became of each packet of a run, as its fates have it; and whether these can be of this plan and this capture."""
 import pathlib
 import re
-import sys
 from array import array
 from collections import Counter
-from itertools import cycle
+from itertools import cycle, repeat
 
 import one_sender
 import plans
+from lib.words import Failed
 
-def fail(text):
-    sys.exit(f"show-run: {text}")
+# the kinds of fates are places in KINDS; the first is that of the packets that weren't dropped
+SENT, FULL, LOST = 0, 1, 2
 
 
 def fail_of_packet(number, told):
-    fail(f"line {number + 1} of the fates is of packet {told}: the fates are of another run")
+    raise Failed(f"line {number + 1} of the fates is of packet {told}: the fates are of another run")
 
 
 def judge_numbers(found, whose):
     """Serials, or places, are 0 up to their number."""
     count = len(found)
     if count and (max(found) != count - 1 or len(set(found)) != count):
-        fail(f"{whose} aren't 0 to {count - 1}: the fates are of another run")
+        raise Failed(f"{whose} aren't 0 to {count - 1}: the fates are of another run")
 
 
 class Fates:
-    """What became of each packet. KINDS are the words of fates, first that of the packets that weren't dropped."""
+    """What became of each packet: the kind of its fate, what that names, and the serial of one that was sent, or the place of one that was read."""
 
-    def __init__(self, capture, fates):
-        self.capture, self.fates = capture, fates
-        self.kinds = bytearray()  # places in KINDS
-        if len(fates) != len(capture):
-            fail(f"{len(capture)} packets and {len(fates)} fates: the fates are of another run")
+    def __init__(self, capture, text):
+        self.capture, self.fates = capture, text.splitlines()
+        self.kinds, self.names, self.serials = bytearray(), array("I"), array("I")
+        if len(self.fates) != len(capture):
+            raise Failed(f"{len(capture)} packets and {len(self.fates)} fates: the fates are of another run")
+
+    def dropped(self):
+        """The packets that weren't sent, or read."""
+        return [n for n, kind in enumerate(self.kinds) if kind]
+
+    def dropped_by(self, classes):
+        """The same, by their class and the kind of their fate."""
+        found = {}
+        for n in self.dropped():
+            found.setdefault((classes[n], self.kinds[n]), array("I")).append(n)
+        return found
 
     def counted(self, *columns):
         """How many packets, and how many bytes, have the same in these columns and the same kind of fate."""
@@ -51,30 +62,45 @@ class Fates:
                 octets[self.KINDS[code]] += length
         return packets, octets
 
-    def dropped(self):
-        return [n for n, code in enumerate(self.kinds) if code]
-
 
 class Run(Fates):
-    """The fates of a plan's run, and of each unit the packets that it sent, with their serials."""
+    """The fates of a plan's run. `trail` is the run as it was worked out, of one sender alone: it has when each packet left."""
 
-    KINDS = ["sent", "full", "shrunk", "purged", "refused"]
+    KINDS, has_units = one_sender.KINDS, True
 
-    def __init__(self, plan, capture, fates):
-        super().__init__(capture, fates)
+    def __init__(self, plan, capture, text):
+        super().__init__(capture, text)
         self.plan = plan
         self.tables, self.children, self.groups = plans.stations_of(plan), plans.children_of(plan), plans.groups_of(plan)
         self.stations, self.queues = plans.places_of(plan, capture)
+        self.senders = plans.senders_of(plan, capture)
         self.units = [self.units_of(it) for it in range(len(self.tables))]
-        self.numbers = {unit: array("I") for units in self.units for unit, _ in units}
-        self.serials = {unit: array("I") for unit in self.numbers}
-        self.lost = [{kind: array("I") for kind in self.KINDS[1:]} for _ in self.tables]
-        self.read()
-        for unit, serials in self.serials.items():
-            judge_numbers(serials, f"unit {unit} sent {len(serials)} packets, and their serials")
+        self.trail = one_sender.run(plan, self.stations, capture.bands, self.queues) if plan.get("senders", 1) == 1 else None
+        if self.trail and self.trail.text() == text:
+            self.kinds, self.names, self.serials = self.trail.kinds, self.trail.names, self.trail.serials
+        else:
+            self.read()
+        self.numbers = self.sent_by_units()
         self.counts = self.counted(self.stations, self.capture.bands, self.queues)
-        self.judge_rings()
-        self.waiting = None
+        if not self.trail or self.kinds is not self.trail.kinds:
+            self.judge()
+
+    def places(self):
+        """Of each packet its sender, its station, the transmit queue of its device, and its band."""
+        first = {child: children[0] for children in self.children for child in children}
+        queues = self.queues if not self.groups else bytes(queue + station - first[station] for queue, station in zip(self.queues, self.stations))
+        return zip(self.senders, self.stations, queues, self.capture.bands)
+
+    def sent_by_units(self):
+        """The packets that each unit sent."""
+        found = {unit: array("I") for units in self.units for unit, _ in units}
+        for n, (kind, unit) in enumerate(zip(self.kinds, self.names)):
+            if kind == SENT:
+                found[unit].append(n)
+        return found
+
+    def serials_of(self, unit):
+        return array("I", map(self.serials.__getitem__, self.numbers[unit]))
 
     def units_of(self, station):
         """The units of a station in the order in which they come: its own, and those that swaps bring; each with the packet before which it comes."""
@@ -88,10 +114,10 @@ class Run(Fates):
 
     def read(self):
         """The fates; ends where one can't be this plan's: another station's unit, an event that it doesn't have, a slot's packet of another band."""
-        own = [{str(unit): (self.numbers[unit].append, self.serials[unit].append) for unit, _ in units} for units in self.units]
+        own = [{str(unit) for unit, _ in units} for units in self.units]
         of_event = [self.children[it["station"]] for it in self.plan.get("event", [])]
-        add, stations, bands, codes = self.kinds.append, self.stations, self.capture.bands, {kind: code for code, kind in enumerate(self.KINDS)}
-        lost = [[None, *(it[kind].append for kind in self.KINDS[1:])] for it in self.lost]
+        stations, bands, codes = self.stations, self.capture.bands, {kind: code for code, kind in enumerate(self.KINDS)}
+        add, name, serial = self.kinds.append, self.names.append, self.serials.append
         number, line = 0, ""
         try:
             # one loop with little in it: there may be a million lines
@@ -100,52 +126,53 @@ class Run(Fates):
                 if int(words[0]) != number:
                     fail_of_packet(number, words[0])
                 code, station = codes[words[1]], stations[number]
+                if code and words[2] == "hung":
+                    words[2] = one_sender.HUNG
                 add(code)
+                name(int(words[2]))
+                serial(0 if code else int(words[3]))
                 if not code:
                     if words[2] not in own[station]:
-                        fail(f"packet {number} is of station {station} and was sent by unit {int(words[2])}: the fates are of another plan or capture")
-                    add_number, add_serial = own[station][words[2]]
-                    add_number(number)
-                    add_serial(int(words[3]))
-                    continue
-                lost[station][code](number)
-                if code == 1:
+                        raise Failed(f"packet {number} is of station {station} and was sent by unit {int(words[2])}: the fates are of another plan or capture")
+                elif code == FULL:
                     other = int(words[2])
                     if stations[other] != station or bands[other] != bands[number]:
-                        fail(f"packet {number} met packet {other} of another station or band: the fates are of another plan or capture")
-                elif words[2] != "hung" and station not in of_event[int(words[2])]:
-                    fail(f"packet {number} is {words[1]} by event {words[2]} of another station: the fates are of another plan or capture")
+                        raise Failed(f"packet {number} met packet {other} of another station or band: the fates are of another plan or capture")
+                elif words[2] != one_sender.HUNG and station not in of_event[int(words[2])]:
+                    raise Failed(f"packet {number} is {words[1]} by event {words[2]} of another station: the fates are of another plan or capture")
         except (IndexError, KeyError, ValueError, OverflowError):
-            fail(f"line {number + 1} of the fates isn't one of this plan: {line!r}")
+            raise Failed(f"line {number + 1} of the fates isn't one of this plan: {line!r}")
+
+    def judge(self):
+        """Fails where the fates as read can't be: serials with gaps, packets dropped by rings that have room, another run than the one that was worked out."""
+        for unit, numbers in self.numbers.items():
+            judge_numbers(self.serials_of(unit), f"unit {unit} sent {len(numbers)} packets, and their serials")
+        self.judge_rings()
+        for given, line in zip(self.trail.lines() if self.trail else [], self.fates):
+            if given != line + "\n":
+                raise Failed(f"the fates are of another plan or capture: they have '{line}', and this plan gives '{given.strip()}'")
 
     def judge_rings(self):
         """A band drops as full only once as many others were let in as its rings hold without a batch, at the least length that they have."""
         let_in, full = Counter(), Counter()
         for (station, band, _, code), (count, _) in self.counts.items():
-            (full if self.KINDS[code] == "full" else let_in)[station, band] += count
+            (full if code == FULL else let_in)[station, band] += count
         for station, band in full:
             lengths = [it["len"] for it in self.plan.get("event", []) if station in self.children[it["station"]] and "len" in it]
             least = min([self.tables[station].get("len", 1000), *lengths])
             if let_in[station, band] < least - one_sender.batch(least):
-                fail(f"band {band} of station {station} dropped packets as full that let in {let_in[station, band]}, with rings of {least} slots: the fates are of another plan")
-
-    def work_out(self):
-        """The run of one sender: its fates are these, and how many packets wait after each."""
-        fates, self.waiting = one_sender.run(self.plan, self.stations, self.capture.bands, self.queues)
-        for number, (fate, line) in enumerate(zip(fates, self.fates)):
-            if one_sender.line_of(number, fate) != line:
-                fail(f"the fates are of another plan or capture: they have '{line}', and this plan gives '{one_sender.line_of(number, fate)}'")
+                raise Failed(f"band {band} of station {station} dropped packets as full that let in {let_in[station, band]}, with rings of {least} slots: the fates are of another plan")
 
     def joint(self, children):
         """The packets that the children of a group sent, as its file has them. A child has one unit, of its own number."""
-        return one_sender.joint([one_sender.by_serial(self.numbers[it], self.serials[it]) for it in children])
+        return one_sender.joint([one_sender.by_serial(self.numbers[it], self.serials_of(it)) for it in children])
 
     def judge_joint(self, out):
         """Each joint file that is there has just these packets."""
         for at, children in self.groups:
             file = pathlib.Path(joint_file(out, at))
             if file.exists() and file.read_bytes() != self.capture.written(self.joint(children)):
-                fail(f"{file} hasn't the packets that stations {children[0]} to {children[-1]} sent, by serial: it is of another run")
+                raise Failed(f"{file} hasn't the packets that stations {children[0]} to {children[-1]} sent, by serial: it is of another run")
 
 
 def joint_file(out, at):
@@ -155,60 +182,62 @@ def joint_file(out, at):
 class Tap(Fates):
     """The fates of a tap's run, and the packets that were read, in order."""
 
-    KINDS = ["read", "full", "lost"]
+    KINDS, has_units = ["read", "full", "lost"], False
     line_of = re.compile(r"(\d+) (?:(read|full) (\d+)|(lost))", re.ASCII).fullmatch
 
-    def __init__(self, senders, length, capture, fates, written):
-        super().__init__(capture, fates)
-        self.senders, self.len = senders, length
-        self.numbers, self.places, self.met = array("I"), array("I"), array("I")
-        self.lost = {kind: array("I") for kind in self.KINDS[1:]}
+    def __init__(self, senders, length, capture, text, written):
+        super().__init__(capture, text)
+        self.many, self.len = senders, length
+        self.senders = bytes(n for n, _ in zip(cycle(range(senders)), range(len(capture))))
         self.read()
-        judge_numbers(self.places, f"{len(self.places)} packets were read, and their places")
-        self.order = one_sender.by_serial(self.numbers, self.places)
-        self.counts = self.counted(cycle(range(senders)))
+        self.numbers = array("I", (n for n, kind in enumerate(self.kinds) if not kind))
+        places = array("I", map(self.serials.__getitem__, self.numbers))
+        judge_numbers(places, f"{len(places)} packets were read, and their places")
+        self.order = one_sender.by_serial(self.numbers, places)
+        self.counts = self.counted(self.senders)
         self.judge_order()
         self.judge_ring()
         if written != capture.written(self.order):
-            fail("the capture that was written isn't that of the packets read: the fates are of another run")
+            raise Failed("the capture that was written isn't that of the packets read: the fates are of another run")
 
     def read(self):
         """The fates: of a packet that was read its place, of one that was full the packet that it met."""
         count, codes = len(self.fates), {kind: code for code, kind in enumerate(self.KINDS)}
-        numbers = {"read": self.numbers, **self.lost}
-        others = {"read": self.places, "full": self.met}
         for number, line in enumerate(self.fates):
             found = Tap.line_of(line)
             if not found:
-                fail(f"line {number + 1} of the fates isn't one of a tap: {line!r}")
+                raise Failed(f"line {number + 1} of the fates isn't one of a tap: {line!r}")
             told, kind, other, lost = found.groups()
             if int(told) != number:
                 fail_of_packet(number, told)
+            if kind and int(other) >= count:
+                raise Failed(f"line {number + 1} of the fates names a number that is too high: {line!r}")
             self.kinds.append(codes[kind or lost])
-            numbers[kind or lost].append(number)
-            if kind:
-                if int(other) >= count:
-                    fail(f"line {number + 1} of the fates names a number that is too high: {line!r}")
-                others[kind].append(int(other))
+            self.names.append(int(other) if kind == "full" else 0)
+            self.serials.append(int(other) if kind == "read" else 0)
+
+    def places(self):
+        """Of each packet its sender: it has no station, queue or band."""
+        return zip(self.senders, repeat(None), repeat(None), repeat(None))
 
     def judge_order(self):
         """Each sender's packets were read in their order."""
-        last = [0] * self.senders
+        last = [0] * self.many
         for number in self.order:
-            sender = number % self.senders
+            sender = number % self.many
             if number < last[sender]:
-                fail(f"packet {number} was read behind packet {last[sender]} of the same sender: the fates are of another run")
+                raise Failed(f"packet {number} was read behind packet {last[sender]} of the same sender: the fates are of another run")
             last[sender] = number
 
     def judge_ring(self):
         """Packets are full or lost only where enough others came in."""
-        for number, other in zip(self.lost["full"], self.met):
-            if other == number or self.KINDS[self.kinds[other]] == "full":
-                fail(f"packet {number} met packet {other}, which wasn't in the ring: the fates are of another run")
-        read, full, lost = len(self.order), len(self.lost["full"]), len(self.lost["lost"])
+        for number, (kind, other) in enumerate(zip(self.kinds, self.names)):
+            if kind == FULL and (other == number or self.kinds[other] == FULL):
+                raise Failed(f"packet {number} met packet {other}, which wasn't in the ring: the fates are of another run")
+        read, full, lost = len(self.order), self.kinds.count(FULL), self.kinds.count(LOST)
         if full and read + lost < self.len - one_sender.batch(self.len) or lost and read + lost <= self.len:
-            fail(f"packets were dropped by a ring of {self.len} slots that {read + lost} came into: the fates are of another run")
+            raise Failed(f"packets were dropped by a ring of {self.len} slots that {read + lost} came into: the fates are of another run")
         if lost > read:
-            fail("more packets were lost than read: the fates are of another run")
+            raise Failed("more packets were lost than read: the fates are of another run")
         if len(self.capture) <= self.len and full + lost:
-            fail(f"packets were dropped by a ring of {self.len} slots that has room for all: the fates are of another run")
+            raise Failed(f"packets were dropped by a ring of {self.len} slots that has room for all: the fates are of another run")

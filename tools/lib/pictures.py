@@ -1,193 +1,308 @@
 """The pictures of a run: each packet, and what waits."""
+import textwrap
+from dataclasses import dataclass, field
 from itertools import repeat
 from operator import floordiv
+from typing import Any, Dict, List, Tuple
 
 from lib.counts import name_of, words_of
-from lib.fates import fail
-from lib.svg import text, ticks, write
+from lib.svg import line, text, ticks, whole
 
 BAND_COLOURS = ["#d55e00", "#0072b2", "#999999"]
 # of the kinds of fates of packets that weren't sent or read
 DROP_COLOURS = {"full": "#cc0000", "shrunk": "#e69f00", "purged": "#7b3294", "refused": "#000000", "lost": "#000000"}
 # of the queues of a group, and of the senders of a tap
 EIGHT_COLOURS = ["#59a14f", "#b07aa1", "#4e79a7", "#9c755f", "#edc948", "#76b7b2", "#ff9da7", "#79706e"]
-WIDTH, HEIGHT, LEFT = 700, 180, 64
-# a capture of so many packets is drawn with a dot for each; and the dots of a whole picture, which are about a megabyte
-FEW, DOTS = 20000, 60000
+# of a panel: its frame, what is left of it, its title, a row below it, and the numbers below all rows with what parts it from the next panel
+WIDTH, HEIGHT, LEFT, TITLE, ROW, FOOT = 700, 180, 100, 20, 13, 34
+# right of a backlog: what is done after the last packet
+AFTER = 78
+# a capture of so many packets is drawn with a dot for each; of a longer one packets share dots, which are so far apart, and so many in all
+FEW, APART, DOTS = 20000, 3, 60000
+
+Class = Tuple[str, str]  # of packets: its name and its colour
 
 
-def colours_of(run):
-    """The colours of the kinds of fates of packets that weren't sent or read."""
-    return {kind: DROP_COLOURS[kind] for kind in run.KINDS[1:]}
+@dataclass
+class Panel:
+    """Packets as dots, their numbers to the right and a value upwards, and below them a row of marks for each kind and class of those that were dropped."""
+
+    title: str
+    said: str  # what the value is
+    numbers: Any
+    values: Any
+    classes: Any  # the class of each packet of the capture
+    names: Dict[int, Class]
+    most: int  # the values are below
+    dropped: Dict[Tuple[int, int], Any]  # by class and kind
+    since: int = 0
+    until: int = 0
+    late: int = 0  # so many of the last values came after the last packet
+    events: List[Tuple[int, str, str]] = field(default_factory=list)  # the packet before which one comes, its kind, and the whole of it
+
+    def rows(self, run):
+        """The rows below the dots: kind, class, and the packets."""
+        for (of, kind), numbers in sorted(self.dropped.items(), key=lambda it: it[0][::-1]):
+            wanted = [n for n in numbers if self.since <= n < self.until]
+            if wanted:
+                yield run.KINDS[kind], self.names[of][0], wanted
+
+    def tall(self, run):
+        return TITLE + HEIGHT + ROW * len(list(self.rows(run))) + FOOT
 
 
-def axes(top, most, said):
+# PARTS
+
+
+def axes(top, most, said, wide=WIDTH):
     """The frame of a panel, with numbers upwards."""
-    yield f'<rect x="{LEFT}" y="{top}" width="{WIDTH}" height="{HEIGHT}" fill="none" stroke="#bbb"/>'
+    yield f'<rect class="frame" x="{LEFT}" y="{top}" width="{wide}" height="{HEIGHT}" fill="none" stroke="#bbb"/>'
     for it in ticks(0, most, 5):
         y = top + HEIGHT - (HEIGHT - 8) * it / max(most, 1)
-        yield f'<line x1="{LEFT - 4}" x2="{LEFT}" y1="{y:.1f}" y2="{y:.1f}" stroke="#888"/>' + text(LEFT - 7, y + 4, it if most < 100000 else f"{it // 1000}k", "end")
+        yield line(LEFT - 4, y, LEFT, y, 'stroke="#888"') + text(LEFT - 7, y + 4, it if most < 100000 else f"{it // 1000}k", "end")
     yield text(14, top + HEIGHT / 2, said, "middle", f' transform="rotate(-90 14 {top + HEIGHT / 2:.0f})"')
 
 
 def numbers_below(y, count, first):
     for it in ticks(first, first + count - 1, 10):
         x = LEFT + WIDTH * (it - first + 0.5) / max(count, 1)
-        yield f'<line x1="{x:.1f}" x2="{x:.1f}" y1="{y}" y2="{y + 4}" stroke="#888"/>' + text(x, y + 16, it, "middle")
+        yield line(x, y, x, y + 4, 'stroke="#888"') + text(x, y + 16, it, "middle")
 
 
-def thinned(numbers, values, colours, count, most, room):
-    """Points of packets, each as place, value and colour; of many packets those that share a spot of the picture are one, and so many in all at most."""
-    across, up = (1, 1) if count <= FEW else (max(1, count // (2 * WIDTH)), max(1, most // (2 * HEIGHT)))
-    points = set(zip(map(floordiv, numbers, repeat(across)), map(floordiv, values, repeat(up)), colours))
+def mixed(points):
+    """Of the classes that share a place, the one that was drawn least: so each class is to be seen where it is."""
+    places, drawn = {}, {}
+    for x, y, of in points:
+        places.setdefault((x, y), []).append(of)
+    for (x, y), classes in sorted(places.items()):
+        of = min(classes, key=lambda it: (drawn.get(it, 0), it))
+        drawn[of] = drawn.get(of, 0) + 1
+        yield x, y, of
+
+
+def points_of(panel, count, room):
+    """The dots of a panel as place, value and class, from 0 to 1; where packets share dots, one for each spot, and no more than there is room for."""
+    across, up = (1, 1) if count <= FEW else (-(-count * APART // WIDTH), max(1, -(-panel.most * APART // HEIGHT)))
+    classes = map(panel.classes.__getitem__, panel.numbers)
+    points = set(zip(map(floordiv, panel.numbers, repeat(across)), map(floordiv, panel.values, repeat(up)), classes))
+    points = points if count <= FEW else set(mixed(points))
     while len(points) > room:
-        points = {(x // 2, y // 2, colour) for x, y, colour in points}
+        points = set(mixed({(x // 2, y // 2, of) for x, y, of in points}))
         across, up = 2 * across, 2 * up
-    return [((x + 0.5) * across / max(count, 1), (y + 0.5) * up / max(most, 1), colour) for x, y, colour in points]
+    return [((x + 0.5) * across / max(count, 1), (y + 0.5) * up / max(panel.most, 1), of) for x, y, of in points]
 
 
 def dots(points, top, wanted, colour):
-    """The points of a colour, each once, as one path."""
+    """The points of a class, each once, as one path."""
     places = sorted({(round(2 * WIDTH * min(x, 1)), round(2 * (HEIGHT - 8) * min(y, 1))) for x, y, of in points if of == wanted})
     path = "".join(f"M{LEFT + x / 2:g},{top + HEIGHT - y / 2:g}h0" for x, y in places)
-    return f'<path d="{path}" stroke="{colour}" stroke-width="3.2" stroke-linecap="round" fill="none"/>' if path else ""
+    return f'<path d="{path}" stroke="{colour}" stroke-width="3" stroke-linecap="round" fill="none"/>' if path else ""
 
 
-def lost_below(run, top, lost, since, until):
-    """Rows below a panel: what was dropped of these packets, told by kind, while a unit was there. The last piece is how tall they are."""
-    row, count = 12, len(run.capture)
+def rows_below(run, panel, top):
+    """What was dropped while the unit was there: a row for each kind and class."""
+    count = len(run.capture)
     across = 1 if count <= FEW else max(1, count // WIDTH)
-    for kind, colour in colours_of(run).items():
-        places = {number // across for of in lost for number in of[kind] if since <= number < until}
-        if places:
-            yield text(LEFT - 7, top + row + 4, kind, "end")
-            path = "".join(f"M{LEFT + round(2 * WIDTH * (x + 0.5) * across / count) / 2:g},{top + row - 3}v6" for x in sorted(places))
-            yield f'<path d="{path}" stroke="{colour}" stroke-width="1" fill="none"/>'
-            row += 10
-    yield row
+    for row, (kind, name, numbers) in enumerate(panel.rows(run)):
+        y = top + ROW * row + ROW
+        places = sorted({number // across for number in numbers})
+        path = "".join(f"M{LEFT + round(2 * WIDTH * (x + 0.5) * across / count) / 2:g},{y - 4}v7" for x in places)
+        yield text(LEFT - 7, y + 3, f"{kind}, {name}", "end")
+        yield f'<path class="{kind}" d="{path}" stroke="{DROP_COLOURS[kind]}" stroke-width="1" fill="none"/>'
 
 
-def panel(run, top, title, lost, since, until, first, most, said, points, colours):
-    """A panel: points over packet numbers, and below them what was dropped while the unit was there."""
-    yield text(LEFT, top - 6, title)
-    yield from axes(top, most, said)
-    if since:
-        yield f'<rect x="{LEFT}" y="{top}" width="{WIDTH * since / max(len(run.capture), 1):.1f}" height="{HEIGHT}" fill="#f0f0f0"/>'
-    *rows, row = lost_below(run, top + HEIGHT, lost, since, until)
-    yield from rows
-    for wanted, colour in colours:
-        yield dots(points, top, wanted, colour)
-    yield from numbers_below(top + HEIGHT + row - 4, len(run.capture), first)
+def events_above(panel, top, count):
+    """A line for each event, with its kind where there is room for it."""
+    free = 0
+    for before, kind, whole_of_it in panel.events:
+        x = LEFT + WIDTH * min(before / max(count, 1), 1)
+        yield line(x, top, x, top + HEIGHT, 'class="event" stroke="#009e73" stroke-dasharray="2 2"').replace("/>", f"><title>{whole_of_it}</title></line>")
+        if x >= free:
+            end = x + 6 * len(kind) + 8
+            right = end <= LEFT + WIDTH
+            yield text(x + 3 if right else x - 3, top + HEIGHT - 4, kind, "start" if right else "end", ' class="event" fill="#009e73"')
+            free = end
 
 
-def unit_panel(run, top, station, unit, since, until, first, room):
-    """A unit's panel: serials over packet numbers, the colour the band."""
-    numbers, bands, most = run.numbers[unit], run.capture.bands, len(run.numbers[unit])
-    points = thinned(numbers, run.serials[unit], map(bands.__getitem__, numbers), len(run.capture), most, room) if most else []
-    title = f"{name_of(run, station)}, unit {unit}: sent {most}" + (f", from packet {since + first} on" if since else "")
-    return panel(run, top, title, [run.lost[station]], since, until, first, most, "serial", points, [(it, BAND_COLOURS[it]) for it in (1, 2, 0)])
+def late_mark(panel, top):
+    """Above this line are the packets that were sent after the last one had come."""
+    y = top + HEIGHT - (HEIGHT - 8) * (panel.most - panel.late) / max(panel.most, 1)
+    yield f'<rect class="late" x="{LEFT}" y="{top}" width="{WIDTH}" height="{y - top:.1f}" fill="#f4ecd8"/>'
+    yield line(LEFT, y, LEFT + WIDTH, y, 'stroke="#a06000" stroke-dasharray="6 3"')
+    yield text(LEFT + 6, y - 5 if y > top + 16 else y + 13, f"above: sent after the last packet ({panel.late})", more=' class="latewords" fill="#a06000"')
 
 
-def group_panel(run, top, at, children, first, room):
+def draw_panel(run, panel, top, first, room):
+    """A panel below its title."""
+    count, top = len(run.capture), top + TITLE
+    yield text(LEFT, top - 6, panel.title)
+    if panel.late:
+        yield from late_mark(panel, top)
+    if panel.since:
+        yield f'<rect class="before" x="{LEFT}" y="{top}" width="{WIDTH * panel.since / max(count, 1):.1f}" height="{HEIGHT}" fill="#f0f0f0"/>'
+    yield from axes(top, panel.most, panel.said)
+    yield from events_above(panel, top, count)
+    points = points_of(panel, count, room) if panel.most else []
+    for of, (_, colour) in panel.names.items():
+        yield dots(points, top, of, colour)
+    yield from rows_below(run, panel, top + HEIGHT)
+    yield from numbers_below(top + panel.tall(run) - TITLE - FOOT, count, first)
+
+
+# WHAT IS DRAWN
+
+
+BANDS = {band: (f"band {band}", colour) for band, colour in enumerate(BAND_COLOURS)}
+
+
+def event_words(number, event, first):
+    length = f" to {event['len']} slots" if "len" in event else ""
+    return f"event {number}: {event['kind']}{length}, before packet {event['before'] + first}"
+
+
+def events_of(run, station, since, until, first):
+    """The events of a station while a unit was there."""
+    for number, event in enumerate(run.plan.get("event", [])):
+        if station in run.children[event["station"]] and since <= event["before"] <= until:
+            yield event["before"], event["kind"], event_words(number, event, first)
+
+
+def unit_panels(run, waits, station, dropped, first):
+    """A panel for each unit of a station: serials over packet numbers, the colour the band."""
+    units = run.units[station]
+    for place, (unit, since) in enumerate(units):
+        until = units[place + 1][1] if place + 1 < len(units) else len(run.capture)
+        numbers, late = run.numbers[unit], waits.late_by(unit) if waits else 0
+        title = f"{name_of(run, station)}, unit {unit}: sent {len(numbers)}" + (f", from packet {since + first} on" if since else "")
+        events = list(events_of(run, station, since, until, first))
+        yield Panel(title, "serial", numbers, run.serials_of(unit), run.capture.bands, BANDS, len(numbers), dropped, since, until, late, events)
+
+
+def group_panel(run, at, children, dropped):
     """A group's panel: the places in its joint file over packet numbers, the colour the queue."""
-    joint, stations = run.joint(children), run.stations
-    points = thinned(joint, range(len(joint)), map(stations.__getitem__, joint), len(run.capture), len(joint), room) if joint else []
-    title = f"mq {at}: sent {len(joint)} by {len(children)} queues"
-    lost, colours = [run.lost[it] for it in children], list(zip(children, EIGHT_COLOURS))
-    yield from legend_of_eight(top, "queue", len(children))
-    yield from panel(run, top, title, lost, 0, len(run.capture), first, len(joint), "place in its file", points, colours)
+    joint = run.joint(children)
+    names = {child: (f"queue {child - children[0]}", colour) for child, colour in zip(children, EIGHT_COLOURS)}
+    title = f"mq {at}: sent {len(joint)} by {len(children)} queues; places are by serial, not by time"
+    return Panel(title, "place in its file", joint, range(len(joint)), run.stations, names, len(joint), dropped, 0, len(run.capture))
 
 
-def legend(y, names, x=LEFT, step=70):
-    for name, colour in names.items():
-        yield f'<circle cx="{x + 4}" cy="{y - 4}" r="3" fill="{colour}"/>' + text(x + 12, y, name)
-        x += step
-
-
-def legend_of_eight(top, what, many):
-    """Which colour has which queue or sender, at the right above a panel."""
-    names = {f"{what} {it}": colour for it, colour in zip(range(many), EIGHT_COLOURS)}
-    step = 28 + 6 * len(what)
-    return legend(top - 6, names, LEFT + WIDTH - step * many, step)
-
-
-def title_of(run, of):
-    packets, _ = run.of_kinds()
-    lost = words_of(run, packets)
-    return f"{of}: {len(run.capture)} packets, {run.KINDS[0]} {packets[run.KINDS[0]]}" + (f", {lost}" if lost else "")
-
-
-def write_picture(file, tall, lines):
-    try:
-        write(file, LEFT + WIDTH + 24, tall, lines)
-    except OSError as fault:
-        fail(f"{file}: {fault.strerror}")
-
-
-def heads(run, of, colours):
-    """What stands above the first panel."""
-    yield text(LEFT, 18, title_of(run, of), more=' font-weight="bold"')
-    yield from legend(36, colours)
-    yield text(LEFT + WIDTH, 36, "packet number to the right", "end")
-
-
-def draw(run, of, file, first):
-    """A panel for each group, and one for each unit."""
-    lines = [*heads(run, of, {f"band {band}": colour for band, colour in enumerate(BAND_COLOURS)} | colours_of(run))]
-    top, room = 66, DOTS // (len(run.groups) + len(run.numbers))
-    for station, units in enumerate(run.units):
+def panels_of(run, waits, first):
+    """The panels of a run, each group before its stations."""
+    by_station = {station: {} for station in range(len(run.tables))}
+    for (key, kind), numbers in run.dropped_by([station << 2 | band for station, band in zip(run.stations, run.capture.bands)]).items():
+        by_station[key >> 2][key & 3, kind] = numbers
+    for station in range(len(run.tables)):
         for at, children in run.groups:
             if station == children[0]:
-                lines += group_panel(run, top, at, children, first, room)
-                top += 260
-        for place, (unit, since) in enumerate(units):
-            until = units[place + 1][1] if place + 1 < len(units) else len(run.capture)
-            lines += unit_panel(run, top, station, unit, since, until, first, room)
-            top += 260
-    write_picture(file, top - 20, lines)
+                dropped = {(it, kind): numbers for (it, kind), numbers in run.dropped_by(run.stations).items() if it in children}
+                yield group_panel(run, at, children, dropped)
+        yield from unit_panels(run, waits, station, by_station[station], first)
 
 
-def draw_tap(run, of, file, first):
+def legend(y, names, x=LEFT):
+    for name, colour in names:
+        yield f'<circle class="{name}" cx="{x + 4}" cy="{y - 4}" r="3" fill="{colour}"/>' + text(x + 12, y, name)
+        x += 26 + 6 * len(name)
+
+
+def title_of(run, waits, of):
+    packets, _ = run.of_kinds()
+    lost, late = words_of(run, packets), waits.late if waits else []
+    after = f" ({len(late)} after the last packet)" if late else ""
+    return f"{of}: {len(run.capture)} packets, {run.KINDS[0]} {packets[run.KINDS[0]]}{after}" + (f", {lost}" if lost else "")
+
+
+def heads(run, waits, of, names, more=""):
+    """What stands above the first panel, and how tall it is."""
+    titles = textwrap.wrap(title_of(run, waits, of), 115)
+    for row, title in enumerate(titles):
+        yield text(16, 18 + 15 * row, title, more=' font-weight="bold"')
+    y = 21 + 15 * len(titles)
+    yield from legend(y, names)
+    yield text(LEFT + WIDTH, y, "packet number to the right" + more, "end")
+    yield y + 8
+
+
+def kinds_of(run):
+    """The kinds of fates that there are of packets that weren't sent, with their colours."""
+    packets, _ = run.of_kinds()
+    return [(kind, DROP_COLOURS[kind]) for kind in run.KINDS[1:] if packets[kind]]
+
+
+def drawn(run, waits, of, names, panels, first):
+    """The picture of some panels."""
+    panels, more = list(panels), "; packets that share a dot: their colours alternate" if len(run.capture) > FEW else ""
+    *lines, top = heads(run, waits, of, [*names, *kinds_of(run)], more)
+    for panel in panels:
+        lines += draw_panel(run, panel, top, first, DOTS // len(panels))
+        if panel.names is not BANDS:
+            lines += legend(top + TITLE - 6, panel.names.values(), LEFT + WIDTH - sum(26 + 6 * len(name) for name, _ in panel.names.values()))
+        top += panel.tall(run)
+    return whole(LEFT + WIDTH + 24, top, lines)
+
+
+def picture(run, waits, of, first):
+    """A panel for each group, and one for each unit."""
+    return drawn(run, waits, of, BANDS.values(), panels_of(run, waits, first), first)
+
+
+def picture_of_tap(run, of, first):
     """A panel of the packets that were read, the colour the sender."""
-    top, most, count = 66, len(run.order), len(run.capture)
-    points = thinned(run.order, range(most), (it % run.senders for it in run.order), count, most, DOTS) if most else []
-    lines = [*heads(run, of, colours_of(run)), *legend_of_eight(top, "sender", run.senders)]
-    lines += panel(run, top, f"tap: read {most}", [run.lost], 0, count, first, most, "place", points, list(enumerate(EIGHT_COLOURS[: run.senders])))
-    write_picture(file, top + 240, lines)
+    names = {sender: (f"sender {sender}", EIGHT_COLOURS[sender]) for sender in range(run.many)}
+    most = len(run.order)
+    panel = Panel(f"tap: read {most}", "place", run.order, range(most), run.senders, names, most, run.dropped_by(run.senders), 0, len(run.capture))
+    return drawn(run, None, of, [], [panel], first)
 
 
 def curve(waiting, most, top, colour):
-    """How many packets wait, over packet numbers: where several share a column of half a pixel, from the fewest to the most."""
-    columns, count = {}, len(waiting)
-    for number, now in enumerate(waiting):
-        x = int(WIDTH * 2 * (number + 0.5) / count)
-        low, high = columns.get(x, (now, now))
-        columns[x] = (min(low, now), max(high, now))
-    up = lambda it: top + HEIGHT - (HEIGHT - 8) * it / most  # noqa: E731
-    path = "L".join(f"{LEFT + x / 2:g},{up(low):.1f} {LEFT + x / 2:g},{up(high):.1f}" if low != high else f"{LEFT + x / 2:g},{up(low):.1f}" for x, (low, high) in columns.items())
-    return f'<path d="M{path}" fill="none" stroke="{colour}" stroke-width="1.3"/>' if columns else ""
+    """How many packets wait, over packet numbers: where several share a column of half a pixel, from the fewest to the most; at last those left, which go."""
+    count = len(waiting)
+    up = lambda it: f"{top + HEIGHT - (HEIGHT - 8) * it / most:.1f}"  # noqa: E731
+    columns, path = min(2 * WIDTH, count), []
+    for column in range(columns):
+        start, end = -(-column * count // columns), -(-(column + 1) * count // columns)
+        x, low, high = LEFT + round(2 * WIDTH * (start + 0.5) / count) / 2, min(waiting[start:end]), max(waiting[start:end])
+        path += [f"{x:g},{up(low)}"] * (low != high) + [f"{x:g},{up(high)}"]
+    yield f'<path d="M{"L".join(path)}" fill="none" stroke="{colour}" stroke-width="1.3"/>' if path else ""
+    if path and waiting[-1]:
+        yield line(LEFT + WIDTH, float(up(waiting[-1])), LEFT + WIDTH + AFTER, float(up(0)), f'stroke="{colour}" stroke-width="1.3" stroke-dasharray="2 3"')
 
 
-def backlog_panel(run, top, title, curves, first):
+def after_the_last(top, late):
+    """The strip right of the last packet."""
+    x = LEFT + WIDTH
+    yield f'<rect class="late" x="{x}" y="{top}" width="{AFTER}" height="{HEIGHT}" fill="#f4ecd8"/>'
+    yield line(x, top, x, top + HEIGHT, 'stroke="#a06000" stroke-dasharray="6 3"')
+    for row, words in enumerate(["after the", "last packet:", f"{late} sent"]):
+        yield text(x + AFTER / 2, top + 14 + 13 * row, words, "middle", ' class="latewords" fill="#a06000"')
+
+
+def backlog_panel(run, top, title, curves, late, first):
     """A line for each of these, each with its colour."""
-    most = max([1, *(max(it, default=0) for it, _ in curves)])
+    most, top = max([1, *(max(it, default=0) for it, _ in curves)]), top + TITLE
     yield text(LEFT, top - 6, title)
+    if late:
+        yield from after_the_last(top, late)
     yield from axes(top, most, "waiting")
     for waiting, colour in curves:
-        yield curve(waiting, most, top, colour)
+        yield from curve(waiting, most, top, colour)
     yield from numbers_below(top + HEIGHT, len(run.capture), first)
 
 
-def draw_backlog(run, of, file, first):
+def backlog(run, waits, of, first):
     """How many packets of each band wait, and of each queue of a group, over packet numbers."""
-    lines, top = [*heads(run, of, {f"band {band}": colour for band, colour in enumerate(BAND_COLOURS)})], 66
-    for station, waiting in enumerate(run.waiting):
+    *lines, top = heads(run, waits, of, BANDS.values())
+    for station in range(len(run.tables)):
         for at, children in run.groups:
             if station == children[0]:
-                lines += legend_of_eight(top, "queue", len(children))
-                curves = [(list(map(sum, zip(*run.waiting[child]))), colour) for child, colour in zip(children, EIGHT_COLOURS)]
-                lines += backlog_panel(run, top, f"mq {at}: packets that wait in each queue", curves, first)
-                top += 240
-        lines += backlog_panel(run, top, f"{name_of(run, station)}: packets that wait in each band", list(zip(waiting, BAND_COLOURS)), first)
-        top += 240
-    write_picture(file, top - 20, lines)
+                names = [(f"queue {it}", colour) for it, colour in zip(range(len(children)), EIGHT_COLOURS)]
+                lines += legend(top + TITLE - 6, names, LEFT + WIDTH - sum(26 + 6 * len(name) for name, _ in names))
+                curves = [(waits.waiting(child), colour) for child, colour in zip(children, EIGHT_COLOURS)]
+                late = waits.late_of(lambda it, band, queue: it in children)
+                lines += backlog_panel(run, top, f"mq {at}: packets that wait in each queue", curves, late, first)
+                top += TITLE + HEIGHT + FOOT
+        late = waits.late_of(lambda it, band, queue: it == station)
+        curves = [(waits.waiting(station, [band]), colour) for band, colour in enumerate(BAND_COLOURS)]
+        lines += backlog_panel(run, top, f"{name_of(run, station)}: packets that wait in each band", curves, late, first)
+        top += TITLE + HEIGHT + FOOT
+    return whole(LEFT + WIDTH + AFTER + 24, top, lines)

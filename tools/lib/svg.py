@@ -1,9 +1,13 @@
-"""Pictures as SVG: texts, ticks, and the whole."""
+"""Pictures as SVG: texts, ticks, and the whole. Classes are for a page that has the picture in it, and sets other colours in the dark."""
 import html
 
 
 def text(x, y, words, anchor="start", more=""):
     return f'<text x="{x:.1f}" y="{y:.1f}" text-anchor="{anchor}"{more}>{html.escape(str(words))}</text>'
+
+
+def line(x1, y1, x2, y2, more):
+    return f'<line x1="{x1:.1f}" y1="{y1:.1f}" x2="{x2:.1f}" y2="{y2:.1f}" {more}/>'
 
 
 def ticks(low, high, most):
@@ -14,8 +18,8 @@ def ticks(low, high, most):
     return range(-(-low // step) * step, high + 1, step)
 
 
-def write(file, wide, tall, lines):
-    """The picture, of so many pixels."""
-    head = f'<svg xmlns="http://www.w3.org/2000/svg" width="{wide}" height="{tall}" font-family="sans-serif" font-size="11">'
-    with open(file, "w", encoding="utf-8") as it:
-        it.write("\n".join([head, '<rect width="100%" height="100%" fill="white"/>', *lines, "</svg>"]) + "\n")
+def whole(wide, tall, lines):
+    """The text of a picture of so many pixels, which a page may scale."""
+    size = f'width="{wide}" height="{tall}" viewBox="0 0 {wide} {tall}"'
+    head = f'<svg xmlns="http://www.w3.org/2000/svg" {size} font-family="sans-serif" font-size="11">'
+    return "\n".join([head, '<rect class="back" width="100%" height="100%" fill="white"/>', *filter(None, lines), "</svg>"]) + "\n"

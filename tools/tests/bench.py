@@ -65,8 +65,7 @@ def fates_of(plan, capture):
     """The fates that the run of one sender gives, as the program would write them."""
     of = captures.read(capture)
     stations, queues = plans.places_of(plan, of)
-    fates, _ = one_sender.run(plan, stations, of.bands, queues)
-    return "".join(one_sender.line_of(n, it) + "\n" for n, it in enumerate(fates))
+    return one_sender.run(plan, stations, of.bands, queues).text()
 
 
 def frame(tos, source, route, head=b"\x08\x00\x45"):

@@ -1,13 +1,16 @@
 """What is said of a run and of a tap, and drawn."""
+import re
 import shutil
 import tomllib
+import xml.etree.ElementTree
 
 import captures
 from tests.bench import HERE, ROOM, TOP, capture_of, case, expect, expect_none, expect_picture, fates_of, fault, frame, run
 
 # of each example plan a part of what is told, with the counts of the pages, and the fates that docs/FORMATS.md tells of
 RUNS = {
-    "drops": ("sent 20639 bytes 153 pkt, dropped 117 (full 117)\n band 0: sent 2918 bytes 40 pkt, dropped 0\n", ["49 full 23", "50 full 23", "51 full 23"]),
+    "drops": ("sent 20639 bytes 153 pkt, dropped 117 (full 117)\n 112 sent while packets came, and 41 after the last packet\n band 0: sent 2918 bytes 40 pkt, dropped 0\n",
+              ["49 full 23", "50 full 23", "51 full 23"]),
     "short-rings": ("dropped 140 (full 140)", ["53 full 11"]),
     "queues": (" queue 1: sent 26656 bytes 170 pkt, dropped 0\n", ["10 sent 0 10", "16 sent 0 16"]),
     "swap": ("units that sent: 0 1\n", ["149 purged 0", "150 sent 1 0"]),
@@ -17,7 +20,7 @@ RUNS = {
     "several-stations": ("requeues 5\n", []),
     "stop-and-busy": ("station 1: pfifo_fast, 3 bands of 32 slots", []),
     "multi-queue": (" queue 1: sent 16731 bytes 115 pkt, dropped 55 (full 55)\n queue 2: sent 3700 bytes 50 pkt, dropped 0\n", ["14 sent 1 10", "15 sent 1 16", "54 sent 2 2", "55 full 23"]),
-}
+}  # fmt: skip
 
 
 @case
@@ -35,6 +38,12 @@ def show_run():
         expect(f"show-run {name}", said, 0, told)
         expect_picture(f"show-run {name}", room / f"{name}.svg", f"{name}.toml over loopback.pcap: 270 packets, sent ", "serial", ">250</text>")
         expect_picture(f"show-run {name}", room / f"{name}.backlog.svg", "packets that wait in each band")
+        expect_inside(f"show-run {name}", room / f"{name}.svg", room / f"{name}.backlog.svg")
+    expect_picture("show-run, after the last packet", room / "drops.svg", "above: sent after the last packet (41)", "full, band 1")
+    expect_picture("show-run, after the last packet", room / "drops.backlog.svg", ">41 sent</text>")
+    expect_picture("show-run, events", room / "events.svg", "<title>event 2: resize to 4 slots, before packet 200</title>", ">down</text>", ">up</text>")
+    if "shrunk" in (room / "drops.svg").read_text(encoding="utf-8"):
+        fault("show-run: the legend has a kind of fate that there isn't")
     expect_picture("show-run, a unit that comes later", room / "swap.svg", "station 0, unit 1: sent 120, from packet 150 on")
     drops = TOP / "examples/drops.toml"
     said = run(HERE / "show-run", drops, capture, room / "drops", "--dropped", room / "lost.pcap", "--numbers-from", "1")
@@ -60,18 +69,53 @@ def show_run():
     twice = (room / "drops.fates").read_text(encoding="utf-8").replace("1 sent 0 1\n", "1 sent 0 0\n", 1)
     (room / "twice.fates").write_text(twice, encoding="utf-8")
     expect("show-run, a serial twice", run(HERE / "show-run", several, capture, room / "twice"), 1, "unit 0 sent 153 packets, and their serials aren't 0 to 152")
-    for words, why in [
-        ([drops, capture, room / "none"], "none.fates: No such file"),
-        ([room / "none.toml", capture, room / "drops"], "none.toml: No such file"),
-        ([drops, drops, room / "drops"], "drops.toml: it is neither a pcap nor a pcapng file"),
-        ([drops, capture, room / "drops", room / "none/a.svg"], "a.svg: No such file"),
-        ([drops, capture, room / "drops", room / "a.png"], "a picture is written as SVG"),
-        ([several, capture, room / "busy", room / "a.svg", room / "b.svg"], "the backlog is told of one sender alone"),
-        ([drops, capture], "tools/show-run PLAN CAPTURE OUT"),
+    for words, code, why in [
+        ([drops, capture, room / "none"], 1, "none.fates: No such file"),
+        ([room / "none.toml", capture, room / "drops"], 1, "none.toml: No such file"),
+        ([drops, drops, room / "drops"], 1, "drops.toml: it is neither a pcap nor a pcapng file"),
+        ([drops, capture, room / "drops", room / "none/a.svg"], 1, "a.svg: No such file"),
+        ([drops, capture, room / "drops", room / "a.png"], 2, "a.png: a picture is written as SVG"),
+        ([drops, capture, room / "drops", "--table", room / "a.xlsx"], 2, "a.xlsx: its name ends in .csv, .json or .jsonl"),
+        ([drops, capture, room / "drops", "--marked", room / "a.pcap"], 2, "a.pcap: its name ends in .pcapng"),
+        ([drops, capture], 2, "2 words are too few: tools/show-run PLAN CAPTURE OUT"),
+        ([drops, capture, room / "drops", "a.svg", "b.svg", "c.svg"], 2, "6 words are too many: tools/show-run PLAN CAPTURE OUT"),
+        ([drops, capture, room / "drops", "--colour"], 2, "unrecognized arguments: --colour"),
+        ([drops, capture, room / "drops", "--numbers-from", "2"], 2, "--numbers-from"),
     ]:
         said = run(HERE / "show-run", *words)
-        expect(f"show-run {words}", said, 1, why)
+        expect(f"show-run {words}", said, code, why)
         expect_none(f"show-run {words}", said, "Traceback")
+        if code == 2 and said[2].count("\n") != 1:
+            fault(f"show-run {words}: says more than a line: {said[2]!r}")
+    expect("show-run --help", run(HERE / "show-run", "--help"), 0, "tools/show-run PLAN CAPTURE OUT [PICTURE.svg [BACKLOG.svg]] [options]")
+    if run(HERE / "show-run", "--help")[2]:
+        fault("show-run --help writes to standard error")
+    # of several senders the backlog isn't known, and the other picture is drawn
+    said = run(HERE / "show-run", several, capture, room / "busy", room / "s.svg", room / "b.svg")
+    expect("show-run, a backlog of several senders", said, 1, "b.svg isn't drawn: of several senders", "aren't known: of several senders")
+    expect_picture("show-run, several senders", room / "s.svg", "senders.toml over loopback.pcap")
+    # no output is an input, whatever it is called
+    inputs = {name: (room / name).read_bytes() for name in ("drops.fates", "lost.pcap")}
+    for option, file in [("--dropped", room / "lost.pcap"), ("--dropped", room / "link.pcap"), ("--table", room / "drops.csv"), ("--html", room / "drops.html")]:
+        linked = {"link.pcap": "lost.pcap", "drops.csv": "drops.fates", "drops.html": "drops.fates"}.get(file.name)
+        if linked:
+            file.symlink_to(linked)
+        of = room / "lost.pcap" if option == "--dropped" else capture
+        expect(f"show-run {option} over an input", run(HERE / "show-run", drops, of, room / "drops", option, file), 2, "is an input")
+    if inputs != {name: (room / name).read_bytes() for name in inputs}:
+        fault("show-run: an input was overwritten")
+
+
+def expect_inside(name, *files):
+    """Faults where a text of a picture stands outside of it."""
+    for file in files:
+        root = xml.etree.ElementTree.parse(file).getroot()
+        wide, tall = int(root.get("width")), int(root.get("height"))
+        for it in root.iter("{http://www.w3.org/2000/svg}text"):
+            x, y, size = float(it.get("x")), float(it.get("y")), 5.2 * len(it.text or "")
+            left = x - {"start": 0, "middle": size / 2, "end": size}[it.get("text-anchor")]
+            if not it.get("transform") and not (0 <= left and left + size <= wide and 10 <= y <= tall - 2):
+                fault(f"{name}: {it.text!r} isn't inside of {file.name}")
 
 
 # the fates of a tap of one sender, a ring of 4 slots and batches of 4, of ten packets
@@ -114,7 +158,7 @@ def show_run_of_a_tap():
     expect("show-run of a tap, a ring with room", show("t", tap=("1", "10", "4")), 1, "by a ring of 10 slots that 8 came into")
     expect("show-run of a tap, a longer ring", show("t", tap=("1", "9", "4")), 1, "dropped by a ring of 9 slots that 8 came into")
     expect("show-run of a tap, two senders", show("t", tap=("2", "4", "4")), 0, " sender 1: read ")
-    expect("show-run of a tap, no senders", show("t", tap=("0", "4", "4")), 1, "SENDERS is 0, and not 1 to 8")
+    expect("show-run of a tap, no senders", show("t", tap=("0", "4", "4")), 2, "SENDERS is 0, and not 1 to 8")
     expect("show-run of a tap, no capture", show("none"), 1, "none.fates: No such file")
 
 
@@ -165,7 +209,7 @@ def many_packets():
     room = ROOM / "many"
     room.mkdir()
     (room / "c.pcap").write_bytes(capture_of(*(frame([0, 8, 16][n % 3], n % 7, 0) for n in range(30000))))
-    (room / "p.toml").write_text("version = 3\n[[station]]\nmq = 2\nlen = 4096\nburst = 1\n", encoding="utf-8")
+    (room / "p.toml").write_text("version = 3\nsenders = 2\n[[station]]\nmq = 2\nlen = 4096\nburst = 1\n", encoding="utf-8")
     # each dot has a place of its own, and there are more than the group's panel has room for
     sent = sorted(range(30000), key=lambda n: n * 7919 % 30000)
     serials, many = {}, [0, 0]
@@ -182,3 +226,11 @@ def many_packets():
             fault(f"the picture has no dots of {colour}")
     if len(picture) > 1_000_000 or not 5000 < picture.count("h0") <= 60000:
         fault(f"the picture has {len(picture)} bytes and {picture.count('h0')} dots")
+    # each band is to be seen where all are sent in their order, which is one line of dots
+    (room / "one.toml").write_text("[[station]]\n", encoding="utf-8")
+    (room / "one.fates").write_text("".join(f"{n} sent 0 {n}\n" for n in range(30000)), encoding="utf-8")
+    expect("show-run, a line of dots", run(HERE / "show-run", room / "one.toml", room / "c.pcap", room / "one", room / "one.svg"), 0, "30000 pkt")
+    picture = (room / "one.svg").read_text(encoding="utf-8")
+    bands = {colour: re.findall(r"M([\d.]+,[\d.]+)h0", path) for path, colour in re.findall(r'<path d="([^"]*h0)" stroke="(#\w+)"', picture)}
+    if len(bands) != 3 or min(map(len, bands.values())) < 60 or len({it for places in bands.values() for it in places}) != sum(map(len, bands.values())):
+        fault(f"the bands of the picture have {[len(it) for it in bands.values()]} dots, or share places")

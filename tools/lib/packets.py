@@ -1,0 +1,199 @@
+"""What a capture says of its packets besides their class: when each came, its DSCP, and its flow."""
+import socket
+import struct
+from array import array
+from itertools import repeat
+from typing import List, NamedTuple, Optional
+
+# in place of a time, which is in nanoseconds, and of a DSCP
+NO_TIME, NO_DSCP = -(2**63), 255
+SECOND = 10**9
+NANOSECONDS = (b"\x4d\x3c\xb2\xa1", b"\xa1\xb2\x3c\x4d")
+ENHANCED, SIMPLE, INTERFACE = 6, 3, 1
+RESOLUTION, OFFSET = 9, 14  # options of an interface
+PROTOCOLS = {1: "icmp", 2: "igmp", 6: "tcp", 17: "udp", 33: "dccp", 47: "gre", 50: "esp", 58: "icmpv6", 89: "ospf", 132: "sctp", 136: "udplite"}
+WITH_PORTS = frozenset((6, 17, 33, 132, 136))
+# bytes 6 and 7 of an IPv4 header that isn't a later fragment, which has no ports
+FIRST = frozenset(bytes([it << 5, 0]) for it in range(8))
+# where the type of what a frame carries stands, by link type: Ethernet, and the two of `tcpdump -i any`
+TYPE_AT = {1: 12, 113: 14, 276: 0}
+# how long the header of a frame is, by link type; those without a type of what they carry have IP alone
+HEADER = {1: 14, 113: 16, 276: 20, 0: 4, 108: 4, 101: 0, 228: 0, 229: 0}
+TAGS = (b"\x81\x00", b"\x88\xa8", b"\x91\x00")
+IPV4, IPV6 = b"\x08\x00", b"\x86\xdd"
+# of IPv6: hop by hop, routing, fragment, destination
+EXTENSIONS = frozenset((0, 43, 44, 60))
+
+
+class Flow(NamedTuple):
+    """What the packets of a flow share; a part that they don't have is None."""
+
+    protocol: Optional[str] = None
+    source: Optional[str] = None
+    source_port: Optional[int] = None
+    destination: Optional[str] = None
+    destination_port: Optional[int] = None
+
+
+def seconds(time, digits):
+    """Nanoseconds as seconds with so many digits, 6 or 9."""
+    sign, time = ("-", -time) if time < 0 else ("", time)
+    return f"{sign}{time // SECOND}.{time % SECOND:09d}" if digits == 9 else f"{sign}{time // SECOND}.{time % SECOND // 1000:06d}"
+
+
+def options_of(data, order, at, end):
+    """The options of a block between two places: the number of each and its value."""
+    while at + 4 <= end:
+        number, length = struct.unpack_from(order + "HH", data, at)
+        if number == 0 or at + 4 + length > end:
+            return
+        yield number, bytes(data[at + 4 : at + 4 + length])
+        at += 4 + length + -length % 4
+
+
+class Clock(NamedTuple):
+    """How an interface tells time: ticks a second, whether that is a power of 2, and the seconds to be added."""
+
+    ticks: int = 10**6
+    offset: int = 0
+
+    def nanoseconds(self, ticks):
+        found = ticks * SECOND // self.ticks + self.offset * SECOND
+        return found if -(2**63) < found < 2**63 else NO_TIME
+
+
+def clocks_of(capture):
+    """The clock of each interface of a pcapng capture."""
+    found = []
+    for head in capture.head[1:]:
+        ticks, offset = 10**6, 0
+        for number, value in options_of(head, capture.order, 16, len(head) - 4):
+            if number == RESOLUTION and value:
+                ticks = 2 ** (value[0] & 127) if value[0] & 128 else 10 ** value[0]
+            elif number == OFFSET and len(value) == 8:
+                offset = struct.unpack(capture.order + "q", value)[0]
+        found.append(Clock(ticks, offset))
+    return found
+
+
+def header_of_frame(data, link, at, until):
+    """Where the header of IP begins in a frame, and its version; None where there is none."""
+    if link not in HEADER:
+        return None
+    head = at + HEADER[link]
+    if link in TYPE_AT:
+        kind = at + TYPE_AT[link]
+        while link == 1 and data[kind : kind + 2] in TAGS:
+            kind, head = kind + 4, head + 4
+        if data[kind : kind + 2] not in (IPV4, IPV6):
+            return None
+    version = data[head] >> 4 if head < until else 0
+    if version == 4 and head + 20 <= until or version == 6 and head + 40 <= until:
+        return head, version
+    return None
+
+
+def ports_at(data, at, until):
+    return struct.unpack_from(">HH", data, at) if at + 4 <= until else (None, None)
+
+
+def flow_of_ipv4(data, head, until):
+    """The DSCP and the flow of a packet with an IPv4 header."""
+    protocol, ports = data[head + 9], (None, None)
+    if protocol in WITH_PORTS and data[head + 6 : head + 8] in FIRST:
+        ports = ports_at(data, head + 4 * (data[head] & 15), until)
+    source, destination = socket.inet_ntoa(data[head + 12 : head + 16]), socket.inet_ntoa(data[head + 16 : head + 20])
+    return data[head + 1] >> 2, Flow(PROTOCOLS.get(protocol, str(protocol)), source, ports[0], destination, ports[1])
+
+
+def flow_of_ipv6(data, head, until):
+    """The same of an IPv6 header, behind whose extensions the ports stand."""
+    protocol, at, first = data[head + 6], head + 40, True
+    while protocol in EXTENSIONS and at + 8 <= until:
+        first = first and (protocol != 44 or struct.unpack_from(">H", data, at + 2)[0] < 8)
+        protocol, at = data[at], at + (8 if protocol == 44 else 8 * (data[at + 1] + 1))
+    ports = ports_at(data, at, until) if protocol in WITH_PORTS and first else (None, None)
+    source, destination = (socket.inet_ntop(socket.AF_INET6, data[it : it + 16]) for it in (head + 8, head + 24))
+    return (struct.unpack_from(">H", data, head)[0] >> 6) & 63, Flow(PROTOCOLS.get(protocol, str(protocol)), source, ports[0], destination, ports[1])
+
+
+class Packets:
+    """Of each packet of a capture its time in nanoseconds, its DSCP, and the number of its flow; and how many digits of a second times have."""
+
+    def __init__(self, capture):
+        self.capture = capture
+        self.times, self.digits = array("q"), 6
+        self.frames, self.captured, self.links = array("Q"), array("I"), repeat(capture.links[0] if capture.links else 0)
+        if capture.is_pcapng():
+            self.read_blocks()
+        else:
+            self.read_records()
+
+    def read_records(self):
+        capture, unpack = self.capture, struct.Struct(self.capture.order + "III").unpack_from
+        nanoseconds = bytes(capture.data[:4]) in NANOSECONDS
+        self.digits, scale = (9, 1) if nanoseconds else (6, 1000)
+        data, time, captured = capture.data, self.times.append, self.captured.append
+        for at in capture.starts:
+            seconds, part, length = unpack(data, at)
+            time(seconds * SECOND + part * scale)
+            captured(length)
+        self.frames = array("Q", (at + 16 for at in capture.starts))
+
+    def read_blocks(self):
+        capture, data = self.capture, self.capture.data
+        clocks, links = clocks_of(capture), []
+        self.digits = 9 if any(10**6 % it.ticks for it in clocks) else 6
+        unpack, simple = struct.Struct(capture.order + "I4xIIII").unpack_from, struct.Struct(capture.order + "I").unpack_from
+        for at, end in zip(capture.starts, capture.ends):
+            if simple(data, at)[0] == SIMPLE:
+                self.times.append(NO_TIME)
+                self.frames.append(at + 12)
+                self.captured.append(min(simple(data, at + 8)[0], end - 4 - (at + 12)))
+                links.append(capture.links[0] if capture.links else 0)
+                continue
+            _, interface, high, low, length = unpack(data, at)
+            self.times.append(clocks[interface].nanoseconds(high << 32 | low))
+            self.frames.append(at + 28)
+            self.captured.append(length)
+            links.append(capture.links[interface])
+        self.links = links
+
+
+class Flows:
+    """Of each packet its DSCP, and the number of its flow; and the flows."""
+
+    def __init__(self, packets):
+        self.data = packets.capture.data
+        self.services, self.of, self.flows = bytearray(), array("I"), []
+        self.numbers = {}  # of flows
+        service, of, number = self.services.append, self.of.append, self.number_of
+        # a frame of Ethernet with an IPv4 header of 20 bytes is read by one call, and by what identifies its flow
+        seen, size = {}, len(self.data)
+        unpack = struct.Struct("12x2sBB4x2sxB2x12s").unpack_from
+        for at, captured, link in zip(packets.frames, packets.captured, packets.links):
+            if link == 1 and captured >= 34 and at + 38 <= size:
+                kind, version, tos, fragment, protocol, ends = unpack(self.data, at)
+                if version == 69 and kind == IPV4:
+                    key = (protocol, ends if captured >= 38 and protocol in WITH_PORTS and fragment in FIRST else ends[:8])
+                    if key not in seen:
+                        seen[key] = number(flow_of_ipv4(self.data, at + 14, at + captured)[1])
+                    service(tos >> 2)
+                    of(seen[key])
+                    continue
+            dscp, flow = self.read(link, at, at + captured)
+            service(dscp)
+            of(number(flow))
+
+    def read(self, link, at, until):
+        """The DSCP and the flow of any frame."""
+        found = header_of_frame(self.data, link & 0xFFFF, at, until)
+        if not found:
+            return NO_DSCP, Flow()
+        return (flow_of_ipv4 if found[1] == 4 else flow_of_ipv6)(self.data, found[0], until)
+
+    def number_of(self, flow):
+        if flow not in self.numbers:
+            self.numbers[flow] = len(self.flows)
+            self.flows.append(flow)
+        return self.numbers[flow]
