@@ -1,0 +1,204 @@
+"""The axioms of the Linux kernel's memory model over one candidate execution: linux-kernel.cat of the kernel's tools/memory-model, without
+RCU and without plain accesses. A relation is a list: for each event the set of events that it leads to, as bits of a number.
+
+The names of relations are those of linux-kernel.cat, so that each line here can be read beside the line there.
+"""
+
+
+def none(count):
+    return [0] * count
+
+
+def union(*relations):
+    return [_or(rows) for rows in zip(*relations)]
+
+
+def _or(numbers):
+    found = 0
+    for it in numbers:
+        found |= it
+    return found
+
+
+def both(left, right):
+    return [a & b for a, b in zip(left, right)]
+
+
+def bits(number):
+    while number:
+        low = number & -number
+        yield low.bit_length() - 1
+        number ^= low
+
+
+def then(*relations):
+    """One relation after the other: `r ; s`."""
+    found = relations[0]
+    for more in relations[1:]:
+        found = [_or([more[it] for it in bits(row)]) for row in found]
+    return found
+
+
+def maybe(relation):
+    """`r?`."""
+    return [row | 1 << at for at, row in enumerate(relation)]
+
+
+def any_times(relation):
+    """`r*`."""
+    found = maybe(relation)
+    while True:
+        more = then(found, found)
+        if more == found:
+            return found
+        found = more
+
+
+def inverse(relation):
+    found = none(len(relation))
+    for at, row in enumerate(relation):
+        for it in bits(row):
+            found[it] |= 1 << at
+    return found
+
+
+def only(members, count):
+    """`[S]`: each member leads to itself."""
+    return [1 << at if members >> at & 1 else 0 for at in range(count)]
+
+
+def cycle_in(relation):
+    """The events of a shortest cycle, or None."""
+    best = None
+    for start in range(len(relation)):
+        before, ring = {start: None}, [start]
+        while ring and (best is None or start not in best):
+            at = ring.pop(0)
+            if relation[at] >> start & 1:
+                way = []
+                while at is not None:
+                    way.append(at)
+                    at = before[at]
+                if best is None or len(way) < len(best):
+                    best = way[::-1]
+                break
+            for it in bits(relation[at]):
+                if it not in before:
+                    before[it] = at
+                    ring.append(it)
+    return best
+
+
+class Fixed:
+    """What of an execution doesn't depend on where reads come from: program order, dependencies, fences."""
+
+    def __init__(self, events, without=()):
+        self.events, self.count = events, len(events)
+        self.without = without
+        sets = {kind: self.members(lambda it, kind=kind: it.kind == kind) for kind in "RWF"}
+        self.is_read, self.is_write = sets["R"], sets["W"]
+        accesses = sets["R"] | sets["W"]
+        later = [self.members(lambda it, at=at: it.thread == events[at].thread >= 0, after=at) for at in range(self.count)]
+        self.po = later
+        same = lambda of: [self.members(lambda it: of(it) == of(event)) for event in events]
+        self.int = [row if events[at].thread >= 0 else 0 for at, row in enumerate(same(lambda it: it.thread))]
+        self.ext = [~row & (1 << self.count) - 1 for row in self.int]
+        same_place = [row & accesses for row in same(lambda it: it.place)]
+        self.po_loc = both(both(self.po, same_place), [accesses if accesses >> at & 1 else 0 for at in range(self.count)])
+        self.address, self.data, self.control = (self.depends(name) for name in ("address", "data", "control"))
+        self.rmw = none(self.count)
+        for at, it in enumerate(events):
+            if it.read is not None:
+                self.rmw[it.read] |= 1 << at
+        self.fences(accesses)
+
+    def members(self, test, after=-1):
+        return sum(1 << at for at, it in enumerate(self.events) if at > after and test(it))
+
+    def depends(self, name):
+        found = none(self.count)
+        for at, it in enumerate(self.events):
+            for read in getattr(it, name):
+                found[read] |= 1 << at
+        return found
+
+    def only(self, members):
+        return only(members, self.count)
+
+    def fences(self, accesses):
+        po, keep = self.po, self.only
+        ordered = lambda *orders: self.members(lambda it: it.order in orders and it.kind != "F")
+        fence = lambda kind: then(po, keep(self.members(lambda it: it.kind == "F" and it.order == kind)), po)
+        memory, read, write = keep(accesses), keep(self.is_read), keep(self.is_write)
+        returning = keep(self.is_read & ~ordered("noreturn"))
+        updates = keep(_or([row | 1 << at if row else 0 for at, row in enumerate(self.rmw)]))
+        lock_write = keep(self.members(lambda it: it.kind == "W" and it.order == "lock"))
+        mb = none(self.count) if "mb" in self.without else then(memory, fence("mb"), memory)
+        self.mb = union(
+            mb,
+            then(memory, fence("before-atomic"), updates, maybe(po), memory),
+            then(memory, maybe(po), updates, fence("after-atomic"), memory),
+            then(memory, maybe(po), lock_write, fence("after-spinlock"), memory),
+        )
+        self.unlock, self.lock_read = ordered("unlock"), self.is_read & ordered("lock")
+        self.after_unlock_lock = then(keep(self.members(lambda it: it.kind == "F" and it.order == "after-unlock-lock")), po, memory)
+        self.rmb = then(returning, fence("rmb"), returning)
+        self.wmb = then(write, fence("wmb"), write)
+        self.acq_po = then(keep(self.is_read & ordered("acquire", "lock")), po, memory)
+        self.po_rel = then(memory, po, keep(self.is_write & ordered("release", "unlock")))
+
+
+class Decided:
+    """An execution beside the axioms: `broken` is the first axiom that forbids it, or None, and `cycle` the events that show it."""
+
+    def __init__(self, fixed, execution):
+        self.fixed, self.count = fixed, fixed.count
+        self.communicate(execution)
+        self.broken, self.cycle = self.judge()
+
+    def communicate(self, execution):
+        self.rf, self.co = none(self.count), none(self.count)
+        for read, write in execution.reads_from.items():
+            self.rf[write] |= 1 << read
+        for order in execution.coherence.values():
+            for at, write in enumerate(order):
+                self.co[write] = _or([1 << it for it in order[at + 1 :]])
+        self.fr = then(inverse(self.rf), self.co)
+
+    def judge(self):
+        fixed = self.fixed
+        com = union(self.rf, self.co, self.fr)
+        cycle = cycle_in(union(fixed.po_loc, com))
+        if cycle:
+            return "coherence", cycle
+        between = both(fixed.rmw, then(both(self.fr, fixed.ext), both(self.co, fixed.ext)))
+        if any(between) and "atomicity" not in fixed.without:
+            read = next(at for at, row in enumerate(between) if row)
+            return "atomicity", [read, next(bits(between[read]))]
+        self.order()
+        cycle = cycle_in(self.hb)
+        if cycle:
+            return "happens-before", cycle
+        cycle = cycle_in(self.pb)
+        return ("propagation", cycle) if cycle else (None, None)
+
+    def order(self):
+        fixed, keep = self.fixed, self.fixed.only
+        po, mb = fixed.po, fixed.mb
+        rfe, rfi = both(self.rf, fixed.ext), both(self.rf, fixed.int)
+        po_unlock_lock_po = then(po, keep(fixed.unlock), union(po, self.rf), keep(fixed.lock_read), po)
+        strong_fence = union(mb, then(keep(fixed.is_read | fixed.is_write), po_unlock_lock_po, fixed.after_unlock_lock))
+        fence = union(strong_fence, fixed.po_rel, fixed.acq_po, fixed.wmb, fixed.rmb)
+        dep = union(fixed.address, fixed.data)
+        rwdep = then(union(dep, fixed.control), keep(fixed.is_write))
+        overwrite = union(self.co, self.fr)
+        to_w = union(rwdep, both(overwrite, fixed.int))
+        to_r = union(then(fixed.address, keep(fixed.is_read)), then(dep, rfi))
+        ppo = union(to_r, to_w, both(fence, fixed.int), both(po_unlock_lock_po, fixed.int))
+        rmw_sequence = any_times(then(self.rf, fixed.rmw))
+        a_cumul = then(maybe(rfe), union(strong_fence, fixed.po_rel))
+        cumul_fence = then(union(a_cumul, fixed.wmb, po_unlock_lock_po), rmw_sequence)
+        prop = then(maybe(both(overwrite, fixed.ext)), any_times(cumul_fence), maybe(rfe))
+        not_itself = [row & ~(1 << at) for at, row in enumerate(prop)]
+        self.hb = union(ppo, rfe, both(not_itself, fixed.int))
+        self.pb = then(prop, strong_fence, any_times(self.hb))

@@ -1,0 +1,53 @@
+"""The checker of litmus tests: published answers, the orders of the run lock, and what it refuses."""
+from lib.memory_model import answer, language
+from tests.bench import HERE, ROOM, TOP, case, expect, fault, run
+
+SHAPES = sorted((TOP / "examples/litmus/shapes").glob("*.litmus"))
+ROWS = sorted((TOP / "examples/litmus").glob("*.litmus"))
+
+
+def wrong(files, without=()):
+    """The files whose answer isn't the one that they say."""
+    texts = {it.stem: it.read_text(encoding="utf-8") for it in files}
+    return [name for name, text in texts.items() if f"Result: {answer.decide(language.read(text), without).word}" not in text]
+
+
+@case
+def published_litmus_answers():
+    """The well-known tests have the published answers, and the orders of the run lock those that docs/BARRIERS.md has."""
+    if len(SHAPES) < 20 or len(ROWS) < 12:
+        fault(f"there are {len(SHAPES)} well-known litmus tests and {len(ROWS)} of the run lock")
+    for name in wrong([*SHAPES, *ROWS]):
+        fault(f"litmus: {name} isn't decided as its file says")
+
+
+@case
+def wrong_axioms_are_noticed():
+    """A model without atomicity, or whose full barrier orders nothing, gives other answers."""
+    if not {"atomicity+incs", "atomicity+trylocks"} <= set(wrong([it for it in SHAPES if "atomicity" in it.stem], ("atomicity",))):
+        fault("litmus: a model without atomicity isn't noticed")
+    if not {"SB+fencembonceonces", "IRIW+fencembonceonces+OnceOnce"} <= set(wrong(SHAPES, ("mb",))):
+        fault("litmus: a barrier that orders nothing isn't noticed")
+
+
+@case
+def litmus_command():
+    """What it prints, and what it refuses: nothing is decided that it doesn't know."""
+    test = ROOM / "one.litmus"
+    body = "{}\n\nP0(int *x, int *y)\n{\n\tint r0;\n\n\tWRITE_ONCE(*x, 1);\n\tr0 = READ_ONCE(*y);\n}\n\nP1(int *x, int *y)\n{\n\tWRITE_ONCE(*y, 1);\n}\n\n"
+    test.write_text(f"C ONE\n\n(* Result: Never *)\n{body}exists (0:r0=1)\n", encoding="utf-8")
+    expect("litmus", run(HERE / "litmus", test), 0, "ONE: Sometimes", "a:   writes x = 1", "b:   reads y = 1, which c wrote")
+    expect("litmus --check", run(HERE / "litmus", "--check", "--quiet", test), 1, "ONE: Sometimes, and the file says Never")
+    test.write_text(f"C ONE\n\n{body}exists (0:r0=2)\n", encoding="utf-8")
+    expect("litmus Never", run(HERE / "litmus", test), 0, "ONE: Never", "no execution has these values")
+    for text, said in (
+        (body.replace("WRITE_ONCE(*x, 1)", "*x = 1"), "line 9: a plain access isn't decided here"),
+        (body.replace("WRITE_ONCE(*x, 1)", "synchronize_rcu()"), "line 9: synchronize_rcu with 0 arguments isn't read here"),
+        (body.replace("P1", "P2"), "line 13: P1 is missing"),
+        (body, "'exists', '~exists' or 'forall' is missing"),
+    ):
+        test.write_text(f"C ONE\n\n{text}", encoding="utf-8")
+        expect("litmus refuses", run(HERE / "litmus", test), 3, said)
+    expect("litmus nofile", run(HERE / "litmus", ROOM / "nofile.litmus"), 3, "nofile.litmus: No such file")
+    expect("litmus words", run(HERE / "litmus"), 2, "a file is missing")
+    expect("litmus option", run(HERE / "litmus", "--nosuch", test), 2, "--nosuch isn't an option")
