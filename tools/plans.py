@@ -4,9 +4,10 @@ The program judges plans by definitions that are proved; these tables aren't. `t
 """
 import difflib
 import re
-import tomllib
 from dataclasses import dataclass
 from typing import Any, Callable, Optional, Union
+
+from lib import toml_text
 
 NOT_TOML, UNKNOWN_KEY, MISSING, KIND, RANGE, EVENT_ORDER, TOO_LONG = 1, 2, 3, 4, 5, 6, 8
 REASONS = {1: "NotToml", 2: "UnknownKey", 3: "Missing", 4: "Kind", 5: "Range", 6: "EventOrder", 8: "TooLong"}
@@ -320,17 +321,17 @@ def judge(data):
         return None, [Fault(TOO_LONG, None, "the file", f"{len(data)} bytes; a plan has at most 65536")]
     try:
         text = data.decode("utf-8")
-        root = tomllib.loads(text)
+        root = toml_text.loads(text)
     except UnicodeDecodeError as fault:
         return None, [Fault(NOT_TOML, data[: fault.start].count(b"\n") + 1, "the text", "it isn't UTF-8")]
-    except tomllib.TOMLDecodeError as fault:
+    except toml_text.Fault as fault:
         place = re.search(r"\(at line (\d+), column (\d+)\)", str(fault))
         line = int(place[1]) if place else None
         said = re.sub(r" \(at .*\)", "", str(fault))
         return None, [Fault(NOT_TOML, line, "the text", said + (f", at column {place[2]}" if place else ", at its end"))]
     if is_too_large(root):
         return None, [Fault(NOT_TOML, None, "the text", "a number has more than 64 bits")]
-    lines = lines_of_keys(text)
+    lines = lines_of_keys(text.removeprefix("\ufeff"))
     version = version_of(root)
     faults = [*faults_of_table("", 0, Place(root, version, root), lines)]
     for section in ("station", "event"):

@@ -55,6 +55,15 @@ def file_of(path: str) -> Optional[Tuple[int, int]]:
     return (of.st_dev, of.st_ino) if stat.S_ISREG(of.st_mode) or stat.S_ISBLK(of.st_mode) else None
 
 
+def file_exists_as(path: str, opened: int) -> bool:
+    """Whether a name is still that of a file or folder that was opened."""
+    try:
+        one, other = os.stat(path), os.fstat(opened)
+    except OSError:
+        return False
+    return (one.st_dev, one.st_ino) == (other.st_dev, other.st_ino)
+
+
 def is_same(one: str, other: str) -> bool:
     """Whether two names are of one file, or would be once it is made."""
     if os.path.exists(one) and os.path.exists(other):

@@ -1,9 +1,9 @@
 """Plans and captures: read, classified and written, and made at random."""
 import struct
-import tomllib
 import zlib
 from collections import namedtuple
 
+from lib import toml_text
 from linux.rules import Packet, Params
 
 # As in docs/RULES.md, 'Classification'.
@@ -32,11 +32,11 @@ def params_of(table):
 def read_plan(text):
     """A plan's text; whether it is one is the program's to say, so little is tested here."""
     try:
-        table = tomllib.loads(text)
+        table = toml_text.loads(text)
         stations = [StationPlan(it.get("len", 1000), it.get("queues", 1), it.get("mq", 1), it.get("bypass", True), params_of(it))
                     for it in table["station"]]
         events = [Event(it["before"], it["kind"], it["station"], it.get("len"), params_of(it)) for it in table.get("event", [])]
-    except (tomllib.TOMLDecodeError, KeyError, AttributeError, TypeError) as it:
+    except (toml_text.Fault, KeyError, AttributeError, TypeError) as it:
         raise Refused(f"no plan: {it}") from None
     return Plan(table.get("senders", 1), table.get("split", "round"), table.get("irq_every", 1), stations, events)
 
