@@ -6,9 +6,10 @@ is called before anything is written. Files are compared by device and inode, so
 that is there already is known as an earlier run's by how it begins (`docs/DECISIONS.md`); any other is overwritten as well, and named once on
 standard error.
 """
+import contextlib
 import os
 import stat
-from typing import Callable, Iterable, NamedTuple, Optional, Tuple
+from typing import IO, Callable, Iterable, Iterator, List, NamedTuple, Optional, Tuple
 
 from lib.words import Wrong, say
 
@@ -41,9 +42,27 @@ def capture(path: str, begins: bytes = b"") -> Output:
     return Output(str(path), lambda head: head.startswith(CAPTURE_MARKS) and head.startswith(begins[:HEAD]))
 
 
+def of_run(out: str) -> List[Output]:
+    """The files of a run: of each unit and of each group that a plan may have, and its fates."""
+    fates = text(f"{out}.fates", "0 ")
+    captures = [capture(f"{out}.{it}.pcap") for it in [*range(16), *(f"mq{at}" for at in range(8))]]
+    return [*captures, fates]
+
+
 def text(path: str, begins: str) -> Output:
     """A text, a page or a list of values, known by its first words."""
     return Output(str(path), lambda head: head.startswith(begins.encode()))
+
+
+@contextlib.contextmanager
+def writing(path: str, **how) -> Iterator[IO]:
+    """A file that is written; a fault names it, also a disk that is full."""
+    try:
+        with open(path, "w", encoding="utf-8", **how) as it:
+            yield it
+    except OSError as fault:
+        fault.filename = fault.filename or path
+        raise
 
 
 def file_of(path: str) -> Optional[Tuple[int, int]]:

@@ -11,6 +11,7 @@ before what takes longer to import: from then on an interrupt leaves no tracebac
 import os
 import signal
 import sys
+from typing import Callable, List, Optional
 
 # a shell ignores interrupts for what it runs in the background
 INTERRUPTS = signal.getsignal(signal.SIGINT) is signal.default_int_handler
@@ -18,6 +19,10 @@ if INTERRUPTS:
     signal.signal(signal.SIGINT, signal.SIG_DFL)
 # a reader that has had enough ends the tool, as it ends others
 signal.signal(signal.SIGPIPE, signal.SIG_DFL)
+
+import subprocess  # noqa: E402
+
+Main = Callable[[List[str]], Optional[int]]
 
 
 class Wrong(Exception):
@@ -27,12 +32,12 @@ class Wrong(Exception):
 class Failed(Exception):
     """Why a tool can't do what it is to do: a line, and its exit code."""
 
-    def __init__(self, line, code=1):
+    def __init__(self, line: object, code: int = 1):
         super().__init__(line)
         self.code = code
 
 
-def say(tool, line):
+def say(tool: str, line: object) -> None:
     """A line on standard error, which may be closed or full."""
     try:
         print(f"{tool}: {line}", file=sys.stderr, flush=True)
@@ -40,20 +45,27 @@ def say(tool, line):
         pass
 
 
-def usage_of(about):
+def usage_of(about: str) -> str:
     """The lines of a tool's text that show how it is called, or else its first."""
     shown = [it for it in about.splitlines() if it.startswith("    tools/")]
     return "\n".join(shown) if shown else about.partition("\n")[0]
 
 
-def line_of(fault):
+def line_of(fault: OSError) -> str:
     """A fault of a file, as a line: its name, where it is known, and what the system says."""
     said = fault.strerror or str(fault)
     names = [str(it) for it in (fault.filename, fault.filename2) if it is not None]
-    return ": ".join([*names, said])
+    return ": ".join([*(names or ["standard output"]), said])
 
 
-def leave_output():
+def ending_of(fault):
+    """How a command that was called ended, in words."""
+    if isinstance(fault, subprocess.TimeoutExpired):
+        return f"it hasn't ended in {fault.timeout:g} s"
+    return f"it was ended by signal {-fault.returncode}" if fault.returncode < 0 else f"it ended with {fault.returncode}"
+
+
+def leave_output() -> None:
     """What couldn't be written isn't tried again when the interpreter ends."""
     with open(os.devnull, "wb") as nothing:
         for number in (1, 2):
@@ -63,20 +75,20 @@ def leave_output():
                 pass
 
 
-def end_by(number):
+def end_by(number: int) -> None:
     """Ends by a signal itself: a shell's loop goes on behind a mere exit code."""
     sys.stdout = sys.stderr = None
     signal.signal(number, signal.SIG_DFL)
     os.kill(os.getpid(), number)
 
 
-def asks_for_help(given):
+def asks_for_help(given: List[str]) -> bool:
     """Whether a word asks for help, before any that ends the options."""
     options = given[: given.index("--")] if "--" in given else given
     return "--help" in options or "-h" in options
 
 
-def code_of(tool, about, main, given):
+def code_of(tool: str, about: str, main: Main, given: List[str]) -> int:
     """The exit code of a tool, once what it printed is written."""
     try:
         if asks_for_help(given):
@@ -105,18 +117,22 @@ def code_of(tool, about, main, given):
     except UnicodeError as it:
         say(tool, f"a text isn't UTF-8: {it}")
         return 1
+    except (subprocess.CalledProcessError, subprocess.TimeoutExpired) as it:
+        say(tool, f"{it.cmd if isinstance(it.cmd, str) else ' '.join(map(str, it.cmd))}: {ending_of(it)}")
+        return 1
     except MemoryError:
         say(tool, "not enough memory")
         return 6
 
 
-def run(tool, about, main):
+def run(tool: str, about: str, main: Main) -> None:
     """Runs a tool on the words of the command line, and ends with its exit code."""
     try:
-        if INTERRUPTS:
+        if INTERRUPTS and signal.getsignal(signal.SIGINT) is signal.SIG_DFL:
             # what is open is closed, and what is of use only to this run is removed
             signal.signal(signal.SIGINT, signal.default_int_handler)
         code = code_of(tool, about, main, sys.argv[1:])
-    except KeyboardInterrupt:
-        end_by(signal.SIGINT)
+    except KeyboardInterrupt as it:
+        # a tool that catches other signals says which
+        end_by(it.args[0] if it.args else signal.SIGINT)
     sys.exit(code)

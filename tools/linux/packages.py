@@ -5,6 +5,7 @@ Nothing is installed. Programs that the system has are used as they are; the oth
 import os
 import re
 import shutil
+import struct
 import subprocess
 from pathlib import Path
 
@@ -77,6 +78,18 @@ def not_installed(names):
     return re.findall(r"^Inst (\S+)", text, flags=re.M)
 
 
+PT_INTERP = 3
+
+
+def is_static(file):
+    """Whether a program of 64 bits needs no other file: none of its segments names an interpreter."""
+    head = Path(file).read_bytes()[:4096]
+    if head[:6] != b"\x7fELF\x02\x01":
+        return False
+    at, size, count = (*struct.unpack_from("<Q", head, 32), *struct.unpack_from("<HH", head, 54))
+    return all(struct.unpack_from("<I", head, at + size * number)[0] != PT_INTERP for number in range(count))
+
+
 class Tools:
     """The programs: those of the system, and beside them those that had to be fetched."""
 
@@ -101,9 +114,11 @@ class Tools:
         return [str(self.root / it) for it in below if (self.root / it).is_dir()]
 
     def _found(self, name):
-        # Debian's busybox isn't always the static one, which the guest needs
+        # the guest needs a static one: Debian's busybox-static, or else the one that was fetched
         if name == "busybox":
-            return next((it for it in self._folders("bin", "usr/bin") if Path(it, name).exists()), None)
+            own = shutil.which(name)
+            places = [str(Path(own).parent)] * bool(own and is_static(own)) + self._folders("bin", "usr/bin")
+            return next((it for it in places if Path(it, name).exists()), None)
         return shutil.which(name, path=self.environment()["PATH"])
 
     def path(self, name):

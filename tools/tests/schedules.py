@@ -34,7 +34,7 @@ def show_schedule():
     said = run(HERE / "show-schedule", "--mistake", "begin_gives_up_after_one_try", schedule("release-then-look"))
     expect("a mistake that doesn't show", said, 0, "held 0: nothing is left", "the mistake doesn't show in this order")
     expect("show-schedule --mistakes", run(HERE / "show-schedule", "--mistakes"), 0, *LEFT)
-    expect("show-schedule, a wrong mistake", run(HERE / "show-schedule", "--mistake", "none", schedule("second-try")), 1, "no mistake is called none")
+    expect("show-schedule, a wrong mistake", run(HERE / "show-schedule", "--mistake", "none", schedule("second-try")), 2, "no mistake is called none")
     expect("show-schedule, no file", run(HERE / "show-schedule", ROOM / "none"), 1, "No such file")
     expect("show-schedule, no folder", run(HERE / "show-schedule", schedule("second-try"), ROOM / "none/a.svg"), 1, "No such file")
 

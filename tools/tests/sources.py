@@ -134,4 +134,4 @@ def reading_list():
     expect("reading-list, of a definition", said, 0, "word: 1 definitions, ")
     expect_none("reading-list, of a definition", said, "the contract of lqtx", "pair_of")
     expect("reading-list, no definition", run(top / "tools/reading-list", "used_lemma"), 1, "no crate has a definition used_lemma in its specs/")
-    expect("reading-list, wrong words", run(top / "tools/reading-list", "--all"), 1, "tools/reading-list [--names | --text]")
+    expect("reading-list, wrong words", run(top / "tools/reading-list", "--all"), 2, "tools/reading-list [--names | --text]")
