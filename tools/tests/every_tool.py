@@ -1,0 +1,186 @@
+"""What holds of every tool: its help, wrong words, outputs that are inputs, and how it ends when something outside goes wrong."""
+import os
+import re
+import shutil
+import signal
+import subprocess
+import time
+from concurrent.futures import ThreadPoolExecutor
+
+from tests.bench import HERE, ROOM, TOP, case, expect, fates_of, fault, repository, run
+from lib import toml_text
+
+TOOLS = sorted(it for it in HERE.iterdir() if it.is_file() and os.access(it, os.X_OK))
+
+
+@case
+def help_and_wrong_words():
+    """`--help` goes to standard output and ends with 0; words that a tool doesn't have end with 2, and say so on standard error."""
+    if len(TOOLS) < 20:
+        fault(f"there are {len(TOOLS)} tools")
+    with ThreadPoolExecutor(4) as pool:
+        for tool, said in zip(TOOLS, pool.map(lambda it: run(it, "--help"), TOOLS)):
+            if said[0] or len(said[1]) < 60 or said[2]:
+                fault(f"{tool.name} --help: ends with {said[0]}, {len(said[1])} bytes on standard output, on standard error {said[2][:200]!r}")
+        for tool, said in zip(TOOLS, pool.map(lambda it: run(it, "--no-such-word"), TOOLS)):
+            if said[0] != 2 or said[1] or not said[2] or "Traceback" in said[2]:
+                fault(f"{tool.name} --no-such-word: ends with {said[0]}, says {said[1][:200]!r} and {said[2][:200]!r}")
+
+
+# of each tool that writes files its calls: the words, with the output and each input in braces, the ending of all names, and the inputs
+CALLS = [
+    ("sweep", "{plan} {capture} irq_every=1..2 {out} --program {program} --sshloginfile {hosts}", ".csv", "plan capture program hosts"),
+    ("sweep", "{plan} {capture} irq_every=1..2 a.csv {out} --program {program}", ".svg", "plan capture"),
+    ("show-schedule", "{schedule} {out}", ".svg", "schedule"),
+    ("show-schedule", "--mistake begin_gives_up_after_one_try {schedule} {out}", ".svg", "schedule"),
+    ("show-run", "{plan} {capture} run {out}", ".svg", "capture plan fates"),
+    ("show-run", "{plan} {capture} run other.svg {out}", ".svg", "capture plan fates"),
+    ("show-run", "{plan} {capture} run --dropped {out}", ".pcap", "capture plan fates"),
+    ("show-run", "{plan} {capture} run --table {out}", ".csv", "capture plan fates"),
+    ("show-run", "{plan} {capture} run --html {out}", ".html", "capture plan fates"),
+    ("show-run", "{plan} {capture} run --marked {out}", ".pcapng", "capture plan fates"),
+    ("show-run", "tap 1 4 4 {capture} run {out}", ".svg", "capture fates"),
+    ("gate-cost", "--to {out} {program}", ".json", "program"),
+]
+# the tools that write files besides, and where: none of these names is the caller's
+OTHERS = {
+    "beside-linux": "in folders of its own, and OUT.*, which is tried below", "build": "below build/, and PROGRAM, which is tried below", "compare": "in a folder of its own",
+    "compare-with-c": "in a folder of its own", "first-build": "in a folder of its own", "names": "tools/names-left", "refused-growths": "in a folder of its own",
+    "test": "in folders of its own", "test-building": "in a folder of its own", "test-wrapper": "in a folder of its own", "unproved": "below build/, and OUT.unproved.*",
+    "test-beside-linux": "in a folder of its own", "test-docs": "in a folder of its own",
+}  # fmt: skip
+WRITES = re.compile(r'write_text\(|write_bytes\(|writing\(|open\([^)\n]*"[wa]b?"|mktemp')
+
+
+def inputs_of(room, ending):
+    """Fresh inputs of each kind, by what they are."""
+    room.mkdir()
+    files = {it: room / f"{it}{ending}" for it in ("plan", "capture", "program", "hosts", "schedule")} | {"fates": room / "run.fates"}
+    shutil.copy(TOP / "examples/drops.toml", files["plan"])
+    shutil.copy(TOP / "examples/loopback.pcap", files["capture"])
+    shutil.copy(TOP / "examples/schedules/second-try.schedule", files["schedule"])
+    files["program"].write_text("#!/bin/sh\nexit 0\n", encoding="utf-8")
+    files["program"].chmod(0o755)
+    files["hosts"].write_text("1/:\n", encoding="utf-8")
+    files["fates"].write_text(FATES[0], encoding="utf-8")
+    return files
+
+
+FATES = [""]
+
+
+def contents(room):
+    return {str(it.relative_to(room)): it.read_bytes() for it in room.rglob("*") if it.is_file()}
+
+
+def try_output(job):
+    """A call whose output is an input, by its name, a link or a hard link: it ends with 2, says one line and changes no file."""
+    number, tool, call, ending, which, how = job
+    room = ROOM / f"outputs{number}"
+    files = inputs_of(room, ending)
+    out = room / f"out{ending}"
+    if how == "name":
+        out = files[which]
+    elif how == "link":
+        out.symlink_to(files[which])
+    else:
+        os.link(files[which], out)
+    before = contents(room)
+    said = run(HERE / tool, *(it.format(out=out, **files) for it in call.split()), cwd=room)
+    return f"{tool}: {call}, {out.name} is the {which} by {how}", said, before == contents(room)
+
+
+@case
+def no_output_is_an_input():
+    FATES[0] = fates_of(toml_text.loads((TOP / "examples/drops.toml").read_text(encoding="utf-8")), TOP / "examples/loopback.pcap")
+    jobs = []
+    for tool, call, ending, inputs in CALLS:
+        for place, which in enumerate(inputs.split()):
+            jobs += [(tool, call, ending, which, how) for how in (("name", "link", "hard link") if place == 0 else ("hard link",))]
+    with ThreadPoolExecutor(4) as pool:
+        for name, said, is_kept in pool.map(try_output, ((number, *it) for number, it in enumerate(jobs))):
+            expect(name, said, 2, " is an input")
+            if said[1] or said[2].count("\n") != 1 or not is_kept:
+                fault(f"{name}: says {said[1]!r} and {said[2]!r}, the files are {'as before' if is_kept else 'others'}")
+    told = {it[0] for it in CALLS} | set(OTHERS)
+    for tool in TOOLS:
+        if WRITES.search(tool.read_text(encoding="utf-8")) and tool.name not in told:
+            fault(f"{tool.name} writes files, and none of its outputs is tried")
+
+
+@case
+def outputs_of_a_run_and_of_a_build():
+    """Outputs whose names are made of a word: none of them is an input either."""
+    room = ROOM / "prefixes"
+    files = inputs_of(room, "")
+    for name in ("run.0.pcap", "run.15.pcap", "run.mq7.pcap", "run.fates", "run.linux.fates", "run.linux.answers"):
+        (room / name).unlink(missing_ok=True)
+        os.link(files["capture"], room / name)
+        said = run(HERE / "beside-linux", "--rules-alone", files["plan"], files["capture"], room / "run", cwd=room)
+        expect(f"beside-linux, {name} is the capture", said, 2, f"{name} is an input")
+        (room / name).unlink()
+    top = repository("sources", {"crates.txt": "lqtx: low\n", "crates/lqtx/src/main.rt": "fn main() {}\n"})
+    for name in ("crates.txt", "crates/lqtx/src/main.rt"):
+        before = (top / name).read_bytes()
+        expect(f"build, PROGRAM is {name}", run(top / "tools/build", top / name, cwd=top), 2, f"{name} is an input")
+        if (top / name).read_bytes() != before:
+            fault(f"build overwrites {name}")
+
+
+@case
+def outputs_that_are_there():
+    """An output that no earlier run wrote is named once; pictures are SVG and named so; two outputs are two files."""
+    room = ROOM / "there"
+    files = inputs_of(room, "")
+    show = lambda *words: run(HERE / "show-schedule", files["schedule"], *words, cwd=room)  # noqa: E731
+    for again in ("a picture", "a picture again"):
+        said = show("a.svg")
+        expect(again, said, 0)
+        if said[2]:
+            fault(f"{again}: says {said[2]!r}")
+    (room / "a.svg").write_text("<?xml version='1.0'?><svg/>", encoding="utf-8")
+    said = show("a.svg")
+    expect("a picture over another's", said, 0, "show-schedule: a.svg is there and isn't what an earlier run wrote: it is overwritten\n")
+    expect("a picture of another name", show("a.png"), 2, "a.png: a picture is written as SVG, so its name ends in .svg")
+    sweep = lambda *words: run(HERE / "sweep", files["plan"], files["capture"], "irq_every=1..2", *words, "--program", files["program"], cwd=room)  # noqa: E731
+    expect("a sweep's picture of another name", sweep("b.csv", "b.png"), 2, "a picture is written as SVG")
+    expect("a table and a picture of one name", sweep("b.svg", "./b.svg"), 2, "./b.svg and b.svg are one file")
+    if (room / "b.svg").exists() or (room / "a.png").exists() or (room / "b.csv").exists():
+        fault("an output that is refused is made")
+
+
+@case
+def what_goes_wrong_outside():
+    """A full disk, a closed pipe, a file that isn't there and an interrupt: a line or nothing, an exit code, and no traceback."""
+    room = ROOM / "outside"
+    files = inputs_of(room, "")
+    calls = {
+        "check-plan": [files["plan"]], "show-schedule": [files["schedule"]], "show-run": [files["plan"], files["capture"], room / "run"], "reading-list": ["--help"],
+        "find-schedule": ["--mistake", "begin_gives_up_after_one_try"], "dead": ["--help"], "compare": ["--help"], "sweep": ["--help"], "gate-cost": ["--help"],
+    }  # fmt: skip
+    for tool, words in calls.items():
+        with open("/dev/full", "w") as full:
+            said = subprocess.run([HERE / tool, *words], stdout=full, stderr=subprocess.PIPE, text=True)
+        if said.returncode != 1 or "No space left on device" not in said.stderr or "Traceback" in said.stderr:
+            fault(f"{tool}, a full disk: ends with {said.returncode} and says {said.stderr[-300:]!r}")
+    # a reader that goes away
+    for tool in ("show-schedule", "check-plan"):
+        process = subprocess.Popen([HERE / tool, *calls[tool]], stdout=subprocess.PIPE, stderr=subprocess.PIPE)
+        process.stdout.close()
+        said = process.stderr.read().decode()
+        if process.wait() != -signal.SIGPIPE or said:
+            fault(f"{tool}, a closed pipe: ends with {process.returncode} and says {said!r}")
+    none = room / "none"
+    for words in (["check-plan", none], ["show-schedule", none], ["sweep", none, none, "irq_every=1..2", "a.csv", "--program", files["program"]],
+                  ["gate-cost", "--read", none], ["refused-growths", none], ["compare", none], ["compare-with-c", none], ["beside-linux", "--rules-alone", none, none],
+                  ["show-run", none, none, none]):  # fmt: skip
+        said = run(HERE / words[0], *words[1:], cwd=room)
+        if said[0] not in (1, 4) or "Traceback" in said[2] or "none" not in said[2]:
+            fault(f"{words[0]}, a file that isn't there: ends with {said[0]} and says {said[2][-300:]!r}")
+    for tool, words in {"find-schedule": ["--mistake", "missed_cleared_after_the_second_look", "--packets", "900", "--seats", "4"]}.items():
+        process = subprocess.Popen([HERE / tool, *words], stdout=subprocess.PIPE, stderr=subprocess.PIPE)
+        time.sleep(1)
+        process.send_signal(signal.SIGINT)
+        said = process.communicate()[1].decode()
+        if process.returncode != -signal.SIGINT or "Traceback" in said:
+            fault(f"{tool}, an interrupt: ends with {process.returncode} and says {said[-300:]!r}")
