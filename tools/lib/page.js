@@ -117,6 +117,7 @@ function refresh() {
   for (const it of $("head").children) it.setAttribute("aria-sort", it.dataset.name !== sorted.by ? "none" : sorted.down ? "descending" : "ascending");
   for (const it of $("head").querySelectorAll("button")) it.textContent = COLUMNS[it.name].head + (it.name !== sorted.by ? "" : sorted.down ? " ▾" : " ▴");
   $("space").style.height = `${Math.min(many * ROW, TALLEST) + 26}px`;
+  $("grid").scrollTop = 0;
   draw();
 }
 
