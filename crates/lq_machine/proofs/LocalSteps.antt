@@ -328,7 +328,7 @@ purge-draining-leads sole free (Some u) q s e may =
     no-more true h = cc
     no-more false h = refl
 
-control-leads : (sole : Bool) (free : Packet → Type 0) (step : ControlStep) (holds : Bool) (q : Qdisc) (s : Seat)
+pub control-leads : (sole : Bool) (free : Packet → Type 0) (step : ControlStep) (holds : Bool) (q : Qdisc) (s : Seat)
     → may_control step sole holds q ≡ true → Leads sole free (Control holds) q s (control_at step holds q s)
 control-leads sole free Return false q s _ = local.returns
 control-leads sole free Return true q s e = cc
@@ -358,7 +358,7 @@ control-leads sole free (OpenQueue queue) true q s e = local.opens queue (none-i
 control-leads sole free (OpenQueue queue) false q s e = cc
 
 -- a seat in a call of control stands at control
-at-control : (position : Position) → is_control position ≡ true → position ≡ Control (holds_as_control position)
+pub at-control : (position : Position) → is_control position ≡ true → position ≡ Control (holds_as_control position)
 at-control (Control holds) e = refl
 at-control _ e = cc
 

@@ -7,3 +7,14 @@ pub mod Sound
 pub mod Pieces
 pub mod Schedules
 pub mod TraceTexts
+-- of progress
+pub mod Tests
+pub mod OneSeat
+pub mod Others
+pub mod Nearer
+pub mod Goes
+pub mod Bounded
+pub mod Sent
+pub mod Comes
+pub mod Stays
+pub mod Chase

@@ -15,6 +15,7 @@ pub mod draining;
 pub mod exposed;
 pub mod lock;
 pub mod mistakes;
+pub mod progress;
 pub mod reached;
 
 /// The invariant holds of the machine that begins, and every step of a seat, every start and every step of

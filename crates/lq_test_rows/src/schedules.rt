@@ -1,5 +1,6 @@
 //! The command `trace`. The files of examples/schedules, without their comments: each ends with no packet held and nobody
-//! on the way. Step numbers and packets sent are counted by hand from the comments of the files.
+//! on the way, but for the two chases, which come back to where their round began. Step numbers and packets sent are counted by hand from
+//! the comments of the files.
 use crate::done::call_done;
 use lq_host::{HostCall, MemHost};
 use lq_run_core::TraceReason;
@@ -146,8 +147,86 @@ const WAKE_RAISES_ITS_SEAT: &str = "seats 2 len 4 bypass 0
 0 step 4
 ";
 
+/// `chase.schedule`
+const CHASE: &str = "seats 2 len 8 bypass 0
+0 send 0
+0 step 9
+1 send 0
+1 step 3
+0 step 8
+1 step 1
+0 step 1
+1 step 1
+0 step 3
+0 softirq
+0 step 3
+1 step 1
+0 step 1
+1 step 6
+0 step 1
+1 step 5
+0 step 1
+1 step 3
+1 softirq
+0 step 10
+1 step 4
+0 step 1
+1 step 1
+0 step 3
+0 softirq
+0 step 3
+1 step 1
+0 step 1
+1 step 6
+0 step 1
+1 step 5
+0 step 1
+1 step 3
+1 softirq
+";
+
+/// `stopped-chase.schedule`
+const STOPPED_CHASE: &str = "seats 2 len 8 bypass 0
+0 send 0
+0 step 7
+0 stop
+0 step 1
+1 send 0
+1 step 3
+0 step 4
+1 step 1
+0 step 1
+1 step 1
+0 step 3
+0 softirq
+0 step 3
+1 step 1
+0 step 1
+1 step 2
+0 step 1
+1 step 3
+0 step 1
+1 step 3
+1 softirq
+0 step 4
+1 step 4
+0 step 1
+1 step 1
+0 step 3
+0 softirq
+0 step 3
+1 step 1
+0 step 1
+1 step 2
+0 step 1
+1 step 3
+0 step 1
+1 step 3
+1 softirq
+";
+
 /// What each leaves.
-const DONE: [(&str, &str); 9] = [
+const DONE: [(&str, &str); 11] = [
     (
         SECOND_TRY,
         "steps 41\nstate 0 lock 0 xoff 0 inside 0\nheld 0 sent 2 full 0\nseat 0 idle\nseat 1 idle\n",
@@ -183,6 +262,14 @@ const DONE: [(&str, &str); 9] = [
     (
         WAKE_RAISES_ITS_SEAT,
         "steps 26\nstate 9 lock 0 xoff 0 inside 0\nheld 1 sent 1 full 0\nseat 0 idle\nseat 1 idle raised\n",
+    ),
+    (
+        CHASE,
+        "steps 87\nstate 5 lock 1 xoff 0 inside 1\nheld 0 sent 2 full 0\nseat 0 deq\nseat 1 enter\n",
+    ),
+    (
+        STOPPED_CHASE,
+        "steps 65\nstate 13 lock 1 xoff 1 inside 1\nheld 1 sent 1 full 0\nseat 0 deq\nseat 1 enter\n",
     ),
 ];
 

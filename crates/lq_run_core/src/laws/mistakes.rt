@@ -2,9 +2,14 @@
 //! mistake that breaks the invariant's sentence, and the steps after it to a quiet machine that still holds the packet.
 ghost use Rattle.lq_model.specs.Kept.{BlockedDraining, LockFreeMissed, LookedClear};
 ghost use Rattle.lq_model.specs.Quiet.{Reaches};
+ghost use Rattle.lq_model.specs.declared.machine.Attempt.{Attempt};
 ghost use Rattle.lq_model.specs.declared.machine.Attempt.TheVariants.{Queued};
+ghost use Rattle.lq_model.specs.declared.machine.Blocked.{Blocked};
 ghost use Rattle.lq_model.specs.declared.machine.Blocked.TheVariants.{NoneTaken};
+ghost use Rattle.lq_model.specs.declared.machine.Position.TheVariants.{BlockedLoad, Miss, SoftClear, Unlock};
+ghost use Rattle.std.specs.Prelude.{Bool, true};
 ghost use Rattle.lq_run_core.specs.Mistakes.{LeavesBehind, after_step, about_to_look, clears_and_leaves, clears_after_its_look, drains_without_a_look, found_deactivated, left_clear, left_draining, left_in_slot, left_missed, missed_meanwhile, looked_again, about_to_release, misses_for_good, about_to_miss, numbered_packet, releases_after_its_look};
+ghost use Rattle.lq_run_core.specs.Stays.{ComesNearer, NobodyComes};
 
 /// Run end looks at MISSED before it releases the run lock. Between the two another seat puts a packet, sets MISSED and
 /// finds the lock held; the holder has seen MISSED clear and doesn't schedule. The other seat's packet stays in its band,
@@ -42,4 +47,23 @@ pub fn draining_set_without_looking_again()
 pub fn soft_interrupt_gives_up_when_deactivated()
     ensures { LeavesBehind found_deactivated (after_step found_deactivated 1 clears_and_leaves)
         LockFreeMissed left_in_slot (numbered_packet 1 0) }
+{}
+
+/// Of the laws of progress each of the five breaks the one that somebody comes: in the machine that it leaves (`end_looks_before_it_releases`
+/// and `begin_gives_up_after_one_try` leave the same one) the packet waits, and nobody may move.
+pub fn nobody_comes_after_a_mistake()
+    ensures missed { NobodyComes left_missed (numbered_packet 1 1) }
+    ensures clear { NobodyComes left_clear (numbered_packet 2 1) }
+    ensures draining { NobodyComes left_draining (numbered_packet 1 1) }
+    ensures in_slot { NobodyComes left_in_slot (numbered_packet 1 0) }
+{}
+
+/// None breaks the bound: the step with the mistake makes the number less too, in every machine; MISSED cleared once more, which leaves the
+/// seat where it is, adds nothing to it. So no order goes on for ever by them.
+pub fn mistakes_come_nearer_too()
+    ensures end_looks { (found : Bool) → ComesNearer Unlock (releases_after_its_look found) 0 }
+    ensures one_try { (attempt : Attempt) → ComesNearer (Miss attempt) (misses_for_good attempt) 0 }
+    ensures cleared { ComesNearer Unlock clears_after_its_look 1 }
+    ensures draining { (b : Blocked) → ComesNearer (BlockedLoad b) (drains_without_a_look b) 0 }
+    ensures interrupt { ComesNearer (SoftClear true) clears_and_leaves 0 }
 {}

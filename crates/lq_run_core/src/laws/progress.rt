@@ -1,0 +1,51 @@
+//! No order of steps keeps a packet: what waits is sent, in whatever order the seats move, while the queues are open.
+ghost use Rattle.std.specs.Prelude.{◌≡◌, ◌<◌, ◌≤◌, ◌+◌, ◌*◌, ◌⊎◌, ℕ, true, false, length, Contains};
+ghost use Rattle.lq_model.specs.declared.machine.Packet.{Packet};
+ghost use Rattle.lq_model.specs.Machine.{Machine, first_machine};
+ghost use Rattle.lq_model.specs.Kept.{OneHolder, IsInductive, IsKept};
+ghost use Rattle.lq_model.specs.Quiet.{Moves, Reaches};
+ghost use Rattle.lq_run_core.specs.Waits.{AllOpen, Waits, WaitsOpen, packets};
+ghost use Rattle.lq_run_core.specs.Progress.{Course, Goes, IsAny, cost_of};
+ghost use Rattle.lq_run_core.specs.Comes.{ControlMoves, SomebodyMoves};
+ghost use Rattle.lq_run_core.specs.Measure.{IsServed, measure, serves};
+ghost use Rattle.lq_run_core.specs.Chase.{GoesFree, chase, stopped_chase};
+
+/// While a packet waits and all queues are open, at most 20 moves come for each packet and 42 for each seat, and what the moves
+/// cost: a busy answer 19, a transmit 36, a wake 18, the start of a call of control 1 and a step of it 18. All other moves cost nothing.
+pub fn no_order_keeps_a_packet()
+    ensures { (p : Packet) (m n : Machine) (c : Course) → OneHolder m → Goes (WaitsOpen p) m c n
+        → c.moves ≤ 20 * packets m + 42 * length m.seats + c.cost }
+{}
+
+/// A packet that waits goes on waiting until the device accepts it, as long as no step of control comes. So after more moves than
+/// those with all queues open, in whatever order, the device has accepted it.
+pub fn what_leaves_is_sent()
+    ensures accepted { (p : Packet) (m n : Machine) (c : Course) → IsInductive m → Waits p m → Goes IsAny m c n → c.with_control ≡ false
+        → Waits p n ⊎ Contains c.accepted p }
+    ensures sent { (p : Packet) (m n : Machine) (c : Course) → IsInductive m → Waits p m → Goes AllOpen m c n → c.with_control ≡ false
+        → 20 * packets m + 42 * length m.seats + c.cost < c.moves → Contains c.accepted p }
+{}
+
+/// While a packet waits in an active machine with all queues open, there is a move that costs nothing: a seat may make a step, or a
+/// raised seat may begin its soft interrupt. If there is none, a seat is in a call of control, has the run lock or is raised, and that
+/// call may go on to its end.
+pub fn somebody_comes()
+    ensures { (p : Packet) (m : Machine) → IsKept m → m.qdisc.deactivated ≡ false → WaitsOpen p m → SomebodyMoves m ⊎ ControlMoves m }
+{}
+
+/// The number that says so: while a packet is served and all queues are open, each move makes it less, or adds less than the move
+/// costs. So it bounds the moves to come; and it is small.
+pub fn each_step_comes_nearer()
+    ensures nearer { (m n : Machine) → OneHolder m → IsServed m → (move : Moves m n) → IsServed n → measure n < measure m + cost_of move }
+    ensures moves { (m n : Machine) (c : Course) → OneHolder m → Goes IsServed m c n → c.moves + measure n ≤ measure m + c.cost }
+    ensures few { (m : Machine) → measure m ≤ 20 * packets m + 42 * length m.seats }
+{}
+
+/// With nothing to be served two soft interrupts can go on for ever: they come to this machine, and 42 moves later are there again.
+/// While a queue is stopped they can do so with a packet held, by 30 moves.
+pub fn two_can_go_on_for_ever()
+    ensures reached { Reaches (first_machine 2 8 false 1) chase }
+    ensures again { GoesFree (λ m. serves m ≡ false) chase chase 42 }
+    ensures stopped { Reaches (first_machine 2 8 false 1) stopped_chase }
+    ensures stopped_again { GoesFree (λ m. serves m ≡ true) stopped_chase stopped_chase 30 }
+{}
