@@ -1,29 +1,28 @@
 -- No list of moves is longer than the number of the machine where it begins, with what it costs.
-use Rattle.std.proofs.Common.{◌≡◌, ℕ, zero, suc, ◌+◌, ◌*◌, ◌<◌, ◌≤◌, Bool, true, false, ◌⊎◌, inl, inr, List, [], ◌∷◌, length, refl, ap, arith, Option, Some, None, Contains, get_or, sym, subst}
-use Rattle.std.specs.Prelude.{sum_by, ◌||◌, ◌&&◌, is_some}
+use Rattle.std.proofs.Common.{◌≡◌, ℕ, zero, suc, ◌+◌, ◌*◌, ◌<◌, ◌≤◌, Bool, true, false, inl, inr, List, [], ◌∷◌, length, refl, ap, arith, Option, Some, Contains, get_or}
+use Rattle.std.specs.Prelude.{sum_by, ◌&&◌, is_some}
 use Rattle.std.proofs.lemmas.List.Sums.{sum_by-cons}
 use Rattle.std.specs.List.{list_any}
 use Rattle.lq_model.specs.declared.machine.Packet.{Packet}
 use Rattle.lq_model.specs.declared.machine.Call.TheVariants.{Transmit}
-use Rattle.lq_model.specs.declared.machine.Blocked.TheVariants.{InHand}
 use Rattle.lq_model.specs.declared.machine.Position.{Position}
 use Rattle.lq_model.specs.declared.machine.Position.TheVariants.{Enter, Put, Try1, Miss, Try2, Deq, Scan, Gate, Xmit, BlockedClear, BlockedLoad, BlockedMiss, BlockedDrain}
 use Rattle.lq_model.specs.declared.machine.Seat.{Seat}
-use Rattle.lq_model.specs.Machine.{Machine, bit, idle_seat, seat_at, band_at}
+use Rattle.lq_model.specs.Machine.{Machine, idle_seat, seat_at, band_at}
 use Rattle.lq_model.specs.Positions.{Holds, holds_lock, in_hand}
 use Rattle.lq_model.specs.Kept.{OneHolder}
-use Rattle.lq_run_core.specs.Waits.{Waits, WaitsOpen, is_direct, carries, packets}
-use Rattle.lq_run_core.specs.Measure.{first_look, second_look, has_any, waits_in, is_ahead, is_held, serves, IsServed, unless_ahead, way, seat_way, measure}
+use Rattle.lq_run_core.specs.Waits.{IsWaiting, WaitsOpen, is_direct, carries, packets}
+use Rattle.lq_run_core.specs.Measure.{first_look, second_look, has_any, waits_in, is_ahead, is_held, serves, ServesOpen, unless_ahead, way, seat_way, measure}
 use Rattle.lq_run_core.specs.Progress.{Course, Goes}
 use Rattle.lq_run_core.specs.Progress.Goes.{no_move, one_more_move}
-use Rattle.lq_run_core.proofs.Tests.{bit-below, or-left, or-right, both}
+use Rattle.lq_run_core.proofs.Tests.{bit-below, or-left, or-right}
 use Rattle.lq_run_core.proofs.Goes.{goes-map}
 use Rattle.lq_run_core.proofs.Nearer.{nearer}
 
 -- THE NUMBER IS ENOUGH
 
 -- the moves of a course pay for themselves
-pub all-nearer : (m n : Machine) (c : Course) → OneHolder m → Goes IsServed m c n → OneHolder n × (IsServed n × (c.moves + measure n ≤ measure m + c.cost))
+pub all-nearer : (m n : Machine) (c : Course) → OneHolder m → Goes ServesOpen m c n → OneHolder n × (ServesOpen n × (c.moves + measure n ≤ measure m + c.cost))
 all-nearer m n _ one (no_move served) = (one, (served, omega arith))
 all-nearer m n _ one (one_more_move c k n' before move after) =
     let past = all-nearer m k c one before in
@@ -89,14 +88,14 @@ some-passes f [] i none e = cc
 some-passes f (x ∷ xs) zero none e = or-left _ _ e
 some-passes f (x ∷ xs) (suc i) none e = or-right _ _ (some-passes f xs i none e)
 
-waits-served : (p : Packet) (m : Machine) → WaitsOpen p m → IsServed m
+waits-served : (p : Packet) (m : Machine) → WaitsOpen p m → ServesOpen m
 waits-served p m open_now = record { serves = served open_now.waits; queues_open = open_now.queues_open }
   where
     held : Holds m p → is_held m.qdisc.slot m.qdisc.bands ≡ true
     held (inl slot) = or-left _ _ (ap (λ (o : Option Packet). is_some o) slot)
     held (inr (k, (lt, there))) = or-right _ _ (band-ahead m.qdisc.bands k lt (some-any (band_at m.qdisc k) p there))
 
-    served : Waits p m → serves m ≡ true
+    served : IsWaiting p m → serves m ≡ true
     served (inl holds) = or-left _ _ (held holds)
     served (inr (i, at)) =
         or-right _ _ (some-passes (λ s. holds_lock s.position && carries s.position) m.seats i refl (in-hand-holds (seat_at m i).position p at))
@@ -105,4 +104,4 @@ waits-served p m open_now = record { serves = served open_now.waits; queues_open
 
 pub not-kept : (p : Packet) (m n : Machine) (c : Course) → OneHolder m → Goes (WaitsOpen p) m c n → c.moves ≤ 20 * packets m + 42 * length m.seats + c.cost
 not-kept p m n c one goes =
-    let all = all-nearer m n c one (goes-map (WaitsOpen p) IsServed (waits-served p) m n c goes) in omega (arith, all.1.1, measure-below m)
+    let all = all-nearer m n c one (goes-map (WaitsOpen p) ServesOpen (waits-served p) m n c goes) in omega (arith, all.1.1, measure-below m)

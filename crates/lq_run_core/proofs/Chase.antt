@@ -8,7 +8,7 @@ use Rattle.lq_model.specs.Steps.{step_of, call_begun}
 use Rattle.lq_model.specs.Quiet.{Moves, Reaches}
 use Rattle.lq_model.specs.Quiet.Moves.{steps, begins}
 use Rattle.lq_run_core.specs.Measure.{serves}
-use Rattle.lq_run_core.specs.Progress.{Goes, and_then, cost_of, is_of_control, no_course}
+use Rattle.lq_run_core.specs.Progress.{and_then, cost_of, is_of_control, no_course}
 use Rattle.lq_run_core.specs.Progress.Goes.{no_move, one_more_move}
 use Rattle.lq_run_core.specs.Mistakes.{numbered_packet}
 use Rattle.lq_run_core.specs.Chase.{GoesFree, chase, stopped_chase}

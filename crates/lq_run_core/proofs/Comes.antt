@@ -1,7 +1,6 @@
 -- Somebody comes for a packet that waits.
-use Rattle.std.proofs.Common.{◌≡◌, ℕ, ◌<◌, Bool, true, false, ◌⊎◌, inl, inr, List, [], ◌∷◌, length, refl, ap, arith, get_or, sym, ◌∙◌, subst, Option, Some, None}
-use Rattle.std.specs.Prelude.{◌||◌, ◌&&◌, not, if◌then◌else◌, nat_lt, is_some}
-use Rattle.std.specs.List.{list_any}
+use Rattle.std.proofs.Common.{◌≡◌, ℕ, ◌<◌, Bool, true, false, ◌⊎◌, inl, inr, length, refl, ap, arith, sym, ◌∙◌, subst, Option, Some, None}
+use Rattle.std.specs.Prelude.{◌||◌, ◌&&◌, not, if◌then◌else◌, nat_lt}
 use Rattle.std.proofs.lemmas.Bool.Decides.{nat_tests}
 use Rattle.std.proofs.lemmas.Bool.{lt-ltb}
 use Rattle.lq_model.specs.declared.machine.Packet.{Packet}
@@ -12,16 +11,15 @@ use Rattle.lq_model.specs.declared.machine.ControlStep.TheVariants.{PurgeBand, P
 use Rattle.lq_model.specs.declared.machine.Position.{Position}
 use Rattle.lq_model.specs.declared.machine.Position.TheVariants.{Idle, Put, Control}
 use Rattle.lq_model.specs.declared.machine.Seat.{Seat}
-use Rattle.lq_model.specs.Machine.{Qdisc, Machine, Purge, bit, idle_seat, seat_at, is_open}
+use Rattle.lq_model.specs.Machine.{Qdisc, Machine, Purge, bit, seat_at, is_open}
 use Rattle.lq_model.specs.Steps.{is_idle, begun, step_at, may_answer, may_step, has_room, may_be_full, with_seat}
 use Rattle.lq_model.specs.Control.{control_at, holds_as_control, is_after_bands, is_control, is_sole, looks_at_bands, may_control}
-use Rattle.lq_model.specs.Positions.{Holds, IsClear, blocking, has_way_on, hidden_packet, holds_lock, in_hand, is_due, is_going, is_on_way, is_stopped, marks, some_seat}
+use Rattle.lq_model.specs.Positions.{IsClear, blocking, has_way_on, hidden_packet, holds_lock, in_hand, is_going, is_on_way, is_stopped, marks, some_seat}
 use Rattle.lq_model.specs.Kept.{IsKept}
-use Rattle.lq_model.specs.Quiet.{Moves}
 use Rattle.lq_model.specs.Quiet.Moves.{steps, begins, controls}
-use Rattle.lq_machine.proofs.LocalSteps.{and-true, if-cases, if-some, or-false}
-use Rattle.lq_run_core.specs.Waits.{AllOpen, Waits, WaitsOpen}
-use Rattle.lq_run_core.specs.Progress.{cost_of, step_cost}
+use Rattle.lq_machine.proofs.LocalSteps.{and-true, if-cases, if-some}
+use Rattle.lq_run_core.specs.Waits.{AllOpen, IsWaiting, WaitsOpen}
+use Rattle.lq_run_core.specs.Progress.{step_cost}
 use Rattle.lq_run_core.specs.Comes.{SomebodyMoves, ControlMoves, next_of_control}
 use Rattle.lq_run_core.proofs.Tests.{bit-none, both, none-anywhere, or-second, search-seats, sum-none}
 use Rattle.lq_run_core.proofs.OneSeat.{idle-waits}
@@ -165,7 +163,7 @@ rest-clear m kept a opens rest = elim (bool m.qdisc.missed) [
         let on = none-at is_on_way m refl refl rest in let stopped = open-means m.qdisc (blocking m.qdisc) opens in let s = unscheduled m kept rest in grind arith
 
 -- and nothing waits
-rest-waits : (p : Packet) (m : Machine) → IsKept m → m.qdisc.deactivated ≡ false → AllOpen m → AllRest m → Waits p m → ⊥
+rest-waits : (p : Packet) (m : Machine) → IsKept m → m.qdisc.deactivated ≡ false → AllOpen m → AllRest m → IsWaiting p m → ⊥
 rest-waits p m kept active opens rest (inl (inl slot)) = let clear = rest-clear m kept active opens rest in let e = clear.slot in cc
 rest-waits p m kept active opens rest (inl (inr (k, (below, there)))) =
     let hidden = (rest-clear m kept active opens rest).bands k below p there in at (seat_at m hidden.0) (rest hidden.0) hidden.1

@@ -1,5 +1,4 @@
 -- Lists of moves, whatever is asked of the machines on the way.
-use Rattle.std.specs.Prelude.{◌≡◌}
 use Rattle.lq_model.specs.Kept.{IsInductive}
 use Rattle.lq_model.specs.Machine.{Machine}
 use Rattle.lq_machine.proofs.Inductive.{inductive}

@@ -1,38 +1,32 @@
 -- A move brings the machine nearer, while a packet is served and all queues are open.
-use Rattle.std.proofs.Common.{◌≡◌, ◌≢◌, ℕ, zero, suc, ◌+◌, ◌*◌, ◌-◌, ◌<◌, ◌≤◌, Bool, true, false, ◌⊎◌, inl, inr, List, [], ◌∷◌, ◌++◌, length, refl, ap, arith, get_or, set, sym, ◌∙◌, subst, Option, Some, None, map, take, length-append}
-use Rattle.std.specs.Prelude.{sum_by, ◌||◌, ◌&&◌, not, if◌then◌else◌, nat_lt, ◌==◌, is_some}
-use Rattle.std.specs.List.{list_any}
-use Rattle.std.proofs.lemmas.List.{get_or-set_same, get_or-set_other, get_or_past, set_past, length-set, length-take}
+use Rattle.std.proofs.Common.{◌≡◌, ◌≢◌, ℕ, ◌+◌, ◌<◌, ◌≤◌, Bool, true, false, ◌⊎◌, inl, inr, length, arith, sym, subst}
+use Rattle.std.specs.Prelude.{◌&&◌, not, nat_lt}
+use Rattle.std.proofs.lemmas.List.{length-set}
 use Rattle.lq_machine.proofs.Frames.{only-holder, seat-moved}
 use Rattle.lq_machine.proofs.Counts.{sum-kept, holder-local}
-use Rattle.std.proofs.lemmas.List.Sums.{sum_by-set, sum_by-cons}
-use Rattle.std.proofs.lemmas.Bool.{cases_lt, cases_eq}
+use Rattle.std.proofs.lemmas.List.Sums.{sum_by-set}
+use Rattle.std.proofs.lemmas.Bool.{cases_eq}
 use borrow.Author.Tests.{ltb-true}
 use Rattle.lq_model.specs.declared.machine.Packet.{Packet}
-use Rattle.lq_model.specs.declared.machine.Call.TheVariants.{Transmit}
 use Rattle.lq_model.specs.declared.machine.Beginning.TheVariants.{Transmits, Interrupts, Wakes, Controls}
-use Rattle.lq_model.specs.declared.machine.Answer.{Answer}
 use Rattle.lq_model.specs.declared.machine.Beginning.{Beginning}
 use Rattle.lq_model.specs.declared.machine.ControlStep.{ControlStep}
 use Rattle.lq_model.specs.Control.{is_control, control_at, may_control, holds_as_control, is_sole}
-use Rattle.lq_model.specs.declared.machine.Answer.TheVariants.{Plain, FullSlot, Stop, Hang, Busy}
 use Rattle.lq_model.specs.declared.machine.Position.{Position}
-use Rattle.lq_model.specs.declared.machine.Position.TheVariants.{Idle, Enter, Gate, Xmit, StoreXoff, Deq, Scan, Test, Unlock, Control}
 use Rattle.lq_model.specs.declared.machine.Seat.{Seat}
-use Rattle.lq_model.specs.Machine.{Qdisc, Machine, bit, idle_seat, seat_at, is_open, band_at}
-use Rattle.lq_model.specs.Steps.{is_idle, may_begin, begun, After, goes_to, step_at, may_answer, with_seat, scan, slot_taken, counted, queue_of_slot, joined_band}
+use Rattle.lq_model.specs.Machine.{Machine, bit, idle_seat, seat_at}
+use Rattle.lq_model.specs.Steps.{is_idle, may_begin, begun, After, step_at, may_answer, with_seat}
 use Rattle.lq_model.specs.Positions.{holds_lock}
 use Rattle.lq_model.specs.Kept.{OneHolder}
 use Rattle.lq_model.specs.Quiet.{Moves}
 use Rattle.lq_model.specs.Quiet.Moves.{steps, begins, controls}
-use Rattle.lq_machine.proofs.Local as local
-use Rattle.lq_machine.proofs.Local.{Local, Sends}
+use Rattle.lq_machine.proofs.Local.{Local}
 use Rattle.lq_machine.proofs.LocalSteps.{at-control, control-leads, step-leads, start-leads, if-some, and-true}
 use Rattle.lq_machine.proofs.Seats.{idle-is}
-use Rattle.lq_run_core.specs.Waits.{AllOpen, carries, held_packets}
-use Rattle.lq_run_core.specs.Measure.{first_look, second_look, has_any, waits_in, is_ahead, is_held, serves, IsServed, unless_ahead, way, seat_way, packet_pays, measure}
+use Rattle.lq_run_core.specs.Waits.{carries}
+use Rattle.lq_run_core.specs.Measure.{is_held, serves, ServesOpen, seat_way, measure}
 use Rattle.lq_run_core.specs.Progress.{step_cost, start_cost, control_cost, cost_of}
-use Rattle.lq_run_core.proofs.Tests.{or-second, or-first, or-more, and-false, not-true, bit-below, none-anywhere, sum-moved}
+use Rattle.lq_run_core.proofs.Tests.{or-first, and-false, not-true, none-anywhere, sum-moved}
 use Rattle.lq_run_core.proofs.OneSeat.{Falls, is_free_holder, load, step-costs, start-costs, control-costs}
 use Rattle.lq_run_core.proofs.Others.{Grows, way-more, way-free, takes-or-grows}
 
@@ -89,14 +83,14 @@ control-outcome m i step at may =
     subst (λ (d : Position). Local (is_sole m) (λ (p : Packet). Unit {0}) m.qdisc (seat_at m i) d (control_at step (holds_as_control (seat_at m i).position) m.qdisc (seat_at m i)))
     (sym (at-control (seat_at m i).position at)) (control-leads (is_sole m) (λ (p : Packet). Unit {0}) step (holds_as_control (seat_at m i).position) m.qdisc (seat_at m i) may)
 
-pub nearer : (m n : Machine) → OneHolder m → IsServed m → (move : Moves m n) → IsServed n → OneHolder n × (measure n < measure m + cost_of move)
+pub nearer : (m n : Machine) → OneHolder m → ServesOpen m → (move : Moves m n) → ServesOpen n → OneHolder n × (measure n < measure m + cost_of move)
 nearer m n one before move after = go move
   where
     by : (i : ℕ) (a : After) (cost : ℕ) (sole : Bool) (free : Packet → Type 0) → n ≡ with_seat m i a → i < length m.seats
         → Local sole free m.qdisc (seat_at m i) (seat_at m i).position a
-        → (IsServed (with_seat m i a) → Falls cost m.qdisc (seat_at m i) (seat_at m i).position a) → OneHolder n × (measure n < measure m + cost)
+        → (ServesOpen (with_seat m i a) → Falls cost m.qdisc (seat_at m i) (seat_at m i).position a) → OneHolder n × (measure n < measure m + cost)
     by i a cost sole free is within leads falls =
-        let there : IsServed (with_seat m i a) = subst IsServed is after in
+        let there : ServesOpen (with_seat m i a) = subst ServesOpen is after in
         let kept : OneHolder (with_seat m i a) =
         sum-kept (λ (s : Seat). bit (holds_lock s.position)) m.seats i a.seat (bit m.qdisc.locked) (bit a.qdisc.locked) within (λ rest h. holder-local rest leads h) one in
         subst (λ (k : Machine). OneHolder k × (measure k < measure m + cost)) (sym is)

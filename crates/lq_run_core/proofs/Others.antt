@@ -1,36 +1,20 @@
 -- What a move of one seat leaves of the ways of the others.
-use Rattle.std.proofs.Common.{◌≡◌, ◌≢◌, ℕ, zero, suc, ◌+◌, ◌*◌, ◌-◌, ◌<◌, ◌≤◌, Bool, true, false, ◌⊎◌, inl, inr, List, [], ◌∷◌, ◌++◌, length, refl, ap, arith, get_or, set, sym, ◌∙◌, subst, Option, Some, None, map, take, length-append}
-use Rattle.std.specs.Prelude.{sum_by, ◌||◌, ◌&&◌, not, if◌then◌else◌, nat_lt, ◌==◌, is_some}
-use Rattle.std.specs.List.{list_any}
-use Rattle.std.proofs.lemmas.List.{get_or-set_same, get_or-set_other, get_or_past, set_past, length-set, length-take}
-use Rattle.lq_machine.proofs.Frames.{only-holder, seat-moved}
-use Rattle.lq_machine.proofs.Counts.{sum-kept, holder-local}
-use Rattle.std.proofs.lemmas.List.Sums.{sum_by-set, sum_by-cons}
+use Rattle.std.proofs.Common.{◌≡◌, ◌≢◌, ℕ, zero, suc, ◌<◌, ◌≤◌, Bool, true, false, ◌⊎◌, inl, inr, List, [], ◌∷◌, ◌++◌, length, refl, arith, get_or, set}
+use Rattle.std.specs.Prelude.{if◌then◌else◌, is_some}
+use Rattle.std.proofs.lemmas.List.{get_or-set_same, get_or-set_other, set_past}
 use Rattle.std.proofs.lemmas.Bool.{cases_lt, cases_eq}
-use borrow.Author.Tests.{ltb-true}
 use Rattle.lq_model.specs.declared.machine.Packet.{Packet}
 use Rattle.lq_model.specs.declared.machine.Call.TheVariants.{Transmit}
-use Rattle.lq_model.specs.declared.machine.Beginning.TheVariants.{Transmits, Interrupts, Wakes, Controls}
-use Rattle.lq_model.specs.declared.machine.Answer.{Answer}
-use Rattle.lq_model.specs.declared.machine.Beginning.{Beginning}
-use Rattle.lq_model.specs.Control.{is_control, control_at, may_control, holds_as_control, is_sole}
-use Rattle.lq_model.specs.declared.machine.Answer.TheVariants.{Plain, FullSlot, Stop, Hang, Busy}
 use Rattle.lq_model.specs.declared.machine.Position.{Position}
-use Rattle.lq_model.specs.declared.machine.Position.TheVariants.{Idle, Enter, Gate, Xmit, StoreXoff, Deq, Scan, Test, Unlock, Control}
+use Rattle.lq_model.specs.declared.machine.Position.TheVariants.{Enter, Deq, Scan}
 use Rattle.lq_model.specs.declared.machine.Seat.{Seat}
-use Rattle.lq_model.specs.Machine.{Qdisc, Machine, bit, idle_seat, seat_at, is_open, band_at}
-use Rattle.lq_model.specs.Steps.{is_idle, may_begin, begun, After, goes_to, step_at, may_answer, with_seat, scan, slot_taken, counted, queue_of_slot, joined_band}
+use Rattle.lq_model.specs.Machine.{Qdisc}
+use Rattle.lq_model.specs.Steps.{After}
 use Rattle.lq_model.specs.Positions.{holds_lock}
-use Rattle.lq_model.specs.Kept.{OneHolder}
-use Rattle.lq_model.specs.Quiet.{Moves}
-use Rattle.lq_model.specs.Quiet.Moves.{steps, begins, controls}
 use Rattle.lq_machine.proofs.Local as local
 use Rattle.lq_machine.proofs.Local.{Local, Sends}
-use Rattle.lq_machine.proofs.LocalSteps.{if-cases}
-use Rattle.lq_run_core.specs.Waits.{AllOpen, carries, held_packets}
-use Rattle.lq_run_core.specs.Measure.{first_look, second_look, has_any, waits_in, is_ahead, is_held, serves, IsServed, unless_ahead, way, seat_way, packet_pays, measure}
-use Rattle.lq_run_core.specs.Progress.{step_cost, start_cost, control_cost, cost_of}
-use Rattle.lq_run_core.proofs.Tests.{or-second, or-first, or-more, and-false, not-true, bit-below, none-anywhere, sum-moved}
+use Rattle.lq_run_core.specs.Measure.{first_look, second_look, has_any, waits_in, is_ahead, is_held, way}
+use Rattle.lq_run_core.proofs.Tests.{or-more}
 use Rattle.lq_run_core.proofs.OneSeat.{ahead-less}
 
 -- THE OTHERS

@@ -1,6 +1,6 @@
 -- A packet that waits goes on waiting until the device accepts it, unless a step of control comes.
 use Rattle.std.proofs.Common.{◌≡◌, ◌≢◌, ℕ, zero, suc, ◌+◌, ◌*◌, ◌<◌, ◌≤◌, Bool, true, false, ◌⊎◌, inl, inr, List, [], ◌∷◌, ◌++◌, length, refl, ap, arith, get_or, set, sym, ◌∙◌, subst, Option, Some, None, Contains}
-use Rattle.std.specs.Prelude.{◌||◌, ◌&&◌, if◌then◌else◌, nat_lt}
+use Rattle.std.specs.Prelude.{nat_lt}
 use Rattle.std.proofs.lemmas.List.{get_or-set_same, get_or-set_other, set_past}
 use Rattle.std.proofs.lemmas.List.Elements.{Contains-append_left, Contains-append_right}
 use Rattle.std.proofs.lemmas.Bool.{cases_lt, cases_eq}
@@ -8,14 +8,14 @@ use borrow.Author.Tests.{ltb-true}
 use Rattle.lq_model.specs.declared.machine.Packet.{Packet}
 use Rattle.lq_model.specs.declared.machine.Answer.{Answer}
 use Rattle.lq_model.specs.declared.machine.Answer.TheVariants.{Plain, FullSlot, Stop, Hang, Busy}
-use Rattle.lq_model.specs.declared.machine.Blocked.TheVariants.{InHand, NoneTaken}
+use Rattle.lq_model.specs.declared.machine.Blocked.TheVariants.{InHand}
 use Rattle.lq_model.specs.declared.machine.Position.{Position}
-use Rattle.lq_model.specs.declared.machine.Position.TheVariants.{Idle, Gate, Xmit, Deq, Scan, BlockedClear, BlockedLoad, BlockedMiss, BlockedDrain, Control}
+use Rattle.lq_model.specs.declared.machine.Position.TheVariants.{Idle, Gate, Xmit, Deq, BlockedClear, BlockedLoad, BlockedMiss, BlockedDrain, Control}
 use Rattle.lq_model.specs.declared.machine.Seat.{Seat}
 use Rattle.lq_model.specs.Machine.{Qdisc, Machine, is_open, seat_at, band_at}
 use Rattle.lq_model.specs.Control.{is_control}
 use Rattle.lq_model.specs.Steps.{After, goes_to, step_at, may_answer, may_begin, begun, with_seat, slot_taken, queue_of_slot, queue_of_blocked}
-use Rattle.lq_model.specs.Positions.{Holds, in_hand, needs_slot}
+use Rattle.lq_model.specs.Positions.{in_hand, needs_slot}
 use Rattle.lq_model.specs.Kept.{IsInductive}
 use Rattle.lq_model.specs.Quiet.{Moves}
 use Rattle.lq_model.specs.Quiet.Moves.{steps, begins, controls}
@@ -24,11 +24,11 @@ use Rattle.lq_machine.proofs.Local as local
 use Rattle.lq_machine.proofs.Local.{Local}
 use Rattle.lq_machine.proofs.LocalSteps.{step-leads, if-cases, if-some, and-true, or-false}
 use Rattle.lq_machine.proofs.Seats.{idle-is}
-use Rattle.lq_run_core.specs.Waits.{AllOpen, Waits, WaitsOpen, packets}
+use Rattle.lq_run_core.specs.Waits.{AllOpen, IsWaiting, WaitsOpen, packets}
 use Rattle.lq_run_core.specs.Progress.{Course, and_then, Goes, IsAny, accepted_at, accepted_by, is_of_control}
 use Rattle.lq_run_core.specs.Progress.Goes.{no_move, one_more_move}
 use Rattle.lq_run_core.proofs.Goes.{goes-map, goes-last, goes-inductive}
-use Rattle.lq_run_core.proofs.OneSeat.{idle-waits, control-waits}
+use Rattle.lq_run_core.proofs.OneSeat.{control-waits}
 use Rattle.lq_run_core.proofs.Nearer.{begins-idle}
 use Rattle.lq_run_core.proofs.Bounded.{not-kept}
 
@@ -129,12 +129,12 @@ bands-stays position answer q s p k may below held = bands-local p k (step-leads
 -- A MOVE
 
 -- a packet that is held, or in the hand of the seat that moved, waits
-stays-waits : (m : Machine) (i : ℕ) (a : After) (p : Packet) → i < length m.seats → Stays p a → Waits p (with_seat m i a)
+stays-waits : (m : Machine) (i : ℕ) (a : After) (p : Packet) → i < length m.seats → Stays p a → IsWaiting p (with_seat m i a)
 stays-waits m i a p within (inl hand) = inr (i, ap (λ (s : Seat). in_hand s.position) (seat-moved m i a within) ∙ hand)
 stays-waits m i a p within (inr held) = inl held
 
-step-waits : (p : Packet) (m : Machine) (i : ℕ) (answer : Answer) → IsInductive m → i < length m.seats → may_answer (seat_at m i).position answer m.qdisc ≡ true → Waits p m
-    → Waits p (with_seat m i (step_at (seat_at m i).position answer m.qdisc (seat_at m i))) ⊎ Contains (accepted_at (seat_at m i).position answer) p
+step-waits : (p : Packet) (m : Machine) (i : ℕ) (answer : Answer) → IsInductive m → i < length m.seats → may_answer (seat_at m i).position answer m.qdisc ≡ true → IsWaiting p m
+    → IsWaiting p (with_seat m i (step_at (seat_at m i).position answer m.qdisc (seat_at m i))) ⊎ Contains (accepted_at (seat_at m i).position answer) p
 step-waits p m i answer kept within may (inl (inl slot)) =
     inl (stays-waits m i (step_at (seat_at m i).position answer m.qdisc (seat_at m i)) p within (slot-stays (seat_at m i).position answer m.qdisc (seat_at m i) p may (kept.kept.slot_free i) slot))
 step-waits p m i answer kept within may (inl (inr (k, (below, held)))) =
@@ -142,39 +142,39 @@ step-waits p m i answer kept within may (inl (inr (k, (below, held)))) =
 step-waits p m i answer kept within may (inr (j, hand)) = go (cases_eq j i)
   where
     at : Stays p (step_at (seat_at m i).position answer m.qdisc (seat_at m i)) ⊎ Contains (accepted_at (seat_at m i).position answer) p
-        → Waits p (with_seat m i (step_at (seat_at m i).position answer m.qdisc (seat_at m i))) ⊎ Contains (accepted_at (seat_at m i).position answer) p
+        → IsWaiting p (with_seat m i (step_at (seat_at m i).position answer m.qdisc (seat_at m i))) ⊎ Contains (accepted_at (seat_at m i).position answer) p
     at (inl stays) = inl (stays-waits m i (step_at (seat_at m i).position answer m.qdisc (seat_at m i)) p within stays)
     at (inr sent) = inr sent
 
-    go : (j ≡ i) ⊎ (j ≢ i) → Waits p (with_seat m i (step_at (seat_at m i).position answer m.qdisc (seat_at m i))) ⊎ Contains (accepted_at (seat_at m i).position answer) p
+    go : (j ≡ i) ⊎ (j ≢ i) → IsWaiting p (with_seat m i (step_at (seat_at m i).position answer m.qdisc (seat_at m i))) ⊎ Contains (accepted_at (seat_at m i).position answer) p
     go (inl same) = at (hand-stays (seat_at m i).position answer m.qdisc (seat_at m i) p may (subst (λ (n : ℕ). in_hand (seat_at m n).position ≡ Some p) same hand))
     go (inr other) = inl (inr (j, ap (λ (s : Seat). in_hand s.position) (seat-other m i j (step_at (seat_at m i).position answer m.qdisc (seat_at m i)) other) ∙ hand))
 
-start-waits : (p : Packet) (m : Machine) (i : ℕ) (s : Seat) → (seat_at m i).position ≡ Idle → Waits p m → Waits p (with_seat m i (record { qdisc = m.qdisc; seat = s }))
+start-waits : (p : Packet) (m : Machine) (i : ℕ) (s : Seat) → (seat_at m i).position ≡ Idle → IsWaiting p m → IsWaiting p (with_seat m i (record { qdisc = m.qdisc; seat = s }))
 start-waits p m i s idle (inl held) = inl held
 start-waits p m i s idle (inr (j, hand)) = go (cases_eq j i)
   where
-    go : (j ≡ i) ⊎ (j ≢ i) → Waits p (with_seat m i (record { qdisc = m.qdisc; seat = s }))
+    go : (j ≡ i) ⊎ (j ≢ i) → IsWaiting p (with_seat m i (record { qdisc = m.qdisc; seat = s }))
     go (inl same) = absurd (let e : in_hand Idle ≡ Some p = sym (ap in_hand idle) ∙ subst (λ (n : ℕ). in_hand (seat_at m n).position ≡ Some p) same hand in cc)
     go (inr other) = inr (j, ap (λ (s : Seat). in_hand s.position) (seat-other m i j (record { qdisc = m.qdisc; seat = s }) other) ∙ hand)
 
-move-waits : (p : Packet) (m n : Machine) → IsInductive m → (move : Moves m n) → is_of_control move ≡ false → Waits p m → Waits p n ⊎ Contains (accepted_by move) p
+move-waits : (p : Packet) (m n : Machine) → IsInductive m → (move : Moves m n) → is_of_control move ≡ false → IsWaiting p m → IsWaiting p n ⊎ Contains (accepted_by move) p
 move-waits p m n kept (steps i answer e) own waits =
     let can = and-true (nat_lt i (length m.seats)) (may_answer (seat_at m i).position answer m.qdisc) (if-some _ _ _ e).0 in
-    subst (λ (k : Machine). Waits p k ⊎ Contains (accepted_at (seat_at m i).position answer) p) (sym (if-some _ _ _ e).1)
+    subst (λ (k : Machine). IsWaiting p k ⊎ Contains (accepted_at (seat_at m i).position answer) p) (sym (if-some _ _ _ e).1)
     (step-waits p m i answer kept (ltb-true _ _ can.0) can.1 waits)
 move-waits p m n kept (begins i b free e) own waits =
     let can = and-true (nat_lt i (length m.seats)) (may_begin b (seat_at m i)) (if-some _ _ _ e).0 in
-    inl (subst (Waits p) (sym (if-some _ _ _ e).1) (start-waits p m i (begun b (seat_at m i)) (idle-is _ (begins-idle b (seat_at m i) can.1)) waits))
+    inl (subst (IsWaiting p) (sym (if-some _ _ _ e).1) (start-waits p m i (begun b (seat_at m i)) (idle-is _ (begins-idle b (seat_at m i) can.1)) waits))
 move-waits p m n kept (controls i step e) own waits = cc
 
 -- A LIST OF MOVES
 
 abbrev And : (Machine → Type 0) → Packet → Machine → Type 0
-And P p k = P k × Waits p k
+And P p k = P k × IsWaiting p k
 
 -- it waits all the way, or the device accepted it
-all-wait : (P : Machine → Type 0) (p : Packet) (m n : Machine) (c : Course) → IsInductive m → Waits p m → Goes P m c n → c.with_control ≡ false
+all-wait : (P : Machine → Type 0) (p : Packet) (m n : Machine) (c : Course) → IsInductive m → IsWaiting p m → Goes P m c n → c.with_control ≡ false
     → Goes (And P p) m c n ⊎ Contains c.accepted p
 all-wait P p m n _ kept waits (no_move is) own = inl (no_move (is, waits))
 all-wait P p m n _ kept waits (one_more_move c k n' before move after) own = go (all-wait P p m k c kept waits before (or-false _ _ own).0)
@@ -182,21 +182,21 @@ all-wait P p m n _ kept waits (one_more_move c k n' before move after) own = go 
     go : Goes (And P p) m c k ⊎ Contains c.accepted p → Goes (And P p) m (and_then c move) n' ⊎ Contains (c.accepted ++ accepted_by move) p
     go (inl past) = now (move-waits p k n' (goes-inductive P m k c kept before) move (or-false _ _ own).1 (goes-last (And P p) m k c past).1)
       where
-        now : Waits p n' ⊎ Contains (accepted_by move) p → Goes (And P p) m (and_then c move) n' ⊎ Contains (c.accepted ++ accepted_by move) p
+        now : IsWaiting p n' ⊎ Contains (accepted_by move) p → Goes (And P p) m (and_then c move) n' ⊎ Contains (c.accepted ++ accepted_by move) p
         now (inl still) = inl (one_more_move c k n' past move (after, still))
         now (inr sent) = inr (Contains-append_right c.accepted (accepted_by move) p sent)
     go (inr sent) = inr (Contains-append_left c.accepted (accepted_by move) p sent)
 
-pub waits-or-sent : (p : Packet) (m n : Machine) (c : Course) → IsInductive m → Waits p m → Goes IsAny m c n → c.with_control ≡ false
-    → Waits p n ⊎ Contains c.accepted p
+pub waits-or-sent : (p : Packet) (m n : Machine) (c : Course) → IsInductive m → IsWaiting p m → Goes IsAny m c n → c.with_control ≡ false
+    → IsWaiting p n ⊎ Contains c.accepted p
 waits-or-sent p m n c kept waits goes own = go (all-wait IsAny p m n c kept waits goes own)
   where
-    go : Goes (And IsAny p) m c n ⊎ Contains c.accepted p → Waits p n ⊎ Contains c.accepted p
+    go : Goes (And IsAny p) m c n ⊎ Contains c.accepted p → IsWaiting p n ⊎ Contains c.accepted p
     go (inl past) = inl (goes-last (And IsAny p) m n c past).1
     go (inr sent) = inr sent
 
 -- after so many moves it was sent
-pub is-sent : (p : Packet) (m n : Machine) (c : Course) → IsInductive m → Waits p m → Goes AllOpen m c n → c.with_control ≡ false
+pub is-sent : (p : Packet) (m n : Machine) (c : Course) → IsInductive m → IsWaiting p m → Goes AllOpen m c n → c.with_control ≡ false
     → 20 * packets m + 42 * length m.seats + c.cost < c.moves → Contains c.accepted p
 is-sent p m n c kept waits goes own many = go (all-wait AllOpen p m n c kept waits goes own)
   where

@@ -1,21 +1,19 @@
 -- After a mistake the number has become less, and nobody comes.
-use Rattle.std.proofs.Common.{◌≡◌, ℕ, zero, suc, ◌+◌, ◌<◌, ◌≤◌, Bool, true, false, inl, inr, List, [], ◌∷◌, length, refl, ap, sym, subst, arith}
-use Rattle.std.specs.Prelude.{◌==◌, if◌then◌else◌, slice_index}
+use Rattle.std.proofs.Common.{◌≡◌, ℕ, zero, suc, ◌+◌, Bool, true, false, inl, inr, List, [], ◌∷◌, length, refl, ap, sym, subst, arith}
+use Rattle.std.specs.Prelude.{◌==◌, slice_index}
 use Rattle.lq_model.specs.declared.machine.Attempt.{Attempt}
 use Rattle.lq_model.specs.declared.machine.Attempt.TheVariants.{Queued, Direct, Interrupt}
 use Rattle.lq_model.specs.declared.machine.Blocked.{Blocked}
-use Rattle.lq_model.specs.declared.machine.Blocked.TheVariants.{InHand, NoneTaken}
 use Rattle.lq_model.specs.declared.machine.Packet.{Packet}
 use Rattle.lq_model.specs.declared.machine.Position.{Position}
-use Rattle.lq_model.specs.declared.machine.Position.TheVariants.{Idle, Miss, BlockedLoad, Unlock, Sched, Leave, SoftClear}
+use Rattle.lq_model.specs.declared.machine.Position.TheVariants.{Idle, Miss, BlockedLoad, Unlock, SoftClear}
 use Rattle.lq_model.specs.declared.machine.Seat.{Seat}
-use Rattle.lq_model.specs.Machine.{Machine, Qdisc, bit, seat_at}
+use Rattle.lq_model.specs.Machine.{Qdisc, bit, seat_at}
 use Rattle.lq_model.specs.Positions.{Holds, holds_lock}
 use Rattle.lq_model.specs.Kept.{OneHolder}
 use Rattle.lq_model.specs.Steps.{After, with_seat}
 use Rattle.lq_machine.proofs.Counts.{sum-kept}
-use Rattle.lq_run_core.specs.Measure.{measure}
-use Rattle.lq_run_core.specs.Mistakes.{after_step, both_idle, clears_after_its_look, clears_and_leaves, drains_without_a_look, misses_for_good, releases_after_its_look}
+use Rattle.lq_run_core.specs.Mistakes.{both_idle, clears_after_its_look, clears_and_leaves, drains_without_a_look, misses_for_good, releases_after_its_look}
 use Rattle.lq_run_core.specs.Stays.{ComesNearer, NobodyComes}
 use Rattle.lq_run_core.proofs.Tests.{bit-below}
 use Rattle.lq_run_core.proofs.OneSeat.{Falls}

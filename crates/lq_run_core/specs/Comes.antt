@@ -1,5 +1,5 @@
 -- Whether somebody comes for a packet that waits.
-use Rattle.std.specs.Prelude.{◌≡◌, ℕ, Bool, true, false, ◌||◌, if◌then◌else◌, nat_lt, Option, Some, None}
+use Rattle.std.specs.Prelude.{◌≡◌, ℕ, Bool, true, ◌||◌, if◌then◌else◌, nat_lt, Option, Some, None}
 use Rattle.lq_model.specs.declared.machine.ControlStep.{ControlStep}
 use Rattle.lq_model.specs.declared.machine.ControlStep.TheVariants.{Return, RunEnd, PurgeBand, PurgeMissed, PurgeDraining}
 use Rattle.lq_model.specs.Machine.{Machine, Purge, seat_at}

@@ -36,7 +36,7 @@ abbrev pub serves : Machine → Bool
 serves m = is_held m.qdisc.slot m.qdisc.bands || some_seat (λ position. holds_lock position && carries position) m
 
 -- a packet is served, and all queues are open
-pub record IsServed (m : Machine) : Type 0 where
+pub record ServesOpen (m : Machine) : Type 0 where
   pub serves : serves m ≡ true
   pub queues_open : AllOpen m
 

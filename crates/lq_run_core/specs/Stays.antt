@@ -8,7 +8,7 @@ use Rattle.lq_model.specs.Steps.{After}
 use Rattle.lq_model.specs.Kept.{OneHolder}
 use Rattle.lq_run_core.specs.Waits.{WaitsOpen}
 use Rattle.lq_run_core.specs.Comes.{ControlMoves, SomebodyMoves}
-use Rattle.lq_run_core.specs.Measure.{IsServed, measure}
+use Rattle.lq_run_core.specs.Measure.{ServesOpen, measure}
 use Rattle.lq_run_core.specs.Mistakes.{after_step}
 
 -- the packet waits in an active machine with all queues open, and nobody comes
@@ -21,5 +21,5 @@ pub record NobodyComes (m : Machine) (p : Packet) : Type 0 where
 -- a step of a seat there makes the number less, but for so much at most
 abbrev pub ComesNearer : Position → (Qdisc → Seat → After) → ℕ → Type 0
 ComesNearer position step more =
-    (m : Machine) (i : ℕ) → OneHolder m → i < length m.seats → (seat_at m i).position ≡ position → IsServed (after_step m i step)
+    (m : Machine) (i : ℕ) → OneHolder m → i < length m.seats → (seat_at m i).position ≡ position → ServesOpen (after_step m i step)
     → measure (after_step m i step) < measure m + more

@@ -10,15 +10,15 @@ use Rattle.lq_model.specs.Machine.{Machine, bit, is_open, seat_at}
 use Rattle.lq_model.specs.Positions.{Holds, in_hand}
 
 -- the packet is held, in a band or in the requeue slot, or the holder of the run lock has it in hand
-abbrev pub Waits : Packet → Machine → Type 0
-Waits p m = Holds m p ⊎ ((i : ℕ) × (in_hand (seat_at m i).position ≡ Some p))
+abbrev pub IsWaiting : Packet → Machine → Type 0
+IsWaiting p m = Holds m p ⊎ ((i : ℕ) × (in_hand (seat_at m i).position ≡ Some p))
 
 abbrev pub AllOpen : Machine → Type 0
 AllOpen m = (queue : ℕ) → is_open m.qdisc queue ≡ true
 
 -- this packet waits, and all queues are open
 pub record WaitsOpen (p : Packet) (m : Machine) : Type 0 where
-  pub waits : Waits p m
+  pub waits : IsWaiting p m
   pub queues_open : AllOpen m
 
 -- HOW MANY

@@ -4,10 +4,10 @@ ghost use Rattle.lq_model.specs.declared.machine.Packet.{Packet};
 ghost use Rattle.lq_model.specs.Machine.{Machine, first_machine};
 ghost use Rattle.lq_model.specs.Kept.{OneHolder, IsInductive, IsKept};
 ghost use Rattle.lq_model.specs.Quiet.{Moves, Reaches};
-ghost use Rattle.lq_run_core.specs.Waits.{AllOpen, Waits, WaitsOpen, packets};
+ghost use Rattle.lq_run_core.specs.Waits.{AllOpen, IsWaiting, WaitsOpen, packets};
 ghost use Rattle.lq_run_core.specs.Progress.{Course, Goes, IsAny, cost_of};
 ghost use Rattle.lq_run_core.specs.Comes.{ControlMoves, SomebodyMoves};
-ghost use Rattle.lq_run_core.specs.Measure.{IsServed, measure, serves};
+ghost use Rattle.lq_run_core.specs.Measure.{ServesOpen, measure, serves};
 ghost use Rattle.lq_run_core.specs.Chase.{GoesFree, chase, stopped_chase};
 
 /// While a packet waits and all queues are open, at most 20 moves come for each packet and 42 for each seat, and what the moves
@@ -20,9 +20,9 @@ pub fn no_order_keeps_a_packet()
 /// A packet that waits goes on waiting until the device accepts it, as long as no step of control comes. So after more moves than
 /// those with all queues open, in whatever order, the device has accepted it.
 pub fn what_leaves_is_sent()
-    ensures accepted { (p : Packet) (m n : Machine) (c : Course) → IsInductive m → Waits p m → Goes IsAny m c n → c.with_control ≡ false
-        → Waits p n ⊎ Contains c.accepted p }
-    ensures sent { (p : Packet) (m n : Machine) (c : Course) → IsInductive m → Waits p m → Goes AllOpen m c n → c.with_control ≡ false
+    ensures accepted { (p : Packet) (m n : Machine) (c : Course) → IsInductive m → IsWaiting p m → Goes IsAny m c n → c.with_control ≡ false
+        → IsWaiting p n ⊎ Contains c.accepted p }
+    ensures sent { (p : Packet) (m n : Machine) (c : Course) → IsInductive m → IsWaiting p m → Goes AllOpen m c n → c.with_control ≡ false
         → 20 * packets m + 42 * length m.seats + c.cost < c.moves → Contains c.accepted p }
 {}
 
@@ -36,8 +36,8 @@ pub fn somebody_comes()
 /// The number that says so: while a packet is served and all queues are open, each move makes it less, or adds less than the move
 /// costs. So it bounds the moves to come; and it is small.
 pub fn each_step_comes_nearer()
-    ensures nearer { (m n : Machine) → OneHolder m → IsServed m → (move : Moves m n) → IsServed n → measure n < measure m + cost_of move }
-    ensures moves { (m n : Machine) (c : Course) → OneHolder m → Goes IsServed m c n → c.moves + measure n ≤ measure m + c.cost }
+    ensures nearer { (m n : Machine) → OneHolder m → ServesOpen m → (move : Moves m n) → ServesOpen n → measure n < measure m + cost_of move }
+    ensures moves { (m n : Machine) (c : Course) → OneHolder m → Goes ServesOpen m c n → c.moves + measure n ≤ measure m + c.cost }
     ensures few { (m : Machine) → measure m ≤ 20 * packets m + 42 * length m.seats }
 {}
 
