@@ -469,6 +469,61 @@ def work_with_mistake(data, mistake):
     return events, parted
 
 
+# HOW MANY STEPS MAY STILL COME
+
+# the steps that a seat may still make until it has sent a packet or is idle; crates/lq_run_core/specs/Measure.antt, `way`, by positions
+FIRST_LOOK, SECOND_LOOK = 22, 16
+INTERRUPT_PAYS, PACKET_PAYS = 14, 20
+WAY = {
+    "idle": 0, "check": 14, "try1": 9, "miss": 8, "try2": 7, "recheck": 8, "gate": 2, "xmit": 1, "stop": 20, "post": 19, "test": 24, "clearm": 23,
+    "cleard": 22, "cclear": 22, "cload": 21, "cmiss": 20, "cdrain": 20, "again": 19, "quota": 19, "unlock": 18, "tail": 17, "sched": 16, "leave": 1,
+    "soft": 12, "sclear": 11, "late": 10, "wake": 17,
+}  # fmt: skip
+
+
+def carries(position):
+    """Whether a seat there has a packet: that of its own transmit until it is put, or the one in hand."""
+    name, *of = position
+    if name == "enter":
+        return of[0][0] == "transmit"
+    if name in ("try1", "miss", "try2"):
+        return of[0][0] == "direct"
+    if name in ("cclear", "cload", "cmiss", "cdrain"):
+        return of[0][0] == "hand"
+    return name in ("check", "put", "recheck", "gate", "xmit")
+
+
+def has_lock(position):
+    """Whether a seat there has the run lock."""
+    return position[2] if position[0] == "put" else position[0] not in "idle enter check try1 miss try2 tail sched leave soft sclear late wake".split()
+
+
+def way(q, position):
+    name, *of = position
+    if name == "enter":
+        return 15 if of[0][0] == "transmit" else 13
+    if name == "put":
+        return 7 if of[1] else 10
+    if name in ("try1", "miss", "try2"):
+        return WAY[name] + 4 * (of[0][0] == "direct")
+    if name == "deq":
+        return 6 + (0 if q.held else FIRST_LOOK)
+    if name == "scan":
+        band, second = of
+        return 3 + (2 - band) + (0 if any(q.bands[band:]) else SECOND_LOOK if second else FIRST_LOOK)
+    return WAY[name]
+
+
+def left(m):
+    """How many steps may still come at most, the starts of soft interrupts among them, if nobody brings a packet or wakes a queue and the device
+    is never busy; None where no packet is held or with the holder of the run lock, or the queue isn't open."""
+    q = m.qdisc
+    if q.xoff or not (q.held or any(has_lock(it.position) and carries(it.position) for it in m.seats)):
+        return None
+    packets = q.held + sum(carries(it.position) for it in m.seats)
+    return PACKET_PAYS * packets + sum(way(q, it.position) + INTERRUPT_PAYS * it.raised for it in m.seats)
+
+
 # TELLING A STEP
 
 
