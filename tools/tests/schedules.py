@@ -1,4 +1,7 @@
 """Orders of steps: shown, refused, and found."""
+import random
+
+import machine
 from tests.bench import HERE, ROOM, TOP, case, expect, expect_none, fault, run
 
 SCHEDULES = {"second-try": 41, "second-try-finds-nothing": 58, "release-then-look": 47, "clear-then-look": 53, "look-at-the-stop-word-again": 55,
@@ -24,7 +27,7 @@ def show_schedule():
         expect(f"show-schedule {name}", said, 0, f"\n{steps:5}  ", "held 0: nothing is left")
         expect_none(f"show-schedule {name}", said, f"\n{steps + 1:5}  ")
     said = run(HERE / "show-schedule", schedule("second-try"))
-    expect("show-schedule, a line", said, 0, "   22    16     1  miss              try2                 1  MISSED set\n", "          9     1  begins send 1")
+    expect("show-schedule, a line", said, 0, "   22    16     1  miss              try2                 1    27  MISSED set\n", "          9     1  begins send 1")
     picture = ROOM / "picture.svg"
     for mistake, (name, left) in LEFT.items():
         said = run(HERE / "show-schedule", "--mistake", mistake, schedule(name), picture)
@@ -37,6 +40,70 @@ def show_schedule():
     expect("show-schedule, a wrong mistake", run(HERE / "show-schedule", "--mistake", "none", schedule("second-try")), 2, "no mistake is called none")
     expect("show-schedule, no file", run(HERE / "show-schedule", ROOM / "none"), 1, "No such file")
     expect("show-schedule, no folder", run(HERE / "show-schedule", schedule("second-try"), ROOM / "none/a.svg"), 1, "No such file")
+
+
+# the two that come back to where their round began: how many steps, how many moves the round has, and what the end is
+CHASES = {"chase": (87, 42, "held 0: nothing is left"), "stopped-chase": (65, 30, "held 1: packet 1 in band 0; seats are still on their way, or the queue is stopped")}
+
+
+@case
+def chases():
+    """The machine after the round is the one before it, and within it nothing bounds the steps."""
+    for name, (steps, moves, end) in CHASES.items():
+        said = run(HERE / "show-schedule", schedule(name))
+        expect(f"show-schedule {name}", said, 0, f"\n{steps:5}  ", end)
+        expect_none(f"show-schedule {name}", said, f"\n{steps + 1:5}  ")
+        states = [event.after for event in machine.work(schedule(name).read_bytes())]
+        rounds = [place for place, it in enumerate(states) if it == states[-1]]
+        if len(rounds) != 2 or rounds[1] - rounds[0] != moves:
+            fault(f"{name} comes to its last machine at {rounds}")
+        if any(machine.left(it) is not None for it in states[rounds[0] :]):
+            fault(f"{name}: the round has a bound")
+
+
+# a packet's way with nobody else about, and how many steps may still come at each of its steps: 20 for it, and the seat's way (docs/NO-PACKET-LEFT.md)
+WAY_OF_ONE = ["3     8     0  put               try1                 1    29", "4     8     0  try1              deq                  1    26", "7     8     0  scan 1 first      gate                 0    22",
+              "8     8     0  gate              xmit                 0    21", "9     8     0  xmit              deq                  0     -"]  # fmt: skip
+# what a move may add: one less than it costs
+MAY_ADD = {"busy": 18, "send": 35, "wake": 17}
+
+
+def random_moves(of, seats):
+    """Machines and moves, as they come in some order: each seat goes on, begins a call, or takes a soft interrupt."""
+    m = machine.first_machine(seats, of.choice((1, 2, 8)), of.randrange(2))
+    for number in range(200):
+        moves = [("step", i, it) for i, s in enumerate(m.seats) for it in ("plain", "full", "busy", "stop") if s.position != ("idle",) and not machine.why_not_step(m, i, it)]
+        moves += [("softirq", i, ("softirq",)) for i, s in enumerate(m.seats) if s.position == ("idle",) and s.raised]
+        if not moves or of.random() < 0.1:
+            moves += [(it[0], i, it) for i, s in enumerate(m.seats) if s.position == ("idle",) for it in (("send", of.randrange(3)), ("wake",))]
+        if not moves:
+            continue
+        what, i, it = of.choice(moves)
+        after = machine.step(m, i, it) if what == "step" else machine.begin(m, i, it, number)
+        yield m, it if what == "step" else what, after
+        m = after
+
+
+@case
+def steps_left():
+    said = run(HERE / "show-schedule", schedule("second-try"), ROOM / "left.svg")
+    expect("show-schedule, steps left", said, 0, *WAY_OF_ONE)
+    picture = (ROOM / "left.svg").read_text(encoding="utf-8")
+    if ">left</text>" not in picture or ">47</text>" not in picture:
+        fault("the picture doesn't draw how many steps are left")
+    said = run(HERE / "show-schedule", "--mistake", "begin_gives_up_after_one_try", schedule("second-try"))
+    expect("show-schedule, steps left and nobody", said, 0, "   24    21     1  leave             idle                 1    20  inside 0\nheld 1, nobody comes")
+    of, bounded = random.Random(1), 0
+    for number in range(100):
+        for before, what, after in random_moves(of, 2 + number % 3):
+            a, b = machine.left(before), machine.left(after)
+            if a is not None and b is not None:
+                bounded += 1
+                if b > a + MAY_ADD.get(what, -1):
+                    fault(f"a move doesn't come nearer: {before}, {what}: {a}, then {b}")
+                    return
+    if bounded < 5000:
+        fault(f"only {bounded} moves had a bound")
 
 
 @case
