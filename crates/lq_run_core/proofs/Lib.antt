@@ -12,6 +12,7 @@ pub mod Tests
 pub mod OneSeat
 pub mod Others
 pub mod Nearer
+pub mod AmongNearer
 pub mod Goes
 pub mod Bounded
 pub mod Sent

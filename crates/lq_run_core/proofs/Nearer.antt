@@ -83,32 +83,33 @@ control-outcome m i step at may =
     subst (λ (d : Position). Local (is_sole m) (λ (p : Packet). Unit {0}) m.qdisc (seat_at m i) d (control_at step (holds_as_control (seat_at m i).position) m.qdisc (seat_at m i)))
     (sym (at-control (seat_at m i).position at)) (control-leads (is_sole m) (λ (p : Packet). Unit {0}) step (holds_as_control (seat_at m i).position) m.qdisc (seat_at m i) may)
 
+-- a move that is known by its outcome
+pub outcome-nearer : (m n : Machine) (i : ℕ) (a : After) (cost : ℕ) (sole : Bool) (free : Packet → Type 0) → OneHolder m → ServesOpen n → n ≡ with_seat m i a → i < length m.seats
+    → Local sole free m.qdisc (seat_at m i) (seat_at m i).position a
+    → (ServesOpen (with_seat m i a) → Falls cost m.qdisc (seat_at m i) (seat_at m i).position a) → OneHolder n × (measure n < measure m + cost)
+outcome-nearer m n i a cost sole free one after is within leads falls =
+    let there : ServesOpen (with_seat m i a) = subst ServesOpen is after in
+    let kept : OneHolder (with_seat m i a) =
+    sum-kept (λ (s : Seat). bit (holds_lock s.position)) m.seats i a.seat (bit m.qdisc.locked) (bit a.qdisc.locked) within (λ rest h. holder-local rest leads h) one in
+    subst (λ (k : Machine). OneHolder k × (measure k < measure m + cost)) (sym is)
+    (kept, one-nearer m i a cost within one kept there.serves (falls there) (takes-or-grows leads))
+
 pub nearer : (m n : Machine) → OneHolder m → ServesOpen m → (move : Moves m n) → ServesOpen n → OneHolder n × (measure n < measure m + cost_of move)
 nearer m n one before move after = go move
   where
-    by : (i : ℕ) (a : After) (cost : ℕ) (sole : Bool) (free : Packet → Type 0) → n ≡ with_seat m i a → i < length m.seats
-        → Local sole free m.qdisc (seat_at m i) (seat_at m i).position a
-        → (ServesOpen (with_seat m i a) → Falls cost m.qdisc (seat_at m i) (seat_at m i).position a) → OneHolder n × (measure n < measure m + cost)
-    by i a cost sole free is within leads falls =
-        let there : ServesOpen (with_seat m i a) = subst ServesOpen is after in
-        let kept : OneHolder (with_seat m i a) =
-        sum-kept (λ (s : Seat). bit (holds_lock s.position)) m.seats i a.seat (bit m.qdisc.locked) (bit a.qdisc.locked) within (λ rest h. holder-local rest leads h) one in
-        subst (λ (k : Machine). OneHolder k × (measure k < measure m + cost)) (sym is)
-        (kept, one-nearer m i a cost within one kept there.serves (falls there) (takes-or-grows leads))
-
     go : (move : Moves m n) → OneHolder n × (measure n < measure m + cost_of move)
     go (steps i answer e) =
         let can = and-true (nat_lt i (length m.seats)) (may_answer (seat_at m i).position answer m.qdisc) (if-some _ _ _ e).0 in
-        by i (step_at (seat_at m i).position answer m.qdisc (seat_at m i)) (step_cost answer) true (λ (p : Packet). Unit {0}) (if-some _ _ _ e).1 (ltb-true _ _ can.0)
+        outcome-nearer m n i (step_at (seat_at m i).position answer m.qdisc (seat_at m i)) (step_cost answer) true (λ (p : Packet). Unit {0}) one after (if-some _ _ _ e).1 (ltb-true _ _ can.0)
         (step-leads true (λ (p : Packet). Unit {0}) (seat_at m i).position answer m.qdisc (seat_at m i) can.1)
         (λ there. step-costs (seat_at m i).position answer m.qdisc (seat_at m i) can.1 before.queues_open there.queues_open)
     go (begins i b free e) =
         let can = and-true (nat_lt i (length m.seats)) (may_begin b (seat_at m i)) (if-some _ _ _ e).0 in
-        by i (record { qdisc = m.qdisc; seat = begun b (seat_at m i) }) (start_cost b) true (λ (p : Packet). Unit {0}) (if-some _ _ _ e).1 (ltb-true _ _ can.0)
+        outcome-nearer m n i (record { qdisc = m.qdisc; seat = begun b (seat_at m i) }) (start_cost b) true (λ (p : Packet). Unit {0}) one after (if-some _ _ _ e).1 (ltb-true _ _ can.0)
         (start-leads true (λ (p : Packet). Unit {0}) b m.qdisc (seat_at m i) can.1 (λ p e. tt))
         (λ there. start-costs b m.qdisc (seat_at m i) (idle-is _ (begins-idle b (seat_at m i) can.1)) can.1)
     go (controls i step e) =
         let can = and-true (nat_lt i (length m.seats) && is_control (seat_at m i).position) (may_control step (is_sole m) (holds_as_control (seat_at m i).position) m.qdisc) (if-some _ _ _ e).0 in
         let at = and-true (nat_lt i (length m.seats)) (is_control (seat_at m i).position) can.0 in
-        by i (control_at step (holds_as_control (seat_at m i).position) m.qdisc (seat_at m i)) control_cost (is_sole m) (λ (p : Packet). Unit {0}) (if-some _ _ _ e).1
+        outcome-nearer m n i (control_at step (holds_as_control (seat_at m i).position) m.qdisc (seat_at m i)) control_cost (is_sole m) (λ (p : Packet). Unit {0}) one after (if-some _ _ _ e).1
         (ltb-true _ _ at.0) (control-outcome m i step at.1 can.1) (λ there. control-costs (control-outcome m i step at.1 can.1) at.1)

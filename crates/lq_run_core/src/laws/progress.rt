@@ -1,11 +1,18 @@
 //! No order of steps keeps a packet: what waits is sent, in whatever order the seats move, while the queues are open.
-ghost use Rattle.std.specs.Prelude.{◌≡◌, ◌<◌, ◌≤◌, ◌+◌, ◌*◌, ◌⊎◌, ℕ, true, false, length, Contains};
+ghost use Rattle.std.specs.Prelude.{◌≡◌, ◌<◌, ◌≤◌, ◌+◌, ◌*◌, ◌⊎◌, ℕ, List, true, false, length, Contains};
+ghost use Rattle.lq_model.specs.declared.machine.Answer.{Answer};
+ghost use Rattle.lq_model.specs.declared.machine.Beginning.{Beginning};
+ghost use Rattle.lq_model.specs.declared.machine.ControlStep.{ControlStep};
 ghost use Rattle.lq_model.specs.declared.machine.Packet.{Packet};
-ghost use Rattle.lq_model.specs.Machine.{Machine, first_machine};
+ghost use Rattle.lq_model.specs.declared.machine.Seat.{Seat};
+ghost use Rattle.lq_model.specs.Control.{control_at, holds_as_control, is_control, is_sole, may_control};
+ghost use Rattle.lq_model.specs.Machine.{Machine, Qdisc, first_machine};
+ghost use Rattle.lq_model.specs.Steps.{begun, may_answer, may_begin, step_at};
+ghost use Rattle.lq_machine.specs.Among.{among, left_among};
 ghost use Rattle.lq_model.specs.Kept.{OneHolder, IsInductive, IsKept};
 ghost use Rattle.lq_model.specs.Quiet.{Moves, Reaches};
 ghost use Rattle.lq_run_core.specs.Waits.{AllOpen, IsWaiting, WaitsOpen, packets};
-ghost use Rattle.lq_run_core.specs.Progress.{Course, Goes, IsAny, cost_of};
+ghost use Rattle.lq_run_core.specs.Progress.{Course, Goes, IsAny, control_cost, cost_of, start_cost, step_cost};
 ghost use Rattle.lq_run_core.specs.Comes.{ControlMoves, SomebodyMoves};
 ghost use Rattle.lq_run_core.specs.Measure.{ServesOpen, measure, serves};
 ghost use Rattle.lq_run_core.specs.Chase.{GoesFree, chase, stopped_chase};
@@ -39,6 +46,21 @@ pub fn each_step_comes_nearer()
     ensures nearer { (m n : Machine) → OneHolder m → ServesOpen m → (move : Moves m n) → ServesOpen n → measure n < measure m + cost_of move }
     ensures moves { (m n : Machine) (c : Course) → OneHolder m → Goes ServesOpen m c n → c.moves + measure n ≤ measure m + c.cost }
     ensures few { (m : Machine) → measure m ≤ 20 * packets m + 42 * length m.seats }
+{}
+
+/// The same of one seat between two lists of others, by what it does: so it is said of the views of a table's seats, of which one moves.
+pub fn one_seat_comes_nearer()
+    ensures steps { (before behind : List Seat) (q : Qdisc) (s : Seat) (answer : Answer) → OneHolder (among before behind q s)
+        → may_answer s.position answer q ≡ true → ServesOpen (among before behind q s)
+        → ServesOpen (left_among before behind (step_at s.position answer q s))
+        → measure (left_among before behind (step_at s.position answer q s)) < measure (among before behind q s) + step_cost answer }
+    ensures begins { (before behind : List Seat) (q : Qdisc) (s : Seat) (b : Beginning) → OneHolder (among before behind q s)
+        → may_begin b s ≡ true → ServesOpen (among before behind q s) → ServesOpen (among before behind q (begun b s))
+        → measure (among before behind q (begun b s)) < measure (among before behind q s) + start_cost b }
+    ensures controls { (before behind : List Seat) (q : Qdisc) (s : Seat) (step : ControlStep) → OneHolder (among before behind q s)
+        → is_control s.position ≡ true → may_control step (is_sole (among before behind q s)) (holds_as_control s.position) q ≡ true
+        → ServesOpen (among before behind q s) → ServesOpen (left_among before behind (control_at step (holds_as_control s.position) q s))
+        → measure (left_among before behind (control_at step (holds_as_control s.position) q s)) < measure (among before behind q s) + control_cost }
 {}
 
 /// With nothing to be served two soft interrupts can go on for ever: they come to this machine, and 42 moves later are there again.
