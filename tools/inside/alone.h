@@ -1,0 +1,117 @@
+// The other way: the machine alone, with the same bounds, and which of its states the text reaches.
+#pragma once
+#include "follow.h"
+
+struct Alone { Machine m; uint8_t sends[MOST_SEATS], wakes, stops, busy; };
+struct Bounds { int sends, bands, wakes, stops, busy; };
+static Bounds bounds;       // of the search, for the machine
+static Keys reached;        // the states of the machine to which the text came
+
+static Key key_of(const Alone &it) { return key_of_bytes((const char *)&it, sizeof it); }
+
+// The machine's state beside the text's.
+static Alone beside()
+{
+	Alone it;
+	memset(&it, 0, sizeof it);
+	it.m = machine.of[0];
+	for (auto &s : it.m.seats)
+		s.behind_put = 0;
+	forget(it.m);
+	path_counts(it.sends, &it.wakes, &it.stops, &it.busy);
+	return it;
+}
+
+// The steps that the text hasn't are taken with the one before.
+static void settle(Machine &m, int t)
+{
+	MachineSeat &s = m.seats[t];
+	if (s.at == AT_ENTER)
+		machine_step(m, t, PLAIN);
+	if (s.at == AT_CHECK && !m.bypass)
+		machine_step(m, t, PLAIN);
+	if (s.at == AT_LEAVE)
+		machine_step(m, t, PLAIN);
+}
+
+class MachineSearch {
+	Keys seen;
+	vector<Alone> states;
+	bool may_be_full;
+	void come(Alone next, int t)
+	{
+		settle(next.m, t);
+		forget(next.m);
+		if (seen.add(key_of(next)))
+			states.push_back(next);
+	}
+	void begin(const Alone &x, int t)
+	{
+		for (int b = 0; b < bounds.bands && x.sends[t] < bounds.sends; b++) {
+			Alone next = x;
+			MachineSeat &s = next.m.seats[t];
+			s.at = AT_ENTER, s.packet = t * bounds.sends + next.sends[t]++, s.band = bounds.bands == 1 ? 1 : b;
+			come(next, t);
+		}
+		if (x.m.seats[t].raised) {
+			Alone next = x;
+			next.m.seats[t].raised = 0, next.m.seats[t].at = AT_ENTER, next.m.seats[t].attempt = INTERRUPT;
+			come(next, t);
+		}
+		if (x.wakes) {
+			Alone next = x;
+			next.wakes--, next.m.seats[t].at = AT_WAKE;
+			come(next, t);
+		}
+	}
+	void step(const Alone &x, int t, int answer)
+	{
+		Alone next = x;
+		MachineSeat &s = next.m.seats[t];
+		int from = s.at * 8 + look_of(s);
+		machine_step(next.m, t, answer);
+		ways.insert({from, s.at * 8 + look_of(s)});
+		next.stops -= answer == STOPS;
+		next.busy -= answer == IS_BUSY;
+		come(next, t);
+	}
+	void steps(const Alone &x, int t)
+	{
+		const MachineSeat &s = x.m.seats[t];
+		int room = x.m.len - x.m.n[s.band];
+		if (s.at == AT_IDLE)
+			return begin(x, t);
+		if (s.at != AT_PUT || room > 0)
+			step(x, t, PLAIN);
+		if (s.at == AT_PUT && may_be_full && room <= batch_of(x.m.len))
+			step(x, t, IS_FULL);
+		if (s.at == AT_XMIT && x.stops)
+			step(x, t, STOPS);
+		if (s.at == AT_XMIT && x.busy)
+			step(x, t, IS_BUSY);
+	}
+
+public:
+	set<pair<int, int>> ways;
+	long missed = 0;
+	MachineSearch(const Alone &first, bool full) : states{first}, may_be_full(full)
+	{
+		seen.add(key_of(first));
+		for (size_t i = 0; i < states.size(); i++) {
+			Alone x = states[i];
+			missed += !reached.has(key_of(x));
+			for (int t = 0; t < seat_count; t++)
+				steps(x, t);
+		}
+	}
+	size_t count() const { return states.size(); }
+};
+
+static void report_machine_alone(const Alone &first)
+{
+	bool full = same_step.count("Put, full: load slot"); // the machine may say full up to a batch early
+	MachineSearch it(first, full);
+	long gone = std::count_if(it.ways.begin(), it.ways.end(), [](const pair<int, int> &way) { return arrows.count(way) > 0; });
+	printf("The machine alone%s has %zu states; the text came to all but %ld of them, and went %ld of its %zu ways.\n", full ? " (a ring may be full)" : "", it.count(), it.missed, gone,
+	       it.ways.size());
+}

@@ -1,0 +1,70 @@
+"""Compiles a kernel's text with its accesses announced, and links it with the search."""
+import hashlib
+import subprocess
+from pathlib import Path
+
+from . import extract
+
+HERE = Path(__file__).resolve().parent
+TEXT_WORDS = ["gcc", "-std=gnu11", "-O1", "-g", "-w", "-Werror=implicit-function-declaration", "-fno-strict-aliasing", "-fno-pie", "-fsanitize=thread",
+              "--param", "tsan-distinguish-volatile=1", "--param", "tsan-instrument-func-entry-exit=0"]
+SEARCH_WORDS = ["g++", "-std=gnu++17", "-O2", "-g", "-w", "-fno-pie"]
+
+
+class NotCompiled(Exception):
+    """A text that the compiler refuses; the text has the compiler's first lines."""
+
+
+def compile_with(words):
+    done = subprocess.run([str(it) for it in words], capture_output=True, text=True, check=False)
+    if done.returncode:
+        errors = [line for line in done.stderr.splitlines() if "error" in line or "undefined reference" in line] or done.stderr.splitlines()
+        raise NotCompiled("\n".join(errors[:8]))
+
+
+def checksum(*texts):
+    return hashlib.sha256("\0".join(map(str, texts)).encode()).hexdigest()[:16]
+
+
+class Builder:
+    """Programs that search a text: one for each size that is compiled another way; what was built before is used again."""
+
+    def __init__(self, tree, folder, worlds=HERE):
+        self.tree, self.folder, self.worlds = Path(tree), Path(folder), Path(worlds)
+        self.folder.mkdir(parents=True, exist_ok=True)
+        ours = [*sorted(HERE.glob("*.h")), *sorted(HERE.glob("*.c")), HERE / "search.cc", *sorted(self.worlds.glob("*.[ch]"))]
+        self.sources = checksum(*(file.read_text(encoding="utf-8") for file in ours))
+
+    def cut(self, world, changes=()):
+        return extract.cut(self.tree, self.worlds / f"{world}.names", changes)
+
+    def _search(self, world):
+        """The search, with the machine where the world is the transmit path."""
+        defines = ["-DWITH_MACHINE"] if world == "path" else []
+        out = self.folder / f"search-{checksum(self.sources, defines)}.o"
+        if not out.exists():
+            compile_with([*SEARCH_WORDS, *defines, f"-I{HERE}", "-c", HERE / "search.cc", "-o", f"{out}.new"])
+            Path(f"{out}.new").rename(out)
+        return out
+
+    def program(self, size, cut):
+        """The program that searches this text at the sizes that are compiled alike."""
+        values = size.compiled()
+        defines = [f"-D{name.upper()}={value}" for name, value in values.items()]
+        if size.world == "path":
+            defines.append(f"-DPACKETS={values['seats'] * size.options()['sends']}")
+        if "net_tx_action(void)" in cut.text:
+            defines.append("-DNET_TX_ACTION_TAKES_NOTHING=1")
+        out = self.folder / f"{size.world}-{checksum(self.sources, cut.text, defines)}"
+        if out.exists():
+            return out
+        room = Path(f"{out}.d")
+        room.mkdir(exist_ok=True)
+        (room / "ktext.inc").write_text(cut.text, encoding="utf-8")
+        compile_with([*TEXT_WORDS, *defines, f"-I{room}", f"-I{self.worlds}", f"-I{HERE}", "-c", self.worlds / f"{size.world}.c", "-o", room / "text.o"])
+        compile_with(["g++", "-no-pie", "-o", f"{out}.new", room / "text.o", self._search(size.world)])
+        Path(f"{out}.new").rename(out)
+        for file in room.iterdir():
+            file.unlink()
+        room.rmdir()
+        return out

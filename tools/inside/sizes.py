@@ -1,0 +1,92 @@
+"""The sizes of a search: what is compiled, and what may come in an order."""
+from typing import NamedTuple
+
+# what a text is compiled with, and its values when nothing is said
+COMPILED = {"seats": 2, "len": 2, "children": 1, "queues": 1, "new_len": 0}
+# what a search is given
+OPTIONS = {"sends": 1, "bypass": 1, "stops": 0, "wakes": 0, "busy": 0, "quota": 64, "bands": 1, "downs": 0, "lengths": 0}
+TAP_COMPILED = {"seats": 2, "len": 2, "new_len": 0}
+TAP_OPTIONS = {"puts": 2, "gets": 2, "batch": 2, "backs": 0, "resizes": 0}
+MOST = {"seats": 4, "len": 32, "children": 2, "queues": 2, "new_len": 32, "sends": 3, "bands": 3, "quota": 64, "bypass": 1, "puts": 3, "gets": 6, "batch": 3}
+LEAST = {"seats": 1, "len": 1, "children": 1, "queues": 1, "sends": 1, "bands": 1, "quota": 1, "puts": 1, "gets": 1, "batch": 1}
+
+
+class Size(NamedTuple):
+    """What is searched: `world` is `path` or `tap`; `values` are those that differ from when nothing is said."""
+
+    text: str
+    values: dict
+    world: str = "path"
+
+    def compiled(self):
+        named = TAP_COMPILED if self.world == "tap" else COMPILED
+        return {name: self.values.get(name, value) for name, value in named.items()}
+
+    def options(self):
+        named = TAP_OPTIONS if self.world == "tap" else OPTIONS
+        return {name: self.values.get(name, value) for name, value in named.items()}
+
+
+STANDARD = [
+    Size("one transmit each, no bypass", {"bypass": 0}),
+    Size("one transmit each", {}),
+    Size("bands 0 and 1", {"bands": 2}),
+    Size("a busy answer", {"busy": 1}),
+    Size("a stop and a wake, no bypass", {"bypass": 0, "stops": 1, "wakes": 1}),
+    Size("a stop and a wake", {"stops": 1, "wakes": 1}),
+    Size("two transmits each, no bypass", {"sends": 2, "bypass": 0}),
+    Size("two transmits each, no bypass, rings of 32", {"sends": 2, "bypass": 0, "len": 32}),
+    Size("a deactivation and an activation", {"downs": 1}),
+    Size("the same, with a stop and a wake, no bypass", {"downs": 1, "stops": 1, "wakes": 1, "bypass": 0}),
+    Size("the same, with a busy answer", {"downs": 1, "busy": 1}),
+    Size("a change of the length from 2 to 1", {"lengths": 1, "new_len": 1}),
+    Size("two queues on one discipline, a busy answer", {"queues": 2, "busy": 1}),
+    Size("two queues on one discipline, a stop and a wake, no bypass", {"queues": 2, "stops": 1, "wakes": 1, "bypass": 0}),
+    Size("two children with a queue each", {"queues": 2, "children": 2}),
+    Size("two children, a stop and a wake", {"queues": 2, "children": 2, "stops": 1, "wakes": 1}),
+    Size("the ring of a tap: puts, batches, packets given back", {"backs": 1}, "tap"),
+    Size("the ring of a tap: the same with a resize from 2 to 1", {"backs": 1, "resizes": 1, "new_len": 1}, "tap"),
+]
+LARGE = [
+    Size("a stop, a wake, a busy answer, quota 1", {"stops": 1, "wakes": 1, "busy": 1, "quota": 1}),
+    Size("a stop, two wakes, a busy answer", {"stops": 1, "wakes": 2, "busy": 1}),
+    Size("two transmits each", {"sends": 2}),
+    Size("two transmits each, rings of 32", {"sends": 2, "len": 32}),
+    Size("three seats, one transmit each, no bypass", {"seats": 3, "bypass": 0}),
+    Size("two transmits each and a deactivation, no bypass", {"sends": 2, "bypass": 0, "downs": 1}),
+    Size("two queues on one discipline, two transmits each, no bypass", {"sends": 2, "bypass": 0, "queues": 2}),
+]
+
+
+class WrongSize(Exception):
+    """A size that can't be read; the text says why."""
+
+
+def _value(name, text, known):
+    if name not in known:
+        raise WrongSize(f"no word of a size: '{name}'; there are {', '.join(known)}")
+    low, high = LEAST.get(name, 0), MOST.get(name, 4)
+    if not (text.isascii() and text.isdigit() and low <= int(text) <= high):
+        raise WrongSize(f"{name} is a number from {low} to {high}, not '{text}'")
+    return int(text)
+
+
+def read(text):
+    """The size that a text like `sends=2,stops=1` is; with `tap` as its first word it is one of the ring of a tap."""
+    words = [it for it in text.split(",") if it]
+    world = "tap" if words[:1] == ["tap"] else "path"
+    known = {**TAP_COMPILED, **TAP_OPTIONS} if world == "tap" else {**COMPILED, **OPTIONS}
+    values = {}
+    for word in words[world == "tap" :]:
+        name, equals, value = word.partition("=")
+        if not equals:
+            raise WrongSize(f"a size is NAME=NUMBER,.., not '{word}'")
+        values[name] = _value(name, value, known)
+    size = Size(text, values, world)
+    if size.compiled().get("queues", 1) < size.compiled().get("children", 1):
+        raise WrongSize("children=2 needs queues=2: each child has a queue")
+    if values.get("lengths") and not values.get("new_len"):
+        raise WrongSize("lengths needs new_len, the new length")
+    if values.get("resizes") and not values.get("new_len"):
+        raise WrongSize("resizes needs new_len, the new length")
+    return size
