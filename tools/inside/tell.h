@@ -77,10 +77,10 @@ static string where(void *pc)
 	auto it = known.find(pc);
 	if (it != known.end())
 		return it->second;
-	string text, command = "addr2line -f -i -e '" + program + "' " + to_string((uintptr_t)pc - 1);
-	char hexadecimal[40], function[200], location[400];
-	snprintf(hexadecimal, sizeof hexadecimal, "%p", (char *)pc - 1);
-	command = "addr2line -f -i -e '" + program + "' " + hexadecimal;
+	string text;
+	char place[40], function[200], location[400];
+	snprintf(place, sizeof place, "%p", (char *)pc - 1); // within the call, not behind it
+	string command = "addr2line -f -i -e '" + program + "' " + place;
 	FILE *f = popen(command.c_str(), "r");
 	for (int depth = 0; f && depth < 2 && fgets(function, sizeof function, f) && fgets(location, sizeof location, f); depth++) {
 		function[strcspn(function, "\n")] = 0, location[strcspn(location, " \n")] = 0;

@@ -1,0 +1,234 @@
+"""The kernel's text under every order: what is cut out of a tree, and a search over a small protocol of this test's own."""
+import os
+import shutil
+import subprocess
+
+from inside import changes, extract, sizes
+from tests.bench import HERE, ROOM, case, expect, expect_none, fault, run
+
+# a letter box: who puts a letter serves it, or leaves it to the one who holds the lock
+HEADER = """/* A letter box { not a brace. */
+#define MAILBOX_LETTER 0
+#define MAILBOX_LONG(m) \\
+\t(READ_ONCE((m)->flags) \\
+\t & 1UL << MAILBOX_LETTER)
+
+enum mailbox_state {
+\tMAILBOX_OPEN,
+\tMAILBOX_SHUT, // a }
+};
+
+struct mailbox {
+\tunsigned long flags;
+\tspinlock_t lock;
+};
+
+static const char mailbox_name[] = { 'a', '}', 0 };
+int mailbox_post(struct mailbox *m);
+
+static inline int
+mailbox_empty(const struct mailbox *m)
+{
+\treturn !MAILBOX_LONG(m); /* } */
+}
+"""
+POST = """
+int mailbox_post(struct mailbox *m)
+{
+\tset_bit(MAILBOX_LETTER, &m->flags);
+\tif (!spin_trylock(&m->lock))
+\t\treturn 0;
+\tif (!mailbox_empty(m) && test_and_clear_bit(MAILBOX_LETTER, &m->flags))
+\t\tmailbox_out("}");
+\tspin_unlock(&m->lock);
+\treturn 1;
+}
+"""
+NAMES = """# a comment
+file include/box.h
+file box.c
+
+macro MAILBOX_LETTER
+macro MAILBOX_LONG
+type mailbox_state
+type mailbox
+variable mailbox_name
+function mailbox_gone?
+function mailbox_empty
+function mailbox_post
+"""
+CUT = """#line 2 "include/box.h"
+#define MAILBOX_LETTER 0
+
+#line 3 "include/box.h"
+#define MAILBOX_LONG(m) \\
+\t(READ_ONCE((m)->flags) \\
+\t & 1UL << MAILBOX_LETTER)
+
+#line 7 "include/box.h"
+enum mailbox_state {
+\tMAILBOX_OPEN,
+\tMAILBOX_SHUT, // a }
+};
+#line 12 "include/box.h"
+struct mailbox {
+\tunsigned long flags;
+\tspinlock_t lock;
+};
+#line 17 "include/box.h"
+static const char mailbox_name[] = { 'a', '}', 0 };
+#line 20 "include/box.h"
+static inline int
+mailbox_empty(const struct mailbox *m)
+{
+\treturn !MAILBOX_LONG(m); /* } */
+}
+#line 2 "box.c"
+int mailbox_post(struct mailbox *m)
+{
+\tset_bit(MAILBOX_LETTER, &m->flags);
+\tif (!spin_trylock(&m->lock))
+\t\treturn 0;
+\tif (!mailbox_empty(m) && test_and_clear_bit(MAILBOX_LETTER, &m->flags))
+\t\tmailbox_out("}");
+\tspin_unlock(&m->lock);
+\treturn 1;
+}
+"""
+# the mend: the holder looks again behind the release
+MEND = ("mailbox_post", r"(spin_unlock\(&m->lock\);\s*return) 1;", r"\1 mailbox_empty(m) ? 1 : mailbox_post(m);")
+WORLD = """#include <stdio.h>
+#include "operations.h"
+#include "world.h"
+static void mailbox_out(const char *what) {}
+#include "ktext.inc"
+#define PLAIN __attribute__((no_sanitize("thread")))
+struct world { struct mailbox m; char begun[SEATS]; } world;
+PLAIN int world_option(const char *name, long value) { return 1; }
+PLAIN int world_seats(void) { return SEATS; }
+PLAIN int world_size(void) { return sizeof world; }
+PLAIN int world_words(struct word *words)
+{
+\twords[0] = (struct word){"flags", 0, 8, SHARED, 0, NULL, 0, -1};
+\twords[1] = (struct word){"the lock", 8, 4, SHARED, 0, NULL, 0, -1};
+\treturn 2;
+}
+PLAIN void world_init(void) {}
+PLAIN int world_starts(int seat, struct start *starts) { return starts[0] = (struct start){1}, !world.begun[seat]; }
+PLAIN void world_begin(int seat, struct start it) { world.begun[seat] = 1; }
+void world_run(int seat, struct start it) { mailbox_post(&world.m); }
+PLAIN int world_answers(int seat, int question, int about, int *answers) { return 0; }
+PLAIN void world_answered(int seat, int question, int about, int answer) {}
+PLAIN int world_alone(void) { return -1; }
+PLAIN int world_left(void) { return world.m.flags & 1; }
+PLAIN const char *world_left_text(void) { return "left in the box"; }
+PLAIN void world_call_text(struct start it, char *text) { sprintf(text, "post"); }
+PLAIN void world_answer_text(int question, int about, int answer, char *text) {}
+PLAIN void world_text(char *text) { sprintf(text, "flags %lu", world.m.flags); }
+"""
+
+
+def tree(name, **files):
+    """A tree with a letter box, and the world around it."""
+    top = ROOM / name
+    for path, text in {"include/box.h": HEADER, "box.c": POST, "worlds/tap.names": NAMES, "worlds/tap.c": WORLD, **files}.items():
+        (top / path).parent.mkdir(parents=True, exist_ok=True)
+        (top / path).write_text(text, encoding="utf-8")
+    return top
+
+
+def search(top, *words):
+    """The search of a letter box; compiling it may take a while on a busy machine."""
+    call = [HERE / "inside-calls", top, "--worlds", top / "worlds", "--folder", ROOM / "inside", "--size", "tap,puts=1", *words]
+    said = subprocess.run([str(it) for it in call], capture_output=True, text=True, timeout=280)
+    return said.returncode, said.stdout, said.stderr
+
+
+def refusal(top, *given):
+    """What the extractor says of a tree that it refuses."""
+    try:
+        extract.cut(top, top / "worlds/tap.names", [extract.Change(*it) for it in given])
+    except extract.Refused as it:
+        return str(it)
+    return "nothing"
+
+
+@case
+def inside_calls_extractor():
+    top = tree("box")
+    cut = extract.cut(top, top / "worlds/tap.names")
+    # each definition ends with a line end of its own
+    if "".join(it + "\n" for it in cut.text.split("\n") if it) != "".join(it + "\n" for it in CUT.split("\n") if it) or (cut.definitions, cut.changed) != (7, 0):
+        fault(f"what is cut out of a tree is another: {cut}")
+    mended = extract.cut(top, top / "worlds/tap.names", [extract.Change(*MEND)])
+    if mended.changed != 1 or mended.text != cut.text.replace("\treturn 1;", "\treturn mailbox_empty(m) ? 1 : mailbox_post(m);"):
+        fault(f"a change isn't what was asked: {mended.text[-300:]}")
+    refusals = {
+        "matches 3 times, and not once": ("mailbox_post", "MAILBOX_LETTER|spin_unlock", ""),
+        "no regular expression": ("mailbox_post", "(", ""),
+        "no definition of that name is cut": ("mailbox_gone", "a", "b"),
+    }
+    for text, change in refusals.items():
+        if text not in refusal(top, change):
+            fault(f"the extractor says nothing of {text!r}: {refusal(top, change)}")
+    shutil.rmtree(top / "include")
+    if refusal(top) != f"{top} has no include/box.h":
+        fault(f"a tree without a file: {refusal(top)}")
+    lacks = tree("lacks", **{"box.c": POST.replace("mailbox_post", "mailbox_send"), "include/box.h": HEADER.replace("struct mailbox {", "struct mail {")})
+    if "has no type mailbox, function mailbox_post (looked for in include/box.h, box.c)" not in refusal(lacks):
+        fault(f"a tree that lacks definitions: {refusal(lacks)}")
+    expect("inside-calls, a tree that lacks a function", search(lacks), 3, "inside-calls: ", "has no type mailbox, function mailbox_post")
+
+
+@case
+def inside_calls_words():
+    tool = HERE / "inside-calls"
+    expect("inside-calls --help", run(tool, "--help"), 0, "tools/inside-calls TREE", "It is no proof")
+    expect("inside-calls --sizes", run(tool, "--sizes"), 0, "a stop and a wake: stops=1,wakes=1", "words of a size: seats (2)")
+    expect("inside-calls, no words", run(tool), 2, "a TREE, or --source")
+    expect("inside-calls, both", run(tool, ROOM, "--source", "6.1"), 2, "a TREE, or --source")
+    expect("inside-calls, no such line", run(tool, "--source", "5.10"), 2, "5.10")
+    expect("inside-calls, no such option", run(tool, ROOM, "--frob"), 2, "--frob")
+    expect("inside-calls, no such break", run(tool, ROOM, "--breaks", "--named", "none"), 2, "second-try-left-out")
+    for size, text in {"sends=9": "sends is a number from 1 to 3", "frob=1": "no word of a size: 'frob'", "sends": "NAME=NUMBER", "lengths=1": "needs new_len", "children=2": "needs queues=2",
+                       "tap,sends=1": "no word of a size: 'sends'"}.items():  # fmt: skip
+        expect(f"inside-calls --size {size}", run(tool, ROOM, "--size", size), 2, text)
+    expect("inside-calls, no folder", run(tool, ROOM / "none"), 3, "is no folder")
+    expect("inside-calls, an empty tree", run(tool, ROOM, "--folder", ROOM / "inside"), 3, "has no include/linux/netdevice.h, ")
+    if [it.is_found for it in changes.BREAKS].count(True) != 11 or len({it.name for it in changes.BREAKS}) != 15:
+        fault("inside-calls: there are other changes than the 15")
+    if len({it.text for it in sizes.STANDARD + sizes.LARGE}) != len(sizes.STANDARD + sizes.LARGE):
+        fault("inside-calls: two sizes have one name")
+
+
+@case
+def inside_calls_missing_packages():
+    path = ROOM / "few-programs"
+    path.mkdir()
+    python = os.path.realpath(shutil.which("python3"))
+    for name in ("gcc", "addr2line"):
+        (path / name).symlink_to("/bin/true")
+    environment = dict(os.environ, PATH=str(path))
+    command = [python, HERE / "inside-calls", "--source", "6.1", "--folder", ROOM / "sources"]
+    expect("inside-calls without g++", run(*command, env=environment), 3, "inside-calls: no g++: Debian has it in g++\n")
+    (path / "g++").symlink_to("/bin/true")
+    expect("inside-calls without apt-get", run(*command, env=environment), 3, "the package linux-source-6.1 can't be had (no apt-get")
+
+
+@case
+def inside_calls_search():
+    if not all(map(shutil.which, ("gcc", "g++", "addr2line"))):
+        print("tools: no g++ here, so that the search of inside-calls isn't tried")
+        return
+    top = tree("lost")
+    said = search(top)
+    # by hand: the other's letter comes between the holder's take and its release, 2 starts and 7 accesses
+    expect("inside-calls, a lost letter", said, 1, "WRONG: 1 packet is left in the box; a shortest order, of ", "seat 0  set_bit(0, flags)", "spin_trylock(the lock): held", "mailbox_post box.c:5", "then: flags 1")
+    expect("inside-calls, mended", search(top, "--change", *MEND), 0, "nothing goes wrong: ", "1 changed", "1 sizes of 1: 1 nothing goes wrong")
+    expect_none("inside-calls, mended", search(top, "--change", *MEND), "WRONG")
+    expect("inside-calls, stopped", search(top, "--change", *MEND, "--most", "5"), 5, "not decided: stopped after 6 states")
+    expect("inside-calls, random orders", search(top, "--walks", "200"), 1, "WRONG: 1 packet is left in the box")
+    broken = tree("broken", **{"box.c": POST.replace("return 0;", "return frob();")})
+    expect("inside-calls, a text that isn't compiled", search(broken), 3, "isn't compiled", "frob")
+    twice = search(tree("release", **{"box.c": POST.replace("\treturn 1;", "\tspin_unlock(&m->lock);\n\treturn 1;")}))
+    expect("inside-calls, a lock that is released twice", twice, 1, "WRONG: 'the lock' is released by a seat that doesn't hold it")
