@@ -140,4 +140,4 @@ module _ {D : Type 0} where
   seat_seen c = seat_state c.known.seat.table_id (known c)
 
   abbrev pub table_seen : Shared D → TableState
-  table_seen t = record { id = t.table.shared.table_id; made = setup t; plan = t.plan }
+  table_seen t = record { id = t.table.kit.shared.table_id; made = setup t; plan = t.plan }

@@ -1,79 +1,16 @@
--- The steps that a seat made on the table's words, and what it knows with them.
-use Rattle.std.specs.Prelude.{◌≡◌, ℕ, Bool, not, List, [], ◌∷◌, map, ◌==◌, ◌+◌, ◌*◌, bit_and, Option}
-use Rattle.lq_device.specs.Station.{StationState}
+-- The steps of a seat by name, each as the call of that name makes it, and what a seat of this table knows with them.
+use Rattle.std.specs.Prelude.{ℕ, Bool, List, ◌∷◌, ◌+◌, ◌*◌}
+use Rattle.lq_log.specs.Made as log
+use Rattle.lq_log.specs.Made.{load, store, swap, exchange, set, clear, rise, fall}
 use Rattle.lq_table.specs.Views.{View, Setup}
-use Rattle.lq_table.specs.Rule.{Rule}
 use Rattle.lq_table.specs.Places.{state_place, lock_place, inside_place, size_place, producer_place, turn_place, slot_word, fates_offset, xoff_word}
-use Rattle.atomic_table.specs.Table as table
-use Rattle.atomic_table.specs.Table.{Step, Me}
 
--- A step: what was done, on which word, with which operands, and what it found.
-pub data Made : Type 0 where
-  -- the word, and what was found
-  load : ℕ → ℕ → Made
-  -- the word, and what was stored
-  store : ℕ → ℕ → Made
-  -- the word, what was stored, and what was found
-  swap : ℕ → ℕ → ℕ → Made
-  -- the word, what it had to be, what it became, and whether it did
-  exchange : ℕ → ℕ → ℕ → Bool → Made
-  -- the word, the bits that were set, and whether one of them was set before
-  set : ℕ → ℕ → Bool → Made
-  -- the word, and the bits that stayed
-  clear : ℕ → ℕ → Made
-  -- the word, and how much it rose, or fell
-  rise : ℕ → ℕ → Made
-  fall : ℕ → ℕ → Made
+-- a step, and what a seat knows: its view, and the steps that it made, the latest first
+abbrev pub Made : Type 0
+Made = log.Made
 
--- which operation a play is of
-pub data Kind : Type 0 where
-  Loads : Kind
-  Stores : Kind
-  Swaps : Kind
-  Exchanges : Kind
-  Sets : Kind
-  Clears : Kind
-  Rises : Kind
-  Falls : Kind
-
-abbrev pub made : Kind → Step (Option StationState) → ℕ → Made
-made Loads s found = load s.word found
-made Stores s found = store s.word s.first
-made Swaps s found = swap s.word s.first found
-made Exchanges s found = exchange s.word s.first s.second (found == s.first)
-made Sets s found = set s.word s.first (not (bit_and found s.first == 0))
-made Clears s found = clear s.word s.first
-made Rises s found = rise s.word s.first
-made Falls s found = fall s.word s.first
-
--- what a seat knows: its view, and the steps that it made, the latest first
-pub record Known : Type 0 where
-  pub view : View
-  pub steps : List Made
-
-abbrev pub knows_nothing : View → Known
-knows_nothing v = record { view = v; steps = [] }
-
--- THE RULE IS OVER THE VIEWS ALONE
-
-abbrev pub views_of : List Known → List View
-views_of ms = map (λ (m : Known). m.view) ms
-
-abbrev pub viewed : table.State (Option StationState) Known → table.State (Option StationState) View
-viewed s = record { words = s.words; homes = s.homes; views = views_of s.views }
-
-abbrev pub NotedRule : Setup → table.State (Option StationState) Known → Type 0
-NotedRule k s = Rule k (viewed s)
-
--- WHAT A STEP TELLS
-
-abbrev pub seen : Me (Option StationState) Known → Me (Option StationState) View
-seen m = (m.0.view, m.1)
-
--- what the step tells of the view, and that it stands at the head of the seat's steps
-pub record Noted (kind : Kind) (told_of : Step (Option StationState) → Me (Option StationState) View → ℕ → Me (Option StationState) View → Type 0) (s : Step (Option StationState)) (m : Me (Option StationState) Known) (found : ℕ) (m' : Me (Option StationState) Known) : Type 0 where
-  pub told : told_of s (seen m) found (seen m')
-  pub noted : m'.0.steps ≡ made kind s found ∷ m.0.steps
+abbrev pub Known : Type 0
+Known = log.Known View
 
 -- a list of steps with one more: it reads in the order in which they were made
 infixl 55 ◌⊳◌

@@ -42,7 +42,7 @@ module _ {D : Type 0} where
   -- a seat of the table that isn't spent, is in no call or in one of control that has nothing in hand, isn't raised, and has no packet,
   -- no producer lock and none of the slots
   abbrev pub IsIdleSeatOf : Shared D → Seat (Option StationState) Known → Type 0
-  IsIdleSeatOf t s = (s.table_id ≡ t.table.shared.table_id) × (0 < s.me.0.view.share.shares) × (at_rest s.me.0.view.place.position ≡ true) × (s.me.0.view.place.raised ≡ false)
+  IsIdleSeatOf t s = (s.table_id ≡ t.table.kit.shared.table_id) × (0 < s.me.0.view.share.shares) × (at_rest s.me.0.view.place.position ≡ true) × (s.me.0.view.place.raised ≡ false)
       × (s.me.0.view.packets ≡ no_packets) × (s.me.0.view.locks ≡ all_three unlocked) × (s.me.1 ≡ [])
 
   -- a new seat with its indices, of the same table, with one share and this owner, which carries no station

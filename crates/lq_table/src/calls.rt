@@ -15,10 +15,11 @@ use crate::shared::{Cpu, Shared};
 use crate::view::Knowledge;
 use atomic_table::Seat;
 use lq_device::{Station, TxDevice};
+use lq_log::Knows;
 
 impl<'a, D: TxDevice> Shared<'a, D> {
-    fn enter_seat(&self, seat: &mut Seat<Option<Station<D>>, Knowledge>, marks: &mut Marks)
-        requires seat { (seat.old.table_id ≡ self.now.table.shared.table_id) × (0 < seat.old.me.0.view.share.shares) }
+    fn enter_seat(&self, seat: &mut Seat<Option<Station<D>>, Knows<Knowledge>>, marks: &mut Marks)
+        requires seat { (seat.old.table_id ≡ self.now.table.kit.shared.table_id) × (0 < seat.old.me.0.view.share.shares) }
         requires at { at_rest seat.old.me.0.view.place.position ≡ true }
         requires call { MayEnter seat.old.me.0.view }
         requires told { marks.old ≡ marks_of seat.old.me.0.view }
@@ -26,7 +27,7 @@ impl<'a, D: TxDevice> Shared<'a, D> {
         ensures told { marks.new ≡ marks_of seat.new.me.0.view }
         ensures made { seat.new.me.0.steps ≡ did_enter ∷ seat.old.me.0.steps }
     {
-        self.table.shared.fetch_add::<Enter>(seat, INSIDE, 1);
+        self.table.fetch_add::<Enter>(seat, INSIDE, 1);
         marks.raised = marks.raised && marks.busy;
     }
 
@@ -55,7 +56,6 @@ impl<'a, D: TxDevice> Shared<'a, D> {
         ensures made { steps cpu.new ≡ did_leave ∷ steps cpu.old }
     {
         self.table
-            .shared
             .fetch_sub::<Depart>(&mut cpu.known.seat, INSIDE, 1);
     }
 }

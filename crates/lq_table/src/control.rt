@@ -29,9 +29,7 @@ impl<'a, D: TxDevice> Shared<'a, D> {
         ensures view { view cpu.new ≡ beginning_control (view cpu.old) }
         ensures made { (found : ℕ) × (steps cpu.new ≡ did_load_base found ∷ steps cpu.old) }
     {
-        self.table
-            .shared
-            .load::<BeginControl>(&mut cpu.known.seat, BASE);
+        self.table.load::<BeginControl>(&mut cpu.known.seat, BASE);
     }
 
     /// A call of control ends: the seat is idle.
@@ -42,7 +40,7 @@ impl<'a, D: TxDevice> Shared<'a, D> {
         ensures view { view cpu.new ≡ returning (view cpu.old) }
         ensures made { (found : ℕ) × (steps cpu.new ≡ did_load_base found ∷ steps cpu.old) }
     {
-        self.table.shared.load::<Return>(&mut cpu.known.seat, BASE);
+        self.table.load::<Return>(&mut cpu.known.seat, BASE);
     }
 
     fn set_deactivated_by<K: Event>(&self, cpu: &mut Cpu<D>, event: u32)
@@ -55,7 +53,6 @@ impl<'a, D: TxDevice> Shared<'a, D> {
         ensures made { (was : Bool) × (steps cpu.new ≡ did_set_deactivated event was ∷ steps cpu.old) }
     {
         self.table
-            .shared
             .fetch_or::<Close<K>>(&mut cpu.known.seat, STATE, 2 + 256 * (event as u64 + 1));
     }
 
@@ -81,7 +78,7 @@ impl<'a, D: TxDevice> Shared<'a, D> {
         ensures view { view cpu.new ≡ finding result (view cpu.old) }
         ensures made { steps cpu.new ≡ did_load_inside result ∷ steps cpu.old }
     {
-        self.table.shared.load::<Find>(&mut cpu.known.seat, INSIDE)
+        self.table.load::<Find>(&mut cpu.known.seat, INSIDE)
     }
 
     /// Loads the run lock's word: 1 where it is held. A seat that has the table alone, and is in no call, learns what is left at
@@ -93,9 +90,7 @@ impl<'a, D: TxDevice> Shared<'a, D> {
         ensures alone { IsSoleAtRest (view cpu.old) → KnowsRest (view cpu.old) }
         ensures made { steps cpu.new ≡ did_load_lock result ∷ steps cpu.old }
     {
-        self.table
-            .shared
-            .load::<LoadLock>(&mut cpu.known.seat, LOCK)
+        self.table.load::<LoadLock>(&mut cpu.known.seat, LOCK)
     }
 
     /// Clears DEACTIVATED after a purge, as `transition_one_qdisc` of net/sched/sch_generic.c does.
@@ -108,7 +103,6 @@ impl<'a, D: TxDevice> Shared<'a, D> {
         ensures made { steps cpu.new ≡ did_clear_deactivated ∷ steps cpu.old }
     {
         self.table
-            .shared
             .fetch_and::<Open>(&mut cpu.known.seat, STATE, ACTIVE_BITS);
     }
 
@@ -123,7 +117,6 @@ impl<'a, D: TxDevice> Shared<'a, D> {
         ensures made { steps cpu.new ≡ did_clear_missed ∷ steps cpu.old }
     {
         self.table
-            .shared
             .fetch_and::<ResetMissed>(&mut cpu.known.seat, STATE, ALL_BUT_MISSED);
     }
 
@@ -138,7 +131,6 @@ impl<'a, D: TxDevice> Shared<'a, D> {
         ensures made { steps cpu.new ≡ did_clear_draining ∷ steps cpu.old }
     {
         self.table
-            .shared
             .fetch_and::<ResetDraining>(&mut cpu.known.seat, STATE, ALL_BUT_DRAINING);
     }
 
@@ -153,9 +145,7 @@ impl<'a, D: TxDevice> Shared<'a, D> {
         ensures old { GoesAway (view cpu.old) }
         ensures made { steps cpu.new ≡ did_store_stop (setup self.now) 0 0 ∷ steps cpu.old }
     {
-        self.table
-            .shared
-            .store::<Swap<K>>(&mut cpu.known.seat, XOFF, 0);
+        self.table.store::<Swap<K>>(&mut cpu.known.seat, XOFF, 0);
     }
 
     /// Stores 0 in the first queue's stop word of a station whose device was swapped, as a driver's open does with
@@ -188,7 +178,6 @@ impl<'a, D: TxDevice> Shared<'a, D> {
     {
         let word = self.stop_word(queue);
         self.table
-            .shared
             .store::<OpenNext<K>>(&mut cpu.known.seat, word, 0);
     }
 

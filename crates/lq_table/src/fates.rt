@@ -4,7 +4,7 @@ ghost use Rattle.lq_model.specs.Words.{HasWord, word_of};
 ghost use Rattle.lq_table.specs.Sees.{view, carried, IsSeatOf, IsElseSame, steps, setup, packet_band};
 ghost use Rattle.lq_table.specs.Settled.{MaySettle, fated, fate_stored};
 ghost use Rattle.lq_table.specs.Solo.{solo, fated_as};
-ghost use Rattle.lq_table.specs.Made.{Noted, Stores, did_store_fate};
+ghost use Rattle.lq_table.specs.Made.{did_store_fate};
 
 use crate::shared::{Cpu, Shared};
 use crate::view::Knowledge;
@@ -46,7 +46,7 @@ pub(crate) struct Settle<K> {
 }
 
 impl<D: TxDevice, K: Settling> Play<Option<Station<D>>, Knowledge> for Settle<K> {
-    ghost then = { Noted Stores (fate_stored K.station K.band K.packet K.fate) };
+    ghost then = { fate_stored K.station K.band K.packet K.fate };
 }
 
 impl<'a, D: TxDevice> Shared<'a, D> {
@@ -62,7 +62,6 @@ impl<'a, D: TxDevice> Shared<'a, D> {
     {
         let word = self.fate_word_of(n);
         self.table
-            .shared
             .store::<Settle<K>>(&mut cpu.known.seat, word, fate_word(fate));
     }
 

@@ -73,14 +73,14 @@ impl<'a, D: TxDevice> Shared<'a, D> {
     /// The word of slot `i` of a band.
     pub(crate) fn slot_word(&self, band: u32, i: u32) -> usize
         requires band { band < 3 }
-        ensures { result ≡ slot_word (keyed_setup self.now.table.shared.key) band i }
+        ensures { result ≡ slot_word (keyed_setup self.now.table.kit.shared.key) band i }
     {
         slots_from(self.senders) + band as usize * self.max_len as usize + i as usize
     }
 
     /// The word of packet `n`'s fate.
     pub(crate) fn fate_word_of(&self, n: u32) -> usize
-        ensures { result ≡ fates_offset (keyed_setup self.now.table.shared.key) + n }
+        ensures { result ≡ fates_offset (keyed_setup self.now.table.kit.shared.key) + n }
     {
         fates_from(self.senders, self.max_len) + n as usize
     }
@@ -88,7 +88,7 @@ impl<'a, D: TxDevice> Shared<'a, D> {
     /// The word in which a queue's stop value stands.
     pub(crate) fn stop_word(&self, queue: u32) -> usize
         requires queue { queue < self.now.queues }
-        ensures keyed { result ≡ xoff_word (keyed_setup self.now.table.shared.key) queue }
+        ensures keyed { result ≡ xoff_word (keyed_setup self.now.table.kit.shared.key) queue }
         ensures named { result ≡ xoff_word (setup self.now) queue }
     {
         if queue == 0 {

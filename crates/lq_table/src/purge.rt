@@ -9,7 +9,7 @@ ghost use Rattle.lq_table.specs.Views.{Left};
 ghost use Rattle.lq_table.specs.Sees.{view, position, ends_at, IsSeatOf, IsElseSame, steps, setup};
 ghost use Rattle.lq_table.specs.Seats.{CarriesHead, IsBetweenTakes, HasComeToBand, IsPurgingBand, MayPurgeHung, PassesEmptyBand, TakesFirstLeft};
 ghost use Rattle.lq_table.specs.Purges.{purge_begun, hung_purge_begun, purge_seen, BeginsPurge, OfPurge};
-ghost use Rattle.lq_table.specs.Made.{Noted, Loads, did_load_slot, did_load_state};
+ghost use Rattle.lq_table.specs.Made.{did_load_slot, did_load_state};
 
 use crate::places::STATE;
 use crate::shared::{Cpu, Shared};
@@ -45,13 +45,13 @@ impl Purging for Brand {
 pub(crate) struct BeginPurge;
 
 impl<D: TxDevice> Play<Option<Station<D>>, Knowledge> for BeginPurge {
-    ghost then = { Noted Loads purge_begun };
+    ghost then = { purge_begun };
 }
 
 pub(crate) struct BeginHungPurge;
 
 impl<D: TxDevice> Play<Option<Station<D>>, Knowledge> for BeginHungPurge {
-    ghost then = { Noted Loads hung_purge_begun };
+    ghost then = { hung_purge_begun };
 }
 
 pub(crate) struct SeePurged<K> {
@@ -59,7 +59,7 @@ pub(crate) struct SeePurged<K> {
 }
 
 impl<D: TxDevice, K: Purging> Play<Option<Station<D>>, Knowledge> for SeePurged<K> {
-    ghost then = { Noted Loads (purge_seen K.band K.purge K.left) };
+    ghost then = { purge_seen K.band K.purge K.left };
 }
 
 impl<'a, D: TxDevice> Shared<'a, D> {
@@ -77,10 +77,7 @@ impl<'a, D: TxDevice> Shared<'a, D> {
         ensures event { down_of (view cpu.old).trail ≡ Some result }
         ensures made { (found : ℕ) × (steps cpu.new ≡ did_load_state found ∷ steps cpu.old) }
     {
-        let word = self
-            .table
-            .shared
-            .load::<BeginPurge>(&mut cpu.known.seat, STATE);
+        let word = self.table.load::<BeginPurge>(&mut cpu.known.seat, STATE);
         (word / 256 - 1) as u32
     }
 
@@ -96,7 +93,6 @@ impl<'a, D: TxDevice> Shared<'a, D> {
         ensures made { (found : ℕ) × (steps cpu.new ≡ did_load_state found ∷ steps cpu.old) }
     {
         self.table
-            .shared
             .load::<BeginHungPurge>(&mut cpu.known.seat, STATE);
     }
 
@@ -114,9 +110,7 @@ impl<'a, D: TxDevice> Shared<'a, D> {
         ensures made { steps cpu.new ≡ did_load_slot (setup self.now) band head result ∷ steps cpu.old }
     {
         let word = self.slot_word(band, head);
-        self.table
-            .shared
-            .load::<SeePurged<K>>(&mut cpu.known.seat, word)
+        self.table.load::<SeePurged<K>>(&mut cpu.known.seat, word)
     }
 
     /// What stands in the slot at the head of the band that the purge has come to. Where it isn't 0 its packet is taken,

@@ -11,7 +11,7 @@ ghost use Rattle.lq_table.specs.Sees.{view, position, lock_at, IsSeatOf, IsElseS
 ghost use Rattle.lq_table.specs.Seats.{AreRefilled, ClearsSlot, FillsSlot};
 ghost use Rattle.lq_table.specs.Rings.{with_lock_at};
 ghost use Rattle.lq_table.specs.Resizes.{may_resize, restarted, resize_begun, slot_cleared, slot_filled, producer_set, size_stored, BeginsResize, HasNothingHalfDone, HasHalfResize, MayFill, filling};
-ghost use Rattle.lq_table.specs.Made.{Noted, did_load_size, Loads, Stores, Swaps, did_set_producer, did_store_size, did_store_slot, did_swap_slot};
+ghost use Rattle.lq_table.specs.Made.{did_load_size, did_set_producer, did_store_size, did_store_slot, did_swap_slot};
 
 use crate::places::{SIZE, producer_word};
 use crate::shared::{Cpu, Shared};
@@ -82,7 +82,7 @@ pub(crate) struct BeginResize<K> {
 }
 
 impl<D: TxDevice, K: Resizing> Play<Option<Station<D>>, Knowledge> for BeginResize<K> {
-    ghost then = { Noted Loads (resize_begun K.infos K.limit K.len K.event) };
+    ghost then = { resize_begun K.infos K.limit K.len K.event };
 }
 
 pub(crate) struct ClearSlot<K> {
@@ -90,7 +90,7 @@ pub(crate) struct ClearSlot<K> {
 }
 
 impl<D: TxDevice, K: Working> Play<Option<Station<D>>, Knowledge> for ClearSlot<K> {
-    ghost then = { Noted Swaps (slot_cleared K.band K.index K.resizing) };
+    ghost then = { slot_cleared K.band K.index K.resizing };
 }
 
 pub(crate) struct FillSlot<K> {
@@ -98,7 +98,7 @@ pub(crate) struct FillSlot<K> {
 }
 
 impl<D: TxDevice, K: Working> Play<Option<Station<D>>, Knowledge> for FillSlot<K> {
-    ghost then = { Noted Stores (slot_filled K.band K.index K.packet K.hand K.resizing) };
+    ghost then = { slot_filled K.band K.index K.packet K.hand K.resizing };
 }
 
 pub(crate) struct SetProducer<K> {
@@ -106,7 +106,7 @@ pub(crate) struct SetProducer<K> {
 }
 
 impl<D: TxDevice, K: Working> Play<Option<Station<D>>, Knowledge> for SetProducer<K> {
-    ghost then = { Noted Stores (producer_set K.band K.index) };
+    ghost then = { producer_set K.band K.index };
 }
 
 pub(crate) struct StoreSize<K> {
@@ -114,7 +114,7 @@ pub(crate) struct StoreSize<K> {
 }
 
 impl<D: TxDevice, K: Working> Play<Option<Station<D>>, Knowledge> for StoreSize<K> {
-    ghost then = { Noted Stores (size_stored K.resizing) };
+    ghost then = { size_stored K.resizing };
 }
 
 impl<'a, D: TxDevice> Shared<'a, D> {
@@ -129,9 +129,7 @@ impl<'a, D: TxDevice> Shared<'a, D> {
         ensures begun { BeginsResize K.infos K.limit K.len K.event (view cpu.old) (view cpu.new) }
         ensures made { (found : ℕ) × (steps cpu.new ≡ did_load_size found ∷ steps cpu.old) }
     {
-        self.table
-            .shared
-            .load::<BeginResize<K>>(&mut cpu.known.seat, SIZE);
+        self.table.load::<BeginResize<K>>(&mut cpu.known.seat, SIZE);
     }
 
     /// The resize to `len` begins, for the plan's event `event`. In the account it is done with this step: each band has
@@ -163,7 +161,6 @@ impl<'a, D: TxDevice> Shared<'a, D> {
     {
         let word = self.slot_word(band, i);
         self.table
-            .shared
             .swap::<ClearSlot<K>>(&mut cpu.known.seat, word, 0)
     }
 
@@ -192,7 +189,6 @@ impl<'a, D: TxDevice> Shared<'a, D> {
     {
         let word = self.slot_word(band, i);
         self.table
-            .shared
             .store::<FillSlot<K>>(&mut cpu.known.seat, word, n as u64 + 1);
     }
 
@@ -221,7 +217,6 @@ impl<'a, D: TxDevice> Shared<'a, D> {
     {
         let word = producer_word(band);
         self.table
-            .shared
             .store::<SetProducer<K>>(&mut cpu.known.seat, word, 2 * index as u64 + 1);
     }
 
@@ -248,7 +243,6 @@ impl<'a, D: TxDevice> Shared<'a, D> {
         ensures made { steps cpu.new ≡ did_store_size len ∷ steps cpu.old }
     {
         self.table
-            .shared
             .store::<StoreSize<K>>(&mut cpu.known.seat, SIZE, len as u64);
     }
 

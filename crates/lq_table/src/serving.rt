@@ -23,7 +23,6 @@ impl<'a, D: TxDevice> Shared<'a, D> {
         ensures made { steps cpu.new ≡ did_clear_missed ∷ steps cpu.old }
     {
         self.table
-            .shared
             .fetch_and::<Pass>(&mut cpu.known.seat, STATE, ALL_BUT_MISSED);
     }
 
@@ -37,7 +36,6 @@ impl<'a, D: TxDevice> Shared<'a, D> {
         ensures made { steps cpu.new ≡ did_clear_draining ∷ steps cpu.old }
     {
         self.table
-            .shared
             .fetch_and::<Pass>(&mut cpu.known.seat, STATE, ALL_BUT_DRAINING);
     }
 
@@ -52,7 +50,6 @@ impl<'a, D: TxDevice> Shared<'a, D> {
         ensures made { (was : Bool) × (steps cpu.new ≡ did_set_missed was ∷ steps cpu.old) }
     {
         self.table
-            .shared
             .fetch_or::<Set>(&mut cpu.known.seat, STATE, MISSED);
     }
 
@@ -67,7 +64,6 @@ impl<'a, D: TxDevice> Shared<'a, D> {
         ensures made { (was : Bool) × (steps cpu.new ≡ did_set_draining was ∷ steps cpu.old) }
     {
         self.table
-            .shared
             .fetch_or::<Set>(&mut cpu.known.seat, STATE, DRAINING);
     }
 }

@@ -17,19 +17,20 @@ use crate::shared::{Cpu, Shared};
 use crate::view::Knowledge;
 use atomic_table::Seat;
 use lq_device::{Station, TxDevice};
+use lq_log::Knows;
 use std::marker::Brand;
 
 impl<'a, D: TxDevice> Shared<'a, D> {
     fn take_turn_of<K: Turned>(
         &self,
-        seat: &mut Seat<Option<Station<D>>, Knowledge>,
+        seat: &mut Seat<Option<Station<D>>, Knows<Knowledge>>,
         marks: &mut Marks,
         n: u32,
         owner: u32,
         rank: u32,
     ) -> u64
         requires named { (n ≡ K.packet) × (owner ≡ K.owner) × (rank ≡ K.rank) }
-        requires seat { (seat.old.table_id ≡ self.now.table.shared.table_id) × (0 < seat.old.me.0.view.share.shares) }
+        requires seat { (seat.old.table_id ≡ self.now.table.kit.shared.table_id) × (0 < seat.old.me.0.view.share.shares) }
         requires packet { IsRankedPacket self.now n owner rank }
         requires owner { (0 < times owner seat.old.me.0.view.share.owners) × (owner < self.now.senders) }
         requires idle { seat.old.me.0.view.packets.busy ≡ None }
@@ -45,7 +46,6 @@ impl<'a, D: TxDevice> Shared<'a, D> {
         let word = turn_word(owner);
         let found = self
             .table
-            .shared
             .compare_exchange::<TakeTurn<K>>(seat, word, free, free + 1);
         marks.busy = found == free;
         found
@@ -81,14 +81,14 @@ impl<'a, D: TxDevice> Shared<'a, D> {
 
     fn give_turn_of<K: Turned>(
         &self,
-        seat: &mut Seat<Option<Station<D>>, Knowledge>,
+        seat: &mut Seat<Option<Station<D>>, Knows<Knowledge>>,
         marks: &mut Marks,
         n: u32,
         owner: u32,
         rank: u32,
     )
         requires named { (owner ≡ K.owner) × (rank ≡ K.rank) }
-        requires seat { (seat.old.table_id ≡ self.now.table.shared.table_id) × (0 < seat.old.me.0.view.share.shares) }
+        requires seat { (seat.old.table_id ≡ self.now.table.kit.shared.table_id) × (0 < seat.old.me.0.view.share.shares) }
         requires packet { (owner ≡ packet_owner self.now n) × (rank ≡ packet_rank self.now n) × (owner < self.now.senders) }
         requires busy { (seat.old.me.0.view.packets.busy ≡ Some n) × (seat.old.me.0.view.packets.fresh ≡ None) }
         requires told { marks.old ≡ marks_of seat.old.me.0.view }
@@ -99,7 +99,7 @@ impl<'a, D: TxDevice> Shared<'a, D> {
     {
         let next = 2 * rank as u64 + 2;
         let word = turn_word(owner);
-        self.table.shared.store::<GiveTurn<K>>(seat, word, next);
+        self.table.store::<GiveTurn<K>>(seat, word, next);
         marks.busy = false;
     }
 
@@ -128,9 +128,7 @@ impl<'a, D: TxDevice> Shared<'a, D> {
         ensures made { steps cpu.new ≡ did_load_turn owner result ∷ steps cpu.old }
     {
         let word = turn_word(owner);
-        self.table
-            .shared
-            .load::<SeeTurn<K>>(&mut cpu.known.seat, word)
+        self.table.load::<SeeTurn<K>>(&mut cpu.known.seat, word)
     }
 
     /// Loads the turn word of `owner`: twice the rank of its next packet, and one more while that packet's turn is taken.

@@ -1,7 +1,6 @@
 use Rattle.std.proofs.Common.{arith}
 use Rattle.lq_table.proofs.UpKept.{opens}
-use Rattle.lq_table.proofs.Lifts.{lifts_clear}
 use Rattle.lq_table.proofs.shared.Shared.clear_deactivated.Goals as goal
 
 pub fetch_and-requires : goal.fetch_and-requires
-fetch_and-requires g c = (c.requires.seat.0, (let wide = c.args.self.now.sized.0 in omega arith), lifts_clear _ _ _ _ _ _ _ _ _ (opens _ _ _ _ c.requires.at c.requires.purged.0 c.requires.purged.1 c.requires.seat.1))
+fetch_and-requires g c = (c.requires.seat.0, (let wide = c.args.self.now.sized.0 in omega arith), opens _ _ _ _ c.requires.at c.requires.purged.0 c.requires.purged.1 c.requires.seat.1)

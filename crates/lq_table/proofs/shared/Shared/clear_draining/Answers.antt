@@ -2,11 +2,10 @@ use Rattle.std.proofs.Common.{arith, ap, ◌∙◌}
 use Rattle.lq_table.specs.Solo.{solo}
 use Rattle.lq_table.proofs.QuietKept.{clears_draining_kept}
 use Rattle.lq_table.proofs.SoloSteps.{clears_draining_solo}
-use Rattle.lq_table.proofs.Lifts.{lifts_clear}
 use Rattle.lq_table.proofs.shared.Shared.clear_draining.Goals as goal
 
 pub fetch_and-requires : goal.fetch_and-requires
-fetch_and-requires g c = (c.requires.seat.0, (let wide = c.args.self.now.sized.0 in omega arith), lifts_clear _ _ _ _ _ _ _ _ _ (clears_draining_kept _ _ _ _ c.requires.at c.requires.seat.1))
+fetch_and-requires g c = (c.requires.seat.0, (let wide = c.args.self.now.sized.0 in omega arith), clears_draining_kept _ _ _ _ c.requires.at c.requires.seat.1)
 
 pub returns-clause-step : goal.returns-clause-step
 returns-clause-step g c = ap (λ m. solo m.0) c.fetch_and.ensures.2.told ∙ clears_draining_solo c.args.cpu.now.known.seat.me.0.view c.requires.at

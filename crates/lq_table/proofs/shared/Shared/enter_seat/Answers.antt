@@ -1,7 +1,6 @@
 use Rattle.std.proofs.Common.{arith}
 use Rattle.lq_table.proofs.Besides.{enters_all}
-use Rattle.lq_table.proofs.Lifts.{lifts_rise}
 use Rattle.lq_table.proofs.shared.Shared.enter_seat.Goals as goal
 
 pub fetch_add-requires : goal.fetch_add-requires
-fetch_add-requires g c = (c.requires.seat.0, (let wide = c.args.self.now.sized.0 in omega arith), lifts_rise _ _ _ _ _ _ _ _ _ (enters_all _ _ _ _ c.requires.at c.requires.call c.requires.seat.1))
+fetch_add-requires g c = (c.requires.seat.0, (let wide = c.args.self.now.sized.0 in omega arith), enters_all _ _ _ _ c.requires.at c.requires.call c.requires.seat.1)

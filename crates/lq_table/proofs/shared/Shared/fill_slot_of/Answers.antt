@@ -6,18 +6,17 @@ use Rattle.lq_table.specs.Keyed.{keyed_setup}
 use Rattle.lq_table.proofs.ByName.{slot_within}
 use Rattle.lq_table.specs.Resizes.{slot_filled}
 use Rattle.lq_table.proofs.ResizeSlotsKept.{fills_slot}
-use Rattle.lq_table.specs.Made.{seen}
-use Rattle.lq_table.proofs.Lifts.{lifts_store}
+use Rattle.lq_log.specs.Made.{seen}
 use Rattle.lq_table.proofs.shared.Shared.fill_slot_of.Goals as goal
 
 pub store-requires : goal.store-requires
 store-requires g c =
-    let t = c.args.self.now in let k = keyed_setup t.table.shared.key in let slots = t.table.shared.table_id.slots in let seat = c.args.cpu.now.known.seat in let b = c.args.band in let i = c.args.i in let n = c.args.n in let h = c.requires.holder in
+    let t = c.args.self.now in let k = keyed_setup t.table.kit.shared.key in let slots = t.table.kit.shared.table_id.slots in let seat = c.args.cpu.now.known.seat in let b = c.args.band in let i = c.args.i in let n = c.args.n in let h = c.requires.holder in
     let inside : i < k.max_len = let x = c.requires.place.1 in let y = t.same.2 in omega arith in
     let place : slot_word k b i ≡ c.slot_word-word.result = sym c.slot_word-word.ensures in
-    let word : c.slot_word-word.result < t.table.shared.table_id.words = let wide = t.sized.0 in let h = slot_within k b i c.requires.place.0 inside in let x = t.same.1 in let y = t.same.2 in let p = place in omega arith in (
+    let word : c.slot_word-word.result < t.table.kit.shared.table_id.words = let wide = t.sized.0 in let h = slot_within k b i c.requires.place.0 inside in let x = t.same.1 in let y = t.same.2 in let p = place in omega arith in (
       c.requires.seat.0,
       word,
-      lifts_store _ _ _ _ _ _ _ _ _ (subst (λ (z : ℕ × ℕ × ℕ × ℕ). Allows (Rule k) slots seat.id (seen seat.me) z.0 (λ _. n + 1) (λ _. slot_filled z.1 z.2 z.3 g.K.Working.hand g.K.Working.resizing (step slots z.0 (n + 1) 0 none) (seen seat.me) (n + 1))) (λ j. (place j, c.requires.named.0 j, c.requires.named.1 j, c.requires.named.2 j))
-          (fills_slot k slots seat.id (seen seat.me) b i g.K.Working.resizing c.requires.place.0 inside h.0 h.1 c.requires.seat.1 n g.K.Working.hand c.requires.hand.0 c.requires.hand.1)),
+      subst (λ (z : ℕ × ℕ × ℕ × ℕ). Allows (Rule k) slots seat.id (seen seat.me) z.0 (λ _. n + 1) (λ _. slot_filled z.1 z.2 z.3 g.K.Working.hand g.K.Working.resizing (step slots z.0 (n + 1) 0 none) (seen seat.me) (n + 1))) (λ j. (place j, c.requires.named.0 j, c.requires.named.1 j, c.requires.named.2 j))
+          (fills_slot k slots seat.id (seen seat.me) b i g.K.Working.resizing c.requires.place.0 inside h.0 h.1 c.requires.seat.1 n g.K.Working.hand c.requires.hand.0 c.requires.hand.1),
     )

@@ -1,8 +1,7 @@
 use Rattle.std.proofs.Common.{◌<◌, arith, sym, subst}
 use Rattle.std.specs.Prelude.{ℕ}
 use Rattle.lq_table.proofs.AtRest.{loads_lock}
-use Rattle.lq_table.proofs.Lifts.{lifts_load}
 use Rattle.lq_table.proofs.shared.Shared.load_lock.Goals as goal
 
 pub load-requires : goal.load-requires
-load-requires g c = (c.requires.seat.0, (let wide = c.args.self.now.sized.0 in omega arith), lifts_load _ _ _ _ _ _ _ _ (loads_lock _ _ _ _ (subst (λ (n : ℕ). 0 < n) (sym c.args.self.now.same.5) c.args.self.now.sized.4)))
+load-requires g c = (c.requires.seat.0, (let wide = c.args.self.now.sized.0 in omega arith), loads_lock _ _ _ _ (subst (λ (n : ℕ). 0 < n) (sym c.args.self.now.same.5) c.args.self.now.sized.4))

@@ -6,12 +6,11 @@ use Rattle.lq_table.specs.Rule.{Rule}
 use Rattle.lq_table.specs.Keyed.{keyed_setup}
 use Rattle.lq_table.specs.Rings.{size_loaded}
 use Rattle.lq_table.proofs.ProducersKept.{loads_size}
-use Rattle.lq_table.specs.Made.{seen}
-use Rattle.lq_table.proofs.Lifts.{lifts_load}
+use Rattle.lq_log.specs.Made.{seen}
 use Rattle.lq_table.proofs.shared.Shared.load_size_of.Goals as goal
 
 pub load-requires : goal.load-requires
 load-requires g c =
-    let t = c.args.self.now in let k = keyed_setup t.table.shared.key in let slots = t.table.shared.table_id.slots in let seat = c.args.cpu.now.known.seat in
-    let word : size_place < t.table.shared.table_id.words = let wide = t.sized.0 in omega arith in
-    (c.requires.seat.0, word, lifts_load _ _ _ _ _ _ _ _ (subst (λ (z : ℕ). Allows (Rule k) slots seat.id (seen seat.me) size_place (λ x. x) (size_loaded z (step slots size_place 0 0 none) (seen seat.me))) (t.same.2 ∙ c.requires.named) (loads_size k slots seat.id (seen seat.me) c.requires.seat.1)))
+    let t = c.args.self.now in let k = keyed_setup t.table.kit.shared.key in let slots = t.table.kit.shared.table_id.slots in let seat = c.args.cpu.now.known.seat in
+    let word : size_place < t.table.kit.shared.table_id.words = let wide = t.sized.0 in omega arith in
+    (c.requires.seat.0, word, subst (λ (z : ℕ). Allows (Rule k) slots seat.id (seen seat.me) size_place (λ x. x) (size_loaded z (step slots size_place 0 0 none) (seen seat.me))) (t.same.2 ∙ c.requires.named) (loads_size k slots seat.id (seen seat.me) c.requires.seat.1))

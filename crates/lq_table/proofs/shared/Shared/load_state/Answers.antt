@@ -2,11 +2,10 @@ use Rattle.std.proofs.Common.{arith, ap, ◌∙◌}
 use Rattle.lq_table.specs.Solo.{solo}
 use Rattle.lq_table.proofs.SoleKept.{looks_sole}
 use Rattle.lq_table.proofs.SoloSteps.{looks_solo}
-use Rattle.lq_table.proofs.Lifts.{lifts_load}
 use Rattle.lq_table.proofs.shared.Shared.load_state.Goals as goal
 
 pub load-requires : goal.load-requires
-load-requires g c = (c.requires.seat.0, (let wide = c.args.self.now.sized.0 in omega arith), lifts_load _ _ _ _ _ _ _ _ (looks_sole _ _ _ _ c.requires.at c.requires.seat.1))
+load-requires g c = (c.requires.seat.0, (let wide = c.args.self.now.sized.0 in omega arith), looks_sole _ _ _ _ c.requires.at c.requires.seat.1)
 
 pub returns-clause-step : goal.returns-clause-step
 returns-clause-step g c = ap (λ m. solo m.0) c.load.ensures.2.told.0 ∙ looks_solo c.load.result c.args.cpu.now.known.seat.me.0.view c.requires.at

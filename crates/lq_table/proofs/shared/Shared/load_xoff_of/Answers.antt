@@ -9,20 +9,19 @@ use Rattle.lq_table.specs.Solo.{solo, stop_loaded_all}
 use Rattle.lq_table.proofs.ByName.{xoff_in}
 use Rattle.lq_table.proofs.SoleKept.{loads_stop_sole}
 use Rattle.lq_table.proofs.SoloSteps.{loads_stop_solo}
-use Rattle.lq_table.specs.Made.{seen}
-use Rattle.lq_table.proofs.Lifts.{lifts_load}
+use Rattle.lq_log.specs.Made.{seen}
 use Rattle.lq_table.proofs.shared.Shared.load_xoff_of.Goals as goal
 
 pub load-requires : goal.load-requires
 load-requires g c =
-    let t = c.args.self.now in let k = keyed_setup t.table.shared.key in let slots = t.table.shared.table_id.slots in let seat = c.args.cpu.now.known.seat in
+    let t = c.args.self.now in let k = keyed_setup t.table.kit.shared.key in let slots = t.table.kit.shared.table_id.slots in let seat = c.args.cpu.now.known.seat in
     let e = t.same.5 in let below : c.args.queue < k.queues = (let b = c.requires.queue in omega arith) in
     let at : stop_queue k.infos seat.me.0.view.holder.slot seat.me.0.view.place.position c.args.queue ≡ c.args.queue = subst (λ (xs : List Info). stop_queue xs seat.me.0.view.holder.slot seat.me.0.view.place.position c.args.queue ≡ c.args.queue) (sym t.same.0) c.requires.at.1 in
     let few : length k.infos ≤ 1000000 = subst (λ (xs : List Info). length xs ≤ 1000000) (sym t.same.0) t.sized.2 in (
       c.requires.seat.0,
       (let wide = t.sized.0 in let b = xoff_in k c.args.queue below in let w = c.stop_word-word.ensures.keyed in let s = t.same.1 in let m = t.same.2 in let l = ap Rattle.std.proofs.Common.length t.same.0 in omega arith),
-      lifts_load _ _ _ _ _ _ _ _ (subst (λ (z : ℕ × ℕ). Allows (Rule k) slots seat.id (seen seat.me) z.0 (λ x. x) (stop_loaded_all z.1 (step slots z.0 0 0 none) (seen seat.me))) (λ j. (sym c.stop_word-word.ensures.keyed j, c.requires.named j))
-          (loads_stop_sole k slots seat.id (seen seat.me) c.args.queue c.requires.at.0 at below few c.requires.seat.1)),
+      subst (λ (z : ℕ × ℕ). Allows (Rule k) slots seat.id (seen seat.me) z.0 (λ x. x) (stop_loaded_all z.1 (step slots z.0 0 0 none) (seen seat.me))) (λ j. (sym c.stop_word-word.ensures.keyed j, c.requires.named j))
+          (loads_stop_sole k slots seat.id (seen seat.me) c.args.queue c.requires.at.0 at below few c.requires.seat.1),
     )
 
 pub returns-clause-step : goal.returns-clause-step

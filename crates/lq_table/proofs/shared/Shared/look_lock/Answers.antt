@@ -2,27 +2,27 @@ use Rattle.std.proofs.Common.{◌≡◌, ℕ, ◌∷◌, arith, false, not, eqb,
 use mathlib.Core.Option.{none}
 use Rattle.atomic_table.specs.Table.{step}
 use Rattle.lq_table.specs.Places.{lock_place}
-use Rattle.lq_table.specs.Made.{seen, did_load_lock}
+use Rattle.lq_log.specs.Made.{seen}
+use Rattle.lq_table.specs.Made.{did_load_lock}
 use Rattle.lq_table.specs.Sees.{steps}
 use Rattle.lq_table.specs.Told.{Sat}
 use Rattle.lq_table.proofs.TriesSolo.{look_solo, look_marks, look_slots, is_free, is_held}
 use Rattle.lq_table.proofs.LooksKept.{looks_lock}
-use Rattle.lq_table.proofs.Lifts.{lifts_load}
 use Rattle.lq_table.proofs.shared.Shared.look_lock.Goals as goal
 
 pub load-requires : goal.load-requires
-load-requires g c = (c.requires.seat.0, (let wide = c.args.self.now.sized.0 in omega arith), lifts_load _ _ _ _ _ _ _ _ (looks_lock _ _ _ _ c.requires.at c.requires.seat.1))
+load-requires g c = (c.requires.seat.0, (let wide = c.args.self.now.sized.0 in omega arith), looks_lock _ _ _ _ c.requires.at c.requires.seat.1)
 
 pub invariant_of-cpu : goal.invariant_of-cpu
 invariant_of-cpu g c =
-    let s = step c.args.self.now.table.shared.table_id.slots lock_place 0 0 none in
+    let s = step c.args.self.now.table.kit.shared.table_id.slots lock_place 0 0 none in
     let x = c.load in let old = c.args.cpu.now.known in
     record { told = old.told ∙ sym (look_marks s x.result (seen old.seat.me) (seen x.new.seat.me) c.requires.at x.ensures.2.told.0) }
 
 pub returns : goal.returns
 returns g c =
     let old = c.args.cpu.now in let x = c.load in let e = x.ensures in let t = e.2.told in
-    let s = step c.args.self.now.table.shared.table_id.slots lock_place 0 0 none in
+    let s = step c.args.self.now.table.kit.shared.table_id.slots lock_place 0 0 none in
     let free = λ (no_ : not (eqb x.result 0) ≡ false). is_free x.result no_ in record {
       same = ((e.0, e.1), refl, refl, look_slots s x.result (seen old.known.seat.me) (seen x.new.seat.me) t.0);
       held = λ is. let n = is_held x.result is in (ap (λ (m : Sat). m.0) (t.0.1 n), (x.result, n, e.2.noted));

@@ -2,11 +2,10 @@ use Rattle.std.proofs.Common.{arith, ap, ◌∙◌}
 use Rattle.lq_table.specs.Solo.{solo}
 use Rattle.lq_table.proofs.SoleKept.{misses_sole}
 use Rattle.lq_table.proofs.SoloSteps.{misses_solo}
-use Rattle.lq_table.proofs.Lifts.{lifts_set}
 use Rattle.lq_table.proofs.shared.Shared.miss.Goals as goal
 
 pub fetch_or-requires : goal.fetch_or-requires
-fetch_or-requires g c = (c.requires.seat.0, (let wide = c.args.self.now.sized.0 in omega arith), lifts_set _ _ _ _ _ _ _ _ _ (misses_sole _ _ _ _ c.requires.at c.requires.seat.1))
+fetch_or-requires g c = (c.requires.seat.0, (let wide = c.args.self.now.sized.0 in omega arith), misses_sole _ _ _ _ c.requires.at c.requires.seat.1)
 
 pub returns-clause-step : goal.returns-clause-step
 returns-clause-step g c = ap (λ m. solo m.0) c.fetch_or.ensures.2.told.0 ∙ misses_solo _ c.args.cpu.now.known.seat.me.0.view c.requires.at

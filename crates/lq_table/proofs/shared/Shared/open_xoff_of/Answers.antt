@@ -6,16 +6,15 @@ use Rattle.lq_table.specs.Keyed.{keyed_setup}
 use Rattle.lq_table.specs.Controls.{next_opened}
 use Rattle.lq_table.proofs.ByName.{xoff_in}
 use Rattle.lq_table.proofs.SwapKept.{opens_next}
-use Rattle.lq_table.specs.Made.{seen}
-use Rattle.lq_table.proofs.Lifts.{lifts_store}
+use Rattle.lq_log.specs.Made.{seen}
 use Rattle.lq_table.proofs.shared.Shared.open_xoff_of.Goals as goal
 
 pub store-requires : goal.store-requires
 store-requires g c =
-    let t = c.args.self.now in let k = keyed_setup t.table.shared.key in let slots = t.table.shared.table_id.slots in let seat = c.args.cpu.now.known.seat in let at = c.requires.at in let p = c.requires.purged in
+    let t = c.args.self.now in let k = keyed_setup t.table.kit.shared.key in let slots = t.table.kit.shared.table_id.slots in let seat = c.args.cpu.now.known.seat in let at = c.requires.at in let p = c.requires.purged in
     let e = t.same.5 in let below : c.args.queue < k.queues = (let b = c.requires.queue in omega arith) in (
       c.requires.seat.0,
       (let wide = t.sized.0 in let b = xoff_in k c.args.queue below in let w = c.stop_word-word.ensures.keyed in let s = t.same.1 in let m = t.same.2 in let l = ap Rattle.std.proofs.Common.length t.same.0 in omega arith),
-      lifts_store _ _ _ _ _ _ _ _ _ (subst (λ (z : ℕ × ℕ). Allows (Rule k) slots seat.id (seen seat.me) z.0 (λ _. 0) (next_opened z.1 (step slots z.0 0 0 none) (seen seat.me))) (λ j. (sym c.stop_word-word.ensures.keyed j, c.requires.named j))
-          (opens_next k slots seat.id c.args.queue (seen seat.me) below at.1 at.0 p.0 p.1 c.requires.seat.1)),
+      subst (λ (z : ℕ × ℕ). Allows (Rule k) slots seat.id (seen seat.me) z.0 (λ _. 0) (next_opened z.1 (step slots z.0 0 0 none) (seen seat.me))) (λ j. (sym c.stop_word-word.ensures.keyed j, c.requires.named j))
+          (opens_next k slots seat.id c.args.queue (seen seat.me) below at.1 at.0 p.0 p.1 c.requires.seat.1),
     )

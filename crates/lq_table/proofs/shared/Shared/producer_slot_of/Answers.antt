@@ -11,23 +11,22 @@ use Rattle.lq_table.specs.Keyed.{keyed_setup}
 use Rattle.lq_table.proofs.ByName.{slot_within}
 use Rattle.lq_table.specs.SolePut.{slot_seen_all}
 use Rattle.lq_table.proofs.PutSole.{sees_slot_sole}
-use Rattle.lq_table.specs.Made.{seen}
-use Rattle.lq_table.proofs.Lifts.{lifts_load}
+use Rattle.lq_log.specs.Made.{seen}
 use Rattle.lq_table.proofs.shared.Shared.producer_slot_of.Goals as goal
 
 pub load-requires : goal.load-requires
 load-requires g c =
-    let t = c.args.self.now in let k = keyed_setup t.table.shared.key in let slots = t.table.shared.table_id.slots in let seat = c.args.cpu.now.known.seat in let b = c.args.band in
+    let t = c.args.self.now in let k = keyed_setup t.table.kit.shared.key in let slots = t.table.kit.shared.table_id.slots in let seat = c.args.cpu.now.known.seat in let b = c.args.band in
     let lock = c.requires.lock in let i = c.at-index.result in
     let is : i ≡ (at b seat.me.0.view.locks).index = c.at-index.ensures ∙ sym lock.0.1 in
     let inside : i < k.max_len = let x = lock.0.2 in let y = t.same.2 in omega arith in
     let place : slot_word k b i ≡ c.slot_word-word.result = sym c.slot_word-word.ensures in
-    let word : c.slot_word-word.result < t.table.shared.table_id.words = let wide = t.sized.0 in let h = slot_within k b i c.requires.band inside in let x = t.same.1 in let y = t.same.2 in let p = place in omega arith in
+    let word : c.slot_word-word.result < t.table.kit.shared.table_id.words = let wide = t.sized.0 in let h = slot_within k b i c.requires.band inside in let x = t.same.1 in let y = t.same.2 in let p = place in omega arith in
     let few : length k.infos ≤ 1000000 = subst (λ (xs : List Info). length xs ≤ 1000000) (sym t.same.0) t.sized.2 in
     let of_band : band_in k.infos g.K.Producing.packet ≡ b = subst (λ (xs : List Info). band_in xs g.K.Producing.packet ≡ b) (sym t.same.0) c.requires.packet.0.1 in
     let where_ = c.requires.at in let position : seat.me.0.view.place.position ≡ Put (machine_packet k.infos g.K.Producing.packet) where_.0 = where_.1 ∙ ap (λ (xs : List Info). Put (machine_packet xs g.K.Producing.packet) where_.0) (sym t.same.0) in (
       c.requires.seat.0,
       word,
-      lifts_load _ _ _ _ _ _ _ _ (subst (λ (z : ℕ × ℕ). Allows (Rule k) slots seat.id (seen seat.me) z.0 (λ x. x) (slot_seen_all z.1 g.K.Producing.packet (step slots z.0 0 0 none) (seen seat.me))) (λ j. (place j, c.requires.named j))
-          (sees_slot_sole k slots seat.id (seen seat.me) b i g.K.Producing.packet where_.0 c.requires.band inside position lock.0.0 lock.1 is c.requires.packet.0.0 c.requires.packet.1 of_band c.requires.seat.1 few lock.0.3)),
+      subst (λ (z : ℕ × ℕ). Allows (Rule k) slots seat.id (seen seat.me) z.0 (λ x. x) (slot_seen_all z.1 g.K.Producing.packet (step slots z.0 0 0 none) (seen seat.me))) (λ j. (place j, c.requires.named j))
+          (sees_slot_sole k slots seat.id (seen seat.me) b i g.K.Producing.packet where_.0 c.requires.band inside position lock.0.0 lock.1 is c.requires.packet.0.0 c.requires.packet.1 of_band c.requires.seat.1 few lock.0.3),
     )

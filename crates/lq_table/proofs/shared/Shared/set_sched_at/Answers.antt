@@ -1,7 +1,6 @@
 use Rattle.std.proofs.Common.{arith}
 use Rattle.lq_table.proofs.SoleKept.{schedules_sole}
-use Rattle.lq_table.proofs.Lifts.{lifts_set}
 use Rattle.lq_table.proofs.shared.Shared.set_sched_at.Goals as goal
 
 pub fetch_or-requires : goal.fetch_or-requires
-fetch_or-requires g c = (c.requires.seat.0, (let wide = c.args.self.now.sized.0 in omega arith), lifts_set _ _ _ _ _ _ _ _ _ (schedules_sole _ _ _ _ c.requires.at c.requires.seat.1))
+fetch_or-requires g c = (c.requires.seat.0, (let wide = c.args.self.now.sized.0 in omega arith), schedules_sole _ _ _ _ c.requires.at c.requires.seat.1)

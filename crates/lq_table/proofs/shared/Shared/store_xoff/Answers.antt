@@ -9,18 +9,17 @@ use Rattle.lq_table.specs.Solo.{solo, heard}
 use Rattle.lq_table.proofs.SoloSteps.{stores_solo}
 use Rattle.lq_table.proofs.ByName.{xoff_in}
 use Rattle.lq_table.proofs.HolderKept.{stores_xoff}
-use Rattle.lq_table.specs.Made.{seen}
-use Rattle.lq_table.proofs.Lifts.{lifts_store}
+use Rattle.lq_log.specs.Made.{seen}
 use Rattle.lq_table.proofs.shared.Shared.store_xoff.Goals as goal
 
 pub store-requires : goal.store-requires
 store-requires g c =
-    let t = c.args.self.now in let k = keyed_setup t.table.shared.key in let slots = t.table.shared.table_id.slots in let seat = c.args.cpu.now.known.seat in let at = c.requires.at in
+    let t = c.args.self.now in let k = keyed_setup t.table.kit.shared.key in let slots = t.table.kit.shared.table_id.slots in let seat = c.args.cpu.now.known.seat in let at = c.requires.at in
     let e = t.same.5 in let below : c.args.queue < k.queues = (let b = c.requires.queue in omega arith) in (
       c.requires.seat.0,
       (let wide = t.sized.0 in let b = xoff_in k c.args.queue below in let w = c.stop_word-word.ensures.keyed in let s = t.same.1 in let m = t.same.2 in let l = ap Rattle.std.proofs.Common.length t.same.0 in omega arith),
-      lifts_store _ _ _ _ _ _ _ _ _ (subst (λ (z : ℕ × ℕ). Allows (Rule k) slots seat.id (seen seat.me) z.0 (λ _. z.1) (stored_stop (step slots z.0 z.1 0 none) (seen seat.me))) (λ j. (sym c.stop_word-word.ensures.keyed j, sym at.3 j))
-          (stores_xoff k slots seat.id c.args.queue (seen seat.me) at.0 at.1 below at.2 at.4 c.requires.seat.1)),
+      subst (λ (z : ℕ × ℕ). Allows (Rule k) slots seat.id (seen seat.me) z.0 (λ _. z.1) (stored_stop (step slots z.0 z.1 0 none) (seen seat.me))) (λ j. (sym c.stop_word-word.ensures.keyed j, sym at.3 j))
+          (stores_xoff k slots seat.id c.args.queue (seen seat.me) at.0 at.1 below at.2 at.4 c.requires.seat.1),
     )
 
 pub returns-clause-step : goal.returns-clause-step
