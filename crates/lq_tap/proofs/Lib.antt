@@ -1,5 +1,4 @@
 -- The lemmas on the rule of a tap.
-pub mod Lifts
 pub mod ByName
 pub mod Orders
 pub mod Frames

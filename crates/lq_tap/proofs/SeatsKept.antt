@@ -8,8 +8,8 @@ use Rattle.std.proofs.Math.Nat.{mod-eq_of_lt}
 use mathlib.Core.Option.{some, some-ne-none, some-injective}
 use lib.ListN.{get_elem?}
 use Rattle.atomic_table.specs.Table as table
-use Rattle.atomic_table.specs.Table.{Step, Me, Allows, Splits, Joins, keeps}
-use Rattle.atomic_table.proofs.Lists.{at_set, set_again, at_map}
+use Rattle.atomic_table.specs.Table.{Step, Allows, Splits, Joins, keeps}
+use Rattle.atomic_table.proofs.Lists.{at_set, set_again}
 use Rattle.lq_band.specs.Seats.{total}
 use Rattle.lq_band.specs.Times.{times}
 use Rattle.lq_band.specs.Ring.{Ends, Lock, unlocked, locking, stored_count, index_behind, KnowsLock, HoldsBand}
@@ -17,8 +17,7 @@ use Rattle.lq_band.proofs.Seats.{total_set, total_same, total_one, total_snoc, e
 use Rattle.lq_band.proofs.Times.{times_append, times_same}
 use Rattle.lq_tap.specs.Views.{View, Setup, ReaderPart, no_reader, sender_view, spent_view}
 use Rattle.lq_tap.specs.Told.{omitting, having_split, having_joined}
-use Rattle.lq_tap.specs.Made.{Known}
-use Rattle.lq_tap.specs.Noted.{NotedRule, viewed}
+use Rattle.lq_tap.specs.Made.{Sat}
 use Rattle.lq_tap.specs.Settled.{IsSettled, ComesBefore}
 use Rattle.lq_tap.specs.Plays.{learned}
 use Rattle.lq_tap.specs.Rule.{words_of, TapState, one_if, reading, sending, open_in, IsSeat, came, KnowsPuts, KnowsReads, locks_of, band_of, holding, Rule}
@@ -225,11 +224,11 @@ module _ (k : Setup) (s : table.State Consumer View) (r : Rule k s) (id : ℕ) (
           (λ (apart : m ≢ n). let z : times m (n ∷ []) ≡ 0 = ⊎_elim (λ (none_ : times m (n ∷ []) ≡ 0). none_) (λ h. absurd (apart (times_one m n (omega arith)))) (cases_eq (times m (n ∷ [])) 0) in omega arith)
           (cases_eq m n)
 
-pub learns : (k : Setup) (slots id : ℕ) (m : Me Consumer Known) (i : ℕ) (t : Step Consumer) → m.0.view.reader.reads ≡ true → Allows (NotedRule k) slots id m i (λ x. x) (learned t m)
+pub learns : (k : Setup) (slots id : ℕ) (m : Sat) (i : ℕ) (t : Step Consumer) → m.0.reader.reads ≡ true → Allows (Rule k) slots id m i (λ x. x) (learned t m)
 learns k slots id m i t reads s r deep here small = (
   m.0,
   keeps,
   tt,
-  subst (λ (z : List ℕ × List Known). NotedRule k record { words = z.0; homes = s.homes; views = z.1 }) (λ j. (sym (set_back s.words i) j, sym (set_again s.views id m.0 here) j)) r,
-  (refl, λ none_out drained. settled k (viewed s) r id m.0.view (at_map (λ (m : Known). m.view) s.views id m.0 here) reads none_out drained),
+  subst (λ (z : List ℕ × List View). Rule k record { words = z.0; homes = s.homes; views = z.1 }) (λ j. (sym (set_back s.words i) j, sym (set_again s.views id m.0 here) j)) r,
+  (refl, λ none_out drained. settled k s r id m.0 here reads none_out drained),
 )

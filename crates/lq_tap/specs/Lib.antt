@@ -12,8 +12,6 @@ pub mod Settled
 pub mod Sees
 -- the rule
 pub mod Rule
--- the rule over seats that know their steps
-pub mod Noted
 -- the rule's setup, from the key
 pub mod Keyed
 -- what each step on a word tells

@@ -1,58 +1,14 @@
--- The steps that a seat made on the tap's words, and what it knows with them.
-use Rattle.std.specs.Prelude.{◌≡◌, ℕ, ◌+◌, ◌*◌, ◌==◌, Bool, List, [], ◌∷◌}
-use Rattle.atomic_table.specs.Table.{Me, Step}
-use Rattle.lq_tap.specs.Views.{View, spent_view}
+-- The steps of a seat on the tap's words, by name.
+use Rattle.std.specs.Prelude.{ℕ, ◌+◌, ◌*◌, Bool}
+use Rattle.atomic_table.specs.Table.{Me}
+use Rattle.lq_log.specs.Made.{load, store, exchange, rise}
+use Rattle.lq_tap.specs.Views.{View}
 use Rattle.lq_tap.specs.declared.view.Consumer.{Consumer}
+pub use Rattle.lq_log.specs.Made.{Made, ◌⊳◌}
 
--- A step: what was done, on which word, with which operands, and what it found.
-pub data Made : Type 0 where
-  -- the word, and what was found
-  load : ℕ → ℕ → Made
-  -- the word, and what was stored
-  store : ℕ → ℕ → Made
-  -- the word, what it had to be, what it became, and whether it did
-  exchange : ℕ → ℕ → ℕ → Bool → Made
-  -- the word, and how much it rose
-  rise : ℕ → ℕ → Made
-
--- what a seat knows: its view, and the steps that it made, the latest first
-pub record Known : Type 0 where
-  pub view : View
-  pub steps : List Made
-
--- which operation a play is of
-pub data Kind : Type 0 where
-  Loads : Kind
-  Stores : Kind
-  Exchanges : Kind
-  Rises : Kind
-
-abbrev pub made : Kind → Step Consumer → ℕ → Made
-made Loads s found = load s.word found
-made Stores s found = store s.word s.first
-made Exchanges s found = exchange s.word s.first s.second (found == s.first)
-made Rises s found = rise s.word s.first
-
-abbrev pub spent : Known
-spent = record { view = spent_view; steps = [] }
-
--- WHAT A STEP TELLS
-
+-- a seat without its steps: what it knows, and the slot that it has
 abbrev pub Sat : Type 0
 Sat = Me Consumer View
-
-abbrev pub seen : Me Consumer Known → Sat
-seen m = (m.0.view, m.1)
-
--- what the step tells of the view, and that it stands at the head of the seat's steps
-pub record Noted (kind : Kind) (told : Step Consumer → Sat → ℕ → Sat → Type 0) (s : Step Consumer) (m : Me Consumer Known) (found : ℕ) (m' : Me Consumer Known) : Type 0 where
-  pub told_is : told s (seen m) found (seen m')
-  pub noted : m'.0.steps ≡ made kind s found ∷ m.0.steps
-
--- a list of steps with one more: it reads in the order in which they were made
-infixl 55 ◌⊳◌
-abbrev pub ◌⊳◌ : List Made → Made → List Made
-steps ⊳ m = m ∷ steps
 
 -- THE WORDS, which stand so far apart that no two of these share a cache line of 64 bytes with each other or with a slot
 
@@ -100,3 +56,7 @@ did_load_ended found = load ended_word found
 
 abbrev pub did_end : Made
 did_end = rise ended_word 1
+
+-- the load of word 0, which ends a join
+abbrev pub did_load_base : ℕ → Made
+did_load_base found = load 0 found

@@ -1,11 +1,11 @@
 -- What each step on a word tells its caller.
 use Rattle.std.specs.Prelude.{◌≡◌, ◌≢◌, ℕ, ◌-◌, ◌/◌, ◌<◌, ◌≤◌, Bool, true, false, ◌==◌, ◌&&◌, [], ◌∷◌, ◌++◌, length, drop}
-use Rattle.atomic_table.specs.Table.{Me, Step}
+use Rattle.atomic_table.specs.Table.{Step}
 use Rattle.lq_band.specs.Ring.{Ends, Lock, unlocked, locked_at, with_room, without_room, having_stored, cleared_at, taken_on, after_take, emptied_on, IsAtRest}
 use Rattle.lq_ring_core.specs.Ring.{place_before}
-use Rattle.lq_tap.specs.Views.{View, AreFew, sender_view}
-use Rattle.lq_tap.specs.Made.{Known, Sat}
-use Rattle.lq_tap.specs.Told.{having_put, having_found_full, having_split, having_joined, having_ended, having_seen_ended, without_last}
+use Rattle.lq_tap.specs.Views.{View, AreFew}
+use Rattle.lq_tap.specs.Made.{Sat}
+use Rattle.lq_tap.specs.Told.{having_put, having_found_full, having_ended, having_seen_ended, without_last}
 use Rattle.lq_tap.specs.Settled.{IsSettled}
 use Rattle.lq_tap.specs.Rule.{consumer_of}
 use Rattle.lq_tap.specs.declared.view.Consumer.{Consumer}
@@ -41,17 +41,6 @@ end_noted _ m found m' = m' ≡ (having_ended m.0, m.1)
 
 abbrev pub ended_seen : Step Consumer → Sat → ℕ → Sat → Type 0
 ended_seen _ m found m' = m' ≡ (having_seen_ended found m.0, m.1)
-
--- SEATS
-
-abbrev pub keeping : ℕ → Known → Known
-keeping sender m = record m { view = having_split sender m.view }
-
-abbrev pub offspring : ℕ → Known → Known
-offspring sender m = record { view = sender_view m.view.about sender; steps = [] }
-
-abbrev pub together : Known → Known → Known
-together m from = record m { view = having_joined from.view m.view }
 
 -- THE CONSUMER LOCK
 
@@ -153,5 +142,5 @@ abbrev pub without_batch : View → View
 without_batch v = record v { reader = record v.reader { batch = [] } }
 
 -- ALL SEATS ARE JOINED, and nothing was left in the ring
-abbrev pub learned : Step Consumer → Me Consumer Known → ℕ → Me Consumer Known → Type 0
-learned _ m found m' = (m' ≡ m) × (m.0.view.reader.out ≡ 0 → m.0.view.reader.drained ≡ true → IsSettled m.0.view)
+abbrev pub learned : Step Consumer → Sat → ℕ → Sat → Type 0
+learned _ m found m' = (m' ≡ m) × (m.0.reader.out ≡ 0 → m.0.reader.drained ≡ true → IsSettled m.0)

@@ -36,7 +36,7 @@ IsElseSame b a = IsSameSeat b a × (slot a ≡ slot b)
 
 -- the seat is one of this tap
 abbrev pub IsSeatOf : Tap → TapSeat → Type 0
-IsSeatOf t c = (c.seat.table_id ≡ t.table.shared.table_id) × ((view c).about ≡ setup t)
+IsSeatOf t c = (c.seat.table_id ≡ t.table.kit.shared.table_id) × ((view c).about ≡ setup t)
 
 -- it is the reader's, and between two calls
 abbrev pub IsReaderOf : Tap → TapSeat → Type 0

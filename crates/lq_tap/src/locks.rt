@@ -1,7 +1,7 @@
 //! The two locks of a `ptr_ring`: `producer_lock`, whose word has the producer index too, and `consumer_lock`.
 ghost use Rattle.std.specs.Prelude.{◌≡◌, ◌*◌, ◌/◌, ◌%◌, ◌<◌, true, false, [], ◌∷◌};
 ghost use Rattle.lq_band.specs.Ring.{unlocked, index_given};
-ghost use Rattle.lq_tap.specs.Made.{◌⊳◌, Noted, Loads, Stores, Exchanges, did_load_producer, did_take_producer, did_give_producer, did_take_consumer, did_give_consumer};
+ghost use Rattle.lq_tap.specs.Made.{◌⊳◌, did_load_producer, did_take_producer, did_give_producer, did_take_consumer, did_give_consumer};
 ghost use Rattle.lq_tap.specs.Plays.{with_lock, producer_seen, producer_taken, producer_given, with_consumer, beginning, consumer_taken, consumer_given, done_giving, return_ended};
 ghost use Rattle.lq_tap.specs.Steps.{LocksProducer, LocksConsumer};
 ghost use Rattle.lq_tap.specs.Sees.{view, steps, slot, IsSeatOf, IsSameSeat, IsElseSame, GetsProducerAt, GetsEnds, HasEnds};
@@ -20,45 +20,45 @@ const CONSUMER: usize = 16;
 pub(crate) struct SeeProducer;
 
 impl Play<Consumer, Knowledge> for SeeProducer {
-    ghost then = { Noted Loads producer_seen };
+    ghost then = { producer_seen };
 }
 
 pub(crate) struct GetProducer;
 
 impl Play<Consumer, Knowledge> for GetProducer {
-    ghost then = { Noted Exchanges producer_taken };
+    ghost then = { producer_taken };
 }
 
 pub(crate) struct GiveProducer;
 
 impl Play<Consumer, Knowledge> for GiveProducer {
-    ghost then = { Noted Stores producer_given };
+    ghost then = { producer_given };
 }
 
 /// The consumer lock is got for a batch.
 pub(crate) struct BeginBatch;
 
 impl Play<Consumer, Knowledge> for BeginBatch {
-    ghost then = { Noted Exchanges (consumer_taken beginning) };
+    ghost then = { consumer_taken beginning };
 }
 
 /// It is got to give packets back.
 pub(crate) struct BeginReturn;
 
 impl Play<Consumer, Knowledge> for BeginReturn {
-    ghost then = { Noted Exchanges (consumer_taken (with_consumer true)) };
+    ghost then = { consumer_taken (with_consumer true) };
 }
 
 pub(crate) struct EndBatch;
 
 impl Play<Consumer, Knowledge> for EndBatch {
-    ghost then = { Noted Stores consumer_given };
+    ghost then = { consumer_given };
 }
 
 pub(crate) struct EndReturn;
 
 impl Play<Consumer, Knowledge> for EndReturn {
-    ghost then = { Noted Stores return_ended };
+    ghost then = { return_ended };
 }
 
 impl Tap {
@@ -68,9 +68,7 @@ impl Tap {
         ensures same { IsElseSame seat.old seat.new × (view seat.new ≡ view seat.old) }
         ensures steps { steps seat.new ≡ steps seat.old ⊳ did_load_producer result }
     {
-        self.table
-            .shared
-            .load::<SeeProducer>(&mut seat.seat, PRODUCER)
+        self.table.load::<SeeProducer>(&mut seat.seat, PRODUCER)
     }
 
     /// Takes the producer lock where its word is still `seen`, which is even: an exchange of the producer word.
@@ -84,7 +82,6 @@ impl Tap {
         ensures steps { steps seat.new ≡ steps seat.old ⊳ did_take_producer seen result }
     {
         self.table
-            .shared
             .compare_exchange::<GetProducer>(&mut seat.seat, PRODUCER, seen, seen + 1)
             == seen
     }
@@ -99,7 +96,6 @@ impl Tap {
         ensures steps { steps seat.new ≡ steps seat.old ⊳ did_give_producer index }
     {
         self.table
-            .shared
             .store::<GiveProducer>(&mut seat.seat, PRODUCER, 2 * index as u64);
     }
 
@@ -134,7 +130,6 @@ impl Tap {
         ensures steps { steps seat.new ≡ steps seat.old ⊳ did_take_consumer result }
     {
         self.table
-            .shared
             .compare_exchange::<BeginBatch>(&mut seat.seat, CONSUMER, 0, 1)
             == 0
     }
@@ -148,7 +143,6 @@ impl Tap {
         ensures steps { steps seat.new ≡ steps seat.old ⊳ did_take_consumer result }
     {
         self.table
-            .shared
             .compare_exchange::<BeginReturn>(&mut seat.seat, CONSUMER, 0, 1)
             == 0
     }
@@ -196,9 +190,7 @@ impl Tap {
         ensures given { view seat.new ≡ with_consumer false (view seat.old) }
         ensures steps { steps seat.new ≡ steps seat.old ⊳ did_give_consumer }
     {
-        self.table
-            .shared
-            .store::<EndBatch>(&mut seat.seat, CONSUMER, 0);
+        self.table.store::<EndBatch>(&mut seat.seat, CONSUMER, 0);
     }
 
     /// The same after packets were given back.
@@ -210,18 +202,18 @@ impl Tap {
         ensures given { view seat.new ≡ done_giving (view seat.old) }
         ensures steps { steps seat.new ≡ steps seat.old ⊳ did_give_consumer }
     {
-        self.table
-            .shared
-            .store::<EndReturn>(&mut seat.seat, CONSUMER, 0);
+        self.table.store::<EndReturn>(&mut seat.seat, CONSUMER, 0);
     }
 
     /// Reads and writes the ends in the slot, which is out with the consumer lock.
     pub(crate) fn exchange_ends(&self, seat: &mut TapSeat, ends: Consumer) -> Consumer
-        requires seat { seat.old.seat.table_id ≡ self.now.table.shared.table_id }
+        requires seat { seat.old.seat.table_id ≡ self.now.table.kit.shared.table_id }
         requires lock { (was : Consumer) × (slot seat.old ≡ (0, was) ∷ []) }
         ensures same { IsSameSeat seat.old seat.new × (view seat.new ≡ view seat.old) × (steps seat.new ≡ steps seat.old) }
         ensures ends { (slot seat.old ≡ (0, result) ∷ []) × (slot seat.new ≡ (0, ends) ∷ []) }
     {
-        self.table.shared.exchange(&mut seat.seat, 0, ends)
+        let mut ends = ends;
+        self.table.move_slot(&mut seat.seat, 0, &mut ends);
+        ends
     }
 }

@@ -5,7 +5,7 @@ ghost use Rattle.lq_tap.specs.Sees.{view, steps, setup, IsReaderOf, IsMadeFor};
 
 use crate::shared::{Tap, TapSeat};
 use crate::view::{About, Consumer};
-use atomic_table::Table;
+use lq_log::Logged;
 use lq_model::NoMemory;
 use std::alloc::Global;
 
@@ -36,7 +36,7 @@ impl Tap {
             return Err(NoMemory);
         };
         slots.push_reserved(Consumer { head: 0, tail: 0 });
-        match Table::new(alloc, words.as_slice(), slots, &about) {
+        match Logged::new(alloc, words.as_slice(), slots, &about) {
             Ok((table, seat)) => Ok((
                 Tap {
                     table,

@@ -1,12 +1,12 @@
 //! Making a sender's seat, and taking one in.
 ghost use Rattle.std.specs.Prelude.{◌≡◌, ◌<◌, ℕ, true, false, []};
 ghost use Rattle.lq_band.specs.Times.{times};
-ghost use Rattle.lq_tap.specs.Views.{sender_view};
+ghost use Rattle.lq_tap.specs.Views.{sender_view, spent_view};
 ghost use Rattle.lq_tap.specs.Told.{having_split, having_joined};
 ghost use Rattle.lq_tap.specs.Settled.{IsSettled};
 ghost use Rattle.lq_tap.specs.Sees.{view, steps, setup, IsReaderOf, IsSenderOf};
-ghost use Rattle.lq_tap.specs.Plays.{keeping, offspring, together, learned};
-ghost use Rattle.lq_tap.specs.Made.{spent};
+ghost use Rattle.lq_tap.specs.Plays.{learned};
+ghost use Rattle.lq_tap.specs.Made.{◌⊳◌, did_load_base};
 
 use crate::shared::{Tap, TapSeat};
 use crate::view::{Consumer, Knowledge};
@@ -27,17 +27,17 @@ pub(crate) struct Cut<K> {
 }
 
 impl<K: Sending> Split<Knowledge> for Cut<K> {
-    ghost left = { keeping K.sender };
+    ghost left = { having_split K.sender };
 
-    ghost right = { offspring K.sender };
+    ghost right = { λ v. sender_view v.about K.sender };
 }
 
 pub(crate) struct Glue;
 
 impl Join<Knowledge> for Glue {
-    ghost both = { λ m from. together m from };
+    ghost both = { λ v from. having_joined from v };
 
-    ghost spent = { spent };
+    ghost spent = { spent_view };
 }
 
 pub(crate) struct Learn;
@@ -57,7 +57,7 @@ impl Tap {
         ensures other { IsSenderOf self.now result × (view result ≡ sender_view (setup self.now) sender) × (steps result ≡ []) }
     {
         TapSeat {
-            seat: self.table.shared.split_seat::<Cut<K>>(&mut seat.seat),
+            seat: self.table.split_seat::<Cut<K>>(&mut seat.seat),
         }
     }
 
@@ -80,11 +80,11 @@ impl Tap {
         requires other { IsSenderOf self.now from × ((view from).sender.going ≡ false) }
         ensures seat { IsReaderOf self.now into.new }
         ensures view { view into.new ≡ having_joined (view from) (view into.old) }
-        ensures steps { steps into.new ≡ steps into.old }
+        ensures steps { (found : ℕ) × (steps into.new ≡ steps into.old ⊳ did_load_base found) }
         ensures settled { (view into.new).reader.out ≡ 0 → (view into.new).reader.drained ≡ true → IsSettled (view into.new) }
     {
         let TapSeat { seat } = from;
-        self.table.shared.join_seat::<Glue>(&mut into.seat, seat);
-        self.table.shared.load::<Learn>(&mut into.seat, 0);
+        self.table.join_seat::<Glue>(&mut into.seat, seat);
+        self.table.load::<Learn>(&mut into.seat, 0);
     }
 }

@@ -2,7 +2,7 @@
 ghost use Rattle.std.specs.Prelude.{◌≡◌, ◌≢◌, ℕ, ◌+◌, ◌-◌, ◌<◌, ◌≤◌, true, false, List, [], ◌∷◌, ◌++◌, length};
 ghost use Rattle.lq_band.specs.Ring.{with_room, having_stored, all_empty, IsAtRest};
 ghost use Rattle.lq_ring_core.specs.Ring.{place_before};
-ghost use Rattle.lq_tap.specs.Made.{◌⊳◌, Noted, Loads, Stores, did_load_slot, did_store_slot};
+ghost use Rattle.lq_tap.specs.Made.{◌⊳◌, did_load_slot, did_store_slot};
 ghost use Rattle.lq_tap.specs.Told.{having_put};
 ghost use Rattle.lq_tap.specs.Views.{AreFew};
 ghost use Rattle.lq_tap.specs.Plays.{with_lock, with_ends, producer_slot_seen, producer_slot_stored, finding_none, taking, head_slot_seen, emptying, slot_emptied, destroying, slot_before_seen, putting_back, slot_before_stored};
@@ -20,25 +20,25 @@ const SLOTS: usize = 32;
 pub(crate) struct SeeSlot;
 
 impl Play<Consumer, Knowledge> for SeeSlot {
-    ghost then = { Noted Loads producer_slot_seen };
+    ghost then = { producer_slot_seen };
 }
 
 pub(crate) struct StoreSlot;
 
 impl Play<Consumer, Knowledge> for StoreSlot {
-    ghost then = { Noted Stores producer_slot_stored };
+    ghost then = { producer_slot_stored };
 }
 
 pub(crate) struct SeeHead;
 
 impl Play<Consumer, Knowledge> for SeeHead {
-    ghost then = { Noted Loads head_slot_seen };
+    ghost then = { head_slot_seen };
 }
 
 pub(crate) struct EmptySlot;
 
 impl Play<Consumer, Knowledge> for EmptySlot {
-    ghost then = { Noted Stores slot_emptied };
+    ghost then = { slot_emptied };
 }
 
 /// Names how many packets are left to be put back, for the proof of one step: the call picks it.
@@ -55,13 +55,13 @@ pub(crate) struct SeeBefore<K> {
 }
 
 impl<K: Returning> Play<Consumer, Knowledge> for SeeBefore<K> {
-    ghost then = { Noted Loads (slot_before_seen K.left) };
+    ghost then = { slot_before_seen K.left };
 }
 
 pub(crate) struct StoreBefore;
 
 impl Play<Consumer, Knowledge> for StoreBefore {
-    ghost then = { Noted Stores slot_before_stored };
+    ghost then = { slot_before_stored };
 }
 
 impl Tap {
@@ -77,7 +77,6 @@ impl Tap {
         ensures steps { steps seat.new ≡ steps seat.old ⊳ did_load_slot index result }
     {
         self.table
-            .shared
             .load::<SeeSlot>(&mut seat.seat, SLOTS + index as usize)
     }
 
@@ -92,7 +91,6 @@ impl Tap {
         ensures steps { steps seat.new ≡ steps seat.old ⊳ did_store_slot index (n + 1) }
     {
         self.table
-            .shared
             .store::<StoreSlot>(&mut seat.seat, SLOTS + index as usize, n as u64 + 1);
     }
 
@@ -108,7 +106,6 @@ impl Tap {
         ensures steps { steps seat.new ≡ steps seat.old ⊳ did_load_slot head result }
     {
         self.table
-            .shared
             .load::<SeeHead>(&mut seat.seat, SLOTS + head as usize)
     }
 
@@ -121,7 +118,6 @@ impl Tap {
         ensures steps { steps seat.new ≡ steps seat.old ⊳ did_store_slot place 0 }
     {
         self.table
-            .shared
             .store::<EmptySlot>(&mut seat.seat, SLOTS + place as usize, 0);
     }
 
@@ -152,7 +148,6 @@ impl Tap {
         ensures steps { steps seat.new ≡ steps seat.old ⊳ did_load_slot place result }
     {
         self.table
-            .shared
             .load::<SeeBefore<K>>(&mut seat.seat, SLOTS + place as usize)
     }
 
@@ -184,7 +179,6 @@ impl Tap {
         ensures steps { steps seat.new ≡ steps seat.old ⊳ did_store_slot place (n + 1) }
     {
         self.table
-            .shared
             .store::<StoreBefore>(&mut seat.seat, SLOTS + place as usize, n as u64 + 1);
     }
 }

@@ -6,11 +6,11 @@ use std::marker::Model;
 pub struct Knowledge;
 
 impl Model for Knowledge {
-    ghost use Rattle.lq_tap.specs.Made.{Known, spent};
+    ghost use Rattle.lq_tap.specs.Views.{View, spent_view};
 
-    ghost Value = { Known };
+    ghost Value = { View };
 
-    ghost view = { λ _. spent };
+    ghost view = { λ _. spent_view };
 }
 
 /// What the rule is told when the tap is made.
@@ -31,10 +31,11 @@ pub struct Consumer {
 pub struct TapRule;
 
 impl TableRule<Consumer, Knowledge, About> for TapRule {
-    ghost use Rattle.lq_tap.specs.Noted.{NotedRule};
-    ghost use Rattle.lq_tap.specs.Keyed.{keyed_setup, first_known};
+    ghost use Rattle.lq_tap.specs.Rule.{Rule};
+    ghost use Rattle.lq_tap.specs.Views.{first_view};
+    ghost use Rattle.lq_tap.specs.Keyed.{keyed_setup};
 
-    ghost holds = { λ k. NotedRule (keyed_setup k) };
+    ghost holds = { λ k. Rule (keyed_setup k) };
 
-    ghost first = { λ k. first_known (keyed_setup k) };
+    ghost first = { λ k. first_view (keyed_setup k) };
 }

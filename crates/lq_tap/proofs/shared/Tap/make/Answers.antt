@@ -1,8 +1,7 @@
 use Rattle.std.proofs.Common.{rules, ◌≡◌, ℕ, ◌+◌, List, [], ◌∷◌, replicate, refl, sym, ◌∙◌, subst}
 use Rattle.atomic_table.specs.Table.{opening}
-use Rattle.lq_tap.specs.Views.{Setup}
-use Rattle.lq_tap.specs.Keyed.{first_known}
-use Rattle.lq_tap.specs.Noted.{NotedRule}
+use Rattle.lq_tap.specs.Views.{Setup, first_view}
+use Rattle.lq_tap.specs.Rule.{Rule}
 use Rattle.lq_tap.specs.declared.view.Consumer.{Consumer}
 use Rattle.lq_tap.proofs.Starts.{starts}
 use Rattle.lq_tap.proofs.shared.Tap.make.Goals as goal
@@ -13,5 +12,5 @@ new-requires c =
     let zeros : c.in-Ok.words.items ≡ replicate (32 + k.len) 0 = c.in-Ok.ensures.items_if_clones_equal (λ y h. search rules) in
     let words : c.as_slice.result.now ≡ replicate (32 + k.len) 0 = c.as_slice.ensures.value ∙ zeros in
     let slots : c.push_reserved.new.self.items ≡ home ∷ [] = search rules in
-    subst (λ (z : List ℕ × List Consumer). NotedRule k (opening z.0 z.1 (first_known k))) (λ j. (sym words j, sym slots j))
+    subst (λ (z : List ℕ × List Consumer). Rule k (opening z.0 z.1 (first_view k))) (λ j. (sym words j, sym slots j))
     (starts k home record { packets = c.requires.packets; some_slot = c.requires.len.0; len = c.requires.len.1; some_sender = c.requires.senders.0; senders = c.requires.senders.1 } refl)

@@ -3,22 +3,22 @@ use mathlib.Core.Option.{none}
 use Rattle.atomic_table.specs.Table.{step, Allows}
 use Rattle.lq_tap.specs.Views.{Setup}
 use Rattle.lq_tap.specs.Keyed.{keyed_setup}
-use Rattle.lq_tap.specs.Noted.{NotedRule}
-use Rattle.lq_tap.specs.Made.{Noted, Loads, seen, slot_word}
+use Rattle.lq_tap.specs.Rule.{Rule}
+use Rattle.lq_log.specs.Made.{seen}
+use Rattle.lq_tap.specs.Made.{slot_word}
 use Rattle.lq_ring_core.specs.Ring.{place_before}
 use Rattle.lq_tap.specs.Plays.{slot_before_seen}
-use Rattle.lq_tap.proofs.Lifts.{lifts_load}
 use Rattle.lq_tap.proofs.BackKept.{sees_before}
 use Rattle.lq_tap.proofs.shared.Tap.slot_before_of.Goals as goal
 
 pub load-requires : goal.load-requires
 load-requires g c =
-    let t = c.args.self.now in let k : Setup = keyed_setup t.table.shared.key in let slots = t.table.shared.table_id.slots in let seat = c.args.seat.now.seat in
+    let t = c.args.self.now in let k : Setup = keyed_setup t.table.kit.shared.key in let slots = t.table.kit.shared.table_id.slots in let seat = c.args.seat.now.seat in
     let about : seat.me.0.view.about ≡ k = c.requires.seat.0.1 ∙ (λ j. record { packets = sym t.same.0 j; len = sym t.same.1 j; senders = sym t.same.2 j }) in
     let i = c.args.place in let s = c.requires.seat in let l = c.requires.lock in let e = c.requires.clear in let p = c.requires.place in let q = c.requires.left in
     let here : i ≡ place_before seat.me.0.view.about.len seat.me.0.view.reader.ends.head 1 = p.0 ∙ ap (λ (x : Setup). place_before x.len seat.me.0.view.reader.ends.head 1) (sym s.0.1) in (
       s.0.0,
       (let wide = t.sized.0 in let h = p.1 in omega arith),
-      subst (λ (x : ℕ). Allows (NotedRule k) slots seat.id seat.me (slot_word i) (λ n. n) (Noted Loads (slot_before_seen x) (step slots (slot_word i) 0 0 none) seat.me)) c.requires.named
-          (lifts_load k slots seat.id seat.me (slot_word i) Loads (slot_before_seen c.args.left) (step slots (slot_word i) 0 0 none) (sees_before k slots seat.id (seen seat.me) i c.args.left (step slots (slot_word i) 0 0 none) s.1 s.2 l.0 l.1 e.0 e.1 here q.0 q.1)),
+      subst (λ (x : ℕ). Allows (Rule k) slots seat.id (seen seat.me) (slot_word i) (λ n. n) (slot_before_seen x (step slots (slot_word i) 0 0 none) (seen seat.me))) c.requires.named
+          (sees_before k slots seat.id (seen seat.me) i c.args.left (step slots (slot_word i) 0 0 none) s.1 s.2 l.0 l.1 e.0 e.1 here q.0 q.1),
     )

@@ -1,19 +1,18 @@
 use Rattle.std.proofs.Common.{◌≡◌, ℕ, sym, ◌∙◌, subst, arith}
-use Rattle.lq_tap.specs.Views.{Setup}
+use Rattle.lq_tap.specs.Views.{Setup, sender_view}
 use Rattle.lq_tap.specs.Keyed.{keyed_setup}
-use Rattle.lq_tap.specs.Noted.{NotedRule}
-use Rattle.lq_tap.specs.Plays.{keeping, offspring}
+use Rattle.lq_tap.specs.Rule.{Rule}
+use Rattle.lq_tap.specs.Told.{having_split}
 use Rattle.atomic_table.specs.Table.{Splits}
-use Rattle.lq_tap.proofs.Lifts.{lifts_split}
 use Rattle.lq_tap.proofs.SeatsKept.{splits}
 use Rattle.lq_tap.proofs.shared.Tap.split_of.Goals as goal
 
 pub split_seat-requires : goal.split_seat-requires
 split_seat-requires g c =
-    let t = c.args.self.now in let k : Setup = keyed_setup t.table.shared.key in let slots = t.table.shared.table_id.slots in let seat = c.args.seat.now.seat in
+    let t = c.args.self.now in let k : Setup = keyed_setup t.table.kit.shared.key in let slots = t.table.kit.shared.table_id.slots in let seat = c.args.seat.now.seat in
     let about : seat.me.0.view.about ≡ k = c.requires.seat.0.1 ∙ (λ j. record { packets = sym t.same.0 j; len = sym t.same.1 j; senders = sym t.same.2 j }) in let o = c.args.sender in (
       c.requires.seat.0.0,
       (let wide = t.sized.0 in omega arith),
-      subst (λ (x : ℕ). Splits (NotedRule k) seat.id seat.me.0 (keeping x seat.me.0) (offspring x seat.me.0)) c.requires.named
-          (lifts_split k seat.id seat.me.0 (keeping o seat.me.0) (offspring o seat.me.0) (splits k seat.id seat.me.0.view o about c.requires.seat.1 (let h = c.requires.sender.0 in let e = t.same.2 in omega arith) c.requires.sender.1)),
+      subst (λ (x : ℕ). Splits (Rule k) seat.id seat.me.0.view (having_split x seat.me.0.view) (sender_view seat.me.0.view.about x)) c.requires.named
+          (splits k seat.id seat.me.0.view o about c.requires.seat.1 (let h = c.requires.sender.0 in let e = t.same.2 in omega arith) c.requires.sender.1),
     )

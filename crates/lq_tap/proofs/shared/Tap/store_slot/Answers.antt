@@ -4,25 +4,24 @@ use Rattle.atomic_table.specs.Table.{step, Allows}
 use Rattle.lq_tap.specs.Views.{Setup}
 use Rattle.lq_tap.specs.Keyed.{keyed_setup}
 use Rattle.lq_tap.specs.Rule.{Rule}
-use Rattle.lq_tap.specs.Made.{Stores, seen, slot_word}
+use Rattle.lq_log.specs.Made.{seen}
+use Rattle.lq_tap.specs.Made.{slot_word}
 use Rattle.lq_band.specs.Ring.{having_stored}
 use Rattle.lq_tap.specs.Told.{having_put}
 use Rattle.lq_tap.specs.Plays.{producer_slot_stored, with_lock}
-use Rattle.lq_tap.proofs.Lifts.{lifts_store}
 use Rattle.lq_tap.proofs.PutsKept.{stores_slot}
 use Rattle.lq_tap.proofs.shared.Tap.store_slot.Goals as goal
 
 pub store-requires : goal.store-requires
 store-requires c =
-    let t = c.args.self.now in let k : Setup = keyed_setup t.table.shared.key in let slots = t.table.shared.table_id.slots in let seat = c.args.seat.now.seat in
+    let t = c.args.self.now in let k : Setup = keyed_setup t.table.kit.shared.key in let slots = t.table.kit.shared.table_id.slots in let seat = c.args.seat.now.seat in
     let about : seat.me.0.view.about ≡ k = c.requires.seat.1 ∙ (λ j. record { packets = sym t.same.0 j; len = sym t.same.1 j; senders = sym t.same.2 j }) in
     let i = c.args.index in let l = c.requires.lock in let p = c.requires.packet in let n = c.args.n in (
       c.requires.seat.0,
       (let wide = t.sized.0 in let h = l.3 in omega arith),
-      lifts_store k slots seat.id seat.me (slot_word i) (n + 1) Stores producer_slot_stored (step slots (slot_word i) (n + 1) 0 none)
-          (subst (λ (x : ℕ). Allows (Rule k) slots seat.id (seen seat.me) (slot_word i) (λ _. x + 1) (λ _. producer_slot_stored (step slots (slot_word i) (x + 1) 0 none) (seen seat.me) (x + 1))) p.1
-          (stores_slot k slots seat.id (seen seat.me) i about p.0 (let h = p.2 in let q = p.1 in let e = t.same.0 in omega arith) l.0 l.1 c.requires.room l.2)),
+      subst (λ (x : ℕ). Allows (Rule k) slots seat.id (seen seat.me) (slot_word i) (λ _. x + 1) (λ _. producer_slot_stored (step slots (slot_word i) (x + 1) 0 none) (seen seat.me) (x + 1))) p.1
+          (stores_slot k slots seat.id (seen seat.me) i about p.0 (let h = p.2 in let q = p.1 in let e = t.same.0 in omega arith) l.0 l.1 c.requires.room l.2),
     )
 
 pub returns-clause-put : goal.returns-clause-put
-returns-clause-put c = let v = c.args.seat.now.seat.me.0.view in ap (λ m. m.0) c.store.ensures.2.told_is ∙ ap (λ (x : ℕ). with_lock (having_stored v.lock) (having_put x v)) c.requires.packet.1
+returns-clause-put c = let v = c.args.seat.now.seat.me.0.view in ap (λ m. m.0) c.store.ensures.2.told ∙ ap (λ (x : ℕ). with_lock (having_stored v.lock) (having_put x v)) c.requires.packet.1

@@ -1,16 +1,12 @@
-use Rattle.std.proofs.Common.{◌≡◌, ◌+◌, sym, ◌∙◌, arith}
-use mathlib.Core.Option.{none}
-use Rattle.atomic_table.specs.Table.{step}
+use Rattle.std.proofs.Common.{◌≡◌, sym, ◌∙◌, arith}
 use Rattle.lq_tap.specs.Views.{Setup}
 use Rattle.lq_tap.specs.Keyed.{keyed_setup}
-use Rattle.lq_tap.specs.Made.{Exchanges, seen}
-use Rattle.lq_tap.specs.Plays.{producer_taken}
-use Rattle.lq_tap.proofs.Lifts.{lifts_exchange}
+use Rattle.lq_log.specs.Made.{seen}
 use Rattle.lq_tap.proofs.PutsKept.{takes_producer}
 use Rattle.lq_tap.proofs.shared.Tap.take_producer.Goals as goal
 
 pub compare_exchange-requires : goal.compare_exchange-requires
 compare_exchange-requires c =
-    let t = c.args.self.now in let k : Setup = keyed_setup t.table.shared.key in let slots = t.table.shared.table_id.slots in let seat = c.args.seat.now.seat in
+    let t = c.args.self.now in let k : Setup = keyed_setup t.table.kit.shared.key in let slots = t.table.kit.shared.table_id.slots in let seat = c.args.seat.now.seat in
     let about : seat.me.0.view.about ≡ k = c.requires.seat.1 ∙ (λ j. record { packets = sym t.same.0 j; len = sym t.same.1 j; senders = sym t.same.2 j }) in let n = c.args.seen in
-    (c.requires.seat.0, (let wide = t.sized.0 in omega arith), lifts_exchange k slots seat.id seat.me 8 n (n + 1) Exchanges producer_taken (step slots 8 n (n + 1) none) (takes_producer k slots seat.id (seen seat.me) n about c.requires.even c.requires.free))
+    (c.requires.seat.0, (let wide = t.sized.0 in omega arith), takes_producer k slots seat.id (seen seat.me) n about c.requires.even c.requires.free)

@@ -1,16 +1,12 @@
-use Rattle.std.proofs.Common.{◌≡◌, true, sym, ◌∙◌, arith}
-use mathlib.Core.Option.{none}
-use Rattle.atomic_table.specs.Table.{step}
+use Rattle.std.proofs.Common.{◌≡◌, sym, ◌∙◌, arith}
 use Rattle.lq_tap.specs.Views.{Setup}
 use Rattle.lq_tap.specs.Keyed.{keyed_setup}
-use Rattle.lq_tap.specs.Made.{Exchanges, seen}
-use Rattle.lq_tap.specs.Plays.{consumer_taken, with_consumer}
-use Rattle.lq_tap.proofs.Lifts.{lifts_exchange}
+use Rattle.lq_log.specs.Made.{seen}
 use Rattle.lq_tap.proofs.ConsumerKept.{takes_to_return}
 use Rattle.lq_tap.proofs.shared.Tap.take_to_return.Goals as goal
 
 pub compare_exchange-requires : goal.compare_exchange-requires
 compare_exchange-requires c =
-    let t = c.args.self.now in let k : Setup = keyed_setup t.table.shared.key in let slots = t.table.shared.table_id.slots in let seat = c.args.seat.now.seat in
+    let t = c.args.self.now in let k : Setup = keyed_setup t.table.kit.shared.key in let slots = t.table.kit.shared.table_id.slots in let seat = c.args.seat.now.seat in
     let about : seat.me.0.view.about ≡ k = c.requires.seat.0.1 ∙ (λ j. record { packets = sym t.same.0 j; len = sym t.same.1 j; senders = sym t.same.2 j }) in
-    (c.requires.seat.0.0, (let wide = t.sized.0 in omega arith), lifts_exchange k slots seat.id seat.me 16 0 1 Exchanges (consumer_taken (with_consumer true)) (step slots 16 0 1 none) (takes_to_return k slots seat.id (seen seat.me) about c.requires.seat.1))
+    (c.requires.seat.0.0, (let wide = t.sized.0 in omega arith), takes_to_return k slots seat.id (seen seat.me) about c.requires.seat.1)
