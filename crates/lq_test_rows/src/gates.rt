@@ -1,11 +1,15 @@
 //! What the gate is told, and what it shows that no contract can say: that each sender is a thread of its own, and that each wakes the
 //! stopped queues at its times.
 use crate::done::run;
-use crate::holds::{Holds, Order};
+use crate::holds::{Holds, Order, meeting};
 use lq_test_fixture::{capture_of, check_run};
 use lq_top::{Gate, Resources};
+use std::alloc::Global;
+use std::marker::Sync;
+use std::sync::Wait;
 use std::sync::atomic::{AtomicBool, AtomicU32, Ordering};
 use std::test::Fail;
+use std::thread::Threads;
 
 const SENDERS: usize = 3;
 
@@ -71,46 +75,54 @@ fn gate_is_told_each_sender_and_its_packets(rt: HostRuntime) -> Result<(), Fail>
     Ok(())
 }
 
-/// A run whose senders are held, and in which all packets are sent.
-struct Row {
-    plan: &'static str,
+/// Runs so many packets under a plan, with senders that are held: all packets are sent, and no pass is held too long.
+fn all_are_sent<R: Threads + Wait + Sync>(
+    rt: &R,
+    alloc: Global,
+    plan: &str,
     count: usize,
-    orders: &'static [Order],
+    orders: &[Order],
+) -> Result<(), Fail> {
+    let frames = vec![in alloc; (0, 1, 0); count]?;
+    let capture = capture_of(alloc, &frames)?;
+    let gate = Holds::new(alloc, orders)?;
+    let on = Resources {
+        rt,
+        alloc,
+        gate: &gate,
+    };
+    let done = run(&on, plan, &capture)?;
+    if gate.gave_up() {
+        return Err(Fail::new(format_args!("held too long: {plan}")));
+    }
+    let sent = check_run(rt, alloc, &done.host, plan.as_bytes(), &capture)?;
+    if sent != count {
+        return Err(Fail::new(format_args!("not all sent: {plan}")));
+    }
+    Ok(())
 }
 
-const ROWS: [Row; 2] = [
-    // three senders meet before their first packets: were they to go one after another, the first would wait for one that begins when
-    // it has ended
-    Row {
-        plan: "senders = 3\n[[station]]\n",
-        count: 3,
-        orders: &[((0, 0), (1, 0)), ((1, 0), (2, 0)), ((2, 0), (0, 0))],
-    },
-    // The second sender begins when the first has ended. The queue stops after each packet, and nothing but the senders' wakes opens it
-    // before the end: were it never woken, the rings of four slots would be full of the first packets, and most of the others dropped.
-    Row {
-        plan: "senders = 2\nirq_every = 1\n[[station]]\nlen = 4\nburst = 1\n",
-        count: 40,
-        orders: &[((1, 0), (0, 20))],
-    },
+/// Plans, and how many senders each has.
+const MEETINGS: [(&str, u32); 3] = [
+    ("senders = 3\n[[station]]\n", 3),
+    ("senders = 8\n[[station]]\n", 8),
+    ("version = 2\nsenders = 64\n[[station]]\n", 64),
 ];
 
 #[test]
-fn senders_are_under_way_at_once_and_wake_the_queues(rt: HostRuntime) -> Result<(), Fail> {
+fn all_senders_meet_before_their_first_packets(rt: HostRuntime) -> Result<(), Fail> {
     let alloc = rt.alloc();
-    for row in &ROWS {
-        let frames = vec![in alloc; (0, 1, 0); row.count]?;
-        let capture = capture_of(alloc, &frames)?;
-        let gate = Holds::new(alloc, row.orders)?;
-        let on = Resources {
-            rt: &rt,
-            alloc,
-            gate: &gate,
-        };
-        let done = run(&on, row.plan, &capture)?;
-        assert!(rt; !gate.gave_up(), "{}", row.plan);
-        let sent = check_run(&rt, alloc, &done.host, row.plan.as_bytes(), &capture)?;
-        assert_eq!(rt; sent, row.count);
+    for (plan, senders) in MEETINGS {
+        let orders = meeting(alloc, senders)?;
+        all_are_sent(&rt, alloc, plan, senders as usize, &orders)?;
     }
     Ok(())
+}
+
+/// The second sender begins when the first has ended. The queue stops after each packet, and nothing but the senders' wakes opens it
+/// before the end: were it never woken, the rings of four slots would be full of the first packets, and most of the others dropped.
+#[test]
+fn senders_wake_the_queues(rt: HostRuntime) -> Result<(), Fail> {
+    let plan = "senders = 2\nirq_every = 1\n[[station]]\nlen = 4\nburst = 1\n";
+    all_are_sent(&rt, rt.alloc(), plan, 40, &[((1, 0), (0, 20))])
 }

@@ -13,6 +13,17 @@ pub type Pass = (u32, u32);
 /// A pass, and another one that must have come before it goes on.
 pub type Order = (Pass, Pass);
 
+/// All senders meet before their first packets: each waits there for the next one, and the last for the first. Were two of them to go
+/// one after the other, some sender would wait for one that begins when it has ended.
+pub fn meeting(alloc: Global, senders: u32) -> Result<Vec<Order>, AllocError> {
+    let mut orders = Vec::new(alloc);
+    for sender in 1..senders {
+        orders.push(((sender.wrapping_sub(1), 0), (sender, 0)))?;
+    }
+    orders.push(((senders.wrapping_sub(1), 0), (0, 0)))?;
+    Ok(orders)
+}
+
 /// A pass that is held until another one has come.
 #[derive(Drop)]
 struct Hold {

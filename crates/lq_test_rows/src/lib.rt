@@ -32,3 +32,5 @@ mod senders;
 mod swaps;
 #[cfg(test)]
 mod tap;
+#[cfg(test)]
+mod tap_gates;

@@ -3,9 +3,14 @@
 use crate::done::run;
 use lq_pcap::gen_capture;
 use lq_test_fixture::{check_run, unheld};
+use std::alloc::Global;
+use std::marker::Sync;
+use std::sync::Wait;
 use std::test::Fail;
+use std::thread::Threads;
 
 /// A run over so many generated packets, of which at least so many are sent.
+#[derive(Clone, Copy)]
 struct Row {
     plan: &'static str,
     number: u32,
@@ -13,7 +18,7 @@ struct Row {
     least: usize,
 }
 
-const ROWS: [Row; 6] = [
+const ROWS: [Row; 7] = [
     // More packets than 16 bits count, over as many stations as a plan may have, of which each sends its packets at once. The run opens
     // 11 handles.
     Row {
@@ -49,6 +54,13 @@ const ROWS: [Row; 6] = [
         count: 10_000,
         least: 0,
     },
+    // as many children as a root may have, by sixteen senders, over rings that fill up
+    Row {
+        plan: "version = 3\nsenders = 16\nirq_every = 16\n[[station]]\nmq = 8\nlen = 16\nburst = 4\n",
+        number: 5,
+        count: 20_000,
+        least: 0,
+    },
     // the greatest numbers of version 2, over four queues
     Row {
         plan: "version = 2\nsenders = 64\n[[station]]\nlen = 65536\nqueues = 4\n",
@@ -58,15 +70,65 @@ const ROWS: [Row; 6] = [
     },
 ];
 
+fn check_row<R: Threads + Wait + Sync>(rt: &R, alloc: Global, row: &Row) -> Result<(), Fail> {
+    let capture = gen_capture(alloc, row.number, row.count.min(1_000_000))?;
+    let done = run(&unheld(rt, alloc), row.plan, &capture)?;
+    let sent = check_run(rt, alloc, &done.host, row.plan.as_bytes(), &capture)?;
+    if sent < row.least {
+        return Err(Fail::new(format_args!("too few sent: {}", row.plan)));
+    }
+    Ok(())
+}
+
 #[test]
 fn settles_each_packet(rt: HostRuntime) -> Result<(), Fail> {
-    let alloc = rt.alloc();
-    let on = unheld(&rt, alloc);
     for row in &ROWS {
-        let capture = gen_capture(alloc, row.number, row.count.min(1_000_000))?;
-        let done = run(&on, row.plan, &capture)?;
-        let sent = check_run(&rt, alloc, &done.host, row.plan.as_bytes(), &capture)?;
-        assert!(rt; sent >= row.least, "{}", row.plan);
+        check_row(&rt, rt.alloc(), row)?;
+    }
+    Ok(())
+}
+
+/// A quarter of the most packets, by one sender less than the most.
+const MANY: Row = Row {
+    plan: "version = 2\nsenders = 63\n[[station]]\nlen = 4096\n",
+    number: 6,
+    count: 250_000,
+    least: 0,
+};
+
+#[test]
+fn settles_250000_packets_of_63_senders(rt: HostRuntime) -> Result<(), Fail> {
+    check_row(&rt, rt.alloc(), &MANY)
+}
+
+/// A run of 64 packets under a plan, which comes to its end with ample memory.
+fn settles_64_packets<R: Threads + Wait + Sync>(
+    rt: &R,
+    alloc: Global,
+    plan: &str,
+    capture: &[u8],
+) -> Result<(), Fail> {
+    let on = unheld(rt, alloc);
+    let done = run(&on, plan, capture)?;
+    check_run(rt, alloc, &done.host, plan.as_bytes(), capture)?;
+    Ok(())
+}
+
+/// Each number of senders, and with them each number of children in turn.
+#[test]
+fn comes_to_its_end_at_each_size(rt: HostRuntime) -> Result<(), Fail> {
+    let alloc = rt.alloc();
+    let capture = gen_capture(alloc, 1, 64)?;
+    for senders in 1..65u32 {
+        let children = senders
+            .wrapping_sub(1)
+            .checked_rem(8)
+            .unwrap_or(0)
+            .wrapping_add(1);
+        let plan = format!(in alloc;
+            "version = 3\nsenders = {senders}\n[[station]]\nmq = {children}\nlen = 64\n"
+        )?;
+        settles_64_packets(&rt, alloc, plan.as_str(), &capture)?;
     }
     Ok(())
 }
