@@ -58,8 +58,7 @@ fn event_at<'a, R: Wait, D: TxDevice>(
     }
 }
 
-/// Does event `e`, the plan's next, which isn't a swap of a device: at each of its stations, the children of one group, in
-/// ascending order.
+/// Does event `e`, the plan's next, which isn't a swap of a device: at each of its stations, the children of one group.
 fn do_next_event<'r, 'a, R: Wait, D: TxDevice, G: Gate>(
     rt: &R,
     run: &Run<'r, 'a, D, G>,
