@@ -4,6 +4,8 @@ pub mod Counting
 pub mod Bringing
 -- what the reader reads
 pub mod Reading
+-- its rounds
+pub mod Rounding
 -- the fates, one by one
 pub mod Marking
 -- the seats, split and joined

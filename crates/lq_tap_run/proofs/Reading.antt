@@ -6,11 +6,13 @@ use Rattle.std.proofs.lemmas.List as lists
 use Rattle.lq_tap.specs.Told.{having_given_back, without_last}
 use Rattle.lq_tap.specs.Views.{View}
 
+-- what follows a place of a list, by a number of places
+pub rest_of : (xs : List ℕ) (half : ℕ) → take (length xs - half) (drop half xs) ≡ drop half xs
+rest_of xs half = ap (λ k. take k (drop half xs)) (sym (lists.length-drop half xs)) ∙ take-length (drop half xs)
+
 -- the two parts of a list
 pub in_two : (xs : List ℕ) (half : ℕ) → half ≤ length xs → xs ≡ take half xs ++ take (length xs - half) (drop half xs)
-in_two xs half le =
-    let rest : length (drop half xs) ≡ length xs - half = lists.length-drop half xs in
-    sym (take-append-drop half xs) ∙ ap (λ r. take half xs ++ r) (sym (take-length (drop half xs)) ∙ ap (λ k. take k (drop half xs)) rest)
+in_two xs half le = sym (take-append-drop half xs) ∙ ap (λ r. take half xs ++ r) (sym (rest_of xs half))
 
 kept_front : (xs ys : List ℕ) → take (length xs) (xs ++ ys) ≡ xs
 kept_front [] ys = refl

@@ -2,6 +2,7 @@
 ghost use Rattle.std.specs.Prelude.{◌≡◌, ◌+◌, ◌<◌, ◌≤◌, ◌++◌, length, vec_capacity, vec_len};
 ghost use Rattle.lq_tap.specs.Sees.{IsReaderOf, view};
 ghost use Rattle.lq_tap_run.specs.Reads.{HasRead, HasReadAll, IsReaderDone, ReadsOn};
+ghost use Rattle.lq_tap_run.specs.Rounds.{GivesHalf, ReadsToEnd, knowledge};
 
 use crate::shared::Run;
 use lq_gate::Gate;
@@ -36,6 +37,7 @@ fn read_half<R: Wait>(rt: &R, tap: &Tap, seat: &mut TapSeat, read: &mut Vec<u32>
     requires few { length (view seat.old).reader.destroyed ≤ length read.old.items }
     requires room { length (view seat.old).reader.taken ≤ vec_capacity read.old }
     ensures read { HasRead tap.now seat.new read.new.items }
+    ensures gives { GivesHalf tap.now.len batch.now (knowledge seat.old) (knowledge seat.new) }
     ensures on { ReadsOn seat.old seat.new }
     ensures room { vec_capacity read.new ≡ vec_capacity read.old }
 {
@@ -56,6 +58,7 @@ fn read_all<'r, R: Wait, G: Gate>(
     requires room { (view seat.old).about.packets ≤ vec_capacity read.old }
     requires batch { (0 < length batch.old) × (length batch.old ≤ 64) }
     ensures read { HasRead run.now.tap.now seat.new read.new.items × IsReaderDone seat.new }
+    ensures rounds { ReadsToEnd run.now.tap.now.len run.now.senders (length batch.old) (knowledge seat.old) (knowledge seat.new) }
     ensures on { ReadsOn seat.old seat.new }
 {
     let mut k = 0u32;
@@ -78,7 +81,7 @@ pub fn all_read<'r, R: Wait, G: Gate>(rt: &R, run: &Run<'r, G>, mut reader: Read
     requires read { HasRead run.now.tap.now reader.seat reader.read.items }
     requires room { (view reader.seat).about.packets ≤ vec_capacity reader.read }
     requires batch { (0 < vec_len reader.batch) × (vec_len reader.batch ≤ 64) }
-    ensures { HasReadAll run.now.tap.now reader.seat result }
+    ensures { HasReadAll run.now.tap.now run.now.senders (vec_len reader.batch) reader.seat result }
 {
     read_all(
         rt,

@@ -1,12 +1,13 @@
 //! The whole run: its memory is taken first, then the senders and the reader run side by side, and then their seats are joined.
 ghost use Rattle.std.specs.Prelude.{◌≡◌, ◌+◌, ◌<◌, ◌≤◌, ◌-◌, ℕ, [], IfOk, length, vec_capacity, vec_len};
-ghost use Rattle.lq_tap.specs.Sees.{IsMadeFor, IsReaderOf, setup, view};
+ghost use Rattle.lq_tap.specs.Sees.{IsMadeFor, IsReaderOf, setup, steps, view};
 ghost use Rattle.lq_tap.specs.Settled.{IsSettled};
 ghost use Rattle.lq_tap.specs.Views.{first_view};
 ghost use Rattle.lq_tap_fates.specs.Fates.{IsTapRun, IsTapWithin};
 ghost use Rattle.lq_tap_run.specs.Lanes.{AreDone, AreReady, CanPut};
 ghost use Rattle.lq_tap_run.specs.Marks.{AreMarkedFull};
 ghost use Rattle.lq_tap_run.specs.Reads.{CanRead, HasRead, HasReadAll, IsReaderDone, KeepsReads};
+ghost use Rattle.lq_tap_run.specs.Rounds.{ReadsByHalves};
 ghost use Rattle.lq_tap_run.specs.Runs.{AreSplit, HasJoined};
 
 use crate::fates::{mark_full, mark_read, unknown};
@@ -30,6 +31,8 @@ pub struct Tapped {
     pub fates: Vec<TapFate>,
     /// The packets that were read, in order.
     pub read: Vec<u32>,
+    /// The reader's seat, which has the steps that it made.
+    pub seat: TapSeat,
 }
 
 /// An empty list with room for so many.
@@ -57,6 +60,7 @@ fn make_lanes(
     ensures ready { IfOk result (λ lanes. AreReady tap.now packets senders lanes.items × (length lanes.items ≡ senders)) }
     ensures split { IfOk result (λ _. AreSplit tap.now senders senders seat.new) }
     ensures fresh { IfOk result (λ _. ((view seat.new).reader.taken ≡ []) × ((view seat.new).reader.destroyed ≡ [])) }
+    ensures steps { IfOk result (λ _. steps seat.new ≡ steps seat.old) }
 {
     senders_in_order();
     let room = packets as usize / senders as usize + 1;
@@ -97,7 +101,7 @@ fn put_and_read<'r, R: Threads + Wait + Sync, G: Gate>(
     requires room { run.now.packets ≤ vec_capacity reader.read }
     requires batch { (0 < vec_len reader.batch) × (vec_len reader.batch ≤ 64) }
     ensures lanes { AreDone run.now.tap.now run.now.packets run.now.senders result.0.items × (length result.0.items ≡ run.now.senders) }
-    ensures reader { HasReadAll run.now.tap.now reader.seat result.1 }
+    ensures reader { HasReadAll run.now.tap.now run.now.senders (vec_len reader.batch) reader.seat result.1 }
 {
     // Each side makes a `Run` of its own: of a closure that captures this one `join` would tell nothing.
     let Run {
@@ -122,7 +126,7 @@ fn put_and_read<'r, R: Threads + Wait + Sync, G: Gate>(
         },
         move || -> Reader
             requires { CanPut tap.now packets senders × CanRead tap.now reader }
-            ensures { HasReadAll tap.entry.now reader.seat result }
+            ensures { HasReadAll tap.entry.now senders (vec_len reader.batch) reader.seat result }
         {
             let shared = Run {
                 tap,
@@ -148,6 +152,7 @@ fn join_all<'r, G: Gate>(
     ensures joined { HasJoined run.now.tap.now run.now.packets run.now.senders 0 seat.new × IsSettled (view seat.new) }
     ensures reader { KeepsReads seat.old seat.new }
     ensures fates { AreMarkedFull run.now.packets (view seat.new).sender.fulls fates.new.items }
+    ensures steps { steps seat.new ≡ steps seat.old }
 {
     while let Some(lane) = lanes.pop() {
         let Lane { seat: from, full } = lane;
@@ -168,7 +173,8 @@ fn decide<'r, G: Gate>(
     requires split { AreSplit run.now.tap.now run.now.senders run.now.senders reader.seat }
     requires lanes { AreDone run.now.tap.now run.now.packets run.now.senders lanes.items × (length lanes.items ≡ run.now.senders) }
     requires fates { AreMarkedFull run.now.packets [] fates.items }
-    ensures { IsTapRun run.now.packets run.now.senders run.now.tap.now.len result.fates.items result.read.items }
+    ensures run { IsTapRun run.now.packets run.now.senders run.now.tap.now.len result.fates.items result.read.items }
+    ensures reader { (result.read.items ≡ reader.read.items) × (steps result.seat ≡ steps reader.seat) }
 {
     let Reader {
         mut seat,
@@ -177,7 +183,7 @@ fn decide<'r, G: Gate>(
     } = reader;
     join_all(run, &mut seat, lanes, &mut fates);
     mark_read(&mut fates, &read);
-    Tapped { fates, read }
+    Tapped { fates, read, seat }
 }
 
 /// Puts so many packets into a ring, packet n by sender n modulo `senders`, while a reader reads. Once it has its memory it
@@ -195,7 +201,10 @@ pub fn tap_all<R: Threads + Wait + Sync, G: Gate>(
 ) -> Result<Tapped, NoMemory>
     requires packets { packets ≤ 1000000 }
     requires within { IsTapWithin senders len batch }
-    ensures { IfOk result (λ tapped. IsTapRun packets senders len tapped.fates.items tapped.read.items) }
+    ensures run { IfOk result (λ tapped. IsTapRun packets senders len tapped.fates.items tapped.read.items) }
+    // The reader's steps: each batch was asked for with BATCH places, its second half was given back, and it went on until a batch was empty
+    // behind a look at which all senders had ended.
+    ensures reader { IfOk result (λ tapped. ReadsByHalves len senders batch tapped.read.items tapped.seat) }
 {
     let fates = unknown(on.alloc, packets)?;
     let (tap, mut seat) = Tap::make(on.alloc, packets, len, senders)?;

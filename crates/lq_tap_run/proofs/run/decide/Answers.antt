@@ -31,9 +31,9 @@ mark_read-requires-clause-once g c = λ n.
     subst (λ (xs : List ℕ). times n xs ≤ 1) (sym c.deref.ensures.value)
     (read_once _ _ _ _ _ (ends g (goal.at.mark_read-requires-clause-once g c).After-join_all) n)
 
-pub returns : goal.returns
-returns g c =
+pub returns-clause-run : goal.returns-clause-run
+returns-clause-run g c =
     let count = c.args.run.now.packets in let fulls = (view c.join_all.new.seat).sender.fulls in let fates = c.mark_read.new.fates.items in
-    is_run _ _ _ _ _ (ends g (goal.at.returns g c).After-join_all) fates
+    is_run _ _ _ _ _ (ends g (goal.at.returns-clause-run g c).After-join_all) fates
     (subst (λ (xs : List ℕ). AreMarked count fulls xs fates) c.deref.ensures.value
     (c.mark_read.ensures count fulls c.join_all.ensures.fates))

@@ -58,6 +58,7 @@ loop-lane-preserved g c =
       taken = ap (λ (v : View). v.reader.taken) is ∙ inv.taken;
       destroyed = ap (λ (v : View). v.reader.destroyed) is ∙ inv.destroyed;
       marked = subst (λ (fs : List (ℕ × ℕ)). AreMarkedFull c.args.run.now.packets fs c.mark_full.new.fates.items) (sym fulls) (c.mark_full.ensures c.args.run.now.packets old.sender.fulls inv.marked);
+      steps_are = c.join.ensures.steps ∙ inv.steps_are;
       lanes = rest_done c.args.run.now.tap.now c.args.run.now.packets c.args.run.now.senders c.loop-lane.lanes.items rest lane inv.lanes c.in-Some.ensures.items;
       few = (let few = inv.few in omega arith);
     }

@@ -1,5 +1,5 @@
 use Rattle.std.proofs.Common.{◌≡◌, ◌≤◌}
-use Rattle.lq_tap.specs.Sees.{view}
+use Rattle.lq_tap.specs.Sees.{steps, view}
 use Rattle.lq_tap.specs.Settled.{IsSettled}
 use Rattle.lq_tap_run.specs.Lanes.{AreDone}
 use Rattle.lq_tap_run.specs.Marks.{AreMarkedFull}
@@ -15,6 +15,7 @@ invariant-loop-lane g l = record {
   taken : (view l.seat).reader.taken ≡ (view l.fn.seat).reader.taken;
   destroyed : (view l.seat).reader.destroyed ≡ (view l.fn.seat).reader.destroyed;
   marked : AreMarkedFull l.run.packets (view l.seat).sender.fulls l.fates.items;
+  steps_are : steps l.seat ≡ steps l.fn.seat;
   lanes : AreDone l.run.tap.now l.run.packets l.run.senders l.lanes.items;
   few : l.lanes.len ≤ l.run.senders;
 }

@@ -35,6 +35,7 @@ loop-sender-preserved c =
         taken = ap (λ (v : View). v.reader.taken) is ∙ was.taken;
         destroyed = ap (λ (v : View). v.reader.destroyed) is ∙ was.destroyed;
       };
+      steps_are = c.split.ensures.steps ∙ inv.steps_are;
       ready = subst (λ (ls : List Lane). AreReady c.args.tap.now c.args.packets senders ls) (sym c.push_reserved.ensures.items)
           (one_more_ready c.args.tap.now c.args.packets senders lanes lane inv.ready (subst (λ k. IsLaneReady c.args.tap.now c.args.packets senders k lane) long ready));
       long = (let more = c.push_reserved.ensures.len in omega arith);
