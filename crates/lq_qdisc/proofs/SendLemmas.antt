@@ -11,13 +11,14 @@ use Rattle.lq_model.specs.declared.machine.Position.TheVariants.{Check, Leave, P
 use Rattle.lq_model.specs.declared.fate.Info.{Info}
 use Rattle.lq_account.specs.Trail.{is_own}
 use Rattle.lq_table.specs.Told.{is_set, looking, seen_by, seen_state, some_bit}
-use Rattle.lq_table.specs.Made.{◌⊳◌, did_load_state}
+use Rattle.lq_table.specs.Made.{Known, ◌⊳◌, did_load_state}
 use Rattle.lq_table.specs.Sees.{view, known, steps, IsElseSame, IsSameSeat, IsSeatOf}
 use Rattle.lq_table.specs.declared.shared.Cpu.{Cpu}
 use Rattle.lq_table.specs.declared.shared.Shared.{Shared}
 use Rattle.lq_table.specs.Views.{PacketPart, View}
 use Rattle.lq_qdisc.specs.Calls.{KeepsFates}
 use Rattle.lq_qdisc.specs.Steps.{with_state_loaded}
+use Rattle.lq_qdisc.specs.Parts.{BringsBy, ServesBy}
 use Rattle.lq_qdisc.specs.Sends.{Enqueues, HasCome, IsBringing, IsCallKept, IsFreeInside, IsInsideKept, came_as, trail_with}
 use Rattle.lq_qdisc.specs.declared.answers.Sending.{Sending}
 use Rattle.lq_qdisc.specs.declared.answers.Sending.TheVariants as sending
@@ -118,3 +119,39 @@ module _ {D : Type 0} where
     free = free_looked state b m same e;
     came = λ answer w h. come_looked t.infos.now n state answer (view b) (view m) w e h;
   }
+
+  -- A step that changes nothing that the parts of a transmit speak of, but the position.
+  pub record IsCalmStep (b m : Cpu D) : Type 0 where
+    pub seat : IsSameSeat b m
+    pub share : (view m).share ≡ (view b).share
+    pub packets : (view m).packets ≡ (view b).packets
+    pub locks : (view m).locks ≡ (view b).locks
+    pub control : (view m).control ≡ (view b).control
+    pub turns : (view m).turns ≡ (view b).turns
+    pub trail : (view m).trail ≡ (view b).trail
+    pub told : (view m).whole.told ≡ (view b).whole.told
+    pub settled : (view m).settled ≡ (view b).settled
+
+  pub serves_then : {by to : Known → Known → Type 0} (b m a : Cpu D) → IsCalmStep b m → ServesBy by m a → to (known b) (known a) → ServesBy to b a
+  serves_then b m a i r steps = record {
+    kept = inside_from b m a i.seat i.share i.packets i.locks i.control i.turns i.trail i.told r.kept;
+    fates = fates_then (view b) (view m) (view a) (fates_same (view b) (view m) i.settled) r.fates;
+    at = r.at;
+    free = r.free;
+    steps = steps;
+  }
+
+  pub brings_then : {by to : Known → Known → Type 0} (infos : List Info) (n : ℕ) (answer : Sending) (b m a : Cpu D) → IsCalmStep b m → BringsBy infos n answer by m a → to (known b) (known a) → BringsBy infos n answer to b a
+  brings_then infos n answer b m a i r steps = record {
+    kept = called_from b m a i.seat i.share i.control i.told r.kept;
+    fates = fates_then (view b) (view m) (view a) (fates_same (view b) (view m) i.settled) r.fates;
+    at = r.at;
+    free = r.free;
+    came = come_from infos n answer (view b) (view m) (view a) i.share i.packets i.turns i.trail r.came;
+    steps = steps;
+  }
+
+  -- and after a load of the state, which goes on with the packet
+  pub brings_looked_by : {by to : Known → Known → Type 0} (t : Shared D) (n state : ℕ) (answer : Sending) (b m a : Cpu D) → IsLooked t n state b m → BringsBy t.infos.now n answer by m a → to (known b) (known a)
+      → BringsBy t.infos.now n answer to b a
+  brings_looked_by t n state answer b m a l r steps = record { kept = l.call.kept a r.kept; fates = l.call.fates (view a) r.fates; at = r.at; free = r.free; came = l.came answer (view a) r.came; steps = steps }

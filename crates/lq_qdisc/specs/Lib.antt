@@ -15,3 +15,7 @@ pub mod Alone
 pub mod Steps
 -- what its calls ask of a seat, and what they leave of it
 pub mod Seats
+-- what the parts of a transmit ask, and what each leaves
+pub mod Parts
+-- what the parts of handing a packet to the device ask, and what each leaves
+pub mod Handing

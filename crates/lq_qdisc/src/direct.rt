@@ -1,23 +1,19 @@
 //! Handing a packet to the device.
-ghost use Rattle.std.specs.Prelude.{◌≡◌, ◌<◌, ◌≤◌, Bool, true, false, length, [], ◌∷◌, is_some, Some, None};
-ghost use Rattle.lq_device.specs.Station.{StationState, HasAnswered, with_slot};
+ghost use Rattle.std.specs.Prelude.{◌≡◌, ◌<◌, Bool, true, false, Some, None};
+ghost use Rattle.lq_device.specs.Station.{StationState, with_slot};
 ghost use Rattle.lq_model.specs.Account.{Back};
-ghost use Rattle.lq_model.specs.Device.{is_busy, is_hang};
+ghost use Rattle.lq_model.specs.Device.{is_busy};
 ghost use Rattle.lq_model.specs.Plan.{queue_in};
-ghost use Rattle.lq_model.specs.Words.{word_of};
-ghost use Rattle.lq_model.specs.declared.device.Tx.TheVariants.{Busy as NotSent};
-ghost use Rattle.lq_model.specs.declared.machine.Blocked.TheVariants.{InHand};
-ghost use Rattle.lq_model.specs.declared.machine.Position.TheVariants.{BlockedClear, Gate, StoreXoff, Unlock, Xmit};
-ghost use Rattle.lq_table.specs.Rule.{shown};
-ghost use Rattle.lq_table.specs.Sees.{view, known, steps, setup, position, slot, packet_at, carried, IsSeatOf, IsSameSeat, IsElseSame};
-ghost use Rattle.lq_table.specs.Told.{HasRoom, IsPacketOf, fate_sent, requeuing};
-ghost use Rattle.lq_table.specs.Solo.{solo, heard, missed_to, device_to};
-ghost use Rattle.lq_table.specs.Made.{did_set_missed, did_store_fate, ◌⊳◌};
+ghost use Rattle.lq_model.specs.declared.machine.Position.TheVariants.{Gate, StoreXoff, Xmit};
+ghost use Rattle.lq_table.specs.Sees.{view, known, steps, setup, position, slot, packet_at, carried, IsSeatOf, IsElseSame};
+ghost use Rattle.lq_table.specs.Told.{IsPacketOf};
+ghost use Rattle.lq_table.specs.Solo.{solo, heard};
 ghost use Rattle.lq_ring.specs.Seats.{KeepsSeatAndView};
-ghost use Rattle.lq_qdisc.specs.Steps.{ClearsAndSetsBy, DirectsBy, OffersBy, hung_stored, stops_stored};
-ghost use Rattle.lq_qdisc.specs.Calls.{ClearsMissedAlone, IsServing, IsKeptInRun, IsSettledSame};
-ghost use Rattle.lq_qdisc.specs.Direct.{SeesOpen, StaysAt, hearing_hung, hearing_stops, hung_below, run_after, sent_leads, stopped_by};
-ghost use Rattle.lq_qdisc.specs.Seats.{CarriesAccepted, CarriesDeviceWithRoom, GoesOnFrom, HandsOver, StoresSent};
+ghost use Rattle.lq_qdisc.specs.Steps.{DirectsBy, OffersBy, hung_stored};
+ghost use Rattle.lq_qdisc.specs.Calls.{IsServing, IsKeptInRun};
+ghost use Rattle.lq_qdisc.specs.Handing.{MayRequeueBusy, MayRequeueStopped, MaySettleSent, MayStartXmit, MayStop, RequeuesBusy, RequeuesStopped, SettlesSent, Stops, XmitsBy};
+ghost use Rattle.lq_qdisc.specs.Direct.{StaysAt, hearing_hung, hung_below, run_after};
+ghost use Rattle.lq_qdisc.specs.Seats.{CarriesDeviceWithRoom, GoesOnFrom, HandsOver};
 ghost use Rattle.lq_qdisc.specs.declared.answers.Through.TheVariants.{Yes};
 
 use crate::answers::{Through, Why};
@@ -47,14 +43,14 @@ pub fn direct_xmit<'a, D: TxDevice>(shared: &Shared<'a, D>, cpu: &mut Cpu<D>, n:
 {
     let queue = queue_of(shared, n);
     if shared.load_xoff(cpu, queue) != 0 {
-        lay_aside(shared, cpu, n, queue);
+        requeue_stopped(shared, cpu, n, queue);
         return Through::Back(Why::Stopped);
     }
-    offer(shared, cpu, n, queue)
+    start_xmit(shared, cpu, n, queue)
 }
 
 /// Lays packet `n` into the requeue slot, which is empty.
-fn put_back<D: TxDevice>(cpu: &mut Cpu<D>, n: u32)
+fn fill_requeue_slot<D: TxDevice>(cpu: &mut Cpu<D>, n: u32)
     requires station { (st : StationState) × (cpu.old.station ≡ Some st) × (st.slot ≡ None) }
     ensures same { KeepsSeatAndView cpu.old cpu.new }
     ensures station { (st : StationState) → cpu.old.station ≡ Some st → cpu.new.station ≡ Some (with_slot st (Some n)) }
@@ -67,29 +63,18 @@ fn put_back<D: TxDevice>(cpu: &mut Cpu<D>, n: u32)
 }
 
 /// The queue of packet `n` is stopped: `n` goes to the requeue slot, and MISSED is set.
-fn lay_aside<'a, D: TxDevice>(shared: &Shared<'a, D>, cpu: &mut Cpu<D>, n: u32, queue: u32)
+fn requeue_stopped<'a, D: TxDevice>(shared: &Shared<'a, D>, cpu: &mut Cpu<D>, n: u32, queue: u32)
     requires seat { IsSeatOf shared.now cpu.old }
-    requires queue { (queue < shared.now.queues) × (queue ≡ queue_in shared.now.infos.now n) }
-    requires at { (direct : Bool) × (position cpu.old ≡ BlockedClear (InHand (packet_at shared.now n) direct)) }
-    requires serving { IsServing cpu.old }
-    requires hand { ((view cpu.old).holder.hand ≡ Some n) × ((view cpu.old).holder.slot ≡ None) }
-    ensures kept { IsKeptInRun cpu.old cpu.new }
-    ensures serving { IsServing cpu.new }
-    ensures at { position cpu.new ≡ Unlock }
-    ensures run { (view cpu.new).place.run ≡ (view cpu.old).place.run }
-    ensures fates { IsSettledSame cpu.old cpu.new }
-    ensures holder { (view cpu.new).holder ≡ record (view cpu.old).holder { slot = Some n; hand = None } }
-    ensures heard { (view cpu.new).whole.state.past ≡ Back ∷ (view cpu.old).whole.state.past }
-    ensures stopped { ClearsAndSetsBy (setup shared.now) queue (known cpu.old) (known cpu.new) }
-    ensures sole { ClearsMissedAlone queue (λ s. missed_to true (heard Back s)) (view cpu.old) (view cpu.new) }
+    requires may { MayRequeueStopped shared.now n queue cpu.old }
+    ensures { RequeuesStopped shared.now n queue cpu.old cpu.new }
 {
     maybe_clear_missed(shared, cpu, queue);
-    put_back(cpu, n);
+    fill_requeue_slot(cpu, n);
     shared.set_missed(cpu);
 }
 
 /// Hands packet `n` to the device. Gives its answer, and the fate that the packet has where it was accepted.
-fn hand_over<D: TxDevice>(cpu: &mut Cpu<D>, queue: u32, n: u32) -> (Tx, Fate)
+fn ask_device<D: TxDevice>(cpu: &mut Cpu<D>, queue: u32, n: u32) -> (Tx, Fate)
     requires station { CarriesDeviceWithRoom cpu.old }
     ensures same { KeepsSeatAndView cpu.old cpu.new }
     ensures station { cpu.new.station ≡ Some (carried cpu.new) }
@@ -133,34 +118,20 @@ fn store_hung<'a, D: TxDevice>(shared: &Shared<'a, D>, cpu: &mut Cpu<D>)
 }
 
 /// The device is busy: packet `n` goes to the requeue slot, and MISSED is set.
-fn requeue<'a, D: TxDevice>(shared: &Shared<'a, D>, cpu: &mut Cpu<D>, n: u32)
+fn requeue_busy<'a, D: TxDevice>(shared: &Shared<'a, D>, cpu: &mut Cpu<D>, n: u32)
     requires seat { IsSeatOf shared.now cpu.old }
-    requires at { (direct : Bool) × (position cpu.old ≡ Xmit (packet_at shared.now n) direct) }
-    requires station { (slot cpu.old ≡ (0, None) ∷ []) × (is_some cpu.old.station ≡ true) }
-    requires hand { ((view cpu.old).holder.hand ≡ Some n) × ((view cpu.old).holder.slot ≡ None) }
-    requires called { HasAnswered NotSent (queue_in shared.now.infos.now n) n (shown (view cpu.old).holder) (carried cpu.old) }
-    ensures same { IsSameSeat cpu.old cpu.new × (cpu.new.indices ≡ cpu.old.indices) × (slot cpu.new ≡ slot cpu.old) }
-    ensures view { view cpu.new ≡ requeuing (carried cpu.old) (view cpu.old) }
-    ensures station { cpu.new.station ≡ Some (shown (view cpu.new).holder) }
-    ensures step { solo (view cpu.new) ≡ device_to (carried cpu.old).device (heard Back (missed_to true (solo (view cpu.old)))) }
-    ensures made { (was : Bool) × (steps cpu.new ≡ steps cpu.old ⊳ did_set_missed was) }
+    requires may { MayRequeueBusy shared.now n cpu.old }
+    ensures { RequeuesBusy cpu.old cpu.new }
 {
     shared.requeue(cpu);
-    put_back(cpu, n);
+    fill_requeue_slot(cpu, n);
 }
 
 /// Stores the fate of packet `n`, which the device has just accepted.
 fn settle_sent<'a, D: TxDevice>(shared: &Shared<'a, D>, cpu: &mut Cpu<D>, n: u32, fate: Fate)
     requires seat { IsSeatOf shared.now cpu.old }
-    requires packet { n < length shared.now.infos.now }
-    requires at { (direct : Bool) × (position cpu.old ≡ Xmit (packet_at shared.now n) direct) }
-    requires hand { (view cpu.old).holder.hand ≡ Some n }
-    requires room { HasRoom (view cpu.old).holder }
-    requires accepted { CarriesAccepted shared.now n cpu.old }
-    requires fate { fate ≡ fate_sent (view cpu.old).holder.station }
-    ensures same { IsElseSame cpu.old cpu.new }
-    ensures sent { StoresSent shared.now n cpu.old cpu.new }
-    ensures made { steps cpu.new ≡ steps cpu.old ⊳ did_store_fate (setup shared.now) n (word_of fate) }
+    requires may { MaySettleSent shared.now n fate cpu.old }
+    ensures { SettlesSent shared.now n fate cpu.old cpu.new }
 {
     shared.settle(cpu, n, fate);
 }
@@ -169,15 +140,8 @@ fn settle_sent<'a, D: TxDevice>(shared: &Shared<'a, D>, cpu: &mut Cpu<D>, n: u32
 /// that each queue is hung.
 fn stop<'a, D: TxDevice>(shared: &Shared<'a, D>, cpu: &mut Cpu<D>, queue: u32, answer: Tx)
     requires seat { IsSeatOf shared.now cpu.old }
-    requires queue { queue < shared.now.queues }
-    requires at { (direct : Bool) × (position cpu.old ≡ sent_leads answer queue direct (view cpu.old)) }
-    requires hung { (view cpu.old).holder.station.device.hung ≡ is_hang answer }
-    ensures same { IsElseSame cpu.old cpu.new }
-    ensures at { GoesOnFrom (λ direct. sent_leads answer queue direct (view cpu.old)) Yes cpu.old cpu.new }
-    ensures stays { StaysAt (view cpu.old) (view cpu.new) }
-    ensures heard { (view cpu.new).whole.state.past ≡ stopped_by answer queue shared.now.queues (view cpu.old).whole.state.past }
-    ensures step { solo (view cpu.new) ≡ hearing_stops answer queue shared.now.queues (solo (view cpu.old)) }
-    ensures made { steps cpu.new ≡ stops_stored (setup shared.now) answer queue (steps cpu.old) }
+    requires may { MayStop shared.now queue answer cpu.old }
+    ensures { Stops shared.now queue answer cpu.old cpu.new }
 {
     match answer {
         Tx::Sent | Tx::Busy => {}
@@ -187,25 +151,19 @@ fn stop<'a, D: TxDevice>(shared: &Shared<'a, D>, cpu: &mut Cpu<D>, queue: u32, a
 }
 
 /// Hands packet `n`, whose queue is open, to the device; what follows goes by its answer.
-fn offer<'a, D: TxDevice>(shared: &Shared<'a, D>, cpu: &mut Cpu<D>, n: u32, queue: u32) -> Through
+fn start_xmit<'a, D: TxDevice>(
+    shared: &Shared<'a, D>,
+    cpu: &mut Cpu<D>,
+    n: u32,
+    queue: u32,
+) -> Through
     requires seat { IsSeatOf shared.now cpu.old }
-    requires packet { IsPacketOf (setup shared.now) n × (queue ≡ queue_in shared.now.infos.now n) }
-    requires at { (direct : Bool) × (position cpu.old ≡ Xmit (packet_at shared.now n) direct) }
-    requires serving { IsServing cpu.old }
-    requires hand { (view cpu.old).holder.hand ≡ Some n }
-    requires room { HasRoom (view cpu.old).holder × ((view cpu.old).holder.station.device.hung ≡ false) }
-    requires open { SeesOpen queue (view cpu.old) }
-    ensures kept { IsKeptInRun cpu.old cpu.new }
-    ensures serving { IsServing cpu.new }
-    ensures at { GoesOnFrom (Xmit (packet_at shared.now n)) result cpu.old cpu.new }
-    ensures run { (view cpu.new).place.run ≡ run_after result (view cpu.old).place.run }
-    ensures empty { result ≡ Yes → ((view cpu.new).holder.hand ≡ None) × ((view cpu.new).holder.slot ≡ None) }
-    ensures trail { (view cpu.new).trail ≡ (view cpu.old).trail }
-    ensures offered { OffersBy (setup shared.now) result n queue (steps cpu.old) (known cpu.old) (known cpu.new) }
+    requires may { MayStartXmit shared.now n queue cpu.old }
+    ensures { XmitsBy (Xmit (packet_at shared.now n)) result (λ b a. OffersBy (setup shared.now) result n queue b.steps b a) cpu.old cpu.new }
 {
-    let (answer, fate) = hand_over(cpu, queue, n);
+    let (answer, fate) = ask_device(cpu, queue, n);
     if is_refusal(answer) {
-        requeue(shared, cpu, n);
+        requeue_busy(shared, cpu, n);
         return Through::Back(Why::Busy);
     }
     settle_sent(shared, cpu, n, fate);

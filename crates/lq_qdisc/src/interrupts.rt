@@ -13,7 +13,7 @@ ghost use Rattle.lq_qdisc.specs.Steps.{InterruptsBy, IsDueBy};
 ghost use Rattle.lq_qdisc.specs.Sends.{IsCallKept, IsReadyToSend, IsStill, IsStillWithHolder, Wakes, WakesBelow};
 ghost use Rattle.lq_qdisc.specs.Seats.{BringsStation};
 
-use crate::sends::{attempt, is_deactivated};
+use crate::sends::{is_deactivated, qdisc_run};
 use lq_device::TxDevice;
 use lq_run::{schedule, unschedule};
 use lq_table::{Cpu, Shared};
@@ -36,7 +36,7 @@ pub fn softirq<'a, D: TxDevice>(shared: &Shared<'a, D>, cpu: &mut Cpu<D>)
 {
     shared.enter(cpu);
     if is_due(shared, cpu) {
-        attempt(shared, cpu);
+        qdisc_run(shared, cpu);
     }
     shared.leave(cpu);
 }

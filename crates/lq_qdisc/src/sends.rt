@@ -1,19 +1,14 @@
 //! Transmits, and attempts to run the queue discipline.
-ghost use Rattle.std.specs.Prelude.{◌≡◌, ◌≢◌, ◌⊎◌, ◌<◌, Bool, true, false, not, ◌&&◌, length, slice_index, slice_set, Some, None};
-ghost use Rattle.lq_model.specs.declared.machine.Attempt.{Attempt};
-ghost use Rattle.lq_model.specs.declared.machine.Attempt.TheVariants.{Direct as ToPass};
-ghost use Rattle.lq_model.specs.declared.machine.Position.TheVariants.{Check, Gate, Idle, Leave, Put, Recheck, Try1};
-ghost use Rattle.lq_run.specs.Runs.{begins};
+ghost use Rattle.std.specs.Prelude.{◌≡◌, ◌<◌, Bool, None, length};
+ghost use Rattle.lq_model.specs.declared.machine.Position.TheVariants.{Put};
 ghost use Rattle.lq_ring.specs.Put.{no_locks};
 ghost use Rattle.lq_ring.specs.Seats.{GoesOnFromPut};
 ghost use Rattle.lq_table.specs.Sees.{view, known, steps, setup, position, slot, packet_at, IsSeatOf, IsSameSeat, IsElseSame};
-ghost use Rattle.lq_table.specs.Told.{IsPacketOf, is_set, some_bit, paying};
+ghost use Rattle.lq_table.specs.Told.{is_set, some_bit, paying};
 ghost use Rattle.lq_table.specs.Solo.{solo};
 ghost use Rattle.lq_qdisc.specs.Steps.{AttemptsBy, EnqueuesAndRunsBy, EnqueuesBy, FollowsBy, GoesBy, GoesLockedBy, GoesThroughBy, PassesBandsBy, RunsToEndBy, StoresRefused, TriesToPassBy};
-ghost use Rattle.lq_qdisc.specs.Calls.{IsServing, IsSlotOf, KeepsFates};
-ghost use Rattle.lq_qdisc.specs.Sends.{IsFreeInside, IsInsideKept, HasCome, IsBringing, IsCallKept, OwesRefused, serves_bands};
-ghost use Rattle.lq_qdisc.specs.Direct.{position_after};
-ghost use Rattle.lq_qdisc.specs.declared.answers.Through.TheVariants.{Yes};
+ghost use Rattle.lq_qdisc.specs.Sends.{IsBringing, OwesRefused};
+ghost use Rattle.lq_qdisc.specs.Parts.{BringsBy, MayBypass, MayCheck, MayEnqueue, MayEnqueueLocked, MayFollow, MayRecheck, MayRun, MayTryBypass, MayTryRun, ServesBy};
 
 use crate::answers::{Sending, Through};
 use crate::direct::direct_xmit;
@@ -44,31 +39,18 @@ pub(crate) fn is_deactivated(state: u64) -> bool
 /// include/net/sch_generic.h.
 fn run_to_end<'a, D: TxDevice>(shared: &Shared<'a, D>, cpu: &mut Cpu<D>)
     requires seat { IsSeatOf shared.now cpu.old }
-    requires at { position cpu.old ≡ begins (view cpu.old) }
-    requires serving { IsServing cpu.old }
-    requires hand { (view cpu.old).holder.hand ≡ None }
-    requires slot { IsSlotOf shared.now cpu.old }
-    requires begun { (view cpu.old).place.run ≡ 0 }
-    ensures kept { IsInsideKept cpu.old cpu.new }
-    ensures fates { KeepsFates (view cpu.old) (view cpu.new) }
-    ensures at { position cpu.new ≡ Leave }
-    ensures left { IsFreeInside cpu.new }
-    ensures served { RunsToEndBy (setup shared.now) (known cpu.old) (known cpu.new) }
+    requires may { MayRun shared.now cpu.old }
+    ensures { ServesBy (RunsToEndBy (setup shared.now)) cpu.old cpu.new }
 {
     run(shared, cpu);
     end(shared, cpu);
 }
 
 /// Tries the run lock, and serves the bands where it is got: `qdisc_run` of include/net/pkt_sched.h.
-pub(crate) fn attempt<'a, D: TxDevice>(shared: &Shared<'a, D>, cpu: &mut Cpu<D>)
+pub(crate) fn qdisc_run<'a, D: TxDevice>(shared: &Shared<'a, D>, cpu: &mut Cpu<D>)
     requires seat { IsSeatOf shared.now cpu.old }
-    requires at { (a : Attempt) × (position cpu.old ≡ Try1 a) × (serves_bands a ≡ true) }
-    requires ready { IsFreeInside cpu.old }
-    ensures kept { IsInsideKept cpu.old cpu.new }
-    ensures fates { KeepsFates (view cpu.old) (view cpu.new) }
-    ensures at { position cpu.new ≡ Leave }
-    ensures left { IsFreeInside cpu.new }
-    ensures attempted { AttemptsBy (setup shared.now) (known cpu.old) (known cpu.new) }
+    requires may { MayTryRun cpu.old }
+    ensures { ServesBy (AttemptsBy (setup shared.now)) cpu.old cpu.new }
 {
     if begin(shared, cpu) {
         run_to_end(shared, cpu);
@@ -102,47 +84,31 @@ fn enqueue<'a, D: TxDevice, R: Wait>(
 }
 
 /// Puts packet `n` into its band, and then tries to run the queue discipline; it does so after a drop too.
-fn send_through<'a, D: TxDevice, R: Wait>(
+fn enqueue_and_run<'a, D: TxDevice, R: Wait>(
     rt: &R,
     shared: &Shared<'a, D>,
     cpu: &mut Cpu<D>,
     n: u32,
 ) -> Sending
     requires seat { IsSeatOf shared.now cpu.old }
-    requires at { position cpu.old ≡ Put (packet_at shared.now n) false }
-    requires packet { IsBringing shared.now n cpu.old }
-    requires free { IsFreeInside cpu.old }
-    ensures kept { IsCallKept cpu.old cpu.new }
-    ensures fates { KeepsFates (view cpu.old) (view cpu.new) }
-    ensures at { position cpu.new ≡ Leave }
-    ensures free { IsFreeInside cpu.new }
-    ensures came { HasCome shared.now.infos.now n result (view cpu.old) (view cpu.new) }
-    ensures goes { GoesThroughBy (setup shared.now) n result (known cpu.old) (known cpu.new) }
+    requires may { MayEnqueue shared.now n cpu.old }
+    ensures { BringsBy shared.now.infos.now n result (GoesThroughBy (setup shared.now) n result) cpu.old cpu.new }
 {
     let sending = enqueue(rt, shared, cpu, n);
-    attempt(shared, cpu);
+    qdisc_run(shared, cpu);
     sending
 }
 
 /// Puts packet `n` into its band under the run lock, where something may be held, and serves the bands.
-fn send_held<'a, D: TxDevice, R: Wait>(
+fn enqueue_and_run_locked<'a, D: TxDevice, R: Wait>(
     rt: &R,
     shared: &Shared<'a, D>,
     cpu: &mut Cpu<D>,
     n: u32,
 ) -> Sending
     requires seat { IsSeatOf shared.now cpu.old }
-    requires at { position cpu.old ≡ Put (packet_at shared.now n) true }
-    requires packet { IsBringing shared.now n cpu.old }
-    requires serving { IsServing cpu.old }
-    requires hand { (view cpu.old).holder.hand ≡ None }
-    requires slot { IsSlotOf shared.now cpu.old }
-    ensures kept { IsCallKept cpu.old cpu.new }
-    ensures fates { KeepsFates (view cpu.old) (view cpu.new) }
-    ensures at { position cpu.new ≡ Leave }
-    ensures free { IsFreeInside cpu.new }
-    ensures came { HasCome shared.now.infos.now n result (view cpu.old) (view cpu.new) }
-    ensures goes { EnqueuesAndRunsBy (setup shared.now) n result (known cpu.old) (known cpu.new) }
+    requires may { MayEnqueueLocked shared.now n cpu.old }
+    ensures { BringsBy shared.now.infos.now n result (EnqueuesAndRunsBy (setup shared.now) n result) cpu.old cpu.new }
 {
     let sending = enqueue(rt, shared, cpu, n);
     run_to_end(shared, cpu);
@@ -151,16 +117,10 @@ fn send_held<'a, D: TxDevice, R: Wait>(
 
 /// After a packet that went past the bands: serves the bands where MISSED or DRAINING was set meanwhile, and releases the run
 /// lock.
-fn follow<'a, D: TxDevice>(shared: &Shared<'a, D>, cpu: &mut Cpu<D>, through: Through)
+fn run_after_bypass<'a, D: TxDevice>(shared: &Shared<'a, D>, cpu: &mut Cpu<D>, through: Through)
     requires seat { IsSeatOf shared.now cpu.old }
-    requires at { position cpu.old ≡ position_after through true (view cpu.old) }
-    requires serving { IsServing cpu.old }
-    requires empty { through ≡ Yes → ((view cpu.old).holder.hand ≡ None) × ((view cpu.old).holder.slot ≡ None) }
-    ensures kept { IsInsideKept cpu.old cpu.new }
-    ensures fates { KeepsFates (view cpu.old) (view cpu.new) }
-    ensures at { position cpu.new ≡ Leave }
-    ensures free { IsFreeInside cpu.new }
-    ensures follows { FollowsBy (setup shared.now) through (known cpu.old) (known cpu.new) }
+    requires may { MayFollow through cpu.old }
+    ensures { ServesBy (FollowsBy (setup shared.now) through) cpu.old cpu.new }
 {
     if through == Through::Yes && is_non_empty(shared.load_state(cpu)) {
         run_to_end(shared, cpu);
@@ -170,74 +130,51 @@ fn follow<'a, D: TxDevice>(shared: &Shared<'a, D>, cpu: &mut Cpu<D>, through: Th
 }
 
 /// Hands packet `n` to the device, past the bands: neither MISSED nor DRAINING was set under the run lock.
-fn send_past<'a, D: TxDevice>(shared: &Shared<'a, D>, cpu: &mut Cpu<D>, n: u32)
+fn xmit_bypass<'a, D: TxDevice>(shared: &Shared<'a, D>, cpu: &mut Cpu<D>, n: u32)
     requires seat { IsSeatOf shared.now cpu.old }
-    requires at { position cpu.old ≡ Gate (packet_at shared.now n) true }
-    requires packet { IsPacketOf (setup shared.now) n }
-    requires serving { IsServing cpu.old }
-    requires hand { (view cpu.old).holder.hand ≡ Some n }
-    ensures kept { IsInsideKept cpu.old cpu.new }
-    ensures fates { KeepsFates (view cpu.old) (view cpu.new) }
-    ensures at { position cpu.new ≡ Leave }
-    ensures free { IsFreeInside cpu.new }
-    ensures past { PassesBandsBy (setup shared.now) n (known cpu.old) (known cpu.new) }
+    requires may { MayBypass shared.now n cpu.old }
+    ensures { ServesBy (PassesBandsBy (setup shared.now) n) cpu.old cpu.new }
 {
     let through = direct_xmit(shared, cpu, n);
-    follow(shared, cpu, through);
+    run_after_bypass(shared, cpu, through);
 }
 
 /// Under the run lock: packet `n` goes past the bands where the state, loaded again, has neither MISSED nor DRAINING set; else
 /// through its band.
-fn send_locked<'a, D: TxDevice, R: Wait>(
+fn bypass_locked<'a, D: TxDevice, R: Wait>(
     rt: &R,
     shared: &Shared<'a, D>,
     cpu: &mut Cpu<D>,
     n: u32,
 ) -> Sending
     requires seat { IsSeatOf shared.now cpu.old }
-    requires at { position cpu.old ≡ Recheck (packet_at shared.now n) }
-    requires packet { IsBringing shared.now n cpu.old × IsPacketOf (setup shared.now) n }
-    requires serving { IsServing cpu.old }
-    requires hand { (view cpu.old).holder.hand ≡ None }
-    requires slot { IsSlotOf shared.now cpu.old }
-    ensures kept { IsCallKept cpu.old cpu.new }
-    ensures fates { KeepsFates (view cpu.old) (view cpu.new) }
-    ensures at { position cpu.new ≡ Leave }
-    ensures free { IsFreeInside cpu.new }
-    ensures came { HasCome shared.now.infos.now n result (view cpu.old) (view cpu.new) }
-    ensures goes { GoesLockedBy (setup shared.now) n result (known cpu.old) (known cpu.new) }
+    requires may { MayRecheck shared.now n cpu.old }
+    ensures { BringsBy shared.now.infos.now n result (GoesLockedBy (setup shared.now) n result) cpu.old cpu.new }
 {
     let state = shared.recheck(cpu, n);
     if is_non_empty(state) {
-        return send_held(rt, shared, cpu, n);
+        return enqueue_and_run_locked(rt, shared, cpu, n);
     }
-    send_past(shared, cpu, n);
+    xmit_bypass(shared, cpu, n);
     Sending::Direct
 }
 
 /// Packet `n` may go past the bands, if the run lock is free: `__dev_xmit_skb` of net/core/dev.c for a qdisc with
 /// `TCQ_F_CAN_BYPASS` that `nolock_qdisc_is_empty` calls empty.
-fn send_try<'a, D: TxDevice, R: Wait>(
+fn try_bypass<'a, D: TxDevice, R: Wait>(
     rt: &R,
     shared: &Shared<'a, D>,
     cpu: &mut Cpu<D>,
     n: u32,
 ) -> Sending
     requires seat { IsSeatOf shared.now cpu.old }
-    requires at { position cpu.old ≡ Try1 (ToPass (packet_at shared.now n)) }
-    requires packet { IsBringing shared.now n cpu.old × IsPacketOf (setup shared.now) n }
-    requires free { IsFreeInside cpu.old }
-    ensures kept { IsCallKept cpu.old cpu.new }
-    ensures fates { KeepsFates (view cpu.old) (view cpu.new) }
-    ensures at { position cpu.new ≡ Leave }
-    ensures free { IsFreeInside cpu.new }
-    ensures came { HasCome shared.now.infos.now n result (view cpu.old) (view cpu.new) }
-    ensures goes { TriesToPassBy (setup shared.now) n result (known cpu.old) (known cpu.new) }
+    requires may { MayTryBypass shared.now n cpu.old }
+    ensures { BringsBy shared.now.infos.now n result (TriesToPassBy (setup shared.now) n result) cpu.old cpu.new }
 {
     if begin(shared, cpu) {
-        send_locked(rt, shared, cpu, n)
+        bypass_locked(rt, shared, cpu, n)
     } else {
-        send_through(rt, shared, cpu, n)
+        enqueue_and_run(rt, shared, cpu, n)
     }
 }
 
@@ -258,29 +195,22 @@ fn refuse<'a, D: TxDevice>(shared: &Shared<'a, D>, cpu: &mut Cpu<D>, n: u32, sta
 
 /// What a transmit of packet `n` does between its two steps on the calls inside: `__dev_xmit_skb` of net/core/dev.c, the
 /// part for a qdisc with `TCQ_F_NOLOCK`.
-pub(crate) fn send<'a, D: TxDevice, R: Wait>(
+pub(crate) fn xmit_skb<'a, D: TxDevice, R: Wait>(
     rt: &R,
     shared: &Shared<'a, D>,
     cpu: &mut Cpu<D>,
     n: u32,
 ) -> Sending
     requires seat { IsSeatOf shared.now cpu.old }
-    requires at { position cpu.old ≡ Check (packet_at shared.now n) }
-    requires packet { IsBringing shared.now n cpu.old × IsPacketOf (setup shared.now) n }
-    requires free { IsFreeInside cpu.old }
-    ensures kept { IsCallKept cpu.old cpu.new }
-    ensures fates { KeepsFates (view cpu.old) (view cpu.new) }
-    ensures at { position cpu.new ≡ Leave }
-    ensures free { IsFreeInside cpu.new }
-    ensures came { HasCome shared.now.infos.now n result (view cpu.old) (view cpu.new) }
-    ensures goes { GoesBy (setup shared.now) n result (known cpu.old) (known cpu.new) }
+    requires may { MayCheck shared.now n cpu.old }
+    ensures { BringsBy shared.now.infos.now n result (GoesBy (setup shared.now) n result) cpu.old cpu.new }
 {
     let state = shared.check(cpu, n);
     if is_deactivated(state) {
         return refuse(shared, cpu, n, state);
     }
     if shared.bypass() && !is_non_empty(state) {
-        return send_try(rt, shared, cpu, n);
+        return try_bypass(rt, shared, cpu, n);
     }
-    send_through(rt, shared, cpu, n)
+    enqueue_and_run(rt, shared, cpu, n)
 }

@@ -8,7 +8,7 @@ ghost use Rattle.lq_qdisc.specs.Sends.{IsCallKept, IsReadyToSend, IsRefusedAsOnT
 ghost use Rattle.lq_qdisc.specs.Seats.{BringsPacket, FindsOtherTurn, HasOwnerOf, IsNotTurnOf, IsPacketOfStation, IsTurnOf};
 
 use crate::answers::Sending;
-use crate::sends::send;
+use crate::sends::xmit_skb;
 use lq_device::TxDevice;
 use lq_table::{Cpu, Shared};
 use std::sync::Wait;
@@ -47,7 +47,7 @@ pub fn transmit<'a, D: TxDevice, R: Wait>(
         return Sending::OutOfTurn { found };
     }
     shared.enter(cpu);
-    let sending = send(rt, shared, cpu, n);
+    let sending = xmit_skb(rt, shared, cpu, n);
     shared.leave(cpu);
     shared.give_turn(cpu, n);
     sending

@@ -22,8 +22,8 @@ returns-clause-interrupts g c =
         due = c.is_due.result;
         cleared = known c.is_due.new.cpu;
         begins = due;
-        last = known w.attempt.new.cpu;
-        serves = λ _. w.attempt.ensures.attempted;
+        last = known w.qdisc_run.new.cpu;
+        serves = λ _. w.qdisc_run.ensures.steps;
         leaves = λ off. cc;
         ends = λ j. record { view = (l.view ∙ ap (λ x. passing (view x)) w.cpu-is) j; steps = (l.made ∙ ap (λ x. steps x ⊳ did_leave) w.cpu-is) j };
         step = l.step ∙ ap (λ x. solo (view x)) w.cpu-is;
@@ -53,10 +53,10 @@ returns-clause-kept g c =
     let told = due_keeps (λ (v : View). v.whole.told) due old new (λ _ _. refl) (λ _ _ _. refl) d.due ∙ ap (λ (v : View). v.whole.told) e.view in
     elim c.if-is_due.branch [
       | then-is_due w ↦ called_from c.args.cpu.now c.is_due.new.cpu c.leave.new.cpu (d.same.0.0 ∙ e.same.0.0, d.same.0.1 ∙ e.same.0.1) share control told (record {
-        seat = (l.same.0.0 ∙ (ap (λ x. x.known.seat.table_id) w.cpu-is ∙ w.attempt.ensures.kept.seat.0), l.same.0.1 ∙ (ap (λ x. x.known.seat.id) w.cpu-is ∙ w.attempt.ensures.kept.seat.1));
-        share = ap (λ (v : View). v.share) l.view ∙ (ap (λ x. (view x).share) w.cpu-is ∙ w.attempt.ensures.kept.share);
-        control = ap (λ (v : View). v.control) l.view ∙ (ap (λ x. (view x).control) w.cpu-is ∙ w.attempt.ensures.kept.control);
-        told = ap (λ (v : View). v.whole.told) l.view ∙ (ap (λ x. (view x).whole.told) w.cpu-is ∙ w.attempt.ensures.kept.told);
+        seat = (l.same.0.0 ∙ (ap (λ x. x.known.seat.table_id) w.cpu-is ∙ w.qdisc_run.ensures.kept.seat.0), l.same.0.1 ∙ (ap (λ x. x.known.seat.id) w.cpu-is ∙ w.qdisc_run.ensures.kept.seat.1));
+        share = ap (λ (v : View). v.share) l.view ∙ (ap (λ x. (view x).share) w.cpu-is ∙ w.qdisc_run.ensures.kept.share);
+        control = ap (λ (v : View). v.control) l.view ∙ (ap (λ x. (view x).control) w.cpu-is ∙ w.qdisc_run.ensures.kept.control);
+        told = ap (λ (v : View). v.whole.told) l.view ∙ (ap (λ x. (view x).whole.told) w.cpu-is ∙ w.qdisc_run.ensures.kept.told);
       })
       | else-is_due w ↦ called_from c.args.cpu.now c.is_due.new.cpu c.leave.new.cpu (d.same.0.0 ∙ e.same.0.0, d.same.0.1 ∙ e.same.0.1) share control told (record {
         seat = (l.same.0.0 ∙ ap (λ x. x.known.seat.table_id) w.cpu-is, l.same.0.1 ∙ ap (λ x. x.known.seat.id) w.cpu-is);
@@ -71,6 +71,6 @@ returns-clause-fates g c =
     let l = c.leave.ensures in let v = view c.args.cpu.now in let m = view c.is_due.new.cpu in let w = view c.leave.new.cpu in
     let before = fates_same v m (due_keeps (λ (x : View). x.settled) c.is_due.result (known c.enter.new.cpu) (known c.is_due.new.cpu) (λ _ _. refl) (λ _ _ _. refl) c.is_due.ensures.due ∙ ap (λ (x : View). x.settled) c.enter.ensures.view) in
     elim c.if-is_due.branch [
-      | then-is_due x ↦ fates_then v m w before (x.attempt.ensures.fates.0, ap (λ (y : View). y.settled) l.view ∙ (ap (λ y. (view y).settled) x.cpu-is ∙ x.attempt.ensures.fates.1))
+      | then-is_due x ↦ fates_then v m w before (x.qdisc_run.ensures.fates.0, ap (λ (y : View). y.settled) l.view ∙ (ap (λ y. (view y).settled) x.cpu-is ∙ x.qdisc_run.ensures.fates.1))
       | else-is_due x ↦ fates_then v m w before (fates_same m w (ap (λ (y : View). y.settled) l.view ∙ ap (λ y. (view y).settled) x.cpu-is))
     ]

@@ -1,0 +1,121 @@
+use Rattle.std.proofs.Common.{◌≡◌, rules, Bool, true, List, ap, sym, ◌∙◌, subst, is_some, Option}
+use Rattle.lq_device.specs.Station.{HasAnswered, StationState}
+use Rattle.lq_model.specs.Account.{Back}
+use Rattle.lq_model.specs.Words.{word_of}
+use Rattle.lq_model.specs.declared.device.Tx.{Tx}
+use Rattle.lq_model.specs.declared.device.Tx.TheVariants.{Busy}
+use Rattle.lq_model.specs.declared.machine.Position.TheVariants.{Xmit}
+use Rattle.lq_table.specs.Made.{Made, ◌⊳◌, did_set_missed, did_store_fate}
+use Rattle.lq_table.specs.Rule.{shown}
+use Rattle.lq_table.specs.Sees.{view, setup, carried, packet_at, position}
+use Rattle.lq_table.specs.Solo.{solo, heard, missed_to, device_to}
+use Rattle.lq_table.specs.Told.{fate_sent, requeuing}
+use Rattle.lq_table.specs.Views.{View, HolderPart, Setup}
+use Rattle.lq_qdisc.specs.Direct.{IsSentAs}
+use Rattle.lq_qdisc.specs.Steps.{stops_stored}
+use Rattle.lq_qdisc.proofs.DirectLemmas.{accepts, busy_at, busy_is, called_at, kept_sent, sent_from, serves_sent}
+use Rattle.lq_qdisc.proofs.TakeLemmas.{seat_same}
+use Rattle.lq_qdisc.proofs.direct.start_xmit.Goals as goal
+use Rattle.lq_qdisc.proofs.direct.start_xmit.Goals.{After-settle_sent, Then-is_refusal}
+
+-- the device was called with the packet, and is busy
+refused : (g : _) (c : Then-is_refusal g)
+    → HasAnswered Busy c.args.queue c.args.n (shown (view c.args.cpu.now).holder) (carried c.ask_device-answer.new.cpu)
+refused g c =
+    let h = c.ask_device-answer in let busy = busy_is h.result.0 (sym c.is_refusal.ensures ∙ c.if-is_refusal.true) in
+    subst (λ (a : Tx). HasAnswered a c.args.queue c.args.n (shown (view c.args.cpu.now).holder) (carried h.new.cpu)) busy
+    (h.ensures.handed _ c.requires.may.serving.0.1).1
+
+-- it accepted the packet, and the packet's fate was stored
+abbrev IsSent : (g : _) → After-settle_sent g → Bool → Type 0
+IsSent g c direct =
+    let h = c.ask_device-answer in
+    IsSentAs h.result.0 c.args.n c.args.queue direct (carried h.new.cpu) (view c.args.cpu.now) (view c.settle_sent.new.cpu)
+
+sent_at : (g : _) (c : After-settle_sent g) (direct : Bool)
+    → position c.args.cpu.now ≡ Xmit (packet_at c.args.shared.now c.args.n) direct → IsSent g c direct
+sent_at g c direct here =
+    let h = c.ask_device-answer in let m = h.new.cpu in let called = (h.ensures.handed _ c.requires.may.serving.0.1).1 in
+    sent_from c.args.shared.now c.args.cpu.now m c.settle_sent.new.cpu c.args.n c.args.queue h.result.0 c.requires.may.queue_is h.ensures.same.3
+    (sym c.is_refusal.ensures ∙ c.if-is_refusal.false) called c.settle_sent.ensures.sent direct here
+
+sent : (g : _) (c : After-settle_sent g) → IsSent g c c.requires.may.at.0
+sent g c = sent_at g c c.requires.may.at.0 c.requires.may.at.1
+
+pub stop-requires-clause-seat : goal.stop-requires-clause-seat
+stop-requires-clause-seat g c κs within =
+    let share = (sent g (goal.at.stop-requires-clause-seat g c).After-settle_sent).share in
+    let h = c.ask_device-answer.ensures.same.0 in let s = c.settle_sent.ensures.same.0 in
+    seat_same c.args.shared.now c.args.cpu.now c.settle_sent.new.cpu (s.0 ∙ h.0, s.1 ∙ h.1) share c.requires.seat
+
+pub requeue_busy-requires-clause-may : goal.requeue_busy-requires-clause-may
+requeue_busy-requires-clause-may g c κs within =
+    let h_ = c.ask_device-answer.ensures in record {
+      at = search rules;
+      slot_at = h_.same.2 ∙ c.requires.may.serving.0.0;
+      station = ap (λ (s : Option StationState). is_some s) h_.station;
+      hand = search rules;
+      empty = search rules;
+      called = let called = refused g (goal.at.requeue_busy-requires-clause-may g c).Then-is_refusal in let h = c.ask_device-answer in called_at c.args.shared.now c.args.cpu.now h.new.cpu c.args.n c.args.queue Busy c.requires.may.queue_is h.ensures.same.3 called;
+    }
+
+pub returns-then-is_refusal : goal.returns-then-is_refusal
+returns-then-is_refusal g c =
+    let called = refused g (goal.at.returns-then-is_refusal g c).Then-is_refusal in
+    let same = c.ask_device-answer.ensures.same.3 in let st = carried c.ask_device-answer.new.cpu in let r = c.requeue_busy.ensures in record {
+      kept = search rules;
+      serving = search rules;
+      at = search rules;
+      run = search rules;
+      empty = search rules;
+      trail = search rules;
+      steps = (
+        busy_at c.args.n c.args.queue st (view c.args.cpu.now) (view c.requeue_busy.new.cpu) c.requires.may.hand called
+            (r.requeued ∙ ap (λ (v : View). requeuing st v) same)
+            (r.step ∙ ap (λ (v : View). device_to st.device (heard Back (missed_to true (solo v)))) same)
+            c.requires.may.is_open,
+        r.made.0,
+        r.made.1 ∙ ap (λ (xs : List Made). xs ⊳ did_set_missed r.made.0) c.ask_device-answer.ensures.made,
+      );
+    }
+
+pub settle_sent-requires-clause-may : goal.settle_sent-requires-clause-may
+settle_sent-requires-clause-may g c κs within = record {
+  within = search rules;
+  at = search rules;
+  hand = search rules;
+  room = search rules;
+  accepted = let h = c.ask_device-answer in let called = (h.ensures.handed _ c.requires.may.serving.0.1).1 in (
+    h.result.0,
+    sym c.is_refusal.ensures ∙ c.if-is_refusal.false,
+    called_at c.args.shared.now c.args.cpu.now h.new.cpu c.args.n c.args.queue h.result.0 c.requires.may.queue_is h.ensures.same.3 called,
+  );
+  fate_is = let h = c.ask_device-answer.ensures in (h.handed _ c.requires.may.serving.0.1).0 ∙ ap (λ (v : View). fate_sent v.holder.station) (sym h.same.3);
+}
+
+pub stop-requires-clause-may : goal.stop-requires-clause-may
+stop-requires-clause-may g c κs within = record {
+  within = search rules;
+  at = (c.requires.may.at.0, (sent g (goal.at.stop-requires-clause-may g c).After-settle_sent).at);
+  hung = ap (λ (x : HolderPart). x.station.device.hung) (sent g (goal.at.stop-requires-clause-may g c).After-settle_sent).holder ∙ (c.ask_device-answer.ensures.handed _ c.requires.may.serving.0.1).1.answers.hung;
+}
+
+pub returns : goal.returns
+returns g c = record {
+  kept = let s = sent g (goal.at.returns g c).After-settle_sent in let h = c.ask_device-answer in let stop = c.stop.ensures in kept_sent _ _ _ c.requires.may.at.0 _ c.args.cpu.now h.new.cpu c.settle_sent.new.cpu c.stop.new.cpu h.ensures.same.0 h.ensures.same.1 c.settle_sent.ensures.same stop.same s stop.stays;
+  serving = let s = sent g (goal.at.returns g c).After-settle_sent in let h = c.ask_device-answer in let stop = c.stop.ensures in serves_sent _ _ _ c.requires.may.at.0 c.args.cpu.now h.new.cpu c.settle_sent.new.cpu c.stop.new.cpu c.requires.may.serving h.ensures.same.2 h.ensures.station (h.ensures.handed _ c.requires.may.serving.0.1).1 c.settle_sent.ensures.same stop.same s stop.stays;
+  at = λ direct here. c.stop.ensures.at direct (sent_at g (goal.at.returns g c).After-settle_sent direct here).at;
+  run = c.stop.ensures.stays.run ∙ (sent g (goal.at.returns g c).After-settle_sent).run;
+  empty = λ _. let holder = c.stop.ensures.stays.holder ∙ (sent g (goal.at.returns g c).After-settle_sent).holder in (ap (λ (x : HolderPart). x.hand) holder, ap (λ (x : HolderPart). x.slot) holder ∙ c.requires.may.room.2);
+  trail = c.stop.ensures.stays.trail ∙ (sent g (goal.at.returns g c).After-settle_sent).trail;
+  steps = let s = sent g (goal.at.returns g c).After-settle_sent in let stop = c.stop.ensures in
+      let h = c.ask_device-answer in let handed = h.ensures.handed _ c.requires.may.serving.0.1 in let k = setup c.args.shared.now in
+      let fate_is : h.result.1 ≡ fate_sent (view c.args.cpu.now).holder.station = handed.0 in (
+        accepts h.result.0 c.args.n c.args.queue c.args.shared.now.queues c.requires.may.at.0 _ (view c.args.cpu.now)
+            (view c.settle_sent.new.cpu) (view c.stop.new.cpu) (sym c.is_refusal.ensures ∙ c.if-is_refusal.false) handed.1
+            (ap (λ (x : Setup). x.queues) c.requires.seat.2) s stop.stays stop.past stop.step c.requires.may.is_open,
+        stop.made
+            ∙ ((λ j. stops_stored k h.result.0 c.args.queue (c.settle_sent.ensures.made j))
+            ∙ (λ j. stops_stored k h.result.0 c.args.queue (h.ensures.made j ⊳ did_store_fate k c.args.n (word_of (fate_is j))))),
+      );
+}
