@@ -1,5 +1,5 @@
 -- The steps of each call, in the order in which they are made.
-use Rattle.std.specs.Prelude.{◌≡◌, ◌≢◌, ◌⊎◌, ℕ, zero, suc, ◌+◌, ◌-◌, ◌/◌, ◌<◌, true, false, List, [], ◌∷◌, length, if◌then◌else◌}
+use Rattle.std.specs.Prelude.{◌≡◌, ◌≢◌, ◌⊎◌, ℕ, zero, suc, ◌+◌, ◌-◌, ◌/◌, ◌%◌, ◌<◌, true, false, List, [], ◌∷◌, length, if◌then◌else◌}
 use Rattle.lq_ring_core.specs.Ring.{next_place}
 use Rattle.lq_band.specs.Ring.{Ends, is_emptying, taken_on, after_take}
 use Rattle.lq_tap.specs.Told.{after_takes, place_back}
@@ -7,15 +7,15 @@ use Rattle.lq_tap.specs.Made.{Made, ◌⊳◌, did_load_producer, did_take_produ
 
 -- THE LOCKS
 
--- The producer lock is waited for: its word is loaded, and tried where it looked free, without success.
+-- The producer lock is waited for: its word is loaded, and tried where it is even, which says that the lock is free, without success.
 pub data ProducerTries (old : List Made) : List Made → Type 0 where
   not_yet : ProducerTries old old
-  busy : (steps : List Made) (seen : ℕ) → ProducerTries old steps → ProducerTries old (steps ⊳ did_load_producer seen)
-  failed : (steps : List Made) (seen : ℕ) → ProducerTries old steps → ProducerTries old (steps ⊳ did_load_producer seen ⊳ did_take_producer seen false)
+  busy : (steps : List Made) (seen : ℕ) → seen % 2 ≢ 0 → ProducerTries old steps → ProducerTries old (steps ⊳ did_load_producer seen)
+  failed : (steps : List Made) (seen : ℕ) → seen % 2 ≡ 0 → ProducerTries old steps → ProducerTries old (steps ⊳ did_load_producer seen ⊳ did_take_producer seen false)
 
 -- and then it is got, with this index
 abbrev pub LocksProducer : ℕ → List Made → List Made → Type 0
-LocksProducer index old new = (before : List Made) × (seen : ℕ) × ProducerTries old before × (index ≡ seen / 2) × (new ≡ before ⊳ did_load_producer seen ⊳ did_take_producer seen true)
+LocksProducer index old new = (before : List Made) × (seen : ℕ) × ProducerTries old before × (seen % 2 ≡ 0) × (index ≡ seen / 2) × (new ≡ before ⊳ did_load_producer seen ⊳ did_take_producer seen true)
 
 -- the consumer lock is tried so often without success
 abbrev pub consumer_tries : ℕ → List Made → List Made

@@ -12,6 +12,6 @@ pub loop-preserved : goal.loop-preserved
 loop-preserved g c =
     let old = steps c.args.seat.now in let loaded = c.load_producer-seen.ensures.steps in let seen = c.load_producer-seen.result in let before = c.loop.invariant.tries in
     let tries : ProducerTries old (steps c.if-seen-eq0.seat) = elim c.if-seen-eq0.branch [
-      | then-seen-eq0+else-take_producer w ↦ subst (ProducerTries old) (sym (ap steps w.seat-is ∙ (w.take_producer.ensures.steps ∙ (λ j. loaded j ⊳ did_take_producer seen (w.if-take_producer.false j))))) (failed _ seen before)
-      | else-seen-eq0 w ↦ subst (ProducerTries old) (sym (ap steps w.seat-is ∙ loaded)) (busy _ seen before)
+      | then-seen-eq0+else-take_producer w ↦ subst (ProducerTries old) (sym (ap steps w.seat-is ∙ (w.take_producer.ensures.steps ∙ (λ j. loaded j ⊳ did_take_producer seen (w.if-take_producer.false j))))) (failed _ seen w.if-seen-eq0.true before)
+      | else-seen-eq0 w ↦ subst (ProducerTries old) (sym (ap steps w.seat-is ∙ loaded)) (busy _ seen w.if-seen-eq0.false before)
     ] in search rules
