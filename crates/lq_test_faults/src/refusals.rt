@@ -126,7 +126,7 @@ fn takes_help_and_version_as_names(rt: HostRuntime) -> Result<(), Fail> {
 }
 
 /// Plans, and the line that refuses each.
-const PLANS: [(&[u8], &str); 16] = [
+const PLANS: [(&[u8], &str); 26] = [
     (b"len = = 3", "plan refused: 1 NotToml\n"),
     (b"[[station]]\nlenght = 5\n", "plan refused: 2 UnknownKey\n"),
     // a key of the document, but under the head of a station
@@ -163,6 +163,30 @@ const PLANS: [(&[u8], &str); 16] = [
     ),
     (
         b"[[station]]\n[[event]]\nbefore = 0\nkind = \"up\"\nstation = 0\n",
+        "plan refused: 6 EventOrder\n",
+    ),
+    // odd input: a byte that isn't UTF-8, keys at the wrong place, and values of another kind or out of range, with others beside them
+    // that are wrong for a later reason
+    (b"\xff", "plan refused: 1 NotToml\n"),
+    (
+        b"[[station]]\nlen = \"a\"\nfoo = 1\n",
+        "plan refused: 2 UnknownKey\n",
+    ),
+    (
+        b"[[station]]\n[[event]]\nbefore = 0\nkind = \"down\"\nstation = 0\nlen = 3\n",
+        "plan refused: 2 UnknownKey\n",
+    ),
+    (b"[[event]]\nbefore = 0\n", "plan refused: 3 Missing\n"),
+    (b"station = 5\n", "plan refused: 4 Kind\n"),
+    (b"station = []\n", "plan refused: 5 Range\n"),
+    (b"version = 4\n[[station]]\n", "plan refused: 5 Range\n"),
+    (b"[[station]]\nmax_len = 10\n", "plan refused: 5 Range\n"),
+    (
+        b"[[station]]\n[[event]]\nbefore = 0\nkind = \"sway\"\nstation = 0\nlen = 1\n",
+        "plan refused: 5 Range\n",
+    ),
+    (
+        b"[[station]]\n[[event]]\nbefore = 2\nkind = \"down\"\nstation = 0\n[[event]]\nbefore = 1\nkind = \"up\"\nstation = 0\n",
         "plan refused: 6 EventOrder\n",
     ),
     // no line of TOML, but too long
