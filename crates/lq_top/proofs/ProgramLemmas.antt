@@ -1,17 +1,18 @@
 -- The command line, and the call on the built-in bench.
-use Rattle.std.proofs.Common.{◌≡◌, ◌<◌, ◌↔◌, ◌++◌, ◌∷◌, ◌∙◌, [], ℕ, List, length, drop, map, IfSome, IsSome, Option, Some, None, Result, Ok, Err, Vec, String, Global, string_bytes, refl, sym, ap, subst, inl, arith}
+use Rattle.std.proofs.Common.{◌≡◌, ◌≢◌, ◌<◌, ◌↔◌, ◌++◌, ◌∷◌, ◌∙◌, [], ℕ, List, length, drop, map, IfSome, IsSome, Option, Some, None, Result, Ok, Err, Vec, String, Global, string_bytes, refl, sym, ap, subst, inl, arith}
 use Rattle.std.specs.Option.{option_to_list}
 use Rattle.std.specs.declared.io.Error.{Error}
 use Rattle.lq_model.specs.Device.{DeviceState}
-use Rattle.lq_host.specs.Host.{HostState}
+use Rattle.lq_host.specs.Host.{HostState, Rose}
 use Rattle.lq_host.specs.FileHost.{untold}
 use Rattle.lq_table.specs.Ended.{EndedState}
 use Rattle.lq_files.specs.Command.{command_of_words}
 use Rattle.lq_top.specs.Decision.{verdict_of}
 use Rattle.lq_top.specs.Outcome.{IsAnswerOf, Outcome, OutcomeOfSome, TellsUsageFor}
-use Rattle.lq_top.specs.Program.{IsCodeOfCall, IsCodeOfFiles, IsCodeOfLine, Line, TellsTexts, new_bench}
+use Rattle.lq_top.specs.Program.{IsCodeOfCall, IsCodeOfFiles, IsCodeOfLine, Line, TellsTexts, host_at, new_bench}
 use Rattle.lq_files.specs.Status.{code_of}
 use Rattle.lq_files.specs.declared.answer.Status.{Status}
+use Rattle.lq_files.specs.declared.answer.Status.TheVariants as answer
 
 -- what is left once the first one was taken, if there was one
 pub left_behind : {X : Type 0} (first : Option X) (old new : List X) (len : ℕ) → len ≡ length old → (IsSome first ↔ (0 < len)) → old ≡ option_to_list first ++ new → new ≡ drop 1 old
@@ -20,14 +21,15 @@ left_behind None [] new len counted some items = sym items
 left_behind None (x ∷ xs) new len counted some items = absurd (let none = some.1 (omega arith) in cc)
 
 -- the call on a bench of 16 devices that were never configured
-pub called_on : (words : List (List ℕ)) (old new : HostState) (have : ℕ) (before after : List DeviceState) (ended : List EndedState) (status : Status) (number : ℕ)
+pub called_on : (words : List (List ℕ)) (old new : HostState) (was now : ℕ) (have : ℕ) (before after : List DeviceState) (ended : List EndedState) (status : Status) (number : ℕ)
     → have ≡ 16 → before ≡ new_bench → number ≡ code_of status
     → IfSome old.told (λ c. Outcome (verdict_of words c.files have) old new before after ended status)
     → OutcomeOfSome (command_of_words words) have old new before after ended status
     → TellsUsageFor (command_of_words words) status
     → IfSome old.told (λ c. IsAnswerOf (verdict_of words c.files have) status)
-    → IsCodeOfCall words old new number
-called_on words old new have before after ended status number sixteen bench code outcome some usage complete =
+    → (status ≡ answer.Fault → Rose was now) → (status ≢ answer.Fault → now ≡ was)
+    → IsCodeOfCall words (host_at old was) (host_at new now) number
+called_on words old new was now have before after ended status number sixteen bench code outcome some usage complete fault calm =
     record {
       status = status;
       code = code;
@@ -39,15 +41,17 @@ called_on words old new have before after ended status number sixteen bench code
           (subst (λ n. OutcomeOfSome (command_of_words words) n old new before after ended status) sixteen some);
       usage = usage;
       complete = subst (λ n. IfSome old.told (λ c. IsAnswerOf (verdict_of words c.files n) status)) sixteen complete;
+      fault = fault;
+      calm = calm;
     }
 
 -- where the words can't be had, where there is no memory for them as texts, and where they are had
 pub code_without : (args : Result Line Error) (number : ℕ) → TellsTexts args (Err number) → IsCodeOfLine args number
-code_without (Ok line) number told = (untold [], inl (told, refl))
+code_without (Ok line) number told = (host_at (untold []) 0, inl (told, refl))
 code_without (Err error) number told = told
 
 pub code_for_memory : (args : Result Line Error) (texts : Vec (String Global) Global) → TellsTexts args (Ok texts) → IsCodeOfLine args 6
-code_for_memory (Ok line) texts told = (untold [], inl (refl, refl))
+code_for_memory (Ok line) texts told = (host_at (untold []) 0, inl (refl, refl))
 code_for_memory (Err error) texts told = absurd told
 
 pub code_of_words : (args : Result Line Error) (texts : Vec (String Global) Global) (words : List (List ℕ)) (number : ℕ) → TellsTexts args (Ok texts) → words ≡ map string_bytes texts.items → IsCodeOfFiles words number → IsCodeOfLine args number

@@ -8,7 +8,7 @@ use Rattle.std.specs.Vec.Iter.{into_iter_items}
 use Rattle.std.specs.declared.vec.IntoIter.{IntoIter}
 use Rattle.lq_model.specs.Device.{DeviceState}
 use Rattle.lq_device.specs.Bench.{unconfigured}
-use Rattle.lq_host.specs.Host.{HostState}
+use Rattle.lq_host.specs.Host.{HostState, Rose}
 use Rattle.lq_host.specs.FileHost.{untold}
 use Rattle.lq_table.specs.Ended.{EndedState}
 use Rattle.lq_files.specs.Command.{command_of_words}
@@ -16,6 +16,7 @@ use Rattle.lq_top.specs.Decision.{verdict_of}
 use Rattle.lq_top.specs.Outcome.{IsAnswerOf, Outcome, OutcomeOfSome, TellsUsageFor}
 use Rattle.lq_files.specs.Status.{code_of}
 use Rattle.lq_files.specs.declared.answer.Status.{Status}
+use Rattle.lq_files.specs.declared.answer.Status.TheVariants as answer
 
 -- THE CALL
 
@@ -23,28 +24,39 @@ use Rattle.lq_files.specs.declared.answer.Status.{Status}
 abbrev pub new_bench : List DeviceState
 new_bench = replicate 16 unconfigured
 
+-- a host at a time: its state, and how many of its calls have failed
+pub record HostAt : Type 0 where
+  pub state : HostState
+  pub faults : ℕ
+
+abbrev pub host_at : HostState → ℕ → HostAt
+host_at state faults = record { state = state; faults = faults }
+
 -- The number is the code of the status that a call with these words answered on such a bench.
-pub record IsCodeOfCall (words : List (List ℕ)) (old new : HostState) (number : ℕ) : Type 0 where
+pub record IsCodeOfCall (words : List (List ℕ)) (old new : HostAt) (number : ℕ) : Type 0 where
   pub status : Status
   pub code : number ≡ code_of status
   pub after : List DeviceState
   pub ended : List EndedState
   -- what words, files and bench decide was answered and left; where the host tells nothing of its files, of some bytes of theirs
-  pub outcome : IfSome old.told (λ c. Outcome (verdict_of words c.files 16) old new new_bench after ended status)
-  pub some : OutcomeOfSome (command_of_words words) 16 old new new_bench after ended status
+  pub outcome : IfSome old.state.told (λ c. Outcome (verdict_of words c.files 16) old.state new.state new_bench after ended status)
+  pub some : OutcomeOfSome (command_of_words words) 16 old.state new.state new_bench after ended status
   -- Usage is for words that are no command, and what was decided comes unless a fault or want of memory does
   pub usage : TellsUsageFor (command_of_words words) status
-  pub complete : IfSome old.told (λ c. IsAnswerOf (verdict_of words c.files 16) status)
+  pub complete : IfSome old.state.told (λ c. IsAnswerOf (verdict_of words c.files 16) status)
+  -- Fault comes exactly where a call of the host failed
+  pub fault : status ≡ answer.Fault → Rose old.faults new.faults
+  pub calm : status ≢ answer.Fault → new.faults ≡ old.faults
 
 -- the number for words on a host: that of a call; or 6 where memory was wanting before it, and nothing is done
-abbrev pub IsCodeOfWords : List (List ℕ) → HostState → HostState → ℕ → Type 0
+abbrev pub IsCodeOfWords : List (List ℕ) → HostAt → HostAt → ℕ → Type 0
 IsCodeOfWords words old new number = ((number ≡ 6) × (new ≡ old)) ⊎ IsCodeOfCall words old new number
 
 -- THE PROGRAM
 
--- the number for words over real files, of which nothing is told and none is open
+-- the number for words over real files, of which nothing is told, none is open, and no call has failed
 abbrev pub IsCodeOfFiles : List (List ℕ) → ℕ → Type 0
-IsCodeOfFiles words number = (new : HostState) × IsCodeOfWords words (untold []) new number
+IsCodeOfFiles words number = (new : HostAt) × IsCodeOfWords words (host_at (untold []) 0) new number
 
 -- the number for arguments that can't be had: 6 for want of memory, and 9 for every other cause
 pub record IsErrorCode (error : Error) (number : ℕ) : Type 0 where

@@ -5,7 +5,7 @@ ghost use Rattle.std.specs.Vec.Iter.{into_iter_items};
 ghost use Rattle.lq_device.specs.Bench.{bench_state};
 ghost use Rattle.lq_files.specs.Command.{command_of_words, bytes_of_words};
 ghost use Rattle.lq_top.specs.Names.{MayDo};
-ghost use Rattle.lq_top.specs.Program.{IsCodeOfCall, IsCodeOfFiles, IsCodeOfLine, IsCodeOfWords, TellsTexts, new_bench};
+ghost use Rattle.lq_top.specs.Program.{IsCodeOfCall, IsCodeOfFiles, IsCodeOfLine, IsCodeOfWords, TellsTexts, host_at, new_bench};
 
 use crate::top::lqtx;
 use lq_device::{BenchDevice, TxDevice};
@@ -86,7 +86,8 @@ fn code_on<R: Threads + Wait + Sync, H: Host, D: TxDevice>(
 ) -> u8
     requires may { MayDo H.may_open H.may_create (command_of_words (bytes_of_words words.now)) }
     requires new { map D.state bench.old.items ≡ new_bench }
-    ensures { IsCodeOfCall (bytes_of_words words.now) (H.state host.old) (H.state host.new) result }
+    ensures { IsCodeOfCall (bytes_of_words words.now) (host_at (H.state host.old) (H.fault_count host.old))
+        (host_at (H.state host.new) (H.fault_count host.new)) result }
 {
     let mut ended = Vec::new(alloc);
     let status = lqtx(rt, alloc, words, host, bench, &mut ended, &Free);
@@ -102,7 +103,8 @@ pub fn run_words<R: Threads + Wait + Sync, H: Host>(
     host: &mut H,
 ) -> u8
     requires may { MayDo H.may_open H.may_create (command_of_words (bytes_of_words words.now)) }
-    ensures { IsCodeOfWords (bytes_of_words words.now) (H.state host.old) (H.state host.new) result }
+    ensures { IsCodeOfWords (bytes_of_words words.now) (host_at (H.state host.old) (H.fault_count host.old))
+        (host_at (H.state host.new) (H.fault_count host.new)) result }
 {
     match bench_devices(alloc) {
         Ok(mut bench) => code_on(rt, alloc, words, host, &mut bench),

@@ -10,7 +10,9 @@ pub returns : goal.returns
 returns g c =
     let bench = c.args.bench.now in
     let counted : vec_len bench ≡ 16 = (let ok = bench.ok.0 in let n = sym (length-map bench.items g.D.TxDevice.state) ∙ (ap length c.requires.new ∙ length-replicate 16 unconfigured) in omega arith) in
-    called_on (bytes_of_words c.args.words.now) (g.H.Host.state c.args.host.now) (g.H.Host.state c.lqtx-status.new.host) (vec_len bench)
+    called_on (bytes_of_words c.args.words.now) (g.H.Host.state c.args.host.now) (g.H.Host.state c.lqtx-status.new.host)
+    (g.H.Host.fault_count c.args.host.now) (g.H.Host.fault_count c.lqtx-status.new.host) (vec_len bench)
     (map g.D.TxDevice.state bench.items) (map g.D.TxDevice.state c.lqtx-status.new.bench.items) (map ended_state c.lqtx-status.new.ended.items)
     c.lqtx-status.result c.code.result counted c.requires.new c.code.ensures
     c.lqtx-status.ensures.outcome c.lqtx-status.ensures.some c.lqtx-status.ensures.usage c.lqtx-status.ensures.complete
+    c.lqtx-status.ensures.fault c.lqtx-status.ensures.calm
