@@ -2,9 +2,9 @@
 use Rattle.std.proofs.Common.{◌≡◌, ◌≢◌, ℕ, ◌+◌, ◌<◌, ◌==◌, Bool, true, false, if◌then◌else◌, refl, sym, ap, ◌∙◌, subst, arith, List, ◌∷◌, None, Some, Option}
 use Rattle.std.specs.Prelude.{nat_lt, slice_index}
 use Rattle.lq_model.specs.Positions.{holds_lock}
-use Rattle.std.specs.Option.{option_map}
+use Rattle.std.specs.Option.{option_map, unwrap_or}
 use Rattle.std.proofs.lemmas.Bool.{lt-ltb, true≢false}
-use Rattle.lq_device.specs.Station.{StationState, HasAnswered}
+use Rattle.lq_device.specs.Station.{StationState, HasAnswered, with_slot}
 use Rattle.lq_model.specs.Device.{is_busy}
 use Rattle.lq_model.specs.Words.{HasWord}
 use Rattle.lq_model.specs.declared.device.Tx.{Tx}
@@ -16,7 +16,8 @@ use Rattle.lq_model.specs.declared.machine.Blocked.TheVariants.{InHand}
 use Rattle.lq_model.specs.declared.machine.Packet.{Packet}
 use Rattle.lq_model.specs.declared.machine.Position.{Position}
 use Rattle.lq_model.specs.declared.machine.Position.TheVariants.{BlockedClear, Gate, StoreXoff, Xmit}
-use Rattle.lq_table.specs.Views.{View, HolderPart}
+use Rattle.lq_table.specs.Views.{View, HolderPart, no_station}
+use Rattle.lq_table.specs.Seats.{CarriesBusyDevice, carried_but_for_slot}
 use Rattle.lq_table.specs.Rule.{shown, IsResting}
 use Rattle.lq_table.specs.Sees.{view, slot, position, carried, packet_at, IsSameSeat, IsElseSame}
 use Rattle.lq_table.specs.declared.shared.Cpu.{Cpu}
@@ -196,6 +197,24 @@ module _ {D : Type 0} where
   called_at t b m n queue answer queue_is same called =
       subst (λ (v : View). HasAnswered answer (queue_in t.infos.now n) n (shown v.holder) (carried m)) (sym same)
       (subst (λ (q : ℕ). HasAnswered answer q n (shown (view b).holder) (carried m)) queue_is called)
+
+  -- a packet that the busy device gave back was laid into the requeue slot: but for the slot the station is as the device left it
+  but_for_slot : (b m : Cpu D) (n queue : ℕ) → view m ≡ view b → HasAnswered Busy queue n (shown (view b).holder) (carried b) → m.station ≡ Some (with_slot (carried b) (Some n))
+      → carried_but_for_slot m ≡ carried b
+  but_for_slot b m n queue same called laid =
+      (λ j. with_slot (unwrap_or (laid j) no_station) (same j).holder.slot) ∙ ap (λ (o : Option ℕ). with_slot (carried b) o) (sym (ap (λ (s : StationState). s.slot) called.rest))
+
+  pub carries_busy : (b m : Cpu D) (n : ℕ) (p : Packet) (direct : Bool) → view m ≡ view b → position b ≡ Xmit p direct → (view b).holder.hand ≡ Some n
+      → HasAnswered Busy p.queue n (shown (view b).holder) (carried b) → m.station ≡ Some (with_slot (carried b) (Some n)) → CarriesBusyDevice m
+  carries_busy b m n p direct same here hand called laid = (
+    n,
+    p,
+    direct,
+    laid ∙ ap (λ (s : Option StationState). Some (with_slot (unwrap_or s no_station) (Some n))) (sym laid),
+    ap (λ (v : View). v.place.position) same ∙ here,
+    ap (λ (v : View). v.holder.hand) same ∙ hand,
+    subst (λ (z : View × StationState). HasAnswered Busy p.queue n (shown z.0.holder) z.1) (λ j. (sym same j, sym (but_for_slot b m n p.queue same called laid) j)) called,
+  )
 
   pub sent_from : (t : Shared D) (b m s : Cpu D) (n queue : ℕ) (answer : Tx) → queue ≡ queue_in t.infos.now n → view m ≡ view b → is_busy answer ≡ false
       → HasAnswered answer queue n (shown (view b).holder) (carried m)

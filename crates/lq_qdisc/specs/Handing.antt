@@ -83,7 +83,7 @@ module _ {D : Type 0} where
     pub empty : (view c).holder.slot ≡ None
     pub called : HasAnswered NotSent (queue_in t.infos.now n) n (shown (view c).holder) (carried c)
 
-  -- MISSED is set, and the packet is in the requeue slot.
+  -- The packet is in the requeue slot, and MISSED is set.
   pub record RequeuesBusy (b a : Cpu D) : Type 0 where
     pub same : IsSameSeat b a
     pub indices : a.indices ≡ b.indices

@@ -117,14 +117,15 @@ fn store_hung<'a, D: TxDevice>(shared: &Shared<'a, D>, cpu: &mut Cpu<D>)
     }
 }
 
-/// The device is busy: packet `n` goes to the requeue slot, and MISSED is set.
+/// The device is busy: packet `n` goes to the requeue slot, and then MISSED is set, as `dev_requeue_skb` of
+/// net/sched/sch_generic.c does.
 fn requeue_busy<'a, D: TxDevice>(shared: &Shared<'a, D>, cpu: &mut Cpu<D>, n: u32)
     requires seat { IsSeatOf shared.now cpu.old }
     requires may { MayRequeueBusy shared.now n cpu.old }
     ensures { RequeuesBusy cpu.old cpu.new }
 {
-    shared.requeue(cpu);
     fill_requeue_slot(cpu, n);
+    shared.requeue(cpu);
 }
 
 /// Stores the fate of packet `n`, which the device has just accepted.

@@ -1,6 +1,6 @@
 -- What the calls ask of a seat, and what they leave of it.
 use Rattle.std.specs.Prelude.{◌≡◌, ◌≢◌, ◌==◌, ℕ, ◌+◌, ◌*◌, ◌<◌, ◌≤◌, Bool, true, false, List, [], ◌∷◌, length, slice_get, slice_index, Option, Some, None, is_some}
-use Rattle.lq_device.specs.Station.{StationState, HasAnswered}
+use Rattle.lq_device.specs.Station.{StationState, HasAnswered, with_slot}
 use Rattle.lq_device.specs.declared.device.TxDevice.{Ghosts}
 use Rattle.lq_model.specs.Account.{Account}
 use Rattle.lq_model.specs.Band.{held_of}
@@ -114,10 +114,14 @@ module _ {D : Type 0} where
 -- THE DEVICE
 
 module _ {D : Type 0} where
-  -- the device of the station that it carries has answered Busy to the packet in hand
+  -- the station that it carries, but for the requeue slot, which is as the seat knows it
+  abbrev pub carried_but_for_slot : Cpu D → StationState
+  carried_but_for_slot c = with_slot (carried c) (view c).holder.slot
+
+  -- the device of the station that it carries has answered Busy to the packet in hand, and the packet is in the requeue slot
   abbrev pub CarriesBusyDevice : Cpu D → Type 0
-  CarriesBusyDevice c = (n : ℕ) × (p : Packet) × (direct : Bool) × (is_some c.station ≡ true) × (position c ≡ Xmit p direct) × ((view c).holder.hand ≡ Some n)
-      × HasAnswered NotSent p.queue n (shown (view c).holder) (carried c)
+  CarriesBusyDevice c = (n : ℕ) × (p : Packet) × (direct : Bool) × (c.station ≡ Some (with_slot (carried c) (Some n))) × (position c ≡ Xmit p direct) × ((view c).holder.hand ≡ Some n)
+      × HasAnswered NotSent p.queue n (shown (view c).holder) (carried_but_for_slot c)
 
   -- the stop word of the queue was loaded, and the answer is whether it is 1
   abbrev pub LooksAtStop : Shared D → ℕ → Bool → Cpu D → Cpu D → Type 0
