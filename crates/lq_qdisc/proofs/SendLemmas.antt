@@ -18,7 +18,7 @@ use Rattle.lq_table.specs.declared.shared.Shared.{Shared}
 use Rattle.lq_table.specs.Views.{PacketPart, View}
 use Rattle.lq_qdisc.specs.Calls.{KeepsFates}
 use Rattle.lq_qdisc.specs.Steps.{with_state_loaded}
-use Rattle.lq_qdisc.specs.Parts.{BringsBy, ServesBy}
+use Rattle.lq_qdisc.specs.Parts.{BringsBy, EndsCallBy}
 use Rattle.lq_qdisc.specs.Sends.{Enqueues, HasCome, IsBringing, IsCallKept, IsFreeInside, IsInsideKept, came_as, trail_with}
 use Rattle.lq_qdisc.specs.declared.answers.Sending.{Sending}
 use Rattle.lq_qdisc.specs.declared.answers.Sending.TheVariants as sending
@@ -121,7 +121,7 @@ module _ {D : Type 0} where
   }
 
   -- A step that changes nothing that the parts of a transmit speak of, but the position.
-  pub record IsCalmStep (b m : Cpu D) : Type 0 where
+  pub record LeavesTheRest (b m : Cpu D) : Type 0 where
     pub seat : IsSameSeat b m
     pub share : (view m).share ≡ (view b).share
     pub packets : (view m).packets ≡ (view b).packets
@@ -132,7 +132,7 @@ module _ {D : Type 0} where
     pub told : (view m).whole.told ≡ (view b).whole.told
     pub settled : (view m).settled ≡ (view b).settled
 
-  pub serves_then : {by to : Known → Known → Type 0} (b m a : Cpu D) → IsCalmStep b m → ServesBy by m a → to (known b) (known a) → ServesBy to b a
+  pub serves_then : {by to : Known → Known → Type 0} (b m a : Cpu D) → LeavesTheRest b m → EndsCallBy by m a → to (known b) (known a) → EndsCallBy to b a
   serves_then b m a i r steps = record {
     kept = inside_from b m a i.seat i.share i.packets i.locks i.control i.turns i.trail i.told r.kept;
     fates = fates_then (view b) (view m) (view a) (fates_same (view b) (view m) i.settled) r.fates;
@@ -141,7 +141,7 @@ module _ {D : Type 0} where
     steps = steps;
   }
 
-  pub brings_then : {by to : Known → Known → Type 0} (infos : List Info) (n : ℕ) (answer : Sending) (b m a : Cpu D) → IsCalmStep b m → BringsBy infos n answer by m a → to (known b) (known a) → BringsBy infos n answer to b a
+  pub brings_then : {by to : Known → Known → Type 0} (infos : List Info) (n : ℕ) (answer : Sending) (b m a : Cpu D) → LeavesTheRest b m → BringsBy infos n answer by m a → to (known b) (known a) → BringsBy infos n answer to b a
   brings_then infos n answer b m a i r steps = record {
     kept = called_from b m a i.seat i.share i.control i.told r.kept;
     fates = fates_then (view b) (view m) (view a) (fates_same (view b) (view m) i.settled) r.fates;

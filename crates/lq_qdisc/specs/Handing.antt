@@ -118,7 +118,7 @@ module _ {D : Type 0} where
     pub hung : (view c).holder.station.device.hung ≡ is_hang answer
 
   -- They are stored.
-  pub record Stops (t : Shared D) (queue : ℕ) (answer : Tx) (b a : Cpu D) : Type 0 where
+  pub record StoresStops (t : Shared D) (queue : ℕ) (answer : Tx) (b a : Cpu D) : Type 0 where
     pub same : IsElseSame b a
     pub at : GoesOnFrom (λ direct. sent_leads answer queue direct (view b)) Yes b a
     pub stays : StaysAt (view b) (view a)

@@ -87,8 +87,8 @@ module _ {D : Type 0} (t : Shared D) (n : ℕ) (c : Cpu D) where
 -- WHAT THEY ENSURE
 
 module _ {D : Type 0} where
-  -- The seat served the bands, or found the run lock held, by these steps. Its call is at its end, without the run lock.
-  pub record ServesBy (by : Known → Known → Type 0) (b a : Cpu D) : Type 0 where
+  -- The seat ran the bands, or found the run lock held, by these steps. Its call is at its end, without the run lock.
+  pub record EndsCallBy (by : Known → Known → Type 0) (b a : Cpu D) : Type 0 where
     pub kept : IsInsideKept b a
     pub fates : KeepsFates (view b) (view a)
     pub at : position a ≡ Leave

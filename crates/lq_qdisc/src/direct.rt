@@ -11,7 +11,7 @@ ghost use Rattle.lq_table.specs.Solo.{solo, heard};
 ghost use Rattle.lq_ring.specs.Seats.{KeepsSeatAndView};
 ghost use Rattle.lq_qdisc.specs.Steps.{DirectsBy, OffersBy, hung_stored};
 ghost use Rattle.lq_qdisc.specs.Calls.{IsServing, IsKeptInRun};
-ghost use Rattle.lq_qdisc.specs.Handing.{MayRequeueBusy, MayRequeueStopped, MaySettleSent, MayStartXmit, MayStop, RequeuesBusy, RequeuesStopped, SettlesSent, Stops, XmitsBy};
+ghost use Rattle.lq_qdisc.specs.Handing.{MayRequeueBusy, MayRequeueStopped, MaySettleSent, MayStartXmit, MayStop, RequeuesBusy, RequeuesStopped, SettlesSent, StoresStops, XmitsBy};
 ghost use Rattle.lq_qdisc.specs.Direct.{StaysAt, hearing_hung, hung_below, run_after};
 ghost use Rattle.lq_qdisc.specs.Seats.{CarriesDeviceWithRoom, GoesOnFrom, HandsOver};
 ghost use Rattle.lq_qdisc.specs.declared.answers.Through.TheVariants.{Yes};
@@ -142,7 +142,7 @@ fn settle_sent<'a, D: TxDevice>(shared: &Shared<'a, D>, cpu: &mut Cpu<D>, n: u32
 fn stop<'a, D: TxDevice>(shared: &Shared<'a, D>, cpu: &mut Cpu<D>, queue: u32, answer: Tx)
     requires seat { IsSeatOf shared.now cpu.old }
     requires may { MayStop shared.now queue answer cpu.old }
-    ensures { Stops shared.now queue answer cpu.old cpu.new }
+    ensures { StoresStops shared.now queue answer cpu.old cpu.new }
 {
     match answer {
         Tx::Sent | Tx::Busy => {}

@@ -8,7 +8,7 @@ ghost use Rattle.lq_table.specs.Told.{is_set, some_bit, paying};
 ghost use Rattle.lq_table.specs.Solo.{solo};
 ghost use Rattle.lq_qdisc.specs.Steps.{AttemptsBy, EnqueuesAndRunsBy, EnqueuesBy, FollowsBy, GoesBy, GoesLockedBy, GoesThroughBy, PassesBandsBy, RunsToEndBy, StoresRefused, TriesToPassBy};
 ghost use Rattle.lq_qdisc.specs.Sends.{IsBringing, OwesRefused};
-ghost use Rattle.lq_qdisc.specs.Parts.{BringsBy, MayBypass, MayCheck, MayEnqueue, MayEnqueueLocked, MayFollow, MayRecheck, MayRun, MayTryBypass, MayTryRun, ServesBy};
+ghost use Rattle.lq_qdisc.specs.Parts.{BringsBy, MayBypass, MayCheck, MayEnqueue, MayEnqueueLocked, MayFollow, MayRecheck, MayRun, MayTryBypass, MayTryRun, EndsCallBy};
 
 use crate::answers::{Sending, Through};
 use crate::direct::direct_xmit;
@@ -40,7 +40,7 @@ pub(crate) fn is_deactivated(state: u64) -> bool
 fn run_to_end<'a, D: TxDevice>(shared: &Shared<'a, D>, cpu: &mut Cpu<D>)
     requires seat { IsSeatOf shared.now cpu.old }
     requires may { MayRun shared.now cpu.old }
-    ensures { ServesBy (RunsToEndBy (setup shared.now)) cpu.old cpu.new }
+    ensures { EndsCallBy (RunsToEndBy (setup shared.now)) cpu.old cpu.new }
 {
     run(shared, cpu);
     end(shared, cpu);
@@ -50,7 +50,7 @@ fn run_to_end<'a, D: TxDevice>(shared: &Shared<'a, D>, cpu: &mut Cpu<D>)
 pub(crate) fn qdisc_run<'a, D: TxDevice>(shared: &Shared<'a, D>, cpu: &mut Cpu<D>)
     requires seat { IsSeatOf shared.now cpu.old }
     requires may { MayTryRun cpu.old }
-    ensures { ServesBy (AttemptsBy (setup shared.now)) cpu.old cpu.new }
+    ensures { EndsCallBy (AttemptsBy (setup shared.now)) cpu.old cpu.new }
 {
     if begin(shared, cpu) {
         run_to_end(shared, cpu);
@@ -120,7 +120,7 @@ fn enqueue_and_run_locked<'a, D: TxDevice, R: Wait>(
 fn run_after_bypass<'a, D: TxDevice>(shared: &Shared<'a, D>, cpu: &mut Cpu<D>, through: Through)
     requires seat { IsSeatOf shared.now cpu.old }
     requires may { MayFollow through cpu.old }
-    ensures { ServesBy (FollowsBy (setup shared.now) through) cpu.old cpu.new }
+    ensures { EndsCallBy (FollowsBy (setup shared.now) through) cpu.old cpu.new }
 {
     if through == Through::Yes && is_non_empty(shared.load_state(cpu)) {
         run_to_end(shared, cpu);
@@ -133,7 +133,7 @@ fn run_after_bypass<'a, D: TxDevice>(shared: &Shared<'a, D>, cpu: &mut Cpu<D>, t
 fn xmit_bypass<'a, D: TxDevice>(shared: &Shared<'a, D>, cpu: &mut Cpu<D>, n: u32)
     requires seat { IsSeatOf shared.now cpu.old }
     requires may { MayBypass shared.now n cpu.old }
-    ensures { ServesBy (PassesBandsBy (setup shared.now) n) cpu.old cpu.new }
+    ensures { EndsCallBy (PassesBandsBy (setup shared.now) n) cpu.old cpu.new }
 {
     let through = direct_xmit(shared, cpu, n);
     run_after_bypass(shared, cpu, through);

@@ -1,7 +1,7 @@
 use Rattle.std.proofs.Common.{rules, inl, inr, ◌∙◌}
 use Rattle.lq_table.specs.Sees.{view, known}
 use Rattle.lq_qdisc.proofs.RunLemmas.{fates_same}
-use Rattle.lq_qdisc.proofs.SendLemmas.{IsCalmStep, serves_then}
+use Rattle.lq_qdisc.proofs.SendLemmas.{LeavesTheRest, serves_then}
 use Rattle.lq_qdisc.proofs.TakeLemmas.{seat_same}
 use Rattle.lq_qdisc.proofs.LockLemmas.{gets_lock, misses}
 use Rattle.lq_qdisc.proofs.sends.qdisc_run.Goals as goal
@@ -9,7 +9,7 @@ use Rattle.lq_qdisc.proofs.sends.qdisc_run.Goals as goal
 pub returns-then-begin : goal.returns-then-begin
 returns-then-begin g c =
     let b = c.begin.ensures in let k = b.kept.0 in
-    let calm : IsCalmStep c.args.cpu.now c.begin.new.cpu = record { seat = k.0; share = k.1; packets = k.2; locks = k.3; control = k.4; turns = k.7; trail = k.9; told = k.5; settled = k.8 } in
+    let calm : LeavesTheRest c.args.cpu.now c.begin.new.cpu = record { seat = k.0; share = k.1; packets = k.2; locks = k.3; control = k.4; turns = k.7; trail = k.9; told = k.5; settled = k.8 } in
     serves_then c.args.cpu.now c.begin.new.cpu c.run_to_end.new.cpu calm c.run_to_end.ensures
     (inr (known c.begin.new.cpu, gets_lock c.args.cpu.now c.begin.new.cpu c.begin.result c.if-begin.true b.kept.0 b.kept.1 (b.got c.if-begin.true).0 b.sole b.begins, c.run_to_end.ensures.steps))
 

@@ -7,7 +7,7 @@ use Rattle.lq_table.specs.Told.{some_bit}
 use Rattle.lq_qdisc.specs.Steps.{FollowsBy, RunsToEndBy, with_state_loaded}
 use Rattle.lq_qdisc.specs.declared.answers.Through.{Through}
 use Rattle.lq_qdisc.specs.declared.answers.Through.TheVariants.{Yes}
-use Rattle.lq_qdisc.proofs.SendLemmas.{IsCalmStep, serves_then}
+use Rattle.lq_qdisc.proofs.SendLemmas.{LeavesTheRest, serves_then}
 use Rattle.lq_qdisc.proofs.TakeLemmas.{seat_same, serving_same}
 use Rattle.lq_qdisc.proofs.sends.run_after_bypass.Goals as goal
 
@@ -17,7 +17,7 @@ returns-then-is_non_empty g c =
     let is : c.args.through ≡ Yes = (search rules) in
     let some_ : some_bit state ≡ true = sym c.is_non_empty.ensures ∙ c.if-is_non_empty.true in
     let e : known c.load_state.new.cpu ≡ with_state_loaded state (known c.args.cpu.now) = λ j. record { view = l.view j; steps = l.made j } in
-    let calm : IsCalmStep c.args.cpu.now c.load_state.new.cpu = record {
+    let calm : LeavesTheRest c.args.cpu.now c.load_state.new.cpu = record {
       seat = l.same.0;
       share = ap (λ (x : View). x.share) v;
       packets = ap (λ (x : View). x.packets) v;
