@@ -1,12 +1,13 @@
 -- The rounds of the reader, one after the other.
 use Rattle.std.proofs.Common.{◌≡◌, ◌≢◌, ◌≤◌, ◌<◌, ◌==◌, ℕ, List, [], true, false, length, length-take, take, inl, inr, refl, ap, subst, arith}
-use Rattle.lq_tap.specs.Made.{Known}
+use Rattle.lq_tap.specs.Sees.{SeesEnded}
+use Rattle.lq_tap.specs.declared.shared.TapSeat.{TapSeat}
 use Rattle.std.proofs.lemmas.Bool.Decides.{nat_tests}
-use Rattle.lq_tap_run.specs.Rounds.{GivesHalf, IsRound, LooksForEnds, ReadsRounds, ReadsToEnd, TakesBatch, one_round}
+use Rattle.lq_tap_run.specs.Rounds.{GivesHalf, IsRound, ReadsRounds, ReadsToEnd, TakesBatch, one_round}
 
 -- a look and a batch, behind the rounds so far
-module _ (len senders asked : ℕ) (first now looked taken : Known) (found : ℕ) (batch : List ℕ) (rounds : ReadsRounds len senders asked first now) (looks : LooksForEnds found now looked) (takes : TakesBatch len asked batch looked taken) where
-  pub on_with_half : (new : Known) → batch ≢ [] → GivesHalf len batch taken new → ReadsRounds len senders asked first new
+module _ (len senders asked : ℕ) (first now looked taken : TapSeat) (found : ℕ) (batch : List ℕ) (rounds : ReadsRounds len senders asked first now) (looks : SeesEnded found now looked) (takes : TakesBatch len asked batch looked taken) where
+  pub on_with_half : (new : TapSeat) → batch ≢ [] → GivesHalf len batch taken new → ReadsRounds len senders asked first new
   on_with_half new some half =
       one_round found batch now new rounds (record { looked = looked; taken = taken; looks = looks; takes = takes; gives = inr (some, half) }) (inr some)
 
@@ -21,7 +22,7 @@ module _ (len senders asked : ℕ) (first now looked taken : Known) (found : ℕ
     record {
       looked = looked;
       taken = taken;
-      looks = subst (λ n. LooksForEnds n now looked) over looks;
+      looks = subst (λ n. SeesEnded n now looked) over looks;
       takes = subst (λ (xs : List ℕ). TakesBatch len asked xs looked taken) none takes;
       gives = inl (refl, refl);
     },

@@ -3,7 +3,7 @@ use Rattle.std.specs.Prelude.{◌≡◌, ◌<◌, ◌≤◌, ℕ, true, List, le
 use Rattle.lq_tap.specs.Sees.{IsReaderOf, view}
 use Rattle.lq_tap.specs.declared.shared.Tap.{Tap}
 use Rattle.lq_tap.specs.declared.shared.TapSeat.{TapSeat}
-use Rattle.lq_tap_run.specs.Rounds.{ReadsToEnd, knowledge}
+use Rattle.lq_tap_run.specs.Rounds.{ReadsToEnd}
 use Rattle.lq_tap_run.specs.declared.reader.Reader.{Reader}
 
 -- the packets that it took and has not given back since are those that it read, and no more were destroyed
@@ -33,4 +33,4 @@ CanRead tap reader = HasRead tap reader.seat reader.read.items × ((view reader.
 -- it has read on from this seat, round by round with batches of up to so many packets, until nothing was left in the ring
 abbrev pub HasReadAll : Tap → ℕ → ℕ → TapSeat → Reader → Type 0
 HasReadAll tap senders asked before reader = HasRead tap reader.seat reader.read.items × IsReaderDone reader.seat × ReadsOn before reader.seat
-    × ReadsToEnd tap.len senders asked (knowledge before) (knowledge reader.seat)
+    × ReadsToEnd tap.len senders asked before reader.seat

@@ -2,7 +2,7 @@
 ghost use Rattle.std.specs.Prelude.{◌≡◌, ◌+◌, ◌<◌, ◌≤◌, ◌++◌, length, vec_capacity, vec_len};
 ghost use Rattle.lq_tap.specs.Sees.{IsReaderOf, view};
 ghost use Rattle.lq_tap_run.specs.Reads.{HasRead, HasReadAll, IsReaderDone, ReadsOn};
-ghost use Rattle.lq_tap_run.specs.Rounds.{GivesHalf, ReadsToEnd, knowledge};
+ghost use Rattle.lq_tap_run.specs.Rounds.{GivesHalf, ReadsToEnd};
 
 use crate::shared::Run;
 use lq_gate::Gate;
@@ -37,7 +37,7 @@ fn read_half<R: Wait>(rt: &R, tap: &Tap, seat: &mut TapSeat, read: &mut Vec<u32>
     requires few { length (view seat.old).reader.destroyed ≤ length read.old.items }
     requires room { length (view seat.old).reader.taken ≤ vec_capacity read.old }
     ensures read { HasRead tap.now seat.new read.new.items }
-    ensures gives { GivesHalf tap.now.len batch.now (knowledge seat.old) (knowledge seat.new) }
+    ensures gives { GivesHalf tap.now.len batch.now seat.old seat.new }
     ensures on { ReadsOn seat.old seat.new }
     ensures room { vec_capacity read.new ≡ vec_capacity read.old }
 {
@@ -58,7 +58,7 @@ fn read_all<'r, R: Wait, G: Gate>(
     requires room { (view seat.old).about.packets ≤ vec_capacity read.old }
     requires batch { (0 < length batch.old) × (length batch.old ≤ 64) }
     ensures read { HasRead run.now.tap.now seat.new read.new.items × IsReaderDone seat.new }
-    ensures rounds { ReadsToEnd run.now.tap.now.len run.now.senders (length batch.old) (knowledge seat.old) (knowledge seat.new) }
+    ensures rounds { ReadsToEnd run.now.tap.now.len run.now.senders (length batch.old) seat.old seat.new }
     ensures on { ReadsOn seat.old seat.new }
 {
     let mut k = 0u32;

@@ -7,7 +7,7 @@ ghost use Rattle.lq_tap_fates.specs.Fates.{IsTapRun, IsTapWithin};
 ghost use Rattle.lq_tap_run.specs.Lanes.{AreDone, AreReady, CanPut};
 ghost use Rattle.lq_tap_run.specs.Marks.{AreMarkedFull};
 ghost use Rattle.lq_tap_run.specs.Reads.{CanRead, HasRead, HasReadAll, IsReaderDone, KeepsReads};
-ghost use Rattle.lq_tap_run.specs.Rounds.{ReadsByHalves};
+ghost use Rattle.lq_tap_run.specs.Rounds.{JoinsSeats, ReadsByHalves};
 ghost use Rattle.lq_tap_run.specs.Runs.{AreSplit, HasJoined};
 
 use crate::fates::{mark_full, mark_read, unknown};
@@ -152,7 +152,7 @@ fn join_all<'r, G: Gate>(
     ensures joined { HasJoined run.now.tap.now run.now.packets run.now.senders 0 seat.new × IsSettled (view seat.new) }
     ensures reader { KeepsReads seat.old seat.new }
     ensures fates { AreMarkedFull run.now.packets (view seat.new).sender.fulls fates.new.items }
-    ensures steps { steps seat.new ≡ steps seat.old }
+    ensures steps { JoinsSeats (steps seat.old) (steps seat.new) }
 {
     while let Some(lane) = lanes.pop() {
         let Lane { seat: from, full } = lane;
@@ -174,7 +174,7 @@ fn decide<'r, G: Gate>(
     requires lanes { AreDone run.now.tap.now run.now.packets run.now.senders lanes.items × (length lanes.items ≡ run.now.senders) }
     requires fates { AreMarkedFull run.now.packets [] fates.items }
     ensures run { IsTapRun run.now.packets run.now.senders run.now.tap.now.len result.fates.items result.read.items }
-    ensures reader { (result.read.items ≡ reader.read.items) × (steps result.seat ≡ steps reader.seat) }
+    ensures reader { (result.read.items ≡ reader.read.items) × JoinsSeats (steps reader.seat) (steps result.seat) }
 {
     let Reader {
         mut seat,

@@ -1,7 +1,7 @@
 use Rattle.std.proofs.Common.{◌≡◌, ◌≢◌, ◌≤◌, ◌<◌, ◌∙◌, ◌++◌, ℕ, List, [], append-nil, length, take, refl, sym, ap, subst, arith}
 use Rattle.lq_tap.specs.Sees.{view}
 use Rattle.lq_tap.specs.Views.{View}
-use Rattle.lq_tap_run.specs.Rounds.{TakesBatch, knowledge, no_round}
+use Rattle.lq_tap_run.specs.Rounds.{TakesBatch, no_round}
 use Rattle.lq_tap_run.proofs.Rounding.{equal_found, on_empty, on_with_half, other_found, some_taken, to_end}
 use Rattle.lq_tap_run.proofs.reader.read_all.Goals as goal
 
@@ -20,16 +20,16 @@ loop-preserved-then-count-gt0 g c =
     let seen = c.ended-over.ensures.found in
     let count = c.get_batch-count.result in
     let out : List ℕ = c.get_batch-count.new.out in
-    let looked = knowledge c.ended-over.new.seat in
-    let taken = knowledge c.get_batch-count.new.seat in
+    let looked = c.ended-over.new.seat in
+    let taken = c.get_batch-count.new.seat in
     let len = c.args.run.now.tap.now.len in
     let takes : TakesBatch len (length c.args.batch.now) (take count out) looked taken =
     subst (λ asked. TakesBatch len asked (take count out) looked taken) inv.long (c.get_batch-count.ensures.view, c.get_batch-count.ensures.steps) in
     let within : count ≤ length out = (let le = c.get_batch-count.ensures.count in let same = c.get_batch-count.ensures.out.0 in omega arith) in
     record {
       read = c.read_half.ensures.read;
-      rounds = on_with_half len c.args.run.now.senders (length c.args.batch.now) (knowledge c.args.seat.now) (knowledge c.loop.seat) looked taken seen.0 (take count out)
-          inv.rounds seen.2 takes (knowledge c.read_half.new.seat) (some_taken count out c.if-count-gt0.true within) c.read_half.ensures.gives;
+      rounds = on_with_half len c.args.run.now.senders (length c.args.batch.now) c.args.seat.now c.loop.seat looked taken seen.0 (take count out)
+          inv.rounds seen.2 takes c.read_half.new.seat (some_taken count out c.if-count-gt0.true within) c.read_half.ensures.gives;
       on = record {
         sender = c.read_half.ensures.on.sender ∙ ap (λ (v : View). v.sender) c.get_batch-count.ensures.view ∙ ap (λ (v : View). v.sender) seen.2.0 ∙ inv.on.sender;
         out = c.read_half.ensures.on.out ∙ ap (λ (v : View). v.reader.out) c.get_batch-count.ensures.view ∙ ap (λ (v : View). v.reader.out) seen.2.0 ∙ inv.on.out;
@@ -44,14 +44,14 @@ returns-then-over-clause-rounds g c =
     let seen = c.if-over.ensures.found in
     let count = c.get_batch-count.result in
     let out : List ℕ = c.get_batch-count.new.out in
-    let looked = knowledge c.ended-over.new.seat in
-    let taken = knowledge c.get_batch-count.new.seat in
+    let looked = c.ended-over.new.seat in
+    let taken = c.get_batch-count.new.seat in
     let len = c.args.run.now.tap.now.len in
     let takes : TakesBatch len (length c.args.batch.now) (take count out) looked taken =
     subst (λ asked. TakesBatch len asked (take count out) looked taken) inv.long (c.get_batch-count.ensures.view, c.get_batch-count.ensures.steps) in
     let none : count ≡ 0 = (let not_more = c.if-count-gt0.false in omega arith) in
     let over : seen.0 ≡ c.args.run.now.senders = equal_found seen.0 c.args.run.now.tap.now.senders (sym seen.1) ∙ c.args.run.now.may.made.2 in
-    to_end len c.args.run.now.senders (length c.args.batch.now) (knowledge c.args.seat.now) (knowledge c.loop.seat) looked taken seen.0 (take count out)
+    to_end len c.args.run.now.senders (length c.args.batch.now) c.args.seat.now c.loop.seat looked taken seen.0 (take count out)
     inv.rounds seen.2 takes (ap (λ k. take k out) none) over
 
 pub loop-preserved : goal.loop-preserved
@@ -60,8 +60,8 @@ loop-preserved g c =
     let seen = c.if-over.ensures.found in
     let count = c.get_batch-count.result in
     let out : List ℕ = c.get_batch-count.new.out in
-    let looked = knowledge c.ended-over.new.seat in
-    let taken = knowledge c.get_batch-count.new.seat in
+    let looked = c.ended-over.new.seat in
+    let taken = c.get_batch-count.new.seat in
     let len = c.args.run.now.tap.now.len in
     let takes : TakesBatch len (length c.args.batch.now) (take count out) looked taken =
     subst (λ asked. TakesBatch len asked (take count out) looked taken) inv.long (c.get_batch-count.ensures.view, c.get_batch-count.ensures.steps) in
@@ -76,7 +76,7 @@ loop-preserved g c =
             ∙ append-nil (view c.ended-over.new.seat).reader.taken ∙ ap (λ (v : View). v.reader.taken) seen.2.0 ∙ inv.read.taken;
         few = (let same = ap (λ (v : View). length v.reader.destroyed) is in let before = ap (λ (v : View). length v.reader.destroyed) seen.2.0 in let few = inv.read.few in omega arith);
       };
-      rounds = on_empty len c.args.run.now.senders (length c.args.batch.now) (knowledge c.args.seat.now) (knowledge c.loop.seat) looked taken seen.0 (take count out)
+      rounds = on_empty len c.args.run.now.senders (length c.args.batch.now) c.args.seat.now c.loop.seat looked taken seen.0 (take count out)
           inv.rounds seen.2 takes empty under_way;
       on = record {
         sender = ap (λ (v : View). v.sender) is ∙ ap (λ (v : View). v.sender) seen.2.0 ∙ inv.on.sender;

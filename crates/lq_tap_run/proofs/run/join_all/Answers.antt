@@ -1,11 +1,26 @@
-use Rattle.std.proofs.Common.{◌≡◌, ◌<◌, ◌∙◌, ◌+◌, ◌-◌, ◌%◌, ◌++◌, ◌&&◌, ℕ, List, All, length, leb, ltb, eqb, ap, sym, subst, arith}
-use Rattle.lq_tap.specs.Sees.{view}
+use Rattle.std.proofs.Common.{rules, refl, ◌≡◌, ◌<◌, ◌∙◌, ◌+◌, ◌-◌, ◌%◌, ◌++◌, ◌&&◌, ℕ, List, All, length, leb, ltb, eqb, ap, sym, subst, arith}
+use Rattle.lq_tap.specs.Made.{Made}
+use Rattle.lq_tap.specs.Sees.{steps, view}
 use Rattle.lq_tap.specs.Views.{View}
 use Rattle.lq_tap_run.specs.Lanes.{brought_by_lane, numbers_of, one_where}
 use Rattle.lq_tap_run.specs.Marks.{AreMarkedFull}
+use Rattle.lq_tap_run.specs.Rounds.{JoinsSeats, none_joined, one_joined}
 use Rattle.lq_tap_run.specs.declared.lanes.Lane.{Lane}
 use Rattle.lq_tap_run.proofs.Seating.{full_below, last_done, once_joined, rest_done}
 use Rattle.lq_tap_run.proofs.run.join_all.Goals as goal
+
+pub loop-lane-init : goal.loop-lane-init
+loop-lane-init g c = record {
+  joined = (search rules);
+  settled = (search rules);
+  over = c.requires.seat.1;
+  taken = refl;
+  destroyed = refl;
+  marked = (search rules);
+  steps_are = none_joined;
+  lanes = c.requires.lanes.0;
+  few = (search rules);
+}
 
 pub mark_full-requires : goal.mark_full-requires
 mark_full-requires g c =
@@ -58,7 +73,8 @@ loop-lane-preserved g c =
       taken = ap (λ (v : View). v.reader.taken) is ∙ inv.taken;
       destroyed = ap (λ (v : View). v.reader.destroyed) is ∙ inv.destroyed;
       marked = subst (λ (fs : List (ℕ × ℕ)). AreMarkedFull c.args.run.now.packets fs c.mark_full.new.fates.items) (sym fulls) (c.mark_full.ensures c.args.run.now.packets old.sender.fulls inv.marked);
-      steps_are = c.join.ensures.steps ∙ inv.steps_are;
+      steps_are = subst (λ (made : List Made). JoinsSeats (steps c.args.seat.now) made) (sym c.join.ensures.steps.1)
+          (one_joined c.join.ensures.steps.0 (steps c.loop-lane.seat) inv.steps_are);
       lanes = rest_done c.args.run.now.tap.now c.args.run.now.packets c.args.run.now.senders c.loop-lane.lanes.items rest lane inv.lanes c.in-Some.ensures.items;
       few = (let few = inv.few in omega arith);
     }
