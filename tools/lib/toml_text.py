@@ -26,32 +26,48 @@ def escaped(found):
     return f"\\u00{what[1:]}" if what[0] == "x" and len(what) == 3 else found[0]
 
 
+# how far a pair of an inline table has come; a line may end before and behind a pair, and not in it
+BEFORE, KEY, EQUALS, VALUE = range(4)
+
+
+def further(state, kind, word):
+    """How far the pair has come behind a word."""
+    if word in (",", "{"):
+        return BEFORE
+    if kind == "plain" and "=" in word:
+        return VALUE if word.rpartition("=")[2].strip() else EQUALS
+    return VALUE if state in (EQUALS, VALUE) else KEY
+
+
 def as_first_version(text):
     """The text in TOML 1.0."""
-    parts, open_marks, late = [], [], ""
+    parts, late = [], ""
+    open_marks = []  # each with how far the pair has come
     before, last = None, None  # the last two parts that aren't blank
     for found in TOKEN.finditer(text):
         kind, word = found.lastgroup, found[0]
-        in_table = open_marks[-1:] == ["{"]
+        in_table = bool(open_marks) and open_marks[-1][0] == "{"
+        if kind == "comment" and in_table:
+            continue
         if kind == "basic":
             word = ESCAPE.sub(escaped, word)
         elif kind == "plain":
             word = SHORT_TIME.sub(r"\1:00", word)
-        elif kind == "comment" and in_table:
-            continue
-        elif word in ("{", "["):
-            open_marks.append(word)
-        elif word in ("}", "]") and open_marks:
-            open_marks.pop()
-            if word == "}" and last is not None and parts[last] == "," and parts[before] != "{":
-                parts[last] = ""
-        elif word == "\n" and in_table:
+        elif word == "\n" and in_table and open_marks[-1][1] in (BEFORE, VALUE):
             late += "\n"
             word = " "
         elif word == "\n" and late and not open_marks:
             word, late = word + late, ""
-        if kind != "comment" and word.strip():
+        elif word == "}" and last is not None and parts[last] == "," and parts[before] != "{":
+            parts[last] = ""
+        if word.strip():
             before, last = last, len(parts)
+            if word in ("}", "]"):
+                del open_marks[-1:]
+            elif in_table:
+                open_marks[-1][1] = further(open_marks[-1][1], kind, word)
+            if word in ("{", "["):
+                open_marks.append([word, BEFORE])
         parts.append(word)
     return "".join(parts)
 

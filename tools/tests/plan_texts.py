@@ -3,6 +3,7 @@ import re
 
 import plans
 from tests.bench import HERE, ROOM, TOP, case, expect, fault, run
+from tests.odd_plans import ODD_PLANS
 
 # what is written most often by mistake, as docs/FORMATS.md has it: the least reason, and a part of what is said
 PLANS = {
@@ -67,3 +68,21 @@ def keys_of_a_plan():
     known = {(section, key.name) for section, keys in plans.TABLES.items() for key in keys}
     for section, name in told ^ known:
         fault(f"the key {name} of {section or 'the top'} isn't both in docs/FORMATS.md and in tools/plans.py")
+
+
+@case
+def odd_plans():
+    """What the program takes, the tools take: a byte order mark, and TOML 1.1. `tools/compare` asks the program."""
+    for data, reason in ODD_PLANS.items():
+        _, faults = plans.judge(data)
+        found = f"{faults[0].reason} {plans.REASONS[faults[0].reason]}" if faults else ""
+        if found != reason:
+            fault(f"the plan {data!r}: {found!r}, not {reason!r}")
+    _, faults = plans.judge(b"station = [{len = 5, # slots\n\n}]\nlen =\n")
+    if faults[0].line != 4:
+        fault(f"a fault behind an inline table is said to be in line {faults[0].line}, and not 4")
+    file = ROOM / "marked.toml"
+    file.write_bytes(b"\xef\xbb\xbfsenders = 2\nstation = [{len = 5,\n},]\n")
+    expect("check-plan, a byte order mark", run(HERE / "check-plan", file), 0, "accepted: 1 stations, 1 devices, 0 events, 2 senders")
+    said = run(HERE / "sweep", file, TOP / "examples/loopback.pcap", "station.0.len=0..1", ROOM / "marked.csv", "--program", "/bin/true")
+    expect("sweep, a byte order mark", said, 1, "with station.0.len=0: station 0, `len`: 0 isn't a whole number")

@@ -1,0 +1,33 @@
+"""Plans as the program takes them and TOML 1.0 doesn't, and what is no TOML 1.1 either: the reason by which the program refuses each, or none."""
+
+NO, KIND, RANGE, UNKNOWN = "1 NotToml", "4 Kind", "5 Range", "2 UnknownKey"
+ODD_PLANS = {
+    # a byte order mark, as Notepad of Windows writes it
+    b"\xef\xbb\xbf[[station]]\nlen = 5\n": "",
+    b"\xef\xbb\xbf\xef\xbb\xbf[[station]]\n": NO,
+    b"[[station]]\n\xef\xbb\xbflen = 5\n": NO,
+    # inline tables: a last comma, comments, and lines that end before and behind a pair
+    b"station = [{len = 5,}]\n": "",
+    b"station = [\n  { len = 5, # slots\n    burst = 3,\n  },\n]\nsenders = 2\n": "",
+    b"station = [{len = 5\n, burst = 1}]\n": "",
+    b"station = [{\n}]\n": "",
+    b"station = [{,}]\n": NO,
+    b"station = [{len = 5,,}]\n": NO,
+    b"station = [{len\n= 5}]\n": NO,
+    b"station = [{len = \n5}]\n": NO,
+    b"station = [{len = 5,\n\n}]\nlen =\n": NO,
+    # escapes
+    b'split = "\\x72ound"\n[[station]]\n': "",
+    b'split = "\\e"\n[[station]]\n': RANGE,
+    b'split = """\\e"""\n[[station]]\n': RANGE,
+    b"split = '\\e'\n[[station]]\n": RANGE,
+    b'split = "\\\\x72"\n[[station]]\n': RANGE,
+    b'split = "\\x7"\n[[station]]\n': NO,
+    b'"l\\x65n" = 3\n[[station]]\n': UNKNOWN,
+    b'station=[{split = "#{\\e"}]': UNKNOWN,
+    # times without seconds
+    b"split = 07:32\n[[station]]\n": KIND,
+    b"split = 1979-05-27T07:32Z\n[[station]]\n": KIND,
+    b"split = 1979-05-27 07:32-07:00\n[[station]]\n": KIND,
+    b"split = 24:00\n[[station]]\n": NO,
+}
