@@ -1,0 +1,98 @@
+#!/usr/bin/env python3
+"""A stand-in for the program, where it isn't built: `run` with one sender, `gen`, `trace`, and `tap` through a ring with room for all.
+
+It goes by the tools' own restatement of the rules, which `tools/compare PROGRAM` compares with the program. Nothing of it is proved.
+"""
+import collections
+import pathlib
+import struct
+import sys
+
+sys.dont_write_bytecode = True
+sys.path.insert(0, str(pathlib.Path(__file__).resolve().parent.parent))
+import captures  # noqa: E402
+import machine  # noqa: E402
+import one_sender  # noqa: E402
+import plans  # noqa: E402
+
+GENERATED_PLAN = {"irq_every": 64, "station": [{"len": 32, "burst": 48}]}
+
+
+def counts_of(plan, stations, trail):
+    """What is printed of a run."""
+    units = collections.Counter(unit for kind, unit in zip(trail.kinds, trail.names) if kind == one_sender.SENT)
+    kinds = collections.Counter((station, one_sender.KINDS[kind]) for station, kind in zip(stations, trail.kinds))
+    drops = one_sender.KINDS[1:]
+    lines = [f"unit {it} sent {units[it]}" for it in range(plans.units_of(plan))]
+    lines += [f"station {it} " + " ".join(f"{drop} {kinds[it, drop]}" for drop in drops) for it in range(len(plans.stations_of(plan)))]
+    every = " ".join(f"{drop} {sum(kinds[it, drop] for it in range(plans.CHILDREN))}" for drop in drops)
+    lines.append(f"total {len(trail.kinds)} sent {sum(units.values())} {every}")
+    lines += [f"mq {at} queues {len(children)} sent {sum(units[it] for it in children)}" for at, children in plans.groups_of(plan)]
+    return "".join(f"{it}\n" for it in lines)
+
+
+def run(plan, capture):
+    """A run of one sender: its trail, and what is printed of it."""
+    stations, queues = plans.places_of(plan, capture)
+    trail = one_sender.run(plan, stations, capture.bands, queues)
+    return trail, counts_of(plan, stations, trail)
+
+
+def run_files(plan_file, capture_file, out):
+    plan, faults = plans.judge(pathlib.Path(plan_file).read_bytes())
+    if faults:
+        print(f"plan refused: {faults[0].reason} {plans.REASONS[faults[0].reason]}")
+        return 3
+    capture = captures.read(capture_file)
+    trail, counts = run(plan, capture)
+    sent = [[] for _ in range(plans.units_of(plan))]
+    for n, (kind, unit, serial) in enumerate(zip(trail.kinds, trail.names, trail.serials)):
+        if kind == one_sender.SENT:
+            sent[unit].append((serial, n))
+    for unit, of in enumerate(sent):
+        pathlib.Path(f"{out}.{unit}.pcap").write_bytes(capture.written([n for _, n in sorted(of)]))
+    for at, numbers in one_sender.joint_lists(plan, trail).items():
+        pathlib.Path(f"{out}.mq{at}.pcap").write_bytes(capture.written(numbers))
+    pathlib.Path(f"{out}.fates").write_text(trail.text(), encoding="utf-8")
+    print(counts, end="")
+    return 0
+
+
+def generated(number, count):
+    """The capture that `gen` makes, as docs/FORMATS.md has it."""
+    yield bytes.fromhex("d4c3b2a102000400000000000000000000000400" + "01000000")
+    for i in range(count):
+        v = (number + 40503 * i) % 65536
+        yield struct.pack("<IIII", i // 1000, i % 1000 * 1000, 34, 34)
+        yield bytes.fromhex("0200000000020200000000010800") + struct.pack(">BBHHHHH", 0x45, 2 * (v % 16), 20, i % 65536, 0, 0x40FD, 0)
+        yield bytes([10, 0, 0, v // 16 % 256, 10, 0, 1, i % 256])
+
+
+def tap(senders, length, capture_file, out):
+    capture = captures.read(capture_file)
+    count = len(capture)
+    if count > length:
+        sys.exit("the stand-in has no ring that is too short")
+    pathlib.Path(f"{out}.pcap").write_bytes(capture.written(range(count)))
+    pathlib.Path(f"{out}.fates").write_text("".join(f"{n} read {n}\n" for n in range(count)), encoding="utf-8")
+    print(f"total {count} read {count} full 0 lost 0")
+    return 0
+
+
+def main(words):
+    if words[:1] == ["run"]:
+        return run_files(*words[1:])
+    if words[:1] == ["trace"]:
+        code, said = machine.trace(pathlib.Path(words[1]).read_bytes())
+        print(said, end="")
+        return code
+    if words[:1] == ["gen"]:
+        data = b"".join(generated(int(words[1]), int(words[2])))
+        pathlib.Path(words[3]).write_bytes(data)
+        print(run(GENERATED_PLAN, captures.Capture(data))[1], end="")
+        return 0
+    return tap(int(words[1]), int(words[2]), words[4], words[5])
+
+
+if __name__ == "__main__":
+    sys.exit(main(sys.argv[1:]))
