@@ -32,8 +32,10 @@ FILES = {
         "mine.schedule": "seats 3 len 1 bypass 0\n0 send 1\n0 step 4\n1 send 1\n1 step 3\n",
     }
 }
+# what a page's commands need that another page's make
+BEFORE = {"docs/FORMATS.md": ["./lqtx run examples/drops.toml examples/loopback.pcap out/o"]}
 PICTURES = {"README.md": {"out/o.svg": "docs/drops.svg", "out/len.svg": "docs/bursts-by-len.svg"}, "docs/FORMATS.md": {"out/m.svg": "docs/multi-queue.svg"}}
-COMMAND = re.compile(r"    (?:\$ )?((?:\./lqtx|tools/|rt |cat |head ).*)")
+COMMAND = re.compile(r"    (?:\$ (.*)|((?:\./lqtx|tools/|rt ).*))")
 FEWEST = {"README.md": 6, "docs/FORMATS.md": 6, "docs/HISTORY.md": 5, "docs/lqtx.1": 3}
 
 
@@ -53,7 +55,7 @@ def commands_of_blocks(page, lines):
     for number, line in enumerate(lines, 1):
         command = COMMAND.fullmatch(line)
         if command:
-            shown = Command(page, number, command[1], [] if line.startswith("    $ ") else None)
+            shown = Command(page, number, command[1] or command[2], [] if line.startswith("    $ ") else None)
             found.append(shown)
         elif line.startswith("    ") and shown and shown.printed is not None:
             shown.printed.append(line[4:])
@@ -118,7 +120,7 @@ def faults_of_command(room, command, text):
             yield f"{place}: prints {got}, and the page says {command.printed}"
     elif said.returncode:
         yield f"{place}: ends with {said.returncode}: {said.stderr[-300:]}"
-    if command.words in PRINTED and "".join(f"    {it}\n" for it in got) not in text:
+    if command.words in PRINTED and command.line and "".join(f"    {it}\n" for it in got) not in text:
         yield f"{place}: the page lacks what it prints: {got}"
 
 
@@ -134,7 +136,7 @@ def faults_of_page(page):
         make_room(room)
         for name, text in FILES.get(page, {}).items():
             (room / name).write_text(text, encoding="utf-8")
-        for command in commands:
+        for command in [*(Command(page, 0, it, None) for it in BEFORE.get(page, [])), *commands]:
             yield from faults_of_command(room, command, "\n".join(lines))
         for made, kept in PICTURES.get(page, {}).items():
             if not (room / made).exists() or (room / made).read_bytes() != (TOP / kept).read_bytes():
