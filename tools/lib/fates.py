@@ -3,7 +3,7 @@ import pathlib
 import re
 from array import array
 from collections import Counter
-from itertools import cycle, repeat
+from itertools import cycle
 
 import one_sender
 import plans
@@ -86,10 +86,10 @@ class Run(Fates):
             self.judge()
 
     def places(self):
-        """Of each packet its sender, its station, the transmit queue of its device, and its band."""
+        """Columns with each packet's sender, its station, the transmit queue of its device, and its band."""
         first = {child: children[0] for children in self.children for child in children}
         queues = self.queues if not self.groups else bytes(queue + station - first[station] for queue, station in zip(self.queues, self.stations))
-        return zip(self.senders, self.stations, queues, self.capture.bands)
+        return self.senders, self.stations, queues, self.capture.bands
 
     def sent_by_units(self):
         """The packets that each unit sent."""
@@ -217,8 +217,8 @@ class Tap(Fates):
             self.serials.append(int(other) if kind == "read" else 0)
 
     def places(self):
-        """Of each packet its sender: it has no station, queue or band."""
-        return zip(self.senders, repeat(None), repeat(None), repeat(None))
+        """Columns with each packet's sender, and none for the station, queue and band that it doesn't have."""
+        return self.senders, None, None, None
 
     def judge_order(self):
         """Each sender's packets were read in their order."""

@@ -1,30 +1,43 @@
 """A capture with a comment on each packet, as pcapng; all that was there is kept."""
 import struct
+from itertools import repeat
 
 from lib.fates import FULL, SENT
 from lib.packets import NANOSECONDS
 from one_sender import HUNG
 
 SECTION, INTERFACE, SIMPLE, ENHANCED = 0x0A0D0D0A, 1, 3, 6
-END, COMMENT, RESOLUTION, FRAME_CHECK = 0, 1, 9, 13
+COMMENT, RESOLUTION, FRAME_CHECK = 1, 9, 13
+END_OF_OPTIONS = bytes(4)
+# what fills a length up to a multiple of 4, by what is over
+PADS = [b"", bytes(3), bytes(2), bytes(1)]
+
+
+def place_words(run):
+    """Of each packet what its comment says of its place; the words of places that several packets have are made once."""
+    sender, *places = run.places()
+    made = {}
+    for where in zip(sender, *places) if run.has_units else zip(sender):
+        if where not in made:
+            names = ["station", "queue", "band"] if run.has_units else ["sender"]
+            made[where] = "".join(f", {name} {it}" for name, it in zip(names, where[run.has_units :])).encode()
+        yield made[where]
 
 
 def comments(run, waits, first):
     """A comment for each packet: its fate as OUT.fates has it, its station, queue and band, and whether it left only after the last packet."""
-    ends = {}
-    late = waits.is_late if waits else lambda n: False
-    for n, (kind, name, serial, where) in enumerate(zip(run.kinds, run.names, run.serials, run.places())):
-        if where not in ends:
-            sender, *parts = where
-            told = [f"{word} {it}" for word, it in zip(("station", "queue", "band"), parts) if it is not None]
-            ends[where] = ", ".join(["", *told] if told else ["", f"sender {sender}"])
+    ends, has_units, kinds = [b"", b", after the last packet"], run.has_units, [it.encode() for it in run.KINDS]
+    late = map(waits.end.__eq__, waits.left) if waits else repeat(False)
+    for kind, name, serial, place, is_late in zip(run.kinds, run.names, run.serials, place_words(run), late):
         if kind == SENT:
-            words = f"sent {name} {serial}" if run.has_units else f"read {serial}"
+            words = b"sent %d %d" % (name, serial) if has_units else b"read %d" % serial
         elif kind == FULL:
-            words = f"full {name + first}"
+            words = b"full %d" % (name + first)
+        elif not has_units:
+            words = kinds[kind]
         else:
-            words = run.KINDS[kind] + (f" {'hung' if name == HUNG else name}" if run.has_units else "")
-        yield f"lqtx: {words}{ends[where]}{', after the last packet' if late(n) else ''}".encode()
+            words = kinds[kind] + (b" hung" if name == HUNG else b" %d" % name)
+        yield b"lqtx: " + words + place + ends[is_late]
 
 
 def option(order, number, value):
@@ -46,26 +59,25 @@ def of_classic(capture, told):
         # the length of the frame check sequence, in units of 16 bits
         options += option(order, FRAME_CHECK, bytes([2 * (link >> 28)]))
     yield block(order, SECTION, struct.pack(order + "IHHq", 0x1A2B3C4D, 1, 0, -1))
-    yield block(order, INTERFACE, struct.pack(order + "HHI", link & 0xFFFF, 0, snap) + options + option(order, END, b""))
+    yield block(order, INTERFACE, struct.pack(order + "HHI", link & 0xFFFF, 0, snap) + options + END_OF_OPTIONS)
     data, unpack, pack = capture.data, struct.Struct(order + "IIII").unpack_from, struct.Struct(order + "IIIIIII").pack
     words, length_of, ticks = Comments(order), struct.Struct(order + "I").pack, 10**9 if nanoseconds else 10**6
     for at, comment in zip(capture.starts, told):
         seconds, part, captured, length = unpack(data, at)
-        time, more = seconds * ticks + part, words.option(comment) + words.end
-        pad = -captured % 4
-        total = 32 + captured + pad + len(more)
-        yield pack(ENHANCED, total, 0, time >> 32 & 0xFFFFFFFF, time & 0xFFFFFFFF, captured, length)
-        yield data[at + 16 : at + 16 + captured] + bytes(pad) + more + length_of(total)
+        time, more = seconds * ticks + part, PADS[captured & 3] + words.option(comment)
+        total = 36 + captured + len(more)
+        yield pack(ENHANCED, total, 0, time >> 32, time & 0xFFFFFFFF, captured, length) + data[at + 16 : at + 16 + captured] + more + END_OF_OPTIONS + length_of(total)
 
 
 class Comments:
     """How a comment is written, in a byte order."""
 
     def __init__(self, order):
-        self.head, self.end = struct.Struct(order + "HH").pack, bytes(4)
+        self.head = struct.Struct(order + "HH").pack
 
     def option(self, comment):
-        return self.head(COMMENT, len(comment)) + comment + bytes(-len(comment) % 4)
+        size = len(comment)
+        return self.head(COMMENT, size) + comment + PADS[size & 3]
 
 
 def of_blocks(capture, told):
@@ -77,25 +89,22 @@ def of_blocks(capture, told):
             continue
         captured = captured_at(data, at)[0]
         frame = at + 28 + captured + -captured % 4
-        more = words.option(comment) + (data[frame : end - 4] or words.end)
+        more = words.option(comment) + (data[frame : end - 4] or END_OF_OPTIONS)
         total = frame - at + len(more) + 4
         yield data[place:at] + two.pack(ENHANCED, total) + data[at + 8 : frame] + more + pack(total)
         place = end
     yield data[place:]
 
 
-def of_section(capture, pieces):
-    """A section whose header says how long the rest is, where it said so before."""
-    data, form = b"".join(pieces), capture.order + "q"
-    if struct.unpack_from(form, data, 16)[0] == -1:
-        return data
-    head = struct.unpack_from(capture.order + "I", data, 4)[0]
-    return data[:16] + struct.pack(form, len(data) - head) + data[24:]
-
-
 def write(file, capture, told):
     """The marked capture; the answer is how many packets have no place for a comment."""
     with open(file, "wb") as it:
-        it.write(of_section(capture, of_blocks(capture, told) if capture.is_pcapng() else of_classic(capture, told)))
+        it.writelines(of_blocks(capture, told) if capture.is_pcapng() else of_classic(capture, told))
+        head, long = struct.unpack_from(capture.order + "I8xq", capture.data, 4) if capture.is_pcapng() else (0, -1)
+        if long != -1:
+            # the section's header says how long the rest is
+            rest = it.tell() - head
+            it.seek(16)
+            it.write(struct.pack(capture.order + "q", rest))
     kind = struct.Struct(capture.order + "I").unpack_from
     return sum(kind(capture.data, at)[0] == SIMPLE for at in capture.starts) if capture.is_pcapng() else 0

@@ -33,14 +33,14 @@ def columns_of(shown):
     run, packets, flows, waits, count = shown.run, shown.packets, shown.flows, shown.waits, len(shown.run.capture)
     start = next((it for it in packets.times if it != NO_TIME), 0)
     nan = float("nan")
-    sender, station, queue, band = zip(*run.places()) if count else ((), (), (), ())
+    sender, *places = run.places()
     found = {
         "time": packed([nan if it == NO_TIME else it - start for it in packets.times], "f64"),
         "length": packed(run.capture.lengths), "sender": packed(sender), "dscp": packed(flows.services), "flow": packed(flows.of),
         "fate": packed(run.kinds), "names": packed(run.names, "u32"), "serial": packed(run.serials),
     }  # fmt: skip
-    for name, values in (("station", station), ("queue", queue), ("band", band)):
-        found[name] = packed([UNKNOWN if it is None else it for it in values])
+    for name, values in zip(("station", "queue", "band"), places):
+        found[name] = packed(bytes([UNKNOWN]) * count if values is None else values)
     if waits:
         found["gone"] = packed(waits.left, "u32")
         found["waited"] = packed([(left + 1) // 2 - 1 - n for n, left in enumerate(waits.left)])

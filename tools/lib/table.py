@@ -1,6 +1,6 @@
 """The table of a run: a row for each packet, as CSV, as JSON, or as a line of JSON each."""
 import json
-from itertools import islice
+from itertools import islice, repeat
 
 from lib.fates import FULL, SENT
 from lib.packets import NO_DSCP, NO_TIME, seconds
@@ -67,6 +67,11 @@ class Made(dict):
         return self[key]
 
 
+def places_of(run):
+    """Of each packet its sender, station, queue and band."""
+    return zip(*(repeat(None) if it is None else it for it in run.places()))
+
+
 def part_of(form, names, values):
     return form.template(names) % tuple(map(form.value, values))
 
@@ -104,7 +109,7 @@ def rows(run, waits, packets, flows, form, first):
     service = Made(lambda key: part_of(form, SERVICE, [None if key == NO_DSCP else key]))
     flow = Made(lambda key: part_of(form, FLOW, flows.flows[key]))
     row = form.row % ",".join([form.template(FIRST), "%s,%s,%s", form.template(FATE), "%s"])
-    columns = zip(packets.times, run.capture.lengths, run.places(), flows.services, flows.of, fates_of(run, form, first), waits_of(run, waits, form, packets.digits))
+    columns = zip(packets.times, run.capture.lengths, places_of(run), flows.services, flows.of, fates_of(run, form, first), waits_of(run, waits, form, packets.digits))
     for n, (time, length, where, dscp, of, fate, wait) in enumerate(columns, first):
         yield row % (n, form.none if time == NO_TIME else seconds(time, packets.digits), length, place[where], service[dscp], flow[of], *fate, wait)
 

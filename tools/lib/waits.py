@@ -22,7 +22,7 @@ class Waits:
     def __init__(self, run, packets):
         self.run, self.left, self.end = run, run.trail.left, run.trail.end
         self.times, self.digits = packets.times, packets.digits
-        self.waiting_of = {}
+        self.waiting_of, self.sent_of = {}, {}
         # the packets that didn't leave when they came, by station and band
         self.held = {(station, band): array("I") for station in range(len(run.tables)) for band in range(3)}
         for n, (left, came) in enumerate(zip(self.left, count(1, 2))):
@@ -67,6 +67,11 @@ class Waits:
 
     def of_sent(self, station, band):
         """How long the packets waited that were sent of a band; None where there are none."""
+        if (station, band) not in self.sent_of:
+            self.sent_of[station, band] = self.made_of_sent(station, band)
+        return self.sent_of[station, band]
+
+    def made_of_sent(self, station, band):
         run, held = self.run, [n for n in self.held[station, band] if self.run.kinds[n] == SENT]
         many = sum(packets for (at, of, _, kind), (packets, _) in run.counts.items() if (at, of, kind) == (station, band, SENT))
         if not many:
