@@ -37,8 +37,10 @@ class Flow(NamedTuple):
 
 def seconds(time, digits):
     """Nanoseconds as seconds with so many digits, 6 or 9."""
-    sign, time = ("-", -time) if time < 0 else ("", time)
-    return f"{sign}{time // SECOND}.{time % SECOND:09d}" if digits == 9 else f"{sign}{time // SECOND}.{time % SECOND // 1000:06d}"
+    if time < 0:
+        return "-" + seconds(-time, digits)
+    whole, part = divmod(time, SECOND)
+    return f"{whole}.{part:09d}" if digits == 9 else f"{whole}.{part // 1000:06d}"
 
 
 def options_of(data, order, at, end):
