@@ -6,9 +6,10 @@ from pathlib import Path
 from . import extract
 
 HERE = Path(__file__).resolve().parent
-TEXT_WORDS = ["gcc", "-std=gnu11", "-O1", "-g", "-w", "-Werror=implicit-function-declaration", "-fno-strict-aliasing", "-fno-pie", "-fsanitize=thread",
+# with version 5 of the debugging data addr2line gives the first functions of a text to another file
+TEXT_WORDS = ["gcc", "-std=gnu11", "-O1", "-gdwarf-4", "-w", "-Werror=implicit-function-declaration", "-fno-strict-aliasing", "-fno-pie", "-fsanitize=thread",
               "--param", "tsan-distinguish-volatile=1", "--param", "tsan-instrument-func-entry-exit=0"]
-SEARCH_WORDS = ["g++", "-std=gnu++17", "-O2", "-g", "-w", "-fno-pie"]
+SEARCH_WORDS = ["g++", "-std=gnu++17", "-gdwarf-4", "-w", "-fno-pie"]
 
 
 class NotCompiled(Exception):
@@ -29,8 +30,8 @@ def checksum(*texts):
 class Builder:
     """Programs that search a text: one for each size that is compiled another way; what was built before is used again."""
 
-    def __init__(self, tree, folder, worlds=HERE):
-        self.tree, self.folder, self.worlds = Path(tree), Path(folder), Path(worlds)
+    def __init__(self, tree, folder, worlds=HERE, level=2):
+        self.tree, self.folder, self.worlds, self.level = Path(tree), Path(folder), Path(worlds), level
         self.folder.mkdir(parents=True, exist_ok=True)
         ours = [*sorted(HERE.glob("*.h")), *sorted(HERE.glob("*.c")), HERE / "search.cc", *sorted(self.worlds.glob("*.[ch]"))]
         self.sources = checksum(*(file.read_text(encoding="utf-8") for file in ours))
@@ -41,9 +42,9 @@ class Builder:
     def _search(self, world):
         """The search, with the machine where the world is the transmit path."""
         defines = ["-DWITH_MACHINE"] if world == "path" else []
-        out = self.folder / f"search-{checksum(self.sources, defines)}.o"
+        out = self.folder / f"search{self.level}-{checksum(self.sources, defines)}.o"
         if not out.exists():
-            compile_with([*SEARCH_WORDS, *defines, f"-I{HERE}", "-c", HERE / "search.cc", "-o", f"{out}.new"])
+            compile_with([*SEARCH_WORDS, f"-O{self.level}", *defines, f"-I{HERE}", "-c", HERE / "search.cc", "-o", f"{out}.new"])
             Path(f"{out}.new").rename(out)
         return out
 
@@ -55,7 +56,7 @@ class Builder:
             defines.append(f"-DPACKETS={values['seats'] * size.options()['sends']}")
         if "net_tx_action(void)" in cut.text:
             defines.append("-DNET_TX_ACTION_TAKES_NOTHING=1")
-        out = self.folder / f"{size.world}-{checksum(self.sources, cut.text, defines)}"
+        out = self.folder / f"{size.world}{self.level}-{checksum(self.sources, cut.text, defines)}"
         if out.exists():
             return out
         room = Path(f"{out}.d")
