@@ -1,7 +1,10 @@
 """What the cases of tools/test-tools share: how a tool is run, what is expected of it, and the files that it is given."""
+import importlib.machinery
+import importlib.util
 import pathlib
 import shutil
 import subprocess
+import sys
 import tempfile
 import xml.etree.ElementTree
 
@@ -28,7 +31,7 @@ def fault(text):
 
 def run(*words, cwd=None, env=None):
     """A tool's exit code, and what it wrote to standard output and to standard error."""
-    said = subprocess.run([str(it) for it in words], cwd=cwd, env=env, capture_output=True, text=True, timeout=60)
+    said = subprocess.run([str(it) for it in words], cwd=cwd, env=env, capture_output=True, text=True, timeout=300)
     return said.returncode, said.stdout, said.stderr
 
 
@@ -39,6 +42,21 @@ def expect(name, said, code, *parts):
     for part in parts:
         if part not in said[1] + said[2]:
             fault(f"{name}: says nothing of {part!r}: {(said[1] + said[2])[-600:]!r}")
+
+
+def is_equal(name, found, wanted):
+    """Faults where something isn't what was worked out by hand."""
+    if found != wanted:
+        fault(f"{name}: {found!r}, not {wanted!r}")
+
+
+def load(name):
+    """A tool as a module, for parts of it that can be called alone."""
+    loader = importlib.machinery.SourceFileLoader(f"tool_{name}".replace("-", "_"), str(HERE / name))
+    module = importlib.util.module_from_spec(importlib.util.spec_from_loader(loader.name, loader))
+    sys.modules[loader.name] = module
+    loader.exec_module(module)
+    return module
 
 
 def expect_none(name, said, *parts):

@@ -30,7 +30,7 @@ def first_build():
         subprocess.run(["git", *words], cwd=top, check=True)
     (room / "rt").symlink_to("/bin/true")
     said = run(top / "tools/first-build", "--chain", room, env=os.environ | {"PATH": f"{room}:{os.environ['PATH']}"})
-    expect("first-build", said, 0, " processors, ", f"{room}/first-build.", "build/: ", "the program: 6 bytes", "chain")
+    expect("first-build", said, 0, " processors, ", f"{room}/first-build.", "it took 0 min 00 s; ", "build/: ", "the program: 6 bytes", "chain")
     if sorted(it.name for it in room.iterdir()) != ["rt"]:
         fault("first-build leaves files behind")
     if not shutil.which("rt", path="/usr/bin:/bin"):

@@ -46,7 +46,7 @@ CALLS = [
 OTHERS = {
     "beside-linux": "in folders of its own, and OUT.*, which is tried below", "build": "below build/, and PROGRAM, which is tried below", "compare": "in a folder of its own",
     "compare-with-c": "in a folder of its own", "first-build": "in a folder of its own", "names": "tools/names-left", "refused-growths": "in a folder of its own",
-    "test": "in folders of its own", "test-building": "in a folder of its own", "test-wrapper": "in a folder of its own", "unproved": "below build/, and OUT.unproved.*",
+    "test": "in folders of its own", "test-wrapper": "in a folder of its own", "unproved": "below build/, and OUT.unproved.*",
     "test-beside-linux": "in a folder of its own", "test-docs": "in a folder of its own",
 }  # fmt: skip
 WRITES = re.compile(r'write_text\(|write_bytes\(|writing\(|open\([^)\n]*"[wa]b?"|mktemp')

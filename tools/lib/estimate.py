@@ -1,6 +1,6 @@
 """How long a build takes on this machine, by what it took so far.
 
-    python3 tools/estimate.py LOG       what the log of a build said it would take, beside what it took
+    PYTHONPATH=tools python3 -m lib.estimate LOG       what the log of a build said it would take, beside what it took
 
 The build's schedule is simulated once over the shares of its crates. That gives the second at which each would end on idle processors of the machine
 whose shares they are, and how much processor time the whole has had at each second. The processor time of the crates that have ended, over their
@@ -10,9 +10,10 @@ of the plan; and the seconds of the clock until now over that second are the pac
 import bisect
 import pathlib
 import re
-import sys
 from dataclasses import dataclass
 from typing import Dict, List
+
+from lib import words
 
 SERIAL = 0.4  # of a crate's time, which several processes don't shorten: with it four idle processors take 9.6 minutes, where 9 to 10 were measured
 RANGE = (0.95, 1.65)  # of the planned time, on idle processors of the machines that were measured
@@ -113,7 +114,7 @@ class Estimate:
 
     def in_all(self, now):
         """What is said from the first crate on."""
-        if not self.used:
+        if not self.used and now <= self.plan.whole():
             return self.before()
         whole, idle = self.whole(now), self.idle()
         is_busy = whole > BUSY * idle and minutes(whole) > minutes(idle)
@@ -162,18 +163,11 @@ def beside(text):
     yield f"it took {took // 60} min {took % 60:02} s; from the first minute on {near} of {len(later)} lines were within a third"
 
 
-def main(words):
-    if len(words) != 1 or words[0].startswith("-"):
-        print(__doc__, file=sys.stdout if words == ["--help"] else sys.stderr)
-        return 0 if words == ["--help"] else 2
-    try:
-        text = pathlib.Path(words[0]).read_text(encoding="utf-8", errors="replace")
-    except OSError as fault:
-        print(f"estimate: {fault.strerror}: {words[0]}", file=sys.stderr)
-        return 1
-    print("\n".join(beside(text)))
-    return 0
+def main(given):
+    if len(given) != 1 or given[0].startswith("-"):
+        raise words.Wrong("usage: PYTHONPATH=tools python3 -m lib.estimate LOG")
+    print("\n".join(beside(pathlib.Path(given[0]).read_text(encoding="utf-8", errors="replace"))))
 
 
 if __name__ == "__main__":
-    sys.exit(main(sys.argv[1:]))
+    words.run("estimate", __doc__, main)

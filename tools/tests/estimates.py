@@ -1,0 +1,107 @@
+"""How long a build takes: the plan, what is said of it, and a first build played again."""
+import os
+import subprocess
+import sys
+import time
+
+from lib import estimate
+from tests.bench import HERE, ROOM, case, fault, is_equal, load, run
+
+
+def two_crates():
+    """Two processors check `low`, 60 s by one, in 42 s: 84 s of a processor. Then one checks `high` in 30 s, while the other is idle."""
+    def starts(ended, under_way):
+        return [it for it in ("low", "high") if it not in ended and it not in under_way and (it == "low" or "low" in ended)]
+
+    return estimate.simulate({"low": 60, "high": 30}, {"low"}, 2, starts)
+
+
+@case
+def estimates():
+    plan = two_crates()
+    is_equal("the plan's ends", {it: round(at, 3) for it, at in plan.ends.items()}, {"low": 42, "high": 72})
+    is_equal("the plan's processor time", [round(it, 3) for it in plan.work], [0, 84, 114])
+    is_equal("half of it", round(plan.time_of(42), 3), 21)
+    is_equal("more than all of it", round(plan.time_of(1000), 3), 72)
+    it = estimate.Estimate(plan)
+    is_equal("before a crate has ended", it.in_all(10), "1 to 2 min by machine")
+    it.under_way({"low": 100})
+    is_equal("the same with a crate under way", it.in_all(10), "1 to 2 min by machine")
+    is_equal("no crate has ended when all were to", it.in_all(100), "about 3 min in all, 1 on idle processors")
+    it.ended("low", 168)
+    is_equal("twice as slow", (it.slower(), round(it.whole(84)), it.in_all(84)), (2, 144, "about 2 min in all"))
+    is_equal("it is said", it.on_this_machine(84), "this machine takes 2.0 times the processor time of the one that these minutes are of: 2 to 3 min in all")
+    is_equal("a third of the processors is at other work", (round(it.whole(126)), it.in_all(126)), (216, "about 4 min in all, 2 on idle processors"))
+    it.under_way({"high": 30})
+    # 84 and 15 planned seconds are done: second 57 of 72
+    is_equal("half of the last crate", round(it.whole(114)), 144)
+    it.under_way({"high": 1000})
+    is_equal("a crate that takes longer than planned", round(it.whole(500)), 500)
+
+
+# a first build of this program: when each crate began and ended, on four processors that had nothing else to do for four minutes, and then up to
+# thirty processes at other work
+ONCE = {
+    "lq_gate": (0, 14), "lq_model": (0, 53), "lq_host": (0, 258), "lq_machine": (53, 143), "lq_pcap": (53, 153), "lq_class": (53, 109),
+    "lq_device": (53, 130), "lq_ring_core": (53, 189), "lq_account": (53, 94), "lq_fates": (53, 179), "lq_mq": (53, 110),
+    "lq_run_core": (143, 505), "lq_plan": (153, 525), "lq_pcapng": (153, 247), "lq_tap_fates": (179, 228), "lq_band": (189, 237),
+    "lq_table": (237, 850), "lq_tap": (237, 1035), "lq_files": (525, 1673), "lq_ring": (850, 1259), "lq_run": (850, 1210),
+    "lq_tap_run": (1035, 1498), "lq_qdisc": (1259, 1538), "lq_control": (1538, 1647), "lq_seat": (1647, 1704), "lq_senders": (1704, 1885),
+    "lq_top": (1885, 2046), "lqtx": (2046, 2189),
+}  # fmt: skip
+QUIET = 947  # seconds that a first build took on this machine with nothing else at work: 52 processor minutes
+
+
+@case
+def estimate_of_a_first_build():
+    """From the first minute on it is right within a third for a machine that stays as it is, and soon after other work came."""
+    build = load("build")
+    build.Kit = type("Kit", (), {"__init__": lambda *_: None, "has": lambda *_: False})
+    it = build.Build(build.crates_of_program(), 4).estimate
+    ends = {crate: end for crate, (_, end) in ONCE.items()}
+    took, slower = max(ends.values()), 52 * 60 / sum(it.plan.seconds.values())
+    planned = {crate: slower * it.plan.seconds.get(crate, 5) for crate in ONCE}
+    for now in range(60, took, 30):
+        for crate, end in ends.items():
+            if end <= now and crate not in it.used:
+                it.ended(crate, planned[crate])
+        it.under_way({crate: planned[crate] * (now - began) / (ends[crate] - began) for crate, (began, _) in ONCE.items() if began < now < ends[crate]})
+        true = QUIET if now <= 240 else took if now >= 540 else None
+        if true and abs(it.whole(now) / true - 1) > 1 / 3:
+            fault(f"the estimate at {now} s: {it.whole(now):.0f} s, where it took {true} s")
+
+
+@case
+def said_beside_took():
+    log = ROOM / "log"
+    lines = ["building, which proves the program first: 9 to 16 min by machine"]
+    lines += ["proved low by 14 s of a processor, 1 of 2 crates, 0 min 14 s so far, about 3 min in all; under way: high"]
+    lines += ["1 of 2 crates, 1 min 00 s so far, about 4 min in all, 2 on idle processors; under way: high"]
+    lines += ["proved high by 60 s of a processor, 2 of 2 crates, 5 min 00 s so far, done; under way: none"]
+    log.write_text("".join(f"lqtx: {it}\n" for it in lines), encoding="utf-8")
+    of_lib = [sys.executable, "-m", "lib.estimate"]
+    said = run(*of_lib, log, cwd=HERE)
+    wanted = "at 0 min 14 s it said 3 min, -40% of what it took\nat 1 min 00 s it said 4 min, -20% of what it took\n"
+    wanted += "it took 5 min 00 s; from the first minute on 1 of 1 lines were within a third\n"
+    is_equal("said beside took", said, (0, wanted, ""))
+    is_equal("no log", run(*of_lib, ROOM / "none", cwd=HERE)[0], 1)
+    is_equal("no words", run(*of_lib, cwd=HERE)[0], 2)
+
+
+@case
+def time_of_processes():
+    """The processor time of a group of processes, as of one that has worked for half a second, and of one that has ended."""
+    build = load("build")
+    works = "import time\nwhile time.process_time() < 0.5: pass\nprint(flush=True)\ntime.sleep(30)"
+    process = subprocess.Popen([sys.executable, "-c", works], stdout=subprocess.PIPE, preexec_fn=os.setpgrp)
+    process.stdout.readline()
+    used = build.used_so_far({"low": process.pid})
+    if not 0.4 <= used["low"] < 5:
+        fault(f"a process that has worked for half a second: {used}")
+    is_equal("it is under way", build.processor_time(process), None)
+    process.kill()
+    while (used := build.processor_time(process)) is None:
+        time.sleep(0.01)
+    if not 0.4 <= used < 5:
+        fault(f"the same once it has ended: {used}")
+    is_equal("how it ended", process.returncode, -9)
