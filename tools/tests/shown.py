@@ -2,6 +2,7 @@
 import csv
 import html
 import json
+import os
 import pathlib
 import re
 import shutil
@@ -49,6 +50,12 @@ def waits_and_table():
     expect("waits", said, 0, "\n 2 sent while packets came, and 4 after the last packet\n", "\n 0 0.0.0.7 > 0.0.0.9: sent 204 bytes 6 pkt, dropped 0\n",
            "\n  backlog at most 4 pkt; wait 2 pkt (2.000000 s) in the middle, 3 pkt (3.000000 s) at most; 4 sent after the last packet\n band 2")  # fmt: skip
     expect_table("table", table, 0, SIX_ROWS)
+    # a reader that has had enough at once doesn't keep the files from being written
+    table.unlink()
+    words = [HERE / "show-run", ROOM / "shown/six.toml", ROOM / "shown/six.pcap", ROOM / "shown/six", "--table", table]
+    with subprocess.Popen([str(it) for it in words], stdout=subprocess.PIPE, env=os.environ | {"PYTHONUNBUFFERED": "1"}) as it:
+        it.stdout.close()
+    expect_table("table, nobody reads", table, 0, SIX_ROWS)
     expect("table, numbers from 1", shown("six", SLOW, SIX, "--table", table, "--numbers-from", "1"), 0)
     expect_table("table, numbers from 1", table, 1, SIX_ROWS)
     rows = list(csv.DictReader(table.open(encoding="utf-8")))
