@@ -1,4 +1,4 @@
-"""Orders of steps: shown, refused, and found."""
+"""Orders of steps: shown, and refused."""
 import random
 
 import machine
@@ -128,16 +128,3 @@ def why_a_schedule_is_refused():
         expect(f"why {text!r}", said, 7, why)
         if said[1]:
             fault("show-schedule --why writes to standard output")
-
-
-@case
-def find_schedule():
-    for mistake in ("begin_gives_up_after_one_try", "end_looks_before_it_releases"):
-        said = run(HERE / "find-schedule", "--mistake", mistake)
-        expect(f"find-schedule {mistake}", said, 0, "It takes 23 steps there.", "seats 2 len 2 bypass 0\n0 send 0\n")
-        found = ROOM / "found.schedule"
-        found.write_text(said[1], encoding="utf-8")
-        expect("the order that was found, on the right machine", run(HERE / "show-schedule", found), 0, "held 0: nothing is left")
-        expect("the order that was found, with the mistake", run(HERE / "show-schedule", "--mistake", mistake, found), 0, "held 1, nobody comes: packet 1 in band 0")
-    said = run(HERE / "find-schedule", "--mistake", "begin_gives_up_after_one_try", "--packets", "1")
-    expect("find-schedule, one packet", said, 1, "no order of 2 seats and 1 packets leaves one")

@@ -1,0 +1,194 @@
+"""Sizes of the machine, and the search over one: search.c is compiled for the size, and what it prints is read."""
+import pathlib
+import shutil
+import signal
+import subprocess
+from typing import Iterator, List, NamedTuple, Optional, Tuple
+
+from orders import text
+
+HERE = pathlib.Path(__file__).resolve().parent
+
+
+class Size(NamedTuple):
+    """How large a machine is, and what may come to it."""
+
+    seats: int = 2
+    sends: int = 2
+    bands: int = 1
+    len: int = 8
+    queues: int = 1
+    bypass: int = 0
+    quota: int = 64
+    stops: int = 0
+    hangs: int = 0
+    busys: int = 0
+    downs: int = 0
+    swaps: int = 0
+    waits: int = 0
+
+    def defines(self) -> List[str]:
+        values = self._asdict()
+        # with fewer packets than a quota no run comes to it, and nothing is to be counted
+        values["quota"] = self.quota if self.quota <= self.seats * self.sends else 0
+        names = {"stops": "STOPPINGS", "hangs": "HANGINGS"}
+        return [f"-D{names.get(name, name.upper())}={value}" for name, value in values.items()]
+
+    def words(self) -> str:
+        """The size in a line."""
+
+        def many(count, name):
+            return f"{count} {name}{'s' * (count != 1)}"
+
+        said = [many(self.seats, "seat"), f"{many(self.sends, 'transmit')} of each", f"into {many(self.bands, 'band')} of {many(self.len, 'slot')}"]
+        said += [many(self.queues, "queue")] * (self.queues > 1) + ["past the bands where that is allowed"] * self.bypass
+        said += [f"a quota of {self.quota}"] * (self.quota <= self.seats * self.sends)
+        may = [(self.stops, "stop"), (self.hangs, "hang"), (self.busys, "busy answer"), (self.downs, "deactivation"), (self.swaps, "swap of the device")]
+        said += [f"at most {many(count, name)}" for count, name in may if count]
+        return ", ".join(said) + ", a deactivation waits until SCHED is clear" * self.waits
+
+
+LIMITS = {
+    "seats": (1, 8, "seats, each as a processor"),
+    "sends": (1, 15, "transmits of each seat"),
+    "bands": (1, 3, "bands that transmits use, of the three that a dequeue looks at"),
+    "len": (1, 255, "slots of a ring"),
+    "queues": (1, 4, "queues that share the bands"),
+    "bypass": (0, 1, "1: a packet may go past the bands (TCQ_F_CAN_BYPASS)"),
+    "quota": (1, 127, "packets of a run"),
+    "stops": (0, 7, "how often the device accepts a packet and stops its queue"),
+    "hangs": (0, 3, "how often it accepts a packet and hangs"),
+    "busys": (0, 7, "how often it answers NETDEV_TX_BUSY"),
+    "downs": (0, 3, "how often the device is deactivated and activated, in steps"),
+    "swaps": (0, 3, "how often it is exchanged for another, in steps"),
+    "waits": (0, 1, "1: a deactivation waits until the lock is free and SCHED is clear, as the kernel's does; the proved machine's needn't"),
+}
+
+# what is searched where no size is given: together some seconds
+STANDARD = (
+    Size(),
+    Size(bypass=1, stops=1, busys=1),
+    Size(sends=3, bypass=1, quota=1, stops=1),
+    Size(seats=1, bypass=1, quota=2, stops=1, busys=1),
+    Size(sends=1, bypass=1, stops=1, busys=1, downs=1),
+    Size(sends=1, bypass=1, stops=1, hangs=1, swaps=1),
+    Size(queues=2, bypass=1, stops=1, busys=1),
+    Size(seats=3),
+)
+# and these with --large: a minute or two
+LARGE = (Size(seats=4), Size(seats=3, bypass=1, stops=1, busys=1), Size(seats=2, bypass=1, stops=1, busys=1, hangs=1, downs=1, swaps=1))
+
+
+class Undecided(Exception):
+    """Why a question isn't answered: no compiler, no memory, no time."""
+
+
+class Move(NamedTuple):
+    """A step or a start of an order: who moved (None: control), what it did, where it stood and stands, and the words after it."""
+
+    seat: Optional[int]
+    kind: str  # "step", "full", "stop", "hang", "busy", "softirq", "wake Q", "send B Q", "down", "swap"
+    before: str
+    after: str
+    said: str
+    state: int
+    lock: int
+    inside: int
+    xoff: Tuple[int, ...]
+    bands: Tuple[int, ...]
+    slot: int
+    raised: bool
+
+    @property
+    def is_step(self) -> bool:
+        return self.kind in ("step", "full", "stop", "hang", "busy")
+
+
+class Result(NamedTuple):
+    """What a search says: the states, and an order that goes wrong, if it found one."""
+
+    states: int
+    seconds: float
+    served: Optional[int] = None  # states of the second question, where it was asked and answered
+    longest: int = 0
+    wrong: str = ""  # "left", "lost", "waits", "round", or "endless", which is a round of one seat
+    why: str = ""
+    moves: Tuple[Move, ...] = ()
+    round: Optional[int] = None  # where a round begins, among the moves
+
+
+def moves_of(lines: List[str]) -> Tuple[Tuple[Move, ...], Optional[int]]:
+    moves, begins = [], None
+    for line in lines:
+        if line == "again":
+            begins = len(moves)
+        elif line.startswith("move\t"):
+            of = line.split("\t")
+            state, lock, inside = map(int, of[6].split())
+            *bands, slot = map(int, of[8].split())
+            seat = None if of[1] == "-1" else int(of[1])
+            moves.append(Move(seat, *of[2:6], state, lock, inside, tuple(map(int, of[7].split())), tuple(bands), slot, of[9] == "1"))
+    return tuple(moves), begins
+
+
+def read_result(output: str) -> Result:
+    found = Result(0, 0)
+    lines = output.splitlines()
+    for number, line in enumerate(lines):
+        word, _, rest = line.partition(" ")
+        if word == "states":
+            found = found._replace(states=int(rest.split()[0]), seconds=float(rest.split()[2]))
+        elif word == "served":
+            served, longest, seconds = rest.split()
+            found = found._replace(served=int(served), longest=int(longest), seconds=float(seconds))
+        elif word == "full":
+            raise Undecided(f"{int(rest):,} states were found, and there is no memory for more: give --memory")
+        elif word == "late":
+            raise Undecided(f"{int(rest):,} states were found, and the time is up: give --seconds")
+        elif word in ("left", "lost", "waits", "round"):
+            moves, begins = moves_of(lines[number + 1 :])
+            return found._replace(wrong=word, why=rest, moves=moves, round=begins)
+    return found
+
+
+def compile_search(steps: str, defines: List[str], room: pathlib.Path, optimize="-O2") -> pathlib.Path:
+    """The program that searches this text of steps; raises where it doesn't compile."""
+    compiler = shutil.which("gcc") or shutil.which("cc")
+    if not compiler:
+        raise Undecided("there is no C compiler: apt-get install gcc libc6-dev")
+    source = room / "steps.h"
+    source.write_text(steps, encoding="utf-8")
+    program = room / "search"
+    words = [compiler, optimize, "-std=gnu11", f'-DSTEPS="{source}"', f"-I{HERE}", *defines, "-o", str(program), str(HERE / "search.c")]
+    done = subprocess.run(words, capture_output=True, text=True)
+    if done.returncode:
+        raise text.Fault(f"the steps don't compile:\n{done.stderr.replace(str(room) + '/', '').rstrip()}")
+    return program
+
+
+def search(steps: str, size: Size, both: bool, room: pathlib.Path, megabytes: int, seconds: float) -> Result:
+    """All orders of a size; `both` questions, or the first alone."""
+    # a small machine is searched faster than it is compiled well
+    program = compile_search(steps, size.defines(), room, "-O1" if size in STANDARD else "-O2")
+    done = subprocess.run([str(program), str(int(both)), str(megabytes), str(seconds)], capture_output=True, text=True, errors="replace")
+    if done.returncode < 0:
+        raise Undecided(f"the search ended by {signal.Signals(-done.returncode).name}")
+    found = read_result(done.stdout)
+    return found._replace(wrong="endless") if found.wrong == "round" and size.seats == 1 else found
+
+
+def states_apart(steps: str, size: Size, room: pathlib.Path, megabytes: int, seconds: float) -> int:
+    """How many states there are where the seats are told apart, as SPIN has them."""
+    program = compile_search(steps, [*size.defines(), "-DAPART"], room)
+    done = subprocess.run([str(program), "0", str(megabytes), str(seconds)], capture_output=True, text=True)
+    return read_result(done.stdout).states
+
+
+def walks(steps: str, seed: int, count: int, room: pathlib.Path) -> Iterator[Tuple[str, str]]:
+    """Random schedules of 1 to 8 seats that the steps can do, and what each leaves, as `lqtx trace` prints it."""
+    size = Size(seats=8, sends=15, bands=3)
+    program = compile_search(steps, [*size.defines(), "-DWALK"], room, "-O1")
+    done = subprocess.run([str(program), "walk", str(seed), str(count)], capture_output=True, text=True)
+    for walk in done.stdout.split("==\n")[:-1]:
+        schedule, _, left = walk.partition("--\n")
+        yield schedule, left
