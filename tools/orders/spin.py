@@ -46,7 +46,9 @@ def search(steps: str, size: Size, live: bool, room: pathlib.Path, megabytes: in
     made = run("spin", *["-DLIVE"] * live, "-a", "machine.pml")
     # with one seat an order may end; with several, one that ends goes on for ever as it is
     options = ["-DNOSTUTTER"] * (size.seats == 1) if live else ["-DSAFETY"]
-    done = run("gcc", "-O2", "-w", *options, "-DNOREDUCE", f"-DMEMLIM={megabytes}", "-DAPART", f"-I{HERE}", *size.defines(), "-o", "pan", "pan.c")
+    # a small machine is searched faster than it is compiled well
+    optimize = "-O0" if size.seats * size.sends <= 4 else "-O2"
+    done = run("gcc", optimize, "-w", *options, "-DNOREDUCE", f"-DMEMLIM={megabytes}", "-DAPART", f"-I{HERE}", *size.defines(), "-o", "pan", "pan.c")
     if done.returncode:
         raise Fault(f"SPIN's program doesn't compile:\n{made.stdout}{done.stderr[-2000:]}")
     try:

@@ -101,7 +101,7 @@ def explore_spin():
     """SPIN finds as many states by the same steps, and the same mistake."""
     if shutil.which("spin"):
         expect("explore, SPIN", run(EXPLORE, "--engine", "spin", "--seats", 2, "--sends", 1, "--quick"), 0, f"SPIN: {states_apart(2, 1):,} states, seats told apart; no packet is left or lost")
-        said = run(EXPLORE, "--engine", "spin", "--edit", "begin_gives_up_after_one_try", "--seats", 2)
+        said = run(EXPLORE, "--engine", "spin", "--edit", "begin_gives_up_after_one_try", "--seats", 2, "--quick")
         expect("explore, SPIN and a mistake", said, 1, "an order goes wrong", "25 moves, no order has fewer")
 
 
@@ -153,6 +153,19 @@ def explore_table():
         if steps_text.edited(steps, edit) == steps:
             fault(f"{edit.name} changes nothing")
     expect("explore --edits", run(EXPLORE, "--edits"), 0, *(f"{it}: " for it in machine.MISTAKES))
+
+
+@case
+def play_page():
+    """The page to play is what the steps make of it, and its machine leaves of schedules by dice what the steps do."""
+    expect("make-play --check", run(HERE / "make-play", "--check"), 0)
+    expect("make-play, wrong words", run(HERE / "make-play", "--none"), 2, "usage: tools/make-play")
+    expect("make-play, no folder", run(HERE / "make-play", ROOM / "none/page.html"), 2, "none/page.html: No such file or directory")
+    expect("test-play, wrong words", run(HERE / "test-play", "--picture", "OUT.svg"), 2, "usage: tools/test-play")
+    if shutil.which("node"):
+        walks, file = search.walks(steps_text.STEPS.read_text(encoding="utf-8"), 9, 100, ROOM), ROOM / "walks"
+        file.write_text("".join(f"{schedule}--\n{left}==\n" for schedule, left in walks), encoding="utf-8")
+        expect("the page's machine", run("node", HERE / "play/agree.js", TOP / "docs/play.html", file), 0, "100 schedules by the page's machine: 0 differ")
 
 
 @case
