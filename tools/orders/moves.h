@@ -14,12 +14,17 @@ static int length, past;
 
 #define CONTROL (DOWNS + SWAPS > 0)     /* control is a processor of its own, behind the seats */
 #define PLACES (SEATS + CONTROL)
+#ifdef PLAIN_STORES
+#include "buffers.h"
+struct state { struct qdisc q; struct seat s[PLACES]; struct buffer b[PLACES]; };
+#else
 struct state { struct qdisc q; struct seat s[PLACES]; };
+#endif
 #define FIRST_STATE { { .stops = STOPPINGS, .hangs = HANGINGS, .busys = BUSYS, .downs = DOWNS, .swaps = SWAPS }, { [0 ... SEATS - 1] = { .left = SENDS } } }
 
 /* MOVES: a step with an answer, or the start of a call; KINDS of them for each seat. Each is tried on a copy of the state. */
-enum { SOFTIRQ = BUSY + 1, WAKES, SENDS_ = WAKES + QUEUES, DOWNS_ = SENDS_ + BANDS * QUEUES, SWAPS_, KINDS };
-#define MOST (PLACES * (BANDS * QUEUES + QUEUES + 4))
+enum { SOFTIRQ = BUSY + 1, WAKES, SENDS_ = WAKES + QUEUES, DOWNS_ = SENDS_ + BANDS * QUEUES, SWAPS_, DRAINS, KINDS };
+#define MOST (PLACES * (BANDS * QUEUES + QUEUES + 5))
 
 static int steps_with(struct state *x, int i, int answer)
 {
@@ -31,7 +36,11 @@ static int steps_with(struct state *x, int i, int answer)
     if (answer == HANGS && !q->hangs--) return 0;
     if (answer == BUSY && !q->busys--) return 0;
 #endif
+#ifdef PLAIN_STORES
+    return buffered_step(q, &x->s[i], &x->b[i], answer);
+#else
     return step(q, &x->s[i], answer);
+#endif
 }
 static int begins(struct qdisc *q, struct seat *s, int control, int kind)
 {
@@ -69,6 +78,10 @@ static int begins(struct qdisc *q, struct seat *s, int control, int kind)
 static int moved(const struct state *x, int i, int kind, struct state *out)
 {
     *out = *x;
+#ifdef PLAIN_STORES
+    if (kind == DRAINS) return drains(&out->q, &out->b[i]);
+#endif
+    if (kind == DRAINS) return 0;
     return kind <= BUSY ? steps_with(out, i, kind) : begins(&out->q, &out->s[i], CONTROL && i >= SEATS, kind);
 }
 
@@ -82,12 +95,30 @@ static int moves(const struct state *x, struct state *out, struct move *how)
         int below = at == IDLE ? KINDS : at == XMIT ? BUSY + 1 : at == PUT ? FULL + 1 : PLAIN + 1;
         for (int kind = from; kind < below; kind++)
             if (moved(x, i, kind, &out[n])) how[n++] = (struct move){ i, kind };
+#ifdef PLAIN_STORES
+        if (moved(x, i, DRAINS, &out[n])) how[n++] = (struct move){ i, DRAINS };
+#endif
     }
     return n;
 }
+#ifdef PLAIN_STORES
+static int is_before(const struct state *x, int i, int j)
+{
+    int order = memcmp(&x->s[i], &x->s[j], sizeof x->s[i]);
+    return (order ? order : memcmp(&x->b[i], &x->b[j], sizeof x->b[i])) < 0;
+}
+#endif
 static void sorted(struct state *x)
 {
-#ifndef APART
+#if defined PLAIN_STORES
+    for (int i = 1; i < SEATS; i++)
+        for (int j = i; j && is_before(x, j, j - 1); j--) {
+            struct seat s = x->s[j];
+            struct buffer b = x->b[j];
+            x->s[j] = x->s[j - 1]; x->s[j - 1] = s;
+            x->b[j] = x->b[j - 1]; x->b[j - 1] = b;
+        }
+#elif !defined APART
     uint32_t v[SEATS];
     memcpy(v, x->s, sizeof v);
     for (int i = 1; i < SEATS; i++)
@@ -109,6 +140,9 @@ static int is_open(const struct state *x)
 static int seats_rest(const struct state *x)
 {
     for (int i = 0; i < SEATS; i++) if (x->s[i].at != IDLE || x->s[i].raised) return 0;
+#ifdef PLAIN_STORES
+    for (int i = 0; i < SEATS; i++) if (x->b[i].many) return 0;
+#endif
     return 1;
 }
 /* what must not be so, or 0: asked of each new state */

@@ -44,6 +44,7 @@ class Packets:
         self.own: Dict[int, int] = {}  # of each seat, the packet that it brings
         self.hand: Dict[int, int] = {}  # and the one that it has in hand
         self.band: Dict[int, str] = {}
+        self.waiting: Dict[int, List[int]] = {}  # of each seat, those whose put waits in its buffer
 
     def follow(self, move: Move) -> Tuple[str, str]:
         """The packet and the band that a move is about."""
@@ -54,10 +55,14 @@ class Packets:
         if move.before == "recheck" and move.after == "gate":
             self.hand[seat] = self.own[seat]
         held = self.hand.get(seat, self.own.get(seat))
+        waiting = self.waiting.setdefault(seat, [])
+        if move.before == "put" and move.kind == "step":
+            held = self.own.get(seat)
+            waiting.append(held)
         for band, packets in enumerate(self.bands):
             if move.bands[band] > len(packets):
-                packets.append(self.own.get(seat))
-                held = self.own.get(seat)
+                held = waiting.pop(0) if waiting else self.own.get(seat)
+                packets.append(held)
             elif move.bands[band] < len(packets):
                 held = self.hand[seat] = packets.pop(0)
         if move.slot and self.slot is None:
@@ -91,8 +96,9 @@ def lines_of(found: Result, positions: Dict[str, Position]) -> Iterator[str]:
         who = "control" if move.seat is None else f"seat {move.seat}"
         of = positions.get(move.before.rsplit(" ", 1)[0] if move.before.startswith("scan") else move.before)
         begins = move.kind.split()[0] in STARTS
-        kernel = f"{of.function}: {of.kernel}" if of and of.kernel and not begins else ""
-        yield f"{number:5}  {who:7}  {'' if begins else move.before:13}  {row.words:58}  {row.set_then:34}  {kernel}".rstrip()
+        kernel = f"{of.function}: {of.kernel}" if of and of.kernel and not begins and move.kind != "drain" else ""
+        at = "" if begins else "its buffer" if move.kind == "drain" else move.before
+        yield f"{number:5}  {who:7}  {at:13}  {row.words:58}  {row.set_then:34}  {kernel}".rstrip()
 
 
 # AS A SCHEDULE
@@ -130,6 +136,8 @@ def plain_moves(moves: Tuple[Move, ...]) -> List[Tuple[Optional[int], str]]:
     found: List[Tuple[Optional[int], str]] = []
     for move in moves:
         kind = move.kind.split()
+        if kind[0] == "drain":
+            continue
         if move.seat is not None:
             found.append((move.seat, " ".join(kind[:2]) if kind[0] == "send" else kind[0]))
         elif move.before in ("quiet", "up") and kind[0] == "step":
@@ -207,7 +215,7 @@ def picture_of(found: Result, size: Size, title: str) -> str:
         is_start = move.kind.split()[0] in STARTS
         then = row.set_then if row.set_then != before else None
         before = row.set_then
-        if move.before in DULL and move.after != "gate" and not is_start or move.seat is None and is_start:
+        if move.before in DULL and move.after != "gate" and not is_start and move.kind != "drain" or move.seat is None and is_start:
             continue
         arrows.append(drawing.Arrow(move.seat, row.words, row.stores, found.round is not None and number >= found.round, then, is_start))
     names = [f"seat {i}" for i in range(size.seats)]

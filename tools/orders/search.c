@@ -73,7 +73,7 @@ static void print_kind(int kind)
     if (kind < WAKES) printf("%s", names[kind]);
     else if (kind < SENDS_) printf("wake %d", kind - WAKES);
     else if (kind < DOWNS_) printf("send %d %d", (kind - SENDS_) / QUEUES, (kind - SENDS_) % QUEUES);
-    else printf("%s", kind == DOWNS_ ? "down" : "swap");
+    else printf("%s", kind == DOWNS_ ? "down" : kind == SWAPS_ ? "swap" : "drain");
 }
 static void print_move(const struct state *x, struct move m, const struct state *y)
 {

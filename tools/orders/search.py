@@ -87,7 +87,7 @@ class Move(NamedTuple):
     """A step or a start of an order: who moved (None: control), what it did, where it stood and stands, and the words after it."""
 
     seat: Optional[int]
-    kind: str  # "step", "full", "stop", "hang", "busy", "softirq", "wake Q", "send B Q", "down", "swap"
+    kind: str  # "step", "full", "stop", "hang", "busy", "softirq", "wake Q", "send B Q", "down", "swap", "drain"
     before: str
     after: str
     said: str
@@ -166,10 +166,37 @@ def compile_search(steps: str, defines: List[str], room: pathlib.Path, optimize=
     return program
 
 
-def search(steps: str, size: Size, both: bool, room: pathlib.Path, megabytes: int, seconds: float) -> Result:
-    """All orders of a size; `both` questions, or the first alone."""
+# stores that may wait in a buffer (orders/buffers.h), by name: their positions; of the last two a test comes before the store
+PLAIN = {
+    "put": ("PUT",),
+    "unlock": ("UNLOCK",),
+    "clearm": ("CLEARM",),
+    "cleard": ("CLEARD",),
+    "cclear": ("CCLEAR",),
+    "sets": ("CMISS", "CDRAIN", "AGAIN", "OVER"),
+    "sclear": ("SCLEAR",),
+    "stop": ("STOP",),
+    "wake": ("WAKE",),
+    "miss": ("MISS",),
+    "sched": ("SCHEDULE",),
+}
+TESTS = ("miss", "sched")
+# what is searched with them where no size is given
+BUFFERED = (Size(), Size(stops=1, busys=1))
+
+
+def buffer_defines(names: Optional[List[str]]) -> List[str]:
+    """What makes the search let these stores wait; nothing for None."""
+    if names is None:
+        return []
+    positions = {kind: ",".join(f"[{it}]=1" for name in names if (name in TESTS) == kind for it in PLAIN[name]) for kind in (False, True)}
+    return [f"-DPLAIN_STORES={positions[False]}", f"-DTESTS={positions[True]}"]
+
+
+def search(steps: str, size: Size, both: bool, room: pathlib.Path, megabytes: int, seconds: float, plain: Optional[List[str]] = None) -> Result:
+    """All orders of a size; `both` questions, or the first alone; with stores that wait in buffers, if `plain` has any."""
     # a small machine is searched faster than it is compiled well
-    program = compile_search(steps, size.defines(), room, "-O1" if size in STANDARD else "-O2")
+    program = compile_search(steps, [*size.defines(), *buffer_defines(plain)], room, "-O1" if size in STANDARD else "-O2")
     done = subprocess.run([str(program), str(int(both)), str(megabytes), str(seconds)], capture_output=True, text=True, errors="replace")
     if done.returncode < 0:
         raise Undecided(f"the search ended by {signal.Signals(-done.returncode).name}")

@@ -66,6 +66,18 @@ def explore_own_steps():
 
 
 @case
+def explore_buffers():
+    """Stores that wait in buffers: each order of docs/BARRIERS.md that is left out leaves a packet, and x86 as it is doesn't."""
+    expect("explore --plain put", run(EXPLORE, "--plain", "put", "--seats", 2), 0, "these stores wait in buffers: put", "no packet is left or lost")
+    said = run(EXPLORE, "--plain", "unlock", "--seats", 2)
+    expect("explore --plain unlock", said, 1, "a packet is left, and nobody comes", "its buffer     seen by all: the lock is free")
+    expect("explore --plain, both bits", run(EXPLORE, "--plain", "clearm,cleard", "--seats", 2), 1, "a packet is left, and nobody comes")
+    expect("explore --plain, one bit", run(EXPLORE, "--plain", "cleard", "--seats", 2), 0, "no packet is left or lost")
+    expect("explore --plain, no such store", run(EXPLORE, "--plain", "put,none"), 2, "no store is called none: --plain takes put, unlock")
+    expect("explore --plain with two queues", run(EXPLORE, "--plain", "put", "--queues", 2), 2, "--plain goes with one queue")
+
+
+@case
 def explore_words():
     rows = {
         ("--seats", "9"): "--seats is a whole number from 1 to 8",
