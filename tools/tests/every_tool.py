@@ -48,7 +48,8 @@ OTHERS = {
     "compare-with-c": "in a folder of its own", "first-build": "in a folder of its own", "inside-calls": "below --folder, and --schedule FILE, which is tried in tests/inside.py",
     "names": "tools/names-left", "refused-growths": "in a folder of its own",
     "test": "in folders of its own", "test-wrapper": "in a folder of its own", "unproved": "below build/, and OUT.unproved.*",
-    "test-beside-linux": "in a folder of its own", "test-docs": "in a folder of its own",
+    "test-beside-linux": "in a folder of its own", "test-docs": "in a folder of its own", "test-play": "in a folder of its own",
+    "explore": "OUT.schedule and OUT.svg, which tools/tests/exploring.py tries", "make-play": "docs/play.html, or OUT.html",
 }  # fmt: skip
 WRITES = re.compile(r'write_text\(|write_bytes\(|writing\(|open\([^)\n]*"[wa]b?"|mktemp')
 
@@ -157,7 +158,7 @@ def what_goes_wrong_outside():
     files = inputs_of(room, "")
     calls = {
         "check-plan": [files["plan"]], "show-schedule": [files["schedule"]], "show-run": [files["plan"], files["capture"], room / "run"], "reading-list": ["--help"],
-        "find-schedule": ["--mistake", "begin_gives_up_after_one_try"], "dead": ["--help"], "compare": ["--help"], "sweep": ["--help"], "gate-cost": ["--help"],
+        "dead": ["--help"], "compare": ["--help"], "sweep": ["--help"], "gate-cost": ["--help"],
     }  # fmt: skip
     for tool, words in calls.items():
         with open("/dev/full", "w") as full:
@@ -178,7 +179,7 @@ def what_goes_wrong_outside():
         said = run(HERE / words[0], *words[1:], cwd=room)
         if said[0] not in (1, 4) or "Traceback" in said[2] or "none" not in said[2]:
             fault(f"{words[0]}, a file that isn't there: ends with {said[0]} and says {said[2][-300:]!r}")
-    for tool, words in {"find-schedule": ["--mistake", "missed_cleared_after_the_second_look", "--packets", "900", "--seats", "4"]}.items():
+    for tool, words in {"explore": ["--large"]}.items():
         process = subprocess.Popen([HERE / tool, *words], stdout=subprocess.PIPE, stderr=subprocess.PIPE)
         time.sleep(1)
         process.send_signal(signal.SIGINT)

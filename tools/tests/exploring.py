@@ -1,6 +1,7 @@
 """All orders of steps: what is right, what goes wrong, what isn't decided, and that the steps are those of the machine."""
 import os
 import shutil
+import subprocess
 import sys
 import xml.etree.ElementTree
 
@@ -93,7 +94,13 @@ def explore_words():
         said = run(EXPLORE, *words)
         expect(f"explore {words}", said, 2, part)
         expect_none(f"explore {words}", said, "Traceback")
-    expect("explore --help", run(EXPLORE, "--help"), 0, "tools/explore [--steps MINE.h]", "Exit codes: 0 right in these sizes")
+    mine = ROOM / "mine.svg"
+    shutil.copy(HERE / "orders/steps.h", mine)
+    expect("explore, an output that is the input", run(EXPLORE, "--steps", mine, mine), 2, f"{mine} is an input")
+    with open("/dev/full", "w", encoding="utf-8") as full:
+        said = subprocess.run([EXPLORE, "--edits"], stdout=full, stderr=subprocess.PIPE, text=True)
+    expect("explore, a full disk", (said.returncode, "", said.stderr), 3, "explore: No space left on device")
+    expect("explore --help", run(EXPLORE, "--help"), 0, "tools/explore [--steps MINE.h]", "Exit codes: 0 right in these sizes", "--bypass N")
 
 
 @case
