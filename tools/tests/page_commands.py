@@ -1,7 +1,7 @@
 """Runs the commands of the pages, and compares what they print with what the pages say.
 
 Of a block with `$ ` before its commands the lines behind a command are what it prints: standard output, and what the wrapper says of a refusal. Of a block
-of commands alone each is run and ends with 0; what some of them print stands in a block of its own further down. Pictures of the pages are those
+of commands alone each is run and ends with 0, or as CODES has it; what some of them print stands in a block of its own further down. Pictures of the pages are those
 that the commands draw. LEFT_OUT has what isn't run, and why.
 
 The program is the newest one in build/, and where there is none a stand-in by the rules as the tools have them (by_the_rules.py).
@@ -32,6 +32,8 @@ FILES = {
         "mine.schedule": "seats 3 len 1 bypass 0\n0 send 1\n0 step 4\n1 send 1\n1 step 3\n",
     }
 }
+# commands that end with another code than 0: a search that finds an order that goes wrong ends with 1
+CODES = {r"tools/explore --edit ": 1}
 # what a page's commands need that another page's make
 BEFORE = {"docs/FORMATS.md": ["./lqtx run examples/drops.toml examples/loopback.pcap out/o"]}
 PICTURES = {"README.md": {"out/o.svg": "docs/drops.svg", "out/len.svg": "docs/bursts-by-len.svg"}, "docs/FORMATS.md": {"out/m.svg": "docs/multi-queue.svg"}}
@@ -108,6 +110,10 @@ exit $code
     (room / "lqtx").chmod(0o755)
 
 
+def code_of(command):
+    return next((code for pattern, code in CODES.items() if re.match(pattern, command.words)), 0)
+
+
 def faults_of_command(room, command, text):
     """What is wrong with a command of a page."""
     words = command.words + (" --program ./lqtx" if command.words.startswith("tools/sweep ") else "")
@@ -118,7 +124,7 @@ def faults_of_command(room, command, text):
         got += [it for it in said.stderr.splitlines() if it.startswith("lqtx: ")]
         if got != command.printed:
             yield f"{place}: prints {got}, and the page says {command.printed}"
-    elif said.returncode:
+    elif said.returncode != code_of(command):
         yield f"{place}: ends with {said.returncode}: {said.stderr[-300:]}"
     if command.words in PRINTED and command.line and "".join(f"    {it}\n" for it in got) not in text:
         yield f"{place}: the page lacks what it prints: {got}"
