@@ -74,7 +74,7 @@ ORDERS = [
     _without("without smp_mb__after_atomic of qdisc_maybe_clear_missed (and with the added one)", ("qdisc_maybe_clear_missed", _BARRIER, ";"), STOP_ONLY, added=True),
     _without("without smp_wmb of __ptr_ring_produce", ("__ptr_ring_produce", r"smp_wmb\(\);", ";"), NO_BYPASS, models=("weak",)),
     _without("without smp_mb__before_atomic of net_tx_action", ("net_tx_action", r"smp_mb__before_atomic\(\);", ";"), {}, models=("weak",)),
-    _without("test_and_set_bit(MISSED) of qdisc_run_begin is relaxed", ("qdisc_run_begin", r"test_and_set_bit\(", "test_and_set_bit_relaxed("), NO_BYPASS, models=("weak",)),
+    _without("test_and_set_bit(MISSED) of qdisc_run_begin is relaxed", ("qdisc_run_begin", r"if \(test_and_set_bit\(", "if (test_and_set_bit_relaxed("), NO_BYPASS, models=("weak",)),
     _without("test_and_set_bit(SCHED) of __netif_schedule is relaxed (and with the added one)", ("__netif_schedule", r"test_and_set_bit\(", "test_and_set_bit_relaxed("), STOP_ONLY, added=True, models=("weak",)),
     _without("test_and_clear_bit(DRV_XOFF) of netif_tx_wake_queue is relaxed (and with the added one)",
              ("netif_tx_wake_queue", r"test_and_clear_bit\(", "test_and_clear_bit_relaxed("), STOP_ONLY, added=True, models=("weak",)),
