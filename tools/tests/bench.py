@@ -3,6 +3,7 @@ import importlib.machinery
 import importlib.util
 import pathlib
 import shutil
+import signal
 import subprocess
 import sys
 import tempfile
@@ -33,6 +34,11 @@ def run(*words, cwd=None, env=None):
     """A tool's exit code, and what it wrote to standard output and to standard error."""
     said = subprocess.run([str(it) for it in words], cwd=cwd, env=env, capture_output=True, text=True, timeout=300)
     return said.returncode, said.stdout, said.stderr
+
+
+def heeding():
+    """For a process that is to be interrupted: a shell that started this in the background has it ignore interrupts."""
+    signal.signal(signal.SIGINT, signal.SIG_DFL)
 
 
 def expect(name, said, code, *parts):

@@ -7,7 +7,7 @@ import subprocess
 import time
 from concurrent.futures import ThreadPoolExecutor
 
-from tests.bench import HERE, ROOM, TOP, case, expect, fates_of, fault, repository, run
+from tests.bench import HERE, ROOM, TOP, case, expect, fates_of, fault, heeding, repository, run
 from lib import toml_text
 
 TOOLS = sorted(it for it in HERE.iterdir() if it.is_file() and os.access(it, os.X_OK))
@@ -180,7 +180,7 @@ def what_goes_wrong_outside():
         if said[0] not in (1, 4) or "Traceback" in said[2] or "none" not in said[2]:
             fault(f"{words[0]}, a file that isn't there: ends with {said[0]} and says {said[2][-300:]!r}")
     for tool, words in {"explore": ["--large"]}.items():
-        process = subprocess.Popen([HERE / tool, *words], stdout=subprocess.PIPE, stderr=subprocess.PIPE)
+        process = subprocess.Popen([HERE / tool, *words], stdout=subprocess.PIPE, stderr=subprocess.PIPE, preexec_fn=heeding)
         time.sleep(1)
         process.send_signal(signal.SIGINT)
         said = process.communicate()[1].decode()

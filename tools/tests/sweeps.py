@@ -6,7 +6,7 @@ import subprocess
 import time
 
 from lib import toml_text
-from tests.bench import HERE, ROOM, TOP, capture_of, case, expect, expect_none, expect_picture, fates_of, fault, frame, repository, run
+from tests.bench import HERE, ROOM, TOP, capture_of, case, expect, expect_none, expect_picture, fates_of, fault, frame, heeding, repository, run
 
 # a stand-in for the program: of each 50 packets so many are sent as the rings have slots, or as `irq_every` says; with SLOW it takes its time
 PROGRAM = """#!/usr/bin/env python3
@@ -64,7 +64,7 @@ def sweep():
     expect("sweep, a run that fails", swept("station.0.len=12..14", "e.csv"), 1, "exit code 1: a fault of 13, with station.0.len=13")
     # an interrupted one goes on
     started = subprocess.Popen([HERE / "sweep", plan, capture, "station.0.len=21..40", "f.csv", "--jobs", "2", "--program", program],
-                               cwd=room, env=own | {"SLOW": "0.1"}, stderr=subprocess.PIPE, stdout=subprocess.PIPE, text=True)  # fmt: skip
+                               cwd=room, env=own | {"SLOW": "0.1"}, stderr=subprocess.PIPE, stdout=subprocess.PIPE, text=True, preexec_fn=heeding)  # fmt: skip
     for _ in range(200):
         time.sleep(0.02)
         if (room / "f.csv.runs/results").exists() and (room / "f.csv.runs/results").read_text(encoding="utf-8").count("\n") > 2:
