@@ -93,6 +93,14 @@ def try_output(job):
 
 
 @case
+def every_tool_is_listed():
+    page = (HERE / "README.md").read_text(encoding="utf-8")
+    for tool in TOOLS:
+        if f"`{tool.name}`" not in page:
+            fault(f"tools/README.md doesn't list {tool.name}")
+
+
+@case
 def no_output_is_an_input():
     FATES[0] = fates_of(toml_text.loads((TOP / "examples/drops.toml").read_text(encoding="utf-8")), TOP / "examples/loopback.pcap")
     jobs = []
