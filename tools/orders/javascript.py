@@ -5,8 +5,17 @@ from typing import Dict, List, Tuple
 
 from orders import text
 
-# the mistakes that the page has to choose from: the first of edits.txt
-MISTAKES = 10
+# the mistakes that the page has to choose from. With the first ones a packet is left within a few steps
+MISTAKES = (
+    "begin_gives_up_after_one_try", "end_looks_before_it_releases", "draining_set_without_looking_again", "wake_schedules_nobody", "requeue_sets_no_missed",
+    "missed_cleared_after_the_second_look", "bypass_without_looking_under_the_lock", "quota_sets_no_missed", "begin_waits_for_the_lock",
+)
+
+
+def steps_played() -> str:
+    """The text of the steps up to a deactivation, which isn't played."""
+    steps = text.STEPS.read_text(encoding="utf-8")
+    return steps[: steps.index("    /* ---- dev_deactivate_many()")] + "    }\n    return 0;\n}\n"
 
 
 def converted(lines: List[str]) -> List[str]:
@@ -45,13 +54,9 @@ def block_lines(name: str, right: Dict[str, Tuple[str, List[str]]], wrong: Dict[
 
 def machine() -> str:
     """Constants, functions, and a function for each position."""
-    steps = text.STEPS.read_text(encoding="utf-8")
-    # a deactivation isn't played
-    last = steps.index("    /* ---- dev_deactivate_many()")
-    steps = steps[:last] + "    }\n    return 0;\n}\n"
+    steps = steps_played()
     right = blocks_of(steps)
-    mistakes = list(text.edits().values())[:MISTAKES]
-    wrong = {it.name: blocks_of(text.edited(steps, it)) for it in mistakes}
+    wrong = {name: blocks_of(text.edited(steps, text.edits()[name])) for name in MISTAKES}
     names = text.names()
     used = [it for it in names if it in right or it == "IDLE"]
     lines = ["const " + ", ".join(f'{it} = "{names[it]}"' for it in used) + ";", "const NON_EMPTY = q => q.MISSED || q.DRAINING;"]
@@ -67,9 +72,8 @@ def machine() -> str:
 
 def table() -> str:
     """What each position does, and the kernel's call, by its name."""
-    steps = text.STEPS.read_text(encoding="utf-8")
-    return json.dumps({it.name: [it.does, it.function, it.kernel] for it in text.positions(steps) if not it.function.startswith("dev_")}, indent=0, ensure_ascii=False)
+    return json.dumps({it.name: [it.does, it.function, it.kernel] for it in text.positions(steps_played())}, indent=0, ensure_ascii=False)
 
 
 def mistakes() -> str:
-    return json.dumps({it.name: it.about for it in list(text.edits().values())[:MISTAKES]}, indent=0)
+    return json.dumps({name: text.edits()[name].about for name in MISTAKES}, indent=0)

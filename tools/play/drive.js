@@ -7,7 +7,7 @@ const seat = i => document.getElementById("seats").children[i];
 const says = () => document.getElementById("verdict").textContent;
 const choose = (id, value) => { $(id).value = value; $(id).dispatchEvent(new Event("change")); };
 const press = (code, more = {}) => document.body.dispatchEvent(new KeyboardEvent("keydown", { code, key: code.replace(/Key|Digit/, "").toLowerCase(), bubbles: true, ...more }));
-const LABELS = { send: it => `send to band ${it.band}`, softirq: () => "soft interrupt", wake: () => "wake the queue", full: () => "band is full", stop: () => "and stop", hang: () => "and hang", busy: () => "busy" };
+const LABELS = { send: it => `send to band ${it.band}`, softirq: () => "soft interrupt", wake: () => "wake the queue", full: () => "band is full", stop: () => "device stops", hang: () => "device hangs", busy: () => "device busy" };
 
 // every line of a schedule by clicks; false where a button isn't there
 function click_through(text) {
@@ -59,6 +59,95 @@ function keys() {
   press("Digit1", { shiftKey: true });
   expect("keys: the device stops", $("text").value.endsWith("0 stop\n"));
 }
+// what a new user met first
+const at_top = text => { $("text").value = text; $("apply").click(); };
+function words_at_the_mistake() {
+  choose("mistake", "begin_gives_up_after_one_try");
+  at_top("seats 2 len 4 bypass 0\n0 send 1\n0 step 4\n1 send 1\n1 step 5\n");
+  const next = () => seat(1).querySelector(".next").textContent;
+  expect(`the mistake's own words: ${next()}`, next().startsWith("next: gives up without a second try (the mistake)"));
+  choose("mistake", "");
+  expect(`the right machine's words: ${next()}`, next().startsWith("next: tries the run lock again") && !next().includes("mistake"));
+}
+function words_of_each_position() {
+  for (const name of Object.keys(steps)) expect(`position ${name} has words`, POSITIONS[name] && POSITIONS[name][0]);
+  at_top("seats 2 len 4 bypass 0\n0 send 1\n0 step 8\n0 busy\n");
+  expect(`after busy: ${seat(0).textContent}`, seat(0).textContent.includes("next: sets MISSED behind the requeue") && !seat(0).textContent.includes("idle"));
+}
+function keys_in_menus() {
+  for (const id of ["mistake", "count", "example", "bypass"]) {
+    $("reset").click();
+    $(id).focus();
+    $(id).dispatchEvent(new Event("change", { bubbles: true }));
+    const key = (code, key) => $(id).dispatchEvent(new KeyboardEvent("keydown", { code, key, bubbles: true, cancelable: true }));
+    key("Digit1", "1"); key("Digit1", "1"); key("KeyU", "u");
+    expect(`keys in ${id}: ${$("text").value}`, $("text").value.endsWith("bypass 0\n0 send 0\n"));
+    key("Escape", "Escape");
+    expect(`Escape leaves ${id}`, document.activeElement != $(id));
+  }
+}
+function advice_of_a_story() {
+  $("stories").children[0].click();
+  while (!$("next").disabled) $("next").click();
+  $("undo").click(); $("undo").click();
+  choose("mistake", "");
+  expect("the story stays open when the mistake is changed", !$("story").hidden && $("story").textContent.includes("Undo two steps"));
+  for (let k = 0; k < 40 && seat(1).getAttribute("aria-label") != "Seat 1, at idle"; k++) seat(1).querySelector("button.main").click();
+  expect(`the story's advice: ${says()}`, says().includes("Nothing is held, and all is quiet: 2 sent"));
+  $("close").click();
+}
+function a_schedule_from_its_start() {
+  choose("mistake", "");
+  choose("example", "second-try");
+  expect("a schedule begins at its start, and its name stays", $("start").disabled && $("text").value == "seats 2 len 4 bypass 0\n" && $("example").value == "second-try");
+  expect(`a schedule is described: ${$("order").textContent}`, $("order").textContent.includes("is about to release; a sender comes") && button($("order"), "begin gives up after one try"));
+  $("end").click();
+  const whole = $("text").value;
+  expect("its end", says().includes("all is quiet: 2 sent"));
+  $("start").click();
+  expect("to the start", $("text").value == "seats 2 len 4 bypass 0\n" && !$("redo").disabled);
+  const line = [...$("log").querySelectorAll("button")].find(it => it.textContent.startsWith("  3 "));
+  line.click();
+  expect(`a click on the third line of the log: ${$("text").value}`, $("text").value == "seats 2 len 4 bypass 0\n0 send 1\n0 step 2\n");
+  button(seat(0), "step").click();
+  $("end").click();
+  expect("a step that the schedule has, too, keeps the rest", $("text").value == whole);
+  $("start").click();
+  button($("order"), "begin gives up after one try").click();
+  $("end").click();
+  $("finish").click();
+  expect(`with the mistake that fits: ${says()}`, says().includes("Nobody comes: 1 packet held"));
+}
+function wiped_moves() {
+  choose("mistake", "");
+  const moves = "seats 2 len 4 bypass 0\n0 send 1\n0 step 3\n";
+  const wipes = { reset: () => $("reset").click(), count: () => choose("count", "3"), len: () => choose("len", "5"), bypass: () => { $("bypass").checked = true; $("bypass").dispatchEvent(new Event("change")); }, example: () => choose("example", "chase"), story: () => $("stories").children[0].click() };
+  for (const [name, wipe] of Object.entries(wipes)) {
+    at_top(moves);
+    wipe();
+    expect(`${name} says what it wipes: ${$("notice").textContent}`, $("notice").textContent.startsWith("4 moves are wiped."));
+    $("undo").click();
+    expect(`Undo brings back what ${name} wiped: ${$("text").value}`, $("text").value == moves);
+  }
+  $("close") && $("close").click();
+  choose("len", "99999");
+  expect(`slots: ${$("notice").textContent}`, $("notice").textContent.startsWith("Slots must be a whole number from 1 to 4096: 99999 became 4096."));
+  choose("len", "abc");
+  expect(`slots that are no number: ${$("notice").textContent}`, $("notice").textContent.startsWith("Slots must be a number from 1 to 4096: it stays 4096."));
+  at_top(moves);
+}
+// the button of a seat stays where it is, whatever the texts say
+function fixed_buttons() {
+  if (innerWidth > 420) return;
+  choose("mistake", "");
+  at_top(SCHEDULES["second-try"]);
+  const places = [new Set(), new Set()];
+  for (const line of [...$("log").querySelectorAll("button")].map((_, k) => k)) {
+    $("log").querySelectorAll("button")[line].click();
+    places.forEach((it, i) => it.add(Math.round(seat(i).querySelector("button").getBoundingClientRect().top + scrollY)));
+  }
+  expect(`the buttons move: ${places.map(it => [...it])}`, places.every(it => it.size == 1));
+}
 function texts() {
   const before = ($("reset").click(), $("text").value);
   for (const [text, why] of [["seats 9 len 4 bypass 0\n", "line 1: the first line is"], ["seats 2 len 4 bypass 0\n0 jump\n", "line 2: a line is"], ["seats 2 len 4 bypass 0\n0 step 1\n", "line 2: seat 0 can't do that there"], ["seats 2 len 4 bypass 0\n2 wake\n", "line 2: there are the seats 0 to 1"], ["", "there is no first line"]]) {
@@ -81,7 +170,15 @@ function accessible() {
   expect(`nothing is wider than the window: ${document.documentElement.scrollWidth} of ${innerWidth}`, document.documentElement.scrollWidth <= innerWidth);
 }
 try {
-  if (location.hash) expect(`a link is worked: ${$("text").value}`, $("text").value == "seats 2 len 4 bypass 0\n0 send 1\n0 step 14\n1 send 1\n1 step 4\n0 step 3\n1 step 3\n" && says().includes("Nobody comes"));
-  else [history_by_clicks, stories, keys, texts, accessible].forEach(it => it());
+  if (location.hash.includes("mistake=none")) {
+    expect(`an unknown mistake of a link: ${$("notice").textContent}`, $("notice").textContent.startsWith("The link names a mistake that the page doesn't have: none") && $("mistake").value === "");
+    location.hash = "#schedule=seats%209";
+    from_link();
+    expect(`a wrong link: ${$("notice").textContent}`, $("notice").textContent.startsWith("The schedule of the link is refused: line 1: the first line is"));
+  } else if (location.hash) expect(`a link is worked: ${$("text").value}`, $("text").value == "seats 2 len 4 bypass 0\n0 send 1\n0 step 14\n1 send 1\n1 step 4\n0 step 3\n1 step 3\n" && says().includes("Nobody comes"));
+  else {
+    if (innerWidth > 320) [history_by_clicks, stories, keys, words_at_the_mistake, words_of_each_position, keys_in_menus, advice_of_a_story, a_schedule_from_its_start, wiped_moves, texts].forEach(it => it());
+    [fixed_buttons, accessible].forEach(it => it());
+  }
 } catch (it) { faults.push(`${it.message} ${it.stack}`); }
 document.body.append(make("pre", { id: "faults" }, JSON.stringify(faults)));
