@@ -24,10 +24,19 @@ class Browser:
         os.close(commands)
         os.close(said)
         self.number, self.read, self.session = 0, b"", ""
-        target = next(it for it in self.call("Target.getTargets")["targetInfos"] if it["type"] == "page")
+
+    def attach(self) -> None:
+        target = next((it for it in self.call("Target.getTargets").get("targetInfos", ()) if it["type"] == "page"), None)
+        if not target:
+            raise EOFError("Chromium has no page")
         self.session = self.call("Target.attachToTarget", targetId=target["targetId"], flatten=True)["sessionId"]
 
     def __enter__(self) -> "Browser":
+        try:
+            self.attach()
+        except (OSError, EOFError):
+            self.__exit__()
+            raise
         return self
 
     def __exit__(self, *_) -> None:
