@@ -59,11 +59,24 @@ impl Recording {
     fn has_passed(&self, packets: u32) -> bool {
         let mut is_right = !self.is_wrong.load(Ordering::SeqCst);
         for (sender, next) in self.next.iter().enumerate() {
-            let own = (0..packets).filter(|n| n.checked_rem(self.reader) == Some(sender as u32));
-            is_right = is_right && next.load(Ordering::SeqCst) as usize == own.count();
+            let own = count_of(sender, self.reader, packets);
+            is_right = is_right && next.load(Ordering::SeqCst) == own;
         }
         is_right
     }
+}
+
+/// How many of so many packets are a sender's: those whose number modulo the number of senders is its own.
+fn count_of(sender: usize, senders: u32, packets: u32) -> u32 {
+    let mut own = 0u32;
+    for n in 0..packets {
+        if let Some(owner) = n.checked_rem(senders) {
+            if owner as usize == sender {
+                own = own.wrapping_add(1);
+            }
+        }
+    }
+    own
 }
 
 impl Gate for Recording {
