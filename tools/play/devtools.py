@@ -17,12 +17,12 @@ class Browser:
 
     def __init__(self, path: str, room: pathlib.Path) -> None:
         # Chromium reads from 3 and writes to 4; ours are moved out of their way
-        commands, self.out = (fcntl.fcntl(it, fcntl.F_DUPFD_CLOEXEC, 10) for it in os.pipe())
-        self.answers, said = (fcntl.fcntl(it, fcntl.F_DUPFD_CLOEXEC, 10) for it in os.pipe())
+        ends = os.pipe() + os.pipe()
+        commands, self.out, self.answers, said = (fcntl.fcntl(it, fcntl.F_DUPFD_CLOEXEC, 10) for it in ends)
         self.process = subprocess.Popen([path, *OPTIONS, f"--user-data-dir={room}/profile", "about:blank"], pass_fds=(3, 4), stdout=subprocess.DEVNULL,
                                         stderr=subprocess.DEVNULL, preexec_fn=lambda: (os.dup2(commands, 3), os.dup2(said, 4)))
-        os.close(commands)
-        os.close(said)
+        for it in (*ends, commands, said):
+            os.close(it)
         self.number, self.read, self.session = 0, b"", ""
 
     def attach(self) -> None:
