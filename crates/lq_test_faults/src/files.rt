@@ -4,13 +4,11 @@ use lq_host::{FileHost, Host, HostError};
 use lq_pcap::{CaptureReason, gen_capture};
 use lq_test_fixture::{PLAN, capture_of, records_of};
 use lq_top::{Free, Status, lqtx};
+use std::alloc::Global;
 use std::fs;
 use std::fs::OpenFile as _;
-use std::marker::Sync;
-use std::rt::{Files, Runtime};
-use std::sync::Wait;
+use std::rt::Files;
 use std::test::Fail;
-use std::thread::Threads;
 
 /// The files of a run over two stations: plan, capture, and the outputs.
 const FILES: [&str; 5] = [
@@ -156,25 +154,13 @@ fn refuses_a_capture_that_is_too_long(rt: HostRuntime) -> Result<(), Fail> {
     Ok(())
 }
 
-/// The top call with these words over real files, on a bench of so many devices, which must be done without a fault.
-#[tactic(auto, using(lq_top::proofs::NameLemmas::may_any))]
-fn done_over_files<R: Runtime + AllocGlobal + Threads + Wait + Sync>(
-    rt: &R,
-    words: &[&str],
-    devices: usize,
-) -> Result<(), Fail> {
-    let alloc = rt.alloc();
-    let mut host = FileHost::new(rt.clone()?);
+/// A bench of so many devices.
+fn devices(alloc: Global, count: usize) -> Result<Vec<BenchDevice>, Fail> {
     let mut bench = Vec::new(alloc);
-    for _ in 0..devices {
+    for _ in 0..count {
         bench.push(BenchDevice::new(alloc))?;
     }
-    let mut ended = Vec::new(alloc);
-    let status = lqtx(rt, alloc, words, &mut host, &mut bench, &mut ended, &Free);
-    if status == Status::Done && host.faults() == 0 {
-        return Ok(());
-    }
-    Err(Fail::new(format_args!("not done: {status:?}")))
+    Ok(bench)
 }
 
 /// A real file has these bytes and no others; it is removed.
@@ -199,6 +185,7 @@ const OUTPUTS: [(&str, &[usize]); 4] = [
 ];
 
 #[test]
+#[tactic(auto, using(lq_top::proofs::NameLemmas::may_any))]
 fn a_root_over_real_files(rt: HostRuntime) -> Result<(), Fail> {
     let alloc = rt.alloc();
     let folder = "lq_test_faults_group";
@@ -212,7 +199,12 @@ fn a_root_over_real_files(rt: HostRuntime) -> Result<(), Fail> {
         "lq_test_faults_group/c",
         "lq_test_faults_group/o",
     ];
-    done_over_files(&rt, &words, 3)?;
+    let mut host = FileHost::new(rt.clone()?);
+    let mut bench = devices(alloc, 3)?;
+    let mut ended = Vec::new(alloc);
+    let status = lqtx(&rt, alloc, &words, &mut host, &mut bench, &mut ended, &Free);
+    assert_eq!(rt; status, Status::Done);
+    assert_eq!(rt; host.faults(), 0);
     for (name, packets) in OUTPUTS {
         take_file(&rt, name, &records_of(alloc, &capture, packets)?)?;
     }
@@ -229,6 +221,7 @@ fn a_root_over_real_files(rt: HostRuntime) -> Result<(), Fail> {
 }
 
 #[test]
+#[tactic(auto, using(lq_top::proofs::NameLemmas::may_any))]
 fn a_tap_over_real_files(rt: HostRuntime) -> Result<(), Fail> {
     let alloc = rt.alloc();
     let folder = "lq_test_faults_tap";
@@ -241,7 +234,13 @@ fn a_tap_over_real_files(rt: HostRuntime) -> Result<(), Fail> {
     let capture = gen_capture(alloc, 1, 3)?;
     fs::create_dir_all(&rt, folder)?;
     fs::write(&rt, captured, &capture)?;
-    done_over_files(&rt, &["tap", "1", "8", "4", captured, out], 0)?;
+    let mut host = FileHost::new(rt.clone()?);
+    let mut bench = devices(alloc, 0)?;
+    let mut ended = Vec::new(alloc);
+    let words = ["tap", "1", "8", "4", captured, out];
+    let status = lqtx(&rt, alloc, &words, &mut host, &mut bench, &mut ended, &Free);
+    assert_eq!(rt; status, Status::Done);
+    assert_eq!(rt; host.faults(), 0);
     take_file(&rt, read, &capture)?;
     take_file(&rt, fates, b"0 read 0\n1 read 1\n2 read 2\n")?;
     take_file(&rt, captured, &capture)?;
