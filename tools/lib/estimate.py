@@ -5,7 +5,8 @@
 The build's schedule is simulated once over the shares of its crates. That gives the second at which each would end on idle processors of the machine
 whose shares they are, and how much processor time the whole has had at each second. The processor time of the crates that have ended, over their
 shares, is by how much this machine is slower, whatever else is at work. With it the processor time so far, of the crates under way too, is a second
-of the plan; and the seconds of the clock until now over that second are the pace, which has the other work in it.
+of the plan; and the seconds of the clock until now over that second are the pace, which has the other work in it. The first small crates say little
+of either, so a part of the whole is taken as known beforehand: a machine in the middle of those that were measured, and a pace as slow as it.
 """
 import bisect
 import pathlib
@@ -17,6 +18,8 @@ from lib import words
 
 SERIAL = 0.4  # of a crate's time, which several processes don't shorten: with it four idle processors take 9.6 minutes, where 9 to 10 were measured
 RANGE = (0.95, 1.65)  # of the planned time, on idle processors of the machines that were measured
+KNOWN, USUAL = 0.025, 1.3  # of the planned processor time, that is taken as known beforehand, and how many times it such a machine takes
+STEADY = 0.08  # of the planned seconds, that are taken to go on as slowly as the machine is
 SLOWER = 1.2  # times the processor time, from which on it is said that the machine is slower
 BUSY = 1.25  # times the time on idle processors, from which on that time is said too
 
@@ -88,16 +91,19 @@ class Estimate:
 
     def slower(self):
         """This machine's processor time for a planned second, by the crates that ended."""
+        if not self.used:
+            return 1
+        known = KNOWN * self.plan.work[-1]
         planned = sum(self.plan.seconds[it] for it in self.used)
-        return sum(self.used.values()) / planned if planned else 1
+        return (sum(self.used.values()) + USUAL * known) / (planned + known)
 
     def pace(self, now):
         """Seconds of the clock for a planned one, so far."""
         planned = {**self.plan.seconds}
         done = sum(planned[it] for it in self.used)
         done += sum(min(used / self.slower(), planned[it]) for it, used in self.running.items())
-        at = self.plan.time_of(done)
-        return now / at if at > 0 else self.slower()
+        steady = STEADY * self.plan.whole()
+        return (now + steady * self.slower()) / (self.plan.time_of(done) + steady)
 
     def whole(self, now):
         """About how many seconds the build takes from its beginning to its end."""

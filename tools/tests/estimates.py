@@ -29,12 +29,13 @@ def estimates():
     is_equal("the same with a crate under way", it.in_all(10), "1 to 2 min by machine")
     is_equal("no crate has ended when all were to", it.in_all(100), "about 3 min in all, 1 on idle processors")
     it.ended("low", 168)
-    is_equal("twice as slow", (it.slower(), round(it.whole(84)), it.in_all(84)), (2, 144, "about 2 min in all"))
+    # 2.85 s of a processor are taken as known beforehand, at 1.3 times: (168 + 3.7) / (84 + 2.85). Of the pace 5.76 planned seconds: (84 + 11.4) / (42 + 5.76)
+    is_equal("twice as slow", (round(it.slower(), 2), round(it.whole(84)), it.in_all(84)), (1.98, 144, "about 2 min in all"))
     is_equal("it is said", it.on_this_machine(84), "this machine takes 2.0 times the processor time of the one that these minutes are of: 2 to 3 min in all")
-    is_equal("a third of the processors is at other work", (round(it.whole(126)), it.in_all(126)), (216, "about 4 min in all, 2 on idle processors"))
+    is_equal("a third of the processors is at other work", (round(it.whole(126)), it.in_all(126)), (207, "about 3 min in all, 2 on idle processors"))
     it.under_way({"high": 30})
-    # 84 and 15 planned seconds are done: second 57 of 72
-    is_equal("half of the last crate", round(it.whole(114)), 144)
+    # 84 and 15.2 planned seconds are done: second 57.2 of 72
+    is_equal("half of the last crate", round(it.whole(114)), 143)
     it.under_way({"high": 1000})
     is_equal("a crate that takes longer than planned", round(it.whole(500)), 500)
 
@@ -66,9 +67,37 @@ def estimate_of_a_first_build():
             if end <= now and crate not in it.used:
                 it.ended(crate, planned[crate])
         it.under_way({crate: planned[crate] * (now - began) / (ends[crate] - began) for crate, (began, _) in ONCE.items() if began < now < ends[crate]})
-        true = QUIET if now <= 240 else took if now >= 540 else None
+        true = QUIET if now <= 240 else took if now >= 570 else None
         if true and abs(it.whole(now) / true - 1) > 1 / 3:
             fault(f"the estimate at {now} s: {it.whole(now):.0f} s, where it took {true} s")
+
+
+# another: when each crate began and ended, and its processor time, on four processors of half the speed with nothing else to do but the unproved build
+# (from second 1 to 78)
+SLOW = {
+    "lq_gate": (0, 47, 9), "lq_log": (0, 56, 41), "lq_model": (0, 80, 103), "lq_account": (95, 120, 16), "lq_class": (95, 131, 23),
+    "lq_mq": (95, 132, 23), "lq_device": (95, 151, 34), "lq_machine": (95, 159, 40), "lq_pcap": (95, 175, 50), "lq_fates": (95, 196, 61),
+    "lq_ring_core": (95, 206, 65), "lq_host": (0, 212, 134), "lq_tap_fates": (190, 218, 19), "lq_band": (197, 224, 11), "lq_pcapng": (180, 230, 41),
+    "lq_run_core": (160, 318, 134), "lq_plan": (180, 318, 124), "lq_table": (215, 399, 345), "lq_run": (414, 436, 34), "lq_ring": (414, 478, 111),
+    "lq_tap": (215, 520, 83), "lq_qdisc": (493, 581, 180), "lq_files": (333, 598, 256), "lq_control": (583, 639, 139), "lq_tap_run": (535, 654, 74),
+    "lq_seat": (639, 665, 51), "lq_senders": (680, 756, 244), "lq_top": (771, 826, 164), "lqtx": (826, 897, 88),
+}  # fmt: skip
+
+
+@case
+def estimate_of_a_slow_first_build():
+    """From the first minute on it is right within a third, though the first crates are small and the unproved build has a processor meanwhile."""
+    build = load("build")
+    build.Kit = type("Kit", (), {"__init__": lambda *_: None, "has": lambda *_: False})
+    it = build.Build(build.crates_of_program(), 4).estimate
+    took = max(end for _, end, _ in SLOW.values())
+    for now in range(60, took, 20):
+        for crate, (_, end, used) in SLOW.items():
+            if end <= now and crate not in it.used:
+                it.ended(crate, used)
+        it.under_way({crate: used * (now - began) / (end - began) for crate, (began, end, used) in SLOW.items() if began < now < end})
+        if abs(it.whole(now) / took - 1) > 1 / 3:
+            fault(f"the estimate at {now} s: {it.whole(now):.0f} s, where it took {took} s")
 
 
 @case
