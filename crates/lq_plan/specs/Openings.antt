@@ -1,5 +1,5 @@
 -- How often the stopped queues are opened after each packet, as a run looks it up.
-use Rattle.std.specs.Prelude.{◌≡◌, ℕ, ◌+◌, ◌%◌, ◌<◌, ◌≤◌, ◌==◌, if◌then◌else◌, List, length, slice_index, vec_len}
+use Rattle.std.specs.Prelude.{◌≡◌, ℕ, ◌+◌, ◌%◌, ◌<◌, ◌≤◌, ◌==◌, if◌then◌else◌, List, length, slice_index}
 use Rattle.lq_model.specs.Capture.{Packets}
 use Rattle.lq_model.specs.Openings.{number_among_own, openings, openings_by}
 use Rattle.lq_model.specs.Plan.{Plan}
@@ -15,7 +15,7 @@ opens_after (Listed times) n sent = slice_index times.items n
 -- whether packet n can be looked up
 abbrev pub opens_within : Openings → ℕ → Type 0
 opens_within (Every packets) n = 0 < packets
-opens_within (Listed times) n = n < vec_len times
+opens_within (Listed times) n = n < length times.items
 
 -- a list of how often after each packet of a capture, where they are opened at each multiple of so many microseconds
 pub record AreTimes (microseconds : ℕ) (packets : Packets) (times : List ℕ) : Type 0 where
