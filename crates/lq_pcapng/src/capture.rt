@@ -1,12 +1,13 @@
 // A capture in the pcapng format: its blocks, as places in the bytes that were read.
-ghost use Rattle.std.specs.Prelude.{◌≡◌, ◌<◌, ◌≤◌, length};
-ghost use Rattle.lq_pcapng.specs.Pcapng.{frame_in, interface_at, link_in, order_of, packet_block};
+ghost use Rattle.std.specs.Prelude.{◌≡◌, ◌-◌, ◌==◌, ◌<◌, ◌≤◌, if◌then◌else◌, length};
+ghost use Rattle.lq_pcapng.specs.Pcapng.{frame_in, interface_at, link_in, order_of, packet_block, time_of};
 ghost use Rattle.lq_pcapng.specs.Reading.{IsPacket};
 
 use crate::blocks::{block, interface};
 use crate::layout::LINK;
 use crate::numbers::{begins_little_endian, short_number};
-use crate::packets::{captured_length, data_place, interface_number};
+use crate::packets::{captured_length, data_place, interface_number, is_enhanced};
+use crate::times::time_by;
 use lq_pcap::{Frames, Places};
 use std::marker::Model;
 
@@ -62,6 +63,23 @@ impl NgCapture {
         let little_endian = self.is_little_endian();
         let number = interface_number(self.block(i), little_endian);
         u32::from(short_number(self.interface(number), little_endian, LINK))
+    }
+
+    /// The time of packet `i`, in nanoseconds since the start of 1970. A simple packet has that of the packet before it, which is
+    /// `before`, and 0 before the first.
+    #[tactic(auto, using(crate::proofs::PacketTime::time_behind))]
+    pub fn time(&self, i: usize, before: u128) -> u128
+        requires known { i < length self.now.packets }
+        requires before { before ≡ (if i == 0 then 0 else time_of self.now (i - 1)) }
+        ensures { result ≡ time_of self.now i }
+    {
+        let little_endian = self.is_little_endian();
+        let block = self.block(i);
+        if !is_enhanced(block, little_endian) {
+            return before;
+        }
+        let number = interface_number(block, little_endian);
+        time_by(self.interface(number), block, little_endian)
     }
 
     /// The packet block `i`, as it was read.
@@ -120,5 +138,9 @@ impl Frames for NgCapture {
 
     fn link_of(&self, i: usize) -> u32 {
         NgCapture::link_of(self, i)
+    }
+
+    fn time(&self, i: usize, before: u128) -> u128 {
+        NgCapture::time(self, i, before)
     }
 }
