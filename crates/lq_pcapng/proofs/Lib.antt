@@ -2,6 +2,8 @@
 pub mod Places
 -- what a block is that has no fault
 pub mod Fits
+-- how interfaces count time
+pub mod Clocks
 -- powers within 128 bits
 pub mod Powers
 -- the time of a packet

@@ -1,10 +1,11 @@
 -- What reading a capture answers, and what it finds on the way.
-use Rattle.std.specs.Prelude.{◌≡◌, ℕ, ◌+◌, ◌≤◌, ◌<◌, Bool, true, false, if◌then◌else◌, List, [], ◌∷◌, ◌++◌, length, map, drop, slice_index, Option, None, Some, Result, Ok, Err}
+use Rattle.std.specs.Prelude.{◌≡◌, ℕ, ◌+◌, ◌≤◌, ◌<◌, Bool, true, false, if◌then◌else◌, List, [], ◌∷◌, ◌++◌, length, map, drop, slice_get, slice_index, Option, None, Some, Result, Ok, Err}
 use Rattle.lq_model.specs.Capture.{Refusal}
-use Rattle.lq_pcapng.specs.Pcapng.{block_fault, block_in, captured_length, data_place, has_whole_options, interface_number, is_interface, is_little_endian, is_packet, is_section, is_whole_option, length_fault, option_code, option_length, options_end, padded, section_fault, total_length}
+use Rattle.lq_pcapng.specs.Pcapng.{block_fault, block_in, captured_length, data_place, has_whole_options, interface_number, is_interface, is_little_endian, is_packet, is_section, is_whole_option, length_fault, offset_of, option_code, option_length, options_end, padded, section_fault, total_length, units_by, units_in_second}
 use Rattle.lq_model.specs.declared.capture.CaptureReason.{CaptureReason}
 use Rattle.lq_pcap.specs.declared.refusal.CaptureRefusal.{CaptureRefusal}
 use Rattle.lq_pcap.specs.declared.refusal.CaptureRefusal.TheVariants.{Refused, NoMemory}
+use Rattle.lq_pcapng.specs.declared.interfaces.Clock.{Clock}
 use Rattle.lq_pcapng.specs.declared.options.NextOption.{NextOption}
 use Rattle.lq_pcapng.specs.declared.options.NextOption.TheVariants.{End, Cut, Whole}
 
@@ -96,6 +97,16 @@ pub record Fits (timed little_endian : Bool) (interfaces : List (List ℕ)) (pac
 pub record AreInterfaces (little_endian : Bool) (bytes places : List ℕ) : Type 0 where
   pub whole : (i : ℕ) → i < length places → IsWholeAt little_endian bytes (slice_index places i)
   pub each : (i : ℕ) → i < length places → IsInterface little_endian (block_at little_endian bytes (slice_index places i))
+
+-- an interface counts time so
+pub record IsClock (little_endian : Bool) (interface : List ℕ) (clock : Clock) : Type 0 where
+  pub resolution : units_by clock.resolution ≡ units_in_second little_endian interface
+  pub offset : clock.offset ≡ offset_of little_endian interface
+
+-- the first of the interfaces at these places count time so
+abbrev pub AreClocks : Bool → List ℕ → List ℕ → List Clock → Type 0
+AreClocks little_endian bytes places clocks =
+    (i : ℕ) (clock : Clock) → slice_get clocks i ≡ Some clock → IsClock little_endian (block_at little_endian bytes (slice_index places i)) clock
 
 -- blocks of packets stand at these places
 pub record ArePackets (little_endian : Bool) (bytes : List ℕ) (interfaces : List (List ℕ)) (places : List ℕ) : Type 0 where

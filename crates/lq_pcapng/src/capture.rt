@@ -1,9 +1,10 @@
 // A capture in the pcapng format: its blocks, as places in the bytes that were read.
 ghost use Rattle.std.specs.Prelude.{◌≡◌, ◌-◌, ◌==◌, ◌<◌, ◌≤◌, if◌then◌else◌, length};
 ghost use Rattle.lq_pcapng.specs.Pcapng.{frame_in, interface_at, link_in, order_of, packet_block, time_of};
-ghost use Rattle.lq_pcapng.specs.Reading.{IsPacket};
+ghost use Rattle.lq_pcapng.specs.Reading.{IsClock, IsPacket};
 
 use crate::blocks::{block, interface};
+use crate::interfaces::{Clock, clock_of};
 use crate::layout::LINK;
 use crate::numbers::{begins_little_endian, short_number};
 use crate::packets::{captured_length, data_place, interface_number, is_enhanced};
@@ -21,6 +22,8 @@ pub struct NgCapture {
     pub(crate) interfaces: Vec<usize>,
     /// Where each packet block begins.
     pub(crate) packets: Places,
+    /// How each interface counts time, if times are read, and else none.
+    pub(crate) clocks: Vec<Clock>,
 }
 
 impl Model for NgCapture {
@@ -78,8 +81,20 @@ impl NgCapture {
         if !is_enhanced(block, little_endian) {
             return before;
         }
-        let number = interface_number(block, little_endian);
-        time_by(self.interface(number), block, little_endian)
+        let clock = self.clock(interface_number(block, little_endian));
+        time_by(clock, block, little_endian)
+    }
+
+    // How interface `i` counts time: as was found when the capture was read, or as its options say now.
+    fn clock(&self, i: usize) -> Clock
+        requires { i < length self.now.interfaces }
+        ensures { IsClock (order_of self.now) (interface_at self.now.interfaces i) result }
+    {
+        if i < self.clocks.len() {
+            self.clocks[i]
+        } else {
+            clock_of(self.interface(i), self.is_little_endian())
+        }
     }
 
     /// The packet block `i`, as it was read.

@@ -6,7 +6,7 @@ ghost use Rattle.lq_pcapng.specs.Reading.{AreInterfaces, IsTested, IsWholeLength
 ghost use Rattle.lq_pcapng.specs.View.{IsRead, capture_at};
 
 use crate::capture::NgCapture;
-use crate::interfaces::check_interface;
+use crate::interfaces::{check_interface, clocks_of};
 use crate::layout::{ENHANCED, INTERFACE, MAX_PACKETS, MIN_BLOCK, SECTION, SIMPLE, TYPE};
 use crate::numbers::{begins_little_endian, number};
 use crate::packets::check_packet;
@@ -36,18 +36,20 @@ struct BlockPlaces {
 ///
 /// # NoMemory
 ///
-/// There was no room for the places of the interfaces, 8 bytes each, and of the packets, 4 bytes each, and 8 behind 4 GiB. The
-/// bytes are dropped.
+/// There was no room for the places of the interfaces, 8 bytes each, and of the packets, 4 bytes each, and 8 behind 4 GiB; nor, where
+/// times are read, for 16 bytes for each interface. The bytes are dropped.
 pub fn read_pcapng(alloc: Global, bytes: Vec<u8>, timed: bool) -> Result<NgCapture, CaptureRefusal>
     ensures { Gives (λ capture. capture) result (pcapng_of timed bytes.items) }
 {
     let first = section_len(&bytes)?;
     let little_endian = begins_little_endian(&bytes);
     let places = places_of(alloc, &bytes, timed, little_endian, first)?;
+    let clocks = clocks_of(alloc, &bytes, timed, little_endian, &places.interfaces)?;
     Ok(NgCapture {
         bytes,
         interfaces: places.interfaces,
         packets: places.packets,
+        clocks,
     })
 }
 

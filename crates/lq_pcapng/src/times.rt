@@ -1,8 +1,8 @@
 // When a packet came, in nanoseconds since the start of 1970.
 ghost use Rattle.std.specs.Prelude.{◌≡◌, ◌*◌, ◌/◌, ◌≤◌, ◌<◌, ◌^◌, length};
-ghost use Rattle.lq_pcapng.specs.Pcapng.{offset_by as offset_time, time_by as time_of_block, units_by, units_of};
+ghost use Rattle.lq_pcapng.specs.Pcapng.{offset_by as offset_time, units_by, units_of};
 
-use crate::interfaces::{offset, resolution};
+use crate::interfaces::Clock;
 use crate::layout::{ENHANCED_TIME_LOWER, ENHANCED_TIME_UPPER};
 use crate::numbers::number;
 
@@ -14,17 +14,13 @@ const POWERS_OF_TWO: u8 = 0x80;
 /// The greatest power of ten that may be less than 2^64 seconds in nanoseconds.
 const MAX_POWER_OF_TEN: u8 = 28;
 
-/// The time of an enhanced packet block by its interface.
-pub fn time_by(interface: &[u8], block: &[u8], little_endian: bool) -> u128
-    requires interface { 20 ≤ length interface.now }
-    requires fields { 28 ≤ length block.now }
-    ensures { result ≡ time_of_block little_endian interface.now block.now }
+/// The time of an enhanced packet block by the clock of its interface.
+pub fn time_by(clock: Clock, block: &[u8], little_endian: bool) -> u128
+    requires { 28 ≤ length block.now }
+    ensures { result ≡ offset_time clock.offset (units_of little_endian block.now * 1000000000 / units_by clock.resolution) }
 {
-    let time = nanoseconds(
-        units(block, little_endian),
-        resolution(interface, little_endian),
-    );
-    offset_by(offset(interface, little_endian), time)
+    let time = nanoseconds(units(block, little_endian), clock.resolution);
+    offset_by(clock.offset, time)
 }
 
 // How many units of its interface an enhanced packet block's time is.
