@@ -4,4 +4,4 @@ use Rattle.lq_test_files.proofs.times.times_of.Given as goal
 
 -- what was found last is the time of the packet before
 abbrev pub invariant-loop-i : goal.invariant-loop-i
-invariant-loop-i l = l.before ≡ cond (eqb l.i 0) 0 ((packets_of_file l.capture).time (l.i - 1))
+invariant-loop-i g l = l.before ≡ cond (eqb l.i 0) 0 ((packets_of_file l.capture).time (l.i - 1))
