@@ -23,3 +23,5 @@ mod pcapng;
 mod plans;
 #[cfg(test)]
 mod rings;
+#[cfg(test)]
+mod times;
