@@ -27,3 +27,5 @@ mod pcapng;
 mod plans;
 #[cfg(test)]
 mod rings;
+#[cfg(test)]
+mod times;
