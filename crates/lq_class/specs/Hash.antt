@@ -3,5 +3,5 @@ use Rattle.std.specs.Prelude.{◌≡◌, ℕ, List, ◌++◌, length}
 use Rattle.lq_model.specs.Flow.{toeplitz}
 
 -- if `hash` is that of so many bytes, `result` is that of these bytes and the bytes that follow them
-abbrev pub GoesOn : ℕ → ℕ → List ℕ → ℕ → Type 0
-GoesOn hash hashed more result = (bytes : List ℕ) → length bytes ≡ hashed → hash ≡ toeplitz bytes → result ≡ toeplitz (bytes ++ more)
+abbrev pub ExtendsHash : ℕ → ℕ → List ℕ → ℕ → Type 0
+ExtendsHash hash hashed more result = (bytes : List ℕ) → length bytes ≡ hashed → hash ≡ toeplitz bytes → result ≡ toeplitz (bytes ++ more)

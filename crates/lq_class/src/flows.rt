@@ -3,7 +3,7 @@
 
 ghost use Rattle.std.specs.Prelude.{◌≡◌, ◌+◌, ◌*◌, ◌-◌, ◌/◌, ◌%◌, ◌^◌, ◌<◌, ◌≤◌, ◌++◌, ◌∷◌, ◌&&◌, nat_le, [], length, slice_index};
 ghost use Rattle.lq_model.specs.Flow.{flow_of, hash_key, has_ports, header_length, ipv4_flow, ipv6_flow, is_whole, ports_at, toeplitz};
-ghost use Rattle.lq_class.specs.Hash.{GoesOn};
+ghost use Rattle.lq_class.specs.Hash.{ExtendsHash};
 
 use crate::header::{ipv4_start, ipv6_start};
 
@@ -90,7 +90,7 @@ fn header_length(first: u8) -> usize
 fn with_ports(hash: u32, hashed: usize, frame: &[u8], place: usize, wanted: bool) -> u32
     requires few { hashed ≤ 32 }
     requires near { place ≤ length frame.now + 60 }
-    ensures { GoesOn hash hashed (ports_at frame.now place wanted) result }
+    ensures { ExtendsHash hash hashed (ports_at frame.now place wanted) result }
 {
     if wanted && place + PORTS <= frame.len() {
         with_bytes(hash, hashed, &frame[place..place + PORTS])
@@ -102,7 +102,7 @@ fn with_ports(hash: u32, hashed: usize, frame: &[u8], place: usize, wanted: bool
 /// A hash of so many bytes goes on over these.
 fn with_bytes(hash: u32, hashed: usize, bytes: &[u8]) -> u32
     requires { hashed + length bytes.now ≤ 36 }
-    ensures { GoesOn hash hashed bytes.now result }
+    ensures { ExtendsHash hash hashed bytes.now result }
 {
     let mut hash = hash;
     for (i, byte) in bytes.iter().enumerate() {
@@ -114,7 +114,7 @@ fn with_bytes(hash: u32, hashed: usize, bytes: &[u8]) -> u32
 /// A hash of so many bytes goes on over one.
 fn with_byte(hash: u32, hashed: usize, byte: u8) -> u32
     requires { hashed < 36 }
-    ensures { GoesOn hash hashed (byte ∷ []) result }
+    ensures { ExtendsHash hash hashed (byte ∷ []) result }
 {
     let key = key_from(hashed);
     let mut hash = hash;
