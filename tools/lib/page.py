@@ -52,7 +52,7 @@ def data_of(shown, first):
     """All that the page knows, as JSON that may stand in a page."""
     run = shown.run
     columns, start = columns_of(shown)
-    events = [pictures.event_words(number, it, first) for number, it in enumerate(run.plan.get("event", []))] if run.has_units else []
+    events = [pictures.event_words(number, it, first) for number, it in enumerate(run.plan.events)] if run.has_units else []
     about = {
         "count": len(run.capture), "first": first, "kinds": run.KINDS, "colours": pictures.DROP_COLOURS, "units": run.has_units,
         "many_units": run.has_units and len(run.numbers) > 1, "waits": bool(shown.waits), "digits": shown.packets.digits, "start": str(start),
@@ -78,7 +78,7 @@ def classes_of(run):
         yield name_of(run, station), True, lambda its, band, queue, station=station: its == station, None
         for wanted in range(3):
             yield f"band {wanted}", False, lambda its, band, queue, station=station, wanted=wanted: (its, band) == (station, wanted), (station, wanted)
-        for wanted in range(table.get("queues", 1)) if table.get("queues", 1) > 1 else []:
+        for wanted in range(table.queues) if table.queues > 1 else []:
             yield f"queue {wanted}", False, lambda its, band, queue, station=station, wanted=wanted: (its, queue) == (station, wanted), None
 
 

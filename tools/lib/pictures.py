@@ -156,15 +156,15 @@ BANDS = {band: (f"band {band}", colour) for band, colour in enumerate(BAND_COLOU
 
 
 def event_words(number, event, first):
-    length = f" to {event['len']} slots" if "len" in event else ""
-    return f"event {number}: {event['kind']}{length}, before packet {event['before'] + first}"
+    length = f" to {event.length} slots" if event.length else ""
+    return f"event {number}: {event.kind}{length}, before packet {event.before + first}"
 
 
 def events_of(run, station, since, until, first):
     """The events of a station while a unit was there."""
-    for number, event in enumerate(run.plan.get("event", [])):
-        if station in run.children[event["station"]] and since <= event["before"] <= until:
-            yield event["before"], event["kind"], event_words(number, event, first)
+    for number, event in enumerate(run.plan.events):
+        if station in run.children[event.station] and since <= event.before <= until:
+            yield event.before, event.kind, event_words(number, event, first)
 
 
 def unit_panels(run, waits, station, dropped, first):

@@ -2,9 +2,8 @@
 import json
 from itertools import islice, repeat
 
-from lib.fates import FULL, SENT
 from lib.packets import NO_DSCP, NO_TIME, seconds
-from one_sender import HUNG
+from lib.trail import FULL, HANGS, SENT
 
 # what is said of a packet, in parts that are made together
 FIRST = ["number", "time", "length"]
@@ -85,7 +84,7 @@ def fates_of(run, form, first):
         elif kind == FULL:
             yield words[FULL], name + first, none, none
         else:
-            yield words[kind], none if is_tap else hung if name == HUNG else name, none, none
+            yield words[kind], none if is_tap else hung if name == HANGS else name, none, none
 
 
 def waits_of(run, waits, form, digits):

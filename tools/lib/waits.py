@@ -3,8 +3,8 @@ from array import array
 from itertools import accumulate, count
 from typing import NamedTuple, Optional
 
-from lib.fates import SENT
 from lib.packets import NO_TIME
+from lib.trail import SENT
 
 
 class Waited(NamedTuple):

@@ -2,8 +2,9 @@
 from collections import namedtuple
 from itertools import combinations
 
-from linux.cases import KernelFates, Run, steps_of
-from linux.rules import Linux
+from lib.alone import Linux
+from lib.places import steps_of
+from linux.cases import KernelFates, Run
 
 Cause = namedtuple("Cause", "name may_come text")
 
@@ -28,38 +29,38 @@ Verdict = namedtuple("Verdict", "agrees causes kernel here kernel_fates first_st
 
 
 def equals(answers, fates, run):
-    return not answers.faults and answers.steps == run.steps and answers.last == run.last and fates == run.fates_text()
+    return not answers.faults and answers.steps == run.steps and answers.last == run.last and fates == run.trail.text()
 
 
-def kernel_fates(plan, packets, answers):
+def kernel_fates(packets, answers):
     try:
-        return KernelFates(plan, packets, answers)
+        return KernelFates(packets, answers)
     except (StopIteration, IndexError, KeyError, ValueError) as it:
         answers.faults.append(f"! answers that can't be read: {type(it).__name__} {it}")
         return None
 
 
-def judge(plan, packets, answers):
-    here = Run(plan, packets)
-    kernel = kernel_fates(plan, packets, answers)
+def judge(packets, answers):
+    here = Run(packets)
+    ours, kernel = here.trail.text(), kernel_fates(packets, answers)
     if kernel is None:
-        return Verdict(False, None, "", here.fates_text(), None, None)
+        return Verdict(False, None, "", ours, None, None)
     text = kernel.text()
-    first = first_difference(plan, packets, answers, here)
+    first = first_difference(packets, answers, here)
     if equals(answers, text, here):
         return Verdict(True, [], text, text, kernel, None)
-    may_come = [it for it in CAUSES if it.may_come(plan)]
+    may_come = [it for it in CAUSES if it.may_come(packets.plan)]
     for count in range(1, len(may_come) + 1):
         for causes in combinations(may_come, count):
-            other = Run(plan, packets, Linux(**{it.name: True for it in causes}))
-            if equals(answers, text, other):
-                return Verdict(False, list(causes), text, here.fates_text(), kernel, first)
-    return Verdict(False, None, text, here.fates_text(), kernel, first)
+            if equals(answers, text, Run(packets, linux=Linux(**{it.name: True for it in causes}))):
+                return Verdict(False, list(causes), text, ours, kernel, first)
+    return Verdict(False, None, text, ours, kernel, first)
 
 
-def names_of_steps(plan, packets):
+def names_of_steps(packets):
+    plan = packets.plan
     yield from (f"station {j} is made" for j in range(len(plan.stations)))
-    for what, number in steps_of(plan, packets):
+    for what, number in steps_of(packets):
         if what == "event":
             yield f"event {number} ({plan.events[number].kind})"
         else:
@@ -67,9 +68,9 @@ def names_of_steps(plan, packets):
     yield "the end"
 
 
-def first_difference(plan, packets, answers, run):
+def first_difference(packets, answers, run):
     """The first step after which the words differ, with both sides, or None."""
-    for name, theirs, ours in zip(names_of_steps(plan, packets), answers.steps, run.steps):
+    for name, theirs, ours in zip(names_of_steps(packets), answers.steps, run.steps):
         if theirs != ours:
             return name, theirs, ours
     return None

@@ -9,6 +9,8 @@ import struct
 import subprocess
 from pathlib import Path
 
+from lib.words import Failed
+
 # A program, and the package that has it.
 PROGRAMS = {
     "qemu-system-x86_64": "qemu-system-x86",
@@ -23,8 +25,11 @@ FILES = {"/usr/include/stdio.h": "libc6-dev", "/usr/lib/x86_64-linux-gnu/libelf.
 COMPLETE = "complete"
 
 
-class Missing(Exception):
+class Missing(Failed):
     """A package that can't be had, or a program that failed; the text says which."""
+
+    def __init__(self, line):
+        super().__init__(line, 3)
 
 
 def run(words, folder=None, environment=None):

@@ -1,7 +1,7 @@
 """Plans, and what is wrong with them."""
 import re
 
-import plans
+from lib import plans
 from tests.bench import HERE, ROOM, TOP, case, expect, fault, run
 from tests.odd_plans import ODD_PLANS
 
@@ -61,13 +61,13 @@ def check_plan():
 
 @case
 def keys_of_a_plan():
-    """Each key of the tables of docs/FORMATS.md is a row of tools/plans.py, and the other way round."""
+    """Each key of the tables of docs/FORMATS.md is a row of tools/lib/plans.py, and the other way round."""
     page = (TOP / "docs/FORMATS.md").read_text(encoding="utf-8")
     rows = re.findall(r"^\| ((?:station |event )?)((?:`\w+`(?:, )?)+) \|", page[page.index("## Plans") : page.index("Where reasons apply")], re.M)
     told = {(section.strip(), name) for section, names in rows for name in re.findall(r"`(\w+)`", names)}
     known = {(section, key.name) for section, keys in plans.TABLES.items() for key in keys}
     for section, name in told ^ known:
-        fault(f"the key {name} of {section or 'the top'} isn't both in docs/FORMATS.md and in tools/plans.py")
+        fault(f"the key {name} of {section or 'the top'} isn't both in docs/FORMATS.md and in tools/lib/plans.py")
 
 
 @case

@@ -3,11 +3,14 @@
 The program judges plans by definitions that are proved; these tables aren't. `tools/compare PROGRAM` compares the two.
 """
 import difflib
+import json
 import re
 from dataclasses import dataclass
-from typing import Any, Callable, Optional, Union
+from itertools import accumulate
+from typing import Any, Callable, List, NamedTuple, Optional, Union
 
 from lib import toml_text
+from lib.words import Failed
 
 NOT_TOML, UNKNOWN_KEY, MISSING, KIND, RANGE, EVENT_ORDER, TOO_LONG = 1, 2, 3, 4, 5, 6, 8
 REASONS = {1: "NotToml", 2: "UnknownKey", 3: "Missing", 4: "Kind", 5: "Range", 6: "EventOrder", 8: "TooLong"}
@@ -247,19 +250,14 @@ def faults_of_order(root, lines):
         down = down | {station} if kind == "down" else down - {station}
 
 
-def children_of(root):
-    """The numbers that the children of each station of the plan have in fates and counts, all of them one after the other."""
-    found, first = [], 0
-    for it in tables_at(root, "station"):
-        many = number_at(it, "mq", 1)
-        found.append(range(first, first + many))
-        first += many
-    return found
+def numbered(counts):
+    """So many children of each station of the plan have numbers in fates and counts, all of them one after the other."""
+    return [range(end - many, end) for many, end in zip(counts, accumulate(counts))]
 
 
 def faults_of_groups(root, lines):
     """What may not be together in a plan of groups: too many children, several queues of a child, a swap of what they share."""
-    children = children_of(root)
+    children = numbered([number_at(it, "mq", 1) for it in tables_at(root, "station")])
     if sum(map(len, children)) > CHILDREN:
         yield Fault(RANGE, None, "the top, `station`", f"{sum(map(len, children))} children in all are more than {CHILDREN}")
     for at, table in enumerate(tables_at(root, "station")):
@@ -269,42 +267,6 @@ def faults_of_groups(root, lines):
         station = number_at(event, "station", 0)
         if event.get("kind") == "swap" and station < len(children) and len(children[station]) > 1:
             yield Fault(RANGE, lines.get(("event", at, "kind")), f"event {at}, `kind`", f"no \"swap\" at station {station}, which has {len(children[station])} children on one device")
-
-
-def stations_of(root):
-    """The stations that fates and counts number, which are the children of the plan's, each with the keys that it has."""
-    return [it for it, children in zip(tables_at(root, "station"), children_of(root)) for _ in children]
-
-
-def groups_of(root):
-    """The stations of the plan that have several children, each with these."""
-    return [(at, it) for at, it in enumerate(children_of(root)) if len(it) > 1]
-
-
-def places_of(root, capture):
-    """The station and the queue of each packet of a capture."""
-    children, many = children_of(root), [number_at(it, "queues", 1) for it in stations_of(root)]
-    routes = [children[it % len(children)] for it in range(256)]
-    if len(many) == len(children):
-        stations = capture.routes.translate(bytes(it[0] for it in routes))
-    else:
-        stations = bytearray(routes[route][source % len(routes[route])] for route, source in zip(capture.routes, capture.sources))
-    if max(many) == 1:
-        return stations, bytearray(len(stations))
-    return stations, bytearray(source % many[station] for source, station in zip(capture.sources, stations))
-
-
-def senders_of(root, capture):
-    """The sender of each packet of a capture."""
-    many = number_at(root, "senders", 1)
-    if root.get("split", "round") == "source":
-        return capture.sources.translate(bytes(it % many for it in range(256)))
-    return bytes(range(many)) * (len(capture) // many) + bytes(range(len(capture) % many))
-
-
-def units_of(root):
-    """How many units a plan needs: one for each child, and one for each swap."""
-    return len(stations_of(root)) + sum(it.get("kind") == "swap" for it in tables_at(root, "event"))
 
 
 def is_too_large(value):
@@ -342,3 +304,98 @@ def judge(data):
     if not faults:
         faults += faults_of_order(root, lines)
     return root, sorted(faults, key=lambda it: (it.reason, it.line or 0))
+
+
+# WHAT A PLAN SAYS
+
+
+class Params(NamedTuple):
+    """Of a built-in device."""
+
+    burst: int = 0
+    busy_every: int = 0
+    busy_limit: int = 0
+    hang_after: int = 0
+
+
+class Station(NamedTuple):
+    """A station of the plan."""
+
+    length: int = 1000
+    queues: int = 1
+    mq: int = 1
+    bypass: bool = True
+    params: Params = Params()
+
+
+class Event(NamedTuple):
+    """What is done to a station before a packet comes."""
+
+    before: int
+    kind: str
+    station: int
+    length: Optional[int] = None
+    params: Params = Params()
+
+
+class Plan(NamedTuple):
+    """A plan that is accepted, with each default filled in. What fates and counts call stations are its stations' children."""
+
+    stations: List[Station]
+    events: List[Event] = []
+    senders: int = 1
+    split: str = "round"
+    irq_every: int = 1
+
+    @property
+    def children(self):
+        """The numbers of the children of each station."""
+        return numbered([it.mq for it in self.stations])
+
+    @property
+    def tables(self):
+        """Each child's station."""
+        return [it for it in self.stations for _ in range(it.mq)]
+
+    @property
+    def groups(self):
+        """The stations that have several children, each with these."""
+        return [(at, it) for at, it in enumerate(self.children) if len(it) > 1]
+
+    @property
+    def units(self):
+        """How many units it needs: one for each child, and one for each swap."""
+        return sum(it.mq for it in self.stations) + sum(it.kind == "swap" for it in self.events)
+
+
+def params_of(table):
+    return Params(*(table.get(it, 0) for it in Params._fields))
+
+
+def plan_of(root):
+    """The plan that a document is in which nothing is wrong."""
+    stations = [Station(it.get("len", 1000), it.get("queues", 1), it.get("mq", 1), it.get("bypass", True), params_of(it)) for it in root["station"]]
+    events = [Event(it["before"], it["kind"], it["station"], it.get("len"), params_of(it)) for it in root.get("event", [])]
+    return Plan(stations, events, root.get("senders", 1), root.get("split", "round"), root.get("irq_every", 1))
+
+
+def read(name, code=1):
+    """The plan of a file; ends with a line, and this exit code, where it is none."""
+    with open(name, "rb") as it:
+        root, faults = judge(it.read())
+    if faults:
+        raise Failed(f"{name} is no plan: tools/check-plan {name} says why", code)
+    return plan_of(root)
+
+
+def text_of(root):
+    """The text of a document."""
+
+    def value(it):
+        return str(it).lower() if isinstance(it, bool) else json.dumps(it)
+
+    lines = [f"{name} = {value(it)}" for name, it in root.items() if not isinstance(it, list)]
+    for name in ("station", "event"):
+        for table in root.get(name, []):
+            lines += [f"[[{name}]]", *(f"{key} = {value(it)}" for key, it in table.items())]
+    return "\n".join(lines) + "\n"
