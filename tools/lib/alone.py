@@ -410,28 +410,33 @@ class Run:
 
     def go(self):
         """Does all that the plan has; the run itself."""
-        for what, number in steps_of(self.places):
+        for what, number in steps_of(self.places, is_open=self.is_open):
             self.step(what, number)
-        self.trail.now = self.trail.end
+        self.trail.is_at(self.trail.end)
         self.open_until_done()
         for _, station in self.at:
             if station.hung:
                 station.purge(HANGS)
         return self
 
+    def is_open(self):
+        """Whether no queue is stopped; a queue of a device that hangs is never opened."""
+        return not any(STOPPED in it.stops for _, it in self.at)
+
     def step(self, what, number):
         """One step of the sender; the number of the error that a kernel answers to an event, or 0."""
         if what == "send":
-            self.trail.now = 2 * number + 1
+            self.trail.is_at(2 * number + 1)
             device, station = self.at[self.places.stations[number]]
             station.transmit(number)
             device.drain()
         elif what == "wake":
+            self.trail.opening += self.plan.irq_us is not None
             for device in self.devices:
                 device.wake()
         else:
             # what is done before the next packet
-            self.trail.now += self.trail.now % 2
+            self.trail.is_at(self.trail.now + self.trail.now % 2)
             return self.event(number)
         return 0
 

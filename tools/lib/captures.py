@@ -183,7 +183,8 @@ def read(name, code=1):
         raise Failed(f"{name}: {fault}", code) from None
 
 
-def ethernet(frames):
-    """The text of a classic capture of Ethernet frames, a second apart."""
-    head = struct.pack("<IHHiIII", 0xA1B2C3D4, 2, 4, 0, 0, 65535, 1)
-    return head + b"".join(struct.pack("<IIII", n, 0, len(it), len(it)) + it for n, it in enumerate(frames))
+def ethernet(frames, times=None):
+    """The text of a classic capture of Ethernet frames, at these nanoseconds or a second apart."""
+    head = struct.pack("<IHHiIII", 0xA1B2C3D4 if times is None else 0xA1B23C4D, 2, 4, 0, 0, 65535, 1)
+    moments = [(n, 0) for n in range(len(frames))] if times is None else [divmod(it, 10**9) for it in times]
+    return head + b"".join(struct.pack("<IIII", *moment, len(it), len(it)) + it for moment, it in zip(moments, frames))

@@ -67,7 +67,7 @@ def wait_words(packets, time, digits):
 
 def tell_waits(waits, station, band):
     """The greatest backlog of a band, and how long the packets waited that were sent."""
-    greatest, of = max(waits.waiting(station, [band]), default=0), waits.of_sent(station, band)
+    greatest, of = waits.greatest(station, [band]), waits.of_sent(station, band)
     middle, most = ((wait_words(*it, waits.digits) for it in ((of.middle, of.middle_time), (of.greatest, of.greatest_time)))) if of else ("", "")
     waited = f"; wait {middle} in the middle, {most} at most" if of else ""
     late = waits.late_of(lambda at, its, queue: (at, its) == (station, band))

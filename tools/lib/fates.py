@@ -73,7 +73,7 @@ class Run(Fates):
         super().__init__(capture, text)
         self.plan = plan
         self.tables, self.children, self.groups = plan.tables, plan.children, plan.groups
-        places = Places(plan, capture)
+        self.placed = places = Places(plan, capture)
         self.stations, self.queues, self.senders = places.stations, places.queues, places.senders
         self.units = [self.units_of(it) for it in range(len(self.tables))]
         self.trail = RunOfOne(places).go().trail if plan.senders == 1 else None

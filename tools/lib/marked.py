@@ -2,7 +2,7 @@
 import struct
 from itertools import repeat
 
-from lib.packets import NANOSECONDS
+from lib.times import NANOSECONDS
 from lib.trail import FULL, HANGS, SENT
 
 SECTION, INTERFACE, SIMPLE, ENHANCED = 0x0A0D0D0A, 1, 3, 6

@@ -25,7 +25,9 @@ function seconds(nanoseconds) {
   const whole = Math.floor(all / 1e9), rest = Math.floor((all - whole * 1e9) / (digits === 9 ? 1 : 1000));
   return `${sign}${whole}.${String(rest).padStart(digits, "0")}`;
 }
-const waitedTime = (n) => known ? c.time[n + c.waited[n]] - c.time[n] : NaN;
+// where queues are opened by time, a packet waited until its queue was opened, and else until the last packet came that came meanwhile
+const waitedTime = (n) => !known ? NaN : c.wait ? c.wait[n] : c.time[n + c.waited[n]] - c.time[n];
+const didWait = (n) => c.gone[n] !== 2 * n + 1 || Boolean(c.wait && c.wait[n] > 0);
 function named(n) {
   const kind = c.fate[n], name = c.names[n];
   if (kind === SENT) return "";
@@ -205,8 +207,9 @@ function sentWay(n, lines) {
 function waitWay(n) {
   const time = seconds(waitedTime(n)), came = `${packets(c.waited[n])} came meanwhile${time ? `, in ${time} s` : ""}`;
   if (c.late[n]) return `It waited until the capture ended: ${came}. It left after the last packet, when queues are opened until nothing is held.`;
-  if (c.gone[n] === 2 * n + 1) return "It didn't wait.";
+  if (!didWait(n)) return "It didn't wait.";
   const last = n + c.waited[n];
+  if (c.wait && c.gone[n] % 2) return `It waited: ${came}. It left once packet ${link(last)} had come, when its queue was opened.`;
   return `It waited: ${came}. It left ${c.gone[n] % 2 ? `when packet ${link(last)} had come` : `before packet ${link(last + 1)} came`}.`;
 }
 function way(n) {

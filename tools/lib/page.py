@@ -44,6 +44,8 @@ def columns_of(shown):
     if waits:
         found["gone"] = packed(waits.left, "u32")
         found["waited"] = packed([(left + 1) // 2 - 1 - n for n, left in enumerate(waits.left)])
+        if waits.by_time:
+            found["wait"] = packed([nan if it is None else it for it in map(waits.time, range(count))], "f64")
         found["late"] = packed([left == waits.end for left in waits.left])
     return found, start
 
@@ -96,7 +98,7 @@ def counts_table(shown):
         if waits and band:
             of = waits.of_sent(*band)
             times = [seconds(it, waits.digits) if it is not None else "" for it in (of.middle_time, of.greatest_time)] if of else ["", ""]
-            cells += [max(waits.waiting(band[0], [band[1]]), default=0), *([of.middle, of.greatest] if of else ["", ""]), *times]
+            cells += [waits.greatest(band[0], [band[1]]), *([of.middle, of.greatest] if of else ["", ""]), *times]
         elif waits:
             cells += [""] * 5
         yield f'<tr{" class=whole" if is_whole else ""}>' + "".join(f"<td>{it}</td>" for it in cells) + "</tr>"
@@ -113,6 +115,8 @@ def about_of(shown):
     late = len(shown.waits.late)
     sent = run.of_kinds()[0]["sent"]
     after = f"{sent - late} packets were sent while packets came, and {late} after the last packet, when queues are opened until nothing is held. " if late else ""
+    if shown.waits.by_time:
+        return after + "A wait is how many packets came while one waited, and how long it was until the opening of its queue at which it left."
     return after + "A wait is how many packets came while one waited, and how much later in the capture the last of them came."
 
 

@@ -6,39 +6,63 @@ from array import array
 from collections import Counter
 from functools import cached_property
 
+from lib.flow_hash import flow_of
+from lib.packets import Packets
+from lib.times import moments_of
+
+# queues are opened so often at most between two packets, however far apart these are
+MOST_OPENINGS = 65535
+
 
 class Places:
     """Of each packet its station, which is a child of the plan's, the transmit queue of its device, and its band."""
 
     def __init__(self, plan, capture):
         self.plan, self.capture, self.bands = plan, capture, capture.bands
+        self.routes, self.sources = self.numbers()
         self.stations = self.stations_of()
         self.queues = self.queues_of()
 
     def __len__(self):
         return len(self.capture)
 
+    @cached_property
+    def hashes(self):
+        """The hash of each packet's flow; None where it has none."""
+        of, data = Packets(self.capture), self.capture.data
+        return [flow_of(bytes(data[at : at + captured]), link) for at, captured, link in zip(of.frames, of.captured, of.links)]
+
+    def numbers(self):
+        """The numbers that choose a packet's station, and its child and queue: bytes of its addresses, or the lower and the upper half of its flow's hash."""
+        routes, sources = self.capture.routes, self.capture.sources
+        if self.plan.spread == "bytes":
+            return routes, sources
+        halves = [(route, source) if it is None else (it & 0xFFFF, it >> 16) for it, route, source in zip(self.hashes, routes, sources)]
+        return array("H", (it[0] for it in halves)), array("H", (it[1] for it in halves))
+
     def stations_of(self):
-        """By the route byte the plan's station, and by the source byte its child."""
-        children, capture = self.plan.children, self.capture
-        routes = [children[it % len(children)] for it in range(256)]
-        if not self.plan.groups:
-            return capture.routes.translate(bytes(it[0] for it in routes))
-        return bytearray(routes[route][source % len(routes[route])] for route, source in zip(capture.routes, capture.sources))
+        """By the route number the plan's station, and by the source number its child."""
+        children = self.plan.children
+        if len(children) == 1 and len(children[0]) == 1:
+            return bytearray(len(self))
+        groups = [children[it % len(children)] for it in self.routes]
+        return bytearray(group[source % len(group)] for group, source in zip(groups, self.sources))
 
     def queues_of(self):
-        """By the source byte, of the queues that share the rings of a station."""
+        """By the source number, of the queues that share the rings of a station."""
         many = [it.queues for it in self.plan.tables]
         if max(many) == 1:
             return bytearray(len(self))
-        return bytearray(source % many[station] for source, station in zip(self.capture.sources, self.stations))
+        return bytearray(source % many[station] for source, station in zip(self.sources, self.stations))
 
     @cached_property
     def senders(self):
-        """The sender of each packet, which is its owner."""
-        many = self.plan.senders
+        """The sender of each packet, which is its owner: by its number, its source byte, or its flow's hash."""
+        many, sources = self.plan.senders, self.capture.sources
         if self.plan.split == "source":
-            return self.capture.sources.translate(bytes(it % many for it in range(256)))
+            return sources.translate(bytes(it % many for it in range(256)))
+        if self.plan.split == "flow":
+            return bytes((source if it is None else it) % many for it, source in zip(self.hashes, sources))
         return bytes(range(many)) * (len(self) // many) + bytes(range(len(self) % many))
 
     @cached_property
@@ -52,13 +76,32 @@ class Places:
             sent[sender] += 1
         return turns
 
+    @cached_property
+    def times(self):
+        """When each packet came, in nanoseconds."""
+        return list(moments_of(self.capture))
+
+    @cached_property
+    def periods(self):
+        """In which period of the plan each packet came."""
+        return [it // (1000 * self.plan.irq_us) for it in self.times]
+
+    def time_of_opening(self, n, which):
+        """When the queues are opened for so manieth time after packet n, counted from 1, by time."""
+        return (self.periods[n] + which) * 1000 * self.plan.irq_us
+
     def openings(self, n):
-        """How often the sender of packet n opens stopped queues once it has sent it."""
-        return int((self.turns[n] + 1) % self.plan.irq_every == 0)
+        """How often the sender of packet n opens stopped queues once it has sent it: after each so many packets, or once for each period that ends before the next packet."""
+        if self.plan.irq_us is None:
+            return int((self.turns[n] + 1) % self.plan.irq_every == 0)
+        return min(MOST_OPENINGS, max(0, self.periods[n + 1] - self.periods[n])) if n + 1 < len(self) else 0
 
 
-def steps_of(places, sender=0):
-    """What a sender does, in order: an event, by its number, a packet that it sends, or an opening, by how many came before it. Events are the first sender's."""
+def steps_of(places, sender=0, is_open=lambda: False):
+    """What a sender does, in order: an event, by its number, a packet that it sends, or an opening, by how many came before it. Events are the first sender's.
+
+    Where no queue is stopped, as `is_open` may say, an opening does nothing, and those that are left before the next packet are passed over.
+    """
     events, opened = list(enumerate(places.plan.events)) if sender == 0 else [], 0
     own = range(len(places)) if places.plan.senders == 1 else [n for n, it in enumerate(places.senders) if it == sender]
     events.reverse()
@@ -67,6 +110,8 @@ def steps_of(places, sender=0):
             yield "event", events.pop()[0]
         yield "send", n
         for _ in range(places.openings(n)):
+            if is_open():
+                break
             yield "wake", opened
             opened += 1
     yield from (("event", number) for number, _ in reversed(events))

@@ -35,7 +35,7 @@ class Key:
     """A row: its name, the kind of its value with its range, its default, the first version that has it, and what it means."""
 
     name: str
-    kind: str  # "number", "flag", "tables", or the texts that it may be, with bars between
+    kind: str  # "number", "flag", "tables", or the texts that it may be, with bars between; a text of a later version has that behind it, as "flow:4"
     low: Bound = 0
     high: Bound = 0
     default: Any = None
@@ -62,8 +62,8 @@ def tables_at(root, name):
 
 
 # the greatest number of each, by version
-SENDERS = {1: 8, 2: 64, 3: 64}
-LENGTH = {1: 4096, 2: 65536, 3: 65536}
+SENDERS = {1: 8, 2: 64, 3: 64, 4: 64}
+LENGTH = {1: 4096, 2: 65536, 3: 65536, 4: 65536}
 CHILDREN = 8
 VERSIONS = sorted(SENDERS)
 PARAMS = [
@@ -75,8 +75,10 @@ PARAMS = [
 ROOT = [
     Key("version", "number", 1, lambda it: it.version, 1, about="the version of the format"),
     Key("senders", "number", 1, lambda it: SENDERS[it.version], 1, about="threads that send"),
-    Key("split", "round|source", default="round", about="how packets are split among the senders"),
+    Key("split", "round|source|flow:4", default="round", about="how packets are split among the senders"),
+    Key("spread", "bytes|flow", default="bytes", since=4, about="by what a packet's station, queue and child are chosen"),
     Key("irq_every", "number", 1, 1000, 1, about="after so many packets of a sender it wakes the stopped queues"),
+    Key("irq_us", "number", 1, 1000000, since=4, about="in place of irq_every: the stopped queues are opened at each multiple of so many microseconds of the capture's time"),
     Key("station", "tables", 1, 8, required=True, about="the stations"),
     Key("event", "tables", 0, 64, about="what is done to them on the way"),
 ]
@@ -128,6 +130,11 @@ def bound(of, place):
     return of(place) if callable(of) else of
 
 
+def texts_of(key, place):
+    """The texts that a key may be in this version."""
+    return [text for text, _, since in (it.partition(":") for it in key.kind.split("|")) if int(since or 1) <= place.version]
+
+
 def wanted(key, place):
     """What a value may be, in words."""
     if key.kind == "number":
@@ -136,7 +143,7 @@ def wanted(key, place):
         return "true or false"
     if key.kind == "tables":
         return f"{key.low} to {key.high} tables, each begun by [[{key.name}]]"
-    return "one of " + ", ".join(f'"{it}"' for it in key.kind.split("|"))
+    return "one of " + ", ".join(f'"{it}"' for it in texts_of(key, place))
 
 
 def has_kind(key, value):
@@ -154,7 +161,7 @@ def is_within(key, value, place):
         return bound(key.low, place) <= value <= bound(key.high, place)
     if key.kind == "tables":
         return key.low <= len(value) <= key.high
-    return key.kind == "flag" or value in key.kind.split("|")
+    return key.kind == "flag" or value in texts_of(key, place)
 
 
 def lines_of_keys(text):
@@ -221,12 +228,12 @@ def shown(value):
 
 def hint_for_range(section, key, value, place):
     """Which version, or which other key, would allow it."""
-    if key.kind != "number":
-        near = difflib.get_close_matches(str(value), key.kind.split("|"), 1, 0.5) if isinstance(value, str) else []
-        return f"; did you mean \"{near[0]}\"?" if near else ""
     for version in VERSIONS:
         if version > place.version and key.name != "version" and is_within(key, value, Place(place.root, version, place.table)):
             return f"; with `version = {version}` at the top it may be"
+    if key.kind != "number":
+        near = difflib.get_close_matches(str(value), texts_of(key, place), 1, 0.5) if isinstance(value, str) else []
+        return f"; did you mean \"{near[0]}\"?" if near else ""
     if key.name == "version":
         return f"; there are the versions {', '.join(map(str, VERSIONS))}"
     if section == "event" and key.name == "len":
@@ -269,6 +276,12 @@ def faults_of_groups(root, lines):
             yield Fault(RANGE, lines.get(("event", at, "kind")), f"event {at}, `kind`", f"no \"swap\" at station {station}, which has {len(children[station])} children on one device")
 
 
+def faults_of_openings(root, lines):
+    """Queues are opened by packets or by time."""
+    if "irq_every" in root and "irq_us" in root:
+        yield Fault(RANGE, lines.get(("", 0, "irq_us")), "the top, `irq_us`", "it stands in place of `irq_every`: a plan has one of the two")
+
+
 def is_too_large(value):
     if isinstance(value, dict):
         return any(map(is_too_large, value.values()))
@@ -301,6 +314,8 @@ def judge(data):
             faults += faults_of_table(section, at, Place(root, version, table), lines)
     if version > 2:
         faults += faults_of_groups(root, lines)
+    if version > 3:
+        faults += faults_of_openings(root, lines)
     if not faults:
         faults += faults_of_order(root, lines)
     return root, sorted(faults, key=lambda it: (it.reason, it.line or 0))
@@ -346,6 +361,8 @@ class Plan(NamedTuple):
     senders: int = 1
     split: str = "round"
     irq_every: int = 1
+    irq_us: Optional[int] = None  # in place of irq_every
+    spread: str = "bytes"
 
     @property
     def children(self):
@@ -376,7 +393,7 @@ def plan_of(root):
     """The plan that a document is in which nothing is wrong."""
     stations = [Station(it.get("len", 1000), it.get("queues", 1), it.get("mq", 1), it.get("bypass", True), params_of(it)) for it in root["station"]]
     events = [Event(it["before"], it["kind"], it["station"], it.get("len"), params_of(it)) for it in root.get("event", [])]
-    return Plan(stations, events, root.get("senders", 1), root.get("split", "round"), root.get("irq_every", 1))
+    return Plan(stations, events, root.get("senders", 1), root.get("split", "round"), root.get("irq_every", 1), root.get("irq_us"), root.get("spread", "bytes"))
 
 
 def read(name, code=1):

@@ -20,18 +20,26 @@ class Trail:
     """Of each packet the kind of its fate, what that names (a unit, a packet or an event), of a sent packet its serial, and when it left.
 
     Moments are numbers: 2 n + 1 is when packet n came, with the openings of stopped queues behind it; 2 n is what the plan does before packet n.
-    So what is done after the last packet has the moment `end`.
+    So what is done after the last packet has the moment `end`. Where queues are opened by time, the openings of a moment are numbered from 1 on.
     """
 
     def __init__(self, count):
         self.kinds = bytearray([NONE_YET]) * count
         self.names, self.serials = array("I", bytes(4 * count)), array("I", bytes(4 * count))
-        self.left = array("I", bytes(4 * count))
-        self.now, self.end = 0, 2 * count
+        self.left, self.openings = array("I", bytes(4 * count)), array("H", bytes(2 * count))
+        self.now, self.opening, self.end = 0, 0, 2 * count
 
     def put(self, n, kind, name, serial=0):
         """The fate of a packet, which leaves now."""
-        self.kinds[n], self.names[n], self.serials[n], self.left[n] = kind, name, serial, self.now
+        self.kinds[n], self.names[n], self.serials[n], self.left[n], self.openings[n] = kind, name, serial, self.now, self.opening
+
+    def is_at(self, moment):
+        """Goes to a moment, before the openings that it has."""
+        self.now, self.opening = moment, 0
+
+    def waited(self, n):
+        """Whether a packet didn't leave when it came."""
+        return self.left[n] != 2 * n + 1 or self.openings[n] != 0
 
     def lines(self):
         """The fates as lines of OUT.fates."""

@@ -11,7 +11,7 @@ from lib.alone import Endless
 from linux import classes, guest, together
 from linux.cases import Answers, Run, answers_of, case_of
 from linux.compare import judge, tell_difference
-from linux.plans import Sent, random_plan, small_plans, text_of
+from linux.plans import Sent, random_plan, small_plans, text_of, timed_plan
 from linux.wrong import NOT_SHOWN, SHOWN
 
 A_BOOT = 2000
@@ -27,13 +27,13 @@ def examples():
     """The repository's own plans of one sender, each over the capture that it is for."""
     for file in sorted(EXAMPLES.glob("**/*.toml")):
         plan = plans.read(file)
-        capture = "loopback.pcap" if file.parent == EXAMPLES else "linux/four.pcap" if file.stem == "reordered" else "linux/five.pcap"
+        capture = "link.pcap" if file.stem == "link" else "loopback.pcap" if file.parent == EXAMPLES else "linux/four.pcap" if file.stem == "reordered" else "linux/five.pcap"
         if plan.senders == 1:
             yield f"example-{file.stem}", Sent(plan, captures.read(EXAMPLES / capture))
 
 
-def sent(plan, frames):
-    return Sent(plan, captures.Capture(captures.ethernet(frames)))
+def sent(plan, frames, times=None):
+    return Sent(plan, captures.Capture(captures.ethernet(frames, times)))
 
 
 class Many:
@@ -69,7 +69,7 @@ class Many:
 
     # One sender
 
-    def plans_of_one_sender(self, count, small):
+    def plans_of_one_sender(self, count, small, timed):
         yield from examples()
         for i, of in enumerate(small_plans() if small else []):
             yield f"small-{i}", sent(*of)
@@ -77,10 +77,13 @@ class Many:
         for i in range(count):
             kind = chance.choices(["one", "long", "mq", "queues"], [60, 5, 15, 20])[0]
             yield f"{kind}-{i}", sent(*random_plan(chance, kind))
+        chance = random.Random(self.seed)
+        for i in range(timed):
+            yield f"timed-{i}", sent(*timed_plan(chance))
 
-    def one_sender(self, count, small=True):
+    def one_sender(self, count, small=True, timed=0):
         batch = []
-        for it in self.plans_of_one_sender(count, small):
+        for it in self.plans_of_one_sender(count, small, timed):
             batch.append(it)
             if len(batch) == A_BOOT:
                 self.do_batch(batch)

@@ -122,7 +122,7 @@ class Tools:
         # the guest needs a static one: Debian's busybox-static, or else the one that was fetched
         if name == "busybox":
             own = shutil.which(name)
-            places = [str(Path(own).parent)] * bool(own and is_static(own)) + self._folders("bin", "usr/bin")
+            places = ([str(Path(own).parent)] if own and is_static(own) else []) + self._folders("bin", "usr/bin")
             return next((it for it in places if Path(it, name).exists()), None)
         return shutil.which(name, path=self.environment()["PATH"])
 

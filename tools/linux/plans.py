@@ -50,6 +50,9 @@ def table_of(params):
 def text_of(plan):
     """The text of a plan."""
     root = {"version": 3 if plan.groups else 2, "irq_every": plan.irq_every, "senders": plan.senders, "split": plan.split, "station": [], "event": []}
+    if plan.irq_us is not None or "flow" in (plan.split, plan.spread):
+        opened = {"irq_every": plan.irq_every} if plan.irq_us is None else {"irq_us": plan.irq_us}
+        root = {"version": 4, **opened, "spread": plan.spread} | {name: root[name] for name in ("senders", "split", "station", "event")}
     for number, it in enumerate(plan.stations):
         longest = max([it.length, *(event.length for event in plan.events if event.station == number and event.length)])
         shape = {"mq": it.mq} if it.mq > 1 else {"queues": it.queues}
@@ -135,6 +138,19 @@ def long_plan(chance):
     events = random_events(chance, [station], count) if chance.random() < 0.3 else []
     frames = [frame(chance.choice([0, 8, 16]), chance.randrange(4), 0, i) for i in range(count)]
     return Plan([station], events, irq_every=chance.choice([100, 150, 200, 1000])), frames
+
+
+def timed_plan(chance):
+    """A plan whose queues are opened by time, and whose packets are placed by the hash of their flow; its frames, and when each comes."""
+    kind = chance.choice(["one", "mq", "queues"])
+    plan, frames = random_plan(chance, kind)
+    period, time, times = chance.choice([1, 10, 100]), chance.randrange(10**9), []
+    for _ in frames:
+        times.append(time)
+        time = max(0, time + chance.choice([0, 1, -1, 500 * period, 1000 * period, chance.randrange(3000 * period), chance.randrange(9000 * period)]))
+    # bytes that would be the ports of UDP
+    frames = [it[:23] + bytes([17]) + it[24:] + chance.randbytes(4) if len(it) == 34 and chance.random() < 0.5 else it for it in frames]
+    return plan._replace(irq_every=1, irq_us=period, spread=chance.choice(["bytes", "flow", "flow"])), frames, times
 
 
 def small_events(kind):
