@@ -79,22 +79,24 @@ class Places:
     @cached_property
     def times(self):
         """When each packet came, in nanoseconds."""
-        return list(moments_of(self.capture))
+        try:
+            return array("Q", moments_of(self.capture))
+        except OverflowError:
+            return list(moments_of(self.capture))
 
-    @cached_property
-    def periods(self):
-        """In which period of the plan each packet came."""
-        return [it // (1000 * self.plan.irq_us) for it in self.times]
+    def period_of(self, n):
+        """In which period of the plan a packet came."""
+        return self.times[n] // (1000 * self.plan.irq_us)
 
     def time_of_opening(self, n, which):
         """When the queues are opened for so manieth time after packet n, counted from 1, by time."""
-        return (self.periods[n] + which) * 1000 * self.plan.irq_us
+        return (self.period_of(n) + which) * 1000 * self.plan.irq_us
 
     def openings(self, n):
         """How often the sender of packet n opens stopped queues once it has sent it: after each so many packets, or once for each period that ends before the next packet."""
         if self.plan.irq_us is None:
             return int((self.turns[n] + 1) % self.plan.irq_every == 0)
-        return min(MOST_OPENINGS, max(0, self.periods[n + 1] - self.periods[n])) if n + 1 < len(self) else 0
+        return min(MOST_OPENINGS, max(0, self.period_of(n + 1) - self.period_of(n))) if n + 1 < len(self) else 0
 
 
 def steps_of(places, sender=0, is_open=lambda: False):

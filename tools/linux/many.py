@@ -158,7 +158,7 @@ class Many:
         for i in range(count):
             packets = cases[f"senders-{i}"] = sent(*together.random_plan(chance))
             lines += together.case_of(f"senders-{i}", packets)
-        found = self.boot("senders", lines, 10 * count, processors=3)
+        found = self.boot("senders", lines, 10 * count, processors=3) if cases else {}
         for name, packets in cases.items():
             it = together.Together(packets, found.get(name, ["! no answer"]))
             self.kinds["senders"] = self.kinds.get("senders", 0) + 1
