@@ -59,7 +59,7 @@ class Places:
 
 def steps_of(places, sender=0):
     """What a sender does, in order: an event, by its number, a packet that it sends, or an opening, by how many came before it. Events are the first sender's."""
-    events, opened = list(enumerate(places.plan.events)) if sender == 0 else [], 0
+    events, opened = list(enumerate(places.plan.event)) if sender == 0 else [], 0
     own = range(len(places)) if places.plan.senders == 1 else [n for n, it in enumerate(places.senders) if it == sender]
     events.reverse()
     for n in own:
