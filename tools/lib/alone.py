@@ -97,16 +97,17 @@ class Station:
 
     def __init__(self, of, unit, places, trail, linux):
         self.band_of, self.queue_of, self.trail, self.linux = places.bands, places.queues, trail, linux
-        self.bypass, self.length = of.bypass, of.length
+        self.bypass, self.length = of.bypass, of.len
         self.state, self.stops = 0, [OPEN] * of.queues
         self.requeued, self.other_queue = deque(), deque()
-        self.rings = [self.RING(of.length, self.batch(of.length)) for _ in range(3)]
+        self.rings = [self.RING(of.len, self.batch(of.len)) for _ in range(3)]
         self.raised, self.down_by, self.dropped = False, None, 0
-        self.configure(unit, of.params)
+        self.configure(unit, of)
 
     # The device
 
     def configure(self, unit, params):
+        """A device by the keys of a station, or of a swap."""
         self.unit, self.params = unit, params
         self.calls = self.busy = 0
         self.accepted, self.hung = [], False
@@ -402,7 +403,7 @@ class Run:
     def __init__(self, places, linux=Linux(), station=Station, endless=ENDLESS):
         self.places, self.plan, self.trail = places, places.plan, Trail(len(places))
         self.next_unit, self.devices, self.at = 0, [], []
-        for of in self.plan.stations:
+        for of in self.plan.station:
             stations = [station(of, self.next_unit + child, places, self.trail, linux) for child in range(of.mq)]
             self.devices.append(Device(stations, endless))
             self.at += [(self.devices[-1], it) for it in stations]
@@ -441,18 +442,18 @@ class Run:
         return 0
 
     def event(self, number):
-        it = self.plan.events[number]
+        it = self.plan.event[number]
         device = self.devices[it.station]
         if it.kind == "down":
             device.down(number)
         elif it.kind == "up":
             device.up()
         elif it.kind == "resize":
-            device.resize(it.length, number)
+            device.resize(it.len, number)
         elif it.kind == "tx_queue_len":
-            return device.tx_queue_len(it.length, number)
+            return device.tx_queue_len(it.len, number)
         else:
-            device.swap(number, self.next_unit, it.params)
+            device.swap(number, self.next_unit, it)
             self.next_unit += 1
         return 0
 

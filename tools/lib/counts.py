@@ -40,7 +40,7 @@ def tell_late(run, waits, wanted):
 
 def requeues(run, station):
     """How many packets its busy devices gave back."""
-    params = [it.params for it in run.tables] + [it.params for it in run.plan.events if it.kind == "swap"]
+    params = [*run.tables, *(it for it in run.plan.event if it.kind == "swap")]
     return sum(busy_answers(params[unit], len(run.numbers[unit])) for unit, _ in run.units[station])
 
 
@@ -78,7 +78,7 @@ def tell_station(run, waits, station):
     """The counts of a station, with a line a band, and a line a queue where there are several."""
     of = run.tables[station]
     units, many = " ".join(str(unit) for unit, _ in run.units[station] if run.numbers[unit]) or "none", of.queues
-    print(f"{name_of(run, station)}: pfifo_fast, 3 bands of {of.length} slots{f', {many} queues' if many > 1 else ''}; units that sent: {units}")
+    print(f"{name_of(run, station)}: pfifo_fast, 3 bands of {of.len} slots{f', {many} queues' if many > 1 else ''}; units that sent: {units}")
     tell_counts(run, "", lambda at, band, queue: at == station)
     tell_late(run, waits, lambda at, band, queue: at == station)
     for wanted in range(3):

@@ -106,7 +106,7 @@ class Run(Fates):
     def units_of(self, station):
         """The units of a station in the order in which they come: its own, and those that swaps bring; each with the packet before which it comes."""
         at, found = len(self.tables), [(station, 0)]
-        for event in self.plan.events:
+        for event in self.plan.event:
             if event.kind == "swap":
                 if station in self.children[event.station]:
                     found.append((at, event.before))
@@ -116,7 +116,7 @@ class Run(Fates):
     def read(self):
         """The fates; ends where one can't be this plan's: another station's unit, an event that it doesn't have, a slot's packet of another band."""
         own = [{str(unit) for unit, _ in units} for units in self.units]
-        of_event = [self.children[it.station] for it in self.plan.events]
+        of_event = [self.children[it.station] for it in self.plan.event]
         stations, bands, codes = self.stations, self.capture.bands, {kind: code for code, kind in enumerate(self.KINDS)}
         add, name, serial = self.kinds.append, self.names.append, self.serials.append
         number, line = 0, ""
@@ -159,8 +159,8 @@ class Run(Fates):
         for (station, band, _, code), (count, _) in self.counts.items():
             (full if code == FULL else let_in)[station, band] += count
         for station, band in full:
-            lengths = [it.length for it in self.plan.events if station in self.children[it.station] and it.length]
-            least = min([self.tables[station].length, *lengths])
+            lengths = [it.len for it in self.plan.event if station in self.children[it.station] and it.len]
+            least = min([self.tables[station].len, *lengths])
             if let_in[station, band] < least - Station.batch(least):
                 raise Failed(f"band {band} of station {station} dropped packets as full that let in {let_in[station, band]}, with rings of {least} slots: the fates are of another plan")
 

@@ -54,7 +54,7 @@ def data_of(shown, first):
     """All that the page knows, as JSON that may stand in a page."""
     run = shown.run
     columns, start = columns_of(shown)
-    events = [pictures.event_words(number, it, first) for number, it in enumerate(run.plan.events)] if run.has_units else []
+    events = [pictures.event_words(number, it, first) for number, it in enumerate(run.plan.event)] if run.has_units else []
     about = {
         "count": len(run.capture), "first": first, "kinds": run.KINDS, "colours": pictures.DROP_COLOURS, "units": run.has_units,
         "many_units": run.has_units and len(run.numbers) > 1, "waits": bool(shown.waits), "digits": shown.packets.digits, "start": str(start),

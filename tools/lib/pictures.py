@@ -210,13 +210,13 @@ BANDS = {band: (f"band {band}", colour) for band, colour in enumerate(BAND_COLOU
 
 
 def event_words(number, event, first):
-    length = f" to {event.length} slots" if event.length else ""
+    length = f" to {event.len} slots" if event.len else ""
     return f"event {number}: {event.kind}{length}, before packet {event.before + first}"
 
 
 def events_of(run, station, since, until, first):
     """The events of a station while a unit was there."""
-    for number, event in enumerate(run.plan.events):
+    for number, event in enumerate(run.plan.event):
         if station in run.children[event.station] and since <= event.before <= until:
             yield event.before, event.kind, event_words(number, event, first)
 

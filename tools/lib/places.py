@@ -89,11 +89,11 @@ class Places:
         return self.times[n] // (1000 * self.plan.irq_us)
 
     def time_of_opening(self, n, which):
-        """When the queues are opened for so manieth time after packet n, counted from 1, by time."""
+        """When one of the openings after packet n is, by time; they are counted from 1."""
         return (self.period_of(n) + which) * 1000 * self.plan.irq_us
 
     def openings(self, n):
-        """How often the sender of packet n opens stopped queues once it has sent it: after each so many packets, or once for each period that ends before the next packet."""
+        """How often the sender of packet n opens stopped queues once it has sent it: after each so many packets, or once for each period that ends until the next packet."""
         if self.plan.irq_us is None:
             return int((self.turns[n] + 1) % self.plan.irq_every == 0)
         return min(MOST_OPENINGS, max(0, self.period_of(n + 1) - self.period_of(n))) if n + 1 < len(self) else 0
@@ -104,7 +104,7 @@ def steps_of(places, sender=0, is_open=lambda: False):
 
     Where no queue is stopped, as `is_open` may say, an opening does nothing, and those that are left before the next packet are passed over.
     """
-    events, opened = list(enumerate(places.plan.events)) if sender == 0 else [], 0
+    events, opened = list(enumerate(places.plan.event)) if sender == 0 else [], 0
     own = range(len(places)) if places.plan.senders == 1 else [n for n, it in enumerate(places.senders) if it == sender]
     events.reverse()
     for n in own:

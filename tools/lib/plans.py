@@ -5,9 +5,10 @@ The program judges plans by definitions that are proved; these tables aren't. `t
 import difflib
 import json
 import re
+from collections import namedtuple
 from dataclasses import dataclass
 from itertools import accumulate
-from typing import Any, Callable, List, NamedTuple, Optional, Union
+from typing import Any, Callable, Optional, Union
 
 from lib import toml_text
 from lib.words import Failed
@@ -80,7 +81,7 @@ ROOT = [
     Key("irq_every", "number", 1, 1000, 1, about="after so many packets of a sender it wakes the stopped queues"),
     Key("irq_us", "number", 1, 1000000, since=4, about="in place of irq_every: the stopped queues are opened at each multiple of so many microseconds of the capture's time"),
     Key("station", "tables", 1, 8, required=True, about="the stations"),
-    Key("event", "tables", 0, 64, about="what is done to them on the way"),
+    Key("event", "tables", 0, 64, (), about="what is done to them on the way"),
 ]
 STATION = [
     Key("len", "number", 1, lambda it: LENGTH[it.version], 1000, about="slots of each of its three rings"),
@@ -324,55 +325,26 @@ def judge(data):
 # WHAT A PLAN SAYS
 
 
-class Params(NamedTuple):
-    """Of a built-in device."""
-
-    burst: int = 0
-    busy_every: int = 0
-    busy_limit: int = 0
-    hang_after: int = 0
+def record(name, keys):
+    """What has a field for each key, with the key's default."""
+    return namedtuple(name, [it.name for it in keys], defaults=[it.default for it in keys])
 
 
-class Station(NamedTuple):
-    """A station of the plan."""
-
-    length: int = 1000
-    queues: int = 1
-    mq: int = 1
-    bypass: bool = True
-    params: Params = Params()
+Station, Event = record("Station", STATION), record("Event", EVENT)
 
 
-class Event(NamedTuple):
-    """What is done to a station before a packet comes."""
-
-    before: int
-    kind: str
-    station: int
-    length: Optional[int] = None
-    params: Params = Params()
-
-
-class Plan(NamedTuple):
-    """A plan that is accepted, with each default filled in. What fates and counts call stations are its stations' children."""
-
-    stations: List[Station]
-    events: List[Event] = []
-    senders: int = 1
-    split: str = "round"
-    irq_every: int = 1
-    irq_us: Optional[int] = None  # in place of irq_every
-    spread: str = "bytes"
+class Plan(record("Plan", ROOT)):
+    """A plan that is accepted. What fates and counts call stations are its stations' children."""
 
     @property
     def children(self):
         """The numbers of the children of each station."""
-        return numbered([it.mq for it in self.stations])
+        return numbered([it.mq for it in self.station])
 
     @property
     def tables(self):
         """Each child's station."""
-        return [it for it in self.stations for _ in range(it.mq)]
+        return [it for it in self.station for _ in range(it.mq)]
 
     @property
     def groups(self):
@@ -382,18 +354,12 @@ class Plan(NamedTuple):
     @property
     def units(self):
         """How many units it needs: one for each child, and one for each swap."""
-        return sum(it.mq for it in self.stations) + sum(it.kind == "swap" for it in self.events)
-
-
-def params_of(table):
-    return Params(*(table.get(it, 0) for it in Params._fields))
+        return sum(it.mq for it in self.station) + sum(it.kind == "swap" for it in self.event)
 
 
 def plan_of(root):
     """The plan that a document is in which nothing is wrong."""
-    stations = [Station(it.get("len", 1000), it.get("queues", 1), it.get("mq", 1), it.get("bypass", True), params_of(it)) for it in root["station"]]
-    events = [Event(it["before"], it["kind"], it["station"], it.get("len"), params_of(it)) for it in root.get("event", [])]
-    return Plan(stations, events, root.get("senders", 1), root.get("split", "round"), root.get("irq_every", 1), root.get("irq_us"), root.get("spread", "bytes"))
+    return Plan(**{**root, "station": [Station(**it) for it in root["station"]], "event": [Event(**it) for it in root.get("event", [])]})
 
 
 def read(name, code=1):

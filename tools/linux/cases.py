@@ -4,6 +4,7 @@ from collections import namedtuple
 
 from lib import alone
 from lib.places import steps_of
+from lib.plans import PARAMS
 from lib.trail import FULL, REFUSED
 
 # what a sender is answered of a packet, by the kind of its fate
@@ -11,16 +12,20 @@ EXPECTED_ERRORS = {FULL: 105, REFUSED: 100}
 WORDS = namedtuple("WORDS", "device place state lock stops requeued other_queue accepted dropped softirqs bands")
 
 
+def params_of(it):
+    return " ".join(str(getattr(it, key.name)) for key in PARAMS)
+
+
 def new_line(plan, j, room):
-    it = plan.stations[j]
+    it = plan.station[j]
     queues, shared = max(it.queues, it.mq), int(it.mq == 1)
-    return f"new {j} {it.length} {queues} {shared} {max(room, 1)} {' '.join(map(str, it.params))} {int(it.bypass)}"
+    return f"new {j} {it.len} {queues} {shared} {max(room, 1)} {params_of(it)} {int(it.bypass)}"
 
 
 def event_line(event):
     if event.kind == "swap":
-        return f"swap {event.station} {' '.join(map(str, event.params))}"
-    return f"{event.kind} {event.station}" + (f" {event.length}" if event.length else "")
+        return f"swap {event.station} {params_of(event)}"
+    return f"{event.kind} {event.station}" + (f" {event.len}" if event.len else "")
 
 
 def send_line(n, packets):
@@ -33,7 +38,7 @@ def case_of(name, packets):
     """The lines of a case."""
     plan = packets.plan
     yield f"case {name}"
-    for j in range(len(plan.stations)):
+    for j in range(len(plan.station)):
         yield new_line(plan, j, len(packets))
     for what, number in steps_of(packets):
         if what == "send":
@@ -41,7 +46,7 @@ def case_of(name, packets):
         elif what == "wake":
             yield f"wake {number % 2}"
         else:
-            yield event_line(plan.events[number])
+            yield event_line(plan.event[number])
     yield f"finish {len(packets) + 2}"
     yield "end"
 
@@ -100,7 +105,7 @@ class Run(alone.Run):
             super().step(what, number)
             self.tell(0, [line for number in range(len(self.devices)) for line in self.words(number, False)])
         else:
-            it = self.plan.events[number]
+            it = self.plan.event[number]
             before = list(unit_lines(it.station, self.devices[it.station], self.places)) if it.kind == "swap" else []
             self.tell(super().step(what, number), before + self.words(it.station, True))
 
@@ -195,7 +200,7 @@ class KernelFates:
         self.told = {}
         self.purged_bands_first = self.softirqs = 0
         places = iter(answers.steps)
-        self.slots = [Slots(self.words_of(next(places))[j]) for j in range(len(plan.stations))]
+        self.slots = [Slots(self.words_of(next(places))[j]) for j in range(len(plan.station))]
         for (what, number), step in zip(steps_of(packets), places):
             self.step(what, number, step)
         for line in answers.last:
@@ -247,12 +252,12 @@ class KernelFates:
         for m, where in self.new_drops(words):
             self.give(m, f"full {slots.seen(place, band)}" if m == n and result == 105 else f"dropped by {where}")
         if result == 100:
-            downs = [e for e, it in enumerate(self.plan.events) if it.kind == "down" and it.station == device and it.before <= n]
+            downs = [e for e, it in enumerate(self.plan.event) if it.kind == "down" and it.station == device and it.before <= n]
             self.give(n, f"refused {downs[-1]}" if downs else "refused")
         slots.follow_send(n, place, band, words)
 
     def step_event(self, e, step):
-        it = self.plan.events[e]
+        it = self.plan.event[e]
         for line in step:
             if line.startswith("L "):
                 self.sent(line)

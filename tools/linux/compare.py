@@ -9,16 +9,16 @@ from linux.cases import KernelFates, Run
 Cause = namedtuple("Cause", "name may_come text")
 
 CAUSES = [
-    Cause("same_length", lambda plan: any(it.kind == "tx_queue_len" for it in plan.events),
+    Cause("same_length", lambda plan: any(it.kind == "tx_queue_len" for it in plan.event),
           "same length: a change of tx_queue_len to the length that the device has already is nothing to Linux, since "
           "dev_change_tx_queue_len (net/core/dev.c) compares first; the rules deactivate, purge and activate"),
-    Cause("too_long", lambda plan: any((it.length or 0) > 32767 for it in plan.events),
+    Cause("too_long", lambda plan: any((it.len or 0) > 32767 for it in plan.event),
           "too long: a tx_queue_len above 32,767 is refused by dev_change_tx_queue_len (net/core/dev.c) since 6.1.189; the "
           "rules take it"),
-    Cause("bulk", lambda plan: any(it.queues > 1 for it in plan.stations),
+    Cause("bulk", lambda plan: any(it.queues > 1 for it in plan.station),
           "bulk dequeue: where several queues share a qdisc, try_bulk_dequeue_skb_slow (net/sched/sch_generic.c) takes up to "
           "eight more packets of the same queue with one; the rules take one at a time"),
-    Cause("put_ahead", lambda plan: any(it.queues > 1 for it in plan.stations),
+    Cause("put_ahead", lambda plan: any(it.queues > 1 for it in plan.station),
           "put ahead: what bulk dequeue took and the device didn't get goes back ahead of what waits in the requeue list, by "
           "dev_requeue_skb (net/sched/sch_generic.c) of 6.12.117; 6.1.192 appends it, so that a busy device is given such packets "
           "out of order"),
@@ -59,10 +59,10 @@ def judge(packets, answers):
 
 def names_of_steps(packets):
     plan = packets.plan
-    yield from (f"station {j} is made" for j in range(len(plan.stations)))
+    yield from (f"station {j} is made" for j in range(len(plan.station)))
     for what, number in steps_of(packets):
         if what == "event":
-            yield f"event {number} ({plan.events[number].kind})"
+            yield f"event {number} ({plan.event[number].kind})"
         else:
             yield f"packet {number} is sent" if what == "send" else "the queues are opened"
     yield "the end"

@@ -1,11 +1,12 @@
 """What a kernel is given of a plan and its capture; and plans and captures at random."""
 import zlib
+from itertools import product
 
 from lib import plans
 from lib.captures import PRIORITY_OF_SERVICE
 from lib.packets import Packets
 from lib.places import Places
-from lib.plans import Event, Params, Plan, Station
+from lib.plans import PARAMS, Event, Plan, Station
 from lib.words import Failed
 
 # A packet socket takes frames from 14 bytes on; of a long one the path looks at no byte behind these.
@@ -31,7 +32,7 @@ class Sent(Places):
         self.priorities = capture.services.translate(PRIORITY_OF_SERVICE)
         of = Packets(capture)
         self.frames = [bytes(capture.data[at : at + min(captured, LONGEST)]).ljust(SHORTEST, b"\0") for at, captured in zip(of.frames, of.captured)]
-        self.parents = [at for at, it in enumerate(plan.stations) for _ in range(it.mq)]
+        self.parents = [at for at, it in enumerate(plan.station) for _ in range(it.mq)]
         self.firsts = [it[0] for it in plan.children]
 
     def checksum(self, n):
@@ -43,24 +44,20 @@ class Sent(Places):
         return at, self.stations[n] - self.firsts[at]
 
 
-def table_of(params):
-    return {name: value for name, value in params._asdict().items() if value}
-
-
 def text_of(plan):
     """The text of a plan."""
-    root = {"version": 3 if plan.groups else 2, "irq_every": plan.irq_every, "senders": plan.senders, "split": plan.split, "station": [], "event": []}
+    told = lambda it: {name: value for name, value in it._asdict().items() if value != it._field_defaults[name]}  # noqa: E731
+    stations, events = list(map(told, plan.station)), list(map(told, plan.event))
+    for number, it in enumerate(plan.station):
+        stations[number]["max_len"] = max([it.len, *(event.len for event in plan.event if event.station == number and event.len)])
+    return plans.text_of({**told(plan), "version": least_version(plan), "station": stations, "event": events})
+
+
+def least_version(plan):
+    """The least version in which a plan can be written, but for the first."""
     if plan.irq_us is not None or "flow" in (plan.split, plan.spread):
-        opened = {"irq_every": plan.irq_every} if plan.irq_us is None else {"irq_us": plan.irq_us}
-        root = {"version": 4, **opened, "spread": plan.spread} | {name: root[name] for name in ("senders", "split", "station", "event")}
-    for number, it in enumerate(plan.stations):
-        longest = max([it.length, *(event.length for event in plan.events if event.station == number and event.length)])
-        shape = {"mq": it.mq} if it.mq > 1 else {"queues": it.queues}
-        root["station"].append({"len": it.length, "max_len": longest, "bypass": it.bypass, **shape, **table_of(it.params)})
-    for it in plan.events:
-        length = {"len": it.length} if it.length else {}
-        root["event"].append({"before": it.before, "kind": it.kind, "station": it.station, **length, **table_of(it.params)})
-    return plans.text_of(root)
+        return 4
+    return 3 if plan.groups else 2
 
 
 # Plans at random
@@ -84,10 +81,15 @@ def odd_frame(chance, frame):
     return frame + bytes(chance.choice([1, 100, 1466, 3000]))
 
 
+def params(*values):
+    return {key.name: value for key, value in zip(PARAMS, values)}
+
+
 def random_params(chance):
+    """The keys of a device."""
     burst = chance.choice([0, 1, 1, 2, 3, 5, 8, 16, 60, 63, 64, 65])
     every, limit = chance.choice([(0, 0), (0, 0), (1, chance.randint(1, 5)), (chance.randint(2, 7), chance.randint(1, 30))])
-    return Params(burst, every, limit, chance.choice([0] * 7 + [chance.randint(1, 60)]))
+    return params(burst, every, limit, chance.choice([0] * 7 + [chance.randint(1, 60)]))
 
 
 def random_length(chance):
@@ -97,11 +99,11 @@ def random_length(chance):
 def random_station(chance, kind):
     queues = chance.randint(2, 4) if kind == "queues" else 1
     mq = chance.randint(2, 4) if kind == "mq" else 1
-    return Station(random_length(chance), queues, mq, chance.random() < 0.7, random_params(chance))
+    return Station(len=random_length(chance), queues=queues, mq=mq, bypass=chance.random() < 0.7, **random_params(chance))
 
 
 def random_events(chance, stations, count):
-    events, active, room, length = [], [True] * len(stations), 16 - sum(it.mq for it in stations), [it.length for it in stations]
+    events, active, room, length = [], [True] * len(stations), 16 - sum(it.mq for it in stations), [it.len for it in stations]
     for before in sorted(chance.randint(0, count + 1) for _ in range(chance.choice([0, 0, 1, 1, 2, 3, 5, 8]))):
         j = chance.randrange(len(stations))
         kind = chance.choice(["down", "resize", "tx_queue_len", "swap"]) if active[j] else "up"
@@ -112,7 +114,7 @@ def random_events(chance, stations, count):
         sized = kind in ("resize", "tx_queue_len")
         if sized and (chance.random() < 0.9 or kind == "resize"):
             length[j] = random_length(chance)
-        events.append(Event(before, kind, j, length[j] if sized else None, random_params(chance) if kind == "swap" else Params()))
+        events.append(Event(before, kind, j, length[j] if sized else None, **(random_params(chance) if kind == "swap" else {})))
     return events
 
 
@@ -127,17 +129,17 @@ def random_plan(chance, kind, most=160):
     sources = chance.choice([1, 2, 4, 256])
     frames = [frame(chance.choice(tos), chance.randrange(sources), chance.randrange(256), i) for i in range(count)]
     frames = [odd_frame(chance, it) if chance.random() < 0.03 else it for it in frames]
-    return Plan(stations, random_events(chance, stations, count), irq_every=irq_every), frames
+    return Plan(station=stations, event=random_events(chance, stations, count), irq_every=irq_every), frames
 
 
 def long_plan(chance):
     """More packets wait than one run may send."""
     count = chance.randint(200, 400)
-    params = Params(chance.choice([66, 70, 100, 127, 128, 129, 130]), *chance.choice([(0, 0), (0, 0), (7, 20)]))
-    station = Station(chance.choice([100, 128, 256, 1000]), 1, chance.choice([1, 1, 2]), chance.random() < 0.7, params)
+    device = params(chance.choice([66, 70, 100, 127, 128, 129, 130]), *chance.choice([(0, 0), (0, 0), (7, 20)]))
+    station = Station(len=chance.choice([100, 128, 256, 1000]), mq=chance.choice([1, 1, 2]), bypass=chance.random() < 0.7, **device)
     events = random_events(chance, [station], count) if chance.random() < 0.3 else []
     frames = [frame(chance.choice([0, 8, 16]), chance.randrange(4), 0, i) for i in range(count)]
-    return Plan([station], events, irq_every=chance.choice([100, 150, 200, 1000])), frames
+    return Plan(station=[station], event=events, irq_every=chance.choice([100, 150, 200, 1000])), frames
 
 
 def timed_plan(chance):
@@ -153,16 +155,14 @@ def timed_plan(chance):
     return plan._replace(irq_every=1, irq_us=period, spread=chance.choice(["bytes", "flow", "flow"])), frames, times
 
 
-def small_events(kind):
-    none = Params()
-    return {
-        "none": [],
-        "down": [Event(3, "down", 0, None, none)],
-        "down and up": [Event(2, "down", 0, None, none), Event(4, "up", 0, None, none)],
-        "resize": [Event(3, "resize", 0, 1, none), Event(5, "resize", 0, 3, none)],
-        "length": [Event(3, "tx_queue_len", 0, 4, none)],
-        "swap": [Event(4, "swap", 0, None, Params(1))],
-    }[kind]
+SMALL_EVENTS = {
+    "none": [],
+    "down": [Event(3, "down", 0)],
+    "down and up": [Event(2, "down", 0), Event(4, "up", 0)],
+    "resize": [Event(3, "resize", 0, 1), Event(5, "resize", 0, 3)],
+    "length": [Event(3, "tx_queue_len", 0, 4)],
+    "swap": [Event(4, "swap", 0, burst=1)],
+}
 
 
 def small_plans():
@@ -171,12 +171,6 @@ def small_plans():
     tos = [16, 0, 8]
     for bands in captures:
         frames = [frame(tos[band], 0, 0, i) for i, band in enumerate(bands)]
-        for length in (1, 2, 3):
-            for burst in (0, 1, 2, 3):
-                for every, limit in ((0, 0), (1, 1), (2, 2)):
-                    for hang in (0, 3):
-                        for irq_every in (1, 2, 1000):
-                            for bypass in (True, False):
-                                for events in ("none", "down", "down and up", "resize", "length", "swap"):
-                                    station = Station(length, 1, 1, bypass, Params(burst, every, limit, hang))
-                                    yield Plan([station], small_events(events), irq_every=irq_every), frames
+        values = [(1, 2, 3), (0, 1, 2, 3), ((0, 0), (1, 1), (2, 2)), (0, 3), (1, 2, 1000), (True, False), SMALL_EVENTS.values()]
+        for length, burst, busy, hang, irq_every, bypass, events in product(*values):
+            yield Plan(station=[Station(len=length, bypass=bypass, **params(burst, *busy, hang))], event=events, irq_every=irq_every), frames

@@ -3,18 +3,18 @@ from collections import Counter
 
 from lib.alone import DEACTIVATED, SCHED
 from lib.places import steps_of
-from lib.plans import Event, Params, Plan, Station
+from lib.plans import Event, Plan, Station
 from linux.cases import Answers, event_line, new_line, read_words, send_line
-from linux.plans import Refused, frame, random_length
+from linux.plans import Refused, frame, params, random_length
 
 
 def case_of(name, packets):
     plan = packets.plan
-    if any(it.kind in ("resize", "swap") for it in plan.events):
+    if any(it.kind in ("resize", "swap") for it in plan.event):
         raise Refused("a kernel has no live resize and no swap of a device beside running senders; with several senders a "
                       "plan may have down, up and tx_queue_len")
     yield f"case {name}"
-    for j in range(len(plan.stations)):
+    for j in range(len(plan.station)):
         yield new_line(plan, j, len(packets))
     for sender in range(plan.senders):
         yield f"sender {sender}"
@@ -22,7 +22,7 @@ def case_of(name, packets):
             if what == "send":
                 yield send_line(number, packets)
             else:
-                yield f"kick {(number + sender) % 2}" if what == "wake" else event_line(plan.events[number])
+                yield f"kick {(number + sender) % 2}" if what == "wake" else event_line(plan.event[number])
     yield "together"
     yield f"finish {len(packets) + 2}"
     yield "end"
@@ -90,14 +90,14 @@ def random_plan(chance):
     for _ in range(chance.choice([1, 1, 2])):
         mq = chance.choice([1, 1, 1, 2, 3])
         queues = chance.choice([1, 1, 1, 2, 3]) if mq == 1 else 1
-        params = Params(chance.choice([0, 1, 2, 5, 16, 63]), *chance.choice([(0, 0), (1, 20), (3, 30)]))
-        stations.append(Station(random_length(chance), queues, mq, chance.random() < 0.8, params))
+        device = params(chance.choice([0, 1, 2, 5, 16, 63]), *chance.choice([(0, 0), (1, 20), (3, 30)]))
+        stations.append(Station(len=random_length(chance), queues=queues, mq=mq, bypass=chance.random() < 0.8, **device))
     count, senders = chance.randint(50, 800), chance.randint(2, 6)
     events, active = [], [True] * len(stations)
     for before in sorted(chance.randint(0, count) for _ in range(chance.choice([0, 0, 1, 2, 4]))):
         j = chance.randrange(len(stations))
         kind = chance.choice(["down", "tx_queue_len"]) if active[j] else "up"
         active[j] = kind != "down"
-        events.append(Event(before, kind, j, random_length(chance) if kind == "tx_queue_len" else None, Params()))
+        events.append(Event(before, kind, j, random_length(chance) if kind == "tx_queue_len" else None))
     frames = [frame(chance.choice([0, 8, 16]), chance.randrange(4), chance.randrange(256), i) for i in range(count)]
-    return Plan(stations, events, senders, irq_every=chance.choice([1, 2, 3, 10, 50])), frames
+    return Plan(station=stations, event=events, senders=senders, irq_every=chance.choice([1, 2, 3, 10, 50])), frames
