@@ -232,6 +232,15 @@ function way(n) {
   $("way").innerHTML = `<h3>Packet ${n + FIRST}: ${kind} ${named(n)}</h3><ol>${lines.map((it) => `<li>${it}</li>`).join("")}</ol>`;
 }
 
+// where a packet is in the pictures, from 0 to 1, and the packet that is there: by number, or by the time of the capture
+const span = c.moment ? Math.max(c.moment.reduce((a, b) => Math.max(a, b), 0), 1) : COUNT;
+const across = (n) => (c.moment ? c.moment[n] : n + 0.5) / span;
+function packetAt(at) {
+  if (!c.moment) return Math.min(Math.max(Math.floor(at * COUNT), 0), COUNT - 1);
+  let nearest = 0;
+  for (let n = 0; n < COUNT; n++) if (Math.abs(across(n) - at) < Math.abs(across(nearest) - at)) nearest = n;
+  return nearest;
+}
 function mark(n) {
   for (const picture of document.querySelectorAll("figure svg")) {
     let line = picture.querySelector(".mark");
@@ -240,7 +249,7 @@ function mark(n) {
       line.setAttribute("class", "mark");
       picture.append(line);
     }
-    const x = about.left + about.width * (n + 0.5) / COUNT;
+    const x = about.left + about.width * across(n);
     for (const [name, value] of [["x1", x], ["x2", x], ["y1", 64], ["y2", picture.viewBox.baseVal.height - 18]]) line.setAttribute(name, value);
   }
 }
@@ -309,7 +318,7 @@ function begin() {
   $("way").addEventListener("click", (event) => { const to = event.target.closest("a"); if (to) { event.preventDefault(); choose(Number(to.dataset.packet)); } });
   for (const picture of document.querySelectorAll("figure svg")) picture.addEventListener("click", (event) => {
     const box = picture.getBoundingClientRect(), x = (event.clientX - box.left) / box.width * picture.viewBox.baseVal.width;
-    choose(Math.min(Math.max(Math.floor((x - about.left) / about.width * COUNT), 0), COUNT - 1));
+    choose(packetAt((x - about.left) / about.width));
   });
   addEventListener("hashchange", fromHash);
   refresh();

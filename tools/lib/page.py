@@ -41,6 +41,9 @@ def columns_of(shown):
     }  # fmt: skip
     for name, values in zip(("station", "queue", "band"), places):
         found[name] = packed(bytes([UNKNOWN]) * count if values is None else values)
+    if run.has_units and run.plan.irq_us is not None:
+        first = min(run.placed.times, default=0)
+        found["moment"] = packed([it - first for it in run.placed.times], "f64")
     if waits:
         found["gone"] = packed(waits.left, "u32")
         found["waited"] = packed([(left + 1) // 2 - 1 - n for n, left in enumerate(waits.left)])

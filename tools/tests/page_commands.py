@@ -88,7 +88,7 @@ def commands_of_manual(page, lines):
             shown = True
         elif line.startswith(".Ed"):
             shown = False
-        elif shown and re.match(r"(lqtx|printf|grep|tcpdump|zcat) ", line):
+        elif shown and re.match(r"(lqtx|printf|grep|tcpdump|zcat|tools/at-rate) ", line):
             words = line.replace("\\e", "\\").replace("/tmp/", "out/")
             found.append(Command(page, number, re.sub("^lqtx ", "./lqtx ", words), None))
     return found

@@ -96,5 +96,5 @@ def shown_by_time():
     expect_picture("show-run by time", room / "o.svg", "seconds after the first packet to the right", ">0.00002</text>")
     # one packet waits from 34 microseconds on, where the picture ends
     expect_picture("the backlog by time", room / "b.svg", "seconds after the first packet to the right", ">0.00002</text>", "L306,", "after the")
-    if '"wait":' not in (room / "o.html").read_text(encoding="utf-8"):
-        fault("the page by time: it has no waits")
+    if not all(f'"{it}":' in (room / "o.html").read_text(encoding="utf-8") for it in ("wait", "moment")):
+        fault("the page by time: it has no waits, or no moments")
