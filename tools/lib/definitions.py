@@ -7,7 +7,7 @@ import pathlib
 import re
 from dataclasses import dataclass, field
 
-TOP = pathlib.Path(__file__).resolve().parent.parent
+TOP = pathlib.Path(__file__).resolve().parent.parent.parent
 CRATES = TOP / "crates"
 HEAD = re.compile(r"^(?:abbrev |unfoldable )?(?:pub )?(?:(record|data) )?([^\s(){},;]+)(?: [({].*[)}])? :(?: |$)")
 IMPORT = re.compile(r"^ *(?:pub |ghost )*use Rattle\.([\w.]+?)(?:\.\{([^}]*)\}| as (\S+?)|);?$", re.M)

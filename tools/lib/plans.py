@@ -3,11 +3,15 @@
 The program judges plans by definitions that are proved; these tables aren't. `tools/compare PROGRAM` compares the two.
 """
 import difflib
+import json
 import re
+from collections import namedtuple
 from dataclasses import dataclass
+from itertools import accumulate
 from typing import Any, Callable, Optional, Union
 
 from lib import toml_text
+from lib.words import Failed
 
 NOT_TOML, UNKNOWN_KEY, MISSING, KIND, RANGE, EVENT_ORDER, TOO_LONG = 1, 2, 3, 4, 5, 6, 8
 REASONS = {1: "NotToml", 2: "UnknownKey", 3: "Missing", 4: "Kind", 5: "Range", 6: "EventOrder", 8: "TooLong"}
@@ -32,7 +36,7 @@ class Key:
     """A row: its name, the kind of its value with its range, its default, the first version that has it, and what it means."""
 
     name: str
-    kind: str  # "number", "flag", "tables", or the texts that it may be, with bars between
+    kind: str  # "number", "flag", "tables", or the texts that it may be, with bars between; a text of a later version has that behind it, as "flow:4"
     low: Bound = 0
     high: Bound = 0
     default: Any = None
@@ -59,8 +63,8 @@ def tables_at(root, name):
 
 
 # the greatest number of each, by version
-SENDERS = {1: 8, 2: 64, 3: 64}
-LENGTH = {1: 4096, 2: 65536, 3: 65536}
+SENDERS = {1: 8, 2: 64, 3: 64, 4: 64}
+LENGTH = {1: 4096, 2: 65536, 3: 65536, 4: 65536}
 CHILDREN = 8
 VERSIONS = sorted(SENDERS)
 PARAMS = [
@@ -72,10 +76,12 @@ PARAMS = [
 ROOT = [
     Key("version", "number", 1, lambda it: it.version, 1, about="the version of the format"),
     Key("senders", "number", 1, lambda it: SENDERS[it.version], 1, about="threads that send"),
-    Key("split", "round|source", default="round", about="how packets are split among the senders"),
+    Key("split", "round|source|flow:4", default="round", about="how packets are split among the senders"),
+    Key("spread", "bytes|flow", default="bytes", since=4, about="by what a packet's station, queue and child are chosen"),
     Key("irq_every", "number", 1, 1000, 1, about="after so many packets of a sender it wakes the stopped queues"),
+    Key("irq_us", "number", 1, 1000000, since=4, about="in place of irq_every: the stopped queues are opened at each multiple of so many microseconds of the capture's time"),
     Key("station", "tables", 1, 8, required=True, about="the stations"),
-    Key("event", "tables", 0, 64, about="what is done to them on the way"),
+    Key("event", "tables", 0, 64, (), about="what is done to them on the way"),
 ]
 STATION = [
     Key("len", "number", 1, lambda it: LENGTH[it.version], 1000, about="slots of each of its three rings"),
@@ -125,6 +131,11 @@ def bound(of, place):
     return of(place) if callable(of) else of
 
 
+def texts_of(key, place):
+    """The texts that a key may be in this version."""
+    return [text for text, _, since in (it.partition(":") for it in key.kind.split("|")) if int(since or 1) <= place.version]
+
+
 def wanted(key, place):
     """What a value may be, in words."""
     if key.kind == "number":
@@ -133,7 +144,7 @@ def wanted(key, place):
         return "true or false"
     if key.kind == "tables":
         return f"{key.low} to {key.high} tables, each begun by [[{key.name}]]"
-    return "one of " + ", ".join(f'"{it}"' for it in key.kind.split("|"))
+    return "one of " + ", ".join(f'"{it}"' for it in texts_of(key, place))
 
 
 def has_kind(key, value):
@@ -151,7 +162,7 @@ def is_within(key, value, place):
         return bound(key.low, place) <= value <= bound(key.high, place)
     if key.kind == "tables":
         return key.low <= len(value) <= key.high
-    return key.kind == "flag" or value in key.kind.split("|")
+    return key.kind == "flag" or value in texts_of(key, place)
 
 
 def lines_of_keys(text):
@@ -218,12 +229,12 @@ def shown(value):
 
 def hint_for_range(section, key, value, place):
     """Which version, or which other key, would allow it."""
-    if key.kind != "number":
-        near = difflib.get_close_matches(str(value), key.kind.split("|"), 1, 0.5) if isinstance(value, str) else []
-        return f"; did you mean \"{near[0]}\"?" if near else ""
     for version in VERSIONS:
         if version > place.version and key.name != "version" and is_within(key, value, Place(place.root, version, place.table)):
             return f"; with `version = {version}` at the top it may be"
+    if key.kind != "number":
+        near = difflib.get_close_matches(str(value), texts_of(key, place), 1, 0.5) if isinstance(value, str) else []
+        return f"; did you mean \"{near[0]}\"?" if near else ""
     if key.name == "version":
         return f"; there are the versions {', '.join(map(str, VERSIONS))}"
     if section == "event" and key.name == "len":
@@ -247,19 +258,14 @@ def faults_of_order(root, lines):
         down = down | {station} if kind == "down" else down - {station}
 
 
-def children_of(root):
-    """The numbers that the children of each station of the plan have in fates and counts, all of them one after the other."""
-    found, first = [], 0
-    for it in tables_at(root, "station"):
-        many = number_at(it, "mq", 1)
-        found.append(range(first, first + many))
-        first += many
-    return found
+def numbered(counts):
+    """So many children of each station of the plan have numbers in fates and counts, all of them one after the other."""
+    return [range(end - many, end) for many, end in zip(counts, accumulate(counts))]
 
 
 def faults_of_groups(root, lines):
     """What may not be together in a plan of groups: too many children, several queues of a child, a swap of what they share."""
-    children = children_of(root)
+    children = numbered([number_at(it, "mq", 1) for it in tables_at(root, "station")])
     if sum(map(len, children)) > CHILDREN:
         yield Fault(RANGE, None, "the top, `station`", f"{sum(map(len, children))} children in all are more than {CHILDREN}")
     for at, table in enumerate(tables_at(root, "station")):
@@ -271,40 +277,10 @@ def faults_of_groups(root, lines):
             yield Fault(RANGE, lines.get(("event", at, "kind")), f"event {at}, `kind`", f"no \"swap\" at station {station}, which has {len(children[station])} children on one device")
 
 
-def stations_of(root):
-    """The stations that fates and counts number, which are the children of the plan's, each with the keys that it has."""
-    return [it for it, children in zip(tables_at(root, "station"), children_of(root)) for _ in children]
-
-
-def groups_of(root):
-    """The stations of the plan that have several children, each with these."""
-    return [(at, it) for at, it in enumerate(children_of(root)) if len(it) > 1]
-
-
-def places_of(root, capture):
-    """The station and the queue of each packet of a capture."""
-    children, many = children_of(root), [number_at(it, "queues", 1) for it in stations_of(root)]
-    routes = [children[it % len(children)] for it in range(256)]
-    if len(many) == len(children):
-        stations = capture.routes.translate(bytes(it[0] for it in routes))
-    else:
-        stations = bytearray(routes[route][source % len(routes[route])] for route, source in zip(capture.routes, capture.sources))
-    if max(many) == 1:
-        return stations, bytearray(len(stations))
-    return stations, bytearray(source % many[station] for source, station in zip(capture.sources, stations))
-
-
-def senders_of(root, capture):
-    """The sender of each packet of a capture."""
-    many = number_at(root, "senders", 1)
-    if root.get("split", "round") == "source":
-        return capture.sources.translate(bytes(it % many for it in range(256)))
-    return bytes(range(many)) * (len(capture) // many) + bytes(range(len(capture) % many))
-
-
-def units_of(root):
-    """How many units a plan needs: one for each child, and one for each swap."""
-    return len(stations_of(root)) + sum(it.get("kind") == "swap" for it in tables_at(root, "event"))
+def faults_of_openings(root, lines):
+    """Queues are opened by packets or by time."""
+    if "irq_every" in root and "irq_us" in root:
+        yield Fault(RANGE, lines.get(("", 0, "irq_us")), "the top, `irq_us`", "it stands in place of `irq_every`: a plan has one of the two")
 
 
 def is_too_large(value):
@@ -339,6 +315,70 @@ def judge(data):
             faults += faults_of_table(section, at, Place(root, version, table), lines)
     if version > 2:
         faults += faults_of_groups(root, lines)
+    if version > 3:
+        faults += faults_of_openings(root, lines)
     if not faults:
         faults += faults_of_order(root, lines)
     return root, sorted(faults, key=lambda it: (it.reason, it.line or 0))
+
+
+# WHAT A PLAN SAYS
+
+
+def record(name, keys):
+    """What has a field for each key, with the key's default."""
+    return namedtuple(name, [it.name for it in keys], defaults=[it.default for it in keys])
+
+
+Station, Event = record("Station", STATION), record("Event", EVENT)
+
+
+class Plan(record("Plan", ROOT)):
+    """A plan that is accepted. What fates and counts call stations are its stations' children."""
+
+    @property
+    def children(self):
+        """The numbers of the children of each station."""
+        return numbered([it.mq for it in self.station])
+
+    @property
+    def tables(self):
+        """Each child's station."""
+        return [it for it in self.station for _ in range(it.mq)]
+
+    @property
+    def groups(self):
+        """The stations that have several children, each with these."""
+        return [(at, it) for at, it in enumerate(self.children) if len(it) > 1]
+
+    @property
+    def units(self):
+        """How many units it needs: one for each child, and one for each swap."""
+        return sum(it.mq for it in self.station) + sum(it.kind == "swap" for it in self.event)
+
+
+def plan_of(root):
+    """The plan that a document is in which nothing is wrong."""
+    return Plan(**{**root, "station": [Station(**it) for it in root["station"]], "event": [Event(**it) for it in root.get("event", [])]})
+
+
+def read(name, code=1):
+    """The plan of a file; ends with a line, and this exit code, where it is none."""
+    with open(name, "rb") as it:
+        root, faults = judge(it.read())
+    if faults:
+        raise Failed(f"{name} is no plan: tools/check-plan {name} says why", code)
+    return plan_of(root)
+
+
+def text_of(root):
+    """The text of a document."""
+
+    def value(it):
+        return str(it).lower() if isinstance(it, bool) else json.dumps(it)
+
+    lines = [f"{name} = {value(it)}" for name, it in root.items() if not isinstance(it, list)]
+    for name in ("station", "event"):
+        for table in root.get(name, []):
+            lines += [f"[[{name}]]", *(f"{key} = {value(it)}" for key, it in table.items())]
+    return "\n".join(lines) + "\n"

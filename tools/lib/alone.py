@@ -1,33 +1,39 @@
-"""The rules of docs/RULES.md for one sender, with all words of a station; written apart from the definitions and the program.
+"""The run of one sender over the built-in devices, by docs/RULES.md, with all words of a station; written apart from the definitions and the program.
 
-With one sender no try of the run lock fails, so each call here does what the steps of one seat come to. `Linux` says in which
-known ways a kernel does otherwise. The tables of wrong rules are in `wrong.py`.
+With one sender no try of the run lock fails, so each call here does what the steps of one seat come to. `tools/beside-linux` compares each word with kernels,
+and `tools/compare` the fates with a built program; nothing of it is proved. `Linux` says in which known ways a kernel does otherwise.
 """
-from collections import deque, namedtuple
+from collections import deque
+from typing import NamedTuple
+
+from lib.places import steps_of
+from lib.trail import FULL, HANGS, PURGED, REFUSED, SENT, SHRUNK, Trail
 
 SCHED, DEACTIVATED, MISSED, DRAINING = 1, 2, 4, 8
 NON_EMPTY = MISSED | DRAINING
 OPEN, STOPPED, HUNG = 0, 1, 2
-# What a slot counts as whose packet was taken and that isn't empty yet (lqtx_bench.c).
+# what a slot counts as whose packet was taken and that isn't empty yet (tools/linux/lqtx_bench.c)
 STALE = 0xFFFFFFFF
 POWERS = [1]
 while len(POWERS) < 65536:
     POWERS.append(POWERS[-1] * 31 % 2**64)
 
-# Known ways in which a kernel does otherwise; see `compare.py`.
-Linux = namedtuple("Linux", "same_length too_long bulk put_ahead", defaults=(False, False, False, False))
 
-Params = namedtuple("Params", "burst busy_every busy_limit hang_after", defaults=(0, 0, 0, 0))
-# More soft interrupts of one drain than any limit of a plan allows.
+class Linux(NamedTuple):
+    """Known ways in which a kernel does otherwise; see `tools/linux/compare.py`."""
+
+    same_length: bool = False
+    too_long: bool = False
+    bulk: bool = False
+    put_ahead: bool = False
+
+
+# more soft interrupts of one drain than any limit of a plan allows
 ENDLESS = 2_000_000
 
 
 class Endless(Exception):
     """A run by wrong rules that doesn't end."""
-
-
-# owner, station (a child of the plan's stations), band, queue on which the device is handed it, priority, checksum of the frame
-Packet = namedtuple("Packet", "owner station band queue priority checksum")
 
 
 class Ring:
@@ -81,9 +87,6 @@ class Ring:
             ring.produce(n)
         return ring, entries[size:]
 
-    def words(self):
-        return f"{self.producer},{self.head},{self.tail},{self.size},{self.batch},{self.held},{self.total % 2**64:x}"
-
 
 class Station:
     """A queueing discipline with its device."""
@@ -92,18 +95,19 @@ class Station:
     RING = Ring
     BANDS = (0, 1, 2)
 
-    def __init__(self, length, queues, bypass, unit, params, packets, fates, linux):
-        self.packets, self.fates, self.linux = packets, fates, linux
-        self.bypass, self.length = bypass, length
-        self.state, self.stops = 0, [OPEN] * queues
+    def __init__(self, of, unit, places, trail, linux):
+        self.band_of, self.queue_of, self.trail, self.linux = places.bands, places.queues, trail, linux
+        self.bypass, self.length = of.bypass, of.len
+        self.state, self.stops = 0, [OPEN] * of.queues
         self.requeued, self.other_queue = deque(), deque()
-        self.rings = [self.RING(length, self.batch(length)) for _ in range(3)]
+        self.rings = [self.RING(of.len, self.batch(of.len)) for _ in range(3)]
         self.raised, self.down_by, self.dropped = False, None, 0
-        self.configure(unit, params)
+        self.configure(unit, of)
 
     # The device
 
     def configure(self, unit, params):
+        """A device by the keys of a station, or of a swap."""
         self.unit, self.params = unit, params
         self.calls = self.busy = 0
         self.accepted, self.hung = [], False
@@ -118,11 +122,11 @@ class Station:
 
     def hand_over(self, taken):
         """Hands packets of one queue to the device, and answers those that it didn't get."""
-        queue = self.packets[taken[0]].queue
+        queue = self.queue_of[taken[0]]
         for place, n in enumerate(taken):
             if self.is_busy():
                 return taken[place:]
-            self.fates[n] = f"sent {self.unit} {len(self.accepted)}"
+            self.trail.put(n, SENT, self.unit, len(self.accepted))
             self.accepted.append(n)
             count = len(self.accepted)
             if count == self.params.hang_after:
@@ -163,7 +167,7 @@ class Station:
 
     def dequeue(self):
         if self.requeued:
-            queue = self.packets[self.requeued[0]].queue
+            queue = self.queue_of[self.requeued[0]]
             if self.stops[queue]:
                 self.maybe_clear_missed(queue)
                 return []
@@ -179,7 +183,7 @@ class Station:
     def bulk_dequeue(self):
         """As dequeue_skb and try_bulk_dequeue_skb_slow: up to eight more packets of the first one's queue."""
         if self.other_queue:
-            queue = self.packets[self.other_queue[0]].queue
+            queue = self.queue_of[self.other_queue[0]]
             if self.stops[queue]:
                 self.maybe_clear_missed(queue)
                 return []
@@ -193,7 +197,7 @@ class Station:
             n = self.bands_dequeue()
             if n is None:
                 break
-            if self.packets[n].queue != self.packets[first].queue:
+            if self.queue_of[n] != self.queue_of[first]:
                 self.other_queue.append(n)
                 break
             taken.append(n)
@@ -203,7 +207,7 @@ class Station:
         self.state |= MISSED
 
     def direct_transmit(self, taken):
-        queue = self.packets[taken[0]].queue
+        queue = self.queue_of[taken[0]]
         if self.stops[queue]:
             self.maybe_clear_missed(queue)
         else:
@@ -247,14 +251,14 @@ class Station:
             self.run()
             self.run_end()
 
-    def drop(self, n, fate):
-        self.fates[n] = fate
+    def drop(self, n, kind, name):
+        self.trail.put(n, kind, name)
         self.dropped += 1
 
     def enqueue(self, n):
-        seen = self.rings[self.packets[n].band].produce(n)
+        seen = self.rings[self.band_of[n]].produce(n)
         if seen is not None:
-            self.drop(n, f"full {seen}")
+            self.drop(n, FULL, seen)
         return seen is None
 
     def runs_after_bypass(self):
@@ -265,7 +269,7 @@ class Station:
 
     def transmit(self, n):
         if self.state & DEACTIVATED:
-            self.fates[n] = f"refused {self.down_by}"
+            self.trail.put(n, REFUSED, self.down_by)
         elif self.may_bypass():
             if self.direct_transmit([n]) and self.runs_after_bypass():
                 self.run()
@@ -279,23 +283,24 @@ class Station:
         self.run()
 
     def wake(self):
-        for queue, stop in enumerate(self.stops):
-            if stop == STOPPED:
-                self.stops[queue] = OPEN
-                self.schedule()
+        if STOPPED in self.stops:
+            for queue, stop in enumerate(self.stops):
+                if stop == STOPPED:
+                    self.stops[queue] = OPEN
+                    self.schedule()
 
     def held(self):
         return len(self.requeued) + len(self.other_queue) + sum(it.held for it in self.rings)
 
     # Control
 
-    def purge(self, fate):
+    def purge(self, cause):
         for waiting in (self.requeued, self.other_queue):
             while waiting:
-                self.drop(waiting.popleft(), fate)
+                self.drop(waiting.popleft(), PURGED, cause)
         for ring in self.rings:
             while (n := ring.consume()) is not None:
-                self.drop(n, fate)
+                self.drop(n, PURGED, cause)
 
     def clear_after_purge(self):
         self.state &= ~NON_EMPTY
@@ -304,7 +309,7 @@ class Station:
         """Answers whether the watchdog of the kernel makes a soft interrupt, which the rules leave out."""
         self.state |= DEACTIVATED
         self.down_by = event
-        self.purge(f"purged {event}")
+        self.purge(event)
         self.clear_after_purge()
         return OPEN in self.stops
 
@@ -316,7 +321,7 @@ class Station:
         for band, ring in enumerate(self.rings):
             self.rings[band], gone = ring.resized(length, self.batch(length))
             for n in gone:
-                self.drop(n, f"shrunk {event}")
+                self.drop(n, SHRUNK, event)
 
     def resize(self, length, event):
         self.set_length(length, event)
@@ -326,23 +331,15 @@ class Station:
         self.configure(unit, params)
         self.stops = [OPEN] * len(self.stops)
 
-    # Telling
-
     def is_done(self):
         return self.state & DEACTIVATED or self.hung or not any(self.stops) and not self.held()
 
-    def words(self, marks, dropped):
-        stops = "".join(map(str, self.stops))
-        lists = " ".join(",".join(map(str, it)) or "-" for it in (self.requeued, self.other_queue))
-        rings = " ".join(it.words() + (":" + ",".join(map(str, it.entries())) if marks and it.held else "") for it in self.rings)
-        return f"{self.state} 0 {stops} {lists} {len(self.accepted)} {dropped}", rings
-
 
 class Device:
-    """A device of the guest: one station, or one for each of its queues."""
+    """A device: one station, or one for each of its queues."""
 
-    def __init__(self, number, stations, endless=ENDLESS):
-        self.number, self.stations, self.softirqs, self.endless = number, stations, 0, endless
+    def __init__(self, stations, endless):
+        self.stations, self.softirqs, self.endless = stations, 0, endless
 
     def drain(self):
         # one soft interrupt of the kernel serves all qdiscs that were scheduled before it
@@ -353,14 +350,6 @@ class Device:
                 raise Endless
             for station in raised:
                 station.soft_interrupt()
-
-    def words(self, marks):
-        lines, dropped = [], sum(it.dropped for it in self.stations)
-        for place, station in enumerate(self.stations):
-            bits, rings = station.words(marks, dropped)
-            lines.append(f"W {self.number} {place} {bits} {0 if place else self.softirqs} {rings}")
-        self.softirqs = 0
-        return lines
 
     def wake(self):
         for station in self.stations:
@@ -407,11 +396,67 @@ class Device:
         self.stations[0].swap(unit, params)
         self.up()
 
-    def units(self):
-        """The lines that tell what each unit accepted."""
-        return [self.unit_line(place, it) for place, it in enumerate(self.stations)]
 
-    def unit_line(self, place, it):
-        marks = "".join(f" {n}/{it.packets[n].priority}/{it.packets[n].checksum:x}/{place if len(self.stations) > 1 else it.packets[n].queue}"
-                        for n in it.accepted)
-        return f"L {self.number} {place} {it.calls} {it.busy} {len(it.accepted)} {int(it.hung)}{marks}"
+class Run:
+    """The run of a plan. What became of each packet is in `trail`."""
+
+    def __init__(self, places, linux=Linux(), station=Station, endless=ENDLESS):
+        self.places, self.plan, self.trail = places, places.plan, Trail(len(places))
+        self.next_unit, self.devices, self.at = 0, [], []
+        for of in self.plan.station:
+            stations = [station(of, self.next_unit + child, places, self.trail, linux) for child in range(of.mq)]
+            self.devices.append(Device(stations, endless))
+            self.at += [(self.devices[-1], it) for it in stations]
+            self.next_unit += of.mq
+
+    def go(self):
+        """Does all that the plan has; the run itself."""
+        for what, number in steps_of(self.places, is_open=self.is_open):
+            self.step(what, number)
+        self.trail.is_at(self.trail.end)
+        self.open_until_done()
+        for _, station in self.at:
+            if station.hung:
+                station.purge(HANGS)
+        return self
+
+    def is_open(self):
+        """Whether no queue is stopped; a queue of a device that hangs is never opened."""
+        return not any(STOPPED in it.stops for _, it in self.at)
+
+    def step(self, what, number):
+        """One step of the sender; the number of the error that a kernel answers to an event, or 0."""
+        if what == "send":
+            self.trail.is_at(2 * number + 1)
+            device, station = self.at[self.places.stations[number]]
+            station.transmit(number)
+            device.drain()
+        elif what == "wake":
+            self.trail.opening += self.plan.irq_us is not None
+            for device in self.devices:
+                device.wake()
+        else:
+            # what is done before the next packet
+            self.trail.is_at(self.trail.now + self.trail.now % 2)
+            return self.event(number)
+        return 0
+
+    def event(self, number):
+        it = self.plan.event[number]
+        device = self.devices[it.station]
+        if it.kind == "down":
+            device.down(number)
+        elif it.kind == "up":
+            device.up()
+        elif it.kind == "resize":
+            device.resize(it.len, number)
+        elif it.kind == "tx_queue_len":
+            return device.tx_queue_len(it.len, number)
+        else:
+            device.swap(number, self.next_unit, it)
+            self.next_unit += 1
+        return 0
+
+    def open_until_done(self):
+        """Opens the queues of each device until nothing is held; how often."""
+        return [it.finish(len(self.places) + 2) for it in self.devices]

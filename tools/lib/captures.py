@@ -1,17 +1,21 @@
 """Captures as the program reads them, classic pcap and pcapng: where each packet stands, its length, and its class (docs/RULES.md)."""
 import struct
 from array import array
+from functools import cached_property
+
+from lib.words import Failed
 
 # As in docs/RULES.md, 'Classification'.
 PRIORITY = [0, 0, 0, 0, 2, 2, 2, 2, 6, 6, 6, 6, 4, 4, 4, 4]
 BAND = [1, 2, 2, 2, 1, 2, 0, 0, 1, 1, 1, 1, 1, 1, 1, 1]
-BAND_OF_SERVICE = bytes(BAND[PRIORITY[(service & 0x1E) // 2]] for service in range(256))
+PRIORITY_OF_SERVICE = bytes(PRIORITY[(service & 0x1E) // 2] for service in range(256))
+BAND_OF_SERVICE = bytes(BAND[it] for it in PRIORITY_OF_SERVICE)
 CLASSIC = {b"\xd4\xc3\xb2\xa1": "<", b"\x4d\x3c\xb2\xa1": "<", b"\xa1\xb2\xc3\xd4": ">", b"\xa1\xb2\x3c\x4d": ">"}
 BLOCK = b"\x0a\x0d\x0d\x0a"
 IPV4, TAG = b"\x08\x00", b"\x81\x00"
 
 
-class Broken(Exception):
+class Broken(Failed):
     """Why bytes are no capture."""
 
 
@@ -22,7 +26,8 @@ class Capture:
         self.data = data
         self.starts, self.ends = array("Q"), array("Q")  # of records and of packet blocks
         self.lengths = array("I")
-        self.bands, self.routes, self.sources = bytearray(), bytearray(), bytearray()
+        # of the IPv4 header: its type of service, and the bytes by which a packet is placed; 0 without one
+        self.services, self.routes, self.sources = bytearray(), bytearray(), bytearray()
         self.without_header = 0  # packets with no IPv4 header, whatever they carry
         self.head = []  # the pieces of the file that stand before the packets in what is written
         self.order = ""  # of the numbers of the file, as struct has it
@@ -37,6 +42,11 @@ class Capture:
     def __len__(self):
         return len(self.lengths)
 
+    @cached_property
+    def bands(self):
+        """The band of each packet."""
+        return self.services.translate(BAND_OF_SERVICE)
+
     def is_pcapng(self):
         return self.data[:4] == BLOCK
 
@@ -50,7 +60,7 @@ class Capture:
         # an untagged frame with an IPv4 header is read by one call: a capture may have a million records
         whole = struct.Struct(order + "8xII12x2sBB13xB3xB")
         starts, lengths, unpack = self.starts.append, self.lengths.append, whole.unpack_from
-        bands, routes, sources, service = self.bands.append, self.routes.append, self.sources.append, BAND_OF_SERVICE
+        services, routes, sources = self.services.append, self.routes.append, self.sources.append
         at, last = 24, size - whole.size if link == 1 else 0
         add = self.adder()
         try:
@@ -60,7 +70,7 @@ class Capture:
                     if kind == IPV4 and captured >= 34 and 64 <= version < 80:
                         starts(at)
                         lengths(length)
-                        bands(service[tos])
+                        services(tos)
                         sources(source)
                         routes(route)
                         at += 16 + captured
@@ -86,7 +96,7 @@ class Capture:
         whole = struct.Struct(order + "III8xII12x2sBB13xB3xB")
         last, unpack, ethernet = size - whole.size, whole.unpack_from, set()
         starts, ends, lengths = self.starts.append, self.ends.append, self.lengths.append
-        bands, routes, sources, service = self.bands.append, self.routes.append, self.sources.append, BAND_OF_SERVICE
+        services, routes, sources = self.services.append, self.routes.append, self.sources.append
         while at < size:
             if at <= last:
                 kind, total, interface, captured, length, ether, version, tos, source, route = unpack(data, at)
@@ -95,7 +105,7 @@ class Capture:
                     starts(at)
                     ends(end)
                     lengths(length)
-                    bands(service[tos])
+                    services(tos)
                     sources(source)
                     routes(route)
                     at = end
@@ -131,7 +141,7 @@ class Capture:
         """What takes a packet: the link type, its record, its frame's place and captured length, and its length on the wire."""
         data = self.data
         starts, ends, lengths = self.starts.append, self.ends.append, self.lengths.append
-        bands, routes, sources = self.bands.append, self.routes.append, self.sources.append
+        services, routes, sources = self.services.append, self.routes.append, self.sources.append
 
         def add(link, start, end, frame, captured, length):
             starts(start)
@@ -144,11 +154,11 @@ class Capture:
             elif link == 101:
                 head = frame
             if head + 20 <= until and data[head] >> 4 == 4:
-                bands(BAND_OF_SERVICE[data[head + 1]])
+                services(data[head + 1])
                 sources(data[head + 15])
                 routes(data[head + 19])
             else:
-                bands(1)
+                services(0)
                 sources(0)
                 routes(0)
                 self.without_header += 1
@@ -161,10 +171,20 @@ class Capture:
         return b"".join([*self.head, *(data[self.starts[n] : self.ends[n]] for n in numbers)])
 
 
-def read(name):
-    """The capture of a file; ends with a line where there is none."""
+def read(name, code=1):
+    """The capture of a file; ends with a line, and this exit code, where it is none."""
     with open(name, "rb") as it:
         data = it.read()
-    if data[:2] == b"\x1f\x8b":
-        raise Broken("it is compressed: zcat makes it readable")
-    return Capture(data)
+    try:
+        if data[:2] == b"\x1f\x8b":
+            raise Broken("it is compressed: zcat makes it readable")
+        return Capture(data)
+    except Broken as fault:
+        raise Failed(f"{name}: {fault}", code) from None
+
+
+def ethernet(frames, times=None):
+    """The text of a classic capture of Ethernet frames, at these nanoseconds or a second apart."""
+    head = struct.pack("<IHHiIII", 0xA1B2C3D4 if times is None else 0xA1B23C4D, 2, 4, 0, 0, 65535, 1)
+    moments = [(n, 0) for n in range(len(frames))] if times is None else [divmod(it, 10**9) for it in times]
+    return head + b"".join(struct.pack("<IIII", *moment, len(it), len(it)) + it for moment, it in zip(moments, frames))
