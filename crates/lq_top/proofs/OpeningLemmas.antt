@@ -30,27 +30,30 @@ module _ (plan : Plan) (packets : Packets) where
       sum_by-append (λ m. cond (owner_of plan packets m == sender) 1 0) (first_numbers n) (n ∷ [])
       ∙ ap (λ k. count_by (λ m. owner_of plan packets m == sender) (first_numbers n) + k) (last ∙ is)
 
-  sent-are : (sender n : ℕ) → n ≤ packets.count → count_sent (infos_of plan packets) sender n ≡ count_by (λ m. owner_of plan packets m == sender) (first_numbers n)
-  sent-are sender zero within = refl
-  sent-are sender (suc n) within = go (cases_eq (owner_of plan packets n) sender)
-    where
-      so-far : count_sent (infos_of plan packets) sender n ≡ count_by (λ m. owner_of plan packets m == sender) (first_numbers n)
-      so-far = sent-are sender n (omega arith)
+  -- those that a sender has sent before packet n are its packets below n
+  abbrev SentAre : ℕ → ℕ → Type 0
+  SentAre sender n = count_sent (infos_of plan packets) sender n ≡ count_by (λ m. owner_of plan packets m == sender) (first_numbers n)
 
+  sent-next : (sender n : ℕ) → n < packets.count → SentAre sender n → SentAre sender (n + 1)
+  sent-next sender n within so-far = go (cases_eq (owner_of plan packets n) sender)
+    where
       more : suc n ≡ n + 1
       more = omega arith
 
-      go : (owner_of plan packets n ≡ sender) ⊎ (owner_of plan packets n ≢ sender)
-          → count_sent (infos_of plan packets) sender (suc n) ≡ count_by (λ m. owner_of plan packets m == sender) (first_numbers (suc n))
+      go : (owner_of plan packets n ≡ sender) ⊎ (owner_of plan packets n ≢ sender) → SentAre sender (n + 1)
       go (inl own) =
-          ap (count_sent (infos_of plan packets) sender) more
-          ∙ (count-sent-own (infos_of plan packets) sender n (info_of plan packets n) (info-there n (omega arith)) own
-          ∙ (ap (λ k. k + 1) so-far ∙ sym (count-next sender n 1 (ap (λ b. cond b 1 0) (eq-eqb (owner_of plan packets n) sender own)))))
+          count-sent-own (infos_of plan packets) sender n (info_of plan packets n) (info-there n within) own
+          ∙ (ap (λ k. k + 1) so-far ∙ (sym (count-next sender n 1 (ap (λ b. cond b 1 0) (eq-eqb (owner_of plan packets n) sender own)))
+          ∙ ap (λ k. count_by (λ m. owner_of plan packets m == sender) (first_numbers k)) more))
       go (inr other) =
           let none : count_by (λ m. owner_of plan packets m == sender) (first_numbers n) + 0 ≡ count_by (λ m. owner_of plan packets m == sender) (first_numbers n) = omega arith in
-          ap (count_sent (infos_of plan packets) sender) more
-          ∙ (count-sent-other (infos_of plan packets) sender n (info_of plan packets n) (info-there n (omega arith)) other
-          ∙ (so-far ∙ sym (count-next sender n 0 (ap (λ b. cond b 1 0) (ne_eqb (owner_of plan packets n) sender other)) ∙ none)))
+          count-sent-other (infos_of plan packets) sender n (info_of plan packets n) (info-there n within) other
+          ∙ (so-far ∙ (sym (count-next sender n 0 (ap (λ b. cond b 1 0) (ne_eqb (owner_of plan packets n) sender other)) ∙ none)
+          ∙ ap (λ k. count_by (λ m. owner_of plan packets m == sender) (first_numbers k)) more))
+
+  sent-are : (sender n : ℕ) → n ≤ packets.count → SentAre sender n
+  sent-are sender zero within = refl
+  sent-are sender (suc n) within = let more : n + 1 ≡ suc n = omega arith in subst (SentAre sender) more (sent-next sender n (omega arith) (sent-are sender n (omega arith)))
 
   -- a packet's number among those of its owner is one more than those that were sent before it
   number-is : (n : ℕ) → n < packets.count → count_sent (infos_of plan packets) (owner_in (infos_of plan packets) n) n + 1 ≡ number_among_own plan packets n

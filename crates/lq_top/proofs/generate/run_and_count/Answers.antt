@@ -1,4 +1,4 @@
-use Rattle.std.proofs.Common.{List, ◌∙◌, map, subst, sym}
+use Rattle.std.proofs.Common.{List, ◌∙◌, ap, arith, length, map, subst, sym}
 use Rattle.lq_senders.specs.Fates.{AreEnded, AreFatesOf}
 use Rattle.lq_table.specs.Ended.{ended_state}
 use Rattle.lq_model.specs.declared.fate.Info.{Info}
@@ -23,6 +23,20 @@ found : (g : given.Over) (c : After-send_all g)
 found g c =
     opens-are c.args.run.now.plan.now (packets_of_file c.args.run.now.capture.now) c.deref.result.now c.in_ok-openings.openings
     (c.deref.ensures.value ∙ c.in_ok-infos.ensures.infos) c.in_ok-openings.ensures
+
+pub write_counts-requires-clause-same : goal.write_counts-requires-clause-same
+write_counts-requires-clause-same g c =
+    ap length c.deref-3.ensures.value
+    ∙ ((c.in_ok-fates.ensures.fates (openings c.args.run.now.plan.now (packets_of_file c.args.run.now.capture.now)) (found g (goal.at.write_counts-requires-clause-same g c).After-send_all)).settled.one_each
+    ∙ ap length (c.deref.ensures.value ∙ sym c.deref-2.ensures.value))
+
+pub write_counts-requires-clause-few : goal.write_counts-requires-clause-few
+write_counts-requires-clause-few g c =
+    let one_each =
+    ap length c.deref-3.ensures.value
+    ∙ (c.in_ok-fates.ensures.fates (openings c.args.run.now.plan.now (packets_of_file c.args.run.now.capture.now)) (found g (goal.at.write_counts-requires-clause-few g c).After-send_all)).settled.one_each in
+    let long = ap length c.deref.ensures.value in let few = c.in_ok-infos.ensures.few in let ok = c.in_ok-infos.infos.ok.0 in
+    omega (arith, one_each, long, few, ok)
 
 pub returns-in-Ok-clause-ok : goal.returns-in-Ok-clause-ok
 returns-in-Ok-clause-ok g c =

@@ -1,4 +1,7 @@
-use Rattle.std.proofs.Common.{◌∙◌, inl, map, refl}
+use Rattle.std.proofs.Common.{◌∙◌, List, inl, map, refl, subst, sym}
+use Rattle.lq_model.specs.Settled.{IsSettled}
+use Rattle.lq_model.specs.declared.fate.Fate.{Fate}
+use Rattle.lq_model.specs.declared.fate.Info.{Info}
 use Rattle.lq_table.specs.Ended.{ended_state}
 use Rattle.lq_files.specs.RunFiles.{run_of}
 use Rattle.lq_model.specs.Openings.{openings}
@@ -21,6 +24,12 @@ found : (g : given.Over) (c : After-send_all g)
 found g c =
     opens-are c.args.run.now.plan.now (packets_of_file c.args.run.now.capture.now) c.deref.result.now c.in_ok-openings.openings
     (c.deref.ensures.value ∙ c.in_ok-infos.ensures.infos) c.in_ok-openings.ensures
+
+pub write_run-requires-clause-settled : goal.write_run-requires-clause-settled
+write_run-requires-clause-settled g c κs within =
+    subst (λ (is : List Info). IsSettled c.args.run.now.plan.now is c.deref-3.result.now) (c.deref.ensures.value ∙ sym c.deref-2.ensures.value)
+    (subst (λ (fates : List Fate). IsSettled c.args.run.now.plan.now c.deref.result.now fates) (sym c.deref-3.ensures.value)
+    (c.in_ok-fates.ensures.fates (openings c.args.run.now.plan.now (packets_of_file c.args.run.now.capture.now)) (found g (goal.at.write_run-requires-clause-settled g c).After-send_all)).settled)
 
 pub returns-clause-err : goal.returns-clause-err
 returns-clause-err g c =
