@@ -103,7 +103,7 @@ fn run_command<R: Threads + Wait + Sync, H: Host, G: Gate, D: TxDevice>(
         Ok(plan) => plan,
         Err(refusal) => return refuse(on.alloc, host, refusal),
     };
-    match read_capture_file(on.alloc, host, words.capture)? {
+    match read_capture_file(on.alloc, host, words.capture, plan.reads_times())? {
         Ok(capture) => {
             let run = RunInputs {
                 out: words.out,
