@@ -121,14 +121,11 @@ class Tools:
     def _found(self, name):
         # the guest needs a static one: Debian's busybox-static, or else the one that was fetched
         if name == "busybox":
-            own = shutil.which(name)
-            places = ([str(Path(own).parent)] if own and is_static(own) else []) + self._folders("bin", "usr/bin")
-            return next((it for it in places if Path(it, name).exists()), None)
+            places = [shutil.which(name), *(f"{it}/{name}" for it in self._folders("bin", "usr/bin"))]
+            return next((it for it in places if it and os.path.exists(it) and is_static(it)), None)
         return shutil.which(name, path=self.environment()["PATH"])
 
     def path(self, name):
-        if name == "busybox":
-            return Path(self._found(name), name)
         return Path(self._found(name))
 
     def environment(self):

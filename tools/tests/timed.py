@@ -82,6 +82,22 @@ def places_by_flow():
 
 
 @case
+def swept_by_time():
+    """A packet is sent when it comes or when the queue is opened, which stops after each: five come within four microseconds."""
+    room = ROOM / "swept"
+    room.mkdir()
+    (room / "c.pcap").write_bytes(classic([0, 1000, 2000, 3000, 4000], [frame(0, 0, 0)] * 5, is_nano=True))
+    (room / "p.toml").write_text("version = 4\nirq_us = 1\n[[station]]\nlen = 1\nburst = 1\n", encoding="utf-8")
+    program = HERE / "tests/by_the_rules.py"
+    said = run(HERE / "sweep", "p.toml", "c.pcap", "irq_us=1..4", "s.csv", "s.svg", "--program", program, cwd=room)
+    expect("sweep by time", said, 0, "fewest not sent: 0, first at irq_us=1")
+    # with 2, packet 1 leaves the requeue slot at 2 and packet 2 the ring at 4, so packet 3 finds no room; with 3 and 4, packet 2 is in the ring until the end
+    rows = [it.split(",")[-6:-1] for it in (room / "s.csv").read_text(encoding="utf-8").splitlines() if ",all," in it]
+    is_equal("the sweep by time", [(it[0], it[1]) for it in rows], [("5", "0"), ("4", "1"), ("3", "2"), ("3", "2")])
+    expect("sweep by time, both keys", run(HERE / "sweep", "p.toml", "c.pcap", "irq_every=1,2", "s.csv", "--program", program, cwd=room), 1, "it stands in place of `irq_every`")
+
+
+@case
 def shown_by_time():
     """Packet 1 leaves at 10 microseconds, packet 2 at 20, and packet 5 after the last one; packet 3 finds packet 2 in its slot."""
     room = ROOM / "timed"
