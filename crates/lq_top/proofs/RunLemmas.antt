@@ -3,6 +3,7 @@ use Rattle.std.proofs.Common.{◌≡◌, ℕ, List, [], Option, Some, None, Resu
 use Rattle.std.specs.Option.{option_map}
 use Rattle.std.proofs.lemmas.List.{drop-drop}
 use Rattle.lq_model.specs.Device.{DeviceState}
+use Rattle.lq_model.specs.Openings.{openings}
 use Rattle.lq_model.specs.Plan.{Plan, infos_of, reads_times, unit_count}
 use Rattle.lq_model.specs.declared.fate.Fate.{Fate}
 use Rattle.lq_model.specs.declared.fate.Info.{Info}
@@ -30,15 +31,17 @@ use Rattle.lq_files.proofs.GroupPackets.{of_group}
 -- RUNS
 
 -- the fates of a run, with what its groups sent
-pub fates_in : (run : Run) (fates : List Fate) (before after : List DeviceState) → AreFatesOf run.plan (infos_of run.plan (packets_of_file run.capture)) fates before after
+pub fates_in : (run : Run) (fates : List Fate) (before after : List DeviceState)
+    → AreFatesOf run.plan (infos_of run.plan (packets_of_file run.capture)) (openings run.plan (packets_of_file run.capture)) fates before after
     → AreFatesIn run fates before after
 fates_in run fates before after are = record { of_run = are; groups = λ j. of_group run.plan fates j are.settled.serials }
 
 -- what was sent under another name for the packets
 module _ (run : Run) (infos : List Info) (fates given : List Fate) (old new : HostState) (before after : List DeviceState) (known : infos ≡ infos_of run.plan (packets_of_file run.capture))
-    (same : given ≡ fates) (are : AreFatesOf run.plan infos fates before after) where
+    (same : given ≡ fates) (are : AreFatesOf run.plan infos (openings run.plan (packets_of_file run.capture)) fates before after) where
   pub known_fates : AreFatesIn run fates before after
-  known_fates = fates_in run fates before after (subst (λ (is : List Info). AreFatesOf run.plan is fates before after) known are)
+  known_fates =
+      fates_in run fates before after (subst (λ (is : List Info). AreFatesOf run.plan is (openings run.plan (packets_of_file run.capture)) fates before after) known are)
 
   -- a run that was stopped while it wrote
   pub run_stops : IsCut (texts_of run given) old new → Stops (Runs run) old new before after
