@@ -3,9 +3,8 @@ use Rattle.std.proofs.Common.{◌≡◌, ◌≢◌, ℕ, zero, suc, ◌+◌, Lis
 use Rattle.lq_model.specs.Alone.{RunningStation, opened_and_served, turn_ended}
 use Rattle.lq_model.specs.Plan.{Plan}
 use Rattle.lq_model.specs.declared.fate.Info.{Info}
-use Rattle.lq_seat.specs.Calls.{Drains, WakesQueues}
 use Rattle.lq_seat.specs.State.{SeatState, TableState}
-use Rattle.lq_senders.specs.Lanes.{AllDid, AreRunAlone, KeepAll, LaneStands}
+use Rattle.lq_senders.specs.Lanes.{AllOpened, AreRunAlone, KeepAll, LaneStands}
 use Rattle.lq_senders.specs.Woken.{AllWoke}
 use Rattle.lq_senders.proofs.Turns.{keep-none, keep-on, keep-opened, lane-made, lane-opened, runs-opened}
 use Rattle.lq_senders.proofs.Woken.{woke-opened}
@@ -25,10 +24,10 @@ not-opened plan infos tables cpus = record {
   woke = λ start count woke. let same : count ≡ count + 0 = omega arith in subst (λ k. AllWoke k start cpus) same woke;
 }
 
-pub opened-once-more : (plan : Plan) (infos : List Info) (sender count n : ℕ) (tables : List TableState) (times : ℕ) (old now mid new : List SeatState)
-    → LaneStands plan infos sender count n tables now → AllDid WakesQueues now mid → AllDid Drains mid new
+pub opened-once-more : (plan : Plan) (infos : List Info) (sender count n : ℕ) (tables : List TableState) (times : ℕ) (old now new : List SeatState)
+    → LaneStands plan infos sender count n tables now → AllOpened now new
     → AreOpenedTimes plan infos tables times old now → AreOpenedTimes plan infos tables (times + 1) old new
-opened-once-more plan infos sender count n tables times old now mid new lane woken drained before = record {
+opened-once-more plan infos sender count n tables times old now new lane (mid, (woken, drained)) before = record {
   stands = λ sender count n lane. lane-opened plan infos sender count n tables now mid new (before.stands sender count n lane) woken drained;
   keeps = keep-on old now new before.keeps (keep-opened now mid new woken drained);
   runs = λ stations runs. let more : suc times ≡ times + 1 = omega arith in

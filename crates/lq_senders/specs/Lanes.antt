@@ -9,7 +9,7 @@ use Rattle.lq_model.specs.declared.fate.Info.{Info}
 use Rattle.lq_model.specs.declared.plan.EventPlan.{EventPlan}
 use Rattle.lq_plan.specs.Packets.{IsInfoWithin}
 use Rattle.lq_qdisc.specs.Alone.{IsAlone, running}
-use Rattle.lq_seat.specs.Calls.{DoesEvent}
+use Rattle.lq_seat.specs.Calls.{DoesEvent, Drains, WakesQueues}
 use Rattle.lq_seat.specs.State.{SeatState, TableState, IsHere, IsTableOf, solo_of, times, AreInfos}
 use Rattle.lq_senders.specs.Seats.{Keeps, KeepsSeat}
 use Rattle.lq_senders.specs.Units.{DevicesStand, DoTell}
@@ -75,6 +75,10 @@ pub record FirstDid (R : SeatState → SeatState → Type 0) (count : ℕ) (old 
 pub record AllDid (R : SeatState → SeatState → Type 0) (old new : List SeatState) : Type 0 where
   pub long : length new ≡ length old
   pub each : (j : ℕ) (c c' : SeatState) → slice_get old j ≡ Some c → slice_get new j ≡ Some c' → R c c'
+
+-- the stopped queues of all were opened, and then soft interrupts done
+abbrev pub AllOpened : List SeatState → List SeatState → Type 0
+AllOpened old new = (woken : List SeatState) × (AllDid WakesQueues old woken × AllDid Drains woken new)
 
 -- an event of the plan was done, if it is one of the seat's station
 abbrev pub DoesEventAt : ℕ → EventPlan → SeatState → SeatState → Type 0

@@ -2,7 +2,7 @@
 ghost use Rattle.std.specs.Prelude.{◌≡◌, ℕ, ◌+◌, ◌<◌, ◌≤◌, ◌-◌, List, length, slice_get};
 ghost use Rattle.lq_seat.specs.Calls.{WakesQueues, Drains};
 ghost use Rattle.lq_seat.specs.State.{SeatState};
-ghost use Rattle.lq_senders.specs.Lanes.{AllDid, AreSeats, KeepAll, KeepSeats};
+ghost use Rattle.lq_senders.specs.Lanes.{AllDid, AllOpened, AreSeats, KeepAll, KeepSeats};
 ghost use Rattle.lq_senders.specs.Runs.{ComesTo, DevicesGoOn, HasDevices, RunsAs, SeatsDone, SeatsGoOn, SeatsRunAs, SeatsStand, events_on, opens_in, packet_brought, turn_after};
 ghost use Rattle.lq_senders.specs.Way.{IsSplitAt, StandAfter, StandBefore, StandEarlier};
 ghost use Rattle.lq_senders.specs.Woken.{AllWoke, OtherCalls, count_sent};
@@ -59,6 +59,15 @@ fn drain_all<'a, R: Wait, D: TxDevice>(rt: &R, tables: &[Table<'a, D>], seats: &
     }
 }
 
+/// Opens the stopped queues of all stations, and does the soft interrupts of each seat.
+fn open_once<'a, R: Wait, D: TxDevice>(rt: &R, tables: &[Table<'a, D>], seats: &mut Vec<Seat<D>>)
+    requires seats { AreSeats tables.now seats.old.items }
+    ensures { AllOpened seats.old.items seats.new.items }
+{
+    wake_all(tables, seats);
+    drain_all(rt, tables, seats);
+}
+
 /// Opens the stopped queues of all stations so many times, and does the soft interrupts of each seat after each of them.
 fn open_times<'r, 'a, R: Wait, D: TxDevice, G: Gate>(
     rt: &R,
@@ -73,8 +82,7 @@ fn open_times<'r, 'a, R: Wait, D: TxDevice, G: Gate>(
     ensures woke { (start : List SeatState) (count : ℕ) → AllWoke count start seats.old.items → AllWoke (count + times) start seats.new.items }
 {
     for _time in 0..times {
-        wake_all(run.tables, seats);
-        drain_all(rt, run.tables, seats);
+        open_once(rt, run.tables, seats);
     }
 }
 

@@ -31,41 +31,50 @@ const HOP_BY_HOP: u8 = 0;
 const MORE: u8 = 0x20;
 
 /// 66.9.149.187, port 2794, to 161.142.100.80, port 1766: 51cc c178, and without the ports 323e 8fc2.
-const FIRST: ([u8; 8], [u8; 4]) = ([66, 9, 149, 187, 161, 142, 100, 80], [10, 234, 6, 230]);
+const FIRST: [u8; 8] = [66, 9, 149, 187, 161, 142, 100, 80];
+
+const FIRST_PORTS: [u8; 4] = [10, 234, 6, 230];
 
 /// 199.92.111.2, port 14230, to 65.69.140.83, port 4739: c626 b0ea.
-const SECOND: ([u8; 8], [u8; 4]) = ([199, 92, 111, 2, 65, 69, 140, 83], [55, 150, 18, 131]);
+const SECOND: [u8; 8] = [199, 92, 111, 2, 65, 69, 140, 83];
+
+const SECOND_PORTS: [u8; 4] = [55, 150, 18, 131];
 
 /// 24.19.198.95, port 12898, to 12.22.207.184, port 38024: 5c2b 394a.
-const THIRD: ([u8; 8], [u8; 4]) = ([24, 19, 198, 95, 12, 22, 207, 184], [50, 98, 148, 136]);
+const THIRD: [u8; 8] = [24, 19, 198, 95, 12, 22, 207, 184];
+
+const THIRD_PORTS: [u8; 4] = [50, 98, 148, 136];
 
 /// 38.27.205.30, port 48228, to 209.142.163.6, port 2217: afc7 327f.
-const FOURTH: ([u8; 8], [u8; 4]) = ([38, 27, 205, 30, 209, 142, 163, 6], [188, 100, 8, 169]);
+const FOURTH: [u8; 8] = [38, 27, 205, 30, 209, 142, 163, 6];
+
+const FOURTH_PORTS: [u8; 4] = [188, 100, 8, 169];
 
 /// 153.39.163.191, port 44251, to 202.188.127.2, port 1303: 10e8 28a2, and without the ports 5d18 09c5.
-const FIFTH: ([u8; 8], [u8; 4]) = ([153, 39, 163, 191, 202, 188, 127, 2], [172, 219, 5, 23]);
+const FIFTH: [u8; 8] = [153, 39, 163, 191, 202, 188, 127, 2];
+
+const FIFTH_PORTS: [u8; 4] = [172, 219, 5, 23];
 
 /// 3ffe:501:8::260:97ff:fe40:efab, port 14230, to ff02::1, port 4739: dde5 1bbf, and without the ports 0f0c 461c.
-const SIXTH: ([u8; 32], [u8; 4]) = (
-    [
-        0x3f, 0xfe, 5, 1, 0, 8, 0, 0, 2, 0x60, 0x97, 0xff, 0xfe, 0x40, 0xef, 0xab, 0xff, 2, 0, 0,
-        0, 0, 0, 0, 0, 0, 0, 0, 0, 0, 0, 1,
-    ],
-    [55, 150, 18, 131],
-);
+const SIXTH: [u8; 32] = [
+    0x3f, 0xfe, 5, 1, 0, 8, 0, 0, 2, 0x60, 0x97, 0xff, 0xfe, 0x40, 0xef, 0xab, 0xff, 2, 0, 0, 0, 0,
+    0, 0, 0, 0, 0, 0, 0, 0, 0, 1,
+];
+
+const SIXTH_PORTS: [u8; 4] = [55, 150, 18, 131];
 
 const PACKETS: [Packet; 10] = [
-    Packet::Ipv4(TCP, 0, FIRST.0, FIRST.1),
-    Packet::Ipv4(UDP, 0, SECOND.0, SECOND.1),
-    Packet::Ipv4(TCP, 0, THIRD.0, THIRD.1),
-    Packet::Ipv4(TCP, 0, FOURTH.0, FOURTH.1),
-    Packet::Ipv4(UDP, 0, FIFTH.0, FIFTH.1),
+    Packet::Ipv4(TCP, 0, FIRST, FIRST_PORTS),
+    Packet::Ipv4(UDP, 0, SECOND, SECOND_PORTS),
+    Packet::Ipv4(TCP, 0, THIRD, THIRD_PORTS),
+    Packet::Ipv4(TCP, 0, FOURTH, FOURTH_PORTS),
+    Packet::Ipv4(UDP, 0, FIFTH, FIFTH_PORTS),
     // a fragment, and a protocol without ports: the addresses alone
-    Packet::Ipv4(TCP, MORE, FIRST.0, FIRST.1),
-    Packet::Ipv4(ICMP, 0, FIFTH.0, FIFTH.1),
-    Packet::Ipv6(TCP, SIXTH.0, SIXTH.1),
+    Packet::Ipv4(TCP, MORE, FIRST, FIRST_PORTS),
+    Packet::Ipv4(ICMP, 0, FIFTH, FIFTH_PORTS),
+    Packet::Ipv6(TCP, SIXTH, SIXTH_PORTS),
     // an extension header before the ports: the addresses alone
-    Packet::Ipv6(HOP_BY_HOP, SIXTH.0, SIXTH.1),
+    Packet::Ipv6(HOP_BY_HOP, SIXTH, SIXTH_PORTS),
     // neither: its bytes, which are 0
     Packet::Other,
 ];

@@ -506,7 +506,10 @@ fn refuses_options_of_version_4_alone(rt: HostRuntime) -> Result<(), Fail> {
     let mut host = host_of(alloc, b"version = 4\n[[station]]\n", &capture)?;
     let status = call(&on, &RUN, &mut host)?;
     assert_eq!(rt; status.code(), 4);
-    assert_eq!(rt; host.output(), b"capture refused: 14 BlockBody at 28\n");
+    assert_eq!(rt;
+        host.output(),
+        b"capture refused: 14 BlockBody at 28\n".as_slice()
+    );
     Ok(())
 }
 

@@ -3,30 +3,22 @@ use Rattle.lq_model.specs.Alone.{opened_and_served}
 use Rattle.lq_senders.specs.Lanes.{AreRunAlone}
 use Rattle.lq_senders.specs.Woken.{AllWoke}
 use Rattle.lq_senders.proofs.OpenedTimes.{not-opened, opened-once-more}
-use Rattle.lq_senders.proofs.Turns.{lane-seats, seats-woken}
+use Rattle.lq_senders.proofs.Turns.{lane-seats}
 use Rattle.lq_senders.proofs.lane.open_times.Goals as goal
 
 pub loop-time-init : goal.loop-time-init
 loop-time-init g c = not-opened c.args.run.now.plan.now c.args.run.now.infos.now c.args.run.now.tables.now c.args.seats.now.items
 
-pub wake_all-requires-clause-seats : goal.wake_all-requires-clause-seats
-wake_all-requires-clause-seats g c κs within =
+pub open_once-requires-clause-seats : goal.open_once-requires-clause-seats
+open_once-requires-clause-seats g c κs within =
     let s = c.requires.stands in let run = c.args.run.now in
     lane-seats run.plan.now run.infos.now s.0 s.1 s.2 run.tables.now c.loop-time.seats.items (c.loop-time.invariant.stands s.0 s.1 s.2 s.3)
-
-pub drain_all-requires-clause-seats : goal.drain_all-requires-clause-seats
-drain_all-requires-clause-seats g c κs within =
-    let s = c.requires.stands in let run = c.args.run.now in
-    seats-woken run.tables.now c.loop-time.seats.items c.wake_all.new.seats.items
-    (lane-seats run.plan.now run.infos.now s.0 s.1 s.2 run.tables.now c.loop-time.seats.items (c.loop-time.invariant.stands s.0 s.1 s.2 s.3))
-    c.wake_all.ensures
 
 pub loop-time-preserved : goal.loop-time-preserved
 loop-time-preserved g c =
     let s = c.requires.stands in let run = c.args.run.now in
     opened-once-more run.plan.now run.infos.now s.0 s.1 s.2 run.tables.now c.loop-time._time c.args.seats.now.items c.loop-time.seats.items
-    c.wake_all.new.seats.items c.drain_all.new.seats.items (c.loop-time.invariant.stands s.0 s.1 s.2 s.3) c.wake_all.ensures c.drain_all.ensures
-    c.loop-time.invariant
+    c.open_once.new.seats.items (c.loop-time.invariant.stands s.0 s.1 s.2 s.3) c.open_once.ensures c.loop-time.invariant
 
 pub returns-clause-stands : goal.returns-clause-stands
 returns-clause-stands g c sender count n lane = c.loop-time.invariant.stands sender count n lane
