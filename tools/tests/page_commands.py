@@ -22,7 +22,7 @@ LEFT_OUT = {
     r"tcpdump |zcat <all": "needs a capture, or an interface, of one's own",
 }
 # commands inside of sentences
-INLINE = {"README.md": ["./lqtx gen 1 1000 out/g", "tools/show-run tap 4 1000 64 out/g out/t"], "docs/HISTORY.md": ["tools/show-schedule --mistakes"]}
+INLINE = {"docs/USING.md": ["./lqtx gen 1 1000 out/g", "tools/show-run tap 4 1000 64 out/g out/t"], "docs/HISTORY.md": ["tools/show-schedule --mistakes"]}
 # commands whose output is a block further down
 PRINTED = ["./lqtx run examples/drops.toml examples/loopback.pcap out/o", "./lqtx trace examples/schedules/second-try.schedule"]
 # files that a page speaks of and doesn't print
@@ -36,10 +36,11 @@ FILES = {
 CODES = {r"tools/explore --(edit|plain) ": 1}
 # what a page's commands need that another page's make
 BEFORE = {"docs/FORMATS.md": ["./lqtx run examples/drops.toml examples/loopback.pcap out/o"]}
-PICTURES = {"README.md": {"out/o.svg": "docs/drops.svg", "out/waiting.svg": "docs/link.svg", "out/len.svg": "docs/link-by-len.svg"}, "docs/FORMATS.md": {"out/m.svg": "docs/multi-queue.svg"},
+PICTURES = {"README.md": {"out/o.svg": "docs/drops.svg"}, "docs/USING.md": {"out/waiting.svg": "docs/link.svg", "out/len.svg": "docs/link-by-len.svg"},
+            "docs/FORMATS.md": {"out/m.svg": "docs/multi-queue.svg"},
             "docs/BARRIERS.md": {f"out/{it}.svg": f"docs/orders/{it}.svg" for it in ("unlock", "put-miss", "cclear", "clearm-cleard", "wake-sched", "sclear")}}  # fmt: skip
 COMMAND = re.compile(r"    (?:\$ (.*)|((?:\./lqtx|tools/|rt ).*))")
-FEWEST = {"README.md": 6, "docs/FORMATS.md": 6, "docs/HISTORY.md": 5, "docs/lqtx.1": 3, "docs/BARRIERS.md": 7}
+FEWEST = {"README.md": 2, "docs/USING.md": 9, "docs/FORMATS.md": 6, "docs/HISTORY.md": 5, "docs/lqtx.1": 3, "docs/BARRIERS.md": 7}
 
 
 class Command:
