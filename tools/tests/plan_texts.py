@@ -71,7 +71,7 @@ def check_plan():
 def keys_of_a_plan():
     """Each key of the tables of docs/FORMATS.md is a row of tools/lib/plans.py, and the other way round."""
     page = (TOP / "docs/FORMATS.md").read_text(encoding="utf-8")
-    rows = re.findall(r"^\| ((?:station |event )?)((?:`\w+`(?:, )?)+) \|", page[page.index("## Plans") : page.index("Where reasons apply")], re.M)
+    rows = re.findall(r"^\| ((?:station |event )?)((?:`\w+`(?:, )?)+) \|", page[page.index("## Plans") : page.index("If several reasons apply")], re.M)
     told = {(section.strip(), name) for section, names in rows for name in re.findall(r"`(\w+)`", names)}
     known = {(section, key.name) for section, keys in plans.TABLES.items() for key in keys}
     for section, name in told ^ known:
