@@ -214,19 +214,19 @@ def why_not_step(m, i, answer):
     q, s = m.qdisc, m.seats[i]
     name = s.position[0]
     if answer in ("stop", "hang", "busy"):
-        return None if name == "xmit" else f"it stands at {s.name}, and only at xmit does the device answer {answer}"
+        return None if name == "xmit" else f"it is at {s.name}, and only at xmit does the device answer {answer}"
     if name == "idle":
         return "it is idle: it can begin " + ", ".join(f"`{i} {it}`" for it in ["send B", "wake"] + ["softirq"] * s.raised)
     if name == "put":
         packet = s.position[1]
         there = len(q.bands[packet.band])
-        room = f"it stands at put, and band {packet.band} has {there} of {q.len} packets"
+        room = f"it is at put, and band {packet.band} has {there} of {q.len} packets"
         if answer == "plain" and there >= q.len:
             return f"{room}: write `{i} full`"
         if answer == "full" and there < q.len - batch(q.len):
             return f"{room}, too few for its slot to be taken: write `{i} step 1`"
         return None
-    return f"it stands at {s.name}, and only at put can a band be full" if answer == "full" else None
+    return f"it is at {s.name}, and only at put can a band be full" if answer == "full" else None
 
 
 def step(m, i, answer="plain", mistake=None):

@@ -109,10 +109,10 @@ def steps_left():
 @case
 def why_a_schedule_is_refused():
     rows = {
-        "seats 3 len 1 bypass 0\n0 send 1\n0 step 4\n1 send 1\n1 step 3\n": "line 5: seat 1 can't do step 3 of 3: it stands at put, and band 1 has 1 of 1 packets: write `1 full`",
+        "seats 3 len 1 bypass 0\n0 send 1\n0 step 4\n1 send 1\n1 step 3\n": "line 5: seat 1 can't do step 3 of 3: it is at put, and band 1 has 1 of 1 packets: write `1 full`",
         "seats 2 len 4 bypass 0\n0 step 1\n": "line 2: seat 0 can't do step 1 of 1: it is idle: it can begin `0 send B`, `0 wake`",
         "seats 2 len 4 bypass 0\n0 softirq\n": "line 2: seat 0 can't begin `softirq`: no soft interrupt is scheduled on it",
-        "seats 2 len 4 bypass 0\n0 send 1\n0 busy\n": "line 3: seat 0 can't do `busy`: it stands at enter, and only at xmit",
+        "seats 2 len 4 bypass 0\n0 send 1\n0 busy\n": "line 3: seat 0 can't do `busy`: it is at enter, and only at xmit",
         "seats 2 len 4 bypass 0\n0 send 1\n0 wake\n": "line 3: seat 0 can't begin `wake`: it is in a call, at enter",
         "seats 2 len 4 bypass 0\n0 send 1 # one\n": "line 2: a comment has a line of its own",
         "seats 2 len 4 bypass 0\n0  send 1\n": "line 2: one space stands between two words",
