@@ -88,7 +88,7 @@ class Capture:
         data, size = self.data, len(self.data)
         order = {b"\x4d\x3c\x2b\x1a": "<", b"\x1a\x2b\x3c\x4d": ">"}.get(bytes(data[8:12]))
         if order is None:
-            raise Broken("its byte order isn't told")
+            raise Broken("it doesn't show its byte order")
         two, three = struct.Struct(order + "II").unpack_from, struct.Struct(order + "III").unpack_from
         self.order = order
         links, cuts, add, at = self.links, [], self.adder(), 0

@@ -100,7 +100,7 @@ def tell(run, waits, out):
     if run.capture.without_header:
         print(f"{run.capture.without_header} of {len(run.capture)} packets have no IPv4 header that is looked at: band 1 of station 0")
     if not waits:
-        print("backlog, waits, and what was sent after the last packet aren't known: of several senders, fates don't say when a packet left")
+        print("backlog, waits, and what was sent after the last packet aren't known: with several senders, fates don't say when a packet left")
 
 
 def tell_tap(run, batch):

@@ -227,7 +227,7 @@ class Tap(Fates):
         for number in self.order:
             sender = number % self.many
             if number < last[sender]:
-                raise Failed(f"packet {number} was read behind packet {last[sender]} of the same sender: the fates are of another run")
+                raise Failed(f"packet {number} was read after packet {last[sender]} of the same sender: the fates are of another run")
             last[sender] = number
 
     def judge_ring(self):

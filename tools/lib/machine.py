@@ -329,7 +329,7 @@ def read_schedule(data):
             if "\r" in line:
                 hint = "the line ends with a carriage return; "
             elif "  " in line or line != line.strip(" "):
-                hint = "one space stands between two words, and none before or after; "
+                hint = "there is one space between two words, and none before or after; "
             elif "#" in line:
                 hint = "a comment has a line of its own; "
             elif len(words) > 1 and words[1] in ("down", "up", "swap", "resize"):

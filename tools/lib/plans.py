@@ -249,7 +249,7 @@ def faults_of_order(root, lines):
         before, kind, station = number_at(event, "before", 0), event.get("kind"), number_at(event, "station", 0)
         line = lines.get(("event", at, None))
         if before < last:
-            yield Fault(EVENT_ORDER, line, f"event {at}, `before`", f"{before} comes after {last}: events stand in the order in which they come")
+            yield Fault(EVENT_ORDER, line, f"event {at}, `before`", f"{before} comes after {last}: events are written in the order in which they come")
         if kind == "up" and station not in down:
             yield Fault(EVENT_ORDER, line, f"event {at}", f"station {station} is active: an \"up\" comes after a \"down\" alone")
         if kind != "up" and station in down:
@@ -280,7 +280,7 @@ def faults_of_groups(root, lines):
 def faults_of_openings(root, lines):
     """Queues are opened by packets or by time."""
     if "irq_every" in root and "irq_us" in root:
-        yield Fault(RANGE, lines.get(("", 0, "irq_us")), "the top, `irq_us`", "it stands in place of `irq_every`: a plan has one of the two")
+        yield Fault(RANGE, lines.get(("", 0, "irq_us")), "the top, `irq_us`", "it is used in place of `irq_every`: a plan has one of the two")
 
 
 def is_too_large(value):

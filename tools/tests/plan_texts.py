@@ -34,7 +34,7 @@ PLANS = {
     "version = 4\nspread = \"source\"\n[[station]]\n": ("5 Range", ":2: the top, `spread`: \"source\" isn't one of \"bytes\", \"flow\""),
     "version = 3\nspread = \"flow\"\n[[station]]\n": ("2 UnknownKey", ":2: the top, `spread`: no such key; it needs `version = 4` at the top"),
     "version = 4\nirq_us = 1000001\n[[station]]\n": ("5 Range", "1000001 isn't a whole number from 1 to 1000000"),
-    "version = 4\nirq_every = 4\nirq_us = 100\n[[station]]\n": ("5 Range", ":3: the top, `irq_us`: it stands in place of `irq_every`: a plan has one of the two"),
+    "version = 4\nirq_every = 4\nirq_us = 100\n[[station]]\n": ("5 Range", ":3: the top, `irq_us`: it is used in place of `irq_every`: a plan has one of the two"),
     "irq_us = 100\n[[station]]\n": ("2 UnknownKey", ":1: the top, `irq_us`: no such key; it needs `version = 4` at the top"),
     "version = 4\n[[station]]\nirq_us = 100\n": ("2 UnknownKey", ":3: station 0, `irq_us`: no such key; it is a key of the top"),
     "station = []\n": ("5 Range", "an array of 0 isn't 1 to 8 tables"),

@@ -92,7 +92,7 @@ def show_run():
         fault("show-run --help writes to standard error")
     # of several senders the backlog isn't known, and the other picture is drawn
     said = run(HERE / "show-run", several, capture, room / "busy", room / "s.svg", room / "b.svg")
-    expect("show-run, a backlog of several senders", said, 1, "b.svg isn't drawn: of several senders", "aren't known: of several senders")
+    expect("show-run, a backlog of several senders", said, 1, "b.svg isn't drawn: with several senders", "aren't known: with several senders")
     expect_picture("show-run, several senders", room / "s.svg", "senders.toml over loopback.pcap")
     # no output is an input, whatever it is called
     inputs = {name: (room / name).read_bytes() for name in ("drops.fates", "lost.pcap")}
@@ -125,7 +125,7 @@ NO_TAP_FATES = {
     "itself": ("7 full 3", "7 full 7", "packet 7 met packet 7, which wasn't in the ring"),
     "other_full": ("7 full 3", "7 full 8", "packet 7 met packet 8, which wasn't in the ring"),
     "twice": ("9 read 6", "9 read 5", "7 packets were read, and their places aren't 0 to 6"),
-    "order": ("3 read 2\n4 read 3", "3 read 3\n4 read 2", "packet 3 was read behind packet 4 of the same sender"),
+    "order": ("3 read 2\n4 read 3", "3 read 3\n4 read 2", "packet 3 was read after packet 4 of the same sender"),
     "sent": ("9 read 6", "9 sent 0 6", "line 10 of the fates isn't one of a tap: '9 sent 0 6'"),
     "short": ("9 read 6\n", "", "10 packets and 9 fates"),
     "high": ("8 full 3", "8 full 10", "names a number that is too high"),

@@ -115,7 +115,7 @@ def why_a_schedule_is_refused():
         "seats 2 len 4 bypass 0\n0 send 1\n0 busy\n": "line 3: seat 0 can't do `busy`: it is at enter, and only at xmit",
         "seats 2 len 4 bypass 0\n0 send 1\n0 wake\n": "line 3: seat 0 can't begin `wake`: it is in a call, at enter",
         "seats 2 len 4 bypass 0\n0 send 1 # one\n": "line 2: a comment has a line of its own",
-        "seats 2 len 4 bypass 0\n0  send 1\n": "line 2: one space stands between two words",
+        "seats 2 len 4 bypass 0\n0  send 1\n": "line 2: there is one space between two words",
         "seats 2 len 4 bypass 0\n0 down\n": "line 2: a schedule begins no deactivation",
         "seats 2 len 4 bypass 0\n2 wake\n": "line 2: there are the seats 0 to 1",
         "seats 2 len 4\n": "line 1: the first line is `seats N len L bypass B`",

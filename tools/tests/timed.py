@@ -94,7 +94,7 @@ def swept_by_time():
     # with 2, packet 1 leaves the requeue slot at 2 and packet 2 the ring at 4, so packet 3 finds no room; with 3 and 4, packet 2 is in the ring until the end
     rows = [it.split(",")[-6:-1] for it in (room / "s.csv").read_text(encoding="utf-8").splitlines() if ",all," in it]
     is_equal("the sweep by time", [(it[0], it[1]) for it in rows], [("5", "0"), ("4", "1"), ("3", "2"), ("3", "2")])
-    expect("sweep by time, both keys", run(HERE / "sweep", "p.toml", "c.pcap", "irq_every=1,2", "s.csv", "--program", program, cwd=room), 1, "it stands in place of `irq_every`")
+    expect("sweep by time, both keys", run(HERE / "sweep", "p.toml", "c.pcap", "irq_every=1,2", "s.csv", "--program", program, cwd=room), 1, "it is used in place of `irq_every`")
 
 
 @case
