@@ -1,5 +1,5 @@
 // The machine of RULES.md, for a queueing discipline with one queue: a step is one atomic access, named by the seat's position.
-// crates/lq_model/specs/Steps.antt is its definition; `tools/inside-calls --machine` counts its states by tools/machine.py too.
+// crates/lq_model/specs/Steps.antt is its definition; `tools/inside-calls --machine` counts its states by tools/lib/machine.py too.
 #pragma once
 #include <cstdint>
 #include <cstring>

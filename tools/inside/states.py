@@ -1,5 +1,5 @@
-"""How many states the machine of tools/machine.py has within the bounds of a size: the number that the machine of inside/machine.h has to have."""
-import machine
+"""How many states the machine of tools/lib/machine.py has within the bounds of a size: the number that the machine of inside/machine.h has to have."""
+from lib import machine
 
 
 def applies(size):

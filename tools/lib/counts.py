@@ -7,7 +7,7 @@ from lib.packets import seconds
 
 def busy_answers(params, sent):
     """How often the built-in device was busy before it had sent so many packets."""
-    every, limit, busy, calls = params.get("busy_every", 0), params.get("busy_limit", 0), 0, 0
+    every, limit, busy, calls = params.busy_every, params.busy_limit, 0, 0
     while every and calls - busy < sent and (busy < limit or not calls):
         calls += 1
         busy += calls % every == 0 and busy < limit
@@ -40,7 +40,7 @@ def tell_late(run, waits, wanted):
 
 def requeues(run, station):
     """How many packets its busy devices gave back."""
-    params = run.tables + [it for it in run.plan.get("event", []) if it["kind"] == "swap"]
+    params = [*run.tables, *(it for it in run.plan.event if it.kind == "swap")]
     return sum(busy_answers(params[unit], len(run.numbers[unit])) for unit, _ in run.units[station])
 
 
@@ -67,7 +67,7 @@ def wait_words(packets, time, digits):
 
 def tell_waits(waits, station, band):
     """The greatest backlog of a band, and how long the packets waited that were sent."""
-    greatest, of = max(waits.waiting(station, [band]), default=0), waits.of_sent(station, band)
+    greatest, of = waits.greatest(station, [band]), waits.of_sent(station, band)
     middle, most = ((wait_words(*it, waits.digits) for it in ((of.middle, of.middle_time), (of.greatest, of.greatest_time)))) if of else ("", "")
     waited = f"; wait {middle} in the middle, {most} at most" if of else ""
     late = waits.late_of(lambda at, its, queue: (at, its) == (station, band))
@@ -77,8 +77,8 @@ def tell_waits(waits, station, band):
 def tell_station(run, waits, station):
     """The counts of a station, with a line a band, and a line a queue where there are several."""
     of = run.tables[station]
-    units, many = " ".join(str(unit) for unit, _ in run.units[station] if run.numbers[unit]) or "none", of.get("queues", 1)
-    print(f"{name_of(run, station)}: pfifo_fast, 3 bands of {of.get('len', 1000)} slots{f', {many} queues' if many > 1 else ''}; units that sent: {units}")
+    units, many = " ".join(str(unit) for unit, _ in run.units[station] if run.numbers[unit]) or "none", of.queues
+    print(f"{name_of(run, station)}: pfifo_fast, 3 bands of {of.len} slots{f', {many} queues' if many > 1 else ''}; units that sent: {units}")
     tell_counts(run, "", lambda at, band, queue: at == station)
     tell_late(run, waits, lambda at, band, queue: at == station)
     for wanted in range(3):

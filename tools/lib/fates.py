@@ -5,12 +5,13 @@ from array import array
 from collections import Counter
 from itertools import cycle
 
-import one_sender
-import plans
+from lib.alone import Run as RunOfOne, Station
+from lib.places import Places
+from lib.trail import FULL, HANGS, KINDS, SENT, by_serial, joint
 from lib.words import Failed
 
-# the kinds of fates are places in KINDS; the first is that of the packets that weren't dropped
-SENT, FULL, LOST = 0, 1, 2
+# of a tap, whose first two kinds are those of a run
+LOST = 2
 
 
 def fail_of_packet(number, told):
@@ -66,16 +67,16 @@ class Fates:
 class Run(Fates):
     """The fates of a plan's run. `trail` is the run as it was worked out, of one sender alone: it has when each packet left."""
 
-    KINDS, has_units = one_sender.KINDS, True
+    KINDS, has_units = KINDS, True
 
     def __init__(self, plan, capture, text):
         super().__init__(capture, text)
         self.plan = plan
-        self.tables, self.children, self.groups = plans.stations_of(plan), plans.children_of(plan), plans.groups_of(plan)
-        self.stations, self.queues = plans.places_of(plan, capture)
-        self.senders = plans.senders_of(plan, capture)
+        self.tables, self.children, self.groups = plan.tables, plan.children, plan.groups
+        self.placed = places = Places(plan, capture)
+        self.stations, self.queues, self.senders = places.stations, places.queues, places.senders
         self.units = [self.units_of(it) for it in range(len(self.tables))]
-        self.trail = one_sender.run(plan, self.stations, capture.bands, self.queues) if plan.get("senders", 1) == 1 else None
+        self.trail = RunOfOne(places).go().trail if plan.senders == 1 else None
         if self.trail and self.trail.text() == text:
             self.kinds, self.names, self.serials = self.trail.kinds, self.trail.names, self.trail.serials
         else:
@@ -105,17 +106,17 @@ class Run(Fates):
     def units_of(self, station):
         """The units of a station in the order in which they come: its own, and those that swaps bring; each with the packet before which it comes."""
         at, found = len(self.tables), [(station, 0)]
-        for event in self.plan.get("event", []):
-            if event["kind"] == "swap":
-                if station in self.children[event["station"]]:
-                    found.append((at, event["before"]))
+        for event in self.plan.event:
+            if event.kind == "swap":
+                if station in self.children[event.station]:
+                    found.append((at, event.before))
                 at += 1
         return found
 
     def read(self):
         """The fates; ends where one can't be this plan's: another station's unit, an event that it doesn't have, a slot's packet of another band."""
         own = [{str(unit) for unit, _ in units} for units in self.units]
-        of_event = [self.children[it["station"]] for it in self.plan.get("event", [])]
+        of_event = [self.children[it.station] for it in self.plan.event]
         stations, bands, codes = self.stations, self.capture.bands, {kind: code for code, kind in enumerate(self.KINDS)}
         add, name, serial = self.kinds.append, self.names.append, self.serials.append
         number, line = 0, ""
@@ -127,7 +128,7 @@ class Run(Fates):
                     fail_of_packet(number, words[0])
                 code, station = codes[words[1]], stations[number]
                 if code and words[2] == "hung":
-                    words[2] = one_sender.HUNG
+                    words[2] = HANGS
                 add(code)
                 name(int(words[2]))
                 serial(0 if code else int(words[3]))
@@ -138,7 +139,7 @@ class Run(Fates):
                     other = int(words[2])
                     if stations[other] != station or bands[other] != bands[number]:
                         raise Failed(f"packet {number} met packet {other} of another station or band: the fates are of another plan or capture")
-                elif words[2] != one_sender.HUNG and station not in of_event[int(words[2])]:
+                elif words[2] != HANGS and station not in of_event[int(words[2])]:
                     raise Failed(f"packet {number} is {words[1]} by event {words[2]} of another station: the fates are of another plan or capture")
         except (IndexError, KeyError, ValueError, OverflowError):
             raise Failed(f"line {number + 1} of the fates isn't one of this plan: {line!r}")
@@ -158,14 +159,14 @@ class Run(Fates):
         for (station, band, _, code), (count, _) in self.counts.items():
             (full if code == FULL else let_in)[station, band] += count
         for station, band in full:
-            lengths = [it["len"] for it in self.plan.get("event", []) if station in self.children[it["station"]] and "len" in it]
-            least = min([self.tables[station].get("len", 1000), *lengths])
-            if let_in[station, band] < least - one_sender.batch(least):
+            lengths = [it.len for it in self.plan.event if station in self.children[it.station] and it.len]
+            least = min([self.tables[station].len, *lengths])
+            if let_in[station, band] < least - Station.batch(least):
                 raise Failed(f"band {band} of station {station} dropped packets as full that let in {let_in[station, band]}, with rings of {least} slots: the fates are of another plan")
 
     def joint(self, children):
         """The packets that the children of a group sent, as its file has them. A child has one unit, of its own number."""
-        return one_sender.joint([one_sender.by_serial(self.numbers[it], self.serials_of(it)) for it in children])
+        return joint([by_serial(self.numbers[it], self.serials_of(it)) for it in children])
 
     def judge_joint(self, out):
         """Each joint file that is there has just these packets."""
@@ -193,7 +194,7 @@ class Tap(Fates):
         self.numbers = array("I", (n for n, kind in enumerate(self.kinds) if not kind))
         places = array("I", map(self.serials.__getitem__, self.numbers))
         judge_numbers(places, f"{len(places)} packets were read, and their places")
-        self.order = one_sender.by_serial(self.numbers, places)
+        self.order = by_serial(self.numbers, places)
         self.counts = self.counted(self.senders)
         self.judge_order()
         self.judge_ring()
@@ -235,7 +236,7 @@ class Tap(Fates):
             if kind == FULL and (other == number or self.kinds[other] == FULL):
                 raise Failed(f"packet {number} met packet {other}, which wasn't in the ring: the fates are of another run")
         read, full, lost = len(self.order), self.kinds.count(FULL), self.kinds.count(LOST)
-        if full and read + lost < self.len - one_sender.batch(self.len) or lost and read + lost <= self.len:
+        if full and read + lost < self.len - Station.batch(self.len) or lost and read + lost <= self.len:
             raise Failed(f"packets were dropped by a ring of {self.len} slots that {read + lost} came into: the fates are of another run")
         if lost > read:
             raise Failed("more packets were lost than read: the fates are of another run")

@@ -2,9 +2,8 @@
 import struct
 from itertools import repeat
 
-from lib.fates import FULL, SENT
-from lib.packets import NANOSECONDS
-from one_sender import HUNG
+from lib.times import NANOSECONDS
+from lib.trail import FULL, HANGS, SENT
 
 SECTION, INTERFACE, SIMPLE, ENHANCED = 0x0A0D0D0A, 1, 3, 6
 COMMENT, RESOLUTION, FRAME_CHECK = 1, 9, 13
@@ -36,7 +35,7 @@ def comments(run, waits, first):
         elif not has_units:
             words = kinds[kind]
         else:
-            words = kinds[kind] + (b" hung" if name == HUNG else b" %d" % name)
+            words = kinds[kind] + (b" hung" if name == HANGS else b" %d" % name)
         yield b"lqtx: " + words + place + ends[is_late]
 
 

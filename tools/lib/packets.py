@@ -3,14 +3,13 @@ import socket
 import struct
 from array import array
 from itertools import repeat
-from typing import List, NamedTuple, Optional
+from typing import NamedTuple, Optional
+
+from lib.times import SECOND, digits_of, times_of
 
 # in place of a time, which is in nanoseconds, and of a DSCP
 NO_TIME, NO_DSCP = -(2**63), 255
-SECOND = 10**9
-NANOSECONDS = (b"\x4d\x3c\xb2\xa1", b"\xa1\xb2\x3c\x4d")
-ENHANCED, SIMPLE, INTERFACE = 6, 3, 1
-RESOLUTION, OFFSET = 9, 14  # options of an interface
+SIMPLE = 3  # the type of a packet block of pcapng that has no time and is of interface 0
 PROTOCOLS = {1: "icmp", 2: "igmp", 6: "tcp", 17: "udp", 33: "dccp", 47: "gre", 50: "esp", 58: "icmpv6", 89: "ospf", 132: "sctp", 136: "udplite"}
 WITH_PORTS = frozenset((6, 17, 33, 132, 136))
 # bytes 6 and 7 of an IPv4 header that isn't a later fragment, which has no ports
@@ -18,7 +17,8 @@ FIRST = frozenset(bytes([it << 5, 0]) for it in range(8))
 # where the type of what a frame carries stands, by link type: Ethernet, and the two of `tcpdump -i any`
 TYPE_AT = {1: 12, 113: 14, 276: 0}
 # how long the header of a frame is, by link type; those without a type of what they carry have IP alone
-HEADER = {1: 14, 113: 16, 276: 20, 0: 4, 108: 4, 101: 0, 228: 0, 229: 0}
+ETHERNET_HEADER = 14
+HEADER = {1: ETHERNET_HEADER, 113: 16, 276: 20, 0: 4, 108: 4, 101: 0, 228: 0, 229: 0}
 TAGS = (b"\x81\x00", b"\x88\xa8", b"\x91\x00")
 IPV4, IPV6 = b"\x08\x00", b"\x86\xdd"
 # of IPv6: hop by hop, routing, fragment, destination
@@ -41,41 +41,6 @@ def seconds(time, digits):
         return "-" + seconds(-time, digits)
     whole, part = divmod(time, SECOND)
     return f"{whole}.{part:09d}" if digits == 9 else f"{whole}.{part // 1000:06d}"
-
-
-def options_of(data, order, at, end):
-    """The options of a block between two places: the number of each and its value."""
-    while at + 4 <= end:
-        number, length = struct.unpack_from(order + "HH", data, at)
-        if number == 0 or at + 4 + length > end:
-            return
-        yield number, bytes(data[at + 4 : at + 4 + length])
-        at += 4 + length + -length % 4
-
-
-class Clock(NamedTuple):
-    """How an interface tells time: ticks a second, whether that is a power of 2, and the seconds to be added."""
-
-    ticks: int = 10**6
-    offset: int = 0
-
-    def nanoseconds(self, ticks):
-        found = ticks * SECOND // self.ticks + self.offset * SECOND
-        return found if -(2**63) < found < 2**63 else NO_TIME
-
-
-def clocks_of(capture):
-    """The clock of each interface of a pcapng capture."""
-    found = []
-    for head in capture.head[1:]:
-        ticks, offset = 10**6, 0
-        for number, value in options_of(head, capture.order, 16, len(head) - 4):
-            if number == RESOLUTION and value:
-                ticks = 2 ** (value[0] & 127) if value[0] & 128 else 10 ** value[0]
-            elif number == OFFSET and len(value) == 8:
-                offset = struct.unpack(capture.order + "q", value)[0]
-        found.append(Clock(ticks, offset))
-    return found
 
 
 def header_of_frame(data, link, at, until):
@@ -120,44 +85,33 @@ def flow_of_ipv6(data, head, until):
 
 
 class Packets:
-    """Of each packet of a capture its time in nanoseconds, its DSCP, and the number of its flow; and how many digits of a second times have."""
+    """Of each packet of a capture its time in nanoseconds, its link type, and where its frame stands and how long that is; and how many digits of a second times have."""
 
     def __init__(self, capture):
-        self.capture = capture
-        self.times, self.digits = array("q"), 6
+        self.capture, self.digits = capture, digits_of(capture)
+        self.times = array("q", (NO_TIME if it is None or not -(2**63) <= it < 2**63 else it for it in times_of(capture)))
         self.frames, self.captured, self.links = array("Q"), array("I"), repeat(capture.links[0] if capture.links else 0)
         if capture.is_pcapng():
             self.read_blocks()
         else:
-            self.read_records()
-
-    def read_records(self):
-        capture, unpack = self.capture, struct.Struct(self.capture.order + "III").unpack_from
-        nanoseconds = bytes(capture.data[:4]) in NANOSECONDS
-        self.digits, scale = (9, 1) if nanoseconds else (6, 1000)
-        data, time, captured = capture.data, self.times.append, self.captured.append
-        for at in capture.starts:
-            seconds, part, length = unpack(data, at)
-            time(seconds * SECOND + part * scale)
-            captured(length)
-        self.frames = array("Q", (at + 16 for at in capture.starts))
+            unpack = struct.Struct(capture.order + "8xI").unpack_from
+            self.frames = array("Q", (at + 16 for at in capture.starts))
+            self.captured = array("I", (unpack(capture.data, at)[0] for at in capture.starts))
 
     def read_blocks(self):
-        capture, data = self.capture, self.capture.data
-        clocks, links = clocks_of(capture), []
-        self.digits = 9 if any(10**6 % it.ticks for it in clocks) else 6
-        unpack, simple = struct.Struct(capture.order + "I4xIIII").unpack_from, struct.Struct(capture.order + "I").unpack_from
-        for at, end in zip(capture.starts, capture.ends):
+        capture, data, links = self.capture, self.capture.data, []
+        unpack, simple = struct.Struct(capture.order + "I8xI").unpack_from, struct.Struct(capture.order + "I").unpack_from
+        cut = simple(capture.head[1], 12)[0] if len(capture.head) > 1 else 0
+        for at in capture.starts:
             if simple(data, at)[0] == SIMPLE:
-                self.times.append(NO_TIME)
+                length = simple(data, at + 8)[0]
                 self.frames.append(at + 12)
-                self.captured.append(min(simple(data, at + 8)[0], end - 4 - (at + 12)))
+                self.captured.append(min(length, cut) if cut else length)
                 links.append(capture.links[0] if capture.links else 0)
                 continue
-            _, interface, high, low, length = unpack(data, at)
-            self.times.append(clocks[interface].nanoseconds(high << 32 | low))
+            interface, captured = unpack(data, at + 8)
             self.frames.append(at + 28)
-            self.captured.append(length)
+            self.captured.append(captured)
             links.append(capture.links[interface])
         self.links = links
 

@@ -25,7 +25,9 @@ function seconds(nanoseconds) {
   const whole = Math.floor(all / 1e9), rest = Math.floor((all - whole * 1e9) / (digits === 9 ? 1 : 1000));
   return `${sign}${whole}.${String(rest).padStart(digits, "0")}`;
 }
-const waitedTime = (n) => known ? c.time[n + c.waited[n]] - c.time[n] : NaN;
+// where queues are opened by time, a packet waited until its queue was opened, and else until the last packet came that came meanwhile
+const waitedTime = (n) => !known ? NaN : c.wait ? c.wait[n] : c.time[n + c.waited[n]] - c.time[n];
+const didWait = (n) => c.gone[n] !== 2 * n + 1 || Boolean(c.wait && c.wait[n] > 0);
 function named(n) {
   const kind = c.fate[n], name = c.names[n];
   if (kind === SENT) return "";
@@ -205,8 +207,9 @@ function sentWay(n, lines) {
 function waitWay(n) {
   const time = seconds(waitedTime(n)), came = `${packets(c.waited[n])} came meanwhile${time ? `, in ${time} s` : ""}`;
   if (c.late[n]) return `It waited until the capture ended: ${came}. It left after the last packet, when queues are opened until nothing is held.`;
-  if (c.gone[n] === 2 * n + 1) return "It didn't wait.";
+  if (!didWait(n)) return "It didn't wait.";
   const last = n + c.waited[n];
+  if (c.wait && c.gone[n] % 2) return `It waited: ${came}. It left once packet ${link(last)} had come, when its queue was opened.`;
   return `It waited: ${came}. It left ${c.gone[n] % 2 ? `when packet ${link(last)} had come` : `before packet ${link(last + 1)} came`}.`;
 }
 function way(n) {
@@ -229,6 +232,15 @@ function way(n) {
   $("way").innerHTML = `<h3>Packet ${n + FIRST}: ${kind} ${named(n)}</h3><ol>${lines.map((it) => `<li>${it}</li>`).join("")}</ol>`;
 }
 
+// where a packet is in the pictures, from 0 to 1, and the packet that is there: by number, or by the time of the capture
+const span = c.moment ? Math.max(c.moment.reduce((a, b) => Math.max(a, b), 0), 1) : COUNT;
+const across = (n) => (c.moment ? c.moment[n] : n + 0.5) / span;
+function packetAt(at) {
+  if (!c.moment) return Math.min(Math.max(Math.floor(at * COUNT), 0), COUNT - 1);
+  let nearest = 0;
+  for (let n = 0; n < COUNT; n++) if (Math.abs(across(n) - at) < Math.abs(across(nearest) - at)) nearest = n;
+  return nearest;
+}
 function mark(n) {
   for (const picture of document.querySelectorAll("figure svg")) {
     let line = picture.querySelector(".mark");
@@ -237,7 +249,7 @@ function mark(n) {
       line.setAttribute("class", "mark");
       picture.append(line);
     }
-    const x = about.left + about.width * (n + 0.5) / COUNT;
+    const x = about.left + about.width * across(n);
     for (const [name, value] of [["x1", x], ["x2", x], ["y1", 64], ["y2", picture.viewBox.baseVal.height - 18]]) line.setAttribute(name, value);
   }
 }
@@ -306,7 +318,7 @@ function begin() {
   $("way").addEventListener("click", (event) => { const to = event.target.closest("a"); if (to) { event.preventDefault(); choose(Number(to.dataset.packet)); } });
   for (const picture of document.querySelectorAll("figure svg")) picture.addEventListener("click", (event) => {
     const box = picture.getBoundingClientRect(), x = (event.clientX - box.left) / box.width * picture.viewBox.baseVal.width;
-    choose(Math.min(Math.max(Math.floor((x - about.left) / about.width * COUNT), 0), COUNT - 1));
+    choose(packetAt((x - about.left) / about.width));
   });
   addEventListener("hashchange", fromHash);
   refresh();

@@ -41,9 +41,14 @@ def columns_of(shown):
     }  # fmt: skip
     for name, values in zip(("station", "queue", "band"), places):
         found[name] = packed(bytes([UNKNOWN]) * count if values is None else values)
+    if run.has_units and run.plan.irq_us is not None:
+        first = min(run.placed.times, default=0)
+        found["moment"] = packed([it - first for it in run.placed.times], "f64")
     if waits:
         found["gone"] = packed(waits.left, "u32")
         found["waited"] = packed([(left + 1) // 2 - 1 - n for n, left in enumerate(waits.left)])
+        if waits.by_time:
+            found["wait"] = packed([nan if it is None else it for it in map(waits.time, range(count))], "f64")
         found["late"] = packed([left == waits.end for left in waits.left])
     return found, start
 
@@ -52,7 +57,7 @@ def data_of(shown, first):
     """All that the page knows, as JSON that may stand in a page."""
     run = shown.run
     columns, start = columns_of(shown)
-    events = [pictures.event_words(number, it, first) for number, it in enumerate(run.plan.get("event", []))] if run.has_units else []
+    events = [pictures.event_words(number, it, first) for number, it in enumerate(run.plan.event)] if run.has_units else []
     about = {
         "count": len(run.capture), "first": first, "kinds": run.KINDS, "colours": pictures.DROP_COLOURS, "units": run.has_units,
         "many_units": run.has_units and len(run.numbers) > 1, "waits": bool(shown.waits), "digits": shown.packets.digits, "start": str(start),
@@ -78,7 +83,7 @@ def classes_of(run):
         yield name_of(run, station), True, lambda its, band, queue, station=station: its == station, None
         for wanted in range(3):
             yield f"band {wanted}", False, lambda its, band, queue, station=station, wanted=wanted: (its, band) == (station, wanted), (station, wanted)
-        for wanted in range(table.get("queues", 1)) if table.get("queues", 1) > 1 else []:
+        for wanted in range(table.queues) if table.queues > 1 else []:
             yield f"queue {wanted}", False, lambda its, band, queue, station=station, wanted=wanted: (its, queue) == (station, wanted), None
 
 
@@ -96,7 +101,7 @@ def counts_table(shown):
         if waits and band:
             of = waits.of_sent(*band)
             times = [seconds(it, waits.digits) if it is not None else "" for it in (of.middle_time, of.greatest_time)] if of else ["", ""]
-            cells += [max(waits.waiting(band[0], [band[1]]), default=0), *([of.middle, of.greatest] if of else ["", ""]), *times]
+            cells += [waits.greatest(band[0], [band[1]]), *([of.middle, of.greatest] if of else ["", ""]), *times]
         elif waits:
             cells += [""] * 5
         yield f'<tr{" class=whole" if is_whole else ""}>' + "".join(f"<td>{it}</td>" for it in cells) + "</tr>"
@@ -113,6 +118,8 @@ def about_of(shown):
     late = len(shown.waits.late)
     sent = run.of_kinds()[0]["sent"]
     after = f"{sent - late} packets were sent while packets came, and {late} after the last packet, when queues are opened until nothing is held. " if late else ""
+    if shown.waits.by_time:
+        return after + "A wait is how many packets came while one waited, and how long it was until the opening of its queue at which it left."
     return after + "A wait is how many packets came while one waited, and how much later in the capture the last of them came."
 
 

@@ -19,6 +19,7 @@ WIDTH, HEIGHT, LEFT, TITLE, ROW, FOOT = 700, 180, 100, 20, 13, 34
 AFTER = 78
 # a capture of so many packets is drawn with a dot for each; of a longer one packets share dots, which are so far apart, and so many in all
 FEW, APART, DOTS = 20000, 3, 60000
+SECOND = 10**9
 
 Class = Tuple[str, str]  # of packets: its name and its colour
 
@@ -51,6 +52,60 @@ class Panel:
         return TITLE + HEIGHT + ROW * len(list(self.rows(run))) + FOOT
 
 
+# WHAT IS TO THE RIGHT
+
+
+class ByNumber:
+    """Packets by their numbers."""
+
+    words = "packet number to the right"
+
+    def __init__(self, count, first):
+        self.count, self.first, self.whole = count, first, max(count, 1)
+
+    def cells(self, numbers, across):
+        """Which cell each packet is in, where a cell has so many packets; there are `whole` packets."""
+        return map(floordiv, numbers, repeat(across))
+
+    def begin(self, n):
+        """Where a packet begins, from 0 to 1; the end where it is behind all."""
+        return min(n / self.whole, 1)
+
+    def marks(self):
+        """The ticks: where, and what stands there."""
+        return [((it - self.first + 0.5) / self.whole, it) for it in ticks(self.first, self.first + self.count - 1, 10)]
+
+
+class ByTime:
+    """Packets by their times, in a plan that opens queues by time."""
+
+    words = "seconds after the first packet to the right"
+
+    def __init__(self, times, first):
+        self.first, self.start = first, min(times, default=0)
+        self.span = max(max(times, default=0) - self.start, 1)
+        self.times, self.whole = times, 2 * WIDTH
+
+    def cells(self, numbers, across):
+        """The same in half pixels; several packets may be in each."""
+        many = self.whole // across
+        return (min(int(self.at(self.times[n]) * many), many - 1) for n in numbers)
+
+    def at(self, time):
+        return (time - self.start) / self.span
+
+    def begin(self, n):
+        return self.at(self.times[n]) if n < len(self.times) else 1
+
+    def marks(self):
+        return [(it / self.span, f"{it / SECOND:.9f}".rstrip("0").rstrip(".")) for it in ticks(0, self.span, 10)]
+
+
+def axis_of(run, first):
+    by_time = run.has_units and run.plan.irq_us is not None
+    return ByTime(run.placed.times, first) if by_time else ByNumber(len(run.capture), first)
+
+
 # PARTS
 
 
@@ -63,10 +118,10 @@ def axes(top, most, said, wide=WIDTH):
     yield text(14, top + HEIGHT / 2, said, "middle", f' transform="rotate(-90 14 {top + HEIGHT / 2:.0f})"')
 
 
-def numbers_below(y, count, first):
-    for it in ticks(first, first + count - 1, 10):
-        x = LEFT + WIDTH * (it - first + 0.5) / max(count, 1)
-        yield line(x, y, x, y + 4, 'stroke="#888"') + text(x, y + 16, it, "middle")
+def marks_below(y, axis):
+    for at, said in axis.marks():
+        x = LEFT + WIDTH * at
+        yield line(x, y, x, y + 4, 'stroke="#888"') + text(x, y + 16, said, "middle")
 
 
 def mixed(points):
@@ -80,16 +135,16 @@ def mixed(points):
         yield x, y, of
 
 
-def points_of(panel, count, room):
+def points_of(panel, axis, count, room):
     """The dots of a panel as place, value and class, from 0 to 1; where packets share dots, one for each spot, and no more than there is room for."""
-    across, up = (1, 1) if count <= FEW else (-(-count * APART // WIDTH), max(1, -(-panel.most * APART // HEIGHT)))
+    across, up = (1, 1) if count <= FEW else (-(-axis.whole * APART // WIDTH), max(1, -(-panel.most * APART // HEIGHT)))
     classes = map(panel.classes.__getitem__, panel.numbers)
-    points = set(zip(map(floordiv, panel.numbers, repeat(across)), map(floordiv, panel.values, repeat(up)), classes))
+    points = set(zip(axis.cells(panel.numbers, across), map(floordiv, panel.values, repeat(up)), classes))
     points = points if count <= FEW else set(mixed(points))
     while len(points) > room:
         points = set(mixed({(x // 2, y // 2, of) for x, y, of in points}))
         across, up = 2 * across, 2 * up
-    return [((x + 0.5) * across / max(count, 1), (y + 0.5) * up / max(panel.most, 1), of) for x, y, of in points]
+    return [((x + 0.5) * across / axis.whole, (y + 0.5) * up / max(panel.most, 1), of) for x, y, of in points]
 
 
 def dots(points, top, wanted, colour):
@@ -99,23 +154,22 @@ def dots(points, top, wanted, colour):
     return f'<path d="{path}" stroke="{colour}" stroke-width="3" stroke-linecap="round" fill="none"/>' if path else ""
 
 
-def rows_below(run, panel, top):
+def rows_below(run, panel, axis, top):
     """What was dropped while the unit was there: a row for each kind and class."""
-    count = len(run.capture)
-    across = 1 if count <= FEW else max(1, count // WIDTH)
+    across = 1 if len(run.capture) <= FEW else max(1, axis.whole // WIDTH)
     for row, (kind, name, numbers) in enumerate(panel.rows(run)):
         y = top + ROW * row + ROW
-        places = sorted({number // across for number in numbers})
-        path = "".join(f"M{LEFT + round(2 * WIDTH * (x + 0.5) * across / count) / 2:g},{y - 4}v7" for x in places)
+        places = sorted(set(axis.cells(numbers, across)))
+        path = "".join(f"M{LEFT + round(2 * WIDTH * (x + 0.5) * across / axis.whole) / 2:g},{y - 4}v7" for x in places)
         yield text(LEFT - 7, y + 3, f"{kind}, {name}", "end")
         yield f'<path class="{kind}" d="{path}" stroke="{DROP_COLOURS[kind]}" stroke-width="1" fill="none"/>'
 
 
-def events_above(panel, top, count):
+def events_above(panel, axis, top):
     """A line for each event, with its kind where there is room for it."""
     free = 0
     for before, kind, whole_of_it in panel.events:
-        x = LEFT + WIDTH * min(before / max(count, 1), 1)
+        x = LEFT + WIDTH * axis.begin(before)
         yield line(x, top, x, top + HEIGHT, 'class="event" stroke="#009e73" stroke-dasharray="2 2"').replace("/>", f"><title>{whole_of_it}</title></line>")
         if x >= free:
             end = x + 6 * len(kind) + 8
@@ -132,21 +186,21 @@ def late_mark(panel, top):
     yield text(LEFT + 6, y - 5 if y > top + 16 else y + 13, f"above: sent after the last packet ({panel.late})", more=' class="latewords" fill="#a06000"')
 
 
-def draw_panel(run, panel, top, first, room):
+def draw_panel(run, panel, axis, top, room):
     """A panel below its title."""
-    count, top = len(run.capture), top + TITLE
+    top += TITLE
     yield text(LEFT, top - 6, panel.title)
     if panel.late:
         yield from late_mark(panel, top)
     if panel.since:
-        yield f'<rect class="before" x="{LEFT}" y="{top}" width="{WIDTH * panel.since / max(count, 1):.1f}" height="{HEIGHT}" fill="#f0f0f0"/>'
+        yield f'<rect class="before" x="{LEFT}" y="{top}" width="{WIDTH * axis.begin(panel.since):.1f}" height="{HEIGHT}" fill="#f0f0f0"/>'
     yield from axes(top, panel.most, panel.said)
-    yield from events_above(panel, top, count)
-    points = points_of(panel, count, room) if panel.most else []
+    yield from events_above(panel, axis, top)
+    points = points_of(panel, axis, len(run.capture), room) if panel.most else []
     for of, (_, colour) in panel.names.items():
         yield dots(points, top, of, colour)
-    yield from rows_below(run, panel, top + HEIGHT)
-    yield from numbers_below(top + panel.tall(run) - TITLE - FOOT, count, first)
+    yield from rows_below(run, panel, axis, top + HEIGHT)
+    yield from marks_below(top + panel.tall(run) - TITLE - FOOT, axis)
 
 
 # WHAT IS DRAWN
@@ -156,15 +210,15 @@ BANDS = {band: (f"band {band}", colour) for band, colour in enumerate(BAND_COLOU
 
 
 def event_words(number, event, first):
-    length = f" to {event['len']} slots" if "len" in event else ""
-    return f"event {number}: {event['kind']}{length}, before packet {event['before'] + first}"
+    length = f" to {event.len} slots" if event.len else ""
+    return f"event {number}: {event.kind}{length}, before packet {event.before + first}"
 
 
 def events_of(run, station, since, until, first):
     """The events of a station while a unit was there."""
-    for number, event in enumerate(run.plan.get("event", [])):
-        if station in run.children[event["station"]] and since <= event["before"] <= until:
-            yield event["before"], event["kind"], event_words(number, event, first)
+    for number, event in enumerate(run.plan.event):
+        if station in run.children[event.station] and since <= event.before <= until:
+            yield event.before, event.kind, event_words(number, event, first)
 
 
 def unit_panels(run, waits, station, dropped, first):
@@ -212,14 +266,14 @@ def title_of(run, waits, of):
     return f"{of}: {len(run.capture)} packets, {run.KINDS[0]} {packets[run.KINDS[0]]}{after}" + (f", {lost}" if lost else "")
 
 
-def heads(run, waits, of, names, more=""):
+def heads(run, waits, of, names, axis, more=""):
     """What stands above the first panel, and how tall it is."""
     titles = textwrap.wrap(title_of(run, waits, of), 115)
     for row, title in enumerate(titles):
         yield text(16, 18 + 15 * row, title, more=' font-weight="bold"')
     y = 21 + 15 * len(titles)
     yield from legend(y, names)
-    yield text(LEFT + WIDTH, y, "packet number to the right" + more, "end")
+    yield text(LEFT + WIDTH, y, axis.words + more, "end")
     yield y + 8
 
 
@@ -232,9 +286,10 @@ def kinds_of(run):
 def drawn(run, waits, of, names, panels, first):
     """The picture of some panels."""
     panels, more = list(panels), "; packets that share a dot: their colours alternate" if len(run.capture) > FEW else ""
-    *lines, top = heads(run, waits, of, [*names, *kinds_of(run)], more)
+    axis = axis_of(run, first)
+    *lines, top = heads(run, waits, of, [*names, *kinds_of(run)], axis, more)
     for panel in panels:
-        lines += draw_panel(run, panel, top, first, DOTS // len(panels))
+        lines += draw_panel(run, panel, axis, top, DOTS // len(panels))
         if panel.names is not BANDS:
             lines += legend(top + TITLE - 6, panel.names.values(), LEFT + WIDTH - sum(26 + 6 * len(name) for name, _ in panel.names.values()))
         top += panel.tall(run)
@@ -265,7 +320,33 @@ def curve(waiting, most, top, colour):
         path += [f"{x:g},{up(low)}"] * (low != high) + [f"{x:g},{up(high)}"]
     yield f'<path d="M{"L".join(path)}" fill="none" stroke="{colour}" stroke-width="1.3"/>' if path else ""
     if path and waiting[-1]:
-        yield line(LEFT + WIDTH, float(up(waiting[-1])), LEFT + WIDTH + AFTER, float(up(0)), f'stroke="{colour}" stroke-width="1.3" stroke-dasharray="2 3"')
+        yield from tail(waiting[-1], most, top, colour)
+
+
+def curve_by_time(changes, axis, most, top, colour):
+    """How many packets wait, over time: in each column of half a pixel from the fewest to the most, and from column to column what waits between."""
+    up = lambda it: f"{top + HEIGHT - (HEIGHT - 8) * it / most:.1f}"  # noqa: E731
+    waiting, columns = 0, {}
+    for time, change in changes:
+        column = min(round(axis.at(time) * axis.whole), axis.whole)
+        columns.setdefault(column, [waiting]).append(waiting + change)
+        waiting += change
+    columns.setdefault(0, [0])
+    columns.setdefault(axis.whole, [waiting])
+    path = []
+    for column, levels in sorted(columns.items()):
+        low, high, last = min(levels), max(levels), levels[-1]
+        points = [levels[0], *((high, low) if last - low < high - last else (low, high)), last]
+        path += [f"{LEFT + column / 2:g},{up(it)}" for place, it in enumerate(points) if not place or it != points[place - 1]]
+    yield f'<path d="M{"L".join(path)}" fill="none" stroke="{colour}" stroke-width="1.3"/>'
+    if waiting:
+        yield from tail(waiting, most, top, colour)
+
+
+def tail(waiting, most, top, colour):
+    """What waits after the last packet, which goes."""
+    y = top + HEIGHT - (HEIGHT - 8) * waiting / most
+    yield line(LEFT + WIDTH, y, LEFT + WIDTH + AFTER, top + HEIGHT, f'stroke="{colour}" stroke-width="1.3" stroke-dasharray="2 3"')
 
 
 def after_the_last(top, late):
@@ -277,32 +358,33 @@ def after_the_last(top, late):
         yield text(x + AFTER / 2, top + 14 + 13 * row, words, "middle", ' class="latewords" fill="#a06000"')
 
 
-def backlog_panel(run, top, title, curves, late, first):
-    """A line for each of these, each with its colour."""
-    most, top = max([1, *(max(it, default=0) for it, _ in curves)]), top + TITLE
+def backlog_panel(waits, axis, top, title, curves, late):
+    """A line for each of these stations and bands, each with its colour."""
+    most, top = max([1, *(waits.greatest(*of) for of, _ in curves)]), top + TITLE
     yield text(LEFT, top - 6, title)
     if late:
         yield from after_the_last(top, late)
     yield from axes(top, most, "waiting")
-    for waiting, colour in curves:
-        yield from curve(waiting, most, top, colour)
-    yield from numbers_below(top + HEIGHT, len(run.capture), first)
+    for of, colour in curves:
+        yield from curve_by_time(waits.changes(*of), axis, most, top, colour) if waits.by_time else curve(waits.waiting(*of), most, top, colour)
+    yield from marks_below(top + HEIGHT, axis)
 
 
 def backlog(run, waits, of, first):
-    """How many packets of each band wait, and of each queue of a group, over packet numbers."""
-    *lines, top = heads(run, waits, of, BANDS.values())
+    """How many packets of each band wait, and of each queue of a group, over packet numbers or over time."""
+    axis = axis_of(run, first)
+    *lines, top = heads(run, waits, of, BANDS.values(), axis)
     for station in range(len(run.tables)):
         for at, children in run.groups:
             if station == children[0]:
                 names = [(f"queue {it}", colour) for it, colour in zip(range(len(children)), EIGHT_COLOURS)]
                 lines += legend(top + TITLE - 6, names, LEFT + WIDTH - sum(26 + 6 * len(name) for name, _ in names))
-                curves = [(waits.waiting(child), colour) for child, colour in zip(children, EIGHT_COLOURS)]
+                curves = [((child,), colour) for child, colour in zip(children, EIGHT_COLOURS)]
                 late = waits.late_of(lambda it, band, queue: it in children)
-                lines += backlog_panel(run, top, f"mq {at}: packets that wait in each queue", curves, late, first)
+                lines += backlog_panel(waits, axis, top, f"mq {at}: packets that wait in each queue", curves, late)
                 top += TITLE + HEIGHT + FOOT
         late = waits.late_of(lambda it, band, queue: it == station)
-        curves = [(waits.waiting(station, [band]), colour) for band, colour in enumerate(BAND_COLOURS)]
-        lines += backlog_panel(run, top, f"{name_of(run, station)}: packets that wait in each band", curves, late, first)
+        curves = [((station, [band]), colour) for band, colour in enumerate(BAND_COLOURS)]
+        lines += backlog_panel(waits, axis, top, f"{name_of(run, station)}: packets that wait in each band", curves, late)
         top += TITLE + HEIGHT + FOOT
     return whole(LEFT + WIDTH + AFTER + 24, top, lines)

@@ -2,9 +2,8 @@
 import json
 from itertools import islice, repeat
 
-from lib.fates import FULL, SENT
 from lib.packets import NO_DSCP, NO_TIME, seconds
-from one_sender import HUNG
+from lib.trail import FULL, HANGS, SENT
 
 # what is said of a packet, in parts that are made together
 FIRST = ["number", "time", "length"]
@@ -85,7 +84,7 @@ def fates_of(run, form, first):
         elif kind == FULL:
             yield words[FULL], name + first, none, none
         else:
-            yield words[kind], none if is_tap else hung if name == HUNG else name, none, none
+            yield words[kind], none if is_tap else hung if name == HANGS else name, none, none
 
 
 def waits_of(run, waits, form, digits):
@@ -94,14 +93,13 @@ def waits_of(run, waits, form, digits):
     if not waits:
         yield from (unknown for _ in run.kinds)
         return
-    template, late, times, end = form.template(WAIT), [form.value(it) for it in (False, True)], waits.times, waits.end
-    for n, left in enumerate(waits.left):
-        if left == 2 * n + 1:
+    template, late, end = form.template(WAIT), [form.value(it) for it in (False, True)], waits.end
+    for n, (left, opening) in enumerate(zip(waits.left, waits.trail.openings)):
+        if left == 2 * n + 1 and not opening:
             yield at_once
             continue
-        many = waits.packets(n)
-        first, last = times[n], times[n + many]
-        yield template % (many, form.none if NO_TIME in (first, last) else seconds(last - first, digits), late[left == end])
+        time = waits.time(n)
+        yield template % (waits.packets(n), form.none if time is None else seconds(time, digits), late[left == end])
 
 
 def rows(run, waits, packets, flows, form, first):

@@ -1,10 +1,10 @@
 """When the packets of one sender's run left: how long each waited, how many wait at once, and which are sent only after the last packet."""
 from array import array
-from itertools import accumulate, count
+from itertools import accumulate
 from typing import NamedTuple, Optional
 
-from lib.fates import SENT
 from lib.packets import NO_TIME
+from lib.trail import SENT
 
 
 class Waited(NamedTuple):
@@ -20,14 +20,14 @@ class Waits:
     """The waits of a run that was worked out."""
 
     def __init__(self, run, packets):
-        self.run, self.left, self.end = run, run.trail.left, run.trail.end
-        self.times, self.digits = packets.times, packets.digits
+        self.run, self.trail, self.left, self.end = run, run.trail, run.trail.left, run.trail.end
+        self.by_time = run.plan.irq_us is not None
+        self.times, self.digits = run.placed.times if self.by_time else packets.times, packets.digits
         self.waiting_of, self.sent_of = {}, {}
         # the packets that didn't leave when they came, by station and band
         self.held = {(station, band): array("I") for station in range(len(run.tables)) for band in range(3)}
-        for n, (left, came) in enumerate(zip(self.left, count(1, 2))):
-            if left != came:
-                self.held[run.stations[n], run.capture.bands[n]].append(n)
+        for n in filter(self.trail.waited, range(len(self.left))):
+            self.held[run.stations[n], run.capture.bands[n]].append(n)
         # those that were sent only when nothing came any more, and queues were opened until nothing was held
         self.late = sorted(n for held in self.held.values() for n in held if run.kinds[n] == SENT and self.is_late(n))
 
@@ -40,9 +40,14 @@ class Waits:
         return (self.left[n] + 1) // 2 - 1 - n
 
     def time(self, n):
-        """How much later than a packet the last one came that came while it waited; None where the capture has no times."""
-        first, last = self.times[n], self.times[n + self.packets(n)]
+        """How long a packet waited; None where the capture has no times. Where queues aren't opened by time, until the last packet came that came while it waited."""
+        first, last = self.times[n], self.time_left(n)
         return None if NO_TIME in (first, last) else last - first
+
+    def time_left(self, n):
+        """When a packet left: at an opening of its queue, or with the packet that came last."""
+        opening, last = self.trail.openings[n], n + self.packets(n)
+        return self.run.placed.time_of_opening(last, opening) if opening else self.times[last]
 
     def late_of(self, wanted):
         """How many packets were sent after the last packet, of those whose station, band and queue are wanted."""
@@ -64,6 +69,20 @@ class Waits:
                     changes[self.left[n] // 2] -= 1
             self.waiting_of[key] = array("I", accumulate(changes[:-1]))
         return self.waiting_of[key]
+
+    def changes(self, station, bands=(0, 1, 2)):
+        """When packets of these bands of a station begin to wait and cease to, and how many more wait then, in order; of a plan that opens queues by time."""
+        found = []
+        for n in (n for band in bands for n in self.held[station, band]):
+            found.append((2 * n + 1, 0, self.times[n], 1))
+            if not self.is_late(n):
+                found.append((self.left[n], self.trail.openings[n], self.time_left(n), -1))
+        return [it[2:] for it in sorted(found)]
+
+    def greatest(self, station, bands=(0, 1, 2)):
+        """The most packets of these bands that wait at once."""
+        waiting = accumulate(it for _, it in self.changes(station, bands)) if self.by_time else self.waiting(station, bands)
+        return max(waiting, default=0)
 
     def of_sent(self, station, band):
         """How long the packets waited that were sent of a band; None where there are none."""

@@ -2,137 +2,122 @@
 import re
 from collections import namedtuple
 
-from linux.plans import firsts, frame_sent
-from linux.rules import ENDLESS, Device, Linux, Station
+from lib import alone
+from lib.places import steps_of
+from lib.plans import PARAMS
+from lib.trail import FULL, REFUSED
 
-EXPECTED_ERRORS = {"full": 105, "refused": 100}
+# what a sender is answered of a packet, by the kind of its fate
+EXPECTED_ERRORS = {FULL: 105, REFUSED: 100}
 WORDS = namedtuple("WORDS", "device place state lock stops requeued other_queue accepted dropped softirqs bands")
 
 
-def steps_of(plan, packets):
-    """What the one sender does, in order; a packet's number stands beside `send`, an event's beside `event`."""
-    waiting = list(enumerate(plan.events))
-    for n in range(len(packets)):
-        while waiting and waiting[0][1].before <= n:
-            yield "event", waiting.pop(0)[0]
-        yield "send", n
-        if (n + 1) % plan.irq_every == 0:
-            yield "wake", n // plan.irq_every % 2
-    for e, _ in waiting:
-        yield "event", e
+def params_of(it):
+    return " ".join(str(getattr(it, key.name)) for key in PARAMS)
 
 
 def new_line(plan, j, room):
-    it = plan.stations[j]
+    it = plan.station[j]
     queues, shared = max(it.queues, it.mq), int(it.mq == 1)
-    return f"new {j} {it.length} {queues} {shared} {max(room, 1)} {' '.join(map(str, it.params))} {int(it.bypass)}"
+    return f"new {j} {it.len} {queues} {shared} {max(room, 1)} {params_of(it)} {int(it.bypass)}"
 
 
 def event_line(event):
     if event.kind == "swap":
-        return f"swap {event.station} {' '.join(map(str, event.params))}"
-    return f"{event.kind} {event.station}" + (f" {event.length}" if event.length else "")
+        return f"swap {event.station} {params_of(event)}"
+    return f"{event.kind} {event.station}" + (f" {event.len}" if event.len else "")
 
 
-def send_line(n, packet, device, first, frame):
+def send_line(n, packets):
     """A packet's mark has its queue in the upper byte."""
-    queue = packet.queue + packet.station - first[device]
-    return f"send {n | queue << 24} {device} {packet.priority} {frame_sent(*frame).hex()}"
+    device, child = packets.device(n)
+    return f"send {n | packets.queues[n] + child << 24} {device} {packets.priorities[n]} {packets.frames[n].hex()}"
 
 
-def device_of(station, first):
-    """The device of a station, which is a child of a plan's station."""
-    return next(j for j in range(len(first) - 1) if station < first[j + 1])
-
-
-def case_of(name, plan, packets, frames):
+def case_of(name, packets):
     """The lines of a case."""
-    first = firsts(plan)
+    plan = packets.plan
     yield f"case {name}"
-    for j in range(len(plan.stations)):
+    for j in range(len(plan.station)):
         yield new_line(plan, j, len(packets))
-    for what, number in steps_of(plan, packets):
+    for what, number in steps_of(packets):
         if what == "send":
-            yield send_line(number, packets[number], device_of(packets[number].station, first), first, frames[number])
+            yield send_line(number, packets)
         elif what == "wake":
-            yield f"wake {number}"
+            yield f"wake {number % 2}"
         else:
-            yield event_line(plan.events[number])
+            yield event_line(plan.event[number])
     yield f"finish {len(packets) + 2}"
     yield "end"
 
 
-class Run:
-    """The run of a plan by the rules, and the guest's answers that they let one expect."""
+# WHAT THE RULES EXPECT
 
-    def __init__(self, plan, packets, linux=Linux(), station=Station, endless=ENDLESS):
-        self.plan, self.packets, self.first = plan, packets, firsts(plan)
-        self.fates, self.steps = {}, []
-        self.devices, self.next_unit = [], self.first[-1]
-        for j, it in enumerate(plan.stations):
-            stations = [station(it.length, it.queues, it.bypass, c, it.params, packets, self.fates, linux)
-                        for c in range(self.first[j], self.first[j + 1])]
-            self.devices.append(Device(j, stations, endless))
-        for it in self.devices:
-            self.tell(0, it.words(True))
-        for what, number in steps_of(plan, packets):
-            self.step(what, number)
-        self.finish()
+
+def ring_words(ring, marks):
+    words = f"{ring.producer},{ring.head},{ring.tail},{ring.size},{ring.batch},{ring.held},{ring.total % 2**64:x}"
+    return words + (":" + ",".join(map(str, ring.entries())) if marks and ring.held else "")
+
+
+def device_words(number, device, marks):
+    """A line for each station of a device; with `marks` the packets of its rings too."""
+    dropped = sum(it.dropped for it in device.stations)
+    for place, it in enumerate(device.stations):
+        stops = "".join(map(str, it.stops))
+        lists = " ".join(",".join(map(str, waiting)) or "-" for waiting in (it.requeued, it.other_queue))
+        rings = " ".join(ring_words(ring, marks) for ring in it.rings)
+        yield f"W {number} {place} {it.state} 0 {stops} {lists} {len(it.accepted)} {dropped} {0 if place else device.softirqs} {rings}"
+    device.softirqs = 0
+
+
+def unit_lines(number, device, packets):
+    """A line for each station of a device, which tells what its unit accepted."""
+    for place, it in enumerate(device.stations):
+        shared = len(device.stations) == 1
+        marks = "".join(f" {n}/{packets.priorities[n]}/{packets.checksum(n):x}/{packets.queues[n] if shared else place}" for n in it.accepted)
+        yield f"L {number} {place} {it.calls} {it.busy} {len(it.accepted)} {int(it.hung)}{marks}"
+
+
+class Run(alone.Run):
+    """The run of a plan by the rules, and the guest's answers that they let one expect. The guest is told of each opening."""
+
+    def __init__(self, packets, **options):
+        super().__init__(packets, **options)
+        self.steps, self.last = [], []
+        for number in range(len(self.devices)):
+            self.tell(0, self.words(number, True))
+        self.go()
+
+    def is_open(self):
+        return False
 
     def tell(self, result, lines):
         self.steps.append([f"= {result}", *lines])
 
+    def words(self, number, marks):
+        return list(device_words(number, self.devices[number], marks))
+
     def step(self, what, number):
         if what == "send":
-            self.send(number)
+            super().step(what, number)
+            self.tell(EXPECTED_ERRORS.get(self.trail.kinds[number], 0), self.words(self.places.device(number)[0], False))
         elif what == "wake":
-            lines = []
-            for it in self.devices:
-                it.wake()
-                lines += it.words(False)
-            self.tell(0, lines)
+            super().step(what, number)
+            self.tell(0, [line for number in range(len(self.devices)) for line in self.words(number, False)])
         else:
-            self.event(number)
+            it = self.plan.event[number]
+            before = list(unit_lines(it.station, self.devices[it.station], self.places)) if it.kind == "swap" else []
+            self.tell(super().step(what, number), before + self.words(it.station, True))
 
-    def send(self, n):
-        device = self.devices[device_of(self.packets[n].station, self.first)]
-        station = device.stations[self.packets[n].station - self.first[device.number]]
-        station.transmit(n)
-        device.drain()
-        result = EXPECTED_ERRORS.get(self.fates.get(n, "").split(" ")[0], 0)
-        self.tell(result, device.words(False))
-
-    def event(self, e):
-        it, result, lines = self.plan.events[e], 0, []
-        device = self.devices[it.station]
-        if it.kind == "down":
-            device.down(e)
-        elif it.kind == "up":
-            device.up()
-        elif it.kind == "resize":
-            device.resize(it.length, e)
-        elif it.kind == "tx_queue_len":
-            result = device.tx_queue_len(it.length, e)
-        else:
-            lines = device.units()
-            device.swap(e, self.next_unit, it.params)
-            self.next_unit += 1
-        self.tell(result, lines + device.words(True))
-
-    def finish(self):
+    def open_until_done(self):
         lines = []
-        for it in self.devices:
-            lines.append(f"R {it.finish(len(self.packets) + 2)}")
-            lines += it.words(True)
+        for number, rounds in enumerate(super().open_until_done()):
+            lines += [f"R {rounds}", *self.words(number, True)]
+            self.last += unit_lines(number, self.devices[number], self.places)
         self.tell(0, lines)
-        self.last = [line for it in self.devices for line in it.units()]
-        for it in self.devices:
-            for station in it.stations:
-                if station.hung:
-                    station.purge("purged hung")
 
-    def fates_text(self):
-        return "".join(f"{n} {self.fates.get(n, 'lost')}\n" for n in range(len(self.packets)))
+
+# WHAT A GUEST ANSWERED
 
 
 def read_words(line):
@@ -206,16 +191,17 @@ class Slots:
 class KernelFates:
     """The fates that a guest's answers tell; none of the rules' answers is used."""
 
-    def __init__(self, plan, packets, answers):
-        self.plan, self.packets, self.first, self.answers = plan, packets, firsts(plan), answers
-        self.fates, self.next_unit = {}, self.first[-1]
+    def __init__(self, packets, answers):
+        plan = packets.plan
+        self.plan, self.packets, self.answers = plan, packets, answers
+        self.fates, self.next_unit = {}, len(plan.tables)
         # the units of each device, and how many of its drops were seen
-        self.unit = [list(range(self.first[j], self.first[j + 1])) for j in range(len(plan.stations))]
+        self.unit = list(map(list, plan.children))
         self.told = {}
         self.purged_bands_first = self.softirqs = 0
         places = iter(answers.steps)
-        self.slots = [Slots(self.words_of(next(places))[j]) for j in range(len(plan.stations))]
-        for (what, number), step in zip(steps_of(plan, packets), places):
+        self.slots = [Slots(self.words_of(next(places))[j]) for j in range(len(plan.station))]
+        for (what, number), step in zip(steps_of(packets), places):
             self.step(what, number, step)
         for line in answers.last:
             self.sent(line)
@@ -260,19 +246,18 @@ class KernelFates:
             self.give(n, f"dropped by {where}")
 
     def step_send(self, n, step):
-        packet, result = self.packets[n], int(step[0][2:])
-        device = device_of(packet.station, self.first)
-        place, words = packet.station - self.first[device], self.words_of(step)[device]
-        slots = self.slots[device]
+        band, result = self.packets.bands[n], int(step[0][2:])
+        device, place = self.packets.device(n)
+        slots, words = self.slots[device], self.words_of(step)[device]
         for m, where in self.new_drops(words):
-            self.give(m, f"full {slots.seen(place, packet.band)}" if m == n and result == 105 else f"dropped by {where}")
+            self.give(m, f"full {slots.seen(place, band)}" if m == n and result == 105 else f"dropped by {where}")
         if result == 100:
-            downs = [e for e, it in enumerate(self.plan.events) if it.kind == "down" and it.station == device and it.before <= n]
+            downs = [e for e, it in enumerate(self.plan.event) if it.kind == "down" and it.station == device and it.before <= n]
             self.give(n, f"refused {downs[-1]}" if downs else "refused")
-        slots.follow_send(n, place, packet.band, words)
+        slots.follow_send(n, place, band, words)
 
     def step_event(self, e, step):
-        it = self.plan.events[e]
+        it = self.plan.event[e]
         for line in step:
             if line.startswith("L "):
                 self.sent(line)

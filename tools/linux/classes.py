@@ -1,6 +1,7 @@
 """Classification: all types of service, each in four ways, and the bands of the priorities, as a kernel has them."""
+from lib.captures import BAND, PRIORITY
 from linux.cases import read_words
-from linux.plans import BAND, PRIORITY, frame
+from linux.plans import frame
 
 WAYS = ["IP_TOS of a socket", "IP_TOS of a message", "a forwarded packet", "a forwarded packet with IP options"]
 BATCH = 64

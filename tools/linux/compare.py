@@ -2,22 +2,23 @@
 from collections import namedtuple
 from itertools import combinations
 
-from linux.cases import KernelFates, Run, steps_of
-from linux.rules import Linux
+from lib.alone import Linux
+from lib.places import steps_of
+from linux.cases import KernelFates, Run
 
 Cause = namedtuple("Cause", "name may_come text")
 
 CAUSES = [
-    Cause("same_length", lambda plan: any(it.kind == "tx_queue_len" for it in plan.events),
+    Cause("same_length", lambda plan: any(it.kind == "tx_queue_len" for it in plan.event),
           "same length: a change of tx_queue_len to the length that the device has already is nothing to Linux, since "
           "dev_change_tx_queue_len (net/core/dev.c) compares first; the rules deactivate, purge and activate"),
-    Cause("too_long", lambda plan: any((it.length or 0) > 32767 for it in plan.events),
+    Cause("too_long", lambda plan: any((it.len or 0) > 32767 for it in plan.event),
           "too long: a tx_queue_len above 32,767 is refused by dev_change_tx_queue_len (net/core/dev.c) since 6.1.189; the "
           "rules take it"),
-    Cause("bulk", lambda plan: any(it.queues > 1 for it in plan.stations),
+    Cause("bulk", lambda plan: any(it.queues > 1 for it in plan.station),
           "bulk dequeue: where several queues share a qdisc, try_bulk_dequeue_skb_slow (net/sched/sch_generic.c) takes up to "
           "eight more packets of the same queue with one; the rules take one at a time"),
-    Cause("put_ahead", lambda plan: any(it.queues > 1 for it in plan.stations),
+    Cause("put_ahead", lambda plan: any(it.queues > 1 for it in plan.station),
           "put ahead: what bulk dequeue took and the device didn't get goes back ahead of what waits in the requeue list, by "
           "dev_requeue_skb (net/sched/sch_generic.c) of 6.12.117; 6.1.192 appends it, so that a busy device is given such packets "
           "out of order"),
@@ -28,48 +29,48 @@ Verdict = namedtuple("Verdict", "agrees causes kernel here kernel_fates first_st
 
 
 def equals(answers, fates, run):
-    return not answers.faults and answers.steps == run.steps and answers.last == run.last and fates == run.fates_text()
+    return not answers.faults and answers.steps == run.steps and answers.last == run.last and fates == run.trail.text()
 
 
-def kernel_fates(plan, packets, answers):
+def kernel_fates(packets, answers):
     try:
-        return KernelFates(plan, packets, answers)
+        return KernelFates(packets, answers)
     except (StopIteration, IndexError, KeyError, ValueError) as it:
         answers.faults.append(f"! answers that can't be read: {type(it).__name__} {it}")
         return None
 
 
-def judge(plan, packets, answers):
-    here = Run(plan, packets)
-    kernel = kernel_fates(plan, packets, answers)
+def judge(packets, answers):
+    here = Run(packets)
+    ours, kernel = here.trail.text(), kernel_fates(packets, answers)
     if kernel is None:
-        return Verdict(False, None, "", here.fates_text(), None, None)
+        return Verdict(False, None, "", ours, None, None)
     text = kernel.text()
-    first = first_difference(plan, packets, answers, here)
+    first = first_difference(packets, answers, here)
     if equals(answers, text, here):
         return Verdict(True, [], text, text, kernel, None)
-    may_come = [it for it in CAUSES if it.may_come(plan)]
+    may_come = [it for it in CAUSES if it.may_come(packets.plan)]
     for count in range(1, len(may_come) + 1):
         for causes in combinations(may_come, count):
-            other = Run(plan, packets, Linux(**{it.name: True for it in causes}))
-            if equals(answers, text, other):
-                return Verdict(False, list(causes), text, here.fates_text(), kernel, first)
-    return Verdict(False, None, text, here.fates_text(), kernel, first)
+            if equals(answers, text, Run(packets, linux=Linux(**{it.name: True for it in causes}))):
+                return Verdict(False, list(causes), text, ours, kernel, first)
+    return Verdict(False, None, text, ours, kernel, first)
 
 
-def names_of_steps(plan, packets):
-    yield from (f"station {j} is made" for j in range(len(plan.stations)))
-    for what, number in steps_of(plan, packets):
+def names_of_steps(packets):
+    plan = packets.plan
+    yield from (f"station {j} is made" for j in range(len(plan.station)))
+    for what, number in steps_of(packets):
         if what == "event":
-            yield f"event {number} ({plan.events[number].kind})"
+            yield f"event {number} ({plan.event[number].kind})"
         else:
             yield f"packet {number} is sent" if what == "send" else "the queues are opened"
     yield "the end"
 
 
-def first_difference(plan, packets, answers, run):
+def first_difference(packets, answers, run):
     """The first step after which the words differ, with both sides, or None."""
-    for name, theirs, ours in zip(names_of_steps(plan, packets), answers.steps, run.steps):
+    for name, theirs, ours in zip(names_of_steps(packets), answers.steps, run.steps):
         if theirs != ours:
             return name, theirs, ours
     return None

@@ -27,7 +27,8 @@ class Kernel:
 
 def module_file(folder, name):
     """A module's file among the kernel's, whatever it is compressed by."""
-    return next(iter(sorted(folder.glob(f"kernel/**/{name}.ko*"))), None)
+    found = sorted(folder.glob(f"**/{name}.ko*")) if folder else []
+    return next((it for it in found if it.suffix in (".ko", ".xz")), None)
 
 
 def module_bytes(file):

@@ -6,10 +6,12 @@ from collections import Counter
 from datetime import datetime, timezone
 from pathlib import Path
 
-from linux import classes, guest, plans, together
+from lib import captures, plans
+from lib.alone import Endless
+from linux import classes, guest, together
 from linux.cases import Answers, Run, answers_of, case_of
 from linux.compare import judge, tell_difference
-from linux.rules import Endless
+from linux.plans import Sent, random_plan, small_plans, text_of, timed_plan
 from linux.wrong import NOT_SHOWN, SHOWN
 
 A_BOOT = 2000
@@ -22,12 +24,16 @@ EXAMPLES = Path(__file__).resolve().parent.parent.parent / "examples"
 
 
 def examples():
-    """The repository's own plans of one sender, each with the capture that it is for."""
+    """The repository's own plans of one sender, each over the capture that it is for."""
     for file in sorted(EXAMPLES.glob("**/*.toml")):
-        plan = plans.read_plan(file.read_text(encoding="utf-8"))
-        capture = "loopback.pcap" if file.parent == EXAMPLES else "linux/four.pcap" if file.stem == "reordered" else "linux/five.pcap"
+        plan = plans.read(file)
+        capture = "link.pcap" if file.stem == "link" else "loopback.pcap" if file.parent == EXAMPLES else "linux/four.pcap" if file.stem == "reordered" else "linux/five.pcap"
         if plan.senders == 1:
-            yield f"example-{file.stem}", plan, plans.frames_of((EXAMPLES / capture).read_bytes())
+            yield f"example-{file.stem}", Sent(plan, captures.read(EXAMPLES / capture))
+
+
+def sent(plan, frames, times=None):
+    return Sent(plan, captures.Capture(captures.ethernet(frames, times)))
 
 
 class Many:
@@ -51,31 +57,33 @@ class Many:
         shutil.rmtree(share)
         return found
 
-    def keep(self, name, plan, frames, lines, said):
+    def keep(self, name, packets, lines, said):
         """Keeps what no known cause explains in a folder of its own."""
         folder = self.folder / name
         folder.mkdir()
-        (folder / "plan.toml").write_text(plans.text_of_plan(plan), encoding="utf-8")
-        (folder / "capture.pcap").write_bytes(plans.capture_of(frames))
+        (folder / "plan.toml").write_text(text_of(packets.plan), encoding="utf-8")
+        (folder / "capture.pcap").write_bytes(packets.capture.data)
         (folder / "answers").write_text("\n".join(lines) + "\n", encoding="utf-8")
         (folder / "difference").write_text("\n".join(said) + "\n", encoding="utf-8")
         self.unexplained.append(str(folder))
 
     # One sender
 
-    def plans_of_one_sender(self, count, small):
+    def plans_of_one_sender(self, count, small, timed):
         yield from examples()
-        for i, (plan, bare) in enumerate(plans.small_plans() if small else []):
-            yield f"small-{i}", plan, plans.ethernet(bare)
+        for i, of in enumerate(small_plans() if small else []):
+            yield f"small-{i}", sent(*of)
         chance = random.Random(self.seed)
         for i in range(count):
             kind = chance.choices(["one", "long", "mq", "queues"], [60, 5, 15, 20])[0]
-            plan, bare = plans.random_plan(chance, kind)
-            yield f"{kind}-{i}", plan, plans.ethernet(bare)
+            yield f"{kind}-{i}", sent(*random_plan(chance, kind))
+        chance = random.Random(self.seed)
+        for i in range(timed):
+            yield f"timed-{i}", sent(*timed_plan(chance))
 
-    def one_sender(self, count, small=True):
+    def one_sender(self, count, small=True, timed=0):
         batch = []
-        for it in self.plans_of_one_sender(count, small):
+        for it in self.plans_of_one_sender(count, small, timed):
             batch.append(it)
             if len(batch) == A_BOOT:
                 self.do_batch(batch)
@@ -85,35 +93,34 @@ class Many:
 
     def do_batch(self, batch):
         cases, lines = {}, []
-        for name, plan, frames in batch:
-            packets = plans.packets_of(plan, frames)
-            cases[name] = plan, frames, packets
-            lines += case_of(name, plan, packets, frames)
+        for name, packets in batch:
+            cases[name] = packets
+            lines += case_of(name, packets)
         found = self.boot("boot", lines, len(batch))
-        for name, (plan, frames, packets) in cases.items():
-            self.judge_one(name, plan, frames, packets, found.get(name))
+        for name, packets in cases.items():
+            self.judge_one(name, packets, found.get(name))
         self.tell(f"{sum(self.kinds.values())} plans, {len(self.unexplained)} differences without a known cause")
 
-    def judge_one(self, name, plan, frames, packets, lines):
+    def judge_one(self, name, packets, lines):
         kind = name.split("-")[0]
         self.kinds[kind] = self.kinds.get(kind, 0) + 1
         if lines is None:
-            self.keep(name, plan, frames, [], ["the guest gave no answer"])
+            self.keep(name, packets, [], ["the guest gave no answer"])
             return
         answers = Answers(lines)
-        verdict = judge(plan, packets, answers)
+        verdict = judge(packets, answers)
         if verdict.agrees:
             self.counts[kind, "agree"] += 1
         elif verdict.causes:
             fates = "" if verdict.kernel != verdict.here else ", words alone"
             self.counts[kind, " and ".join(it.name for it in verdict.causes) + fates] += 1
         else:
-            self.keep(name, plan, frames, lines, [*answers.faults, *tell_difference(verdict)])
+            self.keep(name, packets, lines, [*answers.faults, *tell_difference(verdict)])
         if verdict.kernel_fates:
             self.add_totals(verdict, packets, lines)
-        self.ask_program(name, plan, frames, verdict, lines)
+        self.ask_program(name, packets, verdict, lines)
         if verdict.agrees and kind not in ("small", "example") and self.tried < SHARPNESS:
-            self.try_wrong_rules(plan, packets, answers)
+            self.try_wrong_rules(packets, answers)
 
     def add_totals(self, verdict, packets, lines):
         self.totals["packets"] += len(packets)
@@ -122,20 +129,20 @@ class Many:
         self.totals["purges that took the bands first"] += verdict.kernel_fates.purged_bands_first
         self.fates.update(line.split(" ")[1] for line in verdict.kernel.splitlines())
 
-    def ask_program(self, name, plan, frames, verdict, lines):
+    def ask_program(self, name, packets, verdict, lines):
         if self.program is None:
             return
-        text = self.program.fates(plans.text_of_plan(plan), plans.capture_of(frames))
+        text = self.program.fates(text_of(packets.plan), packets.capture.data)
         if text == verdict.here:
             self.totals["texts of fates that are the program's"] += 1
         else:
-            self.keep(f"{name}-program", plan, frames, lines, ["the program's fates aren't those of the rules:", text])
+            self.keep(f"{name}-program", packets, lines, ["the program's fates aren't those of the rules:", text])
 
-    def try_wrong_rules(self, plan, packets, answers):
+    def try_wrong_rules(self, packets, answers):
         self.tried += 1
         for rule in [*SHOWN, *NOT_SHOWN]:
             try:
-                run = Run(plan, packets, station=rule, endless=1000)
+                run = Run(packets, station=rule, endless=1000)
                 self.noticed[rule] += run.steps != answers.steps or run.last != answers.last
             except Endless:
                 self.noticed[rule] += 1
@@ -149,14 +156,11 @@ class Many:
     def several_senders(self, count):
         chance, cases, lines = random.Random(self.seed), {}, []
         for i in range(count):
-            plan, bare = together.random_plan(chance)
-            frames = plans.ethernet(bare)
-            packets = plans.packets_of(plan, frames)
-            cases[f"senders-{i}"] = plan, frames, packets
-            lines += together.case_of(f"senders-{i}", plan, packets, frames)
-        found = self.boot("senders", lines, 10 * count, processors=3)
-        for name, (plan, frames, packets) in cases.items():
-            it = together.Together(plan, packets, found.get(name, ["! no answer"]))
+            packets = cases[f"senders-{i}"] = sent(*together.random_plan(chance))
+            lines += together.case_of(f"senders-{i}", packets)
+        found = self.boot("senders", lines, 10 * count, processors=3) if cases else {}
+        for name, packets in cases.items():
+            it = together.Together(packets, found.get(name, ["! no answer"]))
             self.kinds["senders"] = self.kinds.get("senders", 0) + 1
             self.counts["senders", "with each property"] += not it.faults
             self.totals["packets of several senders"] += len(packets)
@@ -164,7 +168,7 @@ class Many:
             self.totals["packets sent behind one of a higher number"] += it.overtaking
             self.totals["packets that bulk dequeue took out of their sender's order"] += it.by_bulk
             if it.faults:
-                self.keep(name, plan, frames, found.get(name, []), it.faults)
+                self.keep(name, packets, found.get(name, []), it.faults)
         self.tell(f"{count} runs of several senders")
 
     # The summary

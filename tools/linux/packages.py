@@ -9,6 +9,8 @@ import struct
 import subprocess
 from pathlib import Path
 
+from lib.words import Failed
+
 # A program, and the package that has it.
 PROGRAMS = {
     "qemu-system-x86_64": "qemu-system-x86",
@@ -23,8 +25,11 @@ FILES = {"/usr/include/stdio.h": "libc6-dev", "/usr/lib/x86_64-linux-gnu/libelf.
 COMPLETE = "complete"
 
 
-class Missing(Exception):
+class Missing(Failed):
     """A package that can't be had, or a program that failed; the text says which."""
+
+    def __init__(self, line):
+        super().__init__(line, 3)
 
 
 def run(words, folder=None, environment=None):
@@ -116,14 +121,11 @@ class Tools:
     def _found(self, name):
         # the guest needs a static one: Debian's busybox-static, or else the one that was fetched
         if name == "busybox":
-            own = shutil.which(name)
-            places = [str(Path(own).parent)] * bool(own and is_static(own)) + self._folders("bin", "usr/bin")
-            return next((it for it in places if Path(it, name).exists()), None)
+            places = [shutil.which(name), *(f"{it}/{name}" for it in self._folders("bin", "usr/bin"))]
+            return next((it for it in places if it and os.path.exists(it) and is_static(it)), None)
         return shutil.which(name, path=self.environment()["PATH"])
 
     def path(self, name):
-        if name == "busybox":
-            return Path(self._found(name), name)
         return Path(self._found(name))
 
     def environment(self):

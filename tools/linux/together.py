@@ -1,40 +1,28 @@
 """Several senders: a guest's answers are judged by properties, since their order of steps isn't known."""
 from collections import Counter
 
-from linux.cases import Answers, device_of, event_line, new_line, read_words, send_line
-from linux.plans import Event, Params, Plan, Refused, StationPlan, firsts, frame, random_length
-from linux.rules import DEACTIVATED, SCHED
+from lib.alone import DEACTIVATED, SCHED
+from lib.places import steps_of
+from lib.plans import Event, Plan, Station
+from linux.cases import Answers, event_line, new_line, read_words, send_line
+from linux.plans import Refused, frame, params, random_length
 
 
-def steps_of_sender(plan, packets, sender):
-    """The first sender does the events too."""
-    waiting = list(enumerate(plan.events)) if sender == 0 else []
-    own = [n for n, it in enumerate(packets) if it.owner == sender]
-    for k, n in enumerate(own):
-        while waiting and waiting[0][1].before <= n:
-            yield "event", waiting.pop(0)[0]
-        yield "send", n
-        if (k + 1) % plan.irq_every == 0:
-            yield "wake", (k + sender) % 2
-    for e, _ in waiting:
-        yield "event", e
-
-
-def case_of(name, plan, packets, frames):
-    if any(it.kind in ("resize", "swap") for it in plan.events):
+def case_of(name, packets):
+    plan = packets.plan
+    if any(it.kind in ("resize", "swap") for it in plan.event):
         raise Refused("a kernel has no live resize and no swap of a device beside running senders; with several senders a "
                       "plan may have down, up and tx_queue_len")
-    first = firsts(plan)
     yield f"case {name}"
-    for j in range(len(plan.stations)):
+    for j in range(len(plan.station)):
         yield new_line(plan, j, len(packets))
     for sender in range(plan.senders):
         yield f"sender {sender}"
-        for what, number in steps_of_sender(plan, packets, sender):
+        for what, number in steps_of(packets, sender):
             if what == "send":
-                yield send_line(number, packets[number], device_of(packets[number].station, first), first, frames[number])
+                yield send_line(number, packets)
             else:
-                yield f"kick {number}" if what == "wake" else event_line(plan.events[number])
+                yield f"kick {(number + sender) % 2}" if what == "wake" else event_line(plan.event[number])
     yield "together"
     yield f"finish {len(packets) + 2}"
     yield "end"
@@ -43,8 +31,8 @@ def case_of(name, plan, packets, frames):
 class Together:
     """What came of a run of several senders; `faults` are the properties that it hasn't."""
 
-    def __init__(self, plan, packets, lines):
-        self.plan, self.packets = plan, packets
+    def __init__(self, packets, lines):
+        self.plan, self.packets = packets.plan, packets
         self.results = {int(it.split()[1]): int(it.split()[2]) for it in lines if it.startswith("S ")}
         answers = Answers([it for it in lines if not it.startswith("S ")])
         self.faults, self.counts, self.quiet, self.overtaking = list(answers.faults), Counter(), 0, 0
@@ -70,9 +58,9 @@ class Together:
         for unit, serials in enumerate(self.sent):
             last, highest = {}, -1
             for n in serials:
-                it = self.packets[n]
-                key = it.owner, it.station, it.band
-                if last.get(key, -1) > n and self.may_bulk(it.station):
+                station = self.packets.stations[n]
+                key = self.packets.senders[n], station, self.packets.bands[n]
+                if last.get(key, -1) > n and self.may_bulk(station):
                     self.by_bulk += 1
                 elif last.get(key, -1) > n:
                     self.faults.append(f"unit {unit}: packet {n} after packet {last[key]} of the same sender and band")
@@ -82,8 +70,7 @@ class Together:
     def may_bulk(self, station):
         """Where several queues share a qdisc, a busy device is given the packets that were taken at once out of order: each one
         that it doesn't take goes behind the others (dev_requeue_skb of net/sched/sch_generic.c, up to 6.1.192)."""
-        table = self.plan.stations[device_of(station, firsts(self.plan))]
-        return table.queues > 1
+        return self.plan.tables[station].queues > 1
 
     def judge_quiet(self, step):
         for line in step:
@@ -103,14 +90,14 @@ def random_plan(chance):
     for _ in range(chance.choice([1, 1, 2])):
         mq = chance.choice([1, 1, 1, 2, 3])
         queues = chance.choice([1, 1, 1, 2, 3]) if mq == 1 else 1
-        params = Params(chance.choice([0, 1, 2, 5, 16, 63]), *chance.choice([(0, 0), (1, 20), (3, 30)]))
-        stations.append(StationPlan(random_length(chance), queues, mq, chance.random() < 0.8, params))
+        device = params(chance.choice([0, 1, 2, 5, 16, 63]), *chance.choice([(0, 0), (1, 20), (3, 30)]))
+        stations.append(Station(len=random_length(chance), queues=queues, mq=mq, bypass=chance.random() < 0.8, **device))
     count, senders = chance.randint(50, 800), chance.randint(2, 6)
     events, active = [], [True] * len(stations)
     for before in sorted(chance.randint(0, count) for _ in range(chance.choice([0, 0, 1, 2, 4]))):
         j = chance.randrange(len(stations))
         kind = chance.choice(["down", "tx_queue_len"]) if active[j] else "up"
         active[j] = kind != "down"
-        events.append(Event(before, kind, j, random_length(chance) if kind == "tx_queue_len" else None, Params()))
+        events.append(Event(before, kind, j, random_length(chance) if kind == "tx_queue_len" else None))
     frames = [frame(chance.choice([0, 8, 16]), chance.randrange(4), chance.randrange(256), i) for i in range(count)]
-    return Plan(senders, "round", chance.choice([1, 2, 3, 10, 50]), stations, events), frames
+    return Plan(station=stations, event=events, senders=senders, irq_every=chance.choice([1, 2, 3, 10, 50])), frames

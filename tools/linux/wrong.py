@@ -1,5 +1,5 @@
 """Rules that are wrong on purpose, each by one change: how sharp the comparison is."""
-from linux.rules import DRAINING, MISSED, OPEN, Ring, Station
+from lib.alone import DRAINING, MISSED, OPEN, Ring, Station
 
 
 class QuotaOf63(Station):
@@ -87,7 +87,7 @@ class RequeuedBehindItsBand(Station):
         done = super().direct_transmit(taken)
         while self.requeued:
             n = self.requeued.popleft()
-            if self.rings[self.packets[n].band].produce(n) is not None:
+            if self.rings[self.band_of[n]].produce(n) is not None:
                 self.requeued.append(n)
                 break
         return done

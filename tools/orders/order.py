@@ -1,7 +1,7 @@
 """An order that a search found: told step by step, as a schedule, and as a picture."""
 from typing import Dict, Iterator, List, NamedTuple, Optional, Tuple
 
-import machine
+from lib import machine
 from orders import drawing
 from orders.search import Move, Result, Size
 from orders.text import Position

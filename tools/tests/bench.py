@@ -9,9 +9,9 @@ import sys
 import tempfile
 import xml.etree.ElementTree
 
-import captures
-import one_sender
-import plans
+from lib import captures, plans
+from lib.alone import Run
+from lib.places import Places
 
 HERE = pathlib.Path(__file__).resolve().parent.parent
 TOP = HERE.parent
@@ -86,10 +86,8 @@ def repository(name, files):
 
 
 def fates_of(plan, capture):
-    """The fates that the run of one sender gives, as the program would write them."""
-    of = captures.read(capture)
-    stations, queues = plans.places_of(plan, of)
-    return one_sender.run(plan, stations, of.bands, queues).text()
+    """The fates that the run of one sender gives, as the program would write them; the plan is a document."""
+    return Run(Places(plans.plan_of(plan), captures.read(capture))).go().trail.text()
 
 
 def frame(tos, source, route, head=b"\x08\x00\x45"):
@@ -98,9 +96,7 @@ def frame(tos, source, route, head=b"\x08\x00\x45"):
 
 
 def capture_of(*frames):
-    """A classic capture of Ethernet frames, a second apart."""
-    records = (n.to_bytes(4, "little") + bytes(4) + 2 * len(it).to_bytes(4, "little") + it for n, it in enumerate(frames))
-    return bytes.fromhex("d4c3b2a1020004000000000000000000ffff000001000000") + b"".join(records)
+    return captures.ethernet(frames)
 
 
 def expect_picture(name, file, *parts):

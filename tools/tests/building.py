@@ -11,7 +11,7 @@ from tests.bench import HERE, ROOM, case, expect, fault, repository, run
 @case
 def compare_with_c():
     tool = HERE / "compare-with-c"
-    expect("compare-with-c, no program", run(tool), 2, "usage:", "PROGRAM")
+    expect("compare-with-c, no program", run(tool), 2, "the following arguments are required: PROGRAM")
     expect("compare-with-c, none there", run(tool, ROOM / "nothing"), 1, "nothing can't be run")
     if shutil.which("cc"):
         for words in ([], ["--tap"]):

@@ -10,48 +10,44 @@ import sys
 
 sys.dont_write_bytecode = True
 sys.path.insert(0, str(pathlib.Path(__file__).resolve().parent.parent))
-import captures  # noqa: E402
-import machine  # noqa: E402
-import one_sender  # noqa: E402
-import plans  # noqa: E402
+from lib import captures, machine, plans  # noqa: E402
+from lib.alone import Run  # noqa: E402
+from lib.places import Places  # noqa: E402
+from lib.trail import KINDS, SENT, joint_lists, sent_by_units  # noqa: E402
 
-GENERATED_PLAN = {"irq_every": 64, "station": [{"len": 32, "burst": 48}]}
+GENERATED_PLAN = plans.plan_of({"irq_every": 64, "station": [{"len": 32, "burst": 48}]})
 
 
 def counts_of(plan, stations, trail):
     """What is printed of a run."""
-    units = collections.Counter(unit for kind, unit in zip(trail.kinds, trail.names) if kind == one_sender.SENT)
-    kinds = collections.Counter((station, one_sender.KINDS[kind]) for station, kind in zip(stations, trail.kinds))
-    drops = one_sender.KINDS[1:]
-    lines = [f"unit {it} sent {units[it]}" for it in range(plans.units_of(plan))]
-    lines += [f"station {it} " + " ".join(f"{drop} {kinds[it, drop]}" for drop in drops) for it in range(len(plans.stations_of(plan)))]
+    units = collections.Counter(unit for kind, unit in zip(trail.kinds, trail.names) if kind == SENT)
+    kinds = collections.Counter((station, KINDS[kind]) for station, kind in zip(stations, trail.kinds))
+    drops = KINDS[1:]
+    lines = [f"unit {it} sent {units[it]}" for it in range(plan.units)]
+    lines += [f"station {it} " + " ".join(f"{drop} {kinds[it, drop]}" for drop in drops) for it in range(len(plan.tables))]
     every = " ".join(f"{drop} {sum(kinds[it, drop] for it in range(plans.CHILDREN))}" for drop in drops)
     lines.append(f"total {len(trail.kinds)} sent {sum(units.values())} {every}")
-    lines += [f"mq {at} queues {len(children)} sent {sum(units[it] for it in children)}" for at, children in plans.groups_of(plan)]
+    lines += [f"mq {at} queues {len(children)} sent {sum(units[it] for it in children)}" for at, children in plan.groups]
     return "".join(f"{it}\n" for it in lines)
 
 
-def run(plan, capture):
+def run_of(plan, capture):
     """A run of one sender: its trail, and what is printed of it."""
-    stations, queues = plans.places_of(plan, capture)
-    trail = one_sender.run(plan, stations, capture.bands, queues)
-    return trail, counts_of(plan, stations, trail)
+    places = Places(plan, capture)
+    trail = Run(places).go().trail
+    return trail, counts_of(plan, places.stations, trail)
 
 
 def run_files(plan_file, capture_file, out):
-    plan, faults = plans.judge(pathlib.Path(plan_file).read_bytes())
+    root, faults = plans.judge(pathlib.Path(plan_file).read_bytes())
     if faults:
         print(f"plan refused: {faults[0].reason} {plans.REASONS[faults[0].reason]}")
         return 3
-    capture = captures.read(capture_file)
-    trail, counts = run(plan, capture)
-    sent = [[] for _ in range(plans.units_of(plan))]
-    for n, (kind, unit, serial) in enumerate(zip(trail.kinds, trail.names, trail.serials)):
-        if kind == one_sender.SENT:
-            sent[unit].append((serial, n))
-    for unit, of in enumerate(sent):
-        pathlib.Path(f"{out}.{unit}.pcap").write_bytes(capture.written([n for _, n in sorted(of)]))
-    for at, numbers in one_sender.joint_lists(plan, trail).items():
+    plan, capture = plans.plan_of(root), captures.read(capture_file)
+    trail, counts = run_of(plan, capture)
+    for unit, numbers in enumerate(sent_by_units(trail, plan.units)):
+        pathlib.Path(f"{out}.{unit}.pcap").write_bytes(capture.written(numbers))
+    for at, numbers in joint_lists(plan, trail).items():
         pathlib.Path(f"{out}.mq{at}.pcap").write_bytes(capture.written(numbers))
     pathlib.Path(f"{out}.fates").write_text(trail.text(), encoding="utf-8")
     print(counts, end="")
@@ -89,7 +85,7 @@ def main(words):
     if words[:1] == ["gen"]:
         data = b"".join(generated(int(words[1]), int(words[2])))
         pathlib.Path(words[3]).write_bytes(data)
-        print(run(GENERATED_PLAN, captures.Capture(data))[1], end="")
+        print(run_of(GENERATED_PLAN, captures.Capture(data))[1], end="")
         return 0
     return tap(int(words[1]), int(words[2]), words[4], words[5])
 

@@ -5,7 +5,7 @@ import subprocess
 import sys
 import xml.etree.ElementTree
 
-import machine
+from lib import machine
 from orders import search, text as steps_text
 from tests.bench import HERE, ROOM, TOP, case, expect, expect_none, fault, run
 
@@ -99,7 +99,7 @@ def explore_words():
     expect("explore, an output that is the input", run(EXPLORE, "--steps", mine, mine), 2, f"{mine} is an input")
     with open("/dev/full", "w", encoding="utf-8") as full:
         said = subprocess.run([EXPLORE, "--edits"], stdout=full, stderr=subprocess.PIPE, text=True)
-    expect("explore, a full disk", (said.returncode, "", said.stderr), 3, "explore: No space left on device")
+    expect("explore, a full disk", (said.returncode, "", said.stderr), 3, "explore: standard output: No space left on device")
     expect("explore --help", run(EXPLORE, "--help"), 0, "tools/explore [--steps MINE.h]", "Exit codes: 0 right in these sizes", "--bypass N")
 
 
@@ -125,7 +125,7 @@ def explore_spin():
 
 
 def states_apart(seats, sends):
-    """How many states there are by a search in Python over tools/machine.py, which has the steps once more."""
+    """How many states there are by a search in Python over tools/lib/machine.py, which has the steps once more."""
     start = machine.first_machine(seats, 8, False), (sends,) * seats
     seen, layer = {start}, [start]
     while layer:
@@ -178,9 +178,9 @@ def explore_table():
 def play_page():
     """The page to play is what the steps make of it, and its machine leaves of schedules by dice what the steps do."""
     expect("make-play --check", run(HERE / "make-play", "--check"), 0)
-    expect("make-play, wrong words", run(HERE / "make-play", "--none"), 2, "usage: tools/make-play")
-    expect("make-play, no folder", run(HERE / "make-play", ROOM / "none/page.html"), 2, "none/page.html: No such file or directory")
-    expect("test-play, wrong words", run(HERE / "test-play", "--picture", "OUT.svg"), 2, "usage: tools/test-play")
+    expect("make-play, wrong words", run(HERE / "make-play", "--none"), 2, "tools/make-play [--check] [OUT.html]")
+    expect("make-play, no folder", run(HERE / "make-play", ROOM / "none/page.html"), 1, "none/page.html: No such file or directory")
+    expect("test-play, wrong words", run(HERE / "test-play", "--picture", "OUT.svg"), 2, "tools/test-play [--picture OUT.png]")
     if shutil.which("node"):
         walks, file = search.walks(steps_text.STEPS.read_text(encoding="utf-8"), 9, 100, ROOM), ROOM / "walks"
         file.write_text("".join(f"{schedule}--\n{left}==\n" for schedule, left in walks), encoding="utf-8")
@@ -195,7 +195,7 @@ def explore_walks():
     for schedule, left in search.walks(steps_text.STEPS.read_text(encoding="utf-8"), 7, 60, ROOM):
         count += 1
         if len(schedule) < 8000 and machine.trace(schedule.encode()) != (0, left):
-            fault(f"explore: the steps and tools/machine.py part over\n{schedule}")
+            fault(f"explore: the steps and tools/lib/machine.py part over\n{schedule}")
         file.write_text(schedule, encoding="utf-8")
         if program and os.access(program, os.X_OK) and run(program, "trace", file)[1] != left:
             fault(f"explore: the steps and the program part over\n{schedule}")

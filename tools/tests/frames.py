@@ -1,5 +1,5 @@
 """The class of each kind of frame."""
-import captures
+from lib import captures
 from tests.bench import capture_of, case, fault, frame
 
 

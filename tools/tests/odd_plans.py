@@ -30,4 +30,17 @@ ODD_PLANS = {
     b"split = 1979-05-27T07:32Z\n[[station]]\n": KIND,
     b"split = 1979-05-27 07:32-07:00\n[[station]]\n": KIND,
     b"split = 24:00\n[[station]]\n": NO,
+    # keys and texts of version 4
+    b'version = 4\nsplit = "flow"\nspread = "flow"\nirq_us = 1000000\n[[station]]\n': "",
+    b"version = 4\nirq_every = 1000\n[[station]]\nmq = 8\n": "",
+    b"version = 4\nirq_every = 1\nirq_us = 1\n[[station]]\n": RANGE,
+    b'version = 4\nirq_every = 1\nirq_us = "1"\n[[station]]\n': KIND,
+    b"version = 4\nirq_us = 0\n[[station]]\n": RANGE,
+    b"version = 4\nirq_us = 1000001\n[[station]]\n": RANGE,
+    b'version = 4\nspread = "source"\n[[station]]\n': RANGE,
+    b"version = 4\n[[station]]\nirq_us = 1\n": UNKNOWN,
+    b'version = 3\nsplit = "flow"\n[[station]]\n': RANGE,
+    b'version = 3\nspread = "flow"\n[[station]]\n': UNKNOWN,
+    b"version = 3\nirq_us = 1\n[[station]]\n": UNKNOWN,
+    b"version = 5\n[[station]]\n": RANGE,
 }

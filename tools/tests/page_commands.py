@@ -36,7 +36,7 @@ FILES = {
 CODES = {r"tools/explore --(edit|plain) ": 1}
 # what a page's commands need that another page's make
 BEFORE = {"docs/FORMATS.md": ["./lqtx run examples/drops.toml examples/loopback.pcap out/o"]}
-PICTURES = {"README.md": {"out/o.svg": "docs/drops.svg", "out/len.svg": "docs/bursts-by-len.svg"}, "docs/FORMATS.md": {"out/m.svg": "docs/multi-queue.svg"},
+PICTURES = {"README.md": {"out/o.svg": "docs/drops.svg", "out/waiting.svg": "docs/link.svg", "out/len.svg": "docs/link-by-len.svg"}, "docs/FORMATS.md": {"out/m.svg": "docs/multi-queue.svg"},
             "docs/BARRIERS.md": {f"out/{it}.svg": f"docs/orders/{it}.svg" for it in ("unlock", "put-miss", "cclear", "clearm-cleard", "wake-sched", "sclear")}}  # fmt: skip
 COMMAND = re.compile(r"    (?:\$ (.*)|((?:\./lqtx|tools/|rt ).*))")
 FEWEST = {"README.md": 6, "docs/FORMATS.md": 6, "docs/HISTORY.md": 5, "docs/lqtx.1": 3, "docs/BARRIERS.md": 7}
@@ -88,7 +88,7 @@ def commands_of_manual(page, lines):
             shown = True
         elif line.startswith(".Ed"):
             shown = False
-        elif shown and re.match(r"(lqtx|printf|grep|tcpdump|zcat) ", line):
+        elif shown and re.match(r"(lqtx|printf|grep|tcpdump|zcat|tools/at-rate) ", line):
             words = line.replace("\\e", "\\").replace("/tmp/", "out/")
             found.append(Command(page, number, re.sub("^lqtx ", "./lqtx ", words), None))
     return found

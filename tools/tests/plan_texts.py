@@ -1,7 +1,7 @@
 """Plans, and what is wrong with them."""
 import re
 
-import plans
+from lib import plans
 from tests.bench import HERE, ROOM, TOP, case, expect, fault, run
 from tests.odd_plans import ODD_PLANS
 
@@ -20,7 +20,7 @@ PLANS = {
     "[[station]]\nburst = \"8\"\n": ("4 Kind", ":2: station 0, `burst`: \"8\" isn't a whole number from 0 to 1000000"),
     "[[station]]\nbypass = 1\n": ("4 Kind", "1 isn't true or false"),
     "[[station]]\nlen = 0\n": ("5 Range", "0 isn't a whole number from 1 to 4096"),
-    "version = 4\n[[station]]\n": ("5 Range", "there are the versions 1, 2, 3"),
+    "version = 5\n[[station]]\n": ("5 Range", "there are the versions 1, 2, 3, 4"),
     "[[station]]\nmq = 2\n": ("2 UnknownKey", ":2: station 0, `mq`: no such key; it needs `version = 3` at the top"),
     "version = 2\n[[station]]\nmq = 1\n": ("2 UnknownKey", ":3: station 0, `mq`: no such key; it needs `version = 3` at the top"),
     "version = 3\n[[station]]\nmq = 9\n": ("5 Range", ":3: station 0, `mq`: 9 isn't a whole number from 1 to 8"),
@@ -28,7 +28,15 @@ PLANS = {
     "version = 3\n[[station]]\nmq = 6\n[[station]]\nmq = 3\n": ("5 Range", "the top, `station`: 9 children in all are more than 8"),
     "version = 3\n[[station]]\nmq = 2\nqueues = 2\n": ("5 Range", ":4: station 0, `queues`: it is 1 beside an `mq` above 1"),
     "version = 3\n[[station]]\n[[station]]\nmq = 2\n[[event]]\nbefore = 1\nkind = \"swap\"\nstation = 1\n": ("5 Range", ":7: event 0, `kind`: no \"swap\" at station 1, which has 2 children on one device"),
-    "split = \"owner\"\n[[station]]\n": ("5 Range", "\"owner\" isn't one of \"round\", \"source\""),
+    "split = \"owner\"\n[[station]]\n": ("5 Range", "\"owner\" isn't one of \"round\", \"source\" (5"),
+    "version = 4\nsplit = \"flaw\"\n[[station]]\n": ("5 Range", "\"flaw\" isn't one of \"round\", \"source\", \"flow\"; did you mean \"flow\"?"),
+    "split = \"flow\"\n[[station]]\n": ("5 Range", "with `version = 4` at the top it may be"),
+    "version = 4\nspread = \"source\"\n[[station]]\n": ("5 Range", ":2: the top, `spread`: \"source\" isn't one of \"bytes\", \"flow\""),
+    "version = 3\nspread = \"flow\"\n[[station]]\n": ("2 UnknownKey", ":2: the top, `spread`: no such key; it needs `version = 4` at the top"),
+    "version = 4\nirq_us = 1000001\n[[station]]\n": ("5 Range", "1000001 isn't a whole number from 1 to 1000000"),
+    "version = 4\nirq_every = 4\nirq_us = 100\n[[station]]\n": ("5 Range", ":3: the top, `irq_us`: it stands in place of `irq_every`: a plan has one of the two"),
+    "irq_us = 100\n[[station]]\n": ("2 UnknownKey", ":1: the top, `irq_us`: no such key; it needs `version = 4` at the top"),
+    "version = 4\n[[station]]\nirq_us = 100\n": ("2 UnknownKey", ":3: station 0, `irq_us`: no such key; it is a key of the top"),
     "station = []\n": ("5 Range", "an array of 0 isn't 1 to 8 tables"),
     "senders = 16\n[[station]]\n": ("5 Range", "with `version = 2` at the top it may be"),
     "[[station]]\nlen = 20\nmax_len = 10\n": ("5 Range", ":3: station 0, `max_len`: 10 isn't a whole number from 20 to 4096; `max_len` is at least `len`"),
@@ -61,13 +69,13 @@ def check_plan():
 
 @case
 def keys_of_a_plan():
-    """Each key of the tables of docs/FORMATS.md is a row of tools/plans.py, and the other way round."""
+    """Each key of the tables of docs/FORMATS.md is a row of tools/lib/plans.py, and the other way round."""
     page = (TOP / "docs/FORMATS.md").read_text(encoding="utf-8")
     rows = re.findall(r"^\| ((?:station |event )?)((?:`\w+`(?:, )?)+) \|", page[page.index("## Plans") : page.index("Where reasons apply")], re.M)
     told = {(section.strip(), name) for section, names in rows for name in re.findall(r"`(\w+)`", names)}
     known = {(section, key.name) for section, keys in plans.TABLES.items() for key in keys}
     for section, name in told ^ known:
-        fault(f"the key {name} of {section or 'the top'} isn't both in docs/FORMATS.md and in tools/plans.py")
+        fault(f"the key {name} of {section or 'the top'} isn't both in docs/FORMATS.md and in tools/lib/plans.py")
 
 
 @case

@@ -4,7 +4,7 @@ import shutil
 import tomllib
 import xml.etree.ElementTree
 
-import captures
+from lib import captures
 from tests.bench import HERE, ROOM, TOP, capture_of, case, expect, expect_none, expect_picture, fates_of, fault, frame, run
 
 # of each example plan a part of what is told, with the counts of the pages, and the fates that docs/FORMATS.md tells of

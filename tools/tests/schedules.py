@@ -1,7 +1,7 @@
 """Orders of steps: shown, and refused."""
 import random
 
-import machine
+from lib import machine
 from tests.bench import HERE, ROOM, TOP, case, expect, expect_none, fault, run
 
 SCHEDULES = {"second-try": 41, "second-try-finds-nothing": 58, "release-then-look": 47, "clear-then-look": 53, "look-at-the-stop-word-again": 55,

@@ -10,8 +10,7 @@ import struct
 import subprocess
 import tomllib
 
-import captures
-from lib import packets
+from lib import captures, packets
 from tests.bench import ROOM, HERE, TOP, capture_of, case, expect, expect_none, fates_of, fault, frame, run
 
 

@@ -1,5 +1,5 @@
 """Tools that read the sources: what nobody needs, names with several meanings, and what is to be read."""
-from tests.bench import case, expect, expect_none, fault, repository, run
+from tests.bench import case, expect, expect_none, fault, is_equal, repository, run
 
 SMALL = {
     "README.md": "A law stands: `kept_law`.\n",
@@ -85,16 +85,38 @@ pub fn kept_law(w: u32) -> u32 {
 }
 
 
+def of_sources(name, files):
+    """A repository with these files, and no tool but those that read them: the comments of others name files that it doesn't have."""
+    top = repository(name, files)
+    for it in (top / "tools").glob("**/*"):
+        if it.is_file() and it.name not in ("dead", "names", "names-left", "words.py", "definitions.py", "comments.py"):
+            it.unlink()
+    return top
+
+
 @case
 def dead():
-    top = repository("dead", SMALL)
+    top = of_sources("dead", SMALL)
     said = run(top / "tools/dead")
     expect("dead", said, 1, "Words.antt:13: unused", "Lemmas.antt:10: dead_lemma", "only_of_dead", "lib.rt:28: fn dead_fn", "nobody needs 4")
     expect_none("dead", said, "used_lemma (", "helper", "pair_of", "kept_law", "fn law", "fn main", "caller (", "fn called")
     clean = SMALL | {"crates/low/proofs/Lemmas.antt": SMALL["crates/low/proofs/Lemmas.antt"].split("pub dead_lemma")[0]}
     clean["crates/low/specs/Words.antt"] = clean["crates/low/specs/Words.antt"].replace("abbrev pub unused : ℕ\nunused = word\n\n", "")
     clean["crates/low/src/lib.rt"] = clean["crates/low/src/lib.rt"].replace("fn dead_fn() -> u32 {\n    dead_fn()\n}\n", "")
-    expect("dead, without them", run(repository("alive", clean) / "tools/dead"), 0, "all definitions, lemmas and functions are needed")
+    top = of_sources("alive", clean)
+    expect("dead, without them", run(top / "tools/dead"), 0, "all definitions, lemmas and functions are needed")
+    comments = {
+        "tools/mine.py": '"""Reads crates/low/specs/Words.antt,\nand crates/low/specs/Gone.antt."""\nwords = "docs/GONE.md"  # as in lib/words.py and gone.py\n',
+        "tools/c/mine.h": "/* As crates/low/src/lib.rt has it,\n * and docs/GONE.md; net/core/dev.c has more. */\n// see mine.py\n",
+        "tools/mine": "#!/bin/sh\n# tools/gone, and OUT.schedule\necho docs/GONE.md\n",
+    }
+    for path, text in comments.items():
+        (top / path).parent.mkdir(exist_ok=True)
+        (top / path).write_text(text, encoding="utf-8")
+    said = run(top / "tools/dead")
+    gone = ["tools/c/mine.h:2: a comment names docs/GONE.md", "tools/mine:2: a comment names tools/gone", "tools/mine.py:2: a comment names crates/low/specs/Gone.antt", "tools/mine.py:3: a comment names gone.py"]
+    expect("dead, comments", said, 1, *gone)
+    is_equal("dead, comments", said[1].count("a comment names"), len(gone))
 
 
 @case

@@ -1,12 +1,12 @@
 -- The run of one sender over all stations of a plan without events: its fates are settled.
-use Rattle.std.proofs.Common.{◌≡◌, ℕ, zero, suc, ◌+◌, ◌%◌, ◌<◌, ◌≤◌, ◌==◌, Bool, true, false, cond, List, [], ◌∷◌, ◌++◌, ◌⊎◌, inl, inr, length, map, filter, Option, Some, None, nat_le, slice_get, refl, sym, ap, ap₂, subst, ◌∙◌, eqb-true, arith}
+use Rattle.std.proofs.Common.{◌≡◌, ℕ, zero, suc, ◌+◌, ◌<◌, ◌≤◌, ◌==◌, Bool, true, false, cond, List, [], ◌∷◌, ◌++◌, ◌⊎◌, inl, inr, length, map, filter, Option, Some, None, nat_le, slice_get, refl, sym, ap, ap₂, subst, ◌∙◌, eqb-true, arith}
 use Rattle.std.specs.Option.{option_and_then, option_map, option_map_or, unwrap_or}
-use Rattle.std.proofs.lemmas.Bool.{cond_both, eqb-false}
+use Rattle.std.proofs.lemmas.Bool.{eqb-false}
 use Rattle.std.proofs.lemmas.List.{length-map, map-append}
 use Rattle.std.proofs.lemmas.Option.{same_Some, slice_get_cases, slice_get-map}
 use Rattle.lq_model.proofs.FirstNumbers.{first-at, length-first_numbers}
 use Rattle.lq_model.specs.Account.{Account, held}
-use Rattle.lq_model.specs.Alone.{RunningStation, after_packets, after_run, alone, before_of, brought_in, bypass_of, changed_where, events_before, events_after, fate_in, run_fates, finished, new_station, new_stations, opened, served, with_events, with_packet, with_turn, with_wakes}
+use Rattle.lq_model.specs.Alone.{RunningStation, after_packets, after_run, alone, before_of, brought_in, bypass_of, changed_where, events_before, events_after, fate_in, run_fates, finished, new_station, new_stations, opened, opened_and_served, served, turn_ended, with_events, with_packet, with_turn}
 use Rattle.lq_model.specs.Numbers.{first_numbers}
 use Rattle.lq_model.specs.Plan.{Plan, station_in}
 use Rattle.lq_model.specs.declared.fate.Fate.{Fate}
@@ -69,7 +69,7 @@ record AreInRun (plan : Plan) (infos : List Info) (n : ℕ) (stations : List Run
   one_each : length stations ≡ length plan.stations
   each : (j : ℕ) (s : RunningStation) → slice_get stations j ≡ Some s → IsInRun plan infos j n s
 
-module _ (plan : Plan) (infos : List Info) (plain : IsPlain plan infos) where
+module _ (plan : Plan) (infos : List Info) (opens : ℕ → ℕ) (plain : IsPlain plan infos) where
   all-begin : AreInRun plan infos 0 (new_stations 0 plan.stations)
   all-begin = record {
     one_each = length-new 0 plan.stations;
@@ -94,9 +94,17 @@ module _ (plan : Plan) (infos : List Info) (plain : IsPlain plan infos) where
     ];
   }
 
-  all-woken : (n m : ℕ) (stations : List RunningStation) → AreInRun plan infos m stations → AreInRun plan infos m (with_wakes plan n stations)
-  all-woken n m stations all = cond_both ((n + 1) % plan.irq_every == 0) (map opened stations) stations (AreInRun plan infos m)
-      (λ wakes. all-mapped opened m stations (λ j s h. opened_in_run plan infos j plain.queues m s h) all) (λ none. all)
+  all-served : (m : ℕ) (stations : List RunningStation) → AreInRun plan infos m stations → AreInRun plan infos m (map (served infos) stations)
+  all-served m stations all = all-mapped (served infos) m stations (λ j s h. served_in_run plan infos j plain.queues m s h) all
+
+  all-opened : (times m : ℕ) (stations : List RunningStation) → AreInRun plan infos m stations → AreInRun plan infos m (opened_and_served infos times stations)
+  all-opened zero m stations all = all
+  all-opened (suc times) m stations all =
+      all-served m _ (all-mapped opened m _ (λ j s h. opened_in_run plan infos j plain.queues m s h) (all-opened times m stations all))
+
+  all-turned : (times m : ℕ) (stations : List RunningStation) → AreInRun plan infos m stations → AreInRun plan infos m (turn_ended infos times stations)
+  all-turned zero m stations all = all-served m stations all
+  all-turned (suc times) m stations all = all-opened (suc times) m stations all
 
   none-before : (n : ℕ) → events_before plan n ≡ []
   none-before n = ap (λ count. filter (λ event. before_of plan event == n) (first_numbers count)) (ap length plain.no_events)
@@ -104,23 +112,22 @@ module _ (plan : Plan) (infos : List Info) (plain : IsPlain plan infos) where
   none-after : (n : ℕ) → events_after plan n ≡ []
   none-after n = ap (λ count. filter (λ event. nat_le n (before_of plan event)) (first_numbers count)) (ap length plain.no_events)
 
-  all-turn : (n : ℕ) (stations : List RunningStation) → n < length infos → AreInRun plan infos n stations → AreInRun plan infos (n + 1) (with_turn plan infos (λ n. true) n stations)
+  all-turn : (n : ℕ) (stations : List RunningStation) → n < length infos → AreInRun plan infos n stations → AreInRun plan infos (n + 1) (with_turn plan infos opens (λ n. true) n stations)
   all-turn n stations within all =
-      all-mapped (served infos) (n + 1) _ (λ j s h. served_in_run plan infos j plain.queues (n + 1) s h)
-      (all-woken n (n + 1) _ (all-brought n _ within
-      (subst (λ events. AreInRun plan infos n (with_events plan infos events stations)) (sym (none-before n)) all)))
+      all-turned (opens n) (n + 1) _ (all-brought n _ within
+      (subst (λ events. AreInRun plan infos n (with_events plan infos events stations)) (sym (none-before n)) all))
 
-  all-packets : (n : ℕ) → n ≤ length infos → AreInRun plan infos n (after_packets plan infos (λ n. true) (new_stations 0 plan.stations) n)
+  all-packets : (n : ℕ) → n ≤ length infos → AreInRun plan infos n (after_packets plan infos opens (λ n. true) (new_stations 0 plan.stations) n)
   all-packets zero within = all-begin
-  all-packets (suc n) within = subst (λ k. AreInRun plan infos k (with_turn plan infos (λ n. true) n (after_packets plan infos (λ n. true) (new_stations 0 plan.stations) n))) (omega arith)
+  all-packets (suc n) within = subst (λ k. AreInRun plan infos k (with_turn plan infos opens (λ n. true) n (after_packets plan infos opens (λ n. true) (new_stations 0 plan.stations) n))) (omega arith)
       (all-turn n _ (omega arith) (all-packets n (omega arith)))
 
   -- the stations after the run
   abbrev ended : List RunningStation
-  ended = after_run plan infos (λ n. true) (new_stations 0 plan.stations)
+  ended = after_run plan infos opens (λ n. true) (new_stations 0 plan.stations)
 
-  all-after : AreInRun plan infos (length infos) (with_events plan infos (events_after plan (length infos)) (after_packets plan infos (λ n. true) (new_stations 0 plan.stations) (length infos)))
-  all-after = subst (λ events. AreInRun plan infos (length infos) (with_events plan infos events (after_packets plan infos (λ n. true) (new_stations 0 plan.stations) (length infos))))
+  all-after : AreInRun plan infos (length infos) (with_events plan infos (events_after plan (length infos)) (after_packets plan infos opens (λ n. true) (new_stations 0 plan.stations) (length infos)))
+  all-after = subst (λ events. AreInRun plan infos (length infos) (with_events plan infos events (after_packets plan infos opens (λ n. true) (new_stations 0 plan.stations) (length infos))))
       (sym (none-after (length infos))) (all-packets (length infos) (omega arith))
 
   all-ended : AreInRun plan infos (length infos) ended
@@ -128,7 +135,7 @@ module _ (plan : Plan) (infos : List Info) (plain : IsPlain plan infos) where
 
   none-held : (j : ℕ) (s : RunningStation) → slice_get ended j ≡ Some s → held s.account ≡ []
   none-held j s at =
-      let old = map-some (finished infos) (with_events plan infos (events_after plan (length infos)) (after_packets plan infos (λ n. true) (new_stations 0 plan.stations) (length infos))) j s at in
+      let old = map-some (finished infos) (with_events plan infos (events_after plan (length infos)) (after_packets plan infos opens (λ n. true) (new_stations 0 plan.stations) (length infos))) j s at in
       let h = all-after.each j old.0 old.1 in
       subst (λ (t : RunningStation). held t.account ≡ []) old.2 ((finished_by_rounds infos old.0 plain.queues h.one_queue).nothing_held h.active)
 
@@ -179,14 +186,14 @@ module _ (plan : Plan) (infos : List Info) (plain : IsPlain plan infos) where
         subst (IsSettledStation plan infos fates j) (sym (ap (λ o. option_map_or (λ (s : RunningStation). s.account) o (start_of plan j)) here.1)) (settled-station j here.0 below here.1));
   }
 
-  alone-fates : alone plan infos ≡ map Some fates
+  alone-fates : alone plan infos opens ≡ map Some fates
   unfolding run_fates
   alone-fates = all-some (fate_in ended infos) (length infos) (λ n within. (let here = station-at (station_in infos n) (plain.stations n within) in decided-at n (station_in infos n) here.0 within refl here.1))
 
-pub alone_settles : (plan : Plan) (infos : List Info) → IsPlain plan infos → AreAloneSettled plan infos
-alone_settles plan infos plain = record {
-  fates = fates plan infos plain;
-  are = alone-fates plan infos plain;
-  settled = accounts_settle plan infos _ _ (all-settled plan infos plain);
-  in_order = accounts_are_in_order plan infos _ _ (all-settled plan infos plain);
+pub alone_settles : (plan : Plan) (infos : List Info) (opens : ℕ → ℕ) → IsPlain plan infos → AreAloneSettled plan infos opens
+alone_settles plan infos opens plain = record {
+  fates = fates plan infos opens plain;
+  are = alone-fates plan infos opens plain;
+  settled = accounts_settle plan infos _ _ (all-settled plan infos opens plain);
+  in_order = accounts_are_in_order plan infos _ _ (all-settled plan infos opens plain);
 }

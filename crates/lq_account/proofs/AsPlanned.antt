@@ -1,6 +1,6 @@
 -- What control does by the plan, wherever it stands, is as the plan asks.
 use Rattle.std.proofs.Common.{◌≡◌, ℕ, suc, ◌+◌, ◌<◌, Bool, true, false, cond, List, [], ◌∷◌, inl, inr, length, filter_map, slice_get, Contains, Some, refl, sym, ap, subst, arith, le_refl, take_all}
-use Rattle.lq_model.specs.Account.{Account, Event, Down, Resize, Swap, Up}
+use Rattle.lq_model.specs.Account.{Account, Event, Resize, Swap, Up}
 use Rattle.lq_model.specs.Legal.{IsEventAt, IsLegal, IsNext, resize_event, down_event}
 use Rattle.lq_model.specs.Plan.{Plan, is_at, is_swap, is_swap_kind, unit_of_swap}
 use Rattle.lq_model.specs.declared.fate.Fate.{Fate}

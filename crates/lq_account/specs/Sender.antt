@@ -37,10 +37,10 @@ pub record IsPlain (plan : Plan) (infos : List Info) : Type 0 where
   pub bands : (n : ℕ) → band_in infos n < 3
   pub queues : AreOfOneQueue infos
 
--- the fates of the run of one sender: each packet has one, they are settled, and each owner's packets of a band were sent in
--- ascending number
-pub record AreAloneSettled (plan : Plan) (infos : List Info) : Type 0 where
+-- the fates of the run of one sender, however often queues are opened after each packet: each packet has one, they are settled, and
+-- each owner's packets of a band were sent in ascending number
+pub record AreAloneSettled (plan : Plan) (infos : List Info) (opens : ℕ → ℕ) : Type 0 where
   pub fates : List Fate
-  pub are : alone plan infos ≡ map Some fates
+  pub are : alone plan infos opens ≡ map Some fates
   pub settled : IsSettled plan infos fates
   pub in_order : IsInSenderOrder infos fates

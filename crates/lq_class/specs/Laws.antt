@@ -26,21 +26,28 @@ service_priority tos = by_service tos 4 6 2 0
 abbrev pub service_band : ℕ → ℕ
 service_band tos = by_service tos 1 0 2 1
 
--- IPV4 FRAMES
+-- IPV4 AND IPV6 FRAMES
 
 -- the two bytes from this place on are there, and are this EtherType
 pub record HasType (ethertype : ℕ) (frame : List ℕ) (place : ℕ) : Type 0 where
   pub present : place + 2 ≤ length frame
   pub value : from_be_bytes w16 (slice_range frame place (place + 2)) ≡ ethertype
 
--- What stands before the header. Of raw IP nothing does; of Ethernet two addresses and the type of IPv4, or two
--- addresses, one VLAN tag and the type of IPv4.
-pub data IsHeaderPlace (link : ℕ) (frame : List ℕ) : ℕ → Type 0 where
-  raw : link ≡ 101 → IsHeaderPlace link frame 0
-  untagged : link ≡ 1 → HasType 0x0800 frame 12 → IsHeaderPlace link frame 14
-  tagged : link ≡ 1 → HasType 0x8100 frame 12 → HasType 0x0800 frame 16 → IsHeaderPlace link frame 18
+-- What stands before the header of the protocol with this EtherType. Of raw IP nothing does; of Ethernet two addresses and the type, or
+-- two addresses, one VLAN tag and the type.
+pub data IsHeaderPlace (ethertype link : ℕ) (frame : List ℕ) : ℕ → Type 0 where
+  raw : link ≡ 101 → IsHeaderPlace ethertype link frame 0
+  untagged : link ≡ 1 → HasType ethertype frame 12 → IsHeaderPlace ethertype link frame 14
+  tagged : link ≡ 1 → HasType 0x8100 frame 12 → HasType ethertype frame 16 → IsHeaderPlace ethertype link frame 18
 
-pub record IsIpv4At (link : ℕ) (frame : List ℕ) (start : ℕ) : Type 0 where
-  pub place : IsHeaderPlace link frame start
-  pub whole : start + 20 ≤ length frame
-  pub version : slice_index frame start / 16 ≡ 4
+-- a header of this number, its version, and of so many bytes stands at the place
+pub record IsHeaderAt (ethertype size number link : ℕ) (frame : List ℕ) (start : ℕ) : Type 0 where
+  pub place : IsHeaderPlace ethertype link frame start
+  pub whole : start + size ≤ length frame
+  pub version : slice_index frame start / 16 ≡ number
+
+abbrev pub IsIpv4At : ℕ → List ℕ → ℕ → Type 0
+IsIpv4At link frame start = IsHeaderAt 0x0800 20 4 link frame start
+
+abbrev pub IsIpv6At : ℕ → List ℕ → ℕ → Type 0
+IsIpv6At link frame start = IsHeaderAt 0x86dd 40 6 link frame start

@@ -1,8 +1,8 @@
 //! Laws of the classes, in the words of a header's fields. Each function is its contract alone and does nothing.
 
 ghost use Rattle.std.specs.Prelude.{◌≡◌, ◌<◌, ◌*◌, ◌/◌, ◌↔◌, ℕ, List, Some};
-ghost use Rattle.lq_model.specs.Class.{tos_priority, band_of, ipv4_start};
-ghost use Rattle.lq_class.specs.Laws.{service_priority, service_band, IsIpv4At};
+ghost use Rattle.lq_model.specs.Class.{tos_priority, band_of, ipv4_start, ipv6_start};
+ghost use Rattle.lq_class.specs.Laws.{service_priority, service_band, IsIpv4At, IsIpv6At};
 
 /// Of all 256 types of service, the bits for low delay and high throughput alone decide the priority and the
 /// band. The bits of congestion notification, the lower two, don't count.
@@ -16,4 +16,10 @@ pub fn type_of_service()
 pub fn ipv4_header()
     ensures { (link : ℕ) (frame : List ℕ) (start : ℕ) →
         (ipv4_start link frame ≡ Some start) ↔ IsIpv4At link frame start }
+{}
+
+/// The same of IPv6.
+pub fn ipv6_header()
+    ensures { (link : ℕ) (frame : List ℕ) (start : ℕ) →
+        (ipv6_start link frame ≡ Some start) ↔ IsIpv6At link frame start }
 {}

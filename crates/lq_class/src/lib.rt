@@ -9,9 +9,11 @@
 ghost use Rattle.std.specs.Prelude.{◌≡◌, ◌<◌};
 ghost use Rattle.lq_model.specs.Class.{tos_priority, band_of, priority_of, source_byte_of, route_byte_of};
 
+mod flows;
 mod header;
 pub mod laws;
 
+pub use flows::flow;
 use header::ipv4_start;
 
 /// `ip_tos2prio`.

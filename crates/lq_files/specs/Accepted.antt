@@ -1,5 +1,5 @@
 -- What the bytes of a file are accepted as: a plan on a bench, a capture, a schedule with what it leaves; or the refusal.
-use Rattle.std.specs.Prelude.{◌≤◌, ℕ, nat_lt, if◌then◌else◌, List, length, Result, Ok, Err}
+use Rattle.std.specs.Prelude.{◌≤◌, ℕ, Bool, nat_lt, if◌then◌else◌, List, length, Result, Ok, Err}
 use Rattle.std.specs.Result.{result_flatten, result_map_both}
 use Rattle.lq_model.specs.Capture.{Refusal as CaptureRefusal}
 use Rattle.lq_model.specs.Plan.{Plan, unit_count}
@@ -42,10 +42,11 @@ pub record IsRunnable (have : ℕ) (p : Plan) : Type 0 where
 abbrev pub with_refusal : Result CaptureFile CaptureRefusal → Result CaptureFile Refusal
 with_refusal read = result_map_both (λ c. c) (λ r. refusal.Capture r.reason r.place) read
 
--- the capture that bytes are, in either format, or the refusal; more than 67,108,864 bytes are none, whatever they are
-abbrev pub limited_capture_of : List ℕ → Result CaptureFile Refusal
-limited_capture_of bytes =
-    if nat_lt 67108864 (length bytes) then Err (refusal.Capture capture.TooLong 67108864) else with_refusal (capture_file_of bytes)
+-- the capture that bytes are, in either format, or the refusal; `timed` says whether times are read; more than 67,108,864 bytes are
+-- none, whatever they are
+abbrev pub limited_capture_of : Bool → List ℕ → Result CaptureFile Refusal
+limited_capture_of timed bytes =
+    if nat_lt 67108864 (length bytes) then Err (refusal.Capture capture.TooLong 67108864) else with_refusal (capture_file_of timed bytes)
 
 -- SCHEDULES
 

@@ -41,14 +41,18 @@ pub fn place_on(have: usize, plan: Plan) -> Result<Plan, Refusal>
     }
 }
 
-/// The capture that bytes are, in either format, or why they aren't one.
-pub fn capture_in(alloc: Global, bytes: Vec<u8>) -> Result<Result<CaptureFile, Refusal>, Stop>
+/// The capture that bytes are, in either format, or why they aren't one; `timed` says whether times are read.
+pub fn capture_in(
+    alloc: Global,
+    bytes: Vec<u8>,
+    timed: bool,
+) -> Result<Result<CaptureFile, Refusal>, Stop>
     requires { vec_len bytes ≤ 67108864 }
-    ensures capture { IfOk result (λ read. read ≡ limited_capture_of bytes.items) }
+    ensures capture { IfOk result (λ read. read ≡ limited_capture_of timed bytes.items) }
     ensures not_usage { IfOk result (λ read. IfErr read (λ refusal. refusal ≢ Refusal.Usage)) }
     ensures no_fault { result ≢ Err Stop.Fault }
 {
-    match read_either(alloc, bytes) {
+    match read_either(alloc, bytes, timed) {
         Ok(capture) => Ok(Ok(capture)),
         Err(CaptureRefusal::Refused { reason, place }) => {
             Ok(Err(Refusal::Capture { reason, place }))

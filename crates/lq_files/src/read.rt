@@ -124,22 +124,23 @@ pub fn read_plan_file<H: Host>(
     }
 }
 
-/// The capture that a file is, or why it isn't one. That it is too long is found while it is read.
+/// The capture that a file is, or why it isn't one; `timed` says whether times are read. That it is too long is found while it is read.
 pub fn read_capture_file<H: Host>(
     alloc: Global,
     host: &mut H,
     name: &str,
+    timed: bool,
 ) -> Result<Result<CaptureFile, Refusal>, Stop>
     requires { H.may_open name.now }
     ensures capture { IfOk result (λ read. IfSome (H.state host.old).told (λ c.
-        option_map limited_capture_of (c.files name.now) ≡ Some read)) }
+        option_map (limited_capture_of timed) (c.files name.now) ≡ Some read)) }
     ensures not_usage { IfOk result (λ read. IfErr read (λ refusal. refusal ≢ Refusal.Usage)) }
-    ensures some { IfOk result (λ read. (bytes : List ℕ) × (limited_capture_of bytes ≡ read)) }
+    ensures some { IfOk result (λ read. (bytes : List ℕ) × (limited_capture_of timed bytes ≡ read)) }
     ensures same { H.state host.new ≡ H.state host.old }
     ensures cause { StopsFor (H.fault_count host.old) (H.fault_count host.new) result }
 {
     match read_file(alloc, host, name, MAX_CAPTURE)? {
-        Input::Whole(bytes) => capture_in(alloc, bytes),
+        Input::Whole(bytes) => capture_in(alloc, bytes, timed),
         Input::TooLong => Ok(Err(Refusal::Capture {
             reason: CaptureReason::TooLong,
             place: MAX_CAPTURE as u64,

@@ -1,5 +1,5 @@
--- The run of one sender whose devices tell: the fates are a function of the plan and the packets.
-use Rattle.std.specs.Prelude.{ℕ, zero, suc, ◌+◌, ◌-◌, ◌%◌, Bool, true, false, not, ◌&&◌, ◌||◌, nat_lt, nat_le, ◌==◌, if◌then◌else◌, List, [], ◌∷◌, length, map, filter, slice_get, slice_index, Option, Some, None, is_some, is_none}
+-- The run of one sender whose devices tell: the fates are a function of the plan, the packets, and how often queues are opened after each.
+use Rattle.std.specs.Prelude.{ℕ, zero, suc, ◌+◌, ◌-◌, Bool, true, false, not, ◌&&◌, ◌||◌, nat_lt, nat_le, ◌==◌, if◌then◌else◌, List, [], ◌∷◌, length, map, filter, slice_get, slice_index, Option, Some, None, is_some, is_none}
 use Rattle.std.specs.Option.{option_map_or, option_and_then}
 use Rattle.lq_model.specs.Account.{Account, Event, Join, Full, Refuse, Take, Pick, Direct, Send, Back, Stop, Wake, Resize, Down, Purge, Swap, Up, new_account, held, held_in, is_open, is_hung, is_all_open, is_shared, after}
 use Rattle.lq_model.specs.Band.{Band, held_of, stale_count}
@@ -144,7 +144,7 @@ taken_in infos bypass n None s = if bypass && s.clean then gone_direct infos n s
 abbrev pub brought_in : List Info → Bool → ℕ → RunningStation → RunningStation
 brought_in infos bypass n s = taken_in infos bypass n s.account.down s
 
--- WAKES
+-- OPENINGS
 
 -- each of the first so many queues that is stopped is open
 abbrev pub opened_queue : ℕ → Account → Account
@@ -208,15 +208,21 @@ abbrev pub with_packet : Plan → List Info → ℕ → List RunningStation → 
 with_packet plan infos n stations =
     changed_where (λ station. station == station_in infos n) (λ s. served infos (brought_in infos (bypass_of plan (station_in infos n)) n s)) stations
 
--- after a multiple of the plan's number of packets, stopped queues are woken
-abbrev pub with_wakes : Plan → ℕ → List RunningStation → List RunningStation
-with_wakes plan n stations = if (n + 1) % plan.irq_every == 0 then map opened stations else stations
+-- the stopped queues of all stations are opened so many times, and all stations served after each
+abbrev pub opened_and_served : List Info → ℕ → List RunningStation → List RunningStation
+opened_and_served infos zero stations = stations
+opened_and_served infos (suc times) stations = map (served infos) (map opened (opened_and_served infos times stations))
 
--- the plan's events before packet n, the packet if it is one that is offered, the wakes after it, and then all stations are served
-abbrev pub with_turn : Plan → List Info → (ℕ → Bool) → ℕ → List RunningStation → List RunningStation
-with_turn plan infos offers n stations =
+-- what follows a packet: where the queues aren't opened, all stations are served once
+abbrev pub turn_ended : List Info → ℕ → List RunningStation → List RunningStation
+turn_ended infos zero stations = map (served infos) stations
+turn_ended infos (suc times) stations = opened_and_served infos (suc times) stations
+
+-- the plan's events before packet n, the packet if it is one that is offered, and what follows it; `opens n` is how often the queues are opened then
+abbrev pub with_turn : Plan → List Info → (ℕ → ℕ) → (ℕ → Bool) → ℕ → List RunningStation → List RunningStation
+with_turn plan infos opens offers n stations =
     let ready = with_events plan infos (events_before plan n) stations in
-    map (served infos) (with_wakes plan n (if offers n then with_packet plan infos n ready else ready))
+    turn_ended infos (opens n) (if offers n then with_packet plan infos n ready else ready)
 
 abbrev pub new_station : ℕ → StationPlan → RunningStation
 new_station number s = record { account = new_account s.len number s.queues; clean = true; device = new_device s.params }
@@ -226,9 +232,9 @@ new_stations number [] = []
 new_stations number (s ∷ ss) = new_station number s ∷ new_stations (number + 1) ss
 
 -- the stations after the first so many packets, from these on
-abbrev pub after_packets : Plan → List Info → (ℕ → Bool) → List RunningStation → ℕ → List RunningStation
-after_packets plan infos offers start zero = start
-after_packets plan infos offers start (suc n) = with_turn plan infos offers n (after_packets plan infos offers start n)
+abbrev pub after_packets : Plan → List Info → (ℕ → ℕ) → (ℕ → Bool) → List RunningStation → ℕ → List RunningStation
+after_packets plan infos opens offers start zero = start
+after_packets plan infos opens offers start (suc n) = with_turn plan infos opens offers n (after_packets plan infos opens offers start n)
 
 -- THE END
 
@@ -250,9 +256,9 @@ abbrev pub finished : List Info → RunningStation → RunningStation
 finished infos s = let t = finished_rounds infos (length (held s.account) + 1) s in record t { account = purged_if_hung t.account }
 
 -- after all packets come the events that are left, and then each station is finished
-abbrev pub after_run : Plan → List Info → (ℕ → Bool) → List RunningStation → List RunningStation
-after_run plan infos offers start =
-    map (finished infos) (with_events plan infos (events_after plan (length infos)) (after_packets plan infos offers start (length infos)))
+abbrev pub after_run : Plan → List Info → (ℕ → ℕ) → (ℕ → Bool) → List RunningStation → List RunningStation
+after_run plan infos opens offers start =
+    map (finished infos) (with_events plan infos (events_after plan (length infos)) (after_packets plan infos opens offers start (length infos)))
 
 -- THE FATES
 
@@ -260,12 +266,12 @@ abbrev pub fate_in : List RunningStation → List Info → ℕ → Option Fate
 fate_in stations infos n = option_and_then (λ s. s.account.fates n) (slice_get stations (station_in infos n))
 
 -- the fate of each packet, in ascending number, where these packets are offered; every other has none
-unfoldable pub run_fates : Plan → List Info → (ℕ → Bool) → List (Option Fate)
-run_fates plan infos offers = map (fate_in (after_run plan infos offers (new_stations 0 plan.stations)) infos) (first_numbers (length infos))
+unfoldable pub run_fates : Plan → List Info → (ℕ → ℕ) → (ℕ → Bool) → List (Option Fate)
+run_fates plan infos opens offers = map (fate_in (after_run plan infos opens offers (new_stations 0 plan.stations)) infos) (first_numbers (length infos))
 
-abbrev pub alone : Plan → List Info → List (Option Fate)
-alone plan infos = run_fates plan infos (λ n. true)
+abbrev pub alone : Plan → List Info → (ℕ → ℕ) → List (Option Fate)
+alone plan infos opens = run_fates plan infos opens (λ n. true)
 
--- where only the packets of one station are offered: each keeps its number, so that events and wakes come where they come in the whole run
-abbrev pub alone_at : Plan → List Info → ℕ → List (Option Fate)
-alone_at plan infos station = run_fates plan infos (λ n. station_in infos n == station)
+-- where only the packets of one station are offered: each keeps its number, so that events and openings come where they come in the whole run
+abbrev pub alone_at : Plan → List Info → (ℕ → ℕ) → ℕ → List (Option Fate)
+alone_at plan infos opens station = run_fates plan infos opens (λ n. station_in infos n == station)

@@ -1,6 +1,6 @@
 -- Captures: files in the classic libpcap format 2.4 (pcap-savefile). A capture is a file header of 24 bytes and then
 -- packet records to the end of the file. All numbers of a file have one byte order, which the magic number shows.
-use Rattle.std.specs.Prelude.{ℕ, zero, suc, ◌+◌, Bool, ◌||◌, not, nat_lt, nat_le, ◌==◌, if◌then◌else◌, List, ◌++◌, length, take, drop, map, slice_range, Option, Some, None, Result, Ok, Err}
+use Rattle.std.specs.Prelude.{ℕ, zero, suc, ◌+◌, ◌*◌, Bool, ◌||◌, not, nat_lt, nat_le, ◌==◌, if◌then◌else◌, List, ◌++◌, length, take, drop, map, slice_range, Option, Some, None, Result, Ok, Err}
 use Rattle.std.specs.Int.{w16, w32, from_le_bytes, from_be_bytes}
 use Rattle.std.specs.List.{flat_map}
 use Rattle.std.specs.Option.{option_map_or}
@@ -45,8 +45,8 @@ major_version bytes = short_number_at bytes 4
 -- A PACKET RECORD
 --
 --   place  bytes  field
---       0      4  seconds, not interpreted
---       4      4  microseconds or nanoseconds, not interpreted
+--       0      4  seconds since the start of 1970
+--       4      4  microseconds or nanoseconds after that
 --       8      4  captured length, at most 262,144
 --      12      4  length on the wire, not interpreted
 --      16         the captured bytes of the packet
@@ -121,16 +121,26 @@ records_of c = map (record_of c) (first_numbers c.count)
 abbrev pub frame_of : Capture → ℕ → List ℕ
 frame_of c i = drop 16 (record_of c i)
 
+-- the time of record i, in nanoseconds since the start of 1970: its second number counts microseconds, or nanoseconds where the magic number says so
+abbrev pub counts_nanoseconds : List ℕ → Bool
+counts_nanoseconds bytes = number_at bytes 0 == 0xa1b2_3c4d
+
+abbrev pub time_of : Capture → ℕ → ℕ
+time_of c i =
+    let place = place_of c.bytes i in
+    number_at c.bytes place * 1000000000 + number_at c.bytes (place + 4) * (if counts_nanoseconds c.bytes then 1 else 1000)
+
 -- the capture with the same header and these records, in the order of the list
 abbrev pub capture_text : Capture → List ℕ → List ℕ
 capture_text c packets = header_of c ++ flat_map (record_of c) packets
 
--- THE PACKETS OF A CAPTURE, in whatever format: how many there are, and of each by its number its link type and its
--- captured bytes
+-- THE PACKETS OF A CAPTURE, in whatever format: how many there are, and of each by its number its link type, its captured
+-- bytes and its time in nanoseconds
 pub record Packets : Type 0 where
   pub count : ℕ
   pub link : ℕ → ℕ
   pub frame : ℕ → List ℕ
+  pub time : ℕ → ℕ
 
 abbrev pub packets_of : Capture → Packets
-packets_of c = record { count = c.count; link = λ i. link_of c; frame = frame_of c }
+packets_of c = record { count = c.count; link = λ i. link_of c; frame = frame_of c; time = time_of c }

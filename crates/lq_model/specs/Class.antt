@@ -20,21 +20,21 @@ band_table = 1 ∷ 2 ∷ 2 ∷ 2 ∷ 1 ∷ 2 ∷ 0 ∷ 0 ∷ 1 ∷ 1 ∷ 1 ∷ 1
 unfoldable pub band_of : ℕ → ℕ
 band_of priority = slice_index band_table (bit_and priority 15)
 
--- THE IPV4 HEADER
+-- THE NETWORK HEADER
 
 -- whether the two bytes at this place are there, and are this EtherType
 abbrev pub has_type : List ℕ → ℕ → ℕ → Bool
 has_type frame place type = nat_le (place + 2) (length frame) && (from_be_bytes w16 (slice_range frame place (place + 2)) == type)
 
--- where an Ethernet frame's IPv4 header would begin: after the type of IPv4, or after one VLAN tag and that type
-abbrev pub ethernet_start : List ℕ → Option ℕ
-ethernet_start frame =
-    if has_type frame 12 0x0800 then Some 14
-    else if has_type frame 12 0x8100 && has_type frame 16 0x0800 then Some 18 else None
+-- where the header of the protocol with this EtherType would begin in an Ethernet frame: after the type, or after one VLAN tag and the type
+abbrev pub ethernet_start : ℕ → List ℕ → Option ℕ
+ethernet_start type frame =
+    if has_type frame 12 type then Some 14
+    else if has_type frame 12 0x8100 && has_type frame 16 type then Some 18 else None
 
 -- the same of a frame of any network: Ethernet is number 1, raw IP is number 101
-abbrev pub network_start : ℕ → List ℕ → Option ℕ
-network_start link frame = if link == 1 then ethernet_start frame else if link == 101 then Some 0 else None
+abbrev pub network_start : ℕ → ℕ → List ℕ → Option ℕ
+network_start type link frame = if link == 1 then ethernet_start type frame else if link == 101 then Some 0 else None
 
 -- whether 20 bytes are there from this place on, and the first one's upper four bits are 4
 abbrev pub has_ipv4 : List ℕ → ℕ → Bool
@@ -42,7 +42,14 @@ has_ipv4 frame start = nat_le (start + 20) (length frame) && (slice_index frame 
 
 -- where the frame's IPv4 header begins; None of a frame that isn't IPv4
 unfoldable pub ipv4_start : ℕ → List ℕ → Option ℕ
-ipv4_start link frame = option_and_then (λ start. if has_ipv4 frame start then Some start else None) (network_start link frame)
+ipv4_start link frame = option_and_then (λ start. if has_ipv4 frame start then Some start else None) (network_start 0x0800 link frame)
+
+-- the same of IPv6, whose header has 40 bytes: its upper four bits are 6
+abbrev pub has_ipv6 : List ℕ → ℕ → Bool
+has_ipv6 frame start = nat_le (start + 40) (length frame) && (slice_index frame start / 16 == 6)
+
+unfoldable pub ipv6_start : ℕ → List ℕ → Option ℕ
+ipv6_start link frame = option_and_then (λ start. if has_ipv6 frame start then Some start else None) (network_start 0x86dd link frame)
 
 -- CLASSES
 

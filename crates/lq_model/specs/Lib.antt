@@ -8,6 +8,8 @@ pub mod Capture
 pub mod Generated
 -- the class of a frame
 pub mod Class
+-- the hash of its flow
+pub mod Flow
 -- fates and counts as texts
 pub mod Texts
 -- fates as words of a table
@@ -30,6 +32,8 @@ pub mod Settled
 pub mod Sent
 -- completeness of fates: where each packet is sent
 pub mod Complete
+-- how often queues are opened after a packet
+pub mod Openings
 -- the run of one sender
 pub mod Alone
 -- small runs of one sender

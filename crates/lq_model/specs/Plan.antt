@@ -1,6 +1,7 @@
 -- Plans, and what each packet of a capture is to the rules.
-use Rattle.std.specs.Prelude.{◌≡◌, ◌<◌, ℕ, ◌+◌, ◌%◌, Bool, true, false, ◌&&◌, ◌==◌, nat_le, nat_lt, if◌then◌else◌, List, [], ◌∷◌, length, take, map, sum, count_by, slice_get}
+use Rattle.std.specs.Prelude.{◌≡◌, ◌<◌, ℕ, ◌+◌, ◌/◌, ◌%◌, Bool, true, false, ◌&&◌, ◌==◌, nat_le, nat_lt, if◌then◌else◌, List, [], ◌∷◌, length, take, map, sum, count_by, slice_get}
 use Rattle.std.specs.Option.{option_map_or}
+use Rattle.lq_model.specs.Flow.{flow_of}
 use Rattle.lq_model.specs.Numbers.{first_numbers}
 use Rattle.lq_model.specs.Capture.{Packets}
 use Rattle.lq_model.specs.Class.{priority_of, band_of, source_byte_of, route_byte_of}
@@ -8,23 +9,34 @@ use Rattle.lq_model.specs.declared.fate.Info.{Info}
 use Rattle.lq_model.specs.declared.plan.EventKind.{EventKind}
 use Rattle.lq_model.specs.declared.plan.EventKind.TheVariants.{Swap}
 use Rattle.lq_model.specs.declared.plan.EventPlan.{EventPlan}
+use Rattle.lq_model.specs.declared.plan.Irq.{Irq}
 use Rattle.lq_model.specs.declared.plan.Split.{Split}
-use Rattle.lq_model.specs.declared.plan.Split.TheVariants.{Round, Source}
+use Rattle.lq_model.specs.declared.plan.Split.TheVariants as split
+use Rattle.lq_model.specs.declared.plan.Spread.{Spread}
+use Rattle.lq_model.specs.declared.plan.Spread.TheVariants as spread
 use Rattle.lq_model.specs.declared.plan.StationPlan.{StationPlan}
 
 -- PLANS
 
 pub record Plan : Type 0 where
+  -- the version of its text
+  pub version : ℕ
   -- how many threads send, and how the packets are split among them
   pub senders : ℕ
   pub split : Split
-  -- after so many packets of a sender it wakes the stopped queues
-  pub irq_every : ℕ
+  -- by what each packet's station, queue and child are chosen
+  pub spread : Spread
+  -- when the stopped queues are opened
+  pub irq : Irq
   -- the stations, group by group; and how many of them each group has
   pub stations : List StationPlan
   pub groups : List ℕ
   -- what is done to stations on the way, each event numbered by its place
   pub events : List EventPlan
+
+-- whether the times of a capture are read
+abbrev pub reads_times : Plan → Bool
+reads_times plan = nat_le 4 plan.version
 
 -- UNITS
 --
@@ -72,21 +84,31 @@ after_events change station (event ∷ events) e x = after_events change station
 
 -- WHAT A PACKET IS TO THE RULES
 
--- by what packet n is split: its number, or its source byte
+-- a frame's source byte and its route byte, or, where they are spread by flow, the upper and the lower 16 bits of its flow's hash
+abbrev pub source_number : Spread → Packets → ℕ → ℕ
+source_number spread.Bytes packets n = source_byte_of (packets.link n) (packets.frame n)
+source_number spread.Flow packets n = option_map_or (λ hash. hash / 65536) (flow_of (packets.link n) (packets.frame n)) (source_byte_of (packets.link n) (packets.frame n))
+
+abbrev pub route_number : Spread → Packets → ℕ → ℕ
+route_number spread.Bytes packets n = route_byte_of (packets.link n) (packets.frame n)
+route_number spread.Flow packets n = option_map_or (λ hash. hash % 65536) (flow_of (packets.link n) (packets.frame n)) (route_byte_of (packets.link n) (packets.frame n))
+
+-- by what packet n is split: its number, its source byte, or its flow's hash
 abbrev pub split_number : Split → Packets → ℕ → ℕ
-split_number Round packets n = n
-split_number Source packets n = source_byte_of (packets.link n) (packets.frame n)
+split_number split.Round packets n = n
+split_number split.Source packets n = source_byte_of (packets.link n) (packets.frame n)
+split_number split.Flow packets n = option_map_or (λ hash. hash) (flow_of (packets.link n) (packets.frame n)) (source_byte_of (packets.link n) (packets.frame n))
 
 abbrev pub owner_of : Plan → Packets → ℕ → ℕ
 owner_of plan packets n = split_number plan.split packets n % plan.senders
 
--- the group that its route leads to, and the child of that which its source byte chooses
+-- the group that its route number leads to, and the child of that which its source number chooses
 abbrev pub group_of : Plan → Packets → ℕ → ℕ
-group_of plan packets n = route_byte_of (packets.link n) (packets.frame n) % length plan.groups
+group_of plan packets n = route_number plan.spread packets n % length plan.groups
 
 abbrev pub station_of : Plan → Packets → ℕ → ℕ
 station_of plan packets n =
-    first_at plan.groups (group_of plan packets n) + source_byte_of (packets.link n) (packets.frame n) % mq_at plan.groups (group_of plan packets n)
+    first_at plan.groups (group_of plan packets n) + source_number plan.spread packets n % mq_at plan.groups (group_of plan packets n)
 
 -- the number of transmit queues that share the rings of a station; 1 of no station
 abbrev pub queues_at : List StationPlan → ℕ → ℕ
@@ -94,7 +116,7 @@ queues_at stations station = option_map_or (λ s. s.queues) (slice_get stations 
 
 -- the queue that a packet is offered on
 abbrev pub queue_of : Plan → Packets → ℕ → ℕ
-queue_of plan packets n = source_byte_of (packets.link n) (packets.frame n) % queues_at plan.stations (station_of plan packets n)
+queue_of plan packets n = source_number plan.spread packets n % queues_at plan.stations (station_of plan packets n)
 
 -- how many lower packets have the same owner and station
 abbrev pub rank_of : Plan → Packets → ℕ → ℕ

@@ -1,13 +1,18 @@
 -- Small runs of one sender, and their fates.
-use Rattle.std.specs.Prelude.{◌≡◌, ℕ, Bool, List, [], ◌∷◌, map, Some}
+use Rattle.std.specs.Prelude.{◌≡◌, ℕ, Bool, List, [], ◌∷◌, length, map, slice_index, Some}
 use Rattle.lq_model.specs.Alone.{alone}
+use Rattle.lq_model.specs.Capture.{Packets}
+use Rattle.lq_model.specs.Numbers.{first_numbers}
+use Rattle.lq_model.specs.Openings.{openings}
 use Rattle.lq_model.specs.Plan.{Plan}
 use Rattle.lq_model.specs.declared.device.Params.{Params}
 use Rattle.lq_model.specs.declared.fate.Fate.{Fate}
 use Rattle.lq_model.specs.declared.fate.Info.{Info}
 use Rattle.lq_model.specs.declared.plan.EventKind.{EventKind}
 use Rattle.lq_model.specs.declared.plan.EventPlan.{EventPlan}
+use Rattle.lq_model.specs.declared.plan.Irq.TheVariants.{Every}
 use Rattle.lq_model.specs.declared.plan.Split.TheVariants.{Round}
+use Rattle.lq_model.specs.declared.plan.Spread.TheVariants.{Bytes}
 use Rattle.lq_model.specs.declared.plan.StationPlan.{StationPlan}
 
 -- packets of one station, by their bands; and by their queues and bands
@@ -31,9 +36,11 @@ station len bypass params = record { len = len; max_len = len; bypass = bypass; 
 -- a plan of these stations
 abbrev pub plan_of_stations : ℕ → List StationPlan → List EventPlan → Plan
 plan_of_stations irq_every stations events = record {
+  version = 1;
   senders = 1;
   split = Round;
-  irq_every = irq_every;
+  spread = Bytes;
+  irq = Every irq_every;
   stations = stations;
   groups = map (λ s. 1) stations;
   events = events;
@@ -59,6 +66,18 @@ group_event_at before kind = record (event_at before kind) { mq = 2 }
 abbrev pub no_rules : Params
 no_rules = with_burst 0
 
--- the plan and the packets have just these fates
+-- packets without bytes that have these times
+abbrev pub packets_at : List ℕ → Packets
+packets_at times = record { count = length times; link = λ n. 0; frame = λ n. []; time = slice_index times }
+
+-- the plan and the packets, which have these times, have just these fates
+abbrev pub HaveFatesBy : List ℕ → Plan → List Info → List Fate → Type 0
+HaveFatesBy times plan infos fates = alone plan infos (openings plan (packets_at times)) ≡ map (λ fate. Some fate) fates
+
+-- so they have where times don't matter
 abbrev pub HaveFates : Plan → List Info → List Fate → Type 0
-HaveFates plan infos fates = alone plan infos ≡ map (λ fate. Some fate) fates
+HaveFates plan infos fates = HaveFatesBy (map (λ info. 0) infos) plan infos fates
+
+-- how often the queues are opened after each packet, where the packets have these times
+abbrev pub HasOpenings : Plan → List ℕ → List ℕ → Type 0
+HasOpenings plan times opens = map (openings plan (packets_at times)) (first_numbers (length times)) ≡ opens

@@ -8,6 +8,26 @@ pub enum Split {
     Round,
     /// By the last byte of their source address.
     Source,
+    /// By the hash of their flow; a packet that has none by its source byte.
+    Flow,
+}
+
+/// By what each packet's station, queue and child of a multi-queue root are chosen.
+#[derive(Clone, Copy, Debug, PartialEq, Eq)]
+pub enum Spread {
+    /// By the last bytes of its addresses.
+    Bytes,
+    /// By the hash of its flow; a packet that has none by those bytes.
+    Flow,
+}
+
+/// When the stopped queues are opened, as a driver's interrupt does it.
+#[derive(Clone, Copy, Debug, PartialEq, Eq)]
+pub enum Irq {
+    /// After each so many packets of a sender.
+    Every { packets: u32 },
+    /// At each multiple of so many microseconds of the capture's own time.
+    Period { microseconds: u32 },
 }
 
 /// A station: a queueing discipline with its queue and its first device. Each child of a multi-queue root is one.

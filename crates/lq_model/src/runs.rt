@@ -1,6 +1,7 @@
 //! Small runs of one sender, worked out: each clause is computed from the definition of the run.
 ghost use Rattle.std.specs.Prelude.{◌≡◌, [], ◌∷◌, true, false};
-ghost use Rattle.lq_model.specs.Runs.{packets_in_bands, packets_on, packets_to, station, plan_of_stations, group_of_two, group_event_at, one_station, no_rules, with_burst, event_at, HaveFates};
+ghost use Rattle.lq_model.specs.Runs.{packets_in_bands, packets_on, packets_to, station, plan_of_stations, group_of_two, group_event_at, one_station, no_rules, with_burst, event_at, HaveFates, HaveFatesBy, HasOpenings};
+ghost use Rattle.lq_model.specs.declared.plan.Irq.TheVariants.{Period};
 ghost use Rattle.lq_model.specs.declared.fate.Fate.TheVariants.{Sent, Full, Shrunk, Purged, Refused};
 ghost use Rattle.lq_model.specs.declared.fate.Cause.TheVariants.{Event, Hung};
 ghost use Rattle.lq_model.specs.declared.plan.EventKind.TheVariants as kind;
@@ -106,4 +107,22 @@ pub fn each_child_is_a_station()
         (Sent 1 0 ∷ Sent 0 0 ∷ Sent 1 1 ∷ []) }
     ensures deactivated { HaveFates (group_of_two (station 1000 true no_rules) (group_event_at 2 kind.Down ∷ []))
         (packets_to (1 ∷ 0 ∷ 1 ∷ 0 ∷ [])) (Sent 1 0 ∷ Sent 0 0 ∷ Refused 0 ∷ Refused 0 ∷ []) }
+{}
+
+/// Queues are opened at each multiple of 10 microseconds of the capture's time: none lies between packets 0 and 1 or where time stands
+/// or goes back, one between 1 and 2, at which packet 2 has the multiple's own time, and four after packet 4. In a day there are more than are
+/// asked for. By the number of packets they are opened after each second one, whatever the times are.
+pub fn queues_open_by_time()
+    ensures by_time { HasOpenings (record (one_station 1 1000 true no_rules []) { irq = Period 10 })
+        (0 ∷ 5000 ∷ 10000 ∷ 10000 ∷ 9999 ∷ 40000 ∷ 86400000040000 ∷ []) (0 ∷ 1 ∷ 0 ∷ 0 ∷ 4 ∷ 65535 ∷ 0 ∷ []) }
+    ensures by_packets { HasOpenings (one_station 2 1000 true no_rules []) (0 ∷ 9 ∷ 5 ∷ 5 ∷ 8 ∷ []) (0 ∷ 1 ∷ 0 ∷ 1 ∷ 0 ∷ []) }
+{}
+
+/// Three multiples lie between packets 3 and 4. At the first packet 1 leaves the requeue slot, at the second packet 2 its ring of one slot, and at the
+/// third the queue stays open, so that packet 4 goes past the bands. Packet 3 found packet 2 in its slot.
+#[tactic(auto, unfolding(crate::specs::Alone::run_fates))]
+pub fn each_multiple_opens_once()
+    ensures { HaveFatesBy (0 ∷ 1000 ∷ 2000 ∷ 3000 ∷ 33000 ∷ 34000 ∷ []) (record (one_station 1 1 true (with_burst 1) []) { irq = Period 10 })
+        (packets_in_bands (1 ∷ 1 ∷ 1 ∷ 1 ∷ 1 ∷ 1 ∷ []))
+        (Sent 0 0 ∷ Sent 0 1 ∷ Sent 0 2 ∷ Full 2 ∷ Sent 0 3 ∷ Sent 0 4 ∷ []) }
 {}

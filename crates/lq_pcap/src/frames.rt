@@ -1,5 +1,5 @@
 //! Captured packets, in whatever format they were read.
-ghost use Rattle.std.specs.Prelude.{◌≡◌, ◌≤◌, ◌<◌};
+ghost use Rattle.std.specs.Prelude.{◌≡◌, ◌-◌, ◌==◌, ◌≤◌, ◌<◌, if◌then◌else◌};
 ghost use Rattle.lq_model.specs.Capture.{Packets};
 
 use crate::records::Capture;
@@ -23,6 +23,13 @@ pub trait Frames {
     fn link_of(&self, i: usize) -> u32
         requires { i < (packets self.now).count }
         ensures { result ≡ (packets self.now).link i };
+
+    /// The time of packet `i`, in nanoseconds since the start of 1970. `before` is the time of the packet before it, and 0
+    /// before the first: a packet of a format that leaves its time out has that one.
+    fn time(&self, i: usize, before: u128) -> u128
+        requires known { i < (packets self.now).count }
+        requires before { before ≡ (if i == 0 then 0 else (packets self.now).time (i - 1)) }
+        ensures { result ≡ (packets self.now).time i };
 }
 
 impl Frames for Capture {
@@ -40,5 +47,9 @@ impl Frames for Capture {
 
     fn link_of(&self, _i: usize) -> u32 {
         self.link()
+    }
+
+    fn time(&self, i: usize, _before: u128) -> u128 {
+        Capture::time(self, i)
     }
 }

@@ -3,7 +3,9 @@
 /// How many bytes the file header has.
 pub const HEADER: usize = 24;
 
-/// The first field of the file header, of times in microseconds and in nanoseconds.
+/// The place of the first field of the file header, and what it is of times in microseconds and in nanoseconds.
+pub const MAGIC: usize = 0;
+
 pub const MICROSECONDS: u32 = 0xa1b2_c3d4;
 
 pub const NANOSECONDS: u32 = 0xa1b2_3c4d;
@@ -18,6 +20,11 @@ pub const LINK: usize = 20;
 
 /// How many bytes the header of a record has.
 pub const RECORD_HEADER: usize = 16;
+
+/// The places of the two numbers of its time there: seconds, and microseconds or nanoseconds.
+pub const SECONDS: usize = 0;
+
+pub const FRACTION: usize = 4;
 
 /// The place of the captured length in the header of a record, and its limit.
 pub const CAPTURED_LENGTH: usize = 8;

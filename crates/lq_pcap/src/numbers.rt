@@ -1,8 +1,8 @@
 //! Numbers of a capture file, in the file's byte order.
-ghost use Rattle.std.specs.Prelude.{◌≡◌, ◌+◌, ◌≤◌, length};
-ghost use Rattle.lq_model.specs.Capture.{is_big_endian, is_little_endian, is_magic, major_version, number_at};
+ghost use Rattle.std.specs.Prelude.{◌≡◌, ◌+◌, ◌≤◌, if◌then◌else◌, length};
+ghost use Rattle.lq_model.specs.Capture.{counts_nanoseconds, is_big_endian, is_little_endian, is_magic, major_version, number_at};
 
-use crate::layout::{MICROSECONDS, NANOSECONDS, VERSION};
+use crate::layout::{MAGIC, MICROSECONDS, NANOSECONDS, VERSION};
 use byteorder::{BigEndian, ByteOrder as _, LittleEndian};
 
 fn is_magic_number(number: u32) -> bool
@@ -39,6 +39,19 @@ pub fn number(bytes: &[u8], little_endian: bool, place: usize) -> u32
         LittleEndian::read_u32(field)
     } else {
         BigEndian::read_u32(field)
+    }
+}
+
+/// How many nanoseconds a record's fraction of a second counts in, as the magic number says.
+pub fn fraction_unit(bytes: &[u8], little_endian: bool) -> u128
+    requires within { 4 ≤ length bytes.now }
+    requires order { little_endian ≡ is_little_endian bytes.now }
+    ensures { result ≡ (if counts_nanoseconds bytes.now then 1 else 1000) }
+{
+    if number(bytes, little_endian, MAGIC) == NANOSECONDS {
+        1
+    } else {
+        1000
     }
 }
 

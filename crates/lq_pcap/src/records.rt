@@ -1,9 +1,9 @@
 //! A capture that was read: its header, its records and their frames.
 ghost use Rattle.std.specs.Prelude.{◌≡◌, ◌<◌, ◌≤◌, length};
-ghost use Rattle.lq_model.specs.Capture.{frame_of, header_of, link_of, record_of};
+ghost use Rattle.lq_model.specs.Capture.{frame_of, header_of, link_of, record_of, time_of};
 
-use crate::layout::{HEADER, LINK, RECORD_HEADER};
-use crate::numbers::{begins_little_endian, number};
+use crate::layout::{FRACTION, HEADER, LINK, RECORD_HEADER, SECONDS};
+use crate::numbers::{begins_little_endian, fraction_unit, number};
 use crate::places::Places;
 use std::marker::Model;
 
@@ -66,5 +66,19 @@ impl Capture {
         ensures { result ≡ link_of self.now }
     {
         number(&self.bytes, begins_little_endian(&self.bytes), LINK)
+    }
+
+    /// The time of record `i`, in nanoseconds since the start of 1970.
+    #[tactic(auto, using(crate::proofs::Times::time_within))]
+    pub fn time(&self, i: usize) -> u128
+        requires { i < self.now.count }
+        ensures { result ≡ time_of self.now i }
+    {
+        let little_endian = begins_little_endian(&self.bytes);
+        let place = self.places.at(i);
+        let seconds = number(&self.bytes, little_endian, place + SECONDS);
+        let fraction = number(&self.bytes, little_endian, place + FRACTION);
+        let unit = fraction_unit(&self.bytes, little_endian);
+        u128::from(seconds) * 1_000_000_000 + u128::from(fraction) * unit
     }
 }

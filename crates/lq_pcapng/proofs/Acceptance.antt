@@ -105,67 +105,67 @@ nil_from_length [] e = refl
 nil_from_length (x ∷ xs) e = absurd (omega arith)
 
 -- behind some blocks, the walk found these, which are the rest
-pub record Found (o : Bool) (before : List (List ℕ)) (rest : List ℕ) (all : List (List ℕ)) : Type 0 where
+pub record Found (timed o : Bool) (before : List (List ℕ)) (rest : List ℕ) (all : List (List ℕ)) : Type 0 where
   pub blocks : List (List ℕ)
   pub all_are : all ≡ before ++ blocks
   pub rest_is : rest ≡ concat blocks
-  pub fit : AllFit o before blocks
+  pub fit : AllFit timed o before blocks
 
-found_nothing : (o : Bool) (before : List (List ℕ)) (rest : List ℕ) (all : List (List ℕ)) → length rest ≡ 0 → before ≡ all → Found o before rest all
-found_nothing o before rest all none same = record { blocks = []; all_are = sym same ∙ sym (append-nil before); rest_is = nil_from_length rest none; fit = tt }
+found_nothing : (timed o : Bool) (before : List (List ℕ)) (rest : List ℕ) (all : List (List ℕ)) → length rest ≡ 0 → before ≡ all → Found timed o before rest all
+found_nothing timed o before rest all none same = record { blocks = []; all_are = sym same ∙ sym (append-nil before); rest_is = nil_from_length rest none; fit = tt }
 
 pub found :
-    (o : Bool) (more place : ℕ) (before : List (List ℕ)) (rest : List ℕ) (all : List (List ℕ)) → length rest ≤ more → blocks_from o more place before rest ≡ Ok all → Found o before rest all
-found o zero place before rest all room e =
+    (timed o : Bool) (more place : ℕ) (before : List (List ℕ)) (rest : List ℕ) (all : List (List ℕ)) → length rest ≤ more → blocks_from timed o more place before rest ≡ Ok all → Found timed o before rest all
+found timed o zero place before rest all room e =
     let none : length rest ≡ 0 = omega arith in
-    let ends = blocks_end o zero place before rest none in
-    found_nothing o before rest all none cc
-found o (suc more) place before rest all room e =
+    let ends = blocks_end timed o zero place before rest none in
+    found_nothing timed o before rest all none cc
+found timed o (suc more) place before rest all room e =
     elim (cases_eq (length rest) 0) [
-      | inl none ↦ (let ends = blocks_end o (suc more) place before rest none in found_nothing o before rest all none cc)
+      | inl none ↦ (let ends = blocks_end timed o (suc more) place before rest none in found_nothing timed o before rest all none cc)
       | inr some ↦
           let here : 0 < length rest = omega arith in
-          elim (option_cases (block_fault o place (interfaces_in o before) (length (packets_in o before)) rest)) [
+          elim (option_cases (block_fault timed o place (interfaces_in o before) (length (packets_in o before)) rest)) [
             | inl none ↦
-                let w = whole_from_none o place (interfaces_in o before) (length (packets_in o before)) rest none in
+                let w = whole_from_none timed o place (interfaces_in o before) (length (packets_in o before)) rest none in
                 let lengths = lengths_from_none o place rest w.lengths in
                 let total = total_length o rest in
                 let long = lengths.long in
                 let left = length-drop total rest in
-                let tail = found o more (place + total) (before ++ block_in o rest ∷ []) (drop total rest) all (omega arith) (sym (blocks_go_on o more place before rest here none) ∙ e) in
+                let tail = found timed o more (place + total) (before ++ block_in o rest ∷ []) (drop total rest) all (omega arith) (sym (blocks_go_on timed o more place before rest here none) ∙ e) in
                 record {
                   blocks = block_in o rest ∷ tail.blocks;
                   all_are = tail.all_are ∙ append_assoc before (block_in o rest ∷ []) tail.blocks;
                   rest_is = sym (take-append-drop total rest) ∙ ap (λ (r : List ℕ). block_in o rest ++ r) tail.rest_is;
                   fit = (block_from_lengths o rest lengths, w.fits, tail.fit);
                 }
-            | inr (r, fault) ↦ (let refused = blocks_fault o more place before rest r here fault in cc)
+            | inr (r, fault) ↦ (let refused = blocks_fault timed o more place before rest r here fault in cc)
           ]
     ]
 
 pub finds :
-    (o : Bool) (more place : ℕ) (before blocks : List (List ℕ)) → length (concat blocks) ≤ more → AllFit o before blocks → blocks_from o more place before (concat blocks) ≡ Ok (before ++ blocks)
-finds o more place before [] room fit = blocks_end o more place before [] refl ∙ ap Ok (sym (append-nil before))
-finds o zero place before (block ∷ blocks) room fit =
+    (timed o : Bool) (more place : ℕ) (before blocks : List (List ℕ)) → length (concat blocks) ≤ more → AllFit timed o before blocks → blocks_from timed o more place before (concat blocks) ≡ Ok (before ++ blocks)
+finds timed o more place before [] room fit = blocks_end timed o more place before [] refl ∙ ap Ok (sym (append-nil before))
+finds timed o zero place before (block ∷ blocks) room fit =
     let long = fit.0.long in
     let len = length-append block (concat blocks) in
     absurd (omega arith)
-finds o (suc more) place before (block ∷ blocks) room fit =
+finds timed o (suc more) place before (block ∷ blocks) room fit =
     let rest = concat blocks in
     let b = begins o block rest fit.0 in
     let long = fit.0.long in
     let len = length-append block rest in
-    let none : block_fault o place (interfaces_in o before) (length (packets_in o before)) (block ++ rest) ≡ None =
-    none_from_whole o place (interfaces_in o before) (length (packets_in o before)) (block ++ rest)
+    let none : block_fault timed o place (interfaces_in o before) (length (packets_in o before)) (block ++ rest) ≡ None =
+    none_from_whole timed o place (interfaces_in o before) (length (packets_in o before)) (block ++ rest)
     (record {
       long = omega arith;
       lengths = none_from_lengths o place (block ++ rest) b.lengths;
-      fits = subst (Fits o (interfaces_in o before) (length (packets_in o before))) (sym b.block_is) fit.1;
+      fits = subst (Fits timed o (interfaces_in o before) (length (packets_in o before))) (sym b.block_is) fit.1;
     }) in
-    blocks_go_on o more place before (block ++ rest) (omega arith) none
-    ∙ ap (λ (r : List ℕ). blocks_from o more (place + total_length o (block ++ rest)) (before ++ block_in o (block ++ rest) ∷ []) r) b.rest_is
-    ∙ ap (λ (k : List ℕ). blocks_from o more (place + total_length o (block ++ rest)) (before ++ k ∷ []) rest) b.block_is
-    ∙ finds o more (place + total_length o (block ++ rest)) (before ++ block ∷ []) blocks (omega arith) fit.2
+    blocks_go_on timed o more place before (block ++ rest) (omega arith) none
+    ∙ ap (λ (r : List ℕ). blocks_from timed o more (place + total_length o (block ++ rest)) (before ++ block_in o (block ++ rest) ∷ []) r) b.rest_is
+    ∙ ap (λ (k : List ℕ). blocks_from timed o more (place + total_length o (block ++ rest)) (before ++ k ∷ []) rest) b.block_is
+    ∙ finds timed o more (place + total_length o (block ++ rest)) (before ++ block ∷ []) blocks (omega arith) fit.2
     ∙ ap Ok (append_assoc before (block ∷ []) blocks)
 
 -- THE SECTION HEADER BLOCK
@@ -265,34 +265,34 @@ split_accepted (Some r) o section walk c e = cc
 split_accepted None o section (Err r) c e = cc
 split_accepted None o section (Ok blocks) c e = (blocks, refl, refl, cc)
 
-pub accepted_is : (bytes : List ℕ) (c : NgCapture) → pcapng_of bytes ≡ Ok c → IsPcapng bytes c
+pub accepted_is : (timed : Bool) (bytes : List ℕ) (c : NgCapture) → pcapng_of timed bytes ≡ Ok c → IsPcapng timed bytes c
 unfolding pcapng_of
-accepted_is bytes c e =
+accepted_is timed bytes c e =
     let o = is_little_endian bytes in
     let section = block_in o bytes in
-    let s = split_accepted (section_fault bytes) o section (blocks_behind o bytes) c e in
+    let s = split_accepted (section_fault bytes) o section (blocks_behind timed o bytes) c e in
     let begin = begins_with_section bytes s.1 in
     let total = total_length o bytes in
     let left = length-drop total bytes in
-    let f = found o (length bytes) total [] (drop total bytes) s.0 (omega arith) s.2 in
+    let f = found timed o (length bytes) total [] (drop total bytes) s.0 (omega arith) s.2 in
     let fields = begin.fields in
     let order : is_little_endian section ≡ o = same_order bytes total (omega arith) in
     let it : NgCapture = capture_of_blocks o section f.blocks in
     let blocks_are : s.0 ≡ f.blocks = f.all_are in
     let same : it ≡ c = ap (capture_of_blocks o section) (sym blocks_are) ∙ s.3 in
-    subst (IsPcapng bytes) same
+    subst (IsPcapng timed bytes) same
     (record {
       blocks = f.blocks;
       whole = sym (take-append-drop total bytes) ∙ ap (λ (r : List ℕ). section ++ r) f.rest_is;
       section = is_section_block bytes begin;
-      fit = subst (λ k. AllFit k [] f.blocks) (sym order) f.fit;
+      fit = subst (λ k. AllFit timed k [] f.blocks) (sym order) f.fit;
       interfaces = ap (λ k. interfaces_in k f.blocks) (sym order);
       packets = ap (λ k. packets_in k f.blocks) (sym order);
     })
 
-pub is_accepted : (bytes : List ℕ) (c : NgCapture) → IsPcapng bytes c → pcapng_of bytes ≡ Ok c
+pub is_accepted : (timed : Bool) (bytes : List ℕ) (c : NgCapture) → IsPcapng timed bytes c → pcapng_of timed bytes ≡ Ok c
 unfolding pcapng_of
-is_accepted bytes c k =
+is_accepted timed bytes c k =
     let text = c.section ++ concat k.blocks in
     let o = order_of c in
     let s = section_begins o c.section (concat k.blocks) k.section in
@@ -300,10 +300,10 @@ is_accepted bytes c k =
     let len = length-append c.section (concat k.blocks) in
     let no_fault : section_fault text ≡ None = none_from_section text s.1 in
     let answer : NgCapture → Result NgCapture Refusal = λ d. Ok d in
-    let walk : blocks_behind o text ≡ Ok k.blocks =
-    ap (λ (r : List ℕ). blocks_from o (length text) (total_length o text) [] r) b.rest_is ∙ finds o (length text) (total_length o text) [] k.blocks (omega arith) k.fit in
-    let whole : option_map_or Err (section_fault text) (result_map_both (capture_of_blocks o (block_in o text)) (λ r. r) (blocks_behind o text)) ≡ Ok c =
+    let walk : blocks_behind timed o text ≡ Ok k.blocks =
+    ap (λ (r : List ℕ). blocks_from timed o (length text) (total_length o text) [] r) b.rest_is ∙ finds timed o (length text) (total_length o text) [] k.blocks (omega arith) k.fit in
+    let whole : option_map_or Err (section_fault text) (result_map_both (capture_of_blocks o (block_in o text)) (λ r. r) (blocks_behind timed o text)) ≡ Ok c =
     rw (no_fault, walk, b.block_is)
     (ap (λ (is : List (List ℕ)). answer (record { section = c.section; interfaces = is; packets = packets_in o k.blocks })) (sym k.interfaces)
     ∙ ap (λ (ps : List (List ℕ)). answer (record { section = c.section; interfaces = c.interfaces; packets = ps })) (sym k.packets)) in
-    subst (λ (bs : List ℕ). pcapng_of bs ≡ Ok c) (sym k.whole) (subst (λ d. option_map_or Err (section_fault text) (result_map_both (capture_of_blocks d (block_in d text)) (λ r. r) (blocks_behind d text)) ≡ Ok c) (sym s.0) whole)
+    subst (λ (bs : List ℕ). pcapng_of timed bs ≡ Ok c) (sym k.whole) (subst (λ d. option_map_or Err (section_fault text) (result_map_both (capture_of_blocks d (block_in d text)) (λ r. r) (blocks_behind timed d text)) ≡ Ok c) (sym s.0) whole)

@@ -11,7 +11,7 @@ use Rattle.std.proofs.lemmas.Map.Steps.{length-le_from_distinct_below}
 use Rattle.std.proofs.lemmas.Map.Views.{Contains-from_any}
 use Rattle.std.proofs.lemmas.Simd.{map-map}
 use Rattle.std.proofs.Math.Seq.{take-append_seam, drop-append_seam}
-use Rattle.lq_pcapng.specs.Pcapng.{NgCapture, captured_length, data_place, frame_in, interface_at, interface_number, interfaces_in, is_interface, is_little_endian, is_packet, link_in, link_type, major_version, number_in, order_of, packet_block, packets_in, pcapng_of, pcapng_text, short_number_in, without_length}
+use Rattle.lq_pcapng.specs.Pcapng.{NgCapture, captured_length, data_place, frame_in, has_whole_options, interface_at, interface_number, interfaces_in, is_interface, is_little_endian, is_packet, link_in, link_type, major_version, number_in, order_of, packet_block, packets_in, pcapng_of, pcapng_text, short_number_in, without_length}
 use Rattle.lq_pcapng.specs.Laws.{AllFit, IsBlock, IsPcapng, IsSection, frames_in, links_in, with_packets}
 use Rattle.lq_pcapng.specs.Reading.{IsInterface, IsPacket}
 use Rattle.lq_pcapng.proofs.Acceptance.{accepted_is, is_accepted}
@@ -53,30 +53,32 @@ picked P xs (i ∷ places) all below = (at_index P xs i all below.0, picked P xs
 -- BLOCKS OF A CAPTURE
 
 -- a block among blocks that all fit
-record IsAmong (o : Bool) (interfaces : List (List ℕ)) (block : List ℕ) : Type 0 where
+record IsAmong (timed o : Bool) (interfaces : List (List ℕ)) (block : List ℕ) : Type 0 where
   is_block : IsBlock o block
   as_interface : is_interface o block ≡ true → IsInterface o block
+  as_timed : timed ≡ true → is_interface o block ≡ true → has_whole_options o block ≡ true
   as_packet : is_packet o block ≡ true → IsPacket o interfaces block
 
-among : (o : Bool) (before blocks : List (List ℕ)) → AllFit o before blocks → AllByRecursion (IsAmong o (interfaces_in o (before ++ blocks))) blocks
-among o before [] fit = tt
-among o before (block ∷ blocks) fit =
+among : (timed o : Bool) (before blocks : List (List ℕ)) → AllFit timed o before blocks → AllByRecursion (IsAmong timed o (interfaces_in o (before ++ blocks))) blocks
+among timed o before [] fit = tt
+among timed o before (block ∷ blocks) fit =
     let all = filter-append (is_interface o) before (block ∷ blocks) in
     let next = append_assoc before (block ∷ []) blocks in (
       record {
         is_block = fit.0;
         as_interface = fit.1.as_interface;
+        as_timed = fit.1.as_timed;
         as_packet = λ is. subst (λ (js : List (List ℕ)). IsPacket o js block) (sym all)
             (is_packet_behind_more o (interfaces_in o before) (interfaces_in o (block ∷ blocks)) block (fit.1.as_packet is));
       },
-      subst (λ (bs : List (List ℕ)). AllByRecursion (IsAmong o (interfaces_in o bs)) blocks) next (among o (before ++ block ∷ []) blocks fit.2),
+      subst (λ (bs : List (List ℕ)). AllByRecursion (IsAmong timed o (interfaces_in o bs)) blocks) next (among timed o (before ++ block ∷ []) blocks fit.2),
     )
 
-few_packets : (o : Bool) (before blocks : List (List ℕ)) → AllFit o before blocks → length (packets_in o before) ≤ 1000000 → length (packets_in o (before ++ blocks)) ≤ 1000000
-few_packets o before [] fit few = subst (λ (bs : List (List ℕ)). length (packets_in o bs) ≤ 1000000) (sym (append-nil before)) few
-few_packets o before (block ∷ blocks) fit few =
+few_packets : (timed o : Bool) (before blocks : List (List ℕ)) → AllFit timed o before blocks → length (packets_in o before) ≤ 1000000 → length (packets_in o (before ++ blocks)) ≤ 1000000
+few_packets timed o before [] fit few = subst (λ (bs : List (List ℕ)). length (packets_in o bs) ≤ 1000000) (sym (append-nil before)) few
+few_packets timed o before (block ∷ blocks) fit few =
     subst (λ (bs : List (List ℕ)). length (packets_in o bs) ≤ 1000000) (append_assoc before (block ∷ []) blocks)
-    (few_packets o (before ++ block ∷ []) blocks fit.2 (by_test (is_packet o block) refl))
+    (few_packets timed o (before ++ block ∷ []) blocks fit.2 (by_test (is_packet o block) refl))
   where
     by_test : (b : Bool) → is_packet o block ≡ b → length (packets_in o (before ++ block ∷ [])) ≤ 1000000
     by_test true is =
@@ -93,34 +95,36 @@ few_packets o before (block ∷ blocks) fit few =
 
 -- THE BLOCKS THAT ARE WRITTEN
 
-record IsInterfaceBlock (o : Bool) (block : List ℕ) : Type 0 where
+record IsInterfaceBlock (timed o : Bool) (block : List ℕ) : Type 0 where
   is_block : IsBlock o block
   is : IsInterface o block
+  options : timed ≡ true → has_whole_options o block ≡ true
 
 record IsPacketBlock (o : Bool) (interfaces : List (List ℕ)) (block : List ℕ) : Type 0 where
   is_block : IsBlock o block
   is : IsPacket o interfaces block
 
 interfaces_fit :
-    (o : Bool) (before interfaces rest : List (List ℕ)) → AllByRecursion (IsInterfaceBlock o) interfaces → AllFit o (before ++ interfaces) rest → AllFit o before (interfaces ++ rest)
-interfaces_fit o before [] rest all fit = subst (λ (bs : List (List ℕ)). AllFit o bs rest) (append-nil before) fit
-interfaces_fit o before (block ∷ blocks) rest all fit =
+    (timed o : Bool) (before interfaces rest : List (List ℕ)) → AllByRecursion (IsInterfaceBlock timed o) interfaces → AllFit timed o (before ++ interfaces) rest → AllFit timed o before (interfaces ++ rest)
+interfaces_fit timed o before [] rest all fit = subst (λ (bs : List (List ℕ)). AllFit timed o bs rest) (append-nil before) fit
+interfaces_fit timed o before (block ∷ blocks) rest all fit =
     let other : is_packet o block ≡ false = not_packet o block all.0.is.kind in (
       all.0.is_block,
       record {
         no_section = no_section_of_interface o block all.0.is.kind;
         as_interface = λ is. all.0.is;
+        as_timed = λ t is. all.0.options t;
         few = λ is. cc;
         as_packet = λ is. cc;
       },
-      interfaces_fit o (before ++ block ∷ []) blocks rest all.1 (subst (λ (bs : List (List ℕ)). AllFit o bs rest) (sym (append_assoc before (block ∷ []) blocks)) fit),
+      interfaces_fit timed o (before ++ block ∷ []) blocks rest all.1 (subst (λ (bs : List (List ℕ)). AllFit timed o bs rest) (sym (append_assoc before (block ∷ []) blocks)) fit),
     )
 
 packets_fit :
-    (o : Bool) (interfaces before packets : List (List ℕ)) → interfaces_in o before ≡ interfaces → AllByRecursion (IsPacketBlock o interfaces) packets
-    → length (packets_in o before) + length packets ≤ 1000000 → AllFit o before packets
-packets_fit o interfaces before [] are all few = tt
-packets_fit o interfaces before (block ∷ blocks) are all few =
+    (timed o : Bool) (interfaces before packets : List (List ℕ)) → interfaces_in o before ≡ interfaces → AllByRecursion (IsPacketBlock o interfaces) packets
+    → length (packets_in o before) + length packets ≤ 1000000 → AllFit timed o before packets
+packets_fit timed o interfaces before [] are all few = tt
+packets_fit timed o interfaces before (block ∷ blocks) are all few =
     let kind = all.0.is.kind in
     let other : is_interface o block ≡ false = not_interface o block kind in
     let no_more : filter (is_interface o) (block ∷ []) ≡ [] = rw other refl in
@@ -131,10 +135,11 @@ packets_fit o interfaces before (block ∷ blocks) are all few =
       record {
         no_section = no_section_of_packet o block kind;
         as_interface = λ is. cc;
+        as_timed = λ t is. cc;
         few = λ is. omega arith;
         as_packet = λ is. subst (λ (js : List (List ℕ)). IsPacket o js block) (sym are) all.0.is;
       },
-      packets_fit o interfaces (before ++ block ∷ []) blocks
+      packets_fit timed o interfaces (before ++ block ∷ []) blocks
           (filter-append (is_interface o) before (block ∷ []) ∙ ap (λ (bs : List (List ℕ)). interfaces_in o before ++ bs) no_more ∙ append-nil (interfaces_in o before) ∙ are) all.1 (omega arith),
     )
 
@@ -208,32 +213,32 @@ still_section o s is =
 
 -- THE CAPTURE THAT IS WRITTEN
 
-written_is : (bytes : List ℕ) (c : NgCapture) (packets : List ℕ) → IsPcapng bytes c → All (λ i. i < length c.packets) packets → IsDistinct eqb packets → IsPcapng (pcapng_text c packets) (with_packets c packets)
-written_is bytes c packets k below distinct =
+written_is : (timed : Bool) (bytes : List ℕ) (c : NgCapture) (packets : List ℕ) → IsPcapng timed bytes c → All (λ i. i < length c.packets) packets → IsDistinct eqb packets → IsPcapng timed (pcapng_text c packets) (with_packets c packets)
+written_is timed bytes c packets k below distinct =
     let o = order_of c in
     let chosen = map (packet_block c) packets in
     let again = with_packets c packets in
     let order : order_of again ≡ o = same_order c.section k.section.long in
-    let all : AllByRecursion (IsAmong o (interfaces_in o k.blocks)) k.blocks = among o [] k.blocks k.fit in
-    let interface_blocks : AllByRecursion (IsInterfaceBlock o) c.interfaces =
-    subst (AllByRecursion (IsInterfaceBlock o)) (sym k.interfaces)
-    (weaker (λ b. IsAmong o (interfaces_in o k.blocks) b × (is_interface o b ≡ true)) (IsInterfaceBlock o) (λ b good. record { is_block = good.0.is_block; is = good.0.as_interface good.1 })
-    (interfaces_in o k.blocks) (kept (is_interface o) (IsAmong o (interfaces_in o k.blocks)) k.blocks all)) in
+    let all : AllByRecursion (IsAmong timed o (interfaces_in o k.blocks)) k.blocks = among timed o [] k.blocks k.fit in
+    let interface_blocks : AllByRecursion (IsInterfaceBlock timed o) c.interfaces =
+    subst (AllByRecursion (IsInterfaceBlock timed o)) (sym k.interfaces)
+    (weaker (λ b. IsAmong timed o (interfaces_in o k.blocks) b × (is_interface o b ≡ true)) (IsInterfaceBlock timed o) (λ b good. record { is_block = good.0.is_block; is = good.0.as_interface good.1; options = λ t. good.0.as_timed t good.1 })
+    (interfaces_in o k.blocks) (kept (is_interface o) (IsAmong timed o (interfaces_in o k.blocks)) k.blocks all)) in
     let packet_blocks : AllByRecursion (IsPacketBlock o c.interfaces) c.packets =
     subst (AllByRecursion (IsPacketBlock o c.interfaces)) (sym k.packets)
-    (weaker (λ b. IsAmong o (interfaces_in o k.blocks) b × (is_packet o b ≡ true)) (IsPacketBlock o c.interfaces)
+    (weaker (λ b. IsAmong timed o (interfaces_in o k.blocks) b × (is_packet o b ≡ true)) (IsPacketBlock o c.interfaces)
     (λ b good. record { is_block = good.0.is_block; is = subst (λ (js : List (List ℕ)). IsPacket o js b) (sym k.interfaces) (good.0.as_packet good.1) })
-    (packets_in o k.blocks) (kept (is_packet o) (IsAmong o (interfaces_in o k.blocks)) k.blocks all)) in
+    (packets_in o k.blocks) (kept (is_packet o) (IsAmong timed o (interfaces_in o k.blocks)) k.blocks all)) in
     let chosen_blocks : AllByRecursion (IsPacketBlock o c.interfaces) chosen = picked (IsPacketBlock o c.interfaces) c.packets packets packet_blocks (recursion_from_All (λ i. i < length c.packets) packets below) in
     let only_interfaces : interfaces_in o c.interfaces ≡ c.interfaces =
-    all_kept (is_interface o) c.interfaces (weaker (IsInterfaceBlock o) (λ b. is_interface o b ≡ true) (λ b good. good.is.kind) c.interfaces interface_blocks) in
+    all_kept (is_interface o) c.interfaces (weaker (IsInterfaceBlock timed o) (λ b. is_interface o b ≡ true) (λ b good. good.is.kind) c.interfaces interface_blocks) in
     let no_packets : packets_in o c.interfaces ≡ [] =
-    none_kept (is_packet o) c.interfaces (weaker (IsInterfaceBlock o) (λ b. is_packet o b ≡ false) (λ b good. not_packet o b good.is.kind) c.interfaces interface_blocks) in
+    none_kept (is_packet o) c.interfaces (weaker (IsInterfaceBlock timed o) (λ b. is_packet o b ≡ false) (λ b good. not_packet o b good.is.kind) c.interfaces interface_blocks) in
     let no_interfaces : interfaces_in o chosen ≡ [] =
     none_kept (is_interface o) chosen (weaker (IsPacketBlock o c.interfaces) (λ b. is_interface o b ≡ false) (λ b good. not_interface o b good.is.kind) chosen chosen_blocks) in
     let only_packets : packets_in o chosen ≡ chosen =
     all_kept (is_packet o) chosen (weaker (IsPacketBlock o c.interfaces) (λ b. is_packet o b ≡ true) (λ b good. good.is.kind) chosen chosen_blocks) in
-    let few : length c.packets ≤ 1000000 = subst (λ (bs : List (List ℕ)). length bs ≤ 1000000) (sym k.packets) (few_packets o [] k.blocks k.fit (omega arith)) in
+    let few : length c.packets ≤ 1000000 = subst (λ (bs : List (List ℕ)). length bs ≤ 1000000) (sym k.packets) (few_packets timed o [] k.blocks k.fit (omega arith)) in
     let fewer : length packets ≤ length c.packets =
     length-le_from_distinct_below packets (length c.packets) distinct (λ q found. All-contains (λ i. i < length c.packets) packets q below (Contains-from_any eqb-true q packets found)) in
     let count : length chosen ≡ length packets = length-map packets (packet_block c) in
@@ -244,8 +249,8 @@ written_is bytes c packets k below distinct =
       blocks = c.interfaces ++ chosen;
       whole = append_assoc (without_length c.section) (concat c.interfaces) (flat_map (packet_block c) packets) ∙ ap (λ (bs : List ℕ). without_length c.section ++ bs) (sym joined);
       section = still_section o c.section k.section;
-      fit = subst (λ b. AllFit b [] (c.interfaces ++ chosen)) (sym order)
-          (interfaces_fit o [] c.interfaces chosen interface_blocks (packets_fit o c.interfaces c.interfaces chosen only_interfaces chosen_blocks (omega arith)));
+      fit = subst (λ b. AllFit timed b [] (c.interfaces ++ chosen)) (sym order)
+          (interfaces_fit timed o [] c.interfaces chosen interface_blocks (packets_fit timed o c.interfaces c.interfaces chosen only_interfaces chosen_blocks (omega arith)));
       interfaces = subst (λ b. c.interfaces ≡ interfaces_in b (c.interfaces ++ chosen)) (sym order)
           (sym (filter-append (is_interface o) c.interfaces chosen ∙ ap (λ (bs : List (List ℕ)). bs ++ interfaces_in o chosen) only_interfaces
           ∙ ap (λ (bs : List (List ℕ)). c.interfaces ++ bs) no_interfaces ∙ append-nil c.interfaces));
@@ -254,14 +259,14 @@ written_is bytes c packets k below distinct =
     }
 
 pub accepted_again :
-    (bytes : List ℕ) (c : NgCapture) (packets : List ℕ) → pcapng_of bytes ≡ Ok c → All (λ i. i < length c.packets) packets → IsDistinct eqb packets
-    → (pcapng_of (pcapng_text c packets) ≡ Ok (with_packets c packets))
+    (timed : Bool) (bytes : List ℕ) (c : NgCapture) (packets : List ℕ) → pcapng_of timed bytes ≡ Ok c → All (λ i. i < length c.packets) packets → IsDistinct eqb packets
+    → (pcapng_of timed (pcapng_text c packets) ≡ Ok (with_packets c packets))
     × (frames_in (with_packets c packets) ≡ map (λ i. frame_in c (packet_block c i)) packets)
     × (links_in (with_packets c packets) ≡ map (λ i. link_in c (packet_block c i)) packets)
-accepted_again bytes c packets accepted below distinct =
-    let k = accepted_is bytes c accepted in
+accepted_again timed bytes c packets accepted below distinct =
+    let k = accepted_is timed bytes c accepted in
     let order : order_of (with_packets c packets) ≡ order_of c = same_order c.section k.section.long in (
-      is_accepted (pcapng_text c packets) (with_packets c packets) (written_is bytes c packets k below distinct),
+      is_accepted timed (pcapng_text c packets) (with_packets c packets) (written_is timed bytes c packets k below distinct),
       ap (λ o. map (λ (b : List ℕ). slice_range b (data_place o b) (data_place o b + captured_length o c.interfaces b)) (map (packet_block c) packets)) order
           ∙ map-map (frame_in c) (packet_block c) packets,
       ap (λ o. map (λ b. link_type o (interface_at c.interfaces (interface_number o b))) (map (packet_block c) packets)) order

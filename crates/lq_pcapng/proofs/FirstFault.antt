@@ -1,15 +1,15 @@
 -- The bytes are refused exactly for the first fault that they have.
-use Rattle.std.proofs.Common.{◌≡◌, ◌<◌, ◌≤◌, ◌+◌, ◌-◌, ◌%◌, ◌++◌, ◌∷◌, [], ℕ, zero, suc, List, length, drop, Option, Some, None, Result, Ok, Err, refl, sym, ap, ◌∙◌, subst, arith, Bool, true, false, cond, ltb, leb, eqb, not, ◌||◌, inl, inr, ◌⊎◌, append_assoc, length-drop}
+use Rattle.std.proofs.Common.{◌≡◌, ◌<◌, ◌≤◌, ◌+◌, ◌-◌, ◌%◌, ◌++◌, ◌∷◌, [], ℕ, zero, suc, List, length, drop, Option, Some, None, Result, Ok, Err, refl, sym, ap, ◌∙◌, subst, arith, Bool, true, false, cond, ltb, leb, eqb, not, ◌&&◌, ◌||◌, inl, inr, ◌⊎◌, append_assoc, length-drop}
 use Rattle.std.specs.Option.{option_map, option_map_or, option_or}
 use Rattle.std.specs.Result.{result_map_both}
 use Rattle.std.specs.List.{concat}
 use Rattle.std.proofs.lemmas.Bool.{cases_eq, ltb-true, ltb-false, lt-ltb, le-ltb, leb-true, leb-false, le-leb, lt-leb, eqb-true, eqb-false, eq-eqb, ne_eqb, not-true, not-false}
 use Rattle.std.proofs.lemmas.List.{append-nil, length-append, length-take-le, take-append-drop}
 use Rattle.lq_model.specs.Capture.{Refusal}
-use Rattle.lq_pcapng.specs.Pcapng.{block_fault, block_in, blocks_behind, blocks_from, body_fault, capture_of_blocks, captured_length, data_place, header_fault, interface_number, interfaces_in, is_big_endian, is_interface, is_little_endian, is_packet, is_section, length_fault, major_version, number_in, packet_fault, packets_in, padded, pcapng_of, section_fault, refuses_at, total_length}
+use Rattle.lq_pcapng.specs.Pcapng.{block_fault, block_in, blocks_behind, blocks_from, body_fault, capture_of_blocks, captured_length, data_place, has_whole_options, header_fault, interface_fault, interface_number, interfaces_in, is_big_endian, is_interface, is_little_endian, is_packet, is_section, length_fault, major_version, number_in, packet_fault, packets_in, padded, pcapng_of, section_fault, refuses_at, total_length}
 use Rattle.lq_model.specs.declared.capture.CaptureReason.{CaptureReason}
 use Rattle.lq_model.specs.declared.capture.CaptureReason.TheVariants.{Version, LongRecord, TooMany, CutBlock, BlockLength, ByteOrder, NoInterface, BlockBody, SecondSection}
-use Rattle.lq_pcapng.specs.Laws.{AllFit, HasBlockFault, HasBodyFault, HasPcapngFault, HasLengthFault, HasPacketFault, HasSectionFault, IsSection, no_length, cut_block, other_length, cut_section, no_order, section_lengths, short_section, other_version, short_packet, no_interface, long_record, short_data, second_section, short_interface, too_many, of_packet, cut_rest, block_lengths, of_body, of_section, of_block}
+use Rattle.lq_pcapng.specs.Laws.{AllFit, HasBlockFault, HasBodyFault, HasPcapngFault, HasLengthFault, HasPacketFault, HasSectionFault, IsSection, no_length, cut_block, other_length, cut_section, no_order, section_lengths, short_section, other_version, short_packet, no_interface, long_record, short_data, second_section, short_interface, wrong_options, too_many, of_packet, cut_rest, block_lengths, of_body, of_section, of_block}
 use Rattle.lq_pcapng.specs.Reading.{Fits}
 use Rattle.lq_pcapng.proofs.Acceptance.{begins, begins_with_section, block_from_lengths, is_section_block, lengths_from_none, none_from_lengths, none_from_section, option_cases, section_begins}
 use Rattle.lq_pcapng.proofs.Fits.{no_section_of_interface, no_section_of_packet, none_from_whole, not_interface, whole_from_none}
@@ -152,32 +152,45 @@ is_packet_fault o interfaces block reason (short_data long some within short is)
     ) (ap Some (sym is))
 
 pick_of_body :
-    {P : Type 0} (a b c d g : Bool) (rest : Option CaptureReason) (f : CaptureReason) → cond a (Some SecondSection) (cond b (cond d (Some BlockBody) None) (cond c (cond g (Some TooMany) rest) None)) ≡ Some f
-    → (a ≡ true → f ≡ SecondSection → P) → (b ≡ true → d ≡ true → f ≡ BlockBody → P) → (c ≡ true → g ≡ true → f ≡ TooMany → P) → (c ≡ true → g ≡ false → rest ≡ Some f → P) → P
-pick_of_body true b c d g rest f e p q r s = p refl cc
-pick_of_body false true c true g rest f e p q r s = q refl refl cc
-pick_of_body false true c false g rest f e p q r s = cc
-pick_of_body false false true d true rest f e p q r s = r refl refl cc
-pick_of_body false false true d false rest f e p q r s = s refl refl e
-pick_of_body false false false d g rest f e p q r s = cc
+    {P : Type 0} (a b c g : Bool) (interface packet : Option CaptureReason) (f : CaptureReason)
+    → cond a (Some SecondSection) (cond b interface (cond c (cond g (Some TooMany) packet) None)) ≡ Some f
+    → (a ≡ true → f ≡ SecondSection → P) → (b ≡ true → interface ≡ Some f → P) → (c ≡ true → g ≡ true → f ≡ TooMany → P) → (c ≡ true → g ≡ false → packet ≡ Some f → P) → P
+pick_of_body true b c g interface packet f e p q r s = p refl cc
+pick_of_body false true c g interface packet f e p q r s = q refl e
+pick_of_body false false true true interface packet f e p q r s = r refl refl cc
+pick_of_body false false true false interface packet f e p q r s = s refl refl e
+pick_of_body false false false g interface packet f e p q r s = cc
 
-pub body_fault_is : (o : Bool) (interfaces : List (List ℕ)) (packets : ℕ) (block : List ℕ) (reason : CaptureReason) → body_fault o interfaces packets block ≡ Some reason → HasBodyFault o interfaces packets block reason
-unfolding body_fault
-body_fault_is o interfaces packets block reason e =
-    pick_of_body (is_section o block) (is_interface o block) (is_packet o block) (ltb (length block) 20) (leb 1000000 packets) (packet_fault o interfaces block) reason e
+pick_of_interface :
+    {P : Type 0} (a t w : Bool) (f : CaptureReason) → cond a (Some BlockBody) (cond (t && not w) (Some BlockBody) None) ≡ Some f → (a ≡ true → f ≡ BlockBody → P)
+    → (a ≡ false → t ≡ true → w ≡ false → f ≡ BlockBody → P) → P
+pick_of_interface true t w f e p q = p refl cc
+pick_of_interface false true false f e p q = q refl refl refl cc
+pick_of_interface false true true f e p q = cc
+pick_of_interface false false w f e p q = cc
+
+pub body_fault_is : (timed o : Bool) (interfaces : List (List ℕ)) (packets : ℕ) (block : List ℕ) (reason : CaptureReason) → body_fault timed o interfaces packets block ≡ Some reason → HasBodyFault timed o interfaces packets block reason
+unfolding body_fault interface_fault
+body_fault_is timed o interfaces packets block reason e =
+    pick_of_body (is_section o block) (is_interface o block) (is_packet o block) (leb 1000000 packets) (interface_fault timed o block) (packet_fault o interfaces block) reason e
     (λ a is. second_section a is)
-    (λ b d is. short_interface b (ltb-true (length block) 20 d) is)
+    (λ b fault.
+    pick_of_interface (ltb (length block) 20) timed (has_whole_options o block) reason fault
+    (λ d is. short_interface b (ltb-true (length block) 20 d) is)
+    (λ d t w is. wrong_options b (ltb-false (length block) 20 d) t w is))
     (λ c g is. too_many c (leb-true 1000000 packets g) is)
     (λ c g is. of_packet c (leb-false 1000000 packets g) (packet_fault_is o interfaces block reason is))
 
-pub is_body_fault : (o : Bool) (interfaces : List (List ℕ)) (packets : ℕ) (block : List ℕ) (reason : CaptureReason) → HasBodyFault o interfaces packets block reason → body_fault o interfaces packets block ≡ Some reason
-unfolding body_fault
-is_body_fault o interfaces packets block reason (second_section section is) = rw section (ap Some (sym is))
-is_body_fault o interfaces packets block reason (short_interface kind short is) =
+pub is_body_fault : (timed o : Bool) (interfaces : List (List ℕ)) (packets : ℕ) (block : List ℕ) (reason : CaptureReason) → HasBodyFault timed o interfaces packets block reason → body_fault timed o interfaces packets block ≡ Some reason
+unfolding body_fault interface_fault
+is_body_fault timed o interfaces packets block reason (second_section section is) = rw section (ap Some (sym is))
+is_body_fault timed o interfaces packets block reason (short_interface kind short is) =
     rw (no_section_of_interface o block kind, kind, lt-ltb (length block) 20 short) (ap Some (sym is))
-is_body_fault o interfaces packets block reason (too_many kind most is) =
+is_body_fault timed o interfaces packets block reason (wrong_options kind long is_timed wrong is) =
+    rw (no_section_of_interface o block kind, kind, le-ltb (length block) 20 long, is_timed, wrong) (ap Some (sym is))
+is_body_fault timed o interfaces packets block reason (too_many kind most is) =
     rw (no_section_of_packet o block kind, not_interface o block kind, kind, le-leb 1000000 packets most) (ap Some (sym is))
-is_body_fault o interfaces packets block reason (of_packet kind few fault) =
+is_body_fault timed o interfaces packets block reason (of_packet kind few fault) =
     rw (no_section_of_packet o block kind, not_interface o block kind, kind, lt-leb 1000000 packets few) (is_packet_fault o interfaces block reason fault)
 
 pick_of_block :
@@ -189,49 +202,49 @@ pick_of_block false place None (Some reason) x f e p q r = r reason refl refl re
 pick_of_block false place None None x f e p q r = cc
 
 pub block_fault_is :
-    (o : Bool) (place : ℕ) (before : List (List ℕ)) (rest : List ℕ) (f : Refusal) → block_fault o place (interfaces_in o before) (length (packets_in o before)) rest ≡ Some f → HasBlockFault o place before rest f
+    (timed o : Bool) (place : ℕ) (before : List (List ℕ)) (rest : List ℕ) (f : Refusal) → block_fault timed o place (interfaces_in o before) (length (packets_in o before)) rest ≡ Some f → HasBlockFault timed o place before rest f
 unfolding block_fault
-block_fault_is o place before rest f e =
-    pick_of_block (ltb (length rest) 12) place (length_fault o place rest) (body_fault o (interfaces_in o before) (length (packets_in o before)) (block_in o rest)) (refuses_at place CutBlock) f e
+block_fault_is timed o place before rest f e =
+    pick_of_block (ltb (length rest) 12) place (length_fault o place rest) (body_fault timed o (interfaces_in o before) (length (packets_in o before)) (block_in o rest)) (refuses_at place CutBlock) f e
     (λ a is. cut_rest (ltb-true (length rest) 12 a) is)
     (λ a l. block_lengths (ltb-false (length rest) 12 a) (length_fault_is o place rest f l))
     (λ reason a l b is. of_body reason (ltb-false (length rest) 12 a) (lengths_from_none o place rest l)
-    (body_fault_is o (interfaces_in o before) (length (packets_in o before)) (block_in o rest) reason b) is)
+    (body_fault_is timed o (interfaces_in o before) (length (packets_in o before)) (block_in o rest) reason b) is)
 
 pub is_block_fault :
-    (o : Bool) (place : ℕ) (before : List (List ℕ)) (rest : List ℕ) (f : Refusal) → HasBlockFault o place before rest f → block_fault o place (interfaces_in o before) (length (packets_in o before)) rest ≡ Some f
+    (timed o : Bool) (place : ℕ) (before : List (List ℕ)) (rest : List ℕ) (f : Refusal) → HasBlockFault timed o place before rest f → block_fault timed o place (interfaces_in o before) (length (packets_in o before)) rest ≡ Some f
 unfolding block_fault
-is_block_fault o place before rest f (cut_rest short is) = rw (lt-ltb (length rest) 12 short) (ap Some (sym is))
-is_block_fault o place before rest f (block_lengths long fault) = rw (le-ltb (length rest) 12 long, is_length_fault o place rest f fault) refl
-is_block_fault o place before rest f (of_body reason long lengths fault is) =
-    rw (le-ltb (length rest) 12 long, none_from_lengths o place rest lengths, is_body_fault o (interfaces_in o before) (length (packets_in o before)) (block_in o rest) reason fault) (ap Some (sym is))
+is_block_fault timed o place before rest f (cut_rest short is) = rw (lt-ltb (length rest) 12 short) (ap Some (sym is))
+is_block_fault timed o place before rest f (block_lengths long fault) = rw (le-ltb (length rest) 12 long, is_length_fault o place rest f fault) refl
+is_block_fault timed o place before rest f (of_body reason long lengths fault is) =
+    rw (le-ltb (length rest) 12 long, none_from_lengths o place rest lengths, is_body_fault timed o (interfaces_in o before) (length (packets_in o before)) (block_in o rest) reason fault) (ap Some (sym is))
 
 -- THE WALK
 
 -- behind some blocks, the walk stopped behind these, at the rest that is left
-record Stopped (o : Bool) (place : ℕ) (before : List (List ℕ)) (rest : List ℕ) (f : Refusal) : Type 0 where
+record Stopped (timed o : Bool) (place : ℕ) (before : List (List ℕ)) (rest : List ℕ) (f : Refusal) : Type 0 where
   blocks : List (List ℕ)
   left : List ℕ
   rest_is : rest ≡ concat blocks ++ left
-  fit : AllFit o before blocks
+  fit : AllFit timed o before blocks
   more : 0 < length left
-  fault : HasBlockFault o (place + length (concat blocks)) (before ++ blocks) left f
+  fault : HasBlockFault timed o (place + length (concat blocks)) (before ++ blocks) left f
 
-stopped : (o : Bool) (more place : ℕ) (before : List (List ℕ)) (rest : List ℕ) (f : Refusal) → length rest ≤ more → blocks_from o more place before rest ≡ Err f → Stopped o place before rest f
-stopped o zero place before rest f room e = let ends = blocks_end o zero place before rest (omega arith) in cc
-stopped o (suc more) place before rest f room e =
+stopped : (timed o : Bool) (more place : ℕ) (before : List (List ℕ)) (rest : List ℕ) (f : Refusal) → length rest ≤ more → blocks_from timed o more place before rest ≡ Err f → Stopped timed o place before rest f
+stopped timed o zero place before rest f room e = let ends = blocks_end timed o zero place before rest (omega arith) in cc
+stopped timed o (suc more) place before rest f room e =
     elim (cases_eq (length rest) 0) [
-      | inl none ↦ (let ends = blocks_end o (suc more) place before rest none in cc)
+      | inl none ↦ (let ends = blocks_end timed o (suc more) place before rest none in cc)
       | inr some ↦
           let here : 0 < length rest = omega arith in
-          elim (option_cases (block_fault o place (interfaces_in o before) (length (packets_in o before)) rest)) [
+          elim (option_cases (block_fault timed o place (interfaces_in o before) (length (packets_in o before)) rest)) [
             | inl none ↦
-                let w = whole_from_none o place (interfaces_in o before) (length (packets_in o before)) rest none in
+                let w = whole_from_none timed o place (interfaces_in o before) (length (packets_in o before)) rest none in
                 let lengths = lengths_from_none o place rest w.lengths in
                 let total = total_length o rest in
                 let long = lengths.long in
                 let left = length-drop total rest in
-                let tail = stopped o more (place + total) (before ++ block_in o rest ∷ []) (drop total rest) f (omega arith) (sym (blocks_go_on o more place before rest here none) ∙ e) in
+                let tail = stopped timed o more (place + total) (before ++ block_in o rest ∷ []) (drop total rest) f (omega arith) (sym (blocks_go_on timed o more place before rest here none) ∙ e) in
                 let len : length (block_in o rest) ≡ total = length-take-le total rest lengths.within in
                 let all = length-append (block_in o rest) (concat tail.blocks) in
                 let behind : place + total + length (concat tail.blocks) ≡ place + length (block_in o rest ++ concat tail.blocks) = omega arith in
@@ -241,11 +254,11 @@ stopped o (suc more) place before rest f room e =
                   rest_is = sym (take-append-drop total rest) ∙ ap (λ (r : List ℕ). block_in o rest ++ r) tail.rest_is ∙ sym (append_assoc (block_in o rest) (concat tail.blocks) tail.left);
                   fit = (block_from_lengths o rest lengths, w.fits, tail.fit);
                   more = tail.more;
-                  fault = subst (λ n. HasBlockFault o n (before ++ block_in o rest ∷ tail.blocks) tail.left f) behind
-                      (subst (λ (bs : List (List ℕ)). HasBlockFault o (place + total + length (concat tail.blocks)) bs tail.left f) (append_assoc before (block_in o rest ∷ []) tail.blocks) tail.fault);
+                  fault = subst (λ n. HasBlockFault timed o n (before ++ block_in o rest ∷ tail.blocks) tail.left f) behind
+                      (subst (λ (bs : List (List ℕ)). HasBlockFault timed o (place + total + length (concat tail.blocks)) bs tail.left f) (append_assoc before (block_in o rest ∷ []) tail.blocks) tail.fault);
                 }
             | inr (r, fault) ↦
-                let refused = blocks_fault o more place before rest r here fault in
+                let refused = blocks_fault timed o more place before rest r here fault in
                 let same : r ≡ f = cc in
                 let from_0 : place ≡ place + 0 = omega arith in
                 record {
@@ -254,22 +267,22 @@ stopped o (suc more) place before rest f room e =
                   rest_is = refl;
                   fit = tt;
                   more = here;
-                  fault = subst (λ n. HasBlockFault o n (before ++ []) rest f) from_0
-                      (subst (λ (bs : List (List ℕ)). HasBlockFault o place bs rest f) (sym (append-nil before)) (block_fault_is o place before rest f (fault ∙ ap Some same)));
+                  fault = subst (λ n. HasBlockFault timed o n (before ++ []) rest f) from_0
+                      (subst (λ (bs : List (List ℕ)). HasBlockFault timed o place bs rest f) (sym (append-nil before)) (block_fault_is timed o place before rest f (fault ∙ ap Some same)));
                 }
           ]
     ]
 
 stops :
-    (o : Bool) (more place : ℕ) (before blocks : List (List ℕ)) (left : List ℕ) (f : Refusal) → length (concat blocks ++ left) ≤ more → AllFit o before blocks → 0 < length left
-    → HasBlockFault o (place + length (concat blocks)) (before ++ blocks) left f → blocks_from o more place before (concat blocks ++ left) ≡ Err f
-stops o zero place before blocks left f room fit some fault = let len = length-append (concat blocks) left in absurd (omega arith)
-stops o (suc more) place before [] left f room fit some fault =
+    (timed o : Bool) (more place : ℕ) (before blocks : List (List ℕ)) (left : List ℕ) (f : Refusal) → length (concat blocks ++ left) ≤ more → AllFit timed o before blocks → 0 < length left
+    → HasBlockFault timed o (place + length (concat blocks)) (before ++ blocks) left f → blocks_from timed o more place before (concat blocks ++ left) ≡ Err f
+stops timed o zero place before blocks left f room fit some fault = let len = length-append (concat blocks) left in absurd (omega arith)
+stops timed o (suc more) place before [] left f room fit some fault =
     let from_0 : place + 0 ≡ place = omega arith in
-    let here : HasBlockFault o place before left f =
-    subst (λ n. HasBlockFault o n before left f) from_0 (subst (λ (bs : List (List ℕ)). HasBlockFault o (place + 0) bs left f) (append-nil before) fault) in
-    blocks_fault o more place before left f some (is_block_fault o place before left f here)
-stops o (suc more) place before (block ∷ blocks) left f room fit some fault =
+    let here : HasBlockFault timed o place before left f =
+    subst (λ n. HasBlockFault timed o n before left f) from_0 (subst (λ (bs : List (List ℕ)). HasBlockFault timed o (place + 0) bs left f) (append-nil before) fault) in
+    blocks_fault timed o more place before left f some (is_block_fault timed o place before left f here)
+stops timed o (suc more) place before (block ∷ blocks) left f room fit some fault =
     let rest = concat blocks ++ left in
     let regroup : (block ++ concat blocks) ++ left ≡ block ++ rest = append_assoc block (concat blocks) left in
     let b = begins o block rest fit.0 in
@@ -277,23 +290,23 @@ stops o (suc more) place before (block ∷ blocks) left f room fit some fault =
     let len = length-append block rest in
     let all = length-append block (concat blocks) in
     let regrouped : length ((block ++ concat blocks) ++ left) ≡ length (block ++ rest) = ap length regroup in
-    let none : block_fault o place (interfaces_in o before) (length (packets_in o before)) (block ++ rest) ≡ None =
-    none_from_whole o place (interfaces_in o before) (length (packets_in o before)) (block ++ rest)
+    let none : block_fault timed o place (interfaces_in o before) (length (packets_in o before)) (block ++ rest) ≡ None =
+    none_from_whole timed o place (interfaces_in o before) (length (packets_in o before)) (block ++ rest)
     (record {
       long = omega arith;
       lengths = none_from_lengths o place (block ++ rest) b.lengths;
-      fits = subst (Fits o (interfaces_in o before) (length (packets_in o before))) (sym b.block_is) fit.1;
+      fits = subst (Fits timed o (interfaces_in o before) (length (packets_in o before))) (sym b.block_is) fit.1;
     }) in
     let total = b.total in
     let behind : place + length (block ++ concat blocks) ≡ place + total_length o (block ++ rest) + length (concat blocks) = omega arith in
-    let there : HasBlockFault o (place + total_length o (block ++ rest) + length (concat blocks)) ((before ++ block ∷ []) ++ blocks) left f =
-    subst (λ n. HasBlockFault o n ((before ++ block ∷ []) ++ blocks) left f) behind
-    (subst (λ (bs : List (List ℕ)). HasBlockFault o (place + length (block ++ concat blocks)) bs left f) (sym (append_assoc before (block ∷ []) blocks)) fault) in
-    ap (blocks_from o (suc more) place before) regroup
-    ∙ blocks_go_on o more place before (block ++ rest) (omega arith) none
-    ∙ ap (λ (r : List ℕ). blocks_from o more (place + total_length o (block ++ rest)) (before ++ block_in o (block ++ rest) ∷ []) r) b.rest_is
-    ∙ ap (λ (k : List ℕ). blocks_from o more (place + total_length o (block ++ rest)) (before ++ k ∷ []) rest) b.block_is
-    ∙ stops o more (place + total_length o (block ++ rest)) (before ++ block ∷ []) blocks left f (omega arith) fit.2 some there
+    let there : HasBlockFault timed o (place + total_length o (block ++ rest) + length (concat blocks)) ((before ++ block ∷ []) ++ blocks) left f =
+    subst (λ n. HasBlockFault timed o n ((before ++ block ∷ []) ++ blocks) left f) behind
+    (subst (λ (bs : List (List ℕ)). HasBlockFault timed o (place + length (block ++ concat blocks)) bs left f) (sym (append_assoc before (block ∷ []) blocks)) fault) in
+    ap (blocks_from timed o (suc more) place before) regroup
+    ∙ blocks_go_on timed o more place before (block ++ rest) (omega arith) none
+    ∙ ap (λ (r : List ℕ). blocks_from timed o more (place + total_length o (block ++ rest)) (before ++ block_in o (block ++ rest) ∷ []) r) b.rest_is
+    ∙ ap (λ (k : List ℕ). blocks_from timed o more (place + total_length o (block ++ rest)) (before ++ k ∷ []) rest) b.block_is
+    ∙ stops timed o more (place + total_length o (block ++ rest)) (before ++ block ∷ []) blocks left f (omega arith) fit.2 some there
 
 -- WHEN BYTES ARE REFUSED
 
@@ -304,39 +317,39 @@ pick_of_file (Some g) o section walk f e p q = p cc
 pick_of_file None o section (Ok blocks) f e p q = cc
 pick_of_file None o section (Err g) f e p q = q refl cc
 
-pub first_fault : (bytes : List ℕ) (f : Refusal) → pcapng_of bytes ≡ Err f → HasPcapngFault bytes f
+pub first_fault : (timed : Bool) (bytes : List ℕ) (f : Refusal) → pcapng_of timed bytes ≡ Err f → HasPcapngFault timed bytes f
 unfolding pcapng_of
-first_fault bytes f e =
+first_fault timed bytes f e =
     let o = is_little_endian bytes in
     let total = total_length o bytes in
     let section = block_in o bytes in
-    pick_of_file (section_fault bytes) o section (blocks_behind o bytes) f e
+    pick_of_file (section_fault bytes) o section (blocks_behind timed o bytes) f e
     (λ fault. of_section (section_fault_is bytes f fault))
     (λ none walk.
     (let begin = begins_with_section bytes none in
     let fields = begin.fields in
     let left = length-drop total bytes in
-    let s = stopped o (length bytes) total [] (drop total bytes) f (omega arith) walk in
+    let s = stopped timed o (length bytes) total [] (drop total bytes) f (omega arith) walk in
     let order : is_little_endian section ≡ o = same_order bytes total (omega arith) in
     let len : length section ≡ total = length-take-le total bytes begin.lengths.within in
     of_block section s.blocks s.left
     (record {
       whole = sym (take-append-drop total bytes) ∙ ap (λ (r : List ℕ). section ++ r) s.rest_is;
       is_section_block = is_section_block bytes begin;
-      fit = subst (λ k. AllFit k [] s.blocks) (sym order) s.fit;
+      fit = subst (λ k. AllFit timed k [] s.blocks) (sym order) s.fit;
       more = s.more;
     })
-    (subst (λ k. HasBlockFault k (length section + length (concat s.blocks)) s.blocks s.left f) (sym order)
-    (subst (λ n. HasBlockFault o (n + length (concat s.blocks)) s.blocks s.left f) (sym len) s.fault))))
+    (subst (λ k. HasBlockFault timed k (length section + length (concat s.blocks)) s.blocks s.left f) (sym order)
+    (subst (λ n. HasBlockFault timed o (n + length (concat s.blocks)) s.blocks s.left f) (sym len) s.fault))))
 
-section_refused : (bytes : List ℕ) (f : Refusal) → section_fault bytes ≡ Some f → pcapng_of bytes ≡ Err f
+section_refused : (timed : Bool) (bytes : List ℕ) (f : Refusal) → section_fault bytes ≡ Some f → pcapng_of timed bytes ≡ Err f
 unfolding pcapng_of
-section_refused bytes f fault = rw fault refl
+section_refused timed bytes f fault = rw fault refl
 
-block_refused : (section : List ℕ) (before : List (List ℕ)) (rest : List ℕ) (f : Refusal) → IsSection (is_little_endian section) section → AllFit (is_little_endian section) [] before → 0 < length rest
-    → HasBlockFault (is_little_endian section) (length section + length (concat before)) before rest f → pcapng_of (section ++ (concat before ++ rest)) ≡ Err f
+block_refused : (timed : Bool) (section : List ℕ) (before : List (List ℕ)) (rest : List ℕ) (f : Refusal) → IsSection (is_little_endian section) section → AllFit timed (is_little_endian section) [] before → 0 < length rest
+    → HasBlockFault timed (is_little_endian section) (length section + length (concat before)) before rest f → pcapng_of timed (section ++ (concat before ++ rest)) ≡ Err f
 unfolding pcapng_of
-block_refused section before rest f is fit some fault =
+block_refused timed section before rest f is fit some fault =
     let o = is_little_endian section in
     let tail = concat before ++ rest in
     let text = section ++ tail in
@@ -344,14 +357,14 @@ block_refused section before rest f is fit some fault =
     let b = begins o section tail is.is_block in
     let len = length-append section tail in
     let no_fault : section_fault text ≡ None = none_from_section text s.1 in
-    let walk : blocks_behind o text ≡ Err f =
-    ap (λ (r : List ℕ). blocks_from o (length text) (total_length o text) [] r) b.rest_is
-    ∙ stops o (length text) (total_length o text) [] before rest f (omega arith) fit some
-    (subst (λ n. HasBlockFault o (n + length (concat before)) before rest f) (sym b.total) fault) in
-    let whole : option_map_or Err (section_fault text) (result_map_both (capture_of_blocks o (block_in o text)) (λ r. r) (blocks_behind o text)) ≡ Err f = rw (no_fault, walk) refl in
-    subst (λ d. option_map_or Err (section_fault text) (result_map_both (capture_of_blocks d (block_in d text)) (λ r. r) (blocks_behind d text)) ≡ Err f) (sym s.0) whole
+    let walk : blocks_behind timed o text ≡ Err f =
+    ap (λ (r : List ℕ). blocks_from timed o (length text) (total_length o text) [] r) b.rest_is
+    ∙ stops timed o (length text) (total_length o text) [] before rest f (omega arith) fit some
+    (subst (λ n. HasBlockFault timed o (n + length (concat before)) before rest f) (sym b.total) fault) in
+    let whole : option_map_or Err (section_fault text) (result_map_both (capture_of_blocks o (block_in o text)) (λ r. r) (blocks_behind timed o text)) ≡ Err f = rw (no_fault, walk) refl in
+    subst (λ d. option_map_or Err (section_fault text) (result_map_both (capture_of_blocks d (block_in d text)) (λ r. r) (blocks_behind timed d text)) ≡ Err f) (sym s.0) whole
 
-pub fault_refused : (bytes : List ℕ) (f : Refusal) → HasPcapngFault bytes f → pcapng_of bytes ≡ Err f
-fault_refused bytes f (of_section fault) = section_refused bytes f (is_section_fault bytes f fault)
-fault_refused bytes f (of_block section before rest g fault) =
-    subst (λ (bs : List ℕ). pcapng_of bs ≡ Err f) (sym g.whole) (block_refused section before rest f g.is_section_block g.fit g.more fault)
+pub fault_refused : (timed : Bool) (bytes : List ℕ) (f : Refusal) → HasPcapngFault timed bytes f → pcapng_of timed bytes ≡ Err f
+fault_refused timed bytes f (of_section fault) = section_refused timed bytes f (is_section_fault bytes f fault)
+fault_refused timed bytes f (of_block section before rest g fault) =
+    subst (λ (bs : List ℕ). pcapng_of timed bs ≡ Err f) (sym g.whole) (block_refused timed section before rest f g.is_section_block g.fit g.more fault)

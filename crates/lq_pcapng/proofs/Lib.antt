@@ -2,8 +2,16 @@
 pub mod Places
 -- what a block is that has no fault
 pub mod Fits
+-- how interfaces count time
+pub mod Clocks
+-- powers within 128 bits
+pub mod Powers
+-- the time of a packet
+pub mod PacketTime
 -- the reader's walk along the blocks
 pub mod Walk
+-- the walks along the options of an interface
+pub mod OptionWalk
 -- the section header block and the interfaces, written piece by piece
 pub mod WrittenSection
 -- which bytes are a capture

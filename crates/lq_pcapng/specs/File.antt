@@ -15,9 +15,9 @@ is_pcapng bytes = starts_with nat_eq bytes (0x0a ∷ 0x0d ∷ 0x0d ∷ 0x0a ∷ 
 abbrev pub as_classic : Result Capture Refusal → Result CaptureFile Refusal
 as_classic read = result_map_both Classic (λ r. r) read
 
--- the capture that the bytes are, in either format, or the first test that they fail
-abbrev pub capture_file_of : List ℕ → Result CaptureFile Refusal
-capture_file_of bytes = if is_pcapng bytes then result_map_both Pcapng (λ r. r) (pcapng_of bytes) else as_classic (capture_of bytes)
+-- the capture that the bytes are, in either format, or the first test that they fail; `timed` says whether times are read
+abbrev pub capture_file_of : Bool → List ℕ → Result CaptureFile Refusal
+capture_file_of timed bytes = if is_pcapng bytes then result_map_both Pcapng (λ r. r) (pcapng_of timed bytes) else as_classic (capture_of bytes)
 
 abbrev pub packets_of_file : CaptureFile → Packets
 packets_of_file (Classic c) = packets_of_capture c

@@ -2,7 +2,7 @@
 use Rattle.std.specs.Prelude.{◌≡◌, ◌≢◌, ◌↔◌, ℕ, ◌+◌, ◌-◌, ◌%◌, ◌<◌, ◌≤◌, ◌⊎◌, Bool, true, false, ◌||◌, nat_eq, List, [], ◌∷◌, ◌++◌, length, map, All, Ok, Err}
 use Rattle.std.specs.List.{IsDistinct, concat}
 use Rattle.lq_model.specs.Capture.{Refusal}
-use Rattle.lq_pcapng.specs.Pcapng.{NgCapture, block_in, captured_length, data_place, frame_in, interface_number, interfaces_in, is_big_endian, is_interface, is_little_endian, is_packet, is_section, link_in, major_version, number_in, order_of, packet_block, packets_in, padded, pcapng_of, pcapng_text, refuses_at, total_length, without_length}
+use Rattle.lq_pcapng.specs.Pcapng.{NgCapture, block_in, captured_length, data_place, frame_in, has_whole_options, interface_number, interfaces_in, is_big_endian, is_interface, is_little_endian, is_packet, is_section, link_in, major_version, number_in, order_of, packet_block, packets_in, padded, pcapng_of, pcapng_text, refuses_at, total_length, without_length}
 use Rattle.lq_model.specs.declared.capture.CaptureReason.{CaptureReason}
 use Rattle.lq_model.specs.declared.capture.CaptureReason.TheVariants.{Version, LongRecord, TooMany, CutBlock, BlockLength, ByteOrder, NoInterface, BlockBody, SecondSection}
 use Rattle.lq_pcapng.specs.Reading.{Fits}
@@ -23,25 +23,25 @@ pub record IsSection (little_endian : Bool) (section : List ℕ) : Type 0 where
   pub version : major_version little_endian section ≡ 1
 
 -- each of some blocks fits behind these and those of them that come before it
-abbrev pub AllFit : Bool → List (List ℕ) → List (List ℕ) → Type 0
-AllFit little_endian before [] = Unit {0}
-AllFit little_endian before (block ∷ blocks) =
-    IsBlock little_endian block × Fits little_endian (interfaces_in little_endian before) (length (packets_in little_endian before)) block
-    × AllFit little_endian (before ++ block ∷ []) blocks
+abbrev pub AllFit : Bool → Bool → List (List ℕ) → List (List ℕ) → Type 0
+AllFit timed little_endian before [] = Unit {0}
+AllFit timed little_endian before (block ∷ blocks) =
+    IsBlock little_endian block × Fits timed little_endian (interfaces_in little_endian before) (length (packets_in little_endian before)) block
+    × AllFit timed little_endian (before ++ block ∷ []) blocks
 
 -- The bytes are a section header block and other blocks, each of which fits behind those before it. The capture has the
 -- interface description blocks and the packet blocks among them.
-pub record IsPcapng (bytes : List ℕ) (c : NgCapture) : Type 0 where
+pub record IsPcapng (timed : Bool) (bytes : List ℕ) (c : NgCapture) : Type 0 where
   pub blocks : List (List ℕ)
   pub whole : bytes ≡ c.section ++ concat blocks
   pub section : IsSection (order_of c) c.section
-  pub fit : AllFit (order_of c) [] blocks
+  pub fit : AllFit timed (order_of c) [] blocks
   pub interfaces : c.interfaces ≡ interfaces_in (order_of c) blocks
   pub packets : c.packets ≡ packets_in (order_of c) blocks
 
--- bytes are a capture exactly where they are such blocks
+-- bytes are a capture exactly where they are such blocks, whether times are read (`timed`) or not
 abbrev pub AcceptsPcapngExactly : Type 0
-AcceptsPcapngExactly = (bytes : List ℕ) (c : NgCapture) → (pcapng_of bytes ≡ Ok c) ↔ IsPcapng bytes c
+AcceptsPcapngExactly = (timed : Bool) (bytes : List ℕ) (c : NgCapture) → (pcapng_of timed bytes ≡ Ok c) ↔ IsPcapng timed bytes c
 
 -- WHEN BYTES ARE REFUSED
 
@@ -88,38 +88,41 @@ pub data HasPacketFault (little_endian : Bool) (interfaces : List (List ℕ)) (b
       → length block < data_place little_endian block + 4 + padded (captured_length little_endian interfaces block) → reason ≡ BlockBody → HasPacketFault little_endian interfaces block reason
 
 -- what keeps a block from fitting behind these interfaces and so many packets
-pub data HasBodyFault (little_endian : Bool) (interfaces : List (List ℕ)) (packets : ℕ) (block : List ℕ) (reason : CaptureReason) : Type 0 where
-  second_section : is_section little_endian block ≡ true → reason ≡ SecondSection → HasBodyFault little_endian interfaces packets block reason
-  short_interface : is_interface little_endian block ≡ true → length block < 20 → reason ≡ BlockBody → HasBodyFault little_endian interfaces packets block reason
-  too_many : is_packet little_endian block ≡ true → 1000000 ≤ packets → reason ≡ TooMany → HasBodyFault little_endian interfaces packets block reason
-  of_packet : is_packet little_endian block ≡ true → packets < 1000000 → HasPacketFault little_endian interfaces block reason → HasBodyFault little_endian interfaces packets block reason
+pub data HasBodyFault (timed little_endian : Bool) (interfaces : List (List ℕ)) (packets : ℕ) (block : List ℕ) (reason : CaptureReason) : Type 0 where
+  second_section : is_section little_endian block ≡ true → reason ≡ SecondSection → HasBodyFault timed little_endian interfaces packets block reason
+  short_interface : is_interface little_endian block ≡ true → length block < 20 → reason ≡ BlockBody → HasBodyFault timed little_endian interfaces packets block reason
+  wrong_options :
+      is_interface little_endian block ≡ true → 20 ≤ length block → timed ≡ true → has_whole_options little_endian block ≡ false → reason ≡ BlockBody
+      → HasBodyFault timed little_endian interfaces packets block reason
+  too_many : is_packet little_endian block ≡ true → 1000000 ≤ packets → reason ≡ TooMany → HasBodyFault timed little_endian interfaces packets block reason
+  of_packet : is_packet little_endian block ≡ true → packets < 1000000 → HasPacketFault little_endian interfaces block reason → HasBodyFault timed little_endian interfaces packets block reason
 
 -- what keeps the rest of a file from beginning with a block that fits behind these, where it stands at this place
-pub data HasBlockFault (little_endian : Bool) (place : ℕ) (before : List (List ℕ)) (rest : List ℕ) (f : Refusal) : Type 0 where
-  cut_rest : length rest < 12 → f ≡ refuses_at place CutBlock → HasBlockFault little_endian place before rest f
-  block_lengths : 12 ≤ length rest → HasLengthFault little_endian place rest f → HasBlockFault little_endian place before rest f
+pub data HasBlockFault (timed little_endian : Bool) (place : ℕ) (before : List (List ℕ)) (rest : List ℕ) (f : Refusal) : Type 0 where
+  cut_rest : length rest < 12 → f ≡ refuses_at place CutBlock → HasBlockFault timed little_endian place before rest f
+  block_lengths : 12 ≤ length rest → HasLengthFault little_endian place rest f → HasBlockFault timed little_endian place before rest f
   of_body :
       (reason : CaptureReason) → 12 ≤ length rest → HasLengths little_endian rest
-      → HasBodyFault little_endian (interfaces_in little_endian before) (length (packets_in little_endian before)) (block_in little_endian rest) reason → f ≡ refuses_at place reason
-      → HasBlockFault little_endian place before rest f
+      → HasBodyFault timed little_endian (interfaces_in little_endian before) (length (packets_in little_endian before)) (block_in little_endian rest) reason → f ≡ refuses_at place reason
+      → HasBlockFault timed little_endian place before rest f
 
 -- the bytes are a section header block and blocks that fit behind it, and go on
-pub record GoesOn (bytes section : List ℕ) (before : List (List ℕ)) (rest : List ℕ) : Type 0 where
+pub record GoesOn (timed : Bool) (bytes section : List ℕ) (before : List (List ℕ)) (rest : List ℕ) : Type 0 where
   pub whole : bytes ≡ section ++ (concat before ++ rest)
   pub is_section_block : IsSection (is_little_endian section) section
-  pub fit : AllFit (is_little_endian section) [] before
+  pub fit : AllFit timed (is_little_endian section) [] before
   pub more : 0 < length rest
 
 -- the bytes have this fault, and none before it
-pub data HasPcapngFault (bytes : List ℕ) (f : Refusal) : Type 0 where
-  of_section : HasSectionFault bytes f → HasPcapngFault bytes f
+pub data HasPcapngFault (timed : Bool) (bytes : List ℕ) (f : Refusal) : Type 0 where
+  of_section : HasSectionFault bytes f → HasPcapngFault timed bytes f
   of_block :
-      (section : List ℕ) (before : List (List ℕ)) (rest : List ℕ) → GoesOn bytes section before rest
-      → HasBlockFault (is_little_endian section) (length section + length (concat before)) before rest f → HasPcapngFault bytes f
+      (section : List ℕ) (before : List (List ℕ)) (rest : List ℕ) → GoesOn timed bytes section before rest
+      → HasBlockFault timed (is_little_endian section) (length section + length (concat before)) before rest f → HasPcapngFault timed bytes f
 
 -- bytes are refused exactly for the first fault that they have
 abbrev pub RefusesPcapngExactly : Type 0
-RefusesPcapngExactly = (bytes : List ℕ) (f : Refusal) → (pcapng_of bytes ≡ Err f) ↔ HasPcapngFault bytes f
+RefusesPcapngExactly = (timed : Bool) (bytes : List ℕ) (f : Refusal) → (pcapng_of timed bytes ≡ Err f) ↔ HasPcapngFault timed bytes f
 
 -- WHAT IS WRITTEN
 
@@ -138,7 +141,7 @@ with_packets c packets = record { section = without_length c.section; interfaces
 -- the packet blocks of the list, which hold the same packets.
 abbrev pub AcceptsPcapngAgain : Type 0
 AcceptsPcapngAgain =
-    (bytes : List ℕ) (c : NgCapture) (packets : List ℕ) → pcapng_of bytes ≡ Ok c → All (λ i. i < length c.packets) packets → IsDistinct nat_eq packets
-    → (pcapng_of (pcapng_text c packets) ≡ Ok (with_packets c packets))
+    (timed : Bool) (bytes : List ℕ) (c : NgCapture) (packets : List ℕ) → pcapng_of timed bytes ≡ Ok c → All (λ i. i < length c.packets) packets → IsDistinct nat_eq packets
+    → (pcapng_of timed (pcapng_text c packets) ≡ Ok (with_packets c packets))
     × (frames_in (with_packets c packets) ≡ map (λ i. frame_in c (packet_block c i)) packets)
     × (links_in (with_packets c packets) ≡ map (λ i. link_in c (packet_block c i)) packets)

@@ -1,10 +1,13 @@
 -- What reading a capture answers, and what it finds on the way.
-use Rattle.std.specs.Prelude.{◌≡◌, ℕ, ◌+◌, ◌≤◌, ◌<◌, Bool, true, false, if◌then◌else◌, List, [], ◌∷◌, ◌++◌, length, map, drop, slice_index, Option, None, Some, Result, Ok, Err}
+use Rattle.std.specs.Prelude.{◌≡◌, ℕ, ◌+◌, ◌≤◌, ◌<◌, Bool, true, false, if◌then◌else◌, List, [], ◌∷◌, ◌++◌, length, map, drop, slice_get, slice_index, Option, None, Some, Result, Ok, Err}
 use Rattle.lq_model.specs.Capture.{Refusal}
-use Rattle.lq_pcapng.specs.Pcapng.{block_fault, block_in, captured_length, data_place, interface_number, is_interface, is_little_endian, is_packet, is_section, length_fault, padded, section_fault, total_length}
+use Rattle.lq_pcapng.specs.Pcapng.{block_fault, block_in, captured_length, data_place, has_whole_options, interface_number, is_interface, is_little_endian, is_packet, is_section, is_whole_option, length_fault, offset_of, option_code, option_length, options_end, padded, section_fault, total_length, units_by, units_in_second}
 use Rattle.lq_model.specs.declared.capture.CaptureReason.{CaptureReason}
 use Rattle.lq_pcap.specs.declared.refusal.CaptureRefusal.{CaptureRefusal}
 use Rattle.lq_pcap.specs.declared.refusal.CaptureRefusal.TheVariants.{Refused, NoMemory}
+use Rattle.lq_pcapng.specs.declared.interfaces.Clock.{Clock}
+use Rattle.lq_pcapng.specs.declared.options.NextOption.{NextOption}
+use Rattle.lq_pcapng.specs.declared.options.NextOption.TheVariants.{End, Cut, Whole}
 
 -- WHAT A TEST ANSWERS
 
@@ -36,10 +39,18 @@ IsBlockLength little_endian place rest (Ok len) =
 IsBlockLength little_endian place rest (Err refusal) = IsFault (length_fault little_endian place rest) refusal
 
 -- how long it is, if it has no fault behind these interfaces and so many packets
-abbrev pub IsWholeLength : Bool → ℕ → List (List ℕ) → ℕ → List ℕ → Result ℕ CaptureRefusal → Type 0
-IsWholeLength little_endian place interfaces packets rest (Ok len) =
-    (block_fault little_endian place interfaces packets rest ≡ None) × (len ≡ total_length little_endian rest) × (12 ≤ len) × (len ≤ length rest)
-IsWholeLength little_endian place interfaces packets rest (Err refusal) = IsFault (block_fault little_endian place interfaces packets rest) refusal
+abbrev pub IsWholeLength : Bool → Bool → ℕ → List (List ℕ) → ℕ → List ℕ → Result ℕ CaptureRefusal → Type 0
+IsWholeLength timed little_endian place interfaces packets rest (Ok len) =
+    (block_fault timed little_endian place interfaces packets rest ≡ None) × (len ≡ total_length little_endian rest) × (12 ≤ len) × (len ≤ length rest)
+IsWholeLength timed little_endian place interfaces packets rest (Err refusal) = IsFault (block_fault timed little_endian place interfaces packets rest) refusal
+
+-- what some options begin with: their end, an option that isn't whole, or one that is
+abbrev pub IsNextOption : Bool → List ℕ → NextOption → Type 0
+IsNextOption little_endian options End = options_end little_endian options ≡ true
+IsNextOption little_endian options Cut = (options_end little_endian options ≡ false) × (is_whole_option little_endian options ≡ false)
+IsNextOption little_endian options (Whole code len) =
+    (options_end little_endian options ≡ false) × (is_whole_option little_endian options ≡ true)
+    × (code ≡ option_code little_endian options) × (len ≡ option_length little_endian options)
 
 -- BLOCKS OF A FILE
 
@@ -73,10 +84,12 @@ pub record IsPacket (little_endian : Bool) (interfaces : List (List ℕ)) (block
   pub whole : data_place little_endian block + 4 + padded (captured_length little_endian interfaces block) ≤ length block
 
 -- a block fits behind interfaces and so many packets by its type: it is no second section header block, and an interface
--- description block or a packet block with all that it needs, or else of another type
-pub record Fits (little_endian : Bool) (interfaces : List (List ℕ)) (packets : ℕ) (block : List ℕ) : Type 0 where
+-- description block or a packet block with all that it needs, or else of another type; where times are read, an interface's
+-- options are whole
+pub record Fits (timed little_endian : Bool) (interfaces : List (List ℕ)) (packets : ℕ) (block : List ℕ) : Type 0 where
   pub no_section : is_section little_endian block ≡ false
   pub as_interface : is_interface little_endian block ≡ true → IsInterface little_endian block
+  pub as_timed : timed ≡ true → is_interface little_endian block ≡ true → has_whole_options little_endian block ≡ true
   pub few : is_packet little_endian block ≡ true → packets < 1000000
   pub as_packet : is_packet little_endian block ≡ true → IsPacket little_endian interfaces block
 
@@ -84,6 +97,16 @@ pub record Fits (little_endian : Bool) (interfaces : List (List ℕ)) (packets :
 pub record AreInterfaces (little_endian : Bool) (bytes places : List ℕ) : Type 0 where
   pub whole : (i : ℕ) → i < length places → IsWholeAt little_endian bytes (slice_index places i)
   pub each : (i : ℕ) → i < length places → IsInterface little_endian (block_at little_endian bytes (slice_index places i))
+
+-- an interface counts time so
+pub record IsClock (little_endian : Bool) (interface : List ℕ) (clock : Clock) : Type 0 where
+  pub resolution : units_by clock.resolution ≡ units_in_second little_endian interface
+  pub offset : clock.offset ≡ offset_of little_endian interface
+
+-- the first of the interfaces at these places count time so
+abbrev pub AreClocks : Bool → List ℕ → List ℕ → List Clock → Type 0
+AreClocks little_endian bytes places clocks =
+    (i : ℕ) (clock : Clock) → slice_get clocks i ≡ Some clock → IsClock little_endian (block_at little_endian bytes (slice_index places i)) clock
 
 -- blocks of packets stand at these places
 pub record ArePackets (little_endian : Bool) (bytes : List ℕ) (interfaces : List (List ℕ)) (places : List ℕ) : Type 0 where

@@ -1,12 +1,14 @@
 // A capture in the pcapng format: its blocks, as places in the bytes that were read.
-ghost use Rattle.std.specs.Prelude.{◌≡◌, ◌<◌, ◌≤◌, length};
-ghost use Rattle.lq_pcapng.specs.Pcapng.{frame_in, interface_at, link_in, order_of, packet_block};
-ghost use Rattle.lq_pcapng.specs.Reading.{IsPacket};
+ghost use Rattle.std.specs.Prelude.{◌≡◌, ◌-◌, ◌==◌, ◌<◌, ◌≤◌, if◌then◌else◌, length};
+ghost use Rattle.lq_pcapng.specs.Pcapng.{frame_in, interface_at, link_in, order_of, packet_block, time_in};
+ghost use Rattle.lq_pcapng.specs.Reading.{IsClock, IsPacket};
 
 use crate::blocks::{block, interface};
+use crate::interfaces::{Clock, clock_of};
 use crate::layout::LINK;
 use crate::numbers::{begins_little_endian, short_number};
-use crate::packets::{captured_length, data_place, interface_number};
+use crate::packets::{captured_length, data_place, interface_number, is_enhanced};
+use crate::times::time_by;
 use lq_pcap::{Frames, Places};
 use std::marker::Model;
 
@@ -20,6 +22,8 @@ pub struct NgCapture {
     pub(crate) interfaces: Vec<usize>,
     /// Where each packet block begins.
     pub(crate) packets: Places,
+    /// How each interface counts time, if times are read, and else none.
+    pub(crate) clocks: Vec<Clock>,
 }
 
 impl Model for NgCapture {
@@ -62,6 +66,35 @@ impl NgCapture {
         let little_endian = self.is_little_endian();
         let number = interface_number(self.block(i), little_endian);
         u32::from(short_number(self.interface(number), little_endian, LINK))
+    }
+
+    /// The time of packet `i`, in nanoseconds since the start of 1970. A simple packet has that of the packet before it, which is
+    /// `before`, and 0 before the first.
+    #[tactic(auto, using(crate::proofs::PacketTime::time_from_before))]
+    pub fn time(&self, i: usize, before: u128) -> u128
+        requires known { i < length self.now.packets }
+        requires before { before ≡ (if i == 0 then 0 else time_in self.now (i - 1)) }
+        ensures { result ≡ time_in self.now i }
+    {
+        let little_endian = self.is_little_endian();
+        let block = self.block(i);
+        if !is_enhanced(block, little_endian) {
+            return before;
+        }
+        let clock = self.clock(interface_number(block, little_endian));
+        time_by(clock, block, little_endian)
+    }
+
+    // How interface `i` counts time: as was found when the capture was read, or as its options say now.
+    fn clock(&self, i: usize) -> Clock
+        requires { i < length self.now.interfaces }
+        ensures { IsClock (order_of self.now) (interface_at self.now.interfaces i) result }
+    {
+        if i < self.clocks.len() {
+            self.clocks[i]
+        } else {
+            clock_of(self.interface(i), self.is_little_endian())
+        }
     }
 
     /// The packet block `i`, as it was read.
@@ -120,5 +153,9 @@ impl Frames for NgCapture {
 
     fn link_of(&self, i: usize) -> u32 {
         NgCapture::link_of(self, i)
+    }
+
+    fn time(&self, i: usize, before: u128) -> u128 {
+        NgCapture::time(self, i, before)
     }
 }

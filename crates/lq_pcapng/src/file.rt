@@ -29,7 +29,7 @@ fn begins_pcapng(bytes: &[u8]) -> bool
     bytes.starts_with(&SECTION_TYPE)
 }
 
-/// The capture that the bytes are, in the format that their first four bytes choose.
+/// The capture that the bytes are, in the format that their first four bytes choose. `timed` says whether times are read.
 ///
 /// # Refused
 ///
@@ -38,11 +38,15 @@ fn begins_pcapng(bytes: &[u8]) -> bool
 /// # NoMemory
 ///
 /// There was no room for the places of the packets. The bytes are dropped.
-pub fn read_either(alloc: Global, bytes: Vec<u8>) -> Result<CaptureFile, CaptureRefusal>
-    ensures { Gives (λ capture. capture) result (capture_file_of bytes.items) }
+pub fn read_either(
+    alloc: Global,
+    bytes: Vec<u8>,
+    timed: bool,
+) -> Result<CaptureFile, CaptureRefusal>
+    ensures { Gives (λ capture. capture) result (capture_file_of timed bytes.items) }
 {
     if begins_pcapng(&bytes) {
-        match read_pcapng(alloc, bytes) {
+        match read_pcapng(alloc, bytes, timed) {
             Ok(capture) => Ok(CaptureFile::Pcapng(capture)),
             Err(refusal) => Err(refusal),
         }
@@ -75,6 +79,13 @@ impl Frames for CaptureFile {
         match self {
             CaptureFile::Classic(capture) => capture.link(),
             CaptureFile::Pcapng(capture) => capture.link_of(i),
+        }
+    }
+
+    fn time(&self, i: usize, before: u128) -> u128 {
+        match self {
+            CaptureFile::Classic(capture) => capture.time(i),
+            CaptureFile::Pcapng(capture) => capture.time(i, before),
         }
     }
 }

@@ -43,8 +43,36 @@ pub const LINK: usize = 8;
 
 pub const SNAPSHOT_LENGTH: usize = 12;
 
-/// The places of the interface, of the captured length and of the data in an enhanced packet block.
+/// Where the options of an interface description block begin.
+pub const INTERFACE_OPTIONS: usize = 16;
+
+/// The places of an option's code and of the length of its value, and how many bytes these two have.
+pub const OPTION_CODE: usize = 0;
+
+pub const OPTION_LENGTH: usize = 2;
+
+pub const OPTION_HEADER: usize = 4;
+
+/// The codes of the options that are read, and how long their values are: `opt_endofopt`, `if_tsresol` and `if_tsoffset`.
+pub const END_OF_OPTIONS: u16 = 0;
+
+pub const RESOLUTION: u16 = 9;
+
+pub const RESOLUTION_LENGTH: u16 = 1;
+
+pub const OFFSET: u16 = 14;
+
+pub const OFFSET_LENGTH: u16 = 8;
+
+/// What `if_tsresol` is of an interface without it: its times are in microseconds.
+pub const MICROSECONDS: u8 = 6;
+
+/// The places of the interface, of the time, of the captured length and of the data in an enhanced packet block.
 pub const ENHANCED_INTERFACE: usize = 8;
+
+pub const ENHANCED_TIME_UPPER: usize = 12;
+
+pub const ENHANCED_TIME_LOWER: usize = 16;
 
 pub const ENHANCED_CAPTURED: usize = 20;
 

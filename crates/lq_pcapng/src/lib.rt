@@ -5,7 +5,7 @@
 //! packets of a capture again, here the first one:
 //!
 //! ```text
-//! let capture = read_pcapng(alloc, bytes)?;
+//! let capture = read_pcapng(alloc, bytes, false)?;
 //! let mut out = Vec::new(alloc);
 //! push_section(&mut out, &capture)?;
 //! if capture.len() > 0 {
@@ -17,12 +17,15 @@
 mod blocks;
 mod capture;
 mod file;
+mod interfaces;
 mod laws;
 mod layout;
 mod numbers;
+mod options;
 mod packets;
 mod reader;
 mod section;
+mod times;
 mod writer;
 
 pub use capture::NgCapture;

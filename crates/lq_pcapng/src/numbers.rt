@@ -1,6 +1,6 @@
 // Numbers in the byte order of a section.
 ghost use Rattle.std.specs.Prelude.{◌≡◌, ◌+◌, ◌≤◌, length};
-ghost use Rattle.lq_pcapng.specs.Pcapng.{is_big_endian, is_little_endian, number_in, short_number_in};
+ghost use Rattle.lq_pcapng.specs.Pcapng.{is_big_endian, is_little_endian, long_number as long_number_of, number_in, short_number_in};
 
 use crate::layout::{BYTE_ORDER, BYTE_ORDER_MAGIC};
 use byteorder::{BigEndian, ByteOrder as _, LittleEndian};
@@ -46,5 +46,17 @@ pub fn short_number(block: &[u8], little_endian: bool, place: usize) -> u16
         LittleEndian::read_u16(field)
     } else {
         BigEndian::read_u16(field)
+    }
+}
+
+/// The number of eight bytes.
+pub fn long_number(value: &[u8], little_endian: bool) -> u64
+    requires { length value.now ≡ 8 }
+    ensures { result ≡ long_number_of little_endian value.now }
+{
+    if little_endian {
+        LittleEndian::read_u64(value)
+    } else {
+        BigEndian::read_u64(value)
     }
 }

@@ -11,7 +11,8 @@ use crate::layout::{
 use crate::numbers::number;
 use lq_model::CaptureReason;
 
-fn is_enhanced(block: &[u8], little_endian: bool) -> bool
+/// Whether a packet block is an enhanced one.
+pub fn is_enhanced(block: &[u8], little_endian: bool) -> bool
     requires { 12 ≤ length block.now }
     ensures { result ≡ is_enhanced_block little_endian block.now }
 {
@@ -69,8 +70,8 @@ pub fn captured_length(bytes: &[u8], little_endian: bool, interfaces: &[usize], 
     cut(limit, number(block, little_endian, SIMPLE_LENGTH))
 }
 
-// How many bytes `len` bytes take when they are filled up to a multiple of 4.
-fn padded(len: u32) -> usize
+/// How many bytes `len` bytes take when they are filled up to a multiple of 4.
+pub fn padded(len: u32) -> usize
     ensures { result ≡ padded_length len }
 {
     (len as usize + 3) / 4 * 4

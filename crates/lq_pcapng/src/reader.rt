@@ -6,9 +6,8 @@ ghost use Rattle.lq_pcapng.specs.Reading.{AreInterfaces, IsTested, IsWholeLength
 ghost use Rattle.lq_pcapng.specs.View.{IsRead, capture_at};
 
 use crate::capture::NgCapture;
-use crate::layout::{
-    ENHANCED, INTERFACE, MAX_PACKETS, MIN_BLOCK, MIN_INTERFACE, SECTION, SIMPLE, TYPE,
-};
+use crate::interfaces::{check_interface, clocks_of};
+use crate::layout::{ENHANCED, INTERFACE, MAX_PACKETS, MIN_BLOCK, SECTION, SIMPLE, TYPE};
 use crate::numbers::{begins_little_endian, number};
 use crate::packets::check_packet;
 use crate::section::{block_len, refused_at, section_len};
@@ -24,30 +23,33 @@ struct BlockPlaces {
 }
 
 /// The capture that the bytes are, whose first four are the type of a section header block. It keeps them, and the
-/// places of its interfaces and of its packets beside them.
+/// places of its interfaces and of its packets beside them. `timed` says whether times are read: only then are options of
+/// interfaces looked at.
 ///
 /// # Refused
 ///
 /// The first test that the bytes fail. Of the section header block: `CutBlock` at 0, `ByteOrder` at 8, the tests of its
 /// lengths, `BlockBody` at 0 and `Version` at 12. Of each other block, at the place where it begins: `CutBlock`, the
-/// tests of its lengths, `SecondSection`, for an interface `BlockBody`, and for a packet `TooMany`, `BlockBody`,
+/// tests of its lengths, `SecondSection`, for an interface `BlockBody`, where times are read of its options too, and for a packet `TooMany`, `BlockBody`,
 /// `NoInterface`, `LongRecord` and `BlockBody`. The tests of the lengths are `BlockLength` and `CutBlock` where the block
 /// begins, and `BlockLength` where its length stands again.
 ///
 /// # NoMemory
 ///
-/// There was no room for the places of the interfaces, 8 bytes each, and of the packets, 4 bytes each, and 8 behind 4 GiB. The
-/// bytes are dropped.
-pub fn read_pcapng(alloc: Global, bytes: Vec<u8>) -> Result<NgCapture, CaptureRefusal>
-    ensures { Gives (λ capture. capture) result (pcapng_of bytes.items) }
+/// There was no room for the places of the interfaces, 8 bytes each, and of the packets, 4 bytes each, and 8 behind 4 GiB; nor, where
+/// times are read, for 16 bytes for each interface. The bytes are dropped.
+pub fn read_pcapng(alloc: Global, bytes: Vec<u8>, timed: bool) -> Result<NgCapture, CaptureRefusal>
+    ensures { Gives (λ capture. capture) result (pcapng_of timed bytes.items) }
 {
     let first = section_len(&bytes)?;
     let little_endian = begins_little_endian(&bytes);
-    let places = places_of(alloc, &bytes, little_endian, first)?;
+    let places = places_of(alloc, &bytes, timed, little_endian, first)?;
+    let clocks = clocks_of(alloc, &bytes, timed, little_endian, &places.interfaces)?;
     Ok(NgCapture {
         bytes,
         interfaces: places.interfaces,
         packets: places.packets,
+        clocks,
     })
 }
 
@@ -55,6 +57,7 @@ pub fn read_pcapng(alloc: Global, bytes: Vec<u8>) -> Result<NgCapture, CaptureRe
 fn places_of(
     alloc: Global,
     bytes: &[u8],
+    timed: bool,
     little_endian: bool,
     first: usize,
 ) -> Result<BlockPlaces, CaptureRefusal>
@@ -64,7 +67,7 @@ fn places_of(
     requires long { 28 ≤ first }
     requires within { first ≤ length bytes.now }
     ensures read { IfOk result (λ places. IsRead bytes.now places.interfaces.items places.packets) }
-    ensures capture { Gives (λ places. capture_at bytes.now places.interfaces.items places.packets) result (pcapng_of bytes.now) }
+    ensures capture { Gives (λ places. capture_at bytes.now places.interfaces.items places.packets) result (pcapng_of timed bytes.now) }
 {
     let mut places = BlockPlaces {
         interfaces: Vec::new(alloc),
@@ -73,7 +76,7 @@ fn places_of(
     let mut place = first;
     while place < bytes.len() {
         let rest = &bytes[place..];
-        let len = whole_len(bytes, little_endian, &places, place)?;
+        let len = whole_len(bytes, timed, little_endian, &places, place)?;
         places.note(number(rest, little_endian, TYPE), place)?;
         place += len;
     }
@@ -84,13 +87,14 @@ fn places_of(
 #[tactic(auto, unfolding(crate::specs::Pcapng::block_fault))]
 fn whole_len(
     bytes: &[u8],
+    timed: bool,
     little_endian: bool,
     places: &BlockPlaces,
     place: usize,
 ) -> Result<usize, CaptureRefusal>
     requires within { place ≤ length bytes.now }
     requires interfaces { AreInterfaces little_endian bytes.now places.now.interfaces.items }
-    ensures { IsWholeLength little_endian place (blocks_at little_endian bytes.now places.now.interfaces.items)
+    ensures { IsWholeLength timed little_endian place (blocks_at little_endian bytes.now places.now.interfaces.items)
         (length places.now.packets) (drop place bytes.now) result }
 {
     let rest = &bytes[place..];
@@ -98,7 +102,7 @@ fn whole_len(
         return Err(refused_at(CaptureReason::CutBlock, place));
     }
     let len = block_len(rest, little_endian, place)?;
-    match check_body(bytes, little_endian, places, &rest[..len]) {
+    match check_body(bytes, timed, little_endian, places, &rest[..len]) {
         Ok(()) => Ok(len),
         Err(reason) => Err(refused_at(reason, place)),
     }
@@ -108,18 +112,19 @@ fn whole_len(
 #[tactic(auto, unfolding(crate::specs::Pcapng::body_fault))]
 fn check_body(
     bytes: &[u8],
+    timed: bool,
     little_endian: bool,
     places: &BlockPlaces,
     block: &[u8],
 ) -> Result<(), CaptureReason>
     requires long { 12 ≤ length block.now }
     requires interfaces { AreInterfaces little_endian bytes.now places.now.interfaces.items }
-    ensures { IsTested (body_fault little_endian (blocks_at little_endian bytes.now places.now.interfaces.items)
+    ensures { IsTested (body_fault timed little_endian (blocks_at little_endian bytes.now places.now.interfaces.items)
         (length places.now.packets) block.now) result }
 {
     match number(block, little_endian, TYPE) {
         SECTION => Err(CaptureReason::SecondSection),
-        INTERFACE if block.len() < MIN_INTERFACE => Err(CaptureReason::BlockBody),
+        INTERFACE => check_interface(block, timed, little_endian),
         ENHANCED | SIMPLE if places.packets.len() >= MAX_PACKETS => Err(CaptureReason::TooMany),
         ENHANCED | SIMPLE => check_packet(bytes, little_endian, &places.interfaces, block),
         _ => Ok(()),

@@ -1,5 +1,5 @@
 -- What text is accepted, by the keys and limits of which version.
-use Rattle.std.proofs.Common.{◌≡◌, ◌≢◌, ◌<◌, ◌%◌, ℕ, zero, suc, pos, negsuc, Bool, true, false, ◌==◌, if◌then◌else◌, codes, List, [], ◌∷◌, length, map, take, get_or, slice_get, Option, Some, None, Ok, Err, refl, sym, ap, ◌∙◌, subst, arith}
+use Rattle.std.proofs.Common.{◌≡◌, ◌≢◌, ◌<◌, ◌%◌, ℕ, zero, suc, pos, negsuc, Bool, true, false, ◌==◌, if◌then◌else◌, codes, List, [], ◌∷◌, length, map, take, get_or, slice_get, Option, Some, None, Ok, Err, refl, sym, ap, ◌∙◌, arith}
 use Rattle.std.specs.Prelude.{sum}
 use Rattle.std.proofs.Math.Nat.{mod-one}
 use Rattle.std.proofs.lemmas.List.Sums.{sum_by-cons}
@@ -10,18 +10,19 @@ use Rattle.std.proofs.lemmas.Bool.{ne_eqb}
 use Rattle.toml.specs.Data.{Data, Members, get_member, string, integer, float, boolean, datetime, array, table}
 use Rattle.lq_model.proofs.Reach.{at-within, reach-few}
 use Rattle.lq_model.specs.Class.{route_byte_of, source_byte_of}
-use Rattle.lq_model.specs.Plan.{Plan, first_at, mq_at, station_of}
+use Rattle.lq_model.specs.Plan.{Plan, first_at, mq_at}
 use Rattle.lq_model.specs.declared.plan.PlanReason.{PlanReason}
 use Rattle.lq_model.specs.declared.plan.PlanReason.TheVariants.{NotToml, EventOrder}
 use Rattle.lq_plan.specs.Document.{document_of}
-use Rattle.lq_plan.specs.Keys.{version_of, mq_in}
-use Rattle.lq_plan.specs.Laws.{HasNoVersion, IsUngrouped}
-use Rattle.lq_plan.specs.Limits.{IsPlanOf, IsWithinLimits, is_out_of_order, version_1, version_2, version_3}
+use Rattle.lq_plan.specs.Keys.{version_in, version_of, mq_in}
+use Rattle.lq_plan.specs.Laws.{HasNoVersion, IsByBytes, IsUngrouped, station_by}
+use Rattle.lq_plan.specs.Limits.{IsPlanOf, IsWithinLimits, is_out_of_order, version_1, version_2, version_3, version_4}
 use Rattle.lq_plan.specs.Reading.{event_in, first_fault, plan_by, plan_in, plan_of, root_of}
-use Rattle.lq_plan.specs.Values.{number_at, number_or}
+use Rattle.lq_plan.specs.Values.{number_or}
 use Rattle.lq_plan.specs.declared.keys.Version.{Version}
 use Rattle.lq_plan.proofs.Groups.{mq-read}
-use Rattle.lq_plan.proofs.Within.{IsVersion, is-version, is-version_1, is-version_2, of_version, root_facts, widened}
+use Rattle.lq_plan.proofs.Bytes.{by_bytes}
+use Rattle.lq_plan.proofs.Within.{IsVersion, is-version, is-version_1, is-version_2, is-version_3, narrower-1-2, narrower-1-3, narrower-2-3, of_version, root_facts, widened}
 
 -- ACCEPTED TEXTS
 
@@ -31,7 +32,7 @@ ordered_within : (version : Version) → IsVersion version → (root : Members) 
 ordered_within version is root plan true none order answer = cc
 ordered_within version is root plan false none order answer =
     let same : plan ≡ plan_in (document_of root) = cc in
-    rw same (of_version version root (document_of root) (plan_in (document_of root)) (root_facts version is root none) (sym order) refl refl refl refl refl)
+    rw same (of_version version root (document_of root) (plan_in (document_of root)) (root_facts version is root none) (sym order) refl refl refl refl refl refl refl refl)
 
 faultless_within : (version : Version) → IsVersion version → (root : Members) (plan : Plan) (fault : Option PlanReason) → fault ≡ first_fault version (document_of root)
     → option_map_or Err fault (if is_out_of_order (plan_in (document_of root)).events then Err EventOrder else Ok (plan_in (document_of root))) ≡ Ok plan → IsPlanOf version plan
@@ -43,7 +44,7 @@ accepted_by version is root plan answer = faultless_within version is root plan 
 
 root_within : (plan : Plan) (root : Option Members) → option_map_or (λ root. plan_by (version_of root) root) root (Err NotToml) ≡ Ok plan → IsWithinLimits plan
 root_within plan None answer = cc
-root_within plan (Some root) answer = widened (version_of root) (is-version root) plan (accepted_by (version_of root) (is-version root) root plan answer)
+root_within plan (Some root) answer = widened (version_of root) version_4 (is-version root).narrower plan (accepted_by (version_of root) (is-version root) root plan answer)
 
 pub accepted_within : (text : List ℕ) (plan : Plan) → plan_of text ≡ Ok plan → IsWithinLimits plan
 unfolding plan_of
@@ -63,45 +64,63 @@ other_number default n (Some (datetime time)) other is = absurd (other is)
 other_number default n (Some (array items)) other is = absurd (other is)
 other_number default n (Some (table inside)) other is = absurd (other is)
 
-numbered-1 : (number : ℕ) → number ≢ 2 → number ≢ 3 → (if number == 3 then version_3 else if number == 2 then version_2 else version_1) ≡ version_1
-numbered-1 number not_2 not_3 = ap (λ is_3. if is_3 then version_3 else if number == 2 then version_2 else version_1) (ne_eqb number 3 not_3)
-    ∙ ap (λ is_2. if is_2 then version_2 else version_1) (ne_eqb number 2 not_2)
+-- the version of a number
+abbrev numbered : (is_4 is_3 is_2 : Bool) → Version
+numbered is_4 is_3 is_2 = if is_4 then version_4 else if is_3 then version_3 else if is_2 then version_2 else version_1
 
-no-number : (root : Members) (number : ℕ) → 1 ≢ number → get_member (codes "version") root ≢ Some (integer (pos number)) → number_at (codes "version") 1 root ≢ number
+no-4 : (number : ℕ) → number ≢ 4 → numbered (number == 4) (number == 3) (number == 2) ≡ (if number == 3 then version_3 else if number == 2 then version_2 else version_1)
+no-4 number not_4 = ap (λ is_4. numbered is_4 (number == 3) (number == 2)) (ne_eqb number 4 not_4)
+
+no-3 : (number : ℕ) → number ≢ 3 → number ≢ 4 → numbered (number == 4) (number == 3) (number == 2) ≡ (if number == 2 then version_2 else version_1)
+no-3 number not_3 not_4 = no-4 number not_4 ∙ ap (λ is_3. if is_3 then version_3 else if number == 2 then version_2 else version_1) (ne_eqb number 3 not_3)
+
+no-2 : (number : ℕ) → number ≢ 2 → number ≢ 3 → number ≢ 4 → numbered (number == 4) (number == 3) (number == 2) ≡ version_1
+no-2 number not_2 not_3 not_4 = no-3 number not_3 not_4 ∙ ap (λ is_2. if is_2 then version_2 else version_1) (ne_eqb number 2 not_2)
+
+no-number : (root : Members) (number : ℕ) → 1 ≢ number → get_member (codes "version") root ≢ Some (integer (pos number)) → version_in root ≢ number
 no-number root number other absent is = absent (other_number 1 number (get_member (codes "version") root) other is)
 
-reads_root : (o : Option Members) → ((root : Members) → o ≡ Some root → get_member (codes "version") root ≢ Some (integer (pos 2)))
-    → ((root : Members) → o ≡ Some root → get_member (codes "version") root ≢ Some (integer (pos 3)))
-    → option_map_or (λ root. plan_by (version_of root) root) o (Err NotToml) ≡ option_map_or (plan_by version_1) o (Err NotToml)
-reads_root None not_2 not_3 = refl
-reads_root (Some root) not_2 not_3 =
-    ap (λ version. plan_by version root) (numbered-1 (number_at (codes "version") 1 root) (no-number root 2 (omega arith) (not_2 root refl)) (no-number root 3 (omega arith) (not_3 root refl)))
+-- a root that says none of this number
+abbrev IsSilent : ℕ → Option Members → Type 0
+IsSilent number o = (root : Members) → o ≡ Some root → get_member (codes "version") root ≢ Some (integer (pos number))
 
-pub reads_version_1 : (text : List ℕ) → HasNoVersion 2 text → HasNoVersion 3 text → plan_of text ≡ option_map_or (plan_by version_1) (root_of text) (Err NotToml)
+reads_root : (o : Option Members) → IsSilent 2 o → IsSilent 3 o → IsSilent 4 o
+    → option_map_or (λ root. plan_by (version_of root) root) o (Err NotToml) ≡ option_map_or (plan_by version_1) o (Err NotToml)
+reads_root None not_2 not_3 not_4 = refl
+reads_root (Some root) not_2 not_3 not_4 =
+    ap (λ version. plan_by version root)
+    (no-2 (version_in root) (no-number root 2 (omega arith) (not_2 root refl)) (no-number root 3 (omega arith) (not_3 root refl)) (no-number root 4 (omega arith) (not_4 root refl)))
+
+pub reads_version_1 : (text : List ℕ) → HasNoVersion 2 text → HasNoVersion 3 text → HasNoVersion 4 text → plan_of text ≡ option_map_or (plan_by version_1) (root_of text) (Err NotToml)
 unfolding plan_of
-reads_version_1 text not_2 not_3 = reads_root (root_of text) not_2 not_3
+reads_version_1 text not_2 not_3 not_4 = reads_root (root_of text) not_2 not_3 not_4
 
 root_keeps : (plan : Plan) (o : Option Members) → option_map_or (plan_by version_1) o (Err NotToml) ≡ Ok plan → IsPlanOf version_1 plan
 root_keeps plan None answer = cc
 root_keeps plan (Some root) answer = accepted_by version_1 is-version_1 root plan answer
 
-pub keeps_version_1 : (text : List ℕ) (plan : Plan) → HasNoVersion 2 text → HasNoVersion 3 text → plan_of text ≡ Ok plan → IsPlanOf version_1 plan
-keeps_version_1 text plan not_2 not_3 answer = root_keeps plan (root_of text) (sym (reads_version_1 text not_2 not_3) ∙ answer)
+pub keeps_version_1 : (text : List ℕ) (plan : Plan) → HasNoVersion 2 text → HasNoVersion 3 text → HasNoVersion 4 text → plan_of text ≡ Ok plan → IsPlanOf version_1 plan
+keeps_version_1 text plan not_2 not_3 not_4 answer = root_keeps plan (root_of text) (sym (reads_version_1 text not_2 not_3 not_4) ∙ answer)
 
 -- TEXTS OF VERSION 2 OR 1
 
-numbered-2 : (number : ℕ) → number ≢ 3 → (if number == 3 then version_3 else if number == 2 then version_2 else version_1) ≡ (if number == 2 then version_2 else version_1)
-numbered-2 number not_3 = ap (λ is_3. if is_3 then version_3 else if number == 2 then version_2 else version_1) (ne_eqb number 3 not_3)
+-- the version of a root that says none of the numbers 3 and 4, and of one that doesn't say 4
+abbrev pub below-3 : Members → Version
+below-3 root = if version_in root == 2 then version_2 else version_1
 
-reads_root_2 : (o : Option Members) → ((root : Members) → o ≡ Some root → get_member (codes "version") root ≢ Some (integer (pos 3)))
-    → option_map_or (λ root. plan_by (version_of root) root) o (Err NotToml) ≡ option_map_or (λ root. plan_by (if number_at (codes "version") 1 root == 2 then version_2 else version_1) root) o (Err NotToml)
-reads_root_2 None not_3 = refl
-reads_root_2 (Some root) not_3 = ap (λ version. plan_by version root) (numbered-2 (number_at (codes "version") 1 root) (no-number root 3 (omega arith) (not_3 root refl)))
+abbrev pub below-4 : Members → Version
+below-4 root = if version_in root == 3 then version_3 else if version_in root == 2 then version_2 else version_1
 
-pub reads_version_2 : (text : List ℕ) → HasNoVersion 3 text
-    → plan_of text ≡ option_map_or (λ root. plan_by (if number_at (codes "version") 1 root == 2 then version_2 else version_1) root) (root_of text) (Err NotToml)
+reads_root_2 : (o : Option Members) → IsSilent 3 o → IsSilent 4 o
+    → option_map_or (λ root. plan_by (version_of root) root) o (Err NotToml) ≡ option_map_or (λ root. plan_by (below-3 root) root) o (Err NotToml)
+reads_root_2 None not_3 not_4 = refl
+reads_root_2 (Some root) not_3 not_4 =
+    ap (λ version. plan_by version root) (no-3 (version_in root) (no-number root 3 (omega arith) (not_3 root refl)) (no-number root 4 (omega arith) (not_4 root refl)))
+
+pub reads_version_2 : (text : List ℕ) → HasNoVersion 3 text → HasNoVersion 4 text
+    → plan_of text ≡ option_map_or (λ root. plan_by (below-3 root) root) (root_of text) (Err NotToml)
 unfolding plan_of
-reads_version_2 text not_3 = reads_root_2 (root_of text) not_3
+reads_version_2 text not_3 not_4 = reads_root_2 (root_of text) not_3 not_4
 
 -- groups of one station each
 ones-first : (groups : List ℕ) (j : ℕ) → ((k mq : ℕ) → slice_get groups k ≡ Some mq → mq ≡ 1) → j < length groups → first_at groups j ≡ j
@@ -122,11 +141,12 @@ ungrouped : (plan : Plan) → IsPlanOf version_2 plan → IsUngrouped plan
 ungrouped plan within = record {
   groups = all;
   routes = λ packets n.
-      let route = route_byte_of (packets.link n) (packets.frame n) in let j = route % length plan.groups in
+      let route = route_byte_of (packets.link n) (packets.frame n) in let source = source_byte_of (packets.link n) (packets.frame n) in let j = route % length plan.groups in
       let below : j < length plan.groups = mod_below route (length plan.groups) within.has_group in
       let first = ones-first plan.groups j ones below in let one = one-at plan.groups j ones below in
-      let rest : source_byte_of (packets.link n) (packets.frame n) % mq_at plan.groups j ≡ 0 = ap (λ m. source_byte_of (packets.link n) (packets.frame n) % m) one ∙ mod-one (source_byte_of (packets.link n) (packets.frame n)) in
-      (let whole : station_of plan packets n ≡ j = omega arith in whole) ∙ ap (λ (m : ℕ). route % m) all;
+      let rest : source % mq_at plan.groups j ≡ 0 = ap (λ m. source % m) one ∙ mod-one source in
+      (by_bytes plan (widened version_2 version_3 narrower-2-3 plan within)).stations packets n
+      ∙ ((let whole : station_by plan source route ≡ j = omega arith in whole) ∙ ap (λ (m : ℕ). route % m) all);
   events = λ e event station there at. let mq = within.each_event e event there in let inside = at-within station event at in let few = reach-few event mq.some in
       let own = within.each_reach e event there in let one = own.children ∙ one-at plan.groups own.group ones own.there in omega arith;
 }
@@ -137,42 +157,49 @@ ungrouped plan within = record {
     all : length plan.groups ≡ length plan.stations
     all = sym (ones-sum plan.groups ones) ∙ within.children
 
-of-2 : (version : Version) → (is_2 : Bool) → version ≡ (if is_2 then version_2 else version_1) → (plan : Plan) → IsPlanOf version plan → IsPlanOf version_2 plan
-of-2 version true is plan within = subst (λ v. IsPlanOf v plan) is within
-of-2 version false is plan within = let one = subst (λ v. IsPlanOf v plan) is within in record {
-  has_sender = one.has_sender;
-  senders = omega (arith, one.senders);
-  has_irq_every = one.has_irq_every;
-  irq_every = one.irq_every;
-  has_station = one.has_station;
-  stations = one.stations;
-  has_group = one.has_group;
-  children = one.children;
-  each_group = one.each_group;
-  events = one.events;
-  each_station = λ j station at. let s = one.each_station j station at in record {
-    some = s.some;
-    len = s.len;
-    max_len = omega (arith, s.max_len);
-    params = s.params;
-    has_queue = s.has_queue;
-    queues = omega (arith, s.queues);
-  };
-  each_event = one.each_event;
-  each_reach = one.each_reach;
-  order = one.order;
-}
+of-2 : (is_2 : Bool) (plan : Plan) → IsPlanOf (if is_2 then version_2 else version_1) plan → IsPlanOf version_2 plan
+of-2 true plan within = within
+of-2 false plan within = widened version_1 version_2 narrower-1-2 plan within
 
-root_keeps_2 : (plan : Plan) (o : Option Members) → option_map_or (λ root. plan_by (if number_at (codes "version") 1 root == 2 then version_2 else version_1) root) o (Err NotToml) ≡ Ok plan → IsPlanOf version_2 plan
+is-below-3 : (is_2 : Bool) → IsVersion (if is_2 then version_2 else version_1)
+is-below-3 true = is-version_2
+is-below-3 false = is-version_1
+
+root_keeps_2 : (plan : Plan) (o : Option Members) → option_map_or (λ root. plan_by (below-3 root) root) o (Err NotToml) ≡ Ok plan → IsPlanOf version_2 plan
 root_keeps_2 plan None answer = cc
-root_keeps_2 plan (Some root) answer = go (number_at (codes "version") 1 root == 2) answer
-  where
-    is : (is_2 : Bool) → IsVersion (if is_2 then version_2 else version_1)
-    is true = is-version_2
-    is false = is-version_1
+root_keeps_2 plan (Some root) answer =
+    let is_2 = version_in root == 2 in of-2 is_2 plan (accepted_by (if is_2 then version_2 else version_1) (is-below-3 is_2) root plan answer)
 
-    go : (is_2 : Bool) → plan_by (if is_2 then version_2 else version_1) root ≡ Ok plan → IsPlanOf version_2 plan
-    go is_2 answer = of-2 (if is_2 then version_2 else version_1) is_2 refl plan (accepted_by (if is_2 then version_2 else version_1) (is is_2) root plan answer)
+pub keeps_version_2 : (text : List ℕ) (plan : Plan) → HasNoVersion 3 text → HasNoVersion 4 text → plan_of text ≡ Ok plan → IsPlanOf version_2 plan × IsUngrouped plan
+keeps_version_2 text plan not_3 not_4 answer =
+    let within = root_keeps_2 plan (root_of text) (sym (reads_version_2 text not_3 not_4) ∙ answer) in (within, ungrouped plan within)
 
-pub keeps_version_2 : (text : List ℕ) (plan : Plan) → HasNoVersion 3 text → plan_of text ≡ Ok plan → IsPlanOf version_2 plan × IsUngrouped plan
-keeps_version_2 text plan not_3 answer = let within = root_keeps_2 plan (root_of text) (sym (reads_version_2 text not_3) ∙ answer) in (within, ungrouped plan within)
+-- TEXTS OF VERSION 3, 2 OR 1
+
+reads_root_3 : (o : Option Members) → IsSilent 4 o → option_map_or (λ root. plan_by (version_of root) root) o (Err NotToml) ≡ option_map_or (λ root. plan_by (below-4 root) root) o (Err NotToml)
+reads_root_3 None not_4 = refl
+reads_root_3 (Some root) not_4 = ap (λ version. plan_by version root) (no-4 (version_in root) (no-number root 4 (omega arith) (not_4 root refl)))
+
+pub reads_version_3 : (text : List ℕ) → HasNoVersion 4 text → plan_of text ≡ option_map_or (λ root. plan_by (below-4 root) root) (root_of text) (Err NotToml)
+unfolding plan_of
+reads_version_3 text not_4 = reads_root_3 (root_of text) not_4
+
+of-3 : (is_3 is_2 : Bool) (plan : Plan) → IsPlanOf (if is_3 then version_3 else if is_2 then version_2 else version_1) plan → IsPlanOf version_3 plan
+of-3 true is_2 plan within = within
+of-3 false true plan within = widened version_2 version_3 narrower-2-3 plan within
+of-3 false false plan within = widened version_1 version_3 narrower-1-3 plan within
+
+is-below-4 : (is_3 is_2 : Bool) → IsVersion (if is_3 then version_3 else if is_2 then version_2 else version_1)
+is-below-4 true is_2 = is-version_3
+is-below-4 false true = is-version_2
+is-below-4 false false = is-version_1
+
+root_keeps_3 : (plan : Plan) (o : Option Members) → option_map_or (λ root. plan_by (below-4 root) root) o (Err NotToml) ≡ Ok plan → IsPlanOf version_3 plan
+root_keeps_3 plan None answer = cc
+root_keeps_3 plan (Some root) answer =
+    let is_3 = version_in root == 3 in let is_2 = version_in root == 2 in
+    of-3 is_3 is_2 plan (accepted_by (if is_3 then version_3 else if is_2 then version_2 else version_1) (is-below-4 is_3 is_2) root plan answer)
+
+pub keeps_version_3 : (text : List ℕ) (plan : Plan) → HasNoVersion 4 text → plan_of text ≡ Ok plan → IsPlanOf version_3 plan × IsByBytes plan
+keeps_version_3 text plan not_4 answer =
+    let within = root_keeps_3 plan (root_of text) (sym (reads_version_3 text not_4) ∙ answer) in (within, by_bytes plan within)

@@ -16,9 +16,15 @@ pub mod Groups
 pub mod Events
 -- a value within its range
 pub mod Ranges
+-- the split, the spread and the openings within their ranges
+pub mod Words
 -- a plan within its limits
 pub mod Within
 -- texts that are documents
 pub mod Texts
+-- how often the queues are opened after each packet
+pub mod Times
+-- plans in which neither flows nor times count
+pub mod Bytes
 -- what text is accepted
 pub mod Acceptance

@@ -13,11 +13,11 @@ use Rattle.lq_plan.specs.declared.faults.Fault.TheVariants.{OutOfRange}
 use Rattle.lq_plan.specs.declared.keys.Presence.{Presence}
 use Rattle.lq_plan.specs.declared.keys.Rule.TheVariants.{Number, Tables}
 
-true_from_not : (b : Bool) → not b ≡ false → b ≡ true
+pub true_from_not : (b : Bool) → not b ≡ false → b ≡ true
 true_from_not true h = refl
 true_from_not false h = absurd (false≢true (sym h))
 
-between : (low high n : ℕ) → not (nat_le low n && nat_le n high) ≡ false → (low ≤ n) × (n ≤ high)
+pub between : (low high n : ℕ) → not (nat_le low n && nat_le n high) ≡ false → (low ≤ n) × (n ≤ high)
 between low high n h =
     let both = and_parts (nat_le low n) (nat_le n high) (true_from_not (nat_le low n && nat_le n high) h) in
     (leb-true low n both.0, leb-true n high both.1)

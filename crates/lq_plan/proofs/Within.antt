@@ -10,79 +10,92 @@ use Rattle.toml.specs.Data.{Members, no_members, get_member}
 use Rattle.lq_model.proofs.Reach.{at-within, reach-few}
 use Rattle.lq_model.specs.Plan.{Plan, first_at, is_at, mq_at}
 use Rattle.lq_model.specs.declared.plan.EventPlan.{EventPlan}
+use Rattle.lq_model.specs.declared.plan.Irq.{Irq}
+use Rattle.lq_model.specs.declared.plan.Irq.TheVariants.{Every, Period}
+use Rattle.lq_model.specs.declared.plan.Split.{Split}
+use Rattle.lq_model.specs.declared.plan.Split.TheVariants as split
+use Rattle.lq_model.specs.declared.plan.Spread.{Spread}
+use Rattle.lq_model.specs.declared.plan.Spread.TheVariants as spread
 use Rattle.lq_model.specs.declared.plan.StationPlan.{StationPlan}
 use Rattle.lq_plan.specs.Document.{Document, document_of, has_fault_in}
 use Rattle.lq_plan.specs.Faults.{has_fault, has_kind, is_required, is_within, value_fails}
-use Rattle.lq_plan.specs.Keys.{Key, key, event_keys, event_word_in, group_in, len_in, len_presence, max_len_for, max_len_in, mq_in, params_presence, root_keys, station_keys, version_of}
-use Rattle.lq_plan.specs.Limits.{AreParamsWithin, IsEventOfGroup, IsEventWithin, IsKindWithin, IsPlanOf, IsStationOf, IsStationWithin, IsWithinLimits, is_out_of_order, max_len_at, version_1, version_2, version_3}
-use Rattle.lq_plan.specs.Reading.{IsEventSmall, children_in, event_in, first_fault, has_group_fault, kind_as, params_in, plan_in, station_plan_in}
+use Rattle.lq_plan.specs.Keys.{Key, key, event_keys, event_word_in, group_in, len_in, len_presence, max_len_for, max_len_in, mq_in, params_presence, root_keys, station_keys, version_in, version_of}
+use Rattle.lq_plan.specs.Limits.{AreParamsWithin, IsEventOfGroup, IsEventWithin, IsIrqOf, IsKindWithin, IsPlanOf, IsSplitOf, IsSpreadOf, IsStationOf, is_out_of_order, max_len_at, version_1, version_2, version_3, version_4}
+use Rattle.lq_plan.specs.Reading.{IsEventSmall, children_in, event_in, first_fault, has_group_fault, has_two_irqs, irq_in, kind_as, params_in, plan_in, split_in, spread_in, station_plan_in}
 use Rattle.lq_plan.specs.Values.{number_at}
 use Rattle.lq_plan.specs.declared.faults.Fault.{Fault}
 use Rattle.lq_plan.specs.declared.faults.Fault.TheVariants.{UnknownKey, MissingKey, WrongKind, OutOfRange}
 use Rattle.lq_plan.specs.declared.keys.Presence.TheVariants.{Required, Optional}
-use Rattle.lq_plan.specs.declared.keys.Rule.TheVariants.{Tables}
+use Rattle.lq_plan.specs.declared.keys.Rule.TheVariants.{Number, SplitText, SpreadText, Tables}
 use Rattle.lq_plan.specs.declared.keys.Version.{Version}
 use Rattle.lq_plan.specs.declared.values.EventWord.{EventWord}
 use Rattle.lq_plan.specs.declared.values.EventWord.TheVariants as word
 use Rattle.lq_plan.proofs.Groups.{child-at, each-child, group-within, length-children}
 use Rattle.lq_plan.proofs.Ranges.{at_false, in_range, tables_few, tables_some}
+use Rattle.lq_plan.proofs.Words.{irq_within, split_within, spread_within}
 
 -- VERSIONS
 
+-- each limit of one version is within that of another
+pub record IsNarrower (narrow wide : Version) : Type 0 where
+  pub number : narrow.number ≤ wide.number
+  pub senders : narrow.max_senders ≤ wide.max_senders
+  pub len : narrow.max_len ≤ wide.max_len
+  pub queues : narrow.max_queues ≤ wide.max_queues
+  pub mq : narrow.max_mq ≤ wide.max_mq
+  pub irq_us : narrow.max_irq_us ≤ wide.max_irq_us
+  pub flow : narrow.flow ≡ true → wide.flow ≡ true
+
 -- the defaults are within the limits of a version, and these within those of the latest
 pub record IsVersion (version : Version) : Type 0 where
+  pub some_number : 1 ≤ version.number
   pub some_senders : 1 ≤ version.max_senders
   pub some_len : 1000 ≤ version.max_len
   pub some_queues : 1 ≤ version.max_queues
   pub some_mq : 1 ≤ version.max_mq
-  pub few_senders : version.max_senders ≤ 64
-  pub few_len : version.max_len ≤ 65536
-  pub few_queues : version.max_queues ≤ 8
-  pub few_mq : version.max_mq ≤ 8
+  pub narrower : IsNarrower version version_4
+
+narrower-1-4 : IsNarrower version_1 version_4
+narrower-1-4 = record { number = omega arith; senders = omega arith; len = omega arith; queues = omega arith; mq = omega arith; irq_us = omega arith; flow = λ e. refl }
+
+narrower-2-4 : IsNarrower version_2 version_4
+narrower-2-4 = record { number = omega arith; senders = omega arith; len = omega arith; queues = omega arith; mq = omega arith; irq_us = omega arith; flow = λ e. refl }
+
+narrower-3-4 : IsNarrower version_3 version_4
+narrower-3-4 = record { number = omega arith; senders = omega arith; len = omega arith; queues = omega arith; mq = omega arith; irq_us = omega arith; flow = λ e. refl }
+
+narrower-4-4 : IsNarrower version_4 version_4
+narrower-4-4 = record { number = omega arith; senders = omega arith; len = omega arith; queues = omega arith; mq = omega arith; irq_us = omega arith; flow = λ e. refl }
+
+pub narrower-1-2 : IsNarrower version_1 version_2
+narrower-1-2 = record { number = omega arith; senders = omega arith; len = omega arith; queues = omega arith; mq = omega arith; irq_us = omega arith; flow = λ e. e }
+
+pub narrower-1-3 : IsNarrower version_1 version_3
+narrower-1-3 = record { number = omega arith; senders = omega arith; len = omega arith; queues = omega arith; mq = omega arith; irq_us = omega arith; flow = λ e. e }
+
+pub narrower-2-3 : IsNarrower version_2 version_3
+narrower-2-3 = record { number = omega arith; senders = omega arith; len = omega arith; queues = omega arith; mq = omega arith; irq_us = omega arith; flow = λ e. e }
 
 pub is-version_1 : IsVersion version_1
-is-version_1 = record {
-  some_senders = omega arith;
-  some_len = omega arith;
-  some_queues = omega arith;
-  some_mq = omega arith;
-  few_senders = omega arith;
-  few_len = omega arith;
-  few_queues = omega arith;
-  few_mq = omega arith;
-}
+is-version_1 = record { some_number = omega arith; some_senders = omega arith; some_len = omega arith; some_queues = omega arith; some_mq = omega arith; narrower = narrower-1-4 }
 
 pub is-version_2 : IsVersion version_2
-is-version_2 = record {
-  some_senders = omega arith;
-  some_len = omega arith;
-  some_queues = omega arith;
-  some_mq = omega arith;
-  few_senders = omega arith;
-  few_len = omega arith;
-  few_queues = omega arith;
-  few_mq = omega arith;
-}
+is-version_2 = record { some_number = omega arith; some_senders = omega arith; some_len = omega arith; some_queues = omega arith; some_mq = omega arith; narrower = narrower-2-4 }
 
 pub is-version_3 : IsVersion version_3
-is-version_3 = record {
-  some_senders = omega arith;
-  some_len = omega arith;
-  some_queues = omega arith;
-  some_mq = omega arith;
-  few_senders = omega arith;
-  few_len = omega arith;
-  few_queues = omega arith;
-  few_mq = omega arith;
-}
+is-version_3 = record { some_number = omega arith; some_senders = omega arith; some_len = omega arith; some_queues = omega arith; some_mq = omega arith; narrower = narrower-3-4 }
 
-of-version : (is_3 is_2 : Bool) → IsVersion (if is_3 then version_3 else if is_2 then version_2 else version_1)
-of-version true is_2 = is-version_3
-of-version false true = is-version_2
-of-version false false = is-version_1
+pub is-version_4 : IsVersion version_4
+is-version_4 = record { some_number = omega arith; some_senders = omega arith; some_len = omega arith; some_queues = omega arith; some_mq = omega arith; narrower = narrower-4-4 }
+
+of-version : (is_4 is_3 is_2 : Bool) → IsVersion (if is_4 then version_4 else if is_3 then version_3 else if is_2 then version_2 else version_1)
+of-version true is_3 is_2 = is-version_4
+of-version false true is_2 = is-version_3
+of-version false false true = is-version_2
+of-version false false false = is-version_1
 
 pub is-version : (root : Members) → IsVersion (version_of root)
-is-version root = of-version (number_at (codes "version") 1 root == 3) (number_at (codes "version") 1 root == 2)
+is-version root = of-version (version_in root == 4) (version_in root == 3) (version_in root == 2)
 
 -- A STATION
 
@@ -116,30 +129,46 @@ station_within version is t h =
       queues = omega (arith, queues.1, most.1);
     }
 
--- the limits of the latest version are the widest
-station-widened : (version : Version) → IsVersion version → (s : StationPlan) → IsStationOf version s → IsStationWithin s
-station-widened version is s within = record {
+-- a plan within the limits of a version is within those of a wider one
+station-widened : (narrow wide : Version) → IsNarrower narrow wide → (s : StationPlan) → IsStationOf narrow s → IsStationOf wide s
+station-widened narrow wide less s within = record {
   some = within.some;
   len = within.len;
-  max_len = omega (arith, within.max_len, is.few_len);
+  max_len = omega (arith, within.max_len, less.len);
   params = within.params;
   has_queue = within.has_queue;
-  queues = omega (arith, within.queues, is.few_queues);
+  queues = omega (arith, within.queues, less.queues);
 }
 
-pub widened : (version : Version) → IsVersion version → (p : Plan) → IsPlanOf version p → IsWithinLimits p
-widened version is p within = record {
+split-widened : (narrow wide : Version) → IsNarrower narrow wide → (s : Split) → IsSplitOf narrow s → IsSplitOf wide s
+split-widened narrow wide less split.Round of = tt
+split-widened narrow wide less split.Source of = tt
+split-widened narrow wide less split.Flow of = less.flow of
+
+spread-widened : (narrow wide : Version) → IsNarrower narrow wide → (s : Spread) → IsSpreadOf narrow s → IsSpreadOf wide s
+spread-widened narrow wide less spread.Bytes of = tt
+spread-widened narrow wide less spread.Flow of = less.flow of
+
+pub irq-widened : (narrow wide : Version) → IsNarrower narrow wide → (irq : Irq) → IsIrqOf narrow irq → IsIrqOf wide irq
+irq-widened narrow wide less (Every packets) of = of
+irq-widened narrow wide less (Period microseconds) of = (of.0, omega (arith, of.1, less.irq_us))
+
+pub widened : (narrow wide : Version) → IsNarrower narrow wide → (p : Plan) → IsPlanOf narrow p → IsPlanOf wide p
+widened narrow wide less p within = record {
+  has_version = within.has_version;
+  of_version = omega (arith, within.of_version, less.number);
   has_sender = within.has_sender;
-  senders = omega (arith, within.senders, is.few_senders);
-  has_irq_every = within.has_irq_every;
-  irq_every = within.irq_every;
+  senders = omega (arith, within.senders, less.senders);
+  split = split-widened narrow wide less p.split within.split;
+  spread = spread-widened narrow wide less p.spread within.spread;
+  irq = irq-widened narrow wide less p.irq within.irq;
   has_station = within.has_station;
   stations = within.stations;
   has_group = within.has_group;
   children = within.children;
-  each_group = λ j mq at. let each = within.each_group j mq at in (each.0, omega (arith, each.1, is.few_mq));
+  each_group = λ j mq at. let each = within.each_group j mq at in (each.0, omega (arith, each.1, less.mq));
   events = within.events;
-  each_station = λ j station at. station-widened version is station (within.each_station j station at);
+  each_station = λ j station at. station-widened narrow wide less station (within.each_station j station at);
   each_event = within.each_event;
   each_reach = within.each_reach;
   order = within.order;
@@ -182,7 +211,7 @@ abbrev pub AreStationsOf : Version → List Members → Type 0
 AreStationsOf version stations = (j : ℕ) (t : Members) → slice_get stations j ≡ Some t → IsStationOf version (station_plan_in t)
 
 abbrev pub AreStationsWithin : List Members → Type 0
-AreStationsWithin stations = AreStationsOf version_3 stations
+AreStationsWithin stations = AreStationsOf version_4 stations
 
 -- each group is of some stations
 abbrev pub AreGroupsWithin : List Members → Type 0
@@ -273,37 +302,45 @@ no_fault version fault d h =
     let more = or_parts stations_fault events_fault parts.1 in
     record { root = parts.0; stations = more.0; events = more.1 }
 
-pub record Facts (version : Version) (root : Members) (d : Document) : Type 0 where
-  pub senders : (1 ≤ number_at (codes "senders") 1 root) × (number_at (codes "senders") 1 root ≤ version.max_senders)
-  pub irq_every : (1 ≤ number_at (codes "irq_every") 1 root) × (number_at (codes "irq_every") 1 root ≤ 1000)
+pub record Facts (limits : Version) (root : Members) (d : Document) : Type 0 where
+  pub version : (1 ≤ version_in root) × (version_in root ≤ limits.number)
+  pub senders : (1 ≤ number_at (codes "senders") 1 root) × (number_at (codes "senders") 1 root ≤ limits.max_senders)
+  pub split : IsSplitOf limits (split_in root)
+  pub spread : IsSpreadOf limits (spread_in root)
+  pub irq : IsIrqOf limits (irq_in root)
   pub has_station : 0 < length d.stations
   pub few_stations : length d.stations ≤ 8
   pub few_events : length d.events ≤ 64
-  pub stations : AreStationsOf version d.stations
-  pub mq : (j : ℕ) (t : Members) → slice_get d.stations j ≡ Some t → (1 ≤ mq_in t) × (mq_in t ≤ version.max_mq)
+  pub stations : AreStationsOf limits d.stations
+  pub mq : (j : ℕ) (t : Members) → slice_get d.stations j ≡ Some t → (1 ≤ mq_in t) × (mq_in t ≤ limits.max_mq)
   pub few_children : sum (map mq_in d.stations) ≤ 8
   pub events : (e : ℕ) (t : Members) → slice_get d.events e ≡ Some t → has_fault OutOfRange (event_keys d.stations t) t ≡ false
-  pub is : IsVersion version
+  pub is : IsVersion limits
 
 pub root_facts : (version : Version) → IsVersion version → (root : Members) → None ≡ first_fault version (document_of root) → Facts version root (document_of root)
 unfolding root_keys
 root_facts version is root h =
     let d = document_of root in
-    let none = first_of_four (has_fault_in version UnknownKey d) (has_fault_in version MissingKey d) (has_fault_in version WrongKind d) (has_fault_in version OutOfRange d || has_group_fault (plan_in d)) _ _ _ _ h in
-    let limits = or_parts (has_fault_in version OutOfRange d) (has_group_fault (plan_in d)) none.3 in
+    let none = first_of_four (has_fault_in version UnknownKey d) (has_fault_in version MissingKey d) (has_fault_in version WrongKind d) (has_fault_in version OutOfRange d || (has_group_fault (plan_in d) || has_two_irqs d.root)) _ _ _ _ h in
+    let limits = or_parts (has_fault_in version OutOfRange d) (has_group_fault (plan_in d) || has_two_irqs d.root) none.3 in
+    let whole = or_parts (has_group_fault (plan_in d)) (has_two_irqs d.root) limits.1 in
     let missing = no_fault version MissingKey d none.1 in
     let kinds = no_fault version WrongKind d none.2 in
     let ranges = no_fault version OutOfRange d limits.0 in
-    let groups = or_parts (nat_lt 8 (length (flat_map children_in d.stations))) _ limits.1 in
+    let groups = or_parts (nat_lt 8 (length (flat_map children_in d.stations))) _ whole.0 in
     let keys = root_keys version in
     let station = key (codes "station") Required (Tables 1 8) in
     let event = key (codes "event") Optional (Tables 0 64) in
+    let irq_us = key (codes "irq_us") version.irq_us (Number 1 version.max_irq_us) in
     record {
+      version = in_range root keys 0 (codes "version") Optional 1 version.number 1 ranges.root refl (omega arith) is.some_number;
       senders = in_range root keys 1 (codes "senders") Optional 1 version.max_senders 1 ranges.root refl (omega arith) is.some_senders;
-      irq_every = in_range root keys 3 (codes "irq_every") Optional 1 1000 1 ranges.root refl (omega arith) (omega arith);
-      has_station = tables_some 1 8 (get_member (codes "station") root) (at_false (λ (key : Key). is_required key.presence && is_none (get_member key.name root)) keys 4 station missing.root refl) (at_false (value_fails has_kind root) keys 4 station kinds.root refl) (at_false (value_fails is_within root) keys 4 station ranges.root refl);
-      few_stations = tables_few 1 8 (get_member (codes "station") root) (at_false (value_fails is_within root) keys 4 station ranges.root refl);
-      few_events = tables_few 0 64 (get_member (codes "event") root) (at_false (value_fails is_within root) keys 5 event ranges.root refl);
+      split = split_within version (get_member (codes "split") root) (at_false (value_fails is_within root) keys 2 (key (codes "split") Optional (SplitText version.flow)) ranges.root refl);
+      spread = spread_within version (get_member (codes "spread") root) (at_false (value_fails is_within root) keys 3 (key (codes "spread") version.spread (SpreadText version.flow)) ranges.root refl);
+      irq = irq_within version (number_at (codes "irq_every") 1 root) (get_member (codes "irq_us") root) (in_range root keys 4 (codes "irq_every") Optional 1 1000 1 ranges.root refl (omega arith) (omega arith)) (at_false (value_fails has_kind root) keys 5 irq_us kinds.root refl) (at_false (value_fails is_within root) keys 5 irq_us ranges.root refl);
+      has_station = tables_some 1 8 (get_member (codes "station") root) (at_false (λ (key : Key). is_required key.presence && is_none (get_member key.name root)) keys 6 station missing.root refl) (at_false (value_fails has_kind root) keys 6 station kinds.root refl) (at_false (value_fails is_within root) keys 6 station ranges.root refl);
+      few_stations = tables_few 1 8 (get_member (codes "station") root) (at_false (value_fails is_within root) keys 6 station ranges.root refl);
+      few_events = tables_few 0 64 (get_member (codes "event") root) (at_false (value_fails is_within root) keys 7 event ranges.root refl);
       stations = λ j t at. station_within version is t (at_false (λ s. has_fault OutOfRange (station_keys version s) s) d.stations j t ranges.stations at);
       mq = λ j t at. mq_within version is t (at_false (λ s. has_fault OutOfRange (station_keys version s) s) d.stations j t ranges.stations at);
       few_children = omega (arith, ltb-false 8 (length (flat_map children_in d.stations)) groups.0, length-children d.stations);
@@ -316,10 +353,10 @@ facts root d same h = rw same (root_facts (version_of root) (is-version root) ro
 
 -- what the groups of a document without faults are
 pub few-mq : (root : Members) (d : Document) → d ≡ document_of root → None ≡ first_fault (version_of d.root) d → (j : ℕ) (t : Members) → slice_get d.stations j ≡ Some t → mq_in t ≤ 8
-few-mq root d same h j t at = let all = facts root d same h in let mq = all.mq j t at in omega (arith, mq.1, all.is.few_mq)
+few-mq root d same h j t at = let all = facts root d same h in let mq = all.mq j t at in omega (arith, mq.1, all.is.narrower.mq)
 
 pub stations-within : (version : Version) (root : Members) (d : Document) → Facts version root d → AreStationsWithin d.stations
-stations-within version root d all = λ j t at. station-widened version all.is (station_plan_in t) (all.stations j t at)
+stations-within version root d all = λ j t at. station-widened version version_4 all.is.narrower (station_plan_in t) (all.stations j t at)
 
 -- THE PLAN
 
@@ -341,14 +378,17 @@ some-children version root d all =
     let mq : mq_at (map mq_in d.stations) 0 ≡ mq_in (get_or d.stations 0 no_members) = ap (λ o. option_map_or (λ mq. mq) o 0) (slice_get-map mq_in d.stations 0 ∙ ap (option_map mq_in) at) in
     let some = groups-within version root d all 0 (get_or d.stations 0 no_members) at in let inside = group-within (map mq_in d.stations) 0 first in omega arith
 
-pub of_version : (version : Version) (root : Members) (d : Document) (p : Plan) → Facts version root d → is_out_of_order (map (event_in (map mq_in d.stations)) d.events) ≡ false → p.senders ≡ number_at (codes "senders") 1 root
-    → p.irq_every ≡ number_at (codes "irq_every") 1 root → p.stations ≡ flat_map children_in d.stations → p.groups ≡ map mq_in d.stations → p.events ≡ map (event_in (map mq_in d.stations)) d.events → IsPlanOf version p
-of_version version root d p all in_order senders irq_every stations groups events =
+pub of_version : (version : Version) (root : Members) (d : Document) (p : Plan) → Facts version root d → is_out_of_order (map (event_in (map mq_in d.stations)) d.events) ≡ false → p.version ≡ version_in root → p.senders ≡ number_at (codes "senders") 1 root
+    → p.split ≡ split_in root → p.spread ≡ spread_in root → p.irq ≡ irq_in root → p.stations ≡ flat_map children_in d.stations → p.groups ≡ map mq_in d.stations → p.events ≡ map (event_in (map mq_in d.stations)) d.events → IsPlanOf version p
+of_version version root d p all in_order number senders split spread irq stations groups events =
     let count = length-children d.stations in record {
+      has_version = omega (arith, all.version.0);
+      of_version = omega (arith, all.version.1);
       has_sender = omega (arith, all.senders.0);
       senders = omega (arith, all.senders.1);
-      has_irq_every = omega (arith, all.irq_every.0);
-      irq_every = omega (arith, all.irq_every.1);
+      split = rw split all.split;
+      spread = rw spread all.spread;
+      irq = rw irq all.irq;
       has_station = rw stations (omega (arith, count, some-children version root d all));
       stations = rw stations (omega (arith, count, all.few_children));
       has_group = rw groups (omega (arith, length-map d.stations mq_in, all.has_station));

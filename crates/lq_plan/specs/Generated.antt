@@ -2,7 +2,9 @@
 use Rattle.std.specs.Prelude.{true, [], ◌∷◌}
 use Rattle.lq_model.specs.Plan.{Plan}
 use Rattle.lq_model.specs.declared.device.Params.{Params}
+use Rattle.lq_model.specs.declared.plan.Irq.TheVariants.{Every}
 use Rattle.lq_model.specs.declared.plan.Split.TheVariants.{Round}
+use Rattle.lq_model.specs.declared.plan.Spread.TheVariants.{Bytes}
 use Rattle.lq_model.specs.declared.plan.StationPlan.{StationPlan}
 
 -- that of the text `irq_every = 64`, `[[station]]`, `len = 32`, `burst = 48`
@@ -10,4 +12,4 @@ abbrev pub generated_plan : Plan
 generated_plan =
     let params : Params = record { burst = 48; busy_every = 0; busy_limit = 0; hang_after = 0 } in
     let station : StationPlan = record { len = 32; max_len = 32; bypass = true; params = params; queues = 1 } in
-    record { senders = 1; split = Round; irq_every = 64; stations = station ∷ []; groups = 1 ∷ []; events = [] }
+    record { version = 1; senders = 1; split = Round; spread = Bytes; irq = Every 64; stations = station ∷ []; groups = 1 ∷ []; events = [] }

@@ -2,13 +2,13 @@
 use Rattle.std.specs.Prelude.{ℕ, ◌-◌, ◌==◌, nat_lt, if◌then◌else◌, codes, List, [], ◌∷◌, length, map, Option, Some, None, slice_get}
 use Rattle.std.specs.Option.{option_map_or, option_and_then}
 use Rattle.toml.specs.Data.{Members}
-use Rattle.lq_plan.specs.Limits.{version_1, version_2, version_3}
+use Rattle.lq_plan.specs.Limits.{version_1, version_2, version_3, version_4}
 use Rattle.lq_plan.specs.Values.{number_at, text_at, event_word_of}
 use Rattle.lq_plan.specs.declared.keys.Key.{Key as CodeKey}
 use Rattle.lq_plan.specs.declared.keys.Presence.{Presence}
 use Rattle.lq_plan.specs.declared.keys.Presence.TheVariants.{Required, Optional, Unknown}
 use Rattle.lq_plan.specs.declared.keys.Rule.{Rule}
-use Rattle.lq_plan.specs.declared.keys.Rule.TheVariants.{Number, Flag, SplitText, EventText, Tables}
+use Rattle.lq_plan.specs.declared.keys.Rule.TheVariants.{Number, Flag, SplitText, SpreadText, EventText, Tables}
 use Rattle.lq_plan.specs.declared.keys.Version.{Version}
 use Rattle.lq_plan.specs.declared.values.EventWord.{EventWord}
 use Rattle.lq_plan.specs.declared.values.EventWord.TheVariants.{Resize, TxQueueLen, Swap}
@@ -30,10 +30,15 @@ keys_view = map key_view
 
 -- VERSIONS
 
--- the version of the document at this root: 3 or 2 where it says so, else 1
+-- the number that the document at this root says
+abbrev pub version_in : Members → ℕ
+version_in root = number_at (codes "version") 1 root
+
+-- its version: 4, 3 or 2 where it says so, else 1
 abbrev pub version_of : Members → Version
 version_of root =
-    let number = number_at (codes "version") 1 root in if number == 3 then version_3 else if number == 2 then version_2 else version_1
+    let number = version_in root in
+    if number == 4 then version_4 else if number == 3 then version_3 else if number == 2 then version_2 else version_1
 
 -- THE ROOT
 
@@ -41,8 +46,10 @@ unfoldable pub root_keys : Version → List Key
 root_keys version =
     key (codes "version") Optional (Number 1 version.number)
     ∷ key (codes "senders") Optional (Number 1 version.max_senders)
-    ∷ key (codes "split") Optional SplitText
+    ∷ key (codes "split") Optional (SplitText version.flow)
+    ∷ key (codes "spread") version.spread (SpreadText version.flow)
     ∷ key (codes "irq_every") Optional (Number 1 1000)
+    ∷ key (codes "irq_us") version.irq_us (Number 1 version.max_irq_us)
     ∷ key (codes "station") Required (Tables 1 8)
     ∷ key (codes "event") Optional (Tables 0 64)
     ∷ []

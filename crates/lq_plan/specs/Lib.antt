@@ -18,5 +18,7 @@ pub mod View
 pub mod Generated
 -- the limits of what is known of each packet
 pub mod Packets
+-- how often the stopped queues are opened after each packet
+pub mod Openings
 -- what follows from the definition of a plan
 pub mod Laws

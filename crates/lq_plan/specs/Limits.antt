@@ -8,6 +8,12 @@ use Rattle.lq_model.specs.declared.device.Params.{Params}
 use Rattle.lq_model.specs.declared.plan.EventKind.{EventKind}
 use Rattle.lq_model.specs.declared.plan.EventKind.TheVariants.{Down, Up, Resize, TxQueueLen, Swap}
 use Rattle.lq_model.specs.declared.plan.EventPlan.{EventPlan}
+use Rattle.lq_model.specs.declared.plan.Irq.{Irq}
+use Rattle.lq_model.specs.declared.plan.Irq.TheVariants.{Every, Period}
+use Rattle.lq_model.specs.declared.plan.Split.{Split}
+use Rattle.lq_model.specs.declared.plan.Split.TheVariants as split
+use Rattle.lq_model.specs.declared.plan.Spread.{Spread}
+use Rattle.lq_model.specs.declared.plan.Spread.TheVariants as spread
 use Rattle.lq_model.specs.declared.plan.StationPlan.{StationPlan}
 use Rattle.lq_plan.specs.declared.keys.Presence.TheVariants.{Optional, Unknown}
 use Rattle.lq_plan.specs.declared.keys.Version.{Version}
@@ -15,13 +21,16 @@ use Rattle.lq_plan.specs.declared.keys.Version.{Version}
 -- WHAT DIFFERS BETWEEN THE VERSIONS
 
 abbrev pub version_1 : Version
-version_1 = record { number = 1; max_senders = 8; max_len = 4096; queues = Unknown; max_queues = 1; mq = Unknown; max_mq = 1 }
+version_1 = record { number = 1; max_senders = 8; max_len = 4096; queues = Unknown; max_queues = 1; mq = Unknown; max_mq = 1; irq_us = Unknown; max_irq_us = 0; spread = Unknown; flow = false }
 
 abbrev pub version_2 : Version
-version_2 = record { number = 2; max_senders = 64; max_len = 65536; queues = Optional; max_queues = 8; mq = Unknown; max_mq = 1 }
+version_2 = record { number = 2; max_senders = 64; max_len = 65536; queues = Optional; max_queues = 8; mq = Unknown; max_mq = 1; irq_us = Unknown; max_irq_us = 0; spread = Unknown; flow = false }
 
 abbrev pub version_3 : Version
-version_3 = record { number = 3; max_senders = 64; max_len = 65536; queues = Optional; max_queues = 8; mq = Optional; max_mq = 8 }
+version_3 = record { number = 3; max_senders = 64; max_len = 65536; queues = Optional; max_queues = 8; mq = Optional; max_mq = 8; irq_us = Unknown; max_irq_us = 0; spread = Unknown; flow = false }
+
+abbrev pub version_4 : Version
+version_4 = record { number = 4; max_senders = 64; max_len = 65536; queues = Optional; max_queues = 8; mq = Optional; max_mq = 8; irq_us = Optional; max_irq_us = 1000000; spread = Optional; flow = true }
 
 -- THE ORDER OF EVENTS
 
@@ -97,11 +106,28 @@ pub record IsEventOfGroup (groups : List ℕ) (event : EventPlan) : Type 0 where
   pub first : event.station ≡ first_at groups group
   pub children : event.mq ≡ mq_at groups group
 
+-- packets are split or spread by flow only where the version knows it
+abbrev pub IsSplitOf : Version → Split → Type 0
+IsSplitOf version split.Flow = version.flow ≡ true
+IsSplitOf version _ = Unit {0}
+
+abbrev pub IsSpreadOf : Version → Spread → Type 0
+IsSpreadOf version spread.Flow = version.flow ≡ true
+IsSpreadOf version _ = Unit {0}
+
+-- how many packets or microseconds there may be from one opening of the stopped queues to the next
+abbrev pub IsIrqOf : Version → Irq → Type 0
+IsIrqOf version (Every packets) = (0 < packets) × (packets ≤ 1000)
+IsIrqOf version (Period microseconds) = (0 < microseconds) × (microseconds ≤ version.max_irq_us)
+
 pub record IsPlanOf (version : Version) (plan : Plan) : Type 0 where
+  pub has_version : 0 < plan.version
+  pub of_version : plan.version ≤ version.number
   pub has_sender : 0 < plan.senders
   pub senders : plan.senders ≤ version.max_senders
-  pub has_irq_every : 0 < plan.irq_every
-  pub irq_every : plan.irq_every ≤ 1000
+  pub split : IsSplitOf version plan.split
+  pub spread : IsSpreadOf version plan.spread
+  pub irq : IsIrqOf version plan.irq
   pub has_station : 0 < length plan.stations
   pub stations : length plan.stations ≤ max_stations
   -- the stations are the children of the groups
@@ -116,7 +142,10 @@ pub record IsPlanOf (version : Version) (plan : Plan) : Type 0 where
 
 -- The limits of every plan are those of the latest version, which are the widest.
 abbrev pub IsStationWithin : StationPlan → Type 0
-IsStationWithin station = IsStationOf version_3 station
+IsStationWithin station = IsStationOf version_4 station
+
+abbrev pub IsIrqWithin : Irq → Type 0
+IsIrqWithin irq = IsIrqOf version_4 irq
 
 abbrev pub IsWithinLimits : Plan → Type 0
-IsWithinLimits plan = IsPlanOf version_3 plan
+IsWithinLimits plan = IsPlanOf version_4 plan

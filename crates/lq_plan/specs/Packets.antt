@@ -1,15 +1,30 @@
 -- What is known of each packet of a capture under a plan.
-use Rattle.std.specs.Prelude.{◌≡◌, ◌<◌, ◌&&◌, ◌==◌, ℕ, List, Some, count_by, length, map, slice_get}
+use Rattle.std.specs.Prelude.{◌≡◌, ◌⊎◌, ◌<◌, ◌&&◌, ◌==◌, ℕ, List, Some, count_by, length, map, slice_get}
+use Rattle.lq_class.specs.declared.Class.{Class}
 use Rattle.lq_model.specs.Capture.{Packets}
+use Rattle.lq_model.specs.Class.{route_byte_of, source_byte_of}
 use Rattle.lq_model.specs.Numbers.{first_numbers}
 use Rattle.lq_model.specs.Plan.{Plan, queues_at, info_of, owner_in, station_in, band_in, queue_in}
 use Rattle.lq_model.specs.declared.fate.Info.{Info}
+use Rattle.lq_model.specs.declared.plan.Split.TheVariants as split
+use Rattle.lq_model.specs.declared.plan.Spread.TheVariants as spread
 
 pub record IsInfoWithin (plan : Plan) (info : Info) : Type 0 where
   pub owner : info.owner < plan.senders
   pub station : info.station < length plan.stations
   pub band : info.band < 3
   pub queue : info.queue < queues_at plan.stations info.station
+
+-- BY WHAT IT IS CHOSEN
+
+-- the class of packet n
+pub record IsClassOf (packets : Packets) (n : ℕ) (class : Class) : Type 0 where
+  pub source_byte : class.source_byte ≡ source_byte_of (packets.link n) (packets.frame n)
+  pub route_byte : class.route_byte ≡ route_byte_of (packets.link n) (packets.frame n)
+
+-- packets are spread or split by flow
+abbrev pub AsksFlow : Plan → Type 0
+AsksFlow plan = (plan.spread ≡ spread.Flow) ⊎ (plan.split ≡ split.Flow)
 
 -- BEFORE AND AFTER THE RANKS
 

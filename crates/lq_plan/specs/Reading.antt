@@ -1,23 +1,28 @@
 -- The plan that a text is, or why it is none.
-use Rattle.std.specs.Prelude.{◌≡◌, ℕ, ◌<◌, ◌≤◌, Bool, true, ◌&&◌, ◌||◌, nat_lt, if◌then◌else◌, codes, List, length, map, replicate, Option, Some, None, Result, Ok, Err, option_and_then, unwrap_or}
+use Rattle.std.specs.Prelude.{◌≡◌, ℕ, ◌<◌, ◌≤◌, Bool, true, ◌&&◌, ◌||◌, nat_lt, if◌then◌else◌, codes, List, length, map, replicate, Option, Some, None, is_some, Result, Ok, Err, option_and_then, unwrap_or}
 use Rattle.std.specs.List.{flat_map, list_any}
 use Rattle.std.specs.Option.{option_map_or}
 use Rattle.std.specs.Str.{is_utf8}
-use Rattle.toml.specs.Data.{Members}
+use Rattle.toml.specs.Data.{Members, get_member}
 use Rattle.toml.specs.Parse.{parse_document}
 use Rattle.lq_model.specs.Plan.{Plan, first_at, is_swap, mq_at}
 use Rattle.lq_model.specs.declared.device.Params.{Params}
 use Rattle.lq_model.specs.declared.plan.EventKind.{EventKind}
 use Rattle.lq_model.specs.declared.plan.EventKind.TheVariants.{Down, Up, Resize, TxQueueLen, Swap}
 use Rattle.lq_model.specs.declared.plan.EventPlan.{EventPlan}
+use Rattle.lq_model.specs.declared.plan.Irq.{Irq}
+use Rattle.lq_model.specs.declared.plan.Irq.TheVariants.{Every, Period}
 use Rattle.lq_model.specs.declared.plan.PlanReason.{PlanReason}
 use Rattle.lq_model.specs.declared.plan.PlanReason.TheVariants as reason
+use Rattle.lq_model.specs.declared.plan.Split.{Split}
 use Rattle.lq_model.specs.declared.plan.Split.TheVariants.{Round}
+use Rattle.lq_model.specs.declared.plan.Spread.{Spread}
+use Rattle.lq_model.specs.declared.plan.Spread.TheVariants.{Bytes}
 use Rattle.lq_model.specs.declared.plan.StationPlan.{StationPlan}
 use Rattle.lq_plan.specs.Document.{Document, document_of, has_fault_in}
-use Rattle.lq_plan.specs.Keys.{event_word_in, group_in, len_in, max_len_in, mq_in, version_of}
+use Rattle.lq_plan.specs.Keys.{event_word_in, group_in, len_in, max_len_in, mq_in, version_in, version_of}
 use Rattle.lq_plan.specs.Limits.{IsKindWithin, is_out_of_order, max_stations}
-use Rattle.lq_plan.specs.Values.{flag_at, number_at, split_of, text_at}
+use Rattle.lq_plan.specs.Values.{flag_at, number_at, split_of, spread_of, text_at}
 use Rattle.lq_plan.specs.declared.faults.Fault.TheVariants.{UnknownKey, MissingKey, WrongKind, OutOfRange}
 use Rattle.lq_plan.specs.declared.keys.Version.{Version}
 use Rattle.lq_plan.specs.declared.refusal.PlanRefusal.{PlanRefusal}
@@ -65,11 +70,23 @@ event_in groups event = record {
   kind = kind_as (event_word_in event) event;
 }
 
+abbrev pub split_in : Members → Split
+split_in root = unwrap_or (option_and_then (split_of true) (text_at (codes "split") root)) Round
+
+abbrev pub spread_in : Members → Spread
+spread_in root = unwrap_or (option_and_then (spread_of true) (text_at (codes "spread") root)) Bytes
+
+-- by time where it says a period
+abbrev pub irq_in : Members → Irq
+irq_in root = if is_some (get_member (codes "irq_us") root) then Period (number_at (codes "irq_us") 1 root) else Every (number_at (codes "irq_every") 1 root)
+
 abbrev pub plan_in : Document → Plan
 plan_in d = record {
+  version = version_in d.root;
   senders = number_at (codes "senders") 1 d.root;
-  split = unwrap_or (option_and_then split_of (text_at (codes "split") d.root)) Round;
-  irq_every = number_at (codes "irq_every") 1 d.root;
+  split = split_in d.root;
+  spread = spread_in d.root;
+  irq = irq_in d.root;
   stations = flat_map children_in d.stations;
   groups = map mq_in d.stations;
   events = map (event_in (map mq_in d.stations)) d.events;
@@ -83,13 +100,17 @@ plan_in d = record {
 abbrev pub has_group_fault : Plan → Bool
 has_group_fault plan = nat_lt max_stations (length plan.stations) || list_any (λ event. is_swap event && nat_lt 1 event.mq) plan.events
 
+-- it says both how many packets and how many microseconds there are from one opening of the stopped queues to the next
+abbrev pub has_two_irqs : Members → Bool
+has_two_irqs root = is_some (get_member (codes "irq_every") root) && is_some (get_member (codes "irq_us") root)
+
 -- of the reasons 2 to 5, by the keys of a version
 abbrev pub first_fault : Version → Document → Option PlanReason
 first_fault version d =
     if has_fault_in version UnknownKey d then Some reason.UnknownKey
     else if has_fault_in version MissingKey d then Some reason.Missing
     else if has_fault_in version WrongKind d then Some reason.Kind
-    else if has_fault_in version OutOfRange d || has_group_fault (plan_in d) then Some reason.Range else None
+    else if has_fault_in version OutOfRange d || (has_group_fault (plan_in d) || has_two_irqs d.root) then Some reason.Range else None
 
 -- the plan that the document at a root is, if it has none of these faults
 abbrev pub plan_by : Version → Members → Result Plan PlanReason

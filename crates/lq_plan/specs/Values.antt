@@ -1,11 +1,13 @@
 -- What a table of a document has at a key, or else the key's default.
-use Rattle.std.specs.Prelude.{ℕ, pos, Bool, if◌then◌else◌, codes, List, [], ◌∷◌, Option, Some, None, option_and_then, unwrap_or}
+use Rattle.std.specs.Prelude.{ℕ, pos, Bool, ◌&&◌, if◌then◌else◌, codes, List, [], ◌∷◌, Option, Some, None, option_and_then, unwrap_or}
 use Rattle.std.specs.List.{filter_map}
 use Rattle.std.specs.Option.{option_map_or}
 use Rattle.std.specs.Str.{bytes_eq}
 use Rattle.toml.specs.Data.{Data, integer, Items, no_items, item, Members, get_member, as_array, as_bool, as_str, as_table}
 use Rattle.lq_model.specs.declared.plan.Split.{Split}
-use Rattle.lq_model.specs.declared.plan.Split.TheVariants.{Round, Source}
+use Rattle.lq_model.specs.declared.plan.Split.TheVariants as split
+use Rattle.lq_model.specs.declared.plan.Spread.{Spread}
+use Rattle.lq_model.specs.declared.plan.Spread.TheVariants as spread
 use Rattle.lq_plan.specs.declared.values.EventWord.{EventWord}
 use Rattle.lq_plan.specs.declared.values.EventWord.TheVariants.{Down, Up, Resize, TxQueueLen, Swap}
 
@@ -23,8 +25,15 @@ flag_at name default members = unwrap_or (option_and_then as_bool (get_member na
 
 -- TEXTS
 
-abbrev pub split_of : List ℕ → Option Split
-split_of text = if bytes_eq text (codes "round") then Some Round else if bytes_eq text (codes "source") then Some Source else None
+-- "flow" is one of them where it is known
+abbrev pub split_of : Bool → List ℕ → Option Split
+split_of flow text =
+    if bytes_eq text (codes "round") then Some split.Round
+    else if bytes_eq text (codes "source") then Some split.Source
+    else if flow && bytes_eq text (codes "flow") then Some split.Flow else None
+
+abbrev pub spread_of : Bool → List ℕ → Option Spread
+spread_of flow text = if bytes_eq text (codes "bytes") then Some spread.Bytes else if flow && bytes_eq text (codes "flow") then Some spread.Flow else None
 
 abbrev pub event_word_of : List ℕ → Option EventWord
 event_word_of text =

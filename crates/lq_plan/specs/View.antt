@@ -4,7 +4,16 @@ use Rattle.lq_plan.specs.Limits.{IsWithinLimits}
 use Rattle.lq_plan.specs.declared.plan.Plan.TheInside.{Inside}
 
 abbrev pub plan_view : Inside → Plan
-plan_view p = record { senders = p.senders; split = p.split; irq_every = p.irq_every; stations = p.stations.items; groups = p.groups.items; events = p.events.items }
+plan_view p = record {
+  version = p.version;
+  senders = p.senders;
+  split = p.split;
+  spread = p.spread;
+  irq = p.irq;
+  stations = p.stations.items;
+  groups = p.groups.items;
+  events = p.events.items;
+}
 
 abbrev pub plan_invariant : Inside → Type 0
 plan_invariant p = IsWithinLimits (plan_view p)

@@ -6,7 +6,7 @@ ghost use Rattle.lq_model.specs.Plan.{is_swap_kind, mq_at};
 ghost use Rattle.lq_plan.specs.Document.{document_of, document_view, has_fault_in};
 ghost use Rattle.lq_plan.specs.Faults.{has_fault};
 ghost use Rattle.lq_plan.specs.Keys.{event_keys, event_word_in, group_in, mq_in, station_keys, version_of};
-ghost use Rattle.lq_plan.specs.Reading.{first_fault, has_group_fault, kind_as, plan_in};
+ghost use Rattle.lq_plan.specs.Reading.{first_fault, has_group_fault, has_two_irqs, kind_as, plan_in};
 ghost use Rattle.lq_plan.specs.Tables.{tables_view};
 ghost use Rattle.lq_plan.specs.Values.{tables_at};
 
@@ -15,7 +15,7 @@ use crate::keys::{
     Version, event_keys, event_word, group_of, mq_of, root_keys, station_keys, version_of,
 };
 use crate::plan::MAX_STATIONS;
-use crate::values::{EventWord, elements_at};
+use crate::values::{EventWord, elements_at, value_at};
 use lq_model::PlanReason;
 use std::alloc::{AllocError, Global};
 use toml::{Table, Value};
@@ -62,7 +62,10 @@ impl<'a> Document<'a> {
             Some(PlanReason::Missing)
         } else if self.has_fault(version, Fault::WrongKind) {
             Some(PlanReason::Kind)
-        } else if self.has_fault(version, Fault::OutOfRange) || self.has_group_fault() {
+        } else if self.has_fault(version, Fault::OutOfRange)
+            || self.has_group_fault()
+            || has_two_irqs(self.root)
+        {
             Some(PlanReason::Range)
         } else {
             None
@@ -75,6 +78,13 @@ impl<'a> Document<'a> {
     {
         are_too_many(&self.stations) || swaps_a_group(&self.stations, &self.events)
     }
+}
+
+// Whether it says both how many packets and how many microseconds there are from one opening of the stopped queues to the next.
+fn has_two_irqs(root: &Table) -> bool
+    ensures { result ≡ has_two_irqs (table_view root.now) }
+{
+    value_at(root, "irq_every").is_some() && value_at(root, "irq_us").is_some()
 }
 
 // Whether the groups are more stations than a plan may have.

@@ -9,7 +9,7 @@ ghost use Rattle.lq_plan.specs.Faults.{has_fault, has_kind, is_allowed, is_requi
 ghost use Rattle.lq_plan.specs.Keys.{keys_view, key_view};
 
 use crate::keys::{Key, Presence, Rule};
-use crate::values::{elements_in, event_word_of, split_of, value_at};
+use crate::values::{elements_in, event_word_of, split_of, spread_of, value_at};
 use toml::{Table, Value};
 
 /// What may be wrong with a table, each fault with its own test of all keys.
@@ -79,7 +79,7 @@ fn has_kind(rule: Rule, value: &Value) -> bool
     match rule {
         Rule::Number { .. } => value.is_integer(),
         Rule::Flag => value.is_bool(),
-        Rule::SplitText | Rule::EventText => value.is_str(),
+        Rule::SplitText { .. } | Rule::SpreadText { .. } | Rule::EventText => value.is_str(),
         Rule::Tables { .. } => match elements_in(value) {
             Some(elements) => are_tables(elements),
             None => false,
@@ -118,8 +118,12 @@ fn is_within(rule: Rule, value: &Value) -> bool
             _ => true,
         },
         Rule::Flag => true,
-        Rule::SplitText => match value {
-            Value::String(text) => split_of(text.as_str()).is_some(),
+        Rule::SplitText { flow } => match value {
+            Value::String(text) => split_of(flow, text.as_str()).is_some(),
+            _ => true,
+        },
+        Rule::SpreadText { flow } => match value {
+            Value::String(text) => spread_of(flow, text.as_str()).is_some(),
             _ => true,
         },
         Rule::EventText => match value {

@@ -3,7 +3,7 @@ ghost use Rattle.std.specs.Prelude.{◌≡◌, IfOk};
 ghost use Rattle.lq_plan.specs.Generated.{generated_plan};
 
 use crate::plan::Plan;
-use lq_model::{NoMemory, Params, Split, StationPlan};
+use lq_model::{Irq, NoMemory, Params, Split, Spread, StationPlan};
 use std::alloc::Global;
 
 /// The one station of a generated run.
@@ -37,9 +37,11 @@ pub fn generated_plan(alloc: Global) -> Result<Plan, NoMemory>
         return Err(NoMemory);
     }
     Ok(Plan {
+        version: 1,
         senders: 1,
         split: Split::Round,
-        irq_every: 64,
+        spread: Spread::Bytes,
+        irq: Irq::Every { packets: 64 },
         stations,
         groups,
         events: Vec::new(alloc),

@@ -3,7 +3,7 @@ ghost use Rattle.std.specs.Prelude.{◌≡◌, codes, if◌then◌else◌, map, 
 ghost use Rattle.std.specs.Option.{option_and_then};
 ghost use Rattle.toml.specs.View.{table_view};
 ghost use Rattle.lq_plan.specs.Tables.{tables_view};
-ghost use Rattle.lq_plan.specs.Keys.{event_keys, key, key_view, event_word_in, keys_view, len_in, len_presence, max_len_in, max_len_for, mq_in, group_in, params_keys, params_presence, root_keys, station_keys, version_of};
+ghost use Rattle.lq_plan.specs.Keys.{event_keys, key, key_view, event_word_in, keys_view, len_in, len_presence, max_len_in, max_len_for, mq_in, group_in, params_keys, params_presence, root_keys, station_keys, version_in, version_of};
 ghost use Rattle.lq_plan.specs.Values.{number_at};
 
 use crate::values::{EventWord, event_word_of, number_at, text_at};
@@ -25,8 +25,10 @@ pub enum Rule {
     Number { low: u64, high: u64 },
     /// True or false.
     Flag,
-    /// How packets are split, as a text.
-    SplitText,
+    /// How packets are split, as a text; by flow where that is known.
+    SplitText { flow: bool },
+    /// By what they are spread, as a text; by flow where that is known.
+    SpreadText { flow: bool },
     /// What an event does, as a text.
     EventText,
     /// An array of so many tables.
@@ -53,6 +55,13 @@ pub struct Version {
     /// Whether it may say of how many stations it is the group.
     pub mq: Presence,
     pub max_mq: u64,
+    /// Whether the stopped queues may be opened by the capture's time, and how many microseconds apart.
+    pub irq_us: Presence,
+    pub max_irq_us: u64,
+    /// Whether a plan may say by what packets are spread.
+    pub spread: Presence,
+    /// Whether they may be split and spread by flow.
+    pub flow: bool,
 }
 
 const VERSION_1: Version = Version {
@@ -63,6 +72,10 @@ const VERSION_1: Version = Version {
     max_queues: 1,
     mq: Presence::Unknown,
     max_mq: 1,
+    irq_us: Presence::Unknown,
+    max_irq_us: 0,
+    spread: Presence::Unknown,
+    flow: false,
 };
 
 const VERSION_2: Version = Version {
@@ -71,8 +84,7 @@ const VERSION_2: Version = Version {
     max_len: 65536,
     queues: Presence::Optional,
     max_queues: 8,
-    mq: Presence::Unknown,
-    max_mq: 1,
+    ..VERSION_1
 };
 
 const VERSION_3: Version = Version {
@@ -82,11 +94,28 @@ const VERSION_3: Version = Version {
     ..VERSION_2
 };
 
-/// The version of the document at this root: 3 or 2 where it says so, else 1.
+const VERSION_4: Version = Version {
+    number: 4,
+    irq_us: Presence::Optional,
+    max_irq_us: 1_000_000,
+    spread: Presence::Optional,
+    flow: true,
+    ..VERSION_3
+};
+
+/// The number of the version that the document at this root says.
+pub fn version_number(root: &Table) -> u64
+    ensures { result ≡ version_in (table_view root.now) }
+{
+    number_at(root, "version", 1)
+}
+
+/// Its version: 4, 3 or 2 where it says so, else 1.
 pub fn version_of(root: &Table) -> Version
     ensures { result ≡ version_of (table_view root.now) }
 {
-    match number_at(root, "version", 1) {
+    match version_number(root) {
+        4 => VERSION_4,
         3 => VERSION_3,
         2 => VERSION_2,
         _ => VERSION_1,
@@ -95,14 +124,20 @@ pub fn version_of(root: &Table) -> Version
 
 /// The keys of a document's root.
 #[tactic(auto, unfolding(crate::specs::Keys::root_keys))]
-pub fn root_keys(version: Version) -> [Key; 6]
+pub fn root_keys(version: Version) -> [Key; 8]
     ensures { keys_view result ≡ root_keys version }
 {
     [
         optional("version", number(1, version.number)),
         optional("senders", number(1, version.max_senders)),
-        optional("split", Rule::SplitText),
+        optional("split", Rule::SplitText { flow: version.flow }),
+        key_of(
+            "spread",
+            version.spread,
+            Rule::SpreadText { flow: version.flow },
+        ),
         optional("irq_every", number(1, 1000)),
+        key_of("irq_us", version.irq_us, number(1, version.max_irq_us)),
         required("station", Rule::Tables { low: 1, high: 8 }),
         optional("event", Rule::Tables { low: 0, high: 64 }),
     ]

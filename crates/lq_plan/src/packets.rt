@@ -1,11 +1,12 @@
 //! What each packet of a capture is to the rules.
 ghost use Rattle.std.specs.Prelude.{◌≡◌, ◌+◌, ◌*◌, ◌%◌, ◌<◌, ◌≤◌, All, IfOk, OnOk, length, replicate, slice_index, slice_set, vec_len};
-ghost use Rattle.lq_model.specs.Plan.{info_of, infos_of};
-ghost use Rattle.lq_plan.specs.Packets.{AreUnranked, IsInfoWithin, IsUnranked, ranked};
+ghost use Rattle.lq_model.specs.Flow.{flow_of};
+ghost use Rattle.lq_model.specs.Plan.{info_of, infos_of, route_number, source_number, split_number};
+ghost use Rattle.lq_plan.specs.Packets.{AreUnranked, AsksFlow, IsClassOf, IsInfoWithin, IsUnranked, ranked};
 
 use crate::plan::{MAX_STATIONS, Plan};
-use lq_class::{band, classify};
-use lq_model::{Info, NoMemory, Split};
+use lq_class::{Class, band, classify, flow};
+use lq_model::{Info, NoMemory, Split, Spread};
 use lq_pcap::Frames;
 use std::alloc::{AllocError, Global};
 use std::marker::Sync;
@@ -26,6 +27,9 @@ pub fn threads_for(packets: usize) -> usize
     if packets < FEW { 1 } else { THREADS }
 }
 
+/// The upper half of a flow's hash counts from here.
+const UPPER: u32 = 0x1_0000;
+
 /// What stands at a packet's place until it is looked at.
 const NONE: Info = Info {
     rank: 0,
@@ -37,11 +41,14 @@ const NONE: Info = Info {
 
 /// Of each packet, in the capture's order, its owner, station, band, queue and rank.
 ///
-/// The owner is the packet's number modulo the senders, or its source byte modulo the senders, as the plan splits
-/// them. Its group is its route byte modulo the groups, and its station the child of that which its source byte chooses, modulo
+/// The owner is the packet's number modulo the senders, or its source byte or its flow's hash modulo the senders, as the plan splits
+/// them. Its group is its route number modulo the groups, and its station the child of that which its source number chooses, modulo
 /// the group's children. Its band is that of its priority, as `pfifo_fast_enqueue`
-/// of net/sched/sch_generic.c chooses it. Its queue is its source byte modulo the station's queues. Its rank is how many
+/// of net/sched/sch_generic.c chooses it. Its queue is its source number modulo the station's queues. Its rank is how many
 /// lower packets have the same owner and station.
+///
+/// A packet's source number and route number are its source byte and its route byte, or, where the plan spreads packets by flow, the
+/// upper and the lower 16 bits of its flow's hash.
 ///
 /// Threads find all but the ranks, side by side, and one pass behind them counts these.
 ///
@@ -123,18 +130,65 @@ fn unranked<F: Frames>(plan: &Plan, frames: &F, n: u32) -> Info
     ensures few_stations { result.station < 8 }
 {
     let class = classify(frames.link_of(n as usize), frames.frame(n as usize));
-    let split_number = match plan.split() {
-        Split::Round => n,
-        Split::Source => u32::from(class.source_byte),
-    };
-    let group = remainder(u32::from(class.route_byte), plan.groups());
-    let station = plan.first(group) + remainder(u32::from(class.source_byte), plan.mq(group));
+    let numbers = numbers_of(plan, frames, n, class);
+    let group = remainder(numbers.route, plan.groups());
+    let station = plan.first(group) + remainder(numbers.source, plan.mq(group));
     Info {
-        owner: remainder(split_number, plan.senders()) as u8,
+        owner: remainder(numbers.split, plan.senders()) as u8,
         station: station as u8,
         band: band(class.priority) as u8,
-        queue: remainder(u32::from(class.source_byte), plan.station(station).queues) as u8,
+        queue: remainder(numbers.source, plan.station(station).queues) as u8,
         rank: 0,
+    }
+}
+
+/// The numbers by which a packet's child and queue, its group, and its owner are chosen.
+#[derive(Clone, Copy)]
+struct Numbers {
+    source: u32,
+    route: u32,
+    split: u32,
+}
+
+// Those of packet n, which has this class.
+fn numbers_of<F: Frames>(plan: &Plan, frames: &F, n: u32, class: Class) -> Numbers
+    requires number { n < (F.packets frames.now).count }
+    requires class { IsClassOf (F.packets frames.now) n class }
+    ensures source { result.source ≡ source_number plan.now.spread (F.packets frames.now) n }
+    ensures route { result.route ≡ route_number plan.now.spread (F.packets frames.now) n }
+    ensures split { result.split ≡ split_number plan.now.split (F.packets frames.now) n }
+{
+    let source_byte = u32::from(class.source_byte);
+    let route_byte = u32::from(class.route_byte);
+    let hash = hash_of(plan, frames, n);
+    let (source, route) = match plan.spread() {
+        Spread::Bytes => (source_byte, route_byte),
+        Spread::Flow => (
+            hash.map_or(source_byte, |hash| hash / UPPER),
+            hash.map_or(route_byte, |hash| hash % UPPER),
+        ),
+    };
+    let split = match plan.split() {
+        Split::Round => n,
+        Split::Source => source_byte,
+        Split::Flow => hash.unwrap_or(source_byte),
+    };
+    Numbers {
+        source,
+        route,
+        split,
+    }
+}
+
+// The hash of packet n's flow, if it has one. It is worked out only where the plan asks for it.
+fn hash_of<F: Frames>(plan: &Plan, frames: &F, n: u32) -> Option<u32>
+    requires { n < (F.packets frames.now).count }
+    ensures { AsksFlow plan.now → result ≡ flow_of ((F.packets frames.now).link n) ((F.packets frames.now).frame n) }
+{
+    if plan.spread() == Spread::Flow || plan.split() == Split::Flow {
+        flow(frames.link_of(n as usize), frames.frame(n as usize))
+    } else {
+        None
     }
 }
 

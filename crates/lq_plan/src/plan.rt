@@ -1,9 +1,9 @@
 //! A plan that was read.
 ghost use Rattle.std.specs.Prelude.{◌≡◌, ◌<◌, ◌≤◌, ◌+◌, Some, length, slice_get, sum};
-ghost use Rattle.lq_model.specs.Plan.{first_at, is_swap, mq_at, unit_count};
-ghost use Rattle.lq_plan.specs.Limits.{IsWithinLimits, IsStationWithin, IsEventWithin};
+ghost use Rattle.lq_model.specs.Plan.{first_at, is_swap, mq_at, reads_times, unit_count};
+ghost use Rattle.lq_plan.specs.Limits.{IsWithinLimits, IsIrqWithin, IsStationWithin, IsEventWithin};
 
-use lq_model::{EventKind, EventPlan, Split, StationPlan};
+use lq_model::{EventKind, EventPlan, Irq, Split, Spread, StationPlan};
 use std::marker::Model;
 
 /// A plan has no more stations than this.
@@ -12,9 +12,11 @@ pub const MAX_STATIONS: u32 = 8;
 /// A plan that was read. Contracts see the record `Plan` of `lq_model`.
 #[derive(Drop)]
 pub struct Plan {
+    pub(crate) version: u32,
     pub(crate) senders: u32,
     pub(crate) split: Split,
-    pub(crate) irq_every: u32,
+    pub(crate) spread: Spread,
+    pub(crate) irq: Irq,
     pub(crate) stations: Vec<StationPlan>,
     pub(crate) groups: Vec<u32>,
     pub(crate) events: Vec<EventPlan>,
@@ -32,6 +34,22 @@ impl Model for Plan {
 }
 
 impl Plan {
+    /// The version of its text.
+    pub fn version(&self) -> u32
+        ensures version { result ≡ self.now.version }
+        ensures some { 0 < result }
+        ensures few { result ≤ 4 }
+    {
+        self.version
+    }
+
+    /// Whether the times of a capture are read.
+    pub fn reads_times(&self) -> bool
+        ensures { result ≡ reads_times self.now }
+    {
+        self.version >= 4
+    }
+
     /// How many threads send.
     pub fn senders(&self) -> u32
         ensures senders { result ≡ self.now.senders }
@@ -48,13 +66,20 @@ impl Plan {
         self.split
     }
 
-    /// After how many packets of a sender it wakes the stopped queues.
-    pub fn irq_every(&self) -> u32
-        ensures irq_every { result ≡ self.now.irq_every }
-        ensures some { 0 < result }
-        ensures few { result ≤ 1000 }
+    /// By what each packet's station, queue and child are chosen.
+    pub fn spread(&self) -> Spread
+        ensures { result ≡ self.now.spread }
     {
-        self.irq_every
+        self.spread
+    }
+
+    /// When the stopped queues are opened: after each so many packets of a sender, 1 to 1000, or at each multiple of so many microseconds
+    /// of the capture's time, 1 to 1,000,000.
+    pub fn irq(&self) -> Irq
+        ensures irq { result ≡ self.now.irq }
+        ensures within { IsIrqWithin result }
+    {
+        self.irq
     }
 
     /// How many stations there are: the children of all groups.

@@ -1,20 +1,19 @@
 // Reading a text as a plan.
-ghost use Rattle.std.specs.Prelude.{◌≡◌, ◌≤◌, ◌++◌, codes, map, length, option_and_then, replicate, sum, unwrap_or, IfOk, IfErr, OnOk, Ok};
+ghost use Rattle.std.specs.Prelude.{◌≡◌, ◌≤◌, ◌++◌, map, length, replicate, sum, IfOk, IfErr, OnOk, Ok};
 ghost use Rattle.std.specs.List.{flat_map};
 ghost use Rattle.toml.specs.View.{table_view};
-ghost use Rattle.lq_plan.specs.Limits.{AreParamsWithin, IsKindWithin, IsStationWithin};
+ghost use Rattle.lq_plan.specs.Limits.{AreParamsWithin, IsIrqWithin, IsKindWithin, IsStationWithin};
 ghost use Rattle.lq_plan.specs.Keys.{event_word_in, mq_in, version_of};
-ghost use Rattle.lq_plan.specs.Reading.{IsEventSmall, IsPlanRefusal, children_in, event_in, kind_as, params_in, plan_by, plan_of, station_plan_in};
+ghost use Rattle.lq_plan.specs.Reading.{IsEventSmall, IsPlanRefusal, children_in, event_in, irq_in, kind_as, params_in, plan_by, plan_of, split_in, spread_in, station_plan_in};
 ghost use Rattle.lq_plan.specs.Tables.{EachTable, tables_view};
-ghost use Rattle.lq_plan.specs.Values.{split_of, text_at};
 
 use crate::document::Document;
-use crate::keys::{event_word, group_of, len_of, max_len_of, mq_of, queues_of};
+use crate::keys::{event_word, group_of, len_of, max_len_of, mq_of, queues_of, version_number};
 use crate::order::is_out_of_order;
 use crate::plan::{Plan, first_child};
 use crate::refusal::PlanRefusal;
-use crate::values::{EventWord, flag_at, number_at, split_of, text_at};
-use lq_model::{EventKind, EventPlan, Params, PlanReason, Split, StationPlan};
+use crate::values::{EventWord, flag_at, number_at, split_of, spread_of, text_at, value_at};
+use lq_model::{EventKind, EventPlan, Irq, Params, PlanReason, Split, Spread, StationPlan};
 use std::alloc::{AllocError, Global};
 use toml::Table;
 
@@ -64,9 +63,11 @@ fn read_root(alloc: Global, root: &Table) -> Result<Plan, PlanRefusal>
         return Err(refused(PlanReason::EventOrder));
     }
     Ok(Plan {
+        version: version_number(root) as u32,
         senders: number_at(root, "senders", 1) as u32,
         split: read_split(root),
-        irq_every: number_at(root, "irq_every", 1) as u32,
+        spread: read_spread(root),
+        irq: read_irq(root),
         stations,
         groups,
         events,
@@ -74,11 +75,35 @@ fn read_root(alloc: Global, root: &Table) -> Result<Plan, PlanRefusal>
 }
 
 fn read_split(root: &Table) -> Split
-    ensures { result ≡ unwrap_or (option_and_then split_of (text_at (codes "split") (table_view root.now))) Split.Round }
+    ensures { result ≡ split_in (table_view root.now) }
 {
     match text_at(root, "split") {
-        Some(text) => split_of(text).unwrap_or(Split::Round),
+        Some(text) => split_of(true, text).unwrap_or(Split::Round),
         None => Split::Round,
+    }
+}
+
+fn read_spread(root: &Table) -> Spread
+    ensures { result ≡ spread_in (table_view root.now) }
+{
+    match text_at(root, "spread") {
+        Some(text) => spread_of(true, text).unwrap_or(Spread::Bytes),
+        None => Spread::Bytes,
+    }
+}
+
+fn read_irq(root: &Table) -> Irq
+    requires { IsIrqWithin (irq_in (table_view root.now)) }
+    ensures { result ≡ irq_in (table_view root.now) }
+{
+    if value_at(root, "irq_us").is_some() {
+        Irq::Period {
+            microseconds: number_at(root, "irq_us", 1) as u32,
+        }
+    } else {
+        Irq::Every {
+            packets: number_at(root, "irq_every", 1) as u32,
+        }
     }
 }
 

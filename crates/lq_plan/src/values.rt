@@ -3,9 +3,9 @@ ghost use Rattle.std.specs.Prelude.{◌≡◌, map, option_map, option_and_then,
 ghost use Rattle.std.specs.Option.{option_map_or};
 ghost use Rattle.toml.specs.Data.{as_array, get_member, string};
 ghost use Rattle.toml.specs.View.{table_view, view};
-ghost use Rattle.lq_plan.specs.Values.{elements_of, event_word_of, flag_at, number_at, split_of, tables_at, text_at};
+ghost use Rattle.lq_plan.specs.Values.{elements_of, event_word_of, flag_at, number_at, split_of, spread_of, tables_at, text_at};
 
-use lq_model::Split;
+use lq_model::{Split, Spread};
 use toml::{Table, Value};
 
 /// What an event does to its station, as its `kind` says.
@@ -75,13 +75,25 @@ pub fn elements_at<'a>(table: &'a Table, name: &str) -> &'a [Value]
     }
 }
 
-/// How packets are split, by its text.
-pub fn split_of(text: &str) -> Option<Split>
-    ensures { result ≡ split_of text.now }
+/// How packets are split, by its text; by flow where that is known.
+pub fn split_of(flow: bool, text: &str) -> Option<Split>
+    ensures { result ≡ split_of flow text.now }
 {
     match text {
         "round" => Some(Split::Round),
         "source" => Some(Split::Source),
+        "flow" if flow => Some(Split::Flow),
+        _ => None,
+    }
+}
+
+/// By what packets are spread, by its text; by flow where that is known.
+pub fn spread_of(flow: bool, text: &str) -> Option<Spread>
+    ensures { result ≡ spread_of flow text.now }
+{
+    match text {
+        "bytes" => Some(Spread::Bytes),
+        "flow" if flow => Some(Spread::Flow),
         _ => None,
     }
 }

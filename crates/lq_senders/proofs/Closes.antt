@@ -9,7 +9,6 @@ use Rattle.lq_control.specs.Finish.{AreAllDone}
 use Rattle.lq_model.specs.Account.{Account, Event, Join, Full, Refuse, Take, Pick, Direct, Send, Back, Empty, Stop, Wake, Resize, Down, Purge, Swap, Up, after, after_all}
 use Rattle.lq_model.specs.Alone.{RunningStation, finished}
 use Rattle.lq_model.specs.Plan.{Plan, station_in}
-use Rattle.lq_model.specs.declared.fate.Cause.TheVariants as cause
 use Rattle.lq_model.specs.Words.{IsWordOf}
 use Rattle.lq_model.specs.declared.fate.Fate.{Fate}
 use Rattle.lq_model.specs.declared.fate.Info.{Info}

@@ -50,7 +50,7 @@ hangs-at params d hangs hung =
 
 -- THE RUN
 
-module _ (plan : Plan) (infos : List Info) (before after : List DeviceState) (views : ℕ → SeatState) (fates : List Fate) (ends : RunEnds plan infos before after views fates) where
+module _ (plan : Plan) (infos : List Info) (opens : ℕ → ℕ) (before after : List DeviceState) (views : ℕ → SeatState) (fates : List Fate) (ends : RunEnds plan infos opens before after views fates) where
   abbrev pasts : ℕ → List Event
   pasts station = (views station).whole.past
 
@@ -144,19 +144,19 @@ module _ (plan : Plan) (infos : List Info) (before after : List DeviceState) (vi
   options-length : length (map (λ (fate : Fate). Some fate) fates) ≡ length infos
   options-length = length-mapped (λ (fate : Fate). Some fate) fates ∙ ends.one_each
 
-  is-alone : AllTell (unit_count plan) before → plan.senders ≡ 1 → map (λ fate. Some fate) fates ≡ alone plan infos
+  is-alone : AllTell (unit_count plan) before → plan.senders ≡ 1 → map (λ fate. Some fate) fates ≡ alone plan infos opens
   unfolding run_fates
-  is-alone tell one = list_for_each (fate_in (after_run plan infos (λ n. true) (new_stations 0 plan.stations)) infos) (map (λ (fate : Fate). Some fate) fates) (length infos) options-length
+  is-alone tell one = list_for_each (fate_in (after_run plan infos opens (λ n. true) (new_stations 0 plan.stations)) infos) (map (λ (fate : Fate). Some fate) fates) (length infos) options-length
       (λ n d inside.
       let there = event-there fates n (let e = ends.one_each in omega arith) in
       get_or_from_slice_get (map (λ (fate : Fate). Some fate) fates) n (Some there.0) d (slice_get-map (λ (fate : Fate). Some fate) fates n ∙ ap (option_map (λ (fate : Fate). Some fate)) there.1)
       ∙ (sym there.1 ∙ (ends.fates_are n inside ∙ sym (ends.alone tell one n inside))))
 
-  is-apart : AllTell (unit_count plan) before → plan.senders ≡ 1 → (n : ℕ) (fate : Fate) → slice_get fates n ≡ Some fate → slice_get (alone_at plan infos (station_in infos n)) n ≡ Some (Some fate)
+  is-apart : AllTell (unit_count plan) before → plan.senders ≡ 1 → (n : ℕ) (fate : Fate) → slice_get fates n ≡ Some fate → slice_get (alone_at plan infos opens (station_in infos n)) n ≡ Some (Some fate)
   is-apart tell one n fate there =
-      own_fates plan infos n ∙ (ap (λ (l : List (Option Fate)). slice_get l n) (sym (is-alone tell one)) ∙ (slice_get-map (λ (f : Fate). Some f) fates n ∙ ap (option_map (λ (f : Fate). Some f)) there))
+      own_fates plan infos opens n ∙ (ap (λ (l : List (Option Fate)). slice_get l n) (sym (is-alone tell one)) ∙ (slice_get-map (λ (f : Fate). Some f) fates n ∙ ap (option_map (λ (f : Fate). Some f)) there))
 
-  pub fates_of_run : AreFatesOf plan infos fates before after
+  pub fates_of_run : AreFatesOf plan infos opens fates before after
   fates_of_run = record {
     settled = is-settled;
     complete = complete plan infos fates ends.of_plan is-settled;

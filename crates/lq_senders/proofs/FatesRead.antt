@@ -25,7 +25,7 @@ pub fate-in : (plan : Plan) (infos : List Info) (v : SeatState) (x : ClosedState
 fate-in plan infos v x n inside closed = let ends = closed.ends in
     let decided = subst (λ (k : Setup). (n : ℕ) → n < length k.infos → station_in k.infos n ≡ k.station → (f : Fate) × ((seat_account v).fates n ≡ Some f)) ends.about ends.finished.decided n inside refl in (decided.0, decided.1, closed.fates n decided.0 inside refl decided.1)
 
-module _ (plan : Plan) (infos : List Info) (others : ℕ) (start : List SeatState) (brought : List DeviceState) (closed : List ClosedState) (spares : List DeviceState) (ran : HasSentAll plan infos others start brought closed spares) (sendable : IsSendable plan infos) where
+module _ (plan : Plan) (infos : List Info) (opens : ℕ → ℕ) (others : ℕ) (start : List SeatState) (brought : List DeviceState) (closed : List ClosedState) (spares : List DeviceState) (ran : HasSentAll plan infos opens others start brought closed spares) (sendable : IsSendable plan infos) where
   as-closed : (n : ℕ) (x : ClosedState) → n < length infos → slice_get closed (station_in infos n) ≡ Some x → (v : SeatState) × IsClosedStation plan infos (station_in infos n) v x
   as-closed n x inside at =
       let c = event-there ran.seats (station_in infos n) (let below = of-plan plan infos sendable n inside in let one = ran.one_each in omega arith) in

@@ -86,7 +86,7 @@ boxes-kept n front before rest after many within is same =
     (ap (λ ds. slice_get ds j) is ∙ get-push-old front rest new j at'))
     ∙ ap (λ k. take k (identities_of before)) long))
 
-module _ (plan : Plan) (infos : List Info) (others : ℕ) (start : List SeatState) (brought : List DeviceState) (closed : List ClosedState) (spares : List DeviceState) (run : HasSentAll plan infos others start brought closed spares) where
+module _ (plan : Plan) (infos : List Info) (opens : ℕ → ℕ) (others : ℕ) (start : List SeatState) (brought : List DeviceState) (closed : List ClosedState) (spares : List DeviceState) (run : HasSentAll plan infos opens others start brought closed spares) where
   pub closed-many : length closed ≡ length plan.stations
   closed-many = run.closed_are.so_many
 
@@ -99,14 +99,14 @@ module _ (plan : Plan) (infos : List Info) (others : ℕ) (start : List SeatStat
 -- THE WHOLE RUN
 
 -- What is known of a run by its closed tables and spare devices. `IsBench` holds of the benches that its devices were in before.
-pub record HasRun (plan : Plan) (infos : List Info) (IsBench : List DeviceState → Type 0)
+pub record HasRun (plan : Plan) (infos : List Info) (opens : ℕ → ℕ) (IsBench : List DeviceState → Type 0)
     (closed : List ClosedState) (spares : List DeviceState) : Type 0 where
   pub one_a_station : length closed ≡ length plan.stations
   pub one_a_swap : length spares ≡ count_by is_swap plan.events
   pub home : AreAtHome closed
   pub readable : IsReadable infos closed
   pub fates : (before after : List DeviceState) (fates : List Fate) → IsBench before → FatesRead infos closed (length infos) fates
-      → AreBack plan closed spares after → AreFatesOf plan infos fates before after
+      → AreBack plan closed spares after → AreFatesOf plan infos opens fates before after
   pub ended : (fates : List Fate) → FatesRead infos closed (length infos) fates
       → (j : ℕ) (x : ClosedState) → slice_get closed j ≡ Some x → IsEndedAs plan infos fates j x.ended
   pub boxes : (before after : List DeviceState) → IsBench before → AreBack plan closed spares after → SameBoxes plan before after
@@ -120,11 +120,11 @@ pub record IsGivenBack (plan : Plan) (infos : List Info) (closed : List ClosedSt
   pub bench : after ≡ by_unit plan (map home_device closed) spares ++ rest
   pub many : length after ≡ unit_count plan + length rest
 
-module _ {plan : Plan} {infos : List Info} {IsBench : List DeviceState → Type 0} {closed : List ClosedState}
+module _ {plan : Plan} {infos : List Info} {opens : ℕ → ℕ} {IsBench : List DeviceState → Type 0} {closed : List ClosedState}
     {spares rest after : List DeviceState} {fates laid : List Fate}
-    (run : HasRun plan infos IsBench closed spares) (back : IsGivenBack plan infos closed spares rest after fates laid) where
-  pub fates-given : (before : List DeviceState) → IsBench before → AreFatesOf plan infos laid before after
-  fates-given before bench = subst (λ (given : List Fate). AreFatesOf plan infos given before after) (sym back.all)
+    (run : HasRun plan infos opens IsBench closed spares) (back : IsGivenBack plan infos closed spares rest after fates laid) where
+  pub fates-given : (before : List DeviceState) → IsBench before → AreFatesOf plan infos opens laid before after
+  fates-given before bench = subst (λ (given : List Fate). AreFatesOf plan infos opens given before after) (sym back.all)
       (run.fates before after fates bench back.read (are-back plan closed spares after rest back.bench))
 
   pub stays-given : (ended : List EndedState) → ended ≡ map (λ (x : ClosedState). x.ended) closed → AreEnded plan infos laid ended

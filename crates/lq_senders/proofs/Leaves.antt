@@ -39,7 +39,7 @@ use Rattle.lq_senders.proofs.Undone.{LieAt, all-undone}
 abbrev no-seat : Plan → List Info → SeatState
 no-seat plan infos = new_seat (record { words = 0; slots = 0; views_name = 0; atom = 0; block = 0; offset = 0; slot_names = [] }) (setup_of plan infos 0) no_device
 
-module _ (plan : Plan) (infos : List Info) (others : ℕ) (start : List SeatState) (brought : List DeviceState) (closed : List ClosedState) (spares : List DeviceState) (ran : HasSentAll plan infos others start brought closed spares) where
+module _ (plan : Plan) (infos : List Info) (opens : ℕ → ℕ) (others : ℕ) (start : List SeatState) (brought : List DeviceState) (closed : List ClosedState) (spares : List DeviceState) (ran : HasSentAll plan infos opens others start brought closed spares) where
   abbrev views : ℕ → SeatState
   views j = option_map_or (λ (c : SeatState). c) (slice_get ran.seats j) (no-seat plan infos)
 
@@ -203,11 +203,11 @@ module _ (plan : Plan) (infos : List Info) (others : ℕ) (start : List SeatStat
 
 -- EACH BOX
 
-module _ (plan : Plan) (infos : List Info) (before after : List DeviceState) (others : ℕ) (start : List SeatState) (brought : List DeviceState) (closed : List ClosedState) (spares : List DeviceState)
-    (ran : HasSentAll plan infos others start brought closed spares) (over : AreOver plan infos before others start brought) (back : AreBack plan closed spares after) where
+module _ (plan : Plan) (infos : List Info) (opens : ℕ → ℕ) (before after : List DeviceState) (others : ℕ) (start : List SeatState) (brought : List DeviceState) (closed : List ClosedState) (spares : List DeviceState)
+    (ran : HasSentAll plan infos opens others start brought closed spares) (over : AreOver plan infos before others start brought) (back : AreBack plan closed spares after) where
   -- a unit's device, as it came and as it went
-  own-unit : (unit : ℕ) (device : DeviceState) → unit < unit_count plan → slice_get after unit ≡ Some device → IsUnit plan infos others start brought closed spares ran over.units over.stand unit device
-  own-unit = unit-is plan infos others start brought closed spares ran over.units over.stand after back
+  own-unit : (unit : ℕ) (device : DeviceState) → unit < unit_count plan → slice_get after unit ≡ Some device → IsUnit plan infos opens others start brought closed spares ran over.units over.stand unit device
+  own-unit = unit-is plan infos opens others start brought closed spares ran over.units over.stand after back
 
   pub keeps-box : (unit : ℕ) (old new : DeviceState) → unit < unit_count plan → slice_get before unit ≡ Some old → slice_get after unit ≡ Some new → new.identity ≡ old.identity
   keeps-box unit old new below at-old at-new =
@@ -221,16 +221,16 @@ told-as params (Some t) = refl
 
 -- THE FATES
 
-module _ (plan : Plan) (infos : List Info) (before after : List DeviceState) (others : ℕ) (start : List SeatState) (brought : List DeviceState) (closed : List ClosedState) (spares : List DeviceState) (fates : List Fate)
-    (ran : HasSentAll plan infos others start brought closed spares) (sendable : IsSendable plan infos) (over : AreOver plan infos before others start brought) (read : FatesRead infos closed (length infos) fates)
+module _ (plan : Plan) (infos : List Info) (opens : ℕ → ℕ) (before after : List DeviceState) (others : ℕ) (start : List SeatState) (brought : List DeviceState) (closed : List ClosedState) (spares : List DeviceState) (fates : List Fate)
+    (ran : HasSentAll plan infos opens others start brought closed spares) (sendable : IsSendable plan infos) (over : AreOver plan infos before others start brought) (read : FatesRead infos closed (length infos) fates)
     (back : AreBack plan closed spares after) (one-fate : (f g : Fate) (word : ℕ) → IsWordOf f word → IsWordOf g word → f ≡ g) where
   abbrev own-views : ℕ → SeatState
-  own-views = views plan infos others start brought closed spares ran
+  own-views = views plan infos opens others start brought closed spares ran
 
   fates-are : (n : ℕ) → n < length infos → slice_get fates n ≡ (seat_account (own-views (station_in infos n))).fates n
   fates-are n inside =
-      let below = of-plan plan infos sendable n inside in let x = closed-there plan infos others start brought closed spares ran (station_in infos n) below in
-      let own = fate-in plan infos (own-views (station_in infos n)) x.0 n inside (as-closed plan infos others start brought closed spares ran (station_in infos n) x.0 below x.1) in
+      let below = of-plan plan infos sendable n inside in let x = closed-there plan infos opens others start brought closed spares ran (station_in infos n) below in
+      let own = fate-in plan infos (own-views (station_in infos n)) x.0 n inside (as-closed plan infos opens others start brought closed spares ran (station_in infos n) x.0 below x.1) in
       let there = event-there fates n (let so_many = read.so_many in omega arith) in
       there.1 ∙ (ap Some (one-fate there.0 own.0 (slice_index x.0.ended.words n) (read.each n x.0 there.0 x.1 there.1) own.2) ∙ sym own.1)
 
@@ -238,34 +238,34 @@ module _ (plan : Plan) (infos : List Info) (before after : List DeviceState) (ot
   all-own one n inside = let owner = (sendable.made (station_in infos n) (of-plan plan infos sendable n inside)).owners n inside in omega arith
 
   fate-alone : AllTell (unit_count plan) before → plan.senders ≡ 1 → (n : ℕ) → n < length infos
-      → fate_in (after_run plan infos (λ n. true) (new_stations 0 plan.stations)) infos n ≡ (seat_account (own-views (station_in infos n))).fates n
+      → fate_in (after_run plan infos opens (λ n. true) (new_stations 0 plan.stations)) infos n ≡ (seat_account (own-views (station_in infos n))).fates n
   fate-alone tell one n inside =
-      let below = of-plan plan infos sendable n inside in let c = seat-there plan infos others start brought closed spares ran (station_in infos n) below in
+      let below = of-plan plan infos sendable n inside in let c = seat-there plan infos opens others start brought closed spares ran (station_in infos n) below in
       let stand = ran.devices over.units over.stand in
       let begins = starts-run plan infos before others start brought over ran.long ran.limits tell one in
       let ends = ran.alone (over.alone one).0 (all-own one) over.units over.stand (units-tell plan infos before others start brought over tell) (new_stations 0 plan.stations) begins (station_in infos n) c.0 c.1 in
       ap (option_and_then (λ s. s.account.fates n)) ends.1
-      ∙ (ap (λ fs. fs n) (sym ends.2) ∙ ap (λ (v : SeatState). (seat_account v).fates n) (view-is plan infos others start brought closed spares ran (station_in infos n) c.0 c.1))
+      ∙ (ap (λ fs. fs n) (sym ends.2) ∙ ap (λ (v : SeatState). (seat_account v).fates n) (view-is plan infos opens others start brought closed spares ran (station_in infos n) c.0 c.1))
 
   device-tells : (unit : ℕ) (params : Params) (old device : DeviceState) → IsConfiguredWith plan unit params → slice_get before unit ≡ Some old → slice_get after unit ≡ Some device
       → told_params device ≡ option_map (λ _. params) old.told
   device-tells unit params old device configured was there =
-      let below = configured-below plan unit params configured in let u = own-unit plan infos before after others start brought closed spares ran over back unit device below there in
+      let below = configured-below plan unit params configured in let u = own-unit plan infos opens before after others start brought closed spares ran over back unit device below there in
       u.has_served.params ∙ (ap (option_map (λ (t : Telling). t.params)) (over.configured unit params old u.origin configured was u.came).1.told ∙ told-as params old.told)
 
-  ends : RunEnds plan infos before after own-views fates
+  ends : RunEnds plan infos opens before after own-views fates
   ends = record {
     of_plan = of-plan plan infos sendable;
     queues = own-queue plan infos sendable;
     one_each = read.so_many;
     bench = over.bench;
-    each = ends-at plan infos others start brought closed spares ran;
+    each = ends-at plan infos opens others start brought closed spares ran;
     fates_are = fates-are;
-    units = unit-ends plan infos others start brought closed spares ran over.units over.stand after back;
-    present = device-present plan infos others start brought closed spares ran over.units over.stand after back;
+    units = unit-ends plan infos opens others start brought closed spares ran over.units over.stand after back;
+    present = device-present plan infos opens others start brought closed spares ran over.units over.stand after back;
     tells = device-tells;
     alone = fate-alone;
   }
 
-  pub leaves-fates : AreFatesOf plan infos fates before after
-  leaves-fates = fates_of_run plan infos before after own-views fates ends
+  pub leaves-fates : AreFatesOf plan infos opens fates before after
+  leaves-fates = fates_of_run plan infos opens before after own-views fates ends

@@ -20,10 +20,14 @@ pub mod Rounds
 pub mod Events
 -- what a sender does after a packet
 pub mod Turns
--- a sender wakes its stations after some of its packets
+-- a sender wakes its stations after its packets
 pub mod Woken
+-- after a packet its sender opens the queues so many times
+pub mod OpenedTimes
 -- a sender on its way
 pub mod Sending
+-- how often queues are opened matters after the packets of the run alone
+pub mod SameOpenings
 -- the devices of a bench: configured, taken out and laid back
 pub mod Benches
 -- the packets of a capture are numbered by rank

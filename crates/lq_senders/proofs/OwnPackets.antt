@@ -1,10 +1,10 @@
 -- The stations of the run of one sender don't meet.
-use Rattle.std.proofs.Common.{◌≡◌, ℕ, zero, suc, ◌+◌, ◌%◌, ◌==◌, Bool, true, false, cond, List, [], ◌∷◌, length, map, Option, Some, None, slice_get, refl, sym, ap, subst, ◌∙◌}
+use Rattle.std.proofs.Common.{◌≡◌, ℕ, zero, suc, ◌==◌, Bool, true, false, cond, List, [], ◌∷◌, length, map, Option, Some, None, slice_get, refl, sym, ap, subst, ◌∙◌}
 use Rattle.std.specs.Option.{option_and_then, option_map, option_map_or}
 use Rattle.std.proofs.lemmas.Bool.{eqb-false, ne_eqb}
 use Rattle.std.proofs.lemmas.Option.{slice_get-map}
 use Rattle.lq_model.proofs.FirstNumbers.{first-is}
-use Rattle.lq_model.specs.Alone.{RunningStation, after_packets, after_run, alone, alone_at, bypass_of, brought_in, changed, changed_where, events_after, events_before, fate_in, finished, new_stations, opened, run_fates, served, with_event, with_events, with_packet, with_wakes}
+use Rattle.lq_model.specs.Alone.{RunningStation, after_packets, after_run, alone, alone_at, bypass_of, brought_in, changed, changed_where, events_after, events_before, fate_in, finished, new_stations, opened, opened_and_served, run_fates, served, turn_ended, with_event, with_events, with_packet}
 use Rattle.lq_model.specs.Numbers.{first_numbers}
 use Rattle.lq_model.specs.Plan.{Plan, is_at, station_in}
 use Rattle.lq_model.specs.declared.fate.Info.{Info}
@@ -31,7 +31,7 @@ where-alike test f j xs ys same = at-where test f xs j ∙ (ap (option_map (λ x
 abbrev pub own : List Info → ℕ → ℕ → Bool
 own infos j n = station_in infos n == j
 
-module _ (plan : Plan) (infos : List Info) (j : ℕ) where
+module _ (plan : Plan) (infos : List Info) (opens : ℕ → ℕ) (j : ℕ) where
   event-alike : (e : ℕ) (xs ys : List RunningStation) → AgreeAt j xs ys → AgreeAt j (with_event plan infos e xs) (with_event plan infos e ys)
   event-alike e xs ys same = go (slice_get plan.events e)
     where
@@ -46,12 +46,15 @@ module _ (plan : Plan) (infos : List Info) (j : ℕ) where
   events-alike [] xs ys same = same
   events-alike (e ∷ events) xs ys same = events-alike events (with_event plan infos e xs) (with_event plan infos e ys) (event-alike e xs ys same)
 
-  wakes-alike : (n : ℕ) (xs ys : List RunningStation) → AgreeAt j xs ys → AgreeAt j (with_wakes plan n xs) (with_wakes plan n ys)
-  wakes-alike n xs ys same = go ((n + 1) % plan.irq_every == 0)
-    where
-      go : (b : Bool) → AgreeAt j (cond b (map opened xs) xs) (cond b (map opened ys) ys)
-      go true = mapped opened j xs ys same
-      go false = same
+  opened-alike : (times : ℕ) (xs ys : List RunningStation) → AgreeAt j xs ys → AgreeAt j (opened_and_served infos times xs) (opened_and_served infos times ys)
+  opened-alike zero xs ys same = same
+  opened-alike (suc times) xs ys same =
+      let before = opened_and_served infos times xs in let whole = opened_and_served infos times ys in
+      mapped (served infos) j (map opened before) (map opened whole) (mapped opened j before whole (opened-alike times xs ys same))
+
+  turn-alike : (times : ℕ) (xs ys : List RunningStation) → AgreeAt j xs ys → AgreeAt j (turn_ended infos times xs) (turn_ended infos times ys)
+  turn-alike zero xs ys same = mapped (served infos) j xs ys same
+  turn-alike (suc times) xs ys same = opened-alike (suc times) xs ys same
 
   -- a packet of another station leaves this one as it is
   packet-alike : (n : ℕ) (xs ys : List RunningStation) → AgreeAt j xs ys → AgreeAt j (cond (own infos j n) (with_packet plan infos n xs) xs) (with_packet plan infos n ys)
@@ -64,24 +67,23 @@ module _ (plan : Plan) (infos : List Info) (j : ℕ) where
       go true is = where-alike (λ k. k == station_in infos n) step j xs ys same
       go false other = same ∙ sym (where-apart (λ k. k == station_in infos n) j step ys (ne_eqb j (station_in infos n) (λ same. eqb-false (station_in infos n) j other (sym same))))
 
-  packets-alike : (start : List RunningStation) (n : ℕ) → AgreeAt j (after_packets plan infos (own infos j) start n) (after_packets plan infos (λ n. true) start n)
+  packets-alike : (start : List RunningStation) (n : ℕ) → AgreeAt j (after_packets plan infos opens (own infos j) start n) (after_packets plan infos opens (λ n. true) start n)
   packets-alike start zero = refl
   packets-alike start (suc n) =
-      let old = after_packets plan infos (own infos j) start n in let whole = after_packets plan infos (λ n. true) start n in
+      let old = after_packets plan infos opens (own infos j) start n in let whole = after_packets plan infos opens (λ n. true) start n in
       let events = events-alike (events_before plan n) old whole (packets-alike start n) in
       let xs = with_events plan infos (events_before plan n) old in let ys = with_events plan infos (events_before plan n) whole in
-      mapped (served infos) j (with_wakes plan n (cond (own infos j n) (with_packet plan infos n xs) xs)) (with_wakes plan n (with_packet plan infos n ys))
-      (wakes-alike n (cond (own infos j n) (with_packet plan infos n xs) xs) (with_packet plan infos n ys) (packet-alike n xs ys events))
+      turn-alike (opens n) (cond (own infos j n) (with_packet plan infos n xs) xs) (with_packet plan infos n ys) (packet-alike n xs ys events)
 
-  run-alike : (start : List RunningStation) → AgreeAt j (after_run plan infos (own infos j) start) (after_run plan infos (λ n. true) start)
+  run-alike : (start : List RunningStation) → AgreeAt j (after_run plan infos opens (own infos j) start) (after_run plan infos opens (λ n. true) start)
   run-alike start =
-      let old = after_packets plan infos (own infos j) start (length infos) in let whole = after_packets plan infos (λ n. true) start (length infos) in
+      let old = after_packets plan infos opens (own infos j) start (length infos) in let whole = after_packets plan infos opens (λ n. true) start (length infos) in
       mapped (finished infos) j (with_events plan infos (events_after plan (length infos)) old) (with_events plan infos (events_after plan (length infos)) whole)
       (events-alike (events_after plan (length infos)) old whole (packets-alike start (length infos)))
 
 -- a packet of the station has the same fate
-fates-alike : (plan : Plan) (infos : List Info) (n : ℕ) → fate_in (after_run plan infos (own infos (station_in infos n)) (new_stations 0 plan.stations)) infos n ≡ fate_in (after_run plan infos (λ n. true) (new_stations 0 plan.stations)) infos n
-fates-alike plan infos n = ap (option_and_then (λ (s : RunningStation). s.account.fates n)) (run-alike plan infos (station_in infos n) (new_stations 0 plan.stations))
+fates-alike : (plan : Plan) (infos : List Info) (opens : ℕ → ℕ) (n : ℕ) → fate_in (after_run plan infos opens (own infos (station_in infos n)) (new_stations 0 plan.stations)) infos n ≡ fate_in (after_run plan infos opens (λ n. true) (new_stations 0 plan.stations)) infos n
+fates-alike plan infos opens n = ap (option_and_then (λ (s : RunningStation). s.account.fates n)) (run-alike plan infos opens (station_in infos n) (new_stations 0 plan.stations))
 
 -- NUMBERS
 
@@ -93,8 +95,8 @@ agree-at f g count n same = slice_get-map f (first_numbers count) n ∙ (go (sli
     go None is = refl
     go (Some k) is = ap Some (subst (λ i. f i ≡ g i) (first-is count n k is) same)
 
-pub own_fates : (plan : Plan) (infos : List Info) (n : ℕ) → slice_get (alone_at plan infos (station_in infos n)) n ≡ slice_get (alone plan infos) n
+pub own_fates : (plan : Plan) (infos : List Info) (opens : ℕ → ℕ) (n : ℕ) → slice_get (alone_at plan infos opens (station_in infos n)) n ≡ slice_get (alone plan infos opens) n
 unfolding run_fates
-own_fates plan infos n =
+own_fates plan infos opens n =
     let start = new_stations 0 plan.stations in
-    agree-at (fate_in (after_run plan infos (own infos (station_in infos n)) start) infos) (fate_in (after_run plan infos (λ n. true) start) infos) (length infos) n (fates-alike plan infos n)
+    agree-at (fate_in (after_run plan infos opens (own infos (station_in infos n)) start) infos) (fate_in (after_run plan infos opens (λ n. true) start) infos) (length infos) n (fates-alike plan infos opens n)

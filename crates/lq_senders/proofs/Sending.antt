@@ -1,13 +1,12 @@
 -- A sender on its way through the packets.
-use Rattle.std.proofs.Common.{◌≡◌, ◌≢◌, ℕ, zero, suc, ◌+◌, ◌-◌, ◌/◌, ◌<◌, ◌≤◌, ◌==◌, Bool, true, false, List, [], ◌∷◌, ◌++◌, ◌⊎◌, inl, inr, length, Some, refl, sym, ap, ◌∙◌, subst, cond, filter, slice_get, map, nat_le, arith, eq-eqb}
+use Rattle.std.proofs.Common.{◌≡◌, ◌≢◌, ℕ, zero, suc, ◌+◌, ◌-◌, ◌<◌, ◌≤◌, ◌==◌, Bool, true, false, List, [], ◌∷◌, ◌++◌, ◌⊎◌, inl, inr, length, Some, refl, sym, ap, ◌∙◌, subst, filter, slice_get, nat_le, arith, eq-eqb}
 use Rattle.std.specs.Option.{option_map_or}
-use Rattle.std.proofs.Math.Nat.{div-eq_of_lt}
 use Rattle.std.proofs.lemmas.Bool.{ne_eqb, le-leb, cases_order}
 use Rattle.std.proofs.lemmas.Bool.Decides.{leb_tells}
 use Rattle.std.proofs.lemmas.List.{append-nil}
 use Rattle.std.proofs.lemmas.List.Elements.{filter-append}
 use Rattle.std.proofs.lemmas.Option.{slice_get_within}
-use Rattle.lq_model.specs.Alone.{RunningStation, after_packets, before_of, events_before, events_after, served, with_events, with_packet, with_wakes}
+use Rattle.lq_model.specs.Alone.{RunningStation, after_packets, before_of, events_before, events_after, turn_ended, with_events, with_packet}
 use Rattle.lq_model.specs.Device.{DeviceState}
 use Rattle.lq_model.specs.Numbers.{first_numbers}
 use Rattle.lq_model.specs.Plan.{Plan}
@@ -17,19 +16,14 @@ use Rattle.lq_seat.specs.State.{SeatState, TableState}
 use Rattle.lq_senders.specs.Lanes.{LaneStands, KeepSeats, AreRunAlone, IsSending}
 use Rattle.lq_senders.specs.Units.{DevicesStand, DoTell}
 use Rattle.lq_senders.specs.Way.{numbers_from}
-use Rattle.lq_senders.specs.Woken.{AllWoke}
+use Rattle.lq_senders.specs.Woken.{AllWoke, openings_of}
+use Rattle.lq_senders.proofs.Lists.{one-fails, one-passes}
 use Rattle.lq_senders.proofs.Seats.{seats-kept}
 use Rattle.lq_senders.proofs.Sent.{lane-past, owner-is}
 use Rattle.lq_senders.proofs.Turns.{event-there, keep-none, numbers-more, seats-on}
-use Rattle.lq_senders.proofs.Woken.{count-sent-other, count-sent-own, woke-none}
+use Rattle.lq_senders.proofs.Woken.{count-sent-other, count-sent-own, openings-other, openings-own, woke-none}
 
 -- NUMBERS THAT A TEST PASSES
-
-one-passes : {X : Type 0} (test : X → Bool) (x : X) → test x ≡ true → filter test (x ∷ []) ≡ x ∷ []
-one-passes test x is = ap (λ b. cond b (x ∷ []) []) is
-
-one-fails : {X : Type 0} (test : X → Bool) (x : X) → test x ≡ false → filter test (x ∷ []) ≡ []
-one-fails test x is = ap (λ b. cond b (x ∷ []) []) is
 
 -- a test that passes just the numbers from a on below b
 pub passes-range : (test : ℕ → Bool) (len a b : ℕ) → a ≤ b → b ≤ len → ((j : ℕ) → j < len → j < a → test j ≡ false) → ((j : ℕ) → a ≤ j → j < b → test j ≡ true)
@@ -94,21 +88,22 @@ events-after-are plan n next within earlier left =
 
 -- ONE PACKET MORE
 
-pub sending-own : (plan : Plan) (infos : List Info) (tables : List TableState) (sender n k next last : ℕ) (start : List SeatState) (brought : List DeviceState) (now : List SeatState) (spares : List DeviceState)
+pub sending-own : (plan : Plan) (infos : List Info) (opens : ℕ → ℕ) (tables : List TableState) (sender n k next last : ℕ) (start : List SeatState) (brought : List DeviceState) (now : List SeatState) (spares : List DeviceState)
     (new : List SeatState) (left_over : List DeviceState) → next ≤ last → last ≤ length plan.events
     → ((j : ℕ) (event : EventPlan) → j < last → slice_get plan.events j ≡ Some event → event.before ≤ n)
     → (sender ≡ 0 → (j : ℕ) (event : EventPlan) → last ≤ j → slice_get plan.events j ≡ Some event → n < event.before)
     → LaneStands plan infos sender last (n + 1) tables new → KeepSeats now new → (info : Info) → slice_get infos n ≡ Some info → info.owner ≡ sender
-    → (AllWoke (k / plan.irq_every) start now → AllWoke ((k + 1) / plan.irq_every) start new)
+    → ((count : ℕ) → AllWoke count start now → AllWoke (count + opens n) start new)
     → ((units : List DeviceState) → DevicesStand plan infos units next now spares → DevicesStand plan infos units last new left_over)
     → ((units : List DeviceState) → DevicesStand plan infos units next now spares → DoTell plan units → (stations : List RunningStation) → AreRunAlone plan infos now stations
-    → AreRunAlone plan infos new (map (served infos) (with_wakes plan k (with_packet plan infos n (with_events plan infos (numbers_from next (last - next)) stations)))))
-    → IsSending plan infos tables sender n k next start brought now spares → IsSending plan infos tables sender (n + 1) (k + 1) last start brought new left_over
-sending-own plan infos tables sender n k next last start brought now spares new left_over order within done left stands keeps info there own woke devices runs was = record {
+    → AreRunAlone plan infos new (turn_ended infos (opens n) (with_packet plan infos n (with_events plan infos (numbers_from next (last - next)) stations))))
+    → IsSending plan infos opens tables sender n k next start brought now spares → IsSending plan infos opens tables sender (n + 1) (k + 1) last start brought new left_over
+sending-own plan infos opens tables sender n k next last start brought now spares new left_over order within done left stands keeps info there own woke devices runs was = record {
   within = within;
   few = let few = was.few in omega arith;
   sent = ap (λ i. i + 1) was.sent ∙ sym (count-sent-own infos sender n info there own);
-  woke = woke was.woke;
+  woke = subst (λ count. AllWoke count start new) (sym (openings-own infos opens sender n (owner-is infos n info there ∙ own)))
+      (woke (openings_of infos opens sender n) was.woke);
   stands = stands;
   earlier = λ j event below there. let le = done j event below there in omega arith;
   keeps = seats-on start now new was.keeps keeps;
@@ -116,22 +111,21 @@ sending-own plan infos tables sender n k next last start brought now spares new 
   alone = λ units stand tell z own from begins. let alone = was.alone units stand tell z own from begins in let all = alone.0 in (
     (omega arith),
     (λ j event above there. let gt = left z j event above there in omega arith),
-    subst (λ i. AreRunAlone plan infos new (after_packets plan infos (λ n. true) from i)) (let more : suc n ≡ n + 1 = omega arith in more)
-        (subst (λ l. AreRunAlone plan infos new (map (served infos) (with_wakes plan n (with_packet plan infos n (with_events plan infos l (after_packets plan infos (λ n. true) from n))))))
+    subst (λ i. AreRunAlone plan infos new (after_packets plan infos opens (λ n. true) from i)) (let more : suc n ≡ n + 1 = omega arith in more)
+        (subst (λ l. AreRunAlone plan infos new (turn_ended infos (opens n) (with_packet plan infos n (with_events plan infos l (after_packets plan infos opens (λ n. true) from n)))))
         (sym (events-before-are plan n next last order within was.earlier alone.1 done (left z)))
-        (subst (λ i. AreRunAlone plan infos new (map (served infos) (with_wakes plan i (with_packet plan infos n (with_events plan infos (numbers_from next (last - next)) (after_packets plan infos (λ n. true) from n)))))) all
-        (runs units (was.devices units stand) tell (after_packets plan infos (λ n. true) from n) alone.2))),
+        (runs units (was.devices units stand) tell (after_packets plan infos opens (λ n. true) from n) alone.2)),
   );
 }
 
-pub sending-past : (plan : Plan) (infos : List Info) (tables : List TableState) (sender n k next : ℕ) (start : List SeatState) (brought : List DeviceState) (now : List SeatState) (spares : List DeviceState) (info : Info)
+pub sending-past : (plan : Plan) (infos : List Info) (opens : ℕ → ℕ) (tables : List TableState) (sender n k next : ℕ) (start : List SeatState) (brought : List DeviceState) (now : List SeatState) (spares : List DeviceState) (info : Info)
     → slice_get infos n ≡ Some info → info.owner ≢ sender
-    → IsSending plan infos tables sender n k next start brought now spares → IsSending plan infos tables sender (n + 1) k next start brought now spares
-sending-past plan infos tables sender n k next start brought now spares info there other was = record {
+    → IsSending plan infos opens tables sender n k next start brought now spares → IsSending plan infos opens tables sender (n + 1) k next start brought now spares
+sending-past plan infos opens tables sender n k next start brought now spares info there other was = record {
   within = was.within;
   few = let few = was.few in omega arith;
   sent = was.sent ∙ sym (count-sent-other infos sender n info there other);
-  woke = was.woke;
+  woke = subst (λ count. AllWoke count start now) (sym (openings-other infos opens sender n (λ same. other (sym (owner-is infos n info there) ∙ same)))) was.woke;
   stands = lane-past plan infos sender next n tables now info there other was.stands;
   earlier = λ j event below at. let lt = was.earlier j event below at in omega arith;
   keeps = was.keeps;
@@ -139,13 +133,13 @@ sending-past plan infos tables sender n k next start brought now spares info the
   alone = λ units stand tell z own from begins. absurd (other (sym (owner-is infos n info there) ∙ (own n (slice_get_within infos n info there) ∙ sym z)));
 }
 
-pub sending-start : (plan : Plan) (infos : List Info) (tables : List TableState) (sender : ℕ) (cpus : List SeatState) (spares : List DeviceState) → LaneStands plan infos sender 0 0 tables cpus
-    → 0 < plan.irq_every → IsSending plan infos tables sender 0 0 0 cpus spares cpus spares
-sending-start plan infos tables sender cpus spares lane some = record {
+pub sending-start : (plan : Plan) (infos : List Info) (opens : ℕ → ℕ) (tables : List TableState) (sender : ℕ) (cpus : List SeatState) (spares : List DeviceState) → LaneStands plan infos sender 0 0 tables cpus
+    → IsSending plan infos opens tables sender 0 0 0 cpus spares cpus spares
+sending-start plan infos opens tables sender cpus spares lane = record {
   within = omega arith;
   few = omega arith;
   sent = refl;
-  woke = subst (λ count. AllWoke count cpus cpus) (sym (div-eq_of_lt some)) (woke-none cpus);
+  woke = woke-none cpus;
   stands = lane;
   earlier = λ j event below there. absurd (omega arith);
   keeps = seats-kept cpus cpus (keep-none cpus);

@@ -1,10 +1,9 @@
 -- What a sender does after a packet: wakes and soft interrupts at all its seats.
-use Rattle.std.proofs.Common.{◌≡◌, ℕ, zero, suc, ◌+◌, ◌<◌, ◌≤◌, ◌-◌, ◌%◌, false, List, [], ◌∷◌, ◌++◌, inl, inr, length, Some, refl, sym, ap, ◌∙◌, subst, cond, slice_get, map, get_or, arith, eq-eqb}
+use Rattle.std.proofs.Common.{◌≡◌, ℕ, zero, suc, ◌+◌, ◌<◌, ◌≤◌, ◌-◌, false, List, [], ◌∷◌, ◌++◌, inl, inr, length, Some, refl, sym, ap, ◌∙◌, subst, slice_get, map, get_or, arith}
 use Rattle.std.specs.Prelude.{slice_index}
-use Rattle.std.proofs.lemmas.Bool.{ne_eqb}
 use Rattle.std.proofs.lemmas.Option.{same_Some, slice_get_within, slice_get-get_or}
 use Rattle.lq_account.specs.Progress.{start_of}
-use Rattle.lq_model.specs.Alone.{RunningStation, opened, served, with_event, with_events, with_wakes}
+use Rattle.lq_model.specs.Alone.{RunningStation, opened, served, with_event, with_events}
 use Rattle.lq_model.specs.Device.{DeviceState}
 use Rattle.lq_model.specs.Plan.{Plan}
 use Rattle.lq_model.specs.declared.fate.Info.{Info}
@@ -13,7 +12,7 @@ use Rattle.lq_qdisc.specs.Alone.{Does}
 use Rattle.lq_seat.specs.Calls.{DoesAlone, WakesQueues, Drains}
 use Rattle.lq_seat.specs.State.{SeatState, Setup, TableState, setup_of, solo_of}
 use Rattle.lq_senders.specs.Seats.{Keeps}
-use Rattle.lq_senders.specs.Lanes.{AllDid, AreOthers, AreSeats, KeepAll, KeepSeats, LaneStands, AreRunAlone, StandsInRun, WokenOrNot}
+use Rattle.lq_senders.specs.Lanes.{AllDid, AreOthers, AreSeats, KeepAll, KeepSeats, LaneStands, AreRunAlone, StandsInRun}
 use Rattle.lq_senders.specs.Units.{DevicesStand, DoTell}
 use Rattle.lq_senders.specs.Way.{IsOnWay, numbers_from}
 use Rattle.lq_senders.specs.Woken.{OtherCalls}
@@ -72,16 +71,17 @@ seats-still tables old new seats keeps = record {
 pub keep-did : (R : SeatState → SeatState → Type 0) → ((v w : SeatState) → R v w → Keeps v w) → (old new : List SeatState) → AllDid R old new → KeepAll old new
 keep-did R keeps old new did = record { long = did.long; each = λ j c c' at at'. keeps c c' (did.each j c c' at at') }
 
-pub seats-or-not : (plan : Plan) (k : ℕ) (tables : List TableState) (old new : List SeatState) → AreSeats tables old → WokenOrNot plan k old new → AreSeats tables new
-seats-or-not plan k tables old new seats (inl woken) = seats-still tables old new seats (keep-did WakesQueues wakes-keep old new woken.1)
-seats-or-not plan k tables old new seats (inr same) = subst (AreSeats tables) (sym same.1) seats
+pub seats-woken : (tables : List TableState) (old new : List SeatState) → AreSeats tables old → AllDid WakesQueues old new → AreSeats tables new
+seats-woken tables old new seats woken = seats-still tables old new seats (keep-did WakesQueues wakes-keep old new woken)
 
-pub keep-turn : (plan : Plan) (k : ℕ) (old mid new : List SeatState) → WokenOrNot plan k old mid → AllDid Drains mid new → KeepAll old new
-keep-turn plan k old mid new (inl woken) drained = keep-on old mid new (keep-did WakesQueues wakes-keep old mid woken.1) (keep-did Drains drains-keep mid new drained)
-keep-turn plan k old mid new (inr same) drained = subst (λ l. KeepAll l new) same.1 (keep-did Drains drains-keep mid new drained)
+pub keep-drained : (old new : List SeatState) → AllDid Drains old new → KeepAll old new
+keep-drained old new drained = keep-did Drains drains-keep old new drained
+
+pub keep-opened : (old mid new : List SeatState) → AllDid WakesQueues old mid → AllDid Drains mid new → KeepAll old new
+keep-opened old mid new woken drained = keep-on old mid new (keep-did WakesQueues wakes-keep old mid woken) (keep-drained mid new drained)
 
 -- the lane stands as before
-lane-drained : (plan : Plan) (infos : List Info) (sender count n : ℕ) (tables : List TableState) (old new : List SeatState) → LaneStands plan infos sender count n tables old → AllDid Drains old new
+pub lane-drained : (plan : Plan) (infos : List Info) (sender count n : ℕ) (tables : List TableState) (old new : List SeatState) → LaneStands plan infos sender count n tables old → AllDid Drains old new
     → LaneStands plan infos sender count n tables new
 lane-drained plan infos sender count n tables old new lane did = record {
   long = did.long ∙ lane.long;
@@ -95,16 +95,14 @@ lane-drained plan infos sender count n tables old new lane did = record {
       };
 }
 
-pub lane-turned : (plan : Plan) (infos : List Info) (sender count n k : ℕ) (tables : List TableState) (old mid new : List SeatState) → LaneStands plan infos sender count n tables old
-    → WokenOrNot plan k old mid → AllDid Drains mid new → LaneStands plan infos sender count n tables new
-lane-turned plan infos sender count n k tables old mid new lane (inr same) did =
-    lane-drained plan infos sender count n tables old new lane (subst (λ l. AllDid Drains l new) same.1 did)
-lane-turned plan infos sender count n k tables old mid new lane (inl woken) did = record {
-  long = did.long ∙ (woken.1.long ∙ lane.long);
+pub lane-opened : (plan : Plan) (infos : List Info) (sender count n : ℕ) (tables : List TableState) (old mid new : List SeatState) → LaneStands plan infos sender count n tables old
+    → AllDid WakesQueues old mid → AllDid Drains mid new → LaneStands plan infos sender count n tables new
+lane-opened plan infos sender count n tables old mid new lane woken did = record {
+  long = did.long ∙ (woken.long ∙ lane.long);
   all = lane.all;
   each = λ j t c at at'.
-      let half = some-there mid new j c (sym did.long) at' in let was = some-there old mid j half.0 (sym woken.1.long) half.1 in
-      let one = woken.1.each j was.0 half.0 was.1 half.1 in let two = did.each j half.0 c half.1 at' in let before = lane.each j t was.0 at was.1 in
+      let half = some-there mid new j c (sym did.long) at' in let was = some-there old mid j half.0 (sym woken.long) half.1 in
+      let one = woken.each j was.0 half.0 was.1 half.1 in let two = did.each j half.0 c half.1 at' in let before = lane.each j t was.0 at was.1 in
       let keeps = keeps-on was.0 half.0 c (wakes-keep was.0 half.0 one) (drains-keep half.0 c two) in
       record {
         table = before.table;
@@ -117,7 +115,7 @@ lane-turned plan infos sender count n k tables old mid new lane (inl woken) did 
 -- THE RUN OF ONE SENDER
 
 -- what the plan asks the seats' tables to be made of
-lane-made : (plan : Plan) (infos : List Info) (sender count n : ℕ) (tables : List TableState) (cpus : List SeatState) → LaneStands plan infos sender count n tables cpus
+pub lane-made : (plan : Plan) (infos : List Info) (sender count n : ℕ) (tables : List TableState) (cpus : List SeatState) → LaneStands plan infos sender count n tables cpus
     → (j : ℕ) (c : SeatState) → slice_get cpus j ≡ Some c → c.made ≡ setup_of plan infos j
 lane-made plan infos sender count n tables cpus lane j c at = let t = some-there tables cpus j c (sym lane.long) at in let own = lane.each j t.0 c t.1 at in made-of plan infos j t.0 own.table c own.seat
 
@@ -135,23 +133,19 @@ all-step plan infos step own R is does old new stations made did runs j c at =
     let now = after before.0 in
     (now.0, mapped-at own stations j _ before.1 ∙ ap Some (sym now.1))
 
-drained-runs : (plan : Plan) (infos : List Info) (old new : List SeatState) (stations : List RunningStation)
+pub runs-drained : (plan : Plan) (infos : List Info) (old new : List SeatState) (stations : List RunningStation)
     → ((j : ℕ) (c : SeatState) → slice_get old j ≡ Some c → c.made ≡ setup_of plan infos j)
     → AllDid Drains old new → AreRunAlone plan infos old stations → AreRunAlone plan infos new (map (served infos) stations)
-drained-runs plan infos old new stations made did runs =
+runs-drained plan infos old new stations made did runs =
     all-step plan infos (λ k. served k.infos) (served infos) Drains (λ j. refl) (λ v w drains. drains.alone) old new stations made did runs
 
-pub runs-turned : (plan : Plan) (infos : List Info) (sender count n k : ℕ) (tables : List TableState) (old mid new : List SeatState) (stations : List RunningStation) → LaneStands plan infos sender count n tables old
-    → WokenOrNot plan k old mid → AllDid Drains mid new → AreRunAlone plan infos old stations → AreRunAlone plan infos new (map (served infos) (with_wakes plan k stations))
-runs-turned plan infos sender count n k tables old mid new stations lane (inl woken) did runs =
-    let made = lane-made plan infos sender count n tables old lane in
-    subst (λ b. AreRunAlone plan infos new (map (served infos) (cond b (map opened stations) stations))) (sym (eq-eqb ((k + 1) % plan.irq_every) 0 woken.0))
-    (drained-runs plan infos mid new (map opened stations)
-    (λ j c at. let was = some-there old mid j c (sym woken.1.long) at in ap (λ (s : SeatState). s.made) (woken.1.each j was.0 c was.1 at).is ∙ made j was.0 was.1) did
-    (all-step plan infos (λ k. opened) opened WakesQueues (λ j. refl) (λ v w wakes. wakes.alone) old mid stations made woken.1 runs))
-runs-turned plan infos sender count n k tables old mid new stations lane (inr same) did runs =
-    subst (λ b. AreRunAlone plan infos new (map (served infos) (cond b (map opened stations) stations))) (sym (ne_eqb ((k + 1) % plan.irq_every) 0 same.0))
-    (drained-runs plan infos old new stations (lane-made plan infos sender count n tables old lane) (subst (λ l. AllDid Drains l new) same.1 did) runs)
+pub runs-opened : (plan : Plan) (infos : List Info) (old mid new : List SeatState) (stations : List RunningStation)
+    → ((j : ℕ) (c : SeatState) → slice_get old j ≡ Some c → c.made ≡ setup_of plan infos j)
+    → AllDid WakesQueues old mid → AllDid Drains mid new → AreRunAlone plan infos old stations → AreRunAlone plan infos new (map (served infos) (map opened stations))
+runs-opened plan infos old mid new stations made woken did runs =
+    runs-drained plan infos mid new (map opened stations)
+    (λ j c at. let was = some-there old mid j c (sym woken.long) at in ap (λ (s : SeatState). s.made) (woken.each j was.0 c was.1 at).is ∙ made j was.0 was.1) did
+    (all-step plan infos (λ k. opened) opened WakesQueues (λ j. refl) (λ v w wakes. wakes.alone) old mid stations made woken runs)
 
 -- EVENTS ONE BY ONE
 

@@ -1,12 +1,12 @@
 -- A station to which no packet is offered has no fate to tell.
-use Rattle.std.proofs.Common.{◌≡◌, ◌≢◌, ℕ, zero, suc, ◌+◌, ◌%◌, ◌<◌, ◌==◌, Bool, true, false, cond, List, [], ◌∷◌, ◌++◌, drop, take, length, map, Option, Some, None, slice_get, refl, sym, ap, subst, ◌∙◌, arith, eqb-true}
+use Rattle.std.proofs.Common.{◌≡◌, ◌≢◌, ℕ, zero, suc, ◌+◌, ◌<◌, ◌==◌, Bool, true, false, cond, List, [], ◌∷◌, ◌++◌, drop, take, length, map, Option, Some, None, slice_get, refl, sym, ap, subst, ◌∙◌, arith, eqb-true}
 use Rattle.std.specs.Prelude.{is_some, nat_lt, option_to_list, slice_index}
 use Rattle.std.specs.Option.{option_and_then, option_map, option_map_or}
 use Rattle.std.proofs.lemmas.Bool.{ne_eqb}
 use Rattle.std.proofs.lemmas.Option.{same_Some, slice_get-map}
 use Rattle.lq_model.proofs.FirstNumbers.{first-is, length-first_numbers}
 use Rattle.lq_model.specs.Account.{Account, Event, Pick, Take, Purge, Down, Resize, Wake, Fates, after, held, held_in, with_fates, is_hung}
-use Rattle.lq_model.specs.Alone.{RunningStation, after_packets, after_run, alone_at, changed, changed_where, cleaned, deactivated, events_after, events_before, fate_in, finished, finished_rounds, is_done, is_left, new_station, new_stations, next_taken, opened, opened_up_to, run_fates, served, served_turns, taken_served, turns_of, with_event, with_events, with_packet, with_wakes}
+use Rattle.lq_model.specs.Alone.{RunningStation, after_packets, after_run, alone_at, changed, changed_where, cleaned, deactivated, events_after, events_before, fate_in, finished, finished_rounds, is_done, is_left, new_station, new_stations, next_taken, opened, opened_and_served, opened_up_to, run_fates, served, served_turns, taken_served, turn_ended, turns_of, with_event, with_events, with_packet}
 use Rattle.lq_model.specs.Plan.{Plan, is_at, station_in}
 use Rattle.lq_model.specs.declared.fate.Cause.{Cause}
 use Rattle.lq_model.specs.declared.fate.Cause.TheVariants as cause
@@ -167,7 +167,7 @@ bare-where k test f xs keeps bare s there = go (slice_get xs k) refl
         let e : Some (cond (test k) (f x) x) ≡ Some s = ap (option_map (λ x. cond (test k) (f x) x)) (sym is) ∙ (sym (at-where test f xs k) ∙ there) in
         subst (λ (z : RunningStation). IsBare z.account) (same_Some (cond (test k) (f x) x) s e) (kept (test k) x (bare x is))
 
-module _ (plan : Plan) (infos : List Info) (j k : ℕ) (other : k ≢ j) where
+module _ (plan : Plan) (infos : List Info) (opens : ℕ → ℕ) (j k : ℕ) (other : k ≢ j) where
   bare-event : (e : ℕ) (xs : List RunningStation) → BareAt k xs → BareAt k (with_event plan infos e xs)
   bare-event e xs bare = go (slice_get plan.events e)
     where
@@ -186,24 +186,28 @@ module _ (plan : Plan) (infos : List Info) (j k : ℕ) (other : k ≢ j) where
       go true is = λ s there. bare s (sym (where-apart (λ i. i == station_in infos n) k _ xs (ne_eqb k (station_in infos n) (λ same. other (same ∙ eqb-true (station_in infos n) j is)))) ∙ there)
       go false is = bare
 
-  bare-wakes : (n : ℕ) (xs : List RunningStation) → BareAt k xs → BareAt k (with_wakes plan n xs)
-  bare-wakes n xs bare = go ((n + 1) % plan.irq_every == 0)
-    where
-      go : (b : Bool) → BareAt k (cond b (map opened xs) xs)
-      go true = bare-mapped k opened xs (λ s was. bare-opened (length s.account.stops) s.account was) bare
-      go false = bare
+  bare-opened-times : (times : ℕ) (xs : List RunningStation) → BareAt k xs → BareAt k (opened_and_served infos times xs)
+  bare-opened-times zero xs bare = bare
+  bare-opened-times (suc times) xs bare =
+      let before = opened_and_served infos times xs in
+      bare-mapped k (served infos) (map opened before) (λ s was. bare-served infos s was)
+      (bare-mapped k opened before (λ s was. bare-opened (length s.account.stops) s.account was) (bare-opened-times times xs bare))
 
-  bare-packets : (start : List RunningStation) (n : ℕ) → BareAt k start → BareAt k (after_packets plan infos (own infos j) start n)
+  bare-turn : (times : ℕ) (xs : List RunningStation) → BareAt k xs → BareAt k (turn_ended infos times xs)
+  bare-turn zero xs bare = bare-mapped k (served infos) xs (λ s was. bare-served infos s was) bare
+  bare-turn (suc times) xs bare = bare-opened-times (suc times) xs bare
+
+  bare-packets : (start : List RunningStation) (n : ℕ) → BareAt k start → BareAt k (after_packets plan infos opens (own infos j) start n)
   bare-packets start zero bare = bare
   bare-packets start (suc n) bare =
-      let xs = with_events plan infos (events_before plan n) (after_packets plan infos (own infos j) start n) in
-      bare-mapped k (served infos) (with_wakes plan n (cond (own infos j n) (with_packet plan infos n xs) xs)) (λ s was. bare-served infos s was)
-      (bare-wakes n (cond (own infos j n) (with_packet plan infos n xs) xs) (bare-packet n xs (bare-events (events_before plan n) (after_packets plan infos (own infos j) start n) (bare-packets start n bare))))
+      let xs = with_events plan infos (events_before plan n) (after_packets plan infos opens (own infos j) start n) in
+      bare-turn (opens n) (cond (own infos j n) (with_packet plan infos n xs) xs)
+      (bare-packet n xs (bare-events (events_before plan n) (after_packets plan infos opens (own infos j) start n) (bare-packets start n bare)))
 
-  bare-run : (start : List RunningStation) → BareAt k start → BareAt k (after_run plan infos (own infos j) start)
+  bare-run : (start : List RunningStation) → BareAt k start → BareAt k (after_run plan infos opens (own infos j) start)
   bare-run start bare =
-      bare-mapped k (finished infos) (with_events plan infos (events_after plan (length infos)) (after_packets plan infos (own infos j) start (length infos))) (λ s was. bare-finished infos s was)
-      (bare-events (events_after plan (length infos)) (after_packets plan infos (own infos j) start (length infos)) (bare-packets start (length infos) bare))
+      bare-mapped k (finished infos) (with_events plan infos (events_after plan (length infos)) (after_packets plan infos opens (own infos j) start (length infos))) (λ s was. bare-finished infos s was)
+      (bare-events (events_after plan (length infos)) (after_packets plan infos opens (own infos j) start (length infos)) (bare-packets start (length infos) bare))
 
 new-bare : (number : ℕ) (ss : List StationPlan) (k : ℕ) → BareAt k (new_stations number ss)
 new-bare number [] k s there = absurd cc
@@ -211,20 +215,20 @@ new-bare number (x ∷ xs) zero s there = subst (λ (z : RunningStation). IsBare
 new-bare number (x ∷ xs) (suc k) s there = new-bare (number + 1) xs k s there
 
 -- no fate of a packet of another station
-pub fate-none : (plan : Plan) (infos : List Info) (station n : ℕ) → station_in infos n ≢ station → fate_in (after_run plan infos (own infos station) (new_stations 0 plan.stations)) infos n ≡ None
-fate-none plan infos station n other = go (slice_get stations (station_in infos n)) refl
+pub fate-none : (plan : Plan) (infos : List Info) (opens : ℕ → ℕ) (station n : ℕ) → station_in infos n ≢ station → fate_in (after_run plan infos opens (own infos station) (new_stations 0 plan.stations)) infos n ≡ None
+fate-none plan infos opens station n other = go (slice_get stations (station_in infos n)) refl
   where
     stations : List RunningStation
-    stations = after_run plan infos (own infos station) (new_stations 0 plan.stations)
+    stations = after_run plan infos opens (own infos station) (new_stations 0 plan.stations)
 
     go : (o : Option RunningStation) → slice_get stations (station_in infos n) ≡ o → option_and_then (λ (s : RunningStation). s.account.fates n) o ≡ None
     go None is = refl
-    go (Some s) is = (bare-run plan infos station (station_in infos n) other (new_stations 0 plan.stations) (new-bare 0 plan.stations (station_in infos n)) s is).fates n
+    go (Some s) is = (bare-run plan infos opens station (station_in infos n) other (new_stations 0 plan.stations) (new-bare 0 plan.stations (station_in infos n)) s is).fates n
 
-pub other_fates : (plan : Plan) (infos : List Info) (station n : ℕ) → n < length infos → station_in infos n ≢ station → slice_get (alone_at plan infos station) n ≡ Some None
+pub other_fates : (plan : Plan) (infos : List Info) (opens : ℕ → ℕ) (station n : ℕ) → n < length infos → station_in infos n ≢ station → slice_get (alone_at plan infos opens station) n ≡ Some None
 unfolding run_fates
-other_fates plan infos station n within other =
-    let run = after_run plan infos (own infos station) (new_stations 0 plan.stations) in
+other_fates plan infos opens station n within other =
+    let run = after_run plan infos opens (own infos station) (new_stations 0 plan.stations) in
     let k = event-there (first_numbers (length infos)) n (let long = length-first_numbers (length infos) in omega arith) in
     slice_get-map (fate_in run infos) (first_numbers (length infos)) n ∙ (ap (option_map (fate_in run infos)) k.1
-    ∙ ap Some (ap (fate_in run infos) (sym (first-is (length infos) n k.0 k.1)) ∙ fate-none plan infos station n other))
+    ∙ ap Some (ap (fate_in run infos) (sym (first-is (length infos) n k.0 k.1)) ∙ fate-none plan infos opens station n other))

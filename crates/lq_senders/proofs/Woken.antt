@@ -1,18 +1,24 @@
--- A sender wakes its stations after some of its packets.
-use Rattle.std.proofs.Common.{◌≡◌, ◌≢◌, ◌⊎◌, ℕ, zero, suc, ◌+◌, ◌*◌, ◌/◌, ◌%◌, ◌<◌, ◌==◌, List, inl, inr, Some, refl, sym, ap, ◌∙◌, subst, slice_get, arith, eq-eqb}
-use Rattle.std.proofs.Math.Nat.{add-mul, div-eq_of_lt-le, mod-lt}
-use Rattle.std.proofs.lemmas.Bool.{cases_lt, ne_eqb}
-use Rattle.std.proofs.lemmas.List.Sums.{count_by_more_yes, count_by_more_no}
+-- A sender wakes its stations after its packets.
+use Rattle.std.proofs.Common.{◌≡◌, ◌≢◌, ◌⊎◌, ℕ, zero, suc, ◌+◌, ◌*◌, ◌/◌, ◌%◌, ◌<◌, ◌≤◌, ◌==◌, cond, List, [], ◌∷◌, ◌++◌, inl, inr, length, filter, Some, refl, sym, ap, ap₂, ◌∙◌, subst, slice_get, arith, eq-eqb}
+use Rattle.std.specs.List.{sum_by}
+use Rattle.std.proofs.Math.Nat.{add-mul, div-eq_of_lt, div-eq_of_lt-le, mod-lt}
+use Rattle.std.proofs.lemmas.Bool.{cases_eq, cases_lt, ne_eqb}
+use Rattle.std.proofs.lemmas.List.Elements.{filter-append}
+use Rattle.std.proofs.lemmas.List.Sums.{count_by_more_yes, count_by_more_no, sum_by-append}
 use Rattle.std.proofs.lemmas.Nat.{div-add-mod'}
 use Rattle.std.proofs.lemmas.Option.{get_or_from_slice_get, slice_get_within}
-use Rattle.lq_model.specs.Plan.{Plan}
+use Rattle.lq_model.specs.Numbers.{first_numbers}
+use Rattle.lq_model.specs.Plan.{owner_in}
 use Rattle.lq_model.specs.declared.fate.Info.{Info}
 use Rattle.lq_seat.specs.Calls.{WakesQueues, Drains}
 use Rattle.lq_seat.specs.State.{SeatState}
-use Rattle.lq_senders.specs.Lanes.{AllDid, WokenOrNot}
-use Rattle.lq_senders.specs.Woken.{AllWoke, OtherCalls, WokeTimes, count_sent, not_called}
+use Rattle.lq_plan.specs.declared.openings.Openings.TheVariants.{Every}
+use Rattle.lq_senders.specs.Lanes.{AllDid}
+use Rattle.lq_senders.specs.Woken.{AllWoke, OtherCalls, WokeTimes, count_sent, not_called, openings_of, opens_by}
 use Rattle.lq_senders.proofs.Calls.{calls-on, drains-call, none-called}
-use Rattle.lq_senders.proofs.Turns.{some-there}
+use Rattle.lq_senders.proofs.Lists.{one-fails, one-passes}
+use Rattle.lq_senders.proofs.Sent.{owner-is}
+use Rattle.lq_senders.proofs.Turns.{event-there, some-there}
 
 -- HOW MANY PACKETS
 
@@ -24,7 +30,29 @@ pub count-sent-other : (infos : List Info) (sender n : ℕ) (info : Info) → sl
 count-sent-other infos sender n info there other = count_by_more_no (λ (i : Info). i.owner == sender) infos n info (slice_get_within infos n info there)
     (ap (λ (i : Info). i.owner == sender) (get_or_from_slice_get infos n info info there) ∙ ne_eqb info.owner sender other)
 
--- HOW MANY TIMES
+-- HOW MANY OPENINGS
+
+openings-next : (infos : List Info) (opens : ℕ → ℕ) (sender n : ℕ) (last : List ℕ) → filter (λ m. owner_in infos m == sender) (n ∷ []) ≡ last
+    → openings_of infos opens sender (n + 1) ≡ openings_of infos opens sender n + sum_by opens last
+openings-next infos opens sender n last is =
+    let test : ℕ → _ = λ m. owner_in infos m == sender in let more : n + 1 ≡ suc n = omega arith in
+    ap (openings_of infos opens sender) more
+    ∙ (ap (sum_by opens) (filter-append test (first_numbers n) (n ∷ []) ∙ ap (λ l. filter test (first_numbers n) ++ l) is)
+    ∙ sum_by-append opens (filter test (first_numbers n)) last)
+
+-- after a packet of the sender there are those that follow it, and after another one no more
+pub openings-own : (infos : List Info) (opens : ℕ → ℕ) (sender n : ℕ) → owner_in infos n ≡ sender → openings_of infos opens sender (n + 1) ≡ openings_of infos opens sender n + opens n
+openings-own infos opens sender n own =
+    let one : 0 + opens n ≡ opens n = omega arith in
+    openings-next infos opens sender n (n ∷ []) (one-passes (λ m. owner_in infos m == sender) n (eq-eqb (owner_in infos n) sender own))
+    ∙ ap (λ k. openings_of infos opens sender n + k) one
+
+pub openings-other : (infos : List Info) (opens : ℕ → ℕ) (sender n : ℕ) → owner_in infos n ≢ sender → openings_of infos opens sender (n + 1) ≡ openings_of infos opens sender n
+openings-other infos opens sender n other =
+    let none : openings_of infos opens sender n + 0 ≡ openings_of infos opens sender n = omega arith in
+    openings-next infos opens sender n [] (one-fails (λ m. owner_in infos m == sender) n (ne_eqb (owner_in infos n) sender other)) ∙ none
+
+-- BY THE NUMBER OF PACKETS
 
 once-more : (q e : ℕ) → (q + 1) * e ≡ q * e + e
 once-more q e = let one : 1 * e ≡ e = omega arith in let both = add-mul q 1 e in omega arith
@@ -46,6 +74,40 @@ quotient-more k e some =
           let suc_is : k / e + 1 ≡ suc (k / e) = omega arith in
           inl ((omega arith), next ∙ suc_is))
     ]
+
+quotient-step : (k e : ℕ) → 0 < e → k / e + cond ((k + 1) % e == 0) 1 0 ≡ (k + 1) / e
+quotient-step k e some = elim (quotient-more k e some) [
+  | inl now ↦ (let one : k / e + 1 ≡ suc (k / e) = omega arith in ap (λ b. k / e + cond b 1 0) (eq-eqb ((k + 1) % e) 0 now.0) ∙ (one ∙ sym now.1))
+  | inr later ↦ (let none : k / e + 0 ≡ k / e = omega arith in ap (λ b. k / e + cond b 1 0) (ne_eqb ((k + 1) % e) 0 later.0) ∙ (none ∙ sym later.1))
+]
+
+-- queues are opened after each so many packets of a sender
+module _ (packets : ℕ) (infos : List Info) (sender : ℕ) (some : 0 < packets) where
+  abbrev opens : ℕ → ℕ
+  opens = opens_by (Every packets) infos
+
+  every-next : (n : ℕ) → n < length infos → openings_of infos opens sender n ≡ count_sent infos sender n / packets
+      → openings_of infos opens sender (n + 1) ≡ count_sent infos sender (n + 1) / packets
+  every-next n within so_far = go (cases_eq (owner_in infos n) sender)
+    where
+      info : (i : Info) × (slice_get infos n ≡ Some i)
+      info = event-there infos n within
+
+      go : (owner_in infos n ≡ sender) ⊎ (owner_in infos n ≢ sender) → openings_of infos opens sender (n + 1) ≡ count_sent infos sender (n + 1) / packets
+      go (inl own) =
+          openings-own infos opens sender n own
+          ∙ (ap₂ (λ (a s : ℕ). a + cond ((count_sent infos s n + 1) % packets == 0) 1 0) so_far own
+          ∙ (quotient-step (count_sent infos sender n) packets some
+          ∙ ap (λ k. k / packets) (sym (count-sent-own infos sender n info.0 info.1 (sym (owner-is infos n info.0 info.1) ∙ own)))))
+      go (inr other) =
+          openings-other infos opens sender n other
+          ∙ (so_far ∙ ap (λ k. k / packets) (sym (count-sent-other infos sender n info.0 info.1 (λ same. other (owner-is infos n info.0 info.1 ∙ same)))))
+
+  pub openings-every : (n : ℕ) → n ≤ length infos → openings_of infos opens sender n ≡ count_sent infos sender n / packets
+  openings-every zero within = sym (div-eq_of_lt some)
+  openings-every (suc n) within =
+      let more : n + 1 ≡ suc n = omega arith in
+      subst (λ m. openings_of infos opens sender m ≡ count_sent infos sender m / packets) more (every-next n (omega arith) (openings-every n (omega arith)))
 
 -- ONE SEAT
 
@@ -72,19 +134,15 @@ woke-more count old mid new woke did = record {
       (half.0, d, (woke.each j c half.0 at-old half.1, (did.each j half.0 d half.1 at-new, not_called)));
 }
 
--- the wakes after packet k, if there are any, and the soft interrupts
-pub woke-turned : (plan : Plan) (k : ℕ) (start old mid new : List SeatState) → 0 < plan.irq_every → WokenOrNot plan k old mid → AllDid Drains mid new
-    → AllWoke (k / plan.irq_every) start old → AllWoke ((k + 1) / plan.irq_every) start new
-woke-turned plan k start old mid new some turned drained woke = go (quotient-more k plan.irq_every some) turned
-  where
-    calls : AllDid OtherCalls mid new
-    calls = record { long = drained.long; each = λ j c c' at at'. drains-call c c' (drained.each j c c' at at') }
+drains-called : (old new : List SeatState) → AllDid Drains old new → AllDid OtherCalls old new
+drains-called old new drained = record { long = drained.long; each = λ j c c' at at'. drains-call c c' (drained.each j c c' at at') }
 
-    go : (((k + 1) % plan.irq_every ≡ 0) × ((k + 1) / plan.irq_every ≡ suc (k / plan.irq_every))) ⊎ (((k + 1) % plan.irq_every ≢ 0) × ((k + 1) / plan.irq_every ≡ k / plan.irq_every))
-        → WokenOrNot plan k old mid → AllWoke ((k + 1) / plan.irq_every) start new
-    go (inl now) (inl woken) = subst (λ count. AllWoke count start new) (sym now.1)
-        (woke-called (suc (k / plan.irq_every)) start mid new (woke-more (k / plan.irq_every) start old mid woke woken.1) calls)
-    go (inr later) (inr same) = subst (λ count. AllWoke count start new) (sym later.1)
-        (woke-called (k / plan.irq_every) start mid new (subst (λ cpus. AllWoke (k / plan.irq_every) start cpus) (sym same.1) woke) calls)
-    go (inl now) (inr same) = absurd (same.0 now.0)
-    go (inr later) (inl woken) = absurd (later.0 woken.0)
+-- soft interrupts were done
+pub woke-drained : (count : ℕ) (start old new : List SeatState) → AllDid Drains old new → AllWoke count start old → AllWoke count start new
+woke-drained count start old new drained woke = woke-called count start old new woke (drains-called old new drained)
+
+-- the queues were woken once more, and then soft interrupts done
+pub woke-opened : (count : ℕ) (start old mid new : List SeatState) → AllDid WakesQueues old mid → AllDid Drains mid new → AllWoke count start old → AllWoke (count + 1) start new
+woke-opened count start old mid new woken drained woke =
+    let more : suc count ≡ count + 1 = omega arith in
+    subst (λ k. AllWoke k start new) more (woke-drained (suc count) start mid new drained (woke-more count start old mid woke woken))

@@ -91,9 +91,9 @@ pub record FirstClosed (plan : Plan) (infos : List Info) (count : ℕ) (cpus : L
 abbrev pub HaveFatesAlone : List SeatState → List RunningStation → Type 0
 HaveFatesAlone cpus stations = (j : ℕ) (c : SeatState) → slice_get cpus j ≡ Some c → (s : RunningStation) × (slice_get stations j ≡ Some s) × ((seat_account c).fates ≡ s.account.fates)
 
--- All packets were sent, and each station was closed: the first sender began with these seats and spare devices, and those are
--- the spare devices that it ended with.
-pub record HasSentAll (plan : Plan) (infos : List Info) (others : ℕ) (start : List SeatState) (brought : List DeviceState) (closed : List ClosedState) (spares : List DeviceState) : Type 0 where
+-- All packets were sent, with so many openings of the queues after each, and each station was closed: the first sender began with these
+-- seats and spare devices, and those are the spare devices that it ended with.
+pub record HasSentAll (plan : Plan) (infos : List Info) (opens : ℕ → ℕ) (others : ℕ) (start : List SeatState) (brought : List DeviceState) (closed : List ClosedState) (spares : List DeviceState) : Type 0 where
   pub limits : IsWithinLimits plan
   pub long : length start ≡ length plan.stations
   pub seats : List SeatState
@@ -101,7 +101,7 @@ pub record HasSentAll (plan : Plan) (infos : List Info) (others : ℕ) (start : 
   pub closed_are : FirstClosed plan infos (length plan.stations) seats closed
   pub devices : (units : List DeviceState) → DevicesStand plan infos units 0 start brought → DevicesStand plan infos units (length plan.events) seats spares
   pub alone : others ≡ 0 → AllOwn infos → (units : List DeviceState) → DevicesStand plan infos units 0 start brought → DoTell plan units
-      → (from : List RunningStation) → AreRunAlone plan infos start from → HaveFatesAlone seats (map (finished infos) (after_sending plan infos from))
+      → (from : List RunningStation) → AreRunAlone plan infos start from → HaveFatesAlone seats (map (finished infos) (after_sending plan infos opens from))
 
 -- READING
 
@@ -170,7 +170,7 @@ pub record UnitEnds (plan : Plan) (infos : List Info) (after : List DeviceState)
   pub hangs : (t : Telling) → device.told ≡ Some t → HangsWhere t.params device
 
 -- the run came to its end: what is known of all stations, and of the devices in the bench
-pub record RunEnds (plan : Plan) (infos : List Info) (before after : List DeviceState) (views : ℕ → SeatState) (fates : List Fate) : Type 0 where
+pub record RunEnds (plan : Plan) (infos : List Info) (opens : ℕ → ℕ) (before after : List DeviceState) (views : ℕ → SeatState) (fates : List Fate) : Type 0 where
   pub of_plan : (n : ℕ) → n < length infos → station_in infos n < length plan.stations
   pub queues : (n : ℕ) → n < length infos → queue_in infos n < queues_at plan.stations (station_in infos n)
   pub one_each : length fates ≡ length infos
@@ -185,4 +185,4 @@ pub record RunEnds (plan : Plan) (infos : List Info) (before after : List Device
       → told_params device ≡ option_map (λ _. params) old.told
   -- where the devices tell and there is one sender, each packet's fate is that of the run of one sender
   pub alone : AllTell (unit_count plan) before → plan.senders ≡ 1 → (n : ℕ) → n < length infos
-      → fate_in (after_run plan infos (λ n. true) (new_stations 0 plan.stations)) infos n ≡ (seat_account (views (station_in infos n))).fates n
+      → fate_in (after_run plan infos opens (λ n. true) (new_stations 0 plan.stations)) infos n ≡ (seat_account (views (station_in infos n))).fates n

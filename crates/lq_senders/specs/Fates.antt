@@ -34,7 +34,8 @@ pub record IsCallOfUnit (plan : Plan) (infos : List Info) (unit : ℕ) (call : D
   pub one_of_its : call.queue < queues_at plan.stations (station_in infos call.packet)
 
 -- The fates of a run over the devices of a bench, as they were before it and are after it; unit u is the device at place u.
-pub record AreFatesOf (plan : Plan) (infos : List Info) (fates : List Fate) (before after : List DeviceState) : Type 0 where
+-- `opens n` is how often the stopped queues are opened after packet n.
+pub record AreFatesOf (plan : Plan) (infos : List Info) (opens : ℕ → ℕ) (fates : List Fate) (before after : List DeviceState) : Type 0 where
   -- each packet has exactly one fate, and it is one that the plan allows
   pub settled : IsSettled plan infos fates
   -- where nothing deactivates, hangs, shrinks or fills up, each packet is sent
@@ -62,10 +63,10 @@ pub record AreFatesOf (plan : Plan) (infos : List Info) (fates : List Fate) (bef
   -- where they all tell, they all did
   pub as_told : AllTell (unit_count plan) before → HangsAsTold plan fates
   -- where they tell and there is one sender, the fates are those of its run
-  pub alone : AllTell (unit_count plan) before → plan.senders ≡ 1 → map (λ fate. Some fate) fates ≡ alone plan infos
+  pub alone : AllTell (unit_count plan) before → plan.senders ≡ 1 → map (λ fate. Some fate) fates ≡ alone plan infos opens
   -- and each packet's fate is that of the run in which only the packets of its station are offered
   pub apart : AllTell (unit_count plan) before → plan.senders ≡ 1 → (n : ℕ) (fate : Fate) → slice_get fates n ≡ Some fate
-      → slice_get (alone_at plan infos (station_in infos n)) n ≡ Some (Some fate)
+      → slice_get (alone_at plan infos opens (station_in infos n)) n ≡ Some (Some fate)
 
 -- WHAT STAYS OF A STATION
 

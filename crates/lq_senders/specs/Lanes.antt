@@ -1,5 +1,5 @@
 -- A sender's lane: its seats, one at each station.
-use Rattle.std.specs.Prelude.{◌≡◌, ◌≢◌, ◌<◌, ◌≤◌, ℕ, ◌+◌, ◌*◌, ◌/◌, ◌%◌, ◌⊎◌, All, true, false, List, [], ◌∷◌, length, slice_get, slice_index, Some}
+use Rattle.std.specs.Prelude.{◌≡◌, ◌<◌, ◌≤◌, ℕ, ◌+◌, ◌*◌, ◌⊎◌, All, true, false, List, [], ◌∷◌, length, slice_get, slice_index, Some}
 use Rattle.lq_account.specs.Progress.{start_of}
 use Rattle.lq_control.specs.Finish.{AreRanks, count_below}
 use Rattle.lq_model.specs.Alone.{RunningStation, after_packets, events_after, with_events}
@@ -9,12 +9,12 @@ use Rattle.lq_model.specs.declared.fate.Info.{Info}
 use Rattle.lq_model.specs.declared.plan.EventPlan.{EventPlan}
 use Rattle.lq_plan.specs.Packets.{IsInfoWithin}
 use Rattle.lq_qdisc.specs.Alone.{IsAlone, running}
-use Rattle.lq_seat.specs.Calls.{DoesEvent, WakesQueues}
+use Rattle.lq_seat.specs.Calls.{DoesEvent, Drains, WakesQueues}
 use Rattle.lq_seat.specs.State.{SeatState, TableState, IsHere, IsTableOf, solo_of, times, AreInfos}
 use Rattle.lq_senders.specs.Seats.{Keeps, KeepsSeat}
 use Rattle.lq_senders.specs.Units.{DevicesStand, DoTell}
 use Rattle.lq_senders.specs.Way.{IsOnWay, StandEarlier}
-use Rattle.lq_senders.specs.Woken.{AllWoke, count_sent}
+use Rattle.lq_senders.specs.Woken.{AllWoke, count_sent, openings_of}
 use Rattle.lq_senders.specs.declared.sender.Sender.{Sender}
 
 -- ONE SEAT
@@ -76,23 +76,23 @@ pub record AllDid (R : SeatState → SeatState → Type 0) (old new : List SeatS
   pub long : length new ≡ length old
   pub each : (j : ℕ) (c c' : SeatState) → slice_get old j ≡ Some c → slice_get new j ≡ Some c' → R c c'
 
+-- the stopped queues of all were opened, and then soft interrupts done
+abbrev pub AllOpened : List SeatState → List SeatState → Type 0
+AllOpened old new = (woken : List SeatState) × (AllDid WakesQueues old woken × AllDid Drains woken new)
+
 -- an event of the plan was done, if it is one of the seat's station
 abbrev pub DoesEventAt : ℕ → EventPlan → SeatState → SeatState → Type 0
 DoesEventAt e event old new = ((is_at old.made.station event ≡ true) × ((plan : Plan) → DoesEvent plan e event.kind old new)) ⊎ ((is_at old.made.station event ≡ false) × (new ≡ old))
 
--- the queues were woken, where the plan wakes them after a sender's packet k, or all is as it was
-abbrev pub WokenOrNot : Plan → ℕ → List SeatState → List SeatState → Type 0
-WokenOrNot plan k old new = (((k + 1) % plan.irq_every ≡ 0) × AllDid WakesQueues old new) ⊎ (((k + 1) % plan.irq_every ≢ 0) × (new ≡ old))
-
 -- ON THE WAY THROUGH THE PACKETS
 
--- A sender is before packet n: it sent its k packets below that, woke its stations after each `irq_every` of them, and did the events
--- before `next`, each of which stands before a lower packet.
-pub record IsSending (plan : Plan) (infos : List Info) (tables : List TableState) (sender n k next : ℕ) (start : List SeatState) (brought : List DeviceState) (now : List SeatState) (spares : List DeviceState) : Type 0 where
+-- A sender is before packet n: it sent its k packets below that, woke its stations so often as `opens` says of each of them, and did the
+-- events before `next`, each of which stands before a lower packet.
+pub record IsSending (plan : Plan) (infos : List Info) (opens : ℕ → ℕ) (tables : List TableState) (sender n k next : ℕ) (start : List SeatState) (brought : List DeviceState) (now : List SeatState) (spares : List DeviceState) : Type 0 where
   pub within : next ≤ length plan.events
   pub few : k ≤ n
   pub sent : k ≡ count_sent infos sender n
-  pub woke : AllWoke (k / plan.irq_every) start now
+  pub woke : AllWoke (openings_of infos opens sender n) start now
   pub stands : LaneStands plan infos sender next n tables now
   pub earlier : StandEarlier plan next n
   pub keeps : KeepSeats start now
@@ -100,7 +100,7 @@ pub record IsSending (plan : Plan) (infos : List Info) (tables : List TableState
   -- where all packets are the first sender's, and the devices that swaps bring tell, its seats are the stations of the run of
   -- one sender
   pub alone : (units : List DeviceState) → DevicesStand plan infos units 0 start brought → DoTell plan units → sender ≡ 0 → AllOwn infos → (from : List RunningStation) → AreRunAlone plan infos start from
-      → (k ≡ n) × ((j : ℕ) (event : EventPlan) → next ≤ j → slice_get plan.events j ≡ Some event → n ≤ event.before) × AreRunAlone plan infos now (after_packets plan infos (λ n. true) from n)
+      → (k ≡ n) × ((j : ℕ) (event : EventPlan) → next ≤ j → slice_get plan.events j ≡ Some event → n ≤ event.before) × AreRunAlone plan infos now (after_packets plan infos opens (λ n. true) from n)
 
 -- LANES
 
@@ -129,13 +129,13 @@ AreReadyLanes {D} plan infos tables lanes = (i : ℕ) (l : Sender D) → slice_g
 abbrev pub AreDoneLanes : {D : Type 0} → Plan → List Info → List TableState → List (Sender D) → Type 0
 AreDoneLanes {D} plan infos tables lanes = (i : ℕ) (l : Sender D) → slice_get lanes i ≡ Some l → IsDoneLane plan infos tables i l.owner l.seats.items
 
--- each of a sender's stations was woken once for each `irq_every` of its packets
-abbrev pub IsWoken : Plan → List Info → ℕ → List SeatState → List SeatState → Type 0
-IsWoken plan infos sender old new = AllWoke (count_sent infos sender (length infos) / plan.irq_every) old new
+-- each of a sender's stations was woken once for each opening after the sender's own packets
+abbrev pub IsWoken : List Info → (ℕ → ℕ) → ℕ → List SeatState → List SeatState → Type 0
+IsWoken infos opens sender old new = AllWoke (openings_of infos opens sender (length infos)) old new
 
 -- so were those of the sender at each place
-abbrev pub AreWoken : {D : Type 0} → Plan → List Info → List (Sender D) → List (Sender D) → Type 0
-AreWoken {D} plan infos old new = (i : ℕ) (l l' : Sender D) → slice_get old i ≡ Some l → slice_get new i ≡ Some l' → IsWoken plan infos l.owner l.seats.items l'.seats.items
+abbrev pub AreWoken : {D : Type 0} → List Info → (ℕ → ℕ) → List (Sender D) → List (Sender D) → Type 0
+AreWoken {D} infos opens old new = (i : ℕ) (l l' : Sender D) → slice_get old i ≡ Some l → slice_get new i ≡ Some l' → IsWoken infos opens l.owner l.seats.items l'.seats.items
 
 -- packets of the plan's stations and senders, numbered by rank
 pub record IsSendable (plan : Plan) (infos : List Info) : Type 0 where
@@ -145,5 +145,5 @@ pub record IsSendable (plan : Plan) (infos : List Info) : Type 0 where
   pub ranks : AreRanks infos
 
 -- the stations of the run of one sender after all packets and events
-abbrev pub after_sending : Plan → List Info → List RunningStation → List RunningStation
-after_sending plan infos from = with_events plan infos (events_after plan (length infos)) (after_packets plan infos (λ n. true) from (length infos))
+abbrev pub after_sending : Plan → List Info → (ℕ → ℕ) → List RunningStation → List RunningStation
+after_sending plan infos opens from = with_events plan infos (events_after plan (length infos)) (after_packets plan infos opens (λ n. true) from (length infos))

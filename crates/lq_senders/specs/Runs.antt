@@ -1,6 +1,6 @@
--- What the calls of a run say of its plan, its packets and its tables.
+-- What the calls of a run say of its plan, its packets, its openings and its tables.
 use Rattle.std.specs.Prelude.{ℕ, List, map}
-use Rattle.lq_model.specs.Alone.{RunningStation, finished, served, with_events, with_packet, with_wakes}
+use Rattle.lq_model.specs.Alone.{RunningStation, finished, turn_ended, with_events, with_packet}
 use Rattle.lq_model.specs.Device.{DeviceState}
 use Rattle.lq_seat.specs.State.{SeatState}
 use Rattle.lq_senders.specs.Ends.{HaveFatesAlone}
@@ -12,8 +12,13 @@ use Rattle.lq_senders.specs.Way.{numbers_from}
 use Rattle.lq_senders.specs.declared.sender.Progress.{Progress}
 use Rattle.lq_senders.specs.declared.sender.Run.{Run}
 use Rattle.lq_senders.specs.declared.sender.Sender.{Sender}
+use Rattle.lq_senders.specs.Woken.{opens_by}
 
 module _ {D G : Type 0} where
+  -- how often the stopped queues are opened after packet n
+  abbrev pub opens_in : Run D G → ℕ → ℕ
+  opens_in run n = opens_by run.openings.now run.infos.now n
+
   -- SEATS
 
   -- a sender's seats, where its packets below n were sent and the first so many events of the plan done
@@ -28,9 +33,9 @@ module _ {D G : Type 0} where
   abbrev pub SeatsDone : Run D G → ℕ → List SeatState → Type 0
   SeatsDone run sender seats = LaneDone run.plan.now run.infos.now sender run.tables.now seats
 
-  -- each was woken once for each `irq_every` of the sender's packets
+  -- each was woken once for each opening after the sender's packets
   abbrev pub SeatsWoken : Run D G → ℕ → List SeatState → List SeatState → Type 0
-  SeatsWoken run sender old new = IsWoken run.plan.now run.infos.now sender old new
+  SeatsWoken run sender old new = IsWoken run.infos.now (opens_in run) sender old new
 
   -- those of the senders from `next` on are still to be split off the first sender's
   abbrev pub SeatsSplit : Run D G → ℕ → List SeatState → Type 0
@@ -64,7 +69,7 @@ module _ {D G : Type 0} where
   -- where all packets are its own, too, over the whole run
   abbrev pub SendsAllAlone : (D → DeviceState) → Run D G → Sender D → Sender D → Type 0
   SendsAllAlone state run old new = (units : List DeviceState) → HasDevices state run units 0 old → DoTell run.plan.now units → AllOwn run.infos.now
-      → SeatsRunAs run (after_sending run.plan.now run.infos.now) old.seats.items new.seats.items
+      → SeatsRunAs run (after_sending run.plan.now run.infos.now (opens_in run)) old.seats.items new.seats.items
 
   -- THE RUN OF ONE SENDER
 
@@ -72,20 +77,20 @@ module _ {D G : Type 0} where
   abbrev pub events_on : Run D G → ℕ → ℕ → List RunningStation → List RunningStation
   events_on run next count stations = with_events run.plan.now run.infos.now (numbers_from next count) stations
 
-  -- queues are woken after the sender's packet k, where the plan wakes them there, and soft interrupts done
-  abbrev pub turn_ended : Run D G → ℕ → List RunningStation → List RunningStation
-  turn_ended run k stations = map (served run.infos.now) (with_wakes run.plan.now k stations)
+  -- what follows packet n: the queues are opened so often as it is after this packet, and soft interrupts done
+  abbrev pub turn_after : Run D G → ℕ → List RunningStation → List RunningStation
+  turn_after run n stations = turn_ended run.infos.now (opens_in run n) stations
 
-  -- so many events, then packet n, which is the sender's packet k
-  abbrev pub packet_brought : Run D G → ℕ → ℕ → ℕ → ℕ → List RunningStation → List RunningStation
-  packet_brought run next count k n stations = turn_ended run k (with_packet run.plan.now run.infos.now n (events_on run next count stations))
+  -- so many events, then packet n and what follows it
+  abbrev pub packet_brought : Run D G → ℕ → ℕ → ℕ → List RunningStation → List RunningStation
+  packet_brought run next count n stations = turn_after run n (with_packet run.plan.now run.infos.now n (events_on run next count stations))
 
   -- A SENDER ON ITS WAY
 
   -- so far it is before packet n, from these seats and spare devices on
   abbrev pub ComesTo : (D → DeviceState) → Run D G → ℕ → ℕ → Progress → List SeatState → List DeviceState → Sender D → Type 0
   ComesTo state run owner n at start brought sender =
-      IsSending run.plan.now run.infos.now run.tables.now owner n at.sent at.next start brought sender.seats.items (map state sender.spares.items)
+      IsSending run.plan.now run.infos.now (opens_in run) run.tables.now owner n at.sent at.next start brought sender.seats.items (map state sender.spares.items)
 
   -- THE OTHER SENDERS
 
@@ -103,4 +108,4 @@ module _ {D G : Type 0} where
   LanesAreDone run lanes = AreDoneLanes run.plan.now run.infos.now run.tables.now lanes
 
   abbrev pub LanesWoken : Run D G → List (Sender D) → List (Sender D) → Type 0
-  LanesWoken run old new = AreWoken run.plan.now run.infos.now old new
+  LanesWoken run old new = AreWoken run.infos.now (opens_in run) old new

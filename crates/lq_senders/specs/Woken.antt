@@ -1,16 +1,50 @@
 -- How often a sender woke its stations.
-use Rattle.std.specs.Prelude.{◌≡◌, ℕ, zero, suc, ◌==◌, List, length, take, count_by, slice_get, Some}
+use Rattle.std.specs.Prelude.{◌≡◌, ◌<◌, ℕ, zero, suc, ◌==◌, List, length, filter, take, count_by, slice_get, Some}
+use Rattle.std.specs.Coded.{Π_prop, le_prop}
+use Rattle.std.specs.List.{sum_by}
 use Rattle.lq_model.specs.Device.{DeviceState}
-use Rattle.lq_model.specs.Plan.{Plan}
+use Rattle.lq_model.specs.Numbers.{first_numbers}
+use Rattle.lq_model.specs.Plan.{Plan, owner_in}
 use Rattle.lq_model.specs.declared.device.Params.{Params}
 use Rattle.lq_model.specs.declared.fate.Info.{Info}
 use Rattle.lq_model.specs.declared.plan.EventKind.{EventKind}
+use Rattle.lq_plan.specs.Openings.{opens_after, opens_within}
+use Rattle.lq_plan.specs.declared.openings.Openings.{Openings}
+use Rattle.lq_plan.specs.declared.openings.Openings.TheVariants.{Every, Listed}
 use Rattle.lq_seat.specs.Calls.{DoesEvent, DoesSwap, Drains, SendsPacket, WakesQueues}
 use Rattle.lq_seat.specs.State.{SeatState}
 
 -- how many of the first n packets are a sender's
 abbrev pub count_sent : List Info → ℕ → ℕ → ℕ
 count_sent infos sender n = count_by (λ info. info.owner == sender) (take n infos)
+
+-- OPENINGS
+
+-- how often the stopped queues are opened after packet n of these
+abbrev pub opens_by : Openings → List Info → ℕ → ℕ
+opens_by openings infos n = opens_after openings n (count_sent infos (owner_in infos n) n)
+
+-- it is so often after each of them
+abbrev pub OpensAre : Openings → List Info → (ℕ → ℕ) → Type 0
+OpensAre openings infos opens = (n : ℕ) → n < length infos → opens_by openings infos n ≡ opens n
+
+-- of each of them it is known
+abbrev pub KnowOpenings : Openings → List Info → Type 0
+KnowOpenings openings infos = (n : ℕ) → n < length infos → opens_within openings n
+
+within-prop : (openings : Openings) (n : ℕ) → IsProp (opens_within openings n)
+within-prop (Every packets) n = le_prop
+within-prop (Listed times) n = le_prop
+
+-- there is one proof of it at most
+pub known-prop : (openings : Openings) (infos : List Info) → IsProp (KnowOpenings openings infos)
+known-prop openings infos = Π_prop λ n. Π_prop λ within. within-prop openings n
+
+-- how often they are opened altogether after the packets of a sender among the first n, where it is `opens m` after packet m
+abbrev pub openings_of : List Info → (ℕ → ℕ) → ℕ → ℕ → ℕ
+openings_of infos opens sender n = sum_by opens (filter (λ m. owner_in infos m == sender) (first_numbers n))
+
+-- WAKES
 
 -- A sender's call at a seat that is no wake: a packet, soft interrupts, an event of the plan, or a swap of the device.
 pub data OtherCall (old new : SeatState) : Type 0 where

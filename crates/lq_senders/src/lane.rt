@@ -1,12 +1,12 @@
 //! What a sender does at its seats.
-ghost use Rattle.std.specs.Prelude.{◌≡◌, ℕ, ◌+◌, ◌<◌, ◌≤◌, ◌-◌, ◌/◌, List, length, slice_get};
+ghost use Rattle.std.specs.Prelude.{◌≡◌, ℕ, ◌+◌, ◌<◌, ◌≤◌, ◌-◌, List, length, slice_get};
 ghost use Rattle.lq_seat.specs.Calls.{WakesQueues, Drains};
 ghost use Rattle.lq_seat.specs.State.{SeatState};
-ghost use Rattle.lq_senders.specs.Lanes.{AllDid, AreSeats, KeepAll, KeepSeats, WokenOrNot};
-ghost use Rattle.lq_senders.specs.Runs.{ComesTo, DevicesGoOn, HasDevices, RunsAs, SeatsDone, SeatsGoOn, SeatsRunAs, SeatsStand, events_on, packet_brought, turn_ended};
+ghost use Rattle.lq_senders.specs.Lanes.{AllDid, AllOpened, AreSeats, KeepAll, KeepSeats};
+ghost use Rattle.lq_senders.specs.Runs.{ComesTo, DevicesGoOn, HasDevices, RunsAs, SeatsDone, SeatsGoOn, SeatsRunAs, SeatsStand, events_on, opens_in, packet_brought, turn_after};
 ghost use Rattle.lq_senders.specs.Way.{IsSplitAt, StandAfter, StandBefore, StandEarlier};
 ghost use Rattle.lq_senders.specs.Woken.{AllWoke, OtherCalls, count_sent};
-ghost use Rattle.lq_model.specs.Alone.{with_packet};
+ghost use Rattle.lq_model.specs.Alone.{opened_and_served, with_packet};
 ghost use Rattle.lq_model.specs.Device.{DeviceState};
 ghost use Rattle.lq_model.specs.Plan.{owner_in};
 ghost use Rattle.lq_model.specs.declared.plan.EventPlan.{EventPlan as AnEvent};
@@ -59,39 +59,56 @@ fn drain_all<'a, R: Wait, D: TxDevice>(rt: &R, tables: &[Table<'a, D>], seats: &
     }
 }
 
-/// Wakes the queues after a sender's packet `k`, if the plan wakes them there.
-fn wake_after<'r, 'a, D: TxDevice, G: Gate>(
+/// Opens the stopped queues of all stations, and does the soft interrupts of each seat.
+fn open_once<'a, R: Wait, D: TxDevice>(rt: &R, tables: &[Table<'a, D>], seats: &mut Vec<Seat<D>>)
+    requires seats { AreSeats tables.now seats.old.items }
+    ensures { AllOpened seats.old.items seats.new.items }
+{
+    wake_all(tables, seats);
+    drain_all(rt, tables, seats);
+}
+
+/// Opens the stopped queues of all stations so many times, and does the soft interrupts of each seat after each of them.
+fn open_times<'r, 'a, R: Wait, D: TxDevice, G: Gate>(
+    rt: &R,
     run: &Run<'r, 'a, D, G>,
     seats: &mut Vec<Seat<D>>,
-    k: u32,
+    times: u32,
 )
-    requires number { k < 1000000 }
-    requires seats { AreSeats run.now.tables.now seats.old.items }
-    ensures { WokenOrNot run.now.plan.now k seats.old.items seats.new.items }
+    requires stands { (sender : ℕ) × (count : ℕ) × (n : ℕ) × SeatsStand run.now sender count n seats.old.items }
+    ensures stands { (sender count : ℕ) → SeatsGoOn run.now sender count count seats.old.items seats.new.items }
+    ensures keeps { KeepAll seats.old.items seats.new.items }
+    ensures runs { SeatsRunAs run.now (opened_and_served run.now.infos.now times) seats.old.items seats.new.items }
+    ensures woke { (start : List SeatState) (count : ℕ) → AllWoke count start seats.old.items → AllWoke (count + times) start seats.new.items }
 {
-    if (k + 1) % run.plan.irq_every() == 0 {
-        wake_all(run.tables, seats);
+    for _time in 0..times {
+        open_once(rt, run.tables, seats);
     }
 }
 
-/// What a sender does after its packet `k`.
+/// What a sender does after packet `n`, its packet `k`.
 fn turn<'r, 'a, R: Wait, D: TxDevice, G: Gate>(
     rt: &R,
     run: &Run<'r, 'a, D, G>,
     seats: &mut Vec<Seat<D>>,
+    n: u32,
     k: u32,
 )
-    requires number { k < 1000000 }
-    requires stands { (sender : ℕ) × (count : ℕ) × (n : ℕ) × SeatsStand run.now sender count n seats.old.items }
+    requires packet { n < length run.now.infos.now }
+    requires number { k ≡ count_sent run.now.infos.now (owner_in run.now.infos.now n) n }
+    requires stands { (sender : ℕ) × (count : ℕ) × (m : ℕ) × SeatsStand run.now sender count m seats.old.items }
     ensures stands { (sender count : ℕ) → SeatsGoOn run.now sender count count seats.old.items seats.new.items }
     ensures keeps { KeepAll seats.old.items seats.new.items }
-    ensures runs { SeatsRunAs run.now (turn_ended run.now k) seats.old.items seats.new.items }
-    ensures woke { (start : List SeatState) → AllWoke (k / run.now.plan.now.irq_every) start seats.old.items
-        → AllWoke ((k + 1) / run.now.plan.now.irq_every) start seats.new.items }
+    ensures runs { SeatsRunAs run.now (turn_after run.now n) seats.old.items seats.new.items }
+    ensures woke { (start : List SeatState) (count : ℕ) → AllWoke count start seats.old.items
+        → AllWoke (count + opens_in run.now n) start seats.new.items }
 {
-    run.plan.stays_within_limits();
-    wake_after(run, seats, k);
-    drain_all(rt, run.tables, seats);
+    let times = run.openings.after(n, k);
+    if times == 0 {
+        drain_all(rt, run.tables, seats);
+    } else {
+        open_times(rt, run, seats, times);
+    }
 }
 
 /// Does the plan's events from `next` on that stand before packet `n`: the event that is next then.
@@ -187,7 +204,6 @@ fn bring<'r, 'a, R: Wait, D: TxDevice, G: Gate>(
 ) -> u32
     requires own { owner_in run.now.infos.now n ≡ sender.old.owner }
     requires packet { n < length run.now.infos.now }
-    requires few { at.sent ≤ n }
     requires sent { at.sent ≡ count_sent run.now.infos.now sender.old.owner n }
     requires next { at.next ≤ length run.now.plan.now.events }
     requires earlier { StandEarlier run.now.plan.now at.next n }
@@ -200,9 +216,9 @@ fn bring<'r, 'a, R: Wait, D: TxDevice, G: Gate>(
     ensures stands { SeatsStand run.now sender.old.owner result (n + 1) sender.new.seats.items }
     ensures keeps { KeepSeats sender.old.seats.items sender.new.seats.items }
     ensures devices { DevicesGoOn D.state run.now at.next result sender.old sender.new }
-    ensures runs { RunsAs D.state run.now at.next (packet_brought run.now at.next (result - at.next) at.sent n) sender.old sender.new }
-    ensures woke { (start : List SeatState) → AllWoke (at.sent / run.now.plan.now.irq_every) start sender.old.seats.items
-        → AllWoke ((at.sent + 1) / run.now.plan.now.irq_every) start sender.new.seats.items }
+    ensures runs { RunsAs D.state run.now at.next (packet_brought run.now at.next (result - at.next) n) sender.old sender.new }
+    ensures woke { (start : List SeatState) (count : ℕ) → AllWoke count start sender.old.seats.items
+        → AllWoke (count + opens_in run.now n) start sender.new.seats.items }
 {
     let next = events_of(rt, run, sender, at.next, n);
     let now = Progress {
@@ -211,7 +227,7 @@ fn bring<'r, 'a, R: Wait, D: TxDevice, G: Gate>(
     };
     pass_before(run, sender, now, n);
     send_packet(rt, run, &mut sender.seats, n);
-    turn(rt, run, &mut sender.seats, at.sent);
+    turn(rt, run, &mut sender.seats, n, at.sent);
     next
 }
 
@@ -232,13 +248,12 @@ pub fn come_to<'r, 'a, R: Wait, D: TxDevice, G: Gate>(
         → ComesTo D.state run.now sender.old.owner n at start brought sender.old
         → ComesTo D.state run.now sender.old.owner (n + 1) result start brought sender.new }
 {
-    if run.infos[n as usize].owner as u32 == sender.owner {
-        let next = bring(rt, run, sender, at, n);
-        Progress {
-            sent: at.sent + 1,
-            next,
-        }
-    } else {
-        at
+    if run.infos[n as usize].owner as u32 != sender.owner {
+        return at;
+    }
+    let next = bring(rt, run, sender, at, n);
+    Progress {
+        sent: at.sent + 1,
+        next,
     }
 }

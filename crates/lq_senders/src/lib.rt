@@ -19,8 +19,9 @@ mod whole;
 pub use ends::end_run;
 pub use lanes::{all_send, send_loop};
 pub use laws::{
-    ends_make_fates, one_child_is_offered, runs_are_readable, runs_keep_boxes, runs_leave_devices,
-    runs_leave_stations, runs_make_fates, runs_may_be_sent, stations_run_apart,
+    each_so_many_packets_open_once, ends_make_fates, one_child_is_offered, runs_are_readable,
+    runs_keep_boxes, runs_leave_devices, runs_leave_stations, runs_make_fates, runs_may_be_sent,
+    same_openings_make_same_fates, stations_run_apart,
 };
 pub use lq_gate::{Free, Gate, Resources};
 pub use send::send_all;

@@ -1,29 +1,36 @@
 //! What a run is asked to do, what its senders share, and a sender.
 ghost use Rattle.lq_senders.specs.Lanes.{IsSendable};
+ghost use Rattle.lq_senders.specs.Woken.{KnowOpenings, known-prop};
 
 use lq_device::TxDevice;
 use lq_gate::Gate;
 use lq_model::Info;
-use lq_plan::Plan;
+use lq_plan::{Openings, Plan};
 use lq_seat::{Seat, Table};
 
-/// What a run is asked to do: to send packets under the plan, which allows them. Each sender passes the gate.
+/// What a run is asked to do: to send packets under the plan, which allows them, and to open the stopped queues so often after each.
+/// Each sender passes the gate.
 #[derive(Drop)]
 pub struct Job<'r, G: Gate> {
     pub plan: &'r Plan,
     pub infos: &'r [Info],
+    pub openings: &'r Openings,
     pub gate: &'r G,
     pub ghost sendable: { IsSendable plan.now infos.now },
+    pub ghost known: { KnowOpenings openings.now infos.now } by { known-prop openings.now infos.now },
 }
 
-/// What all senders of a run share: the plan, the packets, the stations' tables, and the gate that each sender passes.
+/// What all senders of a run share: the plan, the packets, how often queues are opened after each, the stations' tables, and the
+/// gate that each sender passes.
 #[derive(Drop)]
 pub struct Run<'r, 'a, D: TxDevice, G: Gate> {
     pub plan: &'r Plan,
     pub infos: &'r [Info],
+    pub openings: &'r Openings,
     pub tables: &'r [Table<'a, D>],
     pub gate: &'r G,
     pub ghost sendable: { IsSendable plan.now infos.now },
+    pub ghost known: { KnowOpenings openings.now infos.now } by { known-prop openings.now infos.now },
 }
 
 /// One sender, with its seats by station.

@@ -4,6 +4,7 @@ ghost use Rattle.lq_senders.specs.Ends.{HasSentAll, closed_state};
 ghost use Rattle.lq_senders.specs.Joins.{AreFirst};
 ghost use Rattle.lq_senders.specs.Lanes.{AreReadyLanes, LaneStands};
 ghost use Rattle.lq_senders.specs.Units.{DevicesStand};
+ghost use Rattle.lq_senders.specs.Woken.{opens_by};
 ghost use Rattle.lq_model.specs.Device.{DeviceState};
 
 use crate::ends::{close_all, end_run};
@@ -35,7 +36,7 @@ pub fn run<'r, 'a, R: Threads + Wait + Sync, D: TxDevice, G: Gate>(
     requires senders { length senders.others.items + 1 ≡ job.now.plan.now.senders }
     requires none_yet { closed.old.items ≡ [] }
     requires room { length job.now.plan.now.stations ≤ vec_capacity closed.old }
-    ensures { HasSentAll job.now.plan.now job.now.infos.now (length senders.others.items) senders.first.seats.items
+    ensures { HasSentAll job.now.plan.now job.now.infos.now (opens_by job.now.openings.now job.now.infos.now) (length senders.others.items) senders.first.seats.items
         (map D.state senders.first.spares.items) (map closed_state closed.new.items) (map D.state result.items) }
 {
     job.plan.stays_within_limits();
@@ -43,6 +44,7 @@ pub fn run<'r, 'a, R: Threads + Wait + Sync, D: TxDevice, G: Gate>(
     let all = Run {
         plan: job.plan,
         infos: job.infos,
+        openings: job.openings,
         tables: tables.as_slice(),
         gate: job.gate,
     };

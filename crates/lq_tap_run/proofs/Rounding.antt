@@ -3,10 +3,13 @@ use Rattle.std.proofs.Common.{◌≡◌, ◌≢◌, ◌≤◌, ◌<◌, ◌==◌
 use Rattle.lq_tap.specs.Sees.{SeesEnded}
 use Rattle.lq_tap.specs.declared.shared.TapSeat.{TapSeat}
 use Rattle.std.proofs.lemmas.Bool.Decides.{nat_tests}
-use Rattle.lq_tap_run.specs.Rounds.{GivesHalf, IsRound, ReadsRounds, ReadsToEnd, TakesBatch, one_round}
+use Rattle.lq_tap_run.specs.Rounds.{GivesHalf, ReadsRounds, ReadsToEnd, TakesBatch, one_round}
 
--- a look and a batch, behind the rounds so far
-module _ (len senders asked : ℕ) (first now looked taken : TapSeat) (found : ℕ) (batch : List ℕ) (rounds : ReadsRounds len senders asked first now) (looks : SeesEnded found now looked) (takes : TakesBatch len asked batch looked taken) where
+-- a look and a batch, taken into as many places as were asked for, behind the rounds so far
+module _ {len senders asked places found : ℕ} {first now : TapSeat} {batch : List ℕ} (looked taken : TapSeat) (rounds : ReadsRounds len senders asked first now) (looks : SeesEnded found now looked) (long : places ≡ asked) (took : TakesBatch len places batch looked taken) where
+  takes : TakesBatch len asked batch looked taken
+  takes = subst (λ n. TakesBatch len n batch looked taken) long took
+
   pub on_with_half : (new : TapSeat) → batch ≢ [] → GivesHalf len batch taken new → ReadsRounds len senders asked first new
   on_with_half new some half =
       one_round found batch now new rounds (record { looked = looked; taken = taken; looks = looks; takes = takes; gives = inr (some, half) }) (inr some)

@@ -126,7 +126,7 @@ fn takes_help_and_version_as_names(rt: HostRuntime) -> Result<(), Fail> {
 }
 
 /// Plans, and the line that refuses each.
-const PLANS: [(&[u8], &str); 26] = [
+const PLANS: [(&[u8], &str); 32] = [
     (b"len = = 3", "plan refused: 1 NotToml\n"),
     (b"[[station]]\nlenght = 5\n", "plan refused: 2 UnknownKey\n"),
     // a key of the document, but under the head of a station
@@ -156,6 +156,31 @@ const PLANS: [(&[u8], &str); 26] = [
         b"version = 3\n[[station]]\nmq = 2\nqueues = 2\n",
         "plan refused: 5 Range\n",
     ),
+    // queues that are opened by time, or after so many packets, but not both; keys and words of version 4 alone
+    (
+        b"version = 4\nirq_us = 10\nirq_every = 10\n[[station]]\n",
+        "plan refused: 5 Range\n",
+    ),
+    (
+        b"version = 4\nirq_us = 1000001\n[[station]]\n",
+        "plan refused: 5 Range\n",
+    ),
+    (
+        b"version = 4\nirq_us = 0\n[[station]]\n",
+        "plan refused: 5 Range\n",
+    ),
+    (
+        b"version = 3\nirq_us = 10\n[[station]]\n",
+        "plan refused: 2 UnknownKey\n",
+    ),
+    (
+        b"version = 3\nspread = \"flow\"\n[[station]]\n",
+        "plan refused: 2 UnknownKey\n",
+    ),
+    (
+        b"version = 3\nsplit = \"flow\"\n[[station]]\n",
+        "plan refused: 5 Range\n",
+    ),
     // the device of a child is swapped
     (
         b"version = 3\n[[station]]\nmq = 2\n[[event]]\nbefore = 0\nkind = \"swap\"\nstation = 0\n",
@@ -179,7 +204,7 @@ const PLANS: [(&[u8], &str); 26] = [
     (b"[[event]]\nbefore = 0\n", "plan refused: 3 Missing\n"),
     (b"station = 5\n", "plan refused: 4 Kind\n"),
     (b"station = []\n", "plan refused: 5 Range\n"),
-    (b"version = 4\n[[station]]\n", "plan refused: 5 Range\n"),
+    (b"version = 5\n[[station]]\n", "plan refused: 5 Range\n"),
     (b"[[station]]\nmax_len = 10\n", "plan refused: 5 Range\n"),
     (
         b"[[station]]\n[[event]]\nbefore = 0\nkind = \"sway\"\nstation = 0\nlen = 1\n",

@@ -1,5 +1,5 @@
-//! Tests of what lies below a station's table: plans and packets, captures in both formats, classes of frames, devices, rings on one
-//! thread, fates and counts, the list of a multi-queue root, and hosts.
+//! Tests of what lies below a station's table: plans, packets and openings, captures in both formats, classes of frames and the hashes of
+//! their flows, devices, rings on one thread, fates and counts, the list of a multi-queue root, and hosts.
 //! What a contract says is not tested again; these tests show that the contracts mean what they should, and that the calls succeed.
 #![tactic(auto)]
 
@@ -12,9 +12,13 @@ mod devices;
 #[cfg(test)]
 mod fates;
 #[cfg(test)]
+mod flows;
+#[cfg(test)]
 mod hosts;
 #[cfg(test)]
 mod joint;
+#[cfg(test)]
+mod openings;
 #[cfg(test)]
 mod packets;
 #[cfg(test)]
@@ -23,3 +27,5 @@ mod pcapng;
 mod plans;
 #[cfg(test)]
 mod rings;
+#[cfg(test)]
+mod times;

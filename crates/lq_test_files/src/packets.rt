@@ -1,4 +1,4 @@
-//! What five packets of a capture are to the rules, split by their numbers and by their source bytes.
+//! What five packets of a capture are to the rules, split by their numbers, by their source bytes and by their flows.
 use lq_model::Info;
 use lq_pcap::{Capture, read_capture};
 use lq_plan::{infos, read_plan};
@@ -22,6 +22,14 @@ const BY_SOURCE: &[u8] = b"version = 2
 senders = 2
 split = \"source\"
 station = [{ len = 2, bypass = false, queues = 2 }, { len = 2, bypass = false, queues = 2 }]
+";
+
+/// A plan of two senders, a station of two children and one of two queues, all chosen by flow.
+const BY_FLOW: &[u8] = b"version = 4
+senders = 2
+split = \"flow\"
+spread = \"flow\"
+station = [{ len = 2, mq = 2 }, { len = 2, queues = 2 }]
 ";
 
 /// A record of an IP header alone, with its first byte, type of service, and last address bytes.
@@ -79,6 +87,17 @@ fn split_by_source() -> [Info; 5] {
     ]
 }
 
+/// The hashes are f3ceb36c, d37d21f2, d8dfac6c and eac1b993; the last packet has none.
+fn split_by_flow() -> [Info; 5] {
+    [
+        info(0, 0, 1, 0, 0),
+        info(0, 1, 0, 0, 0),
+        info(0, 1, 2, 0, 1),
+        info(1, 2, 1, 1, 0),
+        info(0, 0, 1, 0, 1),
+    ]
+}
+
 fn infos_of(
     rt: &(impl Abort + AllocGlobal + Threads + Sync),
     text: &[u8],
@@ -100,8 +119,9 @@ fn check_split(
 }
 
 #[test]
-fn splits_by_number_and_by_source(rt: HostRuntime) {
+fn splits_by_number_by_source_and_by_flow(rt: HostRuntime) {
     let capture = five_packets(&rt);
     check_split(&rt, BY_NUMBER, &capture, &split_by_number());
     check_split(&rt, BY_SOURCE, &capture, &split_by_source());
+    check_split(&rt, BY_FLOW, &capture, &split_by_flow());
 }

@@ -2,12 +2,12 @@
 ghost use Rattle.std.specs.Prelude.{◌<◌, length};
 
 use lq_plan::{
-    EventKind, EventPlan, Params, Plan, PlanReason, PlanRefusal, Split, StationPlan,
+    EventKind, EventPlan, Irq, Params, Plan, PlanReason, PlanRefusal, Split, Spread, StationPlan,
     generated_plan, read_plan,
 };
 use std::process::Abort;
 
-const REFUSED: [(&[u8], PlanReason); 25] = [
+const REFUSED: [(&[u8], PlanReason); 36] = [
     (b"len = = 3", PlanReason::NotToml),
     (b"\xff", PlanReason::NotToml),
     (b"[[station]]\nlenght = 5\n", PlanReason::UnknownKey),
@@ -26,7 +26,42 @@ const REFUSED: [(&[u8], PlanReason); 25] = [
     (b"station = 5\n", PlanReason::Kind),
     (b"[[station]]\nlen = 4097\n", PlanReason::Range),
     (b"station = []\n", PlanReason::Range),
-    (b"version = 4\n[[station]]\n", PlanReason::Range),
+    (b"version = 5\n[[station]]\n", PlanReason::Range),
+    (
+        b"version = 3\nirq_us = 5\n[[station]]\n",
+        PlanReason::UnknownKey,
+    ),
+    (
+        b"version = 3\nspread = \"flow\"\n[[station]]\n",
+        PlanReason::UnknownKey,
+    ),
+    (
+        b"version = 3\nsplit = \"flow\"\n[[station]]\n",
+        PlanReason::Range,
+    ),
+    (b"split = \"flow\"\n[[station]]\n", PlanReason::Range),
+    (b"version = 4\nirq_us = 0\n[[station]]\n", PlanReason::Range),
+    (
+        b"version = 4\nirq_us = 1000001\n[[station]]\n",
+        PlanReason::Range,
+    ),
+    (
+        b"version = 4\nirq_every = 1\nirq_us = 1\n[[station]]\n",
+        PlanReason::Range,
+    ),
+    (
+        b"version = 4\nirq_us = \"1\"\n[[station]]\n",
+        PlanReason::Kind,
+    ),
+    (
+        b"version = 4\nspread = \"ports\"\n[[station]]\n",
+        PlanReason::Range,
+    ),
+    (
+        b"version = 4\nspread = \"round\"\n[[station]]\n",
+        PlanReason::Range,
+    ),
+    (b"version = 4\nspread = 1\n[[station]]\n", PlanReason::Kind),
     (
         b"version = 2\nsenders = 65\n[[station]]\n",
         PlanReason::Range,
@@ -96,9 +131,11 @@ const PLAIN: StationPlan = StationPlan {
 /// What a plan says.
 #[derive(Clone, Copy)]
 struct Said {
+    version: u32,
     split: Split,
+    spread: Spread,
     senders: u32,
-    irq_every: u32,
+    irq: Irq,
     units: u32,
     /// Of each group its first child, and how many it has.
     groups: &'static [(u32, u32)],
@@ -107,9 +144,11 @@ struct Said {
 }
 
 const NO_KEYS: Said = Said {
+    version: 1,
     split: Split::Round,
+    spread: Spread::Bytes,
     senders: 1,
-    irq_every: 1,
+    irq: Irq::Every { packets: 1 },
     units: 1,
     groups: &[(0, 1)],
     stations: &[PLAIN],
@@ -118,7 +157,7 @@ const NO_KEYS: Said = Said {
 
 /// The plan of a generated run, which docs/FORMATS.md gives.
 const GENERATED: Said = Said {
-    irq_every: 64,
+    irq: Irq::Every { packets: 64 },
     stations: &[StationPlan {
         len: 32,
         max_len: 32,
@@ -162,9 +201,11 @@ station = 0
 ";
 
 const ALL: Said = Said {
+    version: 1,
     split: Split::Source,
+    spread: Spread::Bytes,
     senders: 8,
-    irq_every: 1000,
+    irq: Irq::Every { packets: 1000 },
     units: 3,
     groups: &[(0, 1), (1, 1)],
     stations: &[
@@ -227,6 +268,7 @@ const ALL: Said = Said {
 
 /// The greatest numbers of version 2, and the queues of a station that doesn't say how many it has.
 const VERSION_2: Said = Said {
+    version: 2,
     senders: 64,
     units: 2,
     groups: &[(0, 1), (1, 1)],
@@ -252,6 +294,7 @@ const CHILD: StationPlan = StationPlan {
 /// Groups: their children are the stations, in order, and an event is done to all children of its group; a station alone may
 /// have several queues, and its device may be swapped.
 const VERSION_3: Said = Said {
+    version: 3,
     units: 9,
     groups: &[(0, 1), (1, 7)],
     stations: &[
@@ -286,6 +329,25 @@ const VERSION_3: Said = Said {
     ..NO_KEYS
 };
 
+/// Packets of one flow have one sender, one station and one queue, and the queues are opened each second.
+const VERSION_4: Said = Said {
+    version: 4,
+    split: Split::Flow,
+    spread: Spread::Flow,
+    senders: 3,
+    irq: Irq::Period {
+        microseconds: 1_000_000,
+    },
+    ..NO_KEYS
+};
+
+/// The keys of version 4 that say what those before it do.
+const AS_BEFORE: Said = Said {
+    version: 4,
+    irq: Irq::Every { packets: 7 },
+    ..NO_KEYS
+};
+
 // The first child of a group, and how many it has.
 fn group_of(plan: &Plan, j: u32) -> (u32, u32)
     requires { j < length plan.now.groups }
@@ -315,15 +377,17 @@ fn check_events(rt: &impl Abort, plan: &Plan, events: &[EventPlan]) {
 }
 
 fn check_plan(rt: &impl Abort, plan: &Plan, said: &Said) {
-    assert_eq!(rt; plan.split(), said.split);
     assert_eq!(rt;
-        (
-            plan.senders(),
-            plan.irq_every(),
-            plan.units(),
-            plan.children()
-        ),
-        (said.senders, said.irq_every, said.units, plan.stations())
+        (plan.split(), plan.spread(), plan.irq()),
+        (said.split, said.spread, said.irq)
+    );
+    assert_eq!(rt;
+        (plan.version(), plan.reads_times()),
+        (said.version, said.version == 4)
+    );
+    assert_eq!(rt;
+        (plan.senders(), plan.units(), plan.children()),
+        (said.senders, said.units, plan.stations())
     );
     check_groups(rt, plan, said.groups);
     check_stations(rt, plan, said.stations);
@@ -352,6 +416,11 @@ fn later_versions(rt: HostRuntime) {
     let text =
         b"version = 3\n[[station]]\nlen = 2\nqueues = 4\n[[station]]\nlen = 3\nmq = 7\n[[event]]\nbefore = 1\nkind = \"down\"\nstation = 1\n[[event]]\nbefore = 1\nkind = \"swap\"\nstation = 0\n";
     check_text(&rt, text, &VERSION_3);
+    let text =
+        b"version = 4\nsenders = 3\nsplit = \"flow\"\nspread = \"flow\"\nirq_us = 1000000\n[[station]]\n";
+    check_text(&rt, text, &VERSION_4);
+    let text = b"version = 4\nspread = \"bytes\"\nirq_every = 7\n[[station]]\n";
+    check_text(&rt, text, &AS_BEFORE);
 }
 
 #[test]

@@ -15,20 +15,20 @@ const SENDERS: usize = 3;
 
 /// The number that each sender is to tell next.
 #[derive(Drop)]
-struct Recording {
+pub struct Recording {
     next: [AtomicU32; SENDERS],
     is_wrong: AtomicBool,
 }
 
 impl Recording {
-    fn new() -> Recording {
+    pub fn new() -> Recording {
         Recording {
             next: [AtomicU32::new(0), AtomicU32::new(0), AtomicU32::new(0)],
             is_wrong: AtomicBool::new(false),
         }
     }
 
-    fn passes(&self) -> [u32; SENDERS] {
+    pub fn passes(&self) -> [u32; SENDERS] {
         let [first, second, third] = &self.next;
         [
             first.load(Ordering::SeqCst),

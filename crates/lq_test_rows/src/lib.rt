@@ -9,6 +9,8 @@ mod checks;
 #[cfg(test)]
 mod done;
 #[cfg(test)]
+mod flows;
+#[cfg(test)]
 mod gates;
 #[cfg(test)]
 mod generated;
@@ -34,3 +36,5 @@ mod swaps;
 mod tap;
 #[cfg(test)]
 mod tap_gates;
+#[cfg(test)]
+mod times;

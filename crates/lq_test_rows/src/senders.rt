@@ -101,6 +101,16 @@ fn settles_250000_packets_of_63_senders(rt: HostRuntime) -> Result<(), Fail> {
     check_row(&rt, rt.alloc(), &MANY)
 }
 
+/// As many packets as a capture may have, by as many senders as a plan may have. What the run leaves is what its contract says.
+#[test]
+fn comes_to_its_end_with_the_most_packets(rt: HostRuntime) -> Result<(), Fail> {
+    let alloc = rt.alloc();
+    let capture = gen_capture(alloc, 7, 1_000_000)?;
+    let plan = "version = 2\nsenders = 64\n[[station]]\nlen = 65536\n";
+    run(&unheld(&rt, alloc), plan, &capture)?;
+    Ok(())
+}
+
 /// A run of 64 packets under a plan, which comes to its end with ample memory.
 fn settles_64_packets<R: Threads + Wait + Sync>(
     rt: &R,
@@ -131,4 +141,33 @@ fn comes_to_its_end_at_each_size(rt: HostRuntime) -> Result<(), Fail> {
         settles_64_packets(&rt, alloc, plan.as_str(), &capture)?;
     }
     Ok(())
+}
+
+/// The greatest plan of version 2: all stations, with the longest rings and all queues, and all events, of which as many swap a device as
+/// the bench has units for.
+fn greatest_plan(alloc: Global) -> Result<String, Fail> {
+    let mut plan = String::from_str(alloc, "version = 2\nsenders = 64\n")?;
+    for _ in 0..8 {
+        plan.push_str("[[station]]\nlen = 65536\nqueues = 8\n")?;
+    }
+    for e in 0..64u32 {
+        let kind = if e < 8 {
+            "\"swap\""
+        } else {
+            "\"resize\"\nlen = 65536"
+        };
+        let station = e.checked_rem(8).unwrap_or(0);
+        plan.push_str(&format!(in alloc;
+            "[[event]]\nbefore = {e}\nkind = {kind}\nstation = {station}\n"
+        )?)?;
+    }
+    Ok(plan)
+}
+
+#[test]
+fn comes_to_its_end_under_the_greatest_plan(rt: HostRuntime) -> Result<(), Fail> {
+    let alloc = rt.alloc();
+    let capture = gen_capture(alloc, 1, 64)?;
+    let plan = greatest_plan(alloc)?;
+    settles_64_packets(&rt, alloc, plan.as_str(), &capture)
 }

@@ -1,4 +1,5 @@
-//! Taps: the worked rows, that the reader goes beside the senders and gives back, and many runs of eight senders, each checked.
+//! Taps: the worked rows, that the reader goes beside the senders and gives back, many runs of eight senders, each checked, and that
+//! each size comes to its end.
 use crate::done::{Done, call_done};
 use crate::holds::{Holds, Order};
 use crate::pcapng::section_of;
@@ -234,4 +235,34 @@ fn settles_each_packet_of_eight_senders(rt: HostRuntime) -> Result<(), Fail> {
         check_many(&rt, alloc, &capture, len, batch)?;
     }
     Ok(())
+}
+
+/// Each number of senders, over a ring that has room for all packets.
+#[test]
+fn reads_all_of_each_number_of_senders(rt: HostRuntime) -> Result<(), Fail> {
+    let alloc = rt.alloc();
+    let capture = gen_capture(alloc, 1, 64)?;
+    for senders in 1..9u32 {
+        let number = format!(in alloc; "{senders}")?;
+        let done = tap(&rt, alloc, [number.as_str(), "64", "64"], &capture, &[])?;
+        let shape = TapShape {
+            senders: senders as usize,
+            len: 64,
+        };
+        let counts = check_tap(alloc, &done.host, &capture, 64, shape)?;
+        assert_eq!(rt; counts.read, 64);
+    }
+    Ok(())
+}
+
+/// As many packets as a capture may have.
+#[test]
+fn comes_to_its_end_with_the_most_packets(rt: HostRuntime) -> Result<(), Fail> {
+    let alloc = rt.alloc();
+    let capture = gen_capture(alloc, 1, 1_000_000)?;
+    let done = tap(&rt, alloc, ["8", "4096", "64"], &capture, &[])?;
+    if done.host.output().starts_with(b"total 1000000 ") {
+        return Ok(());
+    }
+    Err(Fail::new("another total"))
 }

@@ -3,6 +3,7 @@ use Rattle.std.proofs.Common.{◌≡◌, ◌≤◌, ◌⊎◌, ℕ, List, drop, 
 use Rattle.lq_model.specs.Capture.{Capture, Refusal as CaptureRefusal, capture_of}
 use Rattle.lq_model.specs.Device.{DeviceState}
 use Rattle.lq_model.specs.Generated.{generated_capture}
+use Rattle.lq_model.specs.Openings.{openings}
 use Rattle.lq_model.specs.Plan.{Plan, infos_of, unit_count}
 use Rattle.lq_model.specs.declared.fate.Fate.{Fate}
 use Rattle.lq_model.specs.declared.fate.Info.{Info}
@@ -63,7 +64,7 @@ generated_does out text plan c r old mid new before after ended result is_c made
 -- COUNTS
 
 module _ (run : Run) (infos : List Info) (fates given : List Fate) (old new : HostState) (before after : List DeviceState) (known : infos ≡ infos_of run.plan (packets_of_file run.capture))
-    (same : given ≡ fates) (are : AreFatesOf run.plan infos fates before after) where
+    (same : given ≡ fates) (are : AreFatesOf run.plan infos (openings run.plan (packets_of_file run.capture)) fates before after) where
   are_in : AreFatesIn run fates before after
   are_in = known_fates run infos fates given old new before after known same are
 

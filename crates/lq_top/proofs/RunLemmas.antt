@@ -3,7 +3,8 @@ use Rattle.std.proofs.Common.{◌≡◌, ℕ, List, [], Option, Some, None, Resu
 use Rattle.std.specs.Option.{option_map}
 use Rattle.std.proofs.lemmas.List.{drop-drop}
 use Rattle.lq_model.specs.Device.{DeviceState}
-use Rattle.lq_model.specs.Plan.{Plan, infos_of, unit_count}
+use Rattle.lq_model.specs.Openings.{openings}
+use Rattle.lq_model.specs.Plan.{Plan, infos_of, reads_times, unit_count}
 use Rattle.lq_model.specs.declared.fate.Fate.{Fate}
 use Rattle.lq_model.specs.declared.fate.Info.{Info}
 use Rattle.lq_host.specs.Host.{HostState, Contents}
@@ -30,15 +31,17 @@ use Rattle.lq_files.proofs.GroupPackets.{of_group}
 -- RUNS
 
 -- the fates of a run, with what its groups sent
-pub fates_in : (run : Run) (fates : List Fate) (before after : List DeviceState) → AreFatesOf run.plan (infos_of run.plan (packets_of_file run.capture)) fates before after
+pub fates_in : (run : Run) (fates : List Fate) (before after : List DeviceState)
+    → AreFatesOf run.plan (infos_of run.plan (packets_of_file run.capture)) (openings run.plan (packets_of_file run.capture)) fates before after
     → AreFatesIn run fates before after
 fates_in run fates before after are = record { of_run = are; groups = λ j. of_group run.plan fates j are.settled.serials }
 
 -- what was sent under another name for the packets
 module _ (run : Run) (infos : List Info) (fates given : List Fate) (old new : HostState) (before after : List DeviceState) (known : infos ≡ infos_of run.plan (packets_of_file run.capture))
-    (same : given ≡ fates) (are : AreFatesOf run.plan infos fates before after) where
+    (same : given ≡ fates) (are : AreFatesOf run.plan infos (openings run.plan (packets_of_file run.capture)) fates before after) where
   pub known_fates : AreFatesIn run fates before after
-  known_fates = fates_in run fates before after (subst (λ (is : List Info). AreFatesOf run.plan is fates before after) known are)
+  known_fates =
+      fates_in run fates before after (subst (λ (is : List Info). AreFatesOf run.plan is (openings run.plan (packets_of_file run.capture)) fates before after) known are)
 
   -- a run that was stopped while it wrote
   pub run_stops : IsCut (texts_of run given) old new → Stops (Runs run) old new before after
@@ -66,12 +69,12 @@ run_does run old new before after ended (Err stop) is done stopped = stopped
 pub does_run :
     (told : Option Contents) (words : RunWords) (have : ℕ) (plan : Plan) (capture : CaptureFile) (read : Result Plan Refusal) (seen : Result CaptureFile Refusal) (P : Verdict → Type 0)
     → read ≡ Ok plan → seen ≡ Ok capture → IfSome told (λ c. option_map (plan_for have) (c.files words.plan) ≡ Some read)
-    → IfSome told (λ c. option_map limited_capture_of (c.files words.capture) ≡ Some seen) → P (Runs (run_of words.out plan capture))
+    → IfSome told (λ c. option_map (limited_capture_of (reads_times plan)) (c.files words.capture) ≡ Some seen) → P (Runs (run_of words.out plan capture))
     → IfSome told (λ c. P (verdict_of_command (Some (OfRun words)) have c.files c.files))
 does_run None words have plan capture read seen P is_read is_seen first second does = _
 does_run (Some c) words have plan capture read seen P is_read is_seen first second does =
     let runs : Plan → Option (Result CaptureFile Refusal) → Verdict = λ p seen. if_accepted seen (λ c. Runs (run_of words.out p c)) in
-    let next : Plan → Verdict = λ p. runs p (option_map limited_capture_of (c.files words.capture)) in
+    let next : Plan → Verdict = λ p. runs p (option_map (limited_capture_of (reads_times p)) (c.files words.capture)) in
     let decided : verdict_of_command (Some (OfRun words)) have c.files c.files ≡ Runs (run_of words.out plan capture) =
     ap (λ (r : Option (Result Plan Refusal)). if_accepted r next) (first ∙ ap Some is_read) ∙ ap (runs plan) (second ∙ ap Some is_seen) in
     subst P (sym decided) does
@@ -83,17 +86,17 @@ pub refuses_plan :
 refuses_plan None words have r read P is_read first does = _
 refuses_plan (Some c) words have r read P is_read first does =
     let runs : Plan → Option (Result CaptureFile Refusal) → Verdict = λ p seen. if_accepted seen (λ c. Runs (run_of words.out p c)) in
-    let next : Plan → Verdict = λ p. runs p (option_map limited_capture_of (c.files words.capture)) in
+    let next : Plan → Verdict = λ p. runs p (option_map (limited_capture_of (reads_times p)) (c.files words.capture)) in
     subst P (sym (ap (λ (q : Option (Result Plan Refusal)). if_accepted q next) (first ∙ ap Some is_read))) does
 
 pub refuses_capture :
     (told : Option Contents) (words : RunWords) (have : ℕ) (plan : Plan) (r : Refusal) (read : Result Plan Refusal) (seen : Result CaptureFile Refusal) (P : Verdict → Type 0)
     → read ≡ Ok plan → seen ≡ Err r → IfSome told (λ c. option_map (plan_for have) (c.files words.plan) ≡ Some read)
-    → IfSome told (λ c. option_map limited_capture_of (c.files words.capture) ≡ Some seen) → P (Refuses r) → IfSome told (λ c. P (verdict_of_command (Some (OfRun words)) have c.files c.files))
+    → IfSome told (λ c. option_map (limited_capture_of (reads_times plan)) (c.files words.capture) ≡ Some seen) → P (Refuses r) → IfSome told (λ c. P (verdict_of_command (Some (OfRun words)) have c.files c.files))
 refuses_capture None words have plan r read seen P is_read is_seen first second does = _
 refuses_capture (Some c) words have plan r read seen P is_read is_seen first second does =
     let runs : Plan → Option (Result CaptureFile Refusal) → Verdict = λ p seen. if_accepted seen (λ c. Runs (run_of words.out p c)) in
-    let next : Plan → Verdict = λ p. runs p (option_map limited_capture_of (c.files words.capture)) in
+    let next : Plan → Verdict = λ p. runs p (option_map (limited_capture_of (reads_times p)) (c.files words.capture)) in
     let decided : verdict_of_command (Some (OfRun words)) have c.files c.files ≡ Refuses r =
     ap (λ (q : Option (Result Plan Refusal)). if_accepted q next) (first ∙ ap Some is_read) ∙ ap (runs plan) (second ∙ ap Some is_seen) in
     subst P (sym decided) does
@@ -103,10 +106,10 @@ refuses_capture (Some c) words have plan r read seen P is_read is_seen first sec
 -- what was done as the run of some capture was decided so by its bytes and the plan's
 pub does_run_on :
     (words : RunWords) (have : ℕ) (plan : Plan) (capture : CaptureFile) (plan_bytes capture_bytes : List ℕ) (P : Verdict → Type 0) → plan_for have plan_bytes ≡ Ok plan
-    → limited_capture_of capture_bytes ≡ Ok capture → P (Runs (run_of words.out plan capture)) → P (verdict_of_command (Some (OfRun words)) have (λ _. Some plan_bytes) (λ _. Some capture_bytes))
+    → limited_capture_of (reads_times plan) capture_bytes ≡ Ok capture → P (Runs (run_of words.out plan capture)) → P (verdict_of_command (Some (OfRun words)) have (λ _. Some plan_bytes) (λ _. Some capture_bytes))
 does_run_on words have plan capture plan_bytes capture_bytes P is_read is_seen does =
     let runs : Plan → Option (Result CaptureFile Refusal) → Verdict = λ p seen. if_accepted seen (λ c. Runs (run_of words.out p c)) in
-    let next : Plan → Verdict = λ p. runs p (Some (limited_capture_of capture_bytes)) in
+    let next : Plan → Verdict = λ p. runs p (Some (limited_capture_of (reads_times p) capture_bytes)) in
     let decided : verdict_of_command (Some (OfRun words)) have (λ _. Some plan_bytes) (λ _. Some capture_bytes) ≡ Runs (run_of words.out plan capture) =
     ap (λ (r : Result Plan Refusal). if_accepted (Some r) next) is_read ∙ ap (λ (r : Result CaptureFile Refusal). runs plan (Some r)) is_seen in
     subst P (sym decided) does
@@ -114,10 +117,10 @@ does_run_on words have plan capture plan_bytes capture_bytes P is_read is_seen d
 -- and a refusal of a capture by its bytes and the plan's
 pub refuses_capture_on :
     (words : RunWords) (have : ℕ) (plan : Plan) (r : Refusal) (plan_bytes capture_bytes : List ℕ) (P : Verdict → Type 0) → plan_for have plan_bytes ≡ Ok plan
-    → limited_capture_of capture_bytes ≡ Err r → P (Refuses r) → P (verdict_of_command (Some (OfRun words)) have (λ _. Some plan_bytes) (λ _. Some capture_bytes))
+    → limited_capture_of (reads_times plan) capture_bytes ≡ Err r → P (Refuses r) → P (verdict_of_command (Some (OfRun words)) have (λ _. Some plan_bytes) (λ _. Some capture_bytes))
 refuses_capture_on words have plan r plan_bytes capture_bytes P is_read is_seen does =
     let runs : Plan → Option (Result CaptureFile Refusal) → Verdict = λ p seen. if_accepted seen (λ c. Runs (run_of words.out p c)) in
-    let next : Plan → Verdict = λ p. runs p (Some (limited_capture_of capture_bytes)) in
+    let next : Plan → Verdict = λ p. runs p (Some (limited_capture_of (reads_times p) capture_bytes)) in
     let decided : verdict_of_command (Some (OfRun words)) have (λ _. Some plan_bytes) (λ _. Some capture_bytes) ≡ Refuses r =
     ap (λ (read : Result Plan Refusal). if_accepted (Some read) next) is_read ∙ ap (λ (seen : Result CaptureFile Refusal). runs plan (Some seen)) is_seen in
     subst P (sym decided) does

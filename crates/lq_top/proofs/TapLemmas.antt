@@ -1,5 +1,5 @@
 -- What a tap leaves, from what its calls leave.
-use Rattle.std.proofs.Common.{◌≡◌, ◌<◌, [], ℕ, List, All, length, get_or, slice_get, Option, Some, None, Result, Ok, Err, IfOk, OnOk, OnErr, IfSome, refl, sym, subst, inr}
+use Rattle.std.proofs.Common.{◌≡◌, ◌<◌, [], ℕ, false, List, All, length, get_or, slice_get, Option, Some, None, Result, Ok, Err, IfOk, OnOk, OnErr, IfSome, refl, sym, subst, inr}
 use Rattle.std.specs.Option.{option_map}
 use Rattle.std.proofs.lemmas.List.Elements.{All-from_get_or}
 use Rattle.std.proofs.lemmas.Option.{slice_get-get_or, slice_get_within}
@@ -56,13 +56,13 @@ tap_does words capture old new before after (Err stop) is done stopped = stopped
 
 -- what was done as the capture was read was decided so
 pub does_tap :
-    (told : Option Contents) (words : TapWords) (have : ℕ) (seen : Result CaptureFile Refusal) (P : Verdict → Type 0) → IfSome told (λ c. option_map limited_capture_of (c.files words.capture) ≡ Some seen)
+    (told : Option Contents) (words : TapWords) (have : ℕ) (seen : Result CaptureFile Refusal) (P : Verdict → Type 0) → IfSome told (λ c. option_map (limited_capture_of false) (c.files words.capture) ≡ Some seen)
     → P (if_accepted (Some seen) (Taps words)) → IfSome told (λ c. P (verdict_of_command (Some (OfTap words)) have c.files c.files))
 does_tap None words have seen P is does = _
 does_tap (Some c) words have seen P is does = subst (λ (r : Option (Result CaptureFile Refusal)). P (if_accepted r (Taps words))) (sym is) does
 
 -- and by some bytes
 pub does_tap_on :
-    (words : TapWords) (have : ℕ) (seen : Result CaptureFile Refusal) (bytes : List ℕ) (P : Verdict → Type 0) → limited_capture_of bytes ≡ seen → P (if_accepted (Some seen) (Taps words))
+    (words : TapWords) (have : ℕ) (seen : Result CaptureFile Refusal) (bytes : List ℕ) (P : Verdict → Type 0) → limited_capture_of false bytes ≡ seen → P (if_accepted (Some seen) (Taps words))
     → P (verdict_of_command (Some (OfTap words)) have (λ _. Some bytes) (λ _. Some []))
 does_tap_on words have seen bytes P is does = subst (λ (r : Result CaptureFile Refusal). P (if_accepted (Some r) (Taps words))) (sym is) does

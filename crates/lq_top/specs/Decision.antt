@@ -1,8 +1,8 @@
 -- What a call decides from its words, its files and the number of devices on its bench.
-use Rattle.std.specs.Prelude.{ℕ, List, Option, Some, None, Result, Ok, Err}
+use Rattle.std.specs.Prelude.{ℕ, false, List, Option, Some, None, Result, Ok, Err}
 use Rattle.std.specs.Option.{option_map}
 use Rattle.lq_model.specs.Capture.{capture_of}
-use Rattle.lq_model.specs.Plan.{unit_count}
+use Rattle.lq_model.specs.Plan.{reads_times, unit_count}
 use Rattle.lq_model.specs.Generated.{generated_capture}
 use Rattle.lq_plan.specs.Generated.{generated_plan}
 use Rattle.lq_host.specs.Host.{Files}
@@ -32,19 +32,19 @@ if_accepted None next = LacksFile
 if_accepted (Some (Err r)) next = Refuses r
 if_accepted (Some (Ok read)) next = next read
 
--- First the words are judged, then the plan and the bench, then the capture. `have` is the number of devices on the bench. The first file
+-- First the words are judged, then the plan and the bench, then the capture, whose times are read if the plan asks for them. `have` is the number of devices on the bench. The first file
 -- that the command reads is one of `early`, and the second one of `late`.
 abbrev pub verdict_of_command : Option CommandWords → ℕ → Files → Files → Verdict
 verdict_of_command None have early late = Refuses refusal.Usage
 verdict_of_command (Some (OfRun words)) have early late =
     if_accepted (option_map (plan_for have) (early words.plan)) (λ plan.
-    if_accepted (option_map limited_capture_of (late words.capture)) (λ capture. Runs (run_of words.out plan capture)))
+    if_accepted (option_map (limited_capture_of (reads_times plan)) (late words.capture)) (λ capture. Runs (run_of words.out plan capture)))
 verdict_of_command (Some (OfGen words)) have early late =
     let text = generated_capture words.number words.count in
     if_accepted (Some (placed_on have generated_plan)) (λ plan.
     if_accepted (Some (with_refusal (as_classic (capture_of text)))) (λ capture. Generates text (run_of words.out plan capture)))
 verdict_of_command (Some (OfTrace file)) have early late = if_accepted (option_map limited_trace_of (early file)) Traces
-verdict_of_command (Some (OfTap words)) have early late = if_accepted (option_map limited_capture_of (early words.capture)) (Taps words)
+verdict_of_command (Some (OfTap words)) have early late = if_accepted (option_map (limited_capture_of false) (early words.capture)) (Taps words)
 
 abbrev pub verdict_of : List (List ℕ) → Files → ℕ → Verdict
 verdict_of words files have = verdict_of_command (command_of_words words) have files files

@@ -1,6 +1,7 @@
 -- The headline: what a run that is done leaves, told by one list of fates in which packet n has the n-th.
 use Rattle.std.specs.Prelude.{◌≡◌, ◌⊎◌, ℕ, List, [], ◌∷◌}
 use Rattle.lq_model.specs.Device.{DeviceState}
+use Rattle.lq_model.specs.Openings.{openings}
 use Rattle.lq_model.specs.Plan.{infos_of}
 use Rattle.lq_model.specs.declared.fate.Fate.{Fate}
 use Rattle.lq_host.specs.Host.{HostState}
@@ -15,7 +16,7 @@ use Rattle.lq_files.specs.RunFiles.{Run, texts_of}
 
 -- these are the fates of a run; `before` and `after` are the devices of the bench, before the call and after it
 pub record AreFatesIn (run : Run) (fates : List Fate) (before after : List DeviceState) : Type 0 where
-  pub of_run : AreFatesOf run.plan (infos_of run.plan (packets_of_file run.capture)) fates before after
+  pub of_run : AreFatesOf run.plan (infos_of run.plan (packets_of_file run.capture)) (openings run.plan (packets_of_file run.capture)) fates before after
   -- what stands in the capture of each group is what its children sent
   pub groups : (j : ℕ) → AreOfGroup run.plan fates j (sent_by_group run.plan fates j)
 

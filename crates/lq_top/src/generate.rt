@@ -21,7 +21,7 @@ use lq_host::Host;
 use lq_model::NoMemory;
 use lq_pcap::{Capture, CaptureRefusal, gen_capture, read_capture};
 use lq_pcapng::CaptureFile;
-use lq_plan::{Plan, generated_plan, infos};
+use lq_plan::{Openings, Plan, generated_plan, infos};
 use lq_senders::{Gate, Resources, send_all};
 use lq_table::Ended;
 use std::alloc::Global;
@@ -76,7 +76,8 @@ fn run_and_count<R: Threads + Wait + Sync, H: Host, G: Gate, D: TxDevice>(
     ensures cause { StopsFor (H.fault_count host.old) (H.fault_count host.new) result }
 {
     let infos = infos(on.rt, on.alloc, run.plan, run.capture)?;
-    let fates = send_all(on, run.plan, &infos, bench, ended)?;
+    let openings = Openings::new(on.alloc, run.plan, run.capture)?;
+    let fates = send_all(on, run.plan, &infos, &openings, bench, ended)?;
     match write_counts(on.alloc, host, run.plan, &infos, &fates) {
         Ok(()) => Ok(Status::Done),
         Err(stop) => {

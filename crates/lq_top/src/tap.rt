@@ -62,7 +62,7 @@ pub fn tap_command<R: Threads + Wait + Sync, H: Host, G: Gate>(
     ensures handles { (H.state host.new).handles ≡ (H.state host.old).handles }
     ensures cause { StopsFor (H.fault_count host.old) (H.fault_count host.new) result }
 {
-    match read_capture_file(on.alloc, host, words.capture)? {
+    match read_capture_file(on.alloc, host, words.capture, false)? {
         Ok(capture) => tap_capture(on, host, words, &capture),
         Err(refusal) => refuse(on.alloc, host, refusal),
     }

@@ -24,7 +24,7 @@ use lq_files::{
 };
 use lq_host::Host;
 use lq_model::NoMemory;
-use lq_plan::infos;
+use lq_plan::{Openings, infos};
 use lq_senders::{Gate, Resources, send_all};
 use lq_table::Ended;
 use std::alloc::Global;
@@ -56,7 +56,8 @@ fn run_capture<R: Threads + Wait + Sync, H: Host, G: Gate, D: TxDevice>(
     ensures cause { StopsFor (H.fault_count host.old) (H.fault_count host.new) result }
 {
     let infos = infos(on.rt, on.alloc, run.plan, run.capture)?;
-    let fates = send_all(on, run.plan, &infos, bench, ended)?;
+    let openings = Openings::new(on.alloc, run.plan, run.capture)?;
+    let fates = send_all(on, run.plan, &infos, &openings, bench, ended)?;
     let report = RunReport {
         run: *run,
         infos: &infos,
@@ -103,7 +104,7 @@ fn run_command<R: Threads + Wait + Sync, H: Host, G: Gate, D: TxDevice>(
         Ok(plan) => plan,
         Err(refusal) => return refuse(on.alloc, host, refusal),
     };
-    match read_capture_file(on.alloc, host, words.capture)? {
+    match read_capture_file(on.alloc, host, words.capture, plan.reads_times())? {
         Ok(capture) => {
             let run = RunInputs {
                 out: words.out,

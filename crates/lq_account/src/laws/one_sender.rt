@@ -32,5 +32,5 @@ pub fn one_sender_makes_legal_events()
 /// Where the plan has no events the run of one sender gives each packet one fate, the fates are settled, and each owner's
 /// packets of one station and band were sent in ascending number.
 pub fn one_sender_settles_all()
-    ensures { (plan : Plan) (infos : List Info) → IsPlain plan infos → AreAloneSettled plan infos }
+    ensures { (plan : Plan) (infos : List Info) (opens : ℕ → ℕ) → IsPlain plan infos → AreAloneSettled plan infos opens }
 {}

@@ -5,10 +5,10 @@ use Rattle.std.proofs.lemmas.List.{length-map}
 use Rattle.toml.specs.View.{table_view}
 use Rattle.lq_plan.specs.Document.{document_view}
 use Rattle.lq_plan.specs.Keys.{mq_in, version_of}
-use Rattle.lq_plan.specs.Limits.{is_out_of_order}
-use Rattle.lq_plan.specs.Reading.{IsEventSmall, children_in, event_in}
+use Rattle.lq_plan.specs.Limits.{is_out_of_order, version_4}
+use Rattle.lq_plan.specs.Reading.{IsEventSmall, children_in, event_in, irq_in}
 use Rattle.lq_plan.specs.Tables.{tables_view}
-use Rattle.lq_plan.proofs.Within.{event_small, facts, few-mq, of_version, stations-within, widened}
+use Rattle.lq_plan.proofs.Within.{event_small, facts, few-mq, irq-widened, of_version, stations-within, widened}
 use Rattle.lq_plan.proofs.reader.read_root.Goals as goal
 
 pub read_stations-requires-clause-within : goal.read_stations-requires-clause-within
@@ -44,12 +44,17 @@ read_events-requires-clause-each c = λ e t at.
 pub overflow_cast-result : goal.overflow_cast-result
 overflow_cast-result c =
     let all = facts (table_view c.args.root.now) (document_view c.in_ok-document.document) c.in_ok-document.ensures c.in_default.ensures in
-    omega (arith, c.number_at.ensures, all.senders.1, all.is.few_senders)
+    omega (arith, c.version_number.ensures, all.version.1, all.is.narrower.number)
 
 pub overflow_cast-result-2 : goal.overflow_cast-result-2
 overflow_cast-result-2 c =
     let all = facts (table_view c.args.root.now) (document_view c.in_ok-document.document) c.in_ok-document.ensures c.in_default.ensures in
-    omega (arith, c.number_at-2.ensures, all.irq_every.1)
+    omega (arith, c.number_at.ensures, all.senders.1, all.is.narrower.senders)
+
+pub read_irq-requires : goal.read_irq-requires
+read_irq-requires c =
+    let all = facts (table_view c.args.root.now) (document_view c.in_ok-document.document) c.in_ok-document.ensures c.in_default.ensures in
+    irq-widened (version_of (table_view c.args.root.now)) version_4 all.is.narrower (irq_in (table_view c.args.root.now)) all.irq
 
 pub invariant_of-result : goal.invariant_of-result
 invariant_of-result c =
@@ -65,4 +70,4 @@ invariant_of-result c =
     in
     let in_order = sym (c.if-is_out_of_order.ensures ∙ ap is_out_of_order (c.deref-5.ensures.value ∙ events)) in
     let version = version_of (table_view c.args.root.now) in
-    widened version all.is _ (of_version version (table_view c.args.root.now) d _ all in_order c.number_at.ensures c.number_at-2.ensures stations groups events)
+    widened version version_4 all.is.narrower _ (of_version version (table_view c.args.root.now) d _ all in_order c.version_number.ensures c.number_at.ensures c.read_split.ensures c.read_spread.ensures c.read_irq.ensures stations groups events)

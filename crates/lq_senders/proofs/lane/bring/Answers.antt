@@ -1,4 +1,4 @@
-use Rattle.std.proofs.Common.{◌≡◌, ℕ, ◌+◌, ◌/◌, ◌<◌, ◌≤◌, Some, inl, inr, map, sym, ap, slice_get, subst, ◌∙◌, arith}
+use Rattle.std.proofs.Common.{◌≡◌, ℕ, ◌+◌, ◌<◌, ◌≤◌, Some, inl, inr, map, sym, ap, slice_get, subst, ◌∙◌, arith}
 use Rattle.std.proofs.lemmas.Bool.{cases_order}
 use Rattle.lq_model.specs.Plan.{Plan, owner_in}
 use Rattle.lq_model.specs.declared.plan.EventPlan.{EventPlan}
@@ -60,6 +60,10 @@ send_packet-requires-clause-stands g c κs within = (
   stands g (goal.at.send_packet-requires-clause-stands g c).After-events_of-next _ (sym c.requires.own),
 )
 
+pub turn-requires-clause-number : goal.turn-requires-clause-number
+turn-requires-clause-number g c κs within =
+    c.requires.sent ∙ ap (λ (s : ℕ). count_sent c.args.run.now.infos.now s c.args.n) (sym c.requires.own)
+
 pub turn-requires-clause-stands : goal.turn-requires-clause-stands
 turn-requires-clause-stands g c κs within = (
   owner_in c.args.run.now.infos.now c.args.n,
@@ -101,9 +105,8 @@ pub pass_before-requires-clause-number : goal.pass_before-requires-clause-number
 pass_before-requires-clause-number g c κs within = c.requires.sent ∙ ap (λ (s : ℕ). count_sent c.args.run.now.infos.now s c.args.n) (sym c.events_of-next.ensures.owner)
 
 pub returns-clause-woke : goal.returns-clause-woke
-returns-clause-woke g c start woke =
-    let times = c.args.at.sent / c.args.run.now.plan.now.irq_every in
-    c.turn.ensures.woke start
-    (woke-called times start c.events_of-next.new.sender.seats.items c.send_packet.new.seats.items
-    (woke-called times start c.args.sender.now.seats.items c.events_of-next.new.sender.seats.items woke c.events_of-next.ensures.calls)
+returns-clause-woke g c start count woke =
+    c.turn.ensures.woke start count
+    (woke-called count start c.events_of-next.new.sender.seats.items c.send_packet.new.seats.items
+    (woke-called count start c.args.sender.now.seats.items c.events_of-next.new.sender.seats.items woke c.events_of-next.ensures.calls)
     c.send_packet.ensures.calls)

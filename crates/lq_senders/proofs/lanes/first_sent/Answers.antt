@@ -1,5 +1,6 @@
 use Rattle.std.proofs.Common.{ℕ, subst}
 use Rattle.lq_senders.specs.Lanes.{IsWoken}
+use Rattle.lq_senders.specs.Runs.{opens_in}
 use Rattle.lq_senders.proofs.lanes.first_sent.Goals as goal
 
 pub returns-clause-runs : goal.returns-clause-runs
@@ -9,4 +10,4 @@ pub returns-clause-devices : goal.returns-clause-devices
 returns-clause-devices g c units stand = c.send_loop.ensures.devices c.requires.owner units stand
 
 pub returns-clause-woke : goal.returns-clause-woke
-returns-clause-woke g c = subst (λ (s : ℕ). IsWoken c.args.run.now.plan.now c.args.run.now.infos.now s c.args.sender.seats.items c.send_loop.new.sender.seats.items) c.requires.owner c.send_loop.ensures.woke
+returns-clause-woke g c = subst (λ (s : ℕ). IsWoken c.args.run.now.infos.now (opens_in c.args.run.now) s c.args.sender.seats.items c.send_loop.new.sender.seats.items) c.requires.owner c.send_loop.ensures.woke

@@ -1,6 +1,7 @@
 use Rattle.std.proofs.Common.{◌≡◌, ◌<◌, ◌∙◌, Some, ap, length, rules, subst, sym}
 use Rattle.std.proofs.lemmas.Option.{get_or_from_slice_get, slice_get-get_or, slice_get_within}
 use Rattle.lq_senders.specs.Lanes.{IsDoneLane, IsWoken}
+use Rattle.lq_senders.specs.Runs.{opens_in}
 use Rattle.lq_senders.specs.declared.sender.Sender.{Sender}
 use Rattle.lq_senders.proofs.lanes.others_send.Goals as goal
 
@@ -20,6 +21,6 @@ pub returns-then-threads-gt0-clause-woke : goal.returns-then-threads-gt0-clause-
 returns-then-threads-gt0-clause-woke g c i old l was there =
     let run = c.args.run.now in
     let changed = (c.for_each_mut.ensures i l (slice_get_within c.args.senders.now i old was)).1 in
-    subst (λ (x : Sender g.row.D.Denot). IsWoken run.plan.now run.infos.now old.owner old.seats.items x.seats.items) (changed.left ∙ get_or_from_slice_get c.for_each_mut.new.s i l l there)
-    (subst (λ (x : Sender g.row.D.Denot). IsWoken run.plan.now run.infos.now x.owner x.seats.items changed.after_call.now.seats.items)
+    subst (λ (x : Sender g.row.D.Denot). IsWoken run.infos.now (opens_in run) old.owner old.seats.items x.seats.items) (changed.left ∙ get_or_from_slice_get c.for_each_mut.new.s i l l there)
+    (subst (λ (x : Sender g.row.D.Denot). IsWoken run.infos.now (opens_in run) x.owner x.seats.items changed.after_call.now.seats.items)
     (changed.argument_is ∙ get_or_from_slice_get c.args.senders.now i old l was) changed.call.1)

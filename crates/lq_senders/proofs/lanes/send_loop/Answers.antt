@@ -1,9 +1,10 @@
-use Rattle.std.proofs.Common.{◌≡◌, ℕ, ◌+◌, ◌/◌, true, ap, length, map, refl, sym, ◌∙◌, subst, arith}
+use Rattle.std.proofs.Common.{◌≡◌, ℕ, ◌+◌, true, ap, length, map, refl, sym, ◌∙◌, subst, arith}
 use Rattle.lq_model.specs.Alone.{with_events, after_packets}
 use Rattle.lq_senders.specs.Lanes.{IsSending, LaneDone, LaneStands, AreRunAlone}
 use Rattle.lq_senders.proofs.Calls.{called-keep}
 use Rattle.lq_senders.proofs.Turns.{seats-on}
-use Rattle.lq_senders.specs.Woken.{AllWoke, count_sent}
+use Rattle.lq_senders.specs.Woken.{AllWoke, count_sent, openings_of}
+use Rattle.lq_senders.specs.Runs.{opens_in}
 use Rattle.lq_senders.proofs.Sending.{events-after-are, sending-start}
 use Rattle.lq_senders.proofs.Woken.{woke-called}
 use Rattle.lq_senders.proofs.lanes.send_loop.Goals as goal
@@ -11,14 +12,13 @@ use Rattle.lq_senders.proofs.lanes.send_loop.Goals as goal
 pub loop-n-init : goal.loop-n-init
 loop-n-init g c = record {
   owner = refl;
-  sending = sending-start c.args.run.now.plan.now c.args.run.now.infos.now c.args.run.now.tables.now c.args.sender.now.owner c.args.sender.now.seats.items (map g.D.TxDevice.state c.args.sender.now.spares.items) c.requires.stands
-      c.stays_within_limits.ensures.has_irq_every;
+  sending = sending-start c.args.run.now.plan.now c.args.run.now.infos.now (opens_in c.args.run.now) c.args.run.now.tables.now c.args.sender.now.owner c.args.sender.now.seats.items (map g.D.TxDevice.state c.args.sender.now.spares.items) c.requires.stands;
 }
 
 pub loop-n-preserved : goal.loop-n-preserved
 loop-n-preserved g c = let states = map g.D.TxDevice.state in record {
   owner = c.come_to-at.ensures.owner ∙ c.loop-n.invariant.owner;
-  sending = subst (λ (s : ℕ). IsSending c.args.run.now.plan.now c.args.run.now.infos.now c.args.run.now.tables.now s (c.loop-n.n + 1) c.come_to-at.result.sent c.come_to-at.result.next c.args.sender.now.seats.items (states c.args.sender.now.spares.items)
+  sending = subst (λ (s : ℕ). IsSending c.args.run.now.plan.now c.args.run.now.infos.now (opens_in c.args.run.now) c.args.run.now.tables.now s (c.loop-n.n + 1) c.come_to-at.result.sent c.come_to-at.result.next c.args.sender.now.seats.items (states c.args.sender.now.spares.items)
       c.come_to-at.new.sender.seats.items (states c.come_to-at.new.sender.spares.items)) (sym c.come_to-at.ensures.owner)
       (c.come_to-at.ensures.sending c.args.sender.now.seats.items (states c.args.sender.now.spares.items) c.loop-n.invariant.sending);
 }
@@ -56,10 +56,10 @@ pub returns-clause-runs : goal.returns-clause-runs
 returns-clause-runs g c zero_th units stand tell own from begins =
     let inv = c.loop-n.invariant in let test = c.loop-n-test.false in let stop = c.loop-n.auto.n-end in let few = c.args.run.now.sendable.few in let states = map g.D.TxDevice.state in
     let same : c.loop-n.n ≡ length c.args.run.now.infos.now = omega arith in
-    let sending = subst (λ (n : ℕ). IsSending c.args.run.now.plan.now c.args.run.now.infos.now c.args.run.now.tables.now c.loop-n.sender.owner n c.loop-n.at.sent c.loop-n.at.next c.args.sender.now.seats.items (states c.args.sender.now.spares.items)
+    let sending = subst (λ (n : ℕ). IsSending c.args.run.now.plan.now c.args.run.now.infos.now (opens_in c.args.run.now) c.args.run.now.tables.now c.loop-n.sender.owner n c.loop-n.at.sent c.loop-n.at.next c.args.sender.now.seats.items (states c.args.sender.now.spares.items)
     c.loop-n.sender.seats.items (states c.loop-n.sender.spares.items)) same inv.sending in
     let alone = sending.alone units stand tell (inv.owner ∙ zero_th) own from begins in
-    subst (λ l. AreRunAlone c.args.run.now.plan.now c.args.run.now.infos.now c.events_left.new.sender.seats.items (with_events c.args.run.now.plan.now c.args.run.now.infos.now l (after_packets c.args.run.now.plan.now c.args.run.now.infos.now (λ n. true) from (length c.args.run.now.infos.now))))
+    subst (λ l. AreRunAlone c.args.run.now.plan.now c.args.run.now.infos.now c.events_left.new.sender.seats.items (with_events c.args.run.now.plan.now c.args.run.now.infos.now l (after_packets c.args.run.now.plan.now c.args.run.now.infos.now (opens_in c.args.run.now) (λ n. true) from (length c.args.run.now.infos.now))))
     (sym (events-after-are c.args.run.now.plan.now (length c.args.run.now.infos.now) c.loop-n.at.next sending.within sending.earlier alone.1))
     (c.events_left.ensures.runs (inv.owner ∙ zero_th) units (sending.devices units stand) tell _ alone.2)
 
@@ -75,6 +75,7 @@ pub returns-clause-woke : goal.returns-clause-woke
 returns-clause-woke g c =
     let own = c.loop-n.invariant in let test = c.loop-n-test.false in let stop = c.loop-n.auto.n-end in let few = c.args.run.now.sendable.few in
     let same : c.loop-n.n ≡ length c.args.run.now.infos.now = omega arith in
-    subst (λ (k : ℕ). AllWoke (k / c.args.run.now.plan.now.irq_every) c.args.sender.now.seats.items c.events_left.new.sender.seats.items)
-    (own.sending.sent ∙ ap (λ (n : ℕ). count_sent c.args.run.now.infos.now c.loop-n.sender.owner n) same ∙ ap (λ (s : ℕ). count_sent c.args.run.now.infos.now s (length c.args.run.now.infos.now)) own.owner)
-    (woke-called (c.loop-n.at.sent / c.args.run.now.plan.now.irq_every) c.args.sender.now.seats.items c.loop-n.sender.seats.items c.events_left.new.sender.seats.items own.sending.woke c.events_left.ensures.calls)
+    let openings = openings_of c.args.run.now.infos.now (opens_in c.args.run.now) in
+    subst (λ (k : ℕ). AllWoke k c.args.sender.now.seats.items c.events_left.new.sender.seats.items)
+    (ap (λ (n : ℕ). openings c.loop-n.sender.owner n) same ∙ ap (λ (s : ℕ). openings s (length c.args.run.now.infos.now)) own.owner)
+    (woke-called (openings c.loop-n.sender.owner c.loop-n.n) c.args.sender.now.seats.items c.loop-n.sender.seats.items c.events_left.new.sender.seats.items own.sending.woke c.events_left.ensures.calls)

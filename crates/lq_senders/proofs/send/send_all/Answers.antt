@@ -1,5 +1,6 @@
 use Rattle.std.proofs.Common.{refl, ◌∙◌, map}
 use Rattle.lq_model.specs.Plan.{unit_count}
+use Rattle.lq_senders.specs.Woken.{opens_by}
 use Rattle.lq_senders.proofs.Openings.{boxes-whole}
 use Rattle.lq_senders.proofs.send.send_all.Goals as goal
 
@@ -7,10 +8,16 @@ pub make_ready-requires-clause-sendable : goal.make_ready-requires-clause-sendab
 make_ready-requires-clause-sendable g c κs within = c.runs_may_be_sent.ensures c.args.plan.now c.args.infos.now c.requires.run
 
 pub invariant_of-job : goal.invariant_of-job
-invariant_of-job g c = record { sendable = c.runs_may_be_sent.ensures c.args.plan.now c.args.infos.now c.requires.run }
+invariant_of-job g c = record {
+  sendable = c.runs_may_be_sent.ensures c.args.plan.now c.args.infos.now c.requires.run;
+  known = c.requires.known;
+}
 
 pub returns-clause-fates : goal.returns-clause-fates
-returns-clause-fates g c = c.send_ready-left.ensures.fates (map g.D.TxDevice.state c.args.bench.now.items) c.in_ok-units.ensures.ready
+returns-clause-fates g c opens are =
+    let plan = c.args.plan.now in let infos = c.args.infos.now in let before = map g.D.TxDevice.state c.args.bench.now.items in
+    c.same_openings_make_same_fates.ensures plan infos (opens_by c.args.openings.now infos) opens c.send_ready-left.result.fates.items before
+    (map g.D.TxDevice.state c.send_ready-left.new.bench.items) are (c.send_ready-left.ensures.fates before c.in_ok-units.ensures.ready)
 
 pub returns-clause-others : goal.returns-clause-others
 returns-clause-others g c = c.send_ready-left.ensures.rest ∙ c.in_ok-units.ensures.rest

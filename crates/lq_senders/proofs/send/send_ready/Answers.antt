@@ -8,6 +8,7 @@ use Rattle.lq_table.specs.declared.ended.Closed.{Closed}
 use Rattle.lq_senders.specs.Lanes.{AreReadyLanes}
 use Rattle.lq_senders.specs.Setup.{AreSplitting, AreUnitsReady}
 use Rattle.lq_senders.specs.Units.{by_unit}
+use Rattle.lq_senders.specs.Woken.{opens_by}
 use Rattle.lq_senders.proofs.HandsBack.{HasRun, IsGivenBack, at-home, boxes-given, closed-many, fates-given, stays-given}
 use Rattle.lq_senders.proofs.Prepared.{are-over}
 use Rattle.lq_senders.proofs.Splits.{are-first, lane-stands, splitting-opened}
@@ -60,26 +61,28 @@ abbrev closed_states : (g : given.Over) → List (Closed g.row.D.Denot g.D.TxDev
 closed_states g = map closed_state
 
 -- the laws of runs, at this one
-has_run : (g : given.Over) (c : After-runs_keep_boxes g) → HasRun c.args.job.now.plan.now c.args.job.now.infos.now
+has_run : (g : given.Over) (c : After-runs_keep_boxes g)
+    → HasRun c.args.job.now.plan.now c.args.job.now.infos.now (opens_by c.args.job.now.openings.now c.args.job.now.infos.now)
     (λ before. AreUnitsReady g.D.TxDevice.state c.args.job.now.plan.now c.args.job.now.infos.now before c.args.units)
     (closed_states g c.run-spares.new.closed.items) (map g.D.TxDevice.state c.run-spares.result.items)
 has_run g c =
     let plan = c.args.job.now.plan.now in let infos = c.args.job.now.infos.now in
+    let opens = opens_by c.args.job.now.openings.now infos in
     let others = length c.split_lanes.new.lanes.items in let start = c.split_lanes.new.cpus.items in
     let brought = map g.D.TxDevice.state c.args.units.spares.items in let closed = closed_states g c.run-spares.new.closed.items in
     let spares = map g.D.TxDevice.state c.run-spares.result.items in
     let sent = c.run-spares.ensures in let sendable = c.args.job.now.sendable in
     let split : After-split_lanes g = c.before.before.before.before.before.before.before in let ready = c.requires.ready in
     record {
-      one_a_station = closed-many plan infos others start brought closed spares sent;
+      one_a_station = closed-many plan infos opens others start brought closed spares sent;
       one_a_swap = let over = over g split ready.0 ready.1 in
-          (c.runs_leave_devices.ensures plan infos ready.0 others start brought closed spares sent over).1;
-      home = at-home plan infos others start brought closed spares sent;
-      readable = c.runs_are_readable.ensures plan infos others start brought closed spares sent sendable;
-      fates = λ before after fates ready read. c.runs_make_fates.ensures plan infos before after others start brought closed spares fates
+          (c.runs_leave_devices.ensures plan infos opens ready.0 others start brought closed spares sent over).1;
+      home = at-home plan infos opens others start brought closed spares sent;
+      readable = c.runs_are_readable.ensures plan infos opens others start brought closed spares sent sendable;
+      fates = λ before after fates ready read. c.runs_make_fates.ensures plan infos opens before after others start brought closed spares fates
           sent sendable (over g split before ready) read;
-      ended = λ fates. c.runs_leave_stations.ensures plan infos others start brought closed spares fates sent;
-      boxes = λ before after ready. c.runs_keep_boxes.ensures plan infos before after others start brought closed spares
+      ended = λ fates. c.runs_leave_stations.ensures plan infos opens others start brought closed spares fates sent;
+      boxes = λ before after ready. c.runs_keep_boxes.ensures plan infos opens before after others start brought closed spares
           sent (over g split before ready);
     }
 

@@ -2,6 +2,7 @@ use Rattle.std.proofs.Common.{◌+◌, ◌∙◌, ℕ, List, length, map, sym, a
 use Rattle.lq_seat.specs.State.{TableState}
 use Rattle.lq_senders.specs.Ends.{AllMayClose}
 use Rattle.lq_senders.specs.Joins.{AreFirst}
+use Rattle.lq_senders.specs.Woken.{opens_by}
 use Rattle.lq_senders.specs.Lanes.{AreReadyLanes, LaneStands, after_sending}
 use Rattle.lq_senders.proofs.Devices.{devices-same}
 use Rattle.lq_senders.proofs.Joins.{first-keep}
@@ -39,5 +40,5 @@ returns g c =
       one_each = ended.may.long ∙ ended.may.all;
       closed_are = c.close_all.ensures;
       devices = λ units stand. devices-same plan infos units (length plan.events) c.all_send-first.result.0.seats.items seats (map D c.all_send-first.result.0.spares.items) ended.devices (sent.devices units stand);
-      alone = λ none own units stand tell from begins. ended.alone (sent.long ∙ none) (after_sending plan infos from) (sent.runs units stand tell own from begins);
+      alone = λ none own units stand tell from begins. ended.alone (sent.long ∙ none) (after_sending plan infos (opens_by c.args.job.now.openings.now infos) from) (sent.runs units stand tell own from begins);
     }

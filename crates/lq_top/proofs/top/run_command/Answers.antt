@@ -1,5 +1,6 @@
 use Rattle.std.proofs.Common.{◌≡◌, List, [], ℕ, ◌∙◌, IfSome, Some, ap, drop, map, refl, subst, vec_len}
 use Rattle.std.specs.Option.{option_map}
+use Rattle.lq_model.specs.Plan.{reads_times}
 use Rattle.lq_host.specs.Host.{HostState}
 use Rattle.lq_table.specs.Ended.{ended_state}
 use Rattle.lq_files.specs.Command.{OfRun, run_words}
@@ -23,7 +24,8 @@ returns-in-Ok-2-clause-does g c =
     does_run old.told (run_words c.args.words.now) (vec_len c.args.bench.now) c.in-Ok.plan c.in-Ok-2.capture c.in_ok-plan.field-0 c.in_ok-capture.field-0
     (λ v. CompletesOrStops v old new before after ended c.run_capture.result) c.in-Ok.is c.in-Ok-2.is
     (subst (λ n. IfSome old.told (λ d. option_map (plan_for n) (d.files c.args.words.now.plan.now) ≡ Some c.in_ok-plan.field-0)) c.len.ensures c.in_ok-plan.ensures.plan)
-    (subst (λ (s : HostState). IfSome s.told (λ d. option_map limited_capture_of (d.files c.args.words.now.capture.now) ≡ Some c.in_ok-capture.field-0)) first c.in_ok-capture.ensures.capture)
+    (subst (λ timed. IfSome old.told (λ d. option_map (limited_capture_of timed) (d.files c.args.words.now.capture.now) ≡ Some c.in_ok-capture.field-0)) c.reads_times.ensures
+    (subst (λ (s : HostState). IfSome s.told (λ d. option_map (limited_capture_of c.reads_times.result) (d.files c.args.words.now.capture.now) ≡ Some c.in_ok-capture.field-0)) first c.in_ok-capture.ensures.capture))
     (subst (λ (s : HostState). CompletesOrStops (Runs run) s new before after ended c.run_capture.result) (c.in_ok-capture.ensures.same ∙ first)
     (run_does run (g.H.Host.state c.read_capture_file.new.host) new before after ended c.run_capture.result c.run_capture.ensures.answer c.run_capture.ensures.ok c.run_capture.ensures.err))
 
@@ -42,7 +44,8 @@ returns-in-Ok-2-clause-some g c =
     let ended = map ended_state c.run_capture.new.ended.items in
     let first : g.H.Host.state c.read_plan_file.new.host ≡ old = c.in_ok-plan.ensures.same in
     let read : (bytes : List ℕ) × (plan_for have bytes ≡ c.in_ok-plan.field-0) = subst (λ n. (bytes : List ℕ) × (plan_for n bytes ≡ c.in_ok-plan.field-0)) c.len.ensures c.in_ok-plan.ensures.some in
-    let seen = c.in_ok-capture.ensures.some in (
+    let seen : (bytes : List ℕ) × (limited_capture_of (reads_times c.in-Ok.plan) bytes ≡ c.in_ok-capture.field-0) =
+    subst (λ timed. (bytes : List ℕ) × (limited_capture_of timed bytes ≡ c.in_ok-capture.field-0)) c.reads_times.ensures c.in_ok-capture.ensures.some in (
       read.0,
       seen.0,
       does_run_on (run_words c.args.words.now) have c.in-Ok.plan c.in-Ok-2.capture read.0 seen.0 (λ v. CompletesOrStops v old new before after ended c.run_capture.result) (read.1 ∙ c.in-Ok.is) (seen.1 ∙ c.in-Ok-2.is)
@@ -59,7 +62,8 @@ returns-clause-some g c =
     let ended = map ended_state c.args.ended.now.items in
     let first : g.H.Host.state c.read_plan_file.new.host ≡ old = c.in_ok-plan.ensures.same in
     let read : (bytes : List ℕ) × (plan_for have bytes ≡ c.in_ok-plan.field-0) = subst (λ n. (bytes : List ℕ) × (plan_for n bytes ≡ c.in_ok-plan.field-0)) c.len.ensures c.in_ok-plan.ensures.some in
-    let seen = c.in_ok-capture.ensures.some in (
+    let seen : (bytes : List ℕ) × (limited_capture_of (reads_times c.in-Ok.plan) bytes ≡ c.in_ok-capture.field-0) =
+    subst (λ timed. (bytes : List ℕ) × (limited_capture_of timed bytes ≡ c.in_ok-capture.field-0)) c.reads_times.ensures c.in_ok-capture.ensures.some in (
       read.0,
       seen.0,
       refuses_capture_on (run_words c.args.words.now) have c.in-Ok.plan c.in-Err-2.refusal read.0 seen.0 (λ v. CompletesOrStops v old new devices devices ended c.refuse-in-Err-2.result) (read.1 ∙ c.in-Ok.is) (seen.1 ∙ c.in-Err-2.is)
@@ -253,7 +257,8 @@ returns-clause-does g c =
     refuses_capture old.told (run_words c.args.words.now) have c.in-Ok.plan c.in-Err-2.refusal c.in_ok-plan.field-0 c.in_ok-capture.field-0
     (λ v. CompletesOrStops v old new devices devices ended c.refuse-in-Err-2.result) c.in-Ok.is c.in-Err-2.is
     (subst (λ n. IfSome old.told (λ d. option_map (plan_for n) (d.files c.args.words.now.plan.now) ≡ Some c.in_ok-plan.field-0)) c.len.ensures c.in_ok-plan.ensures.plan)
-    (subst (λ (s : HostState). IfSome s.told (λ d. option_map limited_capture_of (d.files c.args.words.now.capture.now) ≡ Some c.in_ok-capture.field-0)) c.in_ok-plan.ensures.same c.in_ok-capture.ensures.capture)
+    (subst (λ timed. IfSome old.told (λ d. option_map (limited_capture_of timed) (d.files c.args.words.now.capture.now) ≡ Some c.in_ok-capture.field-0)) c.reads_times.ensures
+    (subst (λ (s : HostState). IfSome s.told (λ d. option_map (limited_capture_of c.reads_times.result) (d.files c.args.words.now.capture.now) ≡ Some c.in_ok-capture.field-0)) c.in_ok-plan.ensures.same c.in_ok-capture.ensures.capture))
     (subst (λ (s : HostState). CompletesOrStops (Refuses c.in-Err-2.refusal) s new devices devices ended c.refuse-in-Err-2.result) (c.in_ok-capture.ensures.same ∙ c.in_ok-plan.ensures.same)
     (refuse_does c.in-Err-2.refusal (g.H.Host.state c.read_capture_file.new.host) new devices devices ended c.refuse-in-Err-2.result c.refuse-in-Err-2.ensures.answer c.refuse-in-Err-2.ensures.ok c.refuse-in-Err-2.ensures.err))
 
@@ -263,5 +268,6 @@ returns-in-Ok-2-clause-others g c =
     does_run old.told (run_words c.args.words.now) (vec_len c.args.bench.now) c.in-Ok.plan c.in-Ok-2.capture c.in_ok-plan.field-0 c.in_ok-capture.field-0
     (λ v. drop (units_changed_by v) c.run_capture.new.bench.items ≡ drop (units_changed_by v) c.args.bench.now.items) c.in-Ok.is c.in-Ok-2.is
     (subst (λ n. IfSome old.told (λ d. option_map (plan_for n) (d.files c.args.words.now.plan.now) ≡ Some c.in_ok-plan.field-0)) c.len.ensures c.in_ok-plan.ensures.plan)
-    (subst (λ (s : HostState). IfSome s.told (λ d. option_map limited_capture_of (d.files c.args.words.now.capture.now) ≡ Some c.in_ok-capture.field-0)) c.in_ok-plan.ensures.same c.in_ok-capture.ensures.capture)
+    (subst (λ timed. IfSome old.told (λ d. option_map (limited_capture_of timed) (d.files c.args.words.now.capture.now) ≡ Some c.in_ok-capture.field-0)) c.reads_times.ensures
+    (subst (λ (s : HostState). IfSome s.told (λ d. option_map (limited_capture_of c.reads_times.result) (d.files c.args.words.now.capture.now) ≡ Some c.in_ok-capture.field-0)) c.in_ok-plan.ensures.same c.in_ok-capture.ensures.capture))
     c.run_capture.ensures.others

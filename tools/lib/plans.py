@@ -1,0 +1,384 @@
+"""The keys of a plan, as docs/FORMATS.md has them, and what may be wrong with a text that is to be one. A key is one row here.
+
+The program judges plans by definitions that are proved; these tables aren't. `tools/compare PROGRAM` compares the two.
+"""
+import difflib
+import json
+import re
+from collections import namedtuple
+from dataclasses import dataclass
+from itertools import accumulate
+from typing import Any, Callable, Optional, Union
+
+from lib import toml_text
+from lib.words import Failed
+
+NOT_TOML, UNKNOWN_KEY, MISSING, KIND, RANGE, EVENT_ORDER, TOO_LONG = 1, 2, 3, 4, 5, 6, 8
+REASONS = {1: "NotToml", 2: "UnknownKey", 3: "Missing", 4: "Kind", 5: "Range", 6: "EventOrder", 8: "TooLong"}
+KINDS = {"down": (), "up": (), "resize": ("len",), "tx_queue_len": ("len",), "swap": ("params",)}
+DEVICES = 16
+
+
+@dataclass
+class Place:
+    """What a range may depend on: the document, the version that it says, and the table of the key."""
+
+    root: dict
+    version: int
+    table: dict
+
+
+Bound = Union[int, Callable[[Place], int]]
+
+
+@dataclass
+class Key:
+    """A row: its name, the kind of its value with its range, its default, the first version that has it, and what it means."""
+
+    name: str
+    kind: str  # "number", "flag", "tables", or the texts that it may be, with bars between; a text of a later version has that behind it, as "flow:4"
+    low: Bound = 0
+    high: Bound = 0
+    default: Any = None
+    since: int = 1
+    required: bool = False
+    about: str = ""
+
+
+def number_at(table, name, default):
+    value = table.get(name)
+    return value if type(value) is int and value >= 0 else default
+
+
+def greatest_len(place):
+    """The greatest length to which the rings of an event's station may be brought; 0 where there is no such station."""
+    stations = tables_at(place.root, "station")
+    at = number_at(place.table, "station", 0)
+    return number_at(stations[at], "max_len", number_at(stations[at], "len", 1000)) if at < len(stations) else 0
+
+
+def tables_at(root, name):
+    value = root.get(name)
+    return [it for it in value if isinstance(it, dict)] if isinstance(value, list) else []
+
+
+# the greatest number of each, by version
+SENDERS = {1: 8, 2: 64, 3: 64, 4: 64}
+LENGTH = {1: 4096, 2: 65536, 3: 65536, 4: 65536}
+CHILDREN = 8
+VERSIONS = sorted(SENDERS)
+PARAMS = [
+    Key("burst", "number", 0, 1000000, 0, about="the queue stops each time so many packets were accepted"),
+    Key("busy_every", "number", 0, 1000000, 0, about="each call with a multiple of this number may be answered busy"),
+    Key("busy_limit", "number", 0, 1000000, 0, about="so many calls at most are answered busy"),
+    Key("hang_after", "number", 0, 1000000, 0, about="the device hangs once it has accepted so many packets"),
+]
+ROOT = [
+    Key("version", "number", 1, lambda it: it.version, 1, about="the version of the format"),
+    Key("senders", "number", 1, lambda it: SENDERS[it.version], 1, about="threads that send"),
+    Key("split", "round|source|flow:4", default="round", about="how packets are split among the senders"),
+    Key("spread", "bytes|flow", default="bytes", since=4, about="by what a packet's station, queue and child are chosen"),
+    Key("irq_every", "number", 1, 1000, 1, about="after so many packets of a sender it wakes the stopped queues"),
+    Key("irq_us", "number", 1, 1000000, since=4, about="in place of irq_every: the stopped queues are opened at each multiple of so many microseconds of the capture's time"),
+    Key("station", "tables", 1, 8, required=True, about="the stations"),
+    Key("event", "tables", 0, 64, (), about="what is done to them on the way"),
+]
+STATION = [
+    Key("len", "number", 1, lambda it: LENGTH[it.version], 1000, about="slots of each of its three rings"),
+    Key("max_len", "number", lambda it: number_at(it.table, "len", 1000), lambda it: LENGTH[it.version], about="slots that a resize may give them; else `len`"),
+    Key("bypass", "flag", default=True, about="whether a packet may go past the rings"),
+    Key("queues", "number", 1, 8, 1, since=2, about="transmit queues of its device, which share the rings"),
+    Key("mq", "number", 1, CHILDREN, 1, since=3, about="children of its multi-queue root: one for each transmit queue of its device, with rings of its own"),
+    *PARAMS,
+]
+EVENT = [
+    Key("before", "number", 0, 1000000, required=True, about="the number of the packet before which it comes"),
+    Key("kind", "|".join(KINDS), required=True, about="what it does"),
+    Key("station", "number", 0, lambda it: max(len(tables_at(it.root, "station")) - 1, 0), required=True, about="the station's number"),
+    Key("len", "number", 1, greatest_len, about="the new length of the rings"),
+    *PARAMS,
+]
+TABLES = {"": ROOT, "station": STATION, "event": EVENT}
+
+
+@dataclass
+class Fault:
+    """One thing that is wrong with a plan: the number of the reason, where it stands, and what to do."""
+
+    reason: int
+    line: Optional[int]
+    where: str
+    said: str
+
+
+def version_of(root):
+    version = root.get("version")
+    return version if type(version) is int and version in VERSIONS else 1
+
+
+def keys_for(section, place):
+    """The keys that a table may have, and those that it must have; of an event by its kind."""
+    keys = [it for it in TABLES[section] if it.since <= place.version]
+    required = {it.name for it in keys if it.required}
+    if section == "event" and place.table.get("kind") in KINDS:
+        takes = KINDS[place.table["kind"]]
+        unknown = {"len"} - set(takes) | ({it.name for it in PARAMS} if "params" not in takes else set())
+        return [it for it in keys if it.name not in unknown], required | set(takes) & {"len"}
+    return keys, required
+
+
+def bound(of, place):
+    return of(place) if callable(of) else of
+
+
+def texts_of(key, place):
+    """The texts that a key may be in this version."""
+    return [text for text, _, since in (it.partition(":") for it in key.kind.split("|")) if int(since or 1) <= place.version]
+
+
+def wanted(key, place):
+    """What a value may be, in words."""
+    if key.kind == "number":
+        return f"a whole number from {bound(key.low, place)} to {bound(key.high, place)}"
+    if key.kind == "flag":
+        return "true or false"
+    if key.kind == "tables":
+        return f"{key.low} to {key.high} tables, each begun by [[{key.name}]]"
+    return "one of " + ", ".join(f'"{it}"' for it in texts_of(key, place))
+
+
+def has_kind(key, value):
+    if key.kind == "number":
+        return type(value) is int
+    if key.kind == "flag":
+        return type(value) is bool
+    if key.kind == "tables":
+        return isinstance(value, list) and all(isinstance(it, dict) for it in value)
+    return isinstance(value, str)
+
+
+def is_within(key, value, place):
+    if key.kind == "number":
+        return bound(key.low, place) <= value <= bound(key.high, place)
+    if key.kind == "tables":
+        return key.low <= len(value) <= key.high
+    return key.kind == "flag" or value in texts_of(key, place)
+
+
+def lines_of_keys(text):
+    """The line of each key, by table, place and name; and that of each table's head under None."""
+    found, section, counts, at = {}, "", {}, 0
+    for number, line in enumerate(text.splitlines(), 1):
+        head = re.match(r"\s*\[\[\s*([\w-]+)\s*\]\]|\s*\[\s*([\w-]+)\s*\]", line)
+        key = re.match(r"\s*(?:\"([^\"]*)\"|'([^']*)'|([\w-]+))\s*=", line)
+        if head:
+            section = head[1] or head[2]
+            at = counts[section] = counts.get(section, -1) + 1
+            found.setdefault((section, at, None), number)
+            found.setdefault(("", 0, section), number)
+        elif key:
+            found.setdefault((section, at if section else 0, next(it for it in key.groups() if it is not None)), number)
+    return found
+
+
+def hint_for_unknown(section, name, place):
+    """What was meant by a key that a table doesn't have."""
+    if any(it.name == name for it in TABLES[section]):
+        row = next(it for it in TABLES[section] if it.name == name)
+        if row.since > place.version:
+            return f"it needs `version = {row.since}` at the top"
+        if section == "event":
+            return f"an event of kind \"{place.table.get('kind')}\" doesn't have it"
+    if section and any(it.name == name for it in ROOT):
+        return f"it is a key of the top, which comes before the first [[{section}]]"
+    if not section and any(it.name == name for it in STATION):
+        return "it is a key of a station: it comes after [[station]]"
+    near = difflib.get_close_matches(name.lower().replace("-", "_"), [it.name for it in keys_for(section, place)[0]], 1, 0.6)
+    return f"did you mean `{near[0]}`?" if near else "the keys are " + ", ".join(f"`{it.name}`" for it in keys_for(section, place)[0])
+
+
+def faults_of_table(section, at, place, lines):
+    where = f"{section} {at}" if section else "the top"
+    keys, required = keys_for(section, place)
+    by_name = {it.name: it for it in keys}
+
+    def fault(reason, name, said):
+        line = lines.get((section, at, name)) or lines.get((section, at, None))
+        return Fault(reason, line, f"{where}, `{name}`", said)
+
+    for name, value in place.table.items():
+        key = by_name.get(name)
+        if key is None:
+            yield fault(UNKNOWN_KEY, name, f"no such key; {hint_for_unknown(section, name, place)}")
+        elif not has_kind(key, value):
+            one = " (one table was written: a second pair of brackets is missing)" if key.kind == "tables" and isinstance(value, dict) else ""
+            yield fault(KIND, name, f"{shown(value)} isn't {wanted(key, place)}{one}")
+        elif not is_within(key, value, place):
+            yield fault(RANGE, name, f"{shown(value)} isn't {wanted(key, place)}{hint_for_range(section, key, value, place)}")
+    for name in sorted(required - set(place.table)):
+        yield Fault(MISSING, lines.get((section, at, None)), f"{where}, `{name}`", f"it is missing: {wanted(by_name[name], place)}")
+
+
+def shown(value):
+    if isinstance(value, bool):
+        return str(value).lower()
+    if isinstance(value, (dict, list)):
+        return f"an array of {len(value)}" if isinstance(value, list) else "a table"
+    return f'"{value}"' if isinstance(value, str) else str(value)
+
+
+def hint_for_range(section, key, value, place):
+    """Which version, or which other key, would allow it."""
+    for version in VERSIONS:
+        if version > place.version and key.name != "version" and is_within(key, value, Place(place.root, version, place.table)):
+            return f"; with `version = {version}` at the top it may be"
+    if key.kind != "number":
+        near = difflib.get_close_matches(str(value), texts_of(key, place), 1, 0.5) if isinstance(value, str) else []
+        return f"; did you mean \"{near[0]}\"?" if near else ""
+    if key.name == "version":
+        return f"; there are the versions {', '.join(map(str, VERSIONS))}"
+    if section == "event" and key.name == "len":
+        return "; its station needs a `max_len` of at least so much"
+    return "; `max_len` is at least `len`" if key.name == "max_len" else ""
+
+
+def faults_of_order(root, lines):
+    """Events whose `before` falls, or that meet a station that is in another state."""
+    last, down = 0, set()
+    for at, event in enumerate(tables_at(root, "event")):
+        before, kind, station = number_at(event, "before", 0), event.get("kind"), number_at(event, "station", 0)
+        line = lines.get(("event", at, None))
+        if before < last:
+            yield Fault(EVENT_ORDER, line, f"event {at}, `before`", f"{before} comes after {last}: events stand in the order in which they come")
+        if kind == "up" and station not in down:
+            yield Fault(EVENT_ORDER, line, f"event {at}", f"station {station} is active: an \"up\" comes after a \"down\" alone")
+        if kind != "up" and station in down:
+            yield Fault(EVENT_ORDER, line, f"event {at}", f"station {station} is deactivated: only an \"up\" may come")
+        last = max(before, last)
+        down = down | {station} if kind == "down" else down - {station}
+
+
+def numbered(counts):
+    """So many children of each station of the plan have numbers in fates and counts, all of them one after the other."""
+    return [range(end - many, end) for many, end in zip(counts, accumulate(counts))]
+
+
+def faults_of_groups(root, lines):
+    """What may not be together in a plan of groups: too many children, several queues of a child, a swap of what they share."""
+    children = numbered([number_at(it, "mq", 1) for it in tables_at(root, "station")])
+    if sum(map(len, children)) > CHILDREN:
+        yield Fault(RANGE, None, "the top, `station`", f"{sum(map(len, children))} children in all are more than {CHILDREN}")
+    for at, table in enumerate(tables_at(root, "station")):
+        if len(children[at]) > 1 and number_at(table, "queues", 1) > 1:
+            yield Fault(RANGE, lines.get(("station", at, "queues")), f"station {at}, `queues`", "it is 1 beside an `mq` above 1: rings over several queues, or rings for each")
+    for at, event in enumerate(tables_at(root, "event")):
+        station = number_at(event, "station", 0)
+        if event.get("kind") == "swap" and station < len(children) and len(children[station]) > 1:
+            yield Fault(RANGE, lines.get(("event", at, "kind")), f"event {at}, `kind`", f"no \"swap\" at station {station}, which has {len(children[station])} children on one device")
+
+
+def faults_of_openings(root, lines):
+    """Queues are opened by packets or by time."""
+    if "irq_every" in root and "irq_us" in root:
+        yield Fault(RANGE, lines.get(("", 0, "irq_us")), "the top, `irq_us`", "it stands in place of `irq_every`: a plan has one of the two")
+
+
+def is_too_large(value):
+    if isinstance(value, dict):
+        return any(map(is_too_large, value.values()))
+    if isinstance(value, list):
+        return any(map(is_too_large, value))
+    return type(value) is int and not -(2**63) <= value < 2**63
+
+
+def judge(data):
+    """The document that the bytes of a plan are, or None; and its faults, those with the least reason first."""
+    if len(data) > 65536:
+        return None, [Fault(TOO_LONG, None, "the file", f"{len(data)} bytes; a plan has at most 65536")]
+    try:
+        text = data.decode("utf-8")
+        root = toml_text.loads(text)
+    except UnicodeDecodeError as fault:
+        return None, [Fault(NOT_TOML, data[: fault.start].count(b"\n") + 1, "the text", "it isn't UTF-8")]
+    except toml_text.Fault as fault:
+        place = re.search(r"\(at line (\d+), column (\d+)\)", str(fault))
+        line = int(place[1]) if place else None
+        said = re.sub(r" \(at .*\)", "", str(fault))
+        return None, [Fault(NOT_TOML, line, "the text", said + (f", at column {place[2]}" if place else ", at its end"))]
+    if is_too_large(root):
+        return None, [Fault(NOT_TOML, None, "the text", "a number has more than 64 bits")]
+    lines = lines_of_keys(text.removeprefix("\ufeff"))
+    version = version_of(root)
+    faults = [*faults_of_table("", 0, Place(root, version, root), lines)]
+    for section in ("station", "event"):
+        for at, table in enumerate(tables_at(root, section)):
+            faults += faults_of_table(section, at, Place(root, version, table), lines)
+    if version > 2:
+        faults += faults_of_groups(root, lines)
+    if version > 3:
+        faults += faults_of_openings(root, lines)
+    if not faults:
+        faults += faults_of_order(root, lines)
+    return root, sorted(faults, key=lambda it: (it.reason, it.line or 0))
+
+
+# WHAT A PLAN SAYS
+
+
+def record(name, keys):
+    """What has a field for each key, with the key's default."""
+    return namedtuple(name, [it.name for it in keys], defaults=[it.default for it in keys])
+
+
+Station, Event = record("Station", STATION), record("Event", EVENT)
+
+
+class Plan(record("Plan", ROOT)):
+    """A plan that is accepted. What fates and counts call stations are its stations' children."""
+
+    @property
+    def children(self):
+        """The numbers of the children of each station."""
+        return numbered([it.mq for it in self.station])
+
+    @property
+    def tables(self):
+        """Each child's station."""
+        return [it for it in self.station for _ in range(it.mq)]
+
+    @property
+    def groups(self):
+        """The stations that have several children, each with these."""
+        return [(at, it) for at, it in enumerate(self.children) if len(it) > 1]
+
+    @property
+    def units(self):
+        """How many units it needs: one for each child, and one for each swap."""
+        return sum(it.mq for it in self.station) + sum(it.kind == "swap" for it in self.event)
+
+
+def plan_of(root):
+    """The plan that a document is in which nothing is wrong."""
+    return Plan(**{**root, "station": [Station(**it) for it in root["station"]], "event": [Event(**it) for it in root.get("event", [])]})
+
+
+def read(name, code=1):
+    """The plan of a file; ends with a line, and this exit code, where it is none."""
+    with open(name, "rb") as it:
+        root, faults = judge(it.read())
+    if faults:
+        raise Failed(f"{name} is no plan: tools/check-plan {name} says why", code)
+    return plan_of(root)
+
+
+def text_of(root):
+    """The text of a document."""
+
+    def value(it):
+        return str(it).lower() if isinstance(it, bool) else json.dumps(it)
+
+    lines = [f"{name} = {value(it)}" for name, it in root.items() if not isinstance(it, list)]
+    for name in ("station", "event"):
+        for table in root.get(name, []):
+            lines += [f"[[{name}]]", *(f"{key} = {value(it)}" for key, it in table.items())]
+    return "\n".join(lines) + "\n"
