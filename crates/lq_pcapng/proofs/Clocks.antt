@@ -6,7 +6,7 @@ use Rattle.std.proofs.lemmas.List.{get_or_append_left, get_or_push, length-appen
 use Rattle.std.proofs.lemmas.Option.{get_or_from_slice_get, slice_get-get_or, slice_get_within}
 use Rattle.lq_pcapng.specs.Pcapng.{NgCapture, interface_at, is_little_endian, order_of}
 use Rattle.lq_pcapng.specs.Reading.{AreClocks, IsClock, block_at, blocks_at}
-use Rattle.lq_pcapng.specs.View.{IsKept, capture_at}
+use Rattle.lq_pcapng.specs.View.{IsInMemory, capture_at}
 use Rattle.lq_pcapng.specs.declared.interfaces.Clock.{Clock}
 use Rattle.lq_pcapng.proofs.Places.{get_or-blocks_at, order_at}
 
@@ -30,7 +30,7 @@ clocks_more o bytes places clocks clock i are here below is = λ j other found.
 
 -- the clock of an interface as a method sees it
 pub clock_seen :
-    (bytes interfaces packets : List ℕ) (clocks : List Clock) (c : NgCapture) (i : ℕ) (clock : Clock) → IsKept bytes interfaces packets clocks → capture_at bytes interfaces packets ≡ c
+    (bytes interfaces packets : List ℕ) (clocks : List Clock) (c : NgCapture) (i : ℕ) (clock : Clock) → IsInMemory bytes interfaces packets clocks → capture_at bytes interfaces packets ≡ c
     → i < length c.interfaces → slice_get clocks i ≡ Some clock → IsClock (order_of c) (interface_at c.interfaces i) clock
 clock_seen bytes interfaces packets clocks c i clock kept view below found =
     let o = is_little_endian bytes in

@@ -81,10 +81,7 @@ pub record Looks (X : Type 0) (f : ℕ → List ℕ → X) (options : List ℕ) 
   pub within : place ≤ length options
   pub goes_on : f more (drop place options) ≡ f (length options) options
 
-pub looks_first : (X : Type 0) (f : ℕ → List ℕ → X) (options : List ℕ) → Looks X f options 0
-looks_first X f options = record { more = length options; room = omega arith; within = omega arith; goes_on = refl }
-
-looks_more :
+pub looks_more :
     (X : Type 0) (f : ℕ → List ℕ → X) (options : List ℕ) (place end : ℕ) → Looks X f options place → place < length options → end ≤ length (drop place options) → 4 ≤ end
     → ((more : ℕ) → f (suc more) (drop place options) ≡ f more (drop end (drop place options))) → Looks X f options (place + end)
 looks_more X f options place end l below whole long step =

@@ -290,44 +290,45 @@ link_in c block = link_type (order_of c) (interface_at c.interfaces (interface_n
 
 -- WHEN A PACKET CAME, in nanoseconds since the start of 1970
 
--- how many units a second has, by the byte of if_tsresol: a power of ten, or with the byte's highest bit one of two
+-- how many units of time a second has, by the byte of if_tsresol: a power of ten, or with the byte's highest bit one of two
 abbrev pub units_by : ℕ → ℕ
 units_by byte = if nat_lt byte 128 then 10 ^ byte else 2 ^ (byte - 128)
 
--- 1,000,000 of an interface without it
+-- how many a second has for an interface; 1,000,000 without if_tsresol
 abbrev pub units_in_second : Bool → List ℕ → ℕ
 units_in_second little_endian interface = option_map_or (λ value. units_by (slice_index value 0)) (option_of little_endian 9 1 interface) 1000000
 
--- a time with the seconds of if_tsoffset, which is a signed number of eight bytes; a time before 1970 is the start of 1970
-abbrev pub offset_by : ℕ → ℕ → ℕ
-offset_by seconds time = if nat_lt seconds (2 ^ 63) then time + seconds * 1000000000 else time - (2 ^ 64 - seconds) * 1000000000
-
+-- the number of eight bytes
 abbrev pub long_number : Bool → List ℕ → ℕ
 long_number little_endian value = (if little_endian then from_le_bytes w64 else from_be_bytes w64) value
 
--- 0 of an interface without it
+-- the seconds of if_tsoffset, a number from 2^63 on for one below 0; 0 of an interface without it
 abbrev pub offset_of : Bool → List ℕ → ℕ
 offset_of little_endian interface = option_map_or (long_number little_endian) (option_of little_endian 14 8 interface) 0
 
+-- a time with so many seconds added; one before 1970 counts as the start of 1970
+abbrev pub offset_by : ℕ → ℕ → ℕ
+offset_by seconds time = if nat_lt seconds (2 ^ 63) then time + seconds * 1000000000 else time - (2 ^ 64 - seconds) * 1000000000
+
 -- how many units of its interface an enhanced packet block's time is
-abbrev pub units_of : Bool → List ℕ → ℕ
-units_of little_endian block = number_in little_endian block 12 * 2 ^ 32 + number_in little_endian block 16
+abbrev pub time_units : Bool → List ℕ → ℕ
+time_units little_endian block = number_in little_endian block 12 * 2 ^ 32 + number_in little_endian block 16
 
 -- the time of an enhanced packet block by its interface, rounded down
 abbrev pub time_by : Bool → List ℕ → List ℕ → ℕ
 time_by little_endian interface block =
-    offset_by (offset_of little_endian interface) (units_of little_endian block * 1000000000 / units_in_second little_endian interface)
+    offset_by (offset_of little_endian interface) (time_units little_endian block * 1000000000 / units_in_second little_endian interface)
 
 -- the time of a packet block; a simple one has that of the packet before it
-abbrev pub time_in : NgCapture → ℕ → List ℕ → ℕ
-time_in c before block =
+abbrev pub time_behind : NgCapture → ℕ → List ℕ → ℕ
+time_behind c before block =
     if is_enhanced (order_of c) block then time_by (order_of c) (interface_at c.interfaces (interface_number (order_of c) block)) block
     else before
 
 -- the time of packet i; 0 before the first
-abbrev pub time_of : NgCapture → ℕ → ℕ
-time_of c zero = time_in c 0 (packet_block c 0)
-time_of c (suc i) = time_in c (time_of c i) (packet_block c (suc i))
+abbrev pub time_in : NgCapture → ℕ → ℕ
+time_in c zero = time_behind c 0 (packet_block c 0)
+time_in c (suc i) = time_behind c (time_in c i) (packet_block c (suc i))
 
 -- THE PACKETS
 
@@ -336,7 +337,7 @@ packets_of c = record {
   count = length c.packets;
   link = λ i. link_in c (packet_block c i);
   frame = λ i. frame_in c (packet_block c i);
-  time = time_of c;
+  time = time_in c;
 }
 
 -- WHAT IS WRITTEN

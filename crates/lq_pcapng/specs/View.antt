@@ -22,9 +22,9 @@ pub record IsRead (bytes interfaces packets : List ℕ) : Type 0 where
   pub interfaces_are : AreInterfaces (is_little_endian bytes) bytes interfaces
   pub packets_are : ArePackets (is_little_endian bytes) bytes (blocks_at (is_little_endian bytes) bytes interfaces) packets
 
-pub record IsKept (bytes interfaces packets : List ℕ) (clocks : List Clock) : Type 0 where
+pub record IsInMemory (bytes interfaces packets : List ℕ) (clocks : List Clock) : Type 0 where
   pub read : IsRead bytes interfaces packets
   pub clocks_are : AreClocks (is_little_endian bytes) bytes interfaces clocks
 
 abbrev pub ng_capture_invariant : Inside → Type 0
-ng_capture_invariant c = IsKept c.bytes.items c.interfaces.items c.packets c.clocks.items
+ng_capture_invariant c = IsInMemory c.bytes.items c.interfaces.items c.packets c.clocks.items

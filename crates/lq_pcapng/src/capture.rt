@@ -1,6 +1,6 @@
 // A capture in the pcapng format: its blocks, as places in the bytes that were read.
 ghost use Rattle.std.specs.Prelude.{◌≡◌, ◌-◌, ◌==◌, ◌<◌, ◌≤◌, if◌then◌else◌, length};
-ghost use Rattle.lq_pcapng.specs.Pcapng.{frame_in, interface_at, link_in, order_of, packet_block, time_of};
+ghost use Rattle.lq_pcapng.specs.Pcapng.{frame_in, interface_at, link_in, order_of, packet_block, time_in};
 ghost use Rattle.lq_pcapng.specs.Reading.{IsClock, IsPacket};
 
 use crate::blocks::{block, interface};
@@ -70,11 +70,11 @@ impl NgCapture {
 
     /// The time of packet `i`, in nanoseconds since the start of 1970. A simple packet has that of the packet before it, which is
     /// `before`, and 0 before the first.
-    #[tactic(auto, using(crate::proofs::PacketTime::time_behind))]
+    #[tactic(auto, using(crate::proofs::PacketTime::time_from_before))]
     pub fn time(&self, i: usize, before: u128) -> u128
         requires known { i < length self.now.packets }
-        requires before { before ≡ (if i == 0 then 0 else time_of self.now (i - 1)) }
-        ensures { result ≡ time_of self.now i }
+        requires before { before ≡ (if i == 0 then 0 else time_in self.now (i - 1)) }
+        ensures { result ≡ time_in self.now i }
     {
         let little_endian = self.is_little_endian();
         let block = self.block(i);

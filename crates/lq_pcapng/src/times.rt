@@ -1,6 +1,6 @@
 // When a packet came, in nanoseconds since the start of 1970.
 ghost use Rattle.std.specs.Prelude.{◌≡◌, ◌*◌, ◌/◌, ◌≤◌, ◌<◌, ◌^◌, length};
-ghost use Rattle.lq_pcapng.specs.Pcapng.{offset_by as offset_time, units_by, units_of};
+ghost use Rattle.lq_pcapng.specs.Pcapng.{offset_by as offset_time, units_by, time_units};
 
 use crate::interfaces::Clock;
 use crate::layout::{ENHANCED_TIME_LOWER, ENHANCED_TIME_UPPER};
@@ -17,7 +17,7 @@ const MAX_POWER_OF_TEN: u8 = 28;
 /// The time of an enhanced packet block by the clock of its interface.
 pub fn time_by(clock: Clock, block: &[u8], little_endian: bool) -> u128
     requires { 28 ≤ length block.now }
-    ensures { result ≡ offset_time clock.offset (units_of little_endian block.now * 1000000000 / units_by clock.resolution) }
+    ensures { result ≡ offset_time clock.offset (time_units little_endian block.now * 1000000000 / units_by clock.resolution) }
 {
     let time = nanoseconds(units(block, little_endian), clock.resolution);
     offset_by(clock.offset, time)
@@ -26,7 +26,7 @@ pub fn time_by(clock: Clock, block: &[u8], little_endian: bool) -> u128
 // How many units of its interface an enhanced packet block's time is.
 fn units(block: &[u8], little_endian: bool) -> u64
     requires { 28 ≤ length block.now }
-    ensures { result ≡ units_of little_endian block.now }
+    ensures { result ≡ time_units little_endian block.now }
 {
     let upper = number(block, little_endian, ENHANCED_TIME_UPPER);
     let lower = number(block, little_endian, ENHANCED_TIME_LOWER);

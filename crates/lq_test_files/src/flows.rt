@@ -78,34 +78,45 @@ const IPV6: [([u8; 16], [u8; 16], (u16, u16), u32, u32); 3] = [
     ),
 ];
 
+fn joined(rt: &(impl Abort + AllocGlobal), parts: &[&[u8]]) -> Vec<u8> {
+    let mut bytes = Vec::new(rt.alloc());
+    for part in parts {
+        bytes.extend_from_slice(part).expect(rt, "memory");
+    }
+    bytes
+}
+
 /// A packet of IPv4: a header of 20 bytes and two ports.
-fn ipv4(protocol: u8, source: [u8; 4], destination: [u8; 4], (from, to): (u16, u16)) -> [u8; 24] {
-    let mut packet = *b"\x45\0\0\x18\0\0\0\0\x40\0\0\0\0\0\0\0\0\0\0\0\0\0\0\0";
-    packet[9] = protocol;
-    packet[12..16].copy_from_slice(&source);
-    packet[16..20].copy_from_slice(&destination);
-    packet[20..22].copy_from_slice(&from.to_be_bytes());
-    packet[22..24].copy_from_slice(&to.to_be_bytes());
-    packet
+fn ipv4(
+    rt: &(impl Abort + AllocGlobal),
+    protocol: u8,
+    source: &[u8],
+    destination: &[u8],
+    (from, to): (u16, u16),
+) -> Vec<u8> {
+    let front = [0x45, 0, 0, 24, 0, 0, 0, 0, 64, protocol, 0, 0];
+    let (from, to) = (from.to_be_bytes(), to.to_be_bytes());
+    joined(rt, &[&front, source, destination, &from, &to])
 }
 
 /// A packet of IPv6: a header of 40 bytes and two ports.
-fn ipv6(next: u8, source: [u8; 16], destination: [u8; 16], (from, to): (u16, u16)) -> [u8; 44] {
-    let mut packet = [0; 44];
-    packet[0] = 0x60;
-    packet[6] = next;
-    packet[8..24].copy_from_slice(&source);
-    packet[24..40].copy_from_slice(&destination);
-    packet[40..42].copy_from_slice(&from.to_be_bytes());
-    packet[42..44].copy_from_slice(&to.to_be_bytes());
-    packet
+fn ipv6(
+    rt: &(impl Abort + AllocGlobal),
+    next: u8,
+    source: &[u8],
+    destination: &[u8],
+    (from, to): (u16, u16),
+) -> Vec<u8> {
+    let front = [0x60, 0, 0, 0, 0, 4, next, 64];
+    let (from, to) = (from.to_be_bytes(), to.to_be_bytes());
+    joined(rt, &[&front, source, destination, &from, &to])
 }
 
 #[test]
 fn published_vectors_of_ipv4(rt: HostRuntime) {
     for (source, destination, ports, addresses, all) in IPV4 {
-        let with = flow(RAW_IP, &ipv4(TCP, source, destination, ports));
-        let without = flow(RAW_IP, &ipv4(ICMP, source, destination, ports));
+        let with = flow(RAW_IP, &ipv4(&rt, TCP, &source, &destination, ports));
+        let without = flow(RAW_IP, &ipv4(&rt, ICMP, &source, &destination, ports));
         assert_eq!(rt; (with, without), (Some(all), Some(addresses)));
     }
 }
@@ -113,8 +124,8 @@ fn published_vectors_of_ipv4(rt: HostRuntime) {
 #[test]
 fn published_vectors_of_ipv6(rt: HostRuntime) {
     for (source, destination, ports, addresses, all) in IPV6 {
-        let with = flow(RAW_IP, &ipv6(UDP, source, destination, ports));
-        let without = flow(RAW_IP, &ipv6(ICMP, source, destination, ports));
+        let with = flow(RAW_IP, &ipv6(&rt, UDP, &source, &destination, ports));
+        let without = flow(RAW_IP, &ipv6(&rt, ICMP, &source, &destination, ports));
         assert_eq!(rt; (with, without), (Some(all), Some(addresses)));
     }
 }
@@ -169,11 +180,12 @@ fn ports_count_where_they_are_known(rt: HostRuntime) {
 #[test]
 fn ports_behind_an_extension_header_are_not_known(rt: HostRuntime) {
     let (source, destination, ports, addresses, all) = IPV6[0];
-    let hop_by_hop = ipv6(0, source, destination, ports);
-    let plain = ipv6(TCP, source, destination, ports);
+    let hop_by_hop = ipv6(&rt, 0, &source, &destination, ports);
     expect_hash(&rt, RAW_IP, &hop_by_hop, Some(addresses));
+    let mut plain = ipv6(&rt, TCP, &source, &destination, ports);
     expect_hash(&rt, RAW_IP, &plain, Some(all));
-    expect_hash(&rt, RAW_IP, &plain[..43], Some(addresses));
+    plain.truncate(43);
+    expect_hash(&rt, RAW_IP, &plain, Some(addresses));
 }
 
 #[test]

@@ -28,7 +28,9 @@ const TWO_INTERFACES: [u8; 164] = [
 
 fn read(rt: &(impl Abort + AllocGlobal), bytes: &[u8]) -> NgCapture {
     let bytes = Vec::from_slice(rt.alloc(), bytes).expect(rt, "memory");
-    read_pcapng(rt.alloc(), bytes, false).ok().expect(rt, "a capture")
+    read_pcapng(rt.alloc(), bytes, false)
+        .ok()
+        .expect(rt, "a capture")
 }
 
 // How many packets the bytes have, or why they are no capture.

@@ -1,5 +1,5 @@
 -- What a tap leaves, from what its calls leave.
-use Rattle.std.proofs.Common.{◌≡◌, ◌<◌, [], ℕ, List, All, length, get_or, slice_get, Option, Some, None, Result, Ok, Err, IfOk, OnOk, OnErr, IfSome, refl, sym, subst, inr}
+use Rattle.std.proofs.Common.{◌≡◌, ◌<◌, [], ℕ, false, List, All, length, get_or, slice_get, Option, Some, None, Result, Ok, Err, IfOk, OnOk, OnErr, IfSome, refl, sym, subst, inr}
 use Rattle.std.specs.Option.{option_map}
 use Rattle.std.proofs.lemmas.List.Elements.{All-from_get_or}
 use Rattle.std.proofs.lemmas.Option.{slice_get-get_or, slice_get_within}
