@@ -7,6 +7,8 @@ from linux import own
 from tests.bench import HERE, ROOM, TOP, case, expect, expect_none, fault, is_equal, run
 
 TOOL = HERE / "beside-linux"
+# names in the tests' common room are others'
+OWN = ROOM / "own-kernels"
 FILES = [TOP / "examples/drops.toml", TOP / "examples/loopback.pcap"]
 
 
@@ -22,7 +24,7 @@ def image_of(release):
 
 def kernel(name, release="6.1.9", built="6.1.9", without=()):
     """The image and the folder of a kernel that was built here."""
-    room = ROOM / name
+    room = OWN / name
     for it in (own.RELEASE, own.VALUES):
         (room / it).parent.mkdir(parents=True)
     (room / "bzImage").write_bytes(image_of(release))
@@ -34,12 +36,12 @@ def kernel(name, release="6.1.9", built="6.1.9", without=()):
 @case
 def own_kernel_words():
     it = kernel("whole")
-    for words in (it[:2], it[2:], [*it, "--kernel", "6.1"], ["--modules", ROOM]):
+    for words in (it[:2], it[2:], [*it, "--kernel", "6.1"], ["--modules", OWN]):
         expect(f"beside-linux {words}", run(TOOL, "--rules-alone", *words, *FILES), 2, "--image BZIMAGE --headers DIR [--modules DIR]")
     expect("beside-linux --image, no plan", run(TOOL, *it), 2, "PLAN and CAPTURE, or --many N")
     expect("beside-linux, no such option", run(TOOL, "--rules-alone", "--imag", it[1], *FILES), 2, "--imag")
-    os.link(it[1], ROOM / "o.linux.fates")
-    expect("beside-linux --image, an output that is the image by a link", run(TOOL, "--rules-alone", *it, *FILES, ROOM / "o"), 2, "o.linux.fates is an input")
+    os.link(it[1], OWN / "o.linux.fates")
+    expect("beside-linux --image, an output that is the image by a link", run(TOOL, "--rules-alone", *it, *FILES, OWN / "o"), 2, "o.linux.fates is an input")
     said = run(TOOL, "--config")
     expect("beside-linux --config", said, 0, "CONFIG_NET_SCHED=y\n", "CONFIG_FTRACE=y\nCONFIG_ENABLE_DEFAULT_TRACERS=y\n")
     expect_none("beside-linux --config", said, "CONFIG_TRACEPOINTS=")
@@ -51,25 +53,25 @@ def own_kernel_refused():
     rows = {
         "is of 6.1.8 and": kernel("other", "6.1.8"),
         "lacks CONFIG_SMP, CONFIG_TRACEPOINTS: --config prints": kernel("lacks", without=("SMP", "TRACEPOINTS")),
-        "has no include/generated/utsrelease.h": [*kernel("none")[:3], ROOM],
-        "none is no folder": [*kernel("modules"), "--modules", ROOM / "modules/none"],
+        "has no include/generated/utsrelease.h": [*kernel("none")[:3], OWN],
+        "none is no folder": [*kernel("modules"), "--modules", OWN / "modules/none"],
     }
     for text, words in rows.items():
         expect(f"beside-linux, {text}", run(TOOL, "--rules-alone", *words, *FILES), 3, text)
     words = kernel("text")
-    (ROOM / "text/bzImage").write_text("no kernel", encoding="utf-8")
+    (OWN / "text/bzImage").write_text("no kernel", encoding="utf-8")
     expect("beside-linux, a text for an image", run(TOOL, "--rules-alone", *words, *FILES), 3, "bzImage is no bzImage")
-    (ROOM / "text/bzImage").unlink()
+    (OWN / "text/bzImage").unlink()
     expect("beside-linux, no image", run(TOOL, "--rules-alone", *words, *FILES), 4, "bzImage: No such file")
 
 
 @case
 def own_kernel_missing_packages():
-    path = ROOM / "bare"
-    path.mkdir()
+    path = OWN / "bare"
+    path.mkdir(parents=True)
     (path / "python3").symlink_to(os.path.realpath(shutil.which("python3")))
-    words = ["--rules-alone", "--folder", ROOM / "folder", *kernel("packages"), *FILES]
+    words = ["--rules-alone", "--folder", OWN / "folder", *kernel("packages"), *FILES]
     said = run(path / "python3", TOOL, *words, env=dict(os.environ, PATH=str(path)))
     expect("beside-linux --image without packages", said, 3, "there is no program 'apt-get', which Debian has")
-    if (ROOM / "folder/tools").exists():
+    if (OWN / "folder/tools").exists():
         fault("beside-linux: without apt-get a folder of packages is made")

@@ -86,7 +86,7 @@ DoesEventAt e event old new = ((is_at old.made.station event ≡ true) × ((plan
 
 -- ON THE WAY THROUGH THE PACKETS
 
--- A sender is before packet n: it sent its k packets below that, woke its stations so often as `opens` says of each of them, and did the
+-- A sender is before packet n: it sent its k packets below that, woke its stations as often as `opens` says of each of them, and did the
 -- events before `next`, each of which stands before a lower packet.
 pub record IsSending (plan : Plan) (infos : List Info) (opens : ℕ → ℕ) (tables : List TableState) (sender n k next : ℕ) (start : List SeatState) (brought : List DeviceState) (now : List SeatState) (spares : List DeviceState) : Type 0 where
   pub within : next ≤ length plan.events

@@ -77,7 +77,7 @@ module _ {D G : Type 0} where
   abbrev pub events_on : Run D G → ℕ → ℕ → List RunningStation → List RunningStation
   events_on run next count stations = with_events run.plan.now run.infos.now (numbers_from next count) stations
 
-  -- what follows packet n: the queues are opened so often as it is after this packet, and soft interrupts done
+  -- what follows packet n: the queues are opened as often as the run has it after this packet, and soft interrupts are done
   abbrev pub turn_after : Run D G → ℕ → List RunningStation → List RunningStation
   turn_after run n stations = turn_ended run.infos.now (opens_in run n) stations
 

@@ -24,11 +24,11 @@ count_sent infos sender n = count_by (λ info. info.owner == sender) (take n inf
 abbrev pub opens_by : Openings → List Info → ℕ → ℕ
 opens_by openings infos n = opens_after openings n (count_sent infos (owner_in infos n) n)
 
--- it is so often after each of them
+-- this is how often after each of them
 abbrev pub OpensAre : Openings → List Info → (ℕ → ℕ) → Type 0
 OpensAre openings infos opens = (n : ℕ) → n < length infos → opens_by openings infos n ≡ opens n
 
--- of each of them it is known
+-- of each of them that can be looked up
 abbrev pub KnowOpenings : Openings → List Info → Type 0
 KnowOpenings openings infos = (n : ℕ) → n < length infos → opens_within openings n
 

@@ -36,7 +36,7 @@ fn events_left<'r, 'a, R: Wait, D: TxDevice, G: Gate>(
 }
 
 /// Sends a sender's packets. The first sender does the plan's events, each before its packets with that number or a higher one.
-/// After each of its packets the sender opens the stopped queues of all stations, so often as the run has it.
+/// After each of its packets the sender opens the stopped queues of all stations as often as the run has it.
 pub fn send_loop<'r, 'a, R: Wait, D: TxDevice, G: Gate>(
     rt: &R,
     run: &Run<'r, 'a, D, G>,

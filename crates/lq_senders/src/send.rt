@@ -99,7 +99,7 @@ fn send_ready<'r, 'a, R: Threads + Wait + Sync, D: TxDevice, G: Gate>(
 
 /// Sends the packets through the plan's stations, and lays out what stays of them: packet n has the n-th fate. Each station
 /// begins with the device of the bench at its place, and the plan's swaps bring those after them, in order. All are back
-/// in their places at the end. After each packet its sender opens the stopped queues so often as `openings` has it.
+/// in their places at the end. After each packet its sender opens the stopped queues as often as `openings` has it.
 ///
 /// # NoMemory
 ///

@@ -8,8 +8,8 @@ use lq_model::Info;
 use lq_plan::{Openings, Plan};
 use lq_seat::{Seat, Table};
 
-/// What a run is asked to do: to send packets under the plan, which allows them, and to open the stopped queues so often after each.
-/// Each sender passes the gate.
+/// What a run is asked to do: to send packets under the plan, which allows them, and after each to open the stopped queues as often as
+/// `openings` has it. Each sender passes the gate.
 #[derive(Drop)]
 pub struct Job<'r, G: Gate> {
     pub plan: &'r Plan,

@@ -1,0 +1,62 @@
+"""What tools/test-docs looks for in docs/CHANGING.md, on a page and a repository of this test's own."""
+from tests import exemplars
+from tests.bench import ROOM, case, is_equal
+
+CHAPTER = """# Changing it
+
+## A fate
+
+Exemplar: `Gone`, in texts and tools `gone`; some 6 files. Not tried yet.
+
+| File | What |
+|---|---|
+| `lq_low/src/fate.rt`, `words.rt`, `specs/Words.antt` | the variant, and its word |
+| `lq_low/proofs/` | a case in each |
+| `tools/draw` | its colour |
+
+Left alone: `docs/HISTORY.md`
+(it tells what was).
+"""
+FILES = {
+    "docs/CHANGING.md": CHAPTER,
+    "docs/HISTORY.md": "It was gone.\n",
+    "crates/lq_low/src/fate.rt": "pub enum Fate { Gone }\n",
+    "crates/lq_low/src/words.rt": "// nothing\n",
+    "crates/lq_low/specs/Words.antt": "word Gone = 3\n",
+    "crates/lq_low/proofs/words/word/Answers.antt": "answer Gone\n",
+    "crates/lq_low/proofs/Lemmas.antt": "-- what is Gone\n",
+    "crates/lq_low/out/left.rt": "Gone\n",
+    "tools/draw": "colour = {'gone': 1}\n",
+    "tools/other": "goner\n",
+}
+
+
+def faults_with(name, changes):
+    """What is found in the repository with some files changed."""
+    top = ROOM / f"exemplars-{name}"
+    for path, text in (FILES | changes).items():
+        (top / path).parent.mkdir(parents=True, exist_ok=True)
+        (top / path).write_text(text, encoding="utf-8")
+    return [it.removeprefix("docs/CHANGING.md: A fate: ") for it in exemplars.faults(top)]
+
+
+@case
+def files_that_a_chapter_leaves_out():
+    """A file is missed wherever it is: in the crate of another path, in a folder beside one that is named, and among the tools."""
+    is_equal("all files are named", faults_with("right", {}), [])
+    lacks = "names Gone or gone, and the chapter doesn't name it"
+    for path in ("tools/other", "crates/lq_low/src/lib.rt", "crates/lq_low/specs/Lib.antt", "crates/lq_low/README.md", "lqtx"):
+        named = faults_with("more-" + path.replace("/", "-"), {path: "Gone\n"})
+        is_equal(f"{path} is left out", named, [f"{path} {lacks}", "7 files name Gone or gone, not some 6"])
+    for path, cell in (("tools/draw", "`tools/draw`"), ("docs/HISTORY.md", "`docs/HISTORY.md`"), ("crates/lq_low/specs/Words.antt", ", `specs/Words.antt`")):
+        fewer = {"docs/CHANGING.md": CHAPTER.replace(cell, "")}
+        is_equal(f"without {cell}", faults_with("less-" + path.replace("/", "-"), fewer), [f"{path} {lacks}"])
+
+
+@case
+def chapters_without_an_exemplar():
+    """A chapter that lists files has an exemplar, and one that lists none needs none."""
+    without = CHAPTER.replace("Exemplar: ", "It goes by ")
+    wanted = ["it has a table of files, and no line 'Exemplar: `NAME`; some N files.'"]
+    is_equal("a table without an exemplar", faults_with("no-exemplar", {"docs/CHANGING.md": without}), wanted)
+    is_equal("neither", faults_with("no-table", {"docs/CHANGING.md": without.replace("| File | What |", "| Name | What |")}), [])
