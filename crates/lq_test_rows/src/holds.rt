@@ -4,8 +4,8 @@ use std::alloc::{AllocError, Global};
 use std::hint::spin_loop;
 use std::sync::atomic::{AtomicBool, Ordering};
 
-/// A wait gives up after so many turns.
-const TURNS: u32 = 20_000_000;
+/// A wait gives up after so many turns: some seconds of a processor that many threads share, since the last of 64 threads that wait begins late.
+const TURNS: u32 = 1_000_000_000;
 
 /// A pass of the gate: of which sender, or of the reader, and its `k`.
 pub type Pass = (u32, u32);
