@@ -75,7 +75,10 @@ pub fn table<'a>(
     if device.configure(&plan.params, infos.len()).is_err() {
         return None;
     }
-    match Shared::make(alloc, infos, 0, plan, 1, OWNERS, Station::new(0, device)) {
+    let Ok(station) = Station::new(alloc, 0, device) else {
+        return None;
+    };
+    match Shared::make(alloc, infos, 0, plan, 1, OWNERS, station) {
         Ok(made) => Some(made),
         Err(_) => None,
     }

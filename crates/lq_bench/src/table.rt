@@ -70,7 +70,9 @@ pub fn show<R: Runtime>(rt: &R, name: &str, measured: Measured, shows: bool) -> 
 fn empty_table<'a>(alloc: Global) -> Result<(Shared<'a, BenchDevice>, Cpu<BenchDevice>), NoMemory>
     ensures { IfOk result (λ t. IsFirstReady t.0 t.1 × IsWhole t.1) }
 {
-    let station = Station::new(0, BenchDevice::new(alloc));
+    let Ok(station) = Station::new(alloc, 0, BenchDevice::new(alloc)) else {
+        return Err(NoMemory);
+    };
     match Shared::make(alloc, &[], 0, PLAN, 1, SEATS, station) {
         Ok(made) => Ok(made),
         Err(_) => Err(NoMemory),

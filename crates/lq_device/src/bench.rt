@@ -1,9 +1,11 @@
 //! The device of the built-in bench: it keeps the numbers of the packets that it accepted, and tells all.
-ghost use Rattle.std.specs.Prelude.{◌≡◌, ◌≤◌, ◌<◌, Some, [], false, OnOk, OnErr};
-ghost use Rattle.lq_model.specs.Device.{IsConfigured, Answers, is_multiple};
+ghost use Rattle.std.specs.Prelude.{◌≡◌, ◌≤◌, ◌<◌, ◌+◌, ◌==◌, ◌&&◌, nat_lt, Some, [], false, OnOk, OnErr, vec_len};
+ghost use Rattle.lq_device.specs.Multiples.{left_to_multiple};
+ghost use Rattle.lq_model.specs.Device.{IsConfigured, Answers};
 
 use crate::asked::Asked;
 use crate::device::TxDevice;
+use crate::multiples::{is_multiple_next, left_after_one};
 use lq_model::{NoMemory, Params, Tx};
 use std::alloc::Global;
 
@@ -23,7 +25,13 @@ pub struct BenchDevice {
     /// How many answers since `configure` were Busy: at most `params.busy_limit`.
     busies: u32,
     hung: bool,
+    /// How many calls are left to the next whose number is a multiple of `busy_every`, that one counted; 0 where that is 0.
+    to_busy: u32,
+    /// The same of the accepted packets and `burst`.
+    to_stop: u32,
     ghost busies_within: { busies ≤ params.busy_limit },
+    ghost busy_counted: { to_busy ≡ left_to_multiple (vec_len accepted + busies) params.busy_every },
+    ghost stop_counted: { to_stop ≡ left_to_multiple (vec_len accepted) params.burst },
 }
 
 const PLAIN: Params = Params {
@@ -33,11 +41,11 @@ const PLAIN: Params = Params {
     hang_after: 0,
 };
 
-/// Whether a number is a multiple of another one that isn't 0.
-fn is_multiple_of(number: u64, every: u32) -> bool
-    ensures { result ≡ is_multiple number every }
+/// Whether a device hangs once it has accepted so many packets.
+fn hangs_at(accepted: usize, hang_after: u32) -> bool
+    ensures { result ≡ (nat_lt 0 hang_after && (accepted == hang_after)) }
 {
-    every > 0 && number % every as u64 == 0
+    hang_after > 0 && accepted == hang_after as usize
 }
 
 impl BenchDevice {
@@ -54,6 +62,8 @@ impl BenchDevice {
             params: PLAIN,
             busies: 0,
             hung: false,
+            to_busy: 0,
+            to_stop: 0,
         }
     }
 }
@@ -78,24 +88,27 @@ impl TxDevice for BenchDevice {
             params: *params,
             busies: 0,
             hung: false,
+            to_busy: params.busy_every,
+            to_stop: params.burst,
         };
         Ok(())
     }
 
     fn xmit(&mut self, queue: u32, packet: u32) -> Tx {
         self.asked.push(queue, packet);
-        let before = self.accepted.len() as u64;
-        let call = before + self.busies as u64 + 1;
-        if is_multiple_of(call, self.params.busy_every) && self.busies < self.params.busy_limit {
+        let may_be_busy = is_multiple_next(self.to_busy);
+        self.to_busy = left_after_one(self.to_busy, self.params.busy_every);
+        if may_be_busy && self.busies < self.params.busy_limit {
             self.busies += 1;
             return Tx::Busy;
         }
         self.accepted.push_reserved(packet);
-        let count = before + 1;
-        if self.params.hang_after > 0 && count == self.params.hang_after as u64 {
+        let stops = is_multiple_next(self.to_stop);
+        self.to_stop = left_after_one(self.to_stop, self.params.burst);
+        if hangs_at(self.accepted.len(), self.params.hang_after) {
             self.hung = true;
             Tx::SentHang
-        } else if is_multiple_of(count, self.params.burst) {
+        } else if stops {
             Tx::SentStop
         } else {
             Tx::Sent

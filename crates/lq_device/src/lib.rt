@@ -7,10 +7,12 @@
 mod asked;
 mod bench;
 mod device;
+mod multiples;
 mod station;
 
 pub use asked::Asked;
 pub use bench::BenchDevice;
 pub use device::TxDevice;
 pub use lq_model::{NoMemory, Params, StationPlan, Tx};
+pub use multiples::{is_multiple_next, left_after_one};
 pub use station::Station;

@@ -55,31 +55,31 @@ module _ {S : Type 0} where
 
 -- WHAT A SEAT KNOWS: its view, and the steps that it made, the latest first
 
-pub record Known (V : Type 0) : Type 0 where
+pub record WithSteps (V : Type 0) : Type 0 where
   pub view : V
   pub steps : List Made
 
 module _ {V : Type 0} where
-  abbrev pub made_nothing : V → Known V
+  abbrev pub made_nothing : V → WithSteps V
   made_nothing v = record { view = v; steps = [] }
 
-  abbrev pub views_of : List (Known V) → List V
-  views_of ms = map (λ (m : Known V). m.view) ms
+  abbrev pub views_of : List (WithSteps V) → List V
+  views_of ms = map (λ (m : WithSteps V). m.view) ms
 
 module _ {S V : Type 0} where
   -- the table without the seats' steps
-  abbrev pub viewed : table.State S (Known V) → table.State S V
+  abbrev pub viewed : table.State S (WithSteps V) → table.State S V
   viewed s = record { words = s.words; homes = s.homes; views = views_of s.views }
 
   -- the rule is over the views alone
-  abbrev pub OfViews : (table.State S V → Type 0) → table.State S (Known V) → Type 0
+  abbrev pub OfViews : (table.State S V → Type 0) → table.State S (WithSteps V) → Type 0
   OfViews holds s = holds (viewed s)
 
   -- the seat without its steps
-  abbrev pub seen : Me S (Known V) → Me S V
+  abbrev pub seen : Me S (WithSteps V) → Me S V
   seen m = (m.0.view, m.1)
 
   -- what the step tells of the view, and that it stands at the head of the seat's steps
-  pub record Noted (made_of : Step S → ℕ → Made) (told_of : Step S → Me S V → ℕ → Me S V → Type 0) (s : Step S) (m : Me S (Known V)) (found : ℕ) (m' : Me S (Known V)) : Type 0 where
+  pub record Noted (made_of : Step S → ℕ → Made) (told_of : Step S → Me S V → ℕ → Me S V → Type 0) (s : Step S) (m : Me S (WithSteps V)) (found : ℕ) (m' : Me S (WithSteps V)) : Type 0 where
     pub told : told_of s (seen m) found (seen m')
     pub noted : m'.0.steps ≡ made_of s found ∷ m.0.steps

@@ -8,9 +8,9 @@ pub struct Knows<V> {
 }
 
 impl<V> Model for Knows<V> {
-    ghost use Rattle.lq_log.specs.Made.{Known, made_nothing};
+    ghost use Rattle.lq_log.specs.Made.{WithSteps, made_nothing};
 
-    ghost Value = { Known V };
+    ghost Value = { WithSteps V };
 
     ghost view = { λ k. made_nothing k.view };
 }

@@ -5,6 +5,8 @@ mod known;
 mod logged;
 mod seats;
 mod steps;
+mod tells;
 
 pub use known::{Knows, Logging};
 pub use logged::Logged;
+pub use tells::{Cuts, Tells};

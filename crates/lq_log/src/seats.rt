@@ -5,6 +5,7 @@ ghost use Rattle.lq_log.specs.Made.{made_nothing};
 
 use crate::known::Knows;
 use crate::logged::Logged;
+use crate::tells::Cuts;
 use atomic_table::{Join, Seat, Split, TableRule};
 use std::alloc::Allocator;
 use std::marker::PhantomData;
@@ -14,7 +15,7 @@ pub(crate) struct CutBy<M> {
     of: PhantomData<M>,
 }
 
-impl<V, M: Split<V>> Split<Knows<V>> for CutBy<M> {
+impl<V, M: Cuts<V>> Split<Knows<V>> for CutBy<M> {
     ghost left = { λ m. record m { view = M.left m.view } };
 
     ghost right = { λ m. made_nothing (M.right m.view) };
@@ -33,7 +34,11 @@ impl<V, M: Join<V>> Join<Knows<V>> for JoinedBy<M> {
 impl<S, V, K, P: TableRule<S, V, K>, A: Allocator> Logged<S, V, K, P, A> {
     /// Cuts the seat in two, as `M` cuts its view. It keeps its list, and the new seat made no step. The load that this costs is in
     /// no list.
-    pub fn split_seat<M: Split<V>>(&self, seat: &mut Seat<S, Knows<V>>) -> Seat<S, Knows<V>>
+    pub fn split_seat<M: Cuts<V>, X>(
+        &self,
+        seat: &mut Seat<S, Knows<V>>,
+        _about: &X,
+    ) -> Seat<S, Knows<V>>
         requires { (seat.old.table_id ≡ self.now.kit.shared.table_id) × (0 < self.now.kit.shared.table_id.words)
             × Splits (P.holds self.now.kit.shared.key) seat.old.id seat.old.me.0.view (M.left seat.old.me.0.view) (M.right seat.old.me.0.view) }
         ensures { (seat.new.table_id ≡ seat.old.table_id) × (seat.new.id ≡ seat.old.id)

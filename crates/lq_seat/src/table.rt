@@ -46,6 +46,7 @@ impl<'a, D: TxDevice> Table<'a, D> {
     {
         plan.stays_within_limits();
         let station = plan.station(number);
+        let held = Station::new(alloc, number, device)?;
         match Shared::make(
             alloc,
             infos,
@@ -53,7 +54,7 @@ impl<'a, D: TxDevice> Table<'a, D> {
             station,
             station.queues,
             plan.senders(),
-            Station::new(number, device),
+            held,
         ) {
             Ok((shared, cpu)) => Ok((Table { shared }, Seat { cpu })),
             Err(station) => Err(station.into_device()),

@@ -108,7 +108,9 @@ fn expect_ends(rt: &impl Abort, station: &Station<BenchDevice>, band: u32, ends:
 fn busy_station(rt: &(impl Abort + AllocGlobal)) -> Station<BenchDevice>
     ensures { 8 ≤ result.device.spare + length (sent_list result) }
 {
-    let mut station = Station::new(5, configured(rt));
+    let mut station = Station::new(rt.alloc(), 5, configured(rt))
+        .ok()
+        .expect(rt, "memory");
     expect_told(rt, &station, (5, 0, None, None, false));
     expect_answer(rt, &mut station, 40, Tx::Sent);
     expect_answer(rt, &mut station, 41, Tx::SentStop);

@@ -36,7 +36,7 @@ fn table<'a, A: Abort>(
     check_packets(rt, infos, 1);
     let mut device = BenchDevice::new(alloc);
     device.configure(&params, infos.len()).expect(rt, "memory");
-    let station = Station::new(0, device);
+    let station = Station::new(alloc, 0, device).ok().expect(rt, "memory");
     let plan = StationPlan {
         len: 8,
         max_len: 8,

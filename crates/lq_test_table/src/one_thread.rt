@@ -45,7 +45,7 @@ fn table<'a, A: Abort, D: TxDevice>(
         params: PARAMS,
         queues: 1,
     };
-    let station = Station::new(0, device);
+    let station = Station::new(alloc, 0, device).ok().expect(rt, "memory");
     Shared::make(alloc, infos, 0, plan, 1, 2, station)
         .ok()
         .expect(rt, "memory")

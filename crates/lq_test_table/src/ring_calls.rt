@@ -83,7 +83,9 @@ fn a_packet_is_put_and_taken(rt: HostRuntime) {
     }];
     let mut device = BenchDevice::new(rt.alloc());
     device.configure(&PARAMS, 1).expect(&rt, "memory");
-    let station = Station::new(0, device);
+    let station = Station::new(rt.alloc(), 0, device)
+        .ok()
+        .expect(&rt, "memory");
     let made = Shared::make(rt.alloc(), &infos, 0, PLAN, 1, 1, station);
     let (shared, mut cpu) = with_memory(&rt, made);
     shared.take_turn(&mut cpu, 0).expect(&rt, "its turn");

@@ -13,7 +13,9 @@ const PLAN: StationPlan = StationPlan {
 
 #[test]
 fn a_table_without_packets_is_made_and_closed(rt: HostRuntime) {
-    let station = Station::new(0, BenchDevice::new(rt.alloc()));
+    let station = Station::new(rt.alloc(), 0, BenchDevice::new(rt.alloc()))
+        .ok()
+        .expect(&rt, "memory");
     let (shared, mut cpu) = Shared::make(rt.alloc(), &[], 0, PLAN, 1, 3, station)
         .ok()
         .expect(&rt, "memory");

@@ -81,7 +81,9 @@ pub fn table<'a, A: Abort>(
         },
         queues: 1,
     };
-    let station = Station::new(0, device(rt, alloc, burst, infos));
+    let station = Station::new(alloc, 0, device(rt, alloc, burst, infos))
+        .ok()
+        .expect(rt, "memory");
     Shared::make(alloc, infos, 0, plan, 1, SENDERS + 1, station)
         .ok()
         .expect(rt, "memory")
