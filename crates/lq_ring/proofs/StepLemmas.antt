@@ -1,4 +1,4 @@
--- Steps one after another: of the wait for a producer lock, of a band that is turned, and of a purge.
+-- Steps one after another: of the wait for a producer lock, of and of a band that is turned.
 use Rattle.std.proofs.Common.{◌≡◌, ◌≢◌, ℕ, ◌-◌, ◌%◌, List, sym, subst, ap, ◌∙◌, true, false, ⊎_elim}
 use Rattle.std.specs.Prelude.{if◌then◌else◌}
 use Rattle.std.proofs.lemmas.Bool.{cases_Bool}
@@ -9,7 +9,7 @@ use Rattle.lq_table.specs.Views.{Setup}
 use Rattle.lq_table.specs.Made.{Made, ◌⊳◌, did_load_producer, did_take_producer, did_store_fate, did_store_slot, did_swap_slot}
 use Rattle.lq_ring.specs.Take.{emptied_count}
 use Rattle.lq_ring.specs.Steps.{Spins, held, lost, zeroed}
-use Rattle.lq_ring.specs.Changes.{TurnsRing, not_yet as unturned, took_out, put_back, dropped, PurgesEach, none_yet}
+use Rattle.lq_ring.specs.Changes.{TurnsRing, not_yet as unturned, took_out, put_back, dropped}
 
 pub spins_held : (band seen : ℕ) (old a b : List Made) → seen % 2 ≢ 0 → Spins band old a → b ≡ a ⊳ did_load_producer band seen → Spins band old b
 spins_held band seen old a b odd h e = subst (Spins band old) (sym e) (held a seen odd h)
@@ -34,11 +34,6 @@ module _ (k : Setup) (band : ℕ) where
 
   pub turns_dropped : (old new : List Made) (n : ℕ) (fate : Fate) → new ≡ old ⊳ did_store_fate k n (word_of fate) → TurnsRing k band old new
   turns_dropped old new n fate e = subst (TurnsRing k band old) (sym e) (dropped old n fate unturned)
-
--- A PURGE
-
-pub purges_none : (k : Setup) (band : ℕ) (fate : Fate) (old new : List Made) → new ≡ old → PurgesEach k band fate old 0 new
-purges_none k band fate old new e = subst (PurgesEach k band fate old 0) (sym e) none_yet
 
 -- A TAKE
 

@@ -1,11 +1,13 @@
 -- What a purge and a resize of the rings do: the steps in the order in which they are made, and what the seat knows after them.
-use Rattle.std.specs.Prelude.{◌≡◌, ◌+◌, ℕ, Bool, true, false, List, Some, length}
+use Rattle.std.specs.Prelude.{◌≡◌, ◌+◌, ℕ, Bool, true, false, List, [], ◌∷◌, ◌++◌, Some, length, slice_get}
 use Rattle.lq_model.specs.Band.{held_of}
 use Rattle.lq_model.specs.Machine.{Purge}
+use Rattle.lq_band.specs.Ring.{Ends, after_take, taken_on}
 use Rattle.lq_band.specs.Three.{at}
 use Rattle.lq_model.specs.Words.{word_of}
 use Rattle.lq_model.specs.declared.fate.Fate.{Fate}
 use Rattle.lq_ring.specs.Purged.{IsBandPurged}
+use Rattle.lq_ring.specs.Take.{emptied_count}
 use Rattle.lq_ring.specs.Resized.{HoldOwnPackets, IsKnownHeld, all_lost, having_resized}
 use Rattle.lq_table.specs.Views.{Left, Setup}
 use Rattle.lq_table.specs.Made.{Known, Made, ◌⊳◌, did_give_producer, did_set_producer, did_load_size, did_store_size, did_load_slot, did_store_slot, did_swap_slot, did_store_fate}
@@ -13,27 +15,32 @@ use Rattle.lq_ring.specs.Steps.{LocksProducer, zeroed}
 
 -- PURGES
 
--- The packet n was taken from the slot at the head, its fate was stored, and the slots taken are emptied as after a take.
-abbrev pub PurgesOne : Setup → ℕ → Fate → ℕ → List Made → List Made → Type 0
-PurgesOne k band fate n old new = (head : ℕ) × (zeroes : ℕ) × (new ≡ zeroed k band (head + 1) zeroes (old ⊳ did_load_slot k band head (n + 1) ⊳ did_store_fate k n (word_of fate)))
+-- In rings of this size whose consumer is at these ends: the packet n was taken from the slot at the head, its fate was stored, and
+-- the slots taken are emptied as after a take.
+abbrev pub purging_steps : Setup → ℕ → Fate → ℕ → Ends → ℕ → List Made → List Made
+purging_steps k band fate size c n steps = zeroed k band (c.head + 1) (emptied_count size (taken_on c)) (steps ⊳ did_load_slot k band c.head (n + 1) ⊳ did_store_fate k n (word_of fate))
 
--- a packet was, or else the slot at the head was loaded as 0
-abbrev pub PurgesOneOrNone : Setup → ℕ → Fate → Bool → List Made → List Made → Type 0
-PurgesOneOrNone k band fate one old new = (one ≡ true → (n : ℕ) × PurgesOne k band fate n old new) × (one ≡ false → (head : ℕ) × (new ≡ old ⊳ did_load_slot k band head 0))
+-- the first packet that the band held was, or else the slot at the head was loaded as 0
+pub record PurgesOneOrNone (k : Setup) (band : ℕ) (fate : Fate) (one : Bool) (old new : Known) : Type 0 where
+  pub first : one ≡ true → (l : Left) (n : ℕ) → old.view.holder.left ≡ Some l → slice_get (held_of (at band l.bands)) 0 ≡ Some n
+      → new.steps ≡ purging_steps k band fate old.view.holder.size (at band old.view.holder.ends) n old.steps
+  pub none : one ≡ false → new.steps ≡ old.steps ⊳ did_load_slot k band (at band old.view.holder.ends).head 0
 
--- so were these packets, in order, up to one that is not
-pub data PurgesEach (k : Setup) (band : ℕ) (fate : Fate) (old : List Made) : ℕ → List Made → Type 0 where
-  none_yet : PurgesEach k band fate old 0 old
-  one_more : (count n : ℕ) (steps next : List Made) → PurgesEach k band fate old count steps → PurgesOne k band fate n steps next → PurgesEach k band fate old (count + 1) next
+-- these packets were purged, in this order, from these ends to those
+pub data PurgesEach (k : Setup) (band : ℕ) (fate : Fate) (size : ℕ) (start : Ends) (old : List Made) : List ℕ → Ends → List Made → Type 0 where
+  none_yet : PurgesEach k band fate size start old [] start old
+  one_more : (packets : List ℕ) (c : Ends) (n : ℕ) (steps : List Made) → PurgesEach k band fate size start old packets c steps
+      → PurgesEach k band fate size start old (packets ++ n ∷ []) (after_take size c) (purging_steps k band fate size c n steps)
 
--- so many packets were purged, and then the slot at the head was loaded as 0
-abbrev pub PurgesAll : Setup → ℕ → Fate → ℕ → List Made → List Made → Type 0
-PurgesAll k band fate count old new = (size : ℕ) × (steps : List Made) × (head : ℕ) × PurgesEach k band fate (old ⊳ did_load_size size) count steps × (new ≡ steps ⊳ did_load_slot k band head 0)
+-- The size was loaded, these packets were purged, and then the slot at the head was loaded as 0.
+abbrev pub PurgesAll : Setup → ℕ → Fate → List ℕ → Known → Known → Type 0
+PurgesAll k band fate packets old new = let size = old.view.holder.size in
+    (steps : List Made) × (c : Ends) × PurgesEach k band fate size (at band old.view.holder.ends) (old.steps ⊳ did_load_size size) packets c steps × (new.steps ≡ steps ⊳ did_load_slot k band c.head 0)
 
--- `pfifo_fast_reset` of net/sched/sch_generic.c, at the band that a purge has come to: these are all packets that the band held.
+-- `pfifo_fast_reset` of net/sched/sch_generic.c, at the band that a purge has come to: all packets that the band held are purged.
 pub record PurgesBand (k : Setup) (band : ℕ) (fate : Fate) (count : ℕ) (old new : Known) : Type 0 where
   pub purged : (u : Purge) (l : Left) → old.view.control.purge ≡ Some u → old.view.holder.left ≡ Some l → IsBandPurged band u l old.view new.view × (count ≡ length (held_of (at band l.bands)))
-  pub made : PurgesAll k band fate count old.steps new.steps
+  pub made : (l : Left) → old.view.holder.left ≡ Some l → PurgesAll k band fate (held_of (at band l.bands)) old new
 
 -- A RESIZE
 

@@ -4,7 +4,7 @@ ghost use Rattle.std.specs.Prelude.{◌≡◌, ◌≢◌, ◌+◌, ◌-◌, ◌<
 ghost use Rattle.lq_model.specs.Words.{HasWord};
 ghost use Rattle.lq_model.specs.declared.fate.Fate.TheVariants as fate;
 ghost use Rattle.lq_table.specs.Rule.{IsResting};
-ghost use Rattle.lq_table.specs.Sees.{view, known, steps, setup, slot, IsSeatOf, IsSameSeat};
+ghost use Rattle.lq_table.specs.Sees.{view, known, setup, slot, IsSeatOf, IsSameSeat};
 ghost use Rattle.lq_ring.specs.Changes.{PurgesBand, PurgesOneOrNone};
 ghost use Rattle.lq_ring.specs.Put.{no_locks};
 ghost use Rattle.lq_ring.specs.Take.{CarriesStation};
@@ -36,7 +36,7 @@ fn purge_one<'a, D: TxDevice>(
     ensures none { result ≡ false → PassesBand band (view cpu.old) (view cpu.new) }
     ensures taken { result ≡ true → PurgesFirst band (view cpu.old) (view cpu.new) }
     ensures station { CarriesStation cpu.new }
-    ensures made { PurgesOneOrNone (setup shared.now) band (fate.Purged cause) result (steps cpu.old) (steps cpu.new) }
+    ensures made { PurgesOneOrNone (setup shared.now) band (fate.Purged cause) result (known cpu.old) (known cpu.new) }
 {
     let found = shared.purge_slot(cpu, band);
     if found == 0 {

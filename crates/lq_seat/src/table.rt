@@ -81,11 +81,12 @@ impl<'a, D: TxDevice> Table<'a, D> {
         self.shared.close(cpu)
     }
 
-    /// Ends a table that was never used, or whose packets don't matter: its device comes back.
+    /// Ends a table that was never used, or whose packets don't matter: its device comes back, as the seat knows it.
     pub fn give_back(self, seat: Seat<D>) -> D
         requires here { IsHere self seat }
         requires may { MayCloseBy seat }
-        ensures { (D.state result).identity ≡ seat.origin.identity }
+        ensures device { D.state result ≡ seat.whole.device }
+        ensures identity { (D.state result).identity ≡ seat.origin.identity }
     {
         let Seat { cpu } = seat;
         let (_ended, device) = self.shared.close(cpu).into_device();

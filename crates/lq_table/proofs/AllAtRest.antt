@@ -49,6 +49,7 @@ use Rattle.lq_table.proofs.Greatest.{all_zero_below}
 use Rattle.lq_table.proofs.Middle.{found, middle, to_idle}
 use Rattle.lq_table.proofs.SettledKept.{word_positive}
 use Rattle.lq_table.proofs.Ties.{nothing_in, holds_none}
+use Rattle.lq_table.proofs.TurnWords.{turn_words}
 use Rattle.std.specs.Option.{option_map_or}
 use Rattle.std.proofs.lemmas.Option.{slice_get_cases}
 
@@ -262,6 +263,7 @@ stands_for k s r = record {
   packets = r.parts.station.ties;
   stops = r.parts.station.stops;
   events = record { comes = r.parts.account.accounted.comes; find_nothing = r.parts.account.find_nothing };
+  turns = turn_words k s r;
   rings = r.parts.station.rings;
   station = r.parts.station.lends;
   fates = r.parts.station.fates;

@@ -44,7 +44,7 @@ module _ (k : Setup) where
       let q = r.qdisc in let p = r.parts in let g = r.state in let a = account k g in let W = words_of k s.words in let D : HolderPart = holders g a W.size in let w : View = record v { place = t } in
       rule_after k s r 0 (get_or s.words 0 0) id s.homes r.home w W q g a r.deep (set_back k s.words 0) refl record {
         seats = seats_same k s r id v w here live q g refl refl refl (λ e1 e2. (e1, e2));
-        machine = moves k s r id v w here live q refl (closed s.views id v here live w q t live refl (machine here live)) own
+        machine = moves k s r id v w here live q refl refl (closed s.views id v here live w q t live refl (machine here live)) own
             (let knows = p.machine.firsts.knows id v here first in firsts_now s.views id v w here q.phase q.phase q.purge q.purge p.machine.firsts first refl knows.0 knows.1 refl);
         station = station_kept k s r id v w here W r.home q g a refl (λ _. refl) refl (λ _ _ _ h. absurd (true≢false (sym h ∙ free)))
             p.station.stands

@@ -137,7 +137,7 @@ module _ (k : Setup) where
               (let x = p.seats.packets id v here in let y = quiet_after k g.past a a e v.share v.packets refl (λ _. refl) x in record { own = y.own; fresh = y.fresh; owed = λ n z h. stays_decided n z (x.owed n z h) })
               (λ j u _ _ x. let y = quiet_after k g.past a a e u.share u.packets refl (λ _. refl) x in record { own = y.own; fresh = y.fresh; owed = λ n z h. stays_decided n z (x.owed n z h) }))
               (gone_step k s.views id v w here e tt p.seats.gone refl) (λ e1 e2. (ap (λ (z : Qdisc). record z { bands = map (λ (band : List Packet). take len band) z.bands; len = len }) e1, ap (λ (z : State). record z { past = e ∷ z.past; resizing = Some t }) e2));
-          machine = moves k s r id v w here live q' refl (closed s.views id v here live w q' at_control live (λ j. record v.place { position = position j }) stepped_) (λ y own. own)
+          machine = moves k s r id v w here live q' refl refl (closed s.views id v here live w q' at_control live (λ j. record v.place { position = position j }) stepped_) (λ y own. own)
               (firsts_same k s.views id v w here q.phase q.phase q.purge q.purge p.machine.firsts live refl refl refl refl (λ h. h));
           station = record {
             stands = stands_same p.station.stands refl;
@@ -232,7 +232,7 @@ module _ (k : Setup) where
   stores_size slots id m t holds under_way some_share ready s r1 deep here small =
       let v : View = m.0 in let r = resizing_rule k s r1 (Some t) (resizing_known k s r1 id v (Some t) here some_share holds under_way) in let live = lt-ltb 0 v.share.shares some_share in
       let p = r.parts in let g = r.state in let a = account k g in let q = r.qdisc in let W = words_of k s.words in let w : View = restarted t v in
-      let at_ = p.station.lends.knows id v here live holds in let mach = stays k s r id v w here live refl refl refl in
+      let at_ = p.station.lends.knows id v here live holds in let mach = stays k s r id v w here live refl refl refl refl in
       let res = p.station.rings.half_resized t refl in let ends' : Three Ends = all_three at_start in let g' : State = record g { ends = ends'; resizing = None } in let D' : HolderPart = holders g' a t.len in (
         w,
         keeps,

@@ -100,7 +100,7 @@ module _ (k : Setup) where
   works_on s r1 i x id b v t y sb fs more here some_share holds under_way below is kept_same new stored settled_are =
       let r = resizing_rule k s r1 (Some t) (resizing_known k s r1 id v (Some t) here some_share holds under_way) in let live = lt-ltb 0 v.share.shares some_share in
       let p = r.parts in let g = r.state in let a = account k g in let q = r.qdisc in let W = words_of k s.words in let t' : HalfResize = with_work b y t in let w : View = record (with_resizing (Some t') v) { settled = more } in
-      let g' : State = record g { resizing = Some t' } in let D' : HolderPart = holders g' a W.size in let res = p.station.rings.half_resized t refl in let at_ = p.station.lends.knows id v here live holds in let mach = stays k s r id v w here live refl refl refl in
+      let g' : State = record g { resizing = Some t' } in let D' : HolderPart = holders g' a W.size in let res = p.station.rings.half_resized t refl in let at_ = p.station.lends.knows id v here live holds in let mach = stays k s r id v w here live refl refl refl refl in
       let same : (c : ℕ) → locks_at c (set s.views id w) ≡ locks_at c s.views = λ c. locks_same k s.views id v w here c refl in
       rule_after k s r i x id s.homes r.home w (record W { slots = put b sb W.slots; fates = fs }) q g' a r.deep is refl record {
         seats = seats_settled k s r id v w here live fs q g' refl refl refl (packets_same k s.views id v w here g.past a p.seats.packets refl refl) settled_are

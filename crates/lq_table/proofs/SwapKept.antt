@@ -122,7 +122,7 @@ module _ (k : Setup) where
           seats = seats_by_control k s r id v w here live e st.device q' g' a' refl refl refl first refl refl
               (packets_heard k s r id v w here live e a' refl (λ _. refl) refl refl)
               (gone_swap k s.views id v w here st.unit v.holder.station.unit v.holder.station.device.accepted new_unit p.seats.gone refl unit_is sent_is) (λ e1 e2. (ap (λ (z : Qdisc). record z { xoff = slice_set z.xoff 0 0 }) e1, ap (λ (z : State). record z { past = e ∷ z.past; station = st; origin = st.device; shut = shut }) e2));
-          machine = moves k s r id v w here live q' refl (closed s.views id v here live w q' at_control live is stepped_) (λ y own. own)
+          machine = moves k s r id v w here live q' refl refl (closed s.views id v here live w q' at_control live is stepped_) (λ y own. own)
               (firsts_as k s.views id v w here q.phase q.phase q.purge q.purge p.machine.firsts live refl refl refl refl refl refl (λ h. h));
           station = station_kept k s r id v w here (record W { xoff = xs }) r.home q' g' a' refl (λ _. refl) refl (λ _ _ y h. (y, h))
               (record { state = p.station.stands.state; lock = p.station.stands.lock; xoff = ap (λ (ls : List ℕ). slice_set ls 0 0) p.station.stands.xoff; inside = p.station.stands.inside; bypass = p.station.stands.bypass })
@@ -166,7 +166,7 @@ module _ (k : Setup) where
         tt,
         rule_after k s r (xoff_word k queue) 0 id s.homes r.home w (record W { xoff = xs }) q' g' a r.deep (set_xoff k s.words 0 queue (xoff_within k s.words queue r.wide below)) refl record {
           seats = seats_same k s r id v w here live q' g' refl refl refl (λ e1 e2. (ap (λ (z : Qdisc). record z { xoff = slice_set z.xoff queue 0 }) e1, ap (λ (z : State). record z { shut = shut }) e2));
-          machine = moves k s r id v w here live q' refl (closed s.views id v here live w q' at_control live is stepped_) (λ y own. own)
+          machine = moves k s r id v w here live q' refl refl (closed s.views id v here live w q' at_control live is stepped_) (λ y own. own)
               (firsts_same k s.views id v w here q.phase q.phase q.purge q.purge p.machine.firsts live refl refl refl refl (λ h. h));
           station = station_kept k s r id v w here (record W { xoff = xs }) r.home q' g' a refl (λ _. refl) refl (λ _ _ y h. (y, h))
               (record { state = p.station.stands.state; lock = p.station.stands.lock; xoff = ap (λ (ls : List ℕ). slice_set ls queue 0) p.station.stands.xoff; inside = p.station.stands.inside; bypass = p.station.stands.bypass })

@@ -1,7 +1,7 @@
 -- The steps on a turn word keep the rule.
 use Rattle.std.proofs.Common.{◌≡◌, ◌≢◌, ℕ, ◌+◌, ◌*◌, ◌<◌, Bool, true, List, eqb, length, set, refl, sym, ap, ◌∙◌, subst, arith, ⊎_elim, Option, Some, None, eq-eqb, ne_eqb, get_or, length-set, get_or-set_same, get_or-set_other, Contains}
 use Rattle.std.specs.Prelude.{if◌then◌else◌, nat_lt}
-use Rattle.lq_model.specs.Positions.{holds_lock}
+use Rattle.lq_model.specs.Positions.{holds_lock, own_packet}
 use Rattle.lq_model.specs.declared.machine.Seat.{Seat}
 use Rattle.lq_model.specs.declared.fate.Info.{Info}
 use Rattle.std.proofs.lemmas.Option.{same_Some}
@@ -23,12 +23,13 @@ use Rattle.lq_table.specs.Views.{View, Setup, SharePart, HolderPart}
 use Rattle.lq_table.specs.Comes.{IsFresh}
 use Rattle.lq_table.specs.Rule.{words_of, times, is_live, account, holders, Holder, KnowsPackets, KnowsTurn, KnowsWords, has_turn, Given, Turns, Rule}
 use Rattle.lq_table.proofs.UnitsKept.{gone_same}
-use Rattle.lq_table.specs.Told.{Sat, bringing, turn_taken, giving_turn, turn_given, turn_seen}
+use Rattle.lq_table.specs.Told.{Sat, at_rest, bringing, turn_taken, giving_turn, turn_given, turn_seen}
 use Rattle.lq_table.proofs.ByName.{set_turn, turn_of_word}
 use Rattle.lq_table.proofs.Accounts.{owners_apart}
+use Rattle.lq_table.proofs.Facts.{none_if, rest_owns}
 use Rattle.lq_table.proofs.SettledKept.{settled_same}
 use Rattle.lq_table.proofs.TrailsKept.{trails_same}
-use Rattle.lq_table.proofs.Frames.{none_some, shares_same, sole_step, rule_after, rule_same, stays, lends_step, same_past, same_xoff}
+use Rattle.lq_table.proofs.Frames.{none_some, shares_same, sole_step, rule_after, rule_same, stays_out, lends_step, same_past, same_xoff}
 use Rattle.lq_table.proofs.StationFrames.{station_kept, stands_same}
 
 -- whose turn it is counts at that packet's owner
@@ -64,12 +65,12 @@ module _ (k : Setup) (s : table.State (Option StationState) View) (r : Rule k s)
       (λ j u apart at_j y live_u. let old = y live_u in (old.0, λ z h. old.1 z h ∙ sym (other_word z (λ e. owners_apart k s.views r.parts.seats.shares id j v u o z small here at_j apart mine h e))))
 
   -- the rule after it, from the parts that speak of turns
-  turn_stored : w.share ≡ v.share → w.place ≡ v.place → w.control ≡ v.control → w.locks ≡ v.locks → w.holder ≡ v.holder → w.whole ≡ v.whole → w.settled ≡ v.settled → w.trail ≡ v.trail → w.packets.owed ≡ v.packets.owed
+  turn_stored : own_packet v.place.position ≡ None → w.share ≡ v.share → w.place ≡ v.place → w.control ≡ v.control → w.locks ≡ v.locks → w.holder ≡ v.holder → w.whole ≡ v.whole → w.settled ≡ v.settled → w.trail ≡ v.trail → w.packets.owed ≡ v.packets.owed
       → KnowsPackets k r.state.past (account k r.state) w.share w.packets
       → Turns k (set (words_of k s.words).turns o x) (set s.views id w) r.state.past → Given k (set (words_of k s.words).turns o x) (set s.views id w) r.state.past
       → Rule k record { words = set s.words (turn_place o) x; homes = s.homes; views = set s.views id w }
-  turn_stored share place control locks holder whole settled trail owed packets turns given =
-      let p = r.parts in let g = r.state in let a = account k g in let q = r.qdisc in let W = words_of k s.words in let D : HolderPart = holders g a W.size in let mach = stays k s r id v w here live place share control in
+  turn_stored out share place control locks holder whole settled trail owed packets turns given =
+      let p = r.parts in let g = r.state in let a = account k g in let q = r.qdisc in let W = words_of k s.words in let D : HolderPart = holders g a W.size in let mach = stays_out k s r id v w here live place share out control in
       rule_after k s r (turn_place o) x id s.homes r.home w (record W { turns = set W.turns o x }) q g a r.deep (set_turn k s.words x o small (let wide = r.wide in omega arith)) refl record {
         seats = record {
           shares = shares_same k s.views id v w here live p.seats.shares share;
@@ -90,6 +91,10 @@ module _ (k : Setup) (s : table.State (Option StationState) View) (r : Rule k s)
             p.station.stops;
         account = p.account;
       }
+
+-- a seat that has no turn is in no transmit
+none_owned : (k : Setup) (s : table.State (Option StationState) View) (r : Rule k s) (id : ℕ) (v : View) → get_elem? s.views id ≡ some v → is_live v ≡ true → v.packets.busy ≡ None → own_packet v.place.position ≡ None
+none_owned k s r id v here live idle = none_if (own_packet v.place.position) (λ y own. none_some (sym idle ∙ (r.parts.machine.hands id v here live y own).3))
 
 module _ (k : Setup) where
   pub takes_turn : (slots id : ℕ) (m : Sat) (n : ℕ) → n < length k.infos → station_in k.infos n ≡ k.station → 0 < times (owner_in k.infos n) m.0.share.owners → m.0.packets.busy ≡ None → 0 < m.0.share.shares
@@ -115,7 +120,7 @@ module _ (k : Setup) where
         keeps,
         tt,
         subst (λ c. Rule k (stepped s (turn_place o) (either c (2 * rank + 1) (get_or s.words (turn_place o) 0)) id m.1 w keeps)) (sym (eq-eqb _ _ free))
-            (turn_stored k s r id v w here live o o_in mine x refl refl refl refl refl refl refl refl refl
+            (turn_stored k s r id v w here live o o_in mine x (none_owned k s r id v here live idle) refl refl refl refl refl refl refl refl refl
             record { own = q.own; fresh = λ l h. subst (λ (y : ℕ). (0 < times (owner_in k.infos y) v.share.owners) × IsFresh k.infos k.station g.past y) (same_Some n l h) (mine, new); owed = q.owed }
             record {
               long = length-set W.turns o x ∙ t.long;
@@ -162,10 +167,10 @@ module _ (k : Setup) where
         (word ∙ sym known, (λ free. absurd (other free)), λ _. refl),
       ))
 
-  pub gives_turn : (slots id : ℕ) (m : Sat) (n : ℕ) → m.0.packets.busy ≡ Some n → m.0.packets.fresh ≡ None → 0 < m.0.share.shares
+  pub gives_turn : (slots id : ℕ) (m : Sat) (n : ℕ) → at_rest m.0.place.position ≡ true → m.0.packets.busy ≡ Some n → m.0.packets.fresh ≡ None → 0 < m.0.share.shares
       → Allows (Rule k) slots id m (turn_place (owner_in k.infos n)) (λ _. 2 * rank_in k.infos n + 2)
       (turn_given (owner_in k.infos n) (rank_in k.infos n) (step slots (turn_place (owner_in k.infos n)) (2 * rank_in k.infos n + 2) 0 none) m)
-  gives_turn slots id m n busy none_fresh some_share s r deep here small =
+  gives_turn slots id m n rests busy none_fresh some_share s r deep here small =
       let v : View = m.0 in let live = lt-ltb 0 v.share.shares some_share in let p = r.parts in let g = r.state in let a = account k g in let W = words_of k s.words in let o : ℕ = owner_in k.infos n in let rank : ℕ = rank_in k.infos n in let t = p.seats.turns in
       let q = p.seats.packets id v here in let know = (t.knows id v here).busy n busy in let mine = know.0 in let o_in = q.own o mine in let w : View = giving_turn o rank v in let x : ℕ = 2 * rank + 2 in let gv = p.seats.given in
       let is : get_or W.turns o 0 ≡ 2 * rank + 1 = know.1 in let here_new = same_word k s r id v w here live o o_in mine x in let else_new = other_word k s r id v w here live o o_in mine x in
@@ -175,7 +180,7 @@ module _ (k : Setup) where
         w,
         keeps,
         tt,
-        turn_stored k s r id v w here live o o_in mine x refl refl refl refl refl refl refl refl refl
+        turn_stored k s r id v w here live o o_in mine x (rest_owns v.place.position rests) refl refl refl refl refl refl refl refl refl
             record { own = q.own; fresh = q.fresh; owed = q.owed }
             record {
               long = length-set W.turns o x ∙ t.long;

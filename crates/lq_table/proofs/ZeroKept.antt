@@ -28,7 +28,7 @@ module _ (k : Setup) where
       let going : is_emptying W.size c ≡ true = subst (λ (z : ℕ × Ends). is_emptying z.0 z.1 ≡ true) (λ j. (size_is j, c_is j)) busy in
       let edge : c.edge - 1 ≡ i = (let x : (at b v.holder.ends).edge ≡ c.edge = ap (λ (x : Ends). x.edge) c_is in omega arith) in
       let w : View = emptying b v in let ss : Three (List ℕ) = put b (set (at b W.slots) i 0) W.slots in let ends' : Three Ends = put b (emptied_on W.size c) g.ends in let g' : State = record g { ends = ends' } in
-      let ring = empties _ _ _ _ _ _ old going in let mach = stays k s r id v w here live refl refl refl in let D' : HolderPart = holders g' a W.size in (
+      let ring = empties _ _ _ _ _ _ old going in let mach = stays k s r id v w here live refl refl refl refl in let D' : HolderPart = holders g' a W.size in (
         w,
         keeps,
         tt,

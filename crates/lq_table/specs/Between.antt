@@ -1,26 +1,59 @@
 -- What the rule says of a table between any two steps, whatever steps its seats took.
-use Rattle.std.specs.Prelude.{◌≡◌, ℕ, ◌<◌, true, [], ◌∷◌, slice_index, Option, Some, None}
+use Rattle.std.specs.Prelude.{◌≡◌, ℕ, ◌+◌, ◌*◌, ◌<◌, ◌≤◌, true, List, [], ◌∷◌, length, slice_index, Contains, Option, Some, None}
 use mathlib.Core.Option.{some}
+use lib.ListN.{get_elem?}
 use mathlib.Core.Option as maybe
 use Rattle.lq_device.specs.Station.{StationState}
-use Rattle.lq_model.specs.Account.{held}
+use Rattle.lq_model.specs.Account.{Event, held}
 use Rattle.lq_model.specs.Kept.{IsInductive}
 use Rattle.lq_account.specs.Trail.{IsOrderly}
+use Rattle.lq_model.specs.Legal.{brought_by}
 use Rattle.lq_model.specs.Machine.{Qdisc}
+use Rattle.lq_model.specs.Plan.{owner_in, rank_in, station_in}
+use Rattle.lq_model.specs.Positions.{own_packet}
+use Rattle.lq_model.specs.declared.machine.Packet.{Packet}
 use Rattle.lq_band.specs.Seats.{Each}
 use Rattle.lq_band.specs.Three.{at, all_three}
 use Rattle.lq_band.specs.Ring.{unlocked}
-use Rattle.lq_table.specs.Views.{View, Setup, State, first_account, no_packets}
+use Rattle.lq_table.specs.Views.{View, Setup, State, first_account, machine_packet, no_packets}
 use Rattle.lq_table.specs.Rule.{words_of, machine_of, account, bands_now, holders, is_live, AreStops, FatesStored, IsDevice, Lends, Rings, IsPresentUnit, Stands, Ties}
 use Rattle.lq_table.specs.Told.{at_rest}
 use Rattle.lq_table.specs.Closes.{AreQuiet, AreSlotsEmpty, IsEmptied}
 use Rattle.atomic_table.specs.Table as table
 
+-- the seat is in a transmit of a packet of this owner
+abbrev pub IsTransmitting : ℕ → View → Type 0
+IsTransmitting owner v = (is_live v ≡ true) × (p : Packet) × (own_packet v.place.position ≡ Some p) × (p.owner ≡ owner)
+
+-- the seat has the turn of this packet
+abbrev pub HasTurn : ℕ → View → Type 0
+HasTurn n v = (is_live v ≡ true) × (v.packets.busy ≡ Some n)
+
+-- some seat has the turn of the owner's packet of this rank
+pub record IsTurnOf (k : Setup) (o r : ℕ) (views : List View) : Type 0 where
+  pub id : ℕ
+  pub view : View
+  pub packet : ℕ
+  pub at : get_elem? views id ≡ some view
+  pub has : HasTurn packet view
+  pub owner : owner_in k.infos packet ≡ o
+  pub rank : rank_in k.infos packet ≡ r
+
+-- Where a turn word is 2r no seat is in a transmit of one of the owner's packets, and where it is 2r + 1 a seat has the turn of its
+-- packet of rank r. A seat in a transmit has the turn of that packet. A packet whose turn is over was brought, and one whose turn
+-- wasn't taken was not.
+pub record AreTurns (k : Setup) (words : List ℕ) (views : List View) (past : List Event) : Type 0 where
+  pub even : (o r : ℕ) → o < k.senders → slice_index words o ≡ 2 * r → Each (λ v. IsTransmitting o v → ⊥) views
+  pub odd : (o r : ℕ) → o < k.senders → slice_index words o ≡ 2 * r + 1 → IsTurnOf k o r views
+  pub own : (p : Packet) → Each (λ v. is_live v ≡ true → own_packet v.place.position ≡ Some p → (n : ℕ) × (v.packets.busy ≡ Some n) × (p ≡ machine_packet k.infos n)) views
+  pub over : (n : ℕ) → n < length k.infos → station_in k.infos n ≡ k.station → 2 * rank_in k.infos n + 2 ≤ slice_index words (owner_in k.infos n) → Contains (brought_by past) n
+  pub later : (n : ℕ) → slice_index words (owner_in k.infos n) ≤ 2 * rank_in k.infos n → Contains (brought_by past) n → ⊥
+
 -- The words stand for a machine that keeps the invariant, and for an account. The machine's seats are the places of the views that
 -- aren't spent, and its bands and its requeue slot hold what the account holds (as far as a purge half done has taken them); the
 -- account is what a list of events leaves, each of which may come where it stands, and of which a resize of a deactivated station
--- finds nothing held. The slots, the station with its requeue slot and its device, and the fate words are those of that same machine
--- and account.
+-- finds nothing held. The turn words say who is in a transmit and which packets were brought. The slots, the station with its requeue
+-- slot and its device, and the fate words are those of that same machine and account.
 pub record StandsForMachine (k : Setup) (s : table.State (Option StationState) View) : Type 0 where
   pub qdisc : Qdisc
   pub state : State
@@ -33,6 +66,7 @@ pub record StandsForMachine (k : Setup) (s : table.State (Option StationState) V
   -- the stop values are the account's, unless a swap of the device is half done
   pub stops : AreStops state.shut qdisc.phase qdisc.locked qdisc.xoff (account k state).stops
   pub events : IsOrderly k.infos k.station (first_account k) state.past
+  pub turns : AreTurns k (words_of k s.words).turns s.views state.past
   -- the slots hold the bands' packets, and the producer words are their indices
   pub rings : Rings k.max_len (words_of k s.words).size (words_of k s.words).producers (words_of k s.words).slots s.views (account k state).len (bands_now state.left (account k state).bands) state.ends state.resizing
   -- the station lies in the table's slot where the run lock is free, with the account's requeue slot; who has the lock has the station

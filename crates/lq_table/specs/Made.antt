@@ -1,21 +1,13 @@
 -- The steps of a seat by name, each as the call of that name makes it, and what a seat of this table knows with them.
-use Rattle.std.specs.Prelude.{ℕ, Bool, List, ◌∷◌, ◌+◌, ◌*◌}
-use Rattle.lq_log.specs.Made as log
-use Rattle.lq_log.specs.Made.{load, store, swap, exchange, set, clear, rise, fall}
+use Rattle.std.specs.Prelude.{ℕ, Bool, ◌+◌, ◌*◌}
+pub use Rattle.lq_log.specs.Made.{Made, ◌⊳◌}
+use Rattle.lq_log.specs.Made.{WithSteps, load, store, swap, exchange, set, clear, rise, fall}
 use Rattle.lq_table.specs.Views.{View, Setup}
 use Rattle.lq_table.specs.Places.{state_place, lock_place, inside_place, size_place, producer_place, turn_place, slot_word, fates_offset, xoff_word}
 
--- a step, and what a seat knows: its view, and the steps that it made, the latest first
-abbrev pub Made : Type 0
-Made = log.Made
-
+-- what a seat knows: its view, and the steps that it made, the latest first
 abbrev pub Known : Type 0
-Known = log.Known View
-
--- a list of steps with one more: it reads in the order in which they were made
-infixl 55 ◌⊳◌
-abbrev pub ◌⊳◌ : List Made → Made → List Made
-steps ⊳ m = m ∷ steps
+Known = WithSteps View
 
 -- THE STEPS BY NAME, each as the call of that name makes it
 

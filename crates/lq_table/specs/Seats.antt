@@ -134,10 +134,6 @@ module _ {D : Type 0} where
   abbrev pub MayPurgeHung : Cpu D → Type 0
   MayPurgeHung c = (position c ≡ Control true) × ((view c).share.shares ≡ 1024) × ((view c).holder.station.device.hung ≡ true)
 
-  -- control that has come to this band in a purge, which leaves this
-  abbrev pub HasComeToBand : ℕ → Purge → Left → Cpu D → Type 0
-  HasComeToBand band u l c = (position c ≡ Control true) × ((view c).control.purge ≡ Some u) × (u.band ≡ band) × ((view c).holder.left ≡ Some l)
-
   -- control that has come to this band in a purge
   abbrev pub IsPurgingBand : ℕ → Cpu D → Type 0
   IsPurgingBand band c = (u : Purge) × (l : Left) × (position c ≡ Control true) × ((view c).control.purge ≡ Some u) × (u.band ≡ band) × ((view c).holder.left ≡ Some l)

@@ -1,5 +1,5 @@
 //! The steps on the count of calls inside.
-ghost use Rattle.std.specs.Prelude.{◌≡◌, ℕ, ◌<◌, true, is_some, ◌∷◌};
+ghost use Rattle.std.specs.Prelude.{◌≡◌, ◌<◌, true, is_some, ◌∷◌};
 ghost use Rattle.lq_model.specs.declared.machine.Position.TheVariants.{Leave as AtLeave};
 ghost use Rattle.lq_table.specs.Marks.{marks_of};
 ghost use Rattle.lq_table.specs.Sees.{view, position, IsSeatOf, IsElseSame, steps};
@@ -10,12 +10,12 @@ ghost use Rattle.lq_table.specs.Made.{did_enter, did_leave};
 
 use crate::marks::Marks;
 use crate::places::INSIDE;
-use crate::plays::{Depart, Enter};
 use crate::shared::{Cpu, Shared};
 use crate::view::Knowledge;
 use atomic_table::Seat;
 use lq_device::{Station, TxDevice};
 use lq_log::Knows;
+use std::marker::Brand;
 
 impl<'a, D: TxDevice> Shared<'a, D> {
     fn enter_seat(&self, seat: &mut Seat<Option<Station<D>>, Knows<Knowledge>>, marks: &mut Marks)
@@ -27,7 +27,7 @@ impl<'a, D: TxDevice> Shared<'a, D> {
         ensures told { marks.new ≡ marks_of seat.new.me.0.view }
         ensures made { seat.new.me.0.steps ≡ did_enter ∷ seat.old.me.0.steps }
     {
-        self.table.fetch_add::<Enter>(seat, INSIDE, 1);
+        self.table.fetch_add::<Brand, _>(seat, INSIDE, 1, &());
         marks.raised = marks.raised && marks.busy;
     }
 
@@ -56,6 +56,6 @@ impl<'a, D: TxDevice> Shared<'a, D> {
         ensures made { steps cpu.new ≡ did_leave ∷ steps cpu.old }
     {
         self.table
-            .fetch_sub::<Depart>(&mut cpu.known.seat, INSIDE, 1);
+            .fetch_sub::<Brand, _>(&mut cpu.known.seat, INSIDE, 1, &());
     }
 }

@@ -7,14 +7,10 @@ ghost use Rattle.lq_table.specs.Sees.{view, position, carried, IsSeatOf, IsElseS
 ghost use Rattle.lq_table.specs.Purges.{HasPassedBands};
 ghost use Rattle.lq_table.specs.AtRest.{IsSoleAtRest, KnowsRest};
 ghost use Rattle.lq_table.specs.Told.{at_rest};
-ghost use Rattle.lq_table.specs.Controls.{beginning_control, returning, closing, finding, opening, resetting_missed, resetting_draining, GoesAway, swapping, opening_next, IsSwapFor, MayDeactivate};
+ghost use Rattle.lq_table.specs.Controls.{beginning_control, returning, closing, finding, opening, resetting_missed, resetting_draining, swapping, opening_next, IsSwapFor, MayDeactivate};
 ghost use Rattle.lq_table.specs.Made.{did_load_inside, did_load_lock, did_store_stop, did_clear_deactivated, did_clear_draining, did_clear_missed, did_load_base, did_set_deactivated};
 
 use crate::places::{BASE, INSIDE, LOCK, STATE, XOFF};
-use crate::plays::{
-    BeginControl, Close, Event, Find, LoadLock, Named, Open, OpenNext, ResetDraining, ResetMissed,
-    Return, Standing, Swap,
-};
 use crate::shared::{Cpu, Shared};
 use lq_device::TxDevice;
 use lq_model::state::{ACTIVE_BITS, ALL_BUT_DRAINING, ALL_BUT_MISSED};
@@ -29,7 +25,7 @@ impl<'a, D: TxDevice> Shared<'a, D> {
         ensures view { view cpu.new ≡ beginning_control (view cpu.old) }
         ensures made { (found : ℕ) × (steps cpu.new ≡ did_load_base found ∷ steps cpu.old) }
     {
-        self.table.load::<BeginControl>(&mut cpu.known.seat, BASE);
+        self.table.load::<Brand, _>(&mut cpu.known.seat, BASE, &());
     }
 
     /// A call of control ends: the seat is idle.
@@ -40,20 +36,7 @@ impl<'a, D: TxDevice> Shared<'a, D> {
         ensures view { view cpu.new ≡ returning (view cpu.old) }
         ensures made { (found : ℕ) × (steps cpu.new ≡ did_load_base found ∷ steps cpu.old) }
     {
-        self.table.load::<Return>(&mut cpu.known.seat, BASE);
-    }
-
-    fn set_deactivated_by<K: Event>(&self, cpu: &mut Cpu<D>, event: u32)
-        requires named { event ≡ K.event }
-        requires seat { IsSeatOf self.now cpu.old }
-        requires at { at_rest (position cpu.old) ≡ true }
-        requires active { MayDeactivate (view cpu.old) }
-        ensures same { IsElseSame cpu.old cpu.new }
-        ensures view { view cpu.new ≡ closing K.event (view cpu.old) }
-        ensures made { (was : Bool) × (steps cpu.new ≡ did_set_deactivated event was ∷ steps cpu.old) }
-    {
-        self.table
-            .fetch_or::<Close<K>>(&mut cpu.known.seat, STATE, 2 + 256 * (event as u64 + 1));
+        self.table.load::<Brand, _>(&mut cpu.known.seat, BASE, &());
     }
 
     /// Sets DEACTIVATED for this event of the plan, whose number stands above the bits from then on, as
@@ -66,7 +49,12 @@ impl<'a, D: TxDevice> Shared<'a, D> {
         ensures view { view cpu.new ≡ closing event (view cpu.old) }
         ensures made { (was : Bool) × (steps cpu.new ≡ did_set_deactivated event was ∷ steps cpu.old) }
     {
-        self.set_deactivated_by::<Brand>(cpu, event);
+        self.table.fetch_or::<Brand, _>(
+            &mut cpu.known.seat,
+            STATE,
+            2 + 256 * (event as u64 + 1),
+            &event,
+        );
     }
 
     /// Loads the count of calls inside, for which `dev_deactivate_many` of net/sched/sch_generic.c has
@@ -78,7 +66,8 @@ impl<'a, D: TxDevice> Shared<'a, D> {
         ensures view { view cpu.new ≡ finding result (view cpu.old) }
         ensures made { steps cpu.new ≡ did_load_inside result ∷ steps cpu.old }
     {
-        self.table.load::<Find>(&mut cpu.known.seat, INSIDE)
+        self.table
+            .load::<Brand, _>(&mut cpu.known.seat, INSIDE, &())
     }
 
     /// Loads the run lock's word: 1 where it is held. A seat that has the table alone, and is in no call, learns what is left at
@@ -90,7 +79,7 @@ impl<'a, D: TxDevice> Shared<'a, D> {
         ensures alone { IsSoleAtRest (view cpu.old) → KnowsRest (view cpu.old) }
         ensures made { steps cpu.new ≡ did_load_lock result ∷ steps cpu.old }
     {
-        self.table.load::<LoadLock>(&mut cpu.known.seat, LOCK)
+        self.table.load::<Brand, _>(&mut cpu.known.seat, LOCK, &())
     }
 
     /// Clears DEACTIVATED after a purge, as `transition_one_qdisc` of net/sched/sch_generic.c does.
@@ -103,7 +92,7 @@ impl<'a, D: TxDevice> Shared<'a, D> {
         ensures made { steps cpu.new ≡ did_clear_deactivated ∷ steps cpu.old }
     {
         self.table
-            .fetch_and::<Open>(&mut cpu.known.seat, STATE, ACTIVE_BITS);
+            .fetch_and::<Brand, _>(&mut cpu.known.seat, STATE, ACTIVE_BITS, &());
     }
 
     /// Clears MISSED after the last packet of a purge, as `dev_reset_queue` of net/sched/sch_generic.c does. The purge
@@ -117,7 +106,7 @@ impl<'a, D: TxDevice> Shared<'a, D> {
         ensures made { steps cpu.new ≡ did_clear_missed ∷ steps cpu.old }
     {
         self.table
-            .fetch_and::<ResetMissed>(&mut cpu.known.seat, STATE, ALL_BUT_MISSED);
+            .fetch_and::<Brand, _>(&mut cpu.known.seat, STATE, ALL_BUT_MISSED, &());
     }
 
     /// Clears DRAINING after the last packet of a purge, as `dev_reset_queue` of net/sched/sch_generic.c does. The purge
@@ -131,21 +120,7 @@ impl<'a, D: TxDevice> Shared<'a, D> {
         ensures made { steps cpu.new ≡ did_clear_draining ∷ steps cpu.old }
     {
         self.table
-            .fetch_and::<ResetDraining>(&mut cpu.known.seat, STATE, ALL_BUT_DRAINING);
-    }
-
-    fn swap_of<K: Standing>(&self, cpu: &mut Cpu<D>)
-        requires named { cpu.old.station ≡ Some K.station }
-        requires seat { IsSeatOf self.now cpu.old }
-        requires at { (position cpu.old ≡ AtControl true) × ((view cpu.old).holder.shut ≡ None) }
-        requires purged { ((view cpu.old).control.phase ≡ Purged) × ((view cpu.old).control.purge ≡ None) }
-        requires station { IsSwapFor (view cpu.old) K.station }
-        ensures same { IsElseSame cpu.old cpu.new }
-        ensures view { view cpu.new ≡ swapping K.station (view cpu.old) }
-        ensures old { GoesAway (view cpu.old) }
-        ensures made { steps cpu.new ≡ did_store_stop (setup self.now) 0 0 ∷ steps cpu.old }
-    {
-        self.table.store::<Swap<K>>(&mut cpu.known.seat, XOFF, 0);
+            .fetch_and::<Brand, _>(&mut cpu.known.seat, STATE, ALL_BUT_DRAINING, &());
     }
 
     /// Stores 0 in the first queue's stop word of a station whose device was swapped, as a driver's open does with
@@ -163,22 +138,8 @@ impl<'a, D: TxDevice> Shared<'a, D> {
         ensures unit { (view cpu.old).holder.station.unit ≡ latest_unit self.now.station (view cpu.old).holder.units }
         ensures made { steps cpu.new ≡ did_store_stop (setup self.now) 0 0 ∷ steps cpu.old }
     {
-        self.swap_of::<Brand>(cpu);
-    }
-
-    fn open_xoff_of<K: Named>(&self, cpu: &mut Cpu<D>, queue: u32)
-        requires named { queue ≡ K.band }
-        requires queue { queue < self.now.queues }
-        requires seat { IsSeatOf self.now cpu.old }
-        requires at { (position cpu.old ≡ AtControl true) × ((view cpu.old).holder.shut ≡ Some queue) }
-        requires purged { ((view cpu.old).control.phase ≡ Purged) × ((view cpu.old).control.purge ≡ None) }
-        ensures same { IsElseSame cpu.old cpu.new }
-        ensures view { view cpu.new ≡ opening_next K.band (view cpu.old) }
-        ensures made { steps cpu.new ≡ did_store_stop (setup self.now) queue 0 ∷ steps cpu.old }
-    {
-        let word = self.stop_word(queue);
         self.table
-            .store::<OpenNext<K>>(&mut cpu.known.seat, word, 0);
+            .store::<Brand, _>(&mut cpu.known.seat, XOFF, 0, &cpu.station);
     }
 
     /// Stores 0 in the next queue's stop word after a swap of the device, in ascending order. Until the last one a word
@@ -192,6 +153,8 @@ impl<'a, D: TxDevice> Shared<'a, D> {
         ensures view { view cpu.new ≡ opening_next queue (view cpu.old) }
         ensures made { steps cpu.new ≡ did_store_stop (setup self.now) queue 0 ∷ steps cpu.old }
     {
-        self.open_xoff_of::<Brand>(cpu, queue);
+        let word = self.stop_word(queue);
+        self.table
+            .store::<Brand, _>(&mut cpu.known.seat, word, 0, &queue);
     }
 }

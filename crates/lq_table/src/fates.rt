@@ -2,69 +2,16 @@
 ghost use Rattle.std.specs.Prelude.{◌≡◌, ◌<◌, length, ◌∷◌};
 ghost use Rattle.lq_model.specs.Words.{HasWord, word_of};
 ghost use Rattle.lq_table.specs.Sees.{view, carried, IsSeatOf, IsElseSame, steps, setup, packet_band};
-ghost use Rattle.lq_table.specs.Settled.{MaySettle, fated, fate_stored};
+ghost use Rattle.lq_table.specs.Settled.{MaySettle, fated};
 ghost use Rattle.lq_table.specs.Solo.{solo, fated_as};
 ghost use Rattle.lq_table.specs.Made.{did_store_fate};
 
 use crate::shared::{Cpu, Shared};
-use crate::view::Knowledge;
-use atomic_table::Play;
-use lq_device::{Station, TxDevice};
+use lq_device::TxDevice;
 use lq_model::{Fate, fate_word};
-use std::marker::{Brand, PhantomData};
-
-/// Names a packet, its band and its fate, and the station as it is in the seat's hands, for the proof of one step.
-pub trait Settling {
-    ghost use Rattle.std.specs.Prelude.{ℕ};
-    ghost use Rattle.lq_device.specs.Station.{StationState};
-    ghost use Rattle.lq_model.specs.declared.fate.Fate.{Fate};
-
-    ghost band: { ℕ };
-
-    ghost packet: { ℕ };
-
-    ghost fate: { Fate };
-
-    ghost station: { StationState };
-}
-
-impl Settling for Brand {
-    ghost use Rattle.lq_model.specs.declared.fate.Fate.TheVariants.{Full};
-    ghost use Rattle.lq_table.specs.Views.{no_station};
-
-    ghost band = { 0 };
-
-    ghost packet = { 0 };
-
-    ghost fate = { Full 0 };
-
-    ghost station = { no_station };
-}
-
-pub(crate) struct Settle<K> {
-    of: PhantomData<K>,
-}
-
-impl<D: TxDevice, K: Settling> Play<Option<Station<D>>, Knowledge> for Settle<K> {
-    ghost then = { fate_stored K.station K.band K.packet K.fate };
-}
+use std::marker::Brand;
 
 impl<'a, D: TxDevice> Shared<'a, D> {
-    fn settle_of<K: Settling>(&self, cpu: &mut Cpu<D>, n: u32, fate: Fate)
-        requires named { (packet_band self.now n ≡ K.band) × (n ≡ K.packet) × (fate ≡ K.fate) × (carried cpu.old ≡ K.station) }
-        requires seat { IsSeatOf self.now cpu.old }
-        requires packet { (n < length self.now.infos.now) × HasWord fate }
-        requires may { MaySettle K.band n fate K.station (view cpu.old) }
-        ensures same { IsElseSame cpu.old cpu.new }
-        ensures settled { view cpu.new ≡ fated K.station K.band n fate (view cpu.old) }
-        ensures step { solo (view cpu.new) ≡ fated_as K.station fate (solo (view cpu.old)) }
-        ensures made { steps cpu.new ≡ did_store_fate (setup self.now) n (word_of fate) ∷ steps cpu.old }
-    {
-        let word = self.fate_word_of(n);
-        self.table
-            .store::<Settle<K>>(&mut cpu.known.seat, word, fate_word(fate));
-    }
-
     /// Stores the fate of the packet `n`, whose fate word was 0: what the kernel tells of a packet by
     /// `dev_hard_start_xmit`'s answer or by `kfree_skb`'s reason (net/sched/sch_generic.c, net/core/dev.c). Sent comes
     /// from the holder whose device has just accepted `n`; Full, Refused and Purged from the seat that owes the fate
@@ -78,6 +25,12 @@ impl<'a, D: TxDevice> Shared<'a, D> {
         ensures step { solo (view cpu.new) ≡ fated_as (carried cpu.old) fate (solo (view cpu.old)) }
         ensures made { steps cpu.new ≡ did_store_fate (setup self.now) n (word_of fate) ∷ steps cpu.old }
     {
-        self.settle_of::<Brand>(cpu, n, fate);
+        let word = self.fate_word_of(n);
+        self.table.store::<Brand, _>(
+            &mut cpu.known.seat,
+            word,
+            fate_word(fate),
+            &(n, fate, &cpu.station),
+        );
     }
 }

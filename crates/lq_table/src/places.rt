@@ -3,7 +3,7 @@
 //! A word's number is the format's. Each of the first `9 + senders` words has a line of its own, since several threads write it
 //! and a processor takes a whole line to write one word of it; so the kernel keeps the fields of producer and consumer apart in
 //! `struct ptr_ring` of include/linux/ptr_ring.h. Slots, fates and the other stop words lie close together behind them.
-ghost use Rattle.std.specs.Prelude.{◌≡◌, ℕ, ◌+◌, ◌-◌, ◌*◌, ◌<◌, ◌≤◌};
+ghost use Rattle.std.specs.Prelude.{◌≡◌, ◌+◌, ◌-◌, ◌*◌, ◌<◌, ◌≤◌};
 ghost use Rattle.lq_table.specs.Places.{line_of, producer_place, turn_place, slot_word, fates_offset, xoff_word};
 ghost use Rattle.lq_table.specs.Keyed.{keyed_setup};
 ghost use Rattle.lq_table.specs.Sees.{setup};

@@ -7,60 +7,14 @@ ghost use Rattle.lq_model.specs.declared.fate.Cause.TheVariants as cause;
 ghost use Rattle.lq_model.specs.declared.machine.Position.TheVariants.{Control};
 ghost use Rattle.lq_table.specs.Views.{Left};
 ghost use Rattle.lq_table.specs.Sees.{view, position, ends_at, IsSeatOf, IsElseSame, steps, setup};
-ghost use Rattle.lq_table.specs.Seats.{CarriesHead, IsBetweenTakes, HasComeToBand, IsPurgingBand, MayPurgeHung, PassesEmptyBand, TakesFirstLeft};
-ghost use Rattle.lq_table.specs.Purges.{purge_begun, hung_purge_begun, purge_seen, BeginsPurge, OfPurge};
+ghost use Rattle.lq_table.specs.Seats.{CarriesHead, IsBetweenTakes, IsPurgingBand, MayPurgeHung, PassesEmptyBand, TakesFirstLeft};
+ghost use Rattle.lq_table.specs.Purges.{BeginsPurge, OfPurge};
 ghost use Rattle.lq_table.specs.Made.{did_load_slot, did_load_state};
 
 use crate::places::STATE;
 use crate::shared::{Cpu, Shared};
-use crate::view::Knowledge;
-use atomic_table::Play;
-use lq_device::{Station, TxDevice};
-use std::marker::{Brand, PhantomData};
-
-/// Names a band and the purge that is half done, in the machine and beside it, for the proof of one step.
-pub trait Purging {
-    ghost use Rattle.std.specs.Prelude.{ℕ};
-    ghost use Rattle.lq_model.specs.Machine.{Purge};
-    ghost use Rattle.lq_table.specs.Views.{Left};
-
-    ghost band: { ℕ };
-
-    ghost purge: { Purge };
-
-    ghost left: { Left };
-}
-
-impl Purging for Brand {
-    ghost use Rattle.lq_table.specs.Purges.{first_purge};
-    ghost use Rattle.lq_table.specs.Views.{no_left};
-
-    ghost band = { 0 };
-
-    ghost purge = { first_purge };
-
-    ghost left = { no_left };
-}
-
-pub(crate) struct BeginPurge;
-
-impl<D: TxDevice> Play<Option<Station<D>>, Knowledge> for BeginPurge {
-    ghost then = { purge_begun };
-}
-
-pub(crate) struct BeginHungPurge;
-
-impl<D: TxDevice> Play<Option<Station<D>>, Knowledge> for BeginHungPurge {
-    ghost then = { hung_purge_begun };
-}
-
-pub(crate) struct SeePurged<K> {
-    of: PhantomData<K>,
-}
-
-impl<D: TxDevice, K: Purging> Play<Option<Station<D>>, Knowledge> for SeePurged<K> {
-    ghost then = { purge_seen K.band K.purge K.left };
-}
+use lq_device::TxDevice;
+use std::marker::Brand;
 
 impl<'a, D: TxDevice> Shared<'a, D> {
     /// A purge begins, and answers the plan's event that deactivated the station, which is its cause. In the account it is
@@ -77,7 +31,7 @@ impl<'a, D: TxDevice> Shared<'a, D> {
         ensures event { down_of (view cpu.old).trail ≡ Some result }
         ensures made { (found : ℕ) × (steps cpu.new ≡ did_load_state found ∷ steps cpu.old) }
     {
-        let word = self.table.load::<BeginPurge>(&mut cpu.known.seat, STATE);
+        let word = self.table.load::<Brand, _>(&mut cpu.known.seat, STATE, &());
         (word / 256 - 1) as u32
     }
 
@@ -92,25 +46,7 @@ impl<'a, D: TxDevice> Shared<'a, D> {
         ensures begun { BeginsPurge (cause.Hung (view cpu.old).holder.station.unit) (view cpu.old) (view cpu.new) }
         ensures made { (found : ℕ) × (steps cpu.new ≡ did_load_state found ∷ steps cpu.old) }
     {
-        self.table
-            .load::<BeginHungPurge>(&mut cpu.known.seat, STATE);
-    }
-
-    fn purge_slot_of<K: Purging>(&self, cpu: &mut Cpu<D>, band: u32, head: u32) -> u64
-        requires named { band ≡ K.band }
-        requires seat { IsSeatOf self.now cpu.old }
-        requires band { band < 3 }
-        requires at { HasComeToBand band K.purge K.left cpu.old }
-        requires packets { ((view cpu.old).packets.owed ≡ None) × ((view cpu.old).packets.fresh ≡ None) }
-        requires rests { IsBetweenTakes band cpu.old }
-        requires head { (head ≡ (ends_at band cpu.old).head) × (head < self.now.max_len) }
-        ensures same { IsElseSame cpu.old cpu.new × (result ≤ 1000000) }
-        ensures none { result ≡ 0 → PassesEmptyBand band K.purge K.left cpu.old cpu.new }
-        ensures taken { result ≢ 0 → TakesFirstLeft band (result - 1) K.left cpu.old cpu.new }
-        ensures made { steps cpu.new ≡ did_load_slot (setup self.now) band head result ∷ steps cpu.old }
-    {
-        let word = self.slot_word(band, head);
-        self.table.load::<SeePurged<K>>(&mut cpu.known.seat, word)
+        self.table.load::<Brand, _>(&mut cpu.known.seat, STATE, &());
     }
 
     /// What stands in the slot at the head of the band that the purge has come to. Where it isn't 0 its packet is taken,
@@ -134,6 +70,8 @@ impl<'a, D: TxDevice> Shared<'a, D> {
             unreachable!()
         };
         let head = station.head(band);
-        self.purge_slot_of::<Brand>(cpu, band, head)
+        let word = self.slot_word(band, head);
+        self.table
+            .load::<Brand, _>(&mut cpu.known.seat, word, &band)
     }
 }

@@ -6,10 +6,10 @@ ghost use Rattle.lq_table.specs.Solo.{solo, missed_to, draining_to, laid};
 ghost use Rattle.lq_table.specs.Made.{did_clear_draining, did_clear_missed, did_set_draining, did_set_missed};
 
 use crate::places::STATE;
-use crate::plays::{Pass, Set};
 use crate::shared::{Cpu, Shared};
 use lq_device::TxDevice;
 use lq_model::state::{ALL_BUT_DRAINING, ALL_BUT_MISSED, DRAINING, MISSED};
+use std::marker::Brand;
 
 impl<'a, D: TxDevice> Shared<'a, D> {
     /// Clears MISSED: before the bands are looked through once more (`pfifo_fast_dequeue`), or at a stopped queue
@@ -23,7 +23,7 @@ impl<'a, D: TxDevice> Shared<'a, D> {
         ensures made { steps cpu.new ≡ did_clear_missed ∷ steps cpu.old }
     {
         self.table
-            .fetch_and::<Pass>(&mut cpu.known.seat, STATE, ALL_BUT_MISSED);
+            .fetch_and::<Brand, _>(&mut cpu.known.seat, STATE, ALL_BUT_MISSED, &());
     }
 
     /// Clears DRAINING before the bands are looked through once more (`pfifo_fast_dequeue`).
@@ -36,7 +36,7 @@ impl<'a, D: TxDevice> Shared<'a, D> {
         ensures made { steps cpu.new ≡ did_clear_draining ∷ steps cpu.old }
     {
         self.table
-            .fetch_and::<Pass>(&mut cpu.known.seat, STATE, ALL_BUT_DRAINING);
+            .fetch_and::<Brand, _>(&mut cpu.known.seat, STATE, ALL_BUT_DRAINING, &());
     }
 
     /// Sets MISSED: after a packet that was laid back, at the end of the quota (`__qdisc_run`), or where the stopped
@@ -50,7 +50,7 @@ impl<'a, D: TxDevice> Shared<'a, D> {
         ensures made { (was : Bool) × (steps cpu.new ≡ did_set_missed was ∷ steps cpu.old) }
     {
         self.table
-            .fetch_or::<Set>(&mut cpu.known.seat, STATE, MISSED);
+            .fetch_or::<Brand, _>(&mut cpu.known.seat, STATE, MISSED, &());
     }
 
     /// Sets DRAINING where the queue is stopped still (`qdisc_maybe_clear_missed`). The seat stands there only after its
@@ -64,6 +64,6 @@ impl<'a, D: TxDevice> Shared<'a, D> {
         ensures made { (was : Bool) × (steps cpu.new ≡ did_set_draining was ∷ steps cpu.old) }
     {
         self.table
-            .fetch_or::<Set>(&mut cpu.known.seat, STATE, DRAINING);
+            .fetch_or::<Brand, _>(&mut cpu.known.seat, STATE, DRAINING, &());
     }
 }

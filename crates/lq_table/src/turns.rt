@@ -1,5 +1,5 @@
 //! The steps on the turn words, by which the packets of one owner are sent in order.
-ghost use Rattle.std.specs.Prelude.{◌≡◌, ◌≢◌, ℕ, ◌+◌, ◌*◌, ◌<◌, true, Some, None, length, slice_index, MatchResult, ◌∷◌, ◌==◌, is_ok};
+ghost use Rattle.std.specs.Prelude.{◌≡◌, ◌≢◌, ◌+◌, ◌*◌, ◌<◌, true, Some, None, length, slice_index, MatchResult, ◌∷◌, ◌==◌, is_ok};
 ghost use Rattle.lq_model.specs.Plan.{station_in};
 ghost use Rattle.lq_band.specs.Ring.{unlocked};
 ghost use Rattle.lq_band.specs.Three.{all_three};
@@ -12,7 +12,6 @@ ghost use Rattle.lq_table.specs.Made.{did_give_turn, did_load_turn, did_take_tur
 
 use crate::marks::Marks;
 use crate::places::turn_word;
-use crate::plays::{GiveTurn, SeeTurn, TakeTurn, Turned};
 use crate::shared::{Cpu, Shared};
 use crate::view::Knowledge;
 use atomic_table::Seat;
@@ -21,7 +20,7 @@ use lq_log::Knows;
 use std::marker::Brand;
 
 impl<'a, D: TxDevice> Shared<'a, D> {
-    fn take_turn_of<K: Turned>(
+    fn take_turn_at(
         &self,
         seat: &mut Seat<Option<Station<D>>, Knows<Knowledge>>,
         marks: &mut Marks,
@@ -29,16 +28,15 @@ impl<'a, D: TxDevice> Shared<'a, D> {
         owner: u32,
         rank: u32,
     ) -> u64
-        requires named { (n ≡ K.packet) × (owner ≡ K.owner) × (rank ≡ K.rank) }
         requires seat { (seat.old.table_id ≡ self.now.table.kit.shared.table_id) × (0 < seat.old.me.0.view.share.shares) }
         requires packet { IsRankedPacket self.now n owner rank }
         requires owner { (0 < times owner seat.old.me.0.view.share.owners) × (owner < self.now.senders) }
         requires idle { seat.old.me.0.view.packets.busy ≡ None }
         requires told { marks.old ≡ marks_of seat.old.me.0.view }
         ensures same { (seat.new.table_id ≡ seat.old.table_id) × (seat.new.id ≡ seat.old.id) × (seat.new.me.1 ≡ seat.old.me.1) }
-        ensures found { result ≡ slice_index seat.old.me.0.view.turns K.owner }
-        ensures taken { result ≡ 2 * K.rank → seat.new.me.0.view ≡ bringing K.packet K.owner K.rank seat.old.me.0.view }
-        ensures other { result ≢ 2 * K.rank → seat.new.me.0.view ≡ seat.old.me.0.view }
+        ensures found { result ≡ slice_index seat.old.me.0.view.turns owner }
+        ensures taken { result ≡ 2 * rank → seat.new.me.0.view ≡ bringing n owner rank seat.old.me.0.view }
+        ensures other { result ≢ 2 * rank → seat.new.me.0.view ≡ seat.old.me.0.view }
         ensures told { marks.new ≡ marks_of seat.new.me.0.view }
         ensures made { seat.new.me.0.steps ≡ did_take_turn owner rank (result == 2 * rank) ∷ seat.old.me.0.steps }
     {
@@ -46,7 +44,7 @@ impl<'a, D: TxDevice> Shared<'a, D> {
         let word = turn_word(owner);
         let found = self
             .table
-            .compare_exchange::<TakeTurn<K>>(seat, word, free, free + 1);
+            .compare_exchange::<Brand, _>(seat, word, free, free + 1, &(n, owner, rank));
         marks.busy = found == free;
         found
     }
@@ -65,13 +63,7 @@ impl<'a, D: TxDevice> Shared<'a, D> {
     {
         let owner = self.infos[n as usize].owner as u32;
         let rank = self.infos[n as usize].rank;
-        let found = self.take_turn_of::<Brand>(
-            &mut cpu.known.seat,
-            &mut cpu.known.marks,
-            n,
-            owner,
-            rank,
-        );
+        let found = self.take_turn_at(&mut cpu.known.seat, &mut cpu.known.marks, n, owner, rank);
         if found == 2 * rank as u64 {
             Ok(())
         } else {
@@ -79,7 +71,7 @@ impl<'a, D: TxDevice> Shared<'a, D> {
         }
     }
 
-    fn give_turn_of<K: Turned>(
+    fn give_turn_at(
         &self,
         seat: &mut Seat<Option<Station<D>>, Knows<Knowledge>>,
         marks: &mut Marks,
@@ -87,19 +79,20 @@ impl<'a, D: TxDevice> Shared<'a, D> {
         owner: u32,
         rank: u32,
     )
-        requires named { (owner ≡ K.owner) × (rank ≡ K.rank) }
         requires seat { (seat.old.table_id ≡ self.now.table.kit.shared.table_id) × (0 < seat.old.me.0.view.share.shares) }
         requires packet { (owner ≡ packet_owner self.now n) × (rank ≡ packet_rank self.now n) × (owner < self.now.senders) }
         requires busy { (seat.old.me.0.view.packets.busy ≡ Some n) × (seat.old.me.0.view.packets.fresh ≡ None) }
+        requires rests { at_rest seat.old.me.0.view.place.position ≡ true }
         requires told { marks.old ≡ marks_of seat.old.me.0.view }
         ensures same { (seat.new.table_id ≡ seat.old.table_id) × (seat.new.id ≡ seat.old.id) × (seat.new.me.1 ≡ seat.old.me.1) }
-        ensures given { seat.new.me.0.view ≡ giving_turn K.owner K.rank seat.old.me.0.view }
+        ensures given { seat.new.me.0.view ≡ giving_turn owner rank seat.old.me.0.view }
         ensures told { marks.new ≡ marks_of seat.new.me.0.view }
         ensures made { seat.new.me.0.steps ≡ did_give_turn owner rank ∷ seat.old.me.0.steps }
     {
         let next = 2 * rank as u64 + 2;
         let word = turn_word(owner);
-        self.table.store::<GiveTurn<K>>(seat, word, next);
+        self.table
+            .store::<Brand, _>(seat, word, next, &(owner, rank));
         marks.busy = false;
     }
 
@@ -116,19 +109,7 @@ impl<'a, D: TxDevice> Shared<'a, D> {
     {
         let owner = self.infos[n as usize].owner as u32;
         let rank = self.infos[n as usize].rank;
-        self.give_turn_of::<Brand>(&mut cpu.known.seat, &mut cpu.known.marks, n, owner, rank);
-    }
-
-    fn load_turn_of<K: Turned>(&self, cpu: &mut Cpu<D>, owner: u32) -> u64
-        requires named { owner ≡ K.owner }
-        requires seat { IsSeatOf self.now cpu.old }
-        requires owner { owner < self.now.senders }
-        ensures same { IsElseSame cpu.old cpu.new × (view cpu.new ≡ view cpu.old) }
-        ensures word { 0 < times K.owner (view cpu.old).share.owners → result ≡ slice_index (view cpu.old).turns K.owner }
-        ensures made { steps cpu.new ≡ did_load_turn owner result ∷ steps cpu.old }
-    {
-        let word = turn_word(owner);
-        self.table.load::<SeeTurn<K>>(&mut cpu.known.seat, word)
+        self.give_turn_at(&mut cpu.known.seat, &mut cpu.known.marks, n, owner, rank);
     }
 
     /// Loads the turn word of `owner`: twice the rank of its next packet, and one more while that packet's turn is taken.
@@ -139,6 +120,8 @@ impl<'a, D: TxDevice> Shared<'a, D> {
         ensures word { 0 < times owner (view cpu.old).share.owners → result ≡ slice_index (view cpu.old).turns owner }
         ensures made { steps cpu.new ≡ did_load_turn owner result ∷ steps cpu.old }
     {
-        self.load_turn_of::<Brand>(cpu, owner)
+        let word = turn_word(owner);
+        self.table
+            .load::<Brand, _>(&mut cpu.known.seat, word, &owner)
     }
 }

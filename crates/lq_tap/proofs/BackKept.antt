@@ -14,7 +14,7 @@ use Rattle.lq_band.proofs.HoldsKept.{finds_room_before, finds_full_before, puts_
 use Rattle.lq_tap.specs.Views.{View, Setup}
 use Rattle.lq_tap.specs.Made.{Sat, slot_word}
 use Rattle.lq_tap.specs.Told.{without_last}
-use Rattle.lq_tap.specs.Plays.{with_lock, destroying, slot_before_seen, putting_back, slot_before_stored}
+use Rattle.lq_tap.specs.Tells.{with_lock, destroying, slot_before_seen, putting_back, slot_before_stored}
 use Rattle.lq_tap.specs.Rule.{words_of, locks_of, band_of, Ordered, Rule}
 use Rattle.lq_tap.specs.declared.view.Consumer.{Consumer}
 use Rattle.lq_tap.proofs.ByName.{set_slot, slot_of}

@@ -6,7 +6,7 @@ use Rattle.lq_band.specs.Ring.{cleared_at}
 use Rattle.lq_tap.specs.Views.{View}
 use Rattle.lq_tap.specs.Made.{Made, ◌⊳◌, did_load_slot, did_store_slot}
 use Rattle.lq_tap.specs.Told.{place_back, without_last, having_given_back}
-use Rattle.lq_tap.specs.Plays.{destroying, having_put_back, without_batch}
+use Rattle.lq_tap.specs.Tells.{destroying, having_put_back, without_batch}
 use Rattle.lq_tap.specs.Steps.{put_back}
 use Rattle.lq_tap.proofs.BackKept.{without_last_is}
 

@@ -5,7 +5,7 @@ use Rattle.lq_band.specs.Ring.{Ends, after_take, IsAtRest}
 use Rattle.lq_tap.specs.Views.{View}
 use Rattle.lq_tap.specs.Made.{Made}
 use Rattle.lq_tap.specs.Told.{after_takes}
-use Rattle.lq_tap.specs.Plays.{having_taken_one, rest_at}
+use Rattle.lq_tap.specs.Tells.{having_taken_one, rest_at}
 use Rattle.lq_tap.specs.Rule.{consumer_of}
 use Rattle.lq_tap.specs.declared.view.Consumer.{Consumer}
 use Rattle.lq_tap.specs.Steps.{took, took_all}

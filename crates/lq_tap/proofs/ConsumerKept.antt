@@ -21,7 +21,7 @@ use Rattle.lq_band.proofs.Times.{times_append, times_drop}
 use Rattle.lq_band.proofs.HoldsKept.{finds_none_held, takes_held, empties_held}
 use Rattle.lq_tap.specs.Views.{View, Setup, ReaderPart}
 use Rattle.lq_tap.specs.Made.{Sat, slot_word}
-use Rattle.lq_tap.specs.Plays.{with_consumer, beginning, consumer_taken, consumer_given, return_ended, taking, finding_none, head_slot_seen, emptying, slot_emptied}
+use Rattle.lq_tap.specs.Tells.{with_consumer, beginning, consumer_taken, consumer_given, return_ended, taking, finding_none, head_slot_seen, emptying, slot_emptied}
 use Rattle.lq_tap.specs.Rule.{Words, words_of, one_if, reading, IsSeat, ArePuts, KnowsReads, locks_of, band_of, consumer_of, holding, Ordered, Lends, Parts, Rule}
 use Rattle.lq_tap.specs.declared.view.Consumer.{Consumer}
 use Rattle.lq_tap.proofs.ByName.{set_consumer, set_slot, slot_of}

@@ -24,7 +24,7 @@ use Rattle.lq_tap.specs.Views.{View, Setup, ReaderPart}
 use Rattle.lq_tap.specs.Made.{Sat, slot_word}
 use Rattle.lq_tap.specs.Told.{having_put, having_found_full, having_ended, having_seen_ended}
 use Rattle.lq_tap.specs.Settled.{ComesBefore}
-use Rattle.lq_tap.specs.Plays.{with_lock, producer_seen, producer_taken, producer_given, producer_slot_seen, producer_slot_stored, end_noted, ended_seen}
+use Rattle.lq_tap.specs.Tells.{with_lock, producer_seen, producer_taken, producer_given, producer_slot_seen, producer_slot_stored, end_noted, ended_seen}
 use Rattle.lq_tap.specs.Rule.{words_of, TapState, reading, sending, open_in, IsSeat, Seats, came, KnowsPuts, ArePuts, KnowsReads, locks_of, band_of, Ordered, Rule}
 use Rattle.lq_tap.specs.declared.view.Consumer.{Consumer}
 use Rattle.lq_tap.proofs.ByName.{set_producer, set_ended, set_slot, slot_of}

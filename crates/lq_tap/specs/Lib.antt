@@ -15,4 +15,4 @@ pub mod Rule
 -- the rule's setup, from the key
 pub mod Keyed
 -- what each step on a word tells
-pub mod Plays
+pub mod Tells

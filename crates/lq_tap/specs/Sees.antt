@@ -5,7 +5,7 @@ use Rattle.lq_tap.specs.Views.{View, Setup}
 use Rattle.lq_tap.specs.Made.{Made, ◌⊳◌, did_load_slot, did_store_slot, did_load_ended}
 use Rattle.lq_tap.specs.Told.{having_found_full, having_seen_ended}
 use Rattle.lq_tap.specs.Rule.{consumer_of}
-use Rattle.lq_tap.specs.Plays.{with_lock, finding_none, having_taken_one, rest_at, destroying, having_put_back}
+use Rattle.lq_tap.specs.Tells.{with_lock, finding_none, having_taken_one, rest_at, destroying, having_put_back}
 use Rattle.lq_tap.specs.Steps.{took}
 use Rattle.lq_tap.specs.declared.view.Consumer.{Consumer}
 use Rattle.lq_tap.specs.declared.shared.Tap.{Tap}

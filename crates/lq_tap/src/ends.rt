@@ -3,25 +3,11 @@ ghost use Rattle.std.specs.Prelude.{◌≡◌, ℕ, true, ◌==◌};
 ghost use Rattle.lq_tap.specs.Told.{having_ended};
 ghost use Rattle.lq_tap.specs.Made.{◌⊳◌, did_end};
 ghost use Rattle.lq_tap.specs.Sees.{view, steps, IsReaderOf, IsSenderOf, SeesEnded};
-ghost use Rattle.lq_tap.specs.Plays.{end_noted, ended_seen};
 
 use crate::shared::{Tap, TapSeat};
-use crate::view::{Consumer, Knowledge};
-use atomic_table::Play;
+use std::marker::Brand;
 
 const ENDED: usize = 24;
-
-pub(crate) struct End;
-
-impl Play<Consumer, Knowledge> for End {
-    ghost then = { end_noted };
-}
-
-pub(crate) struct SeeEnded;
-
-impl Play<Consumer, Knowledge> for SeeEnded {
-    ghost then = { ended_seen };
-}
 
 /// The sender of this seat puts no more packets. It adds 1 to the number of senders that have ended.
 pub fn end_sender(tap: &Tap, seat: &mut TapSeat)
@@ -30,7 +16,8 @@ pub fn end_sender(tap: &Tap, seat: &mut TapSeat)
     ensures view { view seat.new ≡ having_ended (view seat.old) }
     ensures steps { steps seat.new ≡ steps seat.old ⊳ did_end }
 {
-    tap.table.fetch_add::<End>(&mut seat.seat, ENDED, 1);
+    tap.table
+        .fetch_add::<Brand, _>(&mut seat.seat, ENDED, 1, &());
 }
 
 /// Whether all senders have ended: true exactly where this call's load found as many ended senders as there are.
@@ -39,5 +26,5 @@ pub fn ended(tap: &Tap, seat: &mut TapSeat) -> bool
     ensures seat { IsReaderOf tap.now seat.new }
     ensures found { (found : ℕ) × (result ≡ (found == tap.now.senders)) × SeesEnded found seat.old seat.new }
 {
-    tap.table.load::<SeeEnded>(&mut seat.seat, ENDED) == tap.senders as u64
+    tap.table.load::<Brand, _>(&mut seat.seat, ENDED, &()) == tap.senders as u64
 }

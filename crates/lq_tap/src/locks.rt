@@ -2,64 +2,20 @@
 ghost use Rattle.std.specs.Prelude.{◌≡◌, ◌*◌, ◌/◌, ◌%◌, ◌<◌, true, false, [], ◌∷◌};
 ghost use Rattle.lq_band.specs.Ring.{unlocked, index_given};
 ghost use Rattle.lq_tap.specs.Made.{◌⊳◌, did_load_producer, did_take_producer, did_give_producer, did_take_consumer, did_give_consumer};
-ghost use Rattle.lq_tap.specs.Plays.{with_lock, producer_seen, producer_taken, producer_given, with_consumer, beginning, consumer_taken, consumer_given, done_giving, return_ended};
+ghost use Rattle.lq_tap.specs.Tells.{with_lock, with_consumer, beginning, done_giving};
 ghost use Rattle.lq_tap.specs.Steps.{LocksProducer, LocksConsumer};
 ghost use Rattle.lq_tap.specs.Sees.{view, steps, slot, IsSeatOf, IsSameSeat, IsElseSame, GetsProducerAt, GetsEnds, HasEnds};
 
 use crate::shared::{Tap, TapSeat};
-use crate::view::{Consumer, Knowledge};
-use atomic_table::Play;
+use crate::view::Consumer;
 use crossbeam_utils::Backoff;
+use std::marker::Brand;
 use std::sync::Wait;
 
 /// The word of the producer lock, apart from those of the consumer, of the ends and of the slots by a cache line.
 const PRODUCER: usize = 8;
 
 const CONSUMER: usize = 16;
-
-pub(crate) struct SeeProducer;
-
-impl Play<Consumer, Knowledge> for SeeProducer {
-    ghost then = { producer_seen };
-}
-
-pub(crate) struct GetProducer;
-
-impl Play<Consumer, Knowledge> for GetProducer {
-    ghost then = { producer_taken };
-}
-
-pub(crate) struct GiveProducer;
-
-impl Play<Consumer, Knowledge> for GiveProducer {
-    ghost then = { producer_given };
-}
-
-/// The consumer lock is got for a batch.
-pub(crate) struct BeginBatch;
-
-impl Play<Consumer, Knowledge> for BeginBatch {
-    ghost then = { consumer_taken beginning };
-}
-
-/// It is got to give packets back.
-pub(crate) struct BeginReturn;
-
-impl Play<Consumer, Knowledge> for BeginReturn {
-    ghost then = { consumer_taken (with_consumer true) };
-}
-
-pub(crate) struct EndBatch;
-
-impl Play<Consumer, Knowledge> for EndBatch {
-    ghost then = { consumer_given };
-}
-
-pub(crate) struct EndReturn;
-
-impl Play<Consumer, Knowledge> for EndReturn {
-    ghost then = { return_ended };
-}
 
 impl Tap {
     /// Twice the producer index, plus 1 while the producer lock is held: a load of the producer word.
@@ -68,7 +24,7 @@ impl Tap {
         ensures same { IsElseSame seat.old seat.new × (view seat.new ≡ view seat.old) }
         ensures steps { steps seat.new ≡ steps seat.old ⊳ did_load_producer result }
     {
-        self.table.load::<SeeProducer>(&mut seat.seat, PRODUCER)
+        self.table.load::<Brand, _>(&mut seat.seat, PRODUCER, &())
     }
 
     /// Takes the producer lock where its word is still `seen`, which is even: an exchange of the producer word.
@@ -82,7 +38,7 @@ impl Tap {
         ensures steps { steps seat.new ≡ steps seat.old ⊳ did_take_producer seen result }
     {
         self.table
-            .compare_exchange::<GetProducer>(&mut seat.seat, PRODUCER, seen, seen + 1)
+            .compare_exchange::<Brand, _>(&mut seat.seat, PRODUCER, seen, seen + 1, &())
             == seen
     }
 
@@ -96,7 +52,7 @@ impl Tap {
         ensures steps { steps seat.new ≡ steps seat.old ⊳ did_give_producer index }
     {
         self.table
-            .store::<GiveProducer>(&mut seat.seat, PRODUCER, 2 * index as u64);
+            .store::<Brand, _>(&mut seat.seat, PRODUCER, 2 * index as u64, &());
     }
 
     /// Waits for the producer lock, and gives the producer index under it.
@@ -130,7 +86,7 @@ impl Tap {
         ensures steps { steps seat.new ≡ steps seat.old ⊳ did_take_consumer result }
     {
         self.table
-            .compare_exchange::<BeginBatch>(&mut seat.seat, CONSUMER, 0, 1)
+            .compare_exchange::<Brand, _>(&mut seat.seat, CONSUMER, 0, 1, &())
             == 0
     }
 
@@ -143,7 +99,7 @@ impl Tap {
         ensures steps { steps seat.new ≡ steps seat.old ⊳ did_take_consumer result }
     {
         self.table
-            .compare_exchange::<BeginReturn>(&mut seat.seat, CONSUMER, 0, 1)
+            .compare_exchange::<Brand, _>(&mut seat.seat, CONSUMER, 0, 1, &())
             == 0
     }
 
@@ -190,7 +146,8 @@ impl Tap {
         ensures given { view seat.new ≡ with_consumer false (view seat.old) }
         ensures steps { steps seat.new ≡ steps seat.old ⊳ did_give_consumer }
     {
-        self.table.store::<EndBatch>(&mut seat.seat, CONSUMER, 0);
+        self.table
+            .store::<Brand, _>(&mut seat.seat, CONSUMER, 0, &());
     }
 
     /// The same after packets were given back.
@@ -202,7 +159,8 @@ impl Tap {
         ensures given { view seat.new ≡ done_giving (view seat.old) }
         ensures steps { steps seat.new ≡ steps seat.old ⊳ did_give_consumer }
     {
-        self.table.store::<EndReturn>(&mut seat.seat, CONSUMER, 0);
+        self.table
+            .store::<Brand, _>(&mut seat.seat, CONSUMER, 0, &());
     }
 
     /// Reads and writes the ends in the slot, which is out with the consumer lock.

@@ -3,7 +3,7 @@ ghost use Rattle.std.specs.Prelude.{◌≡◌, ◌+◌, ◌-◌, ◌<◌, ◌≤
 ghost use Rattle.lq_ring_core.specs.Ring.{place_before};
 ghost use Rattle.lq_band.specs.Ring.{cleared_at};
 ghost use Rattle.lq_tap.specs.Told.{having_given_back, place_back};
-ghost use Rattle.lq_tap.specs.Plays.{without_batch, IsFresh};
+ghost use Rattle.lq_tap.specs.Tells.{without_batch, IsFresh};
 ghost use Rattle.lq_tap.specs.Steps.{GivesBack, PutsBack};
 ghost use Rattle.lq_tap.specs.Sees.{view, steps, IsReaderOf, IsSeatOf, IsElseSame, HasEmptiedAll, HasHeadAt, PutsOneBack, DestroysRest};
 

@@ -5,62 +5,23 @@ ghost use Rattle.lq_tap.specs.Views.{sender_view, spent_view};
 ghost use Rattle.lq_tap.specs.Told.{having_split, having_joined};
 ghost use Rattle.lq_tap.specs.Settled.{IsSettled};
 ghost use Rattle.lq_tap.specs.Sees.{view, steps, setup, IsReaderOf, IsSenderOf};
-ghost use Rattle.lq_tap.specs.Plays.{learned};
 ghost use Rattle.lq_tap.specs.Made.{◌⊳◌, did_load_base};
 
 use crate::shared::{Tap, TapSeat};
-use crate::view::{Consumer, Knowledge};
-use atomic_table::{Join, Play, Split};
-use std::marker::{Brand, PhantomData};
+use crate::view::Knowledge;
+use atomic_table::Join;
+use std::marker::Brand;
 
-/// Names a sender, for the proof of one step: the call picks it.
-pub trait Sending {
-    ghost sender: { ℕ };
-}
+/// How a join puts two views together.
+pub(crate) struct Together;
 
-impl Sending for Brand {
-    ghost sender = { 0 };
-}
-
-pub(crate) struct Cut<K> {
-    of: PhantomData<K>,
-}
-
-impl<K: Sending> Split<Knowledge> for Cut<K> {
-    ghost left = { having_split K.sender };
-
-    ghost right = { λ v. sender_view v.about K.sender };
-}
-
-pub(crate) struct Glue;
-
-impl Join<Knowledge> for Glue {
+impl Join<Knowledge> for Together {
     ghost both = { λ v from. having_joined from v };
 
     ghost spent = { spent_view };
 }
 
-pub(crate) struct Learn;
-
-impl Play<Consumer, Knowledge> for Learn {
-    ghost then = { learned };
-}
-
 impl Tap {
-    fn split_of<K: Sending>(&self, seat: &mut TapSeat, sender: u32) -> TapSeat
-        requires named { sender ≡ K.sender }
-        requires seat { IsReaderOf self.now seat.old }
-        requires sender { (sender < self.now.senders) × (0 < times sender (view seat.old).reader.seatless) }
-        ensures seat { IsReaderOf self.now seat.new }
-        ensures view { view seat.new ≡ having_split sender (view seat.old) }
-        ensures steps { steps seat.new ≡ steps seat.old }
-        ensures other { IsSenderOf self.now result × (view result ≡ sender_view (setup self.now) sender) × (steps result ≡ []) }
-    {
-        TapSeat {
-            seat: self.table.split_seat::<Cut<K>>(&mut seat.seat),
-        }
-    }
-
     /// The seat of one sender, which has put nothing yet. No seat of that sender was made before.
     pub fn split(&self, seat: &mut TapSeat, sender: u32) -> TapSeat
         requires seat { IsReaderOf self.now seat.old }
@@ -70,7 +31,9 @@ impl Tap {
         ensures steps { steps seat.new ≡ steps seat.old }
         ensures other { IsSenderOf self.now result × (view result ≡ sender_view (setup self.now) sender) × (steps result ≡ []) }
     {
-        self.split_of::<Brand>(seat, sender)
+        TapSeat {
+            seat: self.table.split_seat::<Brand, _>(&mut seat.seat, &sender),
+        }
     }
 
     /// Takes in the seat of a sender that has ended. Once all seats are joined, and a batch was empty that was asked for after
@@ -84,7 +47,7 @@ impl Tap {
         ensures settled { (view into.new).reader.out ≡ 0 → (view into.new).reader.drained ≡ true → IsSettled (view into.new) }
     {
         let TapSeat { seat } = from;
-        self.table.join_seat::<Glue>(&mut into.seat, seat);
-        self.table.load::<Learn>(&mut into.seat, 0);
+        self.table.join_seat::<Together>(&mut into.seat, seat);
+        self.table.load::<Brand, _>(&mut into.seat, 0, &());
     }
 }

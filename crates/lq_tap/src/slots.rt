@@ -5,64 +5,15 @@ ghost use Rattle.lq_ring_core.specs.Ring.{place_before};
 ghost use Rattle.lq_tap.specs.Made.{◌⊳◌, did_load_slot, did_store_slot};
 ghost use Rattle.lq_tap.specs.Told.{having_put};
 ghost use Rattle.lq_tap.specs.Views.{AreFew};
-ghost use Rattle.lq_tap.specs.Plays.{with_lock, with_ends, producer_slot_seen, producer_slot_stored, finding_none, taking, head_slot_seen, emptying, slot_emptied, destroying, slot_before_seen, putting_back, slot_before_stored};
+ghost use Rattle.lq_tap.specs.Tells.{with_lock, with_ends, finding_none, taking, emptying, destroying, putting_back};
 ghost use Rattle.lq_tap.specs.Steps.{emptied_below};
 ghost use Rattle.lq_tap.specs.Sees.{view, steps, IsSeatOf, IsElseSame, HasLockAtIndex, HasLockWithRoom, FindsNextFull, IsNextToEmpty, HasSlotsToEmpty, HasEmptiedAll};
 
 use crate::shared::{Tap, TapSeat};
-use crate::view::{Consumer, Knowledge};
-use atomic_table::Play;
-use std::marker::{Brand, PhantomData};
+use std::marker::Brand;
 
 /// The word of the first slot.
 const SLOTS: usize = 32;
-
-pub(crate) struct SeeSlot;
-
-impl Play<Consumer, Knowledge> for SeeSlot {
-    ghost then = { producer_slot_seen };
-}
-
-pub(crate) struct StoreSlot;
-
-impl Play<Consumer, Knowledge> for StoreSlot {
-    ghost then = { producer_slot_stored };
-}
-
-pub(crate) struct SeeHead;
-
-impl Play<Consumer, Knowledge> for SeeHead {
-    ghost then = { head_slot_seen };
-}
-
-pub(crate) struct EmptySlot;
-
-impl Play<Consumer, Knowledge> for EmptySlot {
-    ghost then = { slot_emptied };
-}
-
-/// Names how many packets are left to be put back, for the proof of one step: the call picks it.
-pub trait Returning {
-    ghost left: { ℕ };
-}
-
-impl Returning for Brand {
-    ghost left = { 0 };
-}
-
-pub(crate) struct SeeBefore<K> {
-    of: PhantomData<K>,
-}
-
-impl<K: Returning> Play<Consumer, Knowledge> for SeeBefore<K> {
-    ghost then = { slot_before_seen K.left };
-}
-
-pub(crate) struct StoreBefore;
-
-impl Play<Consumer, Knowledge> for StoreBefore {
-    ghost then = { slot_before_stored };
-}
 
 impl Tap {
     /// What stands in the slot at the producer index: the look of `__ptr_ring_produce` at `queue[producer]`. Where it is not 0 the
@@ -77,7 +28,7 @@ impl Tap {
         ensures steps { steps seat.new ≡ steps seat.old ⊳ did_load_slot index result }
     {
         self.table
-            .load::<SeeSlot>(&mut seat.seat, SLOTS + index as usize)
+            .load::<Brand, _>(&mut seat.seat, SLOTS + index as usize, &())
     }
 
     /// Stores the sender's next packet there, where it was loaded as 0 under the producer lock.
@@ -91,7 +42,7 @@ impl Tap {
         ensures steps { steps seat.new ≡ steps seat.old ⊳ did_store_slot index (n + 1) }
     {
         self.table
-            .store::<StoreSlot>(&mut seat.seat, SLOTS + index as usize, n as u64 + 1);
+            .store::<Brand, _>(&mut seat.seat, SLOTS + index as usize, n as u64 + 1, &());
     }
 
     /// What stands in the slot at the head: the look of `__ptr_ring_consume` at `queue[consumer_head]`. Where it is not 0 its packet
@@ -106,7 +57,7 @@ impl Tap {
         ensures steps { steps seat.new ≡ steps seat.old ⊳ did_load_slot head result }
     {
         self.table
-            .load::<SeeHead>(&mut seat.seat, SLOTS + head as usize)
+            .load::<Brand, _>(&mut seat.seat, SLOTS + head as usize, &())
     }
 
     /// Empties the slot below the edge.
@@ -118,7 +69,7 @@ impl Tap {
         ensures steps { steps seat.new ≡ steps seat.old ⊳ did_store_slot place 0 }
     {
         self.table
-            .store::<EmptySlot>(&mut seat.seat, SLOTS + place as usize, 0);
+            .store::<Brand, _>(&mut seat.seat, SLOTS + place as usize, 0, &());
     }
 
     /// Empties the slots below the head, down to the tail: the loop of `__ptr_ring_discard_one` after a batch was taken, and that of
@@ -135,22 +86,6 @@ impl Tap {
         }
     }
 
-    fn slot_before_of<K: Returning>(&self, seat: &mut TapSeat, place: u32, left: usize) -> u64
-        requires named { left ≡ K.left }
-        requires seat { IsSeatOf self.now seat.old × ((view seat.old).reader.reads ≡ true) × ((view seat.old).reader.holds ≡ true) }
-        requires lock { ((view seat.old).lock.holds ≡ true) × ((view seat.old).lock.stored ≡ false) }
-        requires clear { HasEmptiedAll seat.old }
-        requires place { (place ≡ place_before self.now.len (view seat.old).reader.ends.head 1) × (place < self.now.len) }
-        requires left { (0 < left) × (left ≤ length (view seat.old).reader.batch) }
-        ensures same { IsElseSame seat.old seat.new }
-        ensures room { result ≡ 0 → view seat.new ≡ with_lock (with_room (view seat.old).lock) (view seat.old) }
-        ensures full { result ≢ 0 → view seat.new ≡ destroying left (view seat.old) }
-        ensures steps { steps seat.new ≡ steps seat.old ⊳ did_load_slot place result }
-    {
-        self.table
-            .load::<SeeBefore<K>>(&mut seat.seat, SLOTS + place as usize)
-    }
-
     /// What stands in the slot before the head, once no slot of a packet that was taken has anything. Where it is not 0 the packets
     /// that are left to be put back are destroyed.
     pub(crate) fn slot_before(&self, seat: &mut TapSeat, place: u32, left: usize) -> u64
@@ -164,7 +99,8 @@ impl Tap {
         ensures full { result ≢ 0 → view seat.new ≡ destroying left (view seat.old) }
         ensures steps { steps seat.new ≡ steps seat.old ⊳ did_load_slot place result }
     {
-        self.slot_before_of::<Brand>(seat, place, left)
+        self.table
+            .load::<Brand, _>(&mut seat.seat, SLOTS + place as usize, &left)
     }
 
     /// Puts the last packet of the batch there, where it was loaded as 0 under both locks.
@@ -179,6 +115,6 @@ impl Tap {
         ensures steps { steps seat.new ≡ steps seat.old ⊳ did_store_slot place (n + 1) }
     {
         self.table
-            .store::<StoreBefore>(&mut seat.seat, SLOTS + place as usize, n as u64 + 1);
+            .store::<Brand, _>(&mut seat.seat, SLOTS + place as usize, n as u64 + 1, &());
     }
 }

@@ -3,7 +3,7 @@ ghost use Rattle.std.specs.Prelude.{◌≡◌, ◌+◌, ◌<◌, ◌≤◌, true
 ghost use Rattle.lq_band.specs.Ring.{taken_on, after_take, IsAtRest};
 ghost use Rattle.lq_tap.specs.Told.{having_taken};
 ghost use Rattle.lq_tap.specs.Views.{AreFew};
-ghost use Rattle.lq_tap.specs.Plays.{with_ends, rest_at};
+ghost use Rattle.lq_tap.specs.Tells.{with_ends, rest_at};
 ghost use Rattle.lq_tap.specs.Rule.{consumer_of};
 ghost use Rattle.lq_tap.specs.Steps.{GetsBatch, TakesAll, emptied_below, emptied_after};
 ghost use Rattle.lq_tap.specs.Sees.{view, steps, IsReaderOf, IsSeatOf, IsElseSame, FindsNone, TakesOne};

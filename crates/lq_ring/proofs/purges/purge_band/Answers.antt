@@ -1,16 +1,19 @@
-use Rattle.std.proofs.Common.{◌≡◌, sym, ap, ◌∙◌, subst, arith, Some}
+use Rattle.std.proofs.Common.{◌≡◌, ℕ, List, [], take, sym, ap, ◌∙◌, subst, arith, Some}
 use Rattle.lq_model.specs.Positions.{holds_lock}
+use Rattle.lq_model.specs.Band.{held_of}
+use Rattle.lq_band.specs.Three.{at}
+use Rattle.lq_band.specs.Ring.{Ends, after_take}
+use Rattle.lq_band.proofs.Three.{at_put_same}
 use Rattle.lq_table.specs.Views.{View, Left}
 use Rattle.lq_table.specs.Rule.{shown, IsResting}
 use Rattle.lq_table.specs.Sees.{view, setup, steps}
-use Rattle.lq_table.specs.Made.{◌⊳◌, did_load_size}
+use Rattle.lq_table.specs.Made.{Made, ◌⊳◌, did_load_size}
 use Rattle.lq_model.specs.declared.fate.Fate.TheVariants as fate
-use Rattle.lq_ring.specs.Changes.{one_more}
-use Rattle.lq_ring.proofs.StepLemmas.{purges_none}
+use Rattle.lq_ring.specs.Changes.{PurgesEach, none_yet, one_more, purging_steps}
 use Rattle.lq_ring.specs.Purged.{purged_by, IsPurgedTo}
 use Rattle.lq_ring.proofs.Seats.{seat_on}
 use Rattle.lq_ring.proofs.TakeSteps.{sized_none, rest_at, rest_put}
-use Rattle.lq_ring.proofs.PurgeSteps.{none_purged, next_purged, all_purged, still_held}
+use Rattle.lq_ring.proofs.PurgeSteps.{none_purged, next_purged, all_purged, still_held, taken_next_of, taken_all}
 use Rattle.lq_ring.proofs.purges.purge_band.Goals as goal
 
 pub loop-n-init : goal.loop-n-init
@@ -21,7 +24,9 @@ loop-n-init g c =
       slot = s.3;
       station = s.1 ∙ (c.requires.station ∙ ap (λ (x : View). Some (shown x.holder)) (sym loaded));
       purged = λ f left. subst (λ (x : View). IsPurgedTo c.args.band 0 f v x) (sym loaded) (none_purged c.args.band f v c.requires.band left (rest_at _ c.args.band _ c.requires.rests.0));
-      made = (c.load_size-size.result, purges_none (setup c.args.shared.now) c.args.band (fate.Purged c.args.cause) (steps c.args.cpu.now ⊳ did_load_size c.load_size-size.result) (steps c.load_size-size.new.cpu) c.load_size-size.ensures.made);
+      made = λ f left. let size = c.load_size-size.ensures.holder (ap holds_lock c.requires.at.2) in let start : Ends = at c.args.band v.holder.ends in
+          subst (λ (z : Ends × List Made). PurgesEach (setup c.args.shared.now) c.args.band (fate.Purged c.args.cause) v.holder.size start (steps c.args.cpu.now ⊳ did_load_size v.holder.size) [] z.0 z.1)
+          (λ j. (ap (λ (x : View). at c.args.band x.holder.ends) (sym loaded) j, sym (c.load_size-size.ensures.made ∙ ap (λ (z : ℕ). steps c.args.cpu.now ⊳ did_load_size z) size) j)) none_yet;
     }
 
 pub purge_one-requires-clause-at : goal.purge_one-requires-clause-at
@@ -53,8 +58,15 @@ loop-n-preserved g c =
       slot = s.1 ∙ i.slot;
       station = c.purge_one.ensures.station;
       purged = next;
-      made = let one = c.purge_one.ensures.made.0 c.if-not-purge_one.false in
-          (i.made.0, one_more k one.0 (steps c.loop-n.cpu) (steps c.purge_one.new.cpu) i.made.1 one.1);
+      made = λ l left.
+          let p = i.purged l left in let t = c.purge_one.ensures.taken c.if-not-purge_one.false (purged_by b k l) (ap (λ (x : View). x.holder.left) p.is) in let held : List ℕ = held_of (at b l.bands) in
+          let here : at b (view c.loop-n.cpu).holder.ends ≡ p.ends = ap (λ (x : View). at b x.holder.ends) p.is ∙ at_put_same b p.ends v.holder.ends in
+          let made_ = c.purge_one.ensures.made.first c.if-not-purge_one.false (purged_by b k l) t.0 (ap (λ (x : View). x.holder.left) p.is) t.1 in
+          let size : (view c.loop-n.cpu).holder.size ≡ v.holder.size = ap (λ (x : View). x.holder.size) p.is in
+          let then : at b (view c.purge_one.new.cpu).holder.ends ≡ after_take v.holder.size p.ends = ap (λ (x : View). at b x.holder.ends) (next l left).is ∙ at_put_same b (next l left).ends v.holder.ends in
+          subst (λ (z : List ℕ × Ends × List Made). PurgesEach (setup c.args.shared.now) b (fate.Purged c.args.cause) v.holder.size (at b v.holder.ends) (steps c.args.cpu.now ⊳ did_load_size v.holder.size) z.0 z.1 z.2)
+          (λ j. (taken_next_of b k t.0 l t.1 j, ((λ i'. after_take v.holder.size (here i')) ∙ sym then) j, ((λ i'. purging_steps (setup c.args.shared.now) b (fate.Purged c.args.cause) (sym size i') (at b (view c.loop-n.cpu).holder.ends) t.0 (steps c.loop-n.cpu)) ∙ sym made_) j))
+          (one_more (take k held) (at b (view c.loop-n.cpu).holder.ends) t.0 (steps c.loop-n.cpu) (i.made l left));
     }
 
 pub unreachable-requires : goal.unreachable-requires
@@ -65,10 +77,16 @@ unreachable-requires g c =
 pub returns-then-not-purge_one-clause-purges : goal.returns-then-not-purge_one-clause-purges
 returns-then-not-purge_one-clause-purges g c =
     let b = c.args.band in let k = c.loop-n.n in let i = c.loop-n.invariant in let one = c.purge_one.ensures in
-    let past = one.made.1 c.if-not-purge_one.true in record {
+    record {
       purged = λ u l purge left.
           let p = i.purged l left in
           let none_ = one.none c.if-not-purge_one.true u (purged_by b k l) (ap (λ (x : View). x.control.purge) p.is ∙ purge) (ap (λ (x : View). x.holder.left) p.is) in
           all_purged b k u l (view c.args.cpu.now) (view c.loop-n.cpu) (view c.purge_one.new.cpu) p none_.0 none_.1;
-      made = (i.made.0, steps c.loop-n.cpu, past.0, i.made.1, past.1);
+      made = λ l left.
+          let p = i.purged l left in let at_ = c.requires.at in let u = at_.0 in let purge = at_.3 in
+          let none_ = one.none c.if-not-purge_one.true u (purged_by b k l) (ap (λ (x : View). x.control.purge) p.is ∙ purge) (ap (λ (x : View). x.holder.left) p.is) in
+          (steps c.loop-n.cpu, at b (view c.loop-n.cpu).holder.ends,
+          subst (λ (ns : List ℕ). PurgesEach (setup c.args.shared.now) b (fate.Purged c.args.cause) (view c.args.cpu.now).holder.size (at b (view c.args.cpu.now).holder.ends) (steps c.args.cpu.now ⊳ did_load_size (view c.args.cpu.now).holder.size) ns (at b (view c.loop-n.cpu).holder.ends) (steps c.loop-n.cpu))
+              (taken_all b k l none_.0) (i.made l left),
+          one.made.none c.if-not-purge_one.true);
     }

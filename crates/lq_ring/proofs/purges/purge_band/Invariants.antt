@@ -1,4 +1,6 @@
-use Rattle.std.proofs.Common.{◌≡◌, ℕ, Some}
+use Rattle.std.proofs.Common.{◌≡◌, ℕ, Some, take}
+use Rattle.lq_model.specs.Band.{held_of}
+use Rattle.lq_band.specs.Three.{at}
 use Rattle.lq_table.specs.Views.{Left}
 use Rattle.lq_table.specs.Sees.{view, setup, steps, slot, IsSeatOf, IsSameSeat}
 use Rattle.lq_ring.specs.Take.{CarriesStation}
@@ -15,5 +17,6 @@ invariant-loop-n g l = record {
   slot : slot l.cpu ≡ slot l.fn.cpu;
   station : CarriesStation l.cpu;
   purged : (f : Left) → (view l.fn.cpu).holder.left ≡ Some f → IsPurgedTo l.band l.n f (view l.fn.cpu) (view l.cpu);
-  made : (size : ℕ) × PurgesEach (setup l.shared) l.band (fate.Purged l.cause) (steps l.fn.cpu ⊳ did_load_size size) l.n (steps l.cpu);
+  made : (f : Left) → (view l.fn.cpu).holder.left ≡ Some f → let size = (view l.fn.cpu).holder.size in
+      PurgesEach (setup l.shared) l.band (fate.Purged l.cause) size (at l.band (view l.fn.cpu).holder.ends) (steps l.fn.cpu ⊳ did_load_size size) (take l.n (held_of (at l.band f.bands))) (at l.band (view l.cpu).holder.ends) (steps l.cpu);
 }

@@ -1,6 +1,7 @@
 use Rattle.std.proofs.Common.{◌≡◌, ℕ, ◌+◌, ◌-◌, ◌<◌, ◌≤◌, refl, sym, ap, ◌∙◌, subst, arith, Option, Some}
 use Rattle.std.specs.Prelude.{slice_index, is_some}
 use Rattle.std.specs.Option.{unwrap_or}
+use Rattle.std.proofs.lemmas.Option.{same_Some}
 use Rattle.lq_account.proofs.Lists.{first-in}
 use Rattle.lq_device.specs.Station.{StationState}
 use Rattle.lq_model.specs.Positions.{holds_lock}
@@ -16,6 +17,7 @@ use Rattle.lq_table.specs.Told.{paying}
 use Rattle.lq_table.specs.Sees.{view, setup, steps}
 use Rattle.lq_table.specs.Made.{◌⊳◌, did_load_slot, did_store_fate}
 use Rattle.lq_model.specs.Words.{word_of}
+use Rattle.lq_ring.specs.Changes.{purging_steps}
 use Rattle.lq_ring.specs.Steps.{zeroed}
 use Rattle.lq_ring.proofs.TakeSteps.{heads_at, tails_at, rest_at, takes_end}
 use Rattle.lq_ring.proofs.Seats.{seat_on}
@@ -111,7 +113,7 @@ discard_one-requires-clause-seat g c _ _ =
 pub returns-then-found-eq0-clause-made : goal.returns-then-found-eq0-clause-made
 returns-then-found-eq0-clause-made g c =
     let b = c.args.band in let k = setup c.args.shared.now in let zero_ = c.if-found-eq0.true in let head = (at_ b (view c.args.cpu.now)).head in
-    (λ e. cc, λ _. (head, c.purge_slot-found.ensures.made ∙ (λ j. steps c.args.cpu.now ⊳ did_load_slot k b head (zero_ j))))
+    record { first = λ e. cc; none = λ _. c.purge_slot-found.ensures.made ∙ (λ j. steps c.args.cpu.now ⊳ did_load_slot k b head (zero_ j)) }
 
 pub returns-clause-made : goal.returns-clause-made
 returns-clause-made g c =
@@ -121,6 +123,12 @@ returns-clause-made g c =
     let ends : at_ b (view c.settle.new.cpu) ≡ taken_on own = ap (λ (x : View). at_ b x) took ∙ at_put_same b (taken_on own) v.holder.ends in
     let stored : steps c.settle.new.cpu ≡ old ⊳ did_load_slot k b own.head (n + 1) ⊳ did_store_fate k n (word_of (fate.Purged c.args.cause)) =
     c.settle.ensures.made ∙ ((λ j. c.purge_slot-found.ensures.made j ⊳ did_store_fate k n (word_of (fate.Purged c.args.cause))) ∙ (λ j. old ⊳ did_load_slot k b own.head (back j) ⊳ did_store_fate k n (word_of (fate.Purged c.args.cause)))) in
-    let now : Ends = at_ b (view c.settle.new.cpu) in let count = emptied_count c.args.size now in
+    let now : Ends = at_ b (view c.settle.new.cpu) in let fate_ = fate.Purged c.args.cause in
     let zeroes = zeroed_as k b c.args.size now (steps c.settle.new.cpu) (steps c.discard_one.new.cpu) c.discard_one.ensures.made.0 c.discard_one.ensures.made.1 in
-    (λ _. (n, (own.head, count, zeroes ∙ (λ j. zeroed k b (ends j).head count (stored j)))), λ e. cc)
+    let here : steps c.discard_one.new.cpu ≡ purging_steps k b fate_ v.holder.size own n old =
+    zeroes ∙ (λ j. zeroed k b (ends j).head (emptied_count (sym c.requires.rests.2 j) (ends j)) (stored j)) in
+    record {
+      first = λ _ l m left is. subst (λ (x : ℕ). steps c.discard_one.new.cpu ≡ purging_steps k b fate_ v.holder.size own x old)
+          (same_Some n m (sym (c.purge_slot-found.ensures.taken l left some_).0 ∙ is)) here;
+      none = λ e. cc;
+    }

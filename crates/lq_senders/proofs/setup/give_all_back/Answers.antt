@@ -64,7 +64,7 @@ loop-table-preserved g c =
       seats = let ok = c.pop-in-Some.new.self.ok.0 in omega arith;
       seats_left = (last-taken n cpus c.pop-in-Some.new.self.items c.in-Some-pop.cpu taken' so_many').0;
       boxes = ap (λ xs. identities_of (map state xs)) laid
-          ∙ boxes-back state (λ (x : SeatState). x.origin.identity) cpus c.pop-in-Some.new.self.items n c.in-Some-pop.cpu c.give_back.result c.loop-table.bench.items c.args.bench.now.items taken' so_many' c.give_back.ensures
+          ∙ boxes-back state (λ (x : SeatState). x.origin.identity) cpus c.pop-in-Some.new.self.items n c.in-Some-pop.cpu c.give_back.result c.loop-table.bench.items c.args.bench.now.items taken' so_many' c.give_back.ensures.identity
           (subst (λ k. identities_of (map state c.loop-table.bench.items) ≡ origins_of (drop k cpus) ++ identities_of (map state c.args.bench.now.items)) one_more own.boxes);
       rest = let gone : c.args.tables.len - n ≡ suc (c.args.tables.len - c.loop-table.tables.len) = let fewer = own.fewer in omega arith in
           ap (λ k. drop k c.insert-laid_back.new.self.items) gone ∙ (ap (drop (suc (c.args.tables.len - c.loop-table.tables.len))) laid ∙ own.rest);

@@ -1,7 +1,7 @@
-use Rattle.std.specs.Prelude.{[]}
 use Rattle.std.specs.Option.{unwrap_or}
+use Rattle.lq_table.specs.Resizes.{slot_cleared}
 use Rattle.lq_table.specs.Views.{no_resizing}
 use Rattle.lq_table.proofs.shared.Shared.clear_slot.Given as goal
 
-abbrev pub ghosts-clear_slot_of : goal.ghosts-clear_slot_of
-ghosts-clear_slot_of g a = record { band = a.band; index = a.i; packet = 0; hand = []; resizing = unwrap_or a.cpu.now.known.seat.me.0.view.holder.resizing no_resizing }
+abbrev pub ghosts-swap : goal.ghosts-swap
+ghosts-swap g a = record { told = slot_cleared a._about.now.0 a._about.now.1 (unwrap_or a.seat.now.me.0.view.holder.resizing no_resizing) }

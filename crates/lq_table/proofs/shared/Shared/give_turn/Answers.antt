@@ -7,15 +7,15 @@ use Rattle.lq_table.proofs.shared.Shared.give_turn.Goals as goal
 
 pub returns : goal.returns
 returns g c =
-    let infos = c.args.self.now.infos.now in let n = c.args.n in let t = c.give_turn_of.ensures in
+    let infos = c.args.self.now.infos.now in let n = c.args.n in let t = c.give_turn_at.ensures in
     let owner = owner_read infos n no_info c.requires.packet.0 in let rank = rank_read infos n no_info c.requires.packet.0 in record {
       same = ((t.same.0, t.same.1), refl, refl, t.same.2);
       given = t.given ∙ (λ j. giving_turn (owner j) (rank j) (view c.args.cpu.now));
       made = t.made ∙ (λ j. did_give_turn (owner j) (rank j) ∷ steps c.args.cpu.now);
     }
 
-pub give_turn_of-requires-clause-packet : goal.give_turn_of-requires-clause-packet
-give_turn_of-requires-clause-packet g c κs within =
+pub give_turn_at-requires-clause-packet : goal.give_turn_at-requires-clause-packet
+give_turn_at-requires-clause-packet g c κs within =
     let t = c.args.self.now in let infos = t.infos.now in let p = c.requires.packet in
     let owner = owner_read infos c.args.n no_info p.0 in
     (owner, rank_read infos c.args.n no_info p.0, subst (λ (o : ℕ). o < t.senders) (sym owner) p.1)

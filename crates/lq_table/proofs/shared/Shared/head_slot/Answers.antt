@@ -1,4 +1,14 @@
-use Rattle.std.proofs.Common.{ℕ, ◌<◌, ◌∷◌, sym, ap, ◌∙◌, subst}
+use Rattle.std.proofs.Common.{rules, ◌≡◌, ℕ, ◌∷◌, ◌<◌, ◌≤◌, arith, sym, ap, ◌∙◌, subst, length, List}
+use mathlib.Core.Option.{none}
+use Rattle.lq_model.specs.declared.fate.Info.{Info}
+use Rattle.atomic_table.specs.Table.{step, Allows}
+use Rattle.lq_table.specs.Rule.{Rule, slot_word}
+use Rattle.lq_table.specs.Keyed.{keyed_setup}
+use Rattle.lq_table.proofs.ByName.{slot_within}
+use Rattle.lq_table.specs.Solo.{head_seen_all}
+use Rattle.lq_table.proofs.MarksKept.{head_marks}
+use Rattle.lq_table.proofs.SoleKept.{sees_head_sole}
+use Rattle.lq_log.specs.Made.{seen}
 use Rattle.std.specs.Prelude.{is_some}
 use Rattle.std.proofs.lemmas.Bool.{false≢true}
 use Rattle.lq_table.specs.Made.{did_load_slot}
@@ -6,24 +16,31 @@ use Rattle.lq_table.specs.Sees.{setup, steps, ends_at}
 use Rattle.lq_table.proofs.CodeReads.{head_read}
 use Rattle.lq_table.proofs.shared.Shared.head_slot.Goals as goal
 
-pub returns : goal.returns
-returns g c =
-    let h = c.head_slot_of.ensures in let band = c.args.band in let known = (ends_at band c.args.cpu.now).head in
-    let head = head_read c.args.cpu.now.station c.in-Some.station band c.head-head.result known c.in-Some.is c.head-head.ensures c.requires.station.1 in record {
-      same = h.same;
-      none = h.none;
-      taken = h.taken;
-      sole = h.sole;
-      known = h.known;
-      made = h.made ∙ ap (λ (n : ℕ). did_load_slot (setup c.args.self.now) band n c.head_slot_of.result ∷ steps c.args.cpu.now) head;
-    }
+pub load-requires : goal.load-requires
+load-requires g c =
+    let t = c.args.self.now in let k = keyed_setup t.table.kit.shared.key in let slots = t.table.kit.shared.table_id.slots in let seat = c.args.cpu.now.known.seat in let b = c.args.band in
+    let where_ = c.requires.at in let i = c.head-head.result in let head = head_read c.args.cpu.now.station c.in-Some.station c.args.band c.head-head.result (ends_at c.args.band c.args.cpu.now).head c.in-Some.is c.head-head.ensures c.requires.station.1 in
+    let inside : i < k.max_len = let x = c.requires.head in let h = head in let y = t.same.2 in omega arith in
+    let place : slot_word k b i ≡ c.slot_word-word.result = sym c.slot_word-word.ensures in
+    let word : c.slot_word-word.result < t.table.kit.shared.table_id.words = let wide = t.sized.0 in let h = slot_within k b i c.requires.band inside in let x = t.same.1 in let y = t.same.2 in let p = place in omega arith in
+    let few : length k.infos ≤ 1000000 = subst (λ (xs : List Info). length xs ≤ 1000000) (sym t.same.0) t.sized.2 in (
+      c.requires.seat.0,
+      word,
+      subst (λ (z : ℕ). Allows (Rule k) slots seat.id (seen seat.me) z (λ x. x) (head_seen_all b (step slots z 0 0 none) (seen seat.me))) place
+          (sees_head_sole k slots seat.id (seen seat.me) b i where_.0 c.requires.band inside where_.1 c.requires.rests.0 c.requires.rests.1 head c.requires.seat.1 few),
+    )
+
+pub invariant_of-cpu : goal.invariant_of-cpu
+invariant_of-cpu g c =
+    let at = c.requires.at in
+    record { told = c.args.cpu.now.known.told ∙ sym (head_marks _ c.load.result at.0 (step c.args.self.now.table.kit.shared.table_id.slots c.slot_word-word.result 0 0 none) (seen c.args.cpu.now.known.seat.me) (seen c.load.new.seat.me) at.1 c.load.ensures.2.told.0) }
 
 pub unreachable-requires : goal.unreachable-requires
 unreachable-requires g c = absurd (false≢true (ap is_some (sym c.in_default.is) ∙ c.requires.station.0))
 
-pub head_slot_of-requires-clause-head : goal.head_slot_of-requires-clause-head
-head_slot_of-requires-clause-head g c κs within =
-    let old = c.args.cpu.now in let band = c.args.band in
-    let is = head_read old.station c.in-Some.station band c.head-head.result (ends_at band old).head c.in-Some.is in
-    let head = is c.head-head.ensures c.requires.station.1 in
-    (head, subst (λ (i : ℕ). i < c.args.self.now.max_len) (sym head) c.requires.head)
+pub returns-clause-made : goal.returns-clause-made
+returns-clause-made g c =
+    let t = c.args.self.now in let old = c.args.cpu.now in let found = c.load.result in
+    let head = head_read old.station c.in-Some.station c.args.band c.head-head.result (ends_at c.args.band old).head c.in-Some.is c.head-head.ensures c.requires.station.1 in
+    let made : c.load.new.seat.me.0.steps ≡ did_load_slot (setup t) c.args.band c.head-head.result found ∷ steps old = search rules in
+    made ∙ ap (λ (i : ℕ). did_load_slot (setup t) c.args.band i found ∷ steps old) head

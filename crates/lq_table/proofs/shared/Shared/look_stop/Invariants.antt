@@ -1,4 +1,5 @@
+use Rattle.lq_table.specs.Solo.{stop_looked_all}
 use Rattle.lq_table.proofs.shared.Shared.look_stop.Given as goal
 
-abbrev pub ghosts-look_stop_of : goal.ghosts-look_stop_of
-ghosts-look_stop_of g a = record { band = a.queue; packet = 0 }
+abbrev pub ghosts-load : goal.ghosts-load
+ghosts-load g a = record { told = stop_looked_all a._about.now }

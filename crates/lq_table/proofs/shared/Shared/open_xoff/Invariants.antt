@@ -1,4 +1,5 @@
+use Rattle.lq_table.specs.Controls.{next_opened}
 use Rattle.lq_table.proofs.shared.Shared.open_xoff.Given as goal
 
-abbrev pub ghosts-open_xoff_of : goal.ghosts-open_xoff_of
-ghosts-open_xoff_of g a = record { band = a.queue; packet = 0 }
+abbrev pub ghosts-store : goal.ghosts-store
+ghosts-store g a = record { told = next_opened a._about.now }

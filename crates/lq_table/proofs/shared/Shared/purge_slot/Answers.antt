@@ -1,32 +1,57 @@
-use Rattle.std.proofs.Common.{ℕ, ◌-◌, ◌<◌, ◌∷◌, Option, sym, ap, ◌∙◌, subst}
+use Rattle.std.proofs.Common.{rules, ◌≡◌, ℕ, ◌<◌, ◌≤◌, ◌-◌, ◌∷◌, arith, sym, ap, ◌∙◌, subst, length, List, Option, Some, [], slice_get}
+use mathlib.Core.Option.{none}
+use Rattle.lq_model.specs.declared.fate.Info.{Info}
+use Rattle.atomic_table.specs.Table.{step, Allows}
+use Rattle.lq_table.specs.Rule.{Rule, slot_word}
+use Rattle.lq_table.specs.Keyed.{keyed_setup}
+use Rattle.lq_table.proofs.ByName.{slot_within}
+use Rattle.lq_table.proofs.PurgeTakes.{purge_sees}
+use Rattle.lq_log.specs.Made.{seen}
 use Rattle.std.specs.Prelude.{is_some}
-use Rattle.std.proofs.lemmas.Bool.{false≢true}
 use Rattle.std.specs.Option.{unwrap_or}
+use Rattle.std.proofs.lemmas.Bool.{false≢true}
 use Rattle.lq_model.specs.Machine.{Purge}
-use Rattle.lq_table.specs.Made.{did_load_slot}
-use Rattle.lq_table.specs.Purges.{first_purge}
-use Rattle.lq_table.specs.Seats.{PassesEmptyBand, TakesFirstLeft}
-use Rattle.lq_table.specs.Sees.{setup, steps, ends_at}
 use Rattle.lq_table.specs.Views.{Left, no_left}
+use Rattle.lq_table.specs.Purges.{purge_seen, first_purge, passing_band, taking_purged}
+use Rattle.lq_model.specs.Band.{held_of}
+use Rattle.lq_band.specs.Three.{at}
+use Rattle.lq_table.specs.Told.{Sat}
+use Rattle.lq_table.specs.Made.{did_load_slot}
+use Rattle.lq_table.specs.Sees.{view, setup, steps, ends_at}
 use Rattle.lq_table.proofs.CodeReads.{head_read}
 use Rattle.lq_table.proofs.shared.Shared.purge_slot.Goals as goal
 
-pub returns : goal.returns
-returns g c =
-    let h = c.purge_slot_of.ensures in let band = c.args.band in let old = c.args.cpu.now in let new = c.purge_slot_of.new.cpu in let n = c.purge_slot_of.result in
-    let head = head_read old.station c.in-Some.station band c.head-head.result (ends_at band old).head c.in-Some.is c.head-head.ensures c.requires.station.1 in record {
-      same = h.same;
-      none = λ u l purge left zero_. subst (λ (x : Purge × Left). PassesEmptyBand band x.0 x.1 old new) (λ j. (unwrap_or (purge j) first_purge, unwrap_or (left j) no_left)) (h.none zero_);
-      taken = λ l left some. subst (λ (x : Left). TakesFirstLeft band (n - 1) x old new) (ap (λ (x : Option Left). unwrap_or x no_left) left) (h.taken some);
-      made = h.made ∙ ap (λ (i : ℕ). did_load_slot (setup c.args.self.now) band i n ∷ steps old) head;
-    }
+pub load-requires : goal.load-requires
+load-requires g c =
+    let t = c.args.self.now in let k = keyed_setup t.table.kit.shared.key in let slots = t.table.kit.shared.table_id.slots in let seat = c.args.cpu.now.known.seat in let b = c.args.band in
+    let i = c.head-head.result in let at = c.requires.at in let left = ap (λ (x : Option Left). unwrap_or x no_left) at.5 in let purge = ap (λ (x : Option Purge). unwrap_or x first_purge) at.3 in
+    let head = head_read c.args.cpu.now.station c.in-Some.station c.args.band c.head-head.result (ends_at c.args.band c.args.cpu.now).head c.in-Some.is c.head-head.ensures c.requires.station.1 in
+    let inside : i < k.max_len = let x = c.requires.head in let h = head in let y = t.same.2 in omega arith in
+    let place : slot_word k b i ≡ c.slot_word-word.result = sym c.slot_word-word.ensures in
+    let word : c.slot_word-word.result < t.table.kit.shared.table_id.words = let wide = t.sized.0 in let h = slot_within k b i c.requires.band inside in let x = t.same.1 in let y = t.same.2 in let p = place in omega arith in
+    let few : length k.infos ≤ 1000000 = subst (λ (xs : List Info). length xs ≤ 1000000) (sym t.same.0) t.sized.2 in (
+      c.requires.seat.0,
+      word,
+      subst (λ (z : ℕ × Purge × Left). Allows (Rule k) slots seat.id (seen seat.me) z.0 (λ x. x) (purge_seen b z.1 z.2 (step slots z.0 0 0 none) (seen seat.me))) (λ j. (place j, sym purge j, sym left j))
+          (purge_sees k slots seat.id (seen seat.me) b i at.0 at.1 c.requires.band inside few at.2 at.3 at.4 at.5 c.requires.packets.0 c.requires.packets.1 c.requires.rests.0 c.requires.rests.1 head c.requires.seat.1),
+    )
 
 pub unreachable-requires : goal.unreachable-requires
 unreachable-requires g c = absurd (false≢true (ap is_some (sym c.in_default.is) ∙ c.requires.station.0))
 
-pub purge_slot_of-requires-clause-head : goal.purge_slot_of-requires-clause-head
-purge_slot_of-requires-clause-head g c κs within =
-    let old = c.args.cpu.now in let band = c.args.band in
-    let is = head_read old.station c.in-Some.station band c.head-head.result (ends_at band old).head c.in-Some.is in
-    let head = is c.head-head.ensures c.requires.station.1 in
-    (head, subst (λ (i : ℕ). i < c.args.self.now.max_len) (sym head) c.requires.head)
+pub returns-clause-made : goal.returns-clause-made
+returns-clause-made g c =
+    let t = c.args.self.now in let old = c.args.cpu.now in let found = c.load.result in
+    let head = head_read old.station c.in-Some.station c.args.band c.head-head.result (ends_at c.args.band old).head c.in-Some.is c.head-head.ensures c.requires.station.1 in
+    let made : c.load.new.seat.me.0.steps ≡ did_load_slot (setup t) c.args.band c.head-head.result found ∷ steps old = search rules in
+    made ∙ ap (λ (i : ℕ). did_load_slot (setup t) c.args.band i found ∷ steps old) head
+
+pub returns-clause-none : goal.returns-clause-none
+returns-clause-none g c = λ u l purge left zero_.
+    let old = c.args.cpu.now in let t = c.load.ensures.2.told.0 zero_ in
+    subst (λ (x : Purge × Left). (held_of (at c.args.band x.1.bands) ≡ []) × (c.load.new.seat.me.0.view ≡ passing_band x.0 (view old))) (λ j. (unwrap_or (purge j) first_purge, unwrap_or (left j) no_left)) (t.0, ap (λ (m : Sat). m.0) t.1)
+
+pub returns-clause-taken : goal.returns-clause-taken
+returns-clause-taken g c = λ l left some.
+    let old = c.args.cpu.now in let t = c.load.ensures.2.told.1 some in
+    let n = c.load.result - 1 in subst (λ (x : Left). (slice_get (held_of (at c.args.band x.bands)) 0 ≡ Some n) × (c.load.new.seat.me.0.view ≡ taking_purged c.args.band n x (view old))) (ap (λ (x : Option Left). unwrap_or x no_left) left) (t.0, ap (λ (m : Sat). m.0) t.1)

@@ -1,4 +1,5 @@
+use Rattle.lq_table.specs.Controls.{closed_by}
 use Rattle.lq_table.proofs.shared.Shared.set_deactivated.Given as goal
 
-abbrev pub ghosts-set_deactivated_by : goal.ghosts-set_deactivated_by
-ghosts-set_deactivated_by g a = record { event = a.event }
+abbrev pub ghosts-fetch_or : goal.ghosts-fetch_or
+ghosts-fetch_or g a = record { told = closed_by a._about.now }

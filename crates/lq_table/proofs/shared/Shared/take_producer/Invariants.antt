@@ -1,5 +1,7 @@
 use Rattle.std.specs.Prelude.{◌/◌}
+use Rattle.lq_table.specs.Keyed.{keyed_setup}
+use Rattle.lq_table.specs.SolePut.{got_producer_all}
 use Rattle.lq_table.proofs.shared.Shared.take_producer.Given as goal
 
-abbrev pub ghosts-take_producer_of : goal.ghosts-take_producer_of
-ghosts-take_producer_of g a = record { band = a.band; packet = 0; index = a.seen / 2; limit = a.self.now.max_len }
+abbrev pub ghosts-compare_exchange : goal.ghosts-compare_exchange
+ghosts-compare_exchange g a = let k = keyed_setup a.self.now.kit.shared.key in record { told = got_producer_all a._about.now (a.old / 2) k.max_len }

@@ -1,4 +1,5 @@
+use Rattle.lq_table.specs.Rings.{slot_emptied}
 use Rattle.lq_table.proofs.shared.Shared.zero_slot.Given as goal
 
-abbrev pub ghosts-zero_slot_of : goal.ghosts-zero_slot_of
-ghosts-zero_slot_of g a = record { band = a.band; packet = 0 }
+abbrev pub ghosts-store : goal.ghosts-store
+ghosts-store g a = record { told = slot_emptied a._about.now }

@@ -1,4 +1,5 @@
+use Rattle.lq_tap.specs.Tells.{slot_before_seen}
 use Rattle.lq_tap.proofs.shared.Tap.slot_before.Given as goal
 
-abbrev pub ghosts-slot_before_of : goal.ghosts-slot_before_of
-ghosts-slot_before_of a = record { left = a.left }
+abbrev pub ghosts-load : goal.ghosts-load
+ghosts-load a = record { told = slot_before_seen a._about.now }

@@ -4,7 +4,7 @@ use Rattle.std.proofs.lemmas.List.Elements.{All-nil, All-push}
 use Rattle.lq_band.specs.Ring.{after_take}
 use Rattle.lq_tap.specs.Views.{View, Setup}
 use Rattle.lq_tap.specs.Told.{after_takes}
-use Rattle.lq_tap.specs.Plays.{rest_at, having_taken_one}
+use Rattle.lq_tap.specs.Tells.{rest_at, having_taken_one}
 use Rattle.lq_tap.specs.Steps.{took, took_all}
 use Rattle.lq_tap.specs.Sees.{view, steps}
 use Rattle.lq_tap.proofs.BatchSteps.{taken_so_far, none_taken_yet, one_more_taken, took_one_more, drop_further}

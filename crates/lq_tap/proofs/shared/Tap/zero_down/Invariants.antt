@@ -1,6 +1,6 @@
 use Rattle.std.proofs.Common.{◌≡◌}
 use Rattle.lq_band.specs.Ring.{emptied_down}
-use Rattle.lq_tap.specs.Plays.{with_ends}
+use Rattle.lq_tap.specs.Tells.{with_ends}
 use Rattle.lq_tap.specs.Steps.{emptied_below}
 use Rattle.lq_tap.specs.Sees.{view, steps, IsSeatOf, IsElseSame}
 use Rattle.lq_tap.proofs.shared.Tap.zero_down.Given as goal

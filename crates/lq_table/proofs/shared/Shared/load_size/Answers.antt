@@ -1,0 +1,12 @@
+use Rattle.std.proofs.Common.{◌<◌, arith}
+use Rattle.lq_table.specs.Places.{size_place}
+use Rattle.lq_table.specs.Keyed.{keyed_setup}
+use Rattle.lq_table.proofs.ProducersKept.{loads_size}
+use Rattle.lq_log.specs.Made.{seen}
+use Rattle.lq_table.proofs.shared.Shared.load_size.Goals as goal
+
+pub load-requires : goal.load-requires
+load-requires g c =
+    let t = c.args.self.now in let k = keyed_setup t.table.kit.shared.key in let slots = t.table.kit.shared.table_id.slots in let seat = c.args.cpu.now.known.seat in
+    let word : size_place < t.table.kit.shared.table_id.words = let wide = t.sized.0 in omega arith in
+    (c.requires.seat.0, word, loads_size k slots seat.id (seen seat.me) c.requires.seat.1)

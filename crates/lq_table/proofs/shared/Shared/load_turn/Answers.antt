@@ -1,0 +1,20 @@
+use Rattle.std.proofs.Common.{sym, ◌≡◌, ℕ, ◌<◌, arith, subst}
+use mathlib.Core.Option.{none}
+use Rattle.atomic_table.specs.Table.{step, Allows}
+use Rattle.lq_table.specs.Places.{turn_place}
+use Rattle.lq_table.specs.Rule.{Rule}
+use Rattle.lq_table.specs.Keyed.{keyed_setup}
+use Rattle.lq_table.specs.Told.{turn_seen}
+use Rattle.lq_table.proofs.TurnsKept.{loads_turn}
+use Rattle.lq_log.specs.Made.{seen}
+use Rattle.lq_table.proofs.shared.Shared.load_turn.Goals as goal
+
+pub load-requires : goal.load-requires
+load-requires g c =
+    let t = c.args.self.now in let k = keyed_setup t.table.kit.shared.key in let slots = t.table.kit.shared.table_id.slots in let seat = c.args.cpu.now.known.seat in let o = c.args.owner in
+    let place : turn_place o ≡ c.turn_word-word.result = sym c.turn_word-word.ensures in
+    let below : o < k.senders = (let e = t.same.1 in let l = c.requires.owner in omega arith) in (
+      c.requires.seat.0,
+      (let wide = t.sized.0 in let small = c.requires.owner in let p = place in let x : c.turn_word-word.result < t.table.kit.shared.table_id.words = omega arith in x),
+      subst (λ (z : ℕ). Allows (Rule k) slots seat.id (seen seat.me) z (λ x. x) (turn_seen o (step slots z 0 0 none) (seen seat.me))) place (loads_turn k slots seat.id o (seen seat.me) below c.requires.seat.1),
+    )

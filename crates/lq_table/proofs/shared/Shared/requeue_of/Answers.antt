@@ -1,7 +1,0 @@
-use Rattle.std.proofs.Common.{arith}
-use Rattle.lq_table.proofs.HolderKept.{requeues}
-use Rattle.lq_table.proofs.shared.Shared.requeue_of.Goals as goal
-
-pub fetch_or-requires : goal.fetch_or-requires
-fetch_or-requires g c = let at = c.requires.at in
-    (c.requires.seat.0, (let wide = c.args.self.now.sized.0 in omega arith), requeues _ _ _ at.0 _ _ at.1 at.2 at.3 at.4 at.5 c.requires.seat.1)

@@ -1,7 +1,0 @@
-use Rattle.std.proofs.Common.{arith}
-use Rattle.lq_table.proofs.SwapKept.{swaps}
-use Rattle.lq_table.proofs.shared.Shared.swap_of.Goals as goal
-
-pub store-requires : goal.store-requires
-store-requires g c = let t = c.args.self.now in let p = c.requires.purged in let e = t.same.5 in let q = t.sized.3 in
-    (c.requires.seat.0, (let wide = t.sized.0 in omega arith), swaps _ _ _ _ _ (omega arith) c.requires.at.1 c.requires.at.0 p.0 p.1 c.requires.station c.requires.seat.1)
