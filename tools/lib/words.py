@@ -6,21 +6,18 @@
 `main` gets the words of the command line and returns the exit code, or nothing for 0. `--help` prints the tool's own text to standard output
 and ends with 0; `Wrong` ends with 2, `Failed` with 1 or its own code. No traceback reaches a user: a fault of a file, of memory or of
 standard output is one line, and an interrupt ends the tool by its signal, so that a loop in a shell ends with it. A tool imports this module
-before what takes longer to import: from then on an interrupt leaves no traceback.
+before what takes longer to import (lib/__init__.py).
 """
 import os
 import signal
+import subprocess
 import sys
 from typing import Callable, List, Optional
 
-# a shell ignores interrupts for what it runs in the background
-INTERRUPTS = signal.getsignal(signal.SIGINT) is signal.default_int_handler
-if INTERRUPTS:
-    signal.signal(signal.SIGINT, signal.SIG_DFL)
+from lib import INTERRUPTS
+
 # a reader that has had enough ends the tool, as it ends others
 signal.signal(signal.SIGPIPE, signal.SIG_DFL)
-
-import subprocess  # noqa: E402
 
 Main = Callable[[List[str]], Optional[int]]
 
@@ -132,6 +129,9 @@ def run(tool: str, about: str, main: Main) -> None:
             # what is open is closed, and what is of use only to this run is removed
             signal.signal(signal.SIGINT, signal.default_int_handler)
         code = code_of(tool, about, main, sys.argv[1:])
+        if INTERRUPTS:
+            # nothing is left to be closed but by the interpreter's end
+            signal.signal(signal.SIGINT, signal.SIG_DFL)
     except KeyboardInterrupt as it:
         # a tool that catches other signals says which
         end_by(it.args[0] if it.args else signal.SIGINT)

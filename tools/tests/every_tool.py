@@ -1,9 +1,11 @@
 """What holds of every tool: its help, wrong words, outputs that are inputs, and how it ends when something outside goes wrong."""
+import functools
 import os
 import re
 import shutil
 import signal
 import subprocess
+import sys
 import time
 from concurrent.futures import ThreadPoolExecutor
 
@@ -64,11 +66,14 @@ def inputs_of(room, ending):
     files["program"].write_text("#!/bin/sh\nexit 0\n", encoding="utf-8")
     files["program"].chmod(0o755)
     files["hosts"].write_text("1/:\n", encoding="utf-8")
-    files["fates"].write_text(FATES[0], encoding="utf-8")
+    files["fates"].write_text(example_fates(), encoding="utf-8")
     return files
 
 
-FATES = [""]
+@functools.cache
+def example_fates():
+    """What the program would write of the inputs' plan and capture."""
+    return fates_of(toml_text.loads((TOP / "examples/drops.toml").read_text(encoding="utf-8")), TOP / "examples/loopback.pcap")
 
 
 def contents(room):
@@ -102,7 +107,6 @@ def every_tool_is_listed():
 
 @case
 def no_output_is_an_input():
-    FATES[0] = fates_of(toml_text.loads((TOP / "examples/drops.toml").read_text(encoding="utf-8")), TOP / "examples/loopback.pcap")
     jobs = []
     for tool, call, ending, inputs in CALLS:
         for place, which in enumerate(inputs.split()):
@@ -187,10 +191,19 @@ def what_goes_wrong_outside():
         said = run(HERE / words[0], *words[1:], cwd=room)
         if said[0] not in (1, 4) or "Traceback" in said[2] or "none" not in said[2]:
             fault(f"{words[0]}, a file that isn't there: ends with {said[0]} and says {said[2][-300:]!r}")
-    for tool, words in {"explore": ["--large"]}.items():
-        process = subprocess.Popen([HERE / tool, *words], stdout=subprocess.PIPE, stderr=subprocess.PIPE, preexec_fn=heeding)
-        time.sleep(1)
-        process.send_signal(signal.SIGINT)
-        said = process.communicate()[1].decode()
-        if process.returncode != -signal.SIGINT or "Traceback" in said:
-            fault(f"{tool}, an interrupt: ends with {process.returncode} and says {said[-300:]!r}")
+    process = subprocess.Popen([HERE / "explore", "--large"], stdout=subprocess.PIPE, stderr=subprocess.PIPE, preexec_fn=heeding)
+    time.sleep(1)
+    process.send_signal(signal.SIGINT)
+    said = process.communicate()[1].decode()
+    if process.returncode != -signal.SIGINT or "Traceback" in said:
+        fault(f"explore, an interrupt: ends with {process.returncode} and says {said[-300:]!r}")
+
+
+@case
+def interrupts_before_and_after():
+    """An interrupt while a tool still imports, and one while the interpreter ends: by the signal, and nothing is said."""
+    kill = "os.kill(os.getpid(), signal.SIGINT)"
+    for text in (f"import lib, os, signal; {kill}", f"from lib import words; import atexit, os, signal; atexit.register(lambda: {kill}); words.run('none', 'none', len)"):
+        said = subprocess.run([sys.executable, "-c", text], cwd=HERE, capture_output=True, text=True, preexec_fn=heeding)
+        if said.returncode != -signal.SIGINT or said.stdout or said.stderr:
+            fault(f"an interrupt, {text}: ends with {said.returncode} and says {said.stderr[-300:]!r}")
