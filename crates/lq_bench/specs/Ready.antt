@@ -2,8 +2,8 @@
 use Rattle.std.specs.Prelude.{◌≡◌, ◌<◌, true, None, [], ◌∷◌}
 use Rattle.lq_model.specs.declared.machine.Position.TheVariants.{Idle}
 use Rattle.lq_model.specs.declared.machine.Phase.TheVariants.{Active}
-use Rattle.lq_band.specs.Ring.{unlocked}
-use Rattle.lq_band.specs.Three.{all_three}
+use Rattle.lq_band_laws.specs.Ring.{unlocked}
+use Rattle.lq_band_laws.specs.Three.{all_three}
 use Rattle.lq_table.specs.Views.{no_packets}
 use Rattle.lq_table.specs.Sees.{view, position, slot, IsSeatOf}
 use Rattle.lq_table.specs.declared.shared.Cpu.{Cpu}

@@ -3,7 +3,7 @@ use Rattle.std.proofs.Common.{◌≡◌, ℕ, zero, suc, Bool, true, false, not,
 use Rattle.std.specs.Prelude.{is_some, slice_index}
 use Rattle.std.proofs.lemmas.Bool.{true≢false}
 use Rattle.std.proofs.lemmas.List.{length-map}
-use Rattle.lq_account.proofs.Purges.{purge_empties}
+use Rattle.lq_account_laws.proofs.Purges.{purge_empties}
 use Rattle.lq_model.specs.Account.{Account, Event, Down, Purge, Resize, Swap, Up, after, held, held_in}
 use Rattle.lq_model.specs.Alone.{RunningStation, changed, new_device}
 use Rattle.lq_model.specs.Device.{DeviceState, Telling}

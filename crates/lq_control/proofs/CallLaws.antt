@@ -11,7 +11,7 @@ use Rattle.lq_model.specs.declared.fate.Cause.{Cause}
 use Rattle.lq_model.specs.declared.fate.Cause.TheVariants as cause
 use Rattle.lq_model.specs.declared.fate.Fate.{Fate}
 use Rattle.lq_model.specs.declared.fate.Fate.TheVariants as fate
-use Rattle.lq_band.specs.Three.{Three, at}
+use Rattle.lq_band_laws.specs.Three.{Three, at}
 use Rattle.lq_run.specs.Tries.{EndsRun, TriedAs, scheduled_where}
 use Rattle.lq_ring.specs.Fates.{fates_onto}
 use Rattle.lq_ring.specs.Resized.{all_lost}

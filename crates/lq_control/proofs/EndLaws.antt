@@ -1,7 +1,7 @@
 -- What the end of a station comes to: each owner's packets were transmitted, fates stay, and a purge is by the unit of a device that hangs.
 use Rattle.std.proofs.Common.{◌≡◌, inl, inr, ⊎_elim, ℕ, List, ◌∷◌, Contains, Some, None, [], refl, sym, ap, ◌∙◌, subst}
 use Rattle.std.proofs.lemmas.List.Elements.{Contains-append_cases}
-use Rattle.lq_account.proofs.Lists.{cons-in}
+use Rattle.lq_account_laws.proofs.Lists.{cons-in}
 use Rattle.lq_model.specs.Account.{Account, Event, Purge, held}
 use Rattle.lq_model.specs.Device.{DeviceState}
 use Rattle.lq_model.specs.Legal.{brought}

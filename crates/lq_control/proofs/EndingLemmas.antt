@@ -3,10 +3,10 @@ use Rattle.std.proofs.Common.{◌≡◌, ◌≢◌, ◌⊎◌, inl, inr, ℕ, �
 use Rattle.std.specs.Prelude.{is_some, is_none, slice_index, ◌||◌, ◌&&◌, if◌then◌else◌}
 use Rattle.std.proofs.lemmas.Bool.{and_from, and_parts, cases_Bool, cases_lt, or_cases, or_left, or_right, true≢false}
 use Rattle.std.proofs.lemmas.List.{get_or_past}
-use Rattle.lq_account.proofs.EndRounds.{finished_done}
-use Rattle.lq_account.proofs.Purges.{purge_empties}
+use Rattle.lq_account_laws.proofs.EndRounds.{finished_done}
+use Rattle.lq_account_laws.proofs.Purges.{purge_empties}
 use Rattle.lq_model.specs.Account.{Account, Purge, after, held, is_all_open, is_hung, with_fates}
-use Rattle.lq_account.proofs.Taken.{next_none}
+use Rattle.lq_account_laws.proofs.Taken.{next_none}
 use Rattle.lq_model.specs.Alone.{RunningStation, finished, is_done, next_taken, opened, purged_if_hung, served}
 use Rattle.lq_model.specs.declared.fate.Cause.TheVariants as cause
 use Rattle.lq_model.specs.declared.fate.Fate.TheVariants as fate

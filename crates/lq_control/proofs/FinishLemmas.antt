@@ -12,8 +12,8 @@ use Rattle.lq_model.specs.Account.{Event, Join, Full, Refuse, Direct}
 use Rattle.lq_model.specs.Legal.{brought}
 use Rattle.lq_model.specs.Plan.{owner_in}
 use Rattle.lq_model.specs.declared.fate.Info.{Info}
-use Rattle.lq_account.specs.Trail.{is_own}
-use Rattle.lq_account.proofs.Lists.{none-in}
+use Rattle.lq_account_laws.specs.Trail.{is_own}
+use Rattle.lq_account_laws.proofs.Lists.{none-in}
 use Rattle.lq_table.specs.Views.{View, Setup}
 use Rattle.lq_model.specs.declared.fate.Fate.{Fate}
 use Rattle.lq_ring.specs.Fates.{fates_onto}

@@ -3,8 +3,8 @@ use Rattle.std.proofs.Common.{◌≡◌, inl, inr, ⊎_elim, ℕ, ◌+◌, ◌*�
 use Rattle.std.specs.Prelude.{is_some, if◌then◌else◌}
 use Rattle.std.specs.Option.{option_map_or, option_to_list}
 use Rattle.std.proofs.lemmas.Option.{slice_get_cases}
-use Rattle.lq_account.proofs.Lists.{none-in, fates-cases}
-use Rattle.lq_account.proofs.Purges.{purge_empties, with_fates_in}
+use Rattle.lq_account_laws.proofs.Lists.{none-in, fates-cases}
+use Rattle.lq_account_laws.proofs.Purges.{purge_empties, with_fates_in}
 use Rattle.lq_model.specs.Account.{Account, Purge, after, after_all, held}
 use Rattle.lq_model.specs.Machine.{is_closed}
 use Rattle.lq_model.specs.Plan.{owner_in, station_in, rank_in}
@@ -28,7 +28,7 @@ use Rattle.lq_qdisc.proofs.AloneSteps.{account_at}
 use Rattle.lq_model.specs.declared.machine.Position.TheVariants.{Control}
 use Rattle.lq_run.specs.Runs.{ended}
 use Rattle.lq_model.specs.Band.{Band, held_of}
-use Rattle.lq_band.specs.Three.{Three}
+use Rattle.lq_band_laws.specs.Three.{Three}
 use Rattle.lq_table.specs.Purges.{AreKnown}
 use Rattle.lq_control.specs.Control.{IsIn, IsPurged, IsServed, all_purged}
 use Rattle.lq_control.specs.Finish.{AreFor, AreAllDone, AreKept, AreAllStops, IsOver, Hangs, IsLook, IsActiveOrPurged, IsFinished}

@@ -8,8 +8,8 @@ use Rattle.lq_model.specs.Machine.{Purge}
 use Rattle.lq_model.specs.declared.fate.Cause.{Cause}
 use Rattle.lq_model.specs.declared.fate.Fate.{Fate}
 use Rattle.lq_model.specs.declared.fate.Fate.TheVariants as fate
-use Rattle.lq_band.specs.Three.{Three, at}
-use Rattle.lq_band.specs.Ring.{IsAtRest}
+use Rattle.lq_band_laws.specs.Three.{Three, at}
+use Rattle.lq_band_laws.specs.Ring.{IsAtRest}
 use Rattle.lq_table.specs.Views.{View, Setup, Left}
 use Rattle.lq_table.specs.Sees.{view, IsSameSeat}
 use Rattle.lq_table.specs.declared.shared.Cpu.{Cpu}

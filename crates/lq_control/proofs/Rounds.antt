@@ -4,9 +4,9 @@ use Rattle.std.specs.Prelude.{slice_index, slice_set}
 use Rattle.std.specs.List.{list_all}
 use Rattle.std.proofs.lemmas.Bool.{and_from, and_parts, cases_eq, cases_lt, cond-true, cond-false, eq-eqb, eqb-true, ne_eqb, or_right, or_parts, true≢false}
 use Rattle.std.proofs.lemmas.List.{get_or_past}
-use Rattle.lq_account.proofs.EndRounds.{finished_round}
-use Rattle.lq_account.proofs.Taken.{IsInHand, held_none, in_hand, length_held, next_none, turn_of}
-use Rattle.lq_account.proofs.Turns.{served_left, served_open, turns_left, turns_none}
+use Rattle.lq_account_laws.proofs.EndRounds.{finished_round}
+use Rattle.lq_account_laws.proofs.Taken.{IsInHand, held_none, in_hand, length_held, next_none, turn_of}
+use Rattle.lq_account_laws.proofs.Turns.{served_left, served_open, turns_left, turns_none}
 use Rattle.lq_model.specs.Account.{Account, Event, Wake, after, held, is_all_open, is_hung, is_open}
 use Rattle.lq_model.specs.Alone.{RunningStation, cleaned, finished, is_done, next_taken, opened, opened_queue, opened_up_to, queue_in_hand, served, served_turns, turns_of}
 use Rattle.lq_model.specs.declared.fate.Info.{Info}

@@ -1,7 +1,7 @@
 -- What the calls of control make of what the first seat knows.
 use Rattle.std.specs.Prelude.{◌≡◌, ◌<◌, ◌≤◌, ℕ, true, false, List, [], ◌∷◌, ◌++◌, length, Option, Some, None, Contains}
 use Rattle.std.specs.Option.{option_map, option_to_list}
-use Rattle.lq_account.specs.Trail.{down_of}
+use Rattle.lq_account_laws.specs.Trail.{down_of}
 use Rattle.lq_model.specs.Account.{Account, Event, Down, Purge as PurgeEvent, Resize, Swap, dropped_in}
 use Rattle.lq_model.specs.Band.{Band, held_of}
 use Rattle.lq_model.specs.Control.{after_purge}
@@ -13,8 +13,8 @@ use Rattle.lq_model.specs.declared.fate.Fate.TheVariants as fate
 use Rattle.lq_model.specs.declared.fate.Info.{Info}
 use Rattle.lq_model.specs.declared.machine.Phase.{Phase}
 use Rattle.lq_model.specs.declared.machine.Position.TheVariants.{Control}
-use Rattle.lq_band.specs.Three.{Three}
-use Rattle.lq_band.specs.Ring.{Ends}
+use Rattle.lq_band_laws.specs.Three.{Three}
+use Rattle.lq_band_laws.specs.Ring.{Ends}
 use Rattle.lq_table.specs.Views.{View, HolderPart, Left, WholePart}
 use Rattle.lq_table.specs.Purges.{AreKnown}
 use Rattle.lq_table.specs.Rule.{IsResting, station_count, units_of}

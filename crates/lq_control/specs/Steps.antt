@@ -10,7 +10,7 @@ use Rattle.lq_model.specs.declared.fate.Cause.{Cause}
 use Rattle.lq_model.specs.declared.fate.Cause.TheVariants as cause
 use Rattle.lq_model.specs.declared.fate.Fate.{Fate}
 use Rattle.lq_model.specs.declared.fate.Fate.TheVariants as fate
-use Rattle.lq_band.specs.Three.{Three}
+use Rattle.lq_band_laws.specs.Three.{Three}
 use Rattle.lq_run.specs.Tries.{TriesOnce}
 use Rattle.lq_ring.specs.Changes.{PurgesBand, ResizesAll}
 use Rattle.lq_qdisc.specs.Steps.{InterruptsBy, ReleasesBy}

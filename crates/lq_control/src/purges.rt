@@ -1,6 +1,6 @@
 //! A purge: `qdisc_reset` of net/sched/sch_generic.c, with `pfifo_fast_reset`, by control that has the run lock.
 ghost use Rattle.std.specs.Prelude.{◌≡◌, ℕ, ◌+◌, ◌<◌, Some, Option};
-ghost use Rattle.lq_account.specs.Trail.{down_of};
+ghost use Rattle.lq_account_laws.specs.Trail.{down_of};
 ghost use Rattle.lq_model.specs.declared.fate.Cause.TheVariants as cause_of;
 ghost use Rattle.lq_model.specs.declared.fate.Fate.TheVariants as fate;
 ghost use Rattle.lq_table.specs.Views.{no_packets};

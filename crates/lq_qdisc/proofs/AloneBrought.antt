@@ -2,8 +2,8 @@
 use Rattle.std.proofs.Common.{◌≡◌, ℕ, ◌<◌, Bool, true, false, not, ◌&&◌, ◌||◌, List, [], length, Option, Some, None, is_none, if◌then◌else◌, refl, sym, ap, ◌∙◌, subst}
 use Rattle.std.specs.Option.{option_map_or}
 use Rattle.std.proofs.lemmas.Bool.{cond-true, cond-false, true≢false}
-use Rattle.lq_account.proofs.Taken.{next_none}
-use Rattle.lq_account.proofs.Turns.{served_left, served_open}
+use Rattle.lq_account_laws.proofs.Taken.{next_none}
+use Rattle.lq_account_laws.proofs.Turns.{served_left, served_open}
 use Rattle.lq_model.specs.Account.{Account, Back, Direct, Full, Join, after, held, is_open, is_shared}
 use Rattle.lq_model.specs.Alone.{RunningStation, gone_direct, gone_through, is_clean, is_left, is_occupied, joined_or_full, next_answer, next_taken, offered, seen_in, served, served_turns, turns_of}
 use Rattle.lq_model.specs.Device.{is_busy}

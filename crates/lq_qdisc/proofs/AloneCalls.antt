@@ -3,7 +3,7 @@ use Rattle.std.proofs.Common.{length-set, zero, suc, ◌≡◌, ◌≢◌, ℕ, 
 use Rattle.std.specs.Prelude.{is_some, nat_lt, slice_index, slice_set}
 use Rattle.std.specs.Option.{option_map}
 use Rattle.std.proofs.lemmas.Bool.{and_from, and_parts, cond-true, cond-false, eq-eqb, lt-ltb, ne_eqb, or_left, true≢false}
-use Rattle.lq_account.proofs.Offers.{brought_direct, brought_through, queued_join}
+use Rattle.lq_account_laws.proofs.Offers.{brought_direct, brought_through, queued_join}
 use Rattle.lq_model.specs.Account.{Account, Event, Refuse, Join, Full, Direct, Wake, after}
 use Rattle.lq_model.specs.Alone.{RunningStation, brought_in, taken_in, gone_direct, joined_or_full, opened, opened_queue, opened_up_to, seen_in, served}
 use Rattle.lq_model.specs.Band.{IsOccupied}

@@ -3,8 +3,8 @@ use Rattle.std.proofs.Common.{◌≡◌, ◌≢◌, ◌⊎◌, inl, inr, ℕ, ze
 use Rattle.std.specs.Prelude.{slice_index, slice_set}
 use Rattle.std.proofs.lemmas.Bool.{cases_eq, cases_lt}
 use Rattle.std.proofs.lemmas.List.{length-map, set_past}
-use Rattle.lq_account.proofs.Answers.{slot_after}
-use Rattle.lq_account.proofs.Taken.{length_held}
+use Rattle.lq_account_laws.proofs.Answers.{slot_after}
+use Rattle.lq_account_laws.proofs.Taken.{length_held}
 use Rattle.lq_model.specs.Account.{Account, Event, Join, Full, Refuse, Empty, Take, Pick, Direct, Send, Back, Stop, Wake, Resize, Down, Purge, Swap, Up, after, after_all, held, sent_from_hand}
 use Rattle.lq_model.specs.Alone.{answered, hung_up_to}
 use Rattle.lq_model.specs.Band.{held_of}

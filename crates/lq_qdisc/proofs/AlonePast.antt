@@ -5,9 +5,9 @@ use Rattle.lq_qdisc.specs.Alone.{HasAll, IsAlone, account_in, bits_are_clear, ru
 use Rattle.lq_qdisc.proofs.AloneForms.{DirectsAlone, LaysAlone, SendsAlone, ended, stopping, through_of}
 use Rattle.std.proofs.Common.{◌≡◌, ℕ, ◌+◌, ◌≤◌, ◌<◌, Bool, true, false, not, ◌&&◌, ◌||◌, [], ◌++◌, ◌⊎◌, inl, inr, List, None, length, if◌then◌else◌, option_to_list, refl, sym, ap, ap₂, subst, ◌∙◌, arith}
 use Rattle.std.proofs.lemmas.Bool.{eqb-true, true≢false}
-use Rattle.lq_account.proofs.Answers.{slot_after}
-use Rattle.lq_account.proofs.Taken.{slot_none}
-use Rattle.lq_account.proofs.Turns.{busy_answer}
+use Rattle.lq_account_laws.proofs.Answers.{slot_after}
+use Rattle.lq_account_laws.proofs.Taken.{slot_none}
+use Rattle.lq_account_laws.proofs.Turns.{busy_answer}
 use Rattle.lq_model.specs.Account.{Account, Back, Direct, after, held}
 use Rattle.lq_model.specs.Alone.{RunningStation, answered, gone_direct, next_answer, offered}
 use Rattle.lq_model.specs.Band.{Band, held_of}

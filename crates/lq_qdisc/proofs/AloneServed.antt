@@ -2,9 +2,9 @@
 use Rattle.std.proofs.Common.{◌≡◌, ◌⊎◌, inl, inr, ℕ, zero, suc, ◌+◌, ◌-◌, ◌<◌, Bool, true, false, not, ◌&&◌, ◌||◌, List, [], ◌∷◌, length, Option, Some, None, is_some, is_none, option_to_list, if◌then◌else◌, refl, sym, ap, ◌∙◌, subst, arith, add-one}
 use Rattle.std.specs.Option.{option_map_or}
 use Rattle.std.proofs.lemmas.Bool.{cond-true, cond-false, eqb-true, true≢false}
-use Rattle.lq_account.proofs.Answers.{slot_after}
-use Rattle.lq_account.proofs.Taken.{IsInHand, held_none, in_hand, picks, turn_of}
-use Rattle.lq_account.proofs.Turns.{busy_answer, served_left, served_open, turns_left, turns_none}
+use Rattle.lq_account_laws.proofs.Answers.{slot_after}
+use Rattle.lq_account_laws.proofs.Taken.{IsInHand, held_none, in_hand, picks, turn_of}
+use Rattle.lq_account_laws.proofs.Turns.{busy_answer, served_left, served_open, turns_left, turns_none}
 use Rattle.lq_model.specs.Account.{Account, Event, Back, Pick, after, held, is_open, is_shared}
 use Rattle.lq_model.specs.Alone.{RunningStation, answered, cleaned, is_clean, is_left, next_answer, next_taken, offered, queue_in_hand, taken_served, served, served_turns, turns_of}
 use Rattle.lq_model.specs.Device.{is_busy, told_after}

@@ -4,7 +4,7 @@ use Rattle.std.specs.Prelude.{nat_lt, is_some, slice_get, slice_index, filter, M
 use Rattle.std.specs.Option.{option_map, option_map_or}
 use Rattle.std.proofs.lemmas.List.{length-replicate}
 use Rattle.std.proofs.lemmas.Bool.{cases_eq, cond-true, cond-false, eq-eqb, lt-ltb, ne_eqb, or_right, true≢false}
-use Rattle.lq_account.proofs.Taken.{first_of_some}
+use Rattle.lq_account_laws.proofs.Taken.{first_of_some}
 use Rattle.lq_device.specs.Station.{StationState, HasAnswered}
 use Rattle.lq_model.specs.Account.{Account, Event, Join, Full, Refuse, Empty, Take, Pick, Direct, Send, Back, Stop, Wake, Resize, Down, Purge, Swap, Up, after, after_all, held_in, is_open, is_shared}
 use Rattle.lq_model.specs.Alone.{next_answer, next_taken}

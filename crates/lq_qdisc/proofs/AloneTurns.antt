@@ -6,7 +6,7 @@ use Rattle.lq_qdisc.proofs.AloneForms.{LaysAlone, SendsAlone, TakesAlone, answer
 use Rattle.std.proofs.Common.{◌≡◌, ℕ, zero, suc, ◌<◌, Bool, true, false, not, ◌||◌, ◌∷◌, List, Option, Some, None, IsSome, length, refl, sym, ap, ap₂, subst, ◌∙◌}
 use Rattle.std.specs.Option.{option_map, option_map_or}
 use Rattle.std.proofs.lemmas.Bool.{true≢false}
-use Rattle.lq_account.proofs.Taken.{IsInHand, held_none, in_hand, turn_of}
+use Rattle.lq_account_laws.proofs.Taken.{IsInHand, held_none, in_hand, turn_of}
 use Rattle.lq_model.specs.Account.{Account, Event, Back, Send, Stop, after, after_all, is_open}
 use Rattle.lq_model.specs.Alone.{RunningStation, answered, hung_up_to, offered, served}
 use Rattle.lq_model.specs.Device.{Telling, told_after}

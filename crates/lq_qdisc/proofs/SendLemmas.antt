@@ -9,7 +9,7 @@ use Rattle.lq_model.specs.declared.machine.Packet.{Packet}
 use Rattle.lq_model.specs.declared.machine.Position.{Position}
 use Rattle.lq_model.specs.declared.machine.Position.TheVariants.{Check, Leave, Put, Try1}
 use Rattle.lq_model.specs.declared.fate.Info.{Info}
-use Rattle.lq_account.specs.Trail.{is_own}
+use Rattle.lq_account_laws.specs.Trail.{is_own}
 use Rattle.lq_table.specs.Told.{is_set, looking, seen_by, seen_state, some_bit}
 use Rattle.lq_table.specs.Made.{Known, ◌⊳◌, did_load_state}
 use Rattle.lq_table.specs.Sees.{view, known, steps, IsElseSame, IsSameSeat, IsSeatOf}

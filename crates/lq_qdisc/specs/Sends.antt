@@ -4,7 +4,7 @@ use Rattle.lq_model.specs.Account.{Event, Join, Full, Refuse, Direct, Wake}
 use Rattle.lq_model.specs.Plan.{band_in, owner_in, rank_in}
 use Rattle.lq_model.specs.declared.fate.Fate.TheVariants as fate
 use Rattle.lq_model.specs.declared.fate.Info.{Info}
-use Rattle.lq_account.specs.Trail.{down_of}
+use Rattle.lq_account_laws.specs.Trail.{down_of}
 use Rattle.lq_model.specs.declared.machine.Attempt.{Attempt}
 use Rattle.lq_model.specs.declared.machine.Attempt.TheVariants as attempt
 use Rattle.lq_run.specs.Runs.{HasNone, after_got, after_missed, after_begin, ended}

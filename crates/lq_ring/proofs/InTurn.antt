@@ -8,10 +8,10 @@ use Rattle.lq_model.specs.declared.fate.Fate.{Fate}
 use Rattle.lq_model.specs.declared.fate.Fate.TheVariants as fate
 use Rattle.lq_model.specs.declared.fate.Info.{Info}
 use Rattle.lq_device.specs.Station.{StationState}
-use Rattle.lq_band.specs.Three.{Three, at}
-use Rattle.lq_band.specs.Ring.{Ends, Lock, locked_at}
-use Rattle.lq_band.specs.HalfResized.{IsBeforeResize, IsRefilled}
-use Rattle.lq_band.proofs.Three.{at_put_other, three_cases}
+use Rattle.lq_band_laws.specs.Three.{Three, at}
+use Rattle.lq_band_laws.specs.Ring.{Ends, Lock, locked_at}
+use Rattle.lq_band_laws.specs.HalfResized.{IsBeforeResize, IsRefilled}
+use Rattle.lq_band_laws.proofs.Three.{at_put_other, three_cases}
 use Rattle.lq_table.specs.Views.{View, HalfResize, Work, no_resizing}
 use Rattle.lq_table.specs.Resizes.{resizing_of, beginning, with_work, restarted}
 use Rattle.lq_table.specs.Rings.{with_lock_at}

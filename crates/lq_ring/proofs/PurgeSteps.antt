@@ -2,16 +2,16 @@
 use Rattle.std.proofs.Common.{◌≡◌, ℕ, zero, suc, ◌+◌, ◌<◌, List, [], ◌∷◌, ◌++◌, take, drop, length, refl, sym, ap, ◌∙◌, subst, arith, Option, Some, None, slice_get, length-drop, Contains}
 use Rattle.std.proofs.lemmas.List.{drop-drop, take_all}
 use Rattle.std.proofs.lemmas.Option.{same_Some}
-use Rattle.lq_account.proofs.Lists.{drop-in}
+use Rattle.lq_account_laws.proofs.Lists.{drop-in}
 use Rattle.lq_device.specs.Station.{StationState, with_ends}
 use Rattle.lq_model.specs.Band.{Band, held_of, taken_by}
 use Rattle.lq_model.specs.Machine.{Purge}
 use Rattle.lq_model.specs.declared.fate.Fate.{Fate}
 use Rattle.lq_model.specs.declared.fate.Fate.TheVariants as fate
-use Rattle.lq_band.specs.Three.{Three, at, put}
-use Rattle.lq_band.specs.Ring.{Ends, IsAtRest, after_take, taken_on}
-use Rattle.lq_band.proofs.Three.{at_put_same, put_at}
-use Rattle.lq_band.proofs.Kept.{rest_after}
+use Rattle.lq_band_laws.specs.Three.{Three, at, put}
+use Rattle.lq_band_laws.specs.Ring.{Ends, IsAtRest, after_take, taken_on}
+use Rattle.lq_band_laws.proofs.Three.{at_put_same, put_at}
+use Rattle.lq_band_laws.proofs.Kept.{rest_after}
 use Rattle.lq_table.specs.Views.{View, Left}
 use Rattle.lq_table.specs.Rule.{shown}
 use Rattle.lq_table.specs.Purges.{passing_band, purged_one}

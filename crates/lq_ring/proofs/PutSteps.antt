@@ -1,8 +1,8 @@
 -- The steps of a put one after another.
 use Rattle.std.proofs.Common.{◌≡◌, ℕ, zero, suc, refl, ap, ◌∙◌}
-use Rattle.lq_band.specs.Three.{Three, at, put}
-use Rattle.lq_band.specs.Ring.{Lock, unlocked, locked_at, sized_at, with_room, having_stored}
-use Rattle.lq_band.proofs.Three.{at_put_same}
+use Rattle.lq_band_laws.specs.Three.{Three, at, put}
+use Rattle.lq_band_laws.specs.Ring.{Lock, unlocked, locked_at, sized_at, with_room, having_stored}
+use Rattle.lq_band_laws.proofs.Three.{at_put_same}
 use Rattle.lq_table.specs.Views.{View}
 use Rattle.lq_table.specs.Rings.{with_lock_at, sized, dropping, joining}
 use Rattle.lq_ring.specs.Put.{no_locks, just_locked, putting, dropping_full}

@@ -11,10 +11,10 @@ use Rattle.lq_model.specs.declared.machine.Packet.{Packet}
 use Rattle.lq_model.specs.declared.machine.Position.{Position}
 use Rattle.lq_model.specs.declared.machine.Position.TheVariants.{Scan, Gate}
 use Rattle.lq_model.specs.declared.machine.Seat.{Seat}
-use Rattle.lq_band.specs.Three.{Three, at, put}
-use Rattle.lq_band.specs.Ring.{sized_if, Lock, Ends, is_emptying, taken_on, emptied_on, emptied_down, all_empty, after_take, IsAtRest}
-use Rattle.lq_band.proofs.Three.{at_put_same, put_at}
-use Rattle.lq_band.proofs.Kept.{rest_after, down_more, down_here, down_all}
+use Rattle.lq_band_laws.specs.Three.{Three, at, put}
+use Rattle.lq_band_laws.specs.Ring.{sized_if, Lock, Ends, is_emptying, taken_on, emptied_on, emptied_down, all_empty, after_take, IsAtRest}
+use Rattle.lq_band_laws.proofs.Three.{at_put_same, put_at}
+use Rattle.lq_band_laws.proofs.Kept.{rest_after, down_more, down_here, down_all}
 use Rattle.lq_table.specs.Views.{View, HolderPart, machine_packet}
 use Rattle.lq_table.specs.Rule.{IsResting, shown}
 use Rattle.lq_table.specs.Told.{seen_band}

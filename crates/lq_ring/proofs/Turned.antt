@@ -3,12 +3,12 @@ use Rattle.std.proofs.Common.{◌≡◌, ◌≢◌, ◌⊎◌, inl, inr, ℕ, ze
 use Rattle.std.specs.Prelude.{◌||◌}
 use Rattle.std.proofs.lemmas.Bool.{cases_lt}
 use Rattle.std.proofs.lemmas.List.{length-take, drop_all}
-use Rattle.lq_account.proofs.Lists.{there-in}
+use Rattle.lq_account_laws.proofs.Lists.{there-in}
 use Rattle.lq_ring_core.proofs.Places.{round-below, round-above}
 use Rattle.lq_ring_core.specs.Slots.{round}
-use Rattle.lq_band.specs.Ring.{word_at}
-use Rattle.lq_band.specs.HalfResized.{IsBeforeResize, IsRefilled}
-use Rattle.lq_band.proofs.Lines.{word_at-past, word_at-within}
+use Rattle.lq_band_laws.specs.Ring.{word_at}
+use Rattle.lq_band_laws.specs.HalfResized.{IsBeforeResize, IsRefilled}
+use Rattle.lq_band_laws.proofs.Lines.{word_at-past, word_at-within}
 use Rattle.lq_table.specs.Resizes.{is_word}
 use Rattle.lq_table.proofs.ResizeSlotsKept.{word_member}
 use Rattle.lq_ring.specs.Work.{AreMembers, rotated, zeroed_to}

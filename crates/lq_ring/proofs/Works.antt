@@ -5,13 +5,13 @@ use Rattle.std.proofs.lemmas.Bool.{cases_eq, cases_lt}
 use Rattle.std.specs.Option.{unwrap_or}
 use lib.Seq.{set-get_or}
 use Rattle.std.proofs.lemmas.List.Elements.{Contains-append_right}
-use Rattle.lq_account.proofs.Lists.{none-in, here-in, cons-in}
+use Rattle.lq_account_laws.proofs.Lists.{none-in, here-in, cons-in}
 use Rattle.lq_model.specs.declared.fate.Fate.{Fate}
 use Rattle.lq_model.specs.declared.fate.Fate.TheVariants as fate
-use Rattle.lq_band.specs.Ring.{word_at}
-use Rattle.lq_band.proofs.Lines.{word_at-past, word_at-within}
-use Rattle.lq_band.specs.Three.{at}
-use Rattle.lq_band.proofs.Three.{at_put_same, put_at}
+use Rattle.lq_band_laws.specs.Ring.{word_at}
+use Rattle.lq_band_laws.proofs.Lines.{word_at-past, word_at-within}
+use Rattle.lq_band_laws.specs.Three.{at}
+use Rattle.lq_band_laws.proofs.Three.{at_put_same, put_at}
 use Rattle.lq_table.specs.Views.{View, HalfResize, Work, no_resizing}
 use Rattle.lq_table.specs.Resizes.{is_word, is_member, hand_with, out_of, into, with_work, with_resizing, settled_work}
 use Rattle.lq_ring.proofs.PutSteps.{put_put}

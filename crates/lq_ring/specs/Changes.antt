@@ -2,8 +2,8 @@
 use Rattle.std.specs.Prelude.{◌≡◌, ◌+◌, ℕ, Bool, true, false, List, [], ◌∷◌, ◌++◌, Some, length, slice_get}
 use Rattle.lq_model.specs.Band.{held_of}
 use Rattle.lq_model.specs.Machine.{Purge}
-use Rattle.lq_band.specs.Ring.{Ends, after_take, taken_on}
-use Rattle.lq_band.specs.Three.{at}
+use Rattle.lq_band_laws.specs.Ring.{Ends, after_take, taken_on}
+use Rattle.lq_band_laws.specs.Three.{at}
 use Rattle.lq_model.specs.Words.{word_of}
 use Rattle.lq_model.specs.declared.fate.Fate.{Fate}
 use Rattle.lq_ring.specs.Purged.{IsBandPurged}

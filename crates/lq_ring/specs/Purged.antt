@@ -5,8 +5,8 @@ use Rattle.lq_model.specs.Band.{held_of, taken_by}
 use Rattle.lq_model.specs.Machine.{Purge}
 use Rattle.lq_model.specs.declared.fate.Fate.TheVariants as fate
 use Rattle.lq_model.specs.declared.fate.Info.{Info}
-use Rattle.lq_band.specs.Three.{at, put}
-use Rattle.lq_band.specs.Ring.{Ends, IsAtRest, after_take, taken_on}
+use Rattle.lq_band_laws.specs.Three.{at, put}
+use Rattle.lq_band_laws.specs.Ring.{Ends, IsAtRest, after_take, taken_on}
 use Rattle.lq_table.specs.Views.{View, Left, WholePart}
 use Rattle.lq_table.specs.Purges.{next_band, passing_band, taking_purged}
 use Rattle.lq_table.specs.Told.{paying}

@@ -7,8 +7,8 @@ use Rattle.lq_model.specs.declared.machine.Packet.{Packet}
 use Rattle.lq_model.specs.declared.machine.Position.{Position}
 use Rattle.lq_model.specs.declared.machine.Position.TheVariants.{Try1}
 use Rattle.lq_ring_core.specs.declared.ring.Full.{Full}
-use Rattle.lq_band.specs.Three.{Three, put, all_three}
-use Rattle.lq_band.specs.Ring.{Lock, unlocked, locked_at}
+use Rattle.lq_band_laws.specs.Three.{Three, put, all_three}
+use Rattle.lq_band_laws.specs.Ring.{Lock, unlocked, locked_at}
 use Rattle.lq_table.specs.Views.{View}
 use Rattle.lq_table.specs.Told.{seen_by}
 use Rattle.lq_table.specs.Rings.{joining, dropping}

@@ -9,8 +9,8 @@ use Rattle.lq_model.specs.Steps.{after_band}
 use Rattle.lq_model.specs.declared.fate.Cause.{Cause}
 use Rattle.lq_model.specs.declared.machine.Position.TheVariants.{Control, Gate, Put, Scan}
 use Rattle.lq_ring_core.specs.Slots.{round}
-use Rattle.lq_band.specs.Three.{at, all_three}
-use Rattle.lq_band.specs.Ring.{at_start, is_emptying, locked_at}
+use Rattle.lq_band_laws.specs.Three.{at, all_three}
+use Rattle.lq_band_laws.specs.Ring.{at_start, is_emptying, locked_at}
 use Rattle.lq_table.specs.Views.{HolderPart, Left, Work, machine_packet}
 use Rattle.lq_table.specs.Resizes.{may_resize}
 use Rattle.lq_table.specs.Rings.{with_lock_at}

@@ -2,8 +2,8 @@
 use Rattle.std.specs.Prelude.{◌≡◌, ◌≢◌, ℕ, zero, suc, ◌+◌, ◌-◌, ◌/◌, ◌%◌, true, false, List, Option, Result, MatchOption, MatchResult}
 use Rattle.lq_ring_core.specs.declared.ring.Full.{Full}
 use Rattle.lq_ring_core.specs.Ring.{next_place}
-use Rattle.lq_band.specs.Three.{at}
-use Rattle.lq_band.specs.Ring.{Ends, is_emptying, taken_on}
+use Rattle.lq_band_laws.specs.Three.{at}
+use Rattle.lq_band_laws.specs.Ring.{Ends, is_emptying, taken_on}
 use Rattle.lq_table.specs.Views.{Setup}
 use Rattle.lq_table.specs.Rings.{finding_none}
 use Rattle.lq_ring.specs.Put.{putting, dropping_full}

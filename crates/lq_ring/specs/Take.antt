@@ -1,8 +1,8 @@
 -- What a take makes of what the holder of the run lock knows.
 use Rattle.std.specs.Prelude.{◌≡◌, ℕ, zero, suc, ◌-◌, ◌<◌, ◌≤◌, if◌then◌else◌, Option, Some, MatchOption}
 use Rattle.lq_model.specs.Account.{Take}
-use Rattle.lq_band.specs.Three.{at, put}
-use Rattle.lq_band.specs.Ring.{Ends, after_take, all_empty, taken_on, emptied_on, is_emptying}
+use Rattle.lq_band_laws.specs.Three.{at, put}
+use Rattle.lq_band_laws.specs.Ring.{Ends, after_take, all_empty, taken_on, emptied_on, is_emptying}
 use Rattle.lq_table.specs.Views.{View}
 use Rattle.lq_table.specs.Rings.{taking}
 use Rattle.lq_table.specs.Rule.{shown}

@@ -1,9 +1,9 @@
 -- What control does to one band in a resize.
 use Rattle.std.specs.Prelude.{◌≡◌, ◌⊎◌, ℕ, zero, suc, ◌+◌, ◌-◌, ◌/◌, ◌<◌, ◌≤◌, ◌≢◌, ◌==◌, if◌then◌else◌, true, false, List, [], ◌∷◌, ◌++◌, take, drop, length, slice_index, slice_set, option_map, Some, Contains}
 use Rattle.std.specs.Option.{unwrap_or}
-use Rattle.lq_band.specs.Three.{at}
-use Rattle.lq_band.specs.HalfResized.{IsBeforeResize, IsRefilled}
-use Rattle.lq_band.specs.Ring.{word_at}
+use Rattle.lq_band_laws.specs.Three.{at}
+use Rattle.lq_band_laws.specs.HalfResized.{IsBeforeResize, IsRefilled}
+use Rattle.lq_band_laws.specs.Ring.{word_at}
 use Rattle.lq_model.specs.Plan.{band_in}
 use Rattle.lq_model.specs.Positions.{holds_lock}
 use Rattle.lq_model.specs.declared.fate.Fate.{Fate}

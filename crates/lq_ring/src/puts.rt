@@ -2,7 +2,7 @@
 ghost use Rattle.std.specs.Prelude.{◌≡◌, ◌≢◌, ℕ, ◌+◌, ◌*◌, ◌-◌, ◌<◌, ◌≤◌, Bool, true, false, Some, None, MatchResult};
 ghost use Rattle.lq_model.specs.declared.machine.Position.TheVariants.{Put};
 ghost use Rattle.lq_ring_core.specs.Ring.{next_place};
-ghost use Rattle.lq_band.specs.Ring.{unlocked};
+ghost use Rattle.lq_band_laws.specs.Ring.{unlocked};
 ghost use Rattle.lq_table.specs.Sees.{view, known, steps, setup, position, slot, packet_at, lock_at, IsSeatOf, IsSameSeat, IsElseSame, Brings};
 ghost use Rattle.lq_table.specs.SolePut.{SeesEnd};
 ghost use Rattle.lq_ring.specs.Steps.{LocksProducer, PutsAtBy, PutsBy};

@@ -3,7 +3,7 @@ ghost use Rattle.std.specs.Prelude.{◌≡◌, ◌≢◌, ℕ, ◌+◌, ◌*◌,
 ghost use Rattle.lq_device.specs.Station.{StationState, with_ends};
 ghost use Rattle.lq_model.specs.Account.{held_in};
 ghost use Rattle.lq_model.specs.declared.machine.Position.TheVariants.{Scan};
-ghost use Rattle.lq_band.specs.Ring.{is_emptying};
+ghost use Rattle.lq_band_laws.specs.Ring.{is_emptying};
 ghost use Rattle.lq_table.specs.Rule.{IsResting};
 ghost use Rattle.lq_table.specs.Sees.{view, known, steps, setup, position, slot, ends_at, IsSeatOf, IsSameSeat, IsElseSame};
 ghost use Rattle.lq_table.specs.Told.{IsPacketOf};

@@ -10,11 +10,11 @@ use Rattle.lq_model.specs.Control.{control_at, holds_as_control, is_control, is_
 use Rattle.lq_model.specs.Kept.{OneHolder}
 use Rattle.lq_model.specs.Machine.{Qdisc}
 use Rattle.lq_model.specs.Steps.{After, begun, may_answer, may_begin, step_at, with_seat}
-use Rattle.lq_machine.specs.Among.{among, left_among}
-use Rattle.lq_machine.proofs.Among.{among-at, among-within}
-use Rattle.lq_machine.proofs.Local.{Local}
-use Rattle.lq_machine.proofs.LocalSteps.{at-control, control-leads, start-leads, step-leads}
-use Rattle.lq_machine.proofs.Seats.{idle-is}
+use Rattle.lq_run_laws.specs.Among.{among, left_among}
+use Rattle.lq_run_laws.proofs.Among.{among-at, among-within}
+use Rattle.lq_run_laws.proofs.Local.{Local}
+use Rattle.lq_run_laws.proofs.LocalSteps.{at-control, control-leads, start-leads, step-leads}
+use Rattle.lq_run_laws.proofs.Seats.{idle-is}
 use Rattle.lq_run_core.specs.Measure.{ServesOpen, measure}
 use Rattle.lq_run_core.specs.Progress.{control_cost, start_cost, step_cost}
 use Rattle.lq_run_core.proofs.Nearer.{begins-idle, outcome-nearer}

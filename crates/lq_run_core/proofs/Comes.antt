@@ -17,7 +17,7 @@ use Rattle.lq_model.specs.Control.{control_at, holds_as_control, is_after_bands,
 use Rattle.lq_model.specs.Positions.{IsClear, blocking, has_way_on, hidden_packet, holds_lock, in_hand, is_going, is_on_way, is_stopped, marks, some_seat}
 use Rattle.lq_model.specs.Kept.{IsKept}
 use Rattle.lq_model.specs.Quiet.Moves.{steps, begins, controls}
-use Rattle.lq_machine.proofs.LocalSteps.{and-true, if-cases, if-some}
+use Rattle.lq_run_laws.proofs.LocalSteps.{and-true, if-cases, if-some}
 use Rattle.lq_run_core.specs.Waits.{AllOpen, IsWaiting, WaitsOpen}
 use Rattle.lq_run_core.specs.Progress.{step_cost}
 use Rattle.lq_run_core.specs.Comes.{SomebodyMoves, ControlMoves, next_of_control}

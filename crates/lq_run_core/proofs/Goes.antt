@@ -1,7 +1,7 @@
 -- Lists of moves, whatever is asked of the machines on the way.
 use Rattle.lq_model.specs.Kept.{IsInductive}
 use Rattle.lq_model.specs.Machine.{Machine}
-use Rattle.lq_machine.proofs.Inductive.{inductive}
+use Rattle.lq_run_laws.proofs.Inductive.{inductive}
 use Rattle.lq_run_core.specs.Progress.{Course, Goes}
 use Rattle.lq_run_core.specs.Progress.Goes.{no_move, one_more_move}
 

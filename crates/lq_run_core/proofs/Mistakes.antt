@@ -13,7 +13,7 @@ use Rattle.lq_model.specs.Quiet.{IsQuiet, Reaches}
 use Rattle.lq_model.specs.Machine.{Machine, Qdisc, first_machine, seat_at}
 use Rattle.lq_model.specs.Steps.{is_idle}
 use Rattle.lq_run_core.specs.Mistakes.{LeavesBehind, after_step, about_to_look, both_idle, clears_and_leaves, clears_after_its_look, drains_without_a_look, found_deactivated, left_clear, left_draining, left_in_slot, left_missed, missed_meanwhile, looked_again, about_to_release, misses_for_good, about_to_miss, numbered_packet, releases_after_its_look}
-use Rattle.lq_machine.proofs.First.{first-inductive}
+use Rattle.lq_run_laws.proofs.First.{first-inductive}
 use Rattle.lq_run_core.proofs.OneQueue.{one-open}
 use Rattle.lq_run_core.proofs.Reached.{Action, played, reached-inductive}
 use Rattle.lq_run_core.proofs.Reached.Action.{Does, Starts, DoesControl}

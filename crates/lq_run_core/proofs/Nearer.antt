@@ -2,8 +2,8 @@
 use Rattle.std.proofs.Common.{◌≡◌, ◌≢◌, ℕ, ◌+◌, ◌<◌, ◌≤◌, Bool, true, false, ◌⊎◌, inl, inr, length, arith, sym, subst}
 use Rattle.std.specs.Prelude.{◌&&◌, not, nat_lt}
 use Rattle.std.proofs.lemmas.List.{length-set}
-use Rattle.lq_machine.proofs.Frames.{only-holder, seat-moved}
-use Rattle.lq_machine.proofs.Counts.{sum-kept, holder-local}
+use Rattle.lq_run_laws.proofs.Frames.{only-holder, seat-moved}
+use Rattle.lq_run_laws.proofs.Counts.{sum-kept, holder-local}
 use Rattle.std.proofs.lemmas.List.Sums.{sum_by-set}
 use Rattle.std.proofs.lemmas.Bool.{cases_eq}
 use borrow.Author.Tests.{ltb-true}
@@ -20,9 +20,9 @@ use Rattle.lq_model.specs.Positions.{holds_lock}
 use Rattle.lq_model.specs.Kept.{OneHolder}
 use Rattle.lq_model.specs.Quiet.{Moves}
 use Rattle.lq_model.specs.Quiet.Moves.{steps, begins, controls}
-use Rattle.lq_machine.proofs.Local.{Local}
-use Rattle.lq_machine.proofs.LocalSteps.{at-control, control-leads, step-leads, start-leads, if-some, and-true}
-use Rattle.lq_machine.proofs.Seats.{idle-is}
+use Rattle.lq_run_laws.proofs.Local.{Local}
+use Rattle.lq_run_laws.proofs.LocalSteps.{at-control, control-leads, step-leads, start-leads, if-some, and-true}
+use Rattle.lq_run_laws.proofs.Seats.{idle-is}
 use Rattle.lq_run_core.specs.Waits.{carries}
 use Rattle.lq_run_core.specs.Measure.{is_held, serves, ServesOpen, seat_way, measure}
 use Rattle.lq_run_core.specs.Progress.{step_cost, start_cost, control_cost, cost_of}

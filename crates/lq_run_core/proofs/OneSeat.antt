@@ -17,9 +17,9 @@ use Rattle.lq_model.specs.declared.machine.Seat.{Seat}
 use Rattle.lq_model.specs.Machine.{Qdisc, bit, is_open, band_at}
 use Rattle.lq_model.specs.Steps.{is_idle, may_begin, begun, After, goes_to, step_at, may_answer, scan, slot_taken, counted, queue_of_slot, joined_band}
 use Rattle.lq_model.specs.Positions.{holds_lock}
-use Rattle.lq_machine.proofs.Local as local
-use Rattle.lq_machine.proofs.Local.{Local, Sends}
-use Rattle.lq_machine.proofs.LocalSteps.{step-leads, if-cases, sends, and-true}
+use Rattle.lq_run_laws.proofs.Local as local
+use Rattle.lq_run_laws.proofs.Local.{Local, Sends}
+use Rattle.lq_run_laws.proofs.LocalSteps.{step-leads, if-cases, sends, and-true}
 use Rattle.lq_run_core.specs.Waits.{carries, held_packets}
 use Rattle.lq_run_core.specs.Measure.{first_look, second_look, has_any, waits_in, is_ahead, is_held, unless_ahead, way, seat_way, packet_pays}
 use Rattle.lq_run_core.specs.Progress.{step_cost, start_cost, control_cost}

@@ -11,8 +11,8 @@ use Rattle.lq_model.specs.declared.machine.Seat.{Seat}
 use Rattle.lq_model.specs.Machine.{Qdisc}
 use Rattle.lq_model.specs.Steps.{After}
 use Rattle.lq_model.specs.Positions.{holds_lock}
-use Rattle.lq_machine.proofs.Local as local
-use Rattle.lq_machine.proofs.Local.{Local, Sends}
+use Rattle.lq_run_laws.proofs.Local as local
+use Rattle.lq_run_laws.proofs.Local.{Local, Sends}
 use Rattle.lq_run_core.specs.Measure.{first_look, second_look, has_any, waits_in, is_ahead, is_held, way}
 use Rattle.lq_run_core.proofs.Tests.{or-more}
 use Rattle.lq_run_core.proofs.OneSeat.{ahead-less}

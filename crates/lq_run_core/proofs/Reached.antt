@@ -15,8 +15,8 @@ use Rattle.lq_model.specs.Quiet.Moves.{steps, begins, controls}
 use Rattle.lq_model.specs.Quiet.Reaches.{no_move, one_more_move}
 use Rattle.lq_model.specs.Machine.{Machine, idle_seat}
 use Rattle.lq_model.specs.Steps.{call_begun, step_of}
-use Rattle.lq_machine.proofs.Inductive.{inductive}
-use Rattle.lq_machine.proofs.LocalSteps.{and-true}
+use Rattle.lq_run_laws.proofs.Inductive.{inductive}
+use Rattle.lq_run_laws.proofs.LocalSteps.{and-true}
 
 pub reached-inductive : (m n : Machine) → IsInductive m → Reaches m n → IsInductive n
 reached-inductive m n h no_move = h

@@ -19,11 +19,11 @@ use Rattle.lq_model.specs.Positions.{in_hand, needs_slot}
 use Rattle.lq_model.specs.Kept.{IsInductive}
 use Rattle.lq_model.specs.Quiet.{Moves}
 use Rattle.lq_model.specs.Quiet.Moves.{steps, begins, controls}
-use Rattle.lq_machine.proofs.Frames.{seat-moved, seat-other}
-use Rattle.lq_machine.proofs.Local as local
-use Rattle.lq_machine.proofs.Local.{Local}
-use Rattle.lq_machine.proofs.LocalSteps.{step-leads, if-cases, if-some, and-true, or-false}
-use Rattle.lq_machine.proofs.Seats.{idle-is}
+use Rattle.lq_run_laws.proofs.Frames.{seat-moved, seat-other}
+use Rattle.lq_run_laws.proofs.Local as local
+use Rattle.lq_run_laws.proofs.Local.{Local}
+use Rattle.lq_run_laws.proofs.LocalSteps.{step-leads, if-cases, if-some, and-true, or-false}
+use Rattle.lq_run_laws.proofs.Seats.{idle-is}
 use Rattle.lq_run_core.specs.Waits.{AllOpen, IsWaiting, WaitsOpen, packets}
 use Rattle.lq_run_core.specs.Progress.{Course, and_then, Goes, IsAny, accepted_at, accepted_by, is_of_control}
 use Rattle.lq_run_core.specs.Progress.Goes.{no_move, one_more_move}

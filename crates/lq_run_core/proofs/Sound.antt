@@ -16,12 +16,12 @@ use Rattle.lq_model.specs.Quiet.Moves.{steps, begins}
 use Rattle.lq_run_core.specs.declared.start.Start.{Start}
 use Rattle.lq_run_core.specs.declared.start.Start.TheVariants.{Send, SoftIrq, Wake, SendOn, WakeOn}
 use Rattle.lq_run_core.specs.Numbered.{NumberedMachine, KeepsInvariant, OwnersAreSeats, beginning_of, begun_by}
-use Rattle.lq_machine.proofs.First.{first-inductive, first-owners}
-use Rattle.lq_machine.proofs.Local.{Local}
-use Rattle.lq_machine.proofs.LocalSteps.{and-true, if-some, step-leads, start-leads}
-use Rattle.lq_machine.proofs.Frames.{seat-moved, seat-other}
-use Rattle.lq_machine.proofs.OwnersDiffer.{had}
-use Rattle.lq_machine.proofs.Inductive.{inductive}
+use Rattle.lq_run_laws.proofs.First.{first-inductive, first-owners}
+use Rattle.lq_run_laws.proofs.Local.{Local}
+use Rattle.lq_run_laws.proofs.LocalSteps.{and-true, if-some, step-leads, start-leads}
+use Rattle.lq_run_laws.proofs.Frames.{seat-moved, seat-other}
+use Rattle.lq_run_laws.proofs.OwnersDiffer.{had}
+use Rattle.lq_run_laws.proofs.Inductive.{inductive}
 use borrow.Author.Tests.{ltb-true}
 
 -- a step of seat i that begins a transmit of its own packet alone

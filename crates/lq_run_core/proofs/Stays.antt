@@ -12,7 +12,7 @@ use Rattle.lq_model.specs.Machine.{Qdisc, bit, seat_at}
 use Rattle.lq_model.specs.Positions.{Holds, holds_lock}
 use Rattle.lq_model.specs.Kept.{OneHolder}
 use Rattle.lq_model.specs.Steps.{After, with_seat}
-use Rattle.lq_machine.proofs.Counts.{sum-kept}
+use Rattle.lq_run_laws.proofs.Counts.{sum-kept}
 use Rattle.lq_run_core.specs.Mistakes.{both_idle, clears_after_its_look, clears_and_leaves, drains_without_a_look, misses_for_good, releases_after_its_look}
 use Rattle.lq_run_core.specs.Stays.{ComesNearer, NobodyComes}
 use Rattle.lq_run_core.proofs.Tests.{bit-below}

@@ -1,11 +1,11 @@
 -- What a sole first seat knows as its table is closed.
 use Rattle.std.proofs.Common.{◌≡◌, ℕ, ◌+◌, ◌*◌, ◌<◌, ◌⊎◌, inl, inr, ⊎_elim, List, [], ◌∷◌, Contains, Option, Some, None, refl, sym, ap, ◌∙◌, subst, slice_index, length, arith}
-use Rattle.lq_account.proofs.Changes.{Gives, fate-cases}
-use Rattle.lq_account.proofs.Changes.Gives.{gives_purged, gives_sent}
-use Rattle.lq_account.proofs.Lists.{here-in, there-in}
-use Rattle.lq_account.proofs.Chosen.{own-in}
-use Rattle.lq_account.specs.Trail.{is_own, trail_of}
-use Rattle.lq_band.specs.Stored.{FateWords, word_or}
+use Rattle.lq_account_laws.proofs.Changes.{Gives, fate-cases}
+use Rattle.lq_account_laws.proofs.Changes.Gives.{gives_purged, gives_sent}
+use Rattle.lq_account_laws.proofs.Lists.{here-in, there-in}
+use Rattle.lq_account_laws.proofs.Chosen.{own-in}
+use Rattle.lq_account_laws.specs.Trail.{is_own, trail_of}
+use Rattle.lq_band_laws.specs.Stored.{FateWords, word_or}
 use Rattle.lq_model.specs.Account.{Account, Event, Purge, after, after_all}
 use Rattle.lq_model.specs.Words.{HasWord, IsWordOf, word_of}
 use Rattle.lq_model.specs.declared.fate.Cause.TheVariants as cause

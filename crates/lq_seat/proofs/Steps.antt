@@ -1,9 +1,9 @@
 -- What a seat knows after a call, and after the soft interrupts that follow it.
 use Rattle.std.proofs.Common.{◌≡◌, ℕ, Bool, true, false, cond, List, ◌∷◌, inl, inr, ⊎_elim, Option, Some, None, refl, sym, ap, ◌∙◌, subst, is_some}
 use Rattle.std.specs.Prelude.{◌↔◌, ◌<◌, ◌==◌, ◌+◌, ◌*◌, slice_set}
-use Rattle.lq_account.proofs.Lists.{cons-in}
-use Rattle.lq_account.specs.Controls.{with_control}
-use Rattle.lq_account.specs.Trail.{down_of, is_own}
+use Rattle.lq_account_laws.proofs.Lists.{cons-in}
+use Rattle.lq_account_laws.specs.Controls.{with_control}
+use Rattle.lq_account_laws.specs.Trail.{down_of, is_own}
 use Rattle.lq_control.specs.Comes.{ComesToEnd, SwapsFor}
 use Rattle.lq_control.specs.Control.{IsKeptByControl, IsServed, KeepsDevice}
 use Rattle.lq_control.specs.Finish.{AreAllDone}

@@ -1,7 +1,7 @@
 -- What a sender's calls make of its seat at a station.
 use Rattle.std.specs.Prelude.{◌≡◌, ℕ, ◌+◌, ◌-◌, ◌*◌, ◌<◌, ◌≤◌, true, false, List, [], ◌∷◌, ◌++◌, length, slice_index, slice_set, Option, Some, None}
-use Rattle.lq_account.specs.Controls.{with_control}
-use Rattle.lq_account.specs.Trail.{down_of}
+use Rattle.lq_account_laws.specs.Controls.{with_control}
+use Rattle.lq_account_laws.specs.Trail.{down_of}
 use Rattle.lq_control.specs.Control.{IsAfterUnits}
 use Rattle.lq_model.specs.Account.{Event, Refuse}
 use Rattle.lq_model.specs.Alone.{RunningStation, brought_in, changed, new_device, opened, served}

@@ -1,6 +1,6 @@
 -- The end of a station, and what is known of it at the close.
 use Rattle.std.specs.Prelude.{◌≡◌, ◌⊎◌, ℕ, ◌<◌, true, List, [], ◌∷◌, length, slice_index, Option, None, Some, Contains, false}
-use Rattle.lq_account.specs.Trail.{IsOrderly, trail_of}
+use Rattle.lq_account_laws.specs.Trail.{IsOrderly, trail_of}
 use Rattle.lq_control.specs.Finish.{AreAllDone}
 use Rattle.lq_device.specs.Station.{StationState}
 use Rattle.lq_model.specs.Account.{Account, Event, Purge, held}

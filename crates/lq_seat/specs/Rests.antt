@@ -1,6 +1,6 @@
 -- What holds of a seat between two calls, which no caller sees.
 use Rattle.std.specs.Prelude.{◌≡◌, ℕ, ◌<◌, true, List, Contains, Option, None, Some}
-use Rattle.lq_account.specs.Trail.{down_of}
+use Rattle.lq_account_laws.specs.Trail.{down_of}
 use Rattle.lq_control.specs.Control.{IsIn}
 use Rattle.lq_model.specs.Account.{Event}
 use Rattle.lq_model.specs.declared.machine.Phase.{Phase}

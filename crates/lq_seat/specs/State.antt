@@ -1,7 +1,7 @@
 -- What a caller knows of a station's table, and of a sender's seat there.
 use Rattle.std.specs.Prelude.{◌≡◌, ◌≤◌, ℕ, Bool, true, false, List, [], length, filter, replicate, slice_get, Some}
 use Rattle.atomic_table.specs.Seated.{TableId}
-use Rattle.lq_account.specs.Progress.{len_of}
+use Rattle.lq_account_laws.specs.Progress.{len_of}
 use Rattle.lq_control.specs.Finish.{AreRanks}
 use Rattle.lq_model.specs.Account.{Account, Event, after_all}
 use Rattle.lq_model.specs.Alone.{RunningStation, bypass_of}

@@ -3,11 +3,11 @@ use Rattle.std.proofs.Common.{◌≡◌, inl, inr, ℕ, zero, suc, ◌<◌, true
 use Rattle.std.specs.Prelude.{slice_get, count_by}
 use Rattle.std.proofs.lemmas.List.Sums.{sum_by-cons}
 use Rattle.std.proofs.lemmas.Option.{same_Some, slice_get_within}
-use Rattle.lq_account.proofs.Controlled.{len-after-controls, len-by-controls}
-use Rattle.lq_account.proofs.Trails.{down-is}
-use Rattle.lq_account.specs.Controls.{controls_in, planned_controls}
-use Rattle.lq_account.specs.Progress.{len_of, start_of}
-use Rattle.lq_account.specs.Trail.{trail_of, down_of, IsTrail}
+use Rattle.lq_account_laws.proofs.Controlled.{len-after-controls, len-by-controls}
+use Rattle.lq_account_laws.proofs.Trails.{down-is}
+use Rattle.lq_account_laws.specs.Controls.{controls_in, planned_controls}
+use Rattle.lq_account_laws.specs.Progress.{len_of, start_of}
+use Rattle.lq_account_laws.specs.Trail.{trail_of, down_of, IsTrail}
 use Rattle.lq_model.specs.Account.{Account, Event, after_all}
 use Rattle.lq_model.specs.Plan.{Plan, is_at, is_swap, is_swap_kind, unit_count}
 use Rattle.lq_model.specs.Settled.{IsConfiguredWith, IsUnitOf, length_after}

@@ -2,9 +2,9 @@
 use Rattle.std.proofs.Common.{◌≡◌, ℕ, zero, suc, ◌+◌, ◌<◌, List, [], ◌∷◌, ◌++◌, inl, inr, length, Some, refl, sym, ap, ◌∙◌, subst, slice_get, map, filter, arith, length-append}
 use Rattle.std.specs.Prelude.{slice_index}
 use Rattle.std.proofs.lemmas.Option.{same_Some}
-use Rattle.lq_account.proofs.Lists.{get-push-cases}
-use Rattle.lq_account.specs.Progress.{start_of}
-use Rattle.lq_account.specs.Trail.{IsTrail, HaveCome, down_of}
+use Rattle.lq_account_laws.proofs.Lists.{get-push-cases}
+use Rattle.lq_account_laws.specs.Progress.{start_of}
+use Rattle.lq_account_laws.specs.Trail.{IsTrail, HaveCome, down_of}
 use Rattle.lq_control.specs.Finish.{AreAllDone}
 use Rattle.lq_model.specs.Account.{Account, Event, Join, Full, Refuse, Take, Pick, Direct, Send, Back, Empty, Stop, Wake, Resize, Down, Purge, Swap, Up, after, after_all}
 use Rattle.lq_model.specs.Alone.{RunningStation, finished}

@@ -5,7 +5,7 @@ use Rattle.std.proofs.lemmas.List.{map-append}
 use Rattle.std.proofs.lemmas.Option.{same_Some, slice_get_within}
 use mathlib.Core.Logic.{dite}
 use native.Mathlib.Decide.{ℕ_discrete}
-use Rattle.lq_account.proofs.Lists.{get-push-old, get-push-new, here-in, there-in}
+use Rattle.lq_account_laws.proofs.Lists.{get-push-old, get-push-new, here-in, there-in}
 use Rattle.lq_model.specs.Device.{DeviceState}
 use Rattle.lq_model.proofs.Reach.{at-own-swap, swap-apart}
 use Rattle.lq_model.specs.Plan.{Plan, is_swap, unit_of_swap}
@@ -16,7 +16,7 @@ use Rattle.lq_senders.specs.Lanes.{KeepAll}
 use Rattle.lq_senders.specs.Units.{DevicesStand, IsTaken, SameDevices, swaps_before, unit_at}
 use Rattle.lq_senders.proofs.Seats.{each-set, set-here, set-apart}
 use Rattle.lq_senders.proofs.Turns.{event-there, some-there}
-use Rattle.lq_account.proofs.Units.{one_where, unit-more}
+use Rattle.lq_account_laws.proofs.Units.{one_where, unit-more}
 use Rattle.lq_senders.proofs.Units.{unit-elsewhere, unit-here, unit-stays, unit-within}
 use Rattle.lq_senders.proofs.Ways.{below-or-at}
 

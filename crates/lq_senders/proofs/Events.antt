@@ -1,7 +1,7 @@
 -- An event of the plan, done at each of its stations in turn.
 use Rattle.std.proofs.Common.{◌≡◌, ℕ, suc, ◌+◌, ◌<◌, ◌≤◌, true, false, inl, inr, List, length, Some, refl, sym, ap, ◌∙◌, subst, slice_get, arith}
 use Rattle.std.proofs.lemmas.Option.{slice_get_within}
-use Rattle.lq_account.specs.Progress.{start_of}
+use Rattle.lq_account_laws.specs.Progress.{start_of}
 use Rattle.lq_model.specs.Alone.{RunningStation, changed, changed_where, served, with_event}
 use Rattle.lq_model.specs.Plan.{Plan, is_at}
 use Rattle.lq_model.specs.declared.fate.Info.{Info}

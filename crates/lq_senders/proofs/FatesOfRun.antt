@@ -4,14 +4,14 @@ use Rattle.std.proofs.lemmas.Bool.{and_parts, ltb-true, eqb-true}
 use Rattle.std.proofs.lemmas.List.Elements.{All-weaker}
 use Rattle.std.proofs.lemmas.Option.{same_Some, slice_get_within, slice_get-map, get_or_from_slice_get}
 use Rattle.std.specs.Prelude.{IsSome, slice_get, option_map}
-use Rattle.lq_account.proofs.Complete.{complete}
-use Rattle.lq_account.proofs.Law.{law_of_accounts}
-use Rattle.lq_account.proofs.Meets.{all-meet, meets-at}
-use Rattle.lq_account.proofs.Settle.{accounts_are_in_order, accounts_settle, sent_list_of}
-use Rattle.lq_account.proofs.Trails.{have-all-come, no-swap-after-hang}
-use Rattle.lq_account.specs.Accounts.{AreSettledStations, IsClosed}
-use Rattle.lq_account.specs.Progress.{start_of}
-use Rattle.lq_account.specs.Trail.{trail_of, IsTrail, HaveCome}
+use Rattle.lq_account_laws.proofs.Complete.{complete}
+use Rattle.lq_account_laws.proofs.Law.{law_of_accounts}
+use Rattle.lq_account_laws.proofs.Meets.{all-meet, meets-at}
+use Rattle.lq_account_laws.proofs.Settle.{accounts_are_in_order, accounts_settle, sent_list_of}
+use Rattle.lq_account_laws.proofs.Trails.{have-all-come, no-swap-after-hang}
+use Rattle.lq_account_laws.specs.Accounts.{AreSettledStations, IsClosed}
+use Rattle.lq_account_laws.specs.Progress.{start_of}
+use Rattle.lq_account_laws.specs.Trail.{trail_of, IsTrail, HaveCome}
 use Rattle.lq_model.proofs.FirstNumbers.{list_for_each}
 use Rattle.lq_fates.proofs.SentLemmas.{count_is, sent_is}
 use Rattle.lq_model.specs.Account.{Account, Event, after_all, held}

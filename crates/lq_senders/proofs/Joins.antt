@@ -4,8 +4,8 @@ use Rattle.std.specs.Prelude.{slice_set, slice_index}
 use Rattle.std.proofs.lemmas.Option.{same_Some, slice_get_within}
 use Rattle.std.proofs.lemmas.Bool.{cases_order}
 use Rattle.std.proofs.lemmas.List.{get_or-set_same, get_or-set_other}
-use Rattle.lq_account.proofs.Lists.{get-push-old, get-push-new}
-use Rattle.lq_band.proofs.Times.{times_append}
+use Rattle.lq_account_laws.proofs.Lists.{get-push-old, get-push-new}
+use Rattle.lq_band_laws.proofs.Times.{times_append}
 use Rattle.lq_control.specs.Finish.{count_all, count_below}
 use Rattle.lq_model.specs.Plan.{Plan}
 use Rattle.lq_model.specs.declared.fate.Info.{Info}

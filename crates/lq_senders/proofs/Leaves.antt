@@ -5,8 +5,8 @@ use Rattle.std.specs.Prelude.{slice_index}
 use Rattle.std.proofs.Math.ListN.{drop_of_length-le}
 use Rattle.std.proofs.lemmas.Bool.{cases_lt}
 use Rattle.std.proofs.lemmas.Option.{same_Some, slice_get_within}
-use Rattle.lq_account.proofs.Lists.{get-push-old}
-use Rattle.lq_account.proofs.Units.{one-station}
+use Rattle.lq_account_laws.proofs.Lists.{get-push-old}
+use Rattle.lq_account_laws.proofs.Units.{one-station}
 use Rattle.lq_device.specs.Station.{StationState}
 use Rattle.lq_model.specs.Alone.{after_run, fate_in, new_device, new_stations}
 use Rattle.lq_model.specs.Device.{DeviceState, Telling, told_params}

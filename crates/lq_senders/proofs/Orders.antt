@@ -11,8 +11,8 @@ use Rattle.lq_model.specs.declared.plan.EventKind.{EventKind}
 use Rattle.lq_model.specs.declared.plan.EventKind.TheVariants.{Down, Up, Resize, TxQueueLen, Swap}
 use Rattle.lq_model.specs.declared.plan.EventPlan.{EventPlan}
 use Rattle.lq_plan.specs.Limits.{falls_below, active_after, is_misplaced, kinds_at, is_out_of_order}
-use Rattle.lq_account.specs.Controls.{planned_controls, with_control}
-use Rattle.lq_account.specs.Trail.{down_of}
+use Rattle.lq_account_laws.specs.Controls.{planned_controls, with_control}
+use Rattle.lq_account_laws.specs.Trail.{down_of}
 use Rattle.lq_seat.specs.Calls.{MayDoEvent}
 use Rattle.lq_senders.specs.Way.{down_after_events, IsSplitAt}
 use Rattle.lq_senders.proofs.Units.{event-more}

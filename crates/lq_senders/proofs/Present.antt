@@ -6,7 +6,7 @@ use Rattle.lq_model.specs.Settled.{IsUnitOf}
 use Rattle.lq_model.specs.declared.plan.EventPlan.{EventPlan}
 use Rattle.lq_senders.specs.Units.{unit_at}
 use Rattle.lq_senders.proofs.Turns.{event-there}
-use Rattle.lq_account.proofs.Units.{unit-more, unit-rises}
+use Rattle.lq_account_laws.proofs.Units.{unit-more, unit-rises}
 use Rattle.lq_senders.proofs.Units.{swap-params, unit-here, unit-next}
 use Rattle.lq_senders.proofs.Ways.{below-or-at}
 

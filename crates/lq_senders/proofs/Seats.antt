@@ -7,7 +7,7 @@ use Rattle.std.proofs.lemmas.List.{length-set}
 use Rattle.std.proofs.lemmas.Option.{same_Some, slice_get_read, slice_get_within, slice_get-map, get_or_from_slice_get}
 use mathlib.Core.Logic.{dite}
 use native.Mathlib.Decide.{ℕ_discrete}
-use Rattle.lq_account.specs.Progress.{start_of}
+use Rattle.lq_account_laws.specs.Progress.{start_of}
 use Rattle.lq_model.specs.Alone.{RunningStation, changed, changed_where, served, with_event}
 use Rattle.lq_model.specs.Device.{DeviceState}
 use Rattle.lq_model.proofs.Reach.{at-own-swap, swap-apart}
@@ -19,7 +19,7 @@ use Rattle.lq_model.specs.declared.plan.EventKind.TheVariants.{Swap}
 use Rattle.lq_model.specs.declared.plan.EventPlan.{EventPlan}
 use Rattle.lq_plan.specs.Limits.{is_out_of_order}
 use Rattle.lq_qdisc.specs.Alone.{Does, IsAlone, running}
-use Rattle.lq_account.specs.Controls.{with_control}
+use Rattle.lq_account_laws.specs.Controls.{with_control}
 use Rattle.lq_seat.specs.Calls.{DoesAlone, DoesEvent, DoesSwap, Drains, SendsPacket, WakesQueues}
 use Rattle.lq_seat.specs.State.{SeatState, TableState, IsTableOf, setup_of, IsHere, solo_of, Setup, first_account, times}
 use Rattle.lq_senders.specs.Seats.{Keeps, KeepsSeat}

@@ -5,7 +5,7 @@ use Rattle.std.specs.Option.{option_map_or}
 use Rattle.std.proofs.lemmas.Bool.{ne_eqb}
 use Rattle.std.proofs.lemmas.List.Sums.{count_by_more_yes, count_by_more_no}
 use Rattle.std.proofs.lemmas.Option.{get_or_from_slice_get, same_Some, slice_get_within}
-use Rattle.lq_account.specs.Progress.{start_of}
+use Rattle.lq_account_laws.specs.Progress.{start_of}
 use Rattle.lq_control.specs.Finish.{AreRanks, count_below, is_packet_of}
 use Rattle.lq_model.specs.Alone.{RunningStation, bypass_of, brought_in, changed_where, served, with_packet}
 use Rattle.lq_model.specs.Plan.{Plan, owner_in, rank_in, station_in}

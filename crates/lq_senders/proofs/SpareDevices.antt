@@ -14,7 +14,7 @@ use Rattle.lq_seat.specs.State.{station_count}
 use Rattle.lq_senders.specs.Setup.{AreSparesConfigured, ConfiguresSpare}
 use Rattle.lq_senders.proofs.Seats.{set-here, set-apart, mapped-at}
 use Rattle.lq_senders.proofs.Sendable.{count-later}
-use Rattle.lq_account.proofs.Units.{unit-after}
+use Rattle.lq_account_laws.proofs.Units.{unit-after}
 use Rattle.lq_senders.proofs.Units.{unit-within}
 
 units-rise : (plan : Plan) (i j : ℕ) → i ≤ j → unit_of_swap plan i ≤ unit_of_swap plan j

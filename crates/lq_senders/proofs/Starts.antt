@@ -5,7 +5,7 @@ use Rattle.std.specs.Option.{option_map, option_map_or}
 use Rattle.std.proofs.lemmas.List.{length-replicate}
 use Rattle.std.proofs.lemmas.Option.{same_Some, slice_get_within}
 use Rattle.atomic_table.specs.Seated.{TableId}
-use Rattle.lq_account.specs.Progress.{len_of, start_of}
+use Rattle.lq_account_laws.specs.Progress.{len_of, start_of}
 use Rattle.lq_model.specs.Alone.{new_device, new_station, new_stations}
 use Rattle.lq_model.specs.Account.{new_account}
 use Rattle.lq_model.specs.Device.{DeviceState, IsConfigured, Telling}

@@ -2,8 +2,8 @@
 use Rattle.std.proofs.Common.{◌≡◌, ℕ, zero, suc, ◌+◌, ◌<◌, ◌≤◌, ◌&&◌, Bool, true, false, cond, List, [], ◌∷◌, inl, inr, length, take, slice_get, Some, refl, sym, ap, ◌∙◌, subst, arith, Contains}
 use Rattle.std.proofs.lemmas.List.Sums.{count_by-le-length, sum_by-take-le}
 use Rattle.std.proofs.lemmas.Option.{same_Some}
-use Rattle.lq_account.proofs.Units.{unit-after}
-use Rattle.lq_account.proofs.Lists.{cons-in, here-in, there-in, none-in}
+use Rattle.lq_account_laws.proofs.Units.{unit-after}
+use Rattle.lq_account_laws.proofs.Lists.{cons-in, here-in, there-in, none-in}
 use Rattle.lq_model.specs.Account.{Event, Swap}
 use Rattle.lq_model.specs.Plan.{Plan, after_events, is_at, is_swap, is_swap_kind, unit_count, unit_of_swap}
 use Rattle.lq_model.specs.declared.device.Params.{Params}

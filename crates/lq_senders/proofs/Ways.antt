@@ -10,15 +10,15 @@ use Rattle.lq_model.specs.declared.fate.Cause.TheVariants as cause
 use Rattle.lq_model.specs.declared.plan.EventKind.{EventKind}
 use Rattle.lq_model.specs.declared.plan.EventKind.TheVariants as kind
 use Rattle.lq_model.specs.declared.plan.EventPlan.{EventPlan}
-use Rattle.lq_account.proofs.Controlled.{no-swap-in-downs, not-first}
-use Rattle.lq_account.proofs.Lists.{none-in, cons-in}
-use Rattle.lq_account.proofs.Brought.{brought-cases}
-use Rattle.lq_account.specs.Trail.{IsTrail, IsTrailNext, MeetsDown, down_of}
-use Rattle.lq_account.specs.Controls.{controls_in, is_by_plan, with_control, with_down}
+use Rattle.lq_account_laws.proofs.Controlled.{no-swap-in-downs, not-first}
+use Rattle.lq_account_laws.proofs.Lists.{none-in, cons-in}
+use Rattle.lq_account_laws.proofs.Brought.{brought-cases}
+use Rattle.lq_account_laws.specs.Trail.{IsTrail, IsTrailNext, MeetsDown, down_of}
+use Rattle.lq_account_laws.specs.Controls.{controls_in, is_by_plan, with_control, with_down}
 use Rattle.lq_seat.specs.Calls.{refused_by, Came, MayDoEvent}
 use Rattle.lq_seat.specs.State.{latest_unit, units_of}
 use Rattle.lq_senders.specs.Way.{IsOnWay, IsSplitAt}
-use Rattle.lq_account.proofs.Units.{unit-more, unit-rises}
+use Rattle.lq_account_laws.proofs.Units.{unit-more, unit-rises}
 use Rattle.lq_senders.proofs.Units.{unit-elsewhere, unit-here}
 use Rattle.lq_senders.proofs.Orders.{controls-elsewhere, controls-here, down-split, down-here, down-elsewhere}
 

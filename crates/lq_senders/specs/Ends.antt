@@ -1,8 +1,8 @@
 -- What a run leaves at its end.
 use Rattle.std.specs.Option.{option_map, option_map_or}
 use Rattle.std.specs.Prelude.{◌≡◌, ◌<◌, ◌≤◌, ℕ, true, false, List, length, map, slice_get, slice_index, Option, Some, All}
-use Rattle.lq_account.specs.Progress.{start_of}
-use Rattle.lq_account.specs.Trail.{IsTrail, HaveCome, down_of}
+use Rattle.lq_account_laws.specs.Progress.{start_of}
+use Rattle.lq_account_laws.specs.Trail.{IsTrail, HaveCome, down_of}
 use Rattle.lq_device.specs.Station.{StationState}
 use Rattle.lq_device.specs.declared.device.TxDevice.{Ghosts}
 use Rattle.lq_model.specs.Alone.{RunningStation, after_run, fate_in, finished, new_stations}

@@ -1,7 +1,7 @@
 -- What the fates of a run are, what its devices did, and what stays of its stations.
 use Rattle.std.specs.Prelude.{◌≡◌, ◌<◌, ℕ, true, List, All, length, map, Some, slice_get, slice_index, IsSome}
 use Rattle.std.specs.Option.{option_map}
-use Rattle.lq_account.specs.Accounts.{IsClosed}
+use Rattle.lq_account_laws.specs.Accounts.{IsClosed}
 use Rattle.lq_model.specs.Account.{Account, Event}
 use Rattle.lq_model.specs.Alone.{alone, alone_at}
 use Rattle.lq_model.specs.Complete.{IsComplete}

@@ -1,6 +1,6 @@
 -- A sender's lane: its seats, one at each station.
 use Rattle.std.specs.Prelude.{◌≡◌, ◌<◌, ◌≤◌, ℕ, ◌+◌, ◌*◌, ◌⊎◌, All, true, false, List, [], ◌∷◌, length, slice_get, slice_index, Some}
-use Rattle.lq_account.specs.Progress.{start_of}
+use Rattle.lq_account_laws.specs.Progress.{start_of}
 use Rattle.lq_control.specs.Finish.{AreRanks, count_below}
 use Rattle.lq_model.specs.Alone.{RunningStation, after_packets, events_after, with_events}
 use Rattle.lq_model.specs.Device.{DeviceState}

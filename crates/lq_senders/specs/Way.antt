@@ -1,7 +1,7 @@
 -- How far the first sender is with the plan's events at a station.
 use Rattle.std.specs.Prelude.{◌≡◌, ◌<◌, ◌≤◌, ℕ, zero, suc, ◌+◌, List, [], ◌∷◌, take, length, filter, slice_get, Option, Some, None, Contains}
-use Rattle.lq_account.specs.Progress.{len_of}
-use Rattle.lq_account.specs.Trail.{down_of, IsTrail, HaveCome}
+use Rattle.lq_account_laws.specs.Progress.{len_of}
+use Rattle.lq_account_laws.specs.Trail.{down_of, IsTrail, HaveCome}
 use Rattle.lq_model.specs.Account.{Account, Event, Purge, Swap}
 use Rattle.lq_model.specs.Legal.{brought_by}
 use Rattle.lq_model.specs.Plan.{Plan, after_events, is_at, unit_of_swap}

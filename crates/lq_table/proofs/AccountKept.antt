@@ -1,14 +1,14 @@
 -- What an event keeps of the fates of sent packets, and of the event by which the station is deactivated.
-use Rattle.lq_account.specs.Places.{AreBrought, KeepsOrder, Undecided}
+use Rattle.lq_account_laws.specs.Places.{AreBrought, KeepsOrder, Undecided}
 use Rattle.std.proofs.Common.{◌≡◌, ℕ, ◌<◌, List, inl, inr, Option, Some, None, sym, subst}
 use Rattle.std.proofs.lemmas.Option.{same_Some}
 use Rattle.lq_model.specs.Account.{Account, Event, Send, Down, Up, sent_from_hand, after}
 use Rattle.lq_model.specs.Legal.{MayCome}
 use Rattle.lq_model.specs.declared.fate.Info.{Info}
 use Rattle.lq_model.specs.declared.fate.Fate.TheVariants.{Sent}
-use Rattle.lq_account.proofs.Waiting.{fate-stays}
-use Rattle.lq_account.proofs.Changes.{Sends, sent-cases, sent-is}
-use Rattle.lq_account.proofs.Changes.Sends.{sends}
+use Rattle.lq_account_laws.proofs.Waiting.{fate-stays}
+use Rattle.lq_account_laws.proofs.Changes.{Sends, sent-cases, sent-is}
+use Rattle.lq_account_laws.proofs.Changes.Sends.{sends}
 use Rattle.lq_table.specs.Rule.{SentHaveFates, IsCounted}
 
 new_fate : (a : Account) (e : Event) (n u s : ℕ) → Sends a e u s n → (after e a).fates n ≡ Some (Sent u s)

@@ -25,18 +25,18 @@ use Rattle.lq_model.specs.Plan.{owner_in, band_in}
 use Rattle.lq_model.specs.Positions.{Holds, holds_lock, is_inside}
 use Rattle.lq_model.specs.Steps.{is_idle}
 use Rattle.lq_model.specs.Words.{word_of, IsWordOf}
-use Rattle.lq_machine.proofs.Among.{among-at as here, among-within as inside}
-use Rattle.lq_machine.proofs.Quiet.{quiet-holds-nothing}
+use Rattle.lq_run_laws.proofs.Among.{among-at as here, among-within as inside}
+use Rattle.lq_run_laws.proofs.Quiet.{quiet-holds-nothing}
 use Rattle.lq_ring_core.specs.Slots.{round}
-use Rattle.lq_account.proofs.Changes.{band-held, slot-held}
-use Rattle.lq_account.proofs.Lists.{none-in}
-use Rattle.lq_band.specs.Ring.{Ends, Lock, unlocked as no_lock, locking, stored_count, index_behind, IsRing}
-use Rattle.lq_band.specs.Seats.{total, Each}
-use Rattle.lq_band.specs.Stored.{word_or}
-use Rattle.lq_band.specs.Three.{Three, at, all_three}
-use Rattle.lq_band.proofs.Kept.{content-held}
-use Rattle.lq_band.proofs.Lines.{word_at-past}
-use Rattle.lq_band.proofs.Three.{at_all}
+use Rattle.lq_account_laws.proofs.Changes.{band-held, slot-held}
+use Rattle.lq_account_laws.proofs.Lists.{none-in}
+use Rattle.lq_band_laws.specs.Ring.{Ends, Lock, unlocked as no_lock, locking, stored_count, index_behind, IsRing}
+use Rattle.lq_band_laws.specs.Seats.{total, Each}
+use Rattle.lq_band_laws.specs.Stored.{word_or}
+use Rattle.lq_band_laws.specs.Three.{Three, at, all_three}
+use Rattle.lq_band_laws.proofs.Kept.{content-held}
+use Rattle.lq_band_laws.proofs.Lines.{word_at-past}
+use Rattle.lq_band_laws.proofs.Three.{at_all}
 use Rattle.lq_table.specs.Views.{View, Setup, PacketPart, HolderPart, Left, no_packets}
 use Rattle.lq_table.specs.Rule.{Words, words_of, locks_at, account, holders, shown, is_live, seats_of, machine_of, bands_now, owes, waiting_in, waits, unstored, Ties, Rule, AtHome, IsResting, has_turn, event_word}
 use Rattle.lq_table.specs.Between.{StandsForMachine, StandsForNothing, IsInNoCall, HasNothingOwn, IsTableQuiet}

@@ -12,8 +12,8 @@ use Rattle.lq_device.specs.Station.{StationState}
 use Rattle.lq_model.specs.Account.{Account}
 use Rattle.lq_model.specs.Machine.{Qdisc, is_closed}
 use Rattle.lq_model.specs.Plan.{owner_in}
-use Rattle.lq_band.specs.Seats.{total}
-use Rattle.lq_account.specs.Places.{IsPlaced}
+use Rattle.lq_band_laws.specs.Seats.{total}
+use Rattle.lq_account_laws.specs.Places.{IsPlaced}
 use Rattle.lq_table.specs.Places.{lock_place}
 use Rattle.lq_table.specs.Views.{View, Setup, State, PacketPart, Left}
 use Rattle.lq_table.specs.Rule.{words_of, stops_offset, account, machine_of, bands_now, has_turn, is_live, Ties, Rule}

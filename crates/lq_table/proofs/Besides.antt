@@ -7,7 +7,7 @@ use lib.ListN.{get_elem?}
 use Rattle.atomic_table.specs.Table as table
 use Rattle.atomic_table.specs.Table.{step, Allows}
 use Rattle.lq_device.specs.Station.{StationState}
-use Rattle.lq_band.proofs.Seats.{total_one}
+use Rattle.lq_band_laws.proofs.Seats.{total_one}
 use Rattle.lq_table.specs.Places.{inside_place}
 use Rattle.lq_table.specs.Views.{View, Setup}
 use Rattle.lq_table.specs.Rule.{Rule}

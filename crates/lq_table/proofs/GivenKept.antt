@@ -6,9 +6,9 @@ use mathlib.Core.Option.{some}
 use lib.ListN.{get_elem?}
 use Rattle.lq_model.specs.Account.{Event}
 use Rattle.lq_model.specs.Legal.{brought, brought_by}
-use Rattle.lq_account.proofs.Brought.{brought-before, brought-now}
-use Rattle.lq_band.specs.Seats.{total, Each}
-use Rattle.lq_band.proofs.Seats.{total_same, each_step, each_same}
+use Rattle.lq_account_laws.proofs.Brought.{brought-before, brought-now}
+use Rattle.lq_band_laws.specs.Seats.{total, Each}
+use Rattle.lq_band_laws.proofs.Seats.{total_same, each_step, each_same}
 use Rattle.lq_table.specs.Views.{View, Setup, SharePart}
 use Rattle.lq_table.specs.Rule.{is_live, KnowsWords, has_turn, Given}
 

@@ -1,14 +1,14 @@
 -- No packet is held twice.
-use Rattle.lq_account.specs.Places.{Waits, Undecided}
+use Rattle.lq_account_laws.specs.Places.{Waits, Undecided}
 use Rattle.std.proofs.Common.{◌≡◌, ◌≢◌, ℕ, zero, suc, ◌+◌, ◌<◌, ◌≤◌, List, [], ◌++◌, refl, sym, ap, ◌∙◌, arith, ⊎_elim, Option, Some, None}
 use Rattle.std.specs.Option.{option_to_list}
 use Rattle.std.proofs.lemmas.Bool.{cases_eq}
 use Rattle.lq_model.specs.Account.{Account, Event, held, held_in}
 use Rattle.lq_model.specs.Plan.{band_in}
 use Rattle.lq_model.specs.declared.fate.Fate.{Fate}
-use Rattle.lq_account.proofs.Order.{held-band, held-pairs, never-itself}
-use Rattle.lq_band.specs.Times.{times}
-use Rattle.lq_band.proofs.Times.{in_times, times_none, times_once, times_same, times_other, times_append}
+use Rattle.lq_account_laws.proofs.Order.{held-band, held-pairs, never-itself}
+use Rattle.lq_band_laws.specs.Times.{times}
+use Rattle.lq_band_laws.proofs.Times.{in_times, times_none, times_once, times_same, times_other, times_append}
 use Rattle.lq_table.specs.Views.{Setup}
 use Rattle.lq_table.specs.Rule.{Accounted}
 

@@ -7,7 +7,7 @@ use Rattle.atomic_table.specs.Table as table
 use Rattle.lq_device.specs.Station.{StationState}
 use Rattle.lq_model.specs.Account.{held_in}
 use Rattle.lq_model.specs.Legal.{brought_by}
-use Rattle.lq_account.proofs.Lists.{drop-in}
+use Rattle.lq_account_laws.proofs.Lists.{drop-in}
 use Rattle.lq_table.specs.Views.{View, Setup}
 use Rattle.lq_table.specs.Rule.{account, is_live, Rule}
 use Rattle.lq_table.specs.Told.{IsPacketOf, IsKnownSlot}

@@ -10,12 +10,12 @@ use Rattle.atomic_table.specs.Table.{step, Allows}
 use Rattle.lq_device.specs.Station.{StationState}
 use Rattle.lq_model.specs.Account.{Account}
 use Rattle.lq_model.specs.Machine.{Purge, bit}
-use Rattle.lq_band.specs.Seats.{total}
-use Rattle.lq_band.specs.Three.{Three, at}
-use Rattle.lq_band.specs.Ring.{Lock, unlocked, locking, stored_count, index_behind}
-use Rattle.lq_band.proofs.Seats.{total_two, total_le}
-use Rattle.lq_band.proofs.Three.{at_all}
-use Rattle.lq_band.proofs.StandsFor.{index_stands}
+use Rattle.lq_band_laws.specs.Seats.{total}
+use Rattle.lq_band_laws.specs.Three.{Three, at}
+use Rattle.lq_band_laws.specs.Ring.{Lock, unlocked, locking, stored_count, index_behind}
+use Rattle.lq_band_laws.proofs.Seats.{total_two, total_le}
+use Rattle.lq_band_laws.proofs.Three.{at_all}
+use Rattle.lq_band_laws.proofs.StandsFor.{index_stands}
 use Rattle.lq_table.specs.Places.{producer_place}
 use Rattle.lq_table.specs.Views.{View, Setup, Left}
 use Rattle.lq_table.specs.Rule.{words_of, account, bands_now, locks_at, Leaves, Rule}

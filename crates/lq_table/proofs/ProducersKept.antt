@@ -10,12 +10,12 @@ use prog.Atomic.{either}
 use Rattle.atomic_table.specs.Table as table
 use Rattle.atomic_table.specs.Table.{step, Allows, keeps, stepped}
 use Rattle.lq_device.specs.Station.{StationState}
-use Rattle.lq_band.specs.Three.{at, put}
-use Rattle.lq_band.specs.Ring.{Lock, unlocked, locked_at, sized_if, sized_at, index_given, IsRing}
-use Rattle.lq_band.specs.HalfResized.{IsHalfResized}
-use Rattle.lq_band.proofs.Three.{at_put_same, at_put_other}
-use Rattle.lq_band.proofs.HalfResizedKept.{half_resized_sized}
-use Rattle.lq_band.proofs.Kept.{locks, sizes_if, gives}
+use Rattle.lq_band_laws.specs.Three.{at, put}
+use Rattle.lq_band_laws.specs.Ring.{Lock, unlocked, locked_at, sized_if, sized_at, index_given, IsRing}
+use Rattle.lq_band_laws.specs.HalfResized.{IsHalfResized}
+use Rattle.lq_band_laws.proofs.Three.{at_put_same, at_put_other}
+use Rattle.lq_band_laws.proofs.HalfResizedKept.{half_resized_sized}
+use Rattle.lq_band_laws.proofs.Kept.{locks, sizes_if, gives}
 use Rattle.lq_table.specs.Places.{size_place, producer_place}
 use Rattle.lq_table.specs.Views.{View, Setup, HolderPart}
 use Rattle.lq_table.specs.Rule.{words_of, account, holders, bands_now, locks_at, Rule}

@@ -7,7 +7,7 @@ use Rattle.atomic_table.specs.Table as table
 use Rattle.atomic_table.specs.Table.{step, Allows}
 use Rattle.lq_device.specs.Station.{StationState}
 use Rattle.lq_model.specs.Account.{Account}
-use Rattle.lq_account.proofs.OneQueue.{seen_is}
+use Rattle.lq_account_laws.proofs.OneQueue.{seen_is}
 use Rattle.lq_model.specs.Alone.{seen_in}
 use Rattle.lq_model.specs.Band.{IsOccupied}
 use Rattle.lq_model.specs.Control.{is_control}
@@ -15,11 +15,11 @@ use Rattle.lq_model.specs.Positions.{holds_lock, may_be_inside}
 use Rattle.lq_model.specs.Machine.{bit}
 use Rattle.lq_model.specs.Plan.{band_in}
 use Rattle.lq_model.specs.declared.machine.Position.TheVariants.{Put}
-use Rattle.lq_band.specs.Three.{Three, at}
-use Rattle.lq_band.specs.Ring.{Ends, is_emptying, IsAtRest}
-use Rattle.lq_band.proofs.Seats.{total_two}
-use Rattle.lq_band.proofs.Kept.{finds_full}
-use Rattle.lq_band.proofs.StandsFor.{full_exactly}
+use Rattle.lq_band_laws.specs.Three.{Three, at}
+use Rattle.lq_band_laws.specs.Ring.{Ends, is_emptying, IsAtRest}
+use Rattle.lq_band_laws.proofs.Seats.{total_two}
+use Rattle.lq_band_laws.proofs.Kept.{finds_full}
+use Rattle.lq_band_laws.proofs.StandsFor.{full_exactly}
 use Rattle.lq_table.specs.Views.{View, Setup, HolderPart, machine_packet}
 use Rattle.lq_table.specs.Rule.{words_of, slot_word, account, holders, holding, is_live, IsResting, Rule}
 use Rattle.lq_table.specs.Told.{Sat}

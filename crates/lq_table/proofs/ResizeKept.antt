@@ -1,5 +1,5 @@
 -- A resize begins: in the machine and in the account it is done; and it ends, as the new length is stored.
-use Rattle.lq_account.specs.Places.{Precedes}
+use Rattle.lq_account_laws.specs.Places.{Precedes}
 use Rattle.std.proofs.Common.{◌≡◌, ◌≢◌, ℕ, zero, suc, ◌+◌, ◌*◌, ◌<◌, ◌≤◌, true, false, true≢false, List, [], ◌∷◌, ◌++◌, length, map, take, drop, set, refl, sym, ap, ◌∙◌, subst, arith, ⊎_elim, Option, Some, None, get_or}
 use Rattle.std.specs.Prelude.{is_none, is_some}
 use Rattle.std.specs.List.{AllPairs}
@@ -7,11 +7,11 @@ use Rattle.std.proofs.lemmas.Bool.{cases_eq, cases_lt, cases_order, lt-ltb}
 use Rattle.std.proofs.lemmas.Option.{same_Some}
 use mathlib.Core.Option.{none}
 use Rattle.atomic_table.specs.Table.{step, Allows, keeps}
-use Rattle.lq_account.specs.Trail.{FindsNothing}
-use Rattle.lq_account.proofs.Brought.{held-brought}
-use Rattle.lq_account.proofs.Order.{never-itself, held-band}
-use Rattle.lq_account.proofs.Purges.{with_fates_in, with_fates_out}
-use Rattle.lq_account.proofs.Waiting.{fate-stays, waits-dropped}
+use Rattle.lq_account_laws.specs.Trail.{FindsNothing}
+use Rattle.lq_account_laws.proofs.Brought.{held-brought}
+use Rattle.lq_account_laws.proofs.Order.{never-itself, held-band}
+use Rattle.lq_account_laws.proofs.Purges.{with_fates_in, with_fates_out}
+use Rattle.lq_account_laws.proofs.Waiting.{fate-stays, waits-dropped}
 use Rattle.lq_model.specs.Account.{Account, Event, Resize, after, held_in, dropped_in}
 use Rattle.lq_model.specs.Band.{Band, held_of, resized}
 use Rattle.lq_model.specs.Control.{is_control}
@@ -28,17 +28,17 @@ use Rattle.lq_model.specs.declared.machine.Position.{Position}
 use Rattle.lq_model.specs.declared.machine.Position.TheVariants.{Control}
 use Rattle.lq_model.specs.declared.machine.Seat.{Seat}
 use Rattle.lq_ring_core.specs.Slots.{round}
-use Rattle.lq_band.specs.Three.{Three, at, put, all_three}
-use Rattle.lq_band.specs.Ring.{Ends, at_start, Lock, locked_at, IsAtRest, word_at, IsRing}
-use Rattle.lq_band.specs.Times.{times}
-use Rattle.lq_band.specs.HalfResized.{IsHalfResized, IsDistinct, IsRefilled, IsBeforeResize}
-use Rattle.lq_band.proofs.Kept.{lock_alone}
-use Rattle.lq_band.proofs.Lines.{word_at-past, word_at-get_or}
-use Rattle.lq_band.proofs.Seats.{total_same, each_step, each_same}
-use Rattle.lq_band.proofs.StoredKept.{stored_as, decides}
-use Rattle.lq_band.proofs.Three.{at_put_same, at_put_other, at_all, three_cases}
-use Rattle.lq_band.proofs.Times.{in_times, times_append, times_drop}
-use Rattle.lq_band.proofs.HalfResizedKept.{begins, unturned, reindexes, restarts, just_got}
+use Rattle.lq_band_laws.specs.Three.{Three, at, put, all_three}
+use Rattle.lq_band_laws.specs.Ring.{Ends, at_start, Lock, locked_at, IsAtRest, word_at, IsRing}
+use Rattle.lq_band_laws.specs.Times.{times}
+use Rattle.lq_band_laws.specs.HalfResized.{IsHalfResized, IsDistinct, IsRefilled, IsBeforeResize}
+use Rattle.lq_band_laws.proofs.Kept.{lock_alone}
+use Rattle.lq_band_laws.proofs.Lines.{word_at-past, word_at-get_or}
+use Rattle.lq_band_laws.proofs.Seats.{total_same, each_step, each_same}
+use Rattle.lq_band_laws.proofs.StoredKept.{stored_as, decides}
+use Rattle.lq_band_laws.proofs.Three.{at_put_same, at_put_other, at_all, three_cases}
+use Rattle.lq_band_laws.proofs.Times.{in_times, times_append, times_drop}
+use Rattle.lq_band_laws.proofs.HalfResizedKept.{begins, unturned, reindexes, restarts, just_got}
 use Rattle.lq_table.specs.Places.{size_place, producer_place}
 use Rattle.lq_table.specs.Views.{View, Setup, State, HolderPart, HalfResize, Work, machine_packet}
 use Rattle.lq_table.specs.Rule.{words_of, machine_of, account, holders, owes, waiting_of, unstored, bands_of, bands_now, Holder, IsLocker, IsResizing, IsResting, locks_at, KnowsPackets, Rule}
@@ -52,8 +52,8 @@ use Rattle.lq_table.proofs.Facts.{map_none, leaving_rule}
 use Rattle.lq_table.proofs.HeldOnce.{no_fate, held_once}
 use Rattle.lq_table.proofs.Middle.{middle, controls_in}
 use Rattle.lq_table.proofs.Quiet.{beside}
-use Rattle.lq_account.proofs.Changes.{band-held}
-use Rattle.lq_account.proofs.Lists.{none-in}
+use Rattle.lq_account_laws.proofs.Changes.{band-held}
+use Rattle.lq_account_laws.proofs.Lists.{none-in}
 use Rattle.lq_table.proofs.Ties.{nothing_in, holds_none}
 use Rattle.lq_table.proofs.ResizeSlotsKept.{resizing_rule, resizing_known}
 use Rattle.lq_table.proofs.SoleFacts.{knows_account}

@@ -9,21 +9,21 @@ use lib.ListN.{get_elem?}
 use Rattle.atomic_table.specs.Table as table
 use Rattle.atomic_table.specs.Table.{step, Allows, keeps}
 use Rattle.lq_device.specs.Station.{StationState}
-use Rattle.lq_account.proofs.Lists.{none-in, here-in, there-in, cons-in}
+use Rattle.lq_account_laws.proofs.Lists.{none-in, here-in, there-in, cons-in}
 use Rattle.lq_model.specs.Account.{Account}
 use Rattle.lq_model.specs.Positions.{holds_lock}
 use Rattle.lq_model.specs.Machine.{Purge}
 use Rattle.lq_model.specs.declared.fate.Fate.{Fate}
 use Rattle.lq_model.specs.declared.fate.Fate.TheVariants as fate
-use Rattle.lq_band.specs.Three.{Three, at, put}
-use Rattle.lq_band.specs.Ring.{Lock}
-use Rattle.lq_band.specs.Times.{times}
-use Rattle.lq_band.specs.HalfResized.{IsHalfResized}
-use Rattle.lq_band.proofs.Seats.{total_same}
-use Rattle.lq_band.proofs.Three.{at_put_same, at_put_other}
-use Rattle.lq_band.proofs.Times.{times_in}
-use Rattle.lq_band.proofs.StoredKept.{stored_as}
-use Rattle.lq_band.proofs.HalfResizedKept.{clears, clears_other, fills}
+use Rattle.lq_band_laws.specs.Three.{Three, at, put}
+use Rattle.lq_band_laws.specs.Ring.{Lock}
+use Rattle.lq_band_laws.specs.Times.{times}
+use Rattle.lq_band_laws.specs.HalfResized.{IsHalfResized}
+use Rattle.lq_band_laws.proofs.Seats.{total_same}
+use Rattle.lq_band_laws.proofs.Three.{at_put_same, at_put_other}
+use Rattle.lq_band_laws.proofs.Times.{times_in}
+use Rattle.lq_band_laws.proofs.StoredKept.{stored_as}
+use Rattle.lq_band_laws.proofs.HalfResizedKept.{clears, clears_other, fills}
 use Rattle.lq_table.specs.Views.{View, Setup, State, HolderPart, HalfResize, Work, Left}
 use Rattle.lq_table.specs.Rule.{words_of, slot_word, account, holders, owes, waiting_of, unstored, FatesStored, bands_now, Leaves, IsResizing, locks_at, Settled, Parts, Rule}
 use Rattle.lq_table.specs.Told.{Sat}

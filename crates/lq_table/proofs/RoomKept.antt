@@ -1,5 +1,5 @@
 -- The device has room for the packet in hand: what it accepted are distinct packets of the station, and this is one more.
-use Rattle.lq_account.specs.Places.Waits.{in_hand}
+use Rattle.lq_account_laws.specs.Places.Waits.{in_hand}
 use Rattle.std.proofs.Common.{◌≡◌, ◌≢◌, ℕ, zero, suc, ◌+◌, ◌<◌, ◌≤◌, Bool, true, false, true≢false, List, [], ◌∷◌, length, take, refl, sym, ap, ◌∙◌, subst, arith, ⊎_elim, inl, inr, ◌⊎◌, Option, Some, None, eq-eqb, count_by, slice_get, get_or}
 use Rattle.std.specs.Prelude.{if◌then◌else◌, nat_lt, ◌==◌}
 use Rattle.std.specs.Option.{option_map_or}
@@ -15,8 +15,8 @@ use Rattle.lq_model.specs.Plan.{station_in}
 use Rattle.lq_model.specs.declared.fate.Fate.{Fate}
 use Rattle.lq_model.specs.declared.fate.Fate.TheVariants.{Sent}
 use Rattle.lq_model.specs.declared.fate.Info.{Info}
-use Rattle.lq_band.specs.Times.{times}
-use Rattle.lq_band.proofs.Times.{in_times, times_in, times_none, times_same, times_other}
+use Rattle.lq_band_laws.specs.Times.{times}
+use Rattle.lq_band_laws.proofs.Times.{in_times, times_in, times_none, times_same, times_other}
 use Rattle.lq_table.specs.Views.{View, Setup}
 use Rattle.lq_table.specs.Rule.{account, station_count, Rule}
 

@@ -11,8 +11,8 @@ use Rattle.lq_model.specs.Legal.{brought, brought_by}
 use Rattle.lq_model.specs.Machine.{Qdisc}
 use Rattle.lq_model.specs.Plan.{owner_in}
 use Rattle.lq_model.specs.declared.fate.Fate.{Fate}
-use Rattle.lq_account.specs.Trail.{is_own, trail_of}
-use Rattle.lq_band.proofs.Seats.{each_step}
+use Rattle.lq_account_laws.specs.Trail.{is_own, trail_of}
+use Rattle.lq_band_laws.proofs.Seats.{each_step}
 use Rattle.lq_table.specs.Views.{View, Setup, SharePart, PacketPart, State}
 use Rattle.lq_table.specs.Rule.{words_of, times, is_live, account, KnowsPackets, PacketsKnown, Turns, Given, Settled, Trails, Gone, Sole, SeatParts, Rule}
 use Rattle.lq_table.proofs.Accounts.{quiet_after, others_after}

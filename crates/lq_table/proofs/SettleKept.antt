@@ -6,21 +6,21 @@ use Rattle.std.proofs.lemmas.List.Elements.{Contains-append_cases}
 use mathlib.Core.Option.{none}
 use Rattle.atomic_table.specs.Table.{step, Allows, keeps}
 use Rattle.lq_device.specs.Station.{StationState}
-use Rattle.lq_account.proofs.Changes.{band-held}
-use Rattle.lq_account.proofs.Waiting.{waits-held}
+use Rattle.lq_account_laws.proofs.Changes.{band-held}
+use Rattle.lq_account_laws.proofs.Waiting.{waits-held}
 use Rattle.lq_model.specs.Account.{Account, held}
 use Rattle.lq_model.specs.Band.{held_of}
 use Rattle.lq_model.specs.Words.{word_of, HasWord}
 use Rattle.lq_model.specs.declared.fate.Fate.{Fate}
 use Rattle.lq_model.specs.declared.fate.Fate.TheVariants as fate
-use Rattle.lq_band.specs.Three.{at}
-use Rattle.lq_band.specs.Times.{times}
-use Rattle.lq_band.specs.HalfResized.{IsHalfResized}
-use Rattle.lq_band.proofs.Seats.{total_same}
-use Rattle.lq_band.proofs.Three.{put_at}
-use Rattle.lq_band.proofs.Times.{times_in, times_same, times_other}
-use Rattle.lq_band.proofs.StoredKept.{settles}
-use Rattle.lq_band.proofs.HalfResizedKept.{shrinks}
+use Rattle.lq_band_laws.specs.Three.{at}
+use Rattle.lq_band_laws.specs.Times.{times}
+use Rattle.lq_band_laws.specs.HalfResized.{IsHalfResized}
+use Rattle.lq_band_laws.proofs.Seats.{total_same}
+use Rattle.lq_band_laws.proofs.Three.{put_at}
+use Rattle.lq_band_laws.proofs.Times.{times_in, times_same, times_other}
+use Rattle.lq_band_laws.proofs.StoredKept.{settles}
+use Rattle.lq_band_laws.proofs.HalfResizedKept.{shrinks}
 use Rattle.lq_table.specs.Views.{View, Setup, HalfResize, Work, Left}
 use Rattle.lq_table.specs.Rule.{words_of, fates_offset, account, owes, waiting_of, waits, unstored, bands_now, locks_at, Rule}
 use Rattle.lq_table.specs.Told.{Sat}

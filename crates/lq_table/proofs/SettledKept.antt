@@ -8,7 +8,7 @@ use Rattle.lq_model.specs.Words.{word_of, HasWord, IsWordOf}
 use Rattle.lq_model.specs.declared.fate.Fate.{Fate}
 use Rattle.lq_model.specs.declared.fate.Fate.TheVariants as fate
 use Rattle.lq_model.specs.declared.fate.Cause.TheVariants as cause
-use Rattle.lq_band.proofs.Seats.{each_step, each_same}
+use Rattle.lq_band_laws.proofs.Seats.{each_step, each_same}
 use Rattle.lq_table.specs.Views.{View}
 use Rattle.lq_table.specs.Rule.{Settled}
 

@@ -11,8 +11,8 @@ use Rattle.lq_model.specs.Machine.{Qdisc, bit, state_word}
 use Rattle.lq_model.specs.Positions.{holds_lock}
 use Rattle.lq_table.specs.Places.{state_place, lock_place}
 use Rattle.lq_table.specs.Views.{View, Setup, State, HolderPart, first_account}
-use Rattle.lq_account.specs.Trail.{down_of}
-use Rattle.lq_account.proofs.Trails.{down-is}
+use Rattle.lq_account_laws.specs.Trail.{down_of}
+use Rattle.lq_account_laws.proofs.Trails.{down-is}
 use Rattle.lq_table.specs.Rule.{words_of, xoff_word, account, holders, event_word, Rule}
 use Rattle.lq_table.specs.Told.{is_set}
 use Rattle.lq_table.specs.Solo.{IsSole, account_of, SeesState, SeesDown, IsAccounts, HasSent}

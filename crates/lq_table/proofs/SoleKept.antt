@@ -10,9 +10,9 @@ use Rattle.lq_device.specs.Station.{StationState}
 use Rattle.lq_model.specs.Account.{Account, held_in}
 use Rattle.lq_model.specs.Control.{is_control}
 use Rattle.lq_model.specs.Positions.{holds_lock, may_be_inside}
-use Rattle.lq_band.specs.Three.{at}
-use Rattle.lq_band.specs.Ring.{Ends, is_emptying}
-use Rattle.lq_band.proofs.Kept.{finds_none, takes}
+use Rattle.lq_band_laws.specs.Three.{at}
+use Rattle.lq_band_laws.specs.Ring.{Ends, is_emptying}
+use Rattle.lq_band_laws.proofs.Kept.{finds_none, takes}
 use Rattle.lq_table.proofs.ByName.{slot_of}
 use Rattle.lq_table.proofs.Facts.{calm_rule}
 use Rattle.lq_table.proofs.HeadKept.{sees_head}

@@ -17,7 +17,7 @@ use Rattle.lq_model.specs.declared.machine.Seat.{Seat}
 use Rattle.lq_table.specs.Views.{View}
 use Rattle.lq_table.specs.Rule.{machine_of, is_live, AreStops}
 use Rattle.lq_table.specs.Controls.{shut_after}
-use Rattle.lq_machine.proofs.Among.{among-at as here}
+use Rattle.lq_run_laws.proofs.Among.{among-at as here}
 use Rattle.lq_table.proofs.Middle.{middle}
 use Rattle.lq_table.proofs.Frames.{opened}
 

@@ -6,11 +6,11 @@ use Rattle.lq_model.specs.Account.{Event}
 use Rattle.lq_model.specs.Plan.{owner_in}
 use Rattle.lq_model.specs.Machine.{bit}
 use Rattle.lq_model.specs.declared.fate.Info.{Info}
-use Rattle.lq_band.proofs.Seats.{total_two, each_step, each_same}
-use Rattle.lq_band.specs.Seats.{total}
+use Rattle.lq_band_laws.proofs.Seats.{total_two, each_step, each_same}
+use Rattle.lq_band_laws.specs.Seats.{total}
 use Rattle.lq_model.specs.Device.{DeviceState}
 use Rattle.lq_table.specs.Views.{View, Setup, SharePart}
-use Rattle.lq_account.specs.Trail.{is_own, trail_of}
+use Rattle.lq_account_laws.specs.Trail.{is_own, trail_of}
 use Rattle.lq_table.specs.Rule.{times, Shares, Trails}
 use Rattle.lq_table.proofs.Accounts.{owners_apart}
 

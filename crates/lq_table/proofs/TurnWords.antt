@@ -12,8 +12,8 @@ use Rattle.lq_model.specs.Plan.{owner_in, rank_in}
 use Rattle.lq_model.specs.Positions.{own_packet}
 use Rattle.lq_model.specs.declared.fate.Info.{Info}
 use Rattle.lq_model.specs.declared.machine.Packet.{Packet}
-use Rattle.lq_band.specs.Seats.{total, Each}
-use Rattle.lq_band.proofs.Seats.{total_one}
+use Rattle.lq_band_laws.specs.Seats.{total, Each}
+use Rattle.lq_band_laws.proofs.Seats.{total_one}
 use Rattle.lq_table.specs.Views.{View, Setup, PacketPart, machine_packet}
 use Rattle.lq_table.specs.Rule.{words_of, is_live, has_turn, Rule}
 use Rattle.lq_table.specs.Between.{AreTurns, IsTransmitting, IsTurnOf}

@@ -16,8 +16,8 @@ use Rattle.atomic_table.specs.Table.{step, Allows, keeps, stepped}
 use Rattle.lq_device.specs.Station.{StationState}
 use Rattle.lq_model.specs.Plan.{owner_in, station_in, rank_in}
 use Rattle.lq_model.specs.Legal.{brought_by}
-use Rattle.lq_band.specs.Seats.{total, Each}
-use Rattle.lq_band.proofs.Seats.{total_set, each_step, each_same}
+use Rattle.lq_band_laws.specs.Seats.{total, Each}
+use Rattle.lq_band_laws.proofs.Seats.{total_set, each_step, each_same}
 use Rattle.lq_table.specs.Places.{turn_place}
 use Rattle.lq_table.specs.Views.{View, Setup, SharePart, HolderPart}
 use Rattle.lq_table.specs.Comes.{IsFresh}

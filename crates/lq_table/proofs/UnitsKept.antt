@@ -5,8 +5,8 @@ use mathlib.Core.Option.{some}
 use lib.ListN.{get_elem?}
 use Rattle.lq_model.specs.Account.{Account, Event, Join, Full, Refuse, Empty, Take, Pick, Direct, Send, Back, Stop, Wake, Resize, Down, Purge, Swap, Up, sent_from_hand, after_all}
 use Rattle.lq_model.specs.declared.fate.Info.{Info}
-use Rattle.lq_account.specs.Trail.{is_own, trail_of}
-use Rattle.lq_band.proofs.Seats.{each_step, each_same}
+use Rattle.lq_account_laws.specs.Trail.{is_own, trail_of}
+use Rattle.lq_band_laws.proofs.Seats.{each_step, each_same}
 use Rattle.lq_table.specs.Views.{View, Setup, FirstPart, first_account}
 use Rattle.lq_table.specs.Rule.{units_of, latest_unit, IsGone, Gone}
 use Rattle.lq_table.proofs.Accounts.{with_at_other}

@@ -5,10 +5,10 @@ use mathlib.Core.Option.{none}
 use Rattle.atomic_table.specs.Table.{step, Allows, keeps}
 use Rattle.atomic_table.proofs.Lists.{set_again}
 use Rattle.lq_model.specs.Positions.{holds_lock}
-use Rattle.lq_band.specs.Three.{Three, at, put}
-use Rattle.lq_band.specs.Ring.{Ends, Lock, is_emptying, emptied_on, IsRing}
-use Rattle.lq_band.proofs.Three.{at_put_same, at_put_other}
-use Rattle.lq_band.proofs.Kept.{empties}
+use Rattle.lq_band_laws.specs.Three.{Three, at, put}
+use Rattle.lq_band_laws.specs.Ring.{Ends, Lock, is_emptying, emptied_on, IsRing}
+use Rattle.lq_band_laws.proofs.Three.{at_put_same, at_put_other}
+use Rattle.lq_band_laws.proofs.Kept.{empties}
 use Rattle.lq_table.specs.Views.{View, Setup, State, HolderPart}
 use Rattle.lq_table.specs.Rule.{words_of, slot_word, account, holders, bands_now, locks_at, Rule}
 use Rattle.lq_table.specs.Told.{Sat}

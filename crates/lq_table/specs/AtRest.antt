@@ -6,8 +6,8 @@ use Rattle.lq_model.specs.Machine.{Qdisc, is_closed}
 use Rattle.lq_model.specs.Plan.{owner_in, station_in, rank_in}
 use Rattle.lq_model.specs.declared.fate.Fate.{Fate}
 use Rattle.lq_model.specs.declared.machine.Phase.TheVariants.{Purged}
-use Rattle.lq_band.specs.Ring.{unlocked}
-use Rattle.lq_band.specs.Three.{all_three}
+use Rattle.lq_band_laws.specs.Ring.{unlocked}
+use Rattle.lq_band_laws.specs.Three.{all_three}
 use Rattle.lq_table.specs.Views.{View, Setup, State, no_packets}
 use Rattle.lq_table.specs.Rule.{times}
 use Rattle.lq_table.specs.Told.{Sat, at_rest}

@@ -6,15 +6,15 @@ use mathlib.Core.Option as maybe
 use Rattle.lq_device.specs.Station.{StationState}
 use Rattle.lq_model.specs.Account.{Event, held}
 use Rattle.lq_model.specs.Kept.{IsInductive}
-use Rattle.lq_account.specs.Trail.{IsOrderly}
+use Rattle.lq_account_laws.specs.Trail.{IsOrderly}
 use Rattle.lq_model.specs.Legal.{brought_by}
 use Rattle.lq_model.specs.Machine.{Qdisc}
 use Rattle.lq_model.specs.Plan.{owner_in, rank_in, station_in}
 use Rattle.lq_model.specs.Positions.{own_packet}
 use Rattle.lq_model.specs.declared.machine.Packet.{Packet}
-use Rattle.lq_band.specs.Seats.{Each}
-use Rattle.lq_band.specs.Three.{at, all_three}
-use Rattle.lq_band.specs.Ring.{unlocked}
+use Rattle.lq_band_laws.specs.Seats.{Each}
+use Rattle.lq_band_laws.specs.Three.{at, all_three}
+use Rattle.lq_band_laws.specs.Ring.{unlocked}
 use Rattle.lq_table.specs.Views.{View, Setup, State, first_account, machine_packet, no_packets}
 use Rattle.lq_table.specs.Rule.{words_of, machine_of, account, bands_now, holders, is_live, AreStops, FatesStored, IsDevice, Lends, Rings, IsPresentUnit, Stands, Ties}
 use Rattle.lq_table.specs.Told.{at_rest}

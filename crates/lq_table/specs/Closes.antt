@@ -10,12 +10,12 @@ use Rattle.lq_model.specs.Words.{IsWordOf, word_of}
 use Rattle.lq_model.specs.declared.fate.Fate.{Fate}
 use Rattle.lq_ring_core.specs.Slots.{round, slot_at}
 use Rattle.lq_model.specs.Numbers.{greatest}
-use Rattle.lq_band.specs.Seats.{Each}
-use Rattle.lq_band.specs.Stored.{FateWords}
-use Rattle.lq_band.specs.Three.{at, all_three}
-use Rattle.lq_band.specs.Ring.{unlocked}
+use Rattle.lq_band_laws.specs.Seats.{Each}
+use Rattle.lq_band_laws.specs.Stored.{FateWords}
+use Rattle.lq_band_laws.specs.Three.{at, all_three}
+use Rattle.lq_band_laws.specs.Ring.{unlocked}
 use Rattle.lq_table.specs.Views.{View, Setup, State, FirstPart, first_account}
-use Rattle.lq_account.specs.Trail.{IsOrderly, trail_of}
+use Rattle.lq_account_laws.specs.Trail.{IsOrderly, trail_of}
 use Rattle.lq_table.specs.Told.{is_set}
 use Rattle.lq_table.specs.Rule.{Words, words_of, holders, shown, waits, bands_now, AreHung, HasServed, IsDevice, Accounted, Rings, IsPresentUnit, Stands, Ties}
 

@@ -7,13 +7,13 @@ use Rattle.lq_device.specs.Station.{StationState}
 use Rattle.lq_model.specs.Account.{Purge as PurgeEvent}
 use Rattle.lq_model.specs.Band.{Band, held_of, taken_by}
 use Rattle.lq_model.specs.Machine.{Purge}
-use Rattle.lq_account.specs.Trail.{down_of}
+use Rattle.lq_account_laws.specs.Trail.{down_of}
 use Rattle.lq_model.specs.declared.fate.Cause.{Cause}
 use Rattle.lq_model.specs.declared.fate.Info.{Info}
 use Rattle.lq_model.specs.declared.fate.Cause.TheVariants as cause
 use Rattle.lq_model.specs.declared.fate.Fate.TheVariants as fate
-use Rattle.lq_band.specs.Three.{Three, at, put}
-use Rattle.lq_band.specs.Ring.{taken_on}
+use Rattle.lq_band_laws.specs.Three.{Three, at, put}
+use Rattle.lq_band_laws.specs.Ring.{taken_on}
 use Rattle.lq_table.specs.Views.{View, Left, machine_packets}
 use Rattle.lq_table.specs.Told.{Sat}
 use Rattle.lq_table.specs.Solo.{IsSole, account_of}

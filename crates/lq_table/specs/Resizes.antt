@@ -7,9 +7,9 @@ use Rattle.lq_model.specs.Plan.{band_in}
 use Rattle.lq_model.specs.declared.fate.Info.{Info}
 use Rattle.lq_model.specs.declared.machine.Phase.{Phase}
 use Rattle.lq_model.specs.declared.machine.Phase.TheVariants.{Active, Closing, Quiet, Purged}
-use Rattle.lq_band.specs.Three.{Three, at, put, all_three}
-use Rattle.lq_band.specs.Ring.{at_start, locked_at}
-use Rattle.lq_band.specs.HalfResized.{IsBeforeResize}
+use Rattle.lq_band_laws.specs.Three.{Three, at, put, all_three}
+use Rattle.lq_band_laws.specs.Ring.{at_start, locked_at}
+use Rattle.lq_band_laws.specs.HalfResized.{IsBeforeResize}
 use Rattle.lq_table.specs.Views.{View, HalfResize, Work}
 use Rattle.lq_table.specs.Rule.{IsResting}
 use Rattle.lq_table.specs.Told.{Sat}

@@ -5,8 +5,8 @@ use Rattle.lq_model.specs.Account.{Join, Full, Empty, Take}
 use Rattle.lq_model.specs.Positions.{holds_lock}
 use Rattle.lq_model.specs.declared.fate.Fate.TheVariants as fate
 use Rattle.lq_model.specs.declared.machine.Answer.TheVariants.{Plain, FullSlot}
-use Rattle.lq_band.specs.Three.{at, put}
-use Rattle.lq_band.specs.Ring.{Lock, unlocked, locked_at, index_given, sized_if, with_room, having_stored, taken_on, emptied_on}
+use Rattle.lq_band_laws.specs.Three.{at, put}
+use Rattle.lq_band_laws.specs.Ring.{Lock, unlocked, locked_at, index_given, sized_if, with_room, having_stored, taken_on, emptied_on}
 use Rattle.lq_table.specs.Views.{View, machine_packet}
 use Rattle.lq_table.specs.Told.{Sat, seen_by, seen_band, moved, past_with, on_trail}
 use Rattle.atomic_table.specs.Table.{Step}

@@ -11,9 +11,9 @@ use Rattle.lq_model.specs.declared.device.Tx.TheVariants.{Busy as NotSent}
 use Rattle.lq_model.specs.declared.machine.Packet.{Packet}
 use Rattle.lq_model.specs.declared.machine.Position.TheVariants.{Control, Put, Xmit}
 use Rattle.lq_ring_core.specs.Slots.{round}
-use Rattle.lq_band.specs.HalfResized.{IsRefilled}
-use Rattle.lq_band.specs.Ring.{is_emptying, locked_at, unlocked}
-use Rattle.lq_band.specs.Three.{all_three, at, put}
+use Rattle.lq_band_laws.specs.HalfResized.{IsRefilled}
+use Rattle.lq_band_laws.specs.Ring.{is_emptying, locked_at, unlocked}
+use Rattle.lq_band_laws.specs.Three.{all_three, at, put}
 use Rattle.lq_table.specs.Closes.{EmptiedIfQuiet, Ending, IsServedBy}
 use Rattle.lq_table.specs.Made.{Known, did_load_lock, did_load_stop}
 use Rattle.lq_table.specs.Purges.{passing_band, taking_purged}

@@ -8,7 +8,7 @@ use Rattle.lq_model.specs.declared.fate.Fate.{Fate}
 use Rattle.lq_model.specs.declared.fate.Fate.TheVariants as fate
 use Rattle.lq_model.specs.declared.machine.Packet.{Packet}
 use Rattle.lq_model.specs.declared.machine.Position.TheVariants.{Xmit}
-use Rattle.lq_band.specs.Three.{at}
+use Rattle.lq_band_laws.specs.Three.{at}
 use Rattle.lq_table.specs.Views.{View, HalfResize}
 use Rattle.lq_table.specs.Rule.{shown}
 use Rattle.lq_table.specs.Told.{Sat, settling, paying, fate_sent}

@@ -4,8 +4,8 @@ use Rattle.lq_device.specs.Station.{StationState}
 use Rattle.lq_model.specs.Alone.{seen_in}
 use Rattle.lq_model.specs.Band.{IsOccupied}
 use Rattle.lq_model.specs.Positions.{holds_lock}
-use Rattle.lq_band.specs.Three.{at}
-use Rattle.lq_band.specs.Ring.{is_emptying}
+use Rattle.lq_band_laws.specs.Three.{at}
+use Rattle.lq_band_laws.specs.Ring.{is_emptying}
 use Rattle.lq_table.specs.Views.{View}
 use Rattle.lq_table.specs.Told.{Sat}
 use Rattle.lq_table.specs.Controls.{unchanged}

@@ -1,6 +1,6 @@
 -- What a seat knows that has the table alone, without its place, and what the steps make of that.
 use Rattle.std.specs.Prelude.{◌≡◌, ◌≢◌, ℕ, ◌+◌, ◌-◌, ◌*◌, ◌/◌, ◌<◌, slice_get, ◌&&◌, ◌==◌, Some, None, Bool, true, false, not, ◌||◌, List, Option, ◌∷◌, filter, is_some, slice_index, if◌then◌else◌}
-use Rattle.lq_account.specs.Trail.{down_of}
+use Rattle.lq_account_laws.specs.Trail.{down_of}
 use Rattle.lq_device.specs.Station.{StationState}
 use Rattle.lq_model.specs.Account.{Account, Event, held_in, Empty, Send, Pick, Back, Refuse, Direct}
 use Rattle.lq_model.specs.declared.fate.Fate.{Fate}

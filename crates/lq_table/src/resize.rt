@@ -4,8 +4,8 @@
 ghost use Rattle.std.specs.Prelude.{◌≡◌, ℕ, ◌+◌, ◌*◌, ◌<◌, ◌≤◌, ◌∷◌, true, false, Some};
 ghost use Rattle.lq_model.specs.Positions.{holds_lock};
 ghost use Rattle.lq_model.specs.declared.machine.Position.TheVariants.{Control};
-ghost use Rattle.lq_band.specs.Three.{at};
-ghost use Rattle.lq_band.specs.Ring.{locked_at};
+ghost use Rattle.lq_band_laws.specs.Three.{at};
+ghost use Rattle.lq_band_laws.specs.Ring.{locked_at};
 ghost use Rattle.lq_table.specs.Views.{HalfResize};
 ghost use Rattle.lq_table.specs.Sees.{view, position, lock_at, IsSeatOf, IsElseSame, steps, setup};
 ghost use Rattle.lq_table.specs.Seats.{AreRefilled, ClearsSlot, FillsSlot};

@@ -1,8 +1,8 @@
 //! The steps on the turn words, by which the packets of one owner are sent in order.
 ghost use Rattle.std.specs.Prelude.{◌≡◌, ◌≢◌, ◌+◌, ◌*◌, ◌<◌, true, Some, None, length, slice_index, MatchResult, ◌∷◌, ◌==◌, is_ok};
 ghost use Rattle.lq_model.specs.Plan.{station_in};
-ghost use Rattle.lq_band.specs.Ring.{unlocked};
-ghost use Rattle.lq_band.specs.Three.{all_three};
+ghost use Rattle.lq_band_laws.specs.Ring.{unlocked};
+ghost use Rattle.lq_band_laws.specs.Three.{all_three};
 ghost use Rattle.lq_table.specs.Rule.{times};
 ghost use Rattle.lq_table.specs.Marks.{marks_of};
 ghost use Rattle.lq_table.specs.Sees.{view, position, IsSeatOf, IsElseSame, steps, packet_owner, packet_rank};

@@ -7,10 +7,10 @@ use mathlib.Core.Option.{none}
 use native.Mathlib.Decide.{ℕ_discrete}
 use Rattle.atomic_table.specs.Table.{Step, step, Allows, keeps}
 use Rattle.lq_ring_core.specs.Ring.{place_before}
-use Rattle.lq_band.specs.Times.{times}
-use Rattle.lq_band.specs.Ring.{Ends, Lock, with_room, cleared_at, given_back_one, word_at, HoldsBand}
-use Rattle.lq_band.proofs.Times.{times_append}
-use Rattle.lq_band.proofs.HoldsKept.{finds_room_before, finds_full_before, puts_back}
+use Rattle.lq_band_laws.specs.Times.{times}
+use Rattle.lq_band_laws.specs.Ring.{Ends, Lock, with_room, cleared_at, given_back_one, word_at, HoldsBand}
+use Rattle.lq_band_laws.proofs.Times.{times_append}
+use Rattle.lq_band_laws.proofs.HoldsKept.{finds_room_before, finds_full_before, puts_back}
 use Rattle.lq_tap.specs.Views.{View, Setup}
 use Rattle.lq_tap.specs.Made.{Sat, slot_word}
 use Rattle.lq_tap.specs.Told.{without_last}

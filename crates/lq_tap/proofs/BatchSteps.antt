@@ -1,7 +1,7 @@
 -- What the steps of a batch make of the view and of the list of steps.
 use Rattle.std.proofs.Common.{◌≡◌, ℕ, zero, suc, ◌+◌, Bool, false, List, [], ◌∷◌, ◌++◌, length, drop, refl, sym, ap, ◌∙◌, arith}
 use Rattle.std.proofs.lemmas.List.{append-nil, append_assoc}
-use Rattle.lq_band.specs.Ring.{Ends, after_take, IsAtRest}
+use Rattle.lq_band_laws.specs.Ring.{Ends, after_take, IsAtRest}
 use Rattle.lq_tap.specs.Views.{View}
 use Rattle.lq_tap.specs.Made.{Made}
 use Rattle.lq_tap.specs.Told.{after_takes}

@@ -13,12 +13,12 @@ use prog.Atomic.{either}
 use Rattle.atomic_table.specs.Table as table
 use Rattle.atomic_table.specs.Table.{Step, step, Allows, keeps, takes, gives, stepped}
 use Rattle.lq_model.specs.Band.{batch}
-use Rattle.lq_band.specs.Seats.{total, Each}
-use Rattle.lq_band.specs.Times.{times}
-use Rattle.lq_band.specs.Ring.{Ends, Lock, IsAtRest, is_emptying, taken_on, emptied_on, HoldsBand}
-use Rattle.lq_band.proofs.Seats.{total_set, total_one, total_le, each_same}
-use Rattle.lq_band.proofs.Times.{times_append, times_drop}
-use Rattle.lq_band.proofs.HoldsKept.{finds_none_held, takes_held, empties_held}
+use Rattle.lq_band_laws.specs.Seats.{total, Each}
+use Rattle.lq_band_laws.specs.Times.{times}
+use Rattle.lq_band_laws.specs.Ring.{Ends, Lock, IsAtRest, is_emptying, taken_on, emptied_on, HoldsBand}
+use Rattle.lq_band_laws.proofs.Seats.{total_set, total_one, total_le, each_same}
+use Rattle.lq_band_laws.proofs.Times.{times_append, times_drop}
+use Rattle.lq_band_laws.proofs.HoldsKept.{finds_none_held, takes_held, empties_held}
 use Rattle.lq_tap.specs.Views.{View, Setup, ReaderPart}
 use Rattle.lq_tap.specs.Made.{Sat, slot_word}
 use Rattle.lq_tap.specs.Tells.{with_consumer, beginning, consumer_taken, consumer_given, return_ended, taking, finding_none, head_slot_seen, emptying, slot_emptied}

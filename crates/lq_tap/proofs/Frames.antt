@@ -6,10 +6,10 @@ use mathlib.Core.Option as maybe
 use lib.ListN.{get_elem?}
 use Rattle.atomic_table.specs.Table as table
 use Rattle.atomic_table.proofs.Lists.{at_map, set_again}
-use Rattle.lq_band.specs.Seats.{total}
-use Rattle.lq_band.specs.Times.{times}
-use Rattle.lq_band.specs.Ring.{Ends, Lock, HoldsBand}
-use Rattle.lq_band.proofs.Seats.{total_same, total_one, total_two, each_step, each_same}
+use Rattle.lq_band_laws.specs.Seats.{total}
+use Rattle.lq_band_laws.specs.Times.{times}
+use Rattle.lq_band_laws.specs.Ring.{Ends, Lock, HoldsBand}
+use Rattle.lq_band_laws.proofs.Seats.{total_same, total_one, total_two, each_step, each_same}
 use Rattle.lq_tap.specs.Views.{View, Setup, SenderPart, ReaderPart}
 use Rattle.lq_tap.specs.Rule.{Words, words_of, TapState, one_if, reading, sending, open_in, IsSeat, Seats, KnowsPuts, ArePuts, KnowsReads, ReadsKnown, locks_of, band_of, RingHolds, holding, Lends, Parts, Rule}
 use Rattle.lq_tap.specs.declared.view.Consumer.{Consumer}

@@ -2,8 +2,8 @@
 use Rattle.std.proofs.Common.{◌≡◌, ◌≢◌, ℕ, zero, suc, ◌+◌, ◌<◌, ◌≤◌, Bool, List, [], ◌∷◌, ◌++◌, length, refl, sym, ap, subst, ⊎_elim, arith, slice_index_or, Contains, AllPairs, eq-eqb, ne_eqb}
 use Rattle.std.specs.Prelude.{if◌then◌else◌}
 use Rattle.std.proofs.lemmas.Bool.{cases_eq}
-use Rattle.lq_band.specs.Times.{times}
-use Rattle.lq_band.proofs.Times.{times_append, times_same, times_other, times_in}
+use Rattle.lq_band_laws.specs.Times.{times}
+use Rattle.lq_band_laws.proofs.Times.{times_append, times_same, times_other, times_in}
 use Rattle.lq_tap.specs.Told.{omitting}
 use Rattle.lq_tap.specs.Settled.{ComesBefore}
 use Rattle.lq_tap.specs.Rule.{Ordered}

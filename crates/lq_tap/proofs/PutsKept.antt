@@ -14,12 +14,12 @@ use lib.ListN.{get_elem?}
 use prog.Atomic.{either}
 use Rattle.atomic_table.specs.Table as table
 use Rattle.atomic_table.specs.Table.{Step, step, Allows, keeps, stepped}
-use Rattle.lq_band.specs.Seats.{total}
-use Rattle.lq_band.specs.Times.{times}
-use Rattle.lq_band.specs.Ring.{Ends, Lock, unlocked, locked_at, with_room, having_stored, index_given, HoldsBand}
-use Rattle.lq_band.proofs.Seats.{total_set, total_same, total_one, total_two, each_step, each_same}
-use Rattle.lq_band.proofs.Times.{times_append, times_same, times_other}
-use Rattle.lq_band.proofs.HoldsKept.{locks_held, gives_held, finds_room_held, finds_full_held, stores_held}
+use Rattle.lq_band_laws.specs.Seats.{total}
+use Rattle.lq_band_laws.specs.Times.{times}
+use Rattle.lq_band_laws.specs.Ring.{Ends, Lock, unlocked, locked_at, with_room, having_stored, index_given, HoldsBand}
+use Rattle.lq_band_laws.proofs.Seats.{total_set, total_same, total_one, total_two, each_step, each_same}
+use Rattle.lq_band_laws.proofs.Times.{times_append, times_same, times_other}
+use Rattle.lq_band_laws.proofs.HoldsKept.{locks_held, gives_held, finds_room_held, finds_full_held, stores_held}
 use Rattle.lq_tap.specs.Views.{View, Setup, ReaderPart}
 use Rattle.lq_tap.specs.Made.{Sat, slot_word}
 use Rattle.lq_tap.specs.Told.{having_put, having_found_full, having_ended, having_seen_ended}

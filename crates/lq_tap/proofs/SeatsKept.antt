@@ -10,11 +10,11 @@ use lib.ListN.{get_elem?}
 use Rattle.atomic_table.specs.Table as table
 use Rattle.atomic_table.specs.Table.{Step, Allows, Splits, Joins, keeps}
 use Rattle.atomic_table.proofs.Lists.{at_set, set_again}
-use Rattle.lq_band.specs.Seats.{total}
-use Rattle.lq_band.specs.Times.{times}
-use Rattle.lq_band.specs.Ring.{Ends, Lock, unlocked, locking, stored_count, index_behind, KnowsLock, HoldsBand}
-use Rattle.lq_band.proofs.Seats.{total_set, total_same, total_one, total_snoc, each_step, each_same, each_snoc}
-use Rattle.lq_band.proofs.Times.{times_append, times_same}
+use Rattle.lq_band_laws.specs.Seats.{total}
+use Rattle.lq_band_laws.specs.Times.{times}
+use Rattle.lq_band_laws.specs.Ring.{Ends, Lock, unlocked, locking, stored_count, index_behind, KnowsLock, HoldsBand}
+use Rattle.lq_band_laws.proofs.Seats.{total_set, total_same, total_one, total_snoc, each_step, each_same, each_snoc}
+use Rattle.lq_band_laws.proofs.Times.{times_append, times_same}
 use Rattle.lq_tap.specs.Views.{View, Setup, ReaderPart, no_reader, sender_view, spent_view}
 use Rattle.lq_tap.specs.Told.{omitting, having_split, having_joined}
 use Rattle.lq_tap.specs.Made.{Sat}

@@ -7,17 +7,17 @@ use Rattle.atomic_table.specs.Table.{opening}
 use Rattle.lq_model.specs.Band.{empty_band}
 use Rattle.lq_ring_core.specs.Slots.{round}
 use Rattle.lq_ring_core.proofs.Places.{round-below, batch-positive}
-use Rattle.lq_band.specs.Times.{times}
-use Rattle.lq_band.specs.Ring.{at_start, unlocked, KnowsLock, HoldsBand}
-use Rattle.lq_band.proofs.Seats.{each_one}
-use Rattle.lq_band.proofs.Windows.{content-held}
-use Rattle.lq_band.proofs.EndsKept.{resting_if}
+use Rattle.lq_band_laws.specs.Times.{times}
+use Rattle.lq_band_laws.specs.Ring.{at_start, unlocked, KnowsLock, HoldsBand}
+use Rattle.lq_band_laws.proofs.Seats.{each_one}
+use Rattle.lq_band_laws.proofs.Windows.{content-held}
+use Rattle.lq_band_laws.proofs.EndsKept.{resting_if}
 use Rattle.lq_tap.specs.Views.{View, Setup, counting, first_view}
 use Rattle.lq_tap.specs.Rule.{IsWithin, sending, IsSeat, KnowsPuts, KnowsReads, consumer_of, Rule}
 use Rattle.lq_tap.specs.declared.view.Consumer.{Consumer}
 use Rattle.std.proofs.lemmas.Bool.{cases_eq}
-use Rattle.lq_band.specs.Seats.{total}
-use Rattle.lq_band.proofs.Times.{times_same, times_other}
+use Rattle.lq_band_laws.specs.Seats.{total}
+use Rattle.lq_band_laws.proofs.Times.{times_same, times_other}
 
 all_zero : (n m : ℕ) → get_or (replicate {A = ℕ} n 0) m 0 ≡ 0
 all_zero zero m = refl

@@ -4,9 +4,9 @@ use mathlib.Core.Option.{some, none}
 use mathlib.Core.Option as maybe
 use Rattle.atomic_table.specs.Table as table
 use Rattle.lq_model.specs.Band.{Band}
-use Rattle.lq_band.specs.Seats.{total, Each}
-use Rattle.lq_band.specs.Times.{times}
-use Rattle.lq_band.specs.Ring.{Ends, Lock, IsAtRest, HoldsBand}
+use Rattle.lq_band_laws.specs.Seats.{total, Each}
+use Rattle.lq_band_laws.specs.Times.{times}
+use Rattle.lq_band_laws.specs.Ring.{Ends, Lock, IsAtRest, HoldsBand}
 use Rattle.lq_tap.specs.Views.{View, Setup, SenderPart, ReaderPart, no_reader}
 use Rattle.lq_tap.specs.Made.{producer_word, consumer_word, ended_word, slot_word}
 use Rattle.lq_tap.specs.Settled.{ComesBefore}

@@ -1,6 +1,6 @@
 -- What a clause says of a tap and its seats.
 use Rattle.std.specs.Prelude.{◌≡◌, ◌≢◌, ℕ, ◌+◌, ◌-◌, ◌<◌, ◌≤◌, true, false, List, [], ◌∷◌}
-use Rattle.lq_band.specs.Ring.{unlocked, locked_at, cleared_at, IsAtRest}
+use Rattle.lq_band_laws.specs.Ring.{unlocked, locked_at, cleared_at, IsAtRest}
 use Rattle.lq_tap.specs.Views.{View, Setup}
 use Rattle.lq_tap.specs.Made.{Made, ◌⊳◌, did_load_slot, did_store_slot, did_load_ended}
 use Rattle.lq_tap.specs.Told.{having_found_full, having_seen_ended}

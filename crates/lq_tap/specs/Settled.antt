@@ -1,6 +1,6 @@
 -- What is so of the packets once every seat of a tap is joined into the reader's and nothing is left in the ring.
 use Rattle.std.specs.Prelude.{◌≡◌, ℕ, ◌+◌, ◌%◌, ◌<◌, ◌≤◌, length, Contains, AllPairs}
-use Rattle.lq_band.specs.Times.{times}
+use Rattle.lq_band_laws.specs.Times.{times}
 use Rattle.lq_tap.specs.Views.{View}
 
 -- the packet n comes before m, where they are of one sender

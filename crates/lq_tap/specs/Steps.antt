@@ -1,7 +1,7 @@
 -- The steps of each call, in the order in which they are made.
 use Rattle.std.specs.Prelude.{◌≡◌, ◌≢◌, ◌⊎◌, ℕ, zero, suc, ◌+◌, ◌-◌, ◌/◌, ◌%◌, ◌<◌, true, false, List, [], ◌∷◌, length, if◌then◌else◌}
 use Rattle.lq_ring_core.specs.Ring.{next_place}
-use Rattle.lq_band.specs.Ring.{Ends, is_emptying, taken_on, after_take}
+use Rattle.lq_band_laws.specs.Ring.{Ends, is_emptying, taken_on, after_take}
 use Rattle.lq_tap.specs.Told.{after_takes, place_back}
 use Rattle.lq_tap.specs.Made.{Made, ◌⊳◌, did_load_producer, did_take_producer, did_give_producer, did_take_consumer, did_give_consumer, did_load_slot, did_store_slot}
 

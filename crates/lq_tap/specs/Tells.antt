@@ -1,7 +1,7 @@
 -- What each step on a word tells its caller.
 use Rattle.std.specs.Prelude.{◌≡◌, ◌≢◌, ℕ, ◌-◌, ◌/◌, ◌<◌, ◌≤◌, Bool, true, false, ◌==◌, ◌&&◌, [], ◌∷◌, ◌++◌, length, drop}
 use Rattle.atomic_table.specs.Table.{Step}
-use Rattle.lq_band.specs.Ring.{Ends, Lock, unlocked, locked_at, with_room, without_room, having_stored, cleared_at, taken_on, after_take, emptied_on, IsAtRest}
+use Rattle.lq_band_laws.specs.Ring.{Ends, Lock, unlocked, locked_at, with_room, without_room, having_stored, cleared_at, taken_on, after_take, emptied_on, IsAtRest}
 use Rattle.lq_ring_core.specs.Ring.{place_before}
 use Rattle.lq_tap.specs.Views.{View, AreFew}
 use Rattle.lq_tap.specs.Made.{Sat}

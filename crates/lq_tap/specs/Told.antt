@@ -1,7 +1,7 @@
 -- What each call makes of a seat's view.
 use Rattle.std.specs.Prelude.{ℕ, zero, suc, ◌+◌, ◌-◌, false, ◌==◌, ◌&&◌, ◌||◌, eqb, if◌then◌else◌, List, [], ◌∷◌, ◌++◌, length, take}
 use Rattle.lq_ring_core.specs.Ring.{place_before}
-use Rattle.lq_band.specs.Ring.{Ends, after_take, cleared_at}
+use Rattle.lq_band_laws.specs.Ring.{Ends, after_take, cleared_at}
 use Rattle.lq_tap.specs.Views.{View}
 
 -- SENDERS

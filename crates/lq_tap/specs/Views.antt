@@ -1,6 +1,6 @@
 -- What a seat of a tap knows, a record for each part of the rule.
 use Rattle.std.specs.Prelude.{ℕ, zero, suc, ◌+◌, ◌≤◌, Bool, true, false, List, [], ◌∷◌, length}
-use Rattle.lq_band.specs.Ring.{Ends, at_start, Lock, unlocked}
+use Rattle.lq_band_laws.specs.Ring.{Ends, at_start, Lock, unlocked}
 
 -- what the tap was made for: how many packets there are, how many slots its ring has, and how many senders put packets
 pub record Setup : Type 0 where

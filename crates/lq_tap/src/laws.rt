@@ -1,6 +1,6 @@
 //! What callers cite of the lists in a seat's view.
 ghost use Rattle.std.specs.Prelude.{◌≡◌, ℕ, suc, ◌+◌, ◌<◌, ◌≤◌, List, ◌++◌, length, Contains};
-ghost use Rattle.lq_band.specs.Times.{times};
+ghost use Rattle.lq_band_laws.specs.Times.{times};
 ghost use Rattle.lq_tap.specs.Views.{View, counting};
 ghost use Rattle.lq_tap.specs.Settled.{IsSettled};
 ghost use Rattle.lq_tap.specs.Told.{omitting, without_last};

@@ -1,6 +1,6 @@
 //! The two locks of a `ptr_ring`: `producer_lock`, whose word has the producer index too, and `consumer_lock`.
 ghost use Rattle.std.specs.Prelude.{◌≡◌, ◌*◌, ◌/◌, ◌%◌, ◌<◌, true, false, [], ◌∷◌};
-ghost use Rattle.lq_band.specs.Ring.{unlocked, index_given};
+ghost use Rattle.lq_band_laws.specs.Ring.{unlocked, index_given};
 ghost use Rattle.lq_tap.specs.Made.{◌⊳◌, did_load_producer, did_take_producer, did_give_producer, did_take_consumer, did_give_consumer};
 ghost use Rattle.lq_tap.specs.Tells.{with_lock, with_consumer, beginning, done_giving};
 ghost use Rattle.lq_tap.specs.Steps.{LocksProducer, LocksConsumer};

@@ -1,7 +1,7 @@
 //! Giving back: `ptr_ring_unconsume` of include/linux/ptr_ring.h, which `vhost_net_buf_unproduce` of drivers/vhost/net.c calls.
 ghost use Rattle.std.specs.Prelude.{◌≡◌, ◌+◌, ◌-◌, ◌<◌, ◌≤◌, ℕ, true, false, List, [], ◌∷◌, ◌++◌, length, drop};
 ghost use Rattle.lq_ring_core.specs.Ring.{place_before};
-ghost use Rattle.lq_band.specs.Ring.{cleared_at};
+ghost use Rattle.lq_band_laws.specs.Ring.{cleared_at};
 ghost use Rattle.lq_tap.specs.Told.{having_given_back, place_back};
 ghost use Rattle.lq_tap.specs.Tells.{without_batch, IsFresh};
 ghost use Rattle.lq_tap.specs.Steps.{GivesBack, PutsBack};

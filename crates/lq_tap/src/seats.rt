@@ -1,6 +1,6 @@
 //! Making a sender's seat, and taking one in.
 ghost use Rattle.std.specs.Prelude.{◌≡◌, ◌<◌, ℕ, true, false, []};
-ghost use Rattle.lq_band.specs.Times.{times};
+ghost use Rattle.lq_band_laws.specs.Times.{times};
 ghost use Rattle.lq_tap.specs.Views.{sender_view, spent_view};
 ghost use Rattle.lq_tap.specs.Told.{having_split, having_joined};
 ghost use Rattle.lq_tap.specs.Settled.{IsSettled};

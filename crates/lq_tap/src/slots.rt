@@ -1,6 +1,6 @@
 //! The steps on the slots of the ring.
 ghost use Rattle.std.specs.Prelude.{◌≡◌, ◌≢◌, ℕ, ◌+◌, ◌-◌, ◌<◌, ◌≤◌, true, false, List, [], ◌∷◌, ◌++◌, length};
-ghost use Rattle.lq_band.specs.Ring.{with_room, having_stored, all_empty, IsAtRest};
+ghost use Rattle.lq_band_laws.specs.Ring.{with_room, having_stored, all_empty, IsAtRest};
 ghost use Rattle.lq_ring_core.specs.Ring.{place_before};
 ghost use Rattle.lq_tap.specs.Made.{◌⊳◌, did_load_slot, did_store_slot};
 ghost use Rattle.lq_tap.specs.Told.{having_put};

@@ -1,6 +1,6 @@
 //! Batches: `ptr_ring_consume_batched` of include/linux/ptr_ring.h, which `vhost_net_buf_produce` of drivers/vhost/net.c calls.
 ghost use Rattle.std.specs.Prelude.{◌≡◌, ◌+◌, ◌<◌, ◌≤◌, true, [], length, take, drop, All, IfSome, IfNone};
-ghost use Rattle.lq_band.specs.Ring.{taken_on, after_take, IsAtRest};
+ghost use Rattle.lq_band_laws.specs.Ring.{taken_on, after_take, IsAtRest};
 ghost use Rattle.lq_tap.specs.Told.{having_taken};
 ghost use Rattle.lq_tap.specs.Views.{AreFew};
 ghost use Rattle.lq_tap.specs.Tells.{with_ends, rest_at};

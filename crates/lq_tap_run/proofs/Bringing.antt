@@ -3,8 +3,8 @@ use Rattle.std.proofs.Common.{◌≡◌, ◌<◌, ◌≤◌, ◌+◌, ◌*◌, �
 use Rattle.std.proofs.Math.Nat.{mul-le-mul_left}
 use Rattle.std.proofs.lemmas.Bool.{cases_Bool, cases_eq, cases_lt, le-ltb, lt-ltb}
 use Rattle.std.proofs.lemmas.List.{map-append}
-use Rattle.lq_band.specs.Times.{times}
-use Rattle.lq_band.proofs.Times.{times_append}
+use Rattle.lq_band_laws.specs.Times.{times}
+use Rattle.lq_band_laws.proofs.Times.{times_append}
 use Rattle.lq_tap.specs.Told.{having_found_full, having_joined, having_put}
 use Rattle.lq_tap.specs.Views.{Setup, View}
 use Rattle.lq_tap.specs.Sees.{IsSenderOf, view}

@@ -5,8 +5,8 @@ use Rattle.std.proofs.lemmas.Bool.{cases_Bool, cases_eq}
 use Rattle.std.proofs.lemmas.List.{take_all}
 use Rattle.std.proofs.lemmas.List.Sums.{count_by_more_yes, count_by_more_no}
 use Rattle.std.proofs.lemmas.Option.{slice_get_cases, get_or_from_slice_get}
-use Rattle.lq_account.proofs.Lists.{cons-in, here-in, there-in}
-use Rattle.lq_band.specs.Times.{times}
+use Rattle.lq_account_laws.proofs.Lists.{cons-in, here-in, there-in}
+use Rattle.lq_band_laws.specs.Times.{times}
 use Rattle.lq_tap_run.specs.Lanes.{numbers_of, one_where}
 
 -- SUMS

@@ -4,8 +4,8 @@ use Rattle.std.specs.Prelude.{AllPairs, count_by}
 use Rattle.std.proofs.lemmas.Bool.{cases_lt, lt-ltb, le-ltb}
 use Rattle.std.proofs.lemmas.List.Elements.{All-from_get_or, Contains-get_or}
 use Rattle.std.proofs.lemmas.Option.{slice_get_cases, slice_get_within}
-use Rattle.lq_band.specs.Times.{times}
-use Rattle.lq_band.proofs.Times.{in_times, times_in}
+use Rattle.lq_band_laws.specs.Times.{times}
+use Rattle.lq_band_laws.proofs.Times.{in_times, times_in}
 use Rattle.lq_tap.specs.Sees.{IsMadeFor, setup, view}
 use Rattle.lq_tap.specs.Settled.{IsSettled}
 use Rattle.lq_tap.specs.Views.{Setup, View}

@@ -4,8 +4,8 @@ use Rattle.std.proofs.lemmas.Bool.{cases_eq}
 use Rattle.std.proofs.lemmas.List.{length-set, take_more}
 use Rattle.std.proofs.lemmas.List.Elements.{Contains-append_left, Contains-push}
 use Rattle.std.proofs.lemmas.Option.{same_Some, slice_get-get_or}
-use Rattle.lq_account.proofs.Lists.{get-push-cases, get-push-new, get-push-old}
-use Rattle.lq_band.specs.Times.{times}
+use Rattle.lq_account_laws.proofs.Lists.{get-push-cases, get-push-new, get-push-old}
+use Rattle.lq_band_laws.specs.Times.{times}
 use Rattle.lq_tap_fates.specs.declared.fate.TapFate.{TapFate}
 use Rattle.lq_tap_fates.specs.declared.fate.TapFate.TheVariants.{Read, Full, Lost}
 use Rattle.lq_tap_run.specs.Lanes.{numbers_of, one_where}

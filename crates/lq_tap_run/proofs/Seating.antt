@@ -5,9 +5,9 @@ use Rattle.std.proofs.Math.Nat.{mod-eq_of_lt}
 use Rattle.std.proofs.lemmas.Bool.{cases_eq, cases_lt, le-leb, lt-leb, le-ltb}
 use Rattle.std.proofs.lemmas.List.{take_at}
 use Rattle.std.proofs.lemmas.List.Elements.{All-from_get_or, Contains-get_or}
-use Rattle.lq_account.proofs.Lists.{get-push-new, get-push-cases, get-push-old}
-use Rattle.lq_band.specs.Times.{times}
-use Rattle.lq_band.proofs.Times.{times_in}
+use Rattle.lq_account_laws.proofs.Lists.{get-push-new, get-push-cases, get-push-old}
+use Rattle.lq_band_laws.specs.Times.{times}
+use Rattle.lq_band_laws.proofs.Times.{times_in}
 use Rattle.lq_tap.specs.Sees.{IsSenderOf, setup, view}
 use Rattle.lq_tap.specs.Told.{having_joined}
 use Rattle.lq_tap.specs.Views.{View, sender_view}

@@ -1,6 +1,6 @@
 -- What a sender has put, and what it found full.
 use Rattle.std.specs.Prelude.{◌≡◌, ◌<◌, ◌≤◌, ℕ, ◌+◌, ◌*◌, ◌/◌, ◌%◌, Bool, true, false, ◌&&◌, eqb, nat_lt, if◌then◌else◌, List, map, slice_get, Some, vec_capacity, vec_len}
-use Rattle.lq_band.specs.Times.{times}
+use Rattle.lq_band_laws.specs.Times.{times}
 use Rattle.lq_tap.specs.Sees.{IsMadeFor, IsSenderOf, view}
 use Rattle.lq_tap.specs.Views.{View}
 use Rattle.lq_tap.specs.declared.shared.Tap.{Tap}

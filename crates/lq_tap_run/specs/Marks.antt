@@ -1,6 +1,6 @@
 -- Which fates are known.
 use Rattle.std.specs.Prelude.{◌≡◌, ℕ, List, length, slice_get, Some, Contains}
-use Rattle.lq_band.specs.Times.{times}
+use Rattle.lq_band_laws.specs.Times.{times}
 use Rattle.lq_tap_fates.specs.declared.fate.TapFate.{TapFate}
 use Rattle.lq_tap_fates.specs.declared.fate.TapFate.TheVariants.{Read, Full, Lost}
 use Rattle.lq_tap_run.specs.Lanes.{numbers_of}

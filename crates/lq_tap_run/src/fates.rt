@@ -1,6 +1,6 @@
 //! The fates, from what the senders and the reader kept.
 ghost use Rattle.std.specs.Prelude.{◌<◌, ◌≤◌, ◌++◌, ◌^◌, ℕ, [], List, All, IfOk, length};
-ghost use Rattle.lq_band.specs.Times.{times};
+ghost use Rattle.lq_band_laws.specs.Times.{times};
 ghost use Rattle.lq_tap_run.specs.Lanes.{numbers_of};
 ghost use Rattle.lq_tap_run.specs.Marks.{AreMarked, AreMarkedFull};
 

@@ -1,8 +1,8 @@
 -- What a list of events in which each may come says of one of them.
 use Rattle.std.proofs.Common.{◌≡◌, ℕ, List, [], ◌∷◌, ◌++◌, inl, inr, Some}
-use Rattle.lq_account.proofs.Changes.{Gives, fate-cases}
-use Rattle.lq_account.proofs.Changes.Gives.{gives_full}
-use Rattle.lq_account.specs.Progress.{start_of}
+use Rattle.lq_account_laws.proofs.Changes.{Gives, fate-cases}
+use Rattle.lq_account_laws.proofs.Changes.Gives.{gives_full}
+use Rattle.lq_account_laws.specs.Progress.{start_of}
 use Rattle.lq_model.specs.Account.{Account, Event, after_all}
 use Rattle.lq_model.specs.Legal.{ArePlanned, Comes, MayCome}
 use Rattle.lq_model.specs.Plan.{Plan}

@@ -1,6 +1,6 @@
 -- What the laws of the headline's words speak of.
 use Rattle.std.specs.Prelude.{ℕ, List}
-use Rattle.lq_account.specs.Progress.{start_of}
+use Rattle.lq_account_laws.specs.Progress.{start_of}
 use Rattle.lq_model.specs.Account.{Account, Event, after_all}
 use Rattle.lq_model.specs.Band.{MayBeFull}
 use Rattle.lq_model.specs.Legal.{IsLegal}

@@ -8,7 +8,7 @@ ghost use Rattle.lq_model.specs.declared.machine.Seat.{Seat};
 ghost use Rattle.lq_model.specs.Control.{control_at, holds_as_control, is_control, is_sole, may_control};
 ghost use Rattle.lq_model.specs.Machine.{Machine, Qdisc, first_machine};
 ghost use Rattle.lq_model.specs.Steps.{begun, may_answer, may_begin, step_at};
-ghost use Rattle.lq_machine.specs.Among.{among, left_among};
+ghost use Rattle.lq_run_laws.specs.Among.{among, left_among};
 ghost use Rattle.lq_model.specs.Kept.{OneHolder, IsInductive, IsKept};
 ghost use Rattle.lq_model.specs.Quiet.{Moves, Reaches};
 ghost use Rattle.lq_run_core.specs.Waits.{AllOpen, IsWaiting, WaitsOpen, packets};

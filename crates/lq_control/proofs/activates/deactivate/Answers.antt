@@ -1,6 +1,6 @@
 use Rattle.std.proofs.Common.{◌≡◌, sym, ap, ◌∙◌, subst, ℕ, ◌∷◌}
 use Rattle.std.proofs.lemmas.Option.{same_Some}
-use Rattle.lq_account.specs.Trail.{down_of}
+use Rattle.lq_account_laws.specs.Trail.{down_of}
 use Rattle.lq_model.specs.Account.{Purge}
 use Rattle.lq_model.specs.Control.{after_purge}
 use Rattle.lq_model.specs.declared.fate.Cause.TheVariants as cause

@@ -4,7 +4,7 @@ use Rattle.lq_model.specs.Alone.{changed}
 use Rattle.lq_model.specs.declared.plan.EventKind.TheVariants as kind
 use Rattle.lq_table.specs.Views.{View, FirstPart, HolderPart, first_account}
 use Rattle.std.proofs.lemmas.Bool.Decides.{nat_tests}
-use Rattle.lq_band.specs.Ring.{IsAtRest, at_start}
+use Rattle.lq_band_laws.specs.Ring.{IsAtRest, at_start}
 use Rattle.lq_table.specs.Controls.{beginning_control}
 use Rattle.lq_table.specs.Rule.{IsResting}
 use Rattle.lq_table.specs.Sees.{view, setup, known}

@@ -1,6 +1,6 @@
 use Rattle.std.proofs.Common.{rules, ◌≡◌, ◌+◌, ◌-◌, arith, ℕ, get_or, inr, List, [], Contains, sym, ap, ◌∙◌, subst, refl}
-use Rattle.lq_account.proofs.Lists.{drop-in, here-in}
-use Rattle.lq_band.specs.Ring.{word_at}
+use Rattle.lq_account_laws.proofs.Lists.{drop-in, here-in}
+use Rattle.lq_band_laws.specs.Ring.{word_at}
 use Rattle.lq_table.specs.Views.{View, Work}
 use Rattle.lq_table.specs.Resizes.{is_member, out_of}
 use Rattle.lq_table.specs.Sees.{view, setup, steps}

@@ -1,9 +1,9 @@
 use Rattle.std.proofs.Common.{◌≡◌, ℕ, List, [], take, sym, ap, ◌∙◌, subst, arith, Some}
 use Rattle.lq_model.specs.Positions.{holds_lock}
 use Rattle.lq_model.specs.Band.{held_of}
-use Rattle.lq_band.specs.Three.{at}
-use Rattle.lq_band.specs.Ring.{Ends, after_take}
-use Rattle.lq_band.proofs.Three.{at_put_same}
+use Rattle.lq_band_laws.specs.Three.{at}
+use Rattle.lq_band_laws.specs.Ring.{Ends, after_take}
+use Rattle.lq_band_laws.proofs.Three.{at_put_same}
 use Rattle.lq_table.specs.Views.{View, Left}
 use Rattle.lq_table.specs.Rule.{shown, IsResting}
 use Rattle.lq_table.specs.Sees.{view, setup, steps}

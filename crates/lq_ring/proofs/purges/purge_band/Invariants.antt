@@ -1,6 +1,6 @@
 use Rattle.std.proofs.Common.{◌≡◌, ℕ, Some, take}
 use Rattle.lq_model.specs.Band.{held_of}
-use Rattle.lq_band.specs.Three.{at}
+use Rattle.lq_band_laws.specs.Three.{at}
 use Rattle.lq_table.specs.Views.{Left}
 use Rattle.lq_table.specs.Sees.{view, setup, steps, slot, IsSeatOf, IsSameSeat}
 use Rattle.lq_ring.specs.Take.{CarriesStation}

@@ -2,14 +2,14 @@ use Rattle.std.proofs.Common.{◌≡◌, ℕ, ◌+◌, ◌-◌, ◌<◌, ◌≤�
 use Rattle.std.specs.Prelude.{slice_index, is_some}
 use Rattle.std.specs.Option.{unwrap_or}
 use Rattle.std.proofs.lemmas.Option.{same_Some}
-use Rattle.lq_account.proofs.Lists.{first-in}
+use Rattle.lq_account_laws.proofs.Lists.{first-in}
 use Rattle.lq_device.specs.Station.{StationState}
 use Rattle.lq_model.specs.Positions.{holds_lock}
 use Rattle.lq_model.specs.declared.fate.Fate.TheVariants as fate
 use Rattle.lq_model.specs.declared.fate.Cause.{Cause}
-use Rattle.lq_band.specs.Three.{at}
-use Rattle.lq_band.specs.Ring.{Ends, taken_on}
-use Rattle.lq_band.proofs.Three.{at_put_same}
+use Rattle.lq_band_laws.specs.Three.{at}
+use Rattle.lq_band_laws.specs.Ring.{Ends, taken_on}
+use Rattle.lq_band_laws.proofs.Three.{at_put_same}
 use Rattle.lq_table.specs.Views.{View, no_station}
 use Rattle.lq_table.specs.Rule.{shown}
 use Rattle.lq_table.specs.Purges.{taking_purged}

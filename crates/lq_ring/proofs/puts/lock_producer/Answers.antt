@@ -1,7 +1,7 @@
 use Rattle.std.proofs.Common.{rules, ◌≡◌, ◌/◌, ap, ◌∙◌, sym, subst}
-use Rattle.lq_band.specs.Three.{at}
-use Rattle.lq_band.specs.Ring.{locked_at}
-use Rattle.lq_band.proofs.Three.{at_put_same}
+use Rattle.lq_band_laws.specs.Three.{at}
+use Rattle.lq_band_laws.specs.Ring.{locked_at}
+use Rattle.lq_band_laws.proofs.Three.{at_put_same}
 use Rattle.lq_table.specs.Rings.{with_lock_at}
 use Rattle.lq_table.specs.Sees.{view, steps}
 use Rattle.lq_table.specs.Made.{◌⊳◌, did_take_producer}

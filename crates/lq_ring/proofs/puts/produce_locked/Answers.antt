@@ -1,8 +1,8 @@
 use Rattle.std.proofs.Common.{◌≡◌, ℕ, ◌+◌, ◌-◌, ◌<◌, sym, ap, ◌∙◌, subst, arith, Some}
-use Rattle.lq_band.specs.Three.{at}
-use Rattle.lq_band.specs.Ring.{Lock, index_given}
+use Rattle.lq_band_laws.specs.Three.{at}
+use Rattle.lq_band_laws.specs.Ring.{Lock, index_given}
 use Rattle.lq_table.specs.Views.{View}
-use Rattle.lq_band.specs.Ring.{with_room}
+use Rattle.lq_band_laws.specs.Ring.{with_room}
 use Rattle.lq_table.specs.Rings.{with_lock_at, joining, dropping}
 use Rattle.lq_table.specs.SolePut.{SeesEnd}
 use Rattle.lq_table.specs.Sees.{view, setup, steps}

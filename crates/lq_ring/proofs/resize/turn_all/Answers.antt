@@ -1,10 +1,10 @@
 use Rattle.std.proofs.Common.{◌≡◌, ◌+◌, ◌++◌, ℕ, [], drop, length, refl, ap, ◌∙◌, arith, subst, List}
 use Rattle.std.proofs.lemmas.List.{length-append}
 use Rattle.lq_ring_core.specs.Slots.{round}
-use Rattle.lq_band.specs.Three.{at}
-use Rattle.lq_band.specs.Ring.{locked_at}
-use Rattle.lq_band.specs.HalfResized.{IsRefilled}
-use Rattle.lq_band.proofs.Three.{three_cases}
+use Rattle.lq_band_laws.specs.Three.{at}
+use Rattle.lq_band_laws.specs.Ring.{locked_at}
+use Rattle.lq_band_laws.specs.HalfResized.{IsRefilled}
+use Rattle.lq_band_laws.proofs.Three.{three_cases}
 use Rattle.lq_model.specs.Positions.{holds_lock}
 use Rattle.lq_table.specs.Views.{View, HalfResize}
 use Rattle.lq_table.specs.Resizes.{resizing_of, with_work}

@@ -1,9 +1,9 @@
 use Rattle.std.proofs.Common.{ℕ, List, Contains, length, sym, ap, ◌∙◌, subst, arith}
 use Rattle.std.proofs.lemmas.List.{length-take}
-use Rattle.lq_account.proofs.Lists.{drop-in}
+use Rattle.lq_account_laws.proofs.Lists.{drop-in}
 use Rattle.lq_ring_core.specs.Slots.{round}
-use Rattle.lq_band.specs.Three.{at}
-use Rattle.lq_band.specs.Ring.{locked_at}
+use Rattle.lq_band_laws.specs.Three.{at}
+use Rattle.lq_band_laws.specs.Ring.{locked_at}
 use Rattle.lq_table.specs.Views.{View}
 use Rattle.lq_table.specs.Rings.{with_lock_at}
 use Rattle.lq_table.specs.Sees.{view}

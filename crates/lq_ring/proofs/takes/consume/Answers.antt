@@ -1,8 +1,8 @@
 use Rattle.std.proofs.Common.{◌≡◌, ℕ, ◌+◌, ◌-◌, ◌<◌, ◌≤◌, refl, sym, ap, ◌∙◌, subst, arith}
 use Rattle.lq_model.specs.Positions.{holds_lock}
-use Rattle.lq_band.specs.Three.{at}
-use Rattle.lq_band.specs.Ring.{Ends, taken_on}
-use Rattle.lq_band.proofs.Three.{at_put_same}
+use Rattle.lq_band_laws.specs.Three.{at}
+use Rattle.lq_band_laws.specs.Ring.{Ends, taken_on}
+use Rattle.lq_band_laws.proofs.Three.{at_put_same}
 use Rattle.lq_table.specs.Views.{View}
 use Rattle.lq_table.specs.Rule.{shown}
 use Rattle.lq_table.specs.Rings.{finding_none, taking}

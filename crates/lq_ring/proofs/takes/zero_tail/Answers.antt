@@ -1,7 +1,7 @@
 use Rattle.std.proofs.Common.{◌≡◌, ℕ, suc, ◌+◌, ◌-◌, ◌<◌, List, sym, ap, ◌∙◌, subst, arith}
-use Rattle.lq_band.specs.Three.{at}
-use Rattle.lq_band.specs.Ring.{Ends, emptied_down}
-use Rattle.lq_band.proofs.Kept.{down_more}
+use Rattle.lq_band_laws.specs.Three.{at}
+use Rattle.lq_band_laws.specs.Ring.{Ends, emptied_down}
+use Rattle.lq_band_laws.proofs.Kept.{down_more}
 use Rattle.lq_table.specs.Rings.{emptying}
 use Rattle.lq_table.specs.Sees.{view, steps, setup, ends_at}
 use Rattle.lq_table.specs.Views.{View}

@@ -1,6 +1,6 @@
 use Rattle.std.proofs.Common.{◌≡◌}
-use Rattle.lq_band.specs.Three.{at}
-use Rattle.lq_band.specs.Ring.{emptied_down}
+use Rattle.lq_band_laws.specs.Three.{at}
+use Rattle.lq_band_laws.specs.Ring.{emptied_down}
 use Rattle.lq_table.specs.Sees.{view, steps, setup, ends_at, IsSeatOf, IsElseSame}
 use Rattle.lq_ring.specs.Take.{having_ends, emptied_times}
 use Rattle.lq_ring.specs.Steps.{zeroed}

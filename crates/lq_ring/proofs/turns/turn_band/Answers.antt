@@ -1,8 +1,8 @@
 use Rattle.std.proofs.Common.{◌≡◌, ◌<◌, ◌+◌, ◌-◌, ◌≤◌, ◌⊎◌, inl, inr, arith, ℕ, get_or, take, drop, List, [], ◌++◌, Contains, false, sym, ap, ◌∙◌, subst, refl, length, ⊎_elim}
 use Rattle.std.specs.Prelude.{slice_index}
 use Rattle.std.proofs.lemmas.Bool.{cases_lt}
-use Rattle.lq_band.specs.Ring.{word_at}
-use Rattle.lq_band.specs.HalfResized.{IsRefilled}
+use Rattle.lq_band_laws.specs.Ring.{word_at}
+use Rattle.lq_band_laws.specs.HalfResized.{IsRefilled}
 use Rattle.lq_table.specs.Views.{View, Work}
 use Rattle.lq_table.specs.Resizes.{is_word}
 use Rattle.lq_table.specs.Sees.{view, setup, steps}

@@ -1,5 +1,5 @@
-use Rattle.lq_machine.proofs.First.{first-inductive}
-use Rattle.lq_machine.proofs.Inductive.{inductive}
+use Rattle.lq_run_laws.proofs.First.{first-inductive}
+use Rattle.lq_run_laws.proofs.Inductive.{inductive}
 use Rattle.lq_run_core.proofs.laws.invariant_is_kept.Goals as goal
 
 pub returns-clause-first : goal.returns-clause-first

@@ -1,4 +1,4 @@
-use Rattle.lq_machine.proofs.Quiet.{quiet-holds-nothing}
+use Rattle.lq_run_laws.proofs.Quiet.{quiet-holds-nothing}
 use Rattle.lq_run_core.proofs.laws.quiet_holds_nothing.Goals as goal
 
 pub returns : goal.returns

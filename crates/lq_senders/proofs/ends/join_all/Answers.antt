@@ -1,6 +1,6 @@
 use Rattle.std.proofs.Common.{◌≡◌, ℕ, ◌∷◌, [], ◌-◌, length, ap, ◌∙◌, subst, arith}
 use Rattle.std.specs.Prelude.{slice_get}
-use Rattle.lq_account.proofs.Lists.{get-push-new, get-push-old}
+use Rattle.lq_account_laws.proofs.Lists.{get-push-new, get-push-old}
 use Rattle.lq_senders.specs.Joins.{LaneJoined}
 use Rattle.lq_senders.specs.Lanes.{IsDoneLane}
 use Rattle.lq_senders.proofs.Joins.{devices-on}

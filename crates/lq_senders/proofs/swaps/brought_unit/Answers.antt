@@ -1,6 +1,6 @@
 use Rattle.std.proofs.Common.{◌≡◌, ◌+◌, true, false, sym, subst, ◌∙◌, arith}
 use Rattle.lq_model.specs.Plan.{unit_of_swap}
-use Rattle.lq_account.proofs.Units.{unit-after}
+use Rattle.lq_account_laws.proofs.Units.{unit-after}
 use Rattle.lq_senders.proofs.swaps.brought_unit.Goals as goal
 use Rattle.lq_senders.proofs.swaps.brought_unit.Goals.{then-is_swap_kind, else-is_swap_kind}
 

@@ -1,5 +1,5 @@
 use Rattle.std.proofs.Common.{◌<◌, ◌≤◌, ℕ, List, All, length, ap, sym, subst, arith}
-use Rattle.lq_band.specs.Times.{times}
+use Rattle.lq_band_laws.specs.Times.{times}
 use Rattle.lq_tap.specs.Sees.{view}
 use Rattle.lq_tap_run.specs.Marks.{AreMarked}
 use Rattle.lq_tap_run.proofs.Deciding.{Ends, ends_of, few_read, is_run, read_below, read_once}

@@ -1,7 +1,7 @@
 use Rattle.std.proofs.Common.{◌≡◌, ◌<◌, Some, length, subst, sym, ap, ◌∙◌}
 use Rattle.std.proofs.lemmas.Option.{same_Some}
-use Rattle.lq_account.specs.Progress.{start_of}
-use Rattle.lq_account.proofs.AsPlanned.{legal-of}
+use Rattle.lq_account_laws.specs.Progress.{start_of}
+use Rattle.lq_account_laws.proofs.AsPlanned.{legal-of}
 use Rattle.lq_model.specs.Account.{Account, Take}
 use Rattle.lq_model.specs.Legal.{Comes}
 use Rattle.lq_model.specs.Plan.{infos_of}

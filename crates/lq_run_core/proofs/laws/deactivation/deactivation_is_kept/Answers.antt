@@ -1,7 +1,7 @@
-use Rattle.lq_machine.proofs.Deactivation.{deactivation}
-use Rattle.lq_machine.proofs.QuietInside.{quiet-inside}
-use Rattle.lq_machine.proofs.Purging.{purging}
-use Rattle.lq_machine.proofs.PurgedHoldsNothing.{purged-holds-nothing}
+use Rattle.lq_run_laws.proofs.Deactivation.{deactivation}
+use Rattle.lq_run_laws.proofs.QuietInside.{quiet-inside}
+use Rattle.lq_run_laws.proofs.Purging.{purging}
+use Rattle.lq_run_laws.proofs.PurgedHoldsNothing.{purged-holds-nothing}
 use Rattle.lq_run_core.proofs.laws.deactivation.deactivation_is_kept.Goals as goal
 
 pub returns : goal.returns

@@ -1,6 +1,6 @@
-use Rattle.lq_machine.proofs.LockFreeDraining.{lock-free-draining}
-use Rattle.lq_machine.proofs.EndingDraining.{ending-draining}
-use Rattle.lq_machine.proofs.BlockedDraining.{blocked-draining}
+use Rattle.lq_run_laws.proofs.LockFreeDraining.{lock-free-draining}
+use Rattle.lq_run_laws.proofs.EndingDraining.{ending-draining}
+use Rattle.lq_run_laws.proofs.BlockedDraining.{blocked-draining}
 use Rattle.lq_run_core.proofs.laws.draining.draining_is_kept.Goals as goal
 
 pub returns : goal.returns

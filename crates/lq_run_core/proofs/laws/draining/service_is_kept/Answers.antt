@@ -1,5 +1,5 @@
-use Rattle.lq_machine.proofs.SecondScan.{second-scan}
-use Rattle.lq_machine.proofs.DeviceOpen.{device-open}
+use Rattle.lq_run_laws.proofs.SecondScan.{second-scan}
+use Rattle.lq_run_laws.proofs.DeviceOpen.{device-open}
 use Rattle.lq_run_core.proofs.laws.draining.service_is_kept.Goals as goal
 
 pub returns : goal.returns

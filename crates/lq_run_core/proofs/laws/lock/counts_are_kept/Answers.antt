@@ -1,5 +1,5 @@
-use Rattle.lq_machine.proofs.LocalSteps.{moved}
-use Rattle.lq_machine.proofs.Counts.{one-holder, calls-inside, one-scheduled}
+use Rattle.lq_run_laws.proofs.LocalSteps.{moved}
+use Rattle.lq_run_laws.proofs.Counts.{one-holder, calls-inside, one-scheduled}
 use Rattle.lq_run_core.proofs.laws.lock.counts_are_kept.Goals as goal
 
 pub returns-clause-holder : goal.returns-clause-holder

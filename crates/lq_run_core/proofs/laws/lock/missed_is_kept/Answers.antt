@@ -1,5 +1,5 @@
-use Rattle.lq_machine.proofs.LocalSteps.{moved}
-use Rattle.lq_machine.proofs.Missed.{lock-free-missed}
+use Rattle.lq_run_laws.proofs.LocalSteps.{moved}
+use Rattle.lq_run_laws.proofs.Missed.{lock-free-missed}
 use Rattle.lq_run_core.proofs.laws.lock.missed_is_kept.Goals as goal
 
 pub returns : goal.returns

@@ -1,5 +1,5 @@
-use Rattle.lq_machine.proofs.First.{first-inductive}
-use Rattle.lq_machine.proofs.Quiet.{quiet-holds-nothing}
+use Rattle.lq_run_laws.proofs.First.{first-inductive}
+use Rattle.lq_run_laws.proofs.Quiet.{quiet-holds-nothing}
 use Rattle.lq_run_core.proofs.Reached.{reached-inductive}
 use Rattle.lq_run_core.proofs.laws.reached.reached_and_quiet_holds_nothing.Goals as goal
 

@@ -1,6 +1,6 @@
 use Rattle.std.proofs.Common.{◌<◌, length, rules, sym, ◌∙◌}
 use Rattle.lq_run_core.specs.Numbered.{NumberedMachine, beginning_of}
-use Rattle.lq_machine.proofs.Counts.{start-inside}
+use Rattle.lq_run_laws.proofs.Counts.{start-inside}
 use Rattle.lq_run_core.proofs.machine.Machine.begin_call.Goals as goal
 
 pub invariant_of-self : goal.invariant_of-self

@@ -1,5 +1,5 @@
 use Rattle.std.proofs.Common.{◌<◌, length, arith, rules, sym, ◌∙◌}
-use Rattle.lq_machine.proofs.Counts.{few-inside, step-inside}
+use Rattle.lq_run_laws.proofs.Counts.{few-inside, step-inside}
 use Rattle.lq_run_core.proofs.machine.Machine.do_step.Goals as goal
 
 pub step-requires-clause-few : goal.step-requires-clause-few

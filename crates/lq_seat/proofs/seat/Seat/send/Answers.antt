@@ -1,6 +1,6 @@
 use Rattle.std.proofs.Common.{◌≡◌, ◌<◌, true, sym, ap, ◌∙◌, subst}
 use Rattle.std.specs.Prelude.{◌*◌, slice_index}
-use Rattle.lq_account.specs.Trail.{down_of}
+use Rattle.lq_account_laws.specs.Trail.{down_of}
 use Rattle.lq_control.specs.Control.{IsIn}
 use Rattle.lq_model.specs.Plan.{owner_in, rank_in}
 use Rattle.lq_seat.proofs.Steps.{down-came, made-is, sent-drained, units-came}

@@ -1,5 +1,5 @@
 use Rattle.std.proofs.Common.{◌<◌, ◌∷◌, sym, ap, ◌∙◌, subst}
-use Rattle.lq_account.specs.Trail.{down_of}
+use Rattle.lq_account_laws.specs.Trail.{down_of}
 use Rattle.lq_control.specs.Control.{IsIn}
 use Rattle.lq_model.specs.Account.{Down, Purge, Swap, Up}
 use Rattle.lq_model.specs.declared.fate.Cause.TheVariants as cause

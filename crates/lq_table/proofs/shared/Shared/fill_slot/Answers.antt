@@ -5,7 +5,7 @@ use Rattle.lq_table.specs.Rule.{Rule, slot_word}
 use Rattle.lq_table.specs.Keyed.{keyed_setup}
 use Rattle.lq_table.proofs.ByName.{slot_within}
 use Rattle.std.specs.Option.{unwrap_or}
-use Rattle.lq_band.specs.Three.{at}
+use Rattle.lq_band_laws.specs.Three.{at}
 use Rattle.lq_table.specs.Views.{HalfResize, no_resizing}
 use Rattle.lq_table.specs.Resizes.{slot_filled}
 use Rattle.lq_table.proofs.ResizeSlotsKept.{fills_slot}

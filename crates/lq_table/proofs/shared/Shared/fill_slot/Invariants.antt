@@ -1,6 +1,6 @@
 use Rattle.std.specs.Option.{unwrap_or}
 use Rattle.std.specs.Prelude.{drop}
-use Rattle.lq_band.specs.Three.{at}
+use Rattle.lq_band_laws.specs.Three.{at}
 use Rattle.lq_table.specs.Resizes.{slot_filled}
 use Rattle.lq_table.specs.Views.{no_resizing}
 use Rattle.lq_table.proofs.shared.Shared.fill_slot.Given as goal

@@ -5,7 +5,7 @@ use Rattle.lq_model.specs.declared.fate.Info.{Info}
 use Rattle.lq_model.specs.Plan.{band_in}
 use Rattle.lq_model.specs.declared.machine.Position.TheVariants.{Put}
 use Rattle.atomic_table.specs.Table.{step, Allows}
-use Rattle.lq_band.specs.Three.{at}
+use Rattle.lq_band_laws.specs.Three.{at}
 use Rattle.lq_table.specs.Views.{machine_packet}
 use Rattle.lq_table.specs.Rule.{Rule, slot_word}
 use Rattle.lq_table.specs.Keyed.{keyed_setup}

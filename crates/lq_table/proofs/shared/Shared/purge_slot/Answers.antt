@@ -14,7 +14,7 @@ use Rattle.lq_model.specs.Machine.{Purge}
 use Rattle.lq_table.specs.Views.{Left, no_left}
 use Rattle.lq_table.specs.Purges.{purge_seen, first_purge, passing_band, taking_purged}
 use Rattle.lq_model.specs.Band.{held_of}
-use Rattle.lq_band.specs.Three.{at}
+use Rattle.lq_band_laws.specs.Three.{at}
 use Rattle.lq_table.specs.Told.{Sat}
 use Rattle.lq_table.specs.Made.{did_load_slot}
 use Rattle.lq_table.specs.Sees.{view, setup, steps, ends_at}

@@ -4,7 +4,7 @@ use Rattle.atomic_table.specs.Table.{step, Allows}
 use Rattle.lq_tap.specs.Views.{View, Setup}
 use Rattle.lq_tap.specs.Keyed.{keyed_setup}
 use Rattle.lq_tap.specs.Rule.{Rule, consumer_of}
-use Rattle.lq_band.specs.Ring.{IsAtRest}
+use Rattle.lq_band_laws.specs.Ring.{IsAtRest}
 use Rattle.lq_tap.specs.Tells.{return_ended}
 use Rattle.lq_tap.proofs.ConsumerKept.{gives_after_return}
 use Rattle.lq_tap.specs.declared.view.Consumer.{Consumer}

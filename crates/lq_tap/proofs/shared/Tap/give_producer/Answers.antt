@@ -2,7 +2,7 @@ use Rattle.std.proofs.Common.{ℕ, ◌*◌, sym, ◌∙◌, arith}
 use Rattle.lq_tap.specs.Views.{Setup}
 use Rattle.lq_tap.specs.Keyed.{keyed_setup}
 use Rattle.lq_log.specs.Made.{seen}
-use Rattle.lq_band.specs.Ring.{index_given}
+use Rattle.lq_band_laws.specs.Ring.{index_given}
 use Rattle.lq_tap.proofs.PutsKept.{gives_producer}
 use Rattle.lq_tap.proofs.shared.Tap.give_producer.Goals as goal
 

@@ -5,7 +5,7 @@ use Rattle.lq_tap.specs.Views.{Setup}
 use Rattle.lq_tap.specs.Keyed.{keyed_setup}
 use Rattle.lq_log.specs.Made.{seen}
 use Rattle.lq_tap.specs.Made.{slot_word}
-use Rattle.lq_band.specs.Ring.{IsAtRest}
+use Rattle.lq_band_laws.specs.Ring.{IsAtRest}
 use Rattle.lq_tap.proofs.ConsumerKept.{sees_head}
 use Rattle.lq_tap.proofs.shared.Tap.head_slot.Goals as goal
 

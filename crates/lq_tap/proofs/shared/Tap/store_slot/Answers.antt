@@ -6,7 +6,7 @@ use Rattle.lq_tap.specs.Keyed.{keyed_setup}
 use Rattle.lq_tap.specs.Rule.{Rule}
 use Rattle.lq_log.specs.Made.{seen}
 use Rattle.lq_tap.specs.Made.{slot_word}
-use Rattle.lq_band.specs.Ring.{having_stored}
+use Rattle.lq_band_laws.specs.Ring.{having_stored}
 use Rattle.lq_tap.specs.Told.{having_put}
 use Rattle.lq_tap.specs.Tells.{producer_slot_stored, with_lock}
 use Rattle.lq_tap.proofs.PutsKept.{stores_slot}

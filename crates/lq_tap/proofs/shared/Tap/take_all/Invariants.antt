@@ -1,5 +1,5 @@
 use Rattle.std.proofs.Common.{length, ◌-◌, ◌≡◌, ◌<◌, ◌≤◌, Bool, true, false, take, drop, All}
-use Rattle.lq_band.specs.Ring.{IsAtRest}
+use Rattle.lq_band_laws.specs.Ring.{IsAtRest}
 use Rattle.lq_tap.specs.Views.{AreFew}
 use Rattle.lq_tap.specs.Tells.{rest_at}
 use Rattle.lq_tap.specs.Steps.{took_all}

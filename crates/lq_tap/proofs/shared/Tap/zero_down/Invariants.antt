@@ -1,5 +1,5 @@
 use Rattle.std.proofs.Common.{◌≡◌}
-use Rattle.lq_band.specs.Ring.{emptied_down}
+use Rattle.lq_band_laws.specs.Ring.{emptied_down}
 use Rattle.lq_tap.specs.Tells.{with_ends}
 use Rattle.lq_tap.specs.Steps.{emptied_below}
 use Rattle.lq_tap.specs.Sees.{view, steps, IsSeatOf, IsElseSame}

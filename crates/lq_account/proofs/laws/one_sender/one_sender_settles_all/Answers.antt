@@ -1,5 +1,0 @@
-use Rattle.lq_account.proofs.Alone.{alone_settles}
-use Rattle.lq_account.proofs.laws.one_sender.one_sender_settles_all.Goals as goal
-
-pub returns : goal.returns
-returns c plan infos opens = alone_settles plan infos opens

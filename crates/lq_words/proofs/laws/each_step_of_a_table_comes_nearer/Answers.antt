@@ -1,8 +1,0 @@
-use Rattle.lq_words.proofs.Numbers.{same}
-use Rattle.lq_words.proofs.laws.each_step_of_a_table_comes_nearer.Goals as goal
-
-pub returns : goal.returns
-returns c = record {
-  moves = λ k place n cost t moves now after. moves.nearer now after;
-  none = λ k place cost t moves. same _ _ cost moves;
-}

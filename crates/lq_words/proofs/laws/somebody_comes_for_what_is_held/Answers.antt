@@ -1,5 +1,0 @@
-use Rattle.lq_words.proofs.Served.{comes}
-use Rattle.lq_words.proofs.laws.somebody_comes_for_what_is_held.Goals as goal
-
-pub returns : goal.returns
-returns c k s r n opens is = comes k s r n opens is
