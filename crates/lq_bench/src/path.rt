@@ -1,6 +1,7 @@
 //! The paths of packets.
 
 use crate::senders::Work;
+use crate::table::PLAIN;
 use lq_device::StationPlan;
 use lq_model::Params;
 
@@ -98,11 +99,10 @@ impl Path {
             bypass: self.bypass(),
             params: Params {
                 burst: if self.wakes() { 1 } else { 0 },
-                busy_every: 0,
-                busy_limit: 0,
                 hang_after: self.hang_after(),
+                ..PLAIN.params
             },
-            queues: 1,
+            ..PLAIN
         }
     }
 }

@@ -17,7 +17,8 @@ use std::time::Duration;
 /// How many seats there are, each on a thread of its own.
 const SEATS: u32 = 4;
 
-const PLAN: StationPlan = StationPlan {
+/// A station with one queue, whose device accepts every packet.
+pub(crate) const PLAIN: StationPlan = StationPlan {
     len: 1000,
     max_len: 1000,
     bypass: true,
@@ -73,7 +74,7 @@ fn empty_table<'a>(alloc: Global) -> Result<(Shared<'a, BenchDevice>, Cpu<BenchD
     let Ok(station) = Station::new(alloc, 0, BenchDevice::new(alloc)) else {
         return Err(NoMemory);
     };
-    match Shared::make(alloc, &[], 0, PLAN, 1, SEATS, station) {
+    match Shared::make(alloc, &[], 0, PLAIN, 1, SEATS, station) {
         Ok(made) => Ok(made),
         Err(_) => Err(NoMemory),
     }

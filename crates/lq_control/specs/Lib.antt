@@ -15,3 +15,5 @@ pub mod Steps
 pub mod EndSteps
 -- what the steps of its calls come to
 pub mod Comes
+-- what each call requires, and what it ensures
+pub mod Calls

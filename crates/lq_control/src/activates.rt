@@ -1,17 +1,10 @@
 //! A station is activated and deactivated.
-ghost use Rattle.std.specs.Prelude.{◌≡◌, ℕ, ◌∷◌, true, false};
-ghost use Rattle.lq_model.specs.Account.{Down, Purge};
-ghost use Rattle.lq_model.specs.declared.fate.Cause.TheVariants as cause;
-ghost use Rattle.lq_model.specs.declared.plan.EventKind.TheVariants as kind;
+ghost use Rattle.std.specs.Prelude.{◌≡◌, true};
 ghost use Rattle.lq_model.specs.declared.machine.Phase.TheVariants.{Active, Purged};
-ghost use Rattle.lq_model.specs.declared.machine.Position.TheVariants.{Idle, Control};
-ghost use Rattle.lq_table.specs.Controls.{opening};
-ghost use Rattle.lq_table.specs.Sees.{view, known, setup, position, IsSeatOf, IsElseSame};
-ghost use Rattle.lq_control.specs.Steps.{Deactivates, Downs, Ups};
-ghost use Rattle.lq_control.specs.Control.{IsIn, deactivated_solo};
-ghost use Rattle.lq_control.specs.Alone.{DoesEventAlone};
-ghost use Rattle.lq_table.specs.Solo.{IsSole, solo};
-ghost use Rattle.lq_control.specs.Seats.{IsFirstReadyAt, IsReadyAt, KeepsSeatAndDevice};
+ghost use Rattle.lq_model.specs.declared.machine.Position.TheVariants.{Idle};
+ghost use Rattle.lq_table.specs.Sees.{view, setup, position, IsSeatOf};
+ghost use Rattle.lq_control.specs.Control.{IsIn};
+ghost use Rattle.lq_control.specs.Calls.{ActivatesStation, DeactivatesStation, DownsStation, MayControl};
 
 use crate::drains::wait_until_clear;
 use crate::purges::purge_all;
@@ -26,10 +19,7 @@ pub fn up<'a, D: TxDevice>(shared: &Shared<'a, D>, cpu: &mut Cpu<D>)
     requires seat { IsSeatOf shared.now cpu.old }
     requires at { (position cpu.old ≡ Idle) × ((view cpu.old).control.first ≡ true) }
     requires deactivated { IsIn Purged (view cpu.old) }
-    ensures same { IsElseSame cpu.old cpu.new }
-    ensures opened { view cpu.new ≡ opening (view cpu.old) }
-    ensures ups { Ups (known cpu.old) (known cpu.new) }
-    ensures alone { (event : ℕ) → DoesEventAlone (setup shared.now) event kind.Up (view cpu.old) (view cpu.new) }
+    ensures { ActivatesStation (setup shared.now) cpu.old cpu.new }
 {
     shared.begin_control(cpu);
     shared.clear_deactivated(cpu);
@@ -46,13 +36,8 @@ pub fn down<'a, D: TxDevice, R: Wait>(
     event: u32,
 ) -> u32
     requires seat { IsSeatOf shared.now cpu.old }
-    requires at { IsFirstReadyAt Idle cpu.old }
-    requires active { IsIn Active (view cpu.old) }
-    ensures same { KeepsSeatAndDevice cpu.old cpu.new }
-    ensures at { IsReadyAt Idle Purged cpu.new }
-    ensures trail { (view cpu.new).trail ≡ Purge (cause.Event event) ∷ Down event ∷ (view cpu.old).trail }
-    ensures downs { Downs (setup shared.now) event result (known cpu.old) (known cpu.new) }
-    ensures alone { DoesEventAlone (setup shared.now) event kind.Down (view cpu.old) (view cpu.new) }
+    requires may { MayControl Idle Active cpu.old }
+    ensures { DownsStation shared.now event result cpu.old cpu.new }
 {
     let purged = deactivate(rt, shared, cpu, event);
     wait_until_clear(rt, shared, cpu);
@@ -68,13 +53,8 @@ pub(crate) fn deactivate<'a, D: TxDevice, R: Wait>(
     event: u32,
 ) -> u32
     requires seat { IsSeatOf shared.now cpu.old }
-    requires at { IsFirstReadyAt Idle cpu.old }
-    requires active { IsIn Active (view cpu.old) }
-    ensures same { KeepsSeatAndDevice cpu.old cpu.new }
-    ensures at { IsReadyAt (Control false) Purged cpu.new }
-    ensures trail { (view cpu.new).trail ≡ Purge (cause.Event event) ∷ Down event ∷ (view cpu.old).trail }
-    ensures sole { IsSole (view cpu.old) → solo (view cpu.new) ≡ deactivated_solo event (solo (view cpu.old)) }
-    ensures deactivates { Deactivates (setup shared.now) event result (known cpu.old) (known cpu.new) }
+    requires may { MayControl Idle Active cpu.old }
+    ensures { DeactivatesStation shared.now event result cpu.old cpu.new }
 {
     shared.set_deactivated(cpu, event);
     wait_for_calls(rt, shared, cpu);

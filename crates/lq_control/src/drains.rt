@@ -1,15 +1,10 @@
 //! The soft interrupts of control's own seat.
-ghost use Rattle.std.specs.Prelude.{◌≡◌, true, false, IsSome};
-ghost use Rattle.lq_model.specs.Alone.{served};
+ghost use Rattle.std.specs.Prelude.{◌≡◌, false};
 ghost use Rattle.lq_model.specs.declared.machine.Position.TheVariants.{Idle, Control};
-ghost use Rattle.lq_table.specs.Sees.{view, known, setup, position, IsSeatOf, IsSameSeat, IsElseSame};
-ghost use Rattle.lq_table.specs.Solo.{IsSole, account_of, solo};
-ghost use Rattle.lq_qdisc.specs.Alone.{Does};
+ghost use Rattle.lq_table.specs.Sees.{view, position, IsSeatOf};
 ghost use Rattle.lq_qdisc.specs.Sends.{IsReadyToSend};
-ghost use Rattle.lq_control.specs.Control.{IsServed, OwesNoInterrupt};
-ghost use Rattle.lq_control.specs.Alone.{unmarked, ServesAlone, ChangesOnlyMarks};
-ghost use Rattle.lq_control.specs.Steps.{DrainsBy, FindsClear, Rounds, WaitsUntilClear};
 ghost use Rattle.lq_control.specs.Seats.{IsFirstReadyAt};
+ghost use Rattle.lq_control.specs.Calls.{DrainsSeat, LooksClear, ServesOrLooksClear, WaitsForClear};
 
 use crossbeam_utils::Backoff;
 use lq_device::TxDevice;
@@ -23,11 +18,7 @@ use std::sync::Wait;
 pub fn drain<'a, D: TxDevice, R: Wait>(rt: &R, shared: &Shared<'a, D>, cpu: &mut Cpu<D>)
     requires seat { IsSeatOf shared.now cpu.old }
     requires at { (position cpu.old ≡ Idle) × IsReadyToSend cpu.old }
-    ensures same { IsSameSeat cpu.old cpu.new }
-    ensures served { IsServed (view cpu.old) (view cpu.new) }
-    ensures at { (position cpu.new ≡ Idle) × IsReadyToSend cpu.new }
-    ensures drains { DrainsBy (setup shared.now) (known cpu.old) (known cpu.new) }
-    ensures alone { ServesAlone (setup shared.now) (view cpu.old) (view cpu.new) }
+    ensures { DrainsSeat shared.now cpu.old cpu.new }
 {
     for _ in rt.forever() {
         if !cpu.raised() {
@@ -42,25 +33,16 @@ pub fn drain<'a, D: TxDevice, R: Wait>(rt: &R, shared: &Shared<'a, D>, cpu: &mut
 fn is_clear<'a, D: TxDevice>(shared: &Shared<'a, D>, cpu: &mut Cpu<D>) -> bool
     requires seat { IsSeatOf shared.now cpu.old }
     requires at { (position cpu.old ≡ Control false) × ((view cpu.old).place.raised ≡ false) }
-    ensures same { IsElseSame cpu.old cpu.new × (view cpu.new ≡ view cpu.old) }
-    ensures sole { IsSole (view cpu.old) → result ≡ true → (view cpu.old).whole.qdisc.sched ≡ false }
-    ensures clear { result ≡ true → FindsClear (known cpu.old) (known cpu.new) }
-    ensures again { result ≡ false → Rounds (setup shared.now) (known cpu.old) (known cpu.new) }
+    ensures { LooksClear shared.now result cpu.old cpu.new }
 {
     shared.load_lock(cpu) == 0 && shared.load_state(cpu) & SCHED == 0
 }
 
 /// Does the soft interrupt of a raised seat; or else tells whether the run lock is free and SCHED is clear.
-fn serves_or_is_clear<'a, D: TxDevice>(shared: &Shared<'a, D>, cpu: &mut Cpu<D>) -> bool
+fn serve_or_look<'a, D: TxDevice>(shared: &Shared<'a, D>, cpu: &mut Cpu<D>) -> bool
     requires seat { IsSeatOf shared.now cpu.old }
     requires at { IsFirstReadyAt (Control false) cpu.old }
-    ensures same { IsSameSeat cpu.old cpu.new }
-    ensures served { IsServed (view cpu.old) (view cpu.new) }
-    ensures at { (position cpu.new ≡ Control false) × IsReadyToSend cpu.new }
-    ensures clear { result ≡ true → OwesNoInterrupt (view cpu.new) }
-    ensures off { ChangesOnlyMarks (view cpu.old) (view cpu.new) }
-    ensures found { result ≡ true → FindsClear (known cpu.old) (known cpu.new) }
-    ensures again { result ≡ false → Rounds (setup shared.now) (known cpu.old) (known cpu.new) }
+    ensures { ServesOrLooksClear shared.now result cpu.old cpu.new }
 {
     if cpu.raised() {
         softirq(shared, cpu);
@@ -79,16 +61,11 @@ pub(crate) fn wait_until_clear<'a, D: TxDevice, R: Wait>(
 )
     requires seat { IsSeatOf shared.now cpu.old }
     requires at { IsFirstReadyAt (Control false) cpu.old }
-    ensures same { IsSameSeat cpu.old cpu.new }
-    ensures served { IsServed (view cpu.old) (view cpu.new) }
-    ensures at { (position cpu.new ≡ Control false) × IsReadyToSend cpu.new }
-    ensures off { IsSole (view cpu.old) → IsSome (account_of (view cpu.old)).down
-        → solo (view cpu.new) ≡ unmarked (solo (view cpu.old)) }
-    ensures waits { WaitsUntilClear (setup shared.now) (known cpu.old) (known cpu.new) }
+    ensures { WaitsForClear shared.now cpu.old cpu.new }
 {
     let backoff = Backoff::new();
     for _ in rt.forever() {
-        if serves_or_is_clear(shared, cpu) {
+        if serve_or_look(shared, cpu) {
             return;
         }
         backoff.snooze();

@@ -1,18 +1,11 @@
 //! The length of a station's rings is changed.
-ghost use Rattle.std.specs.Prelude.{◌≡◌, ◌<◌, ◌≤◌, ◌∷◌, true, false};
-ghost use Rattle.lq_model.specs.Account.{Resize, Down, Purge, Up};
-ghost use Rattle.lq_table.specs.Solo.{IsSole, solo, heard, locked_to};
-ghost use Rattle.lq_run.specs.Runs.{ended};
-ghost use Rattle.lq_model.specs.declared.fate.Cause.TheVariants as cause;
-ghost use Rattle.lq_model.specs.declared.plan.EventKind.TheVariants as kind;
+ghost use Rattle.std.specs.Prelude.{◌≡◌, ◌<◌, ◌≤◌, false};
 ghost use Rattle.lq_model.specs.declared.machine.Phase.TheVariants.{Active, Purged};
 ghost use Rattle.lq_model.specs.declared.machine.Position.TheVariants.{Idle, Control};
-ghost use Rattle.lq_table.specs.Sees.{view, known, setup, position, IsSeatOf};
-ghost use Rattle.lq_control.specs.Steps.{ChangesLength, Relengths, ResizesLive};
+ghost use Rattle.lq_table.specs.Sees.{view, position, IsSeatOf};
 ghost use Rattle.lq_qdisc.specs.Sends.{IsReadyToSend};
-ghost use Rattle.lq_control.specs.Control.{IsIn, relengthed_solo};
-ghost use Rattle.lq_control.specs.Alone.{DoesEventAlone};
-ghost use Rattle.lq_control.specs.Seats.{IsFirstReadyAt, IsReadyAt, KeepsSeatAndDevice};
+ghost use Rattle.lq_control.specs.Control.{IsIn};
+ghost use Rattle.lq_control.specs.Calls.{ChangesQueueLength, MayControl, RelengthsStation, ResizesStation};
 
 use crate::activates::deactivate;
 use crate::drains::wait_until_clear;
@@ -34,16 +27,9 @@ pub fn resize<'a, D: TxDevice, R: Wait>(
     event: u32,
 ) -> u32
     requires seat { IsSeatOf shared.now cpu.old }
-    requires at { IsFirstReadyAt Idle cpu.old }
-    requires active { IsIn Active (view cpu.old) }
+    requires may { MayControl Idle Active cpu.old }
     requires len { (0 < len) × (len ≤ shared.now.max_len) }
-    ensures same { KeepsSeatAndDevice cpu.old cpu.new }
-    ensures at { IsReadyAt Idle Active cpu.new }
-    ensures trail { (view cpu.new).trail ≡ Resize len event ∷ (view cpu.old).trail }
-    ensures sole { IsSole (view cpu.old)
-        → solo (view cpu.new) ≡ ended (heard (Resize len event) (locked_to true (solo (view cpu.old)))) }
-    ensures resizes { ResizesLive (setup shared.now) event len result (known cpu.old) (known cpu.new) }
-    ensures alone { DoesEventAlone (setup shared.now) event (kind.Resize len) (view cpu.old) (view cpu.new) }
+    ensures { ResizesStation shared.now event len result cpu.old cpu.new }
 {
     shared.begin_control(cpu);
     take_lock(rt, shared, cpu);
@@ -64,11 +50,7 @@ fn relength<'a, D: TxDevice, R: Wait>(
     requires at { (position cpu.old ≡ Control false) × IsReadyToSend cpu.old }
     requires purged { IsIn Purged (view cpu.old) }
     requires len { (0 < len) × (len ≤ shared.now.max_len) }
-    ensures same { KeepsSeatAndDevice cpu.old cpu.new }
-    ensures at { IsReadyAt (Control false) Purged cpu.new }
-    ensures trail { (view cpu.new).trail ≡ Resize len event ∷ (view cpu.old).trail }
-    ensures relengths { Relengths (setup shared.now) event len (known cpu.old) (known cpu.new) }
-    ensures sole { IsSole (view cpu.old) → solo (view cpu.new) ≡ relengthed_solo len event (solo (view cpu.old)) }
+    ensures { RelengthsStation shared.now event len cpu.old cpu.new }
 {
     take_lock(rt, shared, cpu);
     resize_all(rt, shared, cpu, len, event);
@@ -86,14 +68,9 @@ pub fn tx_queue_len<'a, D: TxDevice, R: Wait>(
     event: u32,
 ) -> u32
     requires seat { IsSeatOf shared.now cpu.old }
-    requires at { IsFirstReadyAt Idle cpu.old }
-    requires active { IsIn Active (view cpu.old) }
+    requires may { MayControl Idle Active cpu.old }
     requires len { (0 < len) × (len ≤ shared.now.max_len) }
-    ensures same { KeepsSeatAndDevice cpu.old cpu.new }
-    ensures at { IsReadyAt Idle Active cpu.new }
-    ensures trail { (view cpu.new).trail ≡ Up ∷ Resize len event ∷ Purge (cause.Event event) ∷ Down event ∷ (view cpu.old).trail }
-    ensures changes { ChangesLength (setup shared.now) event len result (known cpu.old) (known cpu.new) }
-    ensures alone { DoesEventAlone (setup shared.now) event (kind.TxQueueLen len) (view cpu.old) (view cpu.new) }
+    ensures { ChangesQueueLength shared.now event len result cpu.old cpu.new }
 {
     let purged = deactivate(rt, shared, cpu, event);
     wait_until_clear(rt, shared, cpu);

@@ -1,19 +1,15 @@
 //! The device of a station is swapped.
-ghost use Rattle.std.specs.Prelude.{◌≡◌, ◌<◌, ◌-◌, ◌∷◌, [], true, false, Some, None};
+ghost use Rattle.std.specs.Prelude.{◌≡◌, [], true, false, Some};
 ghost use Rattle.lq_device.specs.Station.{with_device};
-ghost use Rattle.lq_model.specs.Account.{Down, Purge, Swap, Up};
-ghost use Rattle.lq_table.specs.Solo.{IsSole, solo};
-ghost use Rattle.lq_model.specs.declared.fate.Cause.TheVariants as cause;
 ghost use Rattle.lq_model.specs.declared.machine.Phase.TheVariants.{Active, Purged};
 ghost use Rattle.lq_model.specs.declared.machine.Position.TheVariants.{Idle, Control};
-ghost use Rattle.lq_table.specs.Views.{HolderPart, WholePart};
+ghost use Rattle.lq_table.specs.Views.{HolderPart};
 ghost use Rattle.lq_table.specs.Rule.{shown};
 ghost use Rattle.lq_table.specs.Controls.{shut_after};
-ghost use Rattle.lq_table.specs.Sees.{view, known, setup, position, IsSeatOf, IsSameSeat, IsElseSame};
-ghost use Rattle.lq_control.specs.Steps.{SwapsDevice, Swaps, with_queues_opened};
-ghost use Rattle.lq_control.specs.Control.{IsIn, IsKeptByControl, all_opened, IsAfterUnits, swapped_solo, IsFreshFor};
-ghost use Rattle.lq_control.specs.Alone.{DoesSwapAlone};
-ghost use Rattle.lq_control.specs.Seats.{IsFirstReadyAt, IsReadyAt, ChangesOnlyStation};
+ghost use Rattle.lq_table.specs.Sees.{view, position, IsSeatOf};
+ghost use Rattle.lq_control.specs.Control.{IsIn};
+ghost use Rattle.lq_control.specs.Seats.{ChangesOnlyStation};
+ghost use Rattle.lq_control.specs.Calls.{MaySwapAt, OpensQueues, SwapsHeldDevice, SwapsStation};
 
 use crate::activates::deactivate;
 use crate::drains::wait_until_clear;
@@ -41,10 +37,7 @@ fn open_queues<'a, D: TxDevice>(shared: &Shared<'a, D>, cpu: &mut Cpu<D>)
     requires seat { IsSeatOf shared.now cpu.old }
     requires at { (position cpu.old ≡ Control true) × IsIn Purged (view cpu.old) }
     requires shut { (view cpu.old).holder.shut ≡ shut_after 0 shared.now.queues }
-    ensures same { IsElseSame cpu.old cpu.new }
-    ensures opened { (w : WholePart) × (view cpu.new ≡ all_opened None w (view cpu.old)) × (w.told ≡ (view cpu.old).whole.told) }
-    ensures opens { known cpu.new ≡ with_queues_opened (setup shared.now) (shared.now.queues - 1) (known cpu.old) }
-    ensures step { solo (view cpu.new) ≡ solo (view cpu.old) }
+    ensures { OpensQueues shared.now cpu.old cpu.new }
 {
     for queue in 1..shared.queues() {
         shared.open_xoff(cpu, queue);
@@ -60,15 +53,8 @@ fn swap_device<'a, D: TxDevice, R: Wait>(
     device: D,
 ) -> D
     requires seat { IsSeatOf shared.now cpu.old }
-    requires at { IsFirstReadyAt (Control false) cpu.old }
-    requires purged { IsIn Purged (view cpu.old) }
-    requires unit { (unit < 256) × IsAfterUnits shared.now.station (view cpu.old).trail unit }
-    requires device { IsFreshFor shared.now.infos.now shared.now.station (D.state device) }
-    ensures same { IsSameSeat cpu.old cpu.new × IsKeptByControl (view cpu.old) (view cpu.new) }
-    ensures at { IsReadyAt (Control false) Purged cpu.new }
-    ensures trail { (view cpu.new).trail ≡ Swap unit ∷ (view cpu.old).trail }
-    ensures swaps { SwapsDevice (setup shared.now) unit (D.state device) (D.state result) (known cpu.old) (known cpu.new) }
-    ensures sole { IsSole (view cpu.old) → solo (view cpu.new) ≡ swapped_solo unit (D.state device) (solo (view cpu.old)) }
+    requires may { MaySwapAt shared.now (Control false) Purged unit (D.state device) cpu.old }
+    ensures { SwapsHeldDevice shared.now unit (D.state device) (D.state result) cpu.old cpu.new }
 {
     take_lock(rt, shared, cpu);
     let old = change_device(cpu, unit, device);
@@ -92,15 +78,8 @@ pub fn swap<'a, D: TxDevice, R: Wait>(
     event: u32,
 ) -> D
     requires seat { IsSeatOf shared.now cpu.old }
-    requires at { IsFirstReadyAt Idle cpu.old }
-    requires active { IsIn Active (view cpu.old) }
-    requires unit { (unit < 256) × IsAfterUnits shared.now.station (view cpu.old).trail unit }
-    requires device { IsFreshFor shared.now.infos.now shared.now.station (D.state device) }
-    ensures same { IsSameSeat cpu.old cpu.new × IsKeptByControl (view cpu.old) (view cpu.new) }
-    ensures at { IsReadyAt Idle Active cpu.new }
-    ensures trail { (view cpu.new).trail ≡ Up ∷ Swap unit ∷ Purge (cause.Event event) ∷ Down event ∷ (view cpu.old).trail }
-    ensures swaps { Swaps (setup shared.now) event unit (D.state device) (D.state result) (known cpu.old) (known cpu.new) }
-    ensures alone { DoesSwapAlone (setup shared.now) event unit (D.state device) (view cpu.old) (view cpu.new) }
+    requires may { MaySwapAt shared.now Idle Active unit (D.state device) cpu.old }
+    ensures { SwapsStation shared.now event unit (D.state device) (D.state result) cpu.old cpu.new }
 {
     deactivate(rt, shared, cpu, event);
     wait_until_clear(rt, shared, cpu);

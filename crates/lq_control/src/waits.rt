@@ -1,15 +1,11 @@
 //! The loops in which control waits for senders. Each pauses between two looks by a `Backoff`, and looks at nothing but one word.
-ghost use Rattle.std.specs.Prelude.{◌≡◌, ◌<◌, true, false};
-ghost use Rattle.lq_model.specs.declared.machine.Phase.{Phase};
-ghost use Rattle.lq_model.specs.declared.machine.Phase.TheVariants.{Closing, Quiet};
+ghost use Rattle.std.specs.Prelude.{◌≡◌, false};
+ghost use Rattle.lq_model.specs.declared.machine.Phase.TheVariants.{Closing};
 ghost use Rattle.lq_model.specs.declared.machine.Position.TheVariants.{Control};
-ghost use Rattle.lq_table.specs.Rule.{units_of};
-ghost use Rattle.lq_table.specs.Sees.{view, known, position, IsSeatOf, IsSameSeat, IsElseSame};
-ghost use Rattle.lq_table.specs.Solo.{IsSole, IsAccounts, solo, locked_to};
+ghost use Rattle.lq_table.specs.Sees.{view, position, IsSeatOf};
 ghost use Rattle.lq_run.specs.Runs.{HasStation, HasNone, Rests};
-ghost use Rattle.lq_control.specs.Control.{phased, with_lock_free, GetsStation};
-ghost use Rattle.lq_control.specs.Steps.{TakesLock, WaitsForCalls, with_lock_released};
 ghost use Rattle.lq_control.specs.Seats.{MayRelease};
+ghost use Rattle.lq_control.specs.Calls.{FindsNoCalls, ReleasesDeactivated, TakesRunLock};
 
 use crossbeam_utils::Backoff;
 use lq_device::TxDevice;
@@ -26,9 +22,7 @@ pub(crate) fn wait_for_calls<'a, D: TxDevice, R: Wait>(
 )
     requires seat { IsSeatOf shared.now cpu.old }
     requires at { (position cpu.old ≡ Control false) × ((view cpu.old).control.phase ≡ Closing) }
-    ensures same { IsElseSame cpu.old cpu.new }
-    ensures waits { WaitsForCalls (known cpu.old) (known cpu.new) }
-    ensures quiet { (p : Phase) × (view cpu.new ≡ phased Quiet p (view cpu.old)) }
+    ensures { FindsNoCalls cpu.old cpu.new }
 {
     let backoff = Backoff::new();
     for _ in rt.forever() {
@@ -45,12 +39,7 @@ pub(crate) fn take_lock<'a, D: TxDevice, R: Wait>(rt: &R, shared: &Shared<'a, D>
     requires seat { IsSeatOf shared.now cpu.old }
     requires at { position cpu.old ≡ Control false }
     requires empty { HasNone cpu.old }
-    ensures same { IsSameSeat cpu.old cpu.new × (cpu.new.indices ≡ cpu.old.indices) }
-    ensures got { GetsStation (view cpu.old) (view cpu.new) }
-    ensures units { (view cpu.old).control.first ≡ true → (view cpu.new).holder.units ≡ units_of (view cpu.old).trail }
-    ensures station { HasStation cpu.new }
-    ensures takes { TakesLock (known cpu.old) (known cpu.new) }
-    ensures sole { IsSole (view cpu.old) → (solo (view cpu.new) ≡ locked_to true (solo (view cpu.old))) × IsAccounts (view cpu.new) }
+    ensures { TakesRunLock cpu.old cpu.new }
 {
     let backoff = Backoff::new();
     for _ in rt.forever() {
@@ -69,10 +58,7 @@ pub(crate) fn release<'a, D: TxDevice>(shared: &Shared<'a, D>, cpu: &mut Cpu<D>)
     requires at { MayRelease cpu.old }
     requires rests { Rests cpu.old }
     requires back { HasStation cpu.old }
-    ensures same { IsSameSeat cpu.old cpu.new × (cpu.new.indices ≡ cpu.old.indices) }
-    ensures released { view cpu.new ≡ with_lock_free (view cpu.old) }
-    ensures empty { HasNone cpu.new }
-    ensures by { known cpu.new ≡ with_lock_released (known cpu.old) }
+    ensures { ReleasesDeactivated cpu.old cpu.new }
 {
     shared.move_station(cpu);
     shared.unlock(cpu);

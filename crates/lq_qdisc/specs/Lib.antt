@@ -10,7 +10,6 @@ pub mod Sends
 pub mod Stations
 -- what the calls do of a seat that has the table alone
 pub mod Alone
--- what the tests keep of a seat and of the packets
 -- the steps of its calls
 pub mod Steps
 -- what its calls ask of a seat, and what they leave of it
@@ -19,3 +18,5 @@ pub mod Seats
 pub mod Parts
 -- what the parts of handing a packet to the device ask, and what each leaves
 pub mod Handing
+-- what the parts of a run ask, and what each leaves
+pub mod Takes

@@ -44,7 +44,9 @@ pub enum RunEnd {
 /// How a run came to its end, and how many packets the device accepted in it.
 #[derive(Clone, Copy, Debug, PartialEq, Eq)]
 pub struct Ran {
+    /// Why it sent no more.
     pub end: RunEnd,
+    /// How many packets the device accepted.
     pub sent: u32,
 }
 

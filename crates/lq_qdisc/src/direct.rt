@@ -1,20 +1,19 @@
 //! Handing a packet to the device.
-ghost use Rattle.std.specs.Prelude.{◌≡◌, ◌<◌, Bool, true, false, Some, None};
+ghost use Rattle.std.specs.Prelude.{◌≡◌, Bool, true, Some, None};
 ghost use Rattle.lq_device.specs.Station.{StationState, with_slot};
-ghost use Rattle.lq_model.specs.Account.{Back};
 ghost use Rattle.lq_model.specs.Device.{is_busy};
 ghost use Rattle.lq_model.specs.Plan.{queue_in};
 ghost use Rattle.lq_model.specs.declared.machine.Position.TheVariants.{Gate, StoreXoff, Xmit};
-ghost use Rattle.lq_table.specs.Sees.{view, known, steps, setup, position, slot, packet_at, carried, IsSeatOf, IsElseSame};
-ghost use Rattle.lq_table.specs.Told.{IsPacketOf};
+ghost use Rattle.lq_table.specs.Sees.{view, steps, setup, position, packet_at, carried, IsSeatOf, IsElseSame};
 ghost use Rattle.lq_table.specs.Solo.{solo, heard};
+ghost use Rattle.lq_ring.specs.Calls.{ChangesStation};
 ghost use Rattle.lq_ring.specs.Seats.{KeepsSeatAndView};
 ghost use Rattle.lq_qdisc.specs.Steps.{DirectsBy, OffersBy, hung_stored};
-ghost use Rattle.lq_qdisc.specs.Calls.{IsServing, IsKeptInRun};
 ghost use Rattle.lq_qdisc.specs.Handing.{MayRequeueBusy, MayRequeueStopped, MaySettleSent, MayStartXmit, MayStop, RequeuesBusy, RequeuesStopped, SettlesSent, StoresStops, XmitsBy};
-ghost use Rattle.lq_qdisc.specs.Direct.{StaysAt, hearing_hung, hung_below, run_after};
+ghost use Rattle.lq_qdisc.specs.Direct.{StaysAt, hearing_hung, hung_below};
 ghost use Rattle.lq_qdisc.specs.Seats.{CarriesDeviceWithRoom, GoesOnFrom, HandsOver};
 ghost use Rattle.lq_qdisc.specs.declared.answers.Through.TheVariants.{Yes};
+ghost use Rattle.lq_qdisc.specs.Takes.{MayXmit};
 
 use crate::answers::{Through, Why};
 use crate::takes::{maybe_clear_missed, queue_of};
@@ -29,17 +28,8 @@ use lq_table::{Cpu, Shared};
 /// queue was loaded as 1 or 2 in this call, Busy only where the device answered so.
 pub fn direct_xmit<'a, D: TxDevice>(shared: &Shared<'a, D>, cpu: &mut Cpu<D>, n: u32) -> Through
     requires seat { IsSeatOf shared.now cpu.old }
-    requires packet { IsPacketOf (setup shared.now) n }
-    requires at { (direct : Bool) × (position cpu.old ≡ Gate (packet_at shared.now n) direct) }
-    requires serving { IsServing cpu.old }
-    requires hand { (view cpu.old).holder.hand ≡ Some n }
-    ensures kept { IsKeptInRun cpu.old cpu.new }
-    ensures serving { IsServing cpu.new }
-    ensures at { GoesOnFrom (Gate (packet_at shared.now n)) result cpu.old cpu.new }
-    ensures run { (view cpu.new).place.run ≡ run_after result (view cpu.old).place.run }
-    ensures empty { result ≡ Yes → ((view cpu.new).holder.hand ≡ None) × ((view cpu.new).holder.slot ≡ None) }
-    ensures trail { (view cpu.new).trail ≡ (view cpu.old).trail }
-    ensures handed { DirectsBy (setup shared.now) result n (queue_in shared.now.infos.now n) (known cpu.old) (known cpu.new) }
+    requires may { MayXmit shared.now n cpu.old }
+    ensures { XmitsBy (Gate (packet_at shared.now n)) result (DirectsBy (setup shared.now) result n (queue_in shared.now.infos.now n)) cpu.old cpu.new }
 {
     let queue = queue_of(shared, n);
     if shared.load_xoff(cpu, queue) != 0 {
@@ -52,9 +42,7 @@ pub fn direct_xmit<'a, D: TxDevice>(shared: &Shared<'a, D>, cpu: &mut Cpu<D>, n:
 /// Lays packet `n` into the requeue slot, which is empty.
 fn fill_requeue_slot<D: TxDevice>(cpu: &mut Cpu<D>, n: u32)
     requires station { (st : StationState) × (cpu.old.station ≡ Some st) × (st.slot ≡ None) }
-    ensures same { KeepsSeatAndView cpu.old cpu.new }
-    ensures station { (st : StationState) → cpu.old.station ≡ Some st → cpu.new.station ≡ Some (with_slot st (Some n)) }
-    ensures made { steps cpu.new ≡ steps cpu.old }
+    ensures { ChangesStation (λ st. with_slot st (Some n)) cpu.old cpu.new }
 {
     let Some(station) = &mut cpu.station else {
         unreachable!()

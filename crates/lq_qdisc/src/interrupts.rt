@@ -1,5 +1,5 @@
 //! Soft interrupts, and a driver's interrupts.
-ghost use Rattle.std.specs.Prelude.{◌≡◌, ◌<◌, Bool, true, false, if◌then◌else◌};
+ghost use Rattle.std.specs.Prelude.{◌≡◌, ◌<◌, true, if◌then◌else◌};
 ghost use Rattle.lq_model.specs.declared.machine.Attempt.TheVariants.{Interrupt};
 ghost use Rattle.lq_model.specs.declared.machine.Position.TheVariants.{Idle, Leave, Soft, Try1};
 ghost use Rattle.lq_model.specs.Alone.{opened};
@@ -35,14 +35,14 @@ pub fn softirq<'a, D: TxDevice>(shared: &Shared<'a, D>, cpu: &mut Cpu<D>)
     ensures alone { BringsStation shared.now (λ s. s) cpu.old cpu.new }
 {
     shared.enter(cpu);
-    if is_due(shared, cpu) {
+    if begin_softirq(shared, cpu) {
         qdisc_run(shared, cpu);
     }
     shared.leave(cpu);
 }
 
 /// Clears SCHED. Whether the bands are to be served: not where the station is deactivated still.
-fn is_due<'a, D: TxDevice>(shared: &Shared<'a, D>, cpu: &mut Cpu<D>) -> bool
+fn begin_softirq<'a, D: TxDevice>(shared: &Shared<'a, D>, cpu: &mut Cpu<D>) -> bool
     requires seat { IsSeatOf shared.now cpu.old }
     requires at { position cpu.old ≡ Soft }
     ensures same { IsElseSame cpu.old cpu.new }
@@ -75,12 +75,12 @@ pub fn irq<'a, D: TxDevice>(shared: &Shared<'a, D>, cpu: &mut Cpu<D>)
     ensures alone { Does shared.now.infos.now (first_account (setup shared.now)) opened (solo (view cpu.old)) (solo (view cpu.new)) }
 {
     for queue in 0..shared.queues() {
-        open(shared, cpu, queue);
+        wake_queue(shared, cpu, queue);
     }
 }
 
 /// Opens a queue that is stopped, and schedules.
-fn open<'a, D: TxDevice>(shared: &Shared<'a, D>, cpu: &mut Cpu<D>, queue: u32)
+fn wake_queue<'a, D: TxDevice>(shared: &Shared<'a, D>, cpu: &mut Cpu<D>, queue: u32)
     requires seat { IsSeatOf shared.now cpu.old }
     requires queue { queue < shared.now.queues }
     requires at { position cpu.old ≡ Idle }

@@ -1,13 +1,8 @@
 //! A run of the queue discipline.
-ghost use Rattle.std.specs.Prelude.{◌≡◌, ◌+◌, ℕ, ◌<◌, ◌≢◌, ⊤, Some, None, MatchOption, is_none, if◌then◌else◌};
-ghost use Rattle.lq_model.specs.declared.machine.Position.TheVariants.{Unlock};
-ghost use Rattle.lq_run.specs.Runs.{begins};
-ghost use Rattle.lq_table.specs.Sees.{view, known, setup, position, IsSeatOf};
-ghost use Rattle.lq_qdisc.specs.Steps.{RestartsBy, RunsBy};
-ghost use Rattle.lq_qdisc.specs.Calls.{IsSlotOf, IsServing, IsKeptInRun, KeepsFates};
-ghost use Rattle.lq_qdisc.specs.Runs.{HasSentOneMore, accepted_count, position_in_run};
-ghost use Rattle.lq_qdisc.specs.Seats.{ServesStation};
-ghost use Rattle.lq_qdisc.specs.declared.answers.RunEnd.TheVariants.{Quota};
+ghost use Rattle.std.specs.Prelude.{◌<◌};
+ghost use Rattle.lq_table.specs.Sees.{view, IsSeatOf};
+ghost use Rattle.lq_qdisc.specs.Parts.{MayRun};
+ghost use Rattle.lq_qdisc.specs.Takes.{MayDequeue, RestartsAs, RunsBands};
 
 use crate::answers::{Ran, RunEnd, Taken, Through, Why};
 use crate::direct::direct_xmit;
@@ -20,20 +15,9 @@ use lq_table::{Cpu, Shared};
 /// accepted it; else the end of the run.
 fn restart<'a, D: TxDevice>(shared: &Shared<'a, D>, cpu: &mut Cpu<D>) -> Option<RunEnd>
     requires seat { IsSeatOf shared.now cpu.old }
-    requires at { position cpu.old ≡ begins (view cpu.old) }
-    requires serving { IsServing cpu.old }
-    requires hand { (view cpu.old).holder.hand ≡ None }
-    requires slot { IsSlotOf shared.now cpu.old }
+    requires may { MayDequeue shared.now cpu.old }
     requires run { (view cpu.old).place.run < QUOTA }
-    ensures kept { IsKeptInRun cpu.old cpu.new }
-    ensures serving { IsServing cpu.new }
-    ensures trail { (view cpu.new).trail ≡ (view cpu.old).trail }
-    ensures sent { RestartsBy (setup shared.now) result (known cpu.old) (known cpu.new) }
-    ensures at { MatchOption result (position cpu.new ≡ position_in_run (view cpu.new)) (λ end. position cpu.new ≡ Unlock) }
-    ensures run { result ≡ None → HasSentOneMore (view cpu.old) (view cpu.new) }
-    ensures quota { MatchOption result ⊤ (λ end. end ≢ Quota) }
-    ensures fates { KeepsFates (view cpu.old) (view cpu.new) }
-    ensures accepted { accepted_count (view cpu.new) ≡ accepted_count (view cpu.old) + (if is_none result then 1 else 0) }
+    ensures { RestartsAs shared.now result cpu.old cpu.new }
 {
     match dequeue(shared, cpu) {
         Taken::Empty => Some(RunEnd::Empty),
@@ -55,19 +39,8 @@ fn restart<'a, D: TxDevice>(shared: &Shared<'a, D>, cpu: &mut Cpu<D>) -> Option<
 /// does; with several queues, where what it has as holder is the account's.
 pub fn run<'a, D: TxDevice>(shared: &Shared<'a, D>, cpu: &mut Cpu<D>) -> Ran
     requires seat { IsSeatOf shared.now cpu.old }
-    requires at { position cpu.old ≡ begins (view cpu.old) }
-    requires serving { IsServing cpu.old }
-    requires hand { (view cpu.old).holder.hand ≡ None }
-    requires slot { IsSlotOf shared.now cpu.old }
-    requires begun { (view cpu.old).place.run ≡ 0 }
-    ensures kept { IsKeptInRun cpu.old cpu.new }
-    ensures serving { IsServing cpu.new }
-    ensures at { position cpu.new ≡ Unlock }
-    ensures trail { (view cpu.new).trail ≡ (view cpu.old).trail }
-    ensures fates { KeepsFates (view cpu.old) (view cpu.new) }
-    ensures ran { RunsBy (setup shared.now) result (known cpu.old) (known cpu.new) }
-    ensures accepted { accepted_count (view cpu.new) ≡ accepted_count (view cpu.old) + result.sent }
-    ensures alone { ServesStation shared.now cpu.old cpu.new }
+    requires may { MayRun shared.now cpu.old }
+    ensures { RunsBands shared.now result cpu.old cpu.new }
 {
     for sent in 0..QUOTA {
         if let Some(end) = restart(shared, cpu) {

@@ -1,19 +1,16 @@
 //! Taking the packet that is served next.
-ghost use Rattle.std.specs.Prelude.{⊤, ◌≡◌, ◌<◌, ◌≤◌, Bool, true, false, if◌then◌else◌, length, Option, Some, None, MatchOption};
+ghost use Rattle.std.specs.Prelude.{◌≡◌, ◌<◌, Bool, false, length, Some, None};
 ghost use Rattle.lq_model.specs.Plan.{queue_in};
 ghost use Rattle.lq_model.specs.Steps.{queue_of_blocked};
 ghost use Rattle.lq_model.specs.declared.machine.Blocked.{Blocked};
-ghost use Rattle.lq_model.specs.declared.machine.Position.TheVariants.{BlockedClear, Scan, Test, ClearMissed, Unlock, Deq};
-ghost use Rattle.lq_table.specs.Sees.{view, known, steps, setup, position, slot, IsSeatOf};
+ghost use Rattle.lq_model.specs.declared.machine.Position.TheVariants.{BlockedClear, Scan, Test, ClearMissed, Deq};
+ghost use Rattle.lq_table.specs.Sees.{view, setup, position, slot, IsSeatOf};
 ghost use Rattle.lq_table.specs.Told.{IsPacketOf};
-ghost use Rattle.lq_table.specs.Solo.{IsSole, solo, laid};
 ghost use Rattle.lq_device.specs.Station.{StationState, with_slot};
 ghost use Rattle.lq_table.specs.Rule.{shown};
-ghost use Rattle.lq_run.specs.Runs.{begins};
-ghost use Rattle.lq_ring.specs.Seats.{KeepsSeatAndView};
-ghost use Rattle.lq_qdisc.specs.Steps.{ClearsBothBy, ClearsMissedBy, DequeuesBy, DequeuesFrom, LoadsBitsBy, LooksThrough, Scans};
-ghost use Rattle.lq_qdisc.specs.Calls.{ClearsMissedAlone, IsSlotOf, IsTakenOf, Dequeues, IsKeptInRun, IsServing, IsSettledSame, FindsNone, Finds, KeepsHolder, Looks, SeesOneQueue, cleared, after_dequeue, laid_aside, with_back, after_blocked};
-ghost use Rattle.lq_qdisc.specs.Seats.{GoesOnFromBands};
+ghost use Rattle.lq_ring.specs.Calls.{ChangesStation};
+ghost use Rattle.lq_qdisc.specs.Calls.{IsServing};
+ghost use Rattle.lq_qdisc.specs.Takes.{ClearsAtStop, ClearsNonEmpty, DequeuesAs, DequeuesBands, DequeuesNext, DequeuesWith, LoadsNonEmpty, MayDequeue, MayDequeueOpen, ScansBands};
 
 use crate::answers::Taken;
 use lq_device::TxDevice;
@@ -29,18 +26,8 @@ use lq_table::{Cpu, Shared};
 /// and each band's head slot was loaded as 0 in this call, once more where a bit was set after that.
 pub fn dequeue<'a, D: TxDevice>(shared: &Shared<'a, D>, cpu: &mut Cpu<D>) -> Taken
     requires seat { IsSeatOf shared.now cpu.old }
-    requires at { position cpu.old ≡ begins (view cpu.old) }
-    requires serving { IsServing cpu.old }
-    requires hand { (view cpu.old).holder.hand ≡ None }
-    requires slot { IsSlotOf shared.now cpu.old }
-    ensures kept { IsKeptInRun cpu.old cpu.new }
-    ensures run { (view cpu.new).place.run ≡ (view cpu.old).place.run }
-    ensures serving { IsServing cpu.new }
-    ensures at { position cpu.new ≡ after_dequeue result shared.now.infos.now }
-    ensures fates { IsSettledSame cpu.old cpu.new }
-    ensures taken { DequeuesBy (setup shared.now) result (known cpu.old) (known cpu.new) }
-    ensures one { SeesOneQueue result (view cpu.old) }
-    ensures packet { IsTakenOf (setup shared.now) result }
+    requires may { MayDequeue shared.now cpu.old }
+    ensures { DequeuesAs shared.now result (DequeuesNext (setup shared.now) result) cpu.old cpu.new }
 {
     if let Some(n) = requeued(cpu) {
         return dequeue_requeued(shared, cpu, n);
@@ -73,9 +60,7 @@ fn requeued<D: TxDevice>(cpu: &Cpu<D>) -> Option<u32>
 /// Takes the packet out of the requeue slot, where its step has told so.
 fn take_requeued<D: TxDevice>(cpu: &mut Cpu<D>)
     requires station { (st : StationState) × (cpu.old.station ≡ Some st) }
-    ensures same { KeepsSeatAndView cpu.old cpu.new }
-    ensures station { (st : StationState) → cpu.old.station ≡ Some st → cpu.new.station ≡ Some (with_slot st None) }
-    ensures made { steps cpu.new ≡ steps cpu.old }
+    ensures { ChangesStation (λ st. with_slot st None) cpu.old cpu.new }
 {
     let Some(station) = &mut cpu.station else {
         unreachable!()
@@ -89,15 +74,7 @@ fn dequeue_requeued<'a, D: TxDevice>(shared: &Shared<'a, D>, cpu: &mut Cpu<D>, n
     requires at { position cpu.old ≡ Deq }
     requires serving { IsServing cpu.old }
     requires slot { ((view cpu.old).holder.slot ≡ Some n) × IsPacketOf (setup shared.now) n }
-    ensures kept { IsKeptInRun cpu.old cpu.new }
-    ensures run { (view cpu.new).place.run ≡ (view cpu.old).place.run }
-    ensures serving { IsServing cpu.new }
-    ensures at { position cpu.new ≡ after_dequeue result shared.now.infos.now }
-    ensures fates { IsSettledSame cpu.old cpu.new }
-    ensures taken { Dequeues result shared.now.infos.now (view cpu.old) (view cpu.new) }
-    ensures by { DequeuesFrom (setup shared.now) (Some n) result (known cpu.old) (known cpu.new) }
-    ensures one { SeesOneQueue result (view cpu.old) }
-    ensures packet { IsTakenOf (setup shared.now) result }
+    ensures { DequeuesAs shared.now result (DequeuesWith (setup shared.now) (Some n) result) cpu.old cpu.new }
 {
     let queue = queue_of(shared, n);
     if shared.load_xoff(cpu, queue) != 0 {
@@ -111,19 +88,8 @@ fn dequeue_requeued<'a, D: TxDevice>(shared: &Shared<'a, D>, cpu: &mut Cpu<D>, n
 /// Looks through the bands of a station with one queue, where that is open.
 fn dequeue_open<'a, D: TxDevice>(shared: &Shared<'a, D>, cpu: &mut Cpu<D>) -> Taken
     requires seat { IsSeatOf shared.now cpu.old }
-    requires at { position cpu.old ≡ Deq }
-    requires serving { IsServing cpu.old }
-    requires slot { (view cpu.old).holder.slot ≡ None }
-    requires one { shared.now.queues ≤ 1 }
-    ensures kept { IsKeptInRun cpu.old cpu.new }
-    ensures run { (view cpu.new).place.run ≡ (view cpu.old).place.run }
-    ensures serving { IsServing cpu.new }
-    ensures at { position cpu.new ≡ after_dequeue result shared.now.infos.now }
-    ensures fates { IsSettledSame cpu.old cpu.new }
-    ensures taken { Dequeues result shared.now.infos.now (view cpu.old) (view cpu.new) }
-    ensures by { DequeuesFrom (setup shared.now) None result (known cpu.old) (known cpu.new) }
-    ensures one { SeesOneQueue result (view cpu.old) }
-    ensures packet { IsTakenOf (setup shared.now) result }
+    requires may { MayDequeueOpen shared.now cpu.old }
+    ensures { DequeuesAs shared.now result (DequeuesWith (setup shared.now) None result) cpu.old cpu.new }
 {
     if shared.load_xoff(cpu, 0) != 0 {
         maybe_clear_missed(shared, cpu, 0);
@@ -138,14 +104,7 @@ fn scan<'a, D: TxDevice>(shared: &Shared<'a, D>, cpu: &mut Cpu<D>) -> Option<u32
     requires seat { IsSeatOf shared.now cpu.old }
     requires at { (second : Bool) × (position cpu.old ≡ Scan 0 second) }
     requires serving { IsServing cpu.old }
-    ensures kept { IsKeptInRun cpu.old cpu.new }
-    ensures run { (view cpu.new).place.run ≡ (view cpu.old).place.run }
-    ensures serving { IsServing cpu.new }
-    ensures at { GoesOnFromBands shared.now result cpu.old cpu.new }
-    ensures fates { IsSettledSame cpu.old cpu.new }
-    ensures taken { MatchOption result (FindsNone (view cpu.old) (view cpu.new)) (λ n. Finds n (view cpu.old) (view cpu.new)) }
-    ensures packet { MatchOption result ⊤ (λ n. IsPacketOf (setup shared.now) n) }
-    ensures made { Scans (setup shared.now) result (known cpu.old) (known cpu.new) }
+    ensures { ScansBands shared.now result cpu.old cpu.new }
 {
     for band in 0..3 {
         if let Some(n) = consume(shared, cpu, band) {
@@ -156,17 +115,10 @@ fn scan<'a, D: TxDevice>(shared: &Shared<'a, D>, cpu: &mut Cpu<D>) -> Option<u32
 }
 
 /// Whether MISSED or DRAINING is set, `QDISC_STATE_NON_EMPTY` of include/net/sch_generic.h, after a look that found nothing.
-fn is_non_empty<'a, D: TxDevice>(shared: &Shared<'a, D>, cpu: &mut Cpu<D>) -> bool
+fn load_is_non_empty<'a, D: TxDevice>(shared: &Shared<'a, D>, cpu: &mut Cpu<D>) -> bool
     requires seat { IsSeatOf shared.now cpu.old }
     requires at { position cpu.old ≡ Test }
-    ensures kept { IsKeptInRun cpu.old cpu.new }
-    ensures run { (view cpu.new).place.run ≡ (view cpu.old).place.run }
-    ensures station { (cpu.new.station ≡ cpu.old.station) × (slot cpu.new ≡ slot cpu.old) }
-    ensures at { position cpu.new ≡ (if result then ClearMissed else Unlock) }
-    ensures fates { IsSettledSame cpu.old cpu.new }
-    ensures same { KeepsHolder (solo (view cpu.old)) (view cpu.old) (view cpu.new) }
-    ensures sole { IsSole (view cpu.old) → result ≡ false → solo (view cpu.new) ≡ cleared (solo (view cpu.old)) }
-    ensures made { LoadsBitsBy result (known cpu.old) (known cpu.new) }
+    ensures { LoadsNonEmpty result cpu.old cpu.new }
 {
     let state = shared.load_state(cpu);
     state & MISSED != 0 || state & DRAINING != 0
@@ -176,13 +128,7 @@ fn is_non_empty<'a, D: TxDevice>(shared: &Shared<'a, D>, cpu: &mut Cpu<D>) -> bo
 fn clear_non_empty<'a, D: TxDevice>(shared: &Shared<'a, D>, cpu: &mut Cpu<D>)
     requires seat { IsSeatOf shared.now cpu.old }
     requires at { position cpu.old ≡ ClearMissed }
-    ensures kept { IsKeptInRun cpu.old cpu.new }
-    ensures run { (view cpu.new).place.run ≡ (view cpu.old).place.run }
-    ensures station { (cpu.new.station ≡ cpu.old.station) × (slot cpu.new ≡ slot cpu.old) }
-    ensures at { position cpu.new ≡ Scan 0 true }
-    ensures fates { IsSettledSame cpu.old cpu.new }
-    ensures same { KeepsHolder (cleared (solo (view cpu.old))) (view cpu.old) (view cpu.new) }
-    ensures made { ClearsBothBy (known cpu.old) (known cpu.new) }
+    ensures { ClearsNonEmpty cpu.old cpu.new }
 {
     shared.clear_missed(cpu);
     shared.clear_draining(cpu);
@@ -194,19 +140,12 @@ fn dequeue_bands<'a, D: TxDevice>(shared: &Shared<'a, D>, cpu: &mut Cpu<D>) -> T
     requires seat { IsSeatOf shared.now cpu.old }
     requires at { position cpu.old ≡ Scan 0 false }
     requires serving { IsServing cpu.old }
-    ensures kept { IsKeptInRun cpu.old cpu.new }
-    ensures run { (view cpu.new).place.run ≡ (view cpu.old).place.run }
-    ensures serving { IsServing cpu.new }
-    ensures at { position cpu.new ≡ after_dequeue result shared.now.infos.now }
-    ensures fates { IsSettledSame cpu.old cpu.new }
-    ensures taken { Looks result (view cpu.old) (view cpu.new) }
-    ensures packet { IsTakenOf (setup shared.now) result }
-    ensures made { LooksThrough (setup shared.now) result (known cpu.old) (known cpu.new) }
+    ensures { DequeuesAs shared.now result (DequeuesBands (setup shared.now) result) cpu.old cpu.new }
 {
     if let Some(n) = scan(shared, cpu) {
         return Taken::Packet(n);
     }
-    if !is_non_empty(shared, cpu) {
+    if !load_is_non_empty(shared, cpu) {
         return Taken::Empty;
     }
     clear_non_empty(shared, cpu);
@@ -228,15 +167,7 @@ pub(crate) fn maybe_clear_missed<'a, D: TxDevice>(
     requires at { (b : Blocked) × (position cpu.old ≡ BlockedClear b) × (queue_of_blocked b ≡ queue) }
     requires queue { queue < shared.now.queues }
     requires shut { (view cpu.old).holder.shut ≡ None }
-    ensures kept { IsKeptInRun cpu.old cpu.new }
-    ensures run { (view cpu.new).place.run ≡ (view cpu.old).place.run }
-    ensures station { (cpu.new.station ≡ cpu.old.station) × (slot cpu.new ≡ slot cpu.old) }
-    ensures at { position cpu.new ≡ after_blocked (position cpu.old) }
-    ensures holder { (view cpu.new).holder ≡ laid_aside (position cpu.old) (view cpu.old).holder }
-    ensures heard { (view cpu.new).whole.state ≡ with_back (position cpu.old) (view cpu.old).whole.state }
-    ensures fates { IsSettledSame cpu.old cpu.new }
-    ensures stopped { ClearsMissedBy (setup shared.now) queue (known cpu.old) (known cpu.new) }
-    ensures sole { ClearsMissedAlone queue (laid (view cpu.old)) (view cpu.old) (view cpu.new) }
+    ensures { ClearsAtStop shared.now queue cpu.old cpu.new }
 {
     shared.clear_missed(cpu);
     if shared.load_xoff(cpu, queue) == 0 {

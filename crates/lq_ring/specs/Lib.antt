@@ -16,3 +16,5 @@ pub mod Steps
 pub mod Changes
 -- what its calls ask of a seat, and what they leave of it
 pub mod Seats
+-- what each call requires, and what it ensures
+pub mod Calls

@@ -1,11 +1,9 @@
 //! The exchanges of a resize on one band, which keep what stands in its slots and change only the order.
-ghost use Rattle.std.specs.Prelude.{◌≡◌, ◌≢◌, ◌+◌, ◌*◌, ◌-◌, ◌/◌, ◌<◌, ◌≤◌, drop, length, ◌==◌, if◌then◌else◌};
-ghost use Rattle.lq_table.specs.Sees.{view, steps, setup, IsSeatOf, IsElseSame};
-ghost use Rattle.lq_table.specs.Made.{◌⊳◌, did_swap_slot};
-ghost use Rattle.lq_ring.specs.Changes.{TurnsRing};
-ghost use Rattle.lq_table.specs.Resizes.{out_of};
+ghost use Rattle.std.specs.Prelude.{◌≡◌, ◌≢◌, ◌+◌, ◌-◌, ◌/◌, ◌<◌, ◌≤◌, drop, length, ◌==◌, if◌then◌else◌};
+ghost use Rattle.lq_table.specs.Sees.{view, IsSeatOf};
 ghost use Rattle.lq_ring.specs.Seats.{IsDroppedWord};
-ghost use Rattle.lq_ring.specs.Work.{work_at, working, AreFilledUpTo, ArePacketsOf, AreStale, HasDroppedFrom, HasSlots, IsSlotWord, IsTurner, MayPutBack, back_in, changing_slots, exchanged, reversed_to, rotated, settling_dropped, settling_word, zeroed_to, event_of_work};
+ghost use Rattle.lq_ring.specs.Work.{work_at, AreFilledUpTo, AreStale, HasSlots, IsTurner, MayPutBack, changing_slots, exchanged, reversed_to, rotated, settling_dropped, settling_word, zeroed_to};
+ghost use Rattle.lq_ring.specs.Calls.{MayDropRest, TakesOut, TurnsFurther, back_from_hand};
 
 use crate::turns::Resize;
 use lq_device::TxDevice;
@@ -17,10 +15,7 @@ fn take_out<'a, D: TxDevice>(shared: &Shared<'a, D>, cpu: &mut Cpu<D>, band: u32
     requires seat { IsSeatOf shared.now cpu.old }
     requires place { (band < 3) × (i < shared.now.max_len) }
     requires turner { IsTurner (view cpu.old) }
-    ensures same { IsElseSame cpu.old cpu.new }
-    ensures made { steps cpu.new ≡ steps cpu.old ⊳ did_swap_slot (setup shared.now) band i result }
-    ensures found { IsSlotWord i result (work_at band (view cpu.old)) }
-    ensures taken { view cpu.new ≡ working band (out_of i (work_at band (view cpu.old))) (view cpu.old) }
+    ensures { TakesOut shared.now band i result cpu.old cpu.new }
 {
     shared.clear_slot(cpu, band, i)
 }
@@ -31,9 +26,7 @@ fn put_back<'a, D: TxDevice>(shared: &Shared<'a, D>, cpu: &mut Cpu<D>, band: u32
     requires place { (band < 3) × (i < shared.now.max_len) }
     requires turner { IsTurner (view cpu.old) }
     requires hand { x ≢ 0 → MayPutBack i x (work_at band (view cpu.old)) }
-    ensures same { IsElseSame cpu.old cpu.new }
-    ensures made { TurnsRing (setup shared.now) band (steps cpu.old) (steps cpu.new) }
-    ensures put { view cpu.new ≡ working band (back_in i x (work_at band (view cpu.old))) (view cpu.old) }
+    ensures { TurnsFurther shared.now band (back_from_hand band i x) cpu.old cpu.new }
 {
     if x != 0 {
         shared.fill_slot(cpu, band, i, (x - 1) as u32);
@@ -46,9 +39,7 @@ fn exchange<'a, D: TxDevice>(shared: &Shared<'a, D>, cpu: &mut Cpu<D>, band: u32
     requires place { (band < 3) × (i < j) × (j < shared.now.max_len) }
     requires turner { IsTurner (view cpu.old) }
     requires slots { HasSlots shared.now.max_len (work_at band (view cpu.old)) }
-    ensures same { IsElseSame cpu.old cpu.new }
-    ensures made { TurnsRing (setup shared.now) band (steps cpu.old) (steps cpu.new) }
-    ensures exchanged { view cpu.new ≡ changing_slots band (exchanged i j) (view cpu.old) }
+    ensures { TurnsFurther shared.now band (changing_slots band (exchanged i j)) cpu.old cpu.new }
 {
     let x = take_out(shared, cpu, band, i);
     let y = take_out(shared, cpu, band, j);
@@ -62,9 +53,7 @@ fn reverse<'a, D: TxDevice>(shared: &Shared<'a, D>, cpu: &mut Cpu<D>, band: u32,
     requires place { (band < 3) × (a ≤ b) × (b ≤ shared.now.max_len) }
     requires turner { IsTurner (view cpu.old) }
     requires slots { HasSlots shared.now.max_len (work_at band (view cpu.old)) }
-    ensures same { IsElseSame cpu.old cpu.new }
-    ensures made { TurnsRing (setup shared.now) band (steps cpu.old) (steps cpu.new) }
-    ensures reversed { view cpu.new ≡ changing_slots band (reversed_to a b ((b - a) / 2)) (view cpu.old) }
+    ensures { TurnsFurther shared.now band (changing_slots band (reversed_to a b ((b - a) / 2))) cpu.old cpu.new }
 {
     for k in 0..(b - a) / 2 {
         exchange(shared, cpu, band, a + k, b - 1 - k);
@@ -83,9 +72,7 @@ pub(crate) fn rotate<'a, D: TxDevice>(
     requires place { (band < 3) × (head ≤ size) × (size ≤ shared.now.max_len) }
     requires turner { IsTurner (view cpu.old) }
     requires slots { HasSlots shared.now.max_len (work_at band (view cpu.old)) }
-    ensures same { IsElseSame cpu.old cpu.new }
-    ensures made { TurnsRing (setup shared.now) band (steps cpu.old) (steps cpu.new) }
-    ensures rotated { view cpu.new ≡ changing_slots band (rotated head size) (view cpu.old) }
+    ensures { TurnsFurther shared.now band (changing_slots band (rotated head size)) cpu.old cpu.new }
 {
     reverse(shared, cpu, band, 0, head);
     reverse(shared, cpu, band, head, size);
@@ -104,9 +91,7 @@ pub(crate) fn clear_stale<'a, D: TxDevice>(
     requires place { (band < 3) × (tail ≤ head) × (head ≤ shared.now.max_len) }
     requires turner { IsTurner (view cpu.old) }
     requires stale { AreStale tail head (work_at band (view cpu.old)) }
-    ensures same { IsElseSame cpu.old cpu.new }
-    ensures made { TurnsRing (setup shared.now) band (steps cpu.old) (steps cpu.new) }
-    ensures cleared { view cpu.new ≡ changing_slots band (zeroed_to tail (head - tail)) (view cpu.old) }
+    ensures { TurnsFurther shared.now band (changing_slots band (zeroed_to tail (head - tail))) cpu.old cpu.new }
 {
     for n in 0..head - tail {
         take_out(shared, cpu, band, tail + n);
@@ -124,9 +109,7 @@ fn settle_word<'a, D: TxDevice>(
     requires seat { IsSeatOf shared.now cpu.old }
     requires turner { IsTurner (view cpu.old) }
     requires word { x ≢ 0 → IsDroppedWord shared.now band event x cpu.old }
-    ensures same { IsElseSame cpu.old cpu.new }
-    ensures made { TurnsRing (setup shared.now) band (steps cpu.old) (steps cpu.new) }
-    ensures settled { view cpu.new ≡ settling_word band x event (view cpu.old) }
+    ensures settles { TurnsFurther shared.now band (settling_word band x event) cpu.old cpu.new }
     ensures count { result ≡ (if x == 0 then 0 else 1) }
 {
     if x == 0 {
@@ -147,8 +130,7 @@ pub(crate) fn count_filled<'a, D: TxDevice>(
     requires place { (band < 3) × (limit ≤ shared.now.max_len) }
     requires turner { IsTurner (view cpu.old) }
     requires slots { HasSlots shared.now.max_len (work_at band (view cpu.old)) }
-    ensures same { IsElseSame cpu.old cpu.new × (view cpu.new ≡ view cpu.old) }
-    ensures made { TurnsRing (setup shared.now) band (steps cpu.old) (steps cpu.new) }
+    ensures keeps { TurnsFurther shared.now band (λ v. v) cpu.old cpu.new }
     ensures filled { AreFilledUpTo limit result (work_at band (view cpu.old)).slots }
 {
     for i in 0..limit {
@@ -170,13 +152,8 @@ pub(crate) fn drop_rest<'a, D: TxDevice>(
     resize: Resize,
 ) -> u32
     requires seat { IsSeatOf shared.now cpu.old }
-    requires place { (band < 3) × (from ≤ resize.size) × (resize.size ≤ shared.now.max_len) }
-    requires turner { IsTurner (view cpu.old) × (event_of_work (view cpu.old) ≡ resize.event) }
-    requires rest { HasDroppedFrom from (resize.size - from) (work_at band (view cpu.old)) }
-    requires packets { ArePacketsOf shared.now.infos.now band (work_at band (view cpu.old)).waiting }
-    ensures same { IsElseSame cpu.old cpu.new }
-    ensures made { TurnsRing (setup shared.now) band (steps cpu.old) (steps cpu.new) }
-    ensures dropped { view cpu.new ≡ settling_dropped band resize.event from (resize.size - from) (view cpu.old) }
+    requires may { MayDropRest shared.now band from resize cpu.old }
+    ensures drops { TurnsFurther shared.now band (settling_dropped band resize.event from (resize.size - from)) cpu.old cpu.new }
     ensures few { result ≤ resize.size - from }
     ensures count { let waiting = (work_at band (view cpu.old)).waiting in
         result + length (drop (resize.size - from) waiting) ≡ length waiting }

@@ -1,13 +1,9 @@
 //! Puts by many senders, under a band's producer lock.
-ghost use Rattle.std.specs.Prelude.{◌≡◌, ◌≢◌, ℕ, ◌+◌, ◌*◌, ◌-◌, ◌<◌, ◌≤◌, Bool, true, false, Some, None, MatchResult};
-ghost use Rattle.lq_model.specs.declared.machine.Position.TheVariants.{Put};
+ghost use Rattle.std.specs.Prelude.{◌≡◌, ◌<◌};
 ghost use Rattle.lq_ring_core.specs.Ring.{next_place};
 ghost use Rattle.lq_band_laws.specs.Ring.{unlocked};
-ghost use Rattle.lq_table.specs.Sees.{view, known, steps, setup, position, slot, packet_at, lock_at, IsSeatOf, IsSameSeat, IsElseSame, Brings};
-ghost use Rattle.lq_table.specs.SolePut.{SeesEnd};
-ghost use Rattle.lq_ring.specs.Steps.{LocksProducer, PutsAtBy, PutsBy};
-ghost use Rattle.lq_ring.specs.Put.{no_locks, HearsPut, IsPutAs};
-ghost use Rattle.lq_ring.specs.Seats.{GetsProducerLock, GoesOnFromPut, HasJustLocked};
+ghost use Rattle.lq_table.specs.Sees.{lock_at, IsSeatOf};
+ghost use Rattle.lq_ring.specs.Calls.{LocksBand, MayPut, MayPutLocked, PutsLocked, PutsPacket};
 
 use crossbeam_utils::Backoff;
 use lq_device::TxDevice;
@@ -25,9 +21,7 @@ pub(crate) fn lock_producer<'a, D: TxDevice, R: Wait>(
     requires seat { IsSeatOf shared.now cpu.old }
     requires band { band < 3 }
     requires idle { lock_at band cpu.old ≡ unlocked }
-    ensures same { IsSameSeat cpu.old cpu.new × (cpu.new.station ≡ cpu.old.station) × (slot cpu.new ≡ slot cpu.old) }
-    ensures locked { GetsProducerLock shared.now band result cpu.old cpu.new }
-    ensures made { LocksProducer band result (steps cpu.old) (steps cpu.new) }
+    ensures { LocksBand shared.now band result cpu.old cpu.new }
 {
     let backoff = Backoff::new();
     for _ in rt.forever() {
@@ -60,14 +54,8 @@ fn produce_locked<'a, D: TxDevice>(
     index: u32,
 ) -> Result<(), Full>
     requires seat { IsSeatOf shared.now cpu.old }
-    requires band { band < 3 }
-    requires at { (holds : Bool) × (position cpu.old ≡ Put (packet_at shared.now n) holds) }
-    requires packet { Brings shared.now n band cpu.old × ((view cpu.old).packets.owed ≡ None) }
-    requires locked { HasJustLocked shared.now band index cpu.old }
-    ensures same { IsElseSame cpu.old cpu.new }
-    ensures put { IsPutAs band n result (view cpu.old) (view cpu.new) }
-    ensures sole { MatchResult result (λ _. SeesEnd band (view cpu.old) 0) (λ full. SeesEnd band (view cpu.old) (full.seen + 1)) }
-    ensures made { PutsAtBy (setup shared.now) band index n result (steps cpu.old) (steps cpu.new) }
+    requires may { MayPutLocked shared.now band n index cpu.old }
+    ensures { PutsLocked shared.now band index n result cpu.old cpu.new }
 {
     let size = shared.load_size(cpu);
     let found = shared.producer_slot(cpu, band);
@@ -97,15 +85,8 @@ pub fn produce<'a, D: TxDevice, R: Wait>(
     n: u32,
 ) -> Result<(), Full>
     requires seat { IsSeatOf shared.now cpu.old }
-    requires band { band < 3 }
-    requires at { (holds : Bool) × (position cpu.old ≡ Put (packet_at shared.now n) holds) }
-    requires packet { Brings shared.now n band cpu.old × ((view cpu.old).packets.owed ≡ None) }
-    requires idle { ((view cpu.old).locks ≡ no_locks) × ((view cpu.old).holder.resizing ≡ None) }
-    ensures same { IsSameSeat cpu.old cpu.new × (cpu.new.station ≡ cpu.old.station) × (slot cpu.new ≡ slot cpu.old) }
-    ensures puts { PutsBy (setup shared.now) band n result (known cpu.old) (known cpu.new) }
-    ensures at { GoesOnFromPut shared.now n cpu.old cpu.new }
-    ensures step { HearsPut band n result (view cpu.old) (view cpu.new) }
-    ensures sole { MatchResult result (λ _. SeesEnd band (view cpu.old) 0) (λ full. SeesEnd band (view cpu.old) (full.seen + 1)) }
+    requires may { MayPut shared.now band n cpu.old }
+    ensures { PutsPacket shared.now band n result cpu.old cpu.new }
 {
     let index = lock_producer(rt, shared, cpu, band);
     produce_locked(shared, cpu, band, n, index)

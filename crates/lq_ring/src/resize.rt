@@ -1,15 +1,12 @@
 //! A live resize of the three rings, which control does under the run lock and the three producer locks.
-ghost use Rattle.std.specs.Prelude.{◌≡◌, ◌≢◌, ℕ, ◌+◌, ◌*◌, ◌-◌, ◌<◌, ◌≤◌, true, false, Some, None, length};
+ghost use Rattle.std.specs.Prelude.{◌≡◌, ◌<◌, ◌≤◌, Some};
 ghost use Rattle.lq_ring_core.specs.Slots.{round};
 ghost use Rattle.lq_table.specs.Views.{HolderPart};
-ghost use Rattle.lq_table.specs.Rule.{shown, IsResting};
-ghost use Rattle.lq_table.specs.Sees.{view, known, steps, setup, slot, lock_at, IsSeatOf, IsSameSeat, IsElseSame};
-ghost use Rattle.lq_ring.specs.Changes.{LocksAll, ResizesAll, TurnsAll, TurnsBand, UnlocksAll};
+ghost use Rattle.lq_table.specs.Rule.{shown};
+ghost use Rattle.lq_table.specs.Sees.{view, IsSeatOf};
 ghost use Rattle.lq_ring.specs.Put.{no_locks};
-ghost use Rattle.lq_ring.specs.Take.{CarriesStation};
-ghost use Rattle.lq_ring.specs.Work.{work_at};
-ghost use Rattle.lq_ring.specs.Resized.{having_locks};
-ghost use Rattle.lq_ring.specs.Seats.{HasLocksOfTurned, HasRestingRings, IsReadyToTurn, MayResize, RestartsEnds, TurnsAllBands, TurnsAndSets};
+ghost use Rattle.lq_ring.specs.Seats.{HasLocksOfTurned, IsReadyToTurn};
+ghost use Rattle.lq_ring.specs.Calls.{LocksBands, MayResizeAll, MayTurnAll, ResizesRings, RestartsRings, TurnsAt, TurnsEach, UnlocksBands};
 
 use crate::puts::lock_producer;
 use crate::takes::{head_of, set_ends, tail_of};
@@ -21,14 +18,20 @@ use std::sync::Wait;
 /// The producer's index in a band after a resize, and how many packets the band dropped.
 #[derive(Clone, Copy, Drop)]
 struct Turned {
+    /// Where the next packet is put.
     index: u32,
+    /// How many packets got Shrunk as their fate.
     dropped: u32,
 }
 
+/// The same of the three bands.
 #[derive(Clone, Copy, Drop)]
 struct AllTurned {
+    /// Band 0.
     low: Turned,
+    /// Band 1.
     mid: Turned,
+    /// Band 2.
     high: Turned,
 }
 
@@ -50,10 +53,7 @@ fn turn_at<'a, D: TxDevice>(
     requires seat { IsSeatOf shared.now cpu.old }
     requires place { (band < 3) × (resize.len ≤ shared.now.max_len) }
     requires ready { IsReadyToTurn shared.now band resize.size resize.len resize.event cpu.old }
-    ensures same { IsElseSame cpu.old cpu.new }
-    ensures turned { TurnsAndSets shared.now band resize.len resize.event result.index cpu.old cpu.new }
-    ensures count { (result.dropped ≡ length (work_at band (view cpu.old)).waiting) × (result.dropped ≤ resize.size) }
-    ensures made { TurnsBand (setup shared.now) band result.index (steps cpu.old) (steps cpu.new) }
+    ensures { TurnsAt shared.now band resize result cpu.old cpu.new }
 {
     let tail = tail_of(cpu, band);
     let head = head_of(cpu, band);
@@ -69,16 +69,8 @@ fn turn_at<'a, D: TxDevice>(
 /// Turns the three bands of a station whose run lock and producer locks the seat has.
 fn turn_all<'a, D: TxDevice>(shared: &Shared<'a, D>, cpu: &mut Cpu<D>, resize: Resize) -> AllTurned
     requires seat { IsSeatOf shared.now cpu.old }
-    requires len { (0 < resize.len) × (resize.len ≤ shared.now.max_len) }
-    requires at { MayResize cpu.old }
-    requires rests { HasRestingRings resize.size cpu.old }
-    requires station { CarriesStation cpu.old }
-    requires locks { (b : ℕ) → b < 3 → ((lock_at b cpu.old).holds ≡ true) × ((lock_at b cpu.old).stored ≡ false) }
-    ensures same { IsElseSame cpu.old cpu.new }
-    ensures resized { TurnsAllBands shared.now resize.len resize.event result cpu.old cpu.new }
-    ensures few { (result.low.dropped ≤ resize.size) × (result.mid.dropped ≤ resize.size) × (result.high.dropped ≤ resize.size) }
-    ensures made { TurnsAll (setup shared.now) resize.len
-        result.low.index result.mid.index result.high.index (steps cpu.old) (steps cpu.new) }
+    requires may { MayTurnAll shared.now resize cpu.old }
+    ensures { TurnsEach shared.now resize result cpu.old cpu.new }
 {
     shared.begin_resize(cpu, resize.len, resize.event);
     let low = turn_at(shared, cpu, 0, resize);
@@ -92,9 +84,7 @@ fn turn_all<'a, D: TxDevice>(shared: &Shared<'a, D>, cpu: &mut Cpu<D>, resize: R
 fn lock_all<'a, D: TxDevice, R: Wait>(rt: &R, shared: &Shared<'a, D>, cpu: &mut Cpu<D>)
     requires seat { IsSeatOf shared.now cpu.old }
     requires idle { (view cpu.old).locks ≡ no_locks }
-    ensures same { IsSameSeat cpu.old cpu.new × (cpu.new.station ≡ cpu.old.station) × (slot cpu.new ≡ slot cpu.old) }
-    ensures locked { (low : ℕ) × (mid : ℕ) × (high : ℕ) × (view cpu.new ≡ having_locks low mid high (view cpu.old)) }
-    ensures made { LocksAll (steps cpu.old) (steps cpu.new) }
+    ensures { LocksBands cpu.old cpu.new }
 {
     lock_producer(rt, shared, cpu, 0);
     lock_producer(rt, shared, cpu, 1);
@@ -105,9 +95,7 @@ fn lock_all<'a, D: TxDevice, R: Wait>(rt: &R, shared: &Shared<'a, D>, cpu: &mut 
 fn unlock_all<'a, D: TxDevice>(shared: &Shared<'a, D>, cpu: &mut Cpu<D>, turned: AllTurned)
     requires seat { IsSeatOf shared.now cpu.old }
     requires locks { HasLocksOfTurned turned cpu.old }
-    ensures same { IsElseSame cpu.old cpu.new }
-    ensures unlocked { view cpu.new ≡ record (view cpu.old) { locks = no_locks } }
-    ensures made { UnlocksAll turned.low.index turned.mid.index turned.high.index (steps cpu.old) (steps cpu.new) }
+    ensures { UnlocksBands turned cpu.old cpu.new }
 {
     shared.load_size(cpu);
     shared.give_producer(cpu, 0, turned.low.index);
@@ -118,9 +106,7 @@ fn unlock_all<'a, D: TxDevice>(shared: &Shared<'a, D>, cpu: &mut Cpu<D>, turned:
 /// Sets the station's heads and tails to 0.
 fn restart_ends<D: TxDevice>(cpu: &mut Cpu<D>)
     requires station { (h : HolderPart) × (cpu.old.station ≡ Some (shown h)) }
-    ensures same { IsSameSeat cpu.old cpu.new × (slot cpu.new ≡ slot cpu.old) × (view cpu.new ≡ view cpu.old) }
-    ensures station { RestartsEnds cpu.old cpu.new }
-    ensures made { steps cpu.new ≡ steps cpu.old }
+    ensures { RestartsRings cpu.old cpu.new }
 {
     set_ends(cpu, 0, 0, 0);
     set_ends(cpu, 1, 0, 0);
@@ -142,14 +128,8 @@ pub fn resize_all<'a, D: TxDevice, R: Wait>(
     event: u32,
 ) -> u32
     requires seat { IsSeatOf shared.now cpu.old }
-    requires len { (0 < len) × (len ≤ shared.now.max_len) }
-    requires at { MayResize cpu.old }
-    requires rests { IsResting (view cpu.old).holder.size (view cpu.old).holder.ends × ((view cpu.old).holder.resizing ≡ None) }
-    requires station { CarriesStation cpu.old }
-    requires idle { (view cpu.old).locks ≡ no_locks }
-    ensures same { IsSameSeat cpu.old cpu.new × (slot cpu.new ≡ slot cpu.old) }
-    ensures station { CarriesStation cpu.new }
-    ensures resizes { ResizesAll (setup shared.now) len event result (known cpu.old) (known cpu.new) }
+    requires may { MayResizeAll shared.now len cpu.old }
+    ensures { ResizesRings shared.now len event result cpu.old cpu.new }
 {
     lock_all(rt, shared, cpu);
     let size = shared.load_size(cpu) as u32;

@@ -1,9 +1,7 @@
 //! A resize of one band.
-ghost use Rattle.std.specs.Prelude.{◌≡◌, ◌≢◌, ℕ, ◌+◌, ◌*◌, ◌-◌, ◌<◌, ◌≤◌, [], true, false, List};
-ghost use Rattle.lq_table.specs.Sees.{view, steps, setup, IsSeatOf, IsElseSame};
-ghost use Rattle.lq_ring.specs.Changes.{TurnsRing};
-ghost use Rattle.lq_ring.specs.Seats.{TurnsBandTo};
-ghost use Rattle.lq_ring.specs.Work.{work_at, ArePacketsOf, IsTurner, IsWorkBegun, KeepsAndDrops, event_of_work};
+ghost use Rattle.std.specs.Prelude.{◌≡◌, ◌<◌, ◌≤◌};
+ghost use Rattle.lq_table.specs.Sees.{IsSeatOf};
+ghost use Rattle.lq_ring.specs.Calls.{MayTurnBand, TurnsWholeBand};
 
 use crate::moves::{clear_stale, count_filled, drop_rest, rotate};
 use lq_device::TxDevice;
@@ -12,8 +10,11 @@ use lq_table::{Cpu, Shared};
 /// A resize of the rings by an event of the plan: from so many slots to so many.
 #[derive(Clone, Copy, Drop)]
 pub(crate) struct Resize {
+    /// How many slots each ring has.
     pub size: u32,
+    /// How many it gets.
     pub len: u32,
+    /// The plan's event.
     pub event: u32,
 }
 
@@ -29,7 +30,9 @@ pub(crate) struct Ends {
 /// How many packets a band keeps, and how many it drops.
 #[derive(Clone, Copy, Drop)]
 pub(crate) struct Kept {
+    /// How many packets it keeps.
     pub kept: u32,
+    /// How many get Shrunk as their fate.
     pub dropped: u32,
 }
 
@@ -48,16 +51,8 @@ pub(crate) fn turn_band<'a, D: TxDevice>(
     resize: Resize,
 ) -> Kept
     requires seat { IsSeatOf shared.now cpu.old }
-    requires place { (band < 3) × (resize.len ≤ shared.now.max_len) }
-    requires turner { IsTurner (view cpu.old) × (event_of_work (view cpu.old) ≡ resize.event) }
-    requires whole { (held : List ℕ)
-        × IsWorkBegun shared.now.max_len resize.size ends.tail ends.head resize.len held (work_at band (view cpu.old)) }
-    requires packets { ArePacketsOf shared.now.infos.now band (work_at band (view cpu.old)).waiting }
-    ensures same { IsElseSame cpu.old cpu.new }
-    ensures turned { TurnsBandTo shared.now band resize.len resize.event cpu.old cpu.new }
-    ensures few { result.dropped ≤ resize.size }
-    ensures made { TurnsRing (setup shared.now) band (steps cpu.old) (steps cpu.new) }
-    ensures kept { KeepsAndDrops result.kept result.dropped (work_at band (view cpu.old)) }
+    requires may { MayTurnBand shared.now band ends resize cpu.old }
+    ensures { TurnsWholeBand shared.now band resize result cpu.old cpu.new }
 {
     clear_stale(shared, cpu, band, ends.tail, ends.head);
     rotate(shared, cpu, band, ends.head, resize.size);

@@ -2,3 +2,5 @@
 pub mod Runs
 -- the steps of its calls
 pub mod Tries
+-- what its calls leave of the seat
+pub mod Calls

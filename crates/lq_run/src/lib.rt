@@ -1,16 +1,13 @@
 //! The run lock is tried and released, and what was missed meanwhile is scheduled.
 #![tactic(auto)]
 
-ghost use Rattle.std.specs.Prelude.{◌≡◌, ℕ, true, false, []};
+ghost use Rattle.std.specs.Prelude.{◌≡◌, true};
 ghost use Rattle.lq_model.specs.declared.machine.Position.TheVariants.{Try1, Unlock as AtUnlock, Leave as AtLeave, Idle as AtIdle};
 ghost use Rattle.lq_model.specs.declared.machine.Attempt.{Attempt};
-ghost use Rattle.lq_table.specs.Sees.{view, known, steps, position, slot, IsSeatOf, IsSameSeat, IsElseSame};
-ghost use Rattle.lq_table.specs.Seats.{GetsRunLock};
-ghost use Rattle.lq_table.specs.Told.{tries_lock, finding_locked, misses, missing, schedules, clears_sched, passing};
-ghost use Rattle.lq_table.specs.Solo.{IsSole, solo, missed_to, sched_cleared, SeesTry};
-ghost use Rattle.lq_table.specs.Made.{◌⊳◌, did_clear_sched};
-ghost use Rattle.lq_run.specs.Tries.{BeginsBy, EndsRun, SetsMissed, TriesOnce};
-ghost use Rattle.lq_run.specs.Runs.{after_missed, ended, HasStation, HasNone, Rests, IsElseKept, IsEventless, BeginsAlone, BeginsAsHolder, IsRaisedAsBefore, StandsWithoutStation, MayReleaseActive, SetsSched, StaysRaised};
+ghost use Rattle.lq_table.specs.Sees.{position, IsSeatOf};
+ghost use Rattle.lq_table.specs.Told.{tries_lock, misses, schedules, clears_sched};
+ghost use Rattle.lq_run.specs.Calls.{released_to, BeginsRun, ClearsSched, MayReleaseRunLock, NotesMissed, ReleasesTo, TriesRunLock};
+ghost use Rattle.lq_run.specs.Runs.{HasStation, HasNone, MayReleaseActive, Rests, SetsSched};
 
 use lq_device::TxDevice;
 use lq_model::state::MISSED;
@@ -21,11 +18,7 @@ use lq_table::{Cpu, Shared};
 pub fn try_run_lock<'a, D: TxDevice>(shared: &Shared<'a, D>, cpu: &mut Cpu<D>) -> bool
     requires seat { IsSeatOf shared.now cpu.old }
     requires at { tries_lock (position cpu.old) ≡ true }
-    ensures seat { IsSameSeat cpu.old cpu.new × (cpu.new.station ≡ cpu.old.station) × (cpu.new.indices ≡ cpu.old.indices) }
-    ensures got { result ≡ true → GetsRunLock cpu.old cpu.new }
-    ensures held { result ≡ false → (view cpu.new ≡ finding_locked (view cpu.old)) × (slot cpu.new ≡ slot cpu.old) }
-    ensures sole { IsSole (view cpu.old) → SeesTry result (view cpu.old) (view cpu.new) }
-    ensures tries { TriesOnce result (known cpu.old) (known cpu.new) }
+    ensures { TriesRunLock result cpu.old cpu.new }
 {
     if shared.look_lock(cpu) {
         return false;
@@ -37,10 +30,7 @@ pub fn try_run_lock<'a, D: TxDevice>(shared: &Shared<'a, D>, cpu: &mut Cpu<D>) -
 fn note_missed<'a, D: TxDevice>(shared: &Shared<'a, D>, cpu: &mut Cpu<D>) -> bool
     requires seat { IsSeatOf shared.now cpu.old }
     requires at { misses (position cpu.old) ≡ true }
-    ensures same { IsElseSame cpu.old cpu.new }
-    ensures step { solo (view cpu.new) ≡ missed_to true (solo (view cpu.old)) }
-    ensures sole { IsSole (view cpu.old) → result ≡ (view cpu.old).whole.qdisc.missed }
-    ensures sets { SetsMissed result (known cpu.old) (known cpu.new) }
+    ensures { NotesMissed result cpu.old cpu.new }
 {
     if shared.look_missed(cpu) {
         return true;
@@ -54,11 +44,7 @@ pub fn begin<'a, D: TxDevice>(shared: &Shared<'a, D>, cpu: &mut Cpu<D>) -> bool
     requires seat { IsSeatOf shared.now cpu.old }
     requires at { (a : Attempt) × (position cpu.old ≡ Try1 a) }
     requires empty { HasNone cpu.old }
-    ensures kept { IsElseKept cpu.old cpu.new × IsEventless cpu.old cpu.new × IsRaisedAsBefore cpu.old cpu.new }
-    ensures got { result ≡ true → BeginsAsHolder cpu.old cpu.new }
-    ensures missed { result ≡ false → StandsWithoutStation (after_missed (position cpu.old)) cpu.old cpu.new }
-    ensures sole { IsSole (view cpu.old) → BeginsAlone result (view cpu.old) (view cpu.new) }
-    ensures begins { BeginsBy result (known cpu.old) (known cpu.new) }
+    ensures { BeginsRun result cpu.old cpu.new }
 {
     if try_run_lock(shared, cpu) {
         shared.move_station(cpu);
@@ -74,17 +60,11 @@ pub fn begin<'a, D: TxDevice>(shared: &Shared<'a, D>, cpu: &mut Cpu<D>) -> bool
     false
 }
 
-/// Releases the run lock, and schedules where MISSED is set after it, as `qdisc_run_end` of include/net/sch_generic.h
-/// does.
-pub fn end<'a, D: TxDevice>(shared: &Shared<'a, D>, cpu: &mut Cpu<D>)
+/// Releases the run lock, and schedules where MISSED is set after it.
+fn release<'a, D: TxDevice>(shared: &Shared<'a, D>, cpu: &mut Cpu<D>)
     requires seat { IsSeatOf shared.now cpu.old }
-    requires at { position cpu.old ≡ AtUnlock }
-    requires rests { Rests cpu.old }
-    requires back { HasStation cpu.old }
-    ensures kept { IsElseKept cpu.old cpu.new × IsEventless cpu.old cpu.new × StaysRaised cpu.old cpu.new }
-    ensures at { StandsWithoutStation AtLeave cpu.old cpu.new }
-    ensures sole { IsSole (view cpu.old) → solo (view cpu.new) ≡ ended (solo (view cpu.old)) }
-    ensures ends { EndsRun (known cpu.old) (known cpu.new) }
+    requires may { MayReleaseRunLock cpu.old }
+    ensures { ReleasesTo (released_to (position cpu.old)) cpu.old cpu.new }
 {
     shared.move_station(cpu);
     shared.unlock(cpu);
@@ -94,6 +74,18 @@ pub fn end<'a, D: TxDevice>(shared: &Shared<'a, D>, cpu: &mut Cpu<D>)
     }
 }
 
+/// Releases the run lock, and schedules where MISSED is set after it, as `qdisc_run_end` of include/net/sch_generic.h
+/// does.
+pub fn end<'a, D: TxDevice>(shared: &Shared<'a, D>, cpu: &mut Cpu<D>)
+    requires seat { IsSeatOf shared.now cpu.old }
+    requires at { position cpu.old ≡ AtUnlock }
+    requires rests { Rests cpu.old }
+    requires back { HasStation cpu.old }
+    ensures { ReleasesTo AtLeave cpu.old cpu.new }
+{
+    release(shared, cpu);
+}
+
 /// Releases the run lock after a live resize, and schedules where MISSED is set after it: what control does in place of the
 /// end of a run.
 pub fn end_resize<'a, D: TxDevice>(shared: &Shared<'a, D>, cpu: &mut Cpu<D>)
@@ -101,17 +93,9 @@ pub fn end_resize<'a, D: TxDevice>(shared: &Shared<'a, D>, cpu: &mut Cpu<D>)
     requires at { MayReleaseActive cpu.old }
     requires rests { Rests cpu.old }
     requires back { HasStation cpu.old }
-    ensures kept { IsElseKept cpu.old cpu.new × IsEventless cpu.old cpu.new × StaysRaised cpu.old cpu.new }
-    ensures at { StandsWithoutStation AtIdle cpu.old cpu.new }
-    ensures sole { IsSole (view cpu.old) → solo (view cpu.new) ≡ ended (solo (view cpu.old)) }
-    ensures ends { EndsRun (known cpu.old) (known cpu.new) }
+    ensures { ReleasesTo AtIdle cpu.old cpu.new }
 {
-    shared.move_station(cpu);
-    shared.unlock(cpu);
-    let state = shared.load_state(cpu);
-    if state & MISSED != 0 {
-        shared.set_sched(cpu);
-    }
+    release(shared, cpu);
 }
 
 /// Sets SCHED, as `__netif_schedule` of net/core/dev.c does; where it was clear the seat is raised.
@@ -127,9 +111,7 @@ pub fn schedule<'a, D: TxDevice>(shared: &Shared<'a, D>, cpu: &mut Cpu<D>)
 pub fn unschedule<'a, D: TxDevice>(shared: &Shared<'a, D>, cpu: &mut Cpu<D>)
     requires seat { IsSeatOf shared.now cpu.old }
     requires at { clears_sched (position cpu.old) ≡ true }
-    ensures clears { IsElseSame cpu.old cpu.new × (view cpu.new ≡ passing (view cpu.old))
-        × (steps cpu.new ≡ steps cpu.old ⊳ did_clear_sched) }
-    ensures step { solo (view cpu.new) ≡ sched_cleared (solo (view cpu.old)) }
+    ensures { ClearsSched cpu.old cpu.new }
 {
     shared.clear_sched(cpu);
 }

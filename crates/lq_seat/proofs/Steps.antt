@@ -16,6 +16,9 @@ use Rattle.lq_model.specs.declared.fate.Cause.TheVariants as cause
 use Rattle.lq_model.specs.declared.fate.Info.{Info}
 use Rattle.lq_model.specs.declared.plan.EventKind.{EventKind}
 use Rattle.lq_model.specs.declared.plan.EventKind.TheVariants as kind
+use Rattle.lq_control.specs.Steps.{not_yet}
+use Rattle.lq_control.proofs.Served.{served_none}
+use Rattle.lq_qdisc.proofs.AloneRests.{rests_served}
 use Rattle.lq_qdisc.specs.Alone.{BringsAlone, Does}
 use Rattle.lq_model.specs.declared.machine.Position.TheVariants.{Idle}
 use Rattle.lq_qdisc.specs.Sends.{IsCallKept, IsReadyToSend, IsStill, came_as, trail_with}
@@ -245,6 +248,11 @@ module _ {D : Type 0} (sh : Shared D) (c c' : Cpu D) (made : (view c).share.abou
     has_served = devices.has_served;
     alone = λ tells. drained-on (λ k. changed plan event (kind.Swap params)) (seat_seen c) (seat_seen c') s (ap (λ x. x.about) kept.share) (does-here (λ k. changed plan event (kind.Swap params)) (alone tells)) drains;
   }
+
+-- a seat that owes no soft interrupt is as doing them would leave it
+pub drained-none : {D : Type 0} (sh : Shared D) (c : Cpu D) → (view c).share.about ≡ setup sh → (view c).place.raised ≡ false → Drains (seat_seen c) (seat_seen c)
+drained-none sh c made low = drained-by sh c c made (refl, refl) (served_none (view c) (view c) refl) low
+    (λ alone. (alone, sym (rests_served sh.infos.now (first_account (setup sh)) (solo (view c)) alone low))) (not_yet, low)
 
 -- BETWEEN TWO CALLS
 

@@ -35,7 +35,9 @@ impl<D: TxDevice> Model for Seat<D> {
 /// The plan's event that swaps a device, and the unit that it brings.
 #[derive(Clone, Copy, Drop)]
 pub struct Brought {
+    /// The event's number in the plan.
     pub event: u32,
+    /// The number of the unit, above every one that the station had.
     pub unit: u32,
 }
 
@@ -48,7 +50,9 @@ impl<D: TxDevice> Seat<D> {
         ensures { SendsPacket n self.old self.new }
     {
         let _sending = transmit(rt, &table.shared, &mut self.cpu, n);
-        self.drain(rt, table);
+        if self.cpu.raised() {
+            self.drain(rt, table);
+        }
     }
 
     /// Wakes the station's queues, as a driver's interrupt does: the stop word of each is looked at in this call, and exchanged
@@ -65,7 +69,9 @@ impl<D: TxDevice> Seat<D> {
         requires here { IsHere table.now self.old }
         ensures { Drains self.old self.new }
     {
-        lq_control::drain(rt, &table.shared, &mut self.cpu);
+        if self.cpu.raised() {
+            lq_control::drain(rt, &table.shared, &mut self.cpu);
+        }
     }
 
     /// Does an event of the plan, which isn't a swap of the device, up to the soft interrupts.

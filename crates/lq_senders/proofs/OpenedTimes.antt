@@ -1,5 +1,5 @@
 -- After a packet its sender opens the queues of all stations so many times, and does soft interrupts after each.
-use Rattle.std.proofs.Common.{◌≡◌, ◌≢◌, ℕ, zero, suc, ◌+◌, List, refl, subst, arith}
+use Rattle.std.proofs.Common.{◌≡◌, ℕ, zero, suc, ◌+◌, ◌<◌, List, refl, subst, arith}
 use Rattle.lq_model.specs.Alone.{RunningStation, opened_and_served, turn_ended}
 use Rattle.lq_model.specs.Plan.{Plan}
 use Rattle.lq_model.specs.declared.fate.Info.{Info}
@@ -38,6 +38,6 @@ opened-once-more plan infos sender count n tables times old now new lane (mid, (
 }
 
 -- where they are opened at all, this is what follows the packet
-pub turn-opened : (infos : List Info) (times : ℕ) (stations : List RunningStation) → times ≢ 0 → opened_and_served infos times stations ≡ turn_ended infos times stations
-turn-opened infos zero stations some = absurd (some refl)
+pub turn-opened : (infos : List Info) (times : ℕ) (stations : List RunningStation) → 0 < times → opened_and_served infos times stations ≡ turn_ended infos times stations
+turn-opened infos zero stations some = absurd (omega arith)
 turn-opened infos (suc times) stations some = refl

@@ -8,6 +8,7 @@ use Rattle.lq_model.specs.Device.{DeviceState}
 use Rattle.lq_model.specs.Plan.{Plan}
 use Rattle.lq_model.specs.declared.fate.Info.{Info}
 use Rattle.lq_model.specs.declared.plan.EventPlan.{EventPlan}
+use Rattle.lq_qdisc.proofs.AloneRests.{rests_served}
 use Rattle.lq_qdisc.specs.Alone.{Does}
 use Rattle.lq_seat.specs.Calls.{DoesAlone, WakesQueues, Drains}
 use Rattle.lq_seat.specs.State.{SeatState, Setup, TableState, setup_of, solo_of}
@@ -81,20 +82,6 @@ pub keep-opened : (old mid new : List SeatState) → AllDid WakesQueues old mid 
 keep-opened old mid new woken drained = keep-on old mid new (keep-did WakesQueues wakes-keep old mid woken) (keep-drained mid new drained)
 
 -- the lane stands as before
-pub lane-drained : (plan : Plan) (infos : List Info) (sender count n : ℕ) (tables : List TableState) (old new : List SeatState) → LaneStands plan infos sender count n tables old → AllDid Drains old new
-    → LaneStands plan infos sender count n tables new
-lane-drained plan infos sender count n tables old new lane did = record {
-  long = did.long ∙ lane.long;
-  all = lane.all;
-  each = λ j t c at at'.
-      let was = some-there old new j c (sym did.long) at' in let own = did.each j was.0 c was.1 at' in let before = lane.each j t was.0 at was.1 in let keeps = drains-keep was.0 c own in
-      record {
-        table = before.table;
-        seat = here-kept t was.0 c (seat-kept was.0 c keeps) before.seat;
-        stands = stands-still plan infos sender j count n was.0 c keeps (ap (λ (s : SeatState). s.turns) own.is) (ap (λ (s : SeatState). s.trail) own.is) (ap (λ (s : SeatState). s.raised) own.is) before.stands;
-      };
-}
-
 pub lane-opened : (plan : Plan) (infos : List Info) (sender count n : ℕ) (tables : List TableState) (old mid new : List SeatState) → LaneStands plan infos sender count n tables old
     → AllDid WakesQueues old mid → AllDid Drains mid new → LaneStands plan infos sender count n tables new
 lane-opened plan infos sender count n tables old mid new lane woken did = record {
@@ -138,6 +125,14 @@ pub runs-drained : (plan : Plan) (infos : List Info) (old new : List SeatState) 
     → AllDid Drains old new → AreRunAlone plan infos old stations → AreRunAlone plan infos new (map (served infos) stations)
 runs-drained plan infos old new stations made did runs =
     all-step plan infos (λ k. served k.infos) (served infos) Drains (λ j. refl) (λ v w drains. drains.alone) old new stations made did runs
+
+-- no seat of a lane is raised, so its stations are as serving would leave them
+pub runs-rested : (plan : Plan) (infos : List Info) (sender count n : ℕ) (tables : List TableState) (cpus : List SeatState) (stations : List RunningStation)
+    → LaneStands plan infos sender count n tables cpus → AreRunAlone plan infos cpus stations → AreRunAlone plan infos cpus (map (served infos) stations)
+runs-rested plan infos sender count n tables cpus stations lane runs j c at =
+    let t = some-there tables cpus j c (sym lane.long) at in
+    let low = (lane.each j t.0 c t.1 at).stands.raised in let was = runs j c at in
+    (was.0, mapped-at (served infos) stations j _ was.1 ∙ ap Some (rests_served infos (start_of plan j) (solo_of c) was.0 low))
 
 pub runs-opened : (plan : Plan) (infos : List Info) (old mid new : List SeatState) (stations : List RunningStation)
     → ((j : ℕ) (c : SeatState) → slice_get old j ≡ Some c → c.made ≡ setup_of plan infos j)

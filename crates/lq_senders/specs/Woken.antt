@@ -2,6 +2,7 @@
 use Rattle.std.specs.Prelude.{◌≡◌, ◌<◌, ℕ, zero, suc, ◌==◌, List, length, filter, take, count_by, slice_get, Some}
 use Rattle.std.specs.Coded.{Π_prop, le_prop}
 use Rattle.std.specs.List.{sum_by}
+use Rattle.lq_device.specs.Multiples.{left_to_multiple}
 use Rattle.lq_model.specs.Device.{DeviceState}
 use Rattle.lq_model.specs.Numbers.{first_numbers}
 use Rattle.lq_model.specs.Plan.{Plan, owner_in}
@@ -43,6 +44,15 @@ known-prop openings infos = Π_prop λ n. Π_prop λ within. within-prop opening
 -- how often they are opened altogether after the packets of a sender among the first n, where it is `opens m` after packet m
 abbrev pub openings_of : List Info → (ℕ → ℕ) → ℕ → ℕ → ℕ
 openings_of infos opens sender n = sum_by opens (filter (λ m. owner_in infos m == sender) (first_numbers n))
+
+-- where they are opened by the number of a sender's packets, after each so many
+abbrev pub packets_each : Openings → ℕ
+packets_each (Every packets) = packets
+packets_each (Listed times) = 0
+
+-- so many packets are left to the next opening by their number, where the sender sent so many
+abbrev pub CountsDown : Openings → ℕ → ℕ → Type 0
+CountsDown openings sent left = left ≡ left_to_multiple sent (packets_each openings)
 
 -- WAKES
 

@@ -1,20 +1,22 @@
 //! What a sender does at its seats.
-ghost use Rattle.std.specs.Prelude.{◌≡◌, ℕ, ◌+◌, ◌<◌, ◌≤◌, ◌-◌, List, length, slice_get};
+ghost use Rattle.std.specs.Prelude.{◌≡◌, ℕ, ◌+◌, ◌<◌, ◌≤◌, ◌-◌, true, false, List, length, slice_get};
 ghost use Rattle.lq_seat.specs.Calls.{WakesQueues, Drains};
 ghost use Rattle.lq_seat.specs.State.{SeatState};
 ghost use Rattle.lq_senders.specs.Lanes.{AllDid, AllOpened, AreSeats, KeepAll, KeepSeats};
 ghost use Rattle.lq_senders.specs.Runs.{ComesTo, DevicesGoOn, HasDevices, RunsAs, SeatsDone, SeatsGoOn, SeatsRunAs, SeatsStand, events_on, opens_in, packet_brought, turn_after};
 ghost use Rattle.lq_senders.specs.Way.{IsSplitAt, StandAfter, StandBefore, StandEarlier};
-ghost use Rattle.lq_senders.specs.Woken.{AllWoke, OtherCalls, count_sent};
+ghost use Rattle.lq_senders.specs.Woken.{AllWoke, CountsDown, OtherCalls, count_sent};
 ghost use Rattle.lq_model.specs.Alone.{opened_and_served, with_packet};
 ghost use Rattle.lq_model.specs.Device.{DeviceState};
 ghost use Rattle.lq_model.specs.Plan.{owner_in};
 ghost use Rattle.lq_model.specs.declared.plan.EventPlan.{EventPlan as AnEvent};
 
+use crate::countdown::{left_after_packet, opened_after};
 use crate::sender::{Progress, Run, Sender};
 use crate::swaps::do_any_event;
 use lq_device::TxDevice;
 use lq_gate::Gate;
+use lq_plan::Plan;
 use lq_seat::{Seat, Table};
 use std::sync::Wait;
 
@@ -86,16 +88,18 @@ fn open_times<'r, 'a, R: Wait, D: TxDevice, G: Gate>(
     }
 }
 
-/// What a sender does after packet `n`, its packet `k`.
+/// What a sender does after packet `n`, before which it was so far: it opens the queues as often as the run has it. No seat is raised
+/// where it doesn't.
 fn turn<'r, 'a, R: Wait, D: TxDevice, G: Gate>(
     rt: &R,
     run: &Run<'r, 'a, D, G>,
     seats: &mut Vec<Seat<D>>,
     n: u32,
-    k: u32,
+    at: Progress,
 )
     requires packet { n < length run.now.infos.now }
-    requires number { k ≡ count_sent run.now.infos.now (owner_in run.now.infos.now n) n }
+    requires number { at.sent ≡ count_sent run.now.infos.now (owner_in run.now.infos.now n) n }
+    requires counted { CountsDown run.now.openings.now at.sent at.left }
     requires stands { (sender : ℕ) × (count : ℕ) × (m : ℕ) × SeatsStand run.now sender count m seats.old.items }
     ensures stands { (sender count : ℕ) → SeatsGoOn run.now sender count count seats.old.items seats.new.items }
     ensures keeps { KeepAll seats.old.items seats.new.items }
@@ -103,15 +107,14 @@ fn turn<'r, 'a, R: Wait, D: TxDevice, G: Gate>(
     ensures woke { (start : List SeatState) (count : ℕ) → AllWoke count start seats.old.items
         → AllWoke (count + opens_in run.now n) start seats.new.items }
 {
-    let times = run.openings.after(n, k);
-    if times == 0 {
-        drain_all(rt, run.tables, seats);
-    } else {
+    let times = opened_after(run.openings, n, at);
+    if times > 0 {
         open_times(rt, run, seats, times);
     }
 }
 
 /// Does the plan's events from `next` on that stand before packet `n`: the event that is next then.
+#[inline(never)]
 fn events_before<'r, 'a, R: Wait, D: TxDevice, G: Gate>(
     rt: &R,
     run: &Run<'r, 'a, D, G>,
@@ -142,7 +145,18 @@ fn events_before<'r, 'a, R: Wait, D: TxDevice, G: Gate>(
     run.plan.events()
 }
 
-/// Does the events that stand before packet `n`, if this is the first sender.
+/// Whether a sender does events before packet `n`: it is the first one, and event `next` stands before that packet.
+fn has_events_before(plan: &Plan, owner: u32, next: u32, n: u32) -> bool
+    requires { next ≤ length plan.now.events }
+    ensures first { result ≡ true → owner ≡ 0 }
+    ensures left { result ≡ false → owner ≡ 0 → StandAfter plan.now next n }
+{
+    plan.stays_within_limits();
+    owner == 0 && next < plan.events() && plan.event(next).before <= n
+}
+
+/// Does the events that stand before packet `n`, if this is the first sender. For most packets there is none, and nothing is called.
+#[inline(always)]
 pub fn events_of<'r, 'a, R: Wait, D: TxDevice, G: Gate>(
     rt: &R,
     run: &Run<'r, 'a, D, G>,
@@ -163,7 +177,7 @@ pub fn events_of<'r, 'a, R: Wait, D: TxDevice, G: Gate>(
     ensures devices { DevicesGoOn D.state run.now next result sender.old sender.new }
     ensures runs { RunsAs D.state run.now next (events_on run.now next (result - next)) sender.old sender.new }
 {
-    if sender.owner == 0 {
+    if has_events_before(run.plan, sender.owner, next, n) {
         events_before(rt, run, sender, next, n)
     } else {
         next
@@ -205,6 +219,7 @@ fn bring<'r, 'a, R: Wait, D: TxDevice, G: Gate>(
     requires own { owner_in run.now.infos.now n ≡ sender.old.owner }
     requires packet { n < length run.now.infos.now }
     requires sent { at.sent ≡ count_sent run.now.infos.now sender.old.owner n }
+    requires counted { CountsDown run.now.openings.now at.sent at.left }
     requires next { at.next ≤ length run.now.plan.now.events }
     requires earlier { StandEarlier run.now.plan.now at.next n }
     requires stands { SeatsStand run.now sender.old.owner at.next n sender.old.seats.items }
@@ -224,10 +239,11 @@ fn bring<'r, 'a, R: Wait, D: TxDevice, G: Gate>(
     let now = Progress {
         sent: at.sent,
         next,
+        left: at.left,
     };
     pass_before(run, sender, now, n);
     send_packet(rt, run, &mut sender.seats, n);
-    turn(rt, run, &mut sender.seats, n, at.sent);
+    turn(rt, run, &mut sender.seats, n, at);
     next
 }
 
@@ -240,6 +256,7 @@ pub fn come_to<'r, 'a, R: Wait, D: TxDevice, G: Gate>(
     n: u32,
 ) -> Progress
     requires packet { n < length run.now.infos.now }
+    requires counted { CountsDown run.now.openings.now at.sent at.left }
     requires sending { (start : List SeatState) × (brought : List DeviceState)
         × ComesTo D.state run.now sender.old.owner n at start brought sender.old }
     requires devices { sender.old.owner ≡ 0 → (units : List DeviceState) × HasDevices D.state run.now units at.next sender.old }
@@ -247,6 +264,7 @@ pub fn come_to<'r, 'a, R: Wait, D: TxDevice, G: Gate>(
     ensures sending { (start : List SeatState) (brought : List DeviceState)
         → ComesTo D.state run.now sender.old.owner n at start brought sender.old
         → ComesTo D.state run.now sender.old.owner (n + 1) result start brought sender.new }
+    ensures counted { CountsDown run.now.openings.now result.sent result.left }
 {
     if run.infos[n as usize].owner as u32 != sender.owner {
         return at;
@@ -255,5 +273,6 @@ pub fn come_to<'r, 'a, R: Wait, D: TxDevice, G: Gate>(
     Progress {
         sent: at.sent + 1,
         next,
+        left: left_after_packet(run.openings, at.left),
     }
 }

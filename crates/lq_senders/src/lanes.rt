@@ -5,6 +5,7 @@ ghost use Rattle.lq_senders.specs.Runs.{DevicesGoOn, HasDevices, LaneIsDone, Lan
 ghost use Rattle.lq_senders.specs.Woken.{OtherCalls};
 ghost use Rattle.lq_model.specs.Device.{DeviceState};
 
+use crate::countdown::left_at_start;
 use crate::lane::{come_to, events_of, pass_last};
 use crate::sender::{Progress, Run, Sender};
 use lq_device::TxDevice;
@@ -52,7 +53,11 @@ pub fn send_loop<'r, 'a, R: Wait, D: TxDevice, G: Gate>(
     ensures woke { SeatsWoken run.now sender.old.owner sender.old.seats.items sender.new.seats.items }
 {
     run.plan.stays_within_limits();
-    let mut at = Progress { sent: 0, next: 0 };
+    let mut at = Progress {
+        sent: 0,
+        next: 0,
+        left: left_at_start(run.openings),
+    };
     for n in 0..run.infos.len() as u32 {
         at = come_to(rt, run, sender, at, n);
     }

@@ -99,7 +99,7 @@ pub fn stations_run_apart()
 #[tactic(auto, unfolding(lq_model::specs::Alone::run_fates))]
 pub fn one_child_is_offered()
     ensures first { alone_at (group_of_two (station 1000 true no_rules) (group_event_at 2 kind.Down ∷ []))
-        (packets_to (1 ∷ 0 ∷ 1 ∷ 0 ∷ [])) (λ n. 0) 0 ≡ None ∷ Some (Sent 0 0) ∷ None ∷ Some (Refused 0) ∷ [] }
+        (packets_to (1 ∷ 0 ∷ 1 ∷ 0 ∷ [])) (λ n. 1) 0 ≡ None ∷ Some (Sent 0 0) ∷ None ∷ Some (Refused 0) ∷ [] }
     ensures second { alone_at (group_of_two (station 1000 true no_rules) (group_event_at 2 kind.Down ∷ []))
-        (packets_to (1 ∷ 0 ∷ 1 ∷ 0 ∷ [])) (λ n. 0) 1 ≡ Some (Sent 1 0) ∷ None ∷ Some (Refused 0) ∷ None ∷ [] }
+        (packets_to (1 ∷ 0 ∷ 1 ∷ 0 ∷ [])) (λ n. 1) 1 ≡ Some (Sent 1 0) ∷ None ∷ Some (Refused 0) ∷ None ∷ [] }
 {}

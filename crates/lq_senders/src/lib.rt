@@ -1,6 +1,7 @@
 //! Several sender threads over the stations of a plan.
 #![tactic(auto)]
 
+mod countdown;
 mod ends;
 mod lane;
 mod lanes;

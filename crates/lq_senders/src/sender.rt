@@ -54,4 +54,6 @@ pub struct Senders<D: TxDevice> {
 pub struct Progress {
     pub sent: u32,
     pub next: u32,
+    /// How many of its packets are left to the next opening by their number; 0 where queues are opened by time.
+    pub left: u32,
 }

@@ -30,9 +30,10 @@ pub fn room_for<T>(alloc: Global, count: usize) -> Result<Vec<T>, NoMemory>
     }
 }
 
-/// How many items more a list has room for that stands apart: at least a line of the processor's cache, with the items of a lane, of
-/// seats and of tables.
-const APART: usize = 2;
+/// How many items more a list has room for that stands apart: at least three lines of the processor's cache, with the items of a lane,
+/// of seats (40 bytes) and of tables. So no processor takes a line, or the one beside it, from a sender whose seats it doesn't use; nor
+/// does the box of a station, which lies behind the first sender's seats.
+const APART: usize = 6;
 
 /// The same with room behind the list that stays empty, so that no other sender's list shares a line of the processor's cache
 /// with its last item.

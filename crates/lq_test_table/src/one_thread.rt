@@ -8,10 +8,10 @@ ghost use Rattle.lq_table.specs.Solo.{IsSole};
 ghost use Rattle.lq_test_table.specs.Recorder.{IsFreshWithRoom};
 ghost use Rattle.lq_test_table.specs.Seats.{IsDone, IsOnly};
 
-use crate::plain::{PARAMS, check_packets, info};
+use crate::plain::{PARAMS, PLAIN, check_packets, info};
 use crate::tables::{device, send};
 use lq_control::{finish, swap};
-use lq_device::{BenchDevice, Station, StationPlan, TxDevice};
+use lq_device::{BenchDevice, Station, TxDevice};
 use lq_model::{Cause, Fate, Info, Params};
 use lq_qdisc::Sending;
 use lq_table::{Closed, Cpu, Shared};
@@ -38,15 +38,8 @@ fn table<'a, A: Abort, D: TxDevice>(
 {
     assert!(rt; infos.len() <= 100);
     check_packets(rt, infos, 1);
-    let plan = StationPlan {
-        len: 8,
-        max_len: 8,
-        bypass: true,
-        params: PARAMS,
-        queues: 1,
-    };
     let station = Station::new(alloc, 0, device).ok().expect(rt, "memory");
-    Shared::make(alloc, infos, 0, plan, 1, 2, station)
+    Shared::make(alloc, infos, 0, PLAIN, 1, 2, station)
         .ok()
         .expect(rt, "memory")
 }

@@ -2,6 +2,7 @@
 ghost use Rattle.std.specs.Prelude.{◌≡◌, ℕ, ◌<◌, length, Ok};
 ghost use Rattle.lq_test_table.specs.Plain.{IsPlainPacket};
 
+use lq_device::StationPlan;
 use lq_model::{Fate, Info, Params};
 use std::process::Abort;
 
@@ -11,6 +12,15 @@ pub const PARAMS: Params = Params {
     busy_every: 0,
     busy_limit: 0,
     hang_after: 0,
+};
+
+/// A station with one queue and short rings, whose device accepts every packet.
+pub const PLAIN: StationPlan = StationPlan {
+    len: 8,
+    max_len: 8,
+    bypass: true,
+    params: PARAMS,
+    queues: 1,
 };
 
 /// Each packet that it accepts stops its queue.

@@ -2,7 +2,7 @@
 ghost use Rattle.std.specs.Prelude.{◌≤◌, length};
 ghost use Rattle.lq_test_table.specs.Plain.{IsFirstOwnerAtRest};
 
-use crate::plain::{PARAMS, STOPPING, check_packets, info_at, sent};
+use crate::plain::{PARAMS, PLAIN, STOPPING, check_packets, info_at, sent};
 use lq_device::{BenchDevice, Station, StationPlan, TxDevice};
 use lq_model::{Fate, Info, Params};
 use lq_qdisc::{Sending, irq, softirq, transmit};
@@ -17,7 +17,7 @@ fn plan(len: u32, bypass: bool, params: Params) -> StationPlan {
         max_len: len,
         bypass,
         params,
-        queues: 1,
+        ..PLAIN
     }
 }
 

@@ -8,7 +8,7 @@ ghost use Rattle.lq_table.specs.Sees.{view, position, slot, IsSeatOf};
 ghost use Rattle.lq_ring.specs.Put.{no_locks};
 ghost use Rattle.lq_ring.specs.Take.{CarriesStation};
 
-use crate::plain::{PARAMS, with_memory};
+use crate::plain::{PARAMS, PLAIN, with_memory};
 use lq_device::{BenchDevice, Station, StationPlan, TxDevice};
 use lq_model::Info;
 use lq_ring::{consume, produce};
@@ -18,8 +18,7 @@ const PLAN: StationPlan = StationPlan {
     len: 1,
     max_len: 2,
     bypass: false,
-    params: PARAMS,
-    queues: 1,
+    ..PLAIN
 };
 
 /// Takes from the first two bands.

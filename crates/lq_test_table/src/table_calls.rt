@@ -1,14 +1,12 @@
 //! A table that is made and closed: with memory there is no refusal, and nothing was sent.
-use crate::plain::PARAMS;
+use crate::plain::PLAIN;
 use lq_device::{BenchDevice, Station, StationPlan};
 use lq_table::Shared;
 
 const PLAN: StationPlan = StationPlan {
     len: 2,
     max_len: 4,
-    bypass: true,
-    params: PARAMS,
-    queues: 1,
+    ..PLAIN
 };
 
 #[test]

@@ -6,6 +6,7 @@ ghost use Rattle.lq_table.specs.Rule.{units_of};
 ghost use Rattle.lq_test_table.specs.Recorder.{IsFreshWithRoom, recorder_state};
 ghost use Rattle.lq_test_table.specs.Seats.{HasAllShares, IsBetweenCalls, IsFirst, IsKeptFirst, IsSender, IsTheirs};
 
+use crate::plain::{PARAMS, PLAIN};
 use crate::recorder::Recorder;
 use lq_control::drain;
 use lq_device::{Station, StationPlan, TxDevice};
@@ -72,14 +73,8 @@ pub fn table<'a, A: Abort>(
     let plan = StationPlan {
         len,
         max_len: len,
-        bypass: true,
-        params: Params {
-            burst,
-            busy_every: 0,
-            busy_limit: 0,
-            hang_after: 0,
-        },
-        queues: 1,
+        params: Params { burst, ..PARAMS },
+        ..PLAIN
     };
     let station = Station::new(alloc, 0, device(rt, alloc, burst, infos))
         .ok()

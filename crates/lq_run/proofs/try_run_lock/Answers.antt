@@ -1,4 +1,4 @@
-use Rattle.std.proofs.Common.{◌≡◌, ℕ, Bool, true, false, not, List, ◌∷◌, Option, Some, inr, refl, sym, ap, ◌∙◌, subst}
+use Rattle.std.proofs.Common.{rules, ◌≡◌, ℕ, Bool, true, false, not, List, ◌∷◌, Option, Some, inr, refl, sym, ap, ◌∙◌, subst}
 use Rattle.std.proofs.lemmas.Bool.{false≢true}
 use Rattle.lq_device.specs.Station.{StationState}
 use Rattle.lq_table.specs.Rule.{units_of}
@@ -11,38 +11,41 @@ use Rattle.lq_table.specs.Views.{HolderPart, View}
 use Rattle.lq_run.specs.Tries.{TriedAs}
 use Rattle.lq_run.proofs.try_run_lock.Goals as goal
 
-pub returns-then-look_lock-clause-got : goal.returns-then-look_lock-clause-got
-returns-then-look_lock-clause-got g c = λ yes. absurd (false≢true yes)
-
-pub returns-then-look_lock-clause-sole : goal.returns-then-look_lock-clause-sole
-returns-then-look_lock-clause-sole g c = λ alone.
-    let s = c.look_lock.ensures.sole alone in let held = c.if-look_lock.true in (s.1 held, ap not (sym held ∙ s.0), λ yes. absurd (false≢true yes))
-
-pub returns-clause-got : goal.returns-clause-got
-returns-clause-got g c = λ yes.
-    let l = c.look_lock.ensures in let e = (l.free c.if-look_lock.false).0 in let x = c.try_lock.ensures.got yes in (
-      x.0,
-      x.1 ∙ ap (got x.0) e,
-      x.2 ∙ ap (λ (s : List (ℕ × Option StationState)). (0, Some (shown x.0)) ∷ s) l.same.3,
-      x.3,
-      x.4,
-      x.5,
-      x.6,
-      x.7,
-      subst (λ (v : View). IsKnownSlot v.share.about x.0.slot) e x.8,
-      subst (λ (v : View). v.control.first ≡ true → x.0.units ≡ units_of v.trail) e x.9,
-    )
-
-pub returns-clause-sole : goal.returns-clause-sole
-returns-clause-sole g c = subst (λ (v : View). IsSole v → SeesTry c.try_lock.result v (view c.try_lock.new.cpu)) (c.look_lock.ensures.free c.if-look_lock.false).0 c.try_lock.ensures.sole
+pub returns-then-look_lock : goal.returns-then-look_lock
+returns-then-look_lock g c = record {
+  seat = search rules;
+  got = λ yes. absurd (false≢true yes);
+  held = search rules;
+  sole = λ alone.
+      let s = c.look_lock.ensures.sole alone in let held = c.if-look_lock.true in (s.1 held, ap not (sym held ∙ s.0), λ yes. absurd (false≢true yes));
+  tries = search rules;
+}
 
 tried_as : (answer : Bool) (v w : View) → (answer ≡ true → (d : HolderPart) × (w ≡ got d v)) → (answer ≡ false → w ≡ finding_locked v) → TriedAs answer v w
 tried_as true v w gets misses = gets refl
 tried_as false v w gets misses = misses refl
 
-pub returns-clause-tries : goal.returns-clause-tries
-returns-clause-tries g c =
-    let free = c.look_lock.ensures.free c.if-look_lock.false in let t = c.try_lock.ensures in let answer = c.try_lock.result in (
-      tried_as answer (view c.args.cpu.now) (view c.try_lock.new.cpu) (λ yes. (let x = t.got yes in (x.0, x.1 ∙ ap (got x.0) free.0))) (λ without. (t.held without).0 ∙ ap finding_locked free.0),
-      inr (t.made ∙ ap (λ (steps : List Made). steps ⊳ did_try_lock answer) free.1),
-    )
+pub returns : goal.returns
+returns g c = record {
+  seat = search rules;
+  got = λ yes.
+      let l = c.look_lock.ensures in let e = (l.free c.if-look_lock.false).0 in let x = c.try_lock.ensures.got yes in (
+        x.0,
+        x.1 ∙ ap (got x.0) e,
+        x.2 ∙ ap (λ (s : List (ℕ × Option StationState)). (0, Some (shown x.0)) ∷ s) l.same.3,
+        x.3,
+        x.4,
+        x.5,
+        x.6,
+        x.7,
+        subst (λ (v : View). IsKnownSlot v.share.about x.0.slot) e x.8,
+        subst (λ (v : View). v.control.first ≡ true → x.0.units ≡ units_of v.trail) e x.9,
+      );
+  held = search rules;
+  sole = subst (λ (v : View). IsSole v → SeesTry c.try_lock.result v (view c.try_lock.new.cpu)) (c.look_lock.ensures.free c.if-look_lock.false).0 c.try_lock.ensures.sole;
+  tries =
+      let free = c.look_lock.ensures.free c.if-look_lock.false in let t = c.try_lock.ensures in let answer = c.try_lock.result in (
+        tried_as answer (view c.args.cpu.now) (view c.try_lock.new.cpu) (λ yes. (let x = t.got yes in (x.0, x.1 ∙ ap (got x.0) free.0))) (λ without. (t.held without).0 ∙ ap finding_locked free.0),
+        inr (t.made ∙ ap (λ (steps : List Made). steps ⊳ did_try_lock answer) free.1),
+      );
+}

@@ -1,4 +1,4 @@
-use Rattle.std.proofs.Common.{ap, ◌∙◌}
+use Rattle.std.proofs.Common.{rules, ap, ◌∙◌}
 use Rattle.lq_table.specs.Views.{first_account}
 use Rattle.lq_table.specs.Sees.{view, known, setup}
 use Rattle.lq_table.specs.Solo.{solo}
@@ -9,17 +9,20 @@ use Rattle.lq_control.proofs.StepLemmas.{both}
 use Rattle.lq_control.proofs.Alone.{down_alone, downed, downed_at, stepped_at}
 use Rattle.lq_control.proofs.activates.down.Goals as goal
 
-pub returns-clause-alone : goal.returns-clause-alone
-returns-clause-alone g c = λ plan h.
-    let infos = c.args.shared.now.infos.now in let start = first_account (setup c.args.shared.now) in let v = solo (view c.args.cpu.now) in let event = c.args.event in
-    let is = ap solo c.end_control.ensures.view
-    ∙ downed_at (setup c.args.shared.now) event (view c.args.cpu.now) (view c.deactivate-purged.new.cpu) (view c.wait_until_clear.new.cpu) c.deactivate-purged.ensures.same.1.share c.requires.seat.2 h.sender.sole (c.deactivate-purged.ensures.sole h.sender.sole) c.wait_until_clear.ensures.off in
-    stepped_at infos start (changed plan event kind.Down) v (downed event v) (solo (view c.end_control.new.cpu)) is (down_alone infos start event plan v h)
-
-pub returns-clause-downs : goal.returns-clause-downs
-returns-clause-downs g c = let last = c.end_control.ensures in let clear = known c.wait_until_clear.new.cpu in (
-  clear,
-  last.made.0,
-  (known c.deactivate-purged.new.cpu, c.deactivate-purged.ensures.deactivates, c.wait_until_clear.ensures.waits),
-  both (known c.end_control.new.cpu) (with_control_ended last.made.0 clear) last.view last.made.1,
-)
+pub returns : goal.returns
+returns g c = record {
+  same = search rules;
+  at = search rules;
+  trail = search rules;
+  steps = let last = c.end_control.ensures in let clear = known c.wait_until_clear.new.cpu in (
+    clear,
+    last.made.0,
+    (known c.deactivate-purged.new.cpu, c.deactivate-purged.ensures.steps, c.wait_until_clear.ensures.steps),
+    both (known c.end_control.new.cpu) (with_control_ended last.made.0 clear) last.view last.made.1,
+  );
+  alone = λ plan h.
+      let infos = c.args.shared.now.infos.now in let start = first_account (setup c.args.shared.now) in let v = solo (view c.args.cpu.now) in let event = c.args.event in
+      let is = ap solo c.end_control.ensures.view
+      ∙ downed_at (setup c.args.shared.now) event (view c.args.cpu.now) (view c.deactivate-purged.new.cpu) (view c.wait_until_clear.new.cpu) c.deactivate-purged.ensures.same.1.share c.requires.seat.2 h.sender.sole (c.deactivate-purged.ensures.alone h.sender.sole) c.wait_until_clear.ensures.alone in
+      stepped_at infos start (changed plan event kind.Down) v (downed event v) (solo (view c.end_control.new.cpu)) is (down_alone infos start event plan v h);
+}

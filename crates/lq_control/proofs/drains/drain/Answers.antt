@@ -42,7 +42,13 @@ loop-preserved g c =
       interrupted = once_more (known c.loop.cpu) (known c.softirq.new.cpu) i.interrupted (sym c.if-not-raised.ensures) (record { by = c.softirq.ensures.interrupts; served = one });
     }
 
-pub returns-then-not-raised-clause-alone : goal.returns-then-not-raised-clause-alone
-returns-then-not-raised-clause-alone g c = λ h.
-    let now = c.loop.invariant.alone h in
-    (now.0, sym (rests_served c.args.shared.now.infos.now (first_account (setup c.args.shared.now)) (solo (view c.loop.cpu)) now.0 (sym c.if-not-raised.ensures)) ∙ now.1)
+pub returns-then-not-raised : goal.returns-then-not-raised
+returns-then-not-raised g c = record {
+  same = search rules;
+  served = search rules;
+  at = search rules;
+  steps = search rules;
+  alone = λ h.
+      let now = c.loop.invariant.alone h in
+      (now.0, sym (rests_served c.args.shared.now.infos.now (first_account (setup c.args.shared.now)) (solo (view c.loop.cpu)) now.0 (sym c.if-not-raised.ensures)) ∙ now.1);
+}

@@ -23,29 +23,29 @@ loop-init g c = record {
 
 pub loop-preserved : goal.loop-preserved
 loop-preserved g c =
-    let i = c.loop.invariant in let step = c.serves_or_is_clear.ensures in record {
+    let i = c.loop.invariant in let step = c.serve_or_look.ensures in record {
       can = (search rules);
       ends = (search rules);
-      seat = seat_on c.args.shared.now c.loop.cpu c.serves_or_is_clear.new.cpu i.seat step.same step.served.kept.share;
+      seat = seat_on c.args.shared.now c.loop.cpu c.serve_or_look.new.cpu i.seat step.same step.served.kept.share;
       same = (step.same.0 ∙ i.same.0, step.same.1 ∙ i.same.1);
       at = step.at.0;
       ready = step.at.1;
-      served = served_then (view c.args.cpu.now) (view c.loop.cpu) (view c.serves_or_is_clear.new.cpu) i.served step.served;
+      served = served_then (view c.args.cpu.now) (view c.loop.cpu) (view c.serve_or_look.new.cpu) i.served step.served;
       off = λ sole down. let before = i.off sole down in
           step.off (sole_served (view c.args.cpu.now) (view c.loop.cpu) i.served sole) (down_kept (setup c.args.shared.now) (view c.args.cpu.now) (view c.loop.cpu) c.requires.seat.2 i.seat.2 before down) ∙ before;
-      rounds = rounds_then (setup c.args.shared.now) _ _ _ i.rounds (step.again c.if-serves_or_is_clear.false);
+      rounds = rounds_then (setup c.args.shared.now) _ _ _ i.rounds (step.again c.if-serve_or_look.false);
     }
 
-pub returns-then-serves_or_is_clear-clause-waits : goal.returns-then-serves_or_is_clear-clause-waits
-returns-then-serves_or_is_clear-clause-waits g c = (known c.loop.cpu, c.loop.invariant.rounds, c.serves_or_is_clear.ensures.found c.if-serves_or_is_clear.true)
-
-pub returns-then-serves_or_is_clear-clause-served : goal.returns-then-serves_or_is_clear-clause-served
-returns-then-serves_or_is_clear-clause-served g c = served_then (view c.args.cpu.now) (view c.loop.cpu) (view c.serves_or_is_clear.new.cpu) c.loop.invariant.served c.serves_or_is_clear.ensures.served
-
-pub returns-then-serves_or_is_clear-clause-off : goal.returns-then-serves_or_is_clear-clause-off
-returns-then-serves_or_is_clear-clause-off g c = λ sole down.
-    let i = c.loop.invariant in let step = c.serves_or_is_clear.ensures in let before = i.off sole down in
-    let sole_now = sole_served (view c.args.cpu.now) (view c.loop.cpu) i.served sole in
-    let same = step.off sole_now (down_kept (setup c.args.shared.now) (view c.args.cpu.now) (view c.loop.cpu) c.requires.seat.2 i.seat.2 before down) ∙ before in
-    let clear = step.clear c.if-serves_or_is_clear.true in
-    marks_clear (solo (view c.serves_or_is_clear.new.cpu)) (solo (view c.args.cpu.now)) same clear.0 (clear.1 (sole_served (view c.loop.cpu) (view c.serves_or_is_clear.new.cpu) step.served sole_now))
+pub returns-then-serve_or_look : goal.returns-then-serve_or_look
+returns-then-serve_or_look g c = record {
+  same = search rules;
+  served = served_then (view c.args.cpu.now) (view c.loop.cpu) (view c.serve_or_look.new.cpu) c.loop.invariant.served c.serve_or_look.ensures.served;
+  at = search rules;
+  steps = (known c.loop.cpu, c.loop.invariant.rounds, c.serve_or_look.ensures.found c.if-serve_or_look.true);
+  alone = λ sole down.
+      let i = c.loop.invariant in let step = c.serve_or_look.ensures in let before = i.off sole down in
+      let sole_now = sole_served (view c.args.cpu.now) (view c.loop.cpu) i.served sole in
+      let same = step.off sole_now (down_kept (setup c.args.shared.now) (view c.args.cpu.now) (view c.loop.cpu) c.requires.seat.2 i.seat.2 before down) ∙ before in
+      let clear = step.clear c.if-serve_or_look.true in
+      marks_clear (solo (view c.serve_or_look.new.cpu)) (solo (view c.args.cpu.now)) same clear.0 (clear.1 (sole_served (view c.loop.cpu) (view c.serve_or_look.new.cpu) step.served sole_now));
+}

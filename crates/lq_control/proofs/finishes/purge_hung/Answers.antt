@@ -1,4 +1,4 @@
-use Rattle.std.proofs.Common.{◌≡◌, ◌<◌, ℕ, true, List, ◌∷◌, length, None, Some, refl, sym, ap, ◌∙◌, subst}
+use Rattle.std.proofs.Common.{rules, ◌≡◌, ◌<◌, ℕ, true, List, ◌∷◌, length, None, Some, refl, sym, ap, ◌∙◌, subst}
 use Rattle.std.specs.Prelude.{IfSome}
 use Rattle.std.proofs.lemmas.Option.{same_Some}
 use Rattle.lq_device.specs.Station.{StationState}
@@ -60,30 +60,32 @@ module _ (g : given.Over) (c : goal.After-purge_held-arg-1 g) where
       let b = c.begin_hung_purge.ensures.begun in
       b.1 ∙ ap (λ (m : ℕ). purging (cause.Hung m) b.0 v2) of_unit
 
-pub purge_held-purged-requires-clause-slot : goal.purge_held-purged-requires-clause-slot
-purge_held-purged-requires-clause-slot g c _ _ =
-    let d = c.take_lock.ensures.got.0 in let s = (v2 g c).holder.slot in let e = begun g c in
-    let at_ = c.take_lock.ensures.station.1 ∙ ap (λ (x : View). Some (shown (record x.holder { slot = s }))) (sym e) in
-    let about = ap (λ (x : View). x.share.about) (look g c).1 ∙ c.requires.seat.2 in
-    let known_ = slot_within (v1 g c).share.about d.slot c.take_lock.ensures.got.7 in
-    let within = subst (λ (k : Setup). IfSome d.slot (λ n. n < length k.infos)) about known_ in
-    let infos = c.args.shared.now.infos.now in (
-      s,
-      c.begin_hung_purge.ensures.same.1 ∙ at_,
-      ap (λ (x : View). x.packets.owed) e,
-      ap (λ (x : View). x.holder.slot) e,
-      subst (λ (x : View). IfSome x.holder.slot (λ n. n < length infos)) (sym (got g c)) within,
-    )
-
-pub purge_held-purged-requires-clause-bands : goal.purge_held-purged-requires-clause-bands
-purge_held-purged-requires-clause-bands g c _ _ =
-    let b = c.begin_hung_purge.ensures.begun in let e = begun g c in (
-      record { cause = by g c; bands = b.0 },
-      ap (λ (x : View). x.holder.left) e,
-      refl,
-      subst (λ (n : ℕ). HoldsAtMost n b.0) (sym (ap (λ (x : View). x.holder.size) e)) b.2,
-      subst (λ (k : Setup). HoldPackets k.infos b.0) (ap (λ (x : View). x.share.about) (got g c) ∙ c.requires.seat.2) b.3,
-    )
+pub purge_held-purged-requires-clause-may : goal.purge_held-purged-requires-clause-may
+purge_held-purged-requires-clause-may g c _ _ = record {
+  at = search rules;
+  slot =
+      let d = c.take_lock.ensures.got.0 in let s = (v2 g c).holder.slot in let e = begun g c in
+      let at_ = c.take_lock.ensures.station.1 ∙ ap (λ (x : View). Some (shown (record x.holder { slot = s }))) (sym e) in
+      let about = ap (λ (x : View). x.share.about) (look g c).1 ∙ c.requires.seat.2 in
+      let known_ = slot_within (v1 g c).share.about d.slot c.take_lock.ensures.got.7 in
+      let within = subst (λ (k : Setup). IfSome d.slot (λ n. n < length k.infos)) about known_ in
+      let infos = c.args.shared.now.infos.now in (
+        s,
+        c.begin_hung_purge.ensures.same.1 ∙ at_,
+        ap (λ (x : View). x.packets.owed) e,
+        ap (λ (x : View). x.holder.slot) e,
+        subst (λ (x : View). IfSome x.holder.slot (λ n. n < length infos)) (sym (got g c)) within,
+      );
+  bands =
+      let b = c.begin_hung_purge.ensures.begun in let e = begun g c in (
+        record { cause = by g c; bands = b.0 },
+        ap (λ (x : View). x.holder.left) e,
+        refl,
+        subst (λ (n : ℕ). HoldsAtMost n b.0) (sym (ap (λ (x : View). x.holder.size) e)) b.2,
+        subst (λ (k : Setup). HoldPackets k.infos b.0) (ap (λ (x : View). x.share.about) (got g c) ∙ c.requires.seat.2) b.3,
+      );
+  rests = search rules;
+}
 
 -- What is known after the purge: all that was held was taken, and but for that and the run lock the station is as before the call.
 module _ (g : given.Over) (c : goal.After-end_resize-arg-1 g) where
@@ -100,7 +102,7 @@ module _ (g : given.Over) (c : goal.After-end_resize-arg-1 g) where
   emptied =
       let e = begun g begin in let l : Left = record { cause = by g begin; bands = c.begin_hung_purge.ensures.begun.0 } in
       let owed = ap (λ (x : View). x.packets.owed) e in
-      c.purge_held-purged.ensures.emptied (v2 g begin).holder.slot l owed (ap (λ (x : View). x.holder.left) e)
+      c.purge_held-purged.ensures.purged (v2 g begin).holder.slot l owed (ap (λ (x : View). x.holder.left) e)
 
   purged : IsPurged (by g begin) lost (v2 g begin) v4
   purged =
@@ -168,31 +170,6 @@ module _ (g : given.Over) (c : goal.After-end_resize g) where
       let is = station_known got.0 (v0 g begun_at) (v1 g begun_at) (v2 g begun_at) (look g begun_at) got.1 locked.1 in
       sym (of_unit g begun_at) ∙ ap (λ (s : StationState). s.unit) is
 
-pub returns-clause-kept : goal.returns-clause-kept
-returns-clause-kept g c = let kept = c.end_resize.ensures.kept.0 in let s = seat g c.before in let l = left g c.before in record {
-  seat = (kept.0.0 ∙ s.0, kept.0.1 ∙ s.1);
-  share = kept.1 ∙ ap (λ (x : View). x.share) l.is;
-  control = kept.4 ∙ control g c.before;
-  told = kept.5 ∙ (ap (λ (x : View). x.whole.told) l.is ∙ l.told);
-}
-
-pub returns-clause-at : goal.returns-clause-at
-returns-clause-at g c =
-    let kept = c.end_resize.ensures.kept.0 in let at = c.end_resize.ensures.at in let is = (left g c.before).is in
-    let control5 = kept.4 ∙ control g c.before in let active = c.requires.hung.active in (
-      at.0,
-      (
-        at.1,
-        kept.2 ∙ (ap (λ (x : View). x.packets) is ∙ c.requires.at.2.1),
-        kept.3 ∙ (ap (λ (x : View). x.locks) is ∙ c.requires.at.2.2),
-        ap (λ (h : HolderPart). h.resizing) at.2 ∙ resizing g c.before,
-      ),
-      (ap (λ (b : FirstPart). b.phase) control5 ∙ active.0, ap (λ (b : FirstPart). b.purge) control5 ∙ active.1),
-    )
-
-pub returns-clause-raised : goal.returns-clause-raised
-returns-clause-raised g c = (whole g c).raised
-
 comes_to : (g : given.Over) (c : goal.After-end_resize g)
     → PurgesHung c.purge_held-purged.result (view c.args.cpu.now) (view c.end_resize.new.cpu)
 comes_to g c =
@@ -209,26 +186,47 @@ comes_to g c =
       step = p.step ∙ (λ j. purged_as_hung (w j) (solo v));
     }
 
-pub returns-clause-purges : goal.returns-clause-purges
-returns-clause-purges g c =
-    let k = setup c.args.shared.now in let b = c.begin_hung_purge.ensures in let e = c.end_resize.ensures in
-    let got_ = known c.take_lock.new.cpu in let begun_ = known c.begin_hung_purge.new.cpu in let new = known c.purge_held-purged.new.cpu in
-    let count = c.purge_held-purged.result in let by_ = cause.Hung got_.view.holder.station.unit in let slot = got_.view.holder.slot in
-    let started = both begun_ (with_purge_begun by_ b.begun.0 b.made.0 got_) b.begun.1 b.made.1 in
-    let purges = c.purge_held-purged.ensures.purges slot (ap (λ (x : View). x.packets.owed) (begun g c.before.before.before)) in
-    let of_it = sym (of_unit g c.before.before.before) in
-    let held_ = subst (λ (n : ℕ). PurgesHeld k (cause.Hung n) slot count begun_ new) of_it purges in record {
-      left = known c.wait_until_left.new.cpu;
-      locked = got_;
-      purged = new;
-      waits = c.wait_until_left.ensures.waits;
-      takes = c.take_lock.ensures.takes;
-      purges = record {
-        bands = b.begun.0;
-        state = b.made.0;
-        knows = b.begun.4;
-        purges = subst (λ (x : Known). PurgesHeld k by_ slot count x new) started held_;
+pub returns : goal.returns
+returns g c = record {
+  kept = let kept = c.end_resize.ensures.kept.0 in let s = seat g c.before in let l = left g c.before in record {
+    seat = (kept.0.0 ∙ s.0, kept.0.1 ∙ s.1);
+    share = kept.1 ∙ ap (λ (x : View). x.share) l.is;
+    control = kept.4 ∙ control g c.before;
+    told = kept.5 ∙ (ap (λ (x : View). x.whole.told) l.is ∙ l.told);
+  };
+  at =
+      let kept = c.end_resize.ensures.kept.0 in let at = c.end_resize.ensures.at in let is = (left g c.before).is in
+      let control5 = kept.4 ∙ control g c.before in let active = c.requires.hung.active in (
+        at.0,
+        (
+          at.1,
+          kept.2 ∙ (ap (λ (x : View). x.packets) is ∙ c.requires.at.2.1),
+          kept.3 ∙ (ap (λ (x : View). x.locks) is ∙ c.requires.at.2.2),
+          ap (λ (h : HolderPart). h.resizing) at.2 ∙ resizing g c.before,
+        ),
+        (ap (λ (b : FirstPart). b.phase) control5 ∙ active.0, ap (λ (b : FirstPart). b.purge) control5 ∙ active.1),
+      );
+  raised = (whole g c).raised;
+  purges =
+      let k = setup c.args.shared.now in let b = c.begin_hung_purge.ensures in let e = c.end_resize.ensures in
+      let got_ = known c.take_lock.new.cpu in let begun_ = known c.begin_hung_purge.new.cpu in let new = known c.purge_held-purged.new.cpu in
+      let count = c.purge_held-purged.result in let by_ = cause.Hung got_.view.holder.station.unit in let slot = got_.view.holder.slot in
+      let started = both begun_ (with_purge_begun by_ b.begun.0 b.made.0 got_) b.begun.1 b.made.1 in
+      let purges = c.purge_held-purged.ensures.purges slot (ap (λ (x : View). x.packets.owed) (begun g c.before.before.before)) in
+      let of_it = sym (of_unit g c.before.before.before) in
+      let held_ = subst (λ (n : ℕ). PurgesHeld k (cause.Hung n) slot count begun_ new) of_it purges in record {
+        left = known c.wait_until_left.new.cpu;
+        locked = got_;
+        purged = new;
+        waits = c.wait_until_left.ensures.waits;
+        takes = c.take_lock.ensures.takes;
+        purges = record {
+          bands = b.begun.0;
+          state = b.made.0;
+          knows = b.begun.4;
+          purges = subst (λ (x : Known). PurgesHeld k by_ slot count x new) started held_;
+        };
+        releases = (record { calm = record { share = e.kept.0.1; state = e.kept.1; settled = e.kept.0.8 }; sole = e.sole }, e.ends);
+        comes_to = comes_to g c;
       };
-      releases = (record { calm = record { share = e.kept.0.1; state = e.kept.1; settled = e.kept.0.8 }; sole = e.sole }, e.ends);
-      comes_to = comes_to g c;
-    }
+}

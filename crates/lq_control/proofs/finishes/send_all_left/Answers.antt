@@ -1,4 +1,4 @@
-use Rattle.std.proofs.Common.{◌≡◌, ℕ, length, refl, sym, ap, ◌∙◌, subst, arith}
+use Rattle.std.proofs.Common.{rules, ◌≡◌, ℕ, length, refl, sym, ap, ◌∙◌, subst, arith}
 use Rattle.lq_table.specs.Views.{View}
 use Rattle.lq_table.specs.Sees.{view, known, setup}
 use Rattle.lq_ring.proofs.Seats.{seat_on}
@@ -11,11 +11,11 @@ use Rattle.lq_control.proofs.finishes.send_all_left.Goals as goal
 pub loop-n-init : goal.loop-n-init
 loop-n-init g c = let k = setup c.args.shared.now in let v = view c.args.cpu.now in record {
   seat = c.requires.seat;
-  at = c.requires.at.0;
-  ready = c.requires.at.1;
-  low = c.requires.raised;
+  at = c.requires.may.at.0;
+  ready = c.requires.may.at.1;
+  low = c.requires.may.raised;
   kept = record { seat = (refl, refl); share = refl; control = refl; told = refl };
-  turns = c.requires.turns;
+  turns = c.requires.may.turns;
   sent = sent_same k v v refl;
   done = λ _. refl;
   sends = refl;
@@ -40,11 +40,16 @@ loop-n-preserved g c =
       done = λ all. s.done (subst (λ (x : View). AreAllDone k x.turns) (sym (i.done all)) all) ∙ i.done all;
     }
 
-pub returns-clause-sends : goal.returns-clause-sends
-returns-clause-sends g c =
-    let i = c.loop-n.invariant in let k = setup c.args.shared.now in let all : c.loop-n.n ≡ length k.infos = (let test = c.loop-n-test.false in let top = c.loop-n.auto.n-end in let here : c.loop-n.n ≡ length c.infos-n-end.result.now = omega arith in here) ∙ ap length c.infos-n-end.ensures in record {
-      sends = subst (λ (n : ℕ). SendsLeftBelow k n (known c.args.cpu.now) (known c.loop-n.cpu)) all i.sends;
-      brings = i.sent;
-      done = all_done k (view c.loop-n.cpu).turns (subst (λ (n : ℕ). AreTurnsFrom k n (view c.loop-n.cpu).turns) all i.turns);
-      none = i.done;
-    }
+pub returns : goal.returns
+returns g c = record {
+  kept = search rules;
+  at = search rules;
+  raised = search rules;
+  sends =
+      let i = c.loop-n.invariant in let k = setup c.args.shared.now in let all : c.loop-n.n ≡ length k.infos = (let test = c.loop-n-test.false in let top = c.loop-n.auto.n-end in let here : c.loop-n.n ≡ length c.infos-n-end.result.now = omega arith in here) ∙ ap length c.infos-n-end.ensures in record {
+        sends = subst (λ (n : ℕ). SendsLeftBelow k n (known c.args.cpu.now) (known c.loop-n.cpu)) all i.sends;
+        brings = i.sent;
+        done = all_done k (view c.loop-n.cpu).turns (subst (λ (n : ℕ). AreTurnsFrom k n (view c.loop-n.cpu).turns) all i.turns);
+        none = i.done;
+      };
+}

@@ -1,4 +1,4 @@
-use Rattle.std.proofs.Common.{◌≡◌, ◌<◌, ◌≤◌, ◌+◌, ◌*◌, ℕ, List, inl, inr, refl, length, get_or}
+use Rattle.std.proofs.Common.{rules, ◌≡◌, ◌<◌, ◌≤◌, ◌+◌, ◌*◌, ℕ, List, inl, inr, refl, length, get_or}
 use Rattle.std.proofs.Common.{slice_index, slice_get, Option, Some, sym, ap, ◌∙◌, subst, arith}
 use Rattle.std.specs.Prelude.{slice_set}
 use Rattle.std.specs.Option.{option_map_or}
@@ -50,34 +50,36 @@ entry {k} {n} {v} {infos} read within made =
     }
 
 -- where it is of another station
-pub returns-then-info-number-clause-turns : goal.returns-then-info-number-clause-turns
-returns-then-info-number-clause-turns g c =
-    let e = entry c.infos.ensures c.requires.packet c.requires.made in
-    turns_elsewhere (setup c.args.shared.now) c.args.n _ e.here (view c.args.cpu.now).turns
-    (λ is. c.if-info-number.true (is ∙ sym c.number.ensures)) c.requires.turns
-
-pub returns-then-info-number-clause-sent : goal.returns-then-info-number-clause-sent
-returns-then-info-number-clause-sent g c = let v = view c.args.cpu.now in sent_same (setup c.args.shared.now) v v refl
-
-pub returns-then-info-number-clause-sends : goal.returns-then-info-number-clause-sends
-returns-then-info-number-clause-sends g c =
-    let e = entry c.infos.ensures c.requires.packet c.requires.made in
-    inl (λ is. c.if-info-number.true (sym e.station ∙ is ∙ sym c.number.ensures), refl)
+pub returns-then-info-number : goal.returns-then-info-number
+returns-then-info-number g c = record {
+  kept = search rules;
+  at = search rules;
+  raised = search rules;
+  turns =
+      let e = entry c.infos.ensures c.requires.packet c.requires.may.made in
+      turns_elsewhere (setup c.args.shared.now) c.args.n _ e.here (view c.args.cpu.now).turns
+      (λ is. c.if-info-number.true (is ∙ sym c.number.ensures)) c.requires.may.turns;
+  sent = let v = view c.args.cpu.now in sent_same (setup c.args.shared.now) v v refl;
+  done = search rules;
+  sends =
+      let e = entry c.infos.ensures c.requires.packet c.requires.may.made in
+      inl (λ is. c.if-info-number.true (sym e.station ∙ is ∙ sym c.number.ensures), refl);
+}
 
 -- where it is of this station
 pub load_turn-requires-clause-owner : goal.load_turn-requires-clause-owner
-load_turn-requires-clause-owner g c _ _ = (entry c.infos.ensures c.requires.packet c.requires.made).sender
+load_turn-requires-clause-owner g c _ _ = (entry c.infos.ensures c.requires.packet c.requires.may.made).sender
 
 pub transmit-sending-requires-clause-packet : goal.transmit-sending-requires-clause-packet
 transmit-sending-requires-clause-packet g c _ _ =
-    let n = c.args.n in let made = c.requires.made.infos in let e = entry c.infos.ensures c.requires.packet c.requires.made in
+    let n = c.args.n in let made = c.requires.may.made.infos in let e = entry c.infos.ensures c.requires.packet c.requires.may.made in
     let own = e.station ∙ (c.if-info-number.false ∙ c.number.ensures) in
     ((c.requires.packet, made.queues_are n c.requires.packet own), own, made.bands n c.requires.packet)
 
 pub transmit-sending-requires-clause-owner : goal.transmit-sending-requires-clause-owner
 transmit-sending-requires-clause-owner g c _ _ =
-    let owner = owner_in (setup c.args.shared.now).infos c.args.n in let sender = c.requires.made.infos.owners c.args.n c.requires.packet in
-    (subst (λ (x : View). 0 < times owner x.share.owners) (sym c.load_turn.ensures.same.1) (c.requires.made.owners owner sender), sender)
+    let owner = owner_in (setup c.args.shared.now).infos c.args.n in let sender = c.requires.may.made.infos.owners c.args.n c.requires.packet in
+    (subst (λ (x : View). 0 < times owner x.share.owners) (sym c.load_turn.ensures.same.1) (c.requires.may.made.owners owner sender), sender)
 
 -- What is known where it was left: its turn is due, so it was transmitted in turn.
 module _ (g : given.Over) (c : goal.After-drain g) where
@@ -91,7 +93,7 @@ module _ (g : given.Over) (c : goal.After-drain g) where
   before = view c.args.cpu.now
 
   is : IsEntry k c.args.n before info
-  is = entry c.infos.ensures c.requires.packet c.requires.made
+  is = entry c.infos.ensures c.requires.packet c.requires.may.made
 
   own : info.station ≡ k.station
   own = c.if-info-number.false ∙ c.number.ensures
@@ -100,7 +102,7 @@ module _ (g : given.Over) (c : goal.After-drain g) where
   left = let word = c.load_turn.ensures.word is.owned in let test = c.if-load_turn-info.true in omega arith
 
   due : slice_index before.turns info.owner ≡ 2 * info.rank
-  due = in_turn k c.args.n info is.here own is.ranked is.sender before.turns c.requires.turns left
+  due = in_turn k c.args.n info is.here own is.ranked is.sender before.turns c.requires.may.turns left
 
   sent : TransmitsBy k c.args.n c.transmit-sending.result (known c.load_turn.new.cpu) (known c.transmit-sending.new.cpu)
   sent =
@@ -110,47 +112,47 @@ module _ (g : given.Over) (c : goal.After-drain g) where
   sent_word : (view c.transmit-sending.new.cpu).turns ≡ slice_set before.turns info.owner (2 * info.rank + 2)
   sent_word = sent.turns ∙ (λ j. slice_set (c.load_turn.ensures.same.1 j).turns (is.owner j) (2 * is.rank j + 2))
 
-pub returns-then-load_turn-info-clause-turns : goal.returns-then-load_turn-info-clause-turns
-returns-then-load_turn-info-clause-turns g c =
-    let e = is g c in
-    turns_sent (k g c) c.args.n _ e.here (own g c) e.ranked e.sender (before g c).turns (view c.drain.new.cpu).turns c.requires.turns
-    (due g c) (c.drain.ensures.served.kept.turns ∙ sent_word g c)
-
-pub returns-then-load_turn-info-clause-sent : goal.returns-then-load_turn-info-clause-sent
-returns-then-load_turn-info-clause-sent g c =
-    let s = k g c in let v0 = before g c in let v1 = view c.load_turn.new.cpu in let v2 = view c.transmit-sending.new.cpu in
-    let v3 = view c.drain.new.cpu in let same = c.load_turn.ensures.same.1 in let served = c.drain.ensures.served in
-    let about = ap (λ (x : View). x.share.about) same ∙ c.requires.seat.2 in
-    let by = sent_by s c.args.n c.transmit-sending.result v1 v2 about (sent g c).trail c.transmit-sending.ensures.fates in
-    sent_then s v0 v1 v3 (sent_same s v0 v1 same) (sent_then s v1 v2 v3 by (sent_none s v2 v3 served.trail served.fates))
-
-pub returns-then-load_turn-info-clause-done : goal.returns-then-load_turn-info-clause-done
-returns-then-load_turn-info-clause-done g c done =
-    let e = is g c in let low = left g c in
-    let past = not_left (k g c) c.args.n (info g c) e.here (own g c) e.ranked e.sender (before g c).turns done in
-    absurd (omega arith)
-
-pub returns-then-load_turn-info-clause-sends : goal.returns-then-load_turn-info-clause-sends
-returns-then-load_turn-info-clause-sends g c =
-    let e = is g c in let loaded = c.load_turn.ensures in let sent_ = known c.transmit-sending.new.cpu in
-    sends_if_left (k g c) c.args.n c.load_turn.result _ _ _ _ e.here (own g c) loaded.same.1 loaded.made
-    (inr ((let test = c.if-load_turn-info.true in let r = e.rank in omega arith), _, sent_, sent g c, c.drain.ensures.drains))
+pub returns-then-load_turn-info : goal.returns-then-load_turn-info
+returns-then-load_turn-info g c = record {
+  kept = search rules;
+  at = search rules;
+  raised = search rules;
+  turns =
+      let e = is g c in
+      turns_sent (k g c) c.args.n _ e.here (own g c) e.ranked e.sender (before g c).turns (view c.drain.new.cpu).turns c.requires.may.turns
+      (due g c) (c.drain.ensures.served.kept.turns ∙ sent_word g c);
+  sent =
+      let s = k g c in let v0 = before g c in let v1 = view c.load_turn.new.cpu in let v2 = view c.transmit-sending.new.cpu in
+      let v3 = view c.drain.new.cpu in let same = c.load_turn.ensures.same.1 in let served = c.drain.ensures.served in
+      let about = ap (λ (x : View). x.share.about) same ∙ c.requires.seat.2 in
+      let by = sent_by s c.args.n c.transmit-sending.result v1 v2 about (sent g c).trail c.transmit-sending.ensures.fates in
+      sent_then s v0 v1 v3 (sent_same s v0 v1 same) (sent_then s v1 v2 v3 by (sent_none s v2 v3 served.trail served.fates));
+  done = λ done. let e = is g c in let low = left g c in
+      let past = not_left (k g c) c.args.n (info g c) e.here (own g c) e.ranked e.sender (before g c).turns done in
+      absurd (omega arith);
+  sends =
+      let e = is g c in let loaded = c.load_turn.ensures in let sent_ = known c.transmit-sending.new.cpu in
+      sends_if_left (k g c) c.args.n c.load_turn.result _ _ _ _ e.here (own g c) loaded.same.1 loaded.made
+      (inr ((let test = c.if-load_turn-info.true in let r = e.rank in omega arith), _, sent_, sent g c, c.drain.ensures.steps));
+}
 
 -- where it was transmitted before
-pub returns-else-load_turn-info-clause-turns : goal.returns-else-load_turn-info-clause-turns
-returns-else-load_turn-info-clause-turns g c =
-    let s = setup c.args.shared.now in let v = view c.args.cpu.now in let n = c.args.n in
-    let e = entry c.infos.ensures c.requires.packet c.requires.made in let word = c.load_turn.ensures.word e.owned in
-    subst (λ (x : View). AreTurnsFrom s (n + 1) x.turns) (sym c.load_turn.ensures.same.1)
-    (turns_past s n _ e.here (c.if-info-number.false ∙ c.number.ensures) e.ranked e.sender v.turns c.requires.turns
-    (let test = c.if-load_turn-info.false in omega arith))
-
-pub returns-else-load_turn-info-clause-sent : goal.returns-else-load_turn-info-clause-sent
-returns-else-load_turn-info-clause-sent g c =
-    sent_same (setup c.args.shared.now) (view c.args.cpu.now) (view c.load_turn.new.cpu) c.load_turn.ensures.same.1
-
-pub returns-else-load_turn-info-clause-sends : goal.returns-else-load_turn-info-clause-sends
-returns-else-load_turn-info-clause-sends g c =
-    let e = entry c.infos.ensures c.requires.packet c.requires.made in let loaded = c.load_turn.ensures in
-    sends_if_left (setup c.args.shared.now) c.args.n c.load_turn.result _ _ _ _ e.here (c.if-info-number.false ∙ c.number.ensures)
-    loaded.same.1 loaded.made (inl ((let test = c.if-load_turn-info.false in let r = e.rank in omega arith), refl))
+pub returns-else-load_turn-info : goal.returns-else-load_turn-info
+returns-else-load_turn-info g c = record {
+  kept = search rules;
+  at = search rules;
+  raised = search rules;
+  turns =
+      let s = setup c.args.shared.now in let v = view c.args.cpu.now in let n = c.args.n in
+      let e = entry c.infos.ensures c.requires.packet c.requires.may.made in let word = c.load_turn.ensures.word e.owned in
+      subst (λ (x : View). AreTurnsFrom s (n + 1) x.turns) (sym c.load_turn.ensures.same.1)
+      (turns_past s n _ e.here (c.if-info-number.false ∙ c.number.ensures) e.ranked e.sender v.turns c.requires.may.turns
+      (let test = c.if-load_turn-info.false in omega arith));
+  sent =
+      sent_same (setup c.args.shared.now) (view c.args.cpu.now) (view c.load_turn.new.cpu) c.load_turn.ensures.same.1;
+  done = search rules;
+  sends =
+      let e = entry c.infos.ensures c.requires.packet c.requires.may.made in let loaded = c.load_turn.ensures in
+      sends_if_left (setup c.args.shared.now) c.args.n c.load_turn.result _ _ _ _ e.here (c.if-info-number.false ∙ c.number.ensures)
+      loaded.same.1 loaded.made (inl ((let test = c.if-load_turn-info.false in let r = e.rank in omega arith), refl));
+}

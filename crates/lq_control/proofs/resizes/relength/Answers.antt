@@ -1,4 +1,4 @@
-use Rattle.std.proofs.Common.{◌≡◌, ℕ, false, ap, ◌∙◌, subst}
+use Rattle.std.proofs.Common.{rules, ◌≡◌, ℕ, false, ap, ◌∙◌, subst}
 use Rattle.lq_model.specs.Account.{Resize}
 use Rattle.lq_table.specs.Solo.{Solo, heard, locked_to, solo}
 use Rattle.lq_table.specs.Sees.{known, setup, view}
@@ -10,40 +10,37 @@ use Rattle.lq_control.proofs.Keeps.{keeps_freed, keeps_resized, keeps_then, resi
 use Rattle.lq_control.proofs.StepLemmas.{none_of}
 use Rattle.lq_control.proofs.resizes.relength.Goals as goal
 
-pub returns-clause-sole : goal.returns-clause-sole
-returns-clause-sole g c = λ sole.
-    ap solo c.release.ensures.released
-    ∙ (ap (λ v. locked_to false (solo v)) c.resize_all.ensures.resizes.is ∙ ap (λ (s : Solo). locked_to false (heard (Resize c.args.len c.args.event) s)) (c.take_lock.ensures.sole sole).0)
-
-pub returns-clause-relengths : goal.returns-clause-relengths
-returns-clause-relengths g c =
-    let r = c.resize_all.ensures.resizes in let len = c.args.len in
-    let phase : (view c.take_lock.new.cpu).control.phase ≡ Purged = ap (λ (x : View). x.control.phase) c.take_lock.ensures.got.1 ∙ c.requires.purged.0 in
-    let none : c.resize_all.result ≡ 0 = r.counted ∙ none_of len r.held (r.is_known.0 phase) in
-    (known c.take_lock.new.cpu, known c.resize_all.new.cpu, c.take_lock.ensures.takes, subst (λ (n : ℕ). ResizesAll (setup c.args.shared.now) len c.args.event n (known c.take_lock.new.cpu) (known c.resize_all.new.cpu)) none r, c.release.ensures.by)
-
-pub returns-clause-same : goal.returns-clause-same
-returns-clause-same g c =
-    let v = view c.args.cpu.now in let v1 = view c.take_lock.new.cpu in let v2 = view c.resize_all.new.cpu in let v3 = view c.release.new.cpu in let got = c.take_lock.ensures.got in
-    let r = c.resize_all.ensures.resizes in let len = c.args.len in let event = c.args.event in let lost = all_lost len r.held in let e = c.release.ensures in
-    let t = c.take_lock.ensures.same.0 in let s = c.resize_all.ensures.same.0 in let l = e.same.0 in
-    let all = keeps_then v v2 v3 (keeps_resized len event lost got.0 v v1 v2 got.1 r.is) (keeps_freed v2 v3 e.released) in
-    (seat_then c.args.cpu.now c.take_lock.new.cpu c.release.new.cpu t (seat_then c.take_lock.new.cpu c.resize_all.new.cpu c.release.new.cpu s l), all.0, all.1)
-
-pub returns-clause-at : goal.returns-clause-at
-returns-clause-at g c =
-    let v = view c.args.cpu.now in let v1 = view c.take_lock.new.cpu in let v2 = view c.resize_all.new.cpu in let v3 = view c.release.new.cpu in let got = c.take_lock.ensures.got in
-    let r = c.resize_all.ensures.resizes in let len = c.args.len in let event = c.args.event in let lost = all_lost len r.held in let e = c.release.ensures in
-    let turned = resized_from len event lost got.0 v v1 v2 got.1 r.is in let free = e.released in let ready = c.requires.at.1 in (
-      ap (λ (x : View). x.place.position) free,
-      (
-        e.empty,
-        ap (λ (x : View). x.packets) free ∙ (ap (λ (x : View). x.packets) turned ∙ ready.1),
-        ap (λ (x : View). x.locks) free ∙ (ap (λ (x : View). x.locks) turned ∙ ready.2),
-        ap (λ (x : View). x.holder.resizing) free ∙ ap (λ (x : View). x.holder.resizing) turned,
-      ),
-      (
-        ap (λ (x : View). x.control.phase) free ∙ (ap (λ (x : View). x.control.phase) turned ∙ c.requires.purged.0),
-        ap (λ (x : View). x.control.purge) free ∙ (ap (λ (x : View). x.control.purge) turned ∙ c.requires.purged.1),
-      ),
-    )
+pub returns : goal.returns
+returns g c = record {
+  same =
+      let v = view c.args.cpu.now in let v1 = view c.take_lock.new.cpu in let v2 = view c.resize_all.new.cpu in let v3 = view c.release.new.cpu in let got = c.take_lock.ensures.got in
+      let r = c.resize_all.ensures.resizes in let len = c.args.len in let event = c.args.event in let lost = all_lost len r.held in let e = c.release.ensures in
+      let t = c.take_lock.ensures.same.0 in let s = c.resize_all.ensures.same.0 in let l = e.same.0 in
+      let all = keeps_then v v2 v3 (keeps_resized len event lost got.0 v v1 v2 got.1 r.is) (keeps_freed v2 v3 e.released) in
+      (seat_then c.args.cpu.now c.take_lock.new.cpu c.release.new.cpu t (seat_then c.take_lock.new.cpu c.resize_all.new.cpu c.release.new.cpu s l), all.0, all.1);
+  at =
+      let v = view c.args.cpu.now in let v1 = view c.take_lock.new.cpu in let v2 = view c.resize_all.new.cpu in let v3 = view c.release.new.cpu in let got = c.take_lock.ensures.got in
+      let r = c.resize_all.ensures.resizes in let len = c.args.len in let event = c.args.event in let lost = all_lost len r.held in let e = c.release.ensures in
+      let turned = resized_from len event lost got.0 v v1 v2 got.1 r.is in let free = e.released in let ready = c.requires.at.1 in (
+        ap (λ (x : View). x.place.position) free,
+        (
+          e.empty,
+          ap (λ (x : View). x.packets) free ∙ (ap (λ (x : View). x.packets) turned ∙ ready.1),
+          ap (λ (x : View). x.locks) free ∙ (ap (λ (x : View). x.locks) turned ∙ ready.2),
+          ap (λ (x : View). x.holder.resizing) free ∙ ap (λ (x : View). x.holder.resizing) turned,
+        ),
+        (
+          ap (λ (x : View). x.control.phase) free ∙ (ap (λ (x : View). x.control.phase) turned ∙ c.requires.purged.0),
+          ap (λ (x : View). x.control.purge) free ∙ (ap (λ (x : View). x.control.purge) turned ∙ c.requires.purged.1),
+        ),
+      );
+  trail = search rules;
+  steps =
+      let r = c.resize_all.ensures.resizes in let len = c.args.len in
+      let phase : (view c.take_lock.new.cpu).control.phase ≡ Purged = ap (λ (x : View). x.control.phase) c.take_lock.ensures.got.1 ∙ c.requires.purged.0 in
+      let none : c.resize_all.result ≡ 0 = r.counted ∙ none_of len r.held (r.is_known.0 phase) in
+      (known c.take_lock.new.cpu, known c.resize_all.new.cpu, c.take_lock.ensures.takes, subst (λ (n : ℕ). ResizesAll (setup c.args.shared.now) len c.args.event n (known c.take_lock.new.cpu) (known c.resize_all.new.cpu)) none r, c.release.ensures.by);
+  alone = λ sole.
+      ap solo c.release.ensures.released
+      ∙ (ap (λ v. locked_to false (solo v)) c.resize_all.ensures.resizes.is ∙ ap (λ (s : Solo). locked_to false (heard (Resize c.args.len c.args.event) s)) (c.take_lock.ensures.sole sole).0);
+}

@@ -1,4 +1,4 @@
-use Rattle.std.proofs.Common.{◌≡◌, ℕ, ◌<◌, true, None, refl, sym, ap, ◌∙◌, subst, arith}
+use Rattle.std.proofs.Common.{rules, ◌≡◌, ℕ, ◌<◌, true, None, refl, sym, ap, ◌∙◌, subst, arith}
 use Rattle.lq_model.specs.Account.{Resize}
 use Rattle.lq_model.specs.Alone.{changed}
 use Rattle.lq_model.specs.declared.plan.EventKind.TheVariants as kind
@@ -19,58 +19,56 @@ use Rattle.lq_control.proofs.Keeps.{keeps_begun, keeps_ended, keeps_resized, kee
 use Rattle.lq_control.proofs.StepLemmas.{both}
 use Rattle.lq_control.proofs.resizes.resize.Goals as goal
 
-pub returns-clause-sole : goal.returns-clause-sole
-returns-clause-sole g c sole =
+pub returns : goal.returns
+returns g c =
+    let alone_ : IsSole (view c.args.cpu.now) → solo (view c.end_resize.new.cpu) ≡ ended (heard (Resize c.args.len c.args.event) (locked_to true (solo (view c.args.cpu.now)))) = λ sole.
     let v = view c.args.cpu.now in let got = c.take_lock.ensures.got in let v2 = view c.take_lock.new.cpu in
     let e2 : v2 ≡ got_in_control got.0 (beginning_control v) = got.1 ∙ ap (got_in_control got.0) c.begin_control.ensures.view in
     let r = c.resize_all-shrunk.ensures.resizes in let s1 : solo (view c.begin_control.new.cpu) ≡ solo v = ap solo c.begin_control.ensures.view in
     let s2 = (c.take_lock.ensures.sole (subst IsSole (sym c.begin_control.ensures.view) sole)).0 ∙ ap (locked_to true) s1 in
-    c.end_resize.ensures.sole (subst IsSole (sym (r.is ∙ ap (having_resized c.args.len c.args.event (all_lost c.args.len r.held)) e2)) sole) ∙ ap ended (ap solo r.is ∙ ap (heard (Resize c.args.len c.args.event)) s2)
-
-pub returns-clause-alone : goal.returns-clause-alone
-returns-clause-alone g c = λ plan h.
-    let infos = c.args.shared.now.infos.now in let start = first_account (setup c.args.shared.now) in let v = solo (view c.args.cpu.now) in let len = c.args.len in let event = c.args.event in
-    stepped_at infos start (changed plan event (kind.Resize len)) v (heard (Resize len event) v) (solo (view c.end_resize.new.cpu))
-    (returns-clause-sole g c h.sender.sole ∙ resized_same infos start (Resize len event) v h) (resize_alone infos start len event plan v h)
-
-pub returns-clause-resizes : goal.returns-clause-resizes
-returns-clause-resizes g c =
-    let first = c.begin_control.ensures in let e = c.end_resize.ensures in (
-      first.made.0,
-      known c.take_lock.new.cpu,
-      known c.resize_all-shrunk.new.cpu,
-      subst (λ (x : Known). TakesLock x (known c.take_lock.new.cpu)) (both (known c.begin_control.new.cpu) (with_control_begun first.made.0 (known c.args.cpu.now)) first.view first.made.1) c.take_lock.ensures.takes,
-      c.resize_all-shrunk.ensures.resizes,
-      (record { calm = record { share = e.kept.0.1; state = e.kept.1; settled = e.kept.0.8 }; sole = e.sole }, e.ends),
-    )
-
-pub returns-clause-same : goal.returns-clause-same
-returns-clause-same g c =
-    let v1 = view c.begin_control.new.cpu in let v2 = view c.take_lock.new.cpu in let v3 = view c.resize_all-shrunk.new.cpu in let got = c.take_lock.ensures.got in
-    let r = c.resize_all-shrunk.ensures.resizes in let len = c.args.len in let event = c.args.event in let lost = all_lost len r.held in
-    let b = c.begin_control.ensures in let t = c.take_lock.ensures.same.0 in let s = c.resize_all-shrunk.ensures.same.0 in let e = c.end_resize.ensures.kept.0 in
-    let v = view c.args.cpu.now in let last = view c.end_resize.new.cpu in
-    let k = keeps_then v v1 v3 (keeps_begun v v1 b.view) (keeps_resized len event lost got.0 v1 v2 v3 got.1 r.is) in
-    let all = keeps_then v v3 last k (keeps_ended c.resize_all-shrunk.new.cpu c.end_resize.new.cpu e) in
-    let c1 = c.begin_control.new.cpu in let c2 = c.take_lock.new.cpu in let c3 = c.resize_all-shrunk.new.cpu in
-    (seat_then c.args.cpu.now c1 c.end_resize.new.cpu b.same.0 (seat_then c1 c2 c.end_resize.new.cpu t (seat_then c2 c3 c.end_resize.new.cpu s e.0)), all.0, all.1)
-
-pub returns-clause-at : goal.returns-clause-at
-returns-clause-at g c =
-    let v1 = view c.begin_control.new.cpu in let v2 = view c.take_lock.new.cpu in let v3 = view c.resize_all-shrunk.new.cpu in let got = c.take_lock.ensures.got in
-    let r = c.resize_all-shrunk.ensures.resizes in let len = c.args.len in let event = c.args.event in let lost = all_lost len r.held in
-    let e = c.end_resize.ensures in let k = e.kept.0 in let at = e.at in
-    let ready = c.requires.at.2 in let first = c.begin_control.ensures.view in let turned = resized_from len event lost got.0 v1 v2 v3 got.1 r.is in
-    let control : (view c.end_resize.new.cpu).control ≡ (view c.args.cpu.now).control = k.4 ∙ (ap (λ (x : View). x.control) turned ∙ ap (λ (x : View). x.control) first) in (
-      at.0,
-      (
-        at.1,
-        k.2 ∙ (ap (λ (x : View). x.packets) turned ∙ (ap (λ (x : View). x.packets) first ∙ ready.1)),
-        k.3 ∙ (ap (λ (x : View). x.locks) turned ∙ (ap (λ (x : View). x.locks) first ∙ ready.2)),
-        ap (λ (x : HolderPart). x.resizing) at.2 ∙ ap (λ (x : View). x.holder.resizing) turned,
-      ),
-      (ap (λ (x : FirstPart). x.phase) control ∙ c.requires.active.0, ap (λ (x : FirstPart). x.purge) control ∙ c.requires.active.1),
-    )
+    c.end_resize.ensures.sole (subst IsSole (sym (r.is ∙ ap (having_resized c.args.len c.args.event (all_lost c.args.len r.held)) e2)) sole) ∙ ap ended (ap solo r.is ∙ ap (heard (Resize c.args.len c.args.event)) s2) in record {
+      same =
+          let v1 = view c.begin_control.new.cpu in let v2 = view c.take_lock.new.cpu in let v3 = view c.resize_all-shrunk.new.cpu in let got = c.take_lock.ensures.got in
+          let r = c.resize_all-shrunk.ensures.resizes in let len = c.args.len in let event = c.args.event in let lost = all_lost len r.held in
+          let b = c.begin_control.ensures in let t = c.take_lock.ensures.same.0 in let s = c.resize_all-shrunk.ensures.same.0 in let e = c.end_resize.ensures.kept.0 in
+          let v = view c.args.cpu.now in let last = view c.end_resize.new.cpu in
+          let k = keeps_then v v1 v3 (keeps_begun v v1 b.view) (keeps_resized len event lost got.0 v1 v2 v3 got.1 r.is) in
+          let all = keeps_then v v3 last k (keeps_ended c.resize_all-shrunk.new.cpu c.end_resize.new.cpu e) in
+          let c1 = c.begin_control.new.cpu in let c2 = c.take_lock.new.cpu in let c3 = c.resize_all-shrunk.new.cpu in
+          (seat_then c.args.cpu.now c1 c.end_resize.new.cpu b.same.0 (seat_then c1 c2 c.end_resize.new.cpu t (seat_then c2 c3 c.end_resize.new.cpu s e.0)), all.0, all.1);
+      at =
+          let v1 = view c.begin_control.new.cpu in let v2 = view c.take_lock.new.cpu in let v3 = view c.resize_all-shrunk.new.cpu in let got = c.take_lock.ensures.got in
+          let r = c.resize_all-shrunk.ensures.resizes in let len = c.args.len in let event = c.args.event in let lost = all_lost len r.held in
+          let e = c.end_resize.ensures in let k = e.kept.0 in let at = e.at in
+          let ready = c.requires.may.at.2 in let first = c.begin_control.ensures.view in let turned = resized_from len event lost got.0 v1 v2 v3 got.1 r.is in
+          let control : (view c.end_resize.new.cpu).control ≡ (view c.args.cpu.now).control = k.4 ∙ (ap (λ (x : View). x.control) turned ∙ ap (λ (x : View). x.control) first) in (
+            at.0,
+            (
+              at.1,
+              k.2 ∙ (ap (λ (x : View). x.packets) turned ∙ (ap (λ (x : View). x.packets) first ∙ ready.1)),
+              k.3 ∙ (ap (λ (x : View). x.locks) turned ∙ (ap (λ (x : View). x.locks) first ∙ ready.2)),
+              ap (λ (x : HolderPart). x.resizing) at.2 ∙ ap (λ (x : View). x.holder.resizing) turned,
+            ),
+            (ap (λ (x : FirstPart). x.phase) control ∙ c.requires.may.in_phase.0, ap (λ (x : FirstPart). x.purge) control ∙ c.requires.may.in_phase.1),
+          );
+      trail = search rules;
+      steps =
+          let first = c.begin_control.ensures in let e = c.end_resize.ensures in (
+            first.made.0,
+            known c.take_lock.new.cpu,
+            known c.resize_all-shrunk.new.cpu,
+            subst (λ (x : Known). TakesLock x (known c.take_lock.new.cpu)) (both (known c.begin_control.new.cpu) (with_control_begun first.made.0 (known c.args.cpu.now)) first.view first.made.1) c.take_lock.ensures.takes,
+            c.resize_all-shrunk.ensures.resizes,
+            (record { calm = record { share = e.kept.0.1; state = e.kept.1; settled = e.kept.0.8 }; sole = e.sole }, e.ends),
+          );
+      alone = (
+        alone_,
+        λ plan h.
+            let infos = c.args.shared.now.infos.now in let start = first_account (setup c.args.shared.now) in let v = solo (view c.args.cpu.now) in let len = c.args.len in let event = c.args.event in
+            stepped_at infos start (changed plan event (kind.Resize len)) v (heard (Resize len event) v) (solo (view c.end_resize.new.cpu))
+            (alone_ h.sender.sole ∙ resized_same infos start (Resize len event) v h) (resize_alone infos start len event plan v h),
+      );
+    }
 
 -- the consumer of an empty ring at its start rests
 empty-rests : (len : ℕ) → 0 < len → IsAtRest len at_start

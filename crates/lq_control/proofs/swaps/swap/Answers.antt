@@ -1,4 +1,4 @@
-use Rattle.std.proofs.Common.{false, true, List, ◌∷◌, sym, ap, ◌∙◌, subst, Contains}
+use Rattle.std.proofs.Common.{rules, false, true, List, ◌∷◌, sym, ap, ◌∙◌, subst, Contains}
 use Rattle.lq_model.specs.Account.{Event, Swap, Up}
 use Rattle.lq_model.specs.Alone.{changed}
 use Rattle.lq_model.specs.declared.plan.EventKind.TheVariants as kind
@@ -12,48 +12,47 @@ use Rattle.lq_control.proofs.StepLemmas.{reopened}
 use Rattle.lq_control.proofs.Alone.{downed, downed_at, stepped_at, swap_alone}
 use Rattle.lq_control.proofs.swaps.swap.Goals as goal
 
-pub swap_device-old-requires-clause-unit : goal.swap_device-old-requires-clause-unit
-swap_device-old-requires-clause-unit g c _ _ =
-    let trail = c.wait_until_clear.ensures.served.trail ∙ c.deactivate.ensures.trail in let u = c.requires.unit in
-    (u.0, record { first = u.1.first; later = λ n h. u.1.later n (subst (λ (es : List Event). Contains (units_of es) n) trail h) })
+pub swap_device-old-requires-clause-may : goal.swap_device-old-requires-clause-may
+swap_device-old-requires-clause-may g c _ _ = record {
+  at = search rules;
+  in_phase = search rules;
+  next =
+      let trail = c.wait_until_clear.ensures.served.trail ∙ c.deactivate.ensures.trail in let u = c.requires.may.next in
+      (u.0, record { first = u.1.first; later = λ n h. u.1.later n (subst (λ (es : List Event). Contains (units_of es) n) trail h) });
+  fresh = search rules;
+}
 
-pub returns-clause-alone : goal.returns-clause-alone
-returns-clause-alone g c = λ plan params is_unit told h.
-    let infos = c.args.shared.now.infos.now in let start = first_account (setup c.args.shared.now) in let v = solo (view c.args.cpu.now) in let unit = c.args.unit in let event = c.args.event in let device = (g.D.TxDevice.state c.args.device) in
-    let down = downed_at (setup c.args.shared.now) event (view c.args.cpu.now) (view c.deactivate.new.cpu) (view c.wait_until_clear.new.cpu) c.deactivate.ensures.same.1.share c.requires.seat.2 h.sender.sole (c.deactivate.ensures.sole h.sender.sole) c.wait_until_clear.ensures.off in
-    let is = ap solo c.end_control.ensures.view ∙ (ap solo c.clear_deactivated.ensures.view
-    ∙ (ap (heard Up) (c.swap_device-old.ensures.sole (subst HasAll (sym down) h.sender.sole)) ∙ ap (λ (s : Solo). heard Up (locked_to false (device_to device (heard (Swap unit) (locked_to true s))))) down)) in
-    stepped_at infos start (changed plan event (kind.Swap params)) v (heard Up (device_to device (heard (Swap unit) (downed event v)))) (solo (view c.end_control.new.cpu)) is (swap_alone infos start event unit device v plan params is_unit told h)
-
-pub returns-clause-swaps : goal.returns-clause-swaps
-returns-clause-swaps g c = (
-  known c.wait_until_clear.new.cpu,
-  known c.swap_device-old.new.cpu,
-  c.deactivate.result,
-  (known c.deactivate.new.cpu, c.deactivate.ensures.deactivates, c.wait_until_clear.ensures.waits),
-  c.swap_device-old.ensures.swaps,
-  reopened (known c.swap_device-old.new.cpu) (known c.clear_deactivated.new.cpu) (known c.end_control.new.cpu) c.clear_deactivated.ensures.view c.clear_deactivated.ensures.made c.end_control.ensures.view c.end_control.ensures.made,
-)
-
-pub returns-clause-same : goal.returns-clause-same
-returns-clause-same g c =
-    let c0 = c.args.cpu.now in let c1 = c.deactivate.new.cpu in let c2 = c.wait_until_clear.new.cpu in let c3 = c.swap_device-old.new.cpu in let c4 = c.clear_deactivated.new.cpu in let c5 = c.end_control.new.cpu in
-    let d = c.deactivate.ensures in let w = c.wait_until_clear.ensures in let r = c.swap_device-old.ensures in let o = c.clear_deactivated.ensures in let e = c.end_control.ensures in
-    let k = (keeps_reopened (view c3) (view c4) (view c5) o.view e.view).0 in let a = d.same.1 in let b = w.served.kept in let s = r.same.1 in (
-      seat_then c0 c1 c5 d.same.0 (seat_then c1 c2 c5 w.same (seat_then c2 c3 c5 r.same.0 (seat_then c3 c4 c5 o.same.0 e.same.0))),
-      record {
-        share = k.share ∙ (s.share ∙ (b.share ∙ a.share));
-        turns = k.turns ∙ (s.turns ∙ (b.turns ∙ a.turns));
-        first = k.first ∙ (s.first ∙ (b.first ∙ a.first));
-        told = k.told ∙ (s.told ∙ (b.told ∙ a.told));
-      },
-    )
-
-pub returns-clause-at : goal.returns-clause-at
-returns-clause-at g c = let o = c.clear_deactivated.ensures in let e = c.end_control.ensures in
-    reopened_at c.swap_device-old.new.cpu c.clear_deactivated.new.cpu c.end_control.new.cpu c.swap_device-old.ensures.at o.same o.view e.same e.view
-
-pub returns-clause-trail : goal.returns-clause-trail
-returns-clause-trail g c =
-    reopened_trail (view c.swap_device-old.new.cpu) (view c.clear_deactivated.new.cpu) (view c.end_control.new.cpu) c.clear_deactivated.ensures.view c.end_control.ensures.view
-    ∙ ap (λ (es : List Event). Up ∷ es) (c.swap_device-old.ensures.trail ∙ ap (λ (es : List Event). Swap c.args.unit ∷ es) (c.wait_until_clear.ensures.served.trail ∙ c.deactivate.ensures.trail))
+pub returns : goal.returns
+returns g c = record {
+  same =
+      let c0 = c.args.cpu.now in let c1 = c.deactivate.new.cpu in let c2 = c.wait_until_clear.new.cpu in let c3 = c.swap_device-old.new.cpu in let c4 = c.clear_deactivated.new.cpu in let c5 = c.end_control.new.cpu in
+      let d = c.deactivate.ensures in let w = c.wait_until_clear.ensures in let r = c.swap_device-old.ensures in let o = c.clear_deactivated.ensures in let e = c.end_control.ensures in
+      let k = (keeps_reopened (view c3) (view c4) (view c5) o.view e.view).0 in let a = d.same.1 in let b = w.served.kept in let s = r.same.1 in (
+        seat_then c0 c1 c5 d.same.0 (seat_then c1 c2 c5 w.same (seat_then c2 c3 c5 r.same.0 (seat_then c3 c4 c5 o.same.0 e.same.0))),
+        record {
+          share = k.share ∙ (s.share ∙ (b.share ∙ a.share));
+          turns = k.turns ∙ (s.turns ∙ (b.turns ∙ a.turns));
+          first = k.first ∙ (s.first ∙ (b.first ∙ a.first));
+          told = k.told ∙ (s.told ∙ (b.told ∙ a.told));
+        },
+      );
+  at = let o = c.clear_deactivated.ensures in let e = c.end_control.ensures in
+      reopened_at c.swap_device-old.new.cpu c.clear_deactivated.new.cpu c.end_control.new.cpu c.swap_device-old.ensures.at o.same o.view e.same e.view;
+  trail =
+      reopened_trail (view c.swap_device-old.new.cpu) (view c.clear_deactivated.new.cpu) (view c.end_control.new.cpu) c.clear_deactivated.ensures.view c.end_control.ensures.view
+      ∙ ap (λ (es : List Event). Up ∷ es) (c.swap_device-old.ensures.trail ∙ ap (λ (es : List Event). Swap c.args.unit ∷ es) (c.wait_until_clear.ensures.served.trail ∙ c.deactivate.ensures.trail));
+  steps = (
+    known c.wait_until_clear.new.cpu,
+    known c.swap_device-old.new.cpu,
+    c.deactivate.result,
+    (known c.deactivate.new.cpu, c.deactivate.ensures.steps, c.wait_until_clear.ensures.steps),
+    c.swap_device-old.ensures.steps,
+    reopened (known c.swap_device-old.new.cpu) (known c.clear_deactivated.new.cpu) (known c.end_control.new.cpu) c.clear_deactivated.ensures.view c.clear_deactivated.ensures.made c.end_control.ensures.view c.end_control.ensures.made,
+  );
+  alone = λ plan params is_unit told h.
+      let infos = c.args.shared.now.infos.now in let start = first_account (setup c.args.shared.now) in let v = solo (view c.args.cpu.now) in let unit = c.args.unit in let event = c.args.event in let device = (g.D.TxDevice.state c.args.device) in
+      let down = downed_at (setup c.args.shared.now) event (view c.args.cpu.now) (view c.deactivate.new.cpu) (view c.wait_until_clear.new.cpu) c.deactivate.ensures.same.1.share c.requires.seat.2 h.sender.sole (c.deactivate.ensures.alone h.sender.sole) c.wait_until_clear.ensures.alone in
+      let is = ap solo c.end_control.ensures.view ∙ (ap solo c.clear_deactivated.ensures.view
+      ∙ (ap (heard Up) (c.swap_device-old.ensures.alone (subst HasAll (sym down) h.sender.sole)) ∙ ap (λ (s : Solo). heard Up (locked_to false (device_to device (heard (Swap unit) (locked_to true s))))) down)) in
+      stepped_at infos start (changed plan event (kind.Swap params)) v (heard Up (device_to device (heard (Swap unit) (downed event v)))) (solo (view c.end_control.new.cpu)) is (swap_alone infos start event unit device v plan params is_unit told h);
+}

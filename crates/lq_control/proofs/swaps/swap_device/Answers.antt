@@ -21,75 +21,69 @@ swap-requires-clause-station g c _ _ =
     let h = (view c.take_lock.new.cpu).holder in let changed = (c.change_device-old.ensures.changed h c.take_lock.ensures.station.1).0 in let unit = c.args.unit in
     let now = ap (λ (x : Known). x.view) c.change_device-old.ensures.same.3 in
     let about : (view c.change_device-old.new.cpu).share.about ≡ Rattle.lq_table.specs.Sees.setup c.args.shared.now = ap (λ (x : View). x.share.about) now ∙ (ap (λ (x : View). x.share.about) c.take_lock.ensures.got.1 ∙ c.requires.seat.2) in
-    let units : (view c.change_device-old.new.cpu).holder.units ≡ Rattle.lq_table.specs.Rule.units_of (view c.args.cpu.now).trail = ap (λ (x : View). x.holder.units) now ∙ c.take_lock.ensures.units c.requires.at.1 in
-    let above = c.requires.unit.1 in let first = above.first in (
+    let units : (view c.change_device-old.new.cpu).holder.units ≡ Rattle.lq_table.specs.Rule.units_of (view c.args.cpu.now).trail = ap (λ (x : View). x.holder.units) now ∙ c.take_lock.ensures.units c.requires.may.at.1 in
+    let above = c.requires.may.next.1 in let first = above.first in (
       ap (λ (o : Option StationState). is_some o) changed,
       subst (λ (z : Option StationState). IsSwap (view c.change_device-old.new.cpu).share.about.infos (view c.change_device-old.new.cpu).share.about.station (view c.change_device-old.new.cpu).holder.units (unwrap_or z no_station)) (sym changed) record {
-        asked = c.requires.device.3;
-        accepted = c.requires.device.0;
-        alive = c.requires.device.1;
-        room = (let fits = c.requires.device.2 in let same = ap (λ (k : Setup). station_count k.infos k.station) about in omega arith);
+        asked = c.requires.may.fresh.3;
+        accepted = c.requires.may.fresh.0;
+        alive = c.requires.may.fresh.1;
+        room = (let fits = c.requires.may.fresh.2 in let same = ap (λ (k : Setup). station_count k.infos k.station) about in omega arith);
         other = λ e. (let s : (view c.change_device-old.new.cpu).share.about.station ≡ c.args.shared.now.station = ap (λ (k : Setup). k.station) about in absurd (omega arith));
         new = λ is. (let l = above.later unit (subst (λ (us : _). Contains us unit) units is) in absurd (omega arith));
-        small = c.requires.unit.0;
+        small = c.requires.may.next.0;
       },
     )
-
-pub returns-clause-sole : goal.returns-clause-sole
-returns-clause-sole g c = λ sole.
-    let h = (view c.take_lock.new.cpu).holder in let changed = (c.change_device-old.ensures.changed h c.take_lock.ensures.station.1).0 in let before = view c.change_device-old.new.cpu in
-    let device = (g.D.TxDevice.state c.args.device) in
-    let swapped = ap solo c.swap.ensures.view ∙ ap (λ (o : Option StationState). device_to (unwrap_or o no_station).device (heard (Swap (unwrap_or o no_station).unit) (solo before))) changed in
-    ap solo c.release.ensures.released ∙ (ap (locked_to false) (c.open_queues.ensures.step ∙ swapped)
-    ∙ ap (λ (s : Solo). locked_to false (device_to device (heard (Swap c.args.unit) s))) (ap (λ (x : Known). solo x.view) c.change_device-old.ensures.same.3 ∙ (c.take_lock.ensures.sole sole).0))
-
-pub returns-clause-swaps : goal.returns-clause-swaps
-returns-clause-swaps g c =
-    let k = setup c.args.shared.now in let locked = known c.take_lock.new.cpu in let came = g.D.TxDevice.state c.args.device in
-    let changed = c.change_device-old.ensures.changed locked.view.holder c.take_lock.ensures.station.1 in let now = c.change_device-old.ensures.same.3 in let x = c.swap.ensures in
-    let swapped = both (known c.swap.new.cpu) (with_device_swapped k c.args.unit came locked)
-    (x.view ∙ (λ j. swapping (unwrap_or (changed.0 j) no_station) (now j).view)) (x.made ∙ ap (λ (y : Known). y.steps ⊳ did_store_stop k 0 0) now) in
-    let about : locked.view.share.about ≡ k = ap (λ (v : View). v.share.about) c.take_lock.ensures.got.1 ∙ c.requires.seat.2 in record {
-      locked = locked;
-      takes = c.take_lock.ensures.takes;
-      goes = changed.1;
-      away = subst (λ (z : Setup). HasServed z.infos z.station locked.view.control.origin locked.view.holder.station.device × (locked.view.holder.station.unit ≡ latest_unit z.station locked.view.holder.units)) (sym about)
-          (subst (λ (y : Known). HasServed k.infos k.station y.view.control.origin y.view.holder.station.device × (y.view.holder.station.unit ≡ latest_unit k.station y.view.holder.units)) now (x.served, x.unit));
-      is = c.release.ensures.by ∙ ap with_lock_released (c.open_queues.ensures.opens ∙ ap (with_queues_opened k (k.queues - 1)) swapped);
-    }
 
 -- the lock is got, the device swapped, the queues are opened, and the lock is released
 swapped_is : (d : HolderPart) (st : StationState) (whole : WholePart) (v v1 v2 v3 v4 v5 : View) → v1 ≡ got_in_control d v → v2 ≡ v1 → v3 ≡ swapping st v2 → v4 ≡ all_opened None whole v3 → v5 ≡ with_lock_free v4
     → v5 ≡ with_lock_free (all_opened None whole (swapping st (got_in_control d v)))
 swapped_is d st whole v v1 v2 v3 v4 v5 got same swaps opens frees = frees ∙ ap with_lock_free (opens ∙ ap (all_opened None whole) (swaps ∙ ap (swapping st) (same ∙ got)))
 
-pub returns-clause-same : goal.returns-clause-same
-returns-clause-same g c =
-    let v = view c.args.cpu.now in let got = c.take_lock.ensures.got in let locked = c.change_device-old.new.cpu in let opened = c.open_queues.ensures.opened in let whole = opened.0 in
-    let e = swapped_is got.0 (unwrap_or locked.station no_station) whole v (view c.take_lock.new.cpu) (view locked) (view c.swap.new.cpu) (view c.open_queues.new.cpu) (view c.release.new.cpu)
-    got.1 (ap (λ (x : Known). x.view) c.change_device-old.ensures.same.3) c.swap.ensures.view opened.1 c.release.ensures.released in
-    let c1 = c.take_lock.new.cpu in let c3 = c.swap.new.cpu in let c4 = c.open_queues.new.cpu in let c5 = c.release.new.cpu in
-    let to_end = seat_then c3 c4 c5 c.open_queues.ensures.same.0 c.release.ensures.same.0 in let swaps = c.swap.ensures.view in
-    let told = opened.2 ∙ (ap (λ (x : View). x.whole.told) swaps ∙ (ap (λ (x : Known). x.view.whole.told) c.change_device-old.ensures.same.3 ∙ ap (λ (x : View). x.whole.told) got.1)) in (
-      seat_then c.args.cpu.now c1 c5 c.take_lock.ensures.same.0 (seat_then c1 locked c5 c.change_device-old.ensures.same.0 (seat_then locked c3 c5 c.swap.ensures.same.0 to_end)),
-      record { share = ap (λ (x : View). x.share) e; turns = ap (λ (x : View). x.turns) e; first = ap (λ (x : View). x.control.first) e; told = ap (λ (x : View). x.whole.told) e ∙ told },
-    )
-
-pub returns-clause-at : goal.returns-clause-at
-returns-clause-at g c =
-    let v = view c.args.cpu.now in let got = c.take_lock.ensures.got in let locked = c.change_device-old.new.cpu in let opened = c.open_queues.ensures.opened in let whole = opened.0 in
-    let e = swapped_is got.0 (unwrap_or locked.station no_station) whole v (view c.take_lock.new.cpu) (view locked) (view c.swap.new.cpu) (view c.open_queues.new.cpu) (view c.release.new.cpu)
-    got.1 (ap (λ (x : Known). x.view) c.change_device-old.ensures.same.3) c.swap.ensures.view opened.1 c.release.ensures.released in
-    let ready = c.requires.at.2 in (
-      ap (λ (x : View). x.place.position) e,
-      (c.release.ensures.empty, ap (λ (x : View). x.packets) e ∙ ready.1, ap (λ (x : View). x.locks) e ∙ ready.2, ap (λ (x : View). x.holder.resizing) e ∙ got.5),
-      (ap (λ (x : View). x.control.phase) e ∙ c.requires.purged.0, ap (λ (x : View). x.control.purge) e ∙ c.requires.purged.1),
-    )
-
-pub returns-clause-trail : goal.returns-clause-trail
-returns-clause-trail g c =
-    let v = view c.args.cpu.now in let got = c.take_lock.ensures.got in let locked = c.change_device-old.new.cpu in let opened = c.open_queues.ensures.opened in let whole = opened.0 in
-    let e = swapped_is got.0 (unwrap_or locked.station no_station) whole v (view c.take_lock.new.cpu) (view locked) (view c.swap.new.cpu) (view c.open_queues.new.cpu) (view c.release.new.cpu)
-    got.1 (ap (λ (x : Known). x.view) c.change_device-old.ensures.same.3) c.swap.ensures.view opened.1 c.release.ensures.released in
-    ap (λ (x : View). x.trail) e
-    ∙ ap (λ (o : Option StationState). Swap (unwrap_or o no_station).unit ∷ v.trail) (c.change_device-old.ensures.changed (view c.take_lock.new.cpu).holder c.take_lock.ensures.station.1).0
+pub returns : goal.returns
+returns g c = record {
+  same =
+      let v = view c.args.cpu.now in let got = c.take_lock.ensures.got in let locked = c.change_device-old.new.cpu in let opened = c.open_queues.ensures.opened in let whole = opened.0 in
+      let e = swapped_is got.0 (unwrap_or locked.station no_station) whole v (view c.take_lock.new.cpu) (view locked) (view c.swap.new.cpu) (view c.open_queues.new.cpu) (view c.release.new.cpu)
+      got.1 (ap (λ (x : Known). x.view) c.change_device-old.ensures.same.3) c.swap.ensures.view opened.1 c.release.ensures.released in
+      let c1 = c.take_lock.new.cpu in let c3 = c.swap.new.cpu in let c4 = c.open_queues.new.cpu in let c5 = c.release.new.cpu in
+      let to_end = seat_then c3 c4 c5 c.open_queues.ensures.same.0 c.release.ensures.same.0 in let swaps = c.swap.ensures.view in
+      let told = opened.2 ∙ (ap (λ (x : View). x.whole.told) swaps ∙ (ap (λ (x : Known). x.view.whole.told) c.change_device-old.ensures.same.3 ∙ ap (λ (x : View). x.whole.told) got.1)) in (
+        seat_then c.args.cpu.now c1 c5 c.take_lock.ensures.same.0 (seat_then c1 locked c5 c.change_device-old.ensures.same.0 (seat_then locked c3 c5 c.swap.ensures.same.0 to_end)),
+        record { share = ap (λ (x : View). x.share) e; turns = ap (λ (x : View). x.turns) e; first = ap (λ (x : View). x.control.first) e; told = ap (λ (x : View). x.whole.told) e ∙ told },
+      );
+  at =
+      let v = view c.args.cpu.now in let got = c.take_lock.ensures.got in let locked = c.change_device-old.new.cpu in let opened = c.open_queues.ensures.opened in let whole = opened.0 in
+      let e = swapped_is got.0 (unwrap_or locked.station no_station) whole v (view c.take_lock.new.cpu) (view locked) (view c.swap.new.cpu) (view c.open_queues.new.cpu) (view c.release.new.cpu)
+      got.1 (ap (λ (x : Known). x.view) c.change_device-old.ensures.same.3) c.swap.ensures.view opened.1 c.release.ensures.released in
+      let ready = c.requires.may.at.2 in (
+        ap (λ (x : View). x.place.position) e,
+        (c.release.ensures.empty, ap (λ (x : View). x.packets) e ∙ ready.1, ap (λ (x : View). x.locks) e ∙ ready.2, ap (λ (x : View). x.holder.resizing) e ∙ got.5),
+        (ap (λ (x : View). x.control.phase) e ∙ c.requires.may.in_phase.0, ap (λ (x : View). x.control.purge) e ∙ c.requires.may.in_phase.1),
+      );
+  trail =
+      let v = view c.args.cpu.now in let got = c.take_lock.ensures.got in let locked = c.change_device-old.new.cpu in let opened = c.open_queues.ensures.opened in let whole = opened.0 in
+      let e = swapped_is got.0 (unwrap_or locked.station no_station) whole v (view c.take_lock.new.cpu) (view locked) (view c.swap.new.cpu) (view c.open_queues.new.cpu) (view c.release.new.cpu)
+      got.1 (ap (λ (x : Known). x.view) c.change_device-old.ensures.same.3) c.swap.ensures.view opened.1 c.release.ensures.released in
+      ap (λ (x : View). x.trail) e
+      ∙ ap (λ (o : Option StationState). Swap (unwrap_or o no_station).unit ∷ v.trail) (c.change_device-old.ensures.changed (view c.take_lock.new.cpu).holder c.take_lock.ensures.station.1).0;
+  steps =
+      let k = setup c.args.shared.now in let locked = known c.take_lock.new.cpu in let came = g.D.TxDevice.state c.args.device in
+      let changed = c.change_device-old.ensures.changed locked.view.holder c.take_lock.ensures.station.1 in let now = c.change_device-old.ensures.same.3 in let x = c.swap.ensures in
+      let swapped = both (known c.swap.new.cpu) (with_device_swapped k c.args.unit came locked)
+      (x.view ∙ (λ j. swapping (unwrap_or (changed.0 j) no_station) (now j).view)) (x.made ∙ ap (λ (y : Known). y.steps ⊳ did_store_stop k 0 0) now) in
+      let about : locked.view.share.about ≡ k = ap (λ (v : View). v.share.about) c.take_lock.ensures.got.1 ∙ c.requires.seat.2 in record {
+        locked = locked;
+        takes = c.take_lock.ensures.takes;
+        goes = changed.1;
+        away = subst (λ (z : Setup). HasServed z.infos z.station locked.view.control.origin locked.view.holder.station.device × (locked.view.holder.station.unit ≡ latest_unit z.station locked.view.holder.units)) (sym about)
+            (subst (λ (y : Known). HasServed k.infos k.station y.view.control.origin y.view.holder.station.device × (y.view.holder.station.unit ≡ latest_unit k.station y.view.holder.units)) now (x.served, x.unit));
+        is = c.release.ensures.by ∙ ap with_lock_released (c.open_queues.ensures.opens ∙ ap (with_queues_opened k (k.queues - 1)) swapped);
+      };
+  alone = λ sole.
+      let h = (view c.take_lock.new.cpu).holder in let changed = (c.change_device-old.ensures.changed h c.take_lock.ensures.station.1).0 in let before = view c.change_device-old.new.cpu in
+      let device = (g.D.TxDevice.state c.args.device) in
+      let swapped = ap solo c.swap.ensures.view ∙ ap (λ (o : Option StationState). device_to (unwrap_or o no_station).device (heard (Swap (unwrap_or o no_station).unit) (solo before))) changed in
+      ap solo c.release.ensures.released ∙ (ap (locked_to false) (c.open_queues.ensures.step ∙ swapped)
+      ∙ ap (λ (s : Solo). locked_to false (device_to device (heard (Swap c.args.unit) s))) (ap (λ (x : Known). solo x.view) c.change_device-old.ensures.same.3 ∙ (c.take_lock.ensures.sole sole).0));
+}

@@ -14,10 +14,14 @@ loop-init g c = let v = view c.args.cpu.now in record {
   calls = not_looked;
 }
 
-pub returns-then-load_inside-eq0-clause-waits : goal.returns-then-load_inside-eq0-clause-waits
-returns-then-load_inside-eq0-clause-waits g c =
-    let l = c.load_inside.ensures in
-    (known c.loop.cpu, c.loop.invariant.calls, both (known c.load_inside.new.cpu) (with_inside_loaded c.load_inside.result (known c.loop.cpu)) l.view l.made ∙ ap (λ (n : ℕ). with_inside_loaded n (known c.loop.cpu)) c.if-load_inside-eq0.true)
+pub returns-then-load_inside-eq0 : goal.returns-then-load_inside-eq0
+returns-then-load_inside-eq0 g c = record {
+  same = search rules;
+  waits =
+      let l = c.load_inside.ensures in
+      (known c.loop.cpu, c.loop.invariant.calls, both (known c.load_inside.new.cpu) (with_inside_loaded c.load_inside.result (known c.loop.cpu)) l.view l.made ∙ ap (λ (n : ℕ). with_inside_loaded n (known c.loop.cpu)) c.if-load_inside-eq0.true);
+  quiet = search rules;
+}
 
 pub loop-preserved : goal.loop-preserved
 loop-preserved g c =

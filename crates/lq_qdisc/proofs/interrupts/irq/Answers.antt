@@ -13,11 +13,11 @@ returns-clause-alone g c =
 
 pub loop-queue-preserved : goal.loop-queue-preserved
 loop-queue-preserved g c =
-    let q = c.loop-queue.queue in let old = c.loop-queue.invariant in let m = known c.loop-queue.cpu in let n = known c.open.new.cpu in let k = setup c.args.shared.now in let same = c.open.ensures.same in let w = c.open.ensures.wakes in
+    let q = c.loop-queue.queue in let old = c.loop-queue.invariant in let m = known c.loop-queue.cpu in let n = known c.wake_queue.new.cpu in let k = setup c.args.shared.now in let same = c.wake_queue.ensures.same in let w = c.wake_queue.ensures.wakes in
     let share = wake_keeps (λ v. v.share) k q m n (λ _. refl) w in let packets = wake_keeps (λ v. v.packets) k q m n (λ _. refl) w in record {
       seat = (same.0.0 ∙ old.seat.0, subst (λ (s : SharePart). 0 < s.shares) (sym share) old.seat.1, ap (λ (s : SharePart). s.about) share ∙ old.seat.2);
       kept = record { seat = (same.0.0 ∙ old.kept.seat.0, same.0.1 ∙ old.kept.seat.1); share = share ∙ old.kept.share; control = wake_keeps (λ v. v.control) k q m n (λ _. refl) w ∙ old.kept.control; told = wake_keeps (λ v. v.whole.told) k q m n (λ _. refl) w ∙ old.kept.told };
-      at = c.open.ensures.at;
+      at = c.wake_queue.ensures.at;
       ready = ((same.3 ∙ old.ready.0.0, same.1 ∙ old.ready.0.1), packets ∙ old.ready.1, wake_keeps (λ v. v.locks) k q m n (λ _. refl) w ∙ old.ready.2, wake_keeps (λ v. v.holder.resizing) k q m n (λ _. refl) w ∙ old.ready.3);
       still = record { share = share ∙ old.still.share; packets = packets ∙ old.still.packets; turns = wake_keeps (λ v. v.turns) k q m n (λ _. refl) w ∙ old.still.turns; trail = wake_keeps (λ v. v.trail) k q m n (λ _. refl) w ∙ old.still.trail };
       settled = wake_keeps (λ v. v.settled) k q m n (λ _. refl) w ∙ old.settled;

@@ -11,16 +11,16 @@ use Rattle.lq_qdisc.proofs.RunLemmas.{fates_same, fates_then}
 use Rattle.lq_qdisc.proofs.SendLemmas.{called_from}
 use Rattle.lq_qdisc.proofs.StepLemmas.{due_keeps}
 use Rattle.lq_qdisc.proofs.interrupts.softirq.Goals as goal
-use Rattle.lq_qdisc.proofs.interrupts.softirq.Goals.{then-is_due, else-is_due}
+use Rattle.lq_qdisc.proofs.interrupts.softirq.Goals.{then-begin_softirq, else-begin_softirq}
 
 pub returns-clause-interrupts : goal.returns-clause-interrupts
 returns-clause-interrupts g c =
     let e : known c.enter.new.cpu ≡ softirq_begun (known c.args.cpu.now) = λ j. record { view = c.enter.ensures.view j; steps = c.enter.ensures.made j } in
-    let due = subst (λ (x : Known). IsDueBy c.is_due.result x (known c.is_due.new.cpu)) e c.is_due.ensures.due in let l = c.leave.ensures in
-    elim c.if-is_due.branch [
-      | then-is_due w ↦ record {
-        due = c.is_due.result;
-        cleared = known c.is_due.new.cpu;
+    let due = subst (λ (x : Known). IsDueBy c.begin_softirq.result x (known c.begin_softirq.new.cpu)) e c.begin_softirq.ensures.due in let l = c.leave.ensures in
+    elim c.if-begin_softirq.branch [
+      | then-begin_softirq w ↦ record {
+        due = c.begin_softirq.result;
+        cleared = known c.begin_softirq.new.cpu;
         begins = due;
         last = known w.qdisc_run.new.cpu;
         serves = λ _. w.qdisc_run.ensures.steps;
@@ -28,11 +28,11 @@ returns-clause-interrupts g c =
         ends = λ j. record { view = (l.view ∙ ap (λ x. passing (view x)) w.cpu-is) j; steps = (l.made ∙ ap (λ x. steps x ⊳ did_leave) w.cpu-is) j };
         step = l.step ∙ ap (λ x. solo (view x)) w.cpu-is;
       }
-      | else-is_due w ↦ record {
-        due = c.is_due.result;
-        cleared = known c.is_due.new.cpu;
+      | else-begin_softirq w ↦ record {
+        due = c.begin_softirq.result;
+        cleared = known c.begin_softirq.new.cpu;
         begins = due;
-        last = known c.is_due.new.cpu;
+        last = known c.begin_softirq.new.cpu;
         serves = λ on. cc;
         leaves = λ _. refl;
         ends = λ j. record { view = (l.view ∙ ap (λ x. passing (view x)) w.cpu-is) j; steps = (l.made ∙ ap (λ x. steps x ⊳ did_leave) w.cpu-is) j };
@@ -47,18 +47,18 @@ returns-clause-alone g c =
 
 pub returns-clause-kept : goal.returns-clause-kept
 returns-clause-kept g c =
-    let l = c.leave.ensures in let e = c.enter.ensures in let d = c.is_due.ensures in let old = known c.enter.new.cpu in let new = known c.is_due.new.cpu in let due = c.is_due.result in
+    let l = c.leave.ensures in let e = c.enter.ensures in let d = c.begin_softirq.ensures in let old = known c.enter.new.cpu in let new = known c.begin_softirq.new.cpu in let due = c.begin_softirq.result in
     let share = d.still.0.share ∙ ap (λ (v : View). v.share) e.view in
     let control = due_keeps (λ (v : View). v.control) due old new (λ _ _. refl) (λ _ _ _. refl) d.due ∙ ap (λ (v : View). v.control) e.view in
     let told = due_keeps (λ (v : View). v.whole.told) due old new (λ _ _. refl) (λ _ _ _. refl) d.due ∙ ap (λ (v : View). v.whole.told) e.view in
-    elim c.if-is_due.branch [
-      | then-is_due w ↦ called_from c.args.cpu.now c.is_due.new.cpu c.leave.new.cpu (d.same.0.0 ∙ e.same.0.0, d.same.0.1 ∙ e.same.0.1) share control told (record {
+    elim c.if-begin_softirq.branch [
+      | then-begin_softirq w ↦ called_from c.args.cpu.now c.begin_softirq.new.cpu c.leave.new.cpu (d.same.0.0 ∙ e.same.0.0, d.same.0.1 ∙ e.same.0.1) share control told (record {
         seat = (l.same.0.0 ∙ (ap (λ x. x.known.seat.table_id) w.cpu-is ∙ w.qdisc_run.ensures.kept.seat.0), l.same.0.1 ∙ (ap (λ x. x.known.seat.id) w.cpu-is ∙ w.qdisc_run.ensures.kept.seat.1));
         share = ap (λ (v : View). v.share) l.view ∙ (ap (λ x. (view x).share) w.cpu-is ∙ w.qdisc_run.ensures.kept.share);
         control = ap (λ (v : View). v.control) l.view ∙ (ap (λ x. (view x).control) w.cpu-is ∙ w.qdisc_run.ensures.kept.control);
         told = ap (λ (v : View). v.whole.told) l.view ∙ (ap (λ x. (view x).whole.told) w.cpu-is ∙ w.qdisc_run.ensures.kept.told);
       })
-      | else-is_due w ↦ called_from c.args.cpu.now c.is_due.new.cpu c.leave.new.cpu (d.same.0.0 ∙ e.same.0.0, d.same.0.1 ∙ e.same.0.1) share control told (record {
+      | else-begin_softirq w ↦ called_from c.args.cpu.now c.begin_softirq.new.cpu c.leave.new.cpu (d.same.0.0 ∙ e.same.0.0, d.same.0.1 ∙ e.same.0.1) share control told (record {
         seat = (l.same.0.0 ∙ ap (λ x. x.known.seat.table_id) w.cpu-is, l.same.0.1 ∙ ap (λ x. x.known.seat.id) w.cpu-is);
         share = ap (λ (v : View). v.share) l.view ∙ ap (λ x. (view x).share) w.cpu-is;
         control = ap (λ (v : View). v.control) l.view ∙ ap (λ x. (view x).control) w.cpu-is;
@@ -68,9 +68,9 @@ returns-clause-kept g c =
 
 pub returns-clause-fates : goal.returns-clause-fates
 returns-clause-fates g c =
-    let l = c.leave.ensures in let v = view c.args.cpu.now in let m = view c.is_due.new.cpu in let w = view c.leave.new.cpu in
-    let before = fates_same v m (due_keeps (λ (x : View). x.settled) c.is_due.result (known c.enter.new.cpu) (known c.is_due.new.cpu) (λ _ _. refl) (λ _ _ _. refl) c.is_due.ensures.due ∙ ap (λ (x : View). x.settled) c.enter.ensures.view) in
-    elim c.if-is_due.branch [
-      | then-is_due x ↦ fates_then v m w before (x.qdisc_run.ensures.fates.0, ap (λ (y : View). y.settled) l.view ∙ (ap (λ y. (view y).settled) x.cpu-is ∙ x.qdisc_run.ensures.fates.1))
-      | else-is_due x ↦ fates_then v m w before (fates_same m w (ap (λ (y : View). y.settled) l.view ∙ ap (λ y. (view y).settled) x.cpu-is))
+    let l = c.leave.ensures in let v = view c.args.cpu.now in let m = view c.begin_softirq.new.cpu in let w = view c.leave.new.cpu in
+    let before = fates_same v m (due_keeps (λ (x : View). x.settled) c.begin_softirq.result (known c.enter.new.cpu) (known c.begin_softirq.new.cpu) (λ _ _. refl) (λ _ _ _. refl) c.begin_softirq.ensures.due ∙ ap (λ (x : View). x.settled) c.enter.ensures.view) in
+    elim c.if-begin_softirq.branch [
+      | then-begin_softirq x ↦ fates_then v m w before (x.qdisc_run.ensures.fates.0, ap (λ (y : View). y.settled) l.view ∙ (ap (λ y. (view y).settled) x.cpu-is ∙ x.qdisc_run.ensures.fates.1))
+      | else-begin_softirq x ↦ fates_then v m w before (fates_same m w (ap (λ (y : View). y.settled) l.view ∙ ap (λ y. (view y).settled) x.cpu-is))
     ]

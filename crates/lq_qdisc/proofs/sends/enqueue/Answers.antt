@@ -1,4 +1,4 @@
-use Rattle.std.proofs.Common.{◌≡◌, ℕ, ◌+◌, ◌<◌, List, length, get_or, sym, ap, ◌∙◌, subst}
+use Rattle.std.proofs.Common.{rules, ◌≡◌, ℕ, ◌+◌, ◌<◌, List, length, get_or, sym, ap, ◌∙◌, subst}
 use Rattle.std.specs.Option.{option_map_or}
 use Rattle.std.specs.Prelude.{Option}
 use Rattle.std.proofs.lemmas.Option.{slice_get-get_or}
@@ -35,6 +35,11 @@ returns-in-Err-clause-put g c =
     (band_read c.args.shared.now.infos.now c.infos.result.now c.args.n _ c.infos.ensures c.requires.packet.0) (e.puts, e.sole) in
     ((settled ∙ ap paying e.puts.0, all.1, step ∙ e.step), full, all.0, s.made)
 
-pub produce-requires-clause-packet : goal.produce-requires-clause-packet
-produce-requires-clause-packet g c _ _ =
-    let p = c.requires.packet in ((p.2, sym (band_read c.args.shared.now.infos.now c.infos.result.now c.args.n _ c.infos.ensures p.0)), p.3)
+pub produce-requires-clause-may : goal.produce-requires-clause-may
+produce-requires-clause-may g c _ _ = record {
+  below = let p = c.requires.packet in subst (λ (b : ℕ). b < 3) (sym (band_read c.args.shared.now.infos.now c.infos.result.now c.args.n _ c.infos.ensures p.0)) p.1;
+  at = search rules;
+  packet =
+      let p = c.requires.packet in ((p.2, sym (band_read c.args.shared.now.infos.now c.infos.result.now c.args.n _ c.infos.ensures p.0)), p.3);
+  idle = search rules;
+}

@@ -9,8 +9,8 @@ pub returns : goal.returns
 returns g c =
     let infos = c.args.shared.now.infos.now in let handed = view c.direct_xmit-through.new.cpu in record {
       kept = search rules;
-      fates = fates_then (view c.args.cpu.now) handed (view c.run_after_bypass.new.cpu) (directs_fates c.direct_xmit-through.result c.args.n (queue_in infos c.args.n) (view c.args.cpu.now) handed (directs_view (setup c.args.shared.now) c.direct_xmit-through.result c.args.n (queue_in infos c.args.n) (known c.args.cpu.now) (known c.direct_xmit-through.new.cpu) c.direct_xmit-through.ensures.handed)) c.run_after_bypass.ensures.fates;
+      fates = fates_then (view c.args.cpu.now) handed (view c.run_after_bypass.new.cpu) (directs_fates c.direct_xmit-through.result c.args.n (queue_in infos c.args.n) (view c.args.cpu.now) handed (directs_view (setup c.args.shared.now) c.direct_xmit-through.result c.args.n (queue_in infos c.args.n) (known c.args.cpu.now) (known c.direct_xmit-through.new.cpu) c.direct_xmit-through.ensures.steps)) c.run_after_bypass.ensures.fates;
       at = search rules;
       free = search rules;
-      steps = (c.direct_xmit-through.result, known c.direct_xmit-through.new.cpu, c.direct_xmit-through.ensures.handed, c.run_after_bypass.ensures.steps);
+      steps = (c.direct_xmit-through.result, known c.direct_xmit-through.new.cpu, c.direct_xmit-through.ensures.steps, c.run_after_bypass.ensures.steps);
     }

@@ -15,65 +15,76 @@ use Rattle.lq_qdisc.proofs.takes.dequeue_open.Goals as goal
 pub maybe_clear_missed-requires-clause-at : goal.maybe_clear_missed-requires-clause-at
 maybe_clear_missed-requires-clause-at g c κs within = (NoneTaken 0, search rules, refl)
 
-pub returns-then-load_xoff-ne0-clause-by : goal.returns-then-load_xoff-ne0-clause-by
-returns-then-load_xoff-ne0-clause-by g c =
-    let k = setup c.args.shared.now in let s = c.maybe_clear_missed.ensures.stopped in let most = c.requires.one in let some_ = c.args.shared.now.sized.4 in
-    let one : k.queues ≡ 1 = omega arith in inr (one, inr (refl, (c.load_xoff.result, s.0, c.if-load_xoff-ne0.true, s.1 ∙ ap (λ (v : View). setting (loading s.0 (passing v))) c.load_xoff.ensures.view, subst (λ (xs : List Made). ClearsMaybe k 0 s.0 xs (steps c.maybe_clear_missed.new.cpu)) c.load_xoff.ensures.made s.2)))
-
-pub returns-clause-by : goal.returns-clause-by
-returns-clause-by g c =
-    let k = setup c.args.shared.now in let most = c.requires.one in let some_ = c.args.shared.now.sized.4 in let zero_ = c.if-load_xoff-ne0.false in
-    let one : k.queues ≡ 1 = omega arith in
-    let e : known c.load_xoff.new.cpu ≡ found_open k (known c.args.cpu.now) = λ j. record {
-      view = (c.load_xoff.ensures.view ∙ ap (λ (x : ℕ). loading x (view c.args.cpu.now)) zero_) j;
-      steps = (c.load_xoff.ensures.made ∙ ap (λ (x : ℕ). steps c.args.cpu.now ⊳ did_load_stop k 0 x) zero_) j;
-    } in inr (one, inl (subst (λ (x : Known). LooksThrough k c.dequeue_bands.result x (known c.dequeue_bands.new.cpu)) e c.dequeue_bands.ensures.made))
-
-pub returns-then-load_xoff-ne0-clause-kept : goal.returns-then-load_xoff-ne0-clause-kept
-returns-then-load_xoff-ne0-clause-kept g c =
-    let l = c.load_xoff.ensures in
-    kept_then (kept_moved c.args.cpu.now c.load_xoff.new.cpu _ _ _ _ l.same.0 l.same.2 (stopped_at_dequeue c.load_xoff.result None (view c.args.cpu.now) (view c.load_xoff.new.cpu) l.view c.requires.at c.requires.slot c.if-load_xoff-ne0.true) refl) c.maybe_clear_missed.ensures.kept
-
-pub returns-then-load_xoff-ne0-clause-serving : goal.returns-then-load_xoff-ne0-clause-serving
-returns-then-load_xoff-ne0-clause-serving g c =
-    let l = c.load_xoff.ensures in let m = c.maybe_clear_missed.ensures in
-    let e = stopped_at_dequeue c.load_xoff.result None (view c.args.cpu.now) (view c.load_xoff.new.cpu) l.view c.requires.at c.requires.slot c.if-load_xoff-ne0.true in
-    serving_same c.args.cpu.now c.maybe_clear_missed.new.cpu (m.station.1 ∙ l.same.3) (m.station.0 ∙ l.same.1) (m.holder ∙ ap (λ (v : View). laid_aside v.place.position v.holder) e) (m.kept.locks ∙ ap (λ (v : View). v.locks) e) c.requires.serving
-
-pub returns-then-load_xoff-ne0-clause-one : goal.returns-then-load_xoff-ne0-clause-one
-returns-then-load_xoff-ne0-clause-one g c = λ one alone.
-    let s = c.load_xoff.ensures.sole in let holds = ap holds_lock c.requires.at in
-    (s.1 alone holds, s.2 alone holds, λ open_. c.if-load_xoff-ne0.true (stop_is 0 c.load_xoff.result (view c.args.cpu.now) s alone holds c.requires.serving.3 ∙ open_))
-
 pub dequeue_bands-requires-clause-serving : goal.dequeue_bands-requires-clause-serving
 dequeue_bands-requires-clause-serving g c _ _ =
     let l = c.load_xoff.ensures in
-    let e = opened_at_dequeue c.load_xoff.result None (view c.args.cpu.now) (view c.load_xoff.new.cpu) l.view c.requires.at c.requires.slot c.if-load_xoff-ne0.false in
-    serving_same c.args.cpu.now c.load_xoff.new.cpu l.same.3 l.same.1 (ap (λ (v : View). v.holder) e) (ap (λ (v : View). v.locks) e) c.requires.serving
+    let e = opened_at_dequeue c.load_xoff.result None (view c.args.cpu.now) (view c.load_xoff.new.cpu) l.view c.requires.may.at c.requires.may.empty c.if-load_xoff-ne0.false in
+    serving_same c.args.cpu.now c.load_xoff.new.cpu l.same.3 l.same.1 (ap (λ (v : View). v.holder) e) (ap (λ (v : View). v.locks) e) c.requires.may.serving
 
-pub returns-clause-kept : goal.returns-clause-kept
-returns-clause-kept g c =
-    let l = c.load_xoff.ensures in
-    kept_then (kept_moved c.args.cpu.now c.load_xoff.new.cpu _ _ _ _ l.same.0 l.same.2 (opened_at_dequeue c.load_xoff.result None (view c.args.cpu.now) (view c.load_xoff.new.cpu) l.view c.requires.at c.requires.slot c.if-load_xoff-ne0.false) refl) c.dequeue_bands.ensures.kept
+pub returns : goal.returns
+returns g c = record {
+  kept =
+      let l = c.load_xoff.ensures in
+      kept_then (kept_moved c.args.cpu.now c.load_xoff.new.cpu _ _ _ _ l.same.0 l.same.2 (opened_at_dequeue c.load_xoff.result None (view c.args.cpu.now) (view c.load_xoff.new.cpu) l.view c.requires.may.at c.requires.may.empty c.if-load_xoff-ne0.false) refl) c.dequeue_bands.ensures.kept;
+  run = search rules;
+  serving = search rules;
+  at = search rules;
+  fates = search rules;
+  packet = search rules;
+  steps = (
+    (
+        let v = view c.args.cpu.now in let m = view c.load_xoff.new.cpu in let w = view c.dequeue_bands.new.cpu in
+        let e = opened_at_dequeue c.load_xoff.result None v m c.load_xoff.ensures.view c.requires.may.at c.requires.may.empty c.if-load_xoff-ne0.false in
+        looks_dequeue c.args.shared.now.infos.now c.dequeue_bands.result v w c.requires.may.empty (looks_from c.dequeue_bands.result _ v m w e c.dequeue_bands.ensures.steps.0)
+        ),
+    (
+        let k = setup c.args.shared.now in let most = c.requires.may.one in let some_ = c.args.shared.now.sized.4 in let zero_ = c.if-load_xoff-ne0.false in
+        let one : k.queues ≡ 1 = omega arith in
+        let e : known c.load_xoff.new.cpu ≡ found_open k (known c.args.cpu.now) = λ j. record {
+          view = (c.load_xoff.ensures.view ∙ ap (λ (x : ℕ). loading x (view c.args.cpu.now)) zero_) j;
+          steps = (c.load_xoff.ensures.made ∙ ap (λ (x : ℕ). steps c.args.cpu.now ⊳ did_load_stop k 0 x) zero_) j;
+        } in inr (one, inl (subst (λ (x : Known). LooksThrough k c.dequeue_bands.result x (known c.dequeue_bands.new.cpu)) e c.dequeue_bands.ensures.steps.1))
+        ),
+    (
+        λ one alone.
+        let s = c.load_xoff.ensures.sole in let holds = ap holds_lock c.requires.may.at in
+        let stop = sym (stop_is 0 c.load_xoff.result (view c.args.cpu.now) s alone holds c.requires.may.serving.3) ∙ c.if-load_xoff-ne0.false in
+        (s.1 alone holds, s.2 alone holds, open_for c.dequeue_bands.result _ (view c.load_xoff.new.cpu) (view c.dequeue_bands.new.cpu) c.dequeue_bands.ensures.steps.0 stop)
+        ),
+  );
+}
 
-pub returns-clause-taken : goal.returns-clause-taken
-returns-clause-taken g c =
-    let v = view c.args.cpu.now in let m = view c.load_xoff.new.cpu in let w = view c.dequeue_bands.new.cpu in
-    let e = opened_at_dequeue c.load_xoff.result None v m c.load_xoff.ensures.view c.requires.at c.requires.slot c.if-load_xoff-ne0.false in
-    looks_dequeue c.args.shared.now.infos.now c.dequeue_bands.result v w c.requires.slot (looks_from c.dequeue_bands.result _ v m w e c.dequeue_bands.ensures.taken)
-
-pub returns-clause-one : goal.returns-clause-one
-returns-clause-one g c = λ one alone.
-    let s = c.load_xoff.ensures.sole in let holds = ap holds_lock c.requires.at in
-    let stop = sym (stop_is 0 c.load_xoff.result (view c.args.cpu.now) s alone holds c.requires.serving.3) ∙ c.if-load_xoff-ne0.false in
-    (s.1 alone holds, s.2 alone holds, open_for c.dequeue_bands.result _ (view c.load_xoff.new.cpu) (view c.dequeue_bands.new.cpu) c.dequeue_bands.ensures.taken stop)
-
-pub returns-then-load_xoff-ne0-clause-taken : goal.returns-then-load_xoff-ne0-clause-taken
-returns-then-load_xoff-ne0-clause-taken g c =
-    let v = view c.args.cpu.now in let m = view c.load_xoff.new.cpu in let w = view c.maybe_clear_missed.new.cpu in let x = c.load_xoff.result in let l = c.load_xoff.ensures in let n = c.maybe_clear_missed.ensures in
-    let e = stopped_at_dequeue x None v m l.view c.requires.at c.requires.slot c.if-load_xoff-ne0.true in let is = n.stopped.1 ∙ ap (λ (y : View). setting (loading n.stopped.0 (passing y))) l.view in
-    let most = c.requires.one in let queues = ap (λ (k : Setup). k.queues) c.requires.seat.2 in (
-      λ more. absurd (omega arith),
-      subst (λ (o : Option ℕ). FindsStopped (option_map_or (queue_in c.args.shared.now.infos.now) o 0) v w) (sym c.requires.slot)
-          (finds_stopped 0 x n.stopped.0 _ v m w c.if-load_xoff-ne0.true e is n.heard n.holder n.sole (λ alone. stop_is 0 x v l.sole alone (ap holds_lock c.requires.at) c.requires.serving.3)),
-    )
+pub returns-then-load_xoff-ne0 : goal.returns-then-load_xoff-ne0
+returns-then-load_xoff-ne0 g c = record {
+  kept =
+      let l = c.load_xoff.ensures in
+      kept_then (kept_moved c.args.cpu.now c.load_xoff.new.cpu _ _ _ _ l.same.0 l.same.2 (stopped_at_dequeue c.load_xoff.result None (view c.args.cpu.now) (view c.load_xoff.new.cpu) l.view c.requires.may.at c.requires.may.empty c.if-load_xoff-ne0.true) refl) c.maybe_clear_missed.ensures.kept;
+  run = search rules;
+  serving =
+      let l = c.load_xoff.ensures in let m = c.maybe_clear_missed.ensures in
+      let e = stopped_at_dequeue c.load_xoff.result None (view c.args.cpu.now) (view c.load_xoff.new.cpu) l.view c.requires.may.at c.requires.may.empty c.if-load_xoff-ne0.true in
+      serving_same c.args.cpu.now c.maybe_clear_missed.new.cpu (m.station.1 ∙ l.same.3) (m.station.0 ∙ l.same.1) (m.holder ∙ ap (λ (v : View). laid_aside v.place.position v.holder) e) (m.kept.locks ∙ ap (λ (v : View). v.locks) e) c.requires.may.serving;
+  at = search rules;
+  fates = search rules;
+  packet = search rules;
+  steps = (
+    (
+        let v = view c.args.cpu.now in let m = view c.load_xoff.new.cpu in let w = view c.maybe_clear_missed.new.cpu in let x = c.load_xoff.result in let l = c.load_xoff.ensures in let n = c.maybe_clear_missed.ensures in
+        let e = stopped_at_dequeue x None v m l.view c.requires.may.at c.requires.may.empty c.if-load_xoff-ne0.true in let is = n.stopped.1 ∙ ap (λ (y : View). setting (loading n.stopped.0 (passing y))) l.view in
+        let most = c.requires.may.one in let queues = ap (λ (k : Setup). k.queues) c.requires.seat.2 in (
+          λ more. absurd (omega arith),
+          subst (λ (o : Option ℕ). FindsStopped (option_map_or (queue_in c.args.shared.now.infos.now) o 0) v w) (sym c.requires.may.empty)
+              (finds_stopped 0 x n.stopped.0 _ v m w c.if-load_xoff-ne0.true e is n.heard n.holder n.sole (λ alone. stop_is 0 x v l.sole alone (ap holds_lock c.requires.may.at) c.requires.may.serving.3)),
+        )
+        ),
+    (
+        let k = setup c.args.shared.now in let s = c.maybe_clear_missed.ensures.stopped in let most = c.requires.may.one in let some_ = c.args.shared.now.sized.4 in
+        let one : k.queues ≡ 1 = omega arith in inr (one, inr (refl, (c.load_xoff.result, s.0, c.if-load_xoff-ne0.true, s.1 ∙ ap (λ (v : View). setting (loading s.0 (passing v))) c.load_xoff.ensures.view, subst (λ (xs : List Made). ClearsMaybe k 0 s.0 xs (steps c.maybe_clear_missed.new.cpu)) c.load_xoff.ensures.made s.2)))
+        ),
+    (
+        λ one alone.
+        let s = c.load_xoff.ensures.sole in let holds = ap holds_lock c.requires.may.at in
+        (s.1 alone holds, s.2 alone holds, λ open_. c.if-load_xoff-ne0.true (stop_is 0 c.load_xoff.result (view c.args.cpu.now) s alone holds c.requires.may.serving.3 ∙ open_))
+        ),
+  );
+}

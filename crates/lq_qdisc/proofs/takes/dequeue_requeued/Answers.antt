@@ -19,75 +19,83 @@ use Rattle.lq_qdisc.proofs.takes.dequeue_requeued.Goals as goal
 pub maybe_clear_missed-requires-clause-at : goal.maybe_clear_missed-requires-clause-at
 maybe_clear_missed-requires-clause-at g c κs within = (NoneTaken (queue_in c.args.shared.now.infos.now c.args.n), search rules, sym c.queue_of-queue.ensures)
 
-pub returns-then-load_xoff-ne0-clause-by : goal.returns-then-load_xoff-ne0-clause-by
-returns-then-load_xoff-ne0-clause-by g c =
-    let k = setup c.args.shared.now in let s = c.maybe_clear_missed.ensures.stopped in let q = c.queue_of-queue.result in
-    inr (
-      refl,
-      subst (λ (queue : ℕ). FindsStopWord k queue (known c.args.cpu.now) (known c.maybe_clear_missed.new.cpu)) c.queue_of-queue.ensures
-          (c.load_xoff.result, s.0, c.if-load_xoff-ne0.true, s.1 ∙ ap (λ (v : View). setting (loading s.0 (passing v))) c.load_xoff.ensures.view, subst (λ (xs : List Made). ClearsMaybe k q s.0 xs (steps c.maybe_clear_missed.new.cpu)) c.load_xoff.ensures.made s.2),
-    )
+pub returns-then-load_xoff-ne0 : goal.returns-then-load_xoff-ne0
+returns-then-load_xoff-ne0 g c = record {
+  kept =
+      let l = c.load_xoff.ensures in
+      let e = stopped_at_dequeue c.load_xoff.result (Some c.args.n) (view c.args.cpu.now) (view c.load_xoff.new.cpu) l.view c.requires.at c.requires.slot.0 c.if-load_xoff-ne0.true in
+      kept_then (kept_moved c.args.cpu.now c.load_xoff.new.cpu _ _ _ _ l.same.0 l.same.2 e refl) c.maybe_clear_missed.ensures.kept;
+  run = search rules;
+  serving =
+      let l = c.load_xoff.ensures in let m = c.maybe_clear_missed.ensures in
+      let e = stopped_at_dequeue c.load_xoff.result (Some c.args.n) (view c.args.cpu.now) (view c.load_xoff.new.cpu) l.view c.requires.at c.requires.slot.0 c.if-load_xoff-ne0.true in
+      serving_same c.args.cpu.now c.maybe_clear_missed.new.cpu (m.station.1 ∙ l.same.3) (m.station.0 ∙ l.same.1) (m.holder ∙ ap (λ (v : View). laid_aside v.place.position v.holder) e) (m.kept.locks ∙ ap (λ (v : View). v.locks) e) c.requires.serving;
+  at = search rules;
+  fates = search rules;
+  packet = search rules;
+  steps = (
+    (
+        let v = view c.args.cpu.now in let m = view c.load_xoff.new.cpu in let w = view c.maybe_clear_missed.new.cpu in let x = c.load_xoff.result in let l = c.load_xoff.ensures in let a = c.maybe_clear_missed.ensures in
+        let e = stopped_at_dequeue x (Some c.args.n) v m l.view c.requires.at c.requires.slot.0 c.if-load_xoff-ne0.true in let is = a.stopped.1 ∙ ap (λ (y : View). setting (loading a.stopped.0 (passing y))) l.view in
+        let queue = c.queue_of-queue.ensures ∙ ap (λ (o : Option ℕ). option_map_or (queue_in c.args.shared.now.infos.now) o 0) (sym c.requires.slot.0) in (
+          λ _. ap is_some c.requires.slot.0,
+          subst (λ (q : ℕ). FindsStopped q v w) queue
+              (finds_stopped c.queue_of-queue.result x a.stopped.0 _ v m w c.if-load_xoff-ne0.true e is a.heard a.holder a.sole (λ alone. stop_is c.queue_of-queue.result x v l.sole alone (ap holds_lock c.requires.at) c.requires.serving.3)),
+        )
+        ),
+    (
+        let k = setup c.args.shared.now in let s = c.maybe_clear_missed.ensures.stopped in let q = c.queue_of-queue.result in
+        inr (
+          refl,
+          subst (λ (queue : ℕ). FindsStopWord k queue (known c.args.cpu.now) (known c.maybe_clear_missed.new.cpu)) c.queue_of-queue.ensures
+              (c.load_xoff.result, s.0, c.if-load_xoff-ne0.true, s.1 ∙ ap (λ (v : View). setting (loading s.0 (passing v))) c.load_xoff.ensures.view, subst (λ (xs : List Made). ClearsMaybe k q s.0 xs (steps c.maybe_clear_missed.new.cpu)) c.load_xoff.ensures.made s.2),
+        )
+        ),
+    (
+        λ one alone.
+        let s = c.load_xoff.ensures.sole in let holds = ap holds_lock c.requires.at in let v = view c.args.cpu.now in
+        let queue : c.queue_of-queue.result ≡ 0 = (let a = c.queue_of-queue.ensures in let b = c.requires.slot.1.1 in let d = ap (λ (k : Setup). k.queues) c.requires.seat.2 in omega arith) in
+        (s.1 alone holds, s.2 alone holds, λ open_. c.if-load_xoff-ne0.true (stop_is c.queue_of-queue.result c.load_xoff.result v s alone holds c.requires.serving.3 ∙ (ap (slice_index (account_of v).stops) queue ∙ open_)))
+        ),
+  );
+}
 
-pub returns-clause-by : goal.returns-clause-by
-returns-clause-by g c =
-    let k = setup c.args.shared.now in let zero_ = c.if-load_xoff-ne0.false in let t = c.take_requeued.ensures in
-    inl (
-      refl,
-      t.same.3 ∙ (c.load_xoff.ensures.view ∙ ap (λ (x : ℕ). loading x (view c.args.cpu.now)) zero_),
-      t.made ∙ (c.load_xoff.ensures.made ∙ (λ j. steps c.args.cpu.now ⊳ did_load_stop k (c.queue_of-queue.ensures j) (zero_ j))),
-    )
-
-pub returns-then-load_xoff-ne0-clause-kept : goal.returns-then-load_xoff-ne0-clause-kept
-returns-then-load_xoff-ne0-clause-kept g c =
-    let l = c.load_xoff.ensures in
-    let e = stopped_at_dequeue c.load_xoff.result (Some c.args.n) (view c.args.cpu.now) (view c.load_xoff.new.cpu) l.view c.requires.at c.requires.slot.0 c.if-load_xoff-ne0.true in
-    kept_then (kept_moved c.args.cpu.now c.load_xoff.new.cpu _ _ _ _ l.same.0 l.same.2 e refl) c.maybe_clear_missed.ensures.kept
-
-pub returns-then-load_xoff-ne0-clause-serving : goal.returns-then-load_xoff-ne0-clause-serving
-returns-then-load_xoff-ne0-clause-serving g c =
-    let l = c.load_xoff.ensures in let m = c.maybe_clear_missed.ensures in
-    let e = stopped_at_dequeue c.load_xoff.result (Some c.args.n) (view c.args.cpu.now) (view c.load_xoff.new.cpu) l.view c.requires.at c.requires.slot.0 c.if-load_xoff-ne0.true in
-    serving_same c.args.cpu.now c.maybe_clear_missed.new.cpu (m.station.1 ∙ l.same.3) (m.station.0 ∙ l.same.1) (m.holder ∙ ap (λ (v : View). laid_aside v.place.position v.holder) e) (m.kept.locks ∙ ap (λ (v : View). v.locks) e) c.requires.serving
-
-pub returns-then-load_xoff-ne0-clause-taken : goal.returns-then-load_xoff-ne0-clause-taken
-returns-then-load_xoff-ne0-clause-taken g c =
-    let v = view c.args.cpu.now in let m = view c.load_xoff.new.cpu in let w = view c.maybe_clear_missed.new.cpu in let x = c.load_xoff.result in let l = c.load_xoff.ensures in let a = c.maybe_clear_missed.ensures in
-    let e = stopped_at_dequeue x (Some c.args.n) v m l.view c.requires.at c.requires.slot.0 c.if-load_xoff-ne0.true in let is = a.stopped.1 ∙ ap (λ (y : View). setting (loading a.stopped.0 (passing y))) l.view in
-    let queue = c.queue_of-queue.ensures ∙ ap (λ (o : Option ℕ). option_map_or (queue_in c.args.shared.now.infos.now) o 0) (sym c.requires.slot.0) in (
-      λ _. ap is_some c.requires.slot.0,
-      subst (λ (q : ℕ). FindsStopped q v w) queue
-          (finds_stopped c.queue_of-queue.result x a.stopped.0 _ v m w c.if-load_xoff-ne0.true e is a.heard a.holder a.sole (λ alone. stop_is c.queue_of-queue.result x v l.sole alone (ap holds_lock c.requires.at) c.requires.serving.3)),
-    )
-
-pub returns-then-load_xoff-ne0-clause-one : goal.returns-then-load_xoff-ne0-clause-one
-returns-then-load_xoff-ne0-clause-one g c = λ one alone.
-    let s = c.load_xoff.ensures.sole in let holds = ap holds_lock c.requires.at in let v = view c.args.cpu.now in
-    let queue : c.queue_of-queue.result ≡ 0 = (let a = c.queue_of-queue.ensures in let b = c.requires.slot.1.1 in let d = ap (λ (k : Setup). k.queues) c.requires.seat.2 in omega arith) in
-    (s.1 alone holds, s.2 alone holds, λ open_. c.if-load_xoff-ne0.true (stop_is c.queue_of-queue.result c.load_xoff.result v s alone holds c.requires.serving.3 ∙ (ap (slice_index (account_of v).stops) queue ∙ open_)))
-
-pub returns-clause-kept : goal.returns-clause-kept
-returns-clause-kept g c =
-    let l = c.load_xoff.ensures in let t = c.take_requeued.ensures.same in
-    let e = t.3 ∙ opened_at_dequeue c.load_xoff.result (Some c.args.n) (view c.args.cpu.now) (view c.load_xoff.new.cpu) l.view c.requires.at c.requires.slot.0 c.if-load_xoff-ne0.false in
-    kept_moved c.args.cpu.now c.take_requeued.new.cpu _ _ _ _ (t.0.0 ∙ l.same.0.0, t.0.1 ∙ l.same.0.1) (t.1 ∙ l.same.2) e refl
-
-pub returns-clause-serving : goal.returns-clause-serving
-returns-clause-serving g c =
-    let l = c.load_xoff.ensures in let t = c.take_requeued.ensures in let h = (view c.args.cpu.now).holder in
-    let e = t.same.3 ∙ opened_at_dequeue c.load_xoff.result (Some c.args.n) (view c.args.cpu.now) (view c.load_xoff.new.cpu) l.view c.requires.at c.requires.slot.0 c.if-load_xoff-ne0.false in
-    let holder : (view c.take_requeued.new.cpu).holder ≡ record h { slot = None; hand = Some c.args.n } = ap (λ (v : View). v.holder) e in
-    serving_with c.args.cpu.now c.take_requeued.new.cpu None (Some c.args.n) (t.same.2 ∙ l.same.3)
-    (t.station (shown h) (l.same.1 ∙ c.requires.serving.0.1) ∙ ap (λ (x : HolderPart). Some (shown x)) (sym holder)) holder (ap (λ (v : View). v.locks) e) c.requires.serving
-
-pub returns-clause-taken : goal.returns-clause-taken
-returns-clause-taken g c =
-    let v = view c.args.cpu.now in let w = view c.take_requeued.new.cpu in let n = c.args.n in
-    let e = c.take_requeued.ensures.same.3 ∙ opened_at_dequeue c.load_xoff.result (Some n) v (view c.load_xoff.new.cpu) c.load_xoff.ensures.view c.requires.at c.requires.slot.0 c.if-load_xoff-ne0.false in
-    subst (λ (o : Option ℕ). MatchOption o (FindsPacket n v w) (λ m. (m ≡ n) × Picks n v w)) (sym c.requires.slot.0)
-    (refl, record { is = e ∙ ap (λ (s : Seat). picking (Some n) (record v { place = s })) (sym (ap (λ (x : View). x.place) e)); step = ap solo e })
-
-pub returns-clause-one : goal.returns-clause-one
-returns-clause-one g c = λ one alone.
-    let s = c.load_xoff.ensures.sole in let holds = ap holds_lock c.requires.at in let v = view c.args.cpu.now in
-    let queue : c.queue_of-queue.result ≡ 0 = (let a = c.queue_of-queue.ensures in let b = c.requires.slot.1.1 in let d = ap (λ (k : Setup). k.queues) c.requires.seat.2 in omega arith) in
-    (s.1 alone holds, s.2 alone holds, ap (slice_index (account_of v).stops) (sym queue) ∙ (sym (stop_is c.queue_of-queue.result c.load_xoff.result v s alone holds c.requires.serving.3) ∙ c.if-load_xoff-ne0.false))
+pub returns : goal.returns
+returns g c = record {
+  kept =
+      let l = c.load_xoff.ensures in let t = c.take_requeued.ensures.same in
+      let e = t.3 ∙ opened_at_dequeue c.load_xoff.result (Some c.args.n) (view c.args.cpu.now) (view c.load_xoff.new.cpu) l.view c.requires.at c.requires.slot.0 c.if-load_xoff-ne0.false in
+      kept_moved c.args.cpu.now c.take_requeued.new.cpu _ _ _ _ (t.0.0 ∙ l.same.0.0, t.0.1 ∙ l.same.0.1) (t.1 ∙ l.same.2) e refl;
+  run = search rules;
+  serving =
+      let l = c.load_xoff.ensures in let t = c.take_requeued.ensures in let h = (view c.args.cpu.now).holder in
+      let e = t.same.3 ∙ opened_at_dequeue c.load_xoff.result (Some c.args.n) (view c.args.cpu.now) (view c.load_xoff.new.cpu) l.view c.requires.at c.requires.slot.0 c.if-load_xoff-ne0.false in
+      let holder : (view c.take_requeued.new.cpu).holder ≡ record h { slot = None; hand = Some c.args.n } = ap (λ (v : View). v.holder) e in
+      serving_with c.args.cpu.now c.take_requeued.new.cpu None (Some c.args.n) (t.same.2 ∙ l.same.3)
+      (t.station (shown h) (l.same.1 ∙ c.requires.serving.0.1) ∙ ap (λ (x : HolderPart). Some (shown x)) (sym holder)) holder (ap (λ (v : View). v.locks) e) c.requires.serving;
+  at = search rules;
+  fates = search rules;
+  packet = search rules;
+  steps = (
+    (
+        let v = view c.args.cpu.now in let w = view c.take_requeued.new.cpu in let n = c.args.n in
+        let e = c.take_requeued.ensures.same.3 ∙ opened_at_dequeue c.load_xoff.result (Some n) v (view c.load_xoff.new.cpu) c.load_xoff.ensures.view c.requires.at c.requires.slot.0 c.if-load_xoff-ne0.false in
+        subst (λ (o : Option ℕ). MatchOption o (FindsPacket n v w) (λ m. (m ≡ n) × Picks n v w)) (sym c.requires.slot.0)
+        (refl, record { is = e ∙ ap (λ (s : Seat). picking (Some n) (record v { place = s })) (sym (ap (λ (x : View). x.place) e)); step = ap solo e })
+        ),
+    (
+        let k = setup c.args.shared.now in let zero_ = c.if-load_xoff-ne0.false in let t = c.take_requeued.ensures in
+        inl (
+          refl,
+          t.same.3 ∙ (c.load_xoff.ensures.view ∙ ap (λ (x : ℕ). loading x (view c.args.cpu.now)) zero_),
+          t.made ∙ (c.load_xoff.ensures.made ∙ (λ j. steps c.args.cpu.now ⊳ did_load_stop k (c.queue_of-queue.ensures j) (zero_ j))),
+        )
+        ),
+    (
+        λ one alone.
+        let s = c.load_xoff.ensures.sole in let holds = ap holds_lock c.requires.at in let v = view c.args.cpu.now in
+        let queue : c.queue_of-queue.result ≡ 0 = (let a = c.queue_of-queue.ensures in let b = c.requires.slot.1.1 in let d = ap (λ (k : Setup). k.queues) c.requires.seat.2 in omega arith) in
+        (s.1 alone holds, s.2 alone holds, ap (slice_index (account_of v).stops) (sym queue) ∙ (sym (stop_is c.queue_of-queue.result c.load_xoff.result v s alone holds c.requires.serving.3) ∙ c.if-load_xoff-ne0.false))
+        ),
+  );
+}

@@ -1,4 +1,4 @@
-use Rattle.std.proofs.Common.{◌≡◌, List, inl, inr, sym, ap, ◌∙◌}
+use Rattle.std.proofs.Common.{rules, ◌≡◌, List, inl, inr, sym, ap, ◌∙◌}
 use Rattle.lq_table.specs.Made.{Made, ◌⊳◌, did_clear_missed, did_load_stop, did_set_draining, did_set_missed}
 use Rattle.lq_table.specs.Sees.{view, setup, steps}
 use Rattle.lq_qdisc.proofs.TakeLemmas.{LeavesBlocked, leaves_blocked, stop_loaded_again}
@@ -25,50 +25,37 @@ stopped g c =
     let a = c.clear_missed.ensures in let l = c.load_xoff.ensures in let s = c.set_draining.ensures in
     leaves_blocked _ _ c.args.cpu.now c.clear_missed.new.cpu c.load_xoff.new.cpu _ c.requires.at.1 a.same l.same s.same a.view l.view s.view
 
-pub returns-then-load_xoff-eq0-clause-sole : goal.returns-then-load_xoff-eq0-clause-sole
-returns-then-load_xoff-eq0-clause-sole g c = λ alone closed.
-    let at_ = c.requires.at in let a = c.clear_missed.ensures in let l = c.load_xoff.ensures in
-    let stop = stop_loaded_again c.args.queue _ at_.0 (view c.args.cpu.now) _ a.view at_.1 l.sole alone c.requires.shut in
-    absurd (closed (sym stop ∙ c.if-load_xoff-eq0.true))
+pub returns-then-load_xoff-eq0 : goal.returns-then-load_xoff-eq0
+returns-then-load_xoff-eq0 g c = record {
+  kept = (opened g c).kept;
+  run = search rules;
+  station = search rules;
+  at = (opened g c).at;
+  holder = (opened g c).holder;
+  heard = (opened g c).heard;
+  fates = (opened g c).fates;
+  stopped =
+      let before = loaded g (goal.at.returns-then-load_xoff-eq0 g c).After-load_xoff in
+      let made = c.set_missed.ensures.made in let all = made.1 ∙ ap (λ (past : List Made). past ⊳ did_set_missed made.0) before in
+      (c.load_xoff.result, (opened g c).is, inl (c.if-load_xoff-eq0.true, made.0, all));
+  sole = λ alone closed.
+      let at_ = c.requires.at in let a = c.clear_missed.ensures in let l = c.load_xoff.ensures in
+      let stop = stop_loaded_again c.args.queue _ at_.0 (view c.args.cpu.now) _ a.view at_.1 l.sole alone c.requires.shut in
+      absurd (closed (sym stop ∙ c.if-load_xoff-eq0.true));
+}
 
-pub returns-then-load_xoff-eq0-clause-kept : goal.returns-then-load_xoff-eq0-clause-kept
-returns-then-load_xoff-eq0-clause-kept g c = (opened g c).kept
-
-pub returns-then-load_xoff-eq0-clause-at : goal.returns-then-load_xoff-eq0-clause-at
-returns-then-load_xoff-eq0-clause-at g c = (opened g c).at
-
-pub returns-then-load_xoff-eq0-clause-holder : goal.returns-then-load_xoff-eq0-clause-holder
-returns-then-load_xoff-eq0-clause-holder g c = (opened g c).holder
-
-pub returns-then-load_xoff-eq0-clause-heard : goal.returns-then-load_xoff-eq0-clause-heard
-returns-then-load_xoff-eq0-clause-heard g c = (opened g c).heard
-
-pub returns-then-load_xoff-eq0-clause-fates : goal.returns-then-load_xoff-eq0-clause-fates
-returns-then-load_xoff-eq0-clause-fates g c = (opened g c).fates
-
-pub returns-then-load_xoff-eq0-clause-stopped : goal.returns-then-load_xoff-eq0-clause-stopped
-returns-then-load_xoff-eq0-clause-stopped g c =
-    let before = loaded g (goal.at.returns-then-load_xoff-eq0-clause-stopped g c).After-load_xoff in
-    let made = c.set_missed.ensures.made in let all = made.1 ∙ ap (λ (past : List Made). past ⊳ did_set_missed made.0) before in
-    (c.load_xoff.result, (opened g c).is, inl (c.if-load_xoff-eq0.true, made.0, all))
-
-pub returns-else-load_xoff-eq0-clause-kept : goal.returns-else-load_xoff-eq0-clause-kept
-returns-else-load_xoff-eq0-clause-kept g c = (stopped g c).kept
-
-pub returns-else-load_xoff-eq0-clause-at : goal.returns-else-load_xoff-eq0-clause-at
-returns-else-load_xoff-eq0-clause-at g c = (stopped g c).at
-
-pub returns-else-load_xoff-eq0-clause-holder : goal.returns-else-load_xoff-eq0-clause-holder
-returns-else-load_xoff-eq0-clause-holder g c = (stopped g c).holder
-
-pub returns-else-load_xoff-eq0-clause-heard : goal.returns-else-load_xoff-eq0-clause-heard
-returns-else-load_xoff-eq0-clause-heard g c = (stopped g c).heard
-
-pub returns-else-load_xoff-eq0-clause-fates : goal.returns-else-load_xoff-eq0-clause-fates
-returns-else-load_xoff-eq0-clause-fates g c = (stopped g c).fates
-
-pub returns-else-load_xoff-eq0-clause-stopped : goal.returns-else-load_xoff-eq0-clause-stopped
-returns-else-load_xoff-eq0-clause-stopped g c =
-    let before = loaded g (goal.at.returns-else-load_xoff-eq0-clause-stopped g c).After-load_xoff in
-    let made = c.set_draining.ensures.made in let all = made.1 ∙ ap (λ (past : List Made). past ⊳ did_set_draining made.0) before in
-    (c.load_xoff.result, (stopped g c).is, inr (c.if-load_xoff-eq0.false, made.0, all))
+pub returns-else-load_xoff-eq0 : goal.returns-else-load_xoff-eq0
+returns-else-load_xoff-eq0 g c = record {
+  kept = (stopped g c).kept;
+  run = search rules;
+  station = search rules;
+  at = (stopped g c).at;
+  holder = (stopped g c).holder;
+  heard = (stopped g c).heard;
+  fates = (stopped g c).fates;
+  stopped =
+      let before = loaded g (goal.at.returns-else-load_xoff-eq0 g c).After-load_xoff in
+      let made = c.set_draining.ensures.made in let all = made.1 ∙ ap (λ (past : List Made). past ⊳ did_set_draining made.0) before in
+      (c.load_xoff.result, (stopped g c).is, inr (c.if-load_xoff-eq0.false, made.0, all));
+  sole = search rules;
+}

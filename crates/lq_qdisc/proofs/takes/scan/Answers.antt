@@ -1,4 +1,4 @@
-use Rattle.std.proofs.Common.{◌≡◌, arith, ℕ, ◌<◌, sym, ap, ◌∙◌, subst, List, ◌∷◌}
+use Rattle.std.proofs.Common.{rules, ◌≡◌, arith, ℕ, ◌<◌, sym, ap, ◌∙◌, subst, List, ◌∷◌}
 use Rattle.std.specs.Prelude.{slice_get}
 use Rattle.lq_model.specs.Account.{Account, Event, Empty, held_in}
 use Rattle.lq_table.specs.Views.{View, Setup}
@@ -10,23 +10,16 @@ use Rattle.lq_table.specs.Solo.{account_of}
 use Rattle.lq_qdisc.proofs.TakeLemmas.{none_more, empty_more, looking_here, lead_more, account_same, kept_then, kept_none, kept_take, run_none, run_take, sole_kept}
 use Rattle.lq_qdisc.proofs.takes.scan.Goals as goal
 
-pub consume-requires-clause-at : goal.consume-requires-clause-at
-consume-requires-clause-at g c κs within =
-    let at_ = c.requires.at in
-    (at_.0, c.loop-band.invariant.at at_.0 at_.1 ∙ looking_here c.loop-band.band at_.0 c.loop-band-test.true)
-
-pub returns-in-Some-clause-kept : goal.returns-in-Some-clause-kept
-returns-in-Some-clause-kept g c =
-    let at_ = c.requires.at in let here = c.loop-band.invariant.at at_.0 at_.1 ∙ looking_here c.loop-band.band at_.0 c.loop-band-test.true in
-    kept_then c.loop-band.invariant.kept (kept_take c.loop-band.band c.in-Some.n at_.0 c.loop-band.cpu c.consume.new.cpu here c.consume.ensures.same.0 c.consume.ensures.same.1 c.in-Some.ensures.takes.0)
-
-pub returns-in-Some-clause-run : goal.returns-in-Some-clause-run
-returns-in-Some-clause-run g c =
-    let at_ = c.requires.at in let here = c.loop-band.invariant.at at_.0 at_.1 ∙ looking_here c.loop-band.band at_.0 c.loop-band-test.true in
-    run_take c.loop-band.band c.in-Some.n at_.0 c.loop-band.cpu c.consume.new.cpu here c.in-Some.ensures.takes.0 ∙ c.loop-band.invariant.run
-
-pub returns-in-Some-clause-packet : goal.returns-in-Some-clause-packet
-returns-in-Some-clause-packet g c = subst (λ (k : Setup). IsPacketOf k c.in-Some.n) c.loop-band.invariant.seat.2 c.in-Some.ensures.packet
+pub consume-requires-clause-may : goal.consume-requires-clause-may
+consume-requires-clause-may g c κs within = record {
+  below = search rules;
+  at =
+      let at_ = c.requires.at in
+      (at_.0, c.loop-band.invariant.at at_.0 at_.1 ∙ looking_here c.loop-band.band at_.0 c.loop-band-test.true);
+  rests = search rules;
+  station = search rules;
+  idle = search rules;
+}
 
 pub loop-band-preserved : goal.loop-band-preserved
 loop-band-preserved g c =
@@ -51,9 +44,31 @@ loop-band-preserved g c =
       made = bands_more (setup c.args.shared.now) b (known c.args.cpu.now) (known m) (known a) old.made c.in_default.ensures.takes;
     }
 
-pub returns-in-Some-clause-made : goal.returns-in-Some-clause-made
-returns-in-Some-clause-made g c = (c.loop-band.band, known c.loop-band.cpu, c.loop-band.invariant.made, c.in-Some.ensures.takes)
+pub returns-in-Some : goal.returns-in-Some
+returns-in-Some g c = record {
+  kept =
+      let at_ = c.requires.at in let here = c.loop-band.invariant.at at_.0 at_.1 ∙ looking_here c.loop-band.band at_.0 c.loop-band-test.true in
+      kept_then c.loop-band.invariant.kept (kept_take c.loop-band.band c.in-Some.n at_.0 c.loop-band.cpu c.consume.new.cpu here c.consume.ensures.same.0 c.consume.ensures.same.1 c.in-Some.ensures.takes.0);
+  run =
+      let at_ = c.requires.at in let here = c.loop-band.invariant.at at_.0 at_.1 ∙ looking_here c.loop-band.band at_.0 c.loop-band-test.true in
+      run_take c.loop-band.band c.in-Some.n at_.0 c.loop-band.cpu c.consume.new.cpu here c.in-Some.ensures.takes.0 ∙ c.loop-band.invariant.run;
+  serving = search rules;
+  at = search rules;
+  fates = search rules;
+  taken = search rules;
+  packet = subst (λ (k : Setup). IsPacketOf k c.in-Some.n) c.loop-band.invariant.seat.2 c.in-Some.ensures.packet;
+  made = (c.loop-band.band, known c.loop-band.cpu, c.loop-band.invariant.made, c.in-Some.ensures.takes);
+}
 
-pub returns-clause-made : goal.returns-clause-made
-returns-clause-made g c = let three : c.loop-band.band ≡ 3 = omega arith in
-    subst (λ (n : ℕ). EmptyBelow (setup c.args.shared.now) n (known c.args.cpu.now) (known c.loop-band.cpu)) three c.loop-band.invariant.made
+pub returns : goal.returns
+returns g c = record {
+  kept = search rules;
+  run = search rules;
+  serving = search rules;
+  at = search rules;
+  fates = search rules;
+  taken = search rules;
+  packet = search rules;
+  made = let three : c.loop-band.band ≡ 3 = omega arith in
+      subst (λ (n : ℕ). EmptyBelow (setup c.args.shared.now) n (known c.args.cpu.now) (known c.loop-band.cpu)) three c.loop-band.invariant.made;
+}

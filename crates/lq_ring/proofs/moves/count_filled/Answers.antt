@@ -23,16 +23,20 @@ put_back-requires-clause-hand g c _ _ = λ some_.
     let s = single_back i w c.take_out-x.result (let l = c.loop-i-test.true in omega arith) x_is (c.requires.slots.1 i) some_ in
     (w.hand, (ap (λ (z : Work). z.hand) here ∙ s.0), (ap (λ (z : Work). get_or z.slots i 0) here ∙ s.1), c.take_out-x.ensures.found.1 (ap (λ (z : View). is_member c.take_out-x.result (work_at b z)) e0 ∙ s.2))
 
-pub returns-then-x-eq0-clause-same : goal.returns-then-x-eq0-clause-same
-returns-then-x-eq0-clause-same g c =
-    let b = c.args.band in let v = view c.args.cpu.now in let i = c.loop-i.i in
-    ((search rules), same_again b i v (view c.loop-i.cpu) (view c.take_out-x.new.cpu) (view c.put_back.new.cpu) c.take_out-x.result c.requires.turner c.loop-i.invariant.view_is c.take_out-x.ensures.taken c.take_out-x.ensures.found.0 c.put_back.ensures.put (c.requires.slots.1 i))
+pub returns-then-x-eq0-clause-keeps : goal.returns-then-x-eq0-clause-keeps
+returns-then-x-eq0-clause-keeps g c = record {
+  same = search rules;
+  made = turns_then (setup c.args.shared.now) c.args.band (steps c.args.cpu.now) (steps c.take_out-x.new.cpu) (steps c.put_back.new.cpu) (turns_out (setup c.args.shared.now) c.args.band (steps c.args.cpu.now) (steps c.loop-i.cpu) (steps c.take_out-x.new.cpu) c.loop-i.i c.take_out-x.result c.loop-i.invariant.made c.take_out-x.ensures.made) c.put_back.ensures.made;
+  is =
+      let b = c.args.band in let v = view c.args.cpu.now in let i = c.loop-i.i in
+      same_again b i v (view c.loop-i.cpu) (view c.take_out-x.new.cpu) (view c.put_back.new.cpu) c.take_out-x.result c.requires.turner c.loop-i.invariant.view_is c.take_out-x.ensures.taken c.take_out-x.ensures.found.0 c.put_back.ensures.is (c.requires.slots.1 i);
+}
 
 pub loop-i-preserved : goal.loop-i-preserved
 loop-i-preserved g c =
     let b = c.args.band in let v = view c.args.cpu.now in let i = c.loop-i.i in let e0 = c.loop-i.invariant.view_is in let old = c.loop-i.invariant.filled in
     let x_is : c.take_out-x.result ≡ get_or (work_at b v).slots i 0 = c.take_out-x.ensures.found.0 ∙ ap (λ (z : View). get_or (work_at b z).slots i 0) e0 in
-    let is : view c.put_back.new.cpu ≡ v = same_again b i v (view c.loop-i.cpu) (view c.take_out-x.new.cpu) (view c.put_back.new.cpu) c.take_out-x.result c.requires.turner e0 c.take_out-x.ensures.taken c.take_out-x.ensures.found.0 c.put_back.ensures.put (c.requires.slots.1 i) in
+    let is : view c.put_back.new.cpu ≡ v = same_again b i v (view c.loop-i.cpu) (view c.take_out-x.new.cpu) (view c.put_back.new.cpu) c.take_out-x.result c.requires.turner e0 c.take_out-x.ensures.taken c.take_out-x.ensures.found.0 c.put_back.ensures.is (c.requires.slots.1 i) in
     let some_ = c.if-x-eq0.false in record {
       seat = (search rules);
       same = (search rules);
@@ -40,9 +44,6 @@ loop-i-preserved g c =
       filled = λ j h z. ⊎_elim (λ (e : j ≡ i). some_ (x_is ∙ (ap (λ (y : ℕ). get_or (work_at b v).slots y 0) (sym e) ∙ z))) (λ (n : j ≢ i). old j (omega arith) z) (cases_eq j i);
       made = turns_then (setup c.args.shared.now) c.args.band (steps c.args.cpu.now) (steps c.take_out-x.new.cpu) (steps c.put_back.new.cpu) (turns_out (setup c.args.shared.now) c.args.band (steps c.args.cpu.now) (steps c.loop-i.cpu) (steps c.take_out-x.new.cpu) c.loop-i.i c.take_out-x.result c.loop-i.invariant.made c.take_out-x.ensures.made) c.put_back.ensures.made;
     }
-
-pub returns-then-x-eq0-clause-made : goal.returns-then-x-eq0-clause-made
-returns-then-x-eq0-clause-made g c = turns_then (setup c.args.shared.now) c.args.band (steps c.args.cpu.now) (steps c.take_out-x.new.cpu) (steps c.put_back.new.cpu) (turns_out (setup c.args.shared.now) c.args.band (steps c.args.cpu.now) (steps c.loop-i.cpu) (steps c.take_out-x.new.cpu) c.loop-i.i c.take_out-x.result c.loop-i.invariant.made c.take_out-x.ensures.made) c.put_back.ensures.made
 
 pub loop-i-init : goal.loop-i-init
 loop-i-init g c = let turned : TurnsRing (setup c.args.shared.now) c.args.band (steps c.args.cpu.now) (steps c.args.cpu.now) = not_yet in search rules

@@ -1,4 +1,4 @@
-use Rattle.std.proofs.Common.{◌≡◌, ◌≢◌, ℕ, arith, set, get_or, true, ap, ◌∙◌}
+use Rattle.std.proofs.Common.{rules, ◌≡◌, ◌≢◌, ℕ, arith, set, get_or, true, ap, ◌∙◌}
 use Rattle.lq_table.specs.Views.{Work}
 use Rattle.lq_table.specs.Resizes.{is_member, out_of}
 use Rattle.lq_table.specs.Sees.{view, setup, steps}
@@ -32,14 +32,14 @@ put_back-requires-clause-hand g c _ _ = λ some_.
 pub put_back-requires-2-clause-turner : goal.put_back-requires-2-clause-turner
 put_back-requires-2-clause-turner g c _ _ = let b = c.args.band in let t = c.requires.turner in
     let v = view c.args.cpu.now in let w1 : Work = out_of c.args.i (work_at b v) in let w2 : Work = out_of c.args.j w1 in
-    turner_chain b (back_in c.args.i c.take_out-y.result w2) v _ t (chain b (back_in c.args.i c.take_out-y.result) w2 v _ _ t (chain b (out_of c.args.j) w1 v _ _ t c.take_out-x.ensures.taken c.take_out-y.ensures.taken) c.put_back.ensures.put)
+    turner_chain b (back_in c.args.i c.take_out-y.result w2) v _ t (chain b (back_in c.args.i c.take_out-y.result) w2 v _ _ t (chain b (out_of c.args.j) w1 v _ _ t c.take_out-x.ensures.taken c.take_out-y.ensures.taken) c.put_back.ensures.is)
 
 pub put_back-requires-2-clause-hand : goal.put_back-requires-2-clause-hand
 put_back-requires-2-clause-hand g c _ _ = λ some_.
     let b = c.args.band in let i = c.args.i in let j = c.args.j in let t = c.requires.turner in let v = view c.args.cpu.now in let w : Work = work_at b v in
     let apart : i ≢ j = λ e. (let l = c.requires.place.1 in omega arith) in
     let e1 = c.take_out-x.ensures.taken in let e2 = chain b (out_of j) (out_of i w) v _ _ t e1 c.take_out-y.ensures.taken in
-    let e3 = chain b (back_in i c.take_out-y.result) (out_of j (out_of i w)) v _ _ t e2 c.put_back.ensures.put in
+    let e3 = chain b (back_in i c.take_out-y.result) (out_of j (out_of i w)) v _ _ t e2 c.put_back.ensures.is in
     let at1 : work_at b (view c.take_out-x.new.cpu) ≡ out_of i w = at_chain b (out_of i w) v _ t e1 in let at3 = at_chain b (back_in i c.take_out-y.result (out_of j (out_of i w))) v _ t e3 in
     let y_is : c.take_out-y.result ≡ get_or (set w.slots i 0) j 0 = c.take_out-y.ensures.found.0 ∙ ap (λ (z : Work). get_or z.slots j 0) at1 in
     let long = c.requires.slots.0 in
@@ -48,19 +48,20 @@ put_back-requires-2-clause-hand g c _ _ = λ some_.
     let member : is_member c.take_out-x.result w ≡ true = ap (λ (z : ℕ). is_member z w) x_is ∙ zero_or (get_or w.slots i 0) w (λ z. some_ (x_is ∙ z)) (c.requires.slots.1 i) in
     (w.hand, (ap (λ (z : Work). z.hand) at3 ∙ both.0), (ap (λ (z : Work). get_or z.slots j 0) at3 ∙ both.1), c.take_out-x.ensures.found.1 member)
 
-pub returns-clause-exchanged : goal.returns-clause-exchanged
-returns-clause-exchanged g c =
-    let b = c.args.band in let i = c.args.i in let j = c.args.j in let t = c.requires.turner in let v = view c.args.cpu.now in let w : Work = work_at b v in
-    let apart : i ≢ j = λ e. (let l = c.requires.place.1 in omega arith) in
-    let e1 = c.take_out-x.ensures.taken in let e2 = chain b (out_of j) (out_of i w) v _ _ t e1 c.take_out-y.ensures.taken in
-    let e3 = chain b (back_in i c.take_out-y.result) (out_of j (out_of i w)) v _ _ t e2 c.put_back.ensures.put in let e4 = chain b (back_in j c.take_out-x.result) (back_in i c.take_out-y.result (out_of j (out_of i w))) v _ _ t e3 c.put_back-2.ensures.put in
-    let at1 : work_at b (view c.take_out-x.new.cpu) ≡ out_of i w = at_chain b (out_of i w) v _ t e1 in
-    let y_is : c.take_out-y.result ≡ get_or (set w.slots i 0) j 0 = c.take_out-y.ensures.found.0 ∙ ap (λ (z : Work). get_or z.slots j 0) at1 in
-    e4 ∙ ap (λ (z : Work). working b z v) (exchange_is i j w c.take_out-x.result c.take_out-y.result apart c.take_out-x.ensures.found.0 y_is (c.requires.slots.1 i) (c.requires.slots.1 j))
-
-pub returns-clause-made : goal.returns-clause-made
-returns-clause-made g c =
-    let old = steps c.args.cpu.now in let x = steps c.take_out-x.new.cpu in let y = steps c.take_out-y.new.cpu in let back = steps c.put_back.new.cpu in let k = setup c.args.shared.now in let b = c.args.band in
-    turns_then k b old back (steps c.put_back-2.new.cpu)
-    (turns_then k b old y back (turns_out k b old x y c.args.j c.take_out-y.result (turns_out k b old old x c.args.i c.take_out-x.result not_yet c.take_out-x.ensures.made) c.take_out-y.ensures.made) c.put_back.ensures.made)
-    c.put_back-2.ensures.made
+pub returns : goal.returns
+returns g c = record {
+  same = search rules;
+  made =
+      let old = steps c.args.cpu.now in let x = steps c.take_out-x.new.cpu in let y = steps c.take_out-y.new.cpu in let back = steps c.put_back.new.cpu in let k = setup c.args.shared.now in let b = c.args.band in
+      turns_then k b old back (steps c.put_back-2.new.cpu)
+      (turns_then k b old y back (turns_out k b old x y c.args.j c.take_out-y.result (turns_out k b old old x c.args.i c.take_out-x.result not_yet c.take_out-x.ensures.made) c.take_out-y.ensures.made) c.put_back.ensures.made)
+      c.put_back-2.ensures.made;
+  is =
+      let b = c.args.band in let i = c.args.i in let j = c.args.j in let t = c.requires.turner in let v = view c.args.cpu.now in let w : Work = work_at b v in
+      let apart : i ≢ j = λ e. (let l = c.requires.place.1 in omega arith) in
+      let e1 = c.take_out-x.ensures.taken in let e2 = chain b (out_of j) (out_of i w) v _ _ t e1 c.take_out-y.ensures.taken in
+      let e3 = chain b (back_in i c.take_out-y.result) (out_of j (out_of i w)) v _ _ t e2 c.put_back.ensures.is in let e4 = chain b (back_in j c.take_out-x.result) (back_in i c.take_out-y.result (out_of j (out_of i w))) v _ _ t e3 c.put_back-2.ensures.is in
+      let at1 : work_at b (view c.take_out-x.new.cpu) ≡ out_of i w = at_chain b (out_of i w) v _ t e1 in
+      let y_is : c.take_out-y.result ≡ get_or (set w.slots i 0) j 0 = c.take_out-y.ensures.found.0 ∙ ap (λ (z : Work). get_or z.slots j 0) at1 in
+      e4 ∙ ap (λ (z : Work). working b z v) (exchange_is i j w c.take_out-x.result c.take_out-y.result apart c.take_out-x.ensures.found.0 y_is (c.requires.slots.1 i) (c.requires.slots.1 j));
+}

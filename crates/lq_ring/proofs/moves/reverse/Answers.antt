@@ -24,7 +24,7 @@ exchange-requires-clause-slots g c _ _ =
 pub loop-k-preserved : goal.loop-k-preserved
 loop-k-preserved g c =
     let b = c.args.band in let v = view c.args.cpu.now in let w : Work = work_at b v in let k = c.loop-k.k in let i = c.loop-k.invariant in
-    let e = chain b (λ (z : Work). with_slots (exchanged (c.args.a + k) (c.args.b - 1 - k) z.slots) z) (with_slots (reversed_to c.args.a c.args.b k w.slots) w) v _ _ c.requires.turner i.view_is c.exchange.ensures.exchanged in record {
+    let e = chain b (λ (z : Work). with_slots (exchanged (c.args.a + k) (c.args.b - 1 - k) z.slots) z) (with_slots (reversed_to c.args.a c.args.b k w.slots) w) v _ _ c.requires.turner i.view_is c.exchange.ensures.is in record {
       seat = (search rules);
       same = (search rules);
       view_is = e ∙ ap (λ (n : ℕ). working b (with_slots (reversed_to c.args.a c.args.b n w.slots) w) v) (let q : suc k ≡ k + 1 = omega arith in q);

@@ -1,4 +1,4 @@
-use Rattle.std.proofs.Common.{◌≡◌, ℕ, List, [], take, sym, ap, ◌∙◌, subst, arith, Some}
+use Rattle.std.proofs.Common.{rules, ◌≡◌, ℕ, List, [], take, sym, ap, ◌∙◌, subst, arith, Some}
 use Rattle.lq_model.specs.Positions.{holds_lock}
 use Rattle.lq_model.specs.Band.{held_of}
 use Rattle.lq_band_laws.specs.Three.{at}
@@ -18,42 +18,43 @@ use Rattle.lq_ring.proofs.purges.purge_band.Goals as goal
 
 pub loop-n-init : goal.loop-n-init
 loop-n-init g c =
-    let v = view c.args.cpu.now in let loaded = c.load_size-size.ensures.size.0 ∙ sized_none c.load_size-size.result v c.requires.idle in let s = c.load_size-size.ensures.same in record {
+    let v = view c.args.cpu.now in let loaded = c.load_size-size.ensures.size.0 ∙ sized_none c.load_size-size.result v c.requires.may.idle in let s = c.load_size-size.ensures.same in record {
       seat = seat_on c.args.shared.now c.args.cpu.now c.load_size-size.new.cpu c.requires.seat s.0 (ap (λ (x : View). x.share) loaded);
       still = s.0;
       slot = s.3;
-      station = s.1 ∙ (c.requires.station ∙ ap (λ (x : View). Some (shown x.holder)) (sym loaded));
-      purged = λ f left. subst (λ (x : View). IsPurgedTo c.args.band 0 f v x) (sym loaded) (none_purged c.args.band f v c.requires.band left (rest_at _ c.args.band _ c.requires.rests.0));
-      made = λ f left. let size = c.load_size-size.ensures.holder (ap holds_lock c.requires.at.2) in let start : Ends = at c.args.band v.holder.ends in
+      station = s.1 ∙ (c.requires.may.station ∙ ap (λ (x : View). Some (shown x.holder)) (sym loaded));
+      purged = λ f left. subst (λ (x : View). IsPurgedTo c.args.band 0 f v x) (sym loaded) (none_purged c.args.band f v c.requires.may.below left (rest_at _ c.args.band _ c.requires.may.rests.0));
+      made = λ f left. let size = c.load_size-size.ensures.holder (ap holds_lock c.requires.may.at.2) in let start : Ends = at c.args.band v.holder.ends in
           subst (λ (z : Ends × List Made). PurgesEach (setup c.args.shared.now) c.args.band (fate.Purged c.args.cause) v.holder.size start (steps c.args.cpu.now ⊳ did_load_size v.holder.size) [] z.0 z.1)
           (λ j. (ap (λ (x : View). at c.args.band x.holder.ends) (sym loaded) j, sym (c.load_size-size.ensures.made ∙ ap (λ (z : ℕ). steps c.args.cpu.now ⊳ did_load_size z) size) j)) none_yet;
     }
 
-pub purge_one-requires-clause-at : goal.purge_one-requires-clause-at
-purge_one-requires-clause-at g c _ _ =
-    let at = c.requires.at in let l = at.1 in let b = c.args.band in let p = c.loop-n.invariant.purged l at.5 in
-    (at.0, purged_by b c.loop-n.n l, ap (λ (x : View). x.place.position) p.is ∙ at.2, ap (λ (x : View). x.control.purge) p.is ∙ at.3, at.4, ap (λ (x : View). x.holder.left) p.is, at.6, λ n h. at.7 n (still_held b c.loop-n.n l n h))
-
-pub purge_one-requires-clause-packets : goal.purge_one-requires-clause-packets
-purge_one-requires-clause-packets g c _ _ =
-    let at = c.requires.at in let p = c.loop-n.invariant.purged at.1 at.5 in (ap (λ (x : View). x.packets.owed) p.is ∙ c.requires.packets.0, ap (λ (x : View). x.packets.fresh) p.is ∙ c.requires.packets.1)
-
-pub purge_one-requires-clause-rests : goal.purge_one-requires-clause-rests
-purge_one-requires-clause-rests g c _ _ =
-    let at = c.requires.at in let v = view c.args.cpu.now in let p = c.loop-n.invariant.purged at.1 at.5 in
-    let size : v.holder.size ≡ c.load_size-size.result = sym (c.load_size-size.ensures.holder (ap holds_lock at.2)) in (
-      subst (λ (x : View). IsResting x.holder.size x.holder.ends) (sym p.is) (rest_put v.holder.size c.args.band p.ends v.holder.ends c.requires.rests.0 p.rests),
-      ap (λ (x : View). x.holder.resizing) p.is ∙ c.requires.rests.1,
-      ap (λ (x : View). x.holder.size) p.is ∙ size,
-      c.load_size-size.ensures.size.2,
-    )
+pub purge_one-requires-clause-may : goal.purge_one-requires-clause-may
+purge_one-requires-clause-may g c _ _ = record {
+  below = search rules;
+  at =
+      let at = c.requires.may.at in let l = at.1 in let b = c.args.band in let p = c.loop-n.invariant.purged l at.5 in
+      (at.0, purged_by b c.loop-n.n l, ap (λ (x : View). x.place.position) p.is ∙ at.2, ap (λ (x : View). x.control.purge) p.is ∙ at.3, at.4, ap (λ (x : View). x.holder.left) p.is, at.6, λ n h. at.7 n (still_held b c.loop-n.n l n h));
+  word = search rules;
+  packets =
+      let at = c.requires.may.at in let p = c.loop-n.invariant.purged at.1 at.5 in (ap (λ (x : View). x.packets.owed) p.is ∙ c.requires.may.packets.0, ap (λ (x : View). x.packets.fresh) p.is ∙ c.requires.may.packets.1);
+  rests =
+      let at = c.requires.may.at in let v = view c.args.cpu.now in let p = c.loop-n.invariant.purged at.1 at.5 in
+      let size : v.holder.size ≡ c.load_size-size.result = sym (c.load_size-size.ensures.holder (ap holds_lock at.2)) in (
+        subst (λ (x : View). IsResting x.holder.size x.holder.ends) (sym p.is) (rest_put v.holder.size c.args.band p.ends v.holder.ends c.requires.may.rests.0 p.rests),
+        ap (λ (x : View). x.holder.resizing) p.is ∙ c.requires.may.rests.1,
+        ap (λ (x : View). x.holder.size) p.is ∙ size,
+        c.load_size-size.ensures.size.2,
+      );
+  station = search rules;
+}
 
 pub loop-n-preserved : goal.loop-n-preserved
 loop-n-preserved g c =
     let b = c.args.band in let k = c.loop-n.n in let v = view c.args.cpu.now in let i = c.loop-n.invariant in let s = c.purge_one.ensures.same in
     let next = λ (l : Left) (left : v.holder.left ≡ Some l). (let p = i.purged l left in let t = c.purge_one.ensures.taken c.if-not-purge_one.false (purged_by b k l) (ap (λ (x : View). x.holder.left) p.is) in
-    next_purged b k t.0 l v (view c.loop-n.cpu) (view c.purge_one.new.cpu) c.requires.packets.0 p t.1 t.2) in record {
-      seat = seat_on c.args.shared.now c.args.cpu.now c.purge_one.new.cpu c.requires.seat (s.0.0 ∙ i.still.0, s.0.1 ∙ i.still.1) (ap (λ (x : View). x.share) (next c.requires.at.1 c.requires.at.5).is);
+    next_purged b k t.0 l v (view c.loop-n.cpu) (view c.purge_one.new.cpu) c.requires.may.packets.0 p t.1 t.2) in record {
+      seat = seat_on c.args.shared.now c.args.cpu.now c.purge_one.new.cpu c.requires.seat (s.0.0 ∙ i.still.0, s.0.1 ∙ i.still.1) (ap (λ (x : View). x.share) (next c.requires.may.at.1 c.requires.may.at.5).is);
       still = (s.0.0 ∙ i.still.0, s.0.1 ∙ i.still.1);
       slot = s.1 ∙ i.slot;
       station = c.purge_one.ensures.station;
@@ -65,28 +66,36 @@ loop-n-preserved g c =
           let size : (view c.loop-n.cpu).holder.size ≡ v.holder.size = ap (λ (x : View). x.holder.size) p.is in
           let then : at b (view c.purge_one.new.cpu).holder.ends ≡ after_take v.holder.size p.ends = ap (λ (x : View). at b x.holder.ends) (next l left).is ∙ at_put_same b (next l left).ends v.holder.ends in
           subst (λ (z : List ℕ × Ends × List Made). PurgesEach (setup c.args.shared.now) b (fate.Purged c.args.cause) v.holder.size (at b v.holder.ends) (steps c.args.cpu.now ⊳ did_load_size v.holder.size) z.0 z.1 z.2)
-          (λ j. (taken_next_of b k t.0 l t.1 j, ((λ i'. after_take v.holder.size (here i')) ∙ sym then) j, ((λ i'. purging_steps (setup c.args.shared.now) b (fate.Purged c.args.cause) (sym size i') (at b (view c.loop-n.cpu).holder.ends) t.0 (steps c.loop-n.cpu)) ∙ sym made_) j))
+          (λ j. (taken_next_of b k t.0 l t.1 j, ((λ m. after_take v.holder.size (here m)) ∙ sym then) j, ((λ m. purging_steps (setup c.args.shared.now) b (fate.Purged c.args.cause) (sym size m) (at b (view c.loop-n.cpu).holder.ends) t.0 (steps c.loop-n.cpu)) ∙ sym made_) j))
           (one_more (take k held) (at b (view c.loop-n.cpu).holder.ends) t.0 (steps c.loop-n.cpu) (i.made l left));
     }
 
 pub unreachable-requires : goal.unreachable-requires
 unreachable-requires g c =
-    let at = c.requires.at in let few = (c.loop-n.invariant.purged at.1 at.5).few in let most = at.8 in let past = c.loop-n-test.false in
+    let at = c.requires.may.at in let few = (c.loop-n.invariant.purged at.1 at.5).few in let most = at.8 in let past = c.loop-n-test.false in
     let size : c.load_size-size.result ≡ (view c.args.cpu.now).holder.size = c.load_size-size.ensures.holder (ap holds_lock at.2) in absurd (omega arith)
 
-pub returns-then-not-purge_one-clause-purges : goal.returns-then-not-purge_one-clause-purges
-returns-then-not-purge_one-clause-purges g c =
-    let b = c.args.band in let k = c.loop-n.n in let i = c.loop-n.invariant in let one = c.purge_one.ensures in
-    record {
-      purged = λ u l purge left.
-          let p = i.purged l left in
-          let none_ = one.none c.if-not-purge_one.true u (purged_by b k l) (ap (λ (x : View). x.control.purge) p.is ∙ purge) (ap (λ (x : View). x.holder.left) p.is) in
-          all_purged b k u l (view c.args.cpu.now) (view c.loop-n.cpu) (view c.purge_one.new.cpu) p none_.0 none_.1;
-      made = λ l left.
-          let p = i.purged l left in let at_ = c.requires.at in let u = at_.0 in let purge = at_.3 in
-          let none_ = one.none c.if-not-purge_one.true u (purged_by b k l) (ap (λ (x : View). x.control.purge) p.is ∙ purge) (ap (λ (x : View). x.holder.left) p.is) in
-          (steps c.loop-n.cpu, at b (view c.loop-n.cpu).holder.ends,
-          subst (λ (ns : List ℕ). PurgesEach (setup c.args.shared.now) b (fate.Purged c.args.cause) (view c.args.cpu.now).holder.size (at b (view c.args.cpu.now).holder.ends) (steps c.args.cpu.now ⊳ did_load_size (view c.args.cpu.now).holder.size) ns (at b (view c.loop-n.cpu).holder.ends) (steps c.loop-n.cpu))
-              (taken_all b k l none_.0) (i.made l left),
-          one.made.none c.if-not-purge_one.true);
-    }
+pub returns-then-not-purge_one : goal.returns-then-not-purge_one
+returns-then-not-purge_one g c = record {
+  same = search rules;
+  few = search rules;
+  station = search rules;
+  purges =
+      let b = c.args.band in let k = c.loop-n.n in let i = c.loop-n.invariant in let one = c.purge_one.ensures in
+      record {
+        purged = λ u l purge left.
+            let p = i.purged l left in
+            let none_ = one.none c.if-not-purge_one.true u (purged_by b k l) (ap (λ (x : View). x.control.purge) p.is ∙ purge) (ap (λ (x : View). x.holder.left) p.is) in
+            all_purged b k u l (view c.args.cpu.now) (view c.loop-n.cpu) (view c.purge_one.new.cpu) p none_.0 none_.1;
+        made = λ l left.
+            let p = i.purged l left in let come = c.requires.may.at in
+            let none_ = one.none c.if-not-purge_one.true come.0 (purged_by b k l) (ap (λ (x : View). x.control.purge) p.is ∙ come.3) (ap (λ (x : View). x.holder.left) p.is) in
+            let old = view c.args.cpu.now in let ends = at b (view c.loop-n.cpu).holder.ends in (
+              steps c.loop-n.cpu,
+              ends,
+              subst (λ (ns : List ℕ). PurgesEach (setup c.args.shared.now) b (fate.Purged c.args.cause) old.holder.size (at b old.holder.ends) (steps c.args.cpu.now ⊳ did_load_size old.holder.size) ns ends (steps c.loop-n.cpu))
+                  (taken_all b k l none_.0) (i.made l left),
+              one.made.none c.if-not-purge_one.true,
+            );
+      };
+}

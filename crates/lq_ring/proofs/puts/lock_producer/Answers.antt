@@ -10,14 +10,18 @@ use Rattle.lq_ring.proofs.StepLemmas.{spins_held, spins_lost}
 use Rattle.lq_ring.proofs.puts.lock_producer.Goals as goal
 use Rattle.lq_ring.proofs.puts.lock_producer.Goals.{then-seen-eq0+else-take_producer, else-seen-eq0}
 
-pub returns-then-take_producer-clause-locked : goal.returns-then-take_producer-clause-locked
-returns-then-take_producer-clause-locked g c =
-    let b = c.args.band in let v = view c.args.cpu.now in let i = c.load_producer-seen.result / 2 in let got = c.take_producer.ensures.got c.if-take_producer.true in
-    let same : view c.load_producer-seen.new.cpu ≡ v = c.load_producer-seen.ensures.same.1 ∙ c.loop.invariant.same in (
-      got.0 ∙ ap (with_lock_at b (locked_at i)) same,
-      ap (at b) got.1 ∙ at_put_same b i _,
-      got.2,
-    )
+pub returns-then-take_producer : goal.returns-then-take_producer
+returns-then-take_producer g c = record {
+  same = search rules;
+  locked =
+      let b = c.args.band in let v = view c.args.cpu.now in let i = c.load_producer-seen.result / 2 in let got = c.take_producer.ensures.got c.if-take_producer.true in
+      let same : view c.load_producer-seen.new.cpu ≡ v = c.load_producer-seen.ensures.same.1 ∙ c.loop.invariant.same in (
+        got.0 ∙ ap (with_lock_at b (locked_at i)) same,
+        ap (at b) got.1 ∙ at_put_same b i _,
+        got.2,
+      );
+  made = search rules;
+}
 
 pub loop-init : goal.loop-init
 loop-init g c = let spins : Spins c.args.band (steps c.args.cpu.now) (steps c.args.cpu.now) = not_yet in search rules

@@ -1,4 +1,4 @@
-use Rattle.std.proofs.Common.{ℕ, List, Contains, length, sym, ap, ◌∙◌, subst, arith}
+use Rattle.std.proofs.Common.{rules, ℕ, List, Contains, length, sym, ap, ◌∙◌, subst, arith}
 use Rattle.std.proofs.lemmas.List.{length-take}
 use Rattle.lq_account_laws.proofs.Lists.{drop-in}
 use Rattle.lq_ring_core.specs.Slots.{round}
@@ -11,13 +11,15 @@ use Rattle.lq_ring.specs.Work.{work_at, IsTurner, IsWorkBegun}
 use Rattle.lq_ring.proofs.Works.{turner_after}
 use Rattle.lq_ring.proofs.resize.turn_at.Goals as goal
 
-pub turn_band-done-requires-clause-whole : goal.turn_band-done-requires-clause-whole
-turn_band-done-requires-clause-whole g c _ _ =
-    let r = c.requires.ready in let tail = c.tail_of-tail.ensures r.0 r.1 in let head = c.head_of-head.ensures r.0 r.1 in
-    (r.2.held, subst (λ (z : ℕ × ℕ). IsWorkBegun c.args.shared.now.max_len c.args.resize.size z.0 z.1 c.args.resize.len r.2.held (work_at c.args.band (view c.args.cpu.now))) (λ j. (sym tail j, sym head j)) r.2.whole)
-
-pub turn_band-done-requires-clause-packets : goal.turn_band-done-requires-clause-packets
-turn_band-done-requires-clause-packets g c _ _ = λ n l. let r = c.requires.ready.2 in r.packets n (drop-in c.args.resize.len r.held n (subst (λ (ls : List ℕ). Contains ls n) r.whole.waiting_is l))
+pub turn_band-done-requires-clause-may : goal.turn_band-done-requires-clause-may
+turn_band-done-requires-clause-may g c _ _ = record {
+  place = search rules;
+  turner = search rules;
+  whole =
+      let r = c.requires.ready in let tail = c.tail_of-tail.ensures r.0 r.1 in let head = c.head_of-head.ensures r.0 r.1 in
+      (r.2.held, subst (λ (z : ℕ × ℕ). IsWorkBegun c.args.shared.now.max_len c.args.resize.size z.0 z.1 c.args.resize.len r.2.held (work_at c.args.band (view c.args.cpu.now))) (λ j. (sym tail j, sym head j)) r.2.whole);
+  packets = λ n l. let r = c.requires.ready.2 in r.packets n (drop-in c.args.resize.len r.held n (subst (λ (ls : List ℕ). Contains ls n) r.whole.waiting_is l));
+}
 
 pub index_after-index-requires : goal.index_after-index-requires
 index_after-index-requires g c =
@@ -29,11 +31,16 @@ set_producer-requires-clause-holder g c _ _ =
     let turner = subst IsTurner (sym done.1) (turner_after b done.0 v r.turner) in
     (turner.0, (turner.1.0, turner.1.1), ap (λ (x : View). (at b x.locks).holds) done.1 ∙ r.lock)
 
-pub returns-clause-turned : goal.returns-clause-turned
-returns-clause-turned g c =
-    let b = c.args.band in let done = c.turn_band-done.ensures.turned in let i = c.index_after-index.result in (
-      done.0,
-      c.set_producer.ensures.set ∙ ap (with_lock_at b (locked_at i)) done.1,
-      done.2,
-      c.index_after-index.ensures ∙ ap (round c.args.resize.len) (c.turn_band-done.ensures.kept.0 ∙ ap length (sym done.2.kept_is)),
-    )
+pub returns : goal.returns
+returns g c = record {
+  same = search rules;
+  turned =
+      let b = c.args.band in let done = c.turn_band-done.ensures.turned in let i = c.index_after-index.result in (
+        done.0,
+        c.set_producer.ensures.set ∙ ap (with_lock_at b (locked_at i)) done.1,
+        done.2,
+        c.index_after-index.ensures ∙ ap (round c.args.resize.len) (c.turn_band-done.ensures.kept.0 ∙ ap length (sym done.2.kept_is)),
+      );
+  count = search rules;
+  made = search rules;
+}

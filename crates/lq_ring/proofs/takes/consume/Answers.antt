@@ -1,4 +1,4 @@
-use Rattle.std.proofs.Common.{◌≡◌, ℕ, ◌+◌, ◌-◌, ◌<◌, ◌≤◌, refl, sym, ap, ◌∙◌, subst, arith}
+use Rattle.std.proofs.Common.{rules, ◌≡◌, ℕ, ◌+◌, ◌-◌, ◌<◌, ◌≤◌, refl, sym, ap, ◌∙◌, subst, arith}
 use Rattle.lq_model.specs.Positions.{holds_lock}
 use Rattle.lq_band_laws.specs.Three.{at}
 use Rattle.lq_band_laws.specs.Ring.{Ends, taken_on}
@@ -17,107 +17,100 @@ use Rattle.lq_ring.proofs.TakeSteps.{sized_none, none_leads, none_heard, take_le
 use Rattle.lq_ring.proofs.takes.consume.Given as given
 use Rattle.lq_ring.proofs.takes.consume.Goals as goal
 
-pub returns-then-found-eq0-clause-at : goal.returns-then-found-eq0-clause-at
-returns-then-found-eq0-clause-at g c second here =
-    let b = c.args.band in let v = view c.args.cpu.now in let loaded = c.load_size-size.ensures.size.0 ∙ sized_none c.load_size-size.result v c.requires.idle in
-    let none_ = c.head_slot-found.ensures.none c.if-found-eq0.true ∙ ap (λ (x : View). finding_none b x) loaded in
-    ap (λ (x : View). x.place.position) none_ ∙ none_leads b second v here c.requires.band
-
-pub returns-then-found-eq0-clause-step : goal.returns-then-found-eq0-clause-step
-returns-then-found-eq0-clause-step g c =
-    let b = c.args.band in let v = view c.args.cpu.now in let loaded = c.load_size-size.ensures.size.0 ∙ sized_none c.load_size-size.result v c.requires.idle in
-    let none_ = c.head_slot-found.ensures.none c.if-found-eq0.true ∙ ap (λ (x : View). finding_none b x) loaded in
-    ap (λ (x : View). solo x) none_ ∙ none_heard b c.requires.at.0 v c.requires.at.1
-
-pub discard_one-requires-clause-holder : goal.discard_one-requires-clause-holder
-discard_one-requires-clause-holder g c _ _ =
-    let b = c.args.band in let v = view c.args.cpu.now in let n = c.head_slot-found.result - 1 in let at_ = c.requires.at in
-    let loaded = c.load_size-size.ensures.size.0 ∙ sized_none c.load_size-size.result v c.requires.idle in
-    let took = c.head_slot-found.ensures.taken c.if-found-eq0.false ∙ ap (λ (x : View). taking b n x) loaded in (
-      ap (λ (x : View). holds_lock x.place.position) took ∙ ap holds_lock (take_leads b at_.0 v at_.1 n c.requires.band),
-      ap (λ (x : View). x.holder.resizing) took ∙ c.requires.rests.1,
-      ap (λ (x : View). x.holder.size) took ∙ sym (c.load_size-size.ensures.holder (ap holds_lock at_.1)),
-      c.load_size-size.ensures.size.2,
-    )
-
-pub discard_one-requires-clause-station : goal.discard_one-requires-clause-station
-discard_one-requires-clause-station g c _ _ =
-    let b = c.args.band in let v = view c.args.cpu.now in let n = c.head_slot-found.result - 1 in let own : Ends = at b v.holder.ends in
-    let loaded = c.load_size-size.ensures.size.0 ∙ sized_none c.load_size-size.result v c.requires.idle in
-    let took = c.head_slot-found.ensures.taken c.if-found-eq0.false ∙ ap (λ (x : View). taking b n x) loaded in
-    let ends : at b (view c.head_slot-found.new.cpu).holder.ends ≡ taken_on own = ap (λ (x : View). at b x.holder.ends) took ∙ at_put_same b (taken_on own) v.holder.ends in (
-      shown v.holder,
-      c.head_slot-found.ensures.same.0.1 ∙ (c.load_size-size.ensures.same.1 ∙ c.requires.station),
-      ap (λ (x : ℕ). x + 1) (heads_at b v.holder c.requires.band) ∙ sym (ap (λ (e : Ends). e.head) ends),
-      tails_at b v.holder c.requires.band ∙ sym (ap (λ (e : Ends). e.tail) ends),
-    )
-
-pub discard_one-requires-clause-ends : goal.discard_one-requires-clause-ends
-discard_one-requires-clause-ends g c _ _ =
-    let b = c.args.band in let v = view c.args.cpu.now in let n = c.head_slot-found.result - 1 in let own : Ends = at b v.holder.ends in let z = c.load_size-size.result in
-    let loaded = c.load_size-size.ensures.size.0 ∙ sized_none z v c.requires.idle in
-    let took = c.head_slot-found.ensures.taken c.if-found-eq0.false ∙ ap (λ (x : View). taking b n x) loaded in
-    let ends : at b (view c.head_slot-found.new.cpu).holder.ends ≡ taken_on own = ap (λ (x : View). at b x.holder.ends) took ∙ at_put_same b (taken_on own) v.holder.ends in
-    let rest = rest_at v.holder.size b v.holder.ends c.requires.rests.0 in let first = rest.0 in let within = rest.1 in
-    let size : z ≡ v.holder.size = c.load_size-size.ensures.holder (ap holds_lock c.requires.at.1) in
-    subst (λ (e : Ends). (e.edge ≡ e.head) × (e.tail < e.head) × (e.head ≤ z)) (sym ends) (refl, omega arith, omega arith)
+pub discard_one-requires-clause-may : goal.discard_one-requires-clause-may
+discard_one-requires-clause-may g c _ _ = record {
+  below = search rules;
+  holder =
+      let b = c.args.band in let v = view c.args.cpu.now in let n = c.head_slot-found.result - 1 in let at_ = c.requires.may.at in
+      let loaded = c.load_size-size.ensures.size.0 ∙ sized_none c.load_size-size.result v c.requires.may.idle in
+      let took = c.head_slot-found.ensures.taken c.if-found-eq0.false ∙ ap (λ (x : View). taking b n x) loaded in (
+        ap (λ (x : View). holds_lock x.place.position) took ∙ ap holds_lock (take_leads b at_.0 v at_.1 n c.requires.may.below),
+        ap (λ (x : View). x.holder.resizing) took ∙ c.requires.may.rests.1,
+        ap (λ (x : View). x.holder.size) took ∙ sym (c.load_size-size.ensures.holder (ap holds_lock at_.1)),
+        c.load_size-size.ensures.size.2,
+      );
+  station =
+      let b = c.args.band in let v = view c.args.cpu.now in let n = c.head_slot-found.result - 1 in let own : Ends = at b v.holder.ends in
+      let loaded = c.load_size-size.ensures.size.0 ∙ sized_none c.load_size-size.result v c.requires.may.idle in
+      let took = c.head_slot-found.ensures.taken c.if-found-eq0.false ∙ ap (λ (x : View). taking b n x) loaded in
+      let ends : at b (view c.head_slot-found.new.cpu).holder.ends ≡ taken_on own = ap (λ (x : View). at b x.holder.ends) took ∙ at_put_same b (taken_on own) v.holder.ends in (
+        shown v.holder,
+        c.head_slot-found.ensures.same.0.1 ∙ (c.load_size-size.ensures.same.1 ∙ c.requires.may.station),
+        ap (λ (x : ℕ). x + 1) (heads_at b v.holder c.requires.may.below) ∙ sym (ap (λ (e : Ends). e.head) ends),
+        tails_at b v.holder c.requires.may.below ∙ sym (ap (λ (e : Ends). e.tail) ends),
+      );
+  ends =
+      let b = c.args.band in let v = view c.args.cpu.now in let n = c.head_slot-found.result - 1 in let own : Ends = at b v.holder.ends in let z = c.load_size-size.result in
+      let loaded = c.load_size-size.ensures.size.0 ∙ sized_none z v c.requires.may.idle in
+      let took = c.head_slot-found.ensures.taken c.if-found-eq0.false ∙ ap (λ (x : View). taking b n x) loaded in
+      let ends : at b (view c.head_slot-found.new.cpu).holder.ends ≡ taken_on own = ap (λ (x : View). at b x.holder.ends) took ∙ at_put_same b (taken_on own) v.holder.ends in
+      let rest = rest_at v.holder.size b v.holder.ends c.requires.may.rests.0 in let first = rest.0 in let within = rest.1 in
+      let size : z ≡ v.holder.size = c.load_size-size.ensures.holder (ap holds_lock c.requires.may.at.1) in
+      subst (λ (e : Ends). (e.edge ≡ e.head) × (e.tail < e.head) × (e.head ≤ z)) (sym ends) (refl, omega arith, omega arith);
+}
 
 taken-is : (g : given.Over) (c : goal.After-discard_one g) → view c.discard_one.new.cpu ≡ consuming c.args.band (c.head_slot-found.result - 1) (view c.args.cpu.now)
 taken-is g c =
     let b = c.args.band in let v = view c.args.cpu.now in let n = c.head_slot-found.result - 1 in let z = c.load_size-size.result in
-    let loaded = c.load_size-size.ensures.size.0 ∙ sized_none z v c.requires.idle in
+    let loaded = c.load_size-size.ensures.size.0 ∙ sized_none z v c.requires.may.idle in
     let took = c.head_slot-found.ensures.taken c.if-found-eq0.false ∙ ap (λ (x : View). taking b n x) loaded in
-    consumes b n z v (view c.head_slot-found.new.cpu) (view c.discard_one.new.cpu) (c.load_size-size.ensures.holder (ap holds_lock c.requires.at.1)) took c.discard_one.ensures.emptied c.discard_one.ensures.rested
+    consumes b n z v (view c.head_slot-found.new.cpu) (view c.discard_one.new.cpu) (c.load_size-size.ensures.holder (ap holds_lock c.requires.may.at.1)) took c.discard_one.ensures.emptied c.discard_one.ensures.rested
 
-pub returns-clause-packet : goal.returns-clause-packet
-returns-clause-packet g c =
-    let loaded = c.load_size-size.ensures.size.0 ∙ sized_none c.load_size-size.result (view c.args.cpu.now) c.requires.idle in
-    subst (λ (x : View). IsPacketOf x.share.about (c.head_slot-found.result - 1)) loaded (c.head_slot-found.ensures.known c.if-found-eq0.false)
+pub returns-then-found-eq0 : goal.returns-then-found-eq0
+returns-then-found-eq0 g c = record {
+  same = search rules;
+  takes =
+      let b = c.args.band in let v = view c.args.cpu.now in let k = setup c.args.shared.now in let zero_ = c.if-found-eq0.true in
+      let loaded = c.load_size-size.ensures.size.0 ∙ sized_none c.load_size-size.result v c.requires.may.idle in
+      let head = ap (λ (x : View). (at b x.holder.ends).head) loaded in (
+        c.head_slot-found.ensures.none zero_ ∙ ap (λ (x : View). finding_none b x) loaded,
+        c.load_size-size.result,
+        c.head_slot-found.ensures.made ∙ (λ j. c.load_size-size.ensures.made j ⊳ did_load_slot k b (head j) (zero_ j)),
+      );
+  packet = search rules;
+  at = λ second here. let b = c.args.band in let v = view c.args.cpu.now in let loaded = c.load_size-size.ensures.size.0 ∙ sized_none c.load_size-size.result v c.requires.may.idle in
+      let none_ = c.head_slot-found.ensures.none c.if-found-eq0.true ∙ ap (λ (x : View). finding_none b x) loaded in
+      ap (λ (x : View). x.place.position) none_ ∙ none_leads b second v here c.requires.may.below;
+  rests = search rules;
+  station = search rules;
+  step =
+      let b = c.args.band in let v = view c.args.cpu.now in let loaded = c.load_size-size.ensures.size.0 ∙ sized_none c.load_size-size.result v c.requires.may.idle in
+      let none_ = c.head_slot-found.ensures.none c.if-found-eq0.true ∙ ap (λ (x : View). finding_none b x) loaded in
+      ap (λ (x : View). solo x) none_ ∙ none_heard b c.requires.may.at.0 v c.requires.may.at.1;
+  sole = search rules;
+  known = search rules;
+}
 
-pub returns-clause-at : goal.returns-clause-at
-returns-clause-at g c =
-    let b = c.args.band in let v = view c.args.cpu.now in let n = c.head_slot-found.result - 1 in let at_ = c.requires.at in
-    ap (λ (x : View). x.place.position) (taken-is g c) ∙ take_leads b at_.0 v at_.1 n c.requires.band
-
-pub returns-clause-rests : goal.returns-clause-rests
-returns-clause-rests g c = rests_after c.args.band (c.head_slot-found.result - 1) (view c.args.cpu.now) (view c.discard_one.new.cpu) c.requires.rests.0 (taken-is g c)
-
-pub returns-clause-station : goal.returns-clause-station
-returns-clause-station g c =
-    let v = view c.args.cpu.now in
-    station_after c.args.band (c.head_slot-found.result - 1) v (view c.discard_one.new.cpu) c.discard_one.new.cpu.station c.requires.band (taken-is g c)
-    (c.discard_one.ensures.station (shown v.holder) (c.head_slot-found.ensures.same.0.1 ∙ (c.load_size-size.ensures.same.1 ∙ c.requires.station)))
-
-pub returns-clause-known : goal.returns-clause-known
-returns-clause-known g c same =
-    let v = view c.args.cpu.now in
-    known_after c.args.band (c.head_slot-found.result - 1) v (view c.discard_one.new.cpu) (rest_at v.holder.size c.args.band v.holder.ends c.requires.rests.0) (taken-is g c) same
-
-pub returns-clause-step : goal.returns-clause-step
-returns-clause-step g c =
-    let at_ = c.requires.at in
-    ap (λ (x : View). solo x) (taken-is g c) ∙ take_heard c.args.band at_.0 (view c.args.cpu.now) at_.1 (c.head_slot-found.result - 1)
-
-pub returns-then-found-eq0-clause-takes : goal.returns-then-found-eq0-clause-takes
-returns-then-found-eq0-clause-takes g c =
-    let b = c.args.band in let v = view c.args.cpu.now in let k = setup c.args.shared.now in let zero_ = c.if-found-eq0.true in
-    let loaded = c.load_size-size.ensures.size.0 ∙ sized_none c.load_size-size.result v c.requires.idle in
-    let head = ap (λ (x : View). (at b x.holder.ends).head) loaded in (
-      c.head_slot-found.ensures.none zero_ ∙ ap (λ (x : View). finding_none b x) loaded,
-      c.load_size-size.result,
-      c.head_slot-found.ensures.made ∙ (λ j. c.load_size-size.ensures.made j ⊳ did_load_slot k b (head j) (zero_ j)),
-    )
-
-pub returns-clause-takes : goal.returns-clause-takes
-returns-clause-takes g c =
-    let b = c.args.band in let v = view c.args.cpu.now in let found = c.head_slot-found.result in let n = found - 1 in let own : Ends = at b v.holder.ends in let k = setup c.args.shared.now in
-    let loaded = c.load_size-size.ensures.size.0 ∙ sized_none c.load_size-size.result v c.requires.idle in
-    let took = c.head_slot-found.ensures.taken c.if-found-eq0.false ∙ ap (λ (x : View). taking b n x) loaded in
-    let ends : at b (view c.head_slot-found.new.cpu).holder.ends ≡ taken_on own = ap (λ (x : View). at b x.holder.ends) took ∙ at_put_same b (taken_on own) v.holder.ends in
-    let some_ = c.if-found-eq0.false in let back : found ≡ n + 1 = omega arith in
-    let head = ap (λ (x : View). (at b x.holder.ends).head) loaded in
-    let size : c.load_size-size.result ≡ v.holder.size = c.load_size-size.ensures.holder (ap holds_lock c.requires.at.1) in
-    let looked : steps c.head_slot-found.new.cpu ≡ steps c.args.cpu.now ⊳ did_load_size c.load_size-size.result ⊳ did_load_slot k b own.head (n + 1) =
-    c.head_slot-found.ensures.made ∙ (λ j. c.load_size-size.ensures.made j ⊳ did_load_slot k b (head j) (back j)) in
-    let z = zeroed_as k b c.load_size-size.result (at b (view c.head_slot-found.new.cpu).holder.ends) (steps c.head_slot-found.new.cpu) (steps c.discard_one.new.cpu) c.discard_one.ensures.made.0 c.discard_one.ensures.made.1 in
-    (taken-is g c, c.load_size-size.result, z ∙ (λ j. zeroed k b (ends j).head (emptied_count (size j) (ends j)) (looked j)))
+pub returns : goal.returns
+returns g c = record {
+  same = search rules;
+  takes =
+      let b = c.args.band in let v = view c.args.cpu.now in let found = c.head_slot-found.result in let n = found - 1 in let own : Ends = at b v.holder.ends in let k = setup c.args.shared.now in
+      let loaded = c.load_size-size.ensures.size.0 ∙ sized_none c.load_size-size.result v c.requires.may.idle in
+      let took = c.head_slot-found.ensures.taken c.if-found-eq0.false ∙ ap (λ (x : View). taking b n x) loaded in
+      let ends : at b (view c.head_slot-found.new.cpu).holder.ends ≡ taken_on own = ap (λ (x : View). at b x.holder.ends) took ∙ at_put_same b (taken_on own) v.holder.ends in
+      let some_ = c.if-found-eq0.false in let back : found ≡ n + 1 = omega arith in
+      let head = ap (λ (x : View). (at b x.holder.ends).head) loaded in
+      let size : c.load_size-size.result ≡ v.holder.size = c.load_size-size.ensures.holder (ap holds_lock c.requires.may.at.1) in
+      let looked : steps c.head_slot-found.new.cpu ≡ steps c.args.cpu.now ⊳ did_load_size c.load_size-size.result ⊳ did_load_slot k b own.head (n + 1) =
+      c.head_slot-found.ensures.made ∙ (λ j. c.load_size-size.ensures.made j ⊳ did_load_slot k b (head j) (back j)) in
+      let z = zeroed_as k b c.load_size-size.result (at b (view c.head_slot-found.new.cpu).holder.ends) (steps c.head_slot-found.new.cpu) (steps c.discard_one.new.cpu) c.discard_one.ensures.made.0 c.discard_one.ensures.made.1 in
+      (taken-is g c, c.load_size-size.result, z ∙ (λ j. zeroed k b (ends j).head (emptied_count (size j) (ends j)) (looked j)));
+  packet =
+      let loaded = c.load_size-size.ensures.size.0 ∙ sized_none c.load_size-size.result (view c.args.cpu.now) c.requires.may.idle in
+      subst (λ (x : View). IsPacketOf x.share.about (c.head_slot-found.result - 1)) loaded (c.head_slot-found.ensures.known c.if-found-eq0.false);
+  at =
+      let b = c.args.band in let v = view c.args.cpu.now in let n = c.head_slot-found.result - 1 in let at_ = c.requires.may.at in
+      ap (λ (x : View). x.place.position) (taken-is g c) ∙ take_leads b at_.0 v at_.1 n c.requires.may.below;
+  rests = rests_after c.args.band (c.head_slot-found.result - 1) (view c.args.cpu.now) (view c.discard_one.new.cpu) c.requires.may.rests.0 (taken-is g c);
+  station =
+      let v = view c.args.cpu.now in
+      station_after c.args.band (c.head_slot-found.result - 1) v (view c.discard_one.new.cpu) c.discard_one.new.cpu.station c.requires.may.below (taken-is g c)
+      (c.discard_one.ensures.station (shown v.holder) (c.head_slot-found.ensures.same.0.1 ∙ (c.load_size-size.ensures.same.1 ∙ c.requires.may.station)));
+  step =
+      let at_ = c.requires.may.at in
+      ap (λ (x : View). solo x) (taken-is g c) ∙ take_heard c.args.band at_.0 (view c.args.cpu.now) at_.1 (c.head_slot-found.result - 1);
+  sole = search rules;
+  known = λ same. let v = view c.args.cpu.now in
+      known_after c.args.band (c.head_slot-found.result - 1) v (view c.discard_one.new.cpu) (rest_at v.holder.size c.args.band v.holder.ends c.requires.may.rests.0) (taken-is g c) same;
+}

@@ -5,56 +5,46 @@ use Rattle.lq_senders.specs.Lanes.{AreRunAlone}
 use Rattle.lq_senders.specs.Runs.{opens_in}
 use Rattle.lq_senders.specs.Woken.{AllWoke}
 use Rattle.lq_senders.proofs.OpenedTimes.{turn-opened}
-use Rattle.lq_senders.proofs.Turns.{keep-drained, lane-drained, lane-made, lane-seats, runs-drained}
-use Rattle.lq_senders.proofs.Woken.{woke-drained}
+use Rattle.lq_senders.proofs.Turns.{keep-none, runs-rested}
 use Rattle.lq_senders.proofs.lane.turn.Given as given
 use Rattle.lq_senders.proofs.lane.turn.Goals as goal
-use Rattle.lq_senders.proofs.lane.turn.Goals.{After-after-times}
+use Rattle.lq_senders.proofs.lane.turn.Goals.{After-opened_after-times, Else-times-gt0}
 
-pub after-times-requires : goal.after-times-requires
-after-times-requires g c = c.args.run.now.known c.args.n c.requires.packet
-
-pub drain_all-requires-clause-seats : goal.drain_all-requires-clause-seats
-drain_all-requires-clause-seats g c κs within =
-    let s = c.requires.stands in let run = c.args.run.now in
-    lane-seats run.plan.now run.infos.now s.0 s.1 s.2 run.tables.now c.args.seats.now.items s.3
+pub opened_after-times-requires-clause-within : goal.opened_after-times-requires-clause-within
+opened_after-times-requires-clause-within g c = c.args.run.now.known c.args.n c.requires.packet
 
 -- how often it is after this packet
-times : (g : given.Over) (c : After-after-times g) → c.after-times.result ≡ opens_in c.args.run.now c.args.n
-times g c = c.after-times.ensures ∙ ap (opens_after c.args.run.now.openings.now c.args.n) c.requires.number
+times : (g : given.Over) (c : After-opened_after-times g) → c.opened_after-times.result ≡ opens_in c.args.run.now c.args.n
+times g c = c.opened_after-times.ensures ∙ ap (opens_after c.args.run.now.openings.now c.args.n) c.requires.number
 
-pub returns-then-times-eq0-clause-stands : goal.returns-then-times-eq0-clause-stands
-returns-then-times-eq0-clause-stands g c sender count n lane =
-    let run = c.args.run.now in
-    lane-drained run.plan.now run.infos.now sender count n run.tables.now c.args.seats.now.items c.drain_all.new.seats.items lane c.drain_all.ensures
+none : (g : given.Over) (c : Else-times-gt0 g) → 0 ≡ opens_in c.args.run.now c.args.n
+none g c = let test = c.if-times-gt0.false in let zero_ : 0 ≡ c.opened_after-times.result = omega arith in zero_ ∙ times g c.before
 
-pub returns-then-times-eq0-clause-keeps : goal.returns-then-times-eq0-clause-keeps
-returns-then-times-eq0-clause-keeps g c = keep-drained c.args.seats.now.items c.drain_all.new.seats.items c.drain_all.ensures
+pub returns-else-times-gt0-clause-keeps : goal.returns-else-times-gt0-clause-keeps
+returns-else-times-gt0-clause-keeps g c = keep-none c.args.seats.now.items
 
-pub returns-then-times-eq0-clause-runs : goal.returns-then-times-eq0-clause-runs
-returns-then-times-eq0-clause-runs g c stations runs =
-    let s = c.requires.stands in let run = c.args.run.now in let new = c.drain_all.new.seats.items in
-    subst (λ (k : ℕ). AreRunAlone run.plan.now run.infos.now new (turn_ended run.infos.now k stations))
-    (sym c.if-times-eq0.true ∙ times g (goal.at.returns-then-times-eq0-clause-runs g c).After-after-times)
-    (runs-drained run.plan.now run.infos.now c.args.seats.now.items new stations
-    (lane-made run.plan.now run.infos.now s.0 s.1 s.2 run.tables.now c.args.seats.now.items s.3) c.drain_all.ensures runs)
+pub returns-else-times-gt0-clause-runs : goal.returns-else-times-gt0-clause-runs
+returns-else-times-gt0-clause-runs g c stations runs =
+    let s = c.requires.stands in let run = c.args.run.now in let seats = c.args.seats.now.items in
+    subst (λ (k : ℕ). AreRunAlone run.plan.now run.infos.now seats (turn_ended run.infos.now k stations))
+    (none g (goal.at.returns-else-times-gt0-clause-runs g c).Else-times-gt0)
+    (runs-rested run.plan.now run.infos.now s.0 s.1 s.2 run.tables.now seats stations s.3 runs)
 
-pub returns-then-times-eq0-clause-woke : goal.returns-then-times-eq0-clause-woke
-returns-then-times-eq0-clause-woke g c start count woke =
-    let none : count ≡ count + 0 = omega arith in
-    subst (λ (k : ℕ). AllWoke k start c.drain_all.new.seats.items)
-    (none ∙ ap (λ k. count + k) (sym c.if-times-eq0.true ∙ times g (goal.at.returns-then-times-eq0-clause-woke g c).After-after-times))
-    (woke-drained count start c.args.seats.now.items c.drain_all.new.seats.items c.drain_all.ensures woke)
+pub returns-else-times-gt0-clause-woke : goal.returns-else-times-gt0-clause-woke
+returns-else-times-gt0-clause-woke g c start count woke =
+    let same : count ≡ count + 0 = omega arith in
+    subst (λ (k : ℕ). AllWoke k start c.args.seats.now.items)
+    (same ∙ ap (λ k. count + k) (none g (goal.at.returns-else-times-gt0-clause-woke g c).Else-times-gt0)) woke
 
-pub returns-else-times-eq0-clause-runs : goal.returns-else-times-eq0-clause-runs
-returns-else-times-eq0-clause-runs g c stations runs =
+pub returns-then-times-gt0-clause-runs : goal.returns-then-times-gt0-clause-runs
+returns-then-times-gt0-clause-runs g c stations runs =
     let run = c.args.run.now in let new = c.open_times.new.seats.items in
     subst (λ (k : ℕ). AreRunAlone run.plan.now run.infos.now new (turn_ended run.infos.now k stations))
-    (times g (goal.at.returns-else-times-eq0-clause-runs g c).After-after-times)
-    (subst (AreRunAlone run.plan.now run.infos.now new) (turn-opened run.infos.now c.after-times.result stations c.if-times-eq0.false)
+    (times g (goal.at.returns-then-times-gt0-clause-runs g c).After-opened_after-times)
+    (subst (AreRunAlone run.plan.now run.infos.now new) (turn-opened run.infos.now c.opened_after-times.result stations c.if-times-gt0.true)
     (c.open_times.ensures.runs stations runs))
 
-pub returns-else-times-eq0-clause-woke : goal.returns-else-times-eq0-clause-woke
-returns-else-times-eq0-clause-woke g c start count woke =
-    subst (λ (k : ℕ). AllWoke (count + k) start c.open_times.new.seats.items) (times g (goal.at.returns-else-times-eq0-clause-woke g c).After-after-times)
+pub returns-then-times-gt0-clause-woke : goal.returns-then-times-gt0-clause-woke
+returns-then-times-gt0-clause-woke g c start count woke =
+    subst (λ (k : ℕ). AllWoke (count + k) start c.open_times.new.seats.items) (times g (goal.at.returns-then-times-gt0-clause-woke g c).After-opened_after-times)
     (c.open_times.ensures.woke start count woke)

@@ -12,12 +12,14 @@ use Rattle.lq_senders.proofs.lanes.send_loop.Goals as goal
 pub loop-n-init : goal.loop-n-init
 loop-n-init g c = record {
   owner = refl;
+  counted = c.left_at_start.ensures;
   sending = sending-start c.args.run.now.plan.now c.args.run.now.infos.now (opens_in c.args.run.now) c.args.run.now.tables.now c.args.sender.now.owner c.args.sender.now.seats.items (map g.D.TxDevice.state c.args.sender.now.spares.items) c.requires.stands;
 }
 
 pub loop-n-preserved : goal.loop-n-preserved
 loop-n-preserved g c = let states = map g.D.TxDevice.state in record {
   owner = c.come_to-at.ensures.owner ∙ c.loop-n.invariant.owner;
+  counted = c.come_to-at.ensures.counted;
   sending = subst (λ (s : ℕ). IsSending c.args.run.now.plan.now c.args.run.now.infos.now (opens_in c.args.run.now) c.args.run.now.tables.now s (c.loop-n.n + 1) c.come_to-at.result.sent c.come_to-at.result.next c.args.sender.now.seats.items (states c.args.sender.now.spares.items)
       c.come_to-at.new.sender.seats.items (states c.come_to-at.new.sender.spares.items)) (sym c.come_to-at.ensures.owner)
       (c.come_to-at.ensures.sending c.args.sender.now.seats.items (states c.args.sender.now.spares.items) c.loop-n.invariant.sending);

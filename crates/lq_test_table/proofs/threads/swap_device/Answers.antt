@@ -6,18 +6,20 @@ use Rattle.lq_control.specs.Control.{IsAfterUnits}
 use Rattle.lq_test_table.proofs.Firsts.{count_few, counted_after, first_swapped}
 use Rattle.lq_test_table.proofs.threads.swap_device.Goals as goal
 
-pub swap-back-requires-clause-unit : goal.swap-back-requires-clause-unit
-swap-back-requires-clause-unit g c _ _ =
-    let many : length c.args.control.now.back.items ≡ c.len-2.result = omega (arith, c.args.control.now.back.ok.0) in
-    let trail = (view c.args.control.now.cpu).trail in
-    let after = counted_after c.args.shared.now.station (length c.args.control.now.back.items) trail (search rules) c.requires.first.brought in
-    ((omega arith), subst (λ (n : ℕ). IsAfterUnits c.args.shared.now.station trail (n + 1)) many after)
-
-pub swap-back-requires-clause-device : goal.swap-back-requires-clause-device
-swap-back-requires-clause-device g c _ _ =
-    let d = c.begun-new.ensures in
-    let few = count_few c.args.shared.now.infos.now c.args.shared.now.station in
-    (d.0, d.1, omega (arith, few, d.2, ap (λ (x : List Info). length x) c.infos.ensures), d.3)
+pub swap-back-requires-clause-may : goal.swap-back-requires-clause-may
+swap-back-requires-clause-may g c _ _ = record {
+  at = search rules;
+  in_phase = search rules;
+  next =
+      let many : length c.args.control.now.back.items ≡ c.len-2.result = omega (arith, c.args.control.now.back.ok.0) in
+      let trail = (view c.args.control.now.cpu).trail in
+      let after = counted_after c.args.shared.now.station (length c.args.control.now.back.items) trail (search rules) c.requires.first.brought in
+      ((omega arith), subst (λ (n : ℕ). IsAfterUnits c.args.shared.now.station trail (n + 1)) many after);
+  fresh =
+      let d = c.begun-new.ensures in
+      let few = count_few c.args.shared.now.infos.now c.args.shared.now.station in
+      (d.0, d.1, omega (arith, few, d.2, ap (λ (x : List Info). length x) c.infos.ensures), d.3);
+}
 
 pub returns : goal.returns
 returns g c =

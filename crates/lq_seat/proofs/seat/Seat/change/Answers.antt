@@ -13,7 +13,7 @@ returns-in-Down-clause-changes g c plan =
     let sh = c.table.inside.shared in let cpu = c.self.inside.cpu in let now = c.down-purged.new.cpu in let e = c.down-purged.ensures in
     let made = made-is sh cpu c.args.table.now c.args.self.now c.table.view_is c.self.view_is c.requires.here in
     subst (λ (s : SeatState). Changes plan c.args.event c.args.kind s (seat_seen now)) c.self.view_is (subst (λ k. Changes plan c.args.event k (seat_seen cpu) (seat_seen now)) (sym c.in-Down.is)
-    (changed-by sh cpu now made plan c.args.event kind.Down e.same.0 e.same.1 e.same.2 e.trail (e.alone plan) (c.down-purged.result, e.downs)))
+    (changed-by sh cpu now made plan c.args.event kind.Down e.same.0 e.same.1 e.same.2 e.trail (e.alone plan) (c.down-purged.result, e.steps)))
 
 pub returns-in-Up-clause-changes : goal.returns-in-Up-clause-changes
 returns-in-Up-clause-changes g c plan =
@@ -34,11 +34,11 @@ returns-in-Resize-clause-changes g c plan =
     let sh = c.table.inside.shared in let cpu = c.self.inside.cpu in let now = c.resize-shrunk.new.cpu in let e = c.resize-shrunk.ensures in
     let made = made-is sh cpu c.args.table.now c.args.self.now c.table.view_is c.self.view_is c.requires.here in
     subst (λ (s : SeatState). Changes plan c.args.event c.args.kind s (seat_seen now)) c.self.view_is (subst (λ k. Changes plan c.args.event k (seat_seen cpu) (seat_seen now)) (sym c.in-Resize.is)
-    (changed-by sh cpu now made plan c.args.event (kind.Resize c.in-Resize.len) e.same.0 e.same.1 e.same.2 e.trail (e.alone plan) (c.resize-shrunk.result, e.resizes)))
+    (changed-by sh cpu now made plan c.args.event (kind.Resize c.in-Resize.len) e.same.0 e.same.1 e.same.2 e.trail (e.alone.1 plan) (c.resize-shrunk.result, e.steps)))
 
 pub returns-in-TxQueueLen-clause-changes : goal.returns-in-TxQueueLen-clause-changes
 returns-in-TxQueueLen-clause-changes g c plan =
     let sh = c.table.inside.shared in let cpu = c.self.inside.cpu in let now = c.tx_queue_len-purged.new.cpu in let e = c.tx_queue_len-purged.ensures in
     let made = made-is sh cpu c.args.table.now c.args.self.now c.table.view_is c.self.view_is c.requires.here in
     subst (λ (s : SeatState). Changes plan c.args.event c.args.kind s (seat_seen now)) c.self.view_is (subst (λ k. Changes plan c.args.event k (seat_seen cpu) (seat_seen now)) (sym c.in-TxQueueLen.is)
-    (changed-by sh cpu now made plan c.args.event (kind.TxQueueLen c.in-TxQueueLen.len) e.same.0 e.same.1 e.same.2 e.trail (e.alone plan) (c.tx_queue_len-purged.result, e.changes)))
+    (changed-by sh cpu now made plan c.args.event (kind.TxQueueLen c.in-TxQueueLen.len) e.same.0 e.same.1 e.same.2 e.trail (e.alone plan) (c.tx_queue_len-purged.result, e.steps)))

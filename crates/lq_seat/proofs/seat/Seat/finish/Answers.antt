@@ -1,4 +1,4 @@
-use Rattle.std.proofs.Common.{◌≡◌, ◌<◌, refl, ⊎_elim, sym, ap, ◌∙◌, subst, arith}
+use Rattle.std.proofs.Common.{rules, ◌≡◌, ◌<◌, refl, ⊎_elim, sym, ap, ◌∙◌, subst, arith}
 use Rattle.lq_account_laws.specs.Trail.{down_of}
 use Rattle.lq_control.proofs.EndLaws.{finish_comes}
 use Rattle.lq_control.specs.Finish.{AreAllDone, AreTurnsFrom, IsFinished, count_all, count_below}
@@ -14,16 +14,21 @@ use Rattle.lq_table.specs.Sees.{known, view, setup}
 use Rattle.lq_table.specs.Solo.{solo}
 use Rattle.lq_table.specs.Views.{Setup, first_account}
 
-pub finish-purged-requires-clause-turns : goal.finish-purged-requires-clause-turns
-finish-purged-requires-clause-turns g c κs within =
-    let sh = c.table.inside.shared in let cpu = c.self.inside.cpu in
-    let made = made-is sh cpu c.args.table.now c.args.self.now c.table.view_is c.self.view_is c.requires.here in
-    let may = subst MayFinish (sym c.self.view_is) c.requires.may in
-    subst (λ (k : Setup). AreTurnsFrom k 0 (view cpu).turns) made (record {
-      long = may.wide;
-      words = λ o below. let k = (view cpu).share.about in let none : count_below k.infos o k.station 0 ≡ 0 = refl in
-          (count_all k.infos o k.station, may.done o below, omega arith, omega arith);
-    })
+pub finish-purged-requires-clause-may : goal.finish-purged-requires-clause-may
+finish-purged-requires-clause-may g c κs within = record {
+  at = search rules;
+  sole = search rules;
+  made = search rules;
+  turns =
+      let sh = c.table.inside.shared in let cpu = c.self.inside.cpu in
+      let made = made-is sh cpu c.args.table.now c.args.self.now c.table.view_is c.self.view_is c.requires.here in
+      let may = subst MayFinish (sym c.self.view_is) c.requires.may in
+      subst (λ (k : Setup). AreTurnsFrom k 0 (view cpu).turns) made (record {
+        long = may.wide;
+        words = λ o below. let k = (view cpu).share.about in let none : count_below k.infos o k.station 0 ≡ 0 = refl in
+            (count_all k.infos o k.station, may.done o below, omega arith, omega arith);
+      });
+}
 
 pub invariant_of-self : goal.invariant_of-self
 invariant_of-self g c =

@@ -5,7 +5,7 @@ use Rattle.lq_table.specs.Made.{Made, ◌⊳◌, did_clear_sched, did_load_state
 use Rattle.lq_table.specs.Sees.{view}
 use Rattle.lq_table.specs.Solo.{IsSole, account_of, sched_cleared, solo}
 use Rattle.lq_table.specs.Told.{is_set, looking, passing}
-use Rattle.lq_qdisc.proofs.interrupts.is_due.Goals as goal
+use Rattle.lq_qdisc.proofs.interrupts.begin_softirq.Goals as goal
 
 pub returns-then-is_deactivated-clause-due : goal.returns-then-is_deactivated-clause-due
 returns-then-is_deactivated-clause-due g c =

@@ -1,0 +1,135 @@
+-- The parts of a run: what each requires of the holder of the run lock (`May..`), and what each ensures of it.
+use Rattle.std.specs.Prelude.{⊤, ◌≡◌, ◌≢◌, ◌≤◌, ℕ, ◌+◌, Bool, true, false, if◌then◌else◌, is_none, Option, Some, None, MatchOption}
+use Rattle.lq_model.specs.declared.machine.Position.TheVariants.{ClearMissed, Deq, Gate, Scan, Test, Unlock}
+use Rattle.lq_run.specs.Runs.{begins}
+use Rattle.lq_table.specs.Made.{Known}
+use Rattle.lq_table.specs.Sees.{view, known, setup, position, slot, packet_at}
+use Rattle.lq_table.specs.Solo.{IsSole, laid, solo}
+use Rattle.lq_table.specs.Told.{IsPacketOf}
+use Rattle.lq_table.specs.declared.shared.Cpu.{Cpu}
+use Rattle.lq_table.specs.declared.shared.Shared.{Shared}
+use Rattle.lq_table.specs.Views.{Setup}
+use Rattle.lq_qdisc.specs.Calls.{ClearsMissedAlone, Dequeues, Finds, FindsNone, IsKeptInRun, IsServing, IsSettledSame, IsSlotOf, IsTakenOf, KeepsFates, KeepsHolder, Looks, SeesOneQueue, after_blocked, after_dequeue, cleared, laid_aside, with_back}
+use Rattle.lq_qdisc.specs.Runs.{HasSentOneMore, accepted_count, position_in_run}
+use Rattle.lq_qdisc.specs.Seats.{GoesOnFromBands, ServesStation}
+use Rattle.lq_qdisc.specs.Steps.{ClearsBothBy, ClearsMissedBy, DequeuesBy, DequeuesFrom, LoadsBitsBy, LooksThrough, RestartsBy, RunsBy, Scans}
+use Rattle.lq_qdisc.specs.declared.answers.Ran.{Ran}
+use Rattle.lq_qdisc.specs.declared.answers.RunEnd.{RunEnd}
+use Rattle.lq_qdisc.specs.declared.answers.RunEnd.TheVariants.{Quota}
+use Rattle.lq_qdisc.specs.declared.answers.Taken.{Taken}
+
+-- DEQUEUE
+
+-- what a dequeue does, and what it tells a seat that has the table alone at one queue
+abbrev pub DequeuesNext : Setup → Taken → Known → Known → Type 0
+DequeuesNext k answer old new = DequeuesBy k answer old new × SeesOneQueue answer old.view
+
+-- the same where the requeue slot was found so
+abbrev pub DequeuesWith : Setup → Option ℕ → Taken → Known → Known → Type 0
+DequeuesWith k found answer old new = Dequeues answer k.infos old.view new.view × DequeuesFrom k found answer old new × SeesOneQueue answer old.view
+
+-- what a dequeue from the bands does
+abbrev pub DequeuesBands : Setup → Taken → Known → Known → Type 0
+DequeuesBands k answer old new = Looks answer old.view new.view × LooksThrough k answer old new
+
+module _ {D : Type 0} where
+  -- A run may take its next packet.
+  pub record MayDequeue (t : Shared D) (c : Cpu D) : Type 0 where
+    pub at : position c ≡ begins (view c)
+    pub serving : IsServing c
+    pub hand : (view c).holder.hand ≡ None
+    pub slot : IsSlotOf t c
+
+  -- So it may where the requeue slot is empty and the station has one queue.
+  pub record MayDequeueOpen (t : Shared D) (c : Cpu D) : Type 0 where
+    pub at : position c ≡ Deq
+    pub serving : IsServing c
+    pub empty : (view c).holder.slot ≡ None
+    pub one : t.queues ≤ 1
+
+  -- A dequeue answered this, by these steps, and the run goes on from there.
+  pub record DequeuesAs (t : Shared D) (answer : Taken) (by : Known → Known → Type 0) (b a : Cpu D) : Type 0 where
+    pub kept : IsKeptInRun b a
+    pub run : (view a).place.run ≡ (view b).place.run
+    pub serving : IsServing a
+    pub at : position a ≡ after_dequeue answer t.infos.now
+    pub fates : IsSettledSame b a
+    pub packet : IsTakenOf (setup t) answer
+    pub steps : by (known b) (known a)
+
+  -- The bands were scanned, and this was found.
+  pub record ScansBands (t : Shared D) (found : Option ℕ) (b a : Cpu D) : Type 0 where
+    pub kept : IsKeptInRun b a
+    pub run : (view a).place.run ≡ (view b).place.run
+    pub serving : IsServing a
+    pub at : GoesOnFromBands t found b a
+    pub fates : IsSettledSame b a
+    pub taken : MatchOption found (FindsNone (view b) (view a)) (λ n. Finds n (view b) (view a))
+    pub packet : MatchOption found ⊤ (λ n. IsPacketOf (setup t) n)
+    pub made : Scans (setup t) found (known b) (known a)
+
+  -- After a scan that found nothing: whether MISSED or DRAINING is set was loaded.
+  pub record LoadsNonEmpty (answer : Bool) (b a : Cpu D) : Type 0 where
+    pub kept : IsKeptInRun b a
+    pub run : (view a).place.run ≡ (view b).place.run
+    pub station : (a.station ≡ b.station) × (slot a ≡ slot b)
+    pub at : position a ≡ (if answer then ClearMissed else Unlock)
+    pub fates : IsSettledSame b a
+    pub same : KeepsHolder (solo (view b)) (view b) (view a)
+    pub sole : IsSole (view b) → answer ≡ false → solo (view a) ≡ cleared (solo (view b))
+    pub made : LoadsBitsBy answer (known b) (known a)
+
+  -- Both bits were cleared.
+  pub record ClearsNonEmpty (b a : Cpu D) : Type 0 where
+    pub kept : IsKeptInRun b a
+    pub run : (view a).place.run ≡ (view b).place.run
+    pub station : (a.station ≡ b.station) × (slot a ≡ slot b)
+    pub at : position a ≡ Scan 0 true
+    pub fates : IsSettledSame b a
+    pub same : KeepsHolder (cleared (solo (view b))) (view b) (view a)
+    pub made : ClearsBothBy (known b) (known a)
+
+  -- At a stopped queue: MISSED was cleared, and set again where the queue was open by then; else DRAINING was set.
+  pub record ClearsAtStop (t : Shared D) (queue : ℕ) (b a : Cpu D) : Type 0 where
+    pub kept : IsKeptInRun b a
+    pub run : (view a).place.run ≡ (view b).place.run
+    pub station : (a.station ≡ b.station) × (slot a ≡ slot b)
+    pub at : position a ≡ after_blocked (position b)
+    pub holder : (view a).holder ≡ laid_aside (position b) (view b).holder
+    pub heard : (view a).whole.state ≡ with_back (position b) (view b).whole.state
+    pub fates : IsSettledSame b a
+    pub stopped : ClearsMissedBy (setup t) queue (known b) (known a)
+    pub sole : ClearsMissedAlone queue (laid (view b)) (view b) (view a)
+
+-- A RUN
+
+module _ {D : Type 0} where
+  -- Packet n, which the holder has in hand, may be handed to the device.
+  pub record MayXmit (t : Shared D) (n : ℕ) (c : Cpu D) : Type 0 where
+    pub packet : IsPacketOf (setup t) n
+    pub at : (direct : Bool) × (position c ≡ Gate (packet_at t n) direct)
+    pub serving : IsServing c
+    pub hand : (view c).holder.hand ≡ Some n
+
+  -- A packet was sent, or the run came to this end.
+  pub record RestartsAs (t : Shared D) (answer : Option RunEnd) (b a : Cpu D) : Type 0 where
+    pub kept : IsKeptInRun b a
+    pub serving : IsServing a
+    pub trail : (view a).trail ≡ (view b).trail
+    pub sent : RestartsBy (setup t) answer (known b) (known a)
+    pub at : MatchOption answer (position a ≡ position_in_run (view a)) (λ end. position a ≡ Unlock)
+    pub run : answer ≡ None → HasSentOneMore (view b) (view a)
+    pub quota : MatchOption answer ⊤ (λ end. end ≢ Quota)
+    pub fates : KeepsFates (view b) (view a)
+    pub accepted : accepted_count (view a) ≡ accepted_count (view b) + (if is_none answer then 1 else 0)
+
+  -- The run came to this end.
+  pub record RunsBands (t : Shared D) (answer : Ran) (b a : Cpu D) : Type 0 where
+    pub kept : IsKeptInRun b a
+    pub serving : IsServing a
+    pub at : position a ≡ Unlock
+    pub trail : (view a).trail ≡ (view b).trail
+    pub fates : KeepsFates (view b) (view a)
+    pub ran : RunsBy (setup t) answer (known b) (known a)
+    pub accepted : accepted_count (view a) ≡ accepted_count (view b) + answer.sent
+    pub alone : ServesStation t b a

@@ -1,0 +1,60 @@
+-- What the run lock's calls ask of the seat that makes them, and what they leave of it.
+use Rattle.std.specs.Prelude.{◌≡◌, ◌⊎◌, Bool, true, false}
+use Rattle.lq_model.specs.declared.machine.Position.{Position}
+use Rattle.lq_model.specs.declared.machine.Position.TheVariants.{Idle, Leave, Unlock}
+use Rattle.lq_table.specs.Made.{◌⊳◌, did_clear_sched}
+use Rattle.lq_table.specs.Seats.{GetsRunLock}
+use Rattle.lq_table.specs.Sees.{view, known, position, slot, steps, IsSameSeat, IsElseSame}
+use Rattle.lq_table.specs.Solo.{IsSole, SeesTry, missed_to, sched_cleared, solo}
+use Rattle.lq_table.specs.Told.{finding_locked, passing}
+use Rattle.lq_table.specs.declared.shared.Cpu.{Cpu}
+use Rattle.lq_run.specs.Runs.{BeginsAlone, BeginsAsHolder, IsElseKept, IsEventless, IsRaisedAsBefore, HasStation, MayReleaseActive, Rests, StandsWithoutStation, StaysRaised, after_missed, ended}
+use Rattle.lq_run.specs.Tries.{BeginsBy, EndsRun, SetsMissed, TriesOnce}
+
+-- after a release: a run is at the end of its call, and control in no call
+abbrev pub released_to : Position → Position
+released_to Unlock = Leave
+released_to position = Idle
+
+module _ {D : Type 0} where
+  -- The run lock may be released: at the end of a run, or by control of an active station. The seat carries the station, and no take
+  -- or resize is half done.
+  pub record MayReleaseRunLock (c : Cpu D) : Type 0 where
+    pub at : (position c ≡ Unlock) ⊎ MayReleaseActive c
+    pub rests : Rests c
+    pub back : HasStation c
+
+  -- The run lock was tried once, with this answer.
+  pub record TriesRunLock (answer : Bool) (b a : Cpu D) : Type 0 where
+    pub seat : IsSameSeat b a × (a.station ≡ b.station) × (a.indices ≡ b.indices)
+    pub got : answer ≡ true → GetsRunLock b a
+    pub held : answer ≡ false → (view a ≡ finding_locked (view b)) × (slot a ≡ slot b)
+    pub sole : IsSole (view b) → SeesTry answer (view b) (view a)
+    pub tries : TriesOnce answer (known b) (known a)
+
+  -- MISSED is set; was says whether it was set before.
+  pub record NotesMissed (was : Bool) (b a : Cpu D) : Type 0 where
+    pub same : IsElseSame b a
+    pub step : solo (view a) ≡ missed_to true (solo (view b))
+    pub sole : IsSole (view b) → was ≡ (view b).whole.qdisc.missed
+    pub sets : SetsMissed was (known b) (known a)
+
+  -- A run begins, or the lock is held and MISSED is set, as the answer says.
+  pub record BeginsRun (answer : Bool) (b a : Cpu D) : Type 0 where
+    pub kept : IsElseKept b a × IsEventless b a × IsRaisedAsBefore b a
+    pub got : answer ≡ true → BeginsAsHolder b a
+    pub missed : answer ≡ false → StandsWithoutStation (after_missed (position b)) b a
+    pub sole : IsSole (view b) → BeginsAlone answer (view b) (view a)
+    pub begins : BeginsBy answer (known b) (known a)
+
+  -- The run lock is released, and SCHED is set where MISSED is set after that; the seat goes on from this position.
+  pub record ReleasesTo (next : Position) (b a : Cpu D) : Type 0 where
+    pub kept : IsElseKept b a × IsEventless b a × StaysRaised b a
+    pub at : StandsWithoutStation next b a
+    pub sole : IsSole (view b) → solo (view a) ≡ ended (solo (view b))
+    pub ends : EndsRun (known b) (known a)
+
+  -- SCHED is cleared, and nothing else changes.
+  pub record ClearsSched (b a : Cpu D) : Type 0 where
+    pub clears : IsElseSame b a × (view a ≡ passing (view b)) × (steps a ≡ steps b ⊳ did_clear_sched)
+    pub step : solo (view a) ≡ sched_cleared (solo (view b))
